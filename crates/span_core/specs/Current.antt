@@ -1,0 +1,8 @@
+-- What a current span shows.
+use Rattle.std.specs.Prelude.{ℕ, Option}
+use Rattle.span_core.specs.declared.ids.Current.{Current}
+use Rattle.span_core.specs.declared.callsites.Metadata.{Metadata}
+
+-- the span that the lane is in, with its metadata
+abbrev pub current_span : Current → Option (ℕ × Metadata)
+current_span c = c.span

@@ -1,0 +1,4 @@
+pub mod Attributes
+pub mod Current
+pub mod Metadata
+pub mod Refusal

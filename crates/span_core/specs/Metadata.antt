@@ -1,0 +1,35 @@
+-- What metadata shows.
+use Rattle.std.specs.Prelude.{ℕ, List}
+use Rattle.std.specs.Borrow.{Bor}
+use Rattle.span_core.specs.declared.callsites.Metadata.{Metadata}
+use Rattle.span_core.specs.declared.levels.Level.{Level}
+use Rattle.span_core.specs.declared.callsites.Kind.{Kind}
+use Rattle.span_core.specs.declared.callsites.FieldSet.{FieldSet}
+
+-- the names of a set of fields, in their order
+abbrev pub names_of : FieldSet → List (Bor (List ℕ))
+names_of f = f.names.now
+
+-- the number of the callsite
+abbrev pub callsite_of : Metadata → ℕ
+callsite_of m = m.callsite
+
+-- the name, as its bytes
+abbrev pub name_of : Metadata → List ℕ
+name_of m = m.name.now
+
+-- the target, as its bytes
+abbrev pub target_of : Metadata → List ℕ
+target_of m = m.target.now
+
+-- the level
+abbrev pub level_of : Metadata → Level
+level_of m = m.level
+
+-- whether the callsite makes spans or events
+abbrev pub kind_of : Metadata → Kind
+kind_of m = m.kind
+
+-- the names of the fields
+abbrev pub fields_of : Metadata → FieldSet
+fields_of m = m.fields

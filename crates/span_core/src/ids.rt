@@ -1,0 +1,98 @@
+//! What names a span, a lane and the span that a lane is in.
+ghost use Rattle.std.specs.Prelude.{◌≡◌, ◌↔◌, IsTrue, Option, Some, None};
+ghost use Rattle.std.specs.Option.{option_map};
+ghost use Rattle.span_core.specs.Current.{current_span};
+
+use crate::callsites::Metadata;
+use std::marker::Model;
+
+/// The id of a span. The number 0 is never handed out, and the number has no further meaning.
+///
+/// Stands for `tracing_core::span::Id`, and is passed by value.
+#[derive(Clone, Copy, Debug, PartialEq, Eq, PartialOrd, Ord, Hash)]
+pub struct Id {
+    number: u64,
+}
+
+impl Model for Id {
+    ghost use Rattle.std.specs.Prelude.{ℕ};
+
+    ghost Value = { ℕ };
+
+    ghost view = { λ a. a.number };
+
+    ghost inverse = { λ n. record { number = n } };
+}
+
+impl Id {
+    /// The id with this number.
+    pub fn from_u64(number: u64) -> Id
+        ensures { result ≡ number }
+    {
+        Id { number }
+    }
+
+    /// The number of this id.
+    pub fn into_u64(self) -> u64
+        ensures { result ≡ self }
+    {
+        self.number
+    }
+}
+
+/// The number of a lane: a stack of entered spans, as one thread has it.
+#[derive(Clone, Copy, Debug, PartialEq, Eq, PartialOrd, Ord, Hash)]
+pub struct Lane(pub u32);
+
+/// The span that a lane is in, with its metadata, if it is in one.
+///
+/// Stands for `tracing_core::span::Current`.
+#[derive(Clone, Copy, Debug, PartialEq, Eq)]
+pub struct Current {
+    span: Option<(Id, Metadata)>,
+}
+
+impl Current {
+    /// In no span.
+    pub fn none() -> Current
+        ensures { current_span result ≡ None }
+    {
+        Current { span: None }
+    }
+
+    /// In this span.
+    pub fn new(id: Id, metadata: Metadata) -> Current
+        ensures { current_span result ≡ Some (id, metadata) }
+    {
+        Current {
+            span: Some((id, metadata)),
+        }
+    }
+
+    /// The span's id.
+    pub fn id(&self) -> Option<Id>
+        ensures { result ≡ option_map (λ s. s.0) (current_span self.now) }
+    {
+        match self.span {
+            Some((id, _)) => Some(id),
+            None => None,
+        }
+    }
+
+    /// The span's metadata.
+    pub fn metadata(&self) -> Option<Metadata>
+        ensures { result ≡ option_map (λ s. s.1) (current_span self.now) }
+    {
+        match &self.span {
+            Some(span) => Some(span.1),
+            None => None,
+        }
+    }
+
+    /// The lane is in no span.
+    pub fn is_none(&self) -> bool
+        ensures { IsTrue result ↔ (current_span self.now ≡ None) }
+    {
+        self.span.is_none()
+    }
+}
