@@ -2,6 +2,7 @@
 use Rattle.std.specs.Prelude.{ℕ, List, Option, Some, None}
 use Rattle.std.specs.Borrow.{Bor}
 use Rattle.span_core.specs.declared.callsites.Metadata.{Metadata}
+use Rattle.span_core.specs.declared.ids.Id.{Id}
 use Rattle.span_core.specs.declared.records.Attributes.{Attributes}
 use Rattle.span_core.specs.declared.records.Record.{Record}
 use Rattle.span_core.specs.declared.records.FieldValue.{FieldValue}
@@ -21,7 +22,7 @@ abbrev pub asked_parent : Attributes → Parent
 asked_parent a = a.parent
 
 -- the span that is asked for by its id
-abbrev pub explicit_parent : Parent → Option ℕ
+abbrev pub explicit_parent : Parent → Option Id
 explicit_parent Root = None
 explicit_parent Contextual = None
 explicit_parent (Explicit id) = Some id

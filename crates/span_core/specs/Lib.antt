@@ -1,4 +1,5 @@
 pub mod Attributes
 pub mod Current
+pub mod Id
 pub mod Metadata
 pub mod Refusal

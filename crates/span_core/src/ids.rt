@@ -2,9 +2,9 @@
 ghost use Rattle.std.specs.Prelude.{◌≡◌, ◌↔◌, IsTrue, Option, Some, None};
 ghost use Rattle.std.specs.Option.{option_map};
 ghost use Rattle.span_core.specs.Current.{current_span};
+ghost use Rattle.span_core.specs.Id.{number_of};
 
 use crate::callsites::Metadata;
-use std::marker::Model;
 
 /// The id of a span. The number 0 is never handed out, and the number has no further meaning.
 ///
@@ -14,27 +14,17 @@ pub struct Id {
     number: u64,
 }
 
-impl Model for Id {
-    ghost use Rattle.std.specs.Prelude.{ℕ};
-
-    ghost Value = { ℕ };
-
-    ghost view = { λ a. a.number };
-
-    ghost inverse = { λ n. record { number = n } };
-}
-
 impl Id {
     /// The id with this number.
     pub fn from_u64(number: u64) -> Id
-        ensures { result ≡ number }
+        ensures { number_of result ≡ number }
     {
         Id { number }
     }
 
     /// The number of this id.
     pub fn into_u64(self) -> u64
-        ensures { result ≡ self }
+        ensures { result ≡ number_of self }
     {
         self.number
     }
