@@ -1,8 +1,10 @@
 //! Why a call is refused.
 ghost use Rattle.std.specs.Prelude.{◌≡◌};
 ghost use Rattle.span_core.specs.Refusal.{refusal_number};
+ghost use Rattle.span_core.specs.declared.refusals.TraceError.TheVariants.{OutOfMemory};
 
 use crate::ids::Id;
+use std::alloc::{AllocError, AllocFailed};
 use thiserror::Error;
 
 /// Why a call is refused. The store, the stacks and what else the call was to change are as before.
@@ -53,5 +55,21 @@ impl TraceError {
             TraceError::TooManySpans => 8,
             TraceError::OutOfMemory => 9,
         }
+    }
+}
+
+impl From<AllocError> for TraceError {
+    ghost from_gives = { λ _ e. e ≡ OutOfMemory };
+
+    fn from(_error: AllocError) -> TraceError {
+        TraceError::OutOfMemory
+    }
+}
+
+impl<T: Drop> From<AllocFailed<T>> for TraceError {
+    ghost from_gives = { λ _ e. e ≡ OutOfMemory };
+
+    fn from(_error: AllocFailed<T>) -> TraceError {
+        TraceError::OutOfMemory
     }
 }

@@ -1,0 +1,10 @@
+mod Added
+mod Chains
+mod Closing
+mod Counts
+mod Kept
+mod Marks
+mod Once
+mod Opened
+mod Removed
+mod States

@@ -1,0 +1,17 @@
+use Rattle.std.proofs.Common.{sym, ap}
+use Rattle.std.proofs.lemmas.Bool.{true≢false}
+use Rattle.span_core.specs.Id.{number_of}
+use Rattle.span_registry.specs.Store.{RegistryState}
+use Rattle.span_registry.proofs.States.{absent, open_by}
+use Rattle.span_registry.proofs.registry.Registry.is_open.Goals as goal
+
+pub returns-in-Some : goal.returns-in-Some
+returns-in-Some c =
+    let iff = open_by c.self.inside.records.entries c.self.inside.issued (number_of c.args.id) c.in-Some.counts _ c.self.invariant (ap (λ (s : RegistryState). s.store.spans) c.self.view_is) c.in-Some.ensures in
+    (λ t. iff.0 (c.is_open.ensures.0 t), λ o. c.is_open.ensures.1 (iff.1 o))
+
+pub returns-in-None : goal.returns-in-None
+returns-in-None c = (
+  λ t. absurd (true≢false (sym t)),
+  λ o. absurd (absent c.self.inside.records.entries _ (number_of c.args.id) (ap (λ (s : RegistryState). s.store.spans) c.self.view_is) c.in-None.ensures o),
+)
