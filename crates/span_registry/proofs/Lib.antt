@@ -2,6 +2,7 @@ mod Added
 mod Chains
 mod Closing
 mod Counts
+pub mod Drops
 mod Kept
 mod Marks
 mod Once

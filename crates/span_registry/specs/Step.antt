@@ -11,8 +11,9 @@ use Rattle.span_core.specs.declared.records.Parent.{Parent}
 use Rattle.span_core.specs.declared.records.Parent.TheVariants.{Root, Contextual, Explicit}
 use Rattle.span_core.specs.declared.refusals.TraceError.{TraceError}
 use Rattle.span_core.specs.declared.refusals.TraceError.TheVariants.{UnknownSpan, UnknownParent, NoHandle, TooManyFilters, TagTaken, CallsiteMismatch, CountFull, TooManySpans, OutOfMemory}
+use Rattle.span_registry.specs.Closes.{Closes, remove_all, take_handle}
 use Rattle.span_registry.specs.LaneStack.{first, leave, newest}
-use Rattle.span_registry.specs.Store.{Span, Spans, Store, RegistryState, IsInStore, IsOpen, IsHeld, child_count, handles_of, stack_of, with_stack}
+use Rattle.span_registry.specs.Store.{Span, Spans, Store, RegistryState, IsInStore, IsOpen, IsHeld, child_count, handles_of, stack_of, with_spans, with_stack}
 
 -- the newest entry of the lane's stack that is no duplicate
 abbrev pub entered_last : Store → ℕ → Option ℕ
@@ -141,3 +142,15 @@ pub record Removes (old : RegistryState) (x : ℕ) (new : RegistryState) : Type 
   pub filters : new.filters ≡ old.filters
   pub retired : old.retired ≤ new.retired
   pub retired_late : new.retired * new.limits.generations ≤ set_len new.store.issued
+
+-- these spans are taken out; their places may be retired by that
+pub record TakesOut (old : RegistryState) (xs : List ℕ) (new : RegistryState) : Type 0 where
+  pub store : new.store ≡ record old.store { spans = remove_all old.store.spans xs }
+  pub limits : new.limits ≡ old.limits
+  pub filters : new.filters ≡ old.filters
+  pub retired : old.retired ≤ new.retired
+
+-- a handle is taken from x, and what is closed by that is taken out
+pub record Drops (old : RegistryState) (x : ℕ) (closed : List ℕ) (new : RegistryState) : Type 0 where
+  pub closes : Closes old.store.spans x closed
+  pub taken : TakesOut (with_spans old (take_handle old.store.spans x)) closed new

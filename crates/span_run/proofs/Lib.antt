@@ -1,0 +1,2 @@
+mod Hears
+mod Served

@@ -1,0 +1,21 @@
+use Rattle.std.proofs.Common.{subst, sym, ap, ◌<◌, arith}
+use Rattle.std.proofs.lemmas.Result.{err_from_is_err_and}
+use Rattle.span_core.specs.Attributes.{asked_parent}
+use Rattle.span_core.specs.Id.{number_of}
+use Rattle.span_registry.specs.Closes.{IsSettled}
+use Rattle.span_registry.specs.Step.{RefusesNew}
+use Rattle.span_registry.specs.Store.{RegistryState, Spans}
+use Rattle.span_registry.proofs.Drops.{settled_added}
+use Rattle.span_run.specs.Notices.{Watched}
+use Rattle.span_run.proofs.plain.Plain.new_span.Goals as goal
+
+pub returns-in_err-id-clause-refused : goal.returns-in_err-id-clause-refused
+returns-in_err-id-clause-refused c =
+    let p = err_from_is_err_and c.from_residual.result c.from_residual.ensures.1 in
+    rw (p.1, p.2) (subst (λ (w : Watched). RefusesNew w.registry c.args.lane.0 (asked_parent c.args.attributes.now) c.in_err-id.field-0.0) c.self.view_is c.in_err-id.ensures.refused)
+
+pub invariant_of-self-2 : goal.invariant_of-self-2
+invariant_of-self-2 c =
+    let i = c.in_ok-id.ensures.opened in
+    subst (λ (m : Spans). IsSettled m) (sym (ap (λ (s : RegistryState). s.store.spans) i.state))
+    (settled_added c.self.inside.registry.store.spans (number_of c.in_ok-id.id) _ i.unused (omega arith) c.self.invariant)
