@@ -55,3 +55,14 @@ impl TraceError {
         }
     }
 }
+
+/// A value that a refused call hands back, with the reason.
+///
+/// The crate panics where a call hands back such a value.
+#[derive(Debug, PartialEq, Eq, Drop)]
+pub struct Rejected<T> {
+    /// What was handed in.
+    pub value: T,
+    /// Why the call was refused.
+    pub error: TraceError,
+}
