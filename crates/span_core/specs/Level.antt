@@ -1,10 +1,12 @@
 -- Levels and filters by level, by their numbers.
 use Rattle.std.specs.Prelude.{ℕ, Bool, false, not, nat_le, Option, None, Some}
+use Rattle.std.specs.Option.{option_map_or}
 use Rattle.span_core.specs.declared.levels.Level.{Level}
 use Rattle.span_core.specs.declared.levels.LevelFilter.{LevelFilter}
 use Rattle.span_core.specs.declared.levels.Verbosity.{Verbosity}
 use Rattle.span_core.specs.declared.levels.Verbosity.TheVariants.{Error, Warn, Info, Debug, Trace}
 
+-- from 1 for errors to 5 for traces
 abbrev pub verbosity_number : Verbosity → ℕ
 verbosity_number Error = 1
 verbosity_number Warn = 2
@@ -16,13 +18,9 @@ verbosity_number Trace = 5
 abbrev pub level_number : Level → ℕ
 level_number level = verbosity_number level.0
 
-abbrev pub highest_number : Option Level → ℕ
-highest_number None = 0
-highest_number (Some level) = level_number level
-
--- the number of a filter: that of the highest level that passes, 0 where none does
+-- the number of a filter: that of the most verbose level that passes, 0 where none does
 abbrev pub filter_number : LevelFilter → ℕ
-filter_number filter = highest_number filter.0
+filter_number filter = option_map_or level_number filter.0 0
 
 -- whether the level passes the filter
 abbrev pub passes_level : LevelFilter → Level → Bool

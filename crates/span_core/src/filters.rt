@@ -1,9 +1,10 @@
 //! Which filters a layer stands under, and which filters refused.
-ghost use Rattle.std.specs.Prelude.{◌≡◌, ◌↔◌, ℕ, ◌<◌, ◌&&◌, ◌||◌, ◌==◌, IsTrue, false, true, not, if◌then◌else◌};
-ghost use Rattle.span_core.specs.Filters.{has_filter, is_attached, is_hidden, refuses};
+ghost use Rattle.std.specs.Prelude.{◌≡◌, ℕ, ◌<◌, ◌&&◌, ◌==◌, IsTrue, false, not, if◌then◌else◌};
+ghost use Rattle.span_core.specs.Filters.{has_filter, is_attached, is_hidden, refuses, union};
 ghost use Rattle.span_core.specs.declared.numbers.TheConstants.{LIMIT};
 
 use crate::numbers::Numbers;
+use std::fmt;
 
 /// The filters that a layer stands under, by their numbers: a set, or unattached where a filter has no number yet.
 ///
@@ -64,7 +65,7 @@ impl FilterId {
     pub fn and(self, other: FilterId) -> FilterId
         ensures attached { is_attached result ≡ is_attached other }
         ensures unattached { is_attached self ≡ false → result ≡ other }
-        ensures members { IsTrue (is_attached other) → (n : ℕ) → has_filter result n ≡ (has_filter self n || has_filter other n) }
+        ensures members { IsTrue (is_attached other) → (n : ℕ) → has_filter result n ≡ union (has_filter self) (has_filter other) n }
     {
         match (self.numbers, other.numbers) {
             (Some(outer), Some(inner)) => FilterId {
@@ -115,5 +116,42 @@ impl FilterMap {
             },
             None => self,
         }
+    }
+}
+
+impl fmt::Debug for FilterId {
+    fn fmt<W: fmt::Write>(&self, f: &mut fmt::Formatter<W>) -> fmt::Result {
+        match &self.numbers {
+            Some(numbers) => write!(f, "FilterId({numbers:?})"),
+            None => write!(f, "FilterId(DISABLED)"),
+        }
+    }
+}
+
+impl fmt::Binary for FilterId {
+    fn fmt<W: fmt::Write>(&self, f: &mut fmt::Formatter<W>) -> fmt::Result {
+        match &self.numbers {
+            Some(numbers) => {
+                write!(f, "FilterId(")?;
+                fmt::Binary::fmt(numbers, f)?;
+                write!(f, ")")
+            }
+            None => write!(f, "FilterId(DISABLED)"),
+        }
+    }
+}
+
+impl fmt::Debug for FilterMap {
+    fn fmt<W: fmt::Write>(&self, f: &mut fmt::Formatter<W>) -> fmt::Result {
+        let numbers = &self.disabled_by;
+        write!(f, "FilterMap {{ disabled_by: {numbers:?} }}")
+    }
+}
+
+impl fmt::Binary for FilterMap {
+    fn fmt<W: fmt::Write>(&self, f: &mut fmt::Formatter<W>) -> fmt::Result {
+        write!(f, "FilterMap {{ bits: ")?;
+        fmt::Binary::fmt(&self.disabled_by, f)?;
+        write!(f, " }}")
     }
 }

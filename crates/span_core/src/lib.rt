@@ -6,6 +6,7 @@ mod events;
 mod filters;
 mod ids;
 mod interests;
+pub mod laws;
 mod levels;
 mod numbers;
 mod passes;

@@ -2,11 +2,13 @@
 ghost use Rattle.std.specs.Prelude.{◌≡◌, ℕ, ◌<◌, ◌&&◌, ◌==◌, false, length, if◌then◌else◌};
 ghost use Rattle.span_core.specs.declared.numbers.TheConstants.{LIMIT};
 
+use std::fmt;
+
 /// How many filters there are at most: their numbers are below this.
 pub const LIMIT: usize = 64;
 
 /// A set of numbers of filters.
-#[derive(Clone, Copy, Debug, PartialEq, Eq)]
+#[derive(Clone, Copy, PartialEq, Eq)]
 pub struct Numbers {
     held: [bool; LIMIT],
     ghost full: { length held ≡ LIMIT },
@@ -64,5 +66,27 @@ impl Numbers {
             }
         }
         false
+    }
+}
+
+/// As `{0, 3}`.
+impl fmt::Debug for Numbers {
+    fn fmt<W: fmt::Write>(&self, f: &mut fmt::Formatter<W>) -> fmt::Result {
+        f.debug_set()
+            .entries((0..LIMIT).filter(|n| self.held[*n]))
+            .finish()
+    }
+}
+
+/// The word in which a 1 stands for each number of the set, as `1001` for 0 and 3.
+impl fmt::Binary for Numbers {
+    fn fmt<W: fmt::Write>(&self, f: &mut fmt::Formatter<W>) -> fmt::Result {
+        let mut word = 0u64;
+        for n in 0..LIMIT {
+            if self.held[n] {
+                word |= 1 << n;
+            }
+        }
+        fmt::Binary::fmt(&word, f)
     }
 }

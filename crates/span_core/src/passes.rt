@@ -10,7 +10,7 @@ use crate::interests::Interest;
 /// What the filters said during one request: which of them refused, and the sum of their interests.
 ///
 /// Stands for `tracing_subscriber`'s private `FilterState`, which each thread has.
-#[derive(Clone, Copy, PartialEq, Eq)]
+#[derive(Clone, Copy, Debug, PartialEq, Eq)]
 pub struct Pass {
     refused: FilterMap,
     interest: Option<Interest>,
