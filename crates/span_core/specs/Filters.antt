@@ -1,5 +1,5 @@
 -- Sets of filters, by the numbers of their members.
-use Rattle.std.specs.Prelude.{ℕ, Bool, false, ◌&&◌, ◌||◌, is_some}
+use Rattle.std.specs.Prelude.{ℕ, Bool, false, not, ◌&&◌, ◌||◌, is_some}
 use Rattle.std.specs.Option.{option_map_or}
 use Rattle.span_core.specs.declared.filters.FilterId.{FilterId}
 use Rattle.span_core.specs.declared.filters.FilterMap.{FilterMap}
@@ -37,3 +37,7 @@ refuses map n = has_number map.disabled_by n
 -- whether a filter of the mask is among those that refused
 abbrev pub is_hidden : FilterId → FilterMap → Bool
 is_hidden mask verdict = have_common (has_filter mask) (refuses verdict)
+
+-- whether the id is attached and none of its filters refused
+abbrev pub is_enabled : FilterMap → FilterId → Bool
+is_enabled map id = is_attached id && not (is_hidden id map)

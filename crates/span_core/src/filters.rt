@@ -1,6 +1,6 @@
 //! Which filters a layer stands under, and which filters refused.
-ghost use Rattle.std.specs.Prelude.{◌≡◌, ℕ, ◌<◌, ◌&&◌, ◌==◌, IsTrue, false, not, if◌then◌else◌};
-ghost use Rattle.span_core.specs.Filters.{has_filter, is_attached, is_hidden, refuses, union};
+ghost use Rattle.std.specs.Prelude.{◌≡◌, ℕ, ◌<◌, ◌==◌, IsTrue, false, not, if◌then◌else◌};
+ghost use Rattle.span_core.specs.Filters.{has_filter, is_attached, is_enabled, refuses, union};
 ghost use Rattle.span_core.specs.declared.numbers.TheConstants.{LIMIT};
 
 use crate::numbers::Numbers;
@@ -96,7 +96,7 @@ impl FilterMap {
 
     /// The id is attached, and none of its filters refused.
     pub fn is_enabled(&self, id: FilterId) -> bool
-        ensures { result ≡ (is_attached id && not (is_hidden id self.now)) }
+        ensures { result ≡ is_enabled self.now id }
     {
         match id.numbers {
             Some(numbers) => !numbers.meets(&self.disabled_by),

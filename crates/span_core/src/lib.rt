@@ -22,3 +22,6 @@ pub use levels::{Level, LevelFilter};
 pub use passes::Pass;
 pub use records::{Attributes, FieldValue, Parent, Record};
 pub use refusals::{Rejected, TraceError};
+
+#[cfg(test)]
+mod tests;

@@ -1,7 +1,6 @@
 //! What a new span is made of, and what is recorded of it later.
 ghost use Rattle.std.specs.Prelude.{◌≡◌, ◌↔◌, IsTrue};
-ghost use Rattle.span_core.specs.Attributes.{asked_parent, explicit_parent, metadata_of, values_of};
-ghost use Rattle.span_core.specs.Attributes as attributes;
+ghost use Rattle.span_core.specs.Attributes.{asked_parent, explicit_parent, metadata_of, recorded_values, values_of};
 
 use crate::callsites::Metadata;
 use crate::ids::Id;
@@ -127,21 +126,21 @@ impl<'a> Attributes<'a> {
 /// Stands for `tracing_core::span::Record`.
 #[derive(Clone, Copy, Debug)]
 pub struct Record<'a> {
-    values: &'a [(&'static str, FieldValue<'a>)],
+    recorded: &'a [(&'static str, FieldValue<'a>)],
 }
 
 impl<'a> Record<'a> {
     /// These values.
     pub fn new(values: &'a [(&'static str, FieldValue<'a>)]) -> Record<'a>
-        ensures { attributes.recorded_values result ≡ values.now }
+        ensures { recorded_values result ≡ values.now }
     {
-        Record { values }
+        Record { recorded: values }
     }
 
     /// The values, by the names of the fields.
     pub fn values(&self) -> &'a [(&'static str, FieldValue<'a>)]
-        ensures { result.now ≡ attributes.recorded_values self.now }
+        ensures { result.now ≡ recorded_values self.now }
     {
-        self.values
+        self.recorded
     }
 }
