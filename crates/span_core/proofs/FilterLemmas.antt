@@ -1,5 +1,5 @@
 -- Sets of filters: what two have in common, what a mask hides, and that members tell sets apart.
-use Rattle.std.proofs.Common.{◌≡◌, ℕ, ◌<◌, Bool, true, false, refl, ap, ◌∙◌, IsTrue, Option, None, Some, rules}
+use Rattle.std.proofs.Common.{◌≡◌, ℕ, ◌<◌, Bool, true, false, refl, ap, ◌∙◌, IsTrue, Option, None, Some}
 use Rattle.std.specs.Prelude.{◌&&◌, ◌||◌, ◌↔◌, is_some}
 use Rattle.std.specs.Option.{option_map_or}
 use Rattle.std.proofs.lemmas.Bool.{and_from, and_parts, and_right}

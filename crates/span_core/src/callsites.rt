@@ -6,7 +6,7 @@ use crate::levels::Level;
 
 /// Whether a callsite makes spans or events.
 ///
-/// Stands for `tracing_core::Kind`.
+/// Stands for `tracing_core::Kind`, which can be a hint too.
 #[derive(Clone, Copy, Debug, PartialEq, Eq, Hash)]
 pub struct Kind(Makes);
 
@@ -26,7 +26,7 @@ impl Kind {
 
 /// The names of a callsite's fields.
 ///
-/// Stands for `tracing_core::field::FieldSet`.
+/// Stands for `tracing_core::field::FieldSet`, whose fields belong to a callsite.
 #[derive(Clone, Copy, Debug, PartialEq, Eq)]
 pub struct FieldSet {
     names: &'static [&'static str],

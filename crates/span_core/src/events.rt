@@ -9,7 +9,7 @@ use crate::records::{FieldValue, Parent};
 
 /// An event: metadata, values by the names of its fields, and the parent that it asks for.
 ///
-/// Stands for `tracing_core::Event`.
+/// Stands for `tracing_core::Event`, with values in a slice in place of a `ValueSet`.
 #[derive(Clone, Copy, Debug)]
 pub struct Event<'a> {
     metadata: Metadata,

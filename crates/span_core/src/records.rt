@@ -6,6 +6,8 @@ use crate::callsites::Metadata;
 use crate::ids::Id;
 
 /// The value of a field.
+///
+/// Stands for `tracing_core::field::Value`, which a visitor reads.
 #[derive(Clone, Copy, Debug, PartialEq)]
 pub enum FieldValue<'a> {
     U64(u64),
@@ -15,6 +17,8 @@ pub enum FieldValue<'a> {
 }
 
 /// Which parent a new span or an event asks for.
+///
+/// Stands for `tracing_core`'s private `Parent`.
 #[derive(Clone, Copy, Debug, PartialEq, Eq)]
 pub enum Parent {
     /// None: it is a root.
@@ -27,7 +31,7 @@ pub enum Parent {
 
 /// What a new span is made of: metadata, values by the names of its fields, and the parent that it asks for.
 ///
-/// Stands for `tracing_core::span::Attributes`.
+/// Stands for `tracing_core::span::Attributes`, with values in a slice in place of a `ValueSet`.
 #[derive(Clone, Copy, Debug)]
 pub struct Attributes<'a> {
     metadata: Metadata,
@@ -123,7 +127,7 @@ impl<'a> Attributes<'a> {
 
 /// Values recorded of a span after it was made.
 ///
-/// Stands for `tracing_core::span::Record`.
+/// Stands for `tracing_core::span::Record`, with values in a slice in place of a `ValueSet`.
 #[derive(Clone, Copy, Debug)]
 pub struct Record<'a> {
     recorded: &'a [(&'static str, FieldValue<'a>)],

@@ -6,6 +6,9 @@ use crate::ids::Id;
 use thiserror::Error;
 
 /// Why a call is refused. The store, the stacks and what else the call was to change are as before.
+/// Its text carries no id.
+///
+/// Own to this port: the crate panics there, or answers nothing.
 #[derive(Clone, Copy, Debug, PartialEq, Eq, Error)]
 pub enum TraceError {
     /// The span isn't open.
@@ -56,9 +59,9 @@ impl TraceError {
     }
 }
 
-/// A value that a refused call hands back, with the reason.
+/// What a refused call was handed, with the reason why it was refused.
 ///
-/// The crate panics where a call hands back such a value.
+/// Own to this port: the crate panics there.
 #[derive(Debug, PartialEq, Eq, Drop)]
 pub struct Rejected<T> {
     /// What was handed in.

@@ -1,4 +1,4 @@
-use Rattle.span_core.proofs.FilterLemmas.{have_common-member, have_common-comm, have_common-same, have_common-union, have_common-none}
+use Rattle.span_core.proofs.FilterLemmas.{have_common-member, have_common-same, have_common-union, have_common-none}
 use Rattle.span_core.proofs.laws.filters_in_common.Goals as goal
 
 pub returns-clause-exactly : goal.returns-clause-exactly
