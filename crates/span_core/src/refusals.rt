@@ -8,6 +8,9 @@ use std::alloc::{AllocError, AllocFailed};
 use thiserror::Error;
 
 /// Why a call is refused. The store, the stacks and what else the call was to change are as before.
+/// Its text carries no id.
+///
+/// Own to this port: the crate panics there, or answers nothing.
 #[derive(Clone, Copy, Debug, PartialEq, Eq, Error)]
 pub enum TraceError {
     /// The span isn't open.
@@ -72,4 +75,15 @@ impl<T: Drop> From<AllocFailed<T>> for TraceError {
     fn from(_error: AllocFailed<T>) -> TraceError {
         TraceError::OutOfMemory
     }
+}
+
+/// What a refused call was handed, with the reason why it was refused.
+///
+/// Own to this port: the crate panics there.
+#[derive(Debug, PartialEq, Eq, Drop)]
+pub struct Rejected<T> {
+    /// What was handed in.
+    pub value: T,
+    /// Why the call was refused.
+    pub error: TraceError,
 }
