@@ -4,7 +4,9 @@ mod Closing
 mod Counts
 pub mod Drops
 mod Kept
+mod Lending
 mod Marks
+mod NumberMaps
 mod Once
 mod Opened
 mod Removed

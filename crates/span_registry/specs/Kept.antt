@@ -20,7 +20,7 @@ parent_in r = option_map number_of r.parent
 
 -- the span that a record keeps
 abbrev pub span_of : SpanRecord → Span
-span_of r = record { metadata = r.metadata; parent = parent_in r; handles = r.handles }
+span_of r = record { metadata = r.metadata; parent = parent_in r; handles = r.handles; verdict = r.verdict; extensions = r.extensions }
 
 -- the spans that the records keep
 abbrev pub spans_in : List (ℕ × SpanRecord) → List (ℕ × Span)

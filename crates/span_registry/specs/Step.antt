@@ -6,12 +6,14 @@ use Rattle.std.specs.FinSet.{contains}
 use Rattle.std.specs.FinSet.{insert as add, len as set_len}
 use Rattle.span_core.specs.Id.{number_of, id_of}
 use Rattle.span_core.specs.declared.callsites.Metadata.{Metadata}
+use Rattle.span_core.specs.declared.filters.FilterMap.{FilterMap}
 use Rattle.span_core.specs.declared.ids.Id.{Id}
 use Rattle.span_core.specs.declared.records.Parent.{Parent}
 use Rattle.span_core.specs.declared.records.Parent.TheVariants.{Root, Contextual, Explicit}
 use Rattle.span_core.specs.declared.refusals.TraceError.{TraceError}
 use Rattle.span_core.specs.declared.refusals.TraceError.TheVariants.{UnknownSpan, UnknownParent, NoHandle, TooManyFilters, TagTaken, CallsiteMismatch, CountFull, TooManySpans, OutOfMemory}
 use Rattle.span_registry.specs.Closes.{Closes, remove_all, take_handle}
+use Rattle.span_registry.specs.Extensions.{no_values}
 use Rattle.span_registry.specs.LaneStack.{first, leave, newest}
 use Rattle.span_registry.specs.Store.{Span, Spans, Store, RegistryState, IsInStore, IsOpen, IsHeld, child_count, handles_of, stack_of, with_spans, with_stack}
 
@@ -44,12 +46,12 @@ pub record HasPlace (s : RegistryState) : Type 0 where
   pub place : len s.store.spans + s.retired < s.limits.places
   pub id : set_len s.store.issued < 2 ^ 64 - 1
 
--- a span as it begins: with one handle
-abbrev pub new_span : Metadata → Option ℕ → Span
-new_span metadata parent = record { metadata = metadata; parent = parent; handles = 1 }
+-- a span as it begins: with one handle and no extensions
+abbrev pub new_span : Metadata → Option ℕ → FilterMap → Span
+new_span metadata parent verdict = record { metadata = metadata; parent = parent; handles = 1; verdict = verdict; extensions = no_values }
 
 -- a span is opened, under an id that was never issued before
-pub record Opens (old : RegistryState) (lane : ℕ) (metadata : Metadata) (asked : Parent) (id : ℕ) (new : RegistryState) : Type 0 where
+pub record Opens (old : RegistryState) (lane : ℕ) (metadata : Metadata) (asked : Parent) (verdict : FilterMap) (id : ℕ) (new : RegistryState) : Type 0 where
   pub parent : Option ℕ
   pub chosen : IsParentFor old.store lane asked parent
   pub room : HasRoom old parent
@@ -57,7 +59,7 @@ pub record Opens (old : RegistryState) (lane : ℕ) (metadata : Metadata) (asked
   pub fresh : contains old.store.issued id ≡ false
   pub other : id ≡ 0 → ⊥
   pub unused : get old.store.spans id ≡ None
-  pub state : new ≡ record old { store = record old.store { spans = insert old.store.spans id (new_span metadata parent); issued = add old.store.issued id } }
+  pub state : new ≡ record old { store = record old.store { spans = insert old.store.spans id (new_span metadata parent verdict); issued = add old.store.issued id } }
 
 -- a new span with a parent that may be none finds both room and a place
 pub record CanOpen (s : RegistryState) (lane : ℕ) (asked : Parent) : Type 0 where

@@ -10,16 +10,22 @@ use Rattle.std.specs.FinMap.{code as map_code, empty}
 use Rattle.std.specs.Ordering.{nat_cmp}
 use Rattle.std.specs.FinMap.{FinMap, get, insert, remove, values}
 use Rattle.span_core.specs.contracts.callsites.Metadata as metadata
+use Rattle.span_core.specs.contracts.filters.FilterMap as verdict
 use Rattle.span_core.specs.declared.callsites.Metadata.{Metadata}
+use Rattle.span_core.specs.declared.filters.FilterMap.{FilterMap}
+use Rattle.span_registry.specs.contracts.extensions.ExtensionMap as extensions
+use Rattle.span_registry.specs.declared.extensions.ExtensionMap.{ExtensionMap}
 use Rattle.span_registry.specs.LaneStack.{leave}
 use Rattle.span_registry.specs.contracts.limits.Limits as limits
 use Rattle.span_registry.specs.declared.limits.Limits.{Limits}
 
--- what is kept of a span
+-- what is kept of a span: the filters that refused it when it was made are its verdict
 pub record Span : Type 0 where
   pub metadata : Metadata
   pub parent : Option ℕ
   pub handles : ℕ
+  pub verdict : FilterMap
+  pub extensions : ExtensionMap
 
 -- the spans in the store, by their numbers
 abbrev pub Spans : Type 0
@@ -113,8 +119,8 @@ IsForest m = (x : ℕ) (r : Span) → get m x ≡ Some r → (xs : List ℕ) × 
 
 abbrev pub span_code : Coded Span
 span_code =
-    code_by (Metadata × (Option ℕ × ℕ)) (coded× (metadata.the_row).coded (coded× (coded_option coded_ℕ) coded_ℕ))
-    (λ r. (r.metadata, (r.parent, r.handles))) (λ t. record { metadata = t.0; parent = t.1.0; handles = t.1.1 }) (λ _. refl)
+    code_by (Metadata × (Option ℕ × (ℕ × (FilterMap × ExtensionMap)))) (coded× (metadata.the_row).coded (coded× (coded_option coded_ℕ) (coded× coded_ℕ (coded× (verdict.the_row).coded (extensions.the_row).coded))))
+    (λ r. (r.metadata, (r.parent, (r.handles, (r.verdict, r.extensions))))) (λ t. record { metadata = t.0; parent = t.1.0; handles = t.1.1.0; verdict = t.1.1.1.0; extensions = t.1.1.1.1 }) (λ _. refl)
 
 abbrev pub store_code : Coded Store
 store_code =

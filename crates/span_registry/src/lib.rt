@@ -1,14 +1,21 @@
 //! The store of spans: what is kept of each, the lanes' stacks, and the calls that change them.
 #![tactic(auto)]
 
+mod extensions;
 pub mod laws;
 mod limits;
 mod records;
 mod registry;
 mod stacks;
+mod tables;
+mod tags;
 #[cfg(test)]
 mod tests;
+mod value_types;
 
+pub use extensions::{ExtensionMap, Extensions, ExtensionsMut};
 pub use limits::Limits;
 pub use registry::{Registry, Released};
 pub use stacks::{SpanStack, StackIter};
+pub use tags::Tag;
+pub use value_types::ExtensionValue;

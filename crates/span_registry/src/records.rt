@@ -8,7 +8,8 @@ ghost use Rattle.std.specs.Ordering.{nat_cmp};
 ghost use Rattle.span_core.specs.Id.{number_of};
 ghost use Rattle.span_registry.specs.Kept.{Adds, CountsBelow};
 
-use span_core::{Id, Metadata, TraceError};
+use crate::extensions::ExtensionMap;
+use span_core::{FilterMap, Id, Metadata, TraceError};
 use std::collections::BTreeMap;
 
 /// What is kept of a span.
@@ -18,6 +19,8 @@ pub(crate) struct SpanRecord {
     pub(crate) parent: Option<Id>,
     pub(crate) handles: u32,
     pub(crate) children: u32,
+    pub(crate) verdict: FilterMap,
+    pub(crate) extensions: ExtensionMap,
 }
 
 /// The records of the spans, by their numbers.

@@ -8,17 +8,19 @@ ghost use Rattle.std.specs.Ordering.{nat_cmp};
 ghost use Rattle.span_core.specs.Attributes.{asked_parent, metadata_of};
 ghost use Rattle.span_core.specs.Current.{current_span};
 ghost use Rattle.span_core.specs.Id.{number_of};
+ghost use Rattle.span_core.specs.Pass.{refused_of};
 ghost use Rattle.span_registry.specs.Closes.{take_handle};
 ghost use Rattle.span_registry.specs.LaneStack.{leave};
 ghost use Rattle.span_registry.specs.Step.{HasPlace, HasNoPlace, IsContext, IsCurrent, IsParentFor, Opens, RefusesClone, RefusesEnter, RefusesNew, RefusesRelease, Removes, add_handle, entered, entered_last, left};
 ghost use Rattle.span_registry.specs.Store.{IsClosing, IsForest, IsHeld, IsOpen, handles_of, new_registry, parent_of, with_spans};
 
+use crate::extensions::ExtensionMap;
 use crate::limits::Limits;
 use crate::records::{
     Counts, Records, SpanRecord, add_span, counts_of, full, lose_child, set_handles, take_out,
 };
 use crate::stacks::SpanStack;
-use span_core::{Attributes, Current, Id, Lane, TraceError};
+use span_core::{Attributes, Current, Id, Lane, Pass, TraceError};
 use std::alloc::Global;
 use std::collections::BTreeMap;
 use std::marker::Model;
@@ -160,12 +162,18 @@ impl Registry {
         self.issued == u64::MAX || self.records.len() as u64 >= u64::from(self.limits.places)
     }
 
-    /// Opens a span with one handle, and answers its id, which was never handed out before.
+    /// Opens a span with one handle, and answers its id, which was never handed out before. The filters that the pass
+    /// holds as refusing are its verdict.
     ///
     /// Refused where the explicit parent isn't open (`UnknownParent`), else where the parent's children are at the
     /// limit (`CountFull`), else where no place or id is left (`TooManySpans`), else for want of memory.
-    pub fn new_span(&mut self, lane: Lane, attributes: &Attributes<'_>) -> Result<Id, TraceError>
-        ensures opened { IfOk result (λ id. Opens self.old lane.0 (metadata_of attributes.now) (asked_parent attributes.now) (number_of id) self.new) }
+    pub fn new_span(
+        &mut self,
+        lane: Lane,
+        attributes: &Attributes<'_>,
+        pass: &Pass,
+    ) -> Result<Id, TraceError>
+        ensures opened { IfOk result (λ id. Opens self.old lane.0 (metadata_of attributes.now) (asked_parent attributes.now) (refused_of pass.now) (number_of id) self.new) }
         ensures refused { IfErr result (λ e. RefusesNew self.old lane.0 (asked_parent attributes.now) e) }
         ensures unchanged { OnErr result (self.new ≡ self.old) }
     {
@@ -183,6 +191,8 @@ impl Registry {
             parent,
             handles: 1,
             children: 0,
+            verdict: pass.refused(),
+            extensions: ExtensionMap::new(self.alloc),
         };
         add_span(&mut self.records, id, span, self.limits.count)?;
         self.issued = number;

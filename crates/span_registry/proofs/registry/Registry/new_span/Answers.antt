@@ -5,13 +5,16 @@ use Rattle.std.specs.Option.{option_map}
 use Rattle.span_core.specs.Attributes.{asked_parent}
 use Rattle.span_core.specs.Id.{number_of}
 use Rattle.span_core.specs.declared.callsites.Metadata.{Metadata}
+use Rattle.span_core.specs.Pass.{refused_of}
+use Rattle.span_core.specs.declared.filters.FilterMap.{FilterMap}
 use Rattle.span_core.specs.declared.ids.Id.{Id}
-use Rattle.span_registry.specs.Kept.{registry_of}
+use Rattle.span_registry.specs.declared.extensions.ExtensionMap.{ExtensionMap}
+use Rattle.span_registry.specs.Kept.{Adds, registry_of}
 use Rattle.span_registry.specs.Step.{IsParentFor, Opens}
 use Rattle.span_registry.specs.Store.{RegistryState, child_count}
 use Rattle.span_registry.proofs.Added.{chosen_there, parent_some}
 use Rattle.span_registry.proofs.Counts.{full_in, issued_len}
-use Rattle.span_registry.proofs.Opened.{opened, opening, room_for}
+use Rattle.span_registry.proofs.Opened.{new_record, opened, opening, room_for}
 use Rattle.span_registry.proofs.registry.Registry.new_span.Goals as goal
 
 pub returns-in-Some-clause-refused : goal.returns-in-Some-clause-refused
@@ -54,11 +57,17 @@ returns-in_err-add_span-clause-refused c =
 
 pub invariant_of-self-2 : goal.invariant_of-self-2
 invariant_of-self-2 c =
-    (opening c.self.inside.records c.add_span.new.records c.self.inside.issued c.self.inside.stacks.entries c.self.inside.limits c.args.self.now c.args.lane.0 (asked_parent c.args.attributes.now) c.metadata.result c.in_ok-parent.parent _ c.self.view_is
-    c.self.invariant c.in_ok-parent.ensures.chosen c.from_u64-id.ensures c.in_ok-add_span.ensures.ok).kept
+    let adds = subst (λ (e : ExtensionMap). Adds c.self.inside.records c.add_span.new.records (number_of c.from_u64-id.result) (record (new_record c.metadata.result c.in_ok-parent.parent c.refused.result) { extensions = e })) c.new.ensures
+    c.in_ok-add_span.ensures.ok in
+    (opening c.self.inside.records c.add_span.new.records c.self.inside.issued c.self.inside.stacks.entries c.self.inside.limits c.args.self.now c.args.lane.0 (asked_parent c.args.attributes.now) c.metadata.result c.in_ok-parent.parent c.refused.result
+    (number_of c.from_u64-id.result) c.self.view_is c.self.invariant c.in_ok-parent.ensures.chosen c.from_u64-id.ensures adds).kept
 
 pub returns-clause-opened : goal.returns-clause-opened
 returns-clause-opened c =
-    subst (λ (m : Metadata). Opens c.args.self.now c.args.lane.0 m (asked_parent c.args.attributes.now) (number_of c.from_u64-id.result) (registry_of c.add_span.new.records.entries (c.self.inside.issued + 1) c.self.inside.stacks.entries c.self.inside.limits)) c.metadata.ensures
-    (opened c.self.inside.records c.add_span.new.records c.self.inside.issued c.self.inside.stacks.entries c.self.inside.limits c.args.self.now c.args.lane.0 (asked_parent c.args.attributes.now) c.metadata.result c.in_ok-parent.parent _ c.self.view_is
-    c.self.invariant c.in_ok-parent.ensures.chosen (c.in_default.ensures.room refl) c.if-has_no_place.ensures c.from_u64-id.ensures c.in_ok-add_span.ensures.ok)
+    let adds = subst (λ (e : ExtensionMap). Adds c.self.inside.records c.add_span.new.records (number_of c.from_u64-id.result) (record (new_record c.metadata.result c.in_ok-parent.parent c.refused.result) { extensions = e })) c.new.ensures
+    c.in_ok-add_span.ensures.ok in
+    let after : RegistryState = registry_of c.add_span.new.records.entries (c.self.inside.issued + 1) c.self.inside.stacks.entries c.self.inside.limits in
+    subst (λ (m : Metadata). Opens c.args.self.now c.args.lane.0 m (asked_parent c.args.attributes.now) (refused_of c.args.pass.now) (number_of c.from_u64-id.result) after) c.metadata.ensures
+    (subst (λ (v : FilterMap). Opens c.args.self.now c.args.lane.0 c.metadata.result (asked_parent c.args.attributes.now) v (number_of c.from_u64-id.result) after) c.refused.ensures
+    (opened c.self.inside.records c.add_span.new.records c.self.inside.issued c.self.inside.stacks.entries c.self.inside.limits c.args.self.now c.args.lane.0 (asked_parent c.args.attributes.now) c.metadata.result c.in_ok-parent.parent c.refused.result
+    (number_of c.from_u64-id.result) c.self.view_is c.self.invariant c.in_ok-parent.ensures.chosen (c.in_default.ensures.room refl) c.if-has_no_place.ensures c.from_u64-id.ensures adds))
