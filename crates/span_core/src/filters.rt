@@ -3,7 +3,7 @@ ghost use Rattle.std.specs.Prelude.{◌≡◌, ℕ, ◌<◌, ◌==◌, IsTrue, f
 ghost use Rattle.span_core.specs.Filters.{has_filter, is_attached, is_enabled, refuses, union};
 ghost use Rattle.span_core.specs.declared.numbers.TheConstants.{LIMIT};
 
-use crate::numbers::Numbers;
+use crate::numbers::{self, Numbers};
 use std::fmt;
 
 /// The filters that a layer stands under, by their numbers: a set, or unattached where a filter has no number yet.
@@ -16,6 +16,9 @@ pub struct FilterId {
 }
 
 impl FilterId {
+    /// How many filters there may be: their numbers are below this.
+    pub const LIMIT: u32 = numbers::LIMIT as u32;
+
     /// No filter.
     pub fn none() -> FilterId
         ensures attached { IsTrue (is_attached result) }

@@ -1,4 +1,4 @@
-use Rattle.std.proofs.Common.{◌≡◌, ℕ, ◌+◌, ◌-◌, ◌<◌, ◌≤◌, ◌⊎◌, List, [], ◌∷◌, length, Option, Some, None, refl, sym, ap, subst, ◌∙◌, inl, inr, arith, Bool, true, false, cond, nat_eq, ◌||◌, zero, suc, IfSome, add-one, IsSome}
+use Rattle.std.proofs.Common.{◌≡◌, ℕ, ◌+◌, ◌-◌, ◌<◌, ◌≤◌, ◌⊎◌, List, [], ◌∷◌, length, Option, Some, None, refl, sym, ap, subst, ◌∙◌, inl, inr, arith, Bool, true, false, cond, nat_eq, ◌||◌, zero, suc, IfSome, add-one, IsSome, is_some}
 use Rattle.std.proofs.lemmas.Bool.{cases_eq, eq-eqb, ne_eqb, true≢false}
 use Rattle.std.specs.Option.{option_map, IsSomeAnd}
 use Rattle.std.specs.List.{list_any}
@@ -191,6 +191,8 @@ kept_child_added es fs gs n p r a h g e z apart f ch set o = record {
 pub record Added (es gs : List (ℕ × SpanRecord)) (n : ℕ) (r : SpanRecord) : Type 0 where
   pub kept : IsKept gs (n + 1)
   pub spans : spans_of gs ≡ insert (spans_of es) (n + 1) (span_of r)
+  pub some : is_some (at (n + 1) gs) ≡ true
+  pub keys : (q : ℕ) → (q ≡ n + 1 → ⊥) → is_some (at q gs) ≡ is_some (at q es)
 
 pub added : (m k : BTreeMap ℕ SpanRecord) (n : ℕ) (r : SpanRecord) → IsKept m.entries n → r.children ≡ 0 → IsParentIn (spans_of m.entries) (parent_in r) → Adds m k (n + 1) r → Added m.entries k.entries n r
 added m k n r h z p a = by_parent r.parent refl
@@ -202,6 +204,8 @@ added m k n r h z p a = by_parent r.parent refl
         record {
           kept = subst (λ (es : List (ℕ × SpanRecord)). IsKept es (n + 1)) (sym same) (kept_root_added m.entries (a.mid).entries n r h g (ap (option_map number_of) e) z);
           spans = ap spans_of same ∙ g.spans;
+          some = ap (λ (es : List (ℕ × SpanRecord)). is_some (at (n + 1) es)) same ∙ ap is_some g.there;
+          keys = λ q ne. ap (λ (es : List (ℕ × SpanRecord)). is_some (at q es)) same ∙ ap is_some (g.others q ne);
         }
     by_parent (Some i) e =
         let q : ℕ = number_of i in
@@ -218,6 +222,11 @@ added m k n r h z p a = by_parent r.parent refl
         record {
           kept = kept_child_added m.entries fs k.entries n q r above.0 h g is z apart f ch w.0 w.4;
           spans = spans_more fs k.entries q above.0 f ch ∙ g.spans;
+          some = ap is_some (ch.others (n + 1) (λ e. apart (sym e)) ∙ g.there);
+          keys = λ i ne. elim (cases_eq i q) [
+            | inl same ↦ ap (λ (y : ℕ). is_some (at y k.entries)) same ∙ ap is_some ch.there ∙ sym (ap is_some above.1) ∙ sym (ap (λ (y : ℕ). is_some (at y m.entries)) same)
+            | inr other ↦ ap is_some (ch.others i other ∙ g.others i ne)
+          ];
         }
 
 -- the chosen parent is there

@@ -17,6 +17,7 @@ use Rattle.span_core.specs.Id.{number_of}
 use Rattle.span_core.specs.declared.ids.Id.{Id}
 use Rattle.span_registry.proofs.Added.{beyond}
 use Rattle.span_registry.specs.declared.records.SpanRecord.{SpanRecord}
+use Rattle.span_registry.specs.declared.extensions.ExtensionMap.{ExtensionMap}
 use Rattle.span_registry.specs.declared.limits.Limits.{Limits}
 use Rattle.span_registry.specs.Step.{HasNoPlace, HasPlace}
 use Rattle.span_registry.specs.Store.{Span, Spans, is_parent, child_count}
@@ -81,13 +82,13 @@ full_in es n count p h f = by_case (at p es) refl f
         omega arith
 
 -- the code's test of places and ids
-pub full_by : (es : List (ℕ × SpanRecord)) (n : ℕ) (ss : List (ℕ × List ℕ)) (l : Limits) (b : Bool) → IsKept es n → (b ≡ true → (18446744073709551615 ≤ n) ⊎ (l.places ≤ length es))
-    → (b ≡ false → (n < 18446744073709551615) × (length es < l.places)) → MatchBool b (HasNoPlace (registry_of es n ss l)) (HasPlace (registry_of es n ss l))
-full_by es n ss l true h full room = elim (full refl) [
+pub full_by : (es : List (ℕ × SpanRecord)) (xs : List (ℕ × ExtensionMap)) (n : ℕ) (ss : List (ℕ × List ℕ)) (l : Limits) (k : ℕ) (b : Bool) → IsKept es n → (b ≡ true → (18446744073709551615 ≤ n) ⊎ (l.places ≤ length es))
+    → (b ≡ false → (n < 18446744073709551615) × (length es < l.places)) → MatchBool b (HasNoPlace (registry_of es xs n ss l k)) (HasPlace (registry_of es xs n ss l k))
+full_by es xs n ss l k true h full room = elim (full refl) [
   | inl a ↦ inr (let k = issued_len n in omega arith)
   | inr a ↦ inl (let k = len_is es h.ordered in omega arith)
 ]
-full_by es n ss l false h full room =
+full_by es xs n ss l k false h full room =
     let r = room refl in
     let a : n < 18446744073709551615 = r.0 in
     let b : length es < l.places = r.1 in

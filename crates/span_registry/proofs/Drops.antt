@@ -6,7 +6,7 @@ use Rattle.std.specs.Option.{option_and_then}
 use Rattle.std.specs.Cmp.{nat_cmp_total}
 use Rattle.std.specs.FinMap.{FinMap, get, insert, remove, empty, len, len-remove, empty_of_len, get-empty}
 use Rattle.std.specs.Ordering.{nat_cmp}
-use Rattle.span_registry.specs.Closes.{Member, IsUnheld, AreUnheld, IsSettled, IsSettledBut, handle_taken, remove_all, take_handle}
+use Rattle.span_registry.specs.Closes.{Member, IsUnheld, AreUnheld, IsSettled, IsSettledBut, handle_taken, remove_all, take_handle, without}
 use Rattle.span_registry.specs.Step.{Drops, Removes, TakesOut}
 use Rattle.span_registry.specs.Store.{Span, Spans, RegistryState, Store, IsChain, IsForest, HasChild, IsClosing, IsHeld, IsOpen, parent_of, with_spans}
 use Rattle.span_registry.proofs.Chains.{get_put, get_beside}
@@ -87,7 +87,7 @@ none_dropped old x f s h o = record {
 
 -- ---- the closes of a drop, one after another
 
-removed_more : (m : Spans) (xs : List ℕ) (x : ℕ) → remove_all m (xs ++ (x ∷ [])) ≡ remove (remove_all m xs) x
+removed_more : {X : Type 0} (m : FinMap nat_cmp X) (xs : List ℕ) (x : ℕ) → remove_all m (xs ++ (x ∷ [])) ≡ remove (remove_all m xs) x
 removed_more m [] x = refl
 removed_more m (y ∷ ys) x = removed_more (remove m y) ys x
 
@@ -130,7 +130,8 @@ progress_more first now new x xs o h r next last =
     let spans : new.store.spans ≡ remove now.store.spans x = ap (λ (s : Store). s.spans) r.store in
     record {
       taken = record {
-        store = r.store ∙ ap (λ (s : Store). record s { spans = remove s.spans x }) h.taken.store ∙ ap (λ (m : Spans). record first.store { spans = m }) (sym (removed_more first.store.spans xs x));
+        store = r.store ∙ ap (λ (s : Store). without s (x ∷ [])) h.taken.store
+            ∙ (λ i. record first.store { spans = (sym (removed_more first.store.spans xs x)) i; extensions = (sym (removed_more first.store.extensions xs x)) i });
         limits = r.limits ∙ h.taken.limits;
         filters = r.filters ∙ h.taken.filters;
         retired = (let a = r.retired in let b = h.taken.retired in omega arith);

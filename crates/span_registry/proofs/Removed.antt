@@ -1,4 +1,4 @@
-use Rattle.std.proofs.Common.{◌≡◌, ℕ, ◌+◌, ◌-◌, ◌<◌, ◌≤◌, ◌⊎◌, List, [], ◌∷◌, length, Option, Some, None, refl, sym, ap, subst, ◌∙◌, inl, inr, arith, Bool, true, false, cond, nat_eq, zero, suc, IfSome}
+use Rattle.std.proofs.Common.{◌≡◌, ℕ, ◌+◌, ◌-◌, ◌<◌, ◌≤◌, ◌⊎◌, List, [], ◌∷◌, length, Option, Some, None, refl, sym, ap, subst, ◌∙◌, inl, inr, arith, Bool, true, false, cond, nat_eq, zero, suc, IfSome, is_some}
 use Rattle.std.proofs.lemmas.Bool.{cases_eq, ne_eqb, eq-eqb}
 use Rattle.std.specs.Option.{option_map, option_and_then, IsSomeAnd}
 use Rattle.span_core.specs.Id.{number_of}
@@ -180,6 +180,8 @@ pub record RootGone (es fs : List (ℕ × SpanRecord)) (n x : ℕ) : Type 0 wher
   pub kept : IsKept fs n
   pub spans : spans_of fs ≡ remove (spans_of es) x
   pub parent : parent_of (spans_of es) x ≡ None
+  pub none : at x fs ≡ None
+  pub keys : (q : ℕ) → (q ≡ x → ⊥) → is_some (at q fs) ≡ is_some (at q es)
 
 pub root_gone : (m k : BTreeMap ℕ SpanRecord) (n x : ℕ) → (r : SpanRecord) × Removal m.entries k.entries n x r → option_map (λ s. s.parent) (at x m.entries) ≡ Some None → RootGone m.entries k.entries n x
 root_gone m k n x u e =
@@ -188,6 +190,8 @@ root_gone m k n x u e =
       kept = kept_root m.entries k.entries n x u.0 u.1 p;
       spans = spans_gone m.entries k.entries x (u.1).changes;
       parent = parent_at m.entries (spans_of m.entries) x u.0 refl (u.1).found ∙ p;
+      none = (u.1).changes.there;
+      keys = λ q ne. ap is_some ((u.1).changes.others q ne);
     }
 
 -- the parent has a child to lose
@@ -202,6 +206,8 @@ pub record ChildGone (es gs : List (ℕ × SpanRecord)) (n x : ℕ) (p : Id) (ne
   pub kept : IsKept gs n
   pub spans : spans_of gs ≡ remove (spans_of es) x
   pub parent : parent_of (spans_of es) x ≡ Some (number_of p)
+  pub none : at x gs ≡ None
+  pub keys : (q : ℕ) → (q ≡ x → ⊥) → is_some (at q gs) ≡ is_some (at q es)
   pub closing : IfSome next (λ q. (parent_of (spans_of es) x ≡ Some (number_of q)) × IsClosing (spans_of gs) (number_of q))
   pub still_open : next ≡ None → IsOpen (spans_of gs) (number_of p)
 
@@ -218,12 +224,20 @@ child_gone m k w n x p next u e wrote closes stays =
     let is = parent_is es fs n x r (Some p) u.1 e in
     let a = parent_there es fs n x q r u.1 is in
     let t = at_some (λ v. WritesThrough nat_cmp (nat_cmp q) k (fewer v) w) (at q fs) a.0 a.1 wrote in
-    let l : Lost es fs gs n x q r a.0 = lost es fs gs n x q r a.0 u.1 is a.1 a.2 (changes_by k w q _ (t.3 (is_some_at q fs a.0 a.1))) t.0 t.4 in
+    let ch = changes_by k w q _ (t.3 (is_some_at q fs a.0 a.1)) in
+    let l : Lost es fs gs n x q r a.0 = lost es fs gs n x q r a.0 u.1 is a.1 a.2 ch t.0 t.4 in
+    let apart : x ≡ q → ⊥ = λ same. (let some : None ≡ Some a.0 = sym (u.1).changes.there ∙ ap (λ (y : ℕ). at y fs) same ∙ a.1 in let no : ⊥ = cc in no) in
     let parent : parent_of (spans_of es) x ≡ Some q = parent_at es (spans_of es) x r refl (u.1).found ∙ is in
     record {
       kept = l.kept;
       spans = l.spans;
       parent = parent;
+      none = ch.others x apart ∙ (u.1).changes.there;
+      keys = λ i ne. elim (cases_eq i q) [
+        | inl same ↦
+            ap (λ (y : ℕ). is_some (at y gs)) same ∙ ap is_some ch.there ∙ sym (ap is_some a.1) ∙ ap is_some ((u.1).changes.others q (λ e. apart (sym e))) ∙ sym (ap (λ (y : ℕ). is_some (at y es)) same)
+        | inr other ↦ ap is_some (ch.others i other ∙ (u.1).changes.others i ne)
+      ];
       closing = some_next next closes (λ i h. (
         parent ∙ ap (λ (j : Id). Some (number_of j)) (sym h.0),
         subst (λ (j : Id). IsClosing (spans_of gs) (number_of j)) (sym h.0) (l.closing (at_some (λ v. (v.handles ≡ 0) × (v.children ≡ 1)) (at q fs) a.0 a.1 h.1)),

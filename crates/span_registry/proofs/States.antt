@@ -1,36 +1,95 @@
 -- What a call that was made leaves of the registry.
-use Rattle.std.proofs.Common.{◌≡◌, ℕ, ◌+◌, ◌-◌, ◌*◌, ◌<◌, ◌≤◌, ◌⊎◌, List, Option, Some, None, refl, sym, ap, subst, ◌∙◌, inl, inr, arith, IsSome, IsTrue, ◌↔◌, OnOk, OnErr, Ok, Err, Result, true, false, zero, suc}
-use Rattle.std.proofs.lemmas.Bool.{true≢false}
+use Rattle.std.proofs.Common.{◌≡◌, ℕ, ◌+◌, ◌-◌, ◌*◌, ◌<◌, ◌≤◌, ◌⊎◌, List, Option, Some, None, refl, sym, ap, subst, ◌∙◌, inl, inr, arith, IsSome, is_some, IsTrue, ◌↔◌, OnOk, OnErr, Ok, Err, Result, true, false, zero, suc}
+use Rattle.std.proofs.lemmas.Bool.{cases_eq, true≢false}
 use Rattle.std.specs.Option.{option_map, unwrap_or, IsSomeAnd}
 use Rattle.std.specs.Ordering.{nat_cmp}
-use Rattle.std.specs.BTreeMap.{BTreeMap, WritesThrough}
+use Rattle.std.specs.BTreeMap.{BTreeMap, Updates, WritesThrough}
 use Rattle.std.specs.BTreeMap as tree
-use Rattle.std.specs.FinMap.{get, insert, remove}
+use Rattle.std.specs.Cmp.{nat_cmp_total}
+use Rattle.std.specs.FinMap.{from_entries, get, insert, nat_cmp-IsAntisymmetric, remove, same_map}
+use Rattle.span_registry.specs.declared.extensions.ExtensionMap.{ExtensionMap}
 use Rattle.span_registry.specs.declared.limits.Limits.{Limits}
 use Rattle.span_registry.specs.declared.records.Counts.{Counts}
 use Rattle.span_registry.specs.declared.records.SpanRecord.{SpanRecord}
+use Rattle.span_registry.specs.Extensions.{no_values}
 use Rattle.span_registry.specs.Closes.{take_handle, handle_taken}
-use Rattle.span_registry.specs.Kept.{IsKept, at, registry_of, span_of, spans_of, parent_in}
+use Rattle.span_registry.specs.Kept.{ArePaired, IsKept, at, extensions_at, registry_of, span_of, spans_of, parent_in}
 use Rattle.span_registry.specs.Step.{Removes, add_handle, handle_added}
-use Rattle.span_registry.specs.Store.{HasChild, IsClosing, IsHeld, IsOpen, RegistryState, Span, Spans, Stacks, handles_of, with_spans}
-use Rattle.span_registry.proofs.Kept.{changes_by, closing_iff, get_spans, has_child_iff, is_some_at, kept_written, open_iff, span_at, spans_put}
+use Rattle.span_registry.specs.Store.{HasChild, IsClosing, IsHeld, IsInStore, IsOpen, RegistryState, Span, Spans, Stacks, handles_of, with_spans}
+use Rattle.span_registry.proofs.Added.{at_next}
+use Rattle.span_registry.proofs.Chains.{other_test}
+use Rattle.span_registry.proofs.NumberMaps.{get-of_entries, removed}
+use Rattle.span_registry.proofs.Kept.{changes_by, nowhere, closing_iff, get_spans, has_child_iff, is_some_at, kept_written, open_iff, span_at, spans_put}
 use Rattle.span_registry.proofs.Removed.{at_some}
 
 -- ---- the registry with other spans or stacks
 
-pub spans_written : (es fs : List (ℕ × SpanRecord)) (n : ℕ) (ss : List (ℕ × List ℕ)) (l : Limits) (now : RegistryState) (f : Spans → Spans) → registry_of es n ss l ≡ now → spans_of fs ≡ f (spans_of es)
-    → registry_of fs n ss l ≡ with_spans now (f now.store.spans)
-spans_written es fs n ss l now f v e = ap (with_spans (registry_of es n ss l)) e ∙ ap (λ (s : RegistryState). with_spans s (f s.store.spans)) v
+pub spans_written : (es fs : List (ℕ × SpanRecord)) (xs : List (ℕ × ExtensionMap)) (n : ℕ) (ss : List (ℕ × List ℕ)) (l : Limits) (k : ℕ) (now : RegistryState) (f : Spans → Spans) → registry_of es xs n ss l k ≡ now → spans_of fs ≡ f (spans_of es)
+    → registry_of fs xs n ss l k ≡ with_spans now (f now.store.spans)
+spans_written es fs xs n ss l k now f v e = ap (with_spans (registry_of es xs n ss l k)) e ∙ ap (λ (s : RegistryState). with_spans s (f s.store.spans)) v
 
-pub spans_removed : (es fs : List (ℕ × SpanRecord)) (n : ℕ) (ss : List (ℕ × List ℕ)) (l : Limits) (now : RegistryState) (x : ℕ) → registry_of es n ss l ≡ now → spans_of fs ≡ remove (spans_of es) x
-    → Removes now x (registry_of fs n ss l)
-spans_removed es fs n ss l now x v e = subst (λ (s : RegistryState). Removes s x (registry_of fs n ss l)) v (record {
-  store = ap (λ (m : Spans). (with_spans (registry_of es n ss l) m).store) e;
-  limits = refl;
-  filters = refl;
-  retired = omega arith;
-  retired_late = omega arith;
-})
+pub spans_removed : (es fs : List (ℕ × SpanRecord)) (m w : BTreeMap ℕ ExtensionMap) (n : ℕ) (ss : List (ℕ × List ℕ)) (l : Limits) (k : ℕ) (now : RegistryState) (x : ℕ) → registry_of es m.entries n ss l k ≡ now → spans_of fs ≡ remove (spans_of es) x
+    → Updates nat_cmp m w x None → Removes now x (registry_of fs w.entries n ss l k)
+spans_removed es fs m w n ss l k now x v e u =
+    let before : RegistryState = registry_of es m.entries n ss l k in
+    let gone : from_entries {R = nat_cmp} w.entries ≡ remove (from_entries m.entries) x = removed m w x u in
+    subst (λ (s : RegistryState). Removes s x (registry_of fs w.entries n ss l k)) v (record {
+      store = λ i. record before.store { spans = e i; extensions = gone i };
+      limits = refl;
+      filters = refl;
+      retired = omega arith;
+      retired_late = omega arith;
+    })
+
+-- ---- records and extensions stay paired
+
+pub paired_same : (es fs : List (ℕ × SpanRecord)) (xs : List (ℕ × ExtensionMap)) → ArePaired es xs → ((q : ℕ) → is_some (at q fs) ≡ is_some (at q es)) → ArePaired fs xs
+paired_same es fs xs h same q = same q ∙ h q
+
+pub paired_removed : (es fs : List (ℕ × SpanRecord)) (m w : BTreeMap ℕ ExtensionMap) (x : ℕ) → ArePaired es m.entries → at x fs ≡ None → ((q : ℕ) → (q ≡ x → ⊥) → is_some (at q fs) ≡ is_some (at q es)) → Updates nat_cmp m w x None
+    → ArePaired fs w.entries
+paired_removed es fs m w x h none others u q = elim (cases_eq q x) [
+  | inl same ↦ ap (λ (y : ℕ). is_some (at y fs)) same ∙ ap is_some none ∙ sym (ap (λ (y : ℕ). is_some (extensions_at y w.entries)) same ∙ ap is_some u.1)
+  | inr ne ↦ others q ne ∙ h q ∙ sym (ap is_some (u.2 q (other_test x q (λ e. ne (sym e)))))
+]
+
+pub paired_added : (es fs : List (ℕ × SpanRecord)) (m w : BTreeMap ℕ ExtensionMap) (x : ℕ) (e : ExtensionMap) → ArePaired es m.entries → is_some (at x fs) ≡ true → ((q : ℕ) → (q ≡ x → ⊥) → is_some (at q fs) ≡ is_some (at q es))
+    → Updates nat_cmp m w x (Some e) → ArePaired fs w.entries
+paired_added es fs m w x e h some others u q = elim (cases_eq q x) [
+  | inl same ↦ ap (λ (y : ℕ). is_some (at y fs)) same ∙ some ∙ sym (ap (λ (y : ℕ). is_some (extensions_at y w.entries)) same ∙ ap is_some u.1)
+  | inr ne ↦ others q ne ∙ h q ∙ sym (ap is_some (u.2 q (other_test x q (λ e. ne (sym e)))))
+]
+
+-- the spans with extensions are those in the store
+pub in_store_by : (es : List (ℕ × SpanRecord)) (xs : List (ℕ × ExtensionMap)) (m : Spans) (x : ℕ) → spans_of es ≡ m → ArePaired es xs → is_some (extensions_at x xs) ≡ true → IsInStore m x
+in_store_by es xs m x v paired some = by_case (at x es) refl (paired x ∙ some)
+  where
+    by_case : (o : Option SpanRecord) → at x es ≡ o → is_some (at x es) ≡ true → IsInStore m x
+    by_case None e t = absurd (true≢false (sym t ∙ ap is_some e))
+    by_case (Some r) e t = subst (λ (w : Spans). IsInStore w x) v (span_of r, span_at es x r e)
+
+pub not_in_store_by : (es : List (ℕ × SpanRecord)) (xs : List (ℕ × ExtensionMap)) (m : Spans) (x : ℕ) → spans_of es ≡ m → ArePaired es xs → is_some (extensions_at x xs) ≡ false → IsInStore m x → ⊥
+not_in_store_by es xs m x v paired none there = by_case (at x es) refl (paired x ∙ none)
+  where
+    by_case : (o : Option SpanRecord) → at x es ≡ o → is_some (at x es) ≡ false → ⊥
+    by_case None e f = nowhere es m x v e there
+    by_case (Some r) e f = true≢false (sym (ap is_some e) ∙ f)
+
+-- extensions that were added under the next id and taken away again are as before
+pub taken_back : (es : List (ℕ × SpanRecord)) (m y z : BTreeMap ℕ ExtensionMap) (n : ℕ) → IsKept es n → ArePaired es m.entries → Updates nat_cmp m y (n + 1) (Some no_values) → Updates nat_cmp y z (n + 1) None
+    → from_entries {R = nat_cmp} z.entries ≡ from_entries m.entries
+taken_back es m y z n h paired put taken = same_map nat_cmp_total nat_cmp-IsAntisymmetric _ _ (λ q.
+    get-of_entries z.entries q ∙ elim (cases_eq q (n + 1)) [
+      | inl same ↦ ap (λ (i : ℕ). extensions_at i z.entries) same ∙ taken.1 ∙ sym none ∙ sym (ap (λ (i : ℕ). extensions_at i m.entries) same)
+      | inr ne ↦ let apart = other_test (n + 1) q (λ e. ne (sym e)) in taken.2 q apart ∙ put.2 q apart
+    ] ∙ sym (get-of_entries m.entries q))
+  where
+    none_of : (o : Option ExtensionMap) → is_some o ≡ false → o ≡ None
+    none_of None e = refl
+    none_of (Some x) e = absurd (true≢false e)
+
+    none : extensions_at (n + 1) m.entries ≡ None
+    none = none_of (extensions_at (n + 1) m.entries) (sym (paired (n + 1)) ∙ ap is_some (at_next es n h))
 
 -- ---- the counts of a span
 
@@ -135,6 +194,7 @@ pub record Written (es fs : List (ℕ × SpanRecord)) (n x handles : ℕ) (k : C
   pub counted : old.handles ≡ k.handles
   pub spans : spans_of fs ≡ insert (spans_of es) x (record old { handles = handles })
   pub there : Some (record k { handles = handles }) ≡ option_map counts (at x fs)
+  pub keys : (q : ℕ) → is_some (at q fs) ≡ is_some (at q es)
 
 pub written : (m w : BTreeMap ℕ SpanRecord) (n x handles : ℕ) (k : Counts) → IsKept m.entries n → Some k ≡ option_map counts (at x m.entries)
     → IsSomeAnd (at x m.entries) (λ r. WritesThrough nat_cmp (nat_cmp x) m (record r { handles = handles }) w) → Written m.entries w.entries n x handles k
@@ -150,6 +210,10 @@ written m w n x handles k h e wrote =
       was = span_at m.entries x r f.there;
       counted = f.handles;
       spans = spans_put m.entries w.entries x new ch;
+      keys = λ q. elim (cases_eq q x) [
+        | inl same ↦ ap (λ (y : ℕ). is_some (at y w.entries)) same ∙ ap is_some ch.there ∙ sym (ap (λ (y : ℕ). is_some (at y m.entries)) same ∙ ap is_some f.there)
+        | inr ne ↦ ap is_some (ch.others q ne)
+      ];
       there = ap (λ (c : ℕ). Some (counts (record new { children = c }))) (sym f.children) ∙ ap (option_map counts) (sym ch.there);
     }
 

@@ -1,9 +1,10 @@
 -- What a drop closes.
 use Rattle.std.specs.Prelude.{◌≡◌, ℕ, ◌-◌, ◌<◌, ◌⊎◌, List, [], ◌∷◌, length}
 use Rattle.std.specs.Prelude.{Option, Some, None}
-use Rattle.std.specs.FinMap.{get, insert, remove}
+use Rattle.std.specs.FinMap.{FinMap, get, insert, remove}
+use Rattle.std.specs.Ordering.{nat_cmp}
 use Rattle.std.specs.List.{AllByRecursion}
-use Rattle.span_registry.specs.Store.{Span, Spans, IsChain, HasChild, IsInStore}
+use Rattle.span_registry.specs.Store.{Span, Spans, Store, IsChain, HasChild, IsInStore}
 
 -- x is one of these
 abbrev pub Member : ℕ → List ℕ → Type 0
@@ -42,10 +43,14 @@ handle_taken m x (Some r) = insert m x (record r { handles = r.handles - 1 })
 abbrev pub take_handle : Spans → ℕ → Spans
 take_handle m x = handle_taken m x (get m x)
 
--- the spans without these
-abbrev pub remove_all : Spans → List ℕ → Spans
+-- the map without these
+abbrev pub remove_all : {X : Type 0} → FinMap nat_cmp X → List ℕ → FinMap nat_cmp X
 remove_all m [] = m
 remove_all m (x ∷ xs) = remove_all (remove m x) xs
+
+-- the store without these spans and their extensions
+abbrev pub without : Store → List ℕ → Store
+without s xs = record s { spans = remove_all s.spans xs; extensions = remove_all s.extensions xs }
 
 -- these are the spans that a drop of x closes, in the order in which they close
 abbrev pub Closes : Spans → ℕ → List ℕ → Type 0

@@ -1,7 +1,7 @@
 -- What each call does to the store, and when it is refused.
-use Rattle.std.specs.Prelude.{◌≡◌, ℕ, ◌+◌, ◌-◌, ◌*◌, ◌⊎◌, ◌<◌, ◌≤◌, false, Option, Some, None, IfSome, List, ◌∷◌, ◌^◌}
+use Rattle.std.specs.Prelude.{◌≡◌, ℕ, ◌+◌, ◌-◌, ◌*◌, ◌⊎◌, ◌<◌, ◌≤◌, false, Option, Some, None, IfSome, List, [], ◌∷◌, ◌^◌}
 use Rattle.std.specs.Option.{option_map}
-use Rattle.std.specs.FinMap.{get, insert, remove, len}
+use Rattle.std.specs.FinMap.{get, insert, len}
 use Rattle.std.specs.FinSet.{contains}
 use Rattle.std.specs.FinSet.{insert as add, len as set_len}
 use Rattle.span_core.specs.Id.{number_of, id_of}
@@ -12,7 +12,7 @@ use Rattle.span_core.specs.declared.records.Parent.{Parent}
 use Rattle.span_core.specs.declared.records.Parent.TheVariants.{Root, Contextual, Explicit}
 use Rattle.span_core.specs.declared.refusals.TraceError.{TraceError}
 use Rattle.span_core.specs.declared.refusals.TraceError.TheVariants.{UnknownSpan, UnknownParent, NoHandle, TooManyFilters, TagTaken, CallsiteMismatch, CountFull, TooManySpans, OutOfMemory}
-use Rattle.span_registry.specs.Closes.{Closes, remove_all, take_handle}
+use Rattle.span_registry.specs.Closes.{Closes, take_handle, without}
 use Rattle.span_registry.specs.Extensions.{no_values}
 use Rattle.span_registry.specs.LaneStack.{first, leave, newest}
 use Rattle.span_registry.specs.Store.{Span, Spans, Store, RegistryState, IsInStore, IsOpen, IsHeld, child_count, handles_of, stack_of, with_spans, with_stack}
@@ -46,11 +46,11 @@ pub record HasPlace (s : RegistryState) : Type 0 where
   pub place : len s.store.spans + s.retired < s.limits.places
   pub id : set_len s.store.issued < 2 ^ 64 - 1
 
--- a span as it begins: with one handle and no extensions
+-- a span as it begins: with one handle
 abbrev pub new_span : Metadata → Option ℕ → FilterMap → Span
-new_span metadata parent verdict = record { metadata = metadata; parent = parent; handles = 1; verdict = verdict; extensions = no_values }
+new_span metadata parent verdict = record { metadata = metadata; parent = parent; handles = 1; verdict = verdict }
 
--- a span is opened, under an id that was never issued before
+-- a span is opened without extensions, under an id that was never issued before
 pub record Opens (old : RegistryState) (lane : ℕ) (metadata : Metadata) (asked : Parent) (verdict : FilterMap) (id : ℕ) (new : RegistryState) : Type 0 where
   pub parent : Option ℕ
   pub chosen : IsParentFor old.store lane asked parent
@@ -59,7 +59,7 @@ pub record Opens (old : RegistryState) (lane : ℕ) (metadata : Metadata) (asked
   pub fresh : contains old.store.issued id ≡ false
   pub other : id ≡ 0 → ⊥
   pub unused : get old.store.spans id ≡ None
-  pub state : new ≡ record old { store = record old.store { spans = insert old.store.spans id (new_span metadata parent verdict); issued = add old.store.issued id } }
+  pub state : new ≡ record old { store = record old.store { spans = insert old.store.spans id (new_span metadata parent verdict); extensions = insert old.store.extensions id no_values; issued = add old.store.issued id } }
 
 -- a new span with a parent that may be none finds both room and a place
 pub record CanOpen (s : RegistryState) (lane : ℕ) (asked : Parent) : Type 0 where
@@ -139,7 +139,7 @@ add_handle m x = handle_added m x (get m x)
 
 -- x is taken out; its place may be retired by that
 pub record Removes (old : RegistryState) (x : ℕ) (new : RegistryState) : Type 0 where
-  pub store : new.store ≡ record old.store { spans = remove old.store.spans x }
+  pub store : new.store ≡ without old.store (x ∷ [])
   pub limits : new.limits ≡ old.limits
   pub filters : new.filters ≡ old.filters
   pub retired : old.retired ≤ new.retired
@@ -147,7 +147,7 @@ pub record Removes (old : RegistryState) (x : ℕ) (new : RegistryState) : Type 
 
 -- these spans are taken out; their places may be retired by that
 pub record TakesOut (old : RegistryState) (xs : List ℕ) (new : RegistryState) : Type 0 where
-  pub store : new.store ≡ record old.store { spans = remove_all old.store.spans xs }
+  pub store : new.store ≡ without old.store xs
   pub limits : new.limits ≡ old.limits
   pub filters : new.filters ≡ old.filters
   pub retired : old.retired ≤ new.retired

@@ -25,7 +25,6 @@ pub record Span : Type 0 where
   pub parent : Option ℕ
   pub handles : ℕ
   pub verdict : FilterMap
-  pub extensions : ExtensionMap
 
 -- the spans in the store, by their numbers
 abbrev pub Spans : Type 0
@@ -35,9 +34,14 @@ Spans = FinMap nat_cmp Span
 abbrev pub Stacks : Type 0
 Stacks = FinMap nat_cmp (List ℕ)
 
--- the spans, the ids issued so far, and the lanes' stacks
+-- the extensions of the spans in the store, by their numbers
+abbrev pub SpanExtensions : Type 0
+SpanExtensions = FinMap nat_cmp ExtensionMap
+
+-- the spans with their extensions, the ids issued so far, and the lanes' stacks
 pub record Store : Type 0 where
   pub spans : Spans
+  pub extensions : SpanExtensions
   pub issued : FinSet nat_cmp
   pub stacks : Stacks
 
@@ -50,7 +54,7 @@ pub record RegistryState : Type 0 where
 
 -- nothing issued, no span, no stack
 abbrev pub empty_store : Store
-empty_store = record { spans = empty; issued = no_items; stacks = empty }
+empty_store = record { spans = empty; extensions = empty; issued = no_items; stacks = empty }
 
 -- a registry as it begins
 abbrev pub new_registry : Limits → RegistryState
@@ -68,6 +72,10 @@ stack_of m lane = unwrap_or (get m lane) []
 abbrev pub with_stack : Stacks → ℕ → List ℕ → Stacks
 with_stack m lane [] = remove m lane
 with_stack m lane (x ∷ xs) = insert m lane (x ∷ xs)
+
+-- the registry, where x has these extensions
+abbrev pub with_extensions : RegistryState → ℕ → ExtensionMap → RegistryState
+with_extensions s x e = record s { store = record s.store { extensions = insert s.store.extensions x e } }
 
 -- x is in the store
 abbrev pub IsInStore : Spans → ℕ → Type 0
@@ -119,13 +127,13 @@ IsForest m = (x : ℕ) (r : Span) → get m x ≡ Some r → (xs : List ℕ) × 
 
 abbrev pub span_code : Coded Span
 span_code =
-    code_by (Metadata × (Option ℕ × (ℕ × (FilterMap × ExtensionMap)))) (coded× (metadata.the_row).coded (coded× (coded_option coded_ℕ) (coded× coded_ℕ (coded× (verdict.the_row).coded (extensions.the_row).coded))))
-    (λ r. (r.metadata, (r.parent, (r.handles, (r.verdict, r.extensions))))) (λ t. record { metadata = t.0; parent = t.1.0; handles = t.1.1.0; verdict = t.1.1.1.0; extensions = t.1.1.1.1 }) (λ _. refl)
+    code_by (Metadata × (Option ℕ × (ℕ × FilterMap))) (coded× (metadata.the_row).coded (coded× (coded_option coded_ℕ) (coded× coded_ℕ (verdict.the_row).coded)))
+    (λ r. (r.metadata, (r.parent, (r.handles, r.verdict)))) (λ t. record { metadata = t.0; parent = t.1.0; handles = t.1.1.0; verdict = t.1.1.1 }) (λ _. refl)
 
 abbrev pub store_code : Coded Store
 store_code =
-    code_by (Spans × (FinSet nat_cmp × Stacks)) (coded× (map_code coded_ℕ span_code) (coded× (set_code coded_ℕ) (map_code coded_ℕ (coded_list coded_ℕ))))
-    (λ s. (s.spans, (s.issued, s.stacks))) (λ t. record { spans = t.0; issued = t.1.0; stacks = t.1.1 }) (λ _. refl)
+    code_by (Spans × (SpanExtensions × (FinSet nat_cmp × Stacks))) (coded× (map_code coded_ℕ span_code) (coded× (map_code coded_ℕ (extensions.the_row).coded) (coded× (set_code coded_ℕ) (map_code coded_ℕ (coded_list coded_ℕ)))))
+    (λ s. (s.spans, (s.extensions, (s.issued, s.stacks)))) (λ t. record { spans = t.0; extensions = t.1.0; issued = t.1.1.0; stacks = t.1.1.1 }) (λ _. refl)
 
 abbrev pub registry_code : Coded RegistryState
 registry_code =

@@ -1,26 +1,29 @@
 //! The spans that are open, and what each lane has entered.
-ghost use Rattle.std.specs.Prelude.{◌≡◌, ◌<◌, ◌≤◌, ◌↔◌, ◌+◌, ◌*◌, OnOk, OnErr, IfOk, IfErr, IfSome, IsTrue, MatchBool, None, Some, [], ◌∷◌, ℕ};
+ghost use Rattle.std.specs.Borrow.{LendsIf, sem};
+ghost use Rattle.std.specs.Prelude.{◌==◌, ◌≡◌, ◌<◌, ◌≤◌, ◌↔◌, ◌+◌, ◌*◌, OnOk, OnErr, IfOk, IfErr, IfSome, IsTrue, IsSome, MatchBool, None, Some, [], ◌∷◌, ℕ};
 ghost use Rattle.std.specs.BTreeMap as tree;
 ghost use Rattle.std.specs.FinMap as map;
 ghost use Rattle.std.specs.FinSet as set;
-ghost use Rattle.std.specs.Option.{option_map, unwrap_or};
+ghost use Rattle.std.specs.Option.{option_copied_mut, option_map, unwrap_or};
 ghost use Rattle.std.specs.Ordering.{nat_cmp};
 ghost use Rattle.span_core.specs.Attributes.{asked_parent, metadata_of};
 ghost use Rattle.span_core.specs.Current.{current_span};
+ghost use Rattle.span_core.specs.Filters.{has_filter, is_attached};
 ghost use Rattle.span_core.specs.Id.{number_of};
 ghost use Rattle.span_core.specs.Pass.{refused_of};
 ghost use Rattle.span_registry.specs.Closes.{take_handle};
 ghost use Rattle.span_registry.specs.LaneStack.{leave};
 ghost use Rattle.span_registry.specs.Step.{HasPlace, HasNoPlace, IsContext, IsCurrent, IsParentFor, Opens, RefusesClone, RefusesEnter, RefusesNew, RefusesRelease, Removes, add_handle, entered, entered_last, left};
-ghost use Rattle.span_registry.specs.Store.{IsClosing, IsForest, IsHeld, IsOpen, handles_of, new_registry, parent_of, with_spans};
+ghost use Rattle.span_registry.specs.Store.{IsClosing, IsForest, IsHeld, IsInStore, IsOpen, handles_of, new_registry, parent_of, with_spans};
 
-use crate::extensions::ExtensionMap;
+use crate::extensions::ExtensionsMut;
 use crate::limits::Limits;
 use crate::records::{
-    Counts, Records, SpanRecord, add_span, counts_of, full, lose_child, set_handles, take_out,
+    Counts, Records, SpanExtensions, SpanRecord, add_extensions, add_span, counts_of, full,
+    lose_child, remove_extensions, set_handles, take_out,
 };
 use crate::stacks::SpanStack;
-use span_core::{Attributes, Current, Id, Lane, Pass, TraceError};
+use span_core::{Attributes, Current, FilterId, Id, Lane, Pass, TraceError};
 use std::alloc::Global;
 use std::collections::BTreeMap;
 use std::marker::Model;
@@ -42,8 +45,10 @@ pub struct Registry {
     alloc: Global,
     limits: Limits,
     records: Records,
+    extensions: SpanExtensions,
     issued: u64,
     stacks: BTreeMap<u32, SpanStack>,
+    filters: u32,
 }
 
 impl Model for Registry {
@@ -53,14 +58,18 @@ impl Model for Registry {
 
     ghost coded = { registry_code };
 
-    ghost use Rattle.span_registry.specs.Kept.{IsKept, registry_of};
+    ghost use Rattle.span_registry.specs.Kept.{IsSound, registry_of};
 
-    ghost view = { λ a. registry_of a.records.entries a.issued a.stacks.entries a.limits };
+    ghost view = { λ a. registry_of a.records.entries a.extensions.entries a.issued a.stacks.entries a.limits a.filters };
 
-    ghost invariant = { λ a. IsKept a.records.entries a.issued };
+    ghost invariant = { λ a. IsSound a.records.entries a.extensions.entries a.issued };
 }
 
 impl Registry {
+    ghost use Rattle.span_registry.specs.Store.{with_extensions};
+    ghost use Rattle.span_registry.specs.contracts.registry.Registry.{the_row};
+    ghost use Rattle.span_registry.specs.contracts.extensions.ExtensionMap.{the_row as map_row};
+
     /// An empty registry, with limits as high as they go.
     pub fn new(alloc: Global) -> Self
         ensures { result ≡ new_registry Limits.MAX }
@@ -79,8 +88,10 @@ impl Registry {
             alloc,
             limits,
             records: BTreeMap::new(alloc),
+            extensions: BTreeMap::new(alloc),
             issued: 0,
             stacks: BTreeMap::new(alloc),
+            filters: 0,
         }
     }
 
@@ -192,9 +203,12 @@ impl Registry {
             handles: 1,
             children: 0,
             verdict: pass.refused(),
-            extensions: ExtensionMap::new(self.alloc),
         };
-        add_span(&mut self.records, id, span, self.limits.count)?;
+        add_extensions(&mut self.extensions, id, self.alloc)?;
+        if let Err(error) = add_span(&mut self.records, id, span, self.limits.count) {
+            remove_extensions(&mut self.extensions, id);
+            return Err(error);
+        }
         self.issued = number;
         Ok(id)
     }
@@ -284,8 +298,49 @@ impl Registry {
         ensures closing { IfSome result (λ p. (parent_of self.old.store.spans (number_of id) ≡ Some (number_of p)) × IsClosing self.new.store.spans (number_of p)) }
         ensures still_open { result ≡ None → (p : ℕ) → parent_of self.old.store.spans (number_of id) ≡ Some p → IsOpen self.new.store.spans p }
     {
+        remove_extensions(&mut self.extensions, id);
         match take_out(&mut self.records, id) {
             Some(parent) => lose_child(&mut self.records, parent),
+            None => None,
+        }
+    }
+
+    /// How many filters were handed out.
+    pub fn filters(&self) -> u32
+        ensures { result ≡ self.now.filters }
+    {
+        self.filters
+    }
+
+    /// Hands out the next filter: 0, 1, and so on. Refused past the limit of 64 (`TooManyFilters`).
+    ///
+    /// Stands for `tracing_subscriber::registry::LookupSpan::register_filter`, which panics there.
+    pub fn register_filter(&mut self) -> Result<FilterId, TraceError>
+        ensures room { OnOk result (self.old.filters < FilterId.LIMIT) }
+        ensures attached { IfOk result (λ id. IsTrue (is_attached id)) }
+        ensures number { IfOk result (λ id. (n : ℕ) → has_filter id n ≡ (n == self.old.filters)) }
+        ensures counted { OnOk result (self.new ≡ record self.old { filters = self.old.filters + 1 }) }
+        ensures full { OnErr result (FilterId.LIMIT ≤ self.old.filters) }
+        ensures refused { IfErr result (λ e. e ≡ TraceError.TooManyFilters) }
+        ensures unchanged { OnErr result (self.new ≡ self.old) }
+    {
+        if self.filters >= FilterId::LIMIT {
+            return Err(TraceError::TooManyFilters);
+        }
+        let id = FilterId::of(self.filters);
+        self.filters += 1;
+        Ok(id)
+    }
+
+    /// The extensions of a span that is in the store, closing or not, to be read and changed.
+    pub fn extensions_mut(&mut self, id: Id) -> Option<ExtensionsMut<'_>>
+        ensures* writes_back { sem 𝓛 (LendsIf the_row map_row self.entry result (with_extensions self.old (number_of id)) self.old) }
+        ensures value { option_copied_mut result ≡ map.get self.old.store.extensions (number_of id) }
+        ensures there { IsSome result ↔ IsInStore self.old.store.spans (number_of id) }
+    {
+        let number = id.into_u64();
+        match self.extensions.get_mut(&number) {
+            Some(found) => Some(found),
             None => None,
         }
     }
