@@ -1,6 +1,9 @@
 //! The store of spans: what is kept of each, the lanes' stacks, and the calls that change them.
 #![tactic(auto)]
 
+pub mod extension_laws;
+#[cfg(test)]
+mod extension_tests;
 mod extensions;
 pub mod laws;
 mod limits;
@@ -9,8 +12,6 @@ mod registry;
 mod stacks;
 mod tables;
 mod tags;
-#[cfg(test)]
-mod tests;
 mod value_types;
 
 pub use extensions::{ExtensionMap, Extensions, ExtensionsMut};
