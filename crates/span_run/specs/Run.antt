@@ -1,8 +1,10 @@
 -- What a list of requests does.
-use Rattle.std.specs.Prelude.{◌≡◌, ℕ, ◌↔◌, IsTrue, List, [], ◌∷◌, ◌++◌, Option, Some, None, slice_get}
+use Rattle.std.specs.Prelude.{◌≡◌, ℕ, ◌↔◌, IsTrue, false, List, [], ◌∷◌, ◌++◌, Option, Some, None, slice_get}
 use Rattle.std.specs.Option.{option_map}
+use Rattle.span_core.specs.Filters.{refuses}
 use Rattle.span_core.specs.Id.{number_of}
 use Rattle.span_core.specs.declared.callsites.Metadata.{Metadata}
+use Rattle.span_core.specs.declared.filters.FilterMap.{FilterMap}
 use Rattle.span_core.specs.declared.ids.Id.{Id}
 use Rattle.span_core.specs.declared.ids.Lane.{Lane}
 use Rattle.span_core.specs.declared.records.Parent.{Parent}
@@ -51,9 +53,13 @@ resolved_parent past (asked.Explicit w) = parent_by (resolved past w)
 abbrev pub IsIdle : RegistryState → List Notice → RegistryState → Type 0
 IsIdle s due t = (due ≡ []) × (t ≡ s)
 
+-- a span is opened that no filter refused
+abbrev pub OpensUnfiltered : RegistryState → Lane → Metadata → Parent → Id → RegistryState → Type 0
+OpensUnfiltered s lane metadata p x t = (verdict : FilterMap) × ((n : ℕ) → refuses verdict n ≡ false) × Opens s lane.0 metadata p verdict (number_of x) t
+
 -- a new span is opened and told of, or refused
 abbrev pub NewStep : RegistryState → Lane → Metadata → Parent → Answer → List Notice → RegistryState → Type 0
-NewStep s lane metadata p (answer.Made x) due t = Opens s lane.0 metadata p (number_of x) t × (due ≡ notice.New lane x ∷ [])
+NewStep s lane metadata p (answer.Made x) due t = OpensUnfiltered s lane metadata p x t × (due ≡ notice.New lane x ∷ [])
 NewStep s lane metadata p (answer.Refused e) due t = RefusesNew s lane.0 p e × IsIdle s due t
 NewStep s lane metadata p a due t = ⊥
 

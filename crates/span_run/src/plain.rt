@@ -6,14 +6,15 @@ ghost use Rattle.span_core.specs.Attributes.{asked_parent, metadata_of};
 ghost use Rattle.span_core.specs.Current.{current_span};
 ghost use Rattle.span_core.specs.Id.{number_of};
 ghost use Rattle.span_registry.specs.Closes.{AreUnheld, IsSettledBut, Member};
-ghost use Rattle.span_registry.specs.Step.{Drops, IsCurrent, Opens, RefusesEnter, RefusesNew, RefusesRelease, TakesOut, entered, left};
+ghost use Rattle.span_registry.specs.Step.{Drops, IsCurrent, RefusesEnter, RefusesNew, RefusesRelease, TakesOut, entered, left};
 ghost use Rattle.span_registry.specs.Store.{IsClosing, IsForest, IsHeld, IsOpen, new_registry};
 ghost use Rattle.span_run.specs.Notices.{Hears, IsDueAtExit, closes_of, new_recorder};
+ghost use Rattle.span_run.specs.Run.{OpensUnfiltered};
 ghost use Rattle.span_run.specs.declared.requests.Notice.{Notice};
 
 use crate::recorder::Recorder;
 use crate::requests::Notice;
-use span_core::{Attributes, Current, Id, Lane, Record, TraceError};
+use span_core::{Attributes, Current, Id, Lane, Pass, Record, TraceError};
 use span_registry::{Limits, Registry, Released};
 use std::alloc::Global;
 use std::marker::Model;
@@ -70,12 +71,12 @@ impl Plain {
         lane: Lane,
         attributes: &Attributes<'_>,
     ) -> Result<Option<Id>, TraceError>
-        ensures opened { IfOk result (λ made. IsSomeAnd made (λ id. Opens self.old.registry lane.0 (metadata_of attributes.now) (asked_parent attributes.now) (number_of id) self.new.registry)) }
+        ensures opened { IfOk result (λ made. IsSomeAnd made (λ id. OpensUnfiltered self.old.registry lane (metadata_of attributes.now) (asked_parent attributes.now) id self.new.registry)) }
         ensures heard { IfOk result (λ made. IsSomeAnd made (λ id. Hears self.old.recorder self.new.recorder (Notice.New lane id ∷ []))) }
         ensures refused { IfErr result (λ e. RefusesNew self.old.registry lane.0 (asked_parent attributes.now) e) }
         ensures unchanged { OnErr result (self.new ≡ self.old) }
     {
-        let id = self.registry.new_span(lane, attributes)?;
+        let id = self.registry.new_span(lane, attributes, &Pass::new())?;
         self.recorder.hear(Notice::New(lane, id));
         Ok(Some(id))
     }

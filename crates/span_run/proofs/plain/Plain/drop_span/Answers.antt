@@ -2,9 +2,9 @@ use Rattle.std.proofs.Common.{◌≡◌, sym, subst, ap, refl, [], List, ℕ, So
 use Rattle.std.proofs.lemmas.Bool.{true≢false}
 use Rattle.std.proofs.lemmas.Result.{err_from_is_err_and}
 use Rattle.span_core.specs.Id.{number_of}
-use Rattle.span_registry.specs.Closes.{AreUnheld, IsSettledBut, Member, take_handle}
+use Rattle.span_registry.specs.Closes.{AreUnheld, IsSettled, IsSettledBut, Member, take_handle}
 use Rattle.span_registry.specs.Step.{Drops, RefusesRelease, TakesOut}
-use Rattle.span_registry.specs.Store.{RegistryState, Spans, IsForest, IsOpen, with_spans}
+use Rattle.span_registry.specs.Store.{RegistryState, Spans, IsForest, IsHeld, IsOpen, with_spans}
 use Rattle.span_registry.proofs.Drops.{begins, forest_taken, none_dropped, settled_open, settled_taken}
 use Rattle.span_run.specs.Notices.{Watched, Hears, closes_of}
 use Rattle.span_run.proofs.Hears.{hears_nothing}
@@ -60,3 +60,15 @@ returns-in-Closing-clause-dropped c =
       u.3,
       (λ _. there, λ _. refl),
     )
+
+pub invariant_of-self : goal.invariant_of-self
+invariant_of-self c = subst (λ (s : RegistryState). IsSettled s.store.spans) (sym c.in_err-release.ensures.unchanged) c.self.invariant
+
+pub close_all-requires-clause-closing : goal.close_all-requires-clause-closing
+close_all-requires-clause-closing c = c.in_ok-release.ensures.closing.0 c.in-Closing.is
+
+pub returns-in-StillOpen-clause-held : goal.returns-in-StillOpen-clause-held
+returns-in-StillOpen-clause-held c = subst (λ (w : Watched). IsHeld w.registry.store.spans (number_of c.args.id)) c.self.view_is c.in_ok-release.ensures.held
+
+pub returns-in-Closing-clause-held : goal.returns-in-Closing-clause-held
+returns-in-Closing-clause-held c = subst (λ (w : Watched). IsHeld w.registry.store.spans (number_of c.args.id)) c.self.view_is c.in_ok-release.ensures.held
