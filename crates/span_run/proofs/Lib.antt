@@ -1,2 +1,4 @@
+mod Growing
 mod Hears
+mod Naming
 mod Served
