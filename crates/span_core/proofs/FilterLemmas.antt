@@ -12,6 +12,22 @@ use Rattle.span_core.specs.Filters.{FilterSet, has_filter, have_common, is_attac
 use Rattle.span_core.proofs.SameNumbers.{same_numbers}
 use Rattle.span_core.proofs.SomeBelow.{some_below-found, some_below-passes, some_below-same, some_below-or, some_below-none}
 
+or_swapped : (x y : Bool) → (x || y) ≡ (y || x)
+or_swapped true true = refl
+or_swapped true false = refl
+or_swapped false true = refl
+or_swapped false false = refl
+
+pub union-comm : (a b : FilterSet) (n : ℕ) → union a b n ≡ union b a n
+union-comm a b n = or_swapped (a n) (b n)
+
+or_regrouped : (x y z : Bool) → ((x || y) || z) ≡ (x || (y || z))
+or_regrouped true y z = refl
+or_regrouped false y z = refl
+
+pub union-assoc : (a b c : FilterSet) (n : ℕ) → union (union a b) c n ≡ union a (union b c) n
+union-assoc a b c n = or_regrouped (a n) (b n) (c n)
+
 -- a filter of both
 pub have_common-member : (a b : FilterSet) → IsTrue (have_common a b) ↔ ((n : ℕ) × ((n < LIMIT) × IsTrue (a n) × IsTrue (b n)))
 have_common-member a b =

@@ -3,7 +3,7 @@ ghost use Rattle.std.specs.Prelude.{◌≡◌, ◌≢◌, ◌↔◌, ℕ, ◌<�
 ghost use Rattle.std.specs.Ordering.{nat_cmp};
 ghost use Rattle.span_core.specs.Filters.{FilterSet, has_filter, have_common, is_attached, is_hidden, no_filter, refuses, union};
 ghost use Rattle.span_core.specs.Interest.{both_interests, sum_with};
-ghost use Rattle.span_core.specs.Level.{filter_number, level_number, passes_level};
+ghost use Rattle.span_core.specs.Level.{filter_number, is_above, level_number, passes_level};
 ghost use Rattle.span_core.specs.declared.filters.FilterId.{FilterId};
 ghost use Rattle.span_core.specs.declared.filters.FilterMap.{FilterMap};
 ghost use Rattle.span_core.specs.declared.interests.Interest.{Interest};
@@ -27,6 +27,13 @@ pub fn numbers_tell_levels_apart()
     ensures most { (a : Level) → level_number a ≤ 5 }
     ensures levels { (a b : Level) → level_number a ≡ level_number b → a ≡ b }
     ensures filters { (a b : LevelFilter) → filter_number a ≡ filter_number b → a ≡ b }
+{}
+
+/// A level passes a filter by level if its number is at most the filter's, and is above a hint if it is greater.
+pub fn levels_pass_by_number()
+    ensures passes { (filter : LevelFilter) (level : Level) → IsTrue (passes_level filter level) ↔ (level_number level ≤ filter_number filter) }
+    ensures above { (level : Level) (hint : LevelFilter) → IsTrue (is_above level (Some hint)) ↔ (filter_number hint < level_number level) }
+    ensures unlimited { (level : Level) → is_above level None ≡ false }
 {}
 
 /// What passes a filter by level passes each one that is at least as verbose.

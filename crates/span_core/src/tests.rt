@@ -261,6 +261,7 @@ fn refusals_are_written(rt: HostRuntime) -> Result<(), Fail> {
 fn laws_can_be_called() {
     laws::order_is_by_number();
     laws::numbers_tell_levels_apart();
+    laws::levels_pass_by_number();
     laws::more_verbose_filters_pass_more();
     laws::sum_rule();
     laws::sums_in_any_order();
