@@ -4,6 +4,7 @@ pub mod Extensions
 pub mod Kept
 pub mod LaneStack
 pub mod Marks
+pub mod StackSpans
 pub mod Step
 pub mod Store
 pub mod Tag

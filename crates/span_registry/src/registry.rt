@@ -26,6 +26,7 @@ use crate::stacks::SpanStack;
 use span_core::{Attributes, Current, FilterId, Id, Lane, Pass, TraceError};
 use std::alloc::Global;
 use std::collections::BTreeMap;
+use std::fmt;
 use std::marker::Model;
 
 /// What is left of a span whose handle was taken away.
@@ -359,6 +360,12 @@ impl Registry {
         ensures { IsTrue result ↔ (set.len self.now.store.issued ≡ 0) }
     {
         self.issued == 0
+    }
+}
+
+impl fmt::Debug for Registry {
+    fn fmt<W: fmt::Write>(&self, f: &mut fmt::Formatter<W>) -> fmt::Result {
+        f.debug_struct("Registry").finish_non_exhaustive()
     }
 }
 
