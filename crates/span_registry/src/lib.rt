@@ -12,6 +12,8 @@ mod registry;
 mod stacks;
 mod tables;
 mod tags;
+#[cfg(test)]
+mod tests;
 mod value_types;
 
 pub use extensions::{ExtensionMap, Extensions, ExtensionsMut};
