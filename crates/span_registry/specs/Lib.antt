@@ -6,6 +6,7 @@ pub mod LaneStack
 pub mod Marks
 pub mod Step
 pub mod Store
+pub mod Subscribing
 pub mod Tag
 pub mod TypedWrites
 pub mod ValueTypes
