@@ -11,3 +11,5 @@ mod Once
 mod Opened
 mod Removed
 mod States
+mod StoreLaws
+pub mod Subscribing

@@ -7,6 +7,7 @@ pub mod Marks
 pub mod StackSpans
 pub mod Step
 pub mod Store
+pub mod Subscribing
 pub mod Tag
 pub mod TypedWrites
 pub mod ValueTypes

@@ -7,9 +7,12 @@ mod extension_tests;
 mod extensions;
 pub mod laws;
 mod limits;
+mod lookup;
 mod records;
 mod registry;
 mod stacks;
+pub mod store_laws;
+mod subscriber;
 mod tables;
 mod tags;
 #[cfg(test)]
@@ -18,7 +21,9 @@ mod value_types;
 
 pub use extensions::{ExtensionMap, Extensions, ExtensionsMut};
 pub use limits::Limits;
+pub use lookup::LookupSpan;
 pub use registry::{Registry, Released};
 pub use stacks::{SpanStack, StackIter};
+pub use subscriber::Subscriber;
 pub use tags::Tag;
 pub use value_types::ExtensionValue;

@@ -1,0 +1,166 @@
+-- The laws of the store.
+use Rattle.std.proofs.Common.{◌≡◌, ℕ, ◌<◌, ◌⊎◌, ◌↔◌, List, [], ◌∷◌, Option, Some, None, Bool, true, false, cond, nat_eq, zero, suc, refl, sym, ap, subst, ◌∙◌, inl, inr, arith}
+use Rattle.std.proofs.lemmas.Bool.{cases_eq, eqb-true, eq-eqb, true≢false}
+use Rattle.std.specs.Option.{option_and_then}
+use Rattle.std.specs.Ordering.{nat_cmp, eq_by_cmp}
+use Rattle.std.specs.Cmp.{nat_cmp_total}
+use Rattle.std.specs.FinMap.{FinMap, entries, find, get, get-entries, get-insert, get-remove, insert, nat_cmp-IsAntisymmetric, remove, same_map}
+use Rattle.std.specs.Map.{keys_of}
+use Rattle.span_registry.specs.Closes.{IsWithin, Member}
+use Rattle.span_registry.specs.LaneStack.{leave}
+use Rattle.span_registry.specs.Step.{entered, left}
+use Rattle.span_registry.specs.Store.{HasChild, IsChain, IsClosing, IsForest, IsInStore, IsOpen, Span, Spans, Stacks, Store, is_parent, parent_of, stack_of, with_stack}
+use Rattle.span_registry.proofs.Chains.{chain_at, same_test, test_same, within_itself}
+use Rattle.span_registry.proofs.Kept.{stack_with}
+
+-- ---- the stack of a lane
+
+pub left_again : (x : ℕ) (xs : List ℕ) → leave x (x ∷ xs) ≡ xs
+left_again x xs = ap (λ (b : Bool). cond b xs (x ∷ leave x xs)) (eq-eqb x x refl)
+
+twice : (b : Bool) (xs ys zs : List ℕ) → cond b xs (cond b ys zs) ≡ cond b xs zs
+twice true xs ys zs = refl
+twice false xs ys zs = refl
+
+own : (m : Stacks) (lane q : ℕ) → cond (eq_by_cmp nat_cmp q lane) (stack_of m lane) (stack_of m q) ≡ stack_of m q
+own m lane q = by_case (eq_by_cmp nat_cmp q lane) refl
+  where
+    by_case : (b : Bool) → eq_by_cmp nat_cmp q lane ≡ b → cond (eq_by_cmp nat_cmp q lane) (stack_of m lane) (stack_of m q) ≡ stack_of m q
+    by_case true e = ap (λ (b : Bool). cond b (stack_of m lane) (stack_of m q)) e ∙ ap (stack_of m) (sym (test_same q lane e))
+    by_case false e = ap (λ (b : Bool). cond b (stack_of m lane) (stack_of m q)) e
+
+-- the stack that a lane gets when a span is entered
+pub stack_entered : (m : Stacks) (lane x : ℕ) → stack_of (with_stack m lane (x ∷ stack_of m lane)) lane ≡ x ∷ stack_of m lane
+stack_entered m lane x =
+    stack_with m lane (x ∷ stack_of m lane) lane
+    ∙ ap (λ (b : Bool). cond b (x ∷ stack_of m lane) (stack_of m lane)) (same_test lane lane refl)
+
+-- entered and at once left, each lane has the stack that it had
+pub stacks_restored : (s : Store) (lane x q : ℕ) → stack_of (left (entered s lane x) lane x).stacks q ≡ stack_of s.stacks q
+stacks_restored s lane x q =
+    let m : Stacks = with_stack s.stacks lane (x ∷ stack_of s.stacks lane) in
+    let back : leave x (stack_of m lane) ≡ stack_of s.stacks lane = ap (leave x) (stack_entered s.stacks lane x) ∙ left_again x (stack_of s.stacks lane) in
+    stack_with m lane (leave x (stack_of m lane)) q
+    ∙ ap (λ (xs : List ℕ). cond (eq_by_cmp nat_cmp q lane) xs (stack_of m q)) back
+    ∙ ap (cond (eq_by_cmp nat_cmp q lane) (stack_of s.stacks lane)) (stack_with s.stacks lane (x ∷ stack_of s.stacks lane) q)
+    ∙ twice (eq_by_cmp nat_cmp q lane) (stack_of s.stacks lane) (x ∷ stack_of s.stacks lane) (stack_of s.stacks q)
+    ∙ own s.stacks lane q
+
+-- ---- open or closing
+
+parent_true : (x : ℕ) (o : Option ℕ) → is_parent x o ≡ true → o ≡ Some x
+parent_true x None h = absurd (true≢false (sym h))
+parent_true x (Some p) h = ap Some (sym (eqb-true x p h))
+
+parent_false : (x : ℕ) (o : Option ℕ) → is_parent x o ≡ false → o ≡ Some x → ⊥
+parent_false x o h e = true≢false (sym (ap (is_parent x) e ∙ eq-eqb x x refl) ∙ h)
+
+some_one : (r s : Span) → Some r ≡ Some s → r ≡ s
+some_one r s e = cc
+
+-- none of these is a child
+abbrev NoneAmong : Spans → ℕ → List ℕ → Type 0
+NoneAmong m x ks = (c : ℕ) (r : Span) → Member c ks → get m c ≡ Some r → r.parent ≡ Some x → ⊥
+
+one_more : (m : Spans) (x k : ℕ) (ks : List ℕ) → ((r : Span) → get m k ≡ Some r → r.parent ≡ Some x → ⊥) → HasChild m x ⊎ NoneAmong m x ks → HasChild m x ⊎ NoneAmong m x (k ∷ ks)
+one_more m x k ks apart rest = elim rest [
+  | inl h ↦ inl h
+  | inr none ↦ inr (λ c r h e p. elim h [
+    | inl same ↦ apart r (ap (get m) (sym same) ∙ e) p
+    | inr t ↦ none c r t e p
+  ])
+]
+
+at_test : (m : Spans) (x k : ℕ) (ks : List ℕ) (r : Span) → get m k ≡ Some r → (b : Bool) → is_parent x r.parent ≡ b → HasChild m x ⊎ NoneAmong m x ks → HasChild m x ⊎ NoneAmong m x (k ∷ ks)
+at_test m x k ks r e true t rest = inl (k, r, e, parent_true x r.parent t)
+at_test m x k ks r e false t rest = one_more m x k ks (λ s g. parent_false x s.parent (ap (λ (w : Span). is_parent x w.parent) (some_one s r (sym g ∙ e)) ∙ t)) rest
+
+at_span : (m : Spans) (x k : ℕ) (ks : List ℕ) (o : Option Span) → get m k ≡ o → HasChild m x ⊎ NoneAmong m x ks → HasChild m x ⊎ NoneAmong m x (k ∷ ks)
+at_span m x k ks None e rest = one_more m x k ks (λ r g p. let no : None ≡ Some r = sym e ∙ g in let not : ⊥ = cc in not) rest
+at_span m x k ks (Some r) e rest = at_test m x k ks r e (is_parent x r.parent) refl rest
+
+-- a child is among these, or none of these is one
+among : (m : Spans) (x : ℕ) (ks : List ℕ) → HasChild m x ⊎ NoneAmong m x ks
+among m x [] = inr (λ c r h. absurd h)
+among m x (k ∷ ks) = at_span m x k ks (get m k) refl (among m x ks)
+
+key_at : (c : ℕ) (r : Span) (e : ℕ × Span) (es : List (ℕ × Span)) (b : Bool) → eq_by_cmp nat_cmp c e.0 ≡ b → find nat_cmp c (e ∷ es) ≡ Some r → (find nat_cmp c es ≡ Some r → Member c (keys_of es)) → Member c (keys_of (e ∷ es))
+key_at c r e es true t h rest = inl (test_same c e.0 t)
+key_at c r e es false t h rest = inr (rest (sym (ap (λ (b : Bool). cond b (Some e.1) (find nat_cmp c es)) t) ∙ h))
+
+-- what is found has its key among the keys
+key_among : (c : ℕ) (r : Span) (es : List (ℕ × Span)) → find nat_cmp c es ≡ Some r → Member c (keys_of es)
+key_among c r [] h = let not : ⊥ = cc in absurd not
+key_among c r (e ∷ es) h = key_at c r e es (eq_by_cmp nat_cmp c e.0) refl h (λ k. key_among c r es k)
+
+-- x has a child, or it has none
+pub child_or_none : (m : Spans) (x : ℕ) → HasChild m x ⊎ (HasChild m x → ⊥)
+child_or_none m x = elim (among m x (keys_of (entries m))) [
+  | inl h ↦ inl h
+  | inr none ↦ inr (λ h. none h.0 h.1 (key_among h.0 h.1 (entries m) (sym (get-entries m h.0) ∙ h.2)) h.2 h.3)
+]
+
+by_handles : (m : Spans) (x : ℕ) (r : Span) → get m x ≡ Some r → (n : ℕ) → r.handles ≡ n → IsOpen m x ⊎ IsClosing m x
+by_handles m x r e zero h = elim (child_or_none m x) [
+  | inl child ↦ inl (r, e, inr child)
+  | inr none ↦ inr (r, e, h, none)
+]
+by_handles m x r e (suc n) h = inl (r, e, inl (omega arith))
+
+-- what is in the store is open or closing
+pub open_or_closing : (m : Spans) (x : ℕ) → IsInStore m x → IsOpen m x ⊎ IsClosing m x
+open_or_closing m x there = by_handles m x there.0 there.1 there.0.handles refl
+
+-- what is open or closing is in the store
+pub in_store : (m : Spans) (x : ℕ) → IsOpen m x ⊎ IsClosing m x → IsInStore m x
+in_store m x h = elim h [ inl o ↦ (o.0, o.1) | inr k ↦ (k.0, k.1) ]
+
+-- what is open isn't closing
+pub not_both : (m : Spans) (x : ℕ) → IsOpen m x → IsClosing m x → ⊥
+not_both m x o k =
+    let same : o.0 ≡ k.0 = some_one o.0 k.0 (sym o.1 ∙ k.1) in
+    let none : (o.0).handles ≡ 0 = ap (λ (r : Span). r.handles) same ∙ k.2 in
+    elim o.2 [ inl some ↦ omega arith | inr child ↦ k.3 child ]
+
+-- ---- chains of parents
+
+first_of : (m : Spans) (x : ℕ) (xs : List ℕ) → IsChain m (Some x) xs → IsInStore m x
+first_of m x [] c = absurd c
+first_of m x (y ∷ ys) c = (c.1, c.2)
+
+second_of : (m : Spans) (x p : ℕ) (r : Span) (xs : List ℕ) → get m x ≡ Some r → r.parent ≡ Some p → IsChain m (Some x) xs → IsInStore m p
+second_of m x p r [] e h c = absurd c
+second_of m x p r (y ∷ ys) e h c =
+    let same : c.1 ≡ r = some_one c.1 r (sym c.2 ∙ e) in
+    first_of m p ys (subst (λ (o : Option ℕ). IsChain m o ys) (ap (λ (w : Span). w.parent) same ∙ h) c.3)
+
+parent_by : (m : Spans) (x p : ℕ) (o : Option Span) → IsForest m → get m x ≡ o → option_and_then (λ r. r.parent) o ≡ Some p → IsInStore m p
+parent_by m x p None f e h = let not : ⊥ = cc in absurd not
+parent_by m x p (Some r) f e h = let c = f x r e in second_of m x p r c.0 e h c.1
+
+-- a parent is in the store
+pub parent_there : (m : Spans) (x p : ℕ) → IsForest m → parent_of m x ≡ Some p → IsInStore m p
+parent_there m x p f h = parent_by m x p (get m x) f refl h
+
+-- the end of a chain
+record End (m : Spans) (xs : List ℕ) : Type 0 where
+  root : ℕ
+  span : Span
+  member : Member root xs
+  there : get m root ≡ Some span
+  none : span.parent ≡ None
+
+end_at : (m : Spans) (x y : ℕ) (r : Span) (ys : List ℕ) (o : Option ℕ) → x ≡ y → get m x ≡ Some r → r.parent ≡ o → ((p : ℕ) → o ≡ Some p → End m ys) → End m (y ∷ ys)
+end_at m x y r ys None same e h rest = record { root = x; span = r; member = inl same; there = e; none = h }
+end_at m x y r ys (Some p) same e h rest = let u = rest p refl in record { root = u.root; span = u.span; member = inr u.member; there = u.there; none = u.none }
+
+end_of : (m : Spans) (x : ℕ) (xs : List ℕ) → IsChain m (Some x) xs → End m xs
+end_of m x [] c = absurd c
+end_of m x (y ∷ ys) c = end_at m x y c.1 ys c.1.parent c.0 c.2 refl (λ p h. end_of m p ys (subst (λ (o : Option ℕ). IsChain m o ys) h c.3))
+
+-- from a span in the store the parents lead to a root
+pub root_above : (m : Spans) (x : ℕ) → IsForest m → IsInStore m x → (root : ℕ) × IsWithin m x root × IsInStore m root × (parent_of m root ≡ None)
+root_above m x f there =
+    let c = f x there.0 there.1 in
+    let u = end_of m x c.0 c.1 in
+    (u.root, (c.0, c.1, u.member), (u.span, u.there), ap (option_and_then (λ (r : Span). r.parent)) u.there ∙ u.none)
