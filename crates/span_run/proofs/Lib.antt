@@ -2,3 +2,4 @@ mod Growing
 mod Hears
 mod Naming
 mod Served
+mod Wrong
