@@ -1,0 +1,27 @@
+//! Runs a script of spans: standard input says what is asked, standard output what comes of it.
+#![tactic(auto)]
+
+mod faults;
+mod lines;
+mod plain;
+mod replies;
+mod requests;
+mod run;
+mod script;
+mod sites;
+
+#[cfg(test)]
+mod tests;
+
+use std::process::ExitCode;
+
+fn main(rt: HostRuntime) -> ExitCode {
+    match run::run(rt.alloc(), &mut rt.stdin(), &mut rt.stdout()) {
+        Ok(()) => ExitCode::SUCCESS,
+        Err(fault) => {
+            // Where standard error can't be written, the status alone tells.
+            let _ = eprintln!(rt; "{fault}");
+            ExitCode::from(fault.status())
+        }
+    }
+}

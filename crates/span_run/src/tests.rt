@@ -1,0 +1,295 @@
+use crate::faults::RunFault;
+use crate::run::{SCRIPT_LIMIT, run};
+use std::alloc::{AllocError, Global};
+use std::io;
+use std::io::{ErrorKind, Read, Write};
+use std::test::Fail;
+
+/// The text of a row, in which ` / ` stands for a line end.
+fn lines(alloc: Global, row: &str) -> Result<String, AllocError> {
+    let mut text = String::new(alloc);
+    for line in row.split(" / ") {
+        writeln!(text, "{line}")?;
+    }
+    Ok(text)
+}
+
+/// Scripts and what they print.
+const ROWS: [(&str, &str); 9] = [
+    ("stack plain", "== base"),
+    (
+        "stack plain / new 0 2 p / new 0 3 c in p / drop 0 p / drop 0 c",
+        "p / c / ok / ok / == base / new p / new c / close c / close p",
+    ),
+    (
+        "stack plain / new 0 2 g / new 0 2 p in g / new 0 2 c in p / drop 0 g / drop 0 p / drop 0 c",
+        "g / p / c / ok / ok / ok / == base / new g / new p / new c / close c / close p / close g",
+    ),
+    (
+        "stack plain / new 0 2 p / new 0 2 q / enter 0 p / enter 0 q / exit 0 p / current 0 / drop 0 p / exit 0 q / drop 0 q",
+        "p / q / ok / ok / ok / q / ok / ok / ok / == base / new p / new q / enter p / enter q / exit p / close p / exit q / close q",
+    ),
+    (
+        "stack plain / new 0 2 p / new 0 2 q / enter 0 p / enter 0 q / drop 0 q / current 0 / exit 0 q / current 0",
+        "p / q / ok / ok / ok / none / ok / p / == base / new p / new q / enter p / enter q / close q",
+    ),
+    (
+        "stack plain / new 0 2 p / new 0 2 c in p / drop 0 p / drop 0 p / drop 0 c / enter 0 c / exit 0 c / record 0 c / new 0 2 x in ? / drop 0 c",
+        "p / c / ok / refused 3 / ok / refused 1 / ok / refused 1 / refused 2 / refused 1 / == base / new p / new c / close c / close p",
+    ),
+    (
+        "stack plain / new 0 2 x in ? / enter 0 x / exit 0 x / record 0 x / drop 0 x / new 0 0 y in x / exit 0 ? / drop 0 y",
+        "refused 2 / none / none / none / none / y / ok / ok / == base / new y / close y",
+    ),
+    (
+        " /  / stack plain /  / new 0 1 none / enter 0 none / new 0 4 a1b2c3d4e5f6g7h8 / new 0 3 r root / current 1 / current 0 / record 9 none / drop 1 none / exit 0 none / drop 0 r / drop 2 a1b2c3d4e5f6g7h8",
+        "none / ok / a1b2c3d4e5f6g7h8 / r / none / none / ok / ok / ok / ok / ok / == base / new none / enter none / new a1b2c3d4e5f6g7h8 / new r / record none / exit none / close r / close a1b2c3d4e5f6g7h8 / close none",
+    ),
+    (
+        "stack plain / new 0 2 a / new 1 2 b / enter 0 a / enter 1 b / enter 1 a / enter 1 b / current 0 / current 1 / exit 1 b / current 1 / exit 1 a / current 1",
+        "a / b / ok / ok / ok / ok / a / a / ok / a / ok / b / == base / new a / new b / enter a / enter b / enter a / enter b / exit b / exit a",
+    ),
+];
+
+#[test]
+fn rows(rt: HostRuntime) -> Result<(), Fail> {
+    for (script, wanted) in ROWS {
+        let input = lines(rt.alloc(), script)?;
+        let mut output = Vec::new(rt.alloc());
+        run(rt.alloc(), &mut input.as_bytes(), &mut output)?;
+        let wanted = lines(rt.alloc(), wanted)?;
+        assert_eq!(rt; output.as_slice(), wanted.as_bytes(), "{script}");
+    }
+    Ok(())
+}
+
+/// Scripts that are no scripts, and the first of their lines that is wrong.
+const WRONG: [(&[u8], u64); 46] = [
+    // What stands first.
+    (b"", 1),
+    (b"\n\n\n", 1),
+    (b"new 0 2 p", 1),
+    (b"\n\nstack pair", 3),
+    (b"stack", 1),
+    (b"stack plain base", 1),
+    (b"stack plain\nstack plain", 2),
+    // What parts lines and words.
+    (b" stack plain", 1),
+    (b"stack  plain", 1),
+    (b"stack plain ", 1),
+    (b"stack plain\r\n", 1),
+    (b"stack plain\n\n \n", 3),
+    (b"stack plain\n\r\n", 2),
+    (b"stack plain\nnew\t0 2 p", 2),
+    (b"stack plain\ncurrent 0\0", 2),
+    // What isn't text.
+    (b"stack plain\n\xff\nsummary", 2),
+    (b"stack plain\n\nsummary\n\xff", 3),
+    (b"stack plain\ncurrent 0\ncurrent \xc3", 3),
+    // The word for what is asked.
+    (b"stack plain\nnews 0 2 p", 2),
+    (b"stack plain\nNew 0 2 p", 2),
+    (b"stack plain\nevent 0 7", 2),
+    (b"stack plain\nenabled 0 2", 2),
+    (b"stack plain\nnew 0 2 p\nclone p", 3),
+    (b"stack plain\nnew 0 2 p\nfollows 0 p p", 3),
+    // Lanes and sites.
+    (b"stack plain\ncurrent", 2),
+    (b"stack plain\ncurrent 10", 2),
+    (b"stack plain\ncurrent x", 2),
+    (b"stack plain\ncurrent +", 2),
+    (b"stack plain\ncurrent ", 2),
+    (b"stack plain\nnew 0 5 p", 2),
+    (b"stack plain\nnew 0 02 p", 2),
+    // Labels.
+    (b"stack plain\nnew 0 2", 2),
+    (b"stack plain\nnew 0 2 ", 2),
+    (b"stack plain\nnew 0 2 ?", 2),
+    (b"stack plain\nnew 0 2 1p", 2),
+    (b"stack plain\nnew 0 2 pQ", 2),
+    (b"stack plain\nnew 0 2 a1b2c3d4e5f6g7h8i", 2),
+    (b"stack plain\nnew 0 2 mute", 2),
+    (b"stack plain\nnew 0 2 p\n\nnew 0 2 p", 4),
+    (b"stack plain\ncurrent 0\nenter 0 p\nnew 0 2 p", 3),
+    (b"stack plain\nnew 0 2 p in p", 2),
+    // What stands last.
+    (b"stack plain\nnew 0 2 p of ?", 2),
+    (b"stack plain\nnew 0 2 p in", 2),
+    (b"stack plain\nnew 0 2 p in root", 2),
+    (b"stack plain\nnew 0 2 p root root", 2),
+    (b"stack plain\nnew 0 2 p\ndrop 0 p p", 3),
+];
+
+#[test]
+fn wrong_lines(rt: HostRuntime) {
+    for (script, line) in WRONG {
+        let mut input = script;
+        let mut output = Vec::new(rt.alloc());
+        let ended = run(rt.alloc(), &mut input, &mut output);
+        assert_eq!(rt; ended, Err(RunFault::Line(line)), "{script:?}");
+        assert!(rt; output.is_empty());
+    }
+}
+
+#[test]
+fn faults_are_told(rt: HostRuntime) -> Result<(), Fail> {
+    let told = [
+        (RunFault::Line(12), "script line 12 is wrong", 2),
+        (RunFault::Io, "input or output failed", 1),
+        (RunFault::Memory, "out of memory", 1),
+    ];
+    for (fault, text, status) in told {
+        assert_eq!(rt; format!(in rt.alloc(); "{fault}")?.as_str(), text);
+        assert_eq!(rt; fault.status(), status);
+    }
+    Ok(())
+}
+
+#[test]
+fn size_limit(rt: HostRuntime) -> Result<(), Fail> {
+    let mut script = Vec::from_slice(rt.alloc(), b"stack plain".as_slice())?;
+    while script.len() < SCRIPT_LIMIT {
+        script.push(b'\n')?;
+    }
+    let mut output = Vec::new(rt.alloc());
+    run(rt.alloc(), &mut script.as_slice(), &mut output)?;
+    assert_eq!(rt; output.as_slice(), b"== base\n".as_slice());
+    script.push(b'\n')?;
+    let ended = run(rt.alloc(), &mut script.as_slice(), &mut output);
+    assert_eq!(rt; ended, Err(RunFault::Io));
+    Ok(())
+}
+
+/// Gives its text in two reads, each of which is interrupted first, and then goes on as it is told.
+#[derive(Drop)]
+struct Broken<'a> {
+    parts: [&'a [u8]; 2],
+    reads: usize,
+    fails: bool,
+}
+
+impl Read for Broken<'_> {
+    fn read(&mut self, buf: &mut [u8]) -> io::Result<usize> {
+        let turn = self.reads;
+        self.reads = turn.saturating_add(1);
+        match turn {
+            0 | 2 => Err(io::Error::from(ErrorKind::Interrupted)),
+            1 => self.parts[0].read(buf),
+            3 => self.parts[1].read(buf),
+            _ if self.fails => Err(io::Error::from(ErrorKind::TimedOut)),
+            _ => Ok(0),
+        }
+    }
+}
+
+/// Gives line ends for ever, and counts them.
+#[derive(Drop)]
+struct Endless {
+    given: usize,
+}
+
+impl Read for Endless {
+    fn read(&mut self, buf: &mut [u8]) -> io::Result<usize> {
+        buf.fill(b'\n');
+        self.given = self.given.saturating_add(buf.len());
+        Ok(buf.len())
+    }
+}
+
+#[test]
+fn readers(rt: HostRuntime) -> Result<(), Fail> {
+    let mut output = Vec::new(rt.alloc());
+    let mut broken = Broken {
+        parts: [b"stack pl", b"ain\nnew 0 2 p"],
+        reads: 0,
+        fails: false,
+    };
+    run(rt.alloc(), &mut broken, &mut output)?;
+    assert_eq!(rt; output.as_slice(), b"p\n== base\nnew p\n".as_slice());
+
+    // A wrong line is not told of, as the reader fails after it.
+    broken.parts = [b"stack", b"plain\n"];
+    broken.reads = 0;
+    broken.fails = true;
+    assert_eq!(rt; run(rt.alloc(), &mut broken, &mut output), Err(RunFault::Io));
+    broken.reads = 4;
+    assert_eq!(rt; run(rt.alloc(), &mut broken, &mut output), Err(RunFault::Io));
+    assert_eq!(rt; broken.reads, 5);
+
+    let mut endless = Endless { given: 0 };
+    assert_eq!(rt; run(rt.alloc(), &mut endless, &mut output), Err(RunFault::Io));
+    assert!(rt; endless.given < SCRIPT_LIMIT + 65_536);
+    Ok(())
+}
+
+/// Takes a byte at a time, so many of them, and then fails.
+#[derive(Drop)]
+struct Full {
+    room: usize,
+    flushes: bool,
+}
+
+impl Write for Full {
+    fn write(&mut self, buf: &[u8]) -> io::Result<usize> {
+        if self.room == 0 {
+            return Err(io::Error::from(ErrorKind::StorageFull));
+        }
+        self.room -= 1;
+        Ok(buf.len().min(1))
+    }
+
+    fn flush(&mut self) -> io::Result<()> {
+        if self.flushes {
+            return Ok(());
+        }
+        Err(io::Error::from(ErrorKind::StorageFull))
+    }
+}
+
+#[test]
+fn writers(rt: HostRuntime) {
+    let script = b"stack plain\nnew 0 2 p".as_slice();
+    // It prints 16 bytes.
+    for room in 0..16 {
+        let mut input = script;
+        let mut full = Full {
+            room,
+            flushes: true,
+        };
+        let ended = run(rt.alloc(), &mut input, &mut full);
+        assert_eq!(rt; ended, Err(RunFault::Io));
+    }
+    for flushes in [true, false] {
+        let mut input = script;
+        let mut full = Full { room: 16, flushes };
+        let ended = run(rt.alloc(), &mut input, &mut full);
+        assert_eq!(rt; ended.is_ok(), flushes);
+    }
+}
+
+/// The spans of a chain.
+const CHAIN: u32 = 10_000;
+
+#[test]
+fn a_chain_closes_by_one_drop(rt: HostRuntime) -> Result<(), Fail> {
+    let mut script = String::from_str(rt.alloc(), "stack plain\nnew 0 2 s0\n")?;
+    let mut replies = String::from_str(rt.alloc(), "s0\n")?;
+    let mut notices = String::from_str(rt.alloc(), "== base\nnew s0\n")?;
+    for span in 1..CHAIN {
+        writeln!(script, "new 0 2 s{span} in s{}", span - 1)?;
+        writeln!(replies, "s{span}")?;
+        writeln!(notices, "new s{span}")?;
+    }
+    for span in 0..CHAIN {
+        writeln!(script, "drop 0 s{span}")?;
+        replies.push_str("ok\n")?;
+    }
+    for span in (0..CHAIN).rev() {
+        writeln!(notices, "close s{span}")?;
+    }
+    replies.push_str(notices.as_str())?;
+    let mut output = Vec::new(rt.alloc());
+    run(rt.alloc(), &mut script.as_bytes(), &mut output)?;
+    assert!(rt; output.as_slice() == replies.as_bytes());
+    Ok(())
+}
