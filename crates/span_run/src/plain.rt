@@ -92,6 +92,36 @@ impl Plain {
         }
     }
 
+    fn count_child(&mut self, parent: Id) {
+        if let Some(span) = self.spans.iter_mut().rev().find(|span| span.id == parent) {
+            span.children = span.children.wrapping_add(1);
+        }
+    }
+
+    fn release(&mut self, id: Id) -> Result<bool, TraceError> {
+        match self.spans.iter_mut().rev().find(|span| span.id == id) {
+            None => Err(TraceError::UnknownSpan(id)),
+            Some(span) => {
+                if span.handles == 0 {
+                    return Err(TraceError::NoHandle(id));
+                }
+                span.handles -= 1;
+                Ok(span.handles == 0 && span.children == 0)
+            }
+        }
+    }
+
+    fn remove(&mut self, id: Id) -> Option<Id> {
+        let place = self.place(id)?;
+        if place >= self.spans.len() {
+            return None;
+        }
+        let above = self.spans.remove(place).parent?;
+        let span = self.spans.iter_mut().rev().find(|span| span.id == above)?;
+        span.children = span.children.wrapping_sub(1);
+        if span.handles == 0 && span.children == 0 { Some(above) } else { None }
+    }
+
     fn serve_one(&mut self, past: &[Answer], request: Request) -> Result<Answer, TraceError> {
         match request {
             Request::NewSpan(lane, _, parent) => {
@@ -116,9 +146,7 @@ impl Plain {
                 }
                 self.issued = self.issued.wrapping_add(1);
                 if let Some(parent) = above {
-                    if let Some(at) = self.place(parent) {
-                        self.spans[at].children = self.spans[at].children.wrapping_add(1);
-                    }
+                    self.count_child(parent);
                 }
                 self.tell(Notice::New(lane, id));
                 Ok(Answer::Made(id))
@@ -162,31 +190,14 @@ impl Plain {
                 let Some(id) = span_of(past, which) else {
                     return Ok(Answer::Dropped);
                 };
-                let Some(at) = self.place(id) else {
-                    return Err(TraceError::UnknownSpan(id));
-                };
-                if self.spans[at].handles == 0 {
-                    return Err(TraceError::NoHandle(id));
-                }
-                self.spans[at].handles -= 1;
-                let closes = self.spans[at].handles == 0 && self.spans[at].children == 0;
-                let mut next = if closes { Some(at) } else { None };
+                let closes = self.release(id)?;
+                let mut next = if closes { Some(id) } else { None };
                 for _ in 0..u64::MAX {
-                    let Some(at) = next else {
+                    let Some(id) = next else {
                         break;
                     };
-                    let span = self.spans[at];
-                    self.tell(Notice::Close(lane, span.id));
-                    self.spans.remove(at);
-                    next = None;
-                    if let Some(above) = span.parent {
-                        if let Some(at) = self.place(above) {
-                            self.spans[at].children = self.spans[at].children.wrapping_sub(1);
-                            if self.spans[at].handles == 0 && self.spans[at].children == 0 {
-                                next = Some(at);
-                            }
-                        }
-                    }
+                    self.tell(Notice::Close(lane, id));
+                    next = self.remove(id);
                 }
                 Ok(Answer::Yes(closes))
             }

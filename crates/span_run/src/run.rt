@@ -1,4 +1,7 @@
 //! From a script to what it prints.
+ghost use Rattle.std.specs.Prelude.{◌≡◌, ◌≢◌, ◌≤◌, vec_len, IfOk, IfErr, OnOk};
+ghost use Rattle.std.specs.Io.KnownBytes.{Consumes, IsAtEnd, Keeps};
+ghost use Rattle.span_run.specs.Fault.{IsWrongLine};
 
 use crate::faults::RunFault;
 use crate::plain::Plain;
@@ -20,7 +23,9 @@ pub fn run<R: Read, W: Write>(
     alloc: Global,
     reader: &mut R,
     writer: &mut W,
-) -> Result<(), RunFault> {
+) -> Result<(), RunFault>
+    ensures unwritten { IfErr result (λ fault. fault ≢ RunFault.Io → writer.new ≡ writer.old) }
+{
     let bytes = read_script(alloc, reader)?;
     let script = Script::parse(alloc, &bytes)?;
     let mut plain = Plain::new(alloc);
@@ -38,7 +43,12 @@ pub fn run<R: Read, W: Write>(
 }
 
 /// All that the reader gives, which is at most `SCRIPT_LIMIT` bytes.
-fn read_script<R: Read>(alloc: Global, reader: &mut R) -> Result<Vec<u8>, RunFault> {
+fn read_script<R: Read>(alloc: Global, reader: &mut R) -> Result<Vec<u8>, RunFault>
+    ensures all { IfOk result (λ bytes. Consumes (R.remaining reader.old) (R.remaining reader.new) bytes.items) }
+    ensures end { OnOk result (IsAtEnd (R.remaining reader.new)) }
+    ensures limit { IfOk result (λ bytes. vec_len bytes ≤ SCRIPT_LIMIT) }
+    ensures fault { IfErr result (λ fault. ¬ (IsWrongLine fault)) }
+{
     let mut bytes = Vec::new(alloc);
     let mut chunk = [0u8; CHUNK];
     for _ in 0..u64::MAX {
