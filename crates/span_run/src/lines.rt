@@ -1,10 +1,15 @@
 //! The lines of a script.
+ghost use Rattle.std.specs.Prelude.{◌≡◌, ◌<◌, ◌∷◌, ◌+◌, [], IfSome, is_some, slice_index};
+ghost use Rattle.std.specs.Char.{is_ascii_lowercase};
+ghost use Rattle.std.specs.List.{list_all};
+ghost use Rattle.span_run.specs.Label.{is_keyword, is_label, is_letter_or_digit};
+ghost use Rattle.span_run.specs.Line.{DeclaresLabel};
 
 use crate::sites::span_site;
 use span_core::{Lane, Metadata};
 
 /// The most characters that a label has.
-const LABEL_LIMIT: usize = 16;
+pub const LABEL_LIMIT: usize = 16;
 
 /// A span as a line names it.
 #[derive(Clone, Copy, Debug)]
@@ -55,7 +60,9 @@ impl<'a> Name<'a> {
 
 impl<'a> Line<'a> {
     /// The line that the text spells, if it spells one.
-    pub fn of(text: &'a str) -> Option<Line<'a>> {
+    pub fn of(text: &'a str) -> Option<Line<'a>>
+        ensures { IfSome result DeclaresLabel }
+    {
         let mut words = text.split(' ');
         let line = match words.next()? {
             "new" => {
@@ -92,13 +99,42 @@ fn lane_of(word: &str) -> Option<Lane> {
 }
 
 /// The word as a label, if it is one.
-fn label_of(word: &str) -> Option<&str> {
-    if word.len() > LABEL_LIMIT || matches!(word, "root" | "in" | "mute") {
-        return None;
+fn label_of(word: &str) -> Option<&str>
+    ensures found { is_some result ≡ is_label word.now }
+    ensures same { IfSome result (λ label. label.now ≡ word.now) }
+{
+    if is_label(word) { Some(word) } else { None }
+}
+
+/// The word is made as a label is, and has no other meaning.
+fn is_label(word: &str) -> bool
+    ensures { result ≡ is_label word.now }
+{
+    if is_keyword(word) || word.len() > LABEL_LIMIT {
+        return false;
     }
-    let begins = word.starts_with(|first: char| first.is_ascii_lowercase());
-    let goes_on = word
-        .chars()
-        .all(|other| other.is_ascii_lowercase() || other.is_ascii_digit());
-    if begins && goes_on { Some(word) } else { None }
+    begins_with_letter(word) && is_of_letters_and_digits(word)
+}
+
+fn is_of_letters_and_digits(word: &str) -> bool
+    ensures { result ≡ list_all is_letter_or_digit word.now }
+{
+    word.bytes()
+        .all(|byte| byte.is_ascii_lowercase() || byte.is_ascii_digit())
+}
+
+fn begins_with_letter(word: &str) -> bool
+    ensures { result ≡ is_ascii_lowercase (slice_index word.now 0) }
+{
+    match word.bytes().next() {
+        Some(first) => first.is_ascii_lowercase(),
+        None => false,
+    }
+}
+
+/// The word has a meaning of its own where a label may stand.
+fn is_keyword(word: &str) -> bool
+    ensures { result ≡ is_keyword word.now }
+{
+    matches!(word, "root" | "in" | "mute")
 }

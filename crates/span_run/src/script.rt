@@ -1,4 +1,9 @@
 //! A script: the requests of its lines, and the labels that they declare.
+ghost use Rattle.std.specs.Prelude.{◌≡◌, ◌⊎◌, ◌<◌, ◌∷◌, [], ◌++◌, IsTrue, IfOk, IfErr, OnOk, IfSome};
+ghost use Rattle.span_run.specs.Label.{is_label};
+ghost use Rattle.span_run.specs.Line.{DeclaresLabel};
+ghost use Rattle.span_run.specs.Request.{made_place, parent_place, named_place, IsNewSpan, IsNewSpanAt};
+ghost use Rattle.span_run.specs.Script.{requests_of, IsScript, IsScriptFault};
 
 use crate::faults::RunFault;
 use crate::lines::{Line, Name, ParentName};
@@ -16,7 +21,10 @@ pub struct Script<'a> {
 
 impl<'a> Script<'a> {
     /// The script that the bytes spell.
-    pub fn parse(alloc: Global, bytes: &'a [u8]) -> Result<Script<'a>, RunFault> {
+    pub fn parse(alloc: Global, bytes: &'a [u8]) -> Result<Script<'a>, RunFault>
+        ensures script { IfOk result IsScript }
+        ensures fault { IfErr result (IsScriptFault bytes.now) }
+    {
         let mut script = Script {
             requests: Vec::new(alloc),
             labels: BTreeMap::new(alloc),
@@ -43,7 +51,9 @@ impl<'a> Script<'a> {
     }
 
     /// The requests, in the order of their lines.
-    pub fn requests(&self) -> &[Request] {
+    pub fn requests(&self) -> &[Request]
+        ensures { result.now ≡ requests_of self.now }
+    {
         &self.requests
     }
 
@@ -53,15 +63,17 @@ impl<'a> Script<'a> {
     }
 
     /// Adds the request of a line. Where the line is wrong, the fault is `wrong`.
-    fn add(&mut self, line: Line<'a>, wrong: RunFault) -> Result<(), RunFault> {
+    fn add(&mut self, line: Line<'a>, wrong: RunFault) -> Result<(), RunFault>
+        requires script { IsScript self.old }
+        requires label { DeclaresLabel line }
+        ensures script { OnOk result (IsScript self.new) }
+        ensures fault { IfErr result (λ fault. (fault ≡ wrong) ⊎ (fault ≡ RunFault.Memory)) }
+    {
         let request = match line {
             Line::New(lane, site, label, parent) => {
                 let parent = self.parent(parent).ok_or(wrong)?;
-                if self.labels.contains_key(&label) {
-                    return Err(wrong);
-                }
-                self.labels.insert(label, self.requests.len())?;
-                Request::NewSpan(lane, site, parent)
+                let request = Request::NewSpan(lane, site, parent);
+                return self.declare(label, request, wrong);
             }
             Line::Enter(lane, name) => Request::Enter(lane, self.which(name).ok_or(wrong)?),
             Line::Exit(lane, name) => Request::Exit(lane, self.which(name).ok_or(wrong)?),
@@ -69,12 +81,44 @@ impl<'a> Script<'a> {
             Line::Drop(lane, name) => Request::Drop(lane, self.which(name).ok_or(wrong)?),
             Line::Current(lane) => Request::Current(lane),
         };
+        self.push(request)
+    }
+
+    /// Adds the request for the new span of a label.
+    fn declare(&mut self, label: &'a str, request: Request, wrong: RunFault) -> Result<(), RunFault>
+        requires script { IsScript self.old }
+        requires label { IsTrue (is_label label.now) }
+        requires span { IsNewSpan request }
+        requires named { IfSome (named_place request) (IsNewSpanAt (requests_of self.old)) }
+        ensures script { OnOk result (IsScript self.new) }
+        ensures fault { IfErr result (λ fault. (fault ≡ wrong) ⊎ (fault ≡ RunFault.Memory)) }
+    {
+        if self.labels.contains_key(&label) {
+            return Err(wrong);
+        }
+        let place = self.requests.len();
+        self.push(request)?;
+        self.labels.insert(label, place)?;
+        Ok(())
+    }
+
+    fn push(&mut self, request: Request) -> Result<(), RunFault>
+        requires script { IsScript self.old }
+        requires named { IfSome (named_place request) (IsNewSpanAt (requests_of self.old)) }
+        ensures script { OnOk result (IsScript self.new) }
+        ensures requests { OnOk result (requests_of self.new ≡ requests_of self.old ++ request ∷ []) }
+        ensures labels { self.new.labels ≡ self.old.labels }
+        ensures fault { IfErr result (λ fault. fault ≡ RunFault.Memory) }
+    {
         self.requests.push(request)?;
         Ok(())
     }
 
     /// The span of a name, if an earlier line declares it.
-    fn which(&self, name: Name<'a>) -> Option<Which> {
+    fn which(&self, name: Name<'a>) -> Option<Which>
+        requires { IsScript self.now }
+        ensures { IfSome result (λ which. IfSome (made_place which) (IsNewSpanAt (requests_of self.now))) }
+    {
         match name {
             Name::Nobody => Some(Which::Known(Id::from_u64(0))),
             Name::Label(label) => Some(Which::Made(*self.labels.get(&label)?)),
@@ -82,7 +126,10 @@ impl<'a> Script<'a> {
     }
 
     /// The parent of a name, if an earlier line declares it.
-    fn parent(&self, parent: ParentName<'a>) -> Option<WhichParent> {
+    fn parent(&self, parent: ParentName<'a>) -> Option<WhichParent>
+        requires { IsScript self.now }
+        ensures { IfSome result (λ parent. IfSome (parent_place parent) (IsNewSpanAt (requests_of self.now))) }
+    {
         match parent {
             ParentName::Root => Some(WhichParent::Root),
             ParentName::Contextual => Some(WhichParent::Contextual),
