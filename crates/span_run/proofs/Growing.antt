@@ -1,74 +1,94 @@
--- A list of requests that grows at its end.
-use Rattle.std.proofs.Common.{◌≡◌, ◌≢◌, ℕ, suc, zero, ◌+◌, ◌<◌, ◌≤◌, List, [], ◌∷◌, ◌++◌, length, Option, Some, None, IfSome, refl, sym, ap, ◌∙◌, subst, arith, rules}
-use Rattle.std.specs.Prelude.{⊤, Bool, true, false, cond, bytes_eq, slice_get, IsSomeAnd, IsTrue}
+-- A script that grows by a line.
+use Rattle.std.proofs.Common.{◌≡◌, ◌≢◌, ℕ, suc, zero, ◌+◌, List, [], ◌∷◌, ◌++◌, length, Option, Some, None, IfSome, MatchOption, refl, sym, ap, ◌∙◌, subst, rules}
 use Rattle.std.proofs.lemmas.Slice.Eq.{bytes_eq-Decides}
+use Rattle.std.specs.Prelude.{⊤, Bool, true, false, cond, bytes_eq, slice_get, IsSome, IsSomeAnd}
 use Rattle.std.specs.Map.{update}
-use Rattle.span_run.specs.Request.{named_place, IsNewSpan, IsNewSpanAt}
-use Rattle.span_run.specs.Script.{IsScript, requests_of, place_of}
-use Rattle.span_run.specs.Label.{is_label}
+use Rattle.std.specs.Ordering.{nat_cmp}
+use Rattle.std.specs.Cmp.Lexicographic.{slice_cmp}
+use Rattle.std.specs.BTreeMap as tree
+use Rattle.span_run.specs.Line.{declared_label}
+use Rattle.span_run.specs.Script.{lines_of, requests_of, place_of, Asks, AskFor, nothing, more, Declares, DeclaresAt, IsFree, IsScript}
+use Rattle.span_run.specs.declared.lines.Line.{Line}
 use Rattle.span_run.specs.declared.requests.Request.{Request}
 use Rattle.span_run.specs.declared.script.Script.{Script}
 
--- a new span stays where it stands
-pub IsNewSpanAt-append : (xs ys : List Request) (k : ℕ) → IsNewSpanAt xs k → IsNewSpanAt (xs ++ ys) k
-IsNewSpanAt-append [] ys k h = absurd h
-IsNewSpanAt-append (x ∷ xs) ys zero h = h
-IsNewSpanAt-append (x ∷ xs) ys (suc k) h = IsNewSpanAt-append xs ys k h
-
--- the last of the list
-pub IsNewSpanAt-last : (xs : List Request) (y : Request) → IsNewSpan y → IsNewSpanAt (xs ++ y ∷ []) (length xs)
-IsNewSpanAt-last [] y h = h
-IsNewSpanAt-last (x ∷ xs) y h = IsNewSpanAt-last xs y h
-
-pub IsNewSpanAt-within : (xs : List Request) (k : ℕ) → IsNewSpanAt xs k → k < length xs
-IsNewSpanAt-within [] k h = absurd h
-IsNewSpanAt-within (x ∷ xs) zero h = omega arith
-IsNewSpanAt-within (x ∷ xs) (suc k) h = let i : k < length xs = IsNewSpanAt-within xs k h in omega arith
-
--- what holds of each element, and of the one added where it stands
-pub slice_get-grown : {X : Type 0} (xs : List X) (y : X) (k : ℕ) (P : X → Type 0) → IfSome (slice_get xs k) P → (k ≡ length xs → P y) → IfSome (slice_get (xs ++ y ∷ []) k) P
-slice_get-grown [] y zero P p h = h refl
-slice_get-grown [] y (suc k) P p h = tt
-slice_get-grown (x ∷ xs) y zero P p h = p
-slice_get-grown (x ∷ xs) y (suc k) P p h = slice_get-grown xs y k P p (λ e. h (ap suc e))
+-- a script without lines
+pub IsScript-empty : (s : Script) → lines_of s ≡ [] → requests_of s ≡ [] → s.labels.entries ≡ [] → IsScript s
+IsScript-empty s no_lines no_requests no_labels = record {
+  asked = subst (λ (ls : List Line). AskFor ls (requests_of s)) (sym no_lines) (subst (λ (rs : List Request). AskFor [] rs) (sym no_requests) nothing);
+  found = λ label. rw no_labels tt;
+  kept = λ place. rw no_lines tt }
 
 pub IfSome-map : {X : Type 0} (o : Option X) (P Q : X → Type 0) → IfSome o P → ((x : X) → P x → Q x) → IfSome o Q
 IfSome-map None P Q p h = tt
 IfSome-map (Some x) P Q p h = h x p
 
--- what a request names is earlier still where another request follows
-pub names-append : (xs : List Request) (y : Request)
-    → ((k : ℕ) → IfSome (slice_get xs k) (λ r. IfSome (named_place r) (λ m. (m < k) × IsNewSpanAt xs m)))
-    → IfSome (named_place y) (IsNewSpanAt xs)
-    → (k : ℕ) → IfSome (slice_get (xs ++ y ∷ []) k) (λ r. IfSome (named_place r) (λ m. (m < k) × IsNewSpanAt (xs ++ y ∷ []) m))
-names-append xs y before named k =
-    slice_get-grown xs y k (λ r. IfSome (named_place r) (λ m. (m < k) × IsNewSpanAt (xs ++ y ∷ []) m))
-    (IfSome-map (slice_get xs k) (λ r. IfSome (named_place r) (λ m. (m < k) × IsNewSpanAt xs m)) _ (before k)
-        (λ r p. IfSome-map (named_place r) (λ m. (m < k) × IsNewSpanAt xs m) _ p (λ m q. (q.0, IsNewSpanAt-append xs (y ∷ []) m q.1))))
-    (λ here. IfSome-map (named_place y) (IsNewSpanAt xs) _ named
-        (λ m q. let l : m < length xs = IsNewSpanAt-within xs m q in (omega arith, IsNewSpanAt-append xs (y ∷ []) m q)))
+-- what holds of each element, and of the one added where it stands
+pub slice_get-grown : {X : Type 0} (xs : List X) (y : X) (k : ℕ) (P : X → Type 0) → IfSome (slice_get xs k) P → P y → IfSome (slice_get (xs ++ y ∷ []) k) P
+slice_get-grown [] y zero P p h = h
+slice_get-grown [] y (suc k) P p h = tt
+slice_get-grown (x ∷ xs) y zero P p h = p
+slice_get-grown (x ∷ xs) y (suc k) P p h = slice_get-grown xs y k P p h
 
--- a script with one request more
-pub IsScript-push : (old new : Script) (y : Request) → IsScript old → requests_of new ≡ requests_of old ++ y ∷ [] → new.labels ≡ old.labels
-    → IfSome (named_place y) (IsNewSpanAt (requests_of old)) → IsScript new
-IsScript-push old new y was e same named = record {
-  earlier = λ k. subst (λ (xs : List Request). IfSome (slice_get xs k) (λ r. IfSome (named_place r) (λ m. (m < k) × IsNewSpanAt xs m)))
-      (sym e) (names-append (requests_of old) y was.earlier named k);
-  labelled = λ label. rw (e, same) (IfSome-map (place_of old label) (λ k. IsNewSpanAt (requests_of old) k × IsTrue (is_label label)) _ (was.labelled label)
-      (λ k q. (IsNewSpanAt-append (requests_of old) (y ∷ []) k q.0, q.1))) }
+-- a label stays declared where it is
+pub DeclaresAt-append : (xs ys : List Line) (k : ℕ) (label : List ℕ) → DeclaresAt xs k label → DeclaresAt (xs ++ ys) k label
+DeclaresAt-append [] ys k label h = absurd h
+DeclaresAt-append (x ∷ xs) ys zero label h = h
+DeclaresAt-append (x ∷ xs) ys (suc k) label h = DeclaresAt-append xs ys k label h
 
--- an added label has its place, and the others keep theirs
-declared-at : (old : Option ℕ) (label other : List ℕ) (place : ℕ) (P : ℕ → Type 0) (b : Bool) → bytes_eq label other ≡ b
-    → IfSome old (λ k. P k × IsTrue (is_label other)) → P place → IsTrue (is_label label)
-    → IfSome (cond b (Some place) old) (λ k. P k × IsTrue (is_label other))
-declared-at old label other place P true e p q h = (q, subst (λ (xs : List ℕ). IsTrue (is_label xs)) ((bytes_eq-Decides label other).0 e) h)
-declared-at old label other place P false e p q h = p
+-- the last line declares its label
+pub DeclaresAt-last : (xs : List Line) (y : Line) (label : List ℕ) → declared_label y ≡ Some label → DeclaresAt (xs ++ y ∷ []) (length xs) label
+DeclaresAt-last [] y label h = h
+DeclaresAt-last (x ∷ xs) y label h = DeclaresAt-last xs y label h
 
--- a script with one label more
-pub IsScript-declare : (old new : Script) (label : List ℕ) (place : ℕ) → IsScript old → requests_of new ≡ requests_of old
-    → ((other : List ℕ) → place_of new other ≡ update bytes_eq (place_of old) label (Some place) other)
-    → IsNewSpanAt (requests_of old) place → IsTrue (is_label label) → IsScript new
-IsScript-declare old new label place was same updates span named = record {
-  earlier = rw same was.earlier;
-  labelled = λ other. rw (same, updates other)
-      (declared-at (place_of old other) label other place (IsNewSpanAt (requests_of old)) (bytes_eq label other) refl (was.labelled other) span named) }
+-- the places of labels beside those of a label that may be added
+abbrev AddsPlace : Script → Option (List ℕ) → Script → Type 0
+AddsPlace old o new = MatchOption o (new.labels ≡ old.labels) (λ label. (place_of old label ≡ None)
+    × ((other : List ℕ) → place_of new other ≡ update bytes_eq (place_of old) label (Some (length (lines_of old))) other))
+
+-- a label has the place that it had, or is the one added
+chosen : (P : Option ℕ → Type 0) (o : Option ℕ) (n : ℕ) (label other : List ℕ) (b : Bool) → bytes_eq label other ≡ b
+    → P o → (label ≡ other → P (Some n)) → P (cond b (Some n) o)
+chosen P o n label other true e p q = q ((bytes_eq-Decides label other).0 e)
+chosen P o n label other false e p q = p
+
+place-after : (old new : Script) (o : Option (List ℕ)) → AddsPlace old o new → (other : List ℕ) (P : Option ℕ → Type 0) → P (place_of old other)
+    → ((label : List ℕ) → o ≡ Some label → label ≡ other → P (Some (length (lines_of old)))) → P (place_of new other)
+place-after old new None d other P p q = subst (λ (m : _). P (tree.get_by (λ k. slice_cmp nat_cmp other k.now) m)) (sym d) p
+place-after old new (Some label) d other P p q = subst P (sym (d.1 other))
+    (chosen P (place_of old other) (length (lines_of old)) label other (bytes_eq label other) refl p (q label refl))
+
+-- the added label has a place
+place-added : (old new : Script) (o : Option (List ℕ)) → AddsPlace old o new → IfSome o (λ label. IsSome (place_of new label))
+place-added old new None d = tt
+place-added old new (Some label) d = subst (λ (x : Option ℕ). IsSome x) (sym (d.1 label))
+    (rw ((bytes_eq-Decides label label).1 refl) (search rules))
+
+-- the added label was free
+label-free : (old new : Script) (o : Option (List ℕ)) → IsScript old → AddsPlace old o new → IfSome o (IsFree (lines_of old))
+label-free old new None was d = tt
+label-free old new (Some label) was d = λ place.
+    IfSome-map (slice_get (lines_of old) place) (λ l. IfSome (declared_label l) (λ other. IsSome (place_of old other))) _ (was.kept place)
+    (λ l k e. let has : IsSome (place_of old label) = subst (λ (x : Option (List ℕ)). IfSome x (λ other. IsSome (place_of old other))) e k in
+        let lacks : IsSome {T = ℕ} None = subst (λ (x : Option ℕ). IsSome x) d.0 has in absurd (search rules))
+
+-- a script with one line more, and the request that it asks for
+pub IsScript-add : (old mid new : Script) (l : Line) (r : Request) → IsScript old → Asks (lines_of old) l r → Declares old l mid
+    → lines_of new ≡ lines_of old ++ l ∷ [] → requests_of new ≡ requests_of old ++ r ∷ [] → new.labels ≡ mid.labels → IsScript new
+IsScript-add old mid new l r was asks declares lines requests labels =
+    let d : AddsPlace old (declared_label l) new = subst (λ (m : _). MatchOption (declared_label l) (m ≡ old.labels) (λ label. (place_of old label ≡ None)
+        × ((other : List ℕ) → tree.get_by (λ k. slice_cmp nat_cmp other k.now) m ≡ update bytes_eq (place_of old) label (Some (length (lines_of old))) other)))
+        (sym labels) declares in
+    record {
+      asked = subst (λ (ls : List Line). AskFor ls (requests_of new)) (sym lines) (subst (λ (rs : List Request). AskFor (lines_of old ++ l ∷ []) rs) (sym requests)
+          (more l r was.asked asks (label-free old new (declared_label l) was d)));
+      found = λ label. subst (λ (ls : List Line). IfSome (place_of new label) (λ place. DeclaresAt ls place label)) (sym lines)
+          (place-after old new (declared_label l) d label (λ x. IfSome x (λ place. DeclaresAt (lines_of old ++ l ∷ []) place label))
+              (IfSome-map (place_of old label) (λ place. DeclaresAt (lines_of old) place label) _ (was.found label) (λ place h. DeclaresAt-append (lines_of old) (l ∷ []) place label h))
+              (λ added e same. DeclaresAt-last (lines_of old) l label (e ∙ ap (λ x. Some x) same)));
+      kept = λ place. subst (λ (ls : List Line). IfSome (slice_get ls place) (λ l. IfSome (declared_label l) (λ label. IsSome (place_of new label)))) (sym lines)
+          (slice_get-grown (lines_of old) l place (λ l. IfSome (declared_label l) (λ label. IsSome (place_of new label)))
+              (IfSome-map (slice_get (lines_of old) place) (λ l. IfSome (declared_label l) (λ label. IsSome (place_of old label))) _ (was.kept place)
+                  (λ other h. IfSome-map (declared_label other) (λ label. IsSome (place_of old label)) _ h
+                      (λ label g. place-after old new (declared_label l) d label (λ x. IsSome x) g (λ added e same. search rules))))
+              (place-added old new (declared_label l) d)) }

@@ -1,5 +1,5 @@
 pub mod Fault
 pub mod Label
 pub mod Line
-pub mod Request
 pub mod Script
+pub mod Site

@@ -1,9 +1,9 @@
 //! The lines of a script.
-ghost use Rattle.std.specs.Prelude.{◌≡◌, ◌<◌, ◌∷◌, ◌+◌, [], IfSome, is_some, slice_index};
+ghost use Rattle.std.specs.Prelude.{◌≡◌, ◌∷◌, [], ◌+◌, ◌<◌, IfSome, is_some, map, slice_index};
 ghost use Rattle.std.specs.Char.{is_ascii_lowercase};
 ghost use Rattle.std.specs.List.{list_all};
 ghost use Rattle.span_run.specs.Label.{is_keyword, is_label, is_letter_or_digit};
-ghost use Rattle.span_run.specs.Line.{DeclaresLabel};
+ghost use Rattle.span_run.specs.Line.{digit, word_of, parent_words, words_of, IsLine};
 
 use crate::sites::span_site;
 use span_core::{Lane, Metadata};
@@ -23,10 +23,10 @@ pub enum Name<'a> {
 /// The parent that a line names.
 #[derive(Clone, Copy, Debug)]
 pub enum ParentName<'a> {
-    /// By `root`.
-    Root,
     /// By nothing: the span that the lane is in.
     Contextual,
+    /// By `root`: none.
+    Root,
     /// By `in` and a name.
     In(Name<'a>),
 }
@@ -49,8 +49,10 @@ pub enum Line<'a> {
 }
 
 impl<'a> Name<'a> {
-    /// The name that the word is, if it is one.
-    fn of(word: &'a str) -> Option<Name<'a>> {
+    /// The name that a word is, if it is one.
+    fn of(word: &'a str) -> Option<Name<'a>>
+        ensures { IfSome result (λ name. word.now ≡ word_of name) }
+    {
         match word {
             "?" => Some(Name::Nobody),
             _ => Some(Name::Label(label_of(word)?)),
@@ -58,44 +60,51 @@ impl<'a> Name<'a> {
     }
 }
 
-impl<'a> Line<'a> {
-    /// The line that the text spells, if it spells one.
-    pub fn of(text: &'a str) -> Option<Line<'a>>
-        ensures { IfSome result DeclaresLabel }
+impl<'a> ParentName<'a> {
+    /// The parent that the last words of a line are, if they are one.
+    fn of(words: &[&'a str]) -> Option<ParentName<'a>>
+        ensures { IfSome result (λ parent. map (λ w. w.now) words.now ≡ parent_words parent) }
     {
-        let mut words = text.split(' ');
-        let line = match words.next()? {
-            "new" => {
-                let (lane, site) = (lane_of(words.next()?)?, span_site(words.next()?)?);
-                let label = label_of(words.next()?)?;
-                let parent = match words.next() {
-                    None => ParentName::Contextual,
-                    Some("root") => ParentName::Root,
-                    Some("in") => ParentName::In(Name::of(words.next()?)?),
-                    Some(_) => return None,
-                };
-                Line::New(lane, site, label, parent)
-            }
-            "enter" => Line::Enter(lane_of(words.next()?)?, Name::of(words.next()?)?),
-            "exit" => Line::Exit(lane_of(words.next()?)?, Name::of(words.next()?)?),
-            "record" => Line::Record(lane_of(words.next()?)?, Name::of(words.next()?)?),
-            "drop" => Line::Drop(lane_of(words.next()?)?, Name::of(words.next()?)?),
-            "current" => Line::Current(lane_of(words.next()?)?),
-            _ => return None,
-        };
-        match words.next() {
-            None => Some(line),
-            Some(_) => None,
+        match words {
+            [] => Some(ParentName::Contextual),
+            ["root"] => Some(ParentName::Root),
+            ["in", name] => Some(ParentName::In(Name::of(name)?)),
+            _ => None,
         }
     }
 }
 
-/// The lane of a word of one digit.
-fn lane_of(word: &str) -> Option<Lane> {
-    if word.len() != 1 {
-        return None;
+impl<'a> Line<'a> {
+    /// The line that the words are, if they are one.
+    pub fn of(words: &[&'a str]) -> Option<Line<'a>>
+        ensures spelled { IfSome result (λ line. map (λ w. w.now) words.now ≡ words_of line) }
+        ensures line { IfSome result IsLine }
+    {
+        match words {
+            ["new", lane, site, label, parent @ ..] => Some(Line::New(
+                lane_of(lane)?,
+                span_site(site)?,
+                label_of(label)?,
+                ParentName::of(parent)?,
+            )),
+            ["enter", lane, name] => Some(Line::Enter(lane_of(lane)?, Name::of(name)?)),
+            ["exit", lane, name] => Some(Line::Exit(lane_of(lane)?, Name::of(name)?)),
+            ["record", lane, name] => Some(Line::Record(lane_of(lane)?, Name::of(name)?)),
+            ["drop", lane, name] => Some(Line::Drop(lane_of(lane)?, Name::of(name)?)),
+            ["current", lane] => Some(Line::Current(lane_of(lane)?)),
+            _ => None,
+        }
     }
-    Some(Lane(word.parse().ok()?))
+}
+
+/// The lane that a word of one digit is.
+fn lane_of(word: &str) -> Option<Lane>
+    ensures { IfSome result (λ lane. word.now ≡ digit lane.0) }
+{
+    match word.as_bytes() {
+        [number @ b'0'..=b'9'] => Some(Lane(u32::from(*number - b'0'))),
+        _ => None,
+    }
 }
 
 /// The word as a label, if it is one.

@@ -1,5 +1,6 @@
 //! What a script prints.
 
+use crate::lines::Line;
 use crate::requests::{Answer, Notice};
 use crate::script::Script;
 use span_core::Id;
@@ -20,8 +21,8 @@ impl<'a> Names<'a> {
         answers: &[Answer],
     ) -> Result<Names<'a>, AllocError> {
         let mut labels = BTreeMap::new(alloc);
-        for (label, place) in script.labels() {
-            if let Some(Answer::Made(id)) = answers.get(*place) {
+        for (line, answer) in script.lines().iter().zip(answers) {
+            if let (Line::New(_, _, label, _), Answer::Made(id)) = (line, answer) {
                 labels.insert(*id, *label)?;
             }
         }

@@ -27,7 +27,9 @@ pub fn run<R: Read, W: Write>(
     ensures unwritten { IfErr result (λ fault. fault ≢ RunFault.Io → writer.new ≡ writer.old) }
 {
     let bytes = read_script(alloc, reader)?;
-    let script = Script::parse(alloc, &bytes)?;
+    // What isn't text becomes a character that no line has.
+    let text = String::from_utf8_lossy(alloc, &bytes)?;
+    let script = Script::parse(alloc, text.as_str())?;
     let mut plain = Plain::new(alloc);
     let Ok(answers) = plain.serve(alloc, script.requests()) else {
         return Err(RunFault::Memory);
@@ -35,8 +37,8 @@ pub fn run<R: Read, W: Write>(
     if plain.failed() {
         return Err(RunFault::Memory);
     }
-    let text = text_of(alloc, &script, &answers, plain.notices())?;
-    match write_text(writer, text.as_str()) {
+    let output = text_of(alloc, &script, &answers, plain.notices())?;
+    match write_text(writer, output.as_str()) {
         Ok(()) => Ok(()),
         Err(_) => Err(RunFault::Io),
     }

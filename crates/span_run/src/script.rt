@@ -1,9 +1,6 @@
-//! A script: the requests of its lines, and the labels that they declare.
-ghost use Rattle.std.specs.Prelude.{◌≡◌, ◌⊎◌, ◌<◌, ◌∷◌, [], ◌++◌, IsTrue, IfOk, IfErr, OnOk, IfSome};
-ghost use Rattle.span_run.specs.Label.{is_label};
-ghost use Rattle.span_run.specs.Line.{DeclaresLabel};
-ghost use Rattle.span_run.specs.Request.{made_place, parent_place, named_place, IsNewSpan, IsNewSpanAt};
-ghost use Rattle.span_run.specs.Script.{requests_of, IsScript, IsScriptFault};
+//! A script: its lines, and the requests that they ask for.
+ghost use Rattle.std.specs.Prelude.{◌≡◌, ◌⊎◌, ◌∷◌, [], ◌++◌, if◌then◌else◌, ◌==◌, IfOk, IfErr, OnOk, IfSome, length};
+ghost use Rattle.span_run.specs.Script.{lines_of, requests_of, texts_of, Asks, Declares, IsScript, IsScriptFault, IsSpelled, Means, MeansParent};
 
 use crate::faults::RunFault;
 use crate::lines::{Line, Name, ParentName};
@@ -12,128 +9,154 @@ use span_core::Id;
 use std::alloc::Global;
 use std::collections::BTreeMap;
 
-/// A script: the requests of its lines in order, and for each label the place of the request that makes its span.
+/// A script: its lines after the first, the request that each asks for, and the places of those that declare a label.
 #[derive(Drop)]
 pub struct Script<'a> {
+    lines: Vec<Line<'a>>,
     requests: Vec<Request>,
     labels: BTreeMap<&'a str, usize>,
 }
 
 impl<'a> Script<'a> {
-    /// The script that the bytes spell.
-    pub fn parse(alloc: Global, bytes: &'a [u8]) -> Result<Script<'a>, RunFault>
+    /// The script that a text spells.
+    pub fn parse(alloc: Global, text: &'a str) -> Result<Script<'a>, RunFault>
         ensures script { IfOk result IsScript }
-        ensures fault { IfErr result (IsScriptFault bytes.now) }
+        ensures spelled { IfOk result (λ script. IsSpelled text.now (lines_of script)) }
+        ensures fault { IfErr result (IsScriptFault text.now) }
     {
-        let mut script = Script {
-            requests: Vec::new(alloc),
-            labels: BTreeMap::new(alloc),
-        };
-        let mut is_begun = false;
-        for (place, line) in bytes.split(|byte| *byte == b'\n').enumerate() {
-            let wrong = RunFault::Line(place as u64 + 1);
-            let text = str::from_utf8(line).ok().ok_or(wrong)?;
-            if text.is_empty() {
-                continue;
-            }
-            if is_begun {
-                script.add(Line::of(text).ok_or(wrong)?, wrong)?;
-            } else if text == "stack plain" {
-                is_begun = true;
-            } else {
-                return Err(wrong);
-            }
+        let texts: Vec<&str> = text.split('\n').collect(alloc)?;
+        let mut script = None;
+        for (place, text) in texts.iter().enumerate() {
+            script = next(alloc, script, text, RunFault::Line(place as u64 + 1))?;
         }
-        if !is_begun {
-            return Err(RunFault::Line(1));
-        }
-        Ok(script)
+        script.ok_or(RunFault::Line(1))
     }
 
-    /// The requests, in the order of their lines.
+    /// The lines after the first, in their order.
+    pub fn lines(&self) -> &[Line<'a>]
+        ensures { result.now ≡ lines_of self.now }
+    {
+        &self.lines
+    }
+
+    /// The request that each line asks for.
     pub fn requests(&self) -> &[Request]
         ensures { result.now ≡ requests_of self.now }
     {
         &self.requests
     }
 
-    /// For each label, the place of the request that makes its span.
-    pub fn labels(&self) -> &BTreeMap<&'a str, usize> {
-        &self.labels
-    }
-
-    /// Adds the request of a line. Where the line is wrong, the fault is `wrong`.
-    fn add(&mut self, line: Line<'a>, wrong: RunFault) -> Result<(), RunFault>
-        requires script { IsScript self.old }
-        requires label { DeclaresLabel line }
-        ensures script { OnOk result (IsScript self.new) }
-        ensures fault { IfErr result (λ fault. (fault ≡ wrong) ⊎ (fault ≡ RunFault.Memory)) }
+    fn new(alloc: Global) -> Script<'a>
+        ensures script { IsScript result }
+        ensures lines { lines_of result ≡ [] }
     {
-        let request = match line {
-            Line::New(lane, site, label, parent) => {
-                let parent = self.parent(parent).ok_or(wrong)?;
-                let request = Request::NewSpan(lane, site, parent);
-                return self.declare(label, request, wrong);
-            }
-            Line::Enter(lane, name) => Request::Enter(lane, self.which(name).ok_or(wrong)?),
-            Line::Exit(lane, name) => Request::Exit(lane, self.which(name).ok_or(wrong)?),
-            Line::Record(lane, name) => Request::Record(lane, self.which(name).ok_or(wrong)?),
-            Line::Drop(lane, name) => Request::Drop(lane, self.which(name).ok_or(wrong)?),
-            Line::Current(lane) => Request::Current(lane),
-        };
-        self.push(request)
-    }
-
-    /// Adds the request for the new span of a label.
-    fn declare(&mut self, label: &'a str, request: Request, wrong: RunFault) -> Result<(), RunFault>
-        requires script { IsScript self.old }
-        requires label { IsTrue (is_label label.now) }
-        requires span { IsNewSpan request }
-        requires named { IfSome (named_place request) (IsNewSpanAt (requests_of self.old)) }
-        ensures script { OnOk result (IsScript self.new) }
-        ensures fault { IfErr result (λ fault. (fault ≡ wrong) ⊎ (fault ≡ RunFault.Memory)) }
-    {
-        if self.labels.contains_key(&label) {
-            return Err(wrong);
+        Script {
+            lines: Vec::new(alloc),
+            requests: Vec::new(alloc),
+            labels: BTreeMap::new(alloc),
         }
-        let place = self.requests.len();
-        self.push(request)?;
-        self.labels.insert(label, place)?;
-        Ok(())
     }
 
-    fn push(&mut self, request: Request) -> Result<(), RunFault>
-        requires script { IsScript self.old }
-        requires named { IfSome (named_place request) (IsNewSpanAt (requests_of self.old)) }
+    /// Adds a line. Where it names what no line before it declares, or declares what one does, the fault is `wrong`.
+    fn add(&mut self, line: Line<'a>, wrong: RunFault) -> Result<(), RunFault>
+        requires { IsScript self.old }
         ensures script { OnOk result (IsScript self.new) }
-        ensures requests { OnOk result (requests_of self.new ≡ requests_of self.old ++ request ∷ []) }
-        ensures labels { self.new.labels ≡ self.old.labels }
-        ensures fault { IfErr result (λ fault. fault ≡ RunFault.Memory) }
+        ensures lines { OnOk result (lines_of self.new ≡ lines_of self.old ++ line.entry ∷ []) }
+        ensures fault { IfErr result (λ fault. (fault ≡ wrong) ⊎ (fault ≡ RunFault.Memory)) }
     {
+        let request = self.asked(line).ok_or(wrong)?;
+        self.declare(line, wrong)?;
+        self.lines.push(line)?;
         self.requests.push(request)?;
         Ok(())
     }
 
-    /// The span of a name, if an earlier line declares it.
+    /// Keeps the place of the label that the next line declares.
+    fn declare(&mut self, line: Line<'a>, wrong: RunFault) -> Result<(), RunFault>
+        ensures lines { self.new.lines ≡ self.old.lines }
+        ensures requests { self.new.requests ≡ self.old.requests }
+        ensures labels { OnOk result (Declares self.old line.entry self.new) }
+        ensures fault { IfErr result (λ fault. (fault ≡ wrong) ⊎ (fault ≡ RunFault.Memory)) }
+    {
+        match line {
+            Line::New(_, _, label, _) => {
+                if self.labels.contains_key(&label) {
+                    return Err(wrong);
+                }
+                self.labels.insert(label, self.lines.len())?;
+                Ok(())
+            }
+            _ => Ok(()),
+        }
+    }
+
+    /// The request that a line asks for, if earlier lines declare what it names.
+    fn asked(&self, line: Line<'a>) -> Option<Request>
+        requires { IsScript self.now }
+        ensures { IfSome result (Asks (lines_of self.now) line.entry) }
+    {
+        match line {
+            Line::New(lane, site, _, parent) => {
+                Some(Request::NewSpan(lane, site, self.parent(parent)?))
+            }
+            Line::Enter(lane, name) => Some(Request::Enter(lane, self.which(name)?)),
+            Line::Exit(lane, name) => Some(Request::Exit(lane, self.which(name)?)),
+            Line::Record(lane, name) => Some(Request::Record(lane, self.which(name)?)),
+            Line::Drop(lane, name) => Some(Request::Drop(lane, self.which(name)?)),
+            Line::Current(lane) => Some(Request::Current(lane)),
+        }
+    }
+
+    /// The parent that is named, if an earlier line declares it.
+    fn parent(&self, parent: ParentName<'a>) -> Option<WhichParent>
+        requires { IsScript self.now }
+        ensures { IfSome result (MeansParent (lines_of self.now) parent.entry) }
+    {
+        match parent {
+            ParentName::Contextual => Some(WhichParent::Contextual),
+            ParentName::Root => Some(WhichParent::Root),
+            ParentName::In(name) => Some(WhichParent::Explicit(self.which(name)?)),
+        }
+    }
+
+    /// The span that is named, if an earlier line declares it.
     fn which(&self, name: Name<'a>) -> Option<Which>
         requires { IsScript self.now }
-        ensures { IfSome result (λ which. IfSome (made_place which) (IsNewSpanAt (requests_of self.now))) }
+        ensures { IfSome result (Means (lines_of self.now) name.entry) }
     {
         match name {
             Name::Nobody => Some(Which::Known(Id::from_u64(0))),
             Name::Label(label) => Some(Which::Made(*self.labels.get(&label)?)),
         }
     }
+}
 
-    /// The parent of a name, if an earlier line declares it.
-    fn parent(&self, parent: ParentName<'a>) -> Option<WhichParent>
-        requires { IsScript self.now }
-        ensures { IfSome result (λ parent. IfSome (parent_place parent) (IsNewSpanAt (requests_of self.now))) }
-    {
-        match parent {
-            ParentName::Root => Some(WhichParent::Root),
-            ParentName::Contextual => Some(WhichParent::Contextual),
-            ParentName::In(name) => Some(WhichParent::Explicit(self.which(name)?)),
+/// The script with one line of text more. There is none before its first line.
+fn next<'a>(
+    alloc: Global,
+    script: Option<Script<'a>>,
+    text: &'a str,
+    wrong: RunFault,
+) -> Result<Option<Script<'a>>, RunFault>
+    requires { IfSome script IsScript }
+    ensures script { IfOk result (λ after. IfSome after IsScript) }
+    ensures text { IfOk result (λ after. texts_of after ≡ texts_of script.entry ++ (if length text.now == 0 then [] else text.now ∷ [])) }
+    ensures fault { IfErr result (λ fault. (fault ≡ wrong) ⊎ (fault ≡ RunFault.Memory)) }
+{
+    if text.is_empty() {
+        return Ok(script);
+    }
+    match script {
+        None => {
+            if text != "stack plain" {
+                return Err(wrong);
+            }
+            Ok(Some(Script::new(alloc)))
+        }
+        Some(mut script) => {
+            let words: Vec<&str> = text.split(' ').collect(alloc)?;
+            script.add(Line::of(&words).ok_or(wrong)?, wrong)?;
+            Ok(Some(script))
         }
     }
 }

@@ -1,17 +1,22 @@
-use Rattle.std.proofs.Common.{◌≡◌, ℕ, List, ◌++◌, ◌∷◌, [], length, Some, refl, sym, subst, rules}
+use Rattle.std.proofs.Common.{◌≡◌, ◌∙◌, ℕ, List, length, Option, None, Some, sym, refl, subst, rules}
 use Rattle.std.proofs.lemmas.Map.Text.{btree_map_updates_str}
-use Rattle.span_run.specs.Request.{IsNewSpanAt}
-use Rattle.span_run.specs.Script.{requests_of}
-use Rattle.span_run.specs.declared.requests.Request.{Request}
-use Rattle.span_run.proofs.Growing.{IsScript-declare, IsNewSpanAt-last}
+use Rattle.std.specs.Prelude.{Bool, false, is_some, bytes_eq}
+use Rattle.std.specs.Map.{update}
+use Rattle.span_run.specs.Script.{Declares, place_of, lines_of}
+use Rattle.span_run.specs.declared.lines.Line.{Line}
+use Rattle.span_run.specs.declared.script.Script.{Script}
 use Rattle.span_run.proofs.script.Script.declare.Goals as goal
 
-pub returns-clause-script : goal.returns-clause-script
-returns-clause-script c =
-    let place : c.len-place.result ≡ length (requests_of c.args.self.now) = search rules in
-    let span : IsNewSpanAt (requests_of c.args.self.now ++ c.args.request ∷ []) c.len-place.result =
-        rw place (IsNewSpanAt-last (requests_of c.args.self.now) c.args.request c.requires.span) in
-    IsScript-declare c.push.new.self _ c.args.label.now _ c.in_ok-push.ensures.script refl
-        (btree_map_updates_str c.args.label.now c.push.new.self.labels c.insert.new.self (Some c.len-place.result) c.in_ok-insert.ensures.updates)
-        (subst (λ (xs : List Request). IsNewSpanAt xs c.len-place.result) (sym c.in_ok-push.ensures.requests) span)
-        c.requires.label
+none : {X : Type 0} (o : Option X) → is_some o ≡ false → o ≡ None
+none None e = refl
+none (Some x) e = cc
+
+-- the label was free, and now has the place of the next line
+pub returns-in_ok-insert-in-New-clause-labels : goal.returns-in_ok-insert-in-New-clause-labels
+returns-in_ok-insert-in-New-clause-labels c =
+    let free : place_of c.args.self.now c.in-New.label.now ≡ None = none _ (sym c.contains_key.ensures ∙ c.if-contains_key.false) in
+    let place : c.len.result ≡ length (lines_of c.args.self.now) = search rules in
+    let new : Script = record { lines = c.args.self.now.lines; requests = c.args.self.now.requests; labels = c.insert.new.self } in
+    let updates : (other : List ℕ) → place_of new other ≡ update bytes_eq (place_of c.args.self.now) c.in-New.label.now (Some c.len.result) other =
+        btree_map_updates_str c.in-New.label.now c.args.self.now.labels c.insert.new.self (Some c.len.result) c.in_ok-insert-in-New.ensures.updates in
+    subst (λ (l : Line). Declares c.args.self.now l new) (sym c.in-New.is) (free, rw place at updates)

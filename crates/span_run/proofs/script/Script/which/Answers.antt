@@ -1,13 +1,12 @@
-use Rattle.std.proofs.Common.{◌≡◌, ap, subst, sym, Option, IfSome, Some}
-use Rattle.std.specs.Prelude.{IsTrue}
-use Rattle.span_run.specs.Label.{is_label}
-use Rattle.span_run.specs.Request.{IsNewSpanAt}
-use Rattle.span_run.specs.Script.{IsScript, place_of, requests_of}
+use Rattle.std.proofs.Common.{◌≡◌, sym, subst}
+use Rattle.span_run.specs.Script.{lines_of, Means}
+use Rattle.span_run.specs.declared.lines.Name.{Name}
+use Rattle.span_run.specs.declared.requests.Which.TheVariants.{Made}
 use Rattle.span_run.proofs.script.Script.which.Goals as goal
 
--- a declared label's place is that of a new span
+-- the place of a label is that of the line that declares it
 pub returns-in_ok-get-in-Label : goal.returns-in_ok-get-in-Label
 returns-in_ok-get-in-Label c =
-    let l = c.requires.labelled c.in-Label.label.now in
-    let e = c.in_ok-get-in-Label.ensures.value in
-    (rw (← e) at l).0
+    let found = c.requires.found c.in-Label.label.now in
+    let place = c.in_ok-get-in-Label.ensures.value in
+    subst (λ (n : Name). Means (lines_of c.args.self.now) n (Made c.in_ok-get-in-Label.field-0.now)) (sym c.in-Label.is) (rw (← place) at found)
