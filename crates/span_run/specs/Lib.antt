@@ -1,5 +1,6 @@
 pub mod Fault
 pub mod Label
 pub mod Line
+pub mod Printed
 pub mod Script
 pub mod Site

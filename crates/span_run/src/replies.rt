@@ -1,4 +1,8 @@
 //! What a script prints.
+ghost use Rattle.std.specs.Prelude.{◌≡◌, ◌++◌, ℕ, List, OnOk, IfOk, MatchOption, slice_get, string_bytes};
+ghost use Rattle.span_core.specs.Id.{number_of};
+ghost use Rattle.span_run.specs.Printed.{name_in, notice_text, reply_text, HoldsNames, IsNamed, IsPrinted};
+ghost use Rattle.span_run.specs.Script.{lines_of};
 
 use crate::lines::Line;
 use crate::requests::{Answer, Notice};
@@ -7,31 +11,49 @@ use span_core::Id;
 use std::alloc::{AllocError, Global};
 use std::collections::BTreeMap;
 
-/// The labels of the spans that were made.
+/// The labels of the spans that were made, by the numbers of their ids.
 #[derive(Drop)]
 struct Names<'a> {
-    labels: BTreeMap<Id, &'a str>,
+    labels: BTreeMap<u64, &'a str>,
 }
 
 impl<'a> Names<'a> {
-    /// The names that a script gives to the spans of these answers.
+    /// The names that the lines give to the spans that these answers made.
     fn new(
         alloc: Global,
-        script: &Script<'a>,
+        lines: &[Line<'a>],
         answers: &[Answer],
-    ) -> Result<Names<'a>, AllocError> {
+    ) -> Result<Names<'a>, AllocError>
+        ensures { IfOk result (λ names. HoldsNames lines.now answers.now names) }
+    {
         let mut labels = BTreeMap::new(alloc);
-        for (line, answer) in script.lines().iter().zip(answers) {
-            if let (Line::New(_, _, label, _), Answer::Made(id)) = (line, answer) {
-                labels.insert(*id, *label)?;
+        for (place, line) in lines.iter().enumerate() {
+            if let Some((number, label)) = named(line, answers, place) {
+                labels.insert(number, label)?;
             }
         }
         Ok(Names { labels })
     }
 
-    /// The label of a span, or `?` where no label names it.
-    fn of(&self, id: Id) -> &'a str {
-        self.labels.get(&id).copied().unwrap_or("?")
+    /// The label of a span, or `?` where no line made it.
+    fn of(&self, id: Id) -> &'a str
+        ensures { result.now ≡ name_in self.now id }
+    {
+        match self.labels.get(&id.into_u64()) {
+            Some(label) => *label,
+            None => "?",
+        }
+    }
+}
+
+/// The number of the span that a line made, which stands at this place, and the label that it declares.
+fn named<'a>(line: &Line<'a>, answers: &[Answer], place: usize) -> Option<(u64, &'a str)>
+    ensures { MatchOption result ((number : ℕ) (label : List ℕ) → ¬ (IsNamed line.now (slice_get answers.now place) number label))
+        (λ made. IsNamed line.now (slice_get answers.now place) made.0 made.1.now) }
+{
+    match (line, answers.get(place)) {
+        (Line::New(_, _, label, _), Some(Answer::Made(id))) => Some((id.into_u64(), *label)),
+        _ => None,
     }
 }
 
@@ -41,8 +63,10 @@ pub fn text_of(
     script: &Script<'_>,
     answers: &[Answer],
     notices: &[Notice],
-) -> Result<String, AllocError> {
-    let names = Names::new(alloc, script, answers)?;
+) -> Result<String, AllocError>
+    ensures { IfOk result (λ text. IsPrinted (lines_of script.now) answers.now notices.now (string_bytes text)) }
+{
+    let names = Names::new(alloc, script.lines(), answers)?;
     let mut text = String::new(alloc);
     for answer in answers {
         write_answer(&mut text, &names, *answer)?;
@@ -54,16 +78,21 @@ pub fn text_of(
     Ok(text)
 }
 
-fn write_answer(text: &mut String, names: &Names<'_>, answer: Answer) -> Result<(), AllocError> {
+fn write_answer(text: &mut String, names: &Names<'_>, answer: Answer) -> Result<(), AllocError>
+    ensures { OnOk result (string_bytes text.new ≡ string_bytes text.old ++ reply_text (name_in names.now) answer) }
+{
     match answer {
-        Answer::Made(id) | Answer::Current(Some(id)) => writeln!(text, "{}", names.of(id)),
+        Answer::Made(id) => writeln!(text, "{}", names.of(id)),
+        Answer::Current(Some(id)) => writeln!(text, "{}", names.of(id)),
         Answer::Dropped | Answer::Current(None) => writeln!(text, "none"),
         Answer::Done | Answer::Yes(_) => writeln!(text, "ok"),
         Answer::Refused(error) => writeln!(text, "refused {}", error.number()),
     }
 }
 
-fn write_notice(text: &mut String, names: &Names<'_>, notice: Notice) -> Result<(), AllocError> {
+fn write_notice(text: &mut String, names: &Names<'_>, notice: Notice) -> Result<(), AllocError>
+    ensures { OnOk result (string_bytes text.new ≡ string_bytes text.old ++ notice_text (name_in names.now) notice) }
+{
     match notice {
         Notice::New(_, id) => writeln!(text, "new {}", names.of(id)),
         Notice::Record(_, id) => writeln!(text, "record {}", names.of(id)),
