@@ -1,5 +1,5 @@
 -- The lines of a script, and how they are spelled.
-use Rattle.std.specs.Prelude.{ℕ, ◌+◌, List, [], ◌∷◌, ⊤, IsTrue, Option, Some, None, codes}
+use Rattle.std.specs.Prelude.{ℕ, ◌+◌, ◌<◌, List, [], ◌∷◌, ⊤, IsTrue, Option, Some, None, codes}
 use Rattle.std.specs.List.{join_with_byte}
 use Rattle.span_core.specs.Metadata.{callsite_of}
 use Rattle.span_run.specs.Label.{is_label}
@@ -48,11 +48,22 @@ declared_label (Record lane name) = None
 declared_label (Drop lane name) = None
 declared_label (Current lane) = None
 
--- what a line declares is a label, of a span of one of the callsites
+-- a name is `?` or a label
+abbrev pub IsName : Name → Type 0
+IsName Nobody = ⊤
+IsName (Label label) = IsTrue (is_label label.now)
+
+-- the same of a parent
+abbrev pub IsParentName : ParentName → Type 0
+IsParentName Contextual = ⊤
+IsParentName Root = ⊤
+IsParentName (In name) = IsName name
+
+-- the lane is a digit, the site one of the five of spans, and the names are names
 abbrev pub IsLine : Line → Type 0
-IsLine (New lane site label parent) = IsTrue (is_label label.now) × IsSpanSite site
-IsLine (Enter lane name) = ⊤
-IsLine (Exit lane name) = ⊤
-IsLine (Record lane name) = ⊤
-IsLine (Drop lane name) = ⊤
-IsLine (Current lane) = ⊤
+IsLine (New lane site label parent) = (lane.0 < 10) × IsSpanSite site × IsTrue (is_label label.now) × IsParentName parent
+IsLine (Enter lane name) = (lane.0 < 10) × IsName name
+IsLine (Exit lane name) = (lane.0 < 10) × IsName name
+IsLine (Record lane name) = (lane.0 < 10) × IsName name
+IsLine (Drop lane name) = (lane.0 < 10) × IsName name
+IsLine (Current lane) = lane.0 < 10

@@ -1,9 +1,12 @@
 //! The lines of a script.
-ghost use Rattle.std.specs.Prelude.{◌≡◌, ◌∷◌, [], ◌+◌, ◌<◌, IfSome, is_some, map, slice_index};
+ghost use Rattle.std.specs.Prelude.{◌≡◌, ◌≢◌, ◌<◌, ◌∷◌, [], ℕ, codes, IfNone, IfSome, is_some, map, slice_index};
 ghost use Rattle.std.specs.Char.{is_ascii_lowercase};
 ghost use Rattle.std.specs.List.{list_all};
 ghost use Rattle.span_run.specs.Label.{is_keyword, is_label, is_letter_or_digit};
-ghost use Rattle.span_run.specs.Line.{digit, word_of, parent_words, words_of, IsLine};
+ghost use Rattle.span_run.specs.Line.{digit, parent_words, word_of, words_of, IsLine, IsName, IsParentName};
+ghost use Rattle.span_run.specs.declared.lines.Line.{Line};
+ghost use Rattle.span_run.specs.declared.lines.Name.{Name};
+ghost use Rattle.span_run.specs.declared.lines.ParentName.{ParentName};
 
 use crate::sites::span_site;
 use span_core::{Lane, Metadata};
@@ -51,7 +54,9 @@ pub enum Line<'a> {
 impl<'a> Name<'a> {
     /// The name that a word is, if it is one.
     fn of(word: &'a str) -> Option<Name<'a>>
-        ensures { IfSome result (λ name. word.now ≡ word_of name) }
+        ensures spelled { IfSome result (λ name. word.now ≡ word_of name) }
+        ensures name { IfSome result IsName }
+        ensures none { IfNone result ((name : Name) → IsName name → word.now ≢ word_of name) }
     {
         match word {
             "?" => Some(Name::Nobody),
@@ -63,7 +68,9 @@ impl<'a> Name<'a> {
 impl<'a> ParentName<'a> {
     /// The parent that the last words of a line are, if they are one.
     fn of(words: &[&'a str]) -> Option<ParentName<'a>>
-        ensures { IfSome result (λ parent. map (λ w. w.now) words.now ≡ parent_words parent) }
+        ensures spelled { IfSome result (λ parent. map (λ w. w.now) words.now ≡ parent_words parent) }
+        ensures name { IfSome result IsParentName }
+        ensures none { IfNone result ((parent : ParentName) → IsParentName parent → map (λ w. w.now) words.now ≢ parent_words parent) }
     {
         match words {
             [] => Some(ParentName::Contextual),
@@ -79,27 +86,69 @@ impl<'a> Line<'a> {
     pub fn of(words: &[&'a str]) -> Option<Line<'a>>
         ensures spelled { IfSome result (λ line. map (λ w. w.now) words.now ≡ words_of line) }
         ensures line { IfSome result IsLine }
+        ensures none { IfNone result ((line : Line) → IsLine line → map (λ w. w.now) words.now ≢ words_of line) }
     {
-        match words {
-            ["new", lane, site, label, parent @ ..] => Some(Line::New(
-                lane_of(lane)?,
-                span_site(site)?,
-                label_of(label)?,
-                ParentName::of(parent)?,
-            )),
-            ["enter", lane, name] => Some(Line::Enter(lane_of(lane)?, Name::of(name)?)),
-            ["exit", lane, name] => Some(Line::Exit(lane_of(lane)?, Name::of(name)?)),
-            ["record", lane, name] => Some(Line::Record(lane_of(lane)?, Name::of(name)?)),
-            ["drop", lane, name] => Some(Line::Drop(lane_of(lane)?, Name::of(name)?)),
-            ["current", lane] => Some(Line::Current(lane_of(lane)?)),
+        let (verb, words) = words.split_first()?;
+        match *verb {
+            "new" => new_of(words),
+            "enter" => {
+                let (lane, name) = lane_and_name(words)?;
+                Some(Line::Enter(lane, name))
+            }
+            "exit" => {
+                let (lane, name) = lane_and_name(words)?;
+                Some(Line::Exit(lane, name))
+            }
+            "record" => {
+                let (lane, name) = lane_and_name(words)?;
+                Some(Line::Record(lane, name))
+            }
+            "drop" => {
+                let (lane, name) = lane_and_name(words)?;
+                Some(Line::Drop(lane, name))
+            }
+            "current" => match words {
+                [lane] => Some(Line::Current(lane_of(lane)?)),
+                _ => None,
+            },
             _ => None,
         }
     }
 }
 
+/// The line that the words after `new` make, if they make one.
+fn new_of<'a>(words: &[&'a str]) -> Option<Line<'a>>
+    ensures spelled { IfSome result (λ line. codes "new" ∷ map (λ w. w.now) words.now ≡ words_of line) }
+    ensures line { IfSome result IsLine }
+    ensures none { IfNone result ((line : Line) → IsLine line → codes "new" ∷ map (λ w. w.now) words.now ≢ words_of line) }
+{
+    match words {
+        [lane, site, label, parent @ ..] => Some(Line::New(
+            lane_of(lane)?,
+            span_site(site)?,
+            label_of(label)?,
+            ParentName::of(parent)?,
+        )),
+        _ => None,
+    }
+}
+
+/// The lane and the name that the words are, if they are both.
+fn lane_and_name<'a>(words: &[&'a str]) -> Option<(Lane, Name<'a>)>
+    ensures spelled { IfSome result (λ both. map (λ w. w.now) words.now ≡ digit both.0.0 ∷ word_of both.1 ∷ []) }
+    ensures both { IfSome result (λ both. (both.0.0 < 10) × IsName both.1) }
+    ensures none { IfNone result ((n : ℕ) (name : Name) → n < 10 → IsName name → map (λ w. w.now) words.now ≢ digit n ∷ word_of name ∷ []) }
+{
+    match words {
+        [lane, name] => Some((lane_of(lane)?, Name::of(name)?)),
+        _ => None,
+    }
+}
+
 /// The lane that a word of one digit is.
 fn lane_of(word: &str) -> Option<Lane>
-    ensures { IfSome result (λ lane. word.now ≡ digit lane.0) }
+    ensures spelled { IfSome result (λ lane. (lane.0 < 10) × (word.now ≡ digit lane.0)) }
+    ensures none { IfNone result ((n : ℕ) → n < 10 → word.now ≢ digit n) }
 {
     match word.as_bytes() {
         [number @ b'0'..=b'9'] => Some(Lane(u32::from(*number - b'0'))),

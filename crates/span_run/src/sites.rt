@@ -1,5 +1,5 @@
 //! The callsites that a script names by one digit.
-ghost use Rattle.std.specs.Prelude.{◌≡◌, IfSome, codes};
+ghost use Rattle.std.specs.Prelude.{◌≡◌, ◌≢◌, ◌<◌, ℕ, IfNone, IfSome, codes};
 ghost use Rattle.span_core.specs.Metadata.{callsite_of, kind_of, level_of, name_of, target_of};
 ghost use Rattle.span_run.specs.Line.{digit};
 ghost use Rattle.span_run.specs.Site.{IsSpanSite};
@@ -10,6 +10,7 @@ use span_core::{FieldSet, Kind, Level, Metadata};
 pub fn span_site(word: &str) -> Option<Metadata>
     ensures spelled { IfSome result (λ site. word.now ≡ digit (callsite_of site)) }
     ensures site { IfSome result IsSpanSite }
+    ensures none { IfNone result ((n : ℕ) → n < 5 → word.now ≢ digit n) }
 {
     match word {
         "0" => Some(span_of(0, "s0", Level::ERROR)),
