@@ -92,3 +92,24 @@ IsScript-add old mid new l r was asks declares lines requests labels =
                   (λ other h. IfSome-map (declared_label other) (λ label. IsSome (place_of old label)) _ h
                       (λ label g. place-after old new (declared_label l) d label (λ x. IsSome x) g (λ added e same. search rules))))
               (place-added old new (declared_label l) d)) }
+
+-- two facts on what is there
+pub both-known : {X : Type 0} (o : Option X) (P Q : X → Type 0) → IfSome o P → IsSomeAnd o Q → (x : X) × (P x × Q x)
+both-known None P Q p q = absurd q
+both-known (Some x) P Q p q = (x, (p, q))
+
+-- a label that has no place is declared nowhere
+pub undeclared : (s : Script) → IsScript s → (label : List ℕ) → place_of s label ≡ None → (k : ℕ) → ¬ (DeclaresAt (lines_of s) k label)
+undeclared s is label lacks k h =
+    let found = both-known (slice_get (lines_of s) k) (λ l. IfSome (declared_label l) (λ other. IsSome (place_of s other))) (λ l. declared_label l ≡ Some label) (is.kept k) h in
+    let has : IsSome (place_of s label) = subst (λ (x : Option (List ℕ)). IfSome x (λ other. IsSome (place_of s other))) found.1.1 found.1.0 in
+    let none : IsSome {T = ℕ} None = subst (λ (x : Option ℕ). IsSome x) lacks has in absurd (search rules)
+
+-- a label that has a place is taken
+pub taken : (s : Script) → IsScript s → (label : List ℕ) → IsSome (place_of s label) → ¬ (IsFree (lines_of s) label)
+taken s is label has free = go (place_of s label) (is.found label) has
+  where
+    go : (o : Option ℕ) → IfSome o (λ place. DeclaresAt (lines_of s) place label) → IsSome o → ⊥
+    go None found h = absurd (search rules)
+    go (Some k) found h = let two = both-known (slice_get (lines_of s) k) (λ l. declared_label l ≢ Some label) (λ l. declared_label l ≡ Some label) (free k) found in
+        two.1.0 two.1.1

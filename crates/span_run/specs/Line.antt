@@ -1,6 +1,5 @@
 -- The lines of a script, and how they are spelled.
 use Rattle.std.specs.Prelude.{ℕ, ◌+◌, ◌<◌, List, [], ◌∷◌, ⊤, IsTrue, Option, Some, None, codes}
-use Rattle.std.specs.List.{join_with_byte}
 use Rattle.span_core.specs.Metadata.{callsite_of}
 use Rattle.span_run.specs.Label.{is_label}
 use Rattle.span_run.specs.Site.{IsSpanSite}
@@ -34,10 +33,6 @@ words_of (Exit lane name) = codes "exit" ∷ digit lane.0 ∷ word_of name ∷ [
 words_of (Record lane name) = codes "record" ∷ digit lane.0 ∷ word_of name ∷ []
 words_of (Drop lane name) = codes "drop" ∷ digit lane.0 ∷ word_of name ∷ []
 words_of (Current lane) = codes "current" ∷ digit lane.0 ∷ []
-
--- the text of a line: its words, with a space between each two
-abbrev pub text_of : Line → List ℕ
-text_of line = join_with_byte 32 (words_of line)
 
 -- the label that a line declares, if it declares one
 abbrev pub declared_label : Line → Option (List ℕ)

@@ -1,12 +1,12 @@
 -- Scripts: how they are spelled, what they ask for, and what can be wrong with them.
-use Rattle.std.specs.Prelude.{◌≡◌, ◌≢◌, ℕ, ◌+◌, ◌<◌, ◌≤◌, ◌==◌, List, [], ◌∷◌, ◌++◌, Option, Some, None, ⊤, Bool, not, IsSome, IsSomeAnd, IfSome, MatchOption, length, map, filter, count_by, slice_get, bytes_eq, codes}
-use Rattle.std.specs.List.{join_with_byte}
+use Rattle.std.specs.Prelude.{◌≡◌, ◌≢◌, ◌⊎◌, ℕ, ◌+◌, ◌==◌, List, [], ◌∷◌, ◌++◌, Option, Some, None, ⊤, Bool, not, IsTrue, IsSome, IsSomeAnd, IfSome, MatchOption, length, map, filter, take, slice_get, bytes_eq, codes}
+use Rattle.std.specs.List.{slice_split}
 use Rattle.std.specs.Map.{update}
 use Rattle.std.specs.Ordering.{nat_cmp}
 use Rattle.std.specs.Cmp.Lexicographic.{slice_cmp}
 use Rattle.std.specs.BTreeMap as tree
 use Rattle.span_core.specs.Id.{number_of}
-use Rattle.span_run.specs.Line.{text_of, declared_label, IsLine}
+use Rattle.span_run.specs.Line.{declared_label, words_of, IsLine}
 use Rattle.span_run.specs.declared.faults.RunFault.{RunFault}
 use Rattle.span_run.specs.declared.faults.RunFault.TheVariants as fault
 use Rattle.span_run.specs.declared.lines.Name.{Name}
@@ -22,6 +22,10 @@ use Rattle.span_run.specs.declared.requests.WhichParent.TheVariants as asked
 use Rattle.span_run.specs.declared.requests.Request.{Request}
 use Rattle.span_run.specs.declared.requests.Request.TheVariants as request
 use Rattle.span_run.specs.declared.script.Script.{Script}
+
+-- the parts of a text between these bytes
+abbrev pub cut : ℕ → List ℕ → List (List ℕ)
+cut byte text = slice_split (λ b. b == byte) text
 
 -- the lines after the first
 abbrev pub lines_of : Script → List Line
@@ -84,26 +88,51 @@ abbrev pub Declares : Script → Line → Script → Type 0
 Declares old l new = MatchOption (declared_label l) (new.labels ≡ old.labels) (λ label. (place_of old label ≡ None)
     × ((other : List ℕ) → place_of new other ≡ update bytes_eq (place_of old) label (Some (length (lines_of old))) other))
 
+-- the line can follow these: they declare what it names, and not what it declares
+abbrev pub CanFollow : List Line → Line → Type 0
+CanFollow before l = ((r : Request) × Asks before l r) × IfSome (declared_label l) (IsFree before)
+
+-- the words of the first line
+abbrev pub first_words : List (List ℕ)
+first_words = codes "stack" ∷ codes "plain" ∷ []
+
+-- the words of the lines, the first included; there are none before it
+abbrev pub words_in : Option (List Line) → List (List (List ℕ))
+words_in None = []
+words_in (Some lines) = first_words ∷ map words_of lines
+
 -- a text that is not empty
 abbrev pub is_full : List ℕ → Bool
 is_full text = not (length text == 0)
 
--- the texts that spell a script, empty ones aside: none before its first line
-abbrev pub texts_of : Option Script → List (List ℕ)
-texts_of None = []
-texts_of (Some script) = codes "stack plain" ∷ map text_of (lines_of script)
+-- the words of each text that is not empty
+abbrev pub words_of_texts : List (List ℕ) → List (List (List ℕ))
+words_of_texts texts = map (cut 32) (filter is_full texts)
 
--- the text is `stack plain` and these lines, each ended by a line feed but the last, and empty lines among them
+-- cut at line feeds and, empty lines aside, at spaces, the text is `stack plain` and the words of these lines
 abbrev pub IsSpelled : List ℕ → List Line → Type 0
-IsSpelled text lines = (texts : List (List ℕ)) × (join_with_byte 10 texts ≡ text)
-    × (filter is_full texts ≡ codes "stack plain" ∷ map text_of lines)
+IsSpelled text lines = words_of_texts (cut 10 text) ≡ words_in (Some lines)
 
--- how many lines a text has, of which the last may be empty
-abbrev pub line_count : List ℕ → ℕ
-line_count text = count_by (λ b. b == 10) text + 1
+-- the words can't follow these lines: they are no line, or one that can't
+abbrev pub IsWrongAfter : Option (List Line) → List (List ℕ) → Type 0
+IsWrongAfter None words = words ≢ first_words
+IsWrongAfter (Some before) words = ((l : Line) → IsLine l → words ≢ words_of l)
+    ⊎ ((l : Line) × (IsLine l × (words ≡ words_of l) × ¬ (CanFollow before l)))
 
--- what ends the reading of a script: one of its lines, or want of memory
+-- the lines so far, if the first was read, and what they ask for
+abbrev pub lines_in : Option Script → Option (List Line)
+lines_in None = None
+lines_in (Some script) = Some (lines_of script)
+
+-- the text at this place can't follow the ones before it, which are read
+pub record IsWrongAt (texts : List (List ℕ)) (place : ℕ) : Type 0 where
+  pub before : Option (List Line)
+  pub asked : IfSome before (λ lines. (requests : List Request) × AskFor lines requests)
+  pub spelled : words_in before ≡ words_of_texts (take place texts)
+  pub wrong : IsSomeAnd (slice_get texts place) (λ text. IsTrue (is_full text) × IsWrongAfter before (cut 32 text))
+
+-- what ends the reading of a script: its first line that is wrong, which is line 1 where all are empty, or want of memory
 abbrev pub IsScriptFault : List ℕ → RunFault → Type 0
-IsScriptFault text (fault.Line n) = (0 < n) × (n ≤ line_count text)
+IsScriptFault text (fault.Line n) = ((n ≡ 1) × (filter is_full (cut 10 text) ≡ [])) ⊎ ((place : ℕ) × ((n ≡ place + 1) × IsWrongAt (cut 10 text) place))
 IsScriptFault text fault.Io = ⊥
 IsScriptFault text fault.Memory = ⊤

@@ -1,12 +1,16 @@
 //! A script: its lines, and the requests that they ask for.
-ghost use Rattle.std.specs.Prelude.{◌≡◌, ◌⊎◌, ◌∷◌, [], ◌++◌, if◌then◌else◌, ◌==◌, IfOk, IfErr, OnOk, IfSome, length};
-ghost use Rattle.span_run.specs.Script.{lines_of, requests_of, texts_of, Asks, Declares, IsScript, IsScriptFault, IsSpelled, Means, MeansParent};
+ghost use Rattle.std.specs.Prelude.{◌≡◌, ◌⊎◌, ◌∷◌, [], ◌++◌, ◌<◌, IsTrue, IfNone, IfOk, IfErr, OnOk, IfSome, map};
+ghost use Rattle.span_run.specs.Line.{declared_label};
+ghost use Rattle.span_run.specs.Script.{cut, is_full, lines_in, lines_of, requests_of, words_in, words_of_texts, Asks, CanFollow, Declares, IsFree, IsScript, IsScriptFault, IsSpelled, IsWrongAfter, Means, MeansParent};
+ghost use Rattle.span_run.specs.declared.requests.Request.{Request};
+ghost use Rattle.span_run.specs.declared.requests.Which.{Which};
+ghost use Rattle.span_run.specs.declared.requests.WhichParent.{WhichParent};
 
 use crate::faults::RunFault;
 use crate::lines::{Line, Name, ParentName};
 use crate::requests::{Request, Which, WhichParent};
 use span_core::Id;
-use std::alloc::Global;
+use std::alloc::{AllocError, Global};
 use std::collections::BTreeMap;
 
 /// A script: its lines after the first, the request that each asks for, and the places of those that declare a label.
@@ -24,7 +28,7 @@ impl<'a> Script<'a> {
         ensures spelled { IfOk result (λ script. IsSpelled text.now (lines_of script)) }
         ensures fault { IfErr result (IsScriptFault text.now) }
     {
-        let texts: Vec<&str> = text.split('\n').collect(alloc)?;
+        let texts = parts_of(alloc, text, '\n')?;
         let mut script = None;
         for (place, text) in texts.iter().enumerate() {
             script = next(alloc, script, text, RunFault::Line(place as u64 + 1))?;
@@ -62,7 +66,7 @@ impl<'a> Script<'a> {
         requires { IsScript self.old }
         ensures script { OnOk result (IsScript self.new) }
         ensures lines { OnOk result (lines_of self.new ≡ lines_of self.old ++ line.entry ∷ []) }
-        ensures fault { IfErr result (λ fault. (fault ≡ wrong) ⊎ (fault ≡ RunFault.Memory)) }
+        ensures fault { IfErr result (λ fault. (fault ≡ RunFault.Memory) ⊎ ((fault ≡ wrong) × ¬ (CanFollow (lines_of self.old) line.entry))) }
     {
         let request = self.asked(line).ok_or(wrong)?;
         self.declare(line, wrong)?;
@@ -73,10 +77,12 @@ impl<'a> Script<'a> {
 
     /// Keeps the place of the label that the next line declares.
     fn declare(&mut self, line: Line<'a>, wrong: RunFault) -> Result<(), RunFault>
+        requires { IsScript self.old }
         ensures lines { self.new.lines ≡ self.old.lines }
         ensures requests { self.new.requests ≡ self.old.requests }
         ensures labels { OnOk result (Declares self.old line.entry self.new) }
-        ensures fault { IfErr result (λ fault. (fault ≡ wrong) ⊎ (fault ≡ RunFault.Memory)) }
+        ensures fault { IfErr result (λ fault. (fault ≡ RunFault.Memory)
+            ⊎ ((fault ≡ wrong) × ¬ (IfSome (declared_label line.entry) (IsFree (lines_of self.old))))) }
     {
         match line {
             Line::New(_, _, label, _) => {
@@ -93,7 +99,8 @@ impl<'a> Script<'a> {
     /// The request that a line asks for, if earlier lines declare what it names.
     fn asked(&self, line: Line<'a>) -> Option<Request>
         requires { IsScript self.now }
-        ensures { IfSome result (Asks (lines_of self.now) line.entry) }
+        ensures request { IfSome result (Asks (lines_of self.now) line.entry) }
+        ensures none { IfNone result ((r : Request) → ¬ (Asks (lines_of self.now) line.entry r)) }
     {
         match line {
             Line::New(lane, site, _, parent) => {
@@ -110,7 +117,8 @@ impl<'a> Script<'a> {
     /// The parent that is named, if an earlier line declares it.
     fn parent(&self, parent: ParentName<'a>) -> Option<WhichParent>
         requires { IsScript self.now }
-        ensures { IfSome result (MeansParent (lines_of self.now) parent.entry) }
+        ensures parent { IfSome result (MeansParent (lines_of self.now) parent.entry) }
+        ensures none { IfNone result ((p : WhichParent) → ¬ (MeansParent (lines_of self.now) parent.entry p)) }
     {
         match parent {
             ParentName::Contextual => Some(WhichParent::Contextual),
@@ -122,7 +130,8 @@ impl<'a> Script<'a> {
     /// The span that is named, if an earlier line declares it.
     fn which(&self, name: Name<'a>) -> Option<Which>
         requires { IsScript self.now }
-        ensures { IfSome result (Means (lines_of self.now) name.entry) }
+        ensures span { IfSome result (Means (lines_of self.now) name.entry) }
+        ensures none { IfNone result ((w : Which) → ¬ (Means (lines_of self.now) name.entry w)) }
     {
         match name {
             Name::Nobody => Some(Which::Known(Id::from_u64(0))),
@@ -140,23 +149,31 @@ fn next<'a>(
 ) -> Result<Option<Script<'a>>, RunFault>
     requires { IfSome script IsScript }
     ensures script { IfOk result (λ after. IfSome after IsScript) }
-    ensures text { IfOk result (λ after. texts_of after ≡ texts_of script.entry ++ (if length text.now == 0 then [] else text.now ∷ [])) }
-    ensures fault { IfErr result (λ fault. (fault ≡ wrong) ⊎ (fault ≡ RunFault.Memory)) }
+    ensures words { IfOk result (λ after. words_in (lines_in after) ≡ words_in (lines_in script.entry) ++ words_of_texts (text.now ∷ [])) }
+    ensures fault { IfErr result (λ fault. (fault ≡ RunFault.Memory)
+        ⊎ ((fault ≡ wrong) × IsTrue (is_full text.now) × IsWrongAfter (lines_in script.entry) (cut 32 text.now))) }
 {
     if text.is_empty() {
         return Ok(script);
     }
+    let words = parts_of(alloc, text, ' ')?;
     match script {
-        None => {
-            if text != "stack plain" {
-                return Err(wrong);
-            }
-            Ok(Some(Script::new(alloc)))
-        }
+        None => match words.as_slice() {
+            ["stack", "plain"] => Ok(Some(Script::new(alloc))),
+            _ => Err(wrong),
+        },
         Some(mut script) => {
-            let words: Vec<&str> = text.split(' ').collect(alloc)?;
-            script.add(Line::of(&words).ok_or(wrong)?, wrong)?;
+            let line = Line::of(&words).ok_or(wrong)?;
+            script.add(line, wrong)?;
             Ok(Some(script))
         }
     }
+}
+
+/// The parts of a text between these characters.
+fn parts_of<'a>(alloc: Global, text: &'a str, separator: char) -> Result<Vec<&'a str>, AllocError>
+    requires { separator < 128 }
+    ensures { IfOk result (λ parts. map (λ part. part.now) parts.items ≡ cut separator text.now) }
+{
+    text.split(separator).collect(alloc)
 }

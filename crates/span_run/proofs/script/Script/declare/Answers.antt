@@ -1,8 +1,10 @@
-use Rattle.std.proofs.Common.{◌≡◌, ◌∙◌, ℕ, List, length, Option, None, Some, sym, refl, subst, rules}
+use Rattle.std.proofs.Common.{◌≡◌, ◌∙◌, ℕ, List, length, Option, None, Some, IfSome, sym, refl, inr, subst, rules}
 use Rattle.std.proofs.lemmas.Map.Text.{btree_map_updates_str}
 use Rattle.std.specs.Prelude.{Bool, false, is_some, bytes_eq}
 use Rattle.std.specs.Map.{update}
-use Rattle.span_run.specs.Script.{Declares, place_of, lines_of}
+use Rattle.span_run.specs.Line.{declared_label}
+use Rattle.span_run.specs.Script.{Declares, IsFree, place_of, lines_of}
+use Rattle.span_run.proofs.Growing.{taken}
 use Rattle.span_run.specs.declared.lines.Line.{Line}
 use Rattle.span_run.specs.declared.script.Script.{Script}
 use Rattle.span_run.proofs.script.Script.declare.Goals as goal
@@ -20,3 +22,9 @@ returns-in_ok-insert-in-New-clause-labels c =
     let updates : (other : List ℕ) → place_of new other ≡ update bytes_eq (place_of c.args.self.now) c.in-New.label.now (Some c.len.result) other =
         btree_map_updates_str c.in-New.label.now c.args.self.now.labels c.insert.new.self (Some c.len.result) c.in_ok-insert-in-New.ensures.updates in
     subst (λ (l : Line). Declares c.args.self.now l new) (sym c.in-New.is) (free, rw place at updates)
+
+-- a label that has a place is taken
+pub returns-then-contains_key-clause-fault : goal.returns-then-contains_key-clause-fault
+returns-then-contains_key-clause-fault c = inr (refl, λ free.
+    taken c.args.self.now c.requires c.in-New.label.now (sym c.contains_key.ensures ∙ c.if-contains_key.true)
+        (subst (λ (l : Line). IfSome (declared_label l) (IsFree (lines_of c.args.self.now))) c.in-New.is free))
