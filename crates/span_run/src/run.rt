@@ -1,7 +1,10 @@
 //! From a script to what it prints.
-ghost use Rattle.std.specs.Prelude.{◌≡◌, ◌≢◌, ◌≤◌, vec_len, IfOk, IfErr, OnOk};
-ghost use Rattle.std.specs.Io.KnownBytes.{Consumes, IsAtEnd, Keeps};
+ghost use Rattle.std.specs.Prelude.{◌≡◌, ◌≢◌, ◌<◌, ◌≤◌, List, ℕ, length, vec_len, string_bytes, IfOk, IfErr, IfSome, OnOk, IsErrAnd};
+ghost use Rattle.std.specs.Io.KnownBytes.{Appends};
+ghost use Rattle.std.specs.Str.Lossy.{utf8_lossy};
 ghost use Rattle.span_run.specs.Fault.{IsWrongLine};
+ghost use Rattle.span_run.specs.Program.{Prints};
+ghost use Rattle.span_run.specs.Script.{IsScriptFault};
 
 use crate::faults::RunFault;
 use crate::plain::Plain;
@@ -18,36 +21,30 @@ const CHUNK: usize = 8192;
 
 /// Reads a script, serves it, and writes its replies and notices.
 ///
-/// The whole script is read first. Where it ends in a fault other than `Io`, nothing is written.
+/// The whole script is read first. A fault of reading is `Io`, as is one of writing, and then a part may be written.
 pub fn run<R: Read, W: Write>(
     alloc: Global,
     reader: &mut R,
     writer: &mut W,
 ) -> Result<(), RunFault>
+    ensures printed { OnOk result (IfSome (R.remaining reader.old) (λ bytes. (output : List ℕ)
+        × (Prints (utf8_lossy bytes) output × Appends (W.contents writer.old) (W.contents writer.new) output))) }
+    ensures wrong { IfErr result (λ fault. IsWrongLine fault
+        → IfSome (R.remaining reader.old) (λ bytes. IsScriptFault (utf8_lossy bytes) fault)) }
     ensures unwritten { IfErr result (λ fault. fault ≢ RunFault.Io → writer.new ≡ writer.old) }
+    ensures too_long { IfSome (R.remaining reader.old) (λ bytes. SCRIPT_LIMIT < length bytes
+        → IsErrAnd result (λ fault. ¬ (IsWrongLine fault))) }
 {
     let bytes = read_script(alloc, reader)?;
     // What isn't text becomes a character that no line has.
     let text = String::from_utf8_lossy(alloc, &bytes)?;
-    let script = Script::parse(alloc, text.as_str())?;
-    let mut plain = Plain::new(alloc);
-    let Ok(answers) = plain.serve(alloc, script.requests()) else {
-        return Err(RunFault::Memory);
-    };
-    if plain.failed() {
-        return Err(RunFault::Memory);
-    }
-    let output = text_of(alloc, &script, &answers, plain.notices())?;
-    match write_text(writer, output.as_str()) {
-        Ok(()) => Ok(()),
-        Err(_) => Err(RunFault::Io),
-    }
+    let output = output_of(alloc, text.as_str())?;
+    write_output(writer, output.as_str())
 }
 
 /// All that the reader gives, which is at most `SCRIPT_LIMIT` bytes.
 fn read_script<R: Read>(alloc: Global, reader: &mut R) -> Result<Vec<u8>, RunFault>
-    ensures all { IfOk result (λ bytes. Consumes (R.remaining reader.old) (R.remaining reader.new) bytes.items) }
-    ensures end { OnOk result (IsAtEnd (R.remaining reader.new)) }
+    ensures all { IfOk result (λ bytes. IfSome (R.remaining reader.old) (λ given. bytes.items ≡ given)) }
     ensures limit { IfOk result (λ bytes. vec_len bytes ≤ SCRIPT_LIMIT) }
     ensures fault { IfErr result (λ fault. ¬ (IsWrongLine fault)) }
 {
@@ -72,7 +69,32 @@ fn read_script<R: Read>(alloc: Global, reader: &mut R) -> Result<Vec<u8>, RunFau
     Err(RunFault::Io)
 }
 
-fn write_text<W: Write>(writer: &mut W, text: &str) -> std::io::Result<()> {
-    writer.write_all(text.as_bytes())?;
-    writer.flush()
+/// What a script prints.
+fn output_of(alloc: Global, text: &str) -> Result<String, RunFault>
+    ensures printed { IfOk result (λ output. Prints text.now (string_bytes output)) }
+    ensures fault { IfErr result (IsScriptFault text.now) }
+{
+    let script = Script::parse(alloc, text)?;
+    let mut plain = Plain::new(alloc);
+    let Ok(answers) = plain.serve(alloc, script.requests()) else {
+        return Err(RunFault::Memory);
+    };
+    if plain.failed() {
+        return Err(RunFault::Memory);
+    }
+    Ok(text_of(alloc, &script, &answers, plain.notices())?)
+}
+
+/// Writes all of the output, or fails.
+fn write_output<W: Write>(writer: &mut W, output: &str) -> Result<(), RunFault>
+    ensures written { OnOk result (Appends (W.contents writer.old) (W.contents writer.new) output.now) }
+    ensures fault { IfErr result (λ fault. fault ≡ RunFault.Io) }
+{
+    if writer.write_all(output.as_bytes()).is_err() {
+        return Err(RunFault::Io);
+    }
+    if writer.flush().is_err() {
+        return Err(RunFault::Io);
+    }
+    Ok(())
 }

@@ -1,0 +1,23 @@
+use Rattle.std.proofs.Common.{◌≡◌, ◌∙◌, ℕ, List, Option, Some, None, Result, Ok, Err, IfSome, OnOk, string_bytes, ap, sym, subst}
+use Rattle.std.specs.Io.KnownBytes.{Appends}
+use Rattle.std.specs.Str.Lossy.{utf8_lossy}
+use Rattle.span_run.specs.Program.{Prints}
+use Rattle.span_run.specs.declared.faults.RunFault.{RunFault}
+use Rattle.span_run.proofs.run.run.Goals as goal
+
+-- what was read is the text, and what is printed for it was written
+written : (known : Option (List ℕ)) (items text output : List ℕ) (old new : Option (List ℕ)) (r : Result (Unit {0}) RunFault)
+    → IfSome known (λ given. items ≡ given) → text ≡ utf8_lossy items → Prints text output → OnOk r (Appends old new output)
+    → OnOk r (IfSome known (λ bytes. (out : List ℕ) × (Prints (utf8_lossy bytes) out × Appends old new out)))
+written None items text output old new (Ok u) read is prints w = tt
+written (Some given) items text output old new (Ok u) read is prints w =
+    (output, (subst (λ t. Prints t output) (is ∙ ap (λ xs. utf8_lossy xs) read) prints, w))
+written known items text output old new (Err e) read is prints w = tt
+
+pub returns-clause-printed : goal.returns-clause-printed
+returns-clause-printed g c = written (g.R.Read.remaining c.args.reader.now) c.in_ok-bytes.bytes.items c.as_str.result.now c.as_str-2.result.now
+    (g.W.Write.contents c.args.writer.now) (g.W.Write.contents c.write_output.new.writer) c.write_output.result
+    c.in_ok-bytes.ensures.all
+    (c.as_str.ensures.value ∙ c.in_ok-text.ensures.lossy ∙ ap (λ xs. utf8_lossy xs) c.deref.ensures.value)
+    (subst (λ o. Prints c.as_str.result.now o) (sym c.as_str-2.ensures.value) c.in_ok-output.ensures.printed)
+    c.write_output.ensures.written
