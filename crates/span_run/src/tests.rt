@@ -64,7 +64,7 @@ fn rows(rt: HostRuntime) -> Result<(), Fail> {
 }
 
 /// Scripts that are no scripts, and the first of their lines that is wrong.
-const WRONG: [(&[u8], u64); 46] = [
+const WRONG: [(&[u8], u64); 48] = [
     // What stands first.
     (b"", 1),
     (b"\n\n\n", 1),
@@ -86,6 +86,8 @@ const WRONG: [(&[u8], u64); 46] = [
     (b"stack plain\n\xff\nsummary", 2),
     (b"stack plain\n\nsummary\n\xff", 3),
     (b"stack plain\ncurrent 0\ncurrent \xc3", 3),
+    (b"stack plain\ncurrent \xe2\x82\ncurrent 0", 2),
+    (b"stack plain\nnew 0 2 p\nenter 0 \xc3\xa9", 3),
     // The word for what is asked.
     (b"stack plain\nnews 0 2 p", 2),
     (b"stack plain\nNew 0 2 p", 2),
