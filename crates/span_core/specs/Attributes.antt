@@ -29,4 +29,4 @@ explicit_parent (Explicit id) = Some id
 
 -- the values that are recorded
 abbrev pub recorded_values : Record → List (Bor (List ℕ) × FieldValue)
-recorded_values r = r.values.now
+recorded_values r = r.recorded.now

@@ -1,12 +1,12 @@
 //! What a callsite says of its spans or events.
-ghost use Rattle.std.specs.Prelude.{◌≡◌, ◌↔◌, IsTrue, length, Contains};
+ghost use Rattle.std.specs.Prelude.{◌≡◌, ◌↔◌, ◌==◌, IsTrue, length, Any};
 ghost use Rattle.span_core.specs.Metadata.{callsite_of, fields_of, kind_of, level_of, name_of, names_of, target_of};
 
 use crate::levels::Level;
 
 /// Whether a callsite makes spans or events.
 ///
-/// Stands for `tracing_core::Kind`.
+/// Stands for `tracing_core::Kind`, which can be a hint too.
 #[derive(Clone, Copy, Debug, PartialEq, Eq, Hash)]
 pub struct Kind(Makes);
 
@@ -26,7 +26,7 @@ impl Kind {
 
 /// The names of a callsite's fields.
 ///
-/// Stands for `tracing_core::field::FieldSet`.
+/// Stands for `tracing_core::field::FieldSet`, whose fields belong to a callsite.
 #[derive(Clone, Copy, Debug, PartialEq, Eq)]
 pub struct FieldSet {
     names: &'static [&'static str],
@@ -52,6 +52,20 @@ impl FieldSet {
         ensures { result ≡ length (names_of self.now) }
     {
         self.names.len()
+    }
+
+    /// There is no name.
+    pub fn is_empty(&self) -> bool
+        ensures { result ≡ (length (names_of self.now) == 0) }
+    {
+        self.names.is_empty()
+    }
+
+    /// The name is among them.
+    pub fn contains(&self, name: &str) -> bool
+        ensures { IsTrue result ↔ Any (λ given. given.now ≡ name.now) (names_of self.now) }
+    {
+        self.names.iter().any(|given| *given == name)
     }
 }
 
@@ -109,10 +123,45 @@ impl Metadata {
         self.name
     }
 
+    /// The part of the program that the callsite stands in.
+    pub fn target(&self) -> &'static str
+        ensures { result.now ≡ target_of self.now }
+    {
+        self.target
+    }
+
     /// The level.
     pub fn level(&self) -> Level
         ensures { result ≡ level_of self.now }
     {
         self.level
+    }
+
+    /// Whether the callsite makes spans or events.
+    pub fn kind(&self) -> Kind
+        ensures { result ≡ kind_of self.now }
+    {
+        self.kind
+    }
+
+    /// The names of the fields.
+    pub fn fields(&self) -> FieldSet
+        ensures { result ≡ fields_of self.now }
+    {
+        self.fields
+    }
+
+    /// The callsite makes spans.
+    pub fn is_span(&self) -> bool
+        ensures { IsTrue result ↔ (kind_of self.now ≡ Kind.SPAN) }
+    {
+        self.kind == Kind::SPAN
+    }
+
+    /// The callsite makes events.
+    pub fn is_event(&self) -> bool
+        ensures { IsTrue result ↔ (kind_of self.now ≡ Kind.EVENT) }
+    {
+        self.kind == Kind::EVENT
     }
 }

@@ -31,12 +31,14 @@ impl Id {
 }
 
 /// The number of a lane: a stack of entered spans, as one thread has it.
+///
+/// Own to this port: in the crate the thread itself is the lane.
 #[derive(Clone, Copy, Debug, PartialEq, Eq, PartialOrd, Ord, Hash)]
 pub struct Lane(pub u32);
 
 /// The span that a lane is in, with its metadata, if it is in one.
 ///
-/// Stands for `tracing_core::span::Current`.
+/// Stands for `tracing_core::span::Current`, which can be unknown too.
 #[derive(Clone, Copy, Debug, PartialEq, Eq)]
 pub struct Current {
     span: Option<(Id, Metadata)>,

@@ -1,5 +1,8 @@
-//! Levels of verbosity.
+//! Levels of verbosity, and filters by level.
 ghost use Rattle.std.specs.Prelude.{◌≡◌};
+ghost use Rattle.span_core.specs.Level.{filter_number, level_number, passes_level};
+
+use std::fmt;
 
 /// A level of verbosity, from `ERROR`, the least verbose, to `TRACE`. Levels are ordered by verbosity.
 ///
@@ -31,4 +34,54 @@ impl Level {
 
     /// Of use to who traces, and verbose.
     pub const TRACE: Level = Level(Verbosity::Trace);
+}
+
+/// Passes the levels up to one, or none of them. Filters are ordered by how much they pass, `OFF` first.
+///
+/// Stands for `tracing_core::LevelFilter`, which a level is compared with: here `passes` is asked.
+#[derive(Clone, Copy, PartialEq, Eq, PartialOrd, Ord, Hash)]
+pub struct LevelFilter(Option<Level>);
+
+impl LevelFilter {
+    /// No level passes.
+    pub const OFF: LevelFilter = LevelFilter(None);
+
+    /// Only errors pass.
+    pub const ERROR: LevelFilter = LevelFilter(Some(Level::ERROR));
+
+    /// Levels up to warnings pass.
+    pub const WARN: LevelFilter = LevelFilter(Some(Level::WARN));
+
+    /// Levels up to what is useful pass.
+    pub const INFO: LevelFilter = LevelFilter(Some(Level::INFO));
+
+    /// Levels up to debugging pass.
+    pub const DEBUG: LevelFilter = LevelFilter(Some(Level::DEBUG));
+
+    /// Each level passes.
+    pub const TRACE: LevelFilter = LevelFilter(Some(Level::TRACE));
+
+    /// The level is at most the filter's.
+    pub fn passes(&self, level: Level) -> bool
+        ensures { result ≡ passes_level self.now level }
+    {
+        match self.0 {
+            Some(most) => level <= most,
+            None => false,
+        }
+    }
+}
+
+impl fmt::Debug for LevelFilter {
+    fn fmt<W: fmt::Write>(&self, f: &mut fmt::Formatter<W>) -> fmt::Result {
+        let name = match self.0 {
+            None => "OFF",
+            Some(Level(Verbosity::Error)) => "ERROR",
+            Some(Level(Verbosity::Warn)) => "WARN",
+            Some(Level(Verbosity::Info)) => "INFO",
+            Some(Level(Verbosity::Debug)) => "DEBUG",
+            Some(Level(Verbosity::Trace)) => "TRACE",
+        };
+        write!(f, "LevelFilter::{name}")
+    }
 }

@@ -2,13 +2,26 @@
 #![tactic(auto)]
 
 mod callsites;
+mod events;
+mod filters;
 mod ids;
+mod interests;
+pub mod laws;
 mod levels;
+mod numbers;
+mod passes;
 mod records;
 mod refusals;
 
 pub use callsites::{FieldSet, Kind, Metadata};
+pub use events::Event;
+pub use filters::{FilterId, FilterMap};
 pub use ids::{Current, Id, Lane};
-pub use levels::Level;
+pub use interests::Interest;
+pub use levels::{Level, LevelFilter};
+pub use passes::Pass;
 pub use records::{Attributes, FieldValue, Parent, Record};
-pub use refusals::TraceError;
+pub use refusals::{Rejected, TraceError};
+
+#[cfg(test)]
+mod tests;

@@ -1,12 +1,13 @@
 //! What a new span is made of, and what is recorded of it later.
 ghost use Rattle.std.specs.Prelude.{◌≡◌, ◌↔◌, IsTrue};
-ghost use Rattle.span_core.specs.Attributes.{asked_parent, explicit_parent, metadata_of, values_of};
-ghost use Rattle.span_core.specs.Attributes as attributes;
+ghost use Rattle.span_core.specs.Attributes.{asked_parent, explicit_parent, metadata_of, recorded_values, values_of};
 
 use crate::callsites::Metadata;
 use crate::ids::Id;
 
 /// The value of a field.
+///
+/// Stands for `tracing_core::field::Value`, which a visitor reads.
 #[derive(Clone, Copy, Debug, PartialEq)]
 pub enum FieldValue<'a> {
     U64(u64),
@@ -16,6 +17,8 @@ pub enum FieldValue<'a> {
 }
 
 /// Which parent a new span or an event asks for.
+///
+/// Stands for `tracing_core`'s private `Parent`.
 #[derive(Clone, Copy, Debug, PartialEq, Eq)]
 pub enum Parent {
     /// None: it is a root.
@@ -28,7 +31,7 @@ pub enum Parent {
 
 /// What a new span is made of: metadata, values by the names of its fields, and the parent that it asks for.
 ///
-/// Stands for `tracing_core::span::Attributes`.
+/// Stands for `tracing_core::span::Attributes`, with values in a slice in place of a `ValueSet`.
 #[derive(Clone, Copy, Debug)]
 pub struct Attributes<'a> {
     metadata: Metadata,
@@ -124,24 +127,24 @@ impl<'a> Attributes<'a> {
 
 /// Values recorded of a span after it was made.
 ///
-/// Stands for `tracing_core::span::Record`.
+/// Stands for `tracing_core::span::Record`, with values in a slice in place of a `ValueSet`.
 #[derive(Clone, Copy, Debug)]
 pub struct Record<'a> {
-    values: &'a [(&'static str, FieldValue<'a>)],
+    recorded: &'a [(&'static str, FieldValue<'a>)],
 }
 
 impl<'a> Record<'a> {
     /// These values.
     pub fn new(values: &'a [(&'static str, FieldValue<'a>)]) -> Record<'a>
-        ensures { attributes.recorded_values result ≡ values.now }
+        ensures { recorded_values result ≡ values.now }
     {
-        Record { values }
+        Record { recorded: values }
     }
 
     /// The values, by the names of the fields.
     pub fn values(&self) -> &'a [(&'static str, FieldValue<'a>)]
-        ensures { result.now ≡ attributes.recorded_values self.now }
+        ensures { result.now ≡ recorded_values self.now }
     {
-        self.values
+        self.recorded
     }
 }

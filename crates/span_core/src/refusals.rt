@@ -1,11 +1,16 @@
 //! Why a call is refused.
 ghost use Rattle.std.specs.Prelude.{◌≡◌};
 ghost use Rattle.span_core.specs.Refusal.{refusal_number};
+ghost use Rattle.span_core.specs.declared.refusals.TraceError.TheVariants.{OutOfMemory};
 
 use crate::ids::Id;
+use std::alloc::{AllocError, AllocFailed};
 use thiserror::Error;
 
 /// Why a call is refused. The store, the stacks and what else the call was to change are as before.
+/// Its text carries no id.
+///
+/// Own to this port: the crate panics there, or answers nothing.
 #[derive(Clone, Copy, Debug, PartialEq, Eq, Error)]
 pub enum TraceError {
     /// The span isn't open.
@@ -54,4 +59,31 @@ impl TraceError {
             TraceError::OutOfMemory => 9,
         }
     }
+}
+
+impl From<AllocError> for TraceError {
+    ghost from_gives = { λ _ e. e ≡ OutOfMemory };
+
+    fn from(_error: AllocError) -> TraceError {
+        TraceError::OutOfMemory
+    }
+}
+
+impl<T: Drop> From<AllocFailed<T>> for TraceError {
+    ghost from_gives = { λ _ e. e ≡ OutOfMemory };
+
+    fn from(_error: AllocFailed<T>) -> TraceError {
+        TraceError::OutOfMemory
+    }
+}
+
+/// What a refused call was handed, with the reason why it was refused.
+///
+/// Own to this port: the crate panics there.
+#[derive(Debug, PartialEq, Eq, Drop)]
+pub struct Rejected<T> {
+    /// What was handed in.
+    pub value: T,
+    /// Why the call was refused.
+    pub error: TraceError,
 }

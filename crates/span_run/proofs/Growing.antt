@@ -17,7 +17,8 @@ pub IsScript-empty : (s : Script) → lines_of s ≡ [] → requests_of s ≡ []
 IsScript-empty s no_lines no_requests no_labels = record {
   asked = subst (λ (ls : List Line). AskFor ls (requests_of s)) (sym no_lines) (subst (λ (rs : List Request). AskFor [] rs) (sym no_requests) nothing);
   found = λ label. rw no_labels tt;
-  kept = λ place. rw no_lines tt }
+  kept = λ place. rw no_lines tt;
+}
 
 pub IfSome-map : {X : Type 0} (o : Option X) (P Q : X → Type 0) → IfSome o P → ((x : X) → P x → Q x) → IfSome o Q
 IfSome-map None P Q p h = tt
@@ -70,28 +71,29 @@ label-free old new None was d = tt
 label-free old new (Some label) was d = λ place.
     IfSome-map (slice_get (lines_of old) place) (λ l. IfSome (declared_label l) (λ other. IsSome (place_of old other))) _ (was.kept place)
     (λ l k e. let has : IsSome (place_of old label) = subst (λ (x : Option (List ℕ)). IfSome x (λ other. IsSome (place_of old other))) e k in
-        let lacks : IsSome {T = ℕ} None = subst (λ (x : Option ℕ). IsSome x) d.0 has in absurd (search rules))
+    let lacks : IsSome {T = ℕ} None = subst (λ (x : Option ℕ). IsSome x) d.0 has in absurd (search rules))
 
 -- a script with one line more, and the request that it asks for
 pub IsScript-add : (old mid new : Script) (l : Line) (r : Request) → IsScript old → Asks (lines_of old) l r → Declares old l mid
     → lines_of new ≡ lines_of old ++ l ∷ [] → requests_of new ≡ requests_of old ++ r ∷ [] → new.labels ≡ mid.labels → IsScript new
 IsScript-add old mid new l r was asks declares lines requests labels =
     let d : AddsPlace old (declared_label l) new = subst (λ (m : _). MatchOption (declared_label l) (m ≡ old.labels) (λ label. (place_of old label ≡ None)
-        × ((other : List ℕ) → tree.get_by (λ k. slice_cmp nat_cmp other k.now) m ≡ update bytes_eq (place_of old) label (Some (length (lines_of old))) other)))
-        (sym labels) declares in
+    × ((other : List ℕ) → tree.get_by (λ k. slice_cmp nat_cmp other k.now) m ≡ update bytes_eq (place_of old) label (Some (length (lines_of old))) other)))
+    (sym labels) declares in
     record {
       asked = subst (λ (ls : List Line). AskFor ls (requests_of new)) (sym lines) (subst (λ (rs : List Request). AskFor (lines_of old ++ l ∷ []) rs) (sym requests)
           (more l r was.asked asks (label-free old new (declared_label l) was d)));
       found = λ label. subst (λ (ls : List Line). IfSome (place_of new label) (λ place. DeclaresAt ls place label)) (sym lines)
           (place-after old new (declared_label l) d label (λ x. IfSome x (λ place. DeclaresAt (lines_of old ++ l ∷ []) place label))
-              (IfSome-map (place_of old label) (λ place. DeclaresAt (lines_of old) place label) _ (was.found label) (λ place h. DeclaresAt-append (lines_of old) (l ∷ []) place label h))
-              (λ added e same. DeclaresAt-last (lines_of old) l label (e ∙ ap (λ x. Some x) same)));
+          (IfSome-map (place_of old label) (λ place. DeclaresAt (lines_of old) place label) _ (was.found label) (λ place h. DeclaresAt-append (lines_of old) (l ∷ []) place label h))
+          (λ added e same. DeclaresAt-last (lines_of old) l label (e ∙ ap (λ x. Some x) same)));
       kept = λ place. subst (λ (ls : List Line). IfSome (slice_get ls place) (λ l. IfSome (declared_label l) (λ label. IsSome (place_of new label)))) (sym lines)
           (slice_get-grown (lines_of old) l place (λ l. IfSome (declared_label l) (λ label. IsSome (place_of new label)))
-              (IfSome-map (slice_get (lines_of old) place) (λ l. IfSome (declared_label l) (λ label. IsSome (place_of old label))) _ (was.kept place)
-                  (λ other h. IfSome-map (declared_label other) (λ label. IsSome (place_of old label)) _ h
-                      (λ label g. place-after old new (declared_label l) d label (λ x. IsSome x) g (λ added e same. search rules))))
-              (place-added old new (declared_label l) d)) }
+          (IfSome-map (slice_get (lines_of old) place) (λ l. IfSome (declared_label l) (λ label. IsSome (place_of old label))) _ (was.kept place)
+          (λ other h. IfSome-map (declared_label other) (λ label. IsSome (place_of old label)) _ h
+          (λ label g. place-after old new (declared_label l) d label (λ x. IsSome x) g (λ added e same. search rules))))
+          (place-added old new (declared_label l) d));
+    }
 
 -- two facts on what is there
 pub both-known : {X : Type 0} (o : Option X) (P Q : X → Type 0) → IfSome o P → IsSomeAnd o Q → (x : X) × (P x × Q x)

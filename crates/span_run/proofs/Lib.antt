@@ -1,3 +1,5 @@
-pub mod Growing
-pub mod Naming
-pub mod Wrong
+mod Growing
+mod Hears
+mod Naming
+mod Served
+mod Wrong

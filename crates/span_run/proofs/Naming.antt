@@ -61,9 +61,11 @@ AreNames-all lines answers i names end all number = MatchOption-map (tree.get na
 pub AreNames-past : (lines : List Line) (answers : List Answer) (i : ℕ) (names : BTreeMap ℕ (Bor (List ℕ))) (l : Line) → slice_get lines i ≡ Some l
     → AreNames lines answers i names → ((number : ℕ) (label : List ℕ) → ¬ (IsNamed l (slice_get answers i) number label)) → AreNames lines answers (i + 1) names
 AreNames-past lines answers i names l here before nobody = λ number. MatchOption-map (tree.get nat_cmp names number) _ _ _ (before number)
-    (λ none place label low h. elim (dec_lt place i) [ yes less ↦ none place label less h
-        | no not ↦ (let e : place ≡ i = omega arith in
-            nobody number label (at-known lines i l (λ l. IsNamed l (slice_get answers i) number label) here (subst (λ k. IsNamedAt lines answers k number label) e h))) ])
+    (λ none place label low h. elim (dec_lt place i) [
+      | yes less ↦ none place label less h
+      | no not ↦ (let e : place ≡ i = omega arith in
+          nobody number label (at-known lines i l (λ l. IsNamed l (slice_get answers i) number label) here (subst (λ k. IsNamedAt lines answers k number label) e h)))
+    ])
 
 -- one place more, at which a span is named
 pub AreNames-named : (lines : List Line) (answers : List Answer) (i : ℕ) (names new : BTreeMap ℕ (Bor (List ℕ))) (l : Line) (n : ℕ) (label : Bor (List ℕ))
@@ -72,18 +74,21 @@ pub AreNames-named : (lines : List Line) (answers : List Answer) (i : ℕ) (name
     → AreNames lines answers (i + 1) new
 AreNames-named lines answers i names new l n label here before named updates = λ number.
     subst (λ (o : Option (Bor (List ℕ))). MatchOption o ((place : ℕ) (label : List ℕ) → place < i + 1 → ¬ (IsNamedAt lines answers place number label))
-        (λ label. (place : ℕ) × IsNamedAt lines answers place number label.now)) (sym (updates number))
-        (step number (is_eq (nat_cmp n number)) refl)
+    (λ label. (place : ℕ) × IsNamedAt lines answers place number label.now)) (sym (updates number))
+    (step number (is_eq (nat_cmp n number)) refl)
   where
     there : IsNamedAt lines answers i n label.now
     there = subst (λ (o : Option Line). IsSomeAnd o (λ l. IsNamed l (slice_get answers i) n label.now)) (sym here) named
+
     step : (number : ℕ) (b : Bool) → is_eq (nat_cmp n number) ≡ b → MatchOption (cond b (Some label) (tree.get nat_cmp names number))
         ((place : ℕ) (label : List ℕ) → place < i + 1 → ¬ (IsNamedAt lines answers place number label))
         (λ label. (place : ℕ) × IsNamedAt lines answers place number label.now)
     step number true e = let same : n ≡ number = nat_same n number e in (i, subst (λ k. IsNamedAt lines answers i k label.now) same there)
     step number false e = MatchOption-map (tree.get nat_cmp names number) _ _ _ (before number)
-        (λ none place other low h. elim (dec_lt place i) [ yes less ↦ none place other less h
-            | no not ↦ (let at : place ≡ i = omega arith in
-                let now : IsNamed l (slice_get answers i) number other = at-known lines i l (λ l. IsNamed l (slice_get answers i) number other) here (subst (λ k. IsNamedAt lines answers k number other) at h) in
-                let same : n ≡ number = IsNamed-one l (slice_get answers i) n number label.now other named now in
-                let t : is_eq (nat_cmp n number) ≡ true = rw same (search rules) in absurd (true_not_false (sym t ∙ e))) ])
+        (λ none place other low h. elim (dec_lt place i) [
+          | yes less ↦ none place other less h
+          | no not ↦ (let at : place ≡ i = omega arith in
+              let now : IsNamed l (slice_get answers i) number other = at-known lines i l (λ l. IsNamed l (slice_get answers i) number other) here (subst (λ k. IsNamedAt lines answers k number other) at h) in
+              let same : n ≡ number = IsNamed-one l (slice_get answers i) n number label.now other named now in
+              let t : is_eq (nat_cmp n number) ≡ true = rw same (search rules) in absurd (true_not_false (sym t ∙ e)))
+        ])

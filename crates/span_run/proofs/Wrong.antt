@@ -23,11 +23,18 @@ pub fault-at : (text : List ℕ) (texts : List (Bor (List ℕ))) (place : ℕ) (
     → (f ≡ Memory) ⊎ ((f ≡ Line (place + 1)) × IsTrue (is_full (get_or texts place d).now) × IsWrongAfter (lines_in script) (cut 32 (get_or texts place d).now))
     → IsScriptFault text f
 fault-at text texts place d script f cuts within is spelled (inl e) = subst (λ f. IsScriptFault text f) (sym e) tt
-fault-at text texts place d script f cuts within is spelled (inr w) = subst (λ f. IsScriptFault text f) (sym w.0) (inr (place, (refl, record {
+fault-at text texts place d script f cuts within is spelled (inr w) = subst (λ f. IsScriptFault text f) (sym w.0) (inr (
+  place,
+  (
+    refl,
+    record {
       before = lines_in script;
       asked = asked-of script is;
       spelled = spelled ∙ ap (λ ts. words_of_texts ts) (sym (take-map (λ t. t.now) place texts) ∙ ap (λ ts. take place ts) cuts);
-      wrong = subst (λ o. IsSomeAnd o (λ t. IsTrue (is_full t) × IsWrongAfter (lines_in script) (cut 32 t))) here (w.1, w.2) })))
+      wrong = subst (λ o. IsSomeAnd o (λ t. IsTrue (is_full t) × IsWrongAfter (lines_in script) (cut 32 t))) here (w.1, w.2);
+    },
+  ),
+))
   where
     here : Some (get_or texts place d).now ≡ slice_get (cut 10 text) place
     here = sym (ap (λ xs. slice_get xs place) (sym cuts) ∙ slice_get-map (λ t. t.now) texts place ∙ ap (λ o. option_map (λ t. t.now) o) (slice_get-get_or texts place d within))
@@ -41,8 +48,11 @@ pub no-line : (text : List ℕ) (texts : List (Bor (List ℕ))) (place : ℕ) (s
     → r ≡ ok_or script (Line 1) → map (λ t. t.now) texts ≡ cut 10 text → length texts ≤ place
     → words_in (lines_in script) ≡ words_of_texts (map (λ t. t.now) (take place texts))
     → IfErr r (IsScriptFault text)
-no-line text texts place None r e cuts end spelled = subst (λ r. IfErr r (IsScriptFault text)) (sym e) (inl (refl, nil-of-map (cut 32) (filter is_full (cut 10 text))
-    (spelled ∙ ap (λ ts. words_of_texts ts) (ap (λ ts. map (λ t. t.now) ts) all ∙ cuts))))
+no-line text texts place None r e cuts end spelled = subst (λ r. IfErr r (IsScriptFault text)) (sym e) (inl (
+  refl,
+  nil-of-map (cut 32) (filter is_full (cut 10 text))
+      (spelled ∙ ap (λ ts. words_of_texts ts) (ap (λ ts. map (λ t. t.now) ts) all ∙ cuts)),
+))
   where
     all : take place texts ≡ texts
     all = take_all place texts end

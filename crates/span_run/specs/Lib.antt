@@ -1,7 +1,9 @@
 pub mod Fault
 pub mod Label
 pub mod Line
+pub mod Notices
 pub mod Printed
 pub mod Program
+pub mod Run
 pub mod Script
 pub mod Site

@@ -4,12 +4,13 @@
 mod faults;
 mod lines;
 mod plain;
+mod recorder;
 mod replies;
 mod requests;
 mod run;
 mod script;
+mod serve;
 mod sites;
-
 #[cfg(test)]
 mod tests;
 

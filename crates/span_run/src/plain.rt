@@ -1,217 +1,164 @@
-//! One recorder over a registry.
+//! A registry with one recorder: it serves lists of requests until layers and the dispatcher do.
+ghost use Rattle.std.specs.Prelude.{◌≡◌, ◌∷◌, [], ◌↔◌, List, ℕ, OnOk, OnErr, IfOk, IfErr, IfSome, IsTrue, Some, None};
+ghost use Rattle.std.specs.FinMap as map;
+ghost use Rattle.std.specs.Option.{IsSomeAnd, option_map};
+ghost use Rattle.span_core.specs.Attributes.{asked_parent, metadata_of};
+ghost use Rattle.span_core.specs.Current.{current_span};
+ghost use Rattle.span_core.specs.Id.{number_of};
+ghost use Rattle.span_registry.specs.Closes.{AreUnheld, IsSettledBut, Member};
+ghost use Rattle.span_registry.specs.Step.{Drops, IsCurrent, RefusesEnter, RefusesNew, RefusesRelease, TakesOut, entered, left};
+ghost use Rattle.span_registry.specs.Store.{IsClosing, IsForest, IsHeld, IsOpen, new_registry};
+ghost use Rattle.span_run.specs.Notices.{Hears, IsDueAtExit, closes_of, new_recorder};
+ghost use Rattle.span_run.specs.Run.{OpensUnfiltered};
+ghost use Rattle.span_run.specs.declared.requests.Notice.{Notice};
 
-use crate::requests::{Answer, Notice, Request, Which, WhichParent};
-use span_core::{Id, Lane, TraceError};
+use crate::recorder::Recorder;
+use crate::requests::Notice;
+use span_core::{Attributes, Current, Id, Lane, Pass, Record, TraceError};
+use span_registry::{Limits, Registry, Released};
 use std::alloc::Global;
+use std::marker::Model;
 
-/// What is kept of a span that is open.
-#[derive(Clone, Copy)]
-struct Span {
-    id: Id,
-    parent: Option<Id>,
-    handles: u32,
-    children: u32,
-}
-
-/// A stand-in without proofs.
+/// A registry and the one recorder that is told of all that is done to it.
 #[derive(Drop)]
 pub struct Plain {
-    spans: Vec<Span>,
-    issued: u64,
-    entered: Vec<(Lane, Id)>,
-    notices: Vec<Notice>,
-    failed: bool,
+    registry: Registry,
+    recorder: Recorder,
+}
+
+impl Model for Plain {
+    ghost use Rattle.span_registry.specs.Closes.{IsSettled};
+    ghost use Rattle.span_run.specs.Notices.{Watched, watched_code};
+
+    ghost Value = { Watched };
+
+    ghost coded = { watched_code };
+
+    ghost view = { λ a. record { registry = a.registry; recorder = a.recorder } };
+
+    ghost invariant = { λ a. IsSettled a.registry.store.spans };
 }
 
 impl Plain {
-    pub fn new(alloc: Global) -> Plain {
+    /// An empty registry, and a recorder that was told nothing yet.
+    pub fn new(alloc: Global) -> Self
+        ensures registry { result.registry ≡ new_registry Limits.MAX }
+        ensures recorder { result.recorder ≡ new_recorder }
+    {
         Plain {
-            spans: Vec::new(alloc),
-            issued: 0,
-            entered: Vec::new(alloc),
-            notices: Vec::new(alloc),
-            failed: false,
+            registry: Registry::new(alloc),
+            recorder: Recorder::new(alloc),
         }
     }
 
-    pub fn notices(&self) -> &[Notice] {
-        &self.notices
+    /// What the recorder keeps, in the order in which it was told.
+    pub fn notices(&self) -> &[Notice]
+        ensures { result.now ≡ self.now.recorder.notices }
+    {
+        self.recorder.notices()
     }
 
-    pub fn failed(&self) -> bool {
-        self.failed
+    /// The recorder found no memory for a notice, and has kept nothing since.
+    pub fn failed(&self) -> bool
+        ensures { result ≡ self.now.recorder.failed }
+    {
+        self.recorder.failed()
     }
 
-    pub fn serve(
+    /// Opens a span. No filter drops it.
+    pub fn new_span(
         &mut self,
-        alloc: Global,
-        requests: &[Request],
-    ) -> Result<Vec<Answer>, TraceError> {
-        let mut answers = match Vec::with_capacity(alloc, requests.len()) {
-            Ok(answers) => answers,
-            Err(_) => return Err(TraceError::OutOfMemory),
-        };
-        for request in requests {
-            let answer = match self.serve_one(&answers, *request) {
-                Ok(answer) => answer,
-                Err(error) => Answer::Refused(error),
-            };
-            if answers.push(answer).is_err() {
-                return Err(TraceError::OutOfMemory);
-            }
-        }
-        Ok(answers)
+        lane: Lane,
+        attributes: &Attributes<'_>,
+    ) -> Result<Option<Id>, TraceError>
+        ensures opened { IfOk result (λ made. IsSomeAnd made (λ id. OpensUnfiltered self.old.registry lane (metadata_of attributes.now) (asked_parent attributes.now) id self.new.registry)) }
+        ensures heard { IfOk result (λ made. IsSomeAnd made (λ id. Hears self.old.recorder self.new.recorder (Notice.New lane id ∷ []))) }
+        ensures refused { IfErr result (λ e. RefusesNew self.old.registry lane.0 (asked_parent attributes.now) e) }
+        ensures unchanged { OnErr result (self.new ≡ self.old) }
+    {
+        let id = self.registry.new_span(lane, attributes, &Pass::new())?;
+        self.recorder.hear(Notice::New(lane, id));
+        Ok(Some(id))
     }
 
-    fn tell(&mut self, notice: Notice) {
-        if !self.failed && self.notices.push(notice).is_err() {
-            self.failed = true;
-        }
+    /// Enters a span.
+    pub fn enter(&mut self, lane: Lane, id: Id) -> Result<(), TraceError>
+        ensures open { OnOk result (IsOpen self.old.registry.store.spans (number_of id)) }
+        ensures entered { OnOk result (self.new.registry ≡ record self.old.registry { store = entered self.old.registry.store lane.0 (number_of id) }) }
+        ensures heard { OnOk result (Hears self.old.recorder self.new.recorder (Notice.Enter lane id ∷ [])) }
+        ensures refused { IfErr result (λ e. RefusesEnter self.old.registry.store.spans id e) }
+        ensures unchanged { OnErr result (self.new ≡ self.old) }
+    {
+        self.registry.enter(lane, id)?;
+        self.recorder.hear(Notice::Enter(lane, id));
+        Ok(())
     }
 
-    fn place(&self, id: Id) -> Option<usize> {
-        // New spans stand last, and are the ones most often asked for.
-        self.spans.iter().rposition(|span| span.id == id)
+    /// Leaves a span. The recorder is told if the span is open.
+    pub fn exit(&mut self, lane: Lane, id: Id)
+        ensures left { self.new.registry ≡ record self.old.registry { store = left self.old.registry.store lane.0 (number_of id) } }
+        ensures heard { (due : List Notice) × IsDueAtExit self.old.registry.store.spans lane id due × Hears self.old.recorder self.new.recorder due }
+    {
+        if self.registry.is_open(id) {
+            self.registry.exit(lane, id);
+            self.recorder.hear(Notice::Exit(lane, id));
+            return;
+        }
+        self.registry.exit(lane, id);
     }
 
-    fn current(&self, lane: Lane) -> Option<Id> {
-        let mut newest: Option<Id> = None;
-        let count = self.entered.len();
-        for at in (0..count).rev() {
-            let (other, id) = self.entered[at];
-            let first = !self.entered[..at].contains(&(lane, id));
-            if other == lane && first {
-                newest = Some(id);
-                break;
-            }
+    /// Tells the recorder that values of a span were recorded.
+    pub fn record(&mut self, lane: Lane, id: Id, _values: &Record<'_>) -> Result<(), TraceError>
+        ensures open { OnOk result (IsOpen self.old.registry.store.spans (number_of id)) }
+        ensures same { OnOk result (self.new.registry ≡ self.old.registry) }
+        ensures heard { OnOk result (Hears self.old.recorder self.new.recorder (Notice.Record lane id ∷ [])) }
+        ensures unknown { IfErr result (λ e. e ≡ TraceError.UnknownSpan id) }
+        ensures gone { OnErr result (IsOpen self.old.registry.store.spans (number_of id) → ⊥) }
+        ensures unchanged { OnErr result (self.new ≡ self.old) }
+    {
+        if !self.registry.is_open(id) {
+            return Err(TraceError::UnknownSpan(id));
         }
-        let id = newest?;
-        match self.place(id) {
-            Some(_) => Some(id),
-            None => None,
-        }
+        self.recorder.hear(Notice::Record(lane, id));
+        Ok(())
     }
 
-    fn count_child(&mut self, parent: Id) {
-        if let Some(span) = self.spans.iter_mut().rev().find(|span| span.id == parent) {
-            span.children = span.children.wrapping_add(1);
-        }
+    /// The span that a lane is in.
+    pub fn current_span(&self, lane: Lane) -> Current
+        ensures span { IsCurrent self.now.registry.store lane.0 (option_map (λ s. number_of s.0) (current_span result)) }
+        ensures metadata { IfSome (current_span result) (λ s. option_map (λ r. r.metadata) (map.get self.now.registry.store.spans (number_of s.0)) ≡ Some s.1) }
+    {
+        self.registry.current_span(lane)
     }
 
-    fn release(&mut self, id: Id) -> Result<bool, TraceError> {
-        match self.spans.iter_mut().rev().find(|span| span.id == id) {
-            None => Err(TraceError::UnknownSpan(id)),
-            Some(span) => {
-                if span.handles == 0 {
-                    return Err(TraceError::NoHandle(id));
-                }
-                span.handles -= 1;
-                Ok(span.handles == 0 && span.children == 0)
+    /// Takes a handle away, and takes out what closes by that. Answers whether the span closed.
+    pub fn drop_span(&mut self, lane: Lane, id: Id) -> Result<bool, TraceError>
+        ensures dropped { IfOk result (λ closes. (closed : List ℕ) × Drops self.old.registry (number_of id) closed self.new.registry × Hears self.old.recorder self.new.recorder (closes_of lane closed) × (IsTrue closes ↔ Member (number_of id) closed)) }
+        ensures held { OnOk result (IsHeld self.old.registry.store.spans (number_of id)) }
+        ensures refused { IfErr result (λ e. RefusesRelease self.old.registry.store.spans id e) }
+        ensures unchanged { OnErr result (self.new ≡ self.old) }
+    {
+        match self.registry.release(id)? {
+            Released::StillOpen => Ok(false),
+            Released::Closing => {
+                close_all(&mut self.registry, &mut self.recorder, lane, id);
+                Ok(true)
             }
-        }
-    }
-
-    fn remove(&mut self, id: Id) -> Option<Id> {
-        let place = self.place(id)?;
-        if place >= self.spans.len() {
-            return None;
-        }
-        let above = self.spans.remove(place).parent?;
-        let span = self.spans.iter_mut().rev().find(|span| span.id == above)?;
-        span.children = span.children.wrapping_sub(1);
-        if span.handles == 0 && span.children == 0 { Some(above) } else { None }
-    }
-
-    fn serve_one(&mut self, past: &[Answer], request: Request) -> Result<Answer, TraceError> {
-        match request {
-            Request::NewSpan(lane, _, parent) => {
-                let above = match parent {
-                    WhichParent::Root => None,
-                    WhichParent::Contextual => self.current(lane),
-                    WhichParent::Explicit(which) => match span_of(past, which) {
-                        None => None,
-                        Some(id) if self.place(id).is_some() => Some(id),
-                        Some(id) => return Err(TraceError::UnknownParent(id)),
-                    },
-                };
-                let id = Id::from_u64(self.issued.wrapping_add(1));
-                let span = Span {
-                    id,
-                    parent: above,
-                    handles: 1,
-                    children: 0,
-                };
-                if self.spans.push(span).is_err() {
-                    return Err(TraceError::OutOfMemory);
-                }
-                self.issued = self.issued.wrapping_add(1);
-                if let Some(parent) = above {
-                    self.count_child(parent);
-                }
-                self.tell(Notice::New(lane, id));
-                Ok(Answer::Made(id))
-            }
-            Request::Enter(lane, which) => {
-                let Some(id) = span_of(past, which) else {
-                    return Ok(Answer::Dropped);
-                };
-                if self.place(id).is_none() {
-                    return Err(TraceError::UnknownSpan(id));
-                }
-                if self.entered.push((lane, id)).is_err() {
-                    return Err(TraceError::OutOfMemory);
-                }
-                self.tell(Notice::Enter(lane, id));
-                Ok(Answer::Done)
-            }
-            Request::Exit(lane, which) => {
-                let Some(id) = span_of(past, which) else {
-                    return Ok(Answer::Dropped);
-                };
-                if let Some(at) = self.entered.iter().rposition(|e| *e == (lane, id)) {
-                    self.entered.remove(at);
-                }
-                if self.place(id).is_some() {
-                    self.tell(Notice::Exit(lane, id));
-                }
-                Ok(Answer::Done)
-            }
-            Request::Record(lane, which) => {
-                let Some(id) = span_of(past, which) else {
-                    return Ok(Answer::Dropped);
-                };
-                if self.place(id).is_none() {
-                    return Err(TraceError::UnknownSpan(id));
-                }
-                self.tell(Notice::Record(lane, id));
-                Ok(Answer::Done)
-            }
-            Request::Drop(lane, which) => {
-                let Some(id) = span_of(past, which) else {
-                    return Ok(Answer::Dropped);
-                };
-                let closes = self.release(id)?;
-                let mut next = if closes { Some(id) } else { None };
-                for _ in 0..u64::MAX {
-                    let Some(id) = next else {
-                        break;
-                    };
-                    self.tell(Notice::Close(lane, id));
-                    next = self.remove(id);
-                }
-                Ok(Answer::Yes(closes))
-            }
-            Request::Current(lane) => Ok(Answer::Current(self.current(lane))),
         }
     }
 }
 
-fn span_of(past: &[Answer], which: Which) -> Option<Id> {
-    match which {
-        Which::Known(id) => Some(id),
-        Which::Made(place) => match past.get(place) {
-            Some(Answer::Made(id)) => Some(*id),
-            _ => None,
-        },
+/// Tells of a closing span and takes it out, and then the same of each parent that closes by that.
+fn close_all(registry: &mut Registry, recorder: &mut Recorder, lane: Lane, id: Id)
+    requires forest { IsForest registry.old.store.spans }
+    requires settled { IsSettledBut registry.old.store.spans (Some (number_of id)) }
+    requires closing { IsClosing registry.old.store.spans (number_of id) }
+    ensures closed { (xs : List ℕ) × AreUnheld registry.old.store.spans xs × TakesOut registry.old xs registry.new × Hears recorder.old recorder.new (closes_of lane xs) }
+    ensures settled { IsSettledBut registry.new.store.spans None }
+{
+    let mut next = Some(id);
+    while let Some(span) = next {
+        recorder.hear(Notice::Close(lane, span));
+        next = registry.remove(span);
     }
 }

@@ -19,11 +19,7 @@ struct Names<'a> {
 
 impl<'a> Names<'a> {
     /// The names that the lines give to the spans that these answers made.
-    fn new(
-        alloc: Global,
-        lines: &[Line<'a>],
-        answers: &[Answer],
-    ) -> Result<Names<'a>, AllocError>
+    fn new(alloc: Global, lines: &[Line<'a>], answers: &[Answer]) -> Result<Names<'a>, AllocError>
         ensures { IfOk result (λ names. HoldsNames lines.now answers.now names) }
     {
         let mut labels = BTreeMap::new(alloc);

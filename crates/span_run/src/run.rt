@@ -22,11 +22,7 @@ const CHUNK: usize = 8192;
 /// Reads a script, serves it, and writes its replies and notices.
 ///
 /// The whole script is read first. A fault of reading is `Io`, as is one of writing, and then a part may be written.
-pub fn run<R: Read, W: Write>(
-    alloc: Global,
-    reader: &mut R,
-    writer: &mut W,
-) -> Result<(), RunFault>
+pub fn run<R: Read, W: Write>(alloc: Global, reader: &mut R, writer: &mut W) -> Result<(), RunFault>
     ensures printed { OnOk result (IfSome (R.remaining reader.old) (λ bytes. (output : List ℕ)
         × (Prints (utf8_lossy bytes) output × Appends (W.contents writer.old) (W.contents writer.new) output))) }
     ensures wrong { IfErr result (λ fault. IsWrongLine fault

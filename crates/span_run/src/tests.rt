@@ -213,13 +213,22 @@ fn readers(rt: HostRuntime) -> Result<(), Fail> {
     broken.parts = [b"stack", b"plain\n"];
     broken.reads = 0;
     broken.fails = true;
-    assert_eq!(rt; run(rt.alloc(), &mut broken, &mut output), Err(RunFault::Io));
+    assert_eq!(rt;
+        run(rt.alloc(), &mut broken, &mut output),
+        Err(RunFault::Io)
+    );
     broken.reads = 4;
-    assert_eq!(rt; run(rt.alloc(), &mut broken, &mut output), Err(RunFault::Io));
+    assert_eq!(rt;
+        run(rt.alloc(), &mut broken, &mut output),
+        Err(RunFault::Io)
+    );
     assert_eq!(rt; broken.reads, 5);
 
     let mut endless = Endless { given: 0 };
-    assert_eq!(rt; run(rt.alloc(), &mut endless, &mut output), Err(RunFault::Io));
+    assert_eq!(rt;
+        run(rt.alloc(), &mut endless, &mut output),
+        Err(RunFault::Io)
+    );
     assert!(rt; endless.given < SCRIPT_LIMIT + 65_536);
     Ok(())
 }

@@ -20,11 +20,14 @@ returns-in_ok-insert-in-New-clause-labels c =
     let place : c.len.result ≡ length (lines_of c.args.self.now) = search rules in
     let new : Script = record { lines = c.args.self.now.lines; requests = c.args.self.now.requests; labels = c.insert.new.self } in
     let updates : (other : List ℕ) → place_of new other ≡ update bytes_eq (place_of c.args.self.now) c.in-New.label.now (Some c.len.result) other =
-        btree_map_updates_str c.in-New.label.now c.args.self.now.labels c.insert.new.self (Some c.len.result) c.in_ok-insert-in-New.ensures.updates in
+    btree_map_updates_str c.in-New.label.now c.args.self.now.labels c.insert.new.self (Some c.len.result) c.in_ok-insert-in-New.ensures.updates in
     subst (λ (l : Line). Declares c.args.self.now l new) (sym c.in-New.is) (free, rw place at updates)
 
 -- a label that has a place is taken
 pub returns-then-contains_key-clause-fault : goal.returns-then-contains_key-clause-fault
-returns-then-contains_key-clause-fault c = inr (refl, λ free.
-    taken c.args.self.now c.requires c.in-New.label.now (sym c.contains_key.ensures ∙ c.if-contains_key.true)
-        (subst (λ (l : Line). IfSome (declared_label l) (IsFree (lines_of c.args.self.now))) c.in-New.is free))
+returns-then-contains_key-clause-fault c = inr (
+  refl,
+  λ free.
+      taken c.args.self.now c.requires c.in-New.label.now (sym c.contains_key.ensures ∙ c.if-contains_key.true)
+      (subst (λ (l : Line). IfSome (declared_label l) (IsFree (lines_of c.args.self.now))) c.in-New.is free),
+)

@@ -7,9 +7,9 @@ use Rattle.span_run.proofs.script.Script.parse.Goals as goal
 pub returns-in_err-script-clause-fault : goal.returns-in_err-script-clause-fault
 returns-in_err-script-clause-fault c =
     let wrong : IsScriptFault c.args.text.now c.in_err-script.field-0.0 =
-        fault-at c.args.text.now c.deref-text-items.result.now c.loop-place.place _ c.loop-place.script c.in_err-script.field-0.0
-            (ap (λ ts. map (λ t. t.now) ts) c.deref-text-items.ensures.value ∙ c.in_ok-texts.ensures) c.loop-place-test.true
-            c.loop-place.invariant.0 c.loop-place.invariant.1 c.in_err-script.ensures.fault in
+    fault-at c.args.text.now c.deref-text-items.result.now c.loop-place.place _ c.loop-place.script c.in_err-script.field-0.0
+    (ap (λ ts. map (λ t. t.now) ts) c.deref-text-items.ensures.value ∙ c.in_ok-texts.ensures) c.loop-place-test.true
+    c.loop-place.invariant.0 c.loop-place.invariant.1 c.in_err-script.ensures.fault in
     search rules
 
 -- every text was read, and none is a first line

@@ -1,0 +1,3 @@
+pub mod FilterLemmas
+pub mod SameNumbers
+pub mod SomeBelow

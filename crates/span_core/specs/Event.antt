@@ -1,0 +1,19 @@
+-- What an event shows.
+use Rattle.std.specs.Prelude.{ℕ, List}
+use Rattle.std.specs.Borrow.{Bor}
+use Rattle.span_core.specs.declared.callsites.Metadata.{Metadata}
+use Rattle.span_core.specs.declared.events.Event.{Event}
+use Rattle.span_core.specs.declared.records.FieldValue.{FieldValue}
+use Rattle.span_core.specs.declared.records.Parent.{Parent}
+
+-- the metadata of an event
+abbrev pub event_metadata : Event → Metadata
+event_metadata e = e.metadata
+
+-- the values of an event, by the names of its fields
+abbrev pub event_values : Event → List (Bor (List ℕ) × FieldValue)
+event_values e = e.values.now
+
+-- the parent that an event asks for
+abbrev pub event_parent : Event → Parent
+event_parent e = e.parent

@@ -1,0 +1,272 @@
+//! Worked values, and each public call once.
+use crate::{
+    Attributes, Current, Event, FieldSet, FieldValue, FilterId, Id, Interest, Kind, Lane, Level,
+    LevelFilter, Metadata, Parent, Pass, Record, Rejected, TraceError, laws,
+};
+use std::alloc::{AllocError, Global};
+use std::fmt;
+use std::test::Fail;
+
+const FIELDS: [&str; 2] = ["user", "retries"];
+
+fn span_metadata() -> Metadata {
+    Metadata::new(
+        7,
+        "request",
+        "shop::web",
+        Level::INFO,
+        Kind::SPAN,
+        FieldSet::new(&FIELDS),
+    )
+}
+
+fn event_metadata() -> Metadata {
+    Metadata::new(
+        8,
+        "refused",
+        "shop::web",
+        Level::WARN,
+        Kind::EVENT,
+        FieldSet::new(&[]),
+    )
+}
+
+/// What `fmt::Binary` writes.
+#[derive(Drop)]
+struct InBinary<T>(T);
+
+impl<T: fmt::Binary> fmt::Display for InBinary<T> {
+    fn fmt<W: fmt::Write>(&self, f: &mut fmt::Formatter<W>) -> fmt::Result {
+        fmt::Binary::fmt(&self.0, f)
+    }
+}
+
+fn binary<T: fmt::Binary + Drop>(alloc: Global, value: T) -> Result<String, AllocError> {
+    let value = InBinary(value);
+    format!(in alloc; "{value}")
+}
+
+#[test]
+fn interests_are_summed(rt: HostRuntime) -> Result<(), Fail> {
+    let mut pass = Pass::new();
+    assert_eq!(rt; pass.take_interest(), None);
+    pass.add_interest(Interest::always());
+    pass.add_interest(Interest::always());
+    assert_eq!(rt; pass.take_interest(), Some(Interest::Always));
+    assert_eq!(rt; pass.take_interest(), None);
+    pass.add_interest(Interest::always());
+    pass.add_interest(Interest::never());
+    pass.add_interest(Interest::always());
+    assert_eq!(rt; pass.take_interest(), Some(Interest::Sometimes));
+    pass.add_interest(Interest::sometimes());
+    pass.clear_interest();
+    assert_eq!(rt; pass.take_interest(), None);
+    assert!(rt; Interest::Never.is_never() && !Interest::Always.is_never());
+    assert!(rt; Interest::Sometimes.is_sometimes() && !Interest::Never.is_sometimes());
+    assert!(rt; Interest::Always.is_always() && !Interest::Sometimes.is_always());
+    Ok(())
+}
+
+#[test]
+fn ids_of_filters_are_written(rt: HostRuntime) -> Result<(), Fail> {
+    let joined = FilterId::of(0).and(FilterId::of(3));
+    assert_eq!(rt;
+        format!(in rt.alloc(); "{joined:?}")?.as_str(),
+        "FilterId({0, 3})"
+    );
+    assert_eq!(rt; binary(rt.alloc(), joined)?.as_str(), "FilterId(1001)");
+    let none = FilterId::none();
+    assert_eq!(rt;
+        format!(in rt.alloc(); "{none:?}")?.as_str(),
+        "FilterId({})"
+    );
+    assert_eq!(rt; binary(rt.alloc(), none)?.as_str(), "FilterId(0)");
+    let unattached = FilterId::unattached();
+    assert_eq!(rt;
+        format!(in rt.alloc(); "{unattached:?}")?.as_str(),
+        "FilterId(DISABLED)"
+    );
+    assert_eq!(rt;
+        binary(rt.alloc(), unattached)?.as_str(),
+        "FilterId(DISABLED)"
+    );
+    Ok(())
+}
+
+#[test]
+fn maps_of_filters_are_written(rt: HostRuntime) -> Result<(), Fail> {
+    let mut pass = Pass::new();
+    pass.set(FilterId::of(0).and(FilterId::of(3)), false);
+    let map = pass.refused();
+    assert_eq!(rt;
+        format!(in rt.alloc(); "{map:?}")?.as_str(),
+        "FilterMap { disabled_by: {0, 3} }"
+    );
+    assert_eq!(rt;
+        binary(rt.alloc(), map)?.as_str(),
+        "FilterMap { bits: 1001 }"
+    );
+    Ok(())
+}
+
+#[test]
+fn filters_refuse(rt: HostRuntime) -> Result<(), Fail> {
+    let first = FilterId::of(0);
+    let last = FilterId::of(63);
+    let both = first.and(last);
+    assert!(rt; both.contains(0) && both.contains(63));
+    assert!(rt; !both.contains(1) && !both.contains(64));
+    assert!(rt; !both.is_unattached() && both.and(FilterId::unattached()).is_unattached());
+    assert_eq!(rt; FilterId::unattached().and(last), last);
+    let mut pass = Pass::new();
+    pass.set(both, false);
+    pass.set(first, true);
+    pass.set(FilterId::unattached(), false);
+    let map = pass.refused();
+    assert!(rt; map.is_enabled(first) && map.is_enabled(FilterId::none()));
+    assert!(rt; !map.is_enabled(last) && !map.is_enabled(both));
+    assert!(rt; !map.is_enabled(FilterId::unattached()));
+    Ok(())
+}
+
+#[test]
+fn levels_pass(rt: HostRuntime) -> Result<(), Fail> {
+    let levels = [
+        Level::ERROR,
+        Level::WARN,
+        Level::INFO,
+        Level::DEBUG,
+        Level::TRACE,
+    ];
+    let filters = [
+        (LevelFilter::OFF, 0, "LevelFilter::OFF"),
+        (LevelFilter::ERROR, 1, "LevelFilter::ERROR"),
+        (LevelFilter::WARN, 2, "LevelFilter::WARN"),
+        (LevelFilter::INFO, 3, "LevelFilter::INFO"),
+        (LevelFilter::DEBUG, 4, "LevelFilter::DEBUG"),
+        (LevelFilter::TRACE, 5, "LevelFilter::TRACE"),
+    ];
+    for (filter, passed, text) in filters {
+        assert_eq!(rt;
+            levels.iter().filter(|level| filter.passes(**level)).count(),
+            passed
+        );
+        assert_eq!(rt; format!(in rt.alloc(); "{filter:?}")?.as_str(), text);
+    }
+    assert!(rt; Level::ERROR < Level::WARN && Level::DEBUG < Level::TRACE);
+    assert!(rt; LevelFilter::OFF < LevelFilter::ERROR && LevelFilter::INFO < LevelFilter::DEBUG);
+    Ok(())
+}
+
+#[test]
+fn metadata_is_read_back(rt: HostRuntime) -> Result<(), Fail> {
+    let metadata = span_metadata();
+    assert_eq!(rt; metadata.callsite(), 7);
+    assert_eq!(rt; metadata.name(), "request");
+    assert_eq!(rt; metadata.target(), "shop::web");
+    assert_eq!(rt; metadata.level(), Level::INFO);
+    assert_eq!(rt; metadata.kind(), Kind::SPAN);
+    assert!(rt; metadata.is_span() && !metadata.is_event());
+    assert!(rt; event_metadata().is_event() && !event_metadata().is_span());
+    let fields = metadata.fields();
+    assert_eq!(rt; fields.names().len(), 2);
+    assert_eq!(rt; fields.len(), 2);
+    assert!(rt; !fields.is_empty() && event_metadata().fields().is_empty());
+    assert!(rt; fields.contains("retries") && !fields.contains("retry"));
+    Ok(())
+}
+
+#[test]
+fn attributes_are_read_back(rt: HostRuntime) -> Result<(), Fail> {
+    let values = [
+        ("user", FieldValue::Text("ann")),
+        ("retries", FieldValue::U64(3)),
+    ];
+    let metadata = span_metadata();
+    let contextual = Attributes::new(metadata, &values);
+    let root = Attributes::new_root(metadata, &values);
+    let child = Attributes::child_of(Id::from_u64(5), metadata, &values);
+    assert_eq!(rt; contextual.metadata(), metadata);
+    assert_eq!(rt; contextual.values().len(), 2);
+    assert!(rt; contextual.is_contextual() && !contextual.is_root());
+    assert!(rt; root.is_root() && !root.is_contextual());
+    assert_eq!(rt; root.parent(), None);
+    assert_eq!(rt; child.parent(), Some(Id::from_u64(5)));
+    assert_eq!(rt; Record::new(&values).values().len(), 2);
+    Ok(())
+}
+
+#[test]
+fn events_are_read_back(rt: HostRuntime) -> Result<(), Fail> {
+    let values = [
+        ("mute", FieldValue::Bool(true)),
+        ("by", FieldValue::I64(-1)),
+    ];
+    let metadata = event_metadata();
+    let contextual = Event::new(metadata, &values);
+    let root = Event::new_root(metadata, &values);
+    let child = Event::new_child_of(Id::from_u64(5), metadata, &values);
+    assert_eq!(rt; contextual.metadata(), metadata);
+    assert_eq!(rt; contextual.values().len(), 2);
+    assert!(rt; contextual.is_contextual() && !contextual.is_root());
+    assert!(rt; root.is_root() && !root.is_contextual());
+    assert_eq!(rt; root.parent(), None);
+    assert_eq!(rt; child.parent(), Some(Id::from_u64(5)));
+    Ok(())
+}
+
+#[test]
+fn current_span_is_read_back(rt: HostRuntime) -> Result<(), Fail> {
+    let current = Current::new(Id::from_u64(9), span_metadata());
+    assert_eq!(rt; current.id().map(|id| id.into_u64()), Some(9));
+    assert_eq!(rt; current.metadata(), Some(span_metadata()));
+    assert!(rt; !current.is_none() && Current::none().is_none());
+    assert_eq!(rt; Current::none().id(), None);
+    assert!(rt; Lane(0) < Lane(1) && Parent::Root != Parent::Contextual);
+    Ok(())
+}
+
+#[test]
+fn refusals_are_written(rt: HostRuntime) -> Result<(), Fail> {
+    let id = Id::from_u64(4711);
+    let refusals = [
+        (TraceError::UnknownSpan(id), 1, "the span isn't open"),
+        (TraceError::UnknownParent(id), 2, "the parent isn't open"),
+        (TraceError::NoHandle(id), 3, "the span has no handle left"),
+        (TraceError::TooManyFilters, 4, "there are too many filters"),
+        (TraceError::TagTaken, 5, "the tag is taken"),
+        (
+            TraceError::CallsiteMismatch,
+            6,
+            "the callsite has other metadata",
+        ),
+        (TraceError::CountFull(id), 7, "the span's count is full"),
+        (TraceError::TooManySpans, 8, "there are too many spans"),
+        (TraceError::OutOfMemory, 9, "out of memory"),
+    ];
+    for (refusal, number, text) in refusals {
+        assert_eq!(rt; refusal.number(), number);
+        assert_eq!(rt; format!(in rt.alloc(); "{refusal}")?.as_str(), text);
+    }
+    let rejected = Rejected {
+        value: 11,
+        error: TraceError::TagTaken,
+    };
+    assert_eq!(rt; rejected.value, 11);
+    assert_eq!(rt; rejected.error.number(), 5);
+    Ok(())
+}
+
+#[test]
+fn laws_can_be_called() {
+    laws::order_is_by_number();
+    laws::numbers_tell_levels_apart();
+    laws::levels_pass_by_number();
+    laws::more_verbose_filters_pass_more();
+    laws::sum_rule();
+    laws::sums_in_any_order();
+    laws::unions();
+    laws::filters_in_common();
+    laws::hiding();
+    laws::members();
+}

@@ -1,0 +1,11 @@
+pub mod Closes
+pub mod ExtensionViews
+pub mod Extensions
+pub mod Kept
+pub mod LaneStack
+pub mod Marks
+pub mod Step
+pub mod Store
+pub mod Tag
+pub mod TypedWrites
+pub mod ValueTypes

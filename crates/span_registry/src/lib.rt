@@ -1,0 +1,22 @@
+//! The store of spans: what is kept of each, the lanes' stacks, and the calls that change them.
+#![tactic(auto)]
+
+pub mod extension_laws;
+#[cfg(test)]
+mod extension_tests;
+mod extensions;
+pub mod laws;
+mod limits;
+mod records;
+mod registry;
+mod stacks;
+mod tables;
+mod tags;
+mod value_types;
+
+pub use extensions::{ExtensionMap, Extensions, ExtensionsMut};
+pub use limits::Limits;
+pub use registry::{Registry, Released};
+pub use stacks::{SpanStack, StackIter};
+pub use tags::Tag;
+pub use value_types::ExtensionValue;
