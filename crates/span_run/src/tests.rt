@@ -150,7 +150,7 @@ fn faults_are_told(rt: HostRuntime) -> Result<(), Fail> {
 #[test]
 fn size_limit(rt: HostRuntime) -> Result<(), Fail> {
     let mut script = Vec::from_slice(rt.alloc(), b"stack plain".as_slice())?;
-    while script.len() < SCRIPT_LIMIT {
+    for _ in script.len()..SCRIPT_LIMIT {
         script.push(b'\n')?;
     }
     let mut output = Vec::new(rt.alloc());
