@@ -13,6 +13,8 @@ mod registry;
 mod stacks;
 pub mod store_laws;
 mod subscriber;
+#[cfg(test)]
+mod subscriber_tests;
 mod tables;
 mod tags;
 #[cfg(test)]

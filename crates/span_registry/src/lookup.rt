@@ -12,6 +12,10 @@ pub trait LookupSpan {
 
     ghost with_registry: { Self → RegistryState → Self };
 
+    /// The registry that it stands on.
+    fn root(&self) -> &Registry
+        ensures { result.now ≡ registry self.now };
+
     ghost registry_with: { (s : Self) (w : RegistryState) → registry (with_registry s w) ≡ w };
 
     ghost with_twice: { (s : Self) (v w : RegistryState) → with_registry (with_registry s v) w ≡ with_registry s w };
@@ -29,4 +33,8 @@ impl LookupSpan for Registry {
     ghost with_twice = { λ s v w. refl };
 
     ghost with_own = { λ s. refl };
+
+    fn root(&self) -> &Registry {
+        self
+    }
 }

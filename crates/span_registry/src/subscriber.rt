@@ -112,7 +112,9 @@ pub trait Subscriber: LookupSpan {
 impl Subscriber for Registry {
     fn on_register_dispatch(&mut self)
         ensures { self.new ≡ self.old }
-    {}
+    {
+        // No layer is in use.
+    }
 
     /// `always` without filters, else the pass's sum, which is taken: `always` where it is empty.
     fn register_callsite(&self, _meta: &Metadata, pass: &mut Pass) -> Interest
@@ -134,7 +136,7 @@ impl Subscriber for Registry {
         ensures pass { pass.new ≡ pass.old }
     {
         let _ = pass;
-        true
+        true // No filter refuses.
     }
 
     fn event_enabled(&self, _lane: Lane, _event: &Event<'_>, pass: &mut Pass) -> bool
@@ -142,13 +144,13 @@ impl Subscriber for Registry {
         ensures pass { pass.new ≡ pass.old }
     {
         let _ = pass;
-        true
+        true // No filter refuses the event.
     }
 
     fn max_level_hint(&self) -> Option<LevelFilter>
         ensures { result ≡ None }
     {
-        None
+        None // It may want all levels.
     }
 
     fn new_span(
@@ -167,15 +169,21 @@ impl Subscriber for Registry {
 
     fn record(&mut self, _lane: Lane, _id: Id, _values: &Record<'_>)
         ensures { self.new ≡ self.old }
-    {}
+    {
+        // No layer is told of the values.
+    }
 
     fn record_follows_from(&mut self, _lane: Lane, _id: Id, _follows: Id)
         ensures { self.new ≡ self.old }
-    {}
+    {
+        // No layer is told of the two spans.
+    }
 
     fn event(&mut self, _lane: Lane, _event: &Event<'_>, _pass: &Pass)
         ensures { self.new ≡ self.old }
-    {}
+    {
+        // No layer is told of the event.
+    }
 
     fn enter(&mut self, lane: Lane, id: Id) -> Result<(), TraceError>
         ensures open { OnOk result (IsOpen self.old.store.spans (number_of id)) }
@@ -209,23 +217,25 @@ impl Subscriber for Registry {
 
     fn close_hooks(&mut self, _lane: Lane, _id: Id)
         ensures { self.new ≡ self.old }
-    {}
+    {
+        // No layer is told of the close.
+    }
 
     fn is_filtered(&self) -> bool
         ensures { result ≡ false }
     {
-        false
+        false // No layer stands under a filter.
     }
 
     fn is_absent(&self) -> bool
         ensures { result ≡ false }
     {
-        false
+        false // No layer is absent.
     }
 
     fn is_registry(&self) -> bool
         ensures { result ≡ true }
     {
-        true
+        true // No layer stands on it.
     }
 }

@@ -1,0 +1,112 @@
+//! Generic code over a subscriber, proved from the trait's contract, and each call of the trait once at a registry.
+ghost use Rattle.std.specs.Prelude.{◌≡◌, IfOk, OnOk, ℕ};
+ghost use Rattle.span_core.specs.Id.{number_of};
+ghost use Rattle.span_registry.specs.Store.{handles_of, stack_of};
+
+use crate::{Registry, Subscriber};
+use span_core::{
+    Attributes, Event, FieldSet, Id, Interest, Kind, Lane, Level, Metadata, Pass, Record,
+    TraceError,
+};
+use std::process::Abort;
+use std::test::Fail;
+
+/// Enters a span and leaves it at once: each lane has the stack that it had.
+fn enter_and_exit<S: Subscriber>(stack: &mut S, lane: Lane, id: Id) -> Result<(), TraceError>
+    ensures { OnOk result ((any : ℕ) → stack_of (S.registry stack.new).store.stacks any ≡ stack_of (S.registry stack.old).store.stacks any) }
+{
+    stack.enter(lane, id)?;
+    stack.exit(lane, id);
+    Ok(())
+}
+
+/// Opens a span and clones it: it has two handles.
+fn open_twice<S: Subscriber>(
+    stack: &mut S,
+    lane: Lane,
+    attrs: &Attributes<'_>,
+    pass: &Pass,
+) -> Result<Id, TraceError>
+    ensures { IfOk result (λ id. handles_of (S.registry stack.new).store.spans (number_of id) ≡ 2) }
+{
+    let id = stack.new_span(lane, attrs, pass)?;
+    stack.clone_span(lane, id)
+}
+
+fn metadata(kind: Kind) -> Metadata {
+    Metadata::new(7, "request", "shop", Level::INFO, kind, FieldSet::new(&[]))
+}
+
+/// Asks a stack on which nothing was done yet every question.
+fn ask<S: Subscriber>(rt: &impl Abort, stack: &S) -> Result<(), Fail> {
+    let lane = Lane(0);
+    let meta = metadata(Kind::SPAN);
+    let event = Event::new(metadata(Kind::EVENT), &[]);
+    let mut pass = Pass::new();
+    assert_eq!(rt; stack.register_callsite(&meta, &mut pass), Interest::Always);
+    assert!(rt; stack.enabled(lane, &meta, &mut pass));
+    assert!(rt; stack.event_enabled(lane, &event, &mut pass));
+    assert_eq!(rt; stack.max_level_hint(), None);
+    assert!(rt; stack.is_registry());
+    assert!(rt; !stack.is_filtered());
+    assert!(rt; !stack.is_absent());
+    Ok(())
+}
+
+/// Tells a stack on which nothing was done yet everything.
+fn tell<S: Subscriber>(rt: &impl Abort, stack: &mut S) -> Result<(), Fail> {
+    let lane = Lane(0);
+    let attrs = Attributes::new(metadata(Kind::SPAN), &[]);
+    let pass = Pass::new();
+    stack.on_register_dispatch();
+    let id = open_twice(stack, lane, &attrs, &pass)?;
+    stack.enter(lane, id)?;
+    assert_eq!(rt; stack.current_span(lane).id(), Some(id));
+    stack.record(lane, id, &Record::new(&[]));
+    stack.record_follows_from(lane, id, id);
+    stack.event(lane, &Event::new(metadata(Kind::EVENT), &[]), &pass);
+    stack.exit(lane, id);
+    assert!(rt; stack.current_span(lane).is_none());
+    enter_and_exit(stack, lane, id)?;
+    assert!(rt; stack.current_span(lane).is_none());
+    stack.close_hooks(lane, id);
+    let unknown = Id::from_u64(u64::MAX);
+    assert_eq!(rt;
+        stack.enter(lane, unknown),
+        Err(TraceError::UnknownSpan(unknown))
+    );
+    assert_eq!(rt;
+        stack.clone_span(lane, unknown),
+        Err(TraceError::UnknownSpan(unknown))
+    );
+    Ok(())
+}
+
+#[test]
+fn a_registry_is_a_subscriber(rt: HostRuntime) -> Result<(), Fail> {
+    let mut registry = Registry::new(rt.alloc());
+    ask(&rt, &registry)?;
+    tell(&rt, &mut registry)
+}
+
+#[test]
+fn callsites_under_filters(rt: HostRuntime) -> Result<(), Fail> {
+    let mut registry = Registry::new(rt.alloc());
+    let meta = metadata(Kind::SPAN);
+    let mut pass = Pass::new();
+    pass.add_interest(Interest::Never);
+    assert_eq!(rt;
+        registry.register_callsite(&meta, &mut pass),
+        Interest::Always
+    );
+    registry.register_filter()?;
+    assert_eq!(rt;
+        registry.register_callsite(&meta, &mut pass),
+        Interest::Never
+    );
+    assert_eq!(rt;
+        registry.register_callsite(&meta, &mut pass),
+        Interest::Always
+    );
+    Ok(())
+}
