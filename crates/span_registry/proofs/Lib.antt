@@ -1,11 +1,15 @@
 mod Added
+mod Ancestry
 mod Chains
 mod Closing
 mod Counts
 pub mod Drops
+mod Found
+mod Itself
 mod Kept
 mod Lending
 mod Marks
+mod Masks
 mod NumberMaps
 mod Once
 mod Opened

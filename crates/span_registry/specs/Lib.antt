@@ -3,9 +3,13 @@ pub mod ExtensionViews
 pub mod Extensions
 pub mod Kept
 pub mod LaneStack
+pub mod Lookups
 pub mod Marks
+pub mod References
+pub mod SpanData
 pub mod Step
 pub mod Store
 pub mod Tag
 pub mod TypedWrites
 pub mod ValueTypes
+pub mod View
