@@ -5,9 +5,11 @@ mod Closing
 mod Counts
 pub mod Drops
 mod Found
+mod FromRoot
 mod Itself
 mod Kept
 mod Lending
+mod LookupLaws
 mod Marks
 mod Masks
 mod NumberMaps

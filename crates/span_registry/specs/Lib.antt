@@ -1,6 +1,7 @@
 pub mod Closes
 pub mod ExtensionViews
 pub mod Extensions
+pub mod FromRoot
 pub mod Kept
 pub mod LaneStack
 pub mod Lookups

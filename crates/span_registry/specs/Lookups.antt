@@ -1,9 +1,10 @@
 -- What is found in a view: parents, scopes, and the span that a lane is in.
-use Rattle.std.specs.Prelude.{ℕ, zero, suc, Bool, false, not, cond, is_some, List, [], ◌∷◌, Option, None, Some}
+use Rattle.std.specs.Prelude.{◌≡◌, ℕ, zero, suc, Bool, false, not, cond, is_some, List, [], ◌∷◌, Option, None, Some}
 use Rattle.std.specs.Option.{option_and_then, option_map_or}
 use Rattle.std.specs.List.{filter, find}
 use Rattle.std.specs.FinMap.{get, len}
 use Rattle.span_registry.specs.LaneStack.{first, newest}
+use Rattle.span_registry.specs.Store.{Span, Spans}
 use Rattle.span_registry.specs.View.{SeenSpans, View}
 
 -- the span is in the store and isn't hidden
@@ -40,3 +41,8 @@ current_among m (x ∷ xs) = cond (is_some (get m x)) (find (is_shown m) (x ∷ 
 -- the span that the lane is in, as far as the mask lets it be seen
 abbrev pub current_shown : View → Option ℕ
 current_shown v = current_among v.spans (first v.stack)
+
+-- spans of the store that lead down to x, each the parent of the next; p is the parent of the first
+abbrev pub IsDescent : Spans → Option ℕ → List ℕ → ℕ → Type 0
+IsDescent m p [] x = p ≡ Some x
+IsDescent m p (y ∷ ys) x = (r : Span) × (get m y ≡ Some r) × (r.parent ≡ p) × IsDescent m (Some y) ys x

@@ -5,9 +5,11 @@ pub mod extension_laws;
 #[cfg(test)]
 mod extension_tests;
 mod extensions;
+mod from_root;
 pub mod laws;
 mod limits;
 mod lookup;
+pub mod lookup_laws;
 mod records;
 mod registry;
 mod scopes;
@@ -18,6 +20,7 @@ mod tags;
 mod value_types;
 
 pub use extensions::{ExtensionMap, Extensions, ExtensionsMut};
+pub use from_root::ScopeFromRoot;
 pub use limits::Limits;
 pub use lookup::LookupSpan;
 pub use registry::{Registry, Released};
