@@ -111,7 +111,7 @@ not_among : (x : ℕ) (xs : List ℕ) → (Member x xs → ⊥) → AllByRecursi
 not_among x [] h = tt
 not_among x (y ∷ ys) h = (other_test x y (λ e. h (inl e)), not_among x ys (λ t. h (inr t)))
 
-among : (x : ℕ) (xs : List ℕ) → list_any (eq_by_cmp nat_cmp x) xs ≡ true → Member x xs
+pub among : (x : ℕ) (xs : List ℕ) → list_any (eq_by_cmp nat_cmp x) xs ≡ true → Member x xs
 among x [] e = absurd (true≢false (sym e))
 among x (y ∷ ys) e =
     elim (eq_by_cmp nat_cmp x y) as (λ b. eq_by_cmp nat_cmp x y ≡ b → (b || list_any (eq_by_cmp nat_cmp x) ys) ≡ true → Member x (y ∷ ys)) [

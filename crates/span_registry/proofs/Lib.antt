@@ -1,11 +1,17 @@
 mod Added
+mod Ancestry
 mod Chains
 mod Closing
 mod Counts
 pub mod Drops
+mod Found
+mod FromRoot
+mod Itself
 mod Kept
 mod Lending
+mod LookupLaws
 mod Marks
+mod Masks
 mod NumberMaps
 mod Once
 mod Opened

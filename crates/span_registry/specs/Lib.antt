@@ -1,9 +1,13 @@
 pub mod Closes
 pub mod ExtensionViews
 pub mod Extensions
+pub mod FromRoot
 pub mod Kept
 pub mod LaneStack
+pub mod Lookups
 pub mod Marks
+pub mod References
+pub mod SpanData
 pub mod StackSpans
 pub mod Step
 pub mod Store
@@ -11,3 +15,4 @@ pub mod Subscribing
 pub mod Tag
 pub mod TypedWrites
 pub mod ValueTypes
+pub mod View

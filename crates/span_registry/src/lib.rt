@@ -5,11 +5,17 @@ pub mod extension_laws;
 #[cfg(test)]
 mod extension_tests;
 mod extensions;
+mod from_root;
 pub mod laws;
 mod limits;
 mod lookup;
+pub mod lookup_laws;
+#[cfg(test)]
+mod lookup_tests;
 mod records;
 mod registry;
+mod scopes;
+mod span_data;
 mod stacks;
 pub mod store_laws;
 mod subscriber;
@@ -22,9 +28,12 @@ mod tests;
 mod value_types;
 
 pub use extensions::{ExtensionMap, Extensions, ExtensionsMut};
+pub use from_root::ScopeFromRoot;
 pub use limits::Limits;
 pub use lookup::LookupSpan;
 pub use registry::{Registry, Released};
+pub use scopes::{Scope, SpanRef};
+pub use span_data::{Data, SpanData};
 pub use stacks::{SpanStack, StackIter};
 pub use subscriber::Subscriber;
 pub use tags::Tag;

@@ -13,6 +13,7 @@ ghost use Rattle.span_core.specs.Id.{number_of};
 ghost use Rattle.span_core.specs.Pass.{refused_of};
 ghost use Rattle.span_registry.specs.Closes.{take_handle};
 ghost use Rattle.span_registry.specs.LaneStack.{leave};
+ghost use Rattle.span_registry.specs.SpanData.{data_extensions, data_id, data_span};
 ghost use Rattle.span_registry.specs.Step.{HasPlace, HasNoPlace, IsContext, IsCurrent, IsParentFor, Opens, RefusesClone, RefusesEnter, RefusesNew, RefusesRelease, Removes, add_handle, entered, entered_last, left};
 ghost use Rattle.span_registry.specs.Store.{IsClosing, IsForest, IsHeld, IsInStore, IsOpen, handles_of, new_registry, parent_of, with_spans};
 
@@ -22,6 +23,7 @@ use crate::records::{
     Counts, Records, SpanExtensions, SpanRecord, add_extensions, add_span, counts_of, full,
     lose_child, remove_extensions, set_handles, take_out,
 };
+use crate::span_data::Data;
 use crate::stacks::SpanStack;
 use span_core::{Attributes, Current, FilterId, Id, Lane, Pass, TraceError};
 use std::alloc::Global;
@@ -353,6 +355,23 @@ impl Registry {
     {
         let _ = &self.issued;
         0
+    }
+
+    /// What is kept of a span that is in the store, closing or not.
+    pub(crate) fn data(&self, id: Id) -> Option<Data<'_>>
+        ensures span { option_map data_span result ≡ map.get self.now.store.spans (number_of id) }
+        ensures extensions { option_map data_extensions result ≡ map.get self.now.store.extensions (number_of id) }
+        ensures id { IfSome result (λ d. data_id d ≡ id) }
+        ensures forest { IsForest self.now.store.spans }
+    {
+        let number = id.into_u64();
+        let record = self.records.get(&number)?;
+        let extensions = self.extensions.get(&number)?;
+        Some(Data {
+            id,
+            record,
+            extensions,
+        })
     }
 
     /// No id was issued.
