@@ -78,8 +78,8 @@ module _ {R : Type 0} where
     full = subst (λ (zs : List (Option (SpanRef R))). IsTrue (are_full zs)) (sym e) (full_push xs r h.full);
     room = let m = h.room in omega arith;
     whole =
-      ap (λ (zs : List (Option (SpanRef R))). placed zs ++ rest) e ∙ ap (λ (zs : List (Reference R)). zs ++ rest) (placed_push xs r) ∙ append_assoc (placed xs) (reference_of r ∷ []) rest
-      ∙ ap (λ (zs : List (Reference R)). placed xs ++ zs) (sym next) ∙ h.whole;
+        ap (λ (zs : List (Option (SpanRef R))). placed zs ++ rest) e ∙ ap (λ (zs : List (Reference R)). zs ++ rest) (placed_push xs r) ∙ append_assoc (placed xs) (reference_of r ∷ []) rest
+        ∙ ap (λ (zs : List (Reference R)). placed xs ++ zs) (sym next) ∙ h.whole;
   }
 
   -- where up to 16 are to be collected, there is room for one more

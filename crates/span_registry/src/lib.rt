@@ -10,6 +10,8 @@ pub mod laws;
 mod limits;
 mod lookup;
 pub mod lookup_laws;
+#[cfg(test)]
+mod lookup_tests;
 mod records;
 mod registry;
 mod scopes;

@@ -1,0 +1,221 @@
+//! Tests of the look-ups: spans by their ids, parents and scopes under masks.
+use crate::lookup::LookupSpan;
+use crate::registry::Registry;
+use crate::scopes::{Scope, SpanRef};
+use crate::span_data::SpanData;
+use crate::tags::Tag;
+use span_core::{
+    Attributes, FieldSet, FilterId, Id, Kind, Lane, Level, Metadata, Pass, TraceError,
+};
+use std::alloc::{AllocError, Global};
+use std::test::Fail;
+
+fn span_named(name: &'static str) -> Metadata {
+    Metadata::new(
+        1,
+        name,
+        "tests",
+        Level::INFO,
+        Kind::SPAN,
+        FieldSet::new(&["size"]),
+    )
+}
+
+/// Opens a span in a parent, or a root. The filter, if there is one, refuses it.
+fn open_span(
+    registry: &mut Registry,
+    name: &'static str,
+    parent: Option<Id>,
+    refusing: Option<FilterId>,
+) -> Result<Id, TraceError> {
+    let mut pass = Pass::new();
+    if let Some(filter) = refusing {
+        pass.set(filter, false);
+    }
+    let attributes = match parent {
+        Some(id) => Attributes::child_of(id, span_named(name), &[]),
+        None => Attributes::new_root(span_named(name), &[]),
+    };
+    registry.new_span(Lane(0), &attributes, &pass)
+}
+
+/// The leaf of a tree: filter 0 refused the child, filter 1 the root.
+fn leaf_in_child_in_root(registry: &mut Registry) -> Result<Id, TraceError> {
+    let root = open_span(registry, "root", None, Some(FilterId::of(1)))?;
+    let child = open_span(registry, "child", Some(root), Some(FilterId::of(0)))?;
+    open_span(registry, "leaf", Some(child), None)
+}
+
+fn under<'a, R: LookupSpan>(subscriber: &'a R, id: Id, mask: FilterId) -> Option<SpanRef<'a, R>> {
+    let found = subscriber.span_data(id)?;
+    Some(SpanRef::new(subscriber, found, mask))
+}
+
+fn names<R: LookupSpan>(
+    alloc: Global,
+    scope: Scope<'_, R>,
+) -> Result<Vec<&'static str>, AllocError> {
+    let mut found = Vec::new(alloc);
+    for span in scope {
+        found.push(span.name())?;
+    }
+    Ok(found)
+}
+
+fn names_from_root<R: LookupSpan>(
+    alloc: Global,
+    scope: Scope<'_, R>,
+) -> Result<Vec<&'static str>, TraceError> {
+    let mut found = Vec::new(alloc);
+    for span in scope.from_root(alloc)? {
+        found.push(span.name())?;
+    }
+    Ok(found)
+}
+
+#[test]
+fn scopes_under_masks(rt: HostRuntime) -> Result<(), Fail> {
+    let mut registry = Registry::new(rt.alloc());
+    let id = leaf_in_child_in_root(&mut registry)?;
+    let child_hidden = FilterId::of(0);
+    let root_hidden = FilterId::of(1);
+    let rows: [(FilterId, &[&str], &[&str], Option<&str>); 4] = [
+        (
+            FilterId::none(),
+            &["leaf", "child", "root"],
+            &["root", "child", "leaf"],
+            Some("child"),
+        ),
+        (
+            child_hidden,
+            &["leaf", "root"],
+            &["root", "leaf"],
+            Some("root"),
+        ),
+        (
+            root_hidden,
+            &["leaf", "child"],
+            &["child", "leaf"],
+            Some("child"),
+        ),
+        (child_hidden.and(root_hidden), &["leaf"], &["leaf"], None),
+    ];
+    for (mask, up, down, parent) in rows {
+        let leaf = under(&registry, id, mask).ok_or("no leaf")?;
+        assert_eq!(rt; names(rt.alloc(), leaf.scope())?.as_slice(), up);
+        assert_eq!(rt; names_from_root(rt.alloc(), leaf.scope())?.as_slice(), down);
+        let found = match leaf.parent() {
+            Some(span) => Some(span.name()),
+            None => None,
+        };
+        assert_eq!(rt; found, parent);
+    }
+    Ok(())
+}
+
+#[test]
+fn scopes_of_each_span(rt: HostRuntime) -> Result<(), Fail> {
+    let mut registry = Registry::new(rt.alloc());
+    let id = leaf_in_child_in_root(&mut registry)?;
+    let leaf = registry.span(id).ok_or("no leaf")?;
+    assert_eq!(rt;
+        names(rt.alloc(), leaf.scope())?.as_slice(),
+        ["leaf", "child", "root"].as_slice()
+    );
+    let child = leaf.parent().ok_or("no child")?;
+    assert_eq!(rt;
+        names(rt.alloc(), child.scope())?.as_slice(),
+        ["child", "root"].as_slice()
+    );
+    let root = child.parent().ok_or("no root")?;
+    assert_eq!(rt;
+        names(rt.alloc(), root.scope())?.as_slice(),
+        ["root"].as_slice()
+    );
+    assert!(rt; root.parent().is_none());
+    let hidden = under(&registry, child.id(), FilterId::of(0)).ok_or("no child")?;
+    assert_eq!(rt;
+        names(rt.alloc(), hidden.scope())?.as_slice(),
+        ["root"].as_slice()
+    );
+    Ok(())
+}
+
+/// What a registry stands in, asked through the trait alone.
+fn first_filter<R: LookupSpan>(subscriber: &mut R) -> Result<(FilterId, u32), TraceError> {
+    let filter = subscriber.register_filter()?;
+    Ok((filter, subscriber.root().filters()))
+}
+
+#[test]
+fn what_is_found_of_a_span(rt: HostRuntime) -> Result<(), Fail> {
+    let mut registry = Registry::new(rt.alloc());
+    assert_eq!(rt; first_filter(&mut registry)?, (FilterId::of(0), 1));
+    let id = leaf_in_child_in_root(registry.root_mut())?;
+    let size = Tag::<u64>::new(3);
+    let extensions = registry.extensions_mut(id).ok_or("no extensions")?;
+    extensions.insert(size, 42)?;
+    assert!(rt; registry.span(Id::from_u64(0)).is_none());
+    let leaf = registry.span(id).ok_or("no leaf")?;
+    assert_eq!(rt; leaf.id(), id);
+    assert_eq!(rt; leaf.metadata(), span_named("leaf"));
+    assert_eq!(rt; leaf.name(), "leaf");
+    assert_eq!(rt; leaf.fields(), FieldSet::new(&["size"]));
+    assert_eq!(rt; leaf.extensions().get(size), Some(&42));
+    let child = registry
+        .root()
+        .span_data(id)
+        .ok_or("no leaf")?
+        .parent()
+        .ok_or("no child")?;
+    let found = registry.span_data(child).ok_or("no child")?;
+    assert_eq!(rt; found.id(), child);
+    assert_eq!(rt; found.metadata().name(), "child");
+    assert!(rt; found.parent().is_some());
+    assert_eq!(rt; found.extensions().get(size), None);
+    assert!(rt; !found.is_enabled_for(FilterId::of(0)));
+    assert!(rt; found.is_enabled_for(FilterId::of(1)));
+    assert!(rt; !found.is_enabled_for(FilterId::unattached()));
+    Ok(())
+}
+
+/// Opens so many spans, each in the one before, and answers the last.
+fn open_chain(registry: &mut Registry, count: u32) -> Result<Option<Id>, TraceError> {
+    let mut last = None;
+    for _ in 0..count {
+        last = Some(open_span(registry, "link", last, None)?);
+    }
+    Ok(last)
+}
+
+#[test]
+fn lengths_of_scopes(rt: HostRuntime) -> Result<(), Fail> {
+    for depth in [1usize, 16, 17, 1000] {
+        let mut registry = Registry::new(rt.alloc());
+        let id = open_chain(&mut registry, depth as u32)?.ok_or("no span")?;
+        let leaf = registry.span(id).ok_or("no leaf")?;
+        assert_eq!(rt; names(rt.alloc(), leaf.scope())?.len(), depth);
+        let mut scope = leaf.scope().from_root(rt.alloc())?;
+        assert_eq!(rt; scope.size_hint(), (depth, Some(depth)));
+        let root = scope.next().ok_or("no root")?;
+        assert!(rt; root.parent().is_none());
+        assert_eq!(rt; scope.size_hint(), (depth - 1, Some(depth - 1)));
+        let mut last = root.id();
+        for span in scope {
+            last = span.id();
+        }
+        assert_eq!(rt; last, id);
+    }
+    Ok(())
+}
+
+#[test]
+fn text_of_a_scope(rt: HostRuntime) -> Result<(), Fail> {
+    let mut registry = Registry::new(rt.alloc());
+    let id = leaf_in_child_in_root(&mut registry)?;
+    let leaf = registry.span(id).ok_or("no leaf")?;
+    let scope = leaf.scope().from_root(rt.alloc())?;
+    let shown = format!(in rt.alloc(); "{scope:?}")?;
+    assert_eq!(rt; shown.as_str(), "ScopeFromRoot { .. }");
+    Ok(())
+}
