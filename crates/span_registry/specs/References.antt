@@ -5,7 +5,7 @@ use Rattle.std.specs.Option.{option_map}
 use Rattle.span_core.specs.Id.{number_of}
 use Rattle.span_core.specs.declared.filters.FilterId.{FilterId}
 use Rattle.span_core.specs.declared.ids.Id.{Id}
-use Rattle.span_registry.specs.Lookups.{scope}
+use Rattle.span_registry.specs.Lookups.{nearest, scope}
 use Rattle.span_registry.specs.SpanData.{data_extensions, data_id, data_span}
 use Rattle.span_registry.specs.Store.{RegistryState, Span}
 use Rattle.span_registry.specs.View.{seen_spans}
@@ -51,9 +51,21 @@ module _ {R : Type 0} (registry : R → RegistryState) where
   abbrev pub reference_to : R → FilterId → ℕ → Reference R
   reference_to s mask x = record { subscriber = s; mask = mask; id = x; span = get (registry s).store.spans x; extensions = get (registry s).store.extensions x }
 
-  -- the references to a span and its ancestors, leaf first, those that the mask hides left out
+  -- the ids of a span and its ancestors, leaf first, those that the mask hides left out
+  abbrev pub scope_in : R → FilterId → Option ℕ → List ℕ
+  scope_in s mask o = scope (seen_spans (registry s).store mask) o
+
+  -- the references to them
   abbrev pub references_to : R → FilterId → Option ℕ → List (Reference R)
-  references_to s mask o = map (reference_to s mask) (scope (seen_spans (registry s).store mask) o)
+  references_to s mask o = map (reference_to s mask) (scope_in s mask o)
+
+  -- the references to a span that was found and its ancestors, under its mask
+  abbrev pub scope_of_reference : SpanRef R → List (Reference R)
+  scope_of_reference r = references_to (subscriber_of r) (mask_of r) (Some (number_of (id_of_reference r)))
+
+  -- the reference to the nearest ancestor of a span that was found, under its mask
+  abbrev pub parent_of_reference : SpanRef R → Option (Reference R)
+  parent_of_reference r = option_map (reference_to (subscriber_of r) (mask_of r)) (nearest (scope_in (subscriber_of r) (mask_of r) (span_of_reference r).parent))
 
   -- the references that a scope has left
   abbrev pub left_in : Scope R → List (Reference R)

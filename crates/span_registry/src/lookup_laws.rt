@@ -1,9 +1,8 @@
 //! Laws of views and look-ups, for proofs above: no call does anything.
-ghost use Rattle.std.specs.FinMap as map;
 ghost use Rattle.std.specs.FinMap.{get};
 ghost use Rattle.std.specs.List.{filter};
 ghost use Rattle.std.specs.Option.{option_map};
-ghost use Rattle.std.specs.Prelude.{◌≡◌, ◌∷◌, ◌++◌, ◌+◌, [], false, reverse, List, None, Option, Some, ℕ};
+ghost use Rattle.std.specs.Prelude.{◌≡◌, ◌∷◌, ◌++◌, [], false, reverse, List, None, Option, Some, ℕ};
 ghost use Rattle.span_core.specs.Filters.{has_filter};
 ghost use Rattle.span_core.specs.declared.filters.FilterId.{FilterId};
 ghost use Rattle.span_registry.specs.Lookups.{IsDescent, is_shown, scope};
