@@ -75,7 +75,7 @@ impl Registry {
 
     /// An empty registry, with limits as high as they go.
     pub fn new(alloc: Global) -> Self
-        ensures { result ≡ new_registry Limits.MAX }
+        ensures { result ≡ new_registry (record { places = u32.MAX; generations = u32.MAX; count = u32.MAX }) }
     {
         Registry::with_limits(alloc, Limits::MAX)
     }
