@@ -2,7 +2,6 @@
 use Rattle.std.specs.Prelude.{ℕ, List, Bool, ◌&&◌, ◌||◌, not, nat_le, length, codes, bytes_eq, slice_index}
 use Rattle.std.specs.Char.{is_ascii_lowercase, is_ascii_digit}
 use Rattle.std.specs.List.{list_all}
-use Rattle.span_run.specs.declared.lines.TheConstants.{LABEL_LIMIT}
 
 -- a word that has a meaning of its own where a label may stand
 abbrev pub is_keyword : List ℕ → Bool
@@ -14,5 +13,5 @@ is_letter_or_digit c = is_ascii_lowercase c || is_ascii_digit c
 
 -- up to 16 letters and digits, of which the first is a letter, that are no keyword
 abbrev pub is_label : List ℕ → Bool
-is_label word = not (is_keyword word) && nat_le (length word) LABEL_LIMIT
+is_label word = not (is_keyword word) && nat_le (length word) 16
     && is_ascii_lowercase (slice_index word 0) && list_all is_letter_or_digit word

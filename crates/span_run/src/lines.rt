@@ -12,7 +12,7 @@ use crate::sites::span_site;
 use span_core::{Lane, Metadata};
 
 /// The most characters that a label has.
-pub const LABEL_LIMIT: usize = 16;
+const LABEL_LIMIT: usize = 16;
 
 /// A span as a line names it.
 #[derive(Clone, Copy, Debug)]
