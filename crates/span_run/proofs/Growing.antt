@@ -6,7 +6,7 @@ use Rattle.std.specs.Map.{update}
 use Rattle.std.specs.Ordering.{nat_cmp}
 use Rattle.std.specs.Cmp.Lexicographic.{slice_cmp}
 use Rattle.std.specs.BTreeMap as tree
-use Rattle.span_run.specs.Line.{declared_label}
+use Rattle.span_run.specs.Line.{declared_label, IsLine}
 use Rattle.span_run.specs.Script.{lines_of, requests_of, place_of, Asks, AskFor, nothing, more, Declares, DeclaresAt, IsFree, IsScript}
 use Rattle.span_run.specs.declared.lines.Line.{Line}
 use Rattle.span_run.specs.declared.requests.Request.{Request}
@@ -74,15 +74,15 @@ label-free old new (Some label) was d = λ place.
     let lacks : IsSome {T = ℕ} None = subst (λ (x : Option ℕ). IsSome x) d.0 has in absurd (search rules))
 
 -- a script with one line more, and the request that it asks for
-pub IsScript-add : (old mid new : Script) (l : Line) (r : Request) → IsScript old → Asks (lines_of old) l r → Declares old l mid
+pub IsScript-add : (old mid new : Script) (l : Line) (r : Request) → IsScript old → IsLine l → Asks (lines_of old) l r → Declares old l mid
     → lines_of new ≡ lines_of old ++ l ∷ [] → requests_of new ≡ requests_of old ++ r ∷ [] → new.labels ≡ mid.labels → IsScript new
-IsScript-add old mid new l r was asks declares lines requests labels =
+IsScript-add old mid new l r was is asks declares lines requests labels =
     let d : AddsPlace old (declared_label l) new = subst (λ (m : _). MatchOption (declared_label l) (m ≡ old.labels) (λ label. (place_of old label ≡ None)
     × ((other : List ℕ) → tree.get_by (λ k. slice_cmp nat_cmp other k.now) m ≡ update bytes_eq (place_of old) label (Some (length (lines_of old))) other)))
     (sym labels) declares in
     record {
       asked = subst (λ (ls : List Line). AskFor ls (requests_of new)) (sym lines) (subst (λ (rs : List Request). AskFor (lines_of old ++ l ∷ []) rs) (sym requests)
-          (more l r was.asked asks (label-free old new (declared_label l) was d)));
+          (more l r is was.asked asks (label-free old new (declared_label l) was d)));
       found = λ label. subst (λ (ls : List Line). IfSome (place_of new label) (λ place. DeclaresAt ls place label)) (sym lines)
           (place-after old new (declared_label l) d label (λ x. IfSome x (λ place. DeclaresAt (lines_of old ++ l ∷ []) place label))
           (IfSome-map (place_of old label) (λ place. DeclaresAt (lines_of old) place label) _ (was.found label) (λ place h. DeclaresAt-append (lines_of old) (l ∷ []) place label h))

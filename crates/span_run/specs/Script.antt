@@ -71,10 +71,10 @@ Asks before l r = ⊥
 abbrev pub IsFree : List Line → List ℕ → Type 0
 IsFree lines label = (place : ℕ) → IfSome (slice_get lines place) (λ l. declared_label l ≢ Some label)
 
--- the lines ask for the requests, one for one: each names what lines before it declare, and declares what none does
+-- the lines ask for the requests, one for one: each is a line, names what lines before it declare, and declares what none does
 pub data AskFor : List Line → List Request → Type 0 where
   nothing : AskFor [] []
-  more : {lines : List Line} {requests : List Request} (l : Line) (r : Request) → AskFor lines requests
+  more : {lines : List Line} {requests : List Request} (l : Line) (r : Request) → IsLine l → AskFor lines requests
       → Asks lines l r → IfSome (declared_label l) (IsFree lines) → AskFor (lines ++ l ∷ []) (requests ++ r ∷ [])
 
 -- the requests are those of the lines, and the places are those of the labels

@@ -1,6 +1,6 @@
 //! A script: its lines, and the requests that they ask for.
 ghost use Rattle.std.specs.Prelude.{◌≡◌, ◌⊎◌, ◌∷◌, [], ◌++◌, ◌<◌, IsTrue, IfNone, IfOk, IfErr, OnOk, IfSome, map};
-ghost use Rattle.span_run.specs.Line.{declared_label};
+ghost use Rattle.span_run.specs.Line.{declared_label, IsLine};
 ghost use Rattle.span_run.specs.Script.{cut, is_full, lines_in, lines_of, requests_of, words_in, words_of_texts, Asks, CanFollow, Declares, IsFree, IsScript, IsScriptFault, IsSpelled, IsWrongAfter, Means, MeansParent};
 ghost use Rattle.span_run.specs.declared.requests.Request.{Request};
 ghost use Rattle.span_run.specs.declared.requests.Which.{Which};
@@ -63,7 +63,8 @@ impl<'a> Script<'a> {
 
     /// Adds a line. Where it names what no line before it declares, or declares what one does, the fault is `wrong`.
     fn add(&mut self, line: Line<'a>, wrong: RunFault) -> Result<(), RunFault>
-        requires { IsScript self.old }
+        requires script { IsScript self.old }
+        requires line { IsLine line }
         ensures script { OnOk result (IsScript self.new) }
         ensures lines { OnOk result (lines_of self.new ≡ lines_of self.old ++ line.entry ∷ []) }
         ensures fault { IfErr result (λ fault. (fault ≡ RunFault.Memory) ⊎ ((fault ≡ wrong) × ¬ (CanFollow (lines_of self.old) line.entry))) }

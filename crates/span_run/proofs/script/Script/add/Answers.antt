@@ -9,7 +9,7 @@ pub returns-clause-script : goal.returns-clause-script
 returns-clause-script c =
     let asks : Asks (lines_of c.args.self.now) c.args.line c.in_ok-request.request =
     subst (λ (x : Option Request). IfSome x (Asks (lines_of c.args.self.now) c.args.line)) c.in_ok-request.ensures.ok_part c.asked.ensures.request in
-    IsScript-add c.args.self.now c.declare.new.self _ c.args.line c.in_ok-request.request c.requires asks c.in_ok-declare.ensures.labels
+    IsScript-add c.args.self.now c.declare.new.self _ c.args.line c.in_ok-request.request c.requires.script c.requires.line asks c.in_ok-declare.ensures.labels
     (c.in_ok-push.ensures.items ∙ ap (λ lines. lines.items ++ c.args.line ∷ []) c.declare.ensures.lines)
     (c.in_ok-push-2.ensures.items ∙ ap (λ requests. requests.items ++ c.in_ok-request.request ∷ []) c.declare.ensures.requests)
     refl
