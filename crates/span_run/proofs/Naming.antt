@@ -1,17 +1,14 @@
 -- The names that lines give to the spans that their requests made.
-use Rattle.std.proofs.Common.{◌≡◌, ◌≢◌, ℕ, suc, zero, ◌+◌, ◌<◌, ◌≤◌, List, [], ◌∷◌, length, get_or, Option, Some, None, MatchOption, refl, sym, ap, ◌∙◌, subst, rules, arith}
-use Rattle.std.specs.Prelude.{Bool, true, false, cond, slice_get, IsSomeAnd, option_copied, ◌==◌, nat_lt}
+use Rattle.std.proofs.Common.{◌≡◌, ℕ, suc, zero, ◌+◌, ◌<◌, ◌≤◌, List, [], ◌∷◌, length, Option, Some, None, MatchOption, refl, sym, ap, ◌∙◌, subst, rules, arith}
+use Rattle.std.specs.Prelude.{Bool, true, false, cond, slice_get, IsSomeAnd}
 use Rattle.std.specs.Ordering.{nat_cmp, is_eq}
-use Rattle.std.specs.Slice.{IsItemAt}
 use Rattle.std.specs.Borrow.{Bor}
 use Rattle.std.specs.BTreeMap as tree
 use Rattle.std.specs.BTreeMap.{BTreeMap}
 use native.Mathlib.Decide.{dec_lt}
 use Rattle.std.proofs.lemmas.Bool.Decides.{nat_tests}
 use Rattle.span_core.specs.Id.{number_of}
-use Rattle.span_core.specs.declared.ids.Id.{Id}
 use Rattle.span_run.specs.Printed.{IsNamed, IsNamedAt}
-use Rattle.span_run.specs.Line.{declared_label}
 use Rattle.span_run.specs.declared.lines.Line.{Line}
 use Rattle.span_run.specs.declared.requests.Answer.{Answer}
 use Rattle.span_run.specs.declared.requests.Answer.TheVariants.{Made}

@@ -1,8 +1,8 @@
 -- Serving a list, request by request.
-use Rattle.std.proofs.Common.{◌≡◌, ℕ, ◌+◌, ◌<◌, ◌≤◌, List, [], ◌∷◌, ◌++◌, refl, sym, ap, subst, ◌∙◌, append_assoc}
+use Rattle.std.proofs.Common.{List, [], ◌∷◌, ◌++◌, refl, sym, subst, append_assoc}
 use Rattle.std.proofs.lemmas.List.{append-nil}
 use Rattle.span_registry.specs.Store.{RegistryState}
-use Rattle.span_run.specs.Notices.{Watched, Kept, Hears}
+use Rattle.span_run.specs.Notices.{Watched, Hears}
 use Rattle.span_run.specs.Run.{Step, Run}
 use Rattle.span_run.specs.declared.requests.Notice.{Notice}
 use Rattle.span_run.specs.declared.requests.Request.{Request}

@@ -1,14 +1,13 @@
 -- Which line of a script is the first that is wrong.
-use Rattle.std.proofs.Common.{◌≡◌, ◌⊎◌, ℕ, ◌+◌, ◌<◌, ◌≤◌, List, [], ◌∷◌, length, get_or, take, map, Option, Some, None, Result, Ok, Err, IfErr, IfSome, refl, sym, ap, ◌∙◌, inl, inr, subst, rules, arith}
+use Rattle.std.proofs.Common.{◌≡◌, ◌⊎◌, ℕ, ◌+◌, ◌<◌, ◌≤◌, List, [], ◌∷◌, length, get_or, take, map, Option, Some, None, Result, IfErr, IfSome, refl, sym, ap, ◌∙◌, inl, inr, subst}
 use Rattle.std.proofs.lemmas.List.{take-map, take_all}
 use Rattle.std.proofs.lemmas.Option.{slice_get-map, slice_get-get_or}
-use Rattle.std.specs.Prelude.{⊤, IsTrue, IsSomeAnd, filter, ok_or, option_map, slice_get}
+use Rattle.std.specs.Prelude.{IsTrue, IsSomeAnd, filter, ok_or, option_map, slice_get}
 use Rattle.std.specs.Borrow.{Bor}
-use Rattle.span_run.specs.Script.{cut, is_full, lines_in, requests_of, words_in, words_of_texts, AskFor, IsScript, IsScriptFault, IsWrongAfter, IsWrongAt}
+use Rattle.span_run.specs.Script.{cut, is_full, lines_in, requests_of, words_in, words_of_texts, AskFor, IsScript, IsScriptFault, IsWrongAfter}
 use Rattle.span_run.specs.declared.faults.RunFault.{RunFault}
 use Rattle.span_run.specs.declared.faults.RunFault.TheVariants.{Line, Memory}
 use Rattle.span_run.specs.declared.requests.Request.{Request}
-use Rattle.span_run.specs.declared.lines.Line as lines
 use Rattle.span_run.specs.declared.script.Script.{Script}
 
 -- a script's lines ask for requests

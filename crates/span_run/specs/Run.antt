@@ -9,7 +9,6 @@ use Rattle.span_core.specs.declared.ids.Id.{Id}
 use Rattle.span_core.specs.declared.ids.Lane.{Lane}
 use Rattle.span_core.specs.declared.records.Parent.{Parent}
 use Rattle.span_core.specs.declared.records.Parent.TheVariants as parent
-use Rattle.span_core.specs.declared.refusals.TraceError.{TraceError}
 use Rattle.span_core.specs.declared.refusals.TraceError.TheVariants.{UnknownSpan}
 use Rattle.span_registry.specs.Closes.{Member}
 use Rattle.span_registry.specs.Step.{Drops, IsCurrent, Opens, RefusesEnter, RefusesNew, RefusesRelease, entered, left}

@@ -1,6 +1,5 @@
-use Rattle.std.proofs.Common.{◌≡◌, ◌+◌}
 use Rattle.std.proofs.lemmas.Option.{slice_get-get_or}
-use Rattle.span_run.proofs.Naming.{AreNames, AreNames-all, AreNames-past, AreNames-named}
+use Rattle.span_run.proofs.Naming.{AreNames-all, AreNames-past, AreNames-named}
 use Rattle.span_run.proofs.replies.Names.new.Goals as goal
 use Rattle.span_run.proofs.replies.Names.new.Goals.{in-Some+in_ok-insert, in_default}
 

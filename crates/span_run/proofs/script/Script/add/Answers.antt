@@ -1,6 +1,5 @@
-use Rattle.std.proofs.Common.{◌≡◌, ◌∙◌, ◌++◌, ◌∷◌, [], List, Option, IfSome, ap, refl, subst}
-use Rattle.span_run.specs.Script.{lines_of, requests_of, Asks}
-use Rattle.span_run.specs.declared.lines.Line.{Line}
+use Rattle.std.proofs.Common.{◌∙◌, ◌++◌, ◌∷◌, [], Option, IfSome, ap, refl, subst}
+use Rattle.span_run.specs.Script.{lines_of, Asks}
 use Rattle.span_run.specs.declared.requests.Request.{Request}
 use Rattle.span_run.proofs.Growing.{IsScript-add}
 use Rattle.span_run.proofs.script.Script.add.Goals as goal

@@ -1,6 +1,6 @@
 use Rattle.std.proofs.Common.{◌≡◌, ◌∙◌, ℕ, List, length, Option, None, Some, IfSome, sym, refl, inr, subst, rules}
 use Rattle.std.proofs.lemmas.Map.Text.{btree_map_updates_str}
-use Rattle.std.specs.Prelude.{Bool, false, is_some, bytes_eq}
+use Rattle.std.specs.Prelude.{false, is_some, bytes_eq}
 use Rattle.std.specs.Map.{update}
 use Rattle.span_run.specs.Line.{declared_label}
 use Rattle.span_run.specs.Script.{Declares, IsFree, place_of, lines_of}

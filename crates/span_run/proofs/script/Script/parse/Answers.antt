@@ -1,4 +1,4 @@
-use Rattle.std.proofs.Common.{◌≡◌, ◌∙◌, ap, sym, subst, Result, IfErr, map, rules}
+use Rattle.std.proofs.Common.{◌∙◌, ap, map, rules}
 use Rattle.span_run.specs.Script.{IsScriptFault}
 use Rattle.span_run.proofs.Wrong.{fault-at, no-line}
 use Rattle.span_run.proofs.script.Script.parse.Goals as goal

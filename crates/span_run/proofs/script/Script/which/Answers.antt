@@ -1,4 +1,4 @@
-use Rattle.std.proofs.Common.{◌≡◌, sym, subst}
+use Rattle.std.proofs.Common.{sym, subst}
 use Rattle.span_run.specs.Script.{lines_of, Means}
 use Rattle.span_run.specs.declared.lines.Name.{Name}
 use Rattle.span_run.specs.declared.requests.Which.TheVariants.{Made}
