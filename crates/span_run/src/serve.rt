@@ -1,6 +1,6 @@
 //! Lists of requests, served in order.
 ghost use Rattle.std.specs.Prelude.{◌≡◌, ◌∷◌, [], ◌++◌, List, OnErr, IfOk, IfErr, ◌<◌, ◌≤◌, ◌+◌, vec_len, vec_capacity};
-ghost use Rattle.span_core.specs.Attributes.{asked_parent, metadata_of};
+ghost use Rattle.span_core.specs.Attributes.{asked_parent, metadata_of, values_of};
 ghost use Rattle.span_core.specs.Id.{number_of};
 ghost use Rattle.span_run.specs.Notices.{Hears};
 ghost use Rattle.span_run.specs.Run.{DropStep, EnterStep, ExitStep, NewStep, RecordStep, Run, Step, resolved, resolved_parent};
@@ -115,6 +115,7 @@ fn append(answers: &mut Vec<Answer>, answer: Answer)
 fn attributes_of(metadata: Metadata, parent: Parent) -> Attributes<'static>
     ensures metadata { metadata_of result ≡ metadata }
     ensures parent { asked_parent result ≡ parent }
+    ensures values { values_of result ≡ [] }
 {
     match parent {
         Parent::Root => Attributes::new_root(metadata, &[]),

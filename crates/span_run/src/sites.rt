@@ -1,6 +1,6 @@
 //! The callsites that a script names by one digit.
-ghost use Rattle.std.specs.Prelude.{◌≡◌, ◌≢◌, ◌<◌, ℕ, IfNone, IfSome, codes};
-ghost use Rattle.span_core.specs.Metadata.{callsite_of, kind_of, level_of, name_of, target_of};
+ghost use Rattle.std.specs.Prelude.{◌≡◌, ◌≢◌, ◌<◌, [], ℕ, IfNone, IfSome, codes};
+ghost use Rattle.span_core.specs.Metadata.{callsite_of, fields_of, kind_of, level_of, name_of, names_of, target_of};
 ghost use Rattle.span_run.specs.Line.{digit};
 ghost use Rattle.span_run.specs.Site.{IsSpanSite};
 
@@ -28,6 +28,7 @@ fn span_of(callsite: u64, name: &'static str, level: Level) -> Metadata
     ensures target { target_of result ≡ codes "script" }
     ensures level { level_of result ≡ level }
     ensures kind { kind_of result ≡ Kind.SPAN }
+    ensures fields { names_of (fields_of result) ≡ [] }
 {
     let fields = FieldSet::new(&[]);
     Metadata::new(callsite, name, "script", level, Kind::SPAN, fields)
