@@ -87,3 +87,9 @@ pub fn members()
     ensures ids { (a b : FilterId) → is_attached a ≡ is_attached b → ((n : ℕ) → n < LIMIT → has_filter a n ≡ has_filter b n) → a ≡ b }
     ensures maps { (a b : FilterMap) → ((n : ℕ) → n < LIMIT → refuses a n ≡ refuses b n) → a ≡ b }
 {}
+
+/// There are 64 filters, numbered from 0.
+pub fn filters_are_64()
+    ensures ids { FilterId.LIMIT ≡ 64 }
+    ensures numbers { LIMIT ≡ 64 }
+{}

@@ -44,7 +44,7 @@ parent_in o = option_and_then (λ r. r.parent) o
 abbrev shown_in : Option SeenSpan → Bool
 shown_in o = option_map_or (λ r. not r.hidden) o false
 
-parent_some : (s : Store) (mask : FilterId) (x : ℕ) (r : Span) → get s.spans x ≡ Some r → parent_seen (seen_spans s mask) x ≡ r.parent
+pub parent_some : (s : Store) (mask : FilterId) (x : ℕ) (r : Span) → get s.spans x ≡ Some r → parent_seen (seen_spans s mask) x ≡ r.parent
 parent_some s mask x r e = ap parent_in (seen_some s mask x r e)
 
 pub shown_some : (s : Store) (mask : FilterId) (x : ℕ) (r : Span) → get s.spans x ≡ Some r → is_shown (seen_spans s mask) x ≡ not (is_hidden mask r.verdict)

@@ -1,6 +1,6 @@
 -- Closing spans one after another: what is closed so far, and what is closing now.
 use Rattle.std.proofs.Common.{◌≡◌, ℕ, ◌+◌, ◌-◌, ◌<◌, ◌≤◌, ◌⊎◌, List, [], ◌∷◌, ◌++◌, length, Option, Some, None, refl, sym, ap, subst, ◌∙◌, inl, inr, arith, Bool, true, false, cond, IfSome, append_assoc, is_some, zero, suc}
-use Rattle.std.proofs.lemmas.List.{append-nil}
+use Rattle.std.proofs.lemmas.List.{append-nil, length-append}
 use Rattle.std.proofs.lemmas.Bool.{cases_eq}
 use Rattle.std.specs.Option.{option_and_then}
 use Rattle.std.specs.Cmp.{nat_cmp_total}
@@ -82,7 +82,7 @@ pub none_dropped : (old : RegistryState) (x : ℕ) → IsForest old.store.spans 
 none_dropped old x f s h o = record {
   closes = none_unheld (take_handle old.store.spans x) (forest_taken old.store.spans x f h)
       (settled_but_none (take_handle old.store.spans x) (settled_open (take_handle old.store.spans x) x (settled_taken old.store.spans x s h) o));
-  taken = record { store = refl; limits = refl; filters = refl; retired = omega arith };
+  taken = record { store = refl; limits = refl; filters = refl; retired = omega arith; no_other = omega arith; late = λ h. h };
 }
 
 -- ---- the closes of a drop, one after another
@@ -121,7 +121,7 @@ pub record Progress (first now : RegistryState) (next : Option ℕ) (xs : List �
   pub closing : IfSome next (IsClosing now.store.spans)
 
 pub progress_first : (first : RegistryState) (x : ℕ) → IsForest first.store.spans → IsSettledBut first.store.spans (Some x) → IsClosing first.store.spans x → Progress first first (Some x) []
-progress_first first x f s k = record { taken = record { store = refl; limits = refl; filters = refl; retired = omega arith }; rest = λ ys h. h; forest = f; settled = s; closing = k }
+progress_first first x f s k = record { taken = record { store = refl; limits = refl; filters = refl; retired = omega arith; no_other = omega arith; late = λ h. h }; rest = λ ys h. h; forest = f; settled = s; closing = k }
 
 pub progress_more : (first now new : RegistryState) (x : ℕ) (xs : List ℕ) (o : Option ℕ) → Progress first now (Some x) xs → Removes now x new
     → IfSome o (λ p. (parent_of now.store.spans x ≡ Some p) × IsClosing new.store.spans p) → (o ≡ None → (p : ℕ) → parent_of now.store.spans x ≡ Some p → IsOpen new.store.spans p)
@@ -135,6 +135,8 @@ progress_more first now new x xs o h r next last =
         limits = r.limits ∙ h.taken.limits;
         filters = r.filters ∙ h.taken.filters;
         retired = (let a = r.retired in let b = h.taken.retired in omega arith);
+        no_other = (let a = r.no_other in let b = h.taken.no_other in let n = length-append xs (x ∷ []) in omega arith);
+        late = λ _. r.late;
       };
       rest = λ ys u. subst (AreUnheld first.store.spans) (sym (append_assoc xs (x ∷ []) ys))
           (h.rest (x ∷ ys) (unheld_step now.store.spans x h.forest h.settled h.closing ys (subst (λ (m : Spans). AreUnheld m ys) spans u)));

@@ -38,7 +38,8 @@ spans_removed es fs m w n ss l k now x v e u =
       limits = refl;
       filters = refl;
       retired = omega arith;
-      retired_late = omega arith;
+      no_other = omega arith;
+      late = omega arith;
     })
 
 -- ---- records and extensions stay paired

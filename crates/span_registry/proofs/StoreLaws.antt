@@ -1,12 +1,12 @@
 -- The laws of the store.
-use Rattle.std.proofs.Common.{◌≡◌, ℕ, ◌<◌, ◌⊎◌, ◌↔◌, List, [], ◌∷◌, Option, Some, None, Bool, true, false, cond, nat_eq, zero, suc, refl, sym, ap, subst, ◌∙◌, inl, inr, arith}
+use Rattle.std.proofs.Common.{◌≡◌, ℕ, ◌<◌, ◌⊎◌, ◌↔◌, List, [], ◌∷◌, ◌++◌, Option, Some, None, Bool, true, false, cond, nat_eq, zero, suc, refl, sym, ap, subst, ◌∙◌, inl, inr, arith}
 use Rattle.std.proofs.lemmas.Bool.{cases_eq, eqb-true, eq-eqb, true≢false}
 use Rattle.std.specs.Option.{option_and_then}
 use Rattle.std.specs.Ordering.{nat_cmp, eq_by_cmp}
 use Rattle.std.specs.Cmp.{nat_cmp_total}
 use Rattle.std.specs.FinMap.{FinMap, entries, find, get, get-entries, get-insert, get-remove, insert, nat_cmp-IsAntisymmetric, remove, same_map}
 use Rattle.std.specs.Map.{keys_of}
-use Rattle.span_registry.specs.Closes.{IsWithin, Member}
+use Rattle.span_registry.specs.Closes.{Member}
 use Rattle.span_registry.specs.LaneStack.{leave}
 use Rattle.span_registry.specs.Step.{entered, left}
 use Rattle.span_registry.specs.Store.{HasChild, IsChain, IsClosing, IsForest, IsInStore, IsOpen, Span, Spans, Stacks, Store, is_parent, parent_of, stack_of, with_stack}
@@ -142,25 +142,21 @@ parent_by m x p (Some r) f e h = let c = f x r e in second_of m x p r c.0 e h c.
 pub parent_there : (m : Spans) (x p : ℕ) → IsForest m → parent_of m x ≡ Some p → IsInStore m p
 parent_there m x p f h = parent_by m x p (get m x) f refl h
 
--- the end of a chain
-record End (m : Spans) (xs : List ℕ) : Type 0 where
-  root : ℕ
-  span : Span
-  member : Member root xs
-  there : get m root ≡ Some span
-  none : span.parent ≡ None
+nothing_left : (m : Spans) (o : Option ℕ) → IsChain m o [] → o ≡ None
+nothing_left m None c = refl
+nothing_left m (Some p) c = absurd c
 
-end_at : (m : Spans) (x y : ℕ) (r : Span) (ys : List ℕ) (o : Option ℕ) → x ≡ y → get m x ≡ Some r → r.parent ≡ o → ((p : ℕ) → o ≡ Some p → End m ys) → End m (y ∷ ys)
-end_at m x y r ys None same e h rest = record { root = x; span = r; member = inl same; there = e; none = h }
-end_at m x y r ys (Some p) same e h rest = let u = rest p refl in record { root = u.root; span = u.span; member = inr u.member; there = u.there; none = u.none }
+begins_with : (m : Spans) (o : Option ℕ) (z : ℕ) (zs : List ℕ) → IsChain m o (z ∷ zs) → o ≡ Some z
+begins_with m None z zs c = absurd c
+begins_with m (Some p) z zs c = ap Some c.0
 
-end_of : (m : Spans) (x : ℕ) (xs : List ℕ) → IsChain m (Some x) xs → End m xs
-end_of m x [] c = absurd c
-end_of m x (y ∷ ys) c = end_at m x y c.1 ys c.1.parent c.0 c.2 refl (λ p h. end_of m p ys (subst (λ (o : Option ℕ). IsChain m o ys) h c.3))
-
--- from a span in the store the parents lead to a root
-pub root_above : (m : Spans) (x : ℕ) → IsForest m → IsInStore m x → (root : ℕ) × IsWithin m x root × IsInStore m root × (parent_of m root ≡ None)
-root_above m x f there =
-    let c = f x there.0 there.1 in
-    let u = end_of m x c.0 c.1 in
-    (u.root, (c.0, c.1, u.member), (u.span, u.there), ap (option_and_then (λ (r : Span). r.parent)) u.there ∙ u.none)
+-- a chain ends at a span without a parent
+pub root_above : (m : Spans) (x : ℕ) (xs : List ℕ) → IsChain m (Some x) xs → (below : List ℕ) × (root : ℕ) × IsChain m (Some x) (below ++ root ∷ []) × IsInStore m root × (parent_of m root ≡ None)
+root_above m x [] c = absurd c
+root_above m x (y ∷ []) c =
+    let here : get m y ≡ Some c.1 = subst (λ (q : ℕ). get m q ≡ Some c.1) c.0 c.2 in
+    ([], y, c, (c.1, here), ap (option_and_then (λ (r : Span). r.parent)) here ∙ nothing_left m c.1.parent c.3)
+root_above m x (y ∷ (z ∷ zs)) c =
+    let up : c.1.parent ≡ Some z = begins_with m c.1.parent z zs c.3 in
+    let u = root_above m z (z ∷ zs) (subst (λ (o : Option ℕ). IsChain m o (z ∷ zs)) up c.3) in
+    (y ∷ u.0, u.1, (c.0, c.1, c.2, subst (λ (o : Option ℕ). IsChain m o (u.0 ++ u.1 ∷ [])) (sym up) u.2), u.3, u.4)

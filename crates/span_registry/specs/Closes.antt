@@ -11,7 +11,7 @@ abbrev pub Member : ℕ → List ℕ → Type 0
 Member x [] = ⊥
 Member x (y ∷ ys) = (x ≡ y) ⊎ Member x ys
 
--- y is x or a descendant of it
+-- y is x or a descendant of it: x stands in y's chain of parents up to a root
 abbrev pub IsWithin : Spans → ℕ → ℕ → Type 0
 IsWithin m y x = (up : List ℕ) × IsChain m (Some y) up × Member x up
 

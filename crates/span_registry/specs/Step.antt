@@ -1,5 +1,5 @@
 -- What each call does to the store, and when it is refused.
-use Rattle.std.specs.Prelude.{◌≡◌, ℕ, ◌+◌, ◌-◌, ◌*◌, ◌⊎◌, ◌<◌, ◌≤◌, false, Option, Some, None, IfSome, List, [], ◌∷◌, ◌^◌}
+use Rattle.std.specs.Prelude.{◌≡◌, ℕ, ◌+◌, ◌-◌, ◌*◌, ◌⊎◌, ◌<◌, ◌≤◌, false, Option, Some, None, IfSome, List, [], ◌∷◌, ◌^◌, length}
 use Rattle.std.specs.Option.{option_map}
 use Rattle.std.specs.FinMap.{get, insert, len}
 use Rattle.std.specs.FinSet.{contains}
@@ -137,20 +137,27 @@ handle_added m x (Some r) = insert m x (record r { handles = r.handles + 1 })
 abbrev pub add_handle : Spans → ℕ → Spans
 add_handle m x = handle_added m x (get m x)
 
--- x is taken out; its place may be retired by that
+-- no more places are retired than all their generations allow
+abbrev pub RetiresLate : RegistryState → Type 0
+RetiresLate s = s.retired * s.limits.generations ≤ set_len s.store.issued
+
+-- x is taken out; its place may be retired by that, and no other
 pub record Removes (old : RegistryState) (x : ℕ) (new : RegistryState) : Type 0 where
   pub store : new.store ≡ without old.store (x ∷ [])
   pub limits : new.limits ≡ old.limits
   pub filters : new.filters ≡ old.filters
   pub retired : old.retired ≤ new.retired
-  pub retired_late : new.retired * new.limits.generations ≤ set_len new.store.issued
+  pub no_other : new.retired ≤ old.retired + 1
+  pub late : RetiresLate new
 
--- these spans are taken out; their places may be retired by that
+-- these spans are taken out; their places may be retired by that, and no other
 pub record TakesOut (old : RegistryState) (xs : List ℕ) (new : RegistryState) : Type 0 where
   pub store : new.store ≡ without old.store xs
   pub limits : new.limits ≡ old.limits
   pub filters : new.filters ≡ old.filters
   pub retired : old.retired ≤ new.retired
+  pub no_other : new.retired ≤ old.retired + length xs
+  pub late : RetiresLate old → RetiresLate new
 
 -- a handle is taken from x, and what is closed by that is taken out
 pub record Drops (old : RegistryState) (x : ℕ) (closed : List ℕ) (new : RegistryState) : Type 0 where

@@ -14,7 +14,7 @@ ghost use Rattle.span_core.specs.Pass.{refused_of};
 ghost use Rattle.span_registry.specs.Closes.{take_handle};
 ghost use Rattle.span_registry.specs.LaneStack.{leave};
 ghost use Rattle.span_registry.specs.SpanData.{data_extensions, data_id, data_span};
-ghost use Rattle.span_registry.specs.Step.{HasPlace, HasNoPlace, IsContext, IsCurrent, IsParentFor, Opens, RefusesClone, RefusesEnter, RefusesNew, RefusesRelease, Removes, add_handle, entered, entered_last, left};
+ghost use Rattle.span_registry.specs.Step.{HasPlace, HasNoPlace, IsContext, IsCurrent, IsParentFor, Opens, RefusesClone, RefusesEnter, RefusesNew, RefusesRelease, Removes, RetiresLate, add_handle, entered, entered_last, left};
 ghost use Rattle.span_registry.specs.Store.{IsClosing, IsForest, IsHeld, IsInStore, IsOpen, handles_of, new_registry, parent_of, with_spans};
 
 use crate::extensions::ExtensionsMut;
@@ -351,7 +351,7 @@ impl Registry {
     /// How many places are retired: none, since the ordered map has no places.
     pub fn retired(&self) -> u32
         ensures retired { result ≡ self.now.retired }
-        ensures late { result * self.now.limits.generations ≤ set.len self.now.store.issued }
+        ensures late { RetiresLate self.now }
     {
         let _ = &self.issued;
         0
