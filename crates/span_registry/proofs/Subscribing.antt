@@ -1,8 +1,8 @@
 -- What hooks may leave of a registry.
-use Rattle.std.specs.Prelude.{◌≡◌, ℕ, ◌+◌, List, Option, Some, None, Result, Ok, Err, IfOk, OnOk}
+use Rattle.std.specs.Prelude.{◌≡◌, ℕ, ◌+◌, Option, Some, Result, Ok, Err, IfOk, OnOk}
 use Rattle.std.specs.Option.{option_map, unwrap_or}
-use Rattle.std.specs.FinMap.{get, insert}
-use Rattle.std.proofs.Common.{refl, ap, sym, ◌∙◌}
+use Rattle.std.specs.FinMap.{get}
+use Rattle.std.proofs.Common.{refl, ap, ◌∙◌}
 use Rattle.span_core.specs.declared.callsites.Metadata.{Metadata}
 use Rattle.span_core.specs.declared.filters.FilterMap.{FilterMap}
 use Rattle.span_core.specs.declared.records.Parent.{Parent}

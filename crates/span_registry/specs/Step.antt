@@ -1,10 +1,9 @@
 -- What each call does to the store, and when it is refused.
 use Rattle.std.specs.Prelude.{◌≡◌, ℕ, ◌+◌, ◌-◌, ◌*◌, ◌⊎◌, ◌<◌, ◌≤◌, false, Option, Some, None, IfSome, List, [], ◌∷◌, ◌^◌, length}
-use Rattle.std.specs.Option.{option_map}
 use Rattle.std.specs.FinMap.{get, insert, len}
 use Rattle.std.specs.FinSet.{contains}
 use Rattle.std.specs.FinSet.{insert as add, len as set_len}
-use Rattle.span_core.specs.Id.{number_of, id_of}
+use Rattle.span_core.specs.Id.{number_of}
 use Rattle.span_core.specs.declared.callsites.Metadata.{Metadata}
 use Rattle.span_core.specs.declared.filters.FilterMap.{FilterMap}
 use Rattle.span_core.specs.declared.ids.Id.{Id}
