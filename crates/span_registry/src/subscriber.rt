@@ -27,14 +27,20 @@ pub trait Subscriber: LookupSpan {
     fn on_register_dispatch(&mut self)
         ensures { Self.registry self.new ≡ Self.registry self.old };
 
-    /// Whether the stack wants what this callsite makes. The filters add their interests to the pass.
-    fn register_callsite(&self, meta: &Metadata, pass: &mut Pass) -> Interest;
+    /// Whether the stack wants what this callsite makes. The filters add their interests to the pass, and change no
+    /// answer in it.
+    fn register_callsite(&self, meta: &Metadata, pass: &mut Pass) -> Interest
+        ensures refused { refused_of pass.new ≡ refused_of pass.old };
 
-    /// Whether the stack wants a span or an event with this metadata. The filters' answers go into the pass.
-    fn enabled(&self, lane: Lane, meta: &Metadata, pass: &mut Pass) -> bool;
+    /// Whether the stack wants a span or an event with this metadata. The filters' answers go into the pass, and add
+    /// no interest to it.
+    fn enabled(&self, lane: Lane, meta: &Metadata, pass: &mut Pass) -> bool
+        ensures sum { interest_sum pass.new ≡ interest_sum pass.old };
 
-    /// Whether the stack wants this event, after `enabled`. The filters' answers go into the pass.
-    fn event_enabled(&self, lane: Lane, event: &Event<'_>, pass: &mut Pass) -> bool;
+    /// Whether the stack wants this event, after `enabled`. The filters' answers go into the pass, and add no interest
+    /// to it.
+    fn event_enabled(&self, lane: Lane, event: &Event<'_>, pass: &mut Pass) -> bool
+        ensures sum { interest_sum pass.new ≡ interest_sum pass.old };
 
     /// The highest level that the stack may want, if it knows one.
     fn max_level_hint(&self) -> Option<LevelFilter>;
