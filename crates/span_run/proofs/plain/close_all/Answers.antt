@@ -1,4 +1,4 @@
-use Rattle.std.proofs.Common.{◌≡◌, refl, sym, subst, ap, ◌∙◌, List, ℕ, Some, None, Option, ◌++◌, ◌∷◌, [], IfSome}
+use Rattle.std.proofs.Common.{◌≡◌, refl, subst, ℕ, Some, None, Option, ◌++◌, ◌∷◌, [], IfSome}
 use Rattle.std.specs.Option.{option_map}
 use Rattle.span_core.specs.Id.{number_of}
 use Rattle.span_core.specs.declared.ids.Id.{Id}

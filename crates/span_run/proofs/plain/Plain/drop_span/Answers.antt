@@ -1,10 +1,10 @@
-use Rattle.std.proofs.Common.{◌≡◌, sym, subst, ap, refl, [], List, ℕ, Some, IsTrue, ◌↔◌, true, false, ◌∙◌}
+use Rattle.std.proofs.Common.{sym, subst, refl, [], List, ℕ, Some, IsTrue, ◌↔◌, true, false}
 use Rattle.std.proofs.lemmas.Bool.{true≢false}
 use Rattle.std.proofs.lemmas.Result.{err_from_is_err_and}
 use Rattle.span_core.specs.Id.{number_of}
-use Rattle.span_registry.specs.Closes.{AreUnheld, IsSettled, IsSettledBut, Member, take_handle}
+use Rattle.span_registry.specs.Closes.{AreUnheld, IsSettled, IsSettledBut, Member}
 use Rattle.span_registry.specs.Step.{Drops, RefusesRelease, TakesOut}
-use Rattle.span_registry.specs.Store.{RegistryState, Spans, IsForest, IsHeld, IsOpen, with_spans}
+use Rattle.span_registry.specs.Store.{RegistryState, IsForest, IsHeld, IsOpen}
 use Rattle.span_registry.proofs.Drops.{begins, forest_taken, none_dropped, settled_open, settled_taken}
 use Rattle.span_run.specs.Notices.{Watched, Hears, closes_of}
 use Rattle.span_run.proofs.Hears.{hears_nothing}

@@ -1,4 +1,4 @@
-use Rattle.std.proofs.Common.{◌≡◌, ap, sym, subst, refl, [], ◌∷◌, List, ◌∙◌}
+use Rattle.std.proofs.Common.{ap, sym, subst, refl, [], ◌∷◌, List, ◌∙◌}
 use Rattle.std.proofs.lemmas.Bool.{true≢false}
 use Rattle.span_core.specs.Id.{number_of}
 use Rattle.span_registry.specs.Closes.{IsSettled}

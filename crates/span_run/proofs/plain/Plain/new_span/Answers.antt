@@ -1,4 +1,4 @@
-use Rattle.std.proofs.Common.{subst, sym, ap, ◌<◌, arith}
+use Rattle.std.proofs.Common.{subst, sym, ap, arith}
 use Rattle.std.proofs.lemmas.Result.{err_from_is_err_and}
 use Rattle.span_core.specs.Attributes.{asked_parent, metadata_of}
 use Rattle.span_core.specs.Id.{number_of}

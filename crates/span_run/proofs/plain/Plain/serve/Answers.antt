@@ -1,4 +1,4 @@
-use Rattle.std.proofs.Common.{◌≡◌, refl, ap, sym, subst, List, ◌∷◌, [], ◌++◌, ◌≤◌, ◌+◌, length, arith, vec_len, vec_capacity}
+use Rattle.std.proofs.Common.{◌≡◌, refl, ap, sym, subst, List, ◌∷◌, [], length, arith}
 use Rattle.span_run.specs.Notices.{Hears}
 use Rattle.span_run.specs.Run.{Step}
 use Rattle.span_run.specs.declared.requests.Notice.{Notice}

@@ -1,4 +1,4 @@
-use Rattle.std.proofs.Common.{◌≡◌, sym, subst, refl, ◌∙◌, [], List, ap, Option, Some, None}
+use Rattle.std.proofs.Common.{◌≡◌, sym, subst, refl, ◌∙◌, [], ap, Option, Some, None}
 use Rattle.std.specs.Option.{option_map}
 use Rattle.span_core.specs.Current.{current_span}
 use Rattle.span_core.specs.Id.{number_of}
