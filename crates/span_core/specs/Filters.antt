@@ -18,7 +18,7 @@ no_filter n = false
 abbrev pub union : FilterSet → FilterSet → FilterSet
 union a b n = a n || b n
 
--- whether two sets have a filter in common
+-- whether two sets have a filter in common, among the numbers below 64
 abbrev pub have_common : FilterSet → FilterSet → Bool
 have_common a b = some_below LIMIT (λ n. a n && b n)
 

@@ -3,7 +3,7 @@ use Rattle.std.specs.Prelude.{ℕ, List, Bool, ◌&&◌, ◌||◌, not, nat_le, 
 use Rattle.std.specs.Char.{is_ascii_lowercase, is_ascii_digit}
 use Rattle.std.specs.List.{list_all}
 
--- a word that has a meaning of its own where a label may stand
+-- a word that no label is
 abbrev pub is_keyword : List ℕ → Bool
 is_keyword word = bytes_eq word (codes "root") || bytes_eq word (codes "in") || bytes_eq word (codes "mute")
 
