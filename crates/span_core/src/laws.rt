@@ -11,6 +11,7 @@ ghost use Rattle.span_core.specs.declared.levels.Level.{Level};
 ghost use Rattle.span_core.specs.declared.levels.LevelFilter.{LevelFilter};
 ghost use Rattle.span_core.specs.declared.numbers.TheConstants.{LIMIT};
 
+use crate::callsites::Kind;
 use crate::filters::{FilterId, FilterMap};
 use crate::interests::Interest;
 use crate::levels::{Level, LevelFilter};
@@ -27,6 +28,26 @@ pub fn numbers_tell_levels_apart()
     ensures most { (a : Level) → level_number a ≤ 5 }
     ensures levels { (a b : Level) → level_number a ≡ level_number b → a ≡ b }
     ensures filters { (a b : LevelFilter) → filter_number a ≡ filter_number b → a ≡ b }
+{}
+
+/// The levels have the numbers 1 to 5, and the filters by level those from 0.
+pub fn levels_have_their_numbers()
+    ensures error { level_number Level.ERROR ≡ 1 }
+    ensures warn { level_number Level.WARN ≡ 2 }
+    ensures info { level_number Level.INFO ≡ 3 }
+    ensures debug { level_number Level.DEBUG ≡ 4 }
+    ensures trace { level_number Level.TRACE ≡ 5 }
+    ensures none { filter_number LevelFilter.OFF ≡ 0 }
+    ensures errors { filter_number LevelFilter.ERROR ≡ 1 }
+    ensures warnings { filter_number LevelFilter.WARN ≡ 2 }
+    ensures infos { filter_number LevelFilter.INFO ≡ 3 }
+    ensures debugs { filter_number LevelFilter.DEBUG ≡ 4 }
+    ensures all { filter_number LevelFilter.TRACE ≡ 5 }
+{}
+
+/// What makes spans is not what makes events.
+pub fn kinds_differ()
+    ensures { Kind.SPAN ≢ Kind.EVENT }
 {}
 
 /// A level passes a filter by level if its number is at most the filter's, and is above a hint if it is greater.

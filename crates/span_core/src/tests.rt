@@ -261,6 +261,8 @@ fn refusals_are_written(rt: HostRuntime) -> Result<(), Fail> {
 fn laws_can_be_called() {
     laws::order_is_by_number();
     laws::numbers_tell_levels_apart();
+    laws::levels_have_their_numbers();
+    laws::kinds_differ();
     laws::levels_pass_by_number();
     laws::more_verbose_filters_pass_more();
     laws::sum_rule();
@@ -269,4 +271,5 @@ fn laws_can_be_called() {
     laws::filters_in_common();
     laws::hiding();
     laws::members();
+    laws::filters_are_64();
 }

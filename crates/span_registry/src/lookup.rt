@@ -56,6 +56,7 @@ pub trait LookupSpan {
         ensures found { option_map span_of_reference result ≡ map.get (registry self.now).store.spans (number_of id) }
         ensures reference { IfSome result (λ r. reference_of r ≡ reference_to registry self.now (mask_of r) (number_of id)) }
         ensures mask { IfSome result (λ r. (n : ℕ) → has_filter (mask_of r) n ≡ false) }
+        ensures attached { IfSome result (λ r. IsTrue (is_attached (mask_of r))) }
     {
         let data = self.span_data(id)?;
         Some(SpanRef::new(self, data, FilterId::none()))

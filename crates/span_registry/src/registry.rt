@@ -169,7 +169,7 @@ impl Registry {
         }
     }
 
-    /// All places are open or retired, or all ids were issued.
+    /// All places hold a span or are retired, or all ids were issued.
     fn has_no_place(&self) -> bool
         ensures { MatchBool result (HasNoPlace self.now) (HasPlace self.now) }
     {

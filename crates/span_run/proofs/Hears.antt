@@ -9,7 +9,11 @@ use Rattle.span_run.specs.declared.requests.Notice.{Notice}
 use Rattle.span_run.specs.declared.requests.Notice.TheVariants.{Close}
 
 pub hears_nothing : (r : Kept) → Hears r r []
-hears_nothing r = record { more = []; lost = []; split = refl; kept = sym (append-nil r.notices); all = λ _. refl; failed = λ f. (f, refl) }
+hears_nothing r = record { more = []; lost = []; split = refl; kept = sym (append-nil r.notices); all = λ _. refl; failed = λ f. (f, refl); silent = λ _. refl }
+
+no_more : (ns ms : List Notice) → ns ++ ms ≡ [] → (ns ≡ []) × (ms ≡ [])
+no_more [] ms e = (refl, e)
+no_more (n ∷ ns) ms e = let no : ⊥ = cc in absurd no
 
 pub hears_more : (a b c : Kept) (ns ms : List Notice) → Hears a b ns → Hears b c ms → Hears a c (ns ++ ms)
 hears_more a b c ns ms f g = by_case b.failed refl
@@ -23,6 +27,9 @@ hears_more a b c ns ms f g = by_case b.failed refl
         let v = g.failed u.0 in
         (v.0, ap (λ (us : List Notice). us ++ g.more) u.1 ∙ v.1)
 
+    silent : ns ++ ms ≡ [] → c ≡ a
+    silent e = let both = no_more ns ms e in g.silent both.1 ∙ f.silent both.0
+
     by_case : (w : Bool) → b.failed ≡ w → Hears a c (ns ++ ms)
     by_case true e =
         let v = g.failed e in
@@ -33,6 +40,7 @@ hears_more a b c ns ms f g = by_case b.failed refl
           kept = kept;
           all = λ no. absurd (true≢false (sym v.0 ∙ no));
           failed = failed;
+          silent = silent;
         }
     by_case false e =
         let none : f.lost ≡ [] = f.all e in
@@ -44,6 +52,7 @@ hears_more a b c ns ms f g = by_case b.failed refl
           kept = kept;
           all = g.all;
           failed = failed;
+          silent = silent;
         }
 
 pub closes_more : (lane : Lane) (xs : List ℕ) (x : ℕ) → closes_of lane (xs ++ (x ∷ [])) ≡ closes_of lane xs ++ (Close lane (id_of x) ∷ [])

@@ -1,6 +1,7 @@
 -- The names that lines give to the spans that their requests made.
 use Rattle.std.proofs.Common.{◌≡◌, ℕ, suc, zero, ◌+◌, ◌<◌, ◌≤◌, List, [], ◌∷◌, length, Option, Some, None, MatchOption, refl, sym, ap, ◌∙◌, subst, rules, arith}
 use Rattle.std.specs.Prelude.{Bool, true, false, cond, slice_get, IsSomeAnd}
+use Rattle.std.specs.Option.{option_map}
 use Rattle.std.specs.Ordering.{nat_cmp, is_eq}
 use Rattle.std.specs.Borrow.{Bor}
 use Rattle.std.specs.BTreeMap as tree
@@ -8,7 +9,7 @@ use Rattle.std.specs.BTreeMap.{BTreeMap}
 use native.Mathlib.Decide.{dec_lt}
 use Rattle.std.proofs.lemmas.Bool.Decides.{nat_tests}
 use Rattle.span_core.specs.Id.{number_of}
-use Rattle.span_run.specs.Printed.{IsNamed, IsNamedAt}
+use Rattle.span_run.specs.Printed.{AreLabels, IsNamed, IsNamedAt}
 use Rattle.span_run.specs.declared.lines.Line.{Line}
 use Rattle.span_run.specs.declared.requests.Answer.{Answer}
 use Rattle.span_run.specs.declared.requests.Answer.TheVariants.{Made}
@@ -47,12 +48,16 @@ AreNames lines answers i names = (number : ℕ) → MatchOption (tree.get nat_cm
     ((place : ℕ) (label : List ℕ) → place < i → ¬ (IsNamedAt lines answers place number label))
     (λ label. (place : ℕ) × IsNamedAt lines answers place number label.now)
 
+shown : (o : Option (Bor (List ℕ))) (P : Type 0) (Q : List ℕ → Type 0) → MatchOption o P (λ label. Q label.now) → MatchOption (option_map (λ label. label.now) o) P Q
+shown None P Q h = h
+shown (Some x) P Q h = h
+
 -- the names of all the lines
 pub AreNames-all : (lines : List Line) (answers : List Answer) (i : ℕ) (names : BTreeMap ℕ (Bor (List ℕ))) → length lines ≤ i → AreNames lines answers i names
-    → (number : ℕ) → MatchOption (tree.get nat_cmp names number) ((place : ℕ) (label : List ℕ) → ¬ (IsNamedAt lines answers place number label))
-    (λ label. (place : ℕ) × IsNamedAt lines answers place number label.now)
-AreNames-all lines answers i names end all number = MatchOption-map (tree.get nat_cmp names number) _ _ _ (all number)
-    (λ none place label h. let l : place < length lines = IsNamedAt-within lines answers place number label h in none place label (omega arith) h)
+    → AreLabels lines answers (λ number. option_map (λ label. label.now) (tree.get nat_cmp names number))
+AreNames-all lines answers i names end all number = shown (tree.get nat_cmp names number) _ (λ label. (place : ℕ) × IsNamedAt lines answers place number label)
+    (MatchOption-map (tree.get nat_cmp names number) _ _ _ (all number)
+    (λ none place label h. let l : place < length lines = IsNamedAt-within lines answers place number label h in none place label (omega arith) h))
 
 -- one place more at which no span is named
 pub AreNames-past : (lines : List Line) (answers : List Answer) (i : ℕ) (names : BTreeMap ℕ (Bor (List ℕ))) (l : Line) → slice_get lines i ≡ Some l

@@ -1,6 +1,7 @@
 pub mod Fault
 pub mod Label
 pub mod Line
+pub mod Names
 pub mod Notices
 pub mod Printed
 pub mod Program

@@ -29,7 +29,7 @@ watched_code = code_by (RegistryState × Kept) (coded× registry_code kept_code)
 abbrev pub new_recorder : Kept
 new_recorder = record { notices = []; failed = false }
 
--- a recorder is told these notices: behind what it has it keeps a beginning of them, all of them unless it fails, and none once it has failed
+-- a recorder is told these notices: behind what it has it keeps a beginning of them, all of them unless it fails, and none once it has failed; told nothing, it is as before
 pub record Hears (old new : Kept) (told : List Notice) : Type 0 where
   pub more : List Notice
   pub lost : List Notice
@@ -37,6 +37,7 @@ pub record Hears (old new : Kept) (told : List Notice) : Type 0 where
   pub kept : new.notices ≡ old.notices ++ more
   pub all : new.failed ≡ false → lost ≡ []
   pub failed : old.failed ≡ true → (new.failed ≡ true) × (more ≡ [])
+  pub silent : told ≡ [] → new ≡ old
 
 -- what a recorder is told where these spans close
 abbrev pub closes_of : Lane → List ℕ → List Notice

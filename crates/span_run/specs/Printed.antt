@@ -1,14 +1,11 @@
 -- What a script prints.
 use Rattle.std.specs.Prelude.{◌≡◌, ℕ, List, [], ◌∷◌, ◌++◌, Option, Some, None, MatchOption, IsSomeAnd, flat_map, decimal, slice_get, codes}
-use Rattle.std.specs.Option.{option_map_or}
-use Rattle.std.specs.Ordering.{nat_cmp}
-use Rattle.std.specs.BTreeMap as tree
+use Rattle.std.specs.Option.{unwrap_or}
 use Rattle.span_core.specs.Id.{number_of}
 use Rattle.span_core.specs.Refusal.{refusal_number}
 use Rattle.span_core.specs.declared.ids.Id.{Id}
 use Rattle.span_run.specs.Line.{declared_label}
 use Rattle.span_run.specs.declared.lines.Line.{Line}
-use Rattle.span_run.specs.declared.replies.Names.{Names}
 use Rattle.span_run.specs.declared.requests.Answer.{Answer}
 use Rattle.span_run.specs.declared.requests.Answer.TheVariants.{Made, Dropped, Done, Yes, Current, Refused}
 use Rattle.span_run.specs.declared.requests.Notice.{Notice}
@@ -22,15 +19,19 @@ IsNamed l answer number label = (declared_label l ≡ Some label) × ((id : Id) 
 abbrev pub IsNamedAt : List Line → List Answer → ℕ → ℕ → List ℕ → Type 0
 IsNamedAt lines answers place number label = IsSomeAnd (slice_get lines place) (λ l. IsNamed l (slice_get answers place) number label)
 
+-- labels of spans, by the numbers of their ids
+abbrev pub Labels : Type 0
+Labels = ℕ → Option (List ℕ)
+
 -- each span that a line made has the label of such a line, and no other span has one
-abbrev pub HoldsNames : List Line → List Answer → Names → Type 0
-HoldsNames lines answers names = (number : ℕ) → MatchOption (tree.get nat_cmp names.labels number)
+abbrev pub AreLabels : List Line → List Answer → Labels → Type 0
+AreLabels lines answers labels = (number : ℕ) → MatchOption (labels number)
     ((place : ℕ) (label : List ℕ) → ¬ (IsNamedAt lines answers place number label))
-    (λ label. (place : ℕ) × IsNamedAt lines answers place number label.now)
+    (λ label. (place : ℕ) × IsNamedAt lines answers place number label)
 
 -- the label of a span, or `?`
-abbrev pub name_in : Names → Id → List ℕ
-name_in names id = option_map_or (λ label. label.now) (tree.get nat_cmp names.labels (number_of id)) (codes "?")
+abbrev pub name_by : Labels → Id → List ℕ
+name_by labels id = unwrap_or (labels (number_of id)) (codes "?")
 
 -- a word and a line feed
 abbrev pub line_of : List ℕ → List ℕ
@@ -60,4 +61,4 @@ printed name answers notices = flat_map (reply_text name) answers ++ codes "== b
 
 -- the text is what is printed for these lines, answers and notices
 abbrev pub IsPrinted : List Line → List Answer → List Notice → List ℕ → Type 0
-IsPrinted lines answers notices text = (names : Names) × (HoldsNames lines answers names × (text ≡ printed (name_in names) answers notices))
+IsPrinted lines answers notices text = (labels : Labels) × (AreLabels lines answers labels × (text ≡ printed (name_by labels) answers notices))

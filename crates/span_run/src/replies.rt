@@ -1,7 +1,8 @@
 //! What a script prints.
 ghost use Rattle.std.specs.Prelude.{◌≡◌, ◌++◌, ℕ, List, OnOk, IfOk, MatchOption, slice_get, string_bytes};
 ghost use Rattle.span_core.specs.Id.{number_of};
-ghost use Rattle.span_run.specs.Printed.{name_in, notice_text, reply_text, HoldsNames, IsNamed, IsPrinted};
+ghost use Rattle.span_run.specs.Names.{labels_in};
+ghost use Rattle.span_run.specs.Printed.{name_by, notice_text, reply_text, AreLabels, IsNamed, IsPrinted};
 ghost use Rattle.span_run.specs.Script.{lines_of};
 
 use crate::lines::Line;
@@ -20,7 +21,7 @@ struct Names<'a> {
 impl<'a> Names<'a> {
     /// The names that the lines give to the spans that these answers made.
     fn new(alloc: Global, lines: &[Line<'a>], answers: &[Answer]) -> Result<Names<'a>, AllocError>
-        ensures { IfOk result (λ names. HoldsNames lines.now answers.now names) }
+        ensures { IfOk result (λ names. AreLabels lines.now answers.now (labels_in names)) }
     {
         let mut labels = BTreeMap::new(alloc);
         for (place, line) in lines.iter().enumerate() {
@@ -33,7 +34,7 @@ impl<'a> Names<'a> {
 
     /// The label of a span, or `?` where no line made it.
     fn of(&self, id: Id) -> &'a str
-        ensures { result.now ≡ name_in self.now id }
+        ensures { result.now ≡ name_by (labels_in self.now) id }
     {
         match self.labels.get(&id.into_u64()) {
             Some(label) => *label,
@@ -75,7 +76,7 @@ pub fn text_of(
 }
 
 fn write_answer(text: &mut String, names: &Names<'_>, answer: Answer) -> Result<(), AllocError>
-    ensures { OnOk result (string_bytes text.new ≡ string_bytes text.old ++ reply_text (name_in names.now) answer) }
+    ensures { OnOk result (string_bytes text.new ≡ string_bytes text.old ++ reply_text (name_by (labels_in names.now)) answer) }
 {
     match answer {
         Answer::Made(id) => writeln!(text, "{}", names.of(id)),
@@ -87,7 +88,7 @@ fn write_answer(text: &mut String, names: &Names<'_>, answer: Answer) -> Result<
 }
 
 fn write_notice(text: &mut String, names: &Names<'_>, notice: Notice) -> Result<(), AllocError>
-    ensures { OnOk result (string_bytes text.new ≡ string_bytes text.old ++ notice_text (name_in names.now) notice) }
+    ensures { OnOk result (string_bytes text.new ≡ string_bytes text.old ++ notice_text (name_by (labels_in names.now)) notice) }
 {
     match notice {
         Notice::New(_, id) => writeln!(text, "new {}", names.of(id)),

@@ -1,5 +1,5 @@
 //! From a script to what it prints.
-ghost use Rattle.std.specs.Prelude.{◌≡◌, ◌≢◌, ◌<◌, ◌≤◌, List, ℕ, length, vec_len, string_bytes, IfOk, IfErr, IfSome, OnOk, IsErrAnd};
+ghost use Rattle.std.specs.Prelude.{◌≡◌, ◌⊎◌, ◌<◌, ◌≤◌, List, ℕ, length, vec_len, string_bytes, IfOk, IfErr, IfSome, OnOk, IsErrAnd};
 ghost use Rattle.std.specs.Io.KnownBytes.{Appends};
 ghost use Rattle.std.specs.Str.Lossy.{utf8_lossy};
 ghost use Rattle.span_run.specs.Fault.{IsWrongLine};
@@ -21,15 +21,17 @@ const CHUNK: usize = 8192;
 
 /// Reads a script, serves it, and writes its replies and notices.
 ///
-/// The whole script is read first. A fault of reading is `Io`, as is one of writing, and then a part may be written.
+/// The whole script is read first. Where it can't be read, or a line is wrong, nothing is written. A fault of reading is
+/// `Io`, and so is one of writing: then a part of the output may be written.
 pub fn run<R: Read, W: Write>(alloc: Global, reader: &mut R, writer: &mut W) -> Result<(), RunFault>
     ensures printed { OnOk result (IfSome (R.remaining reader.old) (λ bytes. (output : List ℕ)
         × (Prints (utf8_lossy bytes) output × Appends (W.contents writer.old) (W.contents writer.new) output))) }
     ensures wrong { IfErr result (λ fault. IsWrongLine fault
         → IfSome (R.remaining reader.old) (λ bytes. IsScriptFault (utf8_lossy bytes) fault)) }
-    ensures unwritten { IfErr result (λ fault. fault ≢ RunFault.Io → writer.new ≡ writer.old) }
-    ensures too_long { IfSome (R.remaining reader.old) (λ bytes. SCRIPT_LIMIT < length bytes
-        → IsErrAnd result (λ fault. ¬ (IsWrongLine fault))) }
+    ensures unwritten { IfErr result (λ fault. (writer.new ≡ writer.old)
+        ⊎ ((fault ≡ RunFault.Io) × IfSome (R.remaining reader.old) (λ bytes. (output : List ℕ) × Prints (utf8_lossy bytes) output))) }
+    ensures too_long { IfSome (R.remaining reader.old) (λ bytes. 1048576 < length bytes
+        → IsErrAnd result (λ fault. ¬ (IsWrongLine fault)) × (writer.new ≡ writer.old)) }
 {
     let bytes = read_script(alloc, reader)?;
     // What isn't text becomes a character that no line has.

@@ -1,5 +1,5 @@
 use crate::faults::RunFault;
-use crate::run::{SCRIPT_LIMIT, run};
+use crate::run::run;
 use std::alloc::{AllocError, Global};
 use std::io;
 use std::io::{ErrorKind, Read, Write};
@@ -150,7 +150,7 @@ fn faults_are_told(rt: HostRuntime) -> Result<(), Fail> {
 #[test]
 fn size_limit(rt: HostRuntime) -> Result<(), Fail> {
     let mut script = Vec::from_slice(rt.alloc(), b"stack plain".as_slice())?;
-    for _ in script.len()..SCRIPT_LIMIT {
+    for _ in script.len()..1_048_576 {
         script.push(b'\n')?;
     }
     let mut output = Vec::new(rt.alloc());
@@ -229,7 +229,7 @@ fn readers(rt: HostRuntime) -> Result<(), Fail> {
         run(rt.alloc(), &mut endless, &mut output),
         Err(RunFault::Io)
     );
-    assert!(rt; endless.given < SCRIPT_LIMIT + 65_536);
+    assert!(rt; endless.given < 1_048_576 + 65_536);
     Ok(())
 }
 

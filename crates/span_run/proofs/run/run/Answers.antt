@@ -1,8 +1,9 @@
-use Rattle.std.proofs.Common.{◌≡◌, ◌∙◌, ℕ, List, Option, Some, None, Result, Ok, Err, IfSome, OnOk, ap, sym, subst}
+use Rattle.std.proofs.Common.{◌≡◌, ◌∙◌, ℕ, List, Option, Some, None, Result, Ok, Err, IfSome, IfErr, OnOk, ◌⊎◌, inr, ap, sym, subst}
 use Rattle.std.specs.Io.KnownBytes.{Appends}
 use Rattle.std.specs.Str.Lossy.{utf8_lossy}
 use Rattle.span_run.specs.Program.{Prints}
 use Rattle.span_run.specs.declared.faults.RunFault.{RunFault}
+use Rattle.span_run.specs.declared.faults.RunFault.TheVariants.{Io}
 use Rattle.span_run.proofs.run.run.Goals as goal
 
 -- what was read is the text, and what is printed for it was written
@@ -21,3 +22,19 @@ returns-clause-printed g c = written (g.R.Read.remaining c.args.reader.now) c.in
     (c.as_str.ensures.value ∙ c.in_ok-text.ensures.lossy ∙ ap (λ xs. utf8_lossy xs) c.deref.ensures.value)
     (subst (λ o. Prints c.as_str.result.now o) (sym c.as_str-2.ensures.value) c.in_ok-output.ensures.printed)
     c.write_output.ensures.written
+
+printable : (known : Option (List ℕ)) (items text output : List ℕ) → IfSome known (λ given. items ≡ given) → text ≡ utf8_lossy items → Prints text output
+    → IfSome known (λ bytes. (out : List ℕ) × Prints (utf8_lossy bytes) out)
+printable None items text output read is prints = tt
+printable (Some given) items text output read is prints = (output, subst (λ t. Prints t output) (is ∙ ap (λ xs. utf8_lossy xs) read) prints)
+
+-- where writing failed, the script was right
+refused : (P : Type 0) (Q : Type 0) (r : Result (Unit {0}) RunFault) → IfErr r (λ fault. fault ≡ Io) → Q → IfErr r (λ fault. P ⊎ ((fault ≡ Io) × Q))
+refused P Q (Ok u) io right = tt
+refused P Q (Err e) io right = inr (io, right)
+
+pub returns-clause-unwritten : goal.returns-clause-unwritten
+returns-clause-unwritten g c = refused _ _ c.write_output.result c.write_output.ensures.fault
+    (printable (g.R.Read.remaining c.args.reader.now) c.in_ok-bytes.bytes.items c.as_str.result.now c.as_str-2.result.now c.in_ok-bytes.ensures.all
+    (c.as_str.ensures.value ∙ c.in_ok-text.ensures.lossy ∙ ap (λ xs. utf8_lossy xs) c.deref.ensures.value)
+    (subst (λ o. Prints c.as_str.result.now o) (sym c.as_str-2.ensures.value) c.in_ok-output.ensures.printed))
