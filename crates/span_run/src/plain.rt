@@ -1,4 +1,4 @@
-//! A registry with one recorder: it serves lists of requests until layers and the dispatcher do.
+//! A registry with one recorder, which serves lists of requests.
 ghost use Rattle.std.specs.Prelude.{◌≡◌, ◌∷◌, [], ◌↔◌, List, ℕ, OnOk, OnErr, IfOk, IfErr, IfSome, IsTrue, Some, None};
 ghost use Rattle.std.specs.FinMap as map;
 ghost use Rattle.std.specs.Option.{IsSomeAnd, option_map};
