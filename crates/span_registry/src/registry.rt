@@ -353,6 +353,7 @@ impl Registry {
         ensures retired { result ≡ self.now.retired }
         ensures late { RetiresLate self.now }
     {
+        // A field's read shows the prover the registry's value.
         let _ = &self.issued;
         0
     }

@@ -141,7 +141,6 @@ impl Subscriber for Registry {
         ensures answer { result ≡ true }
         ensures pass { pass.new ≡ pass.old }
     {
-        let _ = pass;
         true // No filter refuses.
     }
 
@@ -149,7 +148,6 @@ impl Subscriber for Registry {
         ensures answer { result ≡ true }
         ensures pass { pass.new ≡ pass.old }
     {
-        let _ = pass;
         true // No filter refuses the event.
     }
 
