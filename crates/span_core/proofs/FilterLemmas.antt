@@ -2,14 +2,14 @@
 use Rattle.std.proofs.Common.{◌≡◌, ℕ, ◌<◌, Bool, true, false, refl, ap, ◌∙◌, IsTrue, Option, None, Some}
 use Rattle.std.specs.Prelude.{◌&&◌, ◌||◌, ◌↔◌, is_some}
 use Rattle.std.specs.Option.{option_map_or}
-use Rattle.std.proofs.lemmas.Bool.{and_from, and_parts, and_right}
-use Rattle.span_core.specs.declared.filters.FilterId.{FilterId}
-use Rattle.span_core.specs.declared.filters.FilterMap.{FilterMap}
-use Rattle.span_core.specs.declared.numbers.Numbers.{Numbers}
-use Rattle.span_core.specs.declared.numbers.TheConstants.{LIMIT}
-use Rattle.span_core.specs.Numbers.{has_number}
-use Rattle.span_core.specs.Filters.{FilterSet, has_filter, have_common, is_attached, is_hidden, no_filter, refuses, union}
-use Rattle.span_core.proofs.SameNumbers.{same_numbers}
+use Rattle.std.proofs.lemmas.Bool.{and_from, and_left, and_parts, and_right}
+use Rattle.span_core.specs.declared.filter.FilterId.{FilterId}
+use Rattle.span_core.specs.declared.filter.FilterMap.{FilterMap}
+use Rattle.span_core.specs.declared.number_set.NumberSet.{NumberSet}
+use Rattle.span_core.specs.declared.number_set.TheConstants.{LIMIT}
+use Rattle.span_core.specs.NumberSet.{has_number}
+use Rattle.span_core.specs.Filters.{FilterSet, HasFiltersOfBoth, HaveCommon, HidesAsEither, IsEmpty, SameFilters, SameMembers, has_filter, is_hidden, meets, refuses, union}
+use Rattle.span_core.proofs.SameNumberSet.{same_numbers}
 use Rattle.span_core.proofs.SomeBelow.{some_below-found, some_below-passes, some_below-same, some_below-or, some_below-none}
 
 or_swapped : (x y : Bool) → (x || y) ≡ (y || x)
@@ -28,20 +28,20 @@ or_regrouped false y z = refl
 pub union-assoc : (a b c : FilterSet) (n : ℕ) → union (union a b) c n ≡ union a (union b c) n
 union-assoc a b c n = or_regrouped (a n) (b n) (c n)
 
--- a filter of both
-pub have_common-member : (a b : FilterSet) → IsTrue (have_common a b) ↔ ((n : ℕ) × ((n < LIMIT) × IsTrue (a n) × IsTrue (b n)))
-have_common-member a b =
+-- two sets that meet
+pub meets-member : (a b : FilterSet) → IsTrue (meets a b) ↔ HaveCommon a b
+meets-member a b =
     let both : FilterSet = λ n. a n && b n in (
-      λ (h : IsTrue (have_common a b)).
+      λ (h : IsTrue (meets a b)).
           let found = some_below-passes LIMIT both h in
           let parts = and_parts (a found.0) (b found.0) found.1.1 in
           (found.0, (found.1.0, parts.0, parts.1)),
-      λ (w : (n : ℕ) × ((n < LIMIT) × IsTrue (a n) × IsTrue (b n))). some_below-found LIMIT both w.0 w.1.0 (and_from _ _ w.1.1 w.1.2),
+      λ (w : HaveCommon a b). some_below-found LIMIT both w.0 w.1.0 (and_from _ _ w.1.1 w.1.2),
     )
 
 -- sets with the same members below the limit
-pub have_common-same : (a b c : FilterSet) → ((n : ℕ) → n < LIMIT → a n ≡ b n) → have_common a c ≡ have_common b c
-have_common-same a b c h = some_below-same LIMIT (λ n. a n && c n) (λ n. b n && c n) (λ n l. ap (λ v. v && c n) (h n l))
+pub meets-same : (a b c : FilterSet) → SameMembers a b → meets a c ≡ meets b c
+meets-same a b c h = some_below-same LIMIT (λ n. a n && c n) (λ n. b n && c n) (λ n l. ap (λ v. v && c n) (h n l))
 
 and_swapped : (x y : Bool) → (x && y) ≡ (y && x)
 and_swapped true true = refl
@@ -49,8 +49,8 @@ and_swapped true false = refl
 and_swapped false true = refl
 and_swapped false false = refl
 
-pub have_common-comm : (a b : FilterSet) → have_common a b ≡ have_common b a
-have_common-comm a b = some_below-same LIMIT (λ n. a n && b n) (λ n. b n && a n) (λ n l. and_swapped (a n) (b n))
+pub meets-comm : (a b : FilterSet) → meets a b ≡ meets b a
+meets-comm a b = some_below-same LIMIT (λ n. a n && b n) (λ n. b n && a n) (λ n l. and_swapped (a n) (b n))
 
 and_over_or : (x y z : Bool) → ((x || y) && z) ≡ ((x && z) || (y && z))
 and_over_or true true true = refl
@@ -59,37 +59,38 @@ and_over_or true false true = refl
 and_over_or true false false = refl
 and_over_or false y z = refl
 
-pub have_common-union : (a b c : FilterSet) → have_common (union a b) c ≡ (have_common a c || have_common b c)
-have_common-union a b c =
+pub meets-union : (a b c : FilterSet) → meets (union a b) c ≡ (meets a c || meets b c)
+meets-union a b c =
     some_below-same LIMIT (λ n. (a n || b n) && c n) (λ n. (a n && c n) || (b n && c n)) (λ n l. and_over_or (a n) (b n) (c n))
     ∙ some_below-or LIMIT (λ n. a n && c n) (λ n. b n && c n)
 
-pub have_common-none : (a : FilterSet) → have_common no_filter a ≡ false
-have_common-none a = some_below-none LIMIT (λ n. false && a n) (λ n l. refl)
+-- a set without a filter
+pub meets-none : (a b : FilterSet) → IsEmpty a → meets a b ≡ false
+meets-none a b h = some_below-none LIMIT (λ n. a n && b n) (λ n l. and_left _ _ (h n))
 
 -- a mask that is the union of two
-pub is_hidden-union : (a b both : FilterId) → ((n : ℕ) → has_filter both n ≡ union (has_filter a) (has_filter b) n) → (verdict : FilterMap) → is_hidden both verdict ≡ (is_hidden a verdict || is_hidden b verdict)
-is_hidden-union a b both h verdict =
-    have_common-same (has_filter both) (union (has_filter a) (has_filter b)) (refuses verdict) (λ n l. h n) ∙ have_common-union (has_filter a) (has_filter b) (refuses verdict)
+pub is_hidden-union : (mask a b : FilterId) → HasFiltersOfBoth mask a b → HidesAsEither mask a b
+is_hidden-union mask a b h verdict =
+    meets-same (has_filter mask) (union (has_filter a) (has_filter b)) (refuses verdict) (λ n l. h n) ∙ meets-union (has_filter a) (has_filter b) (refuses verdict)
 
 -- a mask without a filter
-pub is_hidden-no_filter : (mask : FilterId) → ((n : ℕ) → has_filter mask n ≡ false) → (verdict : FilterMap) → is_hidden mask verdict ≡ false
-is_hidden-no_filter mask h verdict = have_common-same (has_filter mask) no_filter (refuses verdict) (λ n l. h n) ∙ have_common-none (refuses verdict)
+pub is_hidden-no_filter : (mask : FilterId) (verdict : FilterMap) → IsEmpty (has_filter mask) → is_hidden mask verdict ≡ false
+is_hidden-no_filter mask verdict h = meets-none (has_filter mask) (refuses verdict) h
 
 -- a verdict in which no filter refused
-pub is_hidden-no_refusal : (verdict : FilterMap) → ((n : ℕ) → refuses verdict n ≡ false) → (mask : FilterId) → is_hidden mask verdict ≡ false
-is_hidden-no_refusal verdict h mask = some_below-none LIMIT (λ n. has_filter mask n && refuses verdict n) (λ n l. and_right _ _ (h n))
+pub is_hidden-no_refusal : (mask : FilterId) (verdict : FilterMap) → IsEmpty (refuses verdict) → is_hidden mask verdict ≡ false
+is_hidden-no_refusal mask verdict h = some_below-none LIMIT (λ n. has_filter mask n && refuses verdict n) (λ n l. and_right _ _ (h n))
 
-same_options : (a b : Option Numbers) → is_some a ≡ is_some b → ((n : ℕ) → n < LIMIT → option_map_or (λ s. has_number s n) a false ≡ option_map_or (λ s. has_number s n) b false) → a ≡ b
+same_options : (a b : Option NumberSet) → is_some a ≡ is_some b → ((n : ℕ) → n < LIMIT → option_map_or (λ s. has_number s n) a false ≡ option_map_or (λ s. has_number s n) b false) → a ≡ b
 same_options None None e h = refl
 same_options None (Some y) e h = absurd (cc)
 same_options (Some x) None e h = absurd (cc)
-same_options (Some x) (Some y) e h = ap (λ (s : Numbers). let o : Option Numbers = Some s in o) (same_numbers x y h)
+same_options (Some x) (Some y) e h = ap (λ (s : NumberSet). let o : Option NumberSet = Some s in o) (same_numbers x y h)
 
 -- ids with the same members
-pub same_ids : (a b : FilterId) → is_attached a ≡ is_attached b → ((n : ℕ) → n < LIMIT → has_filter a n ≡ has_filter b n) → a ≡ b
-same_ids a b e h = ap (λ (o : Option Numbers). let id : FilterId = record { numbers = o } in id) (same_options a.numbers b.numbers e h)
+pub same_ids : (a b : FilterId) → SameFilters a b → a ≡ b
+same_ids a b h = ap (λ (o : Option NumberSet). let id : FilterId = record { numbers = o } in id) (same_options a.numbers b.numbers h.0 h.1)
 
 -- maps with the same refusals
-pub same_maps : (a b : FilterMap) → ((n : ℕ) → n < LIMIT → refuses a n ≡ refuses b n) → a ≡ b
-same_maps a b h = ap (λ (s : Numbers). let map : FilterMap = record { disabled_by = s } in map) (same_numbers a.disabled_by b.disabled_by h)
+pub same_maps : (a b : FilterMap) → SameMembers (refuses a) (refuses b) → a ≡ b
+same_maps a b h = ap (λ (s : NumberSet). let map : FilterMap = record { disabled_by = s } in map) (same_numbers a.disabled_by b.disabled_by h)

@@ -1,3 +1,3 @@
 pub mod FilterLemmas
-pub mod SameNumbers
+pub mod SameNumberSet
 pub mod SomeBelow

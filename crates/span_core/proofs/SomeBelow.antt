@@ -3,7 +3,7 @@ use Rattle.std.proofs.Common.{◌≡◌, ℕ, ◌+◌, ◌<◌, zero, suc, Bool,
 use Rattle.std.specs.Prelude.{◌||◌}
 use Rattle.std.proofs.lemmas.Bool.{cases_eq, or_cases, or_left, or_right, or_from, false≢true}
 use Rattle.std.proofs.Common.{⊎_elim}
-use Rattle.span_core.specs.Numbers.{some_below}
+use Rattle.span_core.specs.NumberSet.{some_below}
 
 pub some_below-zero : (p : ℕ → Bool) → some_below 0 p ≡ false
 unfolding some_below
@@ -20,7 +20,7 @@ some_below-found zero p n h t = absurd (omega arith)
 some_below-found (suc m) p n h t =
     ⊎_elim
     (λ (e : n ≡ m). or_right (some_below m p) (p m) (cc))
-    (λ (e : n ≡ m → ⊥). or_left (some_below m p) (p m) (some_below-found m p n (omega arith) t))
+    (λ (e : ¬ (n ≡ m)). or_left (some_below m p) (p m) (some_below-found m p n (omega arith) t))
     (cases_eq n m)
 
 -- so do all of them, where none passes

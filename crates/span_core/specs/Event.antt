@@ -1,10 +1,10 @@
 -- What an event shows.
 use Rattle.std.specs.Prelude.{ℕ, List}
 use Rattle.std.specs.Borrow.{Bor}
-use Rattle.span_core.specs.declared.callsites.Metadata.{Metadata}
-use Rattle.span_core.specs.declared.events.Event.{Event}
-use Rattle.span_core.specs.declared.records.FieldValue.{FieldValue}
-use Rattle.span_core.specs.declared.records.Parent.{Parent}
+use Rattle.span_core.specs.declared.metadata.Metadata.{Metadata}
+use Rattle.span_core.specs.declared.event.Event.{Event}
+use Rattle.span_core.specs.declared.field.FieldValue.{FieldValue}
+use Rattle.span_core.specs.declared.span.Parent.{Parent}
 
 -- the metadata of an event
 abbrev pub event_metadata : Event → Metadata

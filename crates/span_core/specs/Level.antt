@@ -1,10 +1,13 @@
 -- Levels and filters by level, by their numbers.
-use Rattle.std.specs.Prelude.{ℕ, Bool, false, not, nat_le, Option, None, Some}
+use Rattle.std.specs.Prelude.{◌≡◌, ◌↔◌, ℕ, ◌<◌, ◌≤◌, nat_le, Bool, IsTrue, false, not}
+use Rattle.std.specs.Prelude.{Option, None, Some}
+use Rattle.std.specs.Ordering.{nat_cmp}
+use Rattle.std.specs.declared.cmp.Ordering.{Ordering}
 use Rattle.std.specs.Option.{option_map_or}
-use Rattle.span_core.specs.declared.levels.Level.{Level}
-use Rattle.span_core.specs.declared.levels.LevelFilter.{LevelFilter}
-use Rattle.span_core.specs.declared.levels.Verbosity.{Verbosity}
-use Rattle.span_core.specs.declared.levels.Verbosity.TheVariants.{Error, Warn, Info, Debug, Trace}
+use Rattle.span_core.specs.declared.level.Level.{Level}
+use Rattle.span_core.specs.declared.level.LevelFilter.{LevelFilter}
+use Rattle.span_core.specs.declared.level.Verbosity.{Verbosity}
+use Rattle.span_core.specs.declared.level.Verbosity.TheVariants.{Error, Warn, Info, Debug, Trace}
 
 -- from 1 for errors to 5 for traces
 abbrev pub verbosity_number : Verbosity → ℕ
@@ -22,11 +25,27 @@ level_number level = verbosity_number level.0
 abbrev pub filter_number : LevelFilter → ℕ
 filter_number filter = option_map_or level_number filter.0 0
 
+-- values are ordered as their numbers are
+abbrev pub IsOrderBy : {A : Type 0} → (A → ℕ) → (A → A → Ordering) → Type 0
+IsOrderBy {A} number cmp = (a b : A) → cmp a b ≡ nat_cmp (number a) (number b)
+
 -- whether the level passes the filter
 abbrev pub passes_level : LevelFilter → Level → Bool
 passes_level filter level = nat_le (level_number level) (filter_number filter)
+
+-- the level passes exactly if its number is at most the filter's
+abbrev pub PassesByNumber : LevelFilter → Level → Type 0
+PassesByNumber f level = IsTrue (passes_level f level) ↔ (level_number level ≤ filter_number f)
+
+-- each level that passes the first filter passes the second
+abbrev pub PassesNoMore : LevelFilter → LevelFilter → Type 0
+PassesNoMore a b = (level : Level) → IsTrue (passes_level a level) → IsTrue (passes_level b level)
 
 -- whether there is a hint, and the level doesn't pass it
 abbrev pub is_above : Level → Option LevelFilter → Bool
 is_above level None = false
 is_above level (Some hint) = not (passes_level hint level)
+
+-- the level is above a hint exactly if its number is greater than the hint's
+abbrev pub IsAboveByNumber : Level → LevelFilter → Type 0
+IsAboveByNumber level f = IsTrue (is_above level (Some f)) ↔ (filter_number f < level_number level)

@@ -1,11 +1,9 @@
-pub mod Attributes
-pub mod Current
 pub mod Event
 pub mod Filters
-pub mod Id
 pub mod Interest
 pub mod Level
 pub mod Metadata
-pub mod Numbers
+pub mod NumberSet
 pub mod Pass
-pub mod Refusal
+pub mod Span
+pub mod TraceError

@@ -1,10 +1,10 @@
 -- What metadata shows.
 use Rattle.std.specs.Prelude.{ℕ, List}
 use Rattle.std.specs.Borrow.{Bor}
-use Rattle.span_core.specs.declared.callsites.Metadata.{Metadata}
-use Rattle.span_core.specs.declared.levels.Level.{Level}
-use Rattle.span_core.specs.declared.callsites.Kind.{Kind}
-use Rattle.span_core.specs.declared.callsites.FieldSet.{FieldSet}
+use Rattle.span_core.specs.declared.metadata.Metadata.{Metadata}
+use Rattle.span_core.specs.declared.level.Level.{Level}
+use Rattle.span_core.specs.declared.metadata.Kind.{Kind}
+use Rattle.span_core.specs.declared.field.FieldSet.{FieldSet}
 
 -- the names of a set of fields, in their order
 abbrev pub names_of : FieldSet → List (Bor (List ℕ))

@@ -1,8 +1,8 @@
 -- What a pass shows.
 use Rattle.std.specs.Prelude.{Option}
-use Rattle.span_core.specs.declared.filters.FilterMap.{FilterMap}
-use Rattle.span_core.specs.declared.interests.Interest.{Interest}
-use Rattle.span_core.specs.declared.passes.Pass.{Pass}
+use Rattle.span_core.specs.declared.filter.FilterMap.{FilterMap}
+use Rattle.span_core.specs.declared.interest.Interest.{Interest}
+use Rattle.span_core.specs.declared.pass.Pass.{Pass}
 
 -- the filters that refused
 abbrev pub refused_of : Pass → FilterMap

@@ -1,25 +1,28 @@
 //! Laws of the definitions that contracts cite. The functions make no call and do nothing.
-ghost use Rattle.std.specs.Prelude.{◌≡◌, ◌≢◌, ◌↔◌, ℕ, ◌<◌, ◌≤◌, ◌||◌, IsTrue, false, true, Some, None};
-ghost use Rattle.std.specs.Ordering.{nat_cmp};
-ghost use Rattle.span_core.specs.Filters.{FilterSet, has_filter, have_common, is_attached, is_hidden, no_filter, refuses, union};
-ghost use Rattle.span_core.specs.Interest.{both_interests, sum_with};
-ghost use Rattle.span_core.specs.Level.{filter_number, is_above, level_number, passes_level};
-ghost use Rattle.span_core.specs.declared.filters.FilterId.{FilterId};
-ghost use Rattle.span_core.specs.declared.filters.FilterMap.{FilterMap};
-ghost use Rattle.span_core.specs.declared.interests.Interest.{Interest};
-ghost use Rattle.span_core.specs.declared.levels.Level.{Level};
-ghost use Rattle.span_core.specs.declared.levels.LevelFilter.{LevelFilter};
-ghost use Rattle.span_core.specs.declared.numbers.TheConstants.{LIMIT};
+ghost use Rattle.std.specs.Prelude.{◌≡◌, ◌≢◌, ◌↔◌, ℕ, ◌<◌, ◌≤◌, ◌||◌, IsTrue, false, Some, None};
+ghost use Rattle.span_core.specs.Filters.{FilterSet, HaveCommon, IsEmpty, SameMembers};
+ghost use Rattle.span_core.specs.Filters.{meets, union};
+ghost use Rattle.span_core.specs.Filters.{HasFiltersOfBoth, SameFilters, has_filter, is_attached};
+ghost use Rattle.span_core.specs.Filters.{HasRefusal, HidesAsEither, is_hidden, refuses};
+ghost use Rattle.span_core.specs.Interest.{sum_of, sum_with};
+ghost use Rattle.span_core.specs.Level.{IsAboveByNumber, IsOrderBy, PassesByNumber, PassesNoMore};
+ghost use Rattle.span_core.specs.Level.{filter_number, is_above, level_number};
+ghost use Rattle.span_core.specs.declared.filter.FilterId.{FilterId};
+ghost use Rattle.span_core.specs.declared.filter.FilterMap.{FilterMap};
+ghost use Rattle.span_core.specs.declared.interest.Interest.{Interest};
+ghost use Rattle.span_core.specs.declared.level.Level.{Level};
+ghost use Rattle.span_core.specs.declared.level.LevelFilter.{LevelFilter};
+ghost use Rattle.span_core.specs.declared.number_set.TheConstants.{LIMIT};
 
-use crate::callsites::Kind;
-use crate::filters::{FilterId, FilterMap};
-use crate::interests::Interest;
-use crate::levels::{Level, LevelFilter};
+use crate::filter::{FilterId, FilterMap};
+use crate::interest::Interest;
+use crate::level::{Level, LevelFilter};
+use crate::metadata::Kind;
 
 /// The order of levels is the order of their numbers, and so is that of filters by level.
 pub fn order_is_by_number()
-    ensures levels { (a b : Level) → ⟦<Level as Ord>⟧.cmp a b ≡ nat_cmp (level_number a) (level_number b) }
-    ensures filters { (a b : LevelFilter) → ⟦<LevelFilter as Ord>⟧.cmp a b ≡ nat_cmp (filter_number a) (filter_number b) }
+    ensures levels { IsOrderBy level_number ⟦<Level as Ord>⟧.cmp }
+    ensures filters { IsOrderBy filter_number ⟦<LevelFilter as Ord>⟧.cmp }
 {}
 
 /// A level and a filter by level are known by their numbers.
@@ -50,19 +53,21 @@ pub fn kinds_differ()
     ensures { Kind.SPAN ≢ Kind.EVENT }
 {}
 
-/// A level passes a filter by level if its number is at most the filter's, and is above a hint if it is greater.
+/// A level passes a filter by level if its number is at most the filter's, and is above a hint if
+/// it is greater.
 pub fn levels_pass_by_number()
-    ensures passes { (filter : LevelFilter) (level : Level) → IsTrue (passes_level filter level) ↔ (level_number level ≤ filter_number filter) }
-    ensures above { (level : Level) (hint : LevelFilter) → IsTrue (is_above level (Some hint)) ↔ (filter_number hint < level_number level) }
+    ensures passes { (filter : LevelFilter) (level : Level) → PassesByNumber filter level }
+    ensures above { (level : Level) (hint : LevelFilter) → IsAboveByNumber level hint }
     ensures unlimited { (level : Level) → is_above level None ≡ false }
 {}
 
 /// What passes a filter by level passes each one that is at least as verbose.
 pub fn more_verbose_filters_pass_more()
-    ensures { (a b : LevelFilter) (level : Level) → filter_number a ≤ filter_number b → IsTrue (passes_level a level) → IsTrue (passes_level b level) }
+    ensures { (a b : LevelFilter) → filter_number a ≤ filter_number b → PassesNoMore a b }
 {}
 
-/// A sum takes the first interest; an equal one changes nothing, a different one makes it `sometimes`.
+/// A sum takes the first interest. An equal one changes nothing, a different one makes it
+/// `Sometimes`.
 pub fn sum_rule()
     ensures first { (a : Interest) → sum_with None a ≡ a }
     ensures equal { (a : Interest) → sum_with (Some a) a ≡ a }
@@ -71,42 +76,42 @@ pub fn sum_rule()
 
 /// Interests may be added in any order.
 pub fn sums_in_any_order()
-    ensures commutes { (a b : Interest) → both_interests a b ≡ both_interests b a }
-    ensures associates { (a b c : Interest) → both_interests (both_interests a b) c ≡ both_interests a (both_interests b c) }
+    ensures commutes { (a b : Interest) → sum_of a b ≡ sum_of b a }
+    ensures regroups { (a b c : Interest) → sum_of (sum_of a b) c ≡ sum_of a (sum_of b c) }
 {}
 
 /// The union of sets of filters.
 pub fn unions()
     ensures commutes { (a b : FilterSet) (n : ℕ) → union a b n ≡ union b a n }
-    ensures associates { (a b c : FilterSet) (n : ℕ) → union (union a b) c n ≡ union a (union b c) n }
+    ensures regroups { (a b c : FilterSet) (n : ℕ) → union (union a b) c n ≡ union a (union b c) n }
     ensures itself { (a : FilterSet) (n : ℕ) → union a a n ≡ a n }
-    ensures none { (a : FilterSet) (n : ℕ) → union no_filter a n ≡ a n }
+    ensures none { (a b : FilterSet) (n : ℕ) → IsEmpty a → union a b n ≡ b n }
 {}
 
 /// Two sets have a filter in common if there is one below 64 in both.
 pub fn filters_in_common()
-    ensures exactly { (a b : FilterSet) → IsTrue (have_common a b) ↔ ((n : ℕ) × ((n < LIMIT) × IsTrue (a n) × IsTrue (b n))) }
-    ensures commutes { (a b : FilterSet) → have_common a b ≡ have_common b a }
-    ensures same { (a b c : FilterSet) → ((n : ℕ) → n < LIMIT → a n ≡ b n) → have_common a c ≡ have_common b c }
-    ensures union { (a b c : FilterSet) → have_common (union a b) c ≡ (have_common a c || have_common b c) }
-    ensures none { (a : FilterSet) → have_common no_filter a ≡ false }
+    ensures exactly { (a b : FilterSet) → IsTrue (meets a b) ↔ HaveCommon a b }
+    ensures commutes { (a b : FilterSet) → meets a b ≡ meets b a }
+    ensures same { (a b c : FilterSet) → SameMembers a b → meets a c ≡ meets b c }
+    ensures union { (a b c : FilterSet) → meets (union a b) c ≡ (meets a c || meets b c) }
+    ensures none { (a b : FilterSet) → IsEmpty a → meets a b ≡ false }
 {}
 
 /// A span is hidden from a mask by the members of the two sets alone.
 pub fn hiding()
-    ensures exactly { (mask : FilterId) (verdict : FilterMap) → IsTrue (is_hidden mask verdict) ↔ ((n : ℕ) × ((n < LIMIT) × IsTrue (has_filter mask n) × IsTrue (refuses verdict n))) }
-    ensures union { (a b both : FilterId) → ((n : ℕ) → has_filter both n ≡ union (has_filter a) (has_filter b) n) → (verdict : FilterMap) → is_hidden both verdict ≡ (is_hidden a verdict || is_hidden b verdict) }
-    ensures none { (mask : FilterId) → ((n : ℕ) → has_filter mask n ≡ false) → (verdict : FilterMap) → is_hidden mask verdict ≡ false }
-    ensures unrefused { (verdict : FilterMap) → ((n : ℕ) → refuses verdict n ≡ false) → (mask : FilterId) → is_hidden mask verdict ≡ false }
+    ensures exactly { (m : FilterId) (v : FilterMap) → IsTrue (is_hidden m v) ↔ HasRefusal m v }
+    ensures union { (m a b : FilterId) → HasFiltersOfBoth m a b → HidesAsEither m a b }
+    ensures none { (m : FilterId) (v : FilterMap) → IsEmpty (has_filter m) → is_hidden m v ≡ false }
+    ensures allowed { (m : FilterId) (v : FilterMap) → IsEmpty (refuses v) → is_hidden m v ≡ false }
 {}
 
 /// An id and a map are known by their members, which are below 64.
 pub fn members()
     ensures ids_below { (id : FilterId) (n : ℕ) → IsTrue (has_filter id n) → n < LIMIT }
     ensures maps_below { (map : FilterMap) (n : ℕ) → IsTrue (refuses map n) → n < LIMIT }
-    ensures unattached { (id : FilterId) → is_attached id ≡ false → (n : ℕ) → has_filter id n ≡ false }
-    ensures ids { (a b : FilterId) → is_attached a ≡ is_attached b → ((n : ℕ) → n < LIMIT → has_filter a n ≡ has_filter b n) → a ≡ b }
-    ensures maps { (a b : FilterMap) → ((n : ℕ) → n < LIMIT → refuses a n ≡ refuses b n) → a ≡ b }
+    ensures unattached { (id : FilterId) → is_attached id ≡ false → IsEmpty (has_filter id) }
+    ensures ids { (a b : FilterId) → SameFilters a b → a ≡ b }
+    ensures maps { (a b : FilterMap) → SameMembers (refuses a) (refuses b) → a ≡ b }
 {}
 
 /// There are 64 filters, numbered from 0.

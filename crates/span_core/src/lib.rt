@@ -1,27 +1,27 @@
-//! The base types of the span registry: ids, levels, metadata, what a new span is made of, and refusals.
+//! The base types of the span registry: ids, levels, metadata, what spans are made of, refusals.
 #![tactic(auto)]
 
-mod callsites;
-mod events;
-mod filters;
-mod ids;
-mod interests;
+mod error;
+mod event;
+mod field;
+mod filter;
+mod interest;
 pub mod laws;
-mod levels;
-mod numbers;
-mod passes;
-mod records;
-mod refusals;
+mod level;
+mod metadata;
+mod number_set;
+mod pass;
+mod span;
 
-pub use callsites::{FieldSet, Kind, Metadata};
-pub use events::Event;
-pub use filters::{FilterId, FilterMap};
-pub use ids::{Current, Id, Lane};
-pub use interests::Interest;
-pub use levels::{Level, LevelFilter};
-pub use passes::Pass;
-pub use records::{Attributes, FieldValue, Parent, Record};
-pub use refusals::{Rejected, TraceError};
+pub use error::{Rejected, TraceError};
+pub use event::Event;
+pub use field::{FieldSet, FieldValue};
+pub use filter::{FilterId, FilterMap};
+pub use interest::Interest;
+pub use level::{Level, LevelFilter};
+pub use metadata::{Kind, Metadata};
+pub use pass::Pass;
+pub use span::{Attributes, Current, Id, Lane, Parent, Record};
 
 #[cfg(test)]
 mod tests;

@@ -192,6 +192,7 @@ fn attributes_are_read_back(rt: HostRuntime) -> Result<(), Fail> {
     assert!(rt; root.is_root() && !root.is_contextual());
     assert_eq!(rt; root.parent(), None);
     assert_eq!(rt; child.parent(), Some(Id::from_u64(5)));
+    assert_eq!(rt; child.asked_parent(), Parent::Explicit(Id::from_u64(5)));
     assert_eq!(rt; Record::new(&values).values().len(), 2);
     Ok(())
 }
@@ -212,6 +213,7 @@ fn events_are_read_back(rt: HostRuntime) -> Result<(), Fail> {
     assert!(rt; root.is_root() && !root.is_contextual());
     assert_eq!(rt; root.parent(), None);
     assert_eq!(rt; child.parent(), Some(Id::from_u64(5)));
+    assert_eq!(rt; child.asked_parent(), Parent::Explicit(Id::from_u64(5)));
     Ok(())
 }
 

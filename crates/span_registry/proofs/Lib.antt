@@ -1,3 +1,4 @@
+pub mod CallerLemmas
 mod Added
 mod Ancestry
 mod Chains
@@ -5,6 +6,7 @@ mod Closing
 mod Counts
 pub mod Drops
 mod Found
+mod EnterExit
 mod FromRoot
 mod Itself
 mod Kept
@@ -18,4 +20,3 @@ mod Opened
 mod Removed
 mod States
 mod StoreLaws
-pub mod Subscribing

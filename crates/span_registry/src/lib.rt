@@ -1,40 +1,35 @@
 //! The store of spans: what is kept of each, the lanes' stacks, and the calls that change them.
 #![tactic(auto)]
 
-pub mod extension_laws;
 #[cfg(test)]
 mod extension_tests;
+mod extension_value;
 mod extensions;
-mod from_root;
 pub mod laws;
 mod limits;
 mod lookup;
-pub mod lookup_laws;
 #[cfg(test)]
 mod lookup_tests;
-mod records;
 mod registry;
-mod scopes;
+mod scope;
 mod span_data;
-mod stacks;
-pub mod store_laws;
+mod span_record;
+mod stack;
 mod subscriber;
 #[cfg(test)]
 mod subscriber_tests;
-mod tables;
-mod tags;
+mod table;
+mod tag;
 #[cfg(test)]
 mod tests;
-mod value_types;
 
+pub use extension_value::ExtensionValue;
 pub use extensions::{ExtensionMap, Extensions, ExtensionsMut};
-pub use from_root::ScopeFromRoot;
 pub use limits::Limits;
 pub use lookup::LookupSpan;
 pub use registry::{Registry, Released};
-pub use scopes::{Scope, SpanRef};
+pub use scope::{Scope, ScopeFromRoot, SpanRef};
 pub use span_data::{Data, SpanData};
-pub use stacks::{SpanStack, StackIter};
+pub use stack::{SpanStack, StackIter};
 pub use subscriber::Subscriber;
-pub use tags::Tag;
-pub use value_types::ExtensionValue;
+pub use tag::Tag;

@@ -1,9 +1,9 @@
 //! Generic code over a subscriber, proved from the trait's contract, and each call of the trait once at a registry.
 ghost use Rattle.std.specs.Prelude.{◌≡◌, IfOk, OnOk, ℕ};
-ghost use Rattle.span_core.specs.Id.{number_of};
+ghost use Rattle.span_core.specs.Span.{number_of};
 ghost use Rattle.span_registry.specs.Store.{handles_of, stack_of};
 
-use crate::{Registry, Subscriber};
+use crate::{LookupSpan, Registry, Subscriber};
 use span_core::{
     Attributes, Event, FieldSet, Id, Interest, Kind, Lane, Level, Metadata, Pass, Record,
     TraceError,

@@ -1,16 +1,19 @@
 -- A script that grows by a line.
 use Rattle.std.proofs.Common.{◌≡◌, ◌≢◌, ℕ, suc, zero, List, [], ◌∷◌, ◌++◌, length, Option, Some, None, IfSome, MatchOption, refl, sym, ap, ◌∙◌, subst, rules}
 use Rattle.std.proofs.lemmas.Slice.Eq.{bytes_eq-Decides}
-use Rattle.std.specs.Prelude.{Bool, true, false, cond, bytes_eq, slice_get, IsSome, IsSomeAnd}
+use Rattle.std.specs.Prelude.{Bool, true, false, if◌then◌else◌, bytes_eq, slice_get, IsSome, IsSomeAnd}
 use Rattle.std.specs.Map.{update}
 use Rattle.std.specs.Ordering.{nat_cmp}
 use Rattle.std.specs.Cmp.Lexicographic.{slice_cmp}
 use Rattle.std.specs.BTreeMap as tree
-use Rattle.span_run.specs.Line.{declared_label, IsLine}
-use Rattle.span_run.specs.Script.{lines_of, requests_of, place_of, Asks, AskFor, nothing, more, Declares, DeclaresAt, IsFree, IsScript}
-use Rattle.span_run.specs.declared.lines.Line.{Line}
-use Rattle.span_run.specs.declared.requests.Request.{Request}
+use Rattle.span_run.specs.Script.{declared_label, IsLine, lines_of, requests_of, place_of, Asks, AskFor, nothing, more, Declares, DeclaresAt, IsScript}
+use Rattle.span_run.specs.declared.line.Line.{Line}
+use Rattle.span_run.specs.declared.request.Request.{Request}
 use Rattle.span_run.specs.declared.script.Script.{Script}
+
+-- no line declares this label
+abbrev pub IsFree : List Line → List ℕ → Type 0
+IsFree lines label = (place : ℕ) → IfSome (slice_get lines place) (λ l. declared_label l ≢ Some label)
 
 -- a script without lines
 pub IsScript-empty : (s : Script) → lines_of s ≡ [] → requests_of s ≡ [] → s.labels.entries ≡ [] → IsScript s
@@ -49,7 +52,7 @@ AddsPlace old o new = MatchOption o (new.labels ≡ old.labels) (λ label. (plac
 
 -- a label has the place that it had, or is the one added
 chosen : (P : Option ℕ → Type 0) (o : Option ℕ) (n : ℕ) (label other : List ℕ) (b : Bool) → bytes_eq label other ≡ b
-    → P o → (label ≡ other → P (Some n)) → P (cond b (Some n) o)
+    → P o → (label ≡ other → P (Some n)) → P (if b then Some n else o)
 chosen P o n label other true e p q = q ((bytes_eq-Decides label other).0 e)
 chosen P o n label other false e p q = p
 
@@ -111,7 +114,7 @@ undeclared s is label lacks k h =
 pub taken : (s : Script) → IsScript s → (label : List ℕ) → IsSome (place_of s label) → ¬ (IsFree (lines_of s) label)
 taken s is label has free = go (place_of s label) (is.found label) has
   where
-    go : (o : Option ℕ) → IfSome o (λ place. DeclaresAt (lines_of s) place label) → IsSome o → ⊥
+    go : (o : Option ℕ) → IfSome o (λ place. DeclaresAt (lines_of s) place label) → ¬ (IsSome o)
     go None found h = absurd (search rules)
     go (Some k) found h = let two = both-known (slice_get (lines_of s) k) (λ l. declared_label l ≢ Some label) (λ l. declared_label l ≡ Some label) (free k) found in
         two.1.0 two.1.1

@@ -1,15 +1,15 @@
--- A recorder is told one list of notices, and then another.
-use Rattle.std.proofs.Common.{◌≡◌, ℕ, List, [], ◌∷◌, ◌++◌, refl, sym, ap, ◌∙◌, append_assoc, Bool, true, false, subst}
+-- A recorder hears one list of notices, and then another.
+use Rattle.std.proofs.Common.{◌≡◌, ℕ, List, [], ◌∷◌, ◌++◌, refl, sym, ap, ◌∙◌, append_assoc, Bool, true, false, subst, ◌+◌, length, arith}
 use Rattle.std.proofs.lemmas.Bool.{true≢false}
-use Rattle.std.proofs.lemmas.List.{append-nil}
-use Rattle.span_core.specs.Id.{id_of}
-use Rattle.span_core.specs.declared.ids.Lane.{Lane}
-use Rattle.span_run.specs.Notices.{Kept, Hears, closes_of}
-use Rattle.span_run.specs.declared.requests.Notice.{Notice}
-use Rattle.span_run.specs.declared.requests.Notice.TheVariants.{Close}
+use Rattle.std.proofs.lemmas.List.{append-nil, length-append}
+use Rattle.span_core.specs.Span.{id_of}
+use Rattle.span_core.specs.declared.span.Lane.{Lane}
+use Rattle.span_run.specs.Run.{Kept, Hears, closes_of}
+use Rattle.span_run.specs.declared.request.Notice.{Notice}
+use Rattle.span_run.specs.declared.request.Notice.TheVariants.{Close}
 
 pub hears_nothing : (r : Kept) → Hears r r []
-hears_nothing r = record { more = []; lost = []; split = refl; kept = sym (append-nil r.notices); all = λ _. refl; failed = λ f. (f, refl); silent = λ _. refl }
+hears_nothing r = record { more = []; lost = []; split = refl; kept = sym (append-nil r.notices); all = λ _. refl; failed = λ f. (f, refl); fails = λ f t. absurd (true≢false (sym t ∙ f)); room = omega arith; silent = λ _. refl }
 
 no_more : (ns ms : List Notice) → ns ++ ms ≡ [] → (ns ≡ []) × (ms ≡ [])
 no_more [] ms e = (refl, e)
@@ -27,6 +27,9 @@ hears_more a b c ns ms f g = by_case b.failed refl
         let v = g.failed u.0 in
         (v.0, ap (λ (us : List Notice). us ++ g.more) u.1 ∙ v.1)
 
+    length-more : length (f.more ++ g.more) ≡ length f.more + length g.more
+    length-more = length-append f.more g.more
+
     silent : ns ++ ms ≡ [] → c ≡ a
     silent e = let both = no_more ns ms e in g.silent both.1 ∙ f.silent both.0
 
@@ -40,6 +43,8 @@ hears_more a b c ns ms f g = by_case b.failed refl
           kept = kept;
           all = λ no. absurd (true≢false (sym v.0 ∙ no));
           failed = failed;
+          fails = λ was now. let u = f.fails was e in (λ none. u.0 (no_more f.lost ms none).0, let r = u.1 in let k = length-more in omega arith);
+          room = (let r = f.room in let s = g.room in let k = length-more in omega arith);
           silent = silent;
         }
     by_case false e =
@@ -52,6 +57,8 @@ hears_more a b c ns ms f g = by_case b.failed refl
           kept = kept;
           all = g.all;
           failed = failed;
+          fails = λ was now. let u = g.fails e now in (u.0, let r = u.1 in let s = f.room in let k = length-more in omega arith);
+          room = (let r = f.room in let s = g.room in let k = length-more in omega arith);
           silent = silent;
         }
 
@@ -59,6 +66,6 @@ pub closes_more : (lane : Lane) (xs : List ℕ) (x : ℕ) → closes_of lane (xs
 closes_more lane [] x = refl
 closes_more lane (y ∷ ys) x = ap (λ (ns : List Notice). Close lane (id_of y) ∷ ns) (closes_more lane ys x)
 
--- one close more is told
+-- one close more is heard
 pub hears_close : (a b c : Kept) (lane : Lane) (xs : List ℕ) (x : ℕ) → Hears a b (closes_of lane xs) → Hears b c (Close lane (id_of x) ∷ []) → Hears a c (closes_of lane (xs ++ (x ∷ [])))
 hears_close a b c lane xs x f g = subst (Hears a c) (sym (closes_more lane xs x)) (hears_more a b c (closes_of lane xs) (Close lane (id_of x) ∷ []) f g)

@@ -1,18 +1,19 @@
 -- The names that lines give to the spans that their requests made.
 use Rattle.std.proofs.Common.{◌≡◌, ℕ, suc, zero, ◌+◌, ◌<◌, ◌≤◌, List, [], ◌∷◌, length, Option, Some, None, MatchOption, refl, sym, ap, ◌∙◌, subst, rules, arith}
-use Rattle.std.specs.Prelude.{Bool, true, false, cond, slice_get, IsSomeAnd}
+use Rattle.std.specs.Prelude.{Bool, true, false, if◌then◌else◌, slice_get, IsSomeAnd}
 use Rattle.std.specs.Option.{option_map}
 use Rattle.std.specs.Ordering.{nat_cmp, is_eq}
 use Rattle.std.specs.Borrow.{Bor}
 use Rattle.std.specs.BTreeMap as tree
 use Rattle.std.specs.BTreeMap.{BTreeMap}
 use native.Mathlib.Decide.{dec_lt}
+use Rattle.std.proofs.lemmas.Bool.{true≢false}
 use Rattle.std.proofs.lemmas.Bool.Decides.{nat_tests}
-use Rattle.span_core.specs.Id.{number_of}
-use Rattle.span_run.specs.Printed.{AreLabels, IsNamed, IsNamedAt}
-use Rattle.span_run.specs.declared.lines.Line.{Line}
-use Rattle.span_run.specs.declared.requests.Answer.{Answer}
-use Rattle.span_run.specs.declared.requests.Answer.TheVariants.{Made}
+use Rattle.span_core.specs.Span.{number_of}
+use Rattle.span_run.specs.Program.{AreLabels, IsNamed, IsNamedAt}
+use Rattle.span_run.specs.declared.line.Line.{Line}
+use Rattle.span_run.specs.declared.request.Answer.{Answer}
+use Rattle.span_run.specs.declared.request.Answer.TheVariants.{Made}
 
 pub MatchOption-map : {X : Type 0} (o : Option X) (P P' : Type 0) (Q : X → Type 0) → MatchOption o P Q → (P → P') → MatchOption o P' Q
 MatchOption-map None P P' Q h f = f h
@@ -34,9 +35,6 @@ IsNamed-one l answer n m x y h g = let e : Some (Made h.1.0) ≡ Some (Made g.1.
 
 nat_same : (n m : ℕ) → is_eq (nat_cmp n m) ≡ true → n ≡ m
 nat_same n m e = grind (arith, nat_tests)
-
-true_not_false : true ≡ false → ⊥
-true_not_false e = cc
 
 -- a fact on the line at a place, where that line is known
 at-known : (xs : List Line) (k : ℕ) (l : Line) (P : Line → Type 0) → slice_get xs k ≡ Some l → IsSomeAnd (slice_get xs k) P → P l
@@ -72,7 +70,7 @@ AreNames-past lines answers i names l here before nobody = λ number. MatchOptio
 -- one place more, at which a span is named
 pub AreNames-named : (lines : List Line) (answers : List Answer) (i : ℕ) (names new : BTreeMap ℕ (Bor (List ℕ))) (l : Line) (n : ℕ) (label : Bor (List ℕ))
     → slice_get lines i ≡ Some l → AreNames lines answers i names → IsNamed l (slice_get answers i) n label.now
-    → ((number : ℕ) → tree.get nat_cmp new number ≡ cond (is_eq (nat_cmp n number)) (Some label) (tree.get nat_cmp names number))
+    → ((number : ℕ) → tree.get nat_cmp new number ≡ if is_eq (nat_cmp n number) then Some label else tree.get nat_cmp names number)
     → AreNames lines answers (i + 1) new
 AreNames-named lines answers i names new l n label here before named updates = λ number.
     subst (λ (o : Option (Bor (List ℕ))). MatchOption o ((place : ℕ) (label : List ℕ) → place < i + 1 → ¬ (IsNamedAt lines answers place number label))
@@ -82,7 +80,7 @@ AreNames-named lines answers i names new l n label here before named updates = �
     there : IsNamedAt lines answers i n label.now
     there = subst (λ (o : Option Line). IsSomeAnd o (λ l. IsNamed l (slice_get answers i) n label.now)) (sym here) named
 
-    step : (number : ℕ) (b : Bool) → is_eq (nat_cmp n number) ≡ b → MatchOption (cond b (Some label) (tree.get nat_cmp names number))
+    step : (number : ℕ) (b : Bool) → is_eq (nat_cmp n number) ≡ b → MatchOption (if b then Some label else tree.get nat_cmp names number)
         ((place : ℕ) (label : List ℕ) → place < i + 1 → ¬ (IsNamedAt lines answers place number label))
         (λ label. (place : ℕ) × IsNamedAt lines answers place number label.now)
     step number true e = let same : n ≡ number = nat_same n number e in (i, subst (λ k. IsNamedAt lines answers i k label.now) same there)
@@ -92,5 +90,5 @@ AreNames-named lines answers i names new l n label here before named updates = �
           | no not ↦ (let at : place ≡ i = omega arith in
               let now : IsNamed l (slice_get answers i) number other = at-known lines i l (λ l. IsNamed l (slice_get answers i) number other) here (subst (λ k. IsNamedAt lines answers k number other) at h) in
               let same : n ≡ number = IsNamed-one l (slice_get answers i) n number label.now other named now in
-              let t : is_eq (nat_cmp n number) ≡ true = rw same (search rules) in absurd (true_not_false (sym t ∙ e)))
+              let t : is_eq (nat_cmp n number) ≡ true = rw same (search rules) in absurd (true≢false (sym t ∙ e)))
         ])

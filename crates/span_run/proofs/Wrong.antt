@@ -1,13 +1,13 @@
 -- Which line of a script is the first that is wrong.
-use Rattle.std.proofs.Common.{◌≡◌, ◌⊎◌, ℕ, ◌+◌, ◌<◌, ◌≤◌, List, [], ◌∷◌, length, get_or, take, map, Option, Some, None, Result, IfErr, IfSome, refl, sym, ap, ◌∙◌, inl, inr, subst}
+use Rattle.std.proofs.Common.{◌≡◌, ℕ, ◌+◌, ◌<◌, ◌≤◌, List, [], ◌∷◌, length, get_or, take, map, Option, Some, None, Result, IfErr, IfSome, refl, sym, ap, ◌∙◌, inl, inr, subst}
 use Rattle.std.proofs.lemmas.List.{take-map, take_all}
 use Rattle.std.proofs.lemmas.Option.{slice_get-map, slice_get-get_or}
-use Rattle.std.specs.Prelude.{IsTrue, IsSomeAnd, filter, ok_or, option_map, slice_get}
+use Rattle.std.specs.Prelude.{IsSomeAnd, filter, ok_or, option_map, slice_get}
 use Rattle.std.specs.Borrow.{Bor}
-use Rattle.span_run.specs.Script.{cut, is_full, lines_in, requests_of, words_in, words_of_texts, AskFor, IsScript, IsScriptFault, IsWrongAfter}
-use Rattle.span_run.specs.declared.faults.RunFault.{RunFault}
-use Rattle.span_run.specs.declared.faults.RunFault.TheVariants.{Line, Memory}
-use Rattle.span_run.specs.declared.requests.Request.{Request}
+use Rattle.span_run.specs.Script.{Blames, cut, is_full, lines_in, requests_of, words_in, words_of_texts, AskFor, IsScript, IsScriptFault, IsWrongAfter}
+use Rattle.span_run.specs.declared.fault.RunFault.{RunFault}
+use Rattle.span_run.specs.declared.fault.RunFault.TheVariants.{Line}
+use Rattle.span_run.specs.declared.request.Request.{Request}
 use Rattle.span_run.specs.declared.script.Script.{Script}
 
 -- a script's lines ask for requests
@@ -19,7 +19,7 @@ asked-of (Some s) is = (requests_of s, is.asked)
 pub fault-at : (text : List ℕ) (texts : List (Bor (List ℕ))) (place : ℕ) (d : Bor (List ℕ)) (script : Option Script) (f : RunFault)
     → map (λ t. t.now) texts ≡ cut 10 text → place < length texts → IfSome script IsScript
     → words_in (lines_in script) ≡ words_of_texts (map (λ t. t.now) (take place texts))
-    → (f ≡ Memory) ⊎ ((f ≡ Line (place + 1)) × IsTrue (is_full (get_or texts place d).now) × IsWrongAfter (lines_in script) (cut 32 (get_or texts place d).now))
+    → Blames (Line (place + 1)) (IsWrongAfter (lines_in script) (get_or texts place d).now) f
     → IsScriptFault text f
 fault-at text texts place d script f cuts within is spelled (inl e) = subst (λ f. IsScriptFault text f) (sym e) tt
 fault-at text texts place d script f cuts within is spelled (inr w) = subst (λ f. IsScriptFault text f) (sym w.0) (inr (
@@ -30,7 +30,7 @@ fault-at text texts place d script f cuts within is spelled (inr w) = subst (λ 
       before = lines_in script;
       asked = asked-of script is;
       spelled = spelled ∙ ap (λ ts. words_of_texts ts) (sym (take-map (λ t. t.now) place texts) ∙ ap (λ ts. take place ts) cuts);
-      wrong = subst (λ o. IsSomeAnd o (λ t. IsTrue (is_full t) × IsWrongAfter (lines_in script) (cut 32 t))) here (w.1, w.2);
+      wrong = subst (λ o. IsSomeAnd o (IsWrongAfter (lines_in script))) here w.1;
     },
   ),
 ))

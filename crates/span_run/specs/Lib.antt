@@ -1,10 +1,3 @@
-pub mod Fault
-pub mod Label
-pub mod Line
-pub mod Names
-pub mod Notices
-pub mod Printed
 pub mod Program
 pub mod Run
 pub mod Script
-pub mod Site

@@ -1,14 +1,90 @@
--- What the program prints for a script.
-use Rattle.std.specs.Prelude.{List, [], ℕ}
+-- What the program prints for a script, and how it ends.
+use Rattle.std.specs.Prelude.{◌≡◌, ◌⊎◌, ◌<◌, ℕ, List, [], ◌∷◌, ◌++◌, ⊤, Option, Some, None, Result, String, IfSome, MatchOption, IsErrAnd, IsSomeAnd, flat_map, decimal, length, slice_get, string_bytes, codes}
+use Rattle.std.specs.Option.{unwrap_or, option_map}
+use Rattle.std.specs.Borrow.{Bor}
+use Rattle.std.specs.BTreeMap as tree
+use Rattle.std.specs.Ordering.{nat_cmp}
+use Rattle.std.specs.Io.KnownBytes.{Appends}
+use Rattle.std.specs.Str.Lossy.{utf8_lossy}
+use Rattle.span_core.specs.Span.{number_of}
+use Rattle.span_core.specs.TraceError.{refusal_number}
+use Rattle.span_core.specs.declared.span.Id.{Id}
 use Rattle.span_registry.specs.Store.{RegistryState, new_registry}
 use Rattle.span_registry.specs.declared.limits.TheConstants.Limits.{MAX}
-use Rattle.span_run.specs.Printed.{IsPrinted}
+use Rattle.span_run.specs.declared.line.Line.{Line}
+use Rattle.span_run.specs.declared.reply.Names.{Names}
+use Rattle.span_run.specs.declared.request.Answer.{Answer}
+use Rattle.span_run.specs.declared.request.Answer.TheVariants.{Made, Dropped, Current, Refused}
+use Rattle.span_run.specs.declared.request.Notice.{Notice}
+use Rattle.span_run.specs.declared.request.Notice.TheVariants as notice
 use Rattle.span_run.specs.Run.{Run}
-use Rattle.span_run.specs.Script.{AskFor, IsSpelled}
-use Rattle.span_run.specs.declared.lines.Line.{Line}
-use Rattle.span_run.specs.declared.requests.Answer.{Answer}
-use Rattle.span_run.specs.declared.requests.Notice.{Notice}
-use Rattle.span_run.specs.declared.requests.Request.{Request}
+use Rattle.span_run.specs.Script.{declared_label, AskFor, IsScriptFault, IsSpelled}
+use Rattle.span_run.specs.declared.fault.RunFault.{RunFault}
+use Rattle.span_run.specs.declared.fault.RunFault.TheVariants.{Line as LineFault, Io}
+use Rattle.span_run.specs.declared.request.Request.{Request}
+
+-- a line declares this label, and the answer to its request made the span with this number
+abbrev pub IsNamed : Line → Option Answer → ℕ → List ℕ → Type 0
+IsNamed l answer number label = (declared_label l ≡ Some label) × ((id : Id) × (answer ≡ Some (Made id)) × (number_of id ≡ number))
+
+-- the number and the label that a line and its answer name, or nothing where they name none
+abbrev pub IsNaming : Line → Option Answer → Option (ℕ × Bor (List ℕ)) → Type 0
+IsNaming l answer made = MatchOption made ((number : ℕ) (label : List ℕ) → ¬ (IsNamed l answer number label)) (λ made. IsNamed l answer made.0 made.1.now)
+
+-- the same of the line and the answer at a place
+abbrev pub IsNamedAt : List Line → List Answer → ℕ → ℕ → List ℕ → Type 0
+IsNamedAt lines answers place number label = IsSomeAnd (slice_get lines place) (λ l. IsNamed l (slice_get answers place) number label)
+
+-- each span that a line made has the label of such a line, and no other span has one
+abbrev pub AreLabels : List Line → List Answer → (ℕ → Option (List ℕ)) → Type 0
+AreLabels lines answers labels = (number : ℕ) → MatchOption (labels number)
+    ((place : ℕ) (label : List ℕ) → ¬ (IsNamedAt lines answers place number label))
+    (λ label. (place : ℕ) × IsNamedAt lines answers place number label)
+
+-- the label of a span, or `?`
+abbrev pub name_by : (ℕ → Option (List ℕ)) → Id → List ℕ
+name_by labels id = unwrap_or (labels (number_of id)) (codes "?")
+
+-- the labels in a table of names
+abbrev pub labels_in : Names → ℕ → Option (List ℕ)
+labels_in names number = option_map (λ label. label.now) (tree.get nat_cmp names.labels number)
+
+-- the name that a table has for a span
+abbrev pub name_in : Names → Id → List ℕ
+name_in names = name_by (labels_in names)
+
+-- a text is continued by these bytes
+abbrev pub IsContinued : {A : Type 0} → String A → String A → List ℕ → Type 0
+IsContinued old new bytes = string_bytes new ≡ string_bytes old ++ bytes
+
+-- a word and a line feed
+abbrev pub line_of : List ℕ → List ℕ
+line_of text = text ++ 10 ∷ []
+
+-- the line that replies to a request, where spans are named so
+abbrev pub reply_text : (Id → List ℕ) → Answer → List ℕ
+reply_text name (Made id) = line_of (name id)
+reply_text name Dropped = codes "none\n"
+reply_text name (Current None) = codes "none\n"
+reply_text name (Current (Some id)) = line_of (name id)
+reply_text name (Refused error) = codes "refused " ++ line_of (decimal (refusal_number error))
+reply_text name answer = codes "ok\n"
+
+-- the line of a notice
+abbrev pub notice_text : (Id → List ℕ) → Notice → List ℕ
+notice_text name (notice.New lane id) = codes "new " ++ line_of (name id)
+notice_text name (notice.Record lane id) = codes "record " ++ line_of (name id)
+notice_text name (notice.Enter lane id) = codes "enter " ++ line_of (name id)
+notice_text name (notice.Exit lane id) = codes "exit " ++ line_of (name id)
+notice_text name (notice.Close lane id) = codes "close " ++ line_of (name id)
+
+-- all that is printed: a line for each answer, the recorder's head, and a line for each notice
+abbrev pub printed : (Id → List ℕ) → List Answer → List Notice → List ℕ
+printed name answers notices = flat_map (reply_text name) answers ++ codes "== base\n" ++ flat_map (notice_text name) notices
+
+-- the text is what is printed for these lines, answers and notices
+abbrev pub IsPrinted : List Line → List Answer → List Notice → List ℕ → Type 0
+IsPrinted lines answers notices text = (labels : ℕ → Option (List ℕ)) × (AreLabels lines answers labels × (text ≡ printed (name_by labels) answers notices))
 
 -- the text spells lines, they ask for requests, these run from an empty registry with their answers and the notices that are due, and that is printed
 pub record Prints (text output : List ℕ) : Type 0 where
@@ -19,5 +95,33 @@ pub record Prints (text output : List ℕ) : Type 0 where
   pub after : RegistryState
   pub spelled : IsSpelled text lines
   pub asked : AskFor lines requests
-  pub served : Run [] (new_registry MAX) requests answers notices after
+  pub served : Run [] requests answers (new_registry MAX) notices after
   pub printed : IsPrinted lines answers notices output
+
+-- a wrong line ends with 2, all else with 1
+abbrev pub status_of : RunFault → ℕ
+status_of (LineFault n) = 2
+status_of fault = 1
+
+-- the fault is a line that is wrong
+abbrev pub IsWrongLine : RunFault → Type 0
+IsWrongLine (LineFault n) = ⊤
+IsWrongLine fault = ⊥
+
+-- Below: the bytes that a reader gives, if they are known, and a writer before and after.
+
+-- what is printed for the bytes is written behind what was there
+abbrev pub Writes : {W : Type 0} → Option (List ℕ) → (W → Option (List ℕ)) → W → W → Type 0
+Writes given contents old new = IfSome given (λ bytes. (output : List ℕ) × (Prints (utf8_lossy bytes) output × Appends (contents old) (contents new) output))
+
+-- a line that is said to be wrong is the first of the bytes that is
+abbrev pub BlamesFirstWrong : Option (List ℕ) → RunFault → Type 0
+BlamesFirstWrong given fault = IsWrongLine fault → IfSome given (λ bytes. IsScriptFault (utf8_lossy bytes) fault)
+
+-- nothing is written, unless it is writing that failed: then the bytes are a script
+abbrev pub IsUnwritten : {W : Type 0} → Option (List ℕ) → W → W → RunFault → Type 0
+IsUnwritten given old new fault = (new ≡ old) ⊎ ((fault ≡ Io) × IfSome given (λ bytes. (output : List ℕ) × Prints (utf8_lossy bytes) output))
+
+-- more than 1048576 bytes are refused, with no line blamed and nothing written
+abbrev pub RefusesLong : {W : Type 0} → Option (List ℕ) → Result (Unit {0}) RunFault → W → W → Type 0
+RefusesLong given result old new = IfSome given (λ bytes. 1048576 < length bytes → IsErrAnd result (λ fault. ¬ (IsWrongLine fault)) × (new ≡ old))

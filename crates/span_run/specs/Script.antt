@@ -1,27 +1,122 @@
--- Scripts: how they are spelled, what they ask for, and what can be wrong with them.
-use Rattle.std.specs.Prelude.{◌≡◌, ◌≢◌, ◌⊎◌, ℕ, ◌+◌, ◌==◌, List, [], ◌∷◌, ◌++◌, Option, Some, None, ⊤, Bool, not, IsTrue, IsSome, IsSomeAnd, IfSome, MatchOption, length, map, filter, take, slice_get, bytes_eq, codes}
-use Rattle.std.specs.List.{slice_split}
+-- Scripts: how lines are spelled, what they ask for, and what can be wrong with them.
+use Rattle.std.specs.Prelude.{◌≡◌, ◌≢◌, ◌⊎◌, ℕ, ◌+◌, ◌<◌, ◌==◌, List, [], ◌∷◌, ◌++◌, ⊤, Bool, ◌&&◌, ◌||◌, not, nat_le, IsTrue, Option, Some, None, IsSome, IsSomeAnd, IfSome, MatchOption, length, map, filter, take, codes, bytes_eq, slice_get, slice_index}
+use Rattle.std.specs.List.{list_all, slice_split}
+use Rattle.std.specs.Borrow.{Bor}
+use Rattle.std.specs.Char.{is_ascii_lowercase, is_ascii_digit}
 use Rattle.std.specs.Map.{update}
 use Rattle.std.specs.Ordering.{nat_cmp}
 use Rattle.std.specs.Cmp.Lexicographic.{slice_cmp}
 use Rattle.std.specs.BTreeMap as tree
-use Rattle.span_core.specs.Id.{number_of}
-use Rattle.span_run.specs.Line.{declared_label, words_of, IsLine}
-use Rattle.span_run.specs.declared.faults.RunFault.{RunFault}
-use Rattle.span_run.specs.declared.faults.RunFault.TheVariants as fault
-use Rattle.span_run.specs.declared.lines.Name.{Name}
-use Rattle.span_run.specs.declared.lines.Name.TheVariants.{Nobody, Label}
-use Rattle.span_run.specs.declared.lines.ParentName.{ParentName}
-use Rattle.span_run.specs.declared.lines.ParentName.TheVariants as named
-use Rattle.span_run.specs.declared.lines.Line.{Line}
-use Rattle.span_run.specs.declared.lines.Line.TheVariants as line
-use Rattle.span_run.specs.declared.requests.Which.{Which}
-use Rattle.span_run.specs.declared.requests.Which.TheVariants.{Known, Made}
-use Rattle.span_run.specs.declared.requests.WhichParent.{WhichParent}
-use Rattle.span_run.specs.declared.requests.WhichParent.TheVariants as asked
-use Rattle.span_run.specs.declared.requests.Request.{Request}
-use Rattle.span_run.specs.declared.requests.Request.TheVariants as request
+use Rattle.span_core.specs.Metadata.{callsite_of, name_of, names_of, target_of, level_of, kind_of, fields_of}
+use Rattle.span_core.specs.declared.level.TheConstants.Level.{ERROR, WARN, INFO, DEBUG, TRACE}
+use Rattle.span_core.specs.declared.metadata.Metadata.{Metadata}
+use Rattle.span_core.specs.declared.metadata.TheConstants.Kind.{SPAN}
+use Rattle.span_core.specs.declared.span.Lane.{Lane}
+use Rattle.span_core.specs.Span.{number_of}
+use Rattle.span_run.specs.declared.line.Name.{Name}
+use Rattle.span_run.specs.declared.line.Name.TheVariants.{Nobody, Label}
+use Rattle.span_run.specs.declared.line.ParentName.{ParentName}
+use Rattle.span_run.specs.declared.line.ParentName.TheVariants.{Contextual, Root, In}
+use Rattle.span_run.specs.declared.line.Line.{Line}
+use Rattle.span_run.specs.declared.line.Line.TheVariants.{New, Enter, Exit, Record, Drop, Current}
+use Rattle.span_run.specs.declared.fault.RunFault.{RunFault}
+use Rattle.span_run.specs.declared.fault.RunFault.TheVariants as fault
+use Rattle.span_run.specs.declared.request.Which.{Which}
+use Rattle.span_run.specs.declared.request.Which.TheVariants.{Known, Made}
+use Rattle.span_run.specs.declared.request.WhichParent.{WhichParent}
+use Rattle.span_run.specs.declared.request.WhichParent.TheVariants as asked
+use Rattle.span_run.specs.declared.request.Request.{Request}
+use Rattle.span_run.specs.declared.request.Request.TheVariants as request
 use Rattle.span_run.specs.declared.script.Script.{Script}
+
+-- the texts that are borrowed
+abbrev pub texts_in : List (Bor (List ℕ)) → List (List ℕ)
+texts_in borrowed = map (λ text. text.now) borrowed
+
+-- nothing that is right is spelled so
+abbrev pub SpellsNone : {X Y : Type 0} → (X → Type 0) → (X → Y) → Y → Type 0
+SpellsNone {X = X} IsRight spelling spelled = (x : X) → IsRight x → spelled ≢ spelling x
+
+-- a word that no label is
+abbrev pub is_keyword : List ℕ → Bool
+is_keyword word = bytes_eq word (codes "root") || bytes_eq word (codes "in") || bytes_eq word (codes "mute")
+
+-- a letter from a to z, or a digit
+abbrev pub is_letter_or_digit : ℕ → Bool
+is_letter_or_digit c = is_ascii_lowercase c || is_ascii_digit c
+
+-- up to 16 letters and digits, of which the first is a letter, that are no keyword
+abbrev pub is_label : List ℕ → Bool
+is_label word = not (is_keyword word) && nat_le (length word) 16 && is_ascii_lowercase (slice_index word 0) && list_all is_letter_or_digit word
+
+-- the metadata of one of the five callsites of spans, which have no fields
+pub record IsSpanSite (site : Metadata) : Type 0 where
+  pub number : callsite_of site < 5
+  pub name : name_of site ≡ 115 ∷ (48 + callsite_of site) ∷ []
+  pub target : target_of site ≡ codes "script"
+  pub level : slice_get (ERROR ∷ WARN ∷ INFO ∷ DEBUG ∷ TRACE ∷ []) (callsite_of site) ≡ Some (level_of site)
+  pub kind : kind_of site ≡ SPAN
+  pub fields : names_of (fields_of site) ≡ []
+
+-- the word of a digit
+abbrev pub digit : ℕ → List ℕ
+digit n = (48 + n) ∷ []
+
+-- the word of a name
+abbrev pub word_of : Name → List ℕ
+word_of Nobody = codes "?"
+word_of (Label label) = label.now
+
+-- the words of a lane and a name
+abbrev pub lane_words : Lane × Name → List (List ℕ)
+lane_words both = digit both.0.0 ∷ word_of both.1 ∷ []
+
+-- the words of a parent
+abbrev pub parent_words : ParentName → List (List ℕ)
+parent_words Contextual = []
+parent_words Root = codes "root" ∷ []
+parent_words (In name) = codes "in" ∷ word_of name ∷ []
+
+-- the words of a line
+abbrev pub words_of : Line → List (List ℕ)
+words_of (New lane site label parent) = codes "new" ∷ digit lane.0 ∷ digit (callsite_of site) ∷ label.now ∷ parent_words parent
+words_of (Enter lane name) = codes "enter" ∷ lane_words (lane, name)
+words_of (Exit lane name) = codes "exit" ∷ lane_words (lane, name)
+words_of (Record lane name) = codes "record" ∷ lane_words (lane, name)
+words_of (Drop lane name) = codes "drop" ∷ lane_words (lane, name)
+words_of (Current lane) = codes "current" ∷ digit lane.0 ∷ []
+
+-- the label that a line declares, if it declares one
+abbrev pub declared_label : Line → Option (List ℕ)
+declared_label (New lane site label parent) = Some label.now
+declared_label l = None
+
+-- a name is `?` or a label
+abbrev pub IsName : Name → Type 0
+IsName Nobody = ⊤
+IsName (Label label) = IsTrue (is_label label.now)
+
+-- the lane is a digit, and the name a name
+abbrev pub IsLaneAndName : Lane × Name → Type 0
+IsLaneAndName both = (both.0.0 < 10) × IsName both.1
+
+-- the words are no lane and name
+abbrev pub IsNoLaneAndName : List (List ℕ) → Type 0
+IsNoLaneAndName words = (n : ℕ) (name : Name) → n < 10 → IsName name → words ≢ digit n ∷ word_of name ∷ []
+
+-- a parent has a name where it is named by one
+abbrev pub IsParentName : ParentName → Type 0
+IsParentName (In name) = IsName name
+IsParentName parent = ⊤
+
+-- the lane is a digit, the site one of the five of spans, and the names are names
+abbrev pub IsLine : Line → Type 0
+IsLine (New lane site label parent) = (lane.0 < 10) × IsSpanSite site × IsTrue (is_label label.now) × IsParentName parent
+IsLine (Enter lane name) = IsLaneAndName (lane, name)
+IsLine (Exit lane name) = IsLaneAndName (lane, name)
+IsLine (Record lane name) = IsLaneAndName (lane, name)
+IsLine (Drop lane name) = IsLaneAndName (lane, name)
+IsLine (Current lane) = lane.0 < 10
 
 -- the parts of a text between these bytes
 abbrev pub cut : ℕ → List ℕ → List (List ℕ)
@@ -46,36 +141,39 @@ DeclaresAt lines place label = IsSomeAnd (slice_get lines place) (λ l. declared
 -- after these lines, the name is that of this span: `?` of the id 0, a label of the span that its line's request makes
 abbrev pub Means : List Line → Name → Which → Type 0
 Means before Nobody (Known id) = number_of id ≡ 0
-Means before Nobody (Made place) = ⊥
-Means before (Label label) (Known id) = ⊥
 Means before (Label label) (Made place) = DeclaresAt before place label.now
+Means before name which = ⊥
 
 -- the same of a parent
 abbrev pub MeansParent : List Line → ParentName → WhichParent → Type 0
-MeansParent before named.Contextual asked.Contextual = ⊤
-MeansParent before named.Root asked.Root = ⊤
-MeansParent before (named.In name) (asked.Explicit which) = Means before name which
+MeansParent before Contextual asked.Contextual = ⊤
+MeansParent before Root asked.Root = ⊤
+MeansParent before (In name) (asked.Explicit which) = Means before name which
 MeansParent before name parent = ⊥
 
 -- after these lines, a line asks for this request
 abbrev pub Asks : List Line → Line → Request → Type 0
-Asks before (line.New lane site label name) (request.NewSpan lane' site' parent) = (lane' ≡ lane) × (site' ≡ site) × MeansParent before name parent
-Asks before (line.Enter lane name) (request.Enter lane' which) = (lane' ≡ lane) × Means before name which
-Asks before (line.Exit lane name) (request.Exit lane' which) = (lane' ≡ lane) × Means before name which
-Asks before (line.Record lane name) (request.Record lane' which) = (lane' ≡ lane) × Means before name which
-Asks before (line.Drop lane name) (request.Drop lane' which) = (lane' ≡ lane) × Means before name which
-Asks before (line.Current lane) (request.Current lane') = lane' ≡ lane
+Asks before (New lane site label name) (request.NewSpan lane' site' parent) = (lane' ≡ lane) × (site' ≡ site) × MeansParent before name parent
+Asks before (Enter lane name) (request.Enter lane' which) = (lane' ≡ lane) × Means before name which
+Asks before (Exit lane name) (request.Exit lane' which) = (lane' ≡ lane) × Means before name which
+Asks before (Record lane name) (request.Record lane' which) = (lane' ≡ lane) × Means before name which
+Asks before (Drop lane name) (request.Drop lane' which) = (lane' ≡ lane) × Means before name which
+Asks before (Current lane) (request.Current lane') = lane' ≡ lane
 Asks before l r = ⊥
 
--- no line declares this label
-abbrev pub IsFree : List Line → List ℕ → Type 0
-IsFree lines label = (place : ℕ) → IfSome (slice_get lines place) (λ l. declared_label l ≢ Some label)
+-- a fact holds of nothing
+abbrev pub HoldsOfNone : {X : Type 0} → (X → Type 0) → Type 0
+HoldsOfNone {X = X} P = (x : X) → ¬ (P x)
+
+-- no line declares the label that this one declares
+abbrev pub IsNewIn : List Line → Line → Type 0
+IsNewIn lines l = IfSome (declared_label l) (λ label. (place : ℕ) → IfSome (slice_get lines place) (λ other. declared_label other ≢ Some label))
 
 -- the lines ask for the requests, one for one: each is a line, names what lines before it declare, and declares what none does
 pub data AskFor : List Line → List Request → Type 0 where
   nothing : AskFor [] []
   more : {lines : List Line} {requests : List Request} (l : Line) (r : Request) → IsLine l → AskFor lines requests
-      → Asks lines l r → IfSome (declared_label l) (IsFree lines) → AskFor (lines ++ l ∷ []) (requests ++ r ∷ [])
+      → Asks lines l r → IsNewIn lines l → AskFor (lines ++ l ∷ []) (requests ++ r ∷ [])
 
 -- the requests are those of the lines, and the places are those of the labels
 pub record IsScript (script : Script) : Type 0 where
@@ -90,7 +188,7 @@ Declares old l new = MatchOption (declared_label l) (new.labels ≡ old.labels) 
 
 -- the line can follow these: they declare what it names, and not what it declares
 abbrev pub CanFollow : List Line → Line → Type 0
-CanFollow before l = ((r : Request) × Asks before l r) × IfSome (declared_label l) (IsFree before)
+CanFollow before l = ((r : Request) × Asks before l r) × IsNewIn before l
 
 -- the words of the first line
 abbrev pub first_words : List (List ℕ)
@@ -113,26 +211,33 @@ words_of_texts texts = map (cut 32) (filter is_full texts)
 abbrev pub IsSpelled : List ℕ → List Line → Type 0
 IsSpelled text lines = words_of_texts (cut 10 text) ≡ words_in (Some lines)
 
--- the words can't follow these lines: they are no line, or one that can't
-abbrev pub IsWrongAfter : Option (List Line) → List (List ℕ) → Type 0
-IsWrongAfter None words = words ≢ first_words
-IsWrongAfter (Some before) words = ((l : Line) → IsLine l → words ≢ words_of l)
-    ⊎ ((l : Line) × (IsLine l × (words ≡ words_of l) × ¬ (CanFollow before l)))
+-- the text is not empty, and can't follow these lines: its words are no line, or one that can't
+abbrev pub IsWrongAfter : Option (List Line) → List ℕ → Type 0
+IsWrongAfter None text = IsTrue (is_full text) × (cut 32 text ≢ first_words)
+IsWrongAfter (Some before) text = IsTrue (is_full text) × (SpellsNone IsLine words_of (cut 32 text) ⊎ ((l : Line) × (IsLine l × (cut 32 text ≡ words_of l) × ¬ (CanFollow before l))))
 
 -- the lines so far, if the first was read, and what they ask for
 abbrev pub lines_in : Option Script → Option (List Line)
 lines_in None = None
 lines_in (Some script) = Some (lines_of script)
 
+-- a script reads a text more: its words are added, if there are any
+abbrev pub ReadsText : Option Script → List ℕ → Option Script → Type 0
+ReadsText before text after = words_in (lines_in after) ≡ words_in (lines_in before) ++ words_of_texts (text ∷ [])
+
 -- the text at this place can't follow the ones before it, which are read
 pub record IsWrongAt (texts : List (List ℕ)) (place : ℕ) : Type 0 where
   pub before : Option (List Line)
   pub asked : IfSome before (λ lines. (requests : List Request) × AskFor lines requests)
   pub spelled : words_in before ≡ words_of_texts (take place texts)
-  pub wrong : IsSomeAnd (slice_get texts place) (λ text. IsTrue (is_full text) × IsWrongAfter before (cut 32 text))
+  pub wrong : IsSomeAnd (slice_get texts place) (IsWrongAfter before)
 
 -- what ends the reading of a script: its first line that is wrong, which is line 1 where all are empty, or want of memory
 abbrev pub IsScriptFault : List ℕ → RunFault → Type 0
 IsScriptFault text (fault.Line n) = ((n ≡ 1) × (filter is_full (cut 10 text) ≡ [])) ⊎ ((place : ℕ) × ((n ≡ place + 1) × IsWrongAt (cut 10 text) place))
 IsScriptFault text fault.Io = ⊥
 IsScriptFault text fault.Memory = ⊤
+
+-- memory was refused, or else the fault is this one, for that reason
+abbrev pub Blames : RunFault → Type 0 → RunFault → Type 0
+Blames wrong reason found = (found ≡ fault.Memory) ⊎ ((found ≡ wrong) × reason)

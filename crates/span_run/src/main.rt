@@ -1,16 +1,16 @@
 //! Runs a script of spans: standard input says what is asked, standard output what comes of it.
 #![tactic(auto)]
 
-mod faults;
-mod lines;
+mod fault;
+mod line;
 mod plain;
 mod recorder;
-mod replies;
-mod requests;
+mod reply;
+mod request;
 mod run;
 mod script;
 mod serve;
-mod sites;
+mod site;
 #[cfg(test)]
 mod tests;
 

@@ -1,8 +1,8 @@
-//! Who is told.
+//! Who is notified.
 ghost use Rattle.std.specs.Prelude.{◌≡◌, ◌∷◌, []};
-ghost use Rattle.span_run.specs.Notices.{Hears, new_recorder};
+ghost use Rattle.span_run.specs.Run.{Hears, new_recorder};
 
-use crate::requests::Notice;
+use crate::request::Notice;
 use std::alloc::Global;
 use std::marker::Model;
 
@@ -14,17 +14,20 @@ pub struct Recorder {
 }
 
 impl Model for Recorder {
-    ghost use Rattle.span_run.specs.Notices.{Kept, kept_code};
+    ghost use Rattle.std.specs.Prelude.{◌-◌, vec_capacity, vec_len};
+    ghost use Rattle.span_run.specs.Run.{Kept};
 
     ghost Value = { Kept };
 
-    ghost coded = { kept_code };
-
-    ghost view = { λ a. record { notices = a.notices.items; failed = a.failed } };
+    ghost view = { λ a. record {
+      notices = a.notices.items;
+      room = vec_capacity a.notices - vec_len a.notices;
+      failed = a.failed;
+    } };
 }
 
 impl Recorder {
-    /// A recorder that was told nothing yet.
+    /// A recorder that has heard nothing yet.
     pub fn new(alloc: Global) -> Self
         ensures { result ≡ new_recorder }
     {
@@ -34,7 +37,7 @@ impl Recorder {
         }
     }
 
-    /// What it keeps, in the order in which it was told.
+    /// What it keeps, in the order in which it heard it.
     pub fn notices(&self) -> &[Notice]
         ensures { result.now ≡ self.now.notices }
     {
@@ -48,7 +51,7 @@ impl Recorder {
         self.failed
     }
 
-    /// Tells it a notice.
+    /// It hears a notice, which it keeps if there is memory for it.
     pub fn hear(&mut self, notice: Notice)
         ensures { Hears self.old self.new (notice ∷ []) }
     {

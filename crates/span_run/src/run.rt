@@ -1,14 +1,12 @@
 //! From a script to what it prints.
-ghost use Rattle.std.specs.Prelude.{◌≡◌, ◌⊎◌, ◌<◌, ◌≤◌, List, ℕ, length, vec_len, string_bytes, IfOk, IfErr, IfSome, OnOk, IsErrAnd};
+ghost use Rattle.std.specs.Prelude.{◌≡◌, ◌≤◌, vec_len, string_bytes, IfOk, IfErr, IfSome, OnOk};
 ghost use Rattle.std.specs.Io.KnownBytes.{Appends};
-ghost use Rattle.std.specs.Str.Lossy.{utf8_lossy};
-ghost use Rattle.span_run.specs.Fault.{IsWrongLine};
-ghost use Rattle.span_run.specs.Program.{Prints};
+ghost use Rattle.span_run.specs.Program.{BlamesFirstWrong, IsUnwritten, IsWrongLine, Prints, RefusesLong, Writes};
 ghost use Rattle.span_run.specs.Script.{IsScriptFault};
 
-use crate::faults::RunFault;
+use crate::fault::RunFault;
 use crate::plain::Plain;
-use crate::replies::text_of;
+use crate::reply::text_of;
 use crate::script::Script;
 use std::alloc::Global;
 use std::io::{ErrorKind, Read, Write};
@@ -21,17 +19,13 @@ const CHUNK: usize = 8192;
 
 /// Reads a script, serves it, and writes its replies and notices.
 ///
-/// The whole script is read first. Where it can't be read, or a line is wrong, nothing is written. A fault of reading is
-/// `Io`, and so is one of writing: then a part of the output may be written.
+/// The whole script is read first. Where it can't be read, or a line is wrong, nothing is written.
+/// A fault of reading is `Io`, and so is one of writing: then a part of the output may be written.
 pub fn run<R: Read, W: Write>(alloc: Global, reader: &mut R, writer: &mut W) -> Result<(), RunFault>
-    ensures printed { OnOk result (IfSome (R.remaining reader.old) (λ bytes. (output : List ℕ)
-        × (Prints (utf8_lossy bytes) output × Appends (W.contents writer.old) (W.contents writer.new) output))) }
-    ensures wrong { IfErr result (λ fault. IsWrongLine fault
-        → IfSome (R.remaining reader.old) (λ bytes. IsScriptFault (utf8_lossy bytes) fault)) }
-    ensures unwritten { IfErr result (λ fault. (writer.new ≡ writer.old)
-        ⊎ ((fault ≡ RunFault.Io) × IfSome (R.remaining reader.old) (λ bytes. (output : List ℕ) × Prints (utf8_lossy bytes) output))) }
-    ensures too_long { IfSome (R.remaining reader.old) (λ bytes. 1048576 < length bytes
-        → IsErrAnd result (λ fault. ¬ (IsWrongLine fault)) × (writer.new ≡ writer.old)) }
+    ensures done { OnOk result (Writes (R.remaining reader.old) W.contents writer.old writer.new) }
+    ensures wrong { IfErr result (BlamesFirstWrong (R.remaining reader.old)) }
+    ensures unwritten { IfErr result (IsUnwritten (R.remaining reader.old) writer.old writer.new) }
+    ensures too_long { RefusesLong (R.remaining reader.old) result writer.old writer.new }
 {
     let bytes = read_script(alloc, reader)?;
     // What isn't text becomes a character that no line has.
@@ -42,7 +36,7 @@ pub fn run<R: Read, W: Write>(alloc: Global, reader: &mut R, writer: &mut W) -> 
 
 /// All that the reader gives, which is at most `SCRIPT_LIMIT` bytes.
 fn read_script<R: Read>(alloc: Global, reader: &mut R) -> Result<Vec<u8>, RunFault>
-    ensures all { IfOk result (λ bytes. IfSome (R.remaining reader.old) (λ given. bytes.items ≡ given)) }
+    ensures all { IfOk result (λ b. IfSome (R.remaining reader.old) (λ given. b.items ≡ given)) }
     ensures limit { IfOk result (λ bytes. vec_len bytes ≤ SCRIPT_LIMIT) }
     ensures fault { IfErr result (λ fault. ¬ (IsWrongLine fault)) }
 {
@@ -80,12 +74,12 @@ fn output_of(alloc: Global, text: &str) -> Result<String, RunFault>
     if plain.failed() {
         return Err(RunFault::Memory);
     }
-    Ok(text_of(alloc, &script, &answers, plain.notices())?)
+    Ok(text_of(alloc, script.lines(), &answers, plain.notices())?)
 }
 
 /// Writes all of the output, or fails.
 fn write_output<W: Write>(writer: &mut W, output: &str) -> Result<(), RunFault>
-    ensures written { OnOk result (Appends (W.contents writer.old) (W.contents writer.new) output.now) }
+    ensures all { OnOk result (Appends (W.contents writer.old) (W.contents writer.new) output.now) }
     ensures fault { IfErr result (λ fault. fault ≡ RunFault.Io) }
 {
     if writer.write_all(output.as_bytes()).is_err() {

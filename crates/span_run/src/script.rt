@@ -1,19 +1,16 @@
 //! A script: its lines, and the requests that they ask for.
-ghost use Rattle.std.specs.Prelude.{◌≡◌, ◌⊎◌, ◌∷◌, [], ◌++◌, ◌<◌, IsTrue, IfNone, IfOk, IfErr, OnOk, IfSome, map};
-ghost use Rattle.span_run.specs.Line.{declared_label, IsLine};
-ghost use Rattle.span_run.specs.Script.{cut, is_full, lines_in, lines_of, requests_of, words_in, words_of_texts, Asks, CanFollow, Declares, IsFree, IsScript, IsScriptFault, IsSpelled, IsWrongAfter, Means, MeansParent};
-ghost use Rattle.span_run.specs.declared.requests.Request.{Request};
-ghost use Rattle.span_run.specs.declared.requests.Which.{Which};
-ghost use Rattle.span_run.specs.declared.requests.WhichParent.{WhichParent};
+ghost use Rattle.std.specs.Prelude.{◌≡◌, ◌∷◌, [], ◌++◌, ◌<◌, IfNone, IfOk, IfErr, OnOk, IfSome};
+ghost use Rattle.span_run.specs.Script.{texts_in, IsLine, cut, lines_in, lines_of, requests_of, Asks, Blames, CanFollow, Declares, HoldsOfNone, IsNewIn, IsScript, IsScriptFault, IsSpelled, IsWrongAfter, Means, MeansParent, ReadsText};
 
-use crate::faults::RunFault;
-use crate::lines::{Line, Name, ParentName};
-use crate::requests::{Request, Which, WhichParent};
+use crate::fault::RunFault;
+use crate::line::{Line, Name, ParentName};
+use crate::request::{Request, Which, WhichParent};
 use span_core::Id;
 use std::alloc::{AllocError, Global};
 use std::collections::BTreeMap;
 
-/// A script: its lines after the first, the request that each asks for, and the places of those that declare a label.
+/// A script: its lines after the first, the request that each asks for, and the places of those
+/// that declare a label.
 #[derive(Drop)]
 pub struct Script<'a> {
     lines: Vec<Line<'a>>,
@@ -61,13 +58,14 @@ impl<'a> Script<'a> {
         }
     }
 
-    /// Adds a line. Where it names what no line before it declares, or declares what one does, the fault is `wrong`.
+    /// Adds a line. Where it names what no line before it declares, or declares what one does,
+    /// the fault is `wrong`.
     fn add(&mut self, line: Line<'a>, wrong: RunFault) -> Result<(), RunFault>
         requires script { IsScript self.old }
         requires line { IsLine line }
         ensures script { OnOk result (IsScript self.new) }
         ensures lines { OnOk result (lines_of self.new ≡ lines_of self.old ++ line.entry ∷ []) }
-        ensures fault { IfErr result (λ fault. (fault ≡ RunFault.Memory) ⊎ ((fault ≡ wrong) × ¬ (CanFollow (lines_of self.old) line.entry))) }
+        ensures fault { IfErr result (Blames wrong (¬ (CanFollow (lines_of self.old) line.entry))) }
     {
         let request = self.asked(line).ok_or(wrong)?;
         self.declare(line, wrong)?;
@@ -82,8 +80,7 @@ impl<'a> Script<'a> {
         ensures lines { self.new.lines ≡ self.old.lines }
         ensures requests { self.new.requests ≡ self.old.requests }
         ensures labels { OnOk result (Declares self.old line.entry self.new) }
-        ensures fault { IfErr result (λ fault. (fault ≡ RunFault.Memory)
-            ⊎ ((fault ≡ wrong) × ¬ (IfSome (declared_label line.entry) (IsFree (lines_of self.old))))) }
+        ensures fault { IfErr result (Blames wrong (¬ (IsNewIn (lines_of self.old) line.entry))) }
     {
         match line {
             Line::New(_, _, label, _) => {
@@ -101,7 +98,7 @@ impl<'a> Script<'a> {
     fn asked(&self, line: Line<'a>) -> Option<Request>
         requires { IsScript self.now }
         ensures request { IfSome result (Asks (lines_of self.now) line.entry) }
-        ensures none { IfNone result ((r : Request) → ¬ (Asks (lines_of self.now) line.entry r)) }
+        ensures none { IfNone result (HoldsOfNone (Asks (lines_of self.now) line.entry)) }
     {
         match line {
             Line::New(lane, site, _, parent) => {
@@ -119,7 +116,7 @@ impl<'a> Script<'a> {
     fn parent(&self, parent: ParentName<'a>) -> Option<WhichParent>
         requires { IsScript self.now }
         ensures parent { IfSome result (MeansParent (lines_of self.now) parent.entry) }
-        ensures none { IfNone result ((p : WhichParent) → ¬ (MeansParent (lines_of self.now) parent.entry p)) }
+        ensures none { IfNone result (HoldsOfNone (MeansParent (lines_of self.now) parent.entry)) }
     {
         match parent {
             ParentName::Contextual => Some(WhichParent::Contextual),
@@ -132,7 +129,7 @@ impl<'a> Script<'a> {
     fn which(&self, name: Name<'a>) -> Option<Which>
         requires { IsScript self.now }
         ensures span { IfSome result (Means (lines_of self.now) name.entry) }
-        ensures none { IfNone result ((w : Which) → ¬ (Means (lines_of self.now) name.entry w)) }
+        ensures none { IfNone result (HoldsOfNone (Means (lines_of self.now) name.entry)) }
     {
         match name {
             Name::Nobody => Some(Which::Known(Id::from_u64(0))),
@@ -150,9 +147,8 @@ fn next<'a>(
 ) -> Result<Option<Script<'a>>, RunFault>
     requires { IfSome script IsScript }
     ensures script { IfOk result (λ after. IfSome after IsScript) }
-    ensures words { IfOk result (λ after. words_in (lines_in after) ≡ words_in (lines_in script.entry) ++ words_of_texts (text.now ∷ [])) }
-    ensures fault { IfErr result (λ fault. (fault ≡ RunFault.Memory)
-        ⊎ ((fault ≡ wrong) × IsTrue (is_full text.now) × IsWrongAfter (lines_in script.entry) (cut 32 text.now))) }
+    ensures words { IfOk result (ReadsText script.entry text.now) }
+    ensures fault { IfErr result (Blames wrong (IsWrongAfter (lines_in script.entry) text.now)) }
 {
     if text.is_empty() {
         return Ok(script);
@@ -174,7 +170,7 @@ fn next<'a>(
 /// The parts of a text between these characters.
 fn parts_of<'a>(alloc: Global, text: &'a str, separator: char) -> Result<Vec<&'a str>, AllocError>
     requires { separator < 128 }
-    ensures { IfOk result (λ parts. map (λ part. part.now) parts.items ≡ cut separator text.now) }
+    ensures { IfOk result (λ parts. texts_in parts.items ≡ cut separator text.now) }
 {
     text.split(separator).collect(alloc)
 }

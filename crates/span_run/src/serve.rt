@@ -1,20 +1,18 @@
 //! Lists of requests, served in order.
 ghost use Rattle.std.specs.Prelude.{◌≡◌, ◌∷◌, [], ◌++◌, List, OnErr, IfOk, IfErr, ◌<◌, ◌≤◌, ◌+◌, vec_len, vec_capacity};
-ghost use Rattle.span_core.specs.Attributes.{asked_parent, metadata_of, values_of};
-ghost use Rattle.span_core.specs.Id.{number_of};
-ghost use Rattle.span_run.specs.Notices.{Hears};
-ghost use Rattle.span_run.specs.Run.{DropStep, EnterStep, ExitStep, NewStep, RecordStep, Run, Step, resolved, resolved_parent};
-ghost use Rattle.span_run.specs.declared.requests.Notice.{Notice};
+ghost use Rattle.span_core.specs.Span.{asked_parent, metadata_of, number_of, values_of};
+ghost use Rattle.span_run.specs.Run.{AndHears, DropStep, EnterStep, ExitStep, NewStep, RecordStep, Run, Step, resolved, resolved_parent};
 
 use crate::plain::Plain;
-use crate::requests::{Answer, Request, Which, WhichParent};
+use crate::request::{Answer, Request, Which, WhichParent};
 use span_core::{Attributes, Id, Lane, Metadata, Parent, Record, TraceError};
 use std::alloc::Global;
 
 impl Plain {
-    /// Serves requests in order, with one answer for each. Refused for want of memory before anything is served.
+    /// Serves requests in order, with one answer for each. Refused for want of memory before
+    /// anything is served.
     pub fn serve(&mut self, alloc: Global, requests: &[Request]) -> Result<Vec<Answer>, TraceError>
-        ensures run { IfOk result (λ answers. (due : List Notice) × Run [] self.old.registry requests.now answers.items due self.new.registry × Hears self.old.recorder self.new.recorder due) }
+        ensures run { IfOk result (λ a. AndHears (Run [] requests.now a.items) self.old self.new) }
         ensures memory { IfErr result (λ e. e ≡ TraceError.OutOfMemory) }
         ensures unchanged { OnErr result (self.new ≡ self.old) }
     {
@@ -30,7 +28,7 @@ impl Plain {
 
     /// One request, where these are the answers so far.
     fn serve_one(&mut self, past: &[Answer], request: &Request) -> Answer
-        ensures { (due : List Notice) × Step past.now self.old.registry request.now result due self.new.registry × Hears self.old.recorder self.new.recorder due }
+        ensures { AndHears (Step past.now request.now result) self.old self.new }
     {
         match request {
             Request::NewSpan(lane, metadata, parent) => {
@@ -57,17 +55,18 @@ impl Plain {
     }
 
     fn serve_new(&mut self, lane: Lane, metadata: Metadata, parent: Parent) -> Answer
-        ensures { (due : List Notice) × NewStep self.old.registry lane metadata parent result due self.new.registry × Hears self.old.recorder self.new.recorder due }
+        ensures { AndHears (NewStep lane metadata parent result) self.old self.new }
     {
         match self.new_span(lane, &attributes_of(metadata, parent)) {
             Ok(Some(id)) => Answer::Made(id),
+            // No filter drops it, so this is never taken.
             Ok(None) => Answer::Dropped,
             Err(error) => Answer::Refused(error),
         }
     }
 
     fn serve_enter(&mut self, lane: Lane, id: Id) -> Answer
-        ensures { (due : List Notice) × EnterStep self.old.registry lane id result due self.new.registry × Hears self.old.recorder self.new.recorder due }
+        ensures { AndHears (EnterStep lane id result) self.old self.new }
     {
         match self.enter(lane, id) {
             Ok(()) => Answer::Done,
@@ -76,14 +75,14 @@ impl Plain {
     }
 
     fn serve_exit(&mut self, lane: Lane, id: Id) -> Answer
-        ensures { (due : List Notice) × ExitStep self.old.registry lane id result due self.new.registry × Hears self.old.recorder self.new.recorder due }
+        ensures { AndHears (ExitStep lane id result) self.old self.new }
     {
         self.exit(lane, id);
         Answer::Done
     }
 
     fn serve_record(&mut self, lane: Lane, id: Id) -> Answer
-        ensures { (due : List Notice) × RecordStep self.old.registry lane id result due self.new.registry × Hears self.old.recorder self.new.recorder due }
+        ensures { AndHears (RecordStep lane id result) self.old self.new }
     {
         match self.record(lane, id, &Record::new(&[])) {
             Ok(()) => Answer::Done,
@@ -92,7 +91,7 @@ impl Plain {
     }
 
     fn serve_drop(&mut self, lane: Lane, id: Id) -> Answer
-        ensures { (due : List Notice) × DropStep self.old.registry lane id result due self.new.registry × Hears self.old.recorder self.new.recorder due }
+        ensures { AndHears (DropStep lane id result) self.old self.new }
     {
         match self.drop_span(lane, id) {
             Ok(closed) => Answer::Yes(closed),

@@ -1,5 +1,8 @@
-use crate::faults::RunFault;
+use crate::fault::RunFault;
+use crate::plain::Plain;
 use crate::run::run;
+use crate::site::span_site;
+use span_core::{Attributes, Lane};
 use std::alloc::{AllocError, Global};
 use std::io;
 use std::io::{ErrorKind, Read, Write};
@@ -134,13 +137,13 @@ fn wrong_lines(rt: HostRuntime) {
 }
 
 #[test]
-fn faults_are_told(rt: HostRuntime) -> Result<(), Fail> {
-    let told = [
+fn fault_texts_and_statuses(rt: HostRuntime) -> Result<(), Fail> {
+    let rows = [
         (RunFault::Line(12), "script line 12 is wrong", 2),
         (RunFault::Io, "input or output failed", 1),
         (RunFault::Memory, "out of memory", 1),
     ];
-    for (fault, text, status) in told {
+    for (fault, text, status) in rows {
         assert_eq!(rt; format!(in rt.alloc(); "{fault}")?.as_str(), text);
         assert_eq!(rt; fault.status(), status);
     }
@@ -162,7 +165,7 @@ fn size_limit(rt: HostRuntime) -> Result<(), Fail> {
     Ok(())
 }
 
-/// Gives its text in two reads, each of which is interrupted first, and then goes on as it is told.
+/// Gives its text in two reads, each of which is interrupted first, and then fails or ends.
 #[derive(Drop)]
 struct Broken<'a> {
     parts: [&'a [u8]; 2],
@@ -209,7 +212,7 @@ fn readers(rt: HostRuntime) -> Result<(), Fail> {
     run(rt.alloc(), &mut broken, &mut output)?;
     assert_eq!(rt; output.as_slice(), b"p\n== base\nnew p\n".as_slice());
 
-    // A wrong line is not told of, as the reader fails after it.
+    // A wrong line is not named, as the reader fails after it.
     broken.parts = [b"stack", b"plain\n"];
     broken.reads = 0;
     broken.fails = true;
@@ -302,5 +305,23 @@ fn a_chain_closes_by_one_drop(rt: HostRuntime) -> Result<(), Fail> {
     let mut output = Vec::new(rt.alloc());
     run(rt.alloc(), &mut script.as_bytes(), &mut output)?;
     assert!(rt; output.as_slice() == replies.as_bytes());
+    Ok(())
+}
+
+#[test]
+fn a_stack_shows_its_registry(rt: HostRuntime) -> Result<(), Fail> {
+    let mut plain = Plain::new(rt.alloc());
+    let lane = Lane(0);
+    let site = span_site("2");
+    assert!(rt; site.is_some());
+    if let Some(site) = site {
+        let made = plain.new_span(lane, &Attributes::new(site, &[]))?;
+        assert!(rt; made.is_some());
+        if let Some(id) = made {
+            assert!(rt; plain.registry().is_open(id));
+            assert!(rt; plain.drop_span(lane, id)?);
+            assert!(rt; !plain.registry().is_open(id));
+        }
+    }
     Ok(())
 }

@@ -4,5 +4,5 @@ use Rattle.span_core.proofs.laws.unions.Goals as goal
 pub returns-clause-commutes : goal.returns-clause-commutes
 returns-clause-commutes c = union-comm
 
-pub returns-clause-associates : goal.returns-clause-associates
-returns-clause-associates c = union-assoc
+pub returns-clause-regroups : goal.returns-clause-regroups
+returns-clause-regroups c = union-assoc

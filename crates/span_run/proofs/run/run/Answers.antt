@@ -2,8 +2,8 @@ use Rattle.std.proofs.Common.{◌≡◌, ◌∙◌, ℕ, List, Option, Some, Non
 use Rattle.std.specs.Io.KnownBytes.{Appends}
 use Rattle.std.specs.Str.Lossy.{utf8_lossy}
 use Rattle.span_run.specs.Program.{Prints}
-use Rattle.span_run.specs.declared.faults.RunFault.{RunFault}
-use Rattle.span_run.specs.declared.faults.RunFault.TheVariants.{Io}
+use Rattle.span_run.specs.declared.fault.RunFault.{RunFault}
+use Rattle.span_run.specs.declared.fault.RunFault.TheVariants.{Io}
 use Rattle.span_run.proofs.run.run.Goals as goal
 
 -- what was read is the text, and what is printed for it was written
@@ -15,13 +15,13 @@ written (Some given) items text output old new (Ok u) read is prints w =
     (output, (subst (λ t. Prints t output) (is ∙ ap (λ xs. utf8_lossy xs) read) prints, w))
 written known items text output old new (Err e) read is prints w = tt
 
-pub returns-clause-printed : goal.returns-clause-printed
-returns-clause-printed g c = written (g.R.Read.remaining c.args.reader.now) c.in_ok-bytes.bytes.items c.as_str.result.now c.as_str-2.result.now
+pub returns-clause-done : goal.returns-clause-done
+returns-clause-done g c = written (g.R.Read.remaining c.args.reader.now) c.in_ok-bytes.bytes.items c.as_str.result.now c.as_str-2.result.now
     (g.W.Write.contents c.args.writer.now) (g.W.Write.contents c.write_output.new.writer) c.write_output.result
     c.in_ok-bytes.ensures.all
     (c.as_str.ensures.value ∙ c.in_ok-text.ensures.lossy ∙ ap (λ xs. utf8_lossy xs) c.deref.ensures.value)
     (subst (λ o. Prints c.as_str.result.now o) (sym c.as_str-2.ensures.value) c.in_ok-output.ensures.printed)
-    c.write_output.ensures.written
+    c.write_output.ensures.all
 
 printable : (known : Option (List ℕ)) (items text output : List ℕ) → IfSome known (λ given. items ≡ given) → text ≡ utf8_lossy items → Prints text output
     → IfSome known (λ bytes. (out : List ℕ) × Prints (utf8_lossy bytes) out)

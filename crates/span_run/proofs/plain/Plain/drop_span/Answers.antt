@@ -1,74 +1,63 @@
-use Rattle.std.proofs.Common.{sym, subst, refl, [], List, ℕ, Some, IsTrue, ◌↔◌, true, false}
+use Rattle.std.proofs.Common.{sym, subst, refl, [], true, false}
 use Rattle.std.proofs.lemmas.Bool.{true≢false}
 use Rattle.std.proofs.lemmas.Result.{err_from_is_err_and}
-use Rattle.span_core.specs.Id.{number_of}
-use Rattle.span_registry.specs.Closes.{AreUnheld, IsSettled, IsSettledBut, Member}
-use Rattle.span_registry.specs.Step.{Drops, RefusesRelease, TakesOut}
-use Rattle.span_registry.specs.Store.{RegistryState, IsForest, IsHeld, IsOpen}
-use Rattle.span_registry.proofs.Drops.{begins, forest_taken, none_dropped, settled_open, settled_taken}
-use Rattle.span_run.specs.Notices.{Watched, Hears, closes_of}
+use Rattle.span_registry.specs.Closes.{IsSettled}
+use Rattle.span_registry.specs.Step.{Releases, RefusesRelease}
+use Rattle.span_registry.specs.Store.{RegistryState}
+use Rattle.span_registry.specs.declared.registry.Released.{Released}
+use Rattle.span_registry.specs.declared.registry.Released.TheVariants.{Closing, StillOpen}
+use Rattle.span_registry.proofs.CallerLemmas.{closes_alone, closes_itself, closes_nothing, settled_alone, settled_released}
+use Rattle.span_run.specs.Run.{AndHears, Watched, closes_of, DropStep}
+use Rattle.span_run.specs.declared.request.Answer.TheVariants.{Yes}
 use Rattle.span_run.proofs.Hears.{hears_nothing}
 use Rattle.span_run.proofs.plain.Plain.drop_span.Goals as goal
 
-pub returns-in_err-release-clause-refused : goal.returns-in_err-release-clause-refused
-returns-in_err-release-clause-refused c =
+pub returns-in_err-release-clause-error : goal.returns-in_err-release-clause-error
+returns-in_err-release-clause-error c =
     let p = err_from_is_err_and c.from_residual.result c.from_residual.ensures.1 in
-    rw (p.1, p.2) (subst (λ (w : Watched). RefusesRelease w.registry.store.spans c.args.id c.in_err-release.field-0.0) c.self.view_is c.in_err-release.ensures.refused)
-
-pub invariant_of-self-in-StillOpen : goal.invariant_of-self-in-StillOpen
-invariant_of-self-in-StillOpen c =
-    let e = c.in_ok-release.ensures in
-    let x = number_of c.args.id in
-    settled_open c.release.new.self.store.spans x
-    (subst (λ (s : RegistryState). IsSettledBut s.store.spans (Some x)) (sym e.taken) (settled_taken c.self.inside.registry.store.spans x c.self.invariant e.held))
-    (e.still_open.0 c.in-StillOpen.is)
-
-pub close_all-requires-clause-forest : goal.close_all-requires-clause-forest
-close_all-requires-clause-forest c =
-    let e = c.in_ok-release.ensures in
-    subst (λ (s : RegistryState). IsForest s.store.spans) (sym e.taken) (forest_taken c.self.inside.registry.store.spans (number_of c.args.id) e.forest e.held)
-
-pub close_all-requires-clause-settled : goal.close_all-requires-clause-settled
-close_all-requires-clause-settled c =
-    let e = c.in_ok-release.ensures in
-    let x = number_of c.args.id in
-    subst (λ (s : RegistryState). IsSettledBut s.store.spans (Some x)) (sym e.taken) (settled_taken c.self.inside.registry.store.spans x c.self.invariant e.held)
-
-pub returns-in-StillOpen-clause-dropped : goal.returns-in-StillOpen-clause-dropped
-returns-in-StillOpen-clause-dropped c =
-    let e = c.in_ok-release.ensures in
-    let x = number_of c.args.id in
-    let old = c.self.inside.registry in
-    let open_now = subst (λ (s : RegistryState). IsOpen s.store.spans x) e.taken (e.still_open.0 c.in-StillOpen.is) in
-    let none = subst (Drops old x []) (sym e.taken) (none_dropped old x e.forest c.self.invariant e.held open_now) in
-    subst (λ (w : Watched). (closed : List ℕ) × Drops w.registry x closed c.release.new.self × Hears w.recorder c.self.inside.recorder (closes_of c.args.lane closed) × (IsTrue false ↔ Member x closed)) c.self.view_is
-    ([], none, hears_nothing c.self.inside.recorder, (λ t. absurd (true≢false (sym t)), λ n. absurd n))
-
-pub returns-in-Closing-clause-dropped : goal.returns-in-Closing-clause-dropped
-returns-in-Closing-clause-dropped c =
-    let e = c.in_ok-release.ensures in
-    let x = number_of c.args.id in
-    let old = c.self.inside.registry in
-    let u = c.close_all.ensures.closed in
-    let there = begins c.release.new.self x u.0 (e.closing.0 c.in-Closing.is) u.1 in
-    subst (λ (w : Watched). (closed : List ℕ) × Drops w.registry x closed c.close_all.new.registry × Hears w.recorder c.close_all.new.recorder (closes_of c.args.lane closed) × (IsTrue true ↔ Member x closed)) c.self.view_is (
-      u.0,
-      record {
-        closes = subst (λ (s : RegistryState). AreUnheld s.store.spans u.0) e.taken u.1;
-        taken = subst (λ (s : RegistryState). TakesOut s u.0 c.close_all.new.registry) e.taken u.2;
-      },
-      u.3,
-      (λ _. there, λ _. refl),
-    )
+    rw (p.1, p.2) (subst (λ (w : Watched). RefusesRelease w.registry c.args.id c.in_err-release.field-0.0) c.self.view_is c.in_err-release.ensures.refused)
 
 pub invariant_of-self : goal.invariant_of-self
 invariant_of-self c = subst (λ (s : RegistryState). IsSettled s.store.spans) (sym c.in_err-release.ensures.unchanged) c.self.invariant
 
-pub close_all-requires-clause-closing : goal.close_all-requires-clause-closing
-close_all-requires-clause-closing c = c.in_ok-release.ensures.closing.0 c.in-Closing.is
+-- the handle was released, and the span stays open
+pub invariant_of-self-in-StillOpen : goal.invariant_of-self-in-StillOpen
+invariant_of-self-in-StillOpen c =
+    let old = c.self.inside.registry in
+    let new = c.release.new.self in
+    let r : Releases c.args.id StillOpen old new = subst (λ (a : Released). Releases c.args.id a old new) c.in-StillOpen.is c.in_ok-release.ensures.released in
+    settled_released c.args.id old new r c.self.invariant
 
-pub returns-in-StillOpen-clause-held : goal.returns-in-StillOpen-clause-held
-returns-in-StillOpen-clause-held c = subst (λ (w : Watched). IsHeld w.registry.store.spans (number_of c.args.id)) c.self.view_is c.in_ok-release.ensures.held
+pub returns-in-StillOpen-clause-dropped : goal.returns-in-StillOpen-clause-dropped
+returns-in-StillOpen-clause-dropped c =
+    let old = c.self.inside.registry in
+    let new = c.release.new.self in
+    let after : Watched = record { registry = new; recorder = c.self.inside.recorder } in
+    let r : Releases c.args.id StillOpen old new = subst (λ (a : Released). Releases c.args.id a old new) c.in-StillOpen.is c.in_ok-release.ensures.released in
+    let drops = closes_nothing c.args.id old new r c.in_ok-release.ensures.forest c.self.invariant in
+    subst (λ (w : Watched). AndHears (DropStep c.args.lane c.args.id (Yes false)) w after) c.self.view_is
+    ([], (r.held, ([], drops, refl, (λ t. absurd (true≢false (sym t)), λ n. absurd n))), hears_nothing c.self.inside.recorder)
 
-pub returns-in-Closing-clause-held : goal.returns-in-Closing-clause-held
-returns-in-Closing-clause-held c = subst (λ (w : Watched). IsHeld w.registry.store.spans (number_of c.args.id)) c.self.view_is c.in_ok-release.ensures.held
+-- the span is closing by that
+pub close_all-requires : goal.close_all-requires
+close_all-requires c = c.in_ok-release.ensures.released.closing.0 c.in-Closing.is
+
+pub invariant_of-self-in-Closing : goal.invariant_of-self-in-Closing
+invariant_of-self-in-Closing c =
+    let old = c.self.inside.registry in
+    let new = c.release.new.self in
+    let r : Releases c.args.id Closing old new = subst (λ (a : Released). Releases c.args.id a old new) c.in-Closing.is c.in_ok-release.ensures.released in
+    let u = c.close_all.ensures in
+    settled_alone old c.close_all.new.registry c.args.id u.0 (record { released = new; is_forest = c.in_ok-release.ensures.forest; settled = c.self.invariant; release = r; removal = u.1 })
+
+pub returns-in-Closing-clause-dropped : goal.returns-in-Closing-clause-dropped
+returns-in-Closing-clause-dropped c =
+    let old = c.self.inside.registry in
+    let new = c.release.new.self in
+    let after : Watched = record { registry = c.close_all.new.registry; recorder = c.close_all.new.recorder } in
+    let r : Releases c.args.id Closing old new = subst (λ (a : Released). Releases c.args.id a old new) c.in-Closing.is c.in_ok-release.ensures.released in
+    let u = c.close_all.ensures in
+    let drops = closes_alone old c.close_all.new.registry c.args.id u.0 (record { released = new; is_forest = c.in_ok-release.ensures.forest; settled = c.self.invariant; release = r; removal = u.1 }) in
+    let there = closes_itself c.args.id old new u.0 r drops.closes in
+    subst (λ (w : Watched). AndHears (DropStep c.args.lane c.args.id (Yes true)) w after) c.self.view_is
+    (closes_of c.args.lane u.0, (r.held, (u.0, drops, refl, (λ _. there, λ _. refl))), u.2)

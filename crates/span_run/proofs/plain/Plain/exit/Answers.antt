@@ -1,25 +1,27 @@
 use Rattle.std.proofs.Common.{ap, sym, subst, refl, [], ◌∷◌, List, ◌∙◌}
 use Rattle.std.proofs.lemmas.Bool.{true≢false}
-use Rattle.span_core.specs.Id.{number_of}
 use Rattle.span_registry.specs.Closes.{IsSettled}
-use Rattle.span_registry.specs.Store.{RegistryState, Spans, IsOpen}
-use Rattle.span_run.specs.Notices.{Watched, Hears}
-use Rattle.span_run.specs.declared.requests.Notice.{Notice}
-use Rattle.span_run.specs.declared.requests.Notice.TheVariants.{Exit}
+use Rattle.span_registry.specs.Store.{RegistryState, Spans}
+use Rattle.span_run.specs.Run.{AndHears, Watched, ExitStep}
+use Rattle.span_run.specs.declared.request.Answer.TheVariants.{Done}
+use Rattle.span_run.specs.declared.request.Notice.{Notice}
+use Rattle.span_run.specs.declared.request.Notice.TheVariants.{Exit}
 use Rattle.span_run.proofs.Hears.{hears_nothing}
 use Rattle.span_run.proofs.plain.Plain.exit.Goals as goal
 
-pub returns-then-is_open-clause-heard : goal.returns-then-is_open-clause-heard
-returns-then-is_open-clause-heard c =
+pub returns-then-is_open : goal.returns-then-is_open
+returns-then-is_open c =
     let due : List Notice = Exit c.args.lane c.args.id ∷ [] in
-    let is_open = subst (λ (w : Watched). IsOpen w.registry.store.spans (number_of c.args.id)) c.self.view_is (c.is_open.ensures.0 c.if-is_open.true) in
-    (due, (λ _. refl, λ shut. absurd (shut is_open)), subst (λ (w : Watched). Hears w.recorder c.hear.new.self due) c.self.view_is c.hear.ensures)
+    let after : Watched = record { registry = c.exit.new.self; recorder = c.hear.new.self } in
+    let is_open = c.is_open.ensures.0 c.if-is_open.true in
+    subst (λ (w : Watched). AndHears (ExitStep c.args.lane c.args.id Done) w after) c.self.view_is
+    (due, (c.exit.ensures, λ _. refl, λ shut. absurd (shut is_open)), c.hear.ensures)
 
-pub returns-clause-heard : goal.returns-clause-heard
-returns-clause-heard c =
-    let shut : IsOpen c.args.self.now.registry.store.spans (number_of c.args.id) → ⊥ =
-    λ o. true≢false (sym (c.is_open.ensures.1 (subst (λ (w : Watched). IsOpen w.registry.store.spans (number_of c.args.id)) (sym c.self.view_is) o)) ∙ c.if-is_open.false) in
-    ([], (λ o. absurd (shut o), λ _. refl), subst (λ (w : Watched). Hears w.recorder c.self.inside.recorder []) c.self.view_is (hears_nothing c.self.inside.recorder))
+pub returns : goal.returns
+returns c =
+    let after : Watched = record { registry = c.exit-2.new.self; recorder = c.self.inside.recorder } in
+    subst (λ (w : Watched). AndHears (ExitStep c.args.lane c.args.id Done) w after) c.self.view_is
+    ([], (c.exit-2.ensures, λ o. absurd (true≢false (sym (c.is_open.ensures.1 o) ∙ c.if-is_open.false)), λ _. refl), hears_nothing c.self.inside.recorder)
 
 pub invariant_of-self : goal.invariant_of-self
 invariant_of-self c = subst (λ (m : Spans). IsSettled m) (sym (ap (λ (s : RegistryState). s.store.spans) c.exit.ensures)) c.self.invariant

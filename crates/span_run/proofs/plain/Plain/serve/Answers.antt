@@ -1,9 +1,7 @@
 use Rattle.std.proofs.Common.{◌≡◌, refl, ap, sym, subst, List, ◌∷◌, [], length, arith}
-use Rattle.span_run.specs.Notices.{Hears}
-use Rattle.span_run.specs.Run.{Step}
-use Rattle.span_run.specs.declared.requests.Notice.{Notice}
-use Rattle.span_run.specs.declared.requests.Request.{Request}
-use Rattle.span_run.specs.declared.requests.Answer.{Answer}
+use Rattle.span_run.specs.Run.{AndHears, Step}
+use Rattle.span_run.specs.declared.request.Request.{Request}
+use Rattle.span_run.specs.declared.request.Answer.{Answer}
 use Rattle.span_run.proofs.Served.{Served, served_more, served_all}
 use Rattle.span_run.proofs.plain.Plain.serve.Goals as goal
 
@@ -21,7 +19,7 @@ loop-request-preserved c =
     let rest : List Request = c.in-Some.rest.now in
     let split = c.in-Some.ensures.cases.0 in
     let here = subst (λ (us : List Request). Served c.args.self.now now c.args.requests.now us c.loop-request.answers.items) split h.served in
-    let step = subst (λ (past : List Answer). (due : List Notice) × Step past now.registry r a due next.registry × Hears now.recorder next.recorder due) c.deref.ensures.value c.serve_one-answer.ensures in
+    let step = subst (λ (past : List Answer). AndHears (Step past r a) now next) c.deref.ensures.value c.serve_one-answer.ensures in
     let more = served_more c.args.self.now now next c.args.requests.now rest r c.loop-request.answers.items a here step in
     record {
       served = subst (λ (us : List Answer). Served c.args.self.now next c.args.requests.now rest us) (sym c.append.ensures.items) more;

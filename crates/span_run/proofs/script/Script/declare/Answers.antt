@@ -2,10 +2,9 @@ use Rattle.std.proofs.Common.{◌≡◌, ◌∙◌, ℕ, List, length, Option, N
 use Rattle.std.proofs.lemmas.Map.Text.{btree_map_updates_str}
 use Rattle.std.specs.Prelude.{false, is_some, bytes_eq}
 use Rattle.std.specs.Map.{update}
-use Rattle.span_run.specs.Line.{declared_label}
-use Rattle.span_run.specs.Script.{Declares, IsFree, place_of, lines_of}
-use Rattle.span_run.proofs.Growing.{taken}
-use Rattle.span_run.specs.declared.lines.Line.{Line}
+use Rattle.span_run.specs.Script.{declared_label, Declares, place_of, lines_of}
+use Rattle.span_run.proofs.Growing.{IsFree, taken}
+use Rattle.span_run.specs.declared.line.Line.{Line}
 use Rattle.span_run.specs.declared.script.Script.{Script}
 use Rattle.span_run.proofs.script.Script.declare.Goals as goal
 

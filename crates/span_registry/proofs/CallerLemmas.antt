@@ -1,0 +1,246 @@
+-- What a caller's proof may need: registries that are the same extensions aside, and drops with their removals.
+use Rattle.std.proofs.Common.{◌≡◌, ℕ, Bool, cond, map, ◌<◌, ◌∷◌, [], ◌++◌, List, Option, Some, None, IfSome, refl, sym, ap, subst, ◌∙◌, arith}
+use Rattle.std.specs.FinMap.{get, get-insert, len, remove}
+use Rattle.std.specs.Cmp.{nat_cmp_total}
+use Rattle.std.specs.Option.{option_and_then, option_map}
+use Rattle.span_core.specs.Span.{number_of}
+use Rattle.span_core.specs.declared.span.Id.{Id}
+use Rattle.span_core.specs.declared.span.Lane.{Lane}
+use Rattle.span_registry.specs.Closes.{AreUnheld, IsSettled, IsSettledBut, Member, without}
+use Rattle.span_registry.specs.Laws.{ClosesAll}
+use Rattle.span_registry.specs.Step.{Enters, Exits, Removal, Begun, Between, Removed, AskedSpan, Drops, Opens, Releases, Removes, TakesOut, begun}
+use Rattle.span_registry.specs.Store.{IsChain, IsClosing, IsForest, IsOpen, RegistryState, Span, Spans, Stacks, Store, new_registry, parent_of, stack_of, take_handle, with_extensions, with_stack}
+use Rattle.span_registry.specs.declared.limits.Limits.{Limits}
+use Rattle.span_registry.specs.Subscriber.{AndHooks, SameButExtensions}
+use Rattle.span_registry.specs.Extensions.{Place, value_under, with_value}
+use Rattle.span_registry.specs.declared.extensions.ExtensionMap.{ExtensionMap}
+use Rattle.span_registry.specs.declared.tag.Tag.{Tag}
+use Rattle.span_registry.specs.LaneStack.{leave}
+use Rattle.span_registry.specs.References.{FindsSpan, Reference, id_of_reference, mask_of, reference_to, references_to, scope_of_reference, subscriber_of}
+use Rattle.span_registry.specs.declared.scope.SpanRef.{SpanRef}
+use Rattle.span_registry.specs.declared.registry.Released.{Released}
+use Rattle.span_registry.specs.declared.registry.Released.TheVariants.{StillOpen, Closing}
+use Rattle.span_registry.proofs.Chains.{same_test}
+use Rattle.span_registry.proofs.LookupLaws.{whole_chain}
+use Rattle.span_registry.proofs.StoreLaws.{stacks_restored}
+use Rattle.span_registry.proofs.Drops.{Progress, begins, forest_taken, none_dropped, progress_first, progress_last, progress_more, settled_added, settled_none, settled_now, settled_open, settled_taken}
+
+-- ---- the same, extensions aside
+
+-- a registry that nobody wrote to is the same
+pub same_itself : (s : RegistryState) → SameButExtensions s s
+same_itself s = record { spans = refl; issued = refl; stacks = refl; limits = refl; filters = refl; retired = refl }
+
+-- what two hooks leave, one after the other
+pub same_further : (s t u : RegistryState) → SameButExtensions s t → SameButExtensions t u → SameButExtensions s u
+same_further s t u a b = record {
+  spans = b.spans ∙ a.spans;
+  issued = b.issued ∙ a.issued;
+  stacks = b.stacks ∙ a.stacks;
+  limits = b.limits ∙ a.limits;
+  filters = b.filters ∙ a.filters;
+  retired = b.retired ∙ a.retired;
+}
+
+-- a step that no hook follows
+pub no_hooks : (step : RegistryState → RegistryState → Type 0) (old new : RegistryState) → step old new → AndHooks (λ s. s) step old new
+no_hooks step old new h = record { stepped = new; taken = h; hooks = same_itself new }
+
+-- ---- no span is closing between two requests
+
+-- in an empty registry
+pub settled_new : (l : Limits) → IsSettled (new_registry l).store.spans
+settled_new l = settled_none _ refl
+
+-- after a span is opened
+pub settled_opened : (lane : Lane) (span : AskedSpan) (id : Id) (old new : RegistryState) → Opens lane span id old new → IsSettled old.store.spans → IsSettled new.store.spans
+settled_opened lane span id old new o s =
+    subst IsSettled (sym (ap (λ (r : RegistryState). r.store.spans) o.state)) (settled_added old.store.spans (number_of id) (begun span o.parent) o.unused (omega arith) s)
+
+-- after a handle was released by which its span isn't closing
+pub settled_released : (id : Id) (old new : RegistryState) → Releases id StillOpen old new → IsSettled old.store.spans → IsSettled new.store.spans
+settled_released id old new r s =
+    let m = old.store.spans in
+    let x = number_of id in
+    let taken = ap (λ (t : RegistryState). t.store.spans) r.state in
+    subst IsSettled (sym taken) (settled_open (take_handle m x) x (settled_taken m x s r.held) (subst (λ (n : Spans). IsOpen n x) taken (r.still_open.0 refl)))
+
+-- ---- what a drop closes
+
+-- such a drop closes nothing
+pub closes_nothing : (id : Id) (old new : RegistryState) → Releases id StillOpen old new → IsForest old.store.spans → IsSettled old.store.spans → Drops old (number_of id) [] new
+closes_nothing id old new r f s =
+    let x = number_of id in
+    let o = subst (λ (t : RegistryState). IsOpen t.store.spans x) r.state (r.still_open.0 refl) in
+    subst (Drops old x []) (sym r.state) (none_dropped old x f s r.held o)
+
+if_closing : (m : Spans) (o : Option Id) (P : Id → Type 0) → ((p : Id) → P p → IsClosing m (number_of p)) → IfSome o P → IfSome o (λ p. IsClosing m (number_of p))
+if_closing m None P f h = tt
+if_closing m (Some p) P f h = f p h
+
+-- in a loop of removals, the span that is next is closing
+pub next_is_closing : (between : RegistryState → RegistryState → Type 0) (first : RegistryState) (id : Id) → ((s t : RegistryState) → between s t → SameButExtensions s t) → IsClosing first.store.spans (number_of id)
+    → {xs : List ℕ} {o : Option Id} {now : RegistryState} → Removal between first id xs o now → IfSome o (λ p. IsClosing now.store.spans (number_of p))
+next_is_closing between first id same k Begun = k
+next_is_closing between first id same k (Between {xs} {o} {now} {new} r b) =
+    subst (λ (m : Spans). IfSome o (λ p. IsClosing m (number_of p))) (sym (same now new b).spans) (next_is_closing between first id same k r)
+next_is_closing between first id same k (Removed {xs} {o} {next} {now} {new} r e) = if_closing new.store.spans o _ (λ p h. h.1) e.closing
+
+-- where a loop of removals stands, if nothing else happens in between
+progress : (first : RegistryState) (id : Id) → IsForest first.store.spans → IsSettledBut first.store.spans (Some (number_of id)) → IsClosing first.store.spans (number_of id)
+    → {xs : List ℕ} {o : Option Id} {now : RegistryState} → Removal (λ _ _. ⊥) first id xs o now → Progress first now (option_map number_of o) xs
+progress first id f s k Begun = progress_first first (number_of id) f s k
+progress first id f s k (Between {xs} {o} {now} {new} r b) = absurd b
+progress first id f s k (Removed {xs} {o} {next} {now} {new} r e) = progress_more first now new next xs o (progress first id f s k r) e
+
+-- a removal without the hooks before it
+removes_aside : (id : Id) (o : Option Id) (aside now new : RegistryState) → SameButExtensions aside now → Removes id o now new → (s : RegistryState) × Removes id o aside s × SameButExtensions s new
+removes_aside id o aside now new h r =
+    let x = number_of id in
+    let gone = r.taken in
+    let spans : new.store.spans ≡ remove aside.store.spans x = ap (λ (s : Store). s.spans) gone.store ∙ ap (λ (m : Spans). remove m x) h.spans in
+    let issued = ap (λ (s : Store). s.issued) gone.store ∙ h.issued in
+    let stacks = ap (λ (s : Store). s.stacks) gone.store ∙ h.stacks in
+    let here : RegistryState = record new { store = record new.store { extensions = remove aside.store.extensions x } } in (
+      here,
+      record {
+        taken = record {
+          store = λ i. record { spans = spans i; extensions = remove aside.store.extensions x; issued = issued i; stacks = stacks i };
+          limits = gone.limits ∙ h.limits;
+          filters = gone.filters ∙ h.filters;
+          retired = (let a = gone.retired in let b = h.retired in omega arith);
+          no_other = (let a = gone.no_other in let b = h.retired in omega arith);
+          late = λ _. r.late;
+        };
+        late = r.late;
+        fewer = subst (λ (m : Spans). len new.store.spans < len m) h.spans r.fewer;
+        closing = subst (λ (m : Spans). IfSome o (λ p. (parent_of m x ≡ Some (number_of p)) × IsClosing new.store.spans (number_of p))) h.spans r.closing;
+        still_open = subst (λ (m : Spans). o ≡ None → (p : ℕ) → parent_of m x ≡ Some p → IsOpen new.store.spans p) h.spans r.still_open;
+      },
+      record { spans = refl; issued = refl; stacks = refl; limits = refl; filters = refl; retired = refl },
+    )
+
+-- a loop of removals without the hooks in between
+aside : (first : RegistryState) (id : Id) {xs : List ℕ} {o : Option Id} {now : RegistryState} → Removal SameButExtensions first id xs o now → (s : RegistryState) × Removal (λ _ _. ⊥) first id xs o s × SameButExtensions s now
+aside first id Begun = (first, Begun, same_itself first)
+aside first id (Between {xs} {o} {now} {new} r b) = let u = aside first id r in (u.0, u.1, same_further u.0 now new u.2 b)
+aside first id (Removed {xs} {o} {next} {now} {new} r e) =
+    let u = aside first id r in
+    let v = removes_aside next o u.0 now new u.2 e in
+    (v.0, Removed u.1 v.1, v.2)
+
+whole : (between : RegistryState → RegistryState → Type 0) (old : RegistryState) (id : Id) (xs : List ℕ) (new s : RegistryState) → (c : ClosesAll between old id xs new) → Removal (λ _ _. ⊥) c.released id xs None s → Progress c.released s None xs
+whole between old id xs new s c r =
+    let m = old.store.spans in
+    let x = number_of id in
+    let taken = ap (λ (t : RegistryState). t.store.spans) c.release.state in
+    progress c.released id (subst IsForest (sym taken) (forest_taken m x c.is_forest c.release.held)) (subst (λ (n : Spans). IsSettledBut n (Some x)) (sym taken) (settled_taken m x c.settled c.release.held)) (c.release.closing.0 refl) r
+
+drops : (between : RegistryState → RegistryState → Type 0) (old : RegistryState) (id : Id) (xs : List ℕ) (new s : RegistryState) → (c : ClosesAll between old id xs new) → Progress c.released s None xs → Drops old (number_of id) xs s
+drops between old id xs new s c p = record {
+  closes = subst (λ (t : RegistryState). AreUnheld t.store.spans xs) c.release.state (progress_last c.released s xs p);
+  taken = subst (λ (t : RegistryState). TakesOut t xs s) c.release.state p.taken;
+}
+
+-- a drop and its removals, if nothing else happens in between: they are what the drop's definition says
+pub closes_alone : (old new : RegistryState) (id : Id) (xs : List ℕ) → ClosesAll (λ _ _. ⊥) old id xs new → Drops old (number_of id) xs new
+closes_alone old new id xs c = drops _ old id xs new new c (whole _ old id xs new new c c.removal)
+
+-- the same where hooks write extensions in between
+pub closes_with_hooks : (old new : RegistryState) (id : Id) (xs : List ℕ) → ClosesAll SameButExtensions old id xs new → AndHooks (λ s. s) (λ s t. Drops s (number_of id) xs t) old new
+closes_with_hooks old new id xs c =
+    let u = aside c.released id c.removal in
+    record { stepped = u.0; taken = drops _ old id xs new u.0 c (whole _ old id xs new u.0 c u.1); hooks = u.2 }
+
+-- no span is closing after such a drop
+pub settled_alone : (old new : RegistryState) (id : Id) (xs : List ℕ) → ClosesAll (λ _ _. ⊥) old id xs new → IsSettled new.store.spans
+settled_alone old new id xs c = settled_now new.store.spans (whole _ old id xs new new c c.removal).settled
+
+-- the same with hooks
+pub settled_closed : (old new : RegistryState) (id : Id) (xs : List ℕ) → ClosesAll SameButExtensions old id xs new → IsSettled new.store.spans
+settled_closed old new id xs c =
+    let u = aside c.released id c.removal in
+    subst IsSettled (sym u.2.spans) (settled_now u.0.store.spans (whole _ old id xs new u.0 c u.1).settled)
+
+-- the dropped span is one of those that close
+pub closes_itself : (id : Id) (old released : RegistryState) (xs : List ℕ) → Releases id Closing old released → AreUnheld (take_handle old.store.spans (number_of id)) xs → Member (number_of id) xs
+closes_itself id old released xs r u = begins released (number_of id) xs (r.closing.0 refl) (subst (λ (t : RegistryState). AreUnheld t.store.spans xs) (sym r.state) u)
+
+-- ---- the same, from the clauses of the calls as they stand
+
+-- what a release answers when it is closing
+pub closing_now : {old new : RegistryState} {id : Id} {answer : Released} → Releases id answer old new → answer ≡ Closing → IsClosing new.store.spans (number_of id)
+closing_now r e = r.closing.0 e
+
+-- in a loop of removals and nothing else, the span that is next is closing
+pub next_closing : {first now : RegistryState} {id next : Id} {xs : List ℕ} {o : Option Id} → IsClosing first.store.spans (number_of id) → Removal (λ _ _. ⊥) first id xs o now → o ≡ Some next → IsClosing now.store.spans (number_of next)
+next_closing {first} {now} {id} {next} {xs} {o} k r e =
+    subst (λ (p : Option Id). IfSome p (λ q. IsClosing now.store.spans (number_of q))) e (next_is_closing (λ _ _. ⊥) first id (λ s t no. absurd no) k r)
+
+-- and it is removed
+pub removed_next : {between : RegistryState → RegistryState → Type 0} {first now new : RegistryState} {id next : Id} {xs : List ℕ} {o p : Option Id} → Removal between first id xs o now → o ≡ Some next → Removes next p now new → Removal between first id (xs ++ (number_of next ∷ [])) p new
+removed_next {between} {first} {now} {new} {id} {next} {xs} {o} {p} r e h = Removed (subst (λ (q : Option Id). Removal between first id xs q now) e r) h
+
+-- what closes by a release and the removals after it
+pub drops_closing : {old released new : RegistryState} {id : Id} {answer : Released} {xs : List ℕ} → IsForest old.store.spans → IsSettled old.store.spans → Releases id answer old released → answer ≡ Closing → Removal (λ _ _. ⊥) released id xs None new → Drops old (number_of id) xs new
+drops_closing {old} {released} {new} {id} {answer} {xs} f s r e h =
+    closes_alone old new id xs (record { released = released; is_forest = f; settled = s; release = subst (λ (a : Released). Releases id a old released) e r; removal = h })
+
+-- and then no span is closing
+pub settled_closing : {old released new : RegistryState} {id : Id} {answer : Released} {xs : List ℕ} → IsForest old.store.spans → IsSettled old.store.spans → Releases id answer old released → answer ≡ Closing → Removal (λ _ _. ⊥) released id xs None new → IsSettled new.store.spans
+settled_closing {old} {released} {new} {id} {answer} {xs} f s r e h =
+    settled_alone old new id xs (record { released = released; is_forest = f; settled = s; release = subst (λ (a : Released). Releases id a old released) e r; removal = h })
+
+-- a release by which the span stays open closes nothing
+pub drops_open : {old new : RegistryState} {id : Id} {answer : Released} → IsForest old.store.spans → IsSettled old.store.spans → Releases id answer old new → answer ≡ StillOpen → Drops old (number_of id) [] new
+drops_open {old} {new} {id} {answer} f s r e = closes_nothing id old new (subst (λ (a : Released). Releases id a old new) e r) f s
+
+-- and then no span is closing
+pub settled_still : {old new : RegistryState} {id : Id} {answer : Released} → IsSettled old.store.spans → Releases id answer old new → answer ≡ StillOpen → IsSettled new.store.spans
+settled_still {old} {new} {id} {answer} s r e = settled_released id old new (subst (λ (a : Released). Releases id a old new) e r) s
+
+-- nor in a registry that is the same
+pub settled_same : {old new : RegistryState} → new ≡ old → IsSettled old.store.spans → IsSettled new.store.spans
+settled_same e s = subst (λ (r : RegistryState). IsSettled r.store.spans) (sym e) s
+
+-- nor in one that is the same, extensions aside
+pub settled_aside : {old new : RegistryState} → SameButExtensions old new → IsSettled old.store.spans → IsSettled new.store.spans
+settled_aside h s = subst IsSettled (sym h.spans) s
+
+-- nor after a lane has entered a span
+pub settled_entered : (lane : Lane) (id : Id) (old new : RegistryState) → Enters lane id old new → IsSettled old.store.spans → IsSettled new.store.spans
+settled_entered lane id old new h s = subst IsSettled (sym (ap (λ (r : RegistryState). r.store.spans) h.state)) s
+
+-- nor after a lane has left a span
+pub settled_exited : (lane : Lane) (id : Id) (old new : RegistryState) → Exits lane id old new → IsSettled old.store.spans → IsSettled new.store.spans
+settled_exited lane id old new h s = subst IsSettled (sym (ap (λ (r : RegistryState). r.store.spans) h)) s
+
+-- ---- what is looked up
+
+-- the scope of a span that was found is the chain of its parents
+pub scope_found : {R : Type 0} (registry : R → RegistryState) (s : R) (id : Id) (r : SpanRef R) (o : Option (SpanRef R)) (chain : List ℕ) → FindsSpan registry s id o → o ≡ Some r → IsChain (registry s).store.spans (Some (number_of id)) chain → scope_of_reference registry r ≡ map (reference_to registry s (mask_of r)) chain
+scope_found {R} registry s id r o chain h e c =
+    let f : FindsSpan registry s id (Some r) = subst (FindsSpan registry s id) e h in
+    let subscriber : subscriber_of r ≡ s = ap (λ (q : Reference R). q.subscriber) f.reference in
+    let number : number_of (id_of_reference r) ≡ number_of id = ap (λ (q : Reference R). q.id) f.reference in
+    ap (λ (t : R). references_to registry t (mask_of r) (Some (number_of (id_of_reference r)))) subscriber
+    ∙ ap (λ (x : ℕ). references_to registry s (mask_of r) (Some x)) number
+    ∙ ap (map (reference_to registry s (mask_of r))) (whole_chain (registry s).store (mask_of r) (Some (number_of id)) chain f.mask c)
+
+-- a span has the extensions that were written last
+pub extensions_written : (s : RegistryState) (x : ℕ) (e : ExtensionMap) → get (with_extensions s x e).store.extensions x ≡ Some e
+extensions_written s x e = get-insert nat_cmp_total s.store.extensions x e x ∙ ap (λ (b : Bool). cond b (Some e) (get s.store.extensions x)) (same_test x x refl)
+
+-- a value that was put under a tag of a span's extensions is read there
+pub value_written : {T : Type 0} (place : Place T) (s : RegistryState) (x : ℕ) (tag : Tag T) (v : T) (old new : ExtensionMap) → new ≡ with_value place old tag v → value_under place (with_value place old tag v) tag ≡ Some v → option_and_then (λ m. value_under place m tag) (get (with_extensions s x new).store.extensions x) ≡ Some v
+value_written place s x tag v old new e law =
+    ap (option_and_then (λ m. value_under place m tag)) (extensions_written s x new) ∙ ap (λ (m : ExtensionMap). value_under place m tag) e ∙ law
+
+-- ---- entering and leaving
+
+-- a lane enters a span and leaves it, and hooks write extensions: each lane has the stack that it had
+pub stacks_restored_after : {S : Type 0} (registry : S → RegistryState) (r s t u : S) (lane : Lane) (id : Id) → AndHooks registry (Enters lane id) r s → SameButExtensions (registry s) (registry t) → AndHooks registry (Exits lane id) t u → (any : ℕ) → stack_of (registry u).store.stacks any ≡ stack_of (registry r).store.stacks any
+stacks_restored_after registry r s t u lane id a b c any =
+    ap (λ (m : Stacks). stack_of m any) (c.hooks.stacks ∙ ap (λ (w : RegistryState). w.store.stacks) c.taken)
+    ∙ ap (λ (m : Stacks). stack_of (with_stack m lane.0 (leave (number_of id) (stack_of m lane.0))) any) (b.stacks ∙ a.hooks.stacks ∙ ap (λ (w : RegistryState). w.store.stacks) a.taken.state)
+    ∙ stacks_restored (registry r).store lane.0 (number_of id) any

@@ -1,0 +1,59 @@
+-- What the laws say, where that takes more than a line.
+use Rattle.std.specs.Prelude.{◌≡◌, ℕ, false, List, [], ◌∷◌, ◌++◌, Option, Some, None, reverse}
+use Rattle.std.specs.FinMap.{get}
+use Rattle.std.specs.List.{filter, find}
+use Rattle.std.specs.Option.{option_map}
+use Rattle.span_core.specs.Filters.{IsEmpty, has_filter}
+use Rattle.span_core.specs.Span.{number_of}
+use Rattle.span_core.specs.declared.filter.FilterId.{FilterId}
+use Rattle.span_core.specs.declared.span.Id.{Id}
+use Rattle.span_registry.specs.Closes.{IsSettled}
+use Rattle.span_registry.specs.Extensions.{Place, SameTag, ValueType, no_values, value_under, with_value, without_value}
+use Rattle.span_registry.specs.Step.{Drops, IsCurrent, Releases, Removal}
+use Rattle.span_registry.specs.Store.{IsChain, IsForest, IsInStore, RegistryState, Spans, Store, parent_of, stack_of}
+use Rattle.span_registry.specs.Subscriber.{AndHooks, SameButExtensions}
+use Rattle.span_registry.specs.View.{IsDescent, current_shown, is_shown, parent_shown, scope, see, seen_spans, view_of}
+use Rattle.span_registry.specs.declared.extensions.ExtensionMap.{ExtensionMap}
+use Rattle.span_registry.specs.declared.registry.Released.TheVariants.{Closing}
+use Rattle.span_registry.specs.declared.tag.Tag.{Tag}
+
+-- each lane has the stack that it had, and nothing else differs
+pub record RestoresStacks (old new : Store) : Type 0 where
+  pub stacks : (lane : ℕ) → stack_of new.stacks lane ≡ stack_of old.stacks lane
+  pub rest : new ≡ record old { stacks = new.stacks }
+
+-- the chain of parents of x leads to a root, which is in the store
+abbrev pub ChainEndsAtRoot : Spans → ℕ → Type 0
+ChainEndsAtRoot m x = (below : List ℕ) × (root : ℕ) × IsChain m (Some x) (below ++ root ∷ []) × IsInStore m root × (parent_of m root ≡ None)
+
+-- a drop by which its span is closing, and then removals until none is answered, with what `between` allows in between
+pub record ClosesAll (between : RegistryState → RegistryState → Type 0) (old : RegistryState) (id : Id) (closed : List ℕ) (new : RegistryState) : Type 0 where
+  pub released : RegistryState
+  pub is_forest : IsForest old.store.spans
+  pub settled : IsSettled old.store.spans
+  pub release : Releases id Closing old released
+  pub removal : Removal between released id closed None new
+
+-- such a drop is what its definition says, extensions aside where hooks write them in between; and then no span is closing
+pub record ClosesWhatItShould (old : RegistryState) (id : Id) (closed : List ℕ) (new : RegistryState) : Type 0 where
+  pub alone : ClosesAll (λ _ _. ⊥) old id closed new → Drops old (number_of id) closed new
+  pub hooks : ClosesAll SameButExtensions old id closed new → AndHooks (λ s. s) (λ s t. Drops s (number_of id) closed t) old new
+  pub settled : ClosesAll SameButExtensions old id closed new → IsSettled new.store.spans
+
+-- what a mask lets be seen of x: what the store has of it; as its scope the chain of its parents, those that are hidden left out, all of it under a mask of no filter, and nothing where x isn't in the store; as its parent the first above it that isn't hidden. Under a mask of no filter a lane is seen to be in the span that it is in. From the root on, the chain of x leads down to it
+pub record LooksUp (s : Store) (mask : FilterId) (x : ℕ) : Type 0 where
+  pub span : get (seen_spans s mask) x ≡ option_map (λ r. see mask r (get s.extensions x)) (get s.spans x)
+  pub shown : (chain : List ℕ) → IsChain s.spans (Some x) chain → scope (seen_spans s mask) (Some x) ≡ filter (is_shown (seen_spans s mask)) chain
+  pub whole : (chain : List ℕ) → IsEmpty (has_filter mask) → IsChain s.spans (Some x) chain → scope (seen_spans s mask) (Some x) ≡ chain
+  pub outside : get s.spans x ≡ None → scope (seen_spans s mask) (Some x) ≡ []
+  pub parent : (above : List ℕ) → IsChain s.spans (Some x) (x ∷ above) → parent_shown (seen_spans s mask) x ≡ find (is_shown (seen_spans s mask)) above
+  pub current : (lane : ℕ) → IsEmpty (has_filter mask) → IsCurrent s lane (current_shown (view_of s lane mask))
+  pub descent : (chain : List ℕ) → IsChain s.spans (Some x) chain → IsDescent s.spans None (reverse chain) x
+
+-- at first no tag has a value; what is written is read, what is removed is gone, and each other tag keeps its value
+pub record KeepsByTag {T U : Type 0} (type : ValueType) (place : Place T) (other_type : ValueType) (other_place : Place U) : Type 0 where
+  pub first : (tag : Tag T) → value_under place no_values tag ≡ None
+  pub written : (m : ExtensionMap) (tag : Tag T) (v : T) → value_under place (with_value place m tag v) tag ≡ Some v
+  pub removed : (m : ExtensionMap) (tag : Tag T) → value_under place (without_value place m tag) tag ≡ None
+  pub beside_written : (m : ExtensionMap) (tag : Tag T) (v : T) (other : Tag U) → ¬ (SameTag type tag other_type other) → value_under other_place (with_value place m tag v) other ≡ value_under other_place m other
+  pub beside_removed : (m : ExtensionMap) (tag : Tag T) (other : Tag U) → ¬ (SameTag type tag other_type other) → value_under other_place (without_value place m tag) other ≡ value_under other_place m other

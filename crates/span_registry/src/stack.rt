@@ -1,0 +1,156 @@
+//! The spans that a lane has entered.
+ghost use Rattle.std.specs.Prelude.{◌≡◌, ◌∷◌, [], OnOk, OnErr, IfErr};
+ghost use Rattle.std.specs.Iterator.{YieldsFirstBy, item_count};
+ghost use Rattle.std.specs.Option.{option_map};
+ghost use Rattle.span_core.specs.Span.{number_of};
+ghost use Rattle.span_registry.specs.LaneStack.{leave, leaves_for_good, newest, without_duplicates};
+ghost use Rattle.span_registry.specs.Kept.{PutsOn, TakesOff};
+ghost use Rattle.span_registry.specs.Marks.{IsAtLast, spans_to_give};
+
+use span_core::{Id, Lane, TraceError};
+use std::alloc::Global;
+use std::collections::BTreeMap;
+use std::marker::Model;
+
+#[derive(Clone, Copy)]
+pub(crate) struct Entry {
+    id: Id,
+    duplicate: bool,
+}
+
+/// The stack of a lane, seen as the list of its spans, newest first.
+///
+/// Stands for `tracing_subscriber::registry::SpanStack`.
+#[derive(Drop)]
+pub struct SpanStack {
+    entries: Vec<Entry>,
+}
+
+impl Model for SpanStack {
+    ghost use Rattle.std.specs.Prelude.{List, ℕ};
+
+    ghost Value = { List ℕ };
+
+    ghost use Rattle.span_registry.specs.Marks.{AreMarked, ids_down};
+
+    ghost view = { λ a. ids_down a.entries.items };
+
+    ghost invariant = { λ a. AreMarked a.entries.items };
+}
+
+impl SpanStack {
+    /// An empty stack. It takes no memory before the first `push`.
+    pub fn new(alloc: Global) -> Self
+        ensures { result ≡ [] }
+    {
+        SpanStack {
+            entries: Vec::new(alloc),
+        }
+    }
+
+    /// Enters a span, whether it stands on the stack or not. Refused for want of memory alone.
+    pub fn push(&mut self, id: Id) -> Result<(), TraceError>
+        ensures entered { OnOk result (self.new ≡ number_of id ∷ self.old) }
+        ensures memory { IfErr result (λ e. e ≡ TraceError.OutOfMemory) }
+        ensures unchanged { OnErr result (self.new ≡ self.old) }
+    {
+        let duplicate = last_place(&self.entries, id).is_some();
+        self.entries.push(Entry { id, duplicate })?;
+        Ok(())
+    }
+
+    /// Takes out the newest entry of a span, wherever it stands. Answers whether that leaves the span for good.
+    pub fn pop(&mut self, id: Id) -> bool
+        ensures left { self.new ≡ leave (number_of id) self.old }
+        ensures for_good { result ≡ leaves_for_good (number_of id) self.old }
+    {
+        match last_place(&self.entries, id) {
+            None => false,
+            Some(place) => {
+                let entry = self.entries.remove(place);
+                !entry.duplicate
+            }
+        }
+    }
+
+    /// The spans from the newest entry on, duplicates left out.
+    pub fn iter(&self) -> StackIter<'_>
+        ensures { spans_to_give result ≡ without_duplicates self.now }
+    {
+        StackIter(&self.entries)
+    }
+
+    /// The newest entry that is no duplicate.
+    pub fn current(&self) -> Option<Id>
+        ensures { option_map number_of result ≡ newest (without_duplicates self.now) }
+    {
+        self.iter().next()
+    }
+}
+
+fn last_place(entries: &[Entry], id: Id) -> Option<usize>
+    ensures { IsAtLast entries.now (number_of id) result }
+{
+    for i in (0..entries.len()).rev() {
+        if entries[i].id == id {
+            return Some(i);
+        }
+    }
+    None
+}
+
+/// The spans on a stack, newest first, duplicates left out.
+#[derive(Drop)]
+pub struct StackIter<'a>(&'a [Entry]);
+
+impl<'a> Iterator for StackIter<'a> {
+    type Item = Id;
+
+    ghost next_gives = { YieldsFirstBy number_of spans_to_give };
+
+    ghost remaining = { item_count spans_to_give };
+
+    fn next(&mut self) -> Option<Id> {
+        while let Some((last, below)) = self.0.split_last() {
+            self.0 = below;
+            if !last.duplicate {
+                return Some(last.id);
+            }
+        }
+        None
+    }
+}
+
+/// Enters a span on a lane's stack. Refused for want of memory alone.
+pub(crate) fn push_on(
+    alloc: Global,
+    stacks: &mut BTreeMap<u32, SpanStack>,
+    lane: Lane,
+    id: Id,
+) -> Result<(), TraceError>
+    ensures ok { OnOk result (PutsOn lane id stacks.old stacks.new) }
+    ensures err { OnErr result (stacks.new.entries ≡ stacks.old.entries) }
+    ensures memory { IfErr result (λ e. e ≡ TraceError.OutOfMemory) }
+{
+    match stacks.get_mut(&lane.0) {
+        Some(stack) => {
+            stack.push(id)?;
+            Ok(())
+        }
+        None => {
+            let mut stack = SpanStack::new(alloc);
+            stack.push(id)?;
+            stacks.insert(lane.0, stack)?;
+            Ok(())
+        }
+    }
+}
+
+/// Leaves a span on a lane's stack.
+pub(crate) fn pop_from(stacks: &mut BTreeMap<u32, SpanStack>, lane: Lane, id: Id)
+    ensures { TakesOff lane id stacks.old stacks.new }
+{
+    if let Some(stack) = stacks.get_mut(&lane.0) {
+        stack.pop(id);
+    }
+}

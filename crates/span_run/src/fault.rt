@@ -1,0 +1,49 @@
+//! Why a run ends early.
+ghost use Rattle.std.specs.Prelude.{◌≡◌};
+ghost use Rattle.span_run.specs.Program.{status_of};
+ghost use Rattle.span_run.specs.declared.fault.RunFault.TheVariants.{Memory};
+
+use std::alloc::{AllocError, AllocFailed};
+use thiserror::Error;
+
+/// Why a run ends early.
+#[derive(Clone, Copy, Debug, PartialEq, Eq, Error)]
+pub enum RunFault {
+    /// This line of the script, counted from 1, is the first that is wrong.
+    #[error("script line {0} is wrong")]
+    Line(u64),
+    /// The reader failed or gave too much, or the writer failed.
+    #[error("input or output failed")]
+    Io,
+    /// Memory was refused outside a request, or to the recorder.
+    #[error("out of memory")]
+    Memory,
+}
+
+impl RunFault {
+    /// The status that the program ends with.
+    pub fn status(&self) -> u8
+        ensures { result ≡ status_of self.now }
+    {
+        match self {
+            RunFault::Line(_) => 2,
+            RunFault::Io | RunFault::Memory => 1,
+        }
+    }
+}
+
+impl From<AllocError> for RunFault {
+    ghost from_gives = { λ _ fault. fault ≡ Memory };
+
+    fn from(_error: AllocError) -> RunFault {
+        RunFault::Memory
+    }
+}
+
+impl<T: Drop> From<AllocFailed<T>> for RunFault {
+    ghost from_gives = { λ _ fault. fault ≡ Memory };
+
+    fn from(_failed: AllocFailed<T>) -> RunFault {
+        RunFault::Memory
+    }
+}

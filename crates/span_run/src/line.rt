@@ -1,0 +1,194 @@
+//! The lines of a script.
+ghost use Rattle.std.specs.Prelude.{◌≡◌, ◌≢◌, ◌<◌, ◌∷◌, ℕ, codes, IfNone, IfSome, is_some, slice_index};
+ghost use Rattle.std.specs.Char.{is_ascii_lowercase};
+ghost use Rattle.std.specs.List.{list_all};
+ghost use Rattle.span_run.specs.Script.{digit, is_keyword, is_label, is_letter_or_digit, lane_words, parent_words, texts_in, word_of, words_of, IsLaneAndName, IsLine, IsName, IsNoLaneAndName, IsParentName, SpellsNone};
+
+use crate::site::span_site;
+use span_core::{Lane, Metadata};
+
+/// The most characters that a label has.
+const LABEL_LIMIT: usize = 16;
+
+/// A span as a line names it.
+#[derive(Clone, Copy, Debug)]
+pub enum Name<'a> {
+    /// By `?`: the id 0, which no span has.
+    Nobody,
+    /// By the label of the line that makes it.
+    Label(&'a str),
+}
+
+/// The parent that a line names.
+#[derive(Clone, Copy, Debug)]
+pub enum ParentName<'a> {
+    /// By nothing: the span that the lane is in.
+    Contextual,
+    /// By `root`: none.
+    Root,
+    /// By `in` and a name.
+    In(Name<'a>),
+}
+
+/// A line after the first.
+#[derive(Clone, Copy, Debug)]
+pub enum Line<'a> {
+    /// `new L SITE LABEL`, and then `root`, `in X` or nothing.
+    New(Lane, Metadata, &'a str, ParentName<'a>),
+    /// `enter L X`
+    Enter(Lane, Name<'a>),
+    /// `exit L X`
+    Exit(Lane, Name<'a>),
+    /// `record L X`
+    Record(Lane, Name<'a>),
+    /// `drop L X`
+    Drop(Lane, Name<'a>),
+    /// `current L`
+    Current(Lane),
+}
+
+impl<'a> Name<'a> {
+    /// The name that a word is, if it is one.
+    fn of(word: &'a str) -> Option<Name<'a>>
+        ensures spelled { IfSome result (λ name. word.now ≡ word_of name) }
+        ensures name { IfSome result IsName }
+        ensures none { IfNone result (SpellsNone IsName word_of word.now) }
+    {
+        match word {
+            "?" => Some(Name::Nobody),
+            _ => Some(Name::Label(label_of(word)?)),
+        }
+    }
+}
+
+impl<'a> ParentName<'a> {
+    /// The parent that the last words of a line are, if they are one.
+    fn of(words: &[&'a str]) -> Option<ParentName<'a>>
+        ensures spelled { IfSome result (λ parent. texts_in words.now ≡ parent_words parent) }
+        ensures name { IfSome result IsParentName }
+        ensures none { IfNone result (SpellsNone IsParentName parent_words (texts_in words.now)) }
+    {
+        match words {
+            [] => Some(ParentName::Contextual),
+            ["root"] => Some(ParentName::Root),
+            ["in", name] => Some(ParentName::In(Name::of(name)?)),
+            _ => None,
+        }
+    }
+}
+
+impl<'a> Line<'a> {
+    /// The line that the words are, if they are one.
+    pub fn of(words: &[&'a str]) -> Option<Line<'a>>
+        ensures spelled { IfSome result (λ line. texts_in words.now ≡ words_of line) }
+        ensures line { IfSome result IsLine }
+        ensures none { IfNone result (SpellsNone IsLine words_of (texts_in words.now)) }
+    {
+        let (verb, words) = words.split_first()?;
+        match *verb {
+            "new" => new_of(words),
+            "enter" => {
+                let (lane, name) = lane_and_name(words)?;
+                Some(Line::Enter(lane, name))
+            }
+            "exit" => {
+                let (lane, name) = lane_and_name(words)?;
+                Some(Line::Exit(lane, name))
+            }
+            "record" => {
+                let (lane, name) = lane_and_name(words)?;
+                Some(Line::Record(lane, name))
+            }
+            "drop" => {
+                let (lane, name) = lane_and_name(words)?;
+                Some(Line::Drop(lane, name))
+            }
+            "current" => match words {
+                [lane] => Some(Line::Current(lane_of(lane)?)),
+                _ => None,
+            },
+            _ => None,
+        }
+    }
+}
+
+/// The line that the words after `new` make, if they make one.
+fn new_of<'a>(words: &[&'a str]) -> Option<Line<'a>>
+    ensures spelled { IfSome result (λ line. codes "new" ∷ texts_in words.now ≡ words_of line) }
+    ensures line { IfSome result IsLine }
+    ensures none { IfNone result (SpellsNone IsLine words_of (codes "new" ∷ texts_in words.now)) }
+{
+    match words {
+        [lane, site, label, parent @ ..] => Some(Line::New(
+            lane_of(lane)?,
+            span_site(site)?,
+            label_of(label)?,
+            ParentName::of(parent)?,
+        )),
+        _ => None,
+    }
+}
+
+/// The lane and the name that the words are, if they are both.
+fn lane_and_name<'a>(words: &[&'a str]) -> Option<(Lane, Name<'a>)>
+    ensures spelled { IfSome result (λ both. texts_in words.now ≡ lane_words both) }
+    ensures both { IfSome result IsLaneAndName }
+    ensures none { IfNone result (IsNoLaneAndName (texts_in words.now)) }
+{
+    match words {
+        [lane, name] => Some((lane_of(lane)?, Name::of(name)?)),
+        _ => None,
+    }
+}
+
+/// The lane that a word of one digit is.
+fn lane_of(word: &str) -> Option<Lane>
+    ensures spelled { IfSome result (λ lane. (lane.0 < 10) × (word.now ≡ digit lane.0)) }
+    ensures none { IfNone result ((n : ℕ) → n < 10 → word.now ≢ digit n) }
+{
+    match word.as_bytes() {
+        [number @ b'0'..=b'9'] => Some(Lane(u32::from(*number - b'0'))),
+        _ => None,
+    }
+}
+
+/// The word as a label, if it is one.
+fn label_of(word: &str) -> Option<&str>
+    ensures found { is_some result ≡ is_label word.now }
+    ensures same { IfSome result (λ label. label.now ≡ word.now) }
+{
+    if is_label(word) { Some(word) } else { None }
+}
+
+/// The word is made as a label is, and has no other meaning.
+fn is_label(word: &str) -> bool
+    ensures { result ≡ is_label word.now }
+{
+    if is_keyword(word) || word.len() > LABEL_LIMIT {
+        return false;
+    }
+    begins_with_letter(word) && is_of_letters_and_digits(word)
+}
+
+fn is_of_letters_and_digits(word: &str) -> bool
+    ensures { result ≡ list_all is_letter_or_digit word.now }
+{
+    word.bytes()
+        .all(|byte| byte.is_ascii_lowercase() || byte.is_ascii_digit())
+}
+
+fn begins_with_letter(word: &str) -> bool
+    ensures { result ≡ is_ascii_lowercase (slice_index word.now 0) }
+{
+    match word.bytes().next() {
+        Some(first) => first.is_ascii_lowercase(),
+        None => false,
+    }
+}
+
+/// The word has a meaning of its own where a label may stand.
+fn is_keyword(word: &str) -> bool
+    ensures { result ≡ is_keyword word.now }
+{
+    matches!(word, "root" | "in" | "mute")
+}
