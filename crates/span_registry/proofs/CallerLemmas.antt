@@ -3,6 +3,7 @@ use Rattle.std.proofs.Common.{◌≡◌, ℕ, Bool, cond, map, ◌<◌, ◌∷�
 use Rattle.std.specs.FinMap.{get, get-insert, len, remove}
 use Rattle.std.specs.Cmp.{nat_cmp_total}
 use Rattle.std.specs.Option.{option_and_then, option_map}
+use Rattle.span_core.specs.Filters.{has_filter}
 use Rattle.span_core.specs.Span.{number_of}
 use Rattle.span_core.specs.declared.span.Id.{Id}
 use Rattle.span_core.specs.declared.span.Lane.{Lane}
@@ -225,7 +226,7 @@ scope_found {R} registry s id r o chain h e c =
     let number : number_of (id_of_reference r) ≡ number_of id = ap (λ (q : Reference R). q.id) f.reference in
     ap (λ (t : R). references_to registry t (mask_of r) (Some (number_of (id_of_reference r)))) subscriber
     ∙ ap (λ (x : ℕ). references_to registry s (mask_of r) (Some x)) number
-    ∙ ap (map (reference_to registry s (mask_of r))) (whole_chain (registry s).store (mask_of r) (Some (number_of id)) chain f.mask c)
+    ∙ ap (map (reference_to registry s (mask_of r))) (whole_chain (registry s).store (has_filter (mask_of r)) (Some (number_of id)) chain f.mask c)
 
 -- a span has the extensions that were written last
 pub extensions_written : (s : RegistryState) (x : ℕ) (e : ExtensionMap) → get (with_extensions s x e).store.extensions x ≡ Some e

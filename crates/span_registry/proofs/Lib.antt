@@ -3,6 +3,7 @@ mod Added
 mod Ancestry
 mod Chains
 mod Closing
+mod Finds
 mod Counts
 pub mod Drops
 mod Found
@@ -20,3 +21,4 @@ mod Opened
 mod Removed
 mod States
 mod StoreLaws
+mod View

@@ -3,9 +3,8 @@ use Rattle.std.specs.Prelude.{◌≡◌, ℕ, false, List, [], ◌∷◌, ◌++�
 use Rattle.std.specs.FinMap.{get}
 use Rattle.std.specs.List.{filter, find}
 use Rattle.std.specs.Option.{option_map}
-use Rattle.span_core.specs.Filters.{IsEmpty, has_filter}
+use Rattle.span_core.specs.Filters.{FilterSet, IsEmpty}
 use Rattle.span_core.specs.Span.{number_of}
-use Rattle.span_core.specs.declared.filter.FilterId.{FilterId}
 use Rattle.span_core.specs.declared.span.Id.{Id}
 use Rattle.span_registry.specs.Closes.{IsSettled}
 use Rattle.span_registry.specs.Extensions.{Place, SameTag, ValueType, no_values, value_under, with_value, without_value}
@@ -41,13 +40,13 @@ pub record ClosesWhatItShould (old : RegistryState) (id : Id) (closed : List ℕ
   pub settled : ClosesAll SameButExtensions old id closed new → IsSettled new.store.spans
 
 -- what a mask lets be seen of x: what the store has of it; as its scope the chain of its parents, those that are hidden left out, all of it under a mask of no filter, and nothing where x isn't in the store; as its parent the first above it that isn't hidden. Under a mask of no filter a lane is seen to be in the span that it is in. From the root on, the chain of x leads down to it
-pub record LooksUp (s : Store) (mask : FilterId) (x : ℕ) : Type 0 where
+pub record LooksUp (s : Store) (mask : FilterSet) (x : ℕ) : Type 0 where
   pub span : get (seen_spans s mask) x ≡ option_map (λ r. see mask r (get s.extensions x)) (get s.spans x)
   pub shown : (chain : List ℕ) → IsChain s.spans (Some x) chain → scope (seen_spans s mask) (Some x) ≡ filter (is_shown (seen_spans s mask)) chain
-  pub whole : (chain : List ℕ) → IsEmpty (has_filter mask) → IsChain s.spans (Some x) chain → scope (seen_spans s mask) (Some x) ≡ chain
+  pub whole : (chain : List ℕ) → IsEmpty mask → IsChain s.spans (Some x) chain → scope (seen_spans s mask) (Some x) ≡ chain
   pub outside : get s.spans x ≡ None → scope (seen_spans s mask) (Some x) ≡ []
   pub parent : (above : List ℕ) → IsChain s.spans (Some x) (x ∷ above) → parent_shown (seen_spans s mask) x ≡ find (is_shown (seen_spans s mask)) above
-  pub current : (lane : ℕ) → IsEmpty (has_filter mask) → IsCurrent s lane (current_shown (view_of s lane mask))
+  pub current : (lane : ℕ) → IsEmpty mask → IsCurrent s lane (current_shown (view_of s lane mask))
   pub descent : (chain : List ℕ) → IsChain s.spans (Some x) chain → IsDescent s.spans None (reverse chain) x
 
 -- at first no tag has a value; what is written is read, what is removed is gone, and each other tag keeps its value

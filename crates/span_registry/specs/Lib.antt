@@ -1,4 +1,5 @@
 pub mod Closes
+pub mod Context
 pub mod Extensions
 pub mod Kept
 pub mod LaneStack

@@ -1,6 +1,9 @@
 //! The store of spans: what is kept of each, the lanes' stacks, and the calls that change them.
 #![tactic(auto)]
 
+mod context;
+#[cfg(test)]
+mod context_tests;
 #[cfg(test)]
 mod extension_tests;
 mod extension_value;
@@ -23,6 +26,7 @@ mod tag;
 #[cfg(test)]
 mod tests;
 
+pub use context::Context;
 pub use extension_value::ExtensionValue;
 pub use extensions::{ExtensionMap, Extensions, ExtensionsMut};
 pub use limits::Limits;

@@ -2,13 +2,13 @@
 ghost use Rattle.std.specs.Borrow.{sem};
 ghost use Rattle.std.specs.FinMap as map;
 ghost use Rattle.std.specs.FinSet as set;
-ghost use Rattle.std.specs.Option.{option_copied_mut, option_map};
-ghost use Rattle.std.specs.Prelude.{◌≡◌, ◌≤◌, ◌↔◌, OnErr, OnOk, IfErr, IfOk, IsSome, IsTrue, MatchBool, None, false, refl, true};
+ghost use Rattle.std.specs.Option.{option_copied, option_copied_mut, option_map, unwrap_or};
+ghost use Rattle.std.specs.Prelude.{◌≡◌, ◌≤◌, ◌↔◌, [], OnErr, OnOk, IfErr, IfOk, IsSome, IsTrue, MatchBool, None, false, refl, true};
 ghost use Rattle.span_core.specs.Pass.{interest_sum, refused_of};
 ghost use Rattle.span_core.specs.Span.{asked_parent, number_of};
 ghost use Rattle.span_registry.specs.Lends.{lends_extensions};
 ghost use Rattle.span_registry.specs.Step.{Enters, Exits, HasNoPlace, HasPlace, IsContext, IsParentFor, Opens, RefusesEnter, RefusesNew, RefusesRelease, Releases, Removes, RetiresLate, asked, entered_last};
-ghost use Rattle.span_registry.specs.Store.{IsClosing, IsForest, IsInStore, IsOpen, limits_of, new_registry};
+ghost use Rattle.span_registry.specs.Store.{IsClosing, IsForest, IsInStore, IsOpen, limits_of, new_registry, stack_of};
 ghost use Rattle.span_registry.specs.Subscriber.{registry_interest, sum_after};
 
 use crate::extensions::ExtensionsMut;
@@ -183,6 +183,13 @@ impl Registry {
             Some(parent) => lose_child(&mut self.records, parent),
             None => None,
         }
+    }
+
+    /// The stack of a lane, if it has one.
+    pub(crate) fn stack_on(&self, lane: Lane) -> Option<&SpanStack>
+        ensures { unwrap_or (option_copied result) [] ≡ stack_of self.now.store.stacks lane.0 }
+    {
+        self.stacks.get(&lane.0)
     }
 
     /// The newest entry of a lane's stack that is no duplicate.
