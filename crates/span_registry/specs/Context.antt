@@ -1,9 +1,9 @@
 -- What a context shows of the subscriber that it looks at.
-use Rattle.std.specs.Prelude.{◌≡◌, ℕ, Bool, ◌&&◌, false, is_some, IfSome, Option, None, Some}
+use Rattle.std.specs.Prelude.{◌≡◌, ℕ, Bool, ◌&&◌, false, is_some, IfSome, IsTrue, Option, None, Some}
 use Rattle.std.specs.Borrow.{Bor}
 use Rattle.std.specs.FinMap.{get}
 use Rattle.std.specs.Option.{option_copied, option_map, option_map_or}
-use Rattle.span_core.specs.Filters.{FilterSet, has_filter, is_enabled, union}
+use Rattle.span_core.specs.Filters.{FilterSet, has_filter, is_attached, is_enabled, union}
 use Rattle.span_core.specs.Span.{number_of}
 use Rattle.span_core.specs.declared.filter.FilterId.{FilterId}
 use Rattle.span_core.specs.declared.span.Lane.{Lane}
@@ -36,11 +36,12 @@ module _ {S : Type 0} where
   abbrev pub filters_in : Context S → FilterSet
   filters_in c = has_filter c.mask
 
-  -- a look at this subscriber, if there is one, from this lane, under these filters
+  -- a look at this subscriber, if there is one, from this lane, under these filters, which have their numbers
   pub record LooksAt (c : Context S) (s : Option S) (from : ℕ) (under : FilterSet) : Type 0 where
     pub subscriber : subscriber_in c ≡ s
     pub lane : (lane_in c).0 ≡ from
     pub filters : filters_in c ≡ under
+    pub attached : IsTrue (is_attached (mask_in c))
 
   -- the same look, under these filters too
   abbrev pub Narrows : Context S → FilterSet → Context S → Type 0
@@ -56,8 +57,10 @@ module _ {S : Type 0} (registry : S → RegistryState) where
   view_in c = view_of (store_in c) (lane_in c).0 (filters_in c)
 
   -- the same look, at the registry that the subscriber stands on
-  abbrev pub LooksAtRoot : Context S → Context RegistryState → Type 0
-  LooksAtRoot c root = LooksAt root (option_map registry (subscriber_in c)) (lane_in c).0 (filters_in c)
+  pub record LooksAtRoot (c : Context S) (root : Context RegistryState) : Type 0 where
+    pub subscriber : subscriber_in root ≡ option_map registry (subscriber_in c)
+    pub lane : lane_in root ≡ lane_in c
+    pub mask : mask_in root ≡ mask_in c
 
   -- whether a span is shown, and none of these filters refused it
   abbrev pub enabled_in : Context S → FilterId → ℕ → Bool

@@ -1,6 +1,6 @@
 //! A subscriber as its parts see it: from a lane, under a mask.
 ghost use Rattle.std.specs.FinMap.{get};
-ghost use Rattle.std.specs.Prelude.{◌≡◌, None, Some, IsTrue, false, is_some};
+ghost use Rattle.std.specs.Prelude.{◌≡◌, ⊤, None, Some, IsTrue, false, is_some};
 ghost use Rattle.span_core.specs.Event.{event_parent};
 ghost use Rattle.span_core.specs.Filters.{has_filter, is_attached};
 ghost use Rattle.span_core.specs.Span.{number_of};
@@ -28,6 +28,10 @@ pub struct Context<'a, S> {
 }
 
 impl<S> Clone for Context<'_, S> {
+    ghost is_clone = { λ c copy. copy ≡ c };
+
+    ghost is_infallible = { λ c. ⊤ };
+
     fn clone(&self) -> Result<Self, AllocError> {
         Ok(*self)
     }

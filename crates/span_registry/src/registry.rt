@@ -196,7 +196,7 @@ impl Registry {
     fn entered_last(&self, lane: Lane) -> Option<Id>
         ensures { option_map number_of result ≡ entered_last self.now.store lane.0 }
     {
-        match self.stacks.get(&lane.0) {
+        match self.stack_on(lane) {
             Some(stack) => stack.current(),
             None => None,
         }
