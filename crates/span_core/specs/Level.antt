@@ -1,5 +1,5 @@
 -- Levels and filters by level, by their numbers.
-use Rattle.std.specs.Prelude.{◌≡◌, ◌↔◌, ℕ, ◌<◌, ◌≤◌, nat_le, Bool, IsTrue, false, not}
+use Rattle.std.specs.Prelude.{◌≡◌, ◌↔◌, ℕ, ◌<◌, ◌≤◌, ◌==◌, nat_le, Bool, IsTrue, false, if◌then◌else◌, not}
 use Rattle.std.specs.Prelude.{Option, None, Some}
 use Rattle.std.specs.Ordering.{nat_cmp}
 use Rattle.std.specs.declared.cmp.Ordering.{Ordering}
@@ -49,3 +49,28 @@ is_above level (Some hint) = not (passes_level hint level)
 -- the level is above a hint exactly if its number is greater than the hint's
 abbrev pub IsAboveByNumber : Level → LevelFilter → Type 0
 IsAboveByNumber level f = IsTrue (is_above level (Some f)) ↔ (filter_number f < level_number level)
+
+-- the filter that passes less
+abbrev pub lesser : LevelFilter → LevelFilter → LevelFilter
+lesser f g = if nat_le (filter_number f) (filter_number g) then f else g
+
+-- the filter that passes more
+abbrev pub greater : LevelFilter → LevelFilter → LevelFilter
+greater f g = if nat_le (filter_number f) (filter_number g) then g else f
+
+-- the greater hint, and none where either is none
+abbrev pub wider_hint : Option LevelFilter → Option LevelFilter → Option LevelFilter
+wider_hint (Some f) (Some g) = Some (greater f g)
+wider_hint (Some f) None = None
+wider_hint None h = None
+
+-- the greater hint, where none is below every other
+abbrev pub greater_hint : Option LevelFilter → Option LevelFilter → Option LevelFilter
+greater_hint (Some f) (Some g) = Some (greater f g)
+greater_hint (Some f) None = Some f
+greater_hint None h = h
+
+-- whether it is a hint that no level passes
+abbrev pub is_off : Option LevelFilter → Bool
+is_off None = false
+is_off (Some f) = filter_number f == 0

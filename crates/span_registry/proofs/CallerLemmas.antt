@@ -1,29 +1,42 @@
 -- What a caller's proof may need: registries that are the same extensions aside, and drops with their removals.
-use Rattle.std.proofs.Common.{◌≡◌, ℕ, Bool, cond, map, ◌<◌, ◌∷◌, [], ◌++◌, List, Option, Some, None, IfSome, refl, sym, ap, subst, ◌∙◌, arith}
+use Rattle.std.proofs.Common.{◌≡◌, ℕ, Bool, true, false, cond, map, ◌<◌, ◌∷◌, [], ◌++◌, List, Option, Some, None, IfSome, refl, sym, ap, subst, ◌∙◌, arith}
+use Rattle.std.specs.Prelude.{if◌then◌else◌}
 use Rattle.std.specs.FinMap.{get, get-insert, len, remove}
 use Rattle.std.specs.Cmp.{nat_cmp_total}
-use Rattle.std.specs.Option.{option_and_then, option_map}
-use Rattle.span_core.specs.Filters.{has_filter}
+use Rattle.std.specs.List.{find}
+use Rattle.std.specs.Borrow.{Bor}
+use Rattle.std.specs.Option.{option_and_then, option_copied, option_map}
+use Rattle.span_core.specs.Filters.{FilterSet, has_filter}
 use Rattle.span_core.specs.Span.{number_of}
 use Rattle.span_core.specs.declared.span.Id.{Id}
 use Rattle.span_core.specs.declared.span.Lane.{Lane}
-use Rattle.span_registry.specs.Closes.{AreUnheld, IsSettled, IsSettledBut, Member, without}
+use Rattle.span_registry.specs.Closes.{AreUnheld, IsSettled, IsSettledBut, Member}
 use Rattle.span_registry.specs.Laws.{ClosesAll}
 use Rattle.span_registry.specs.Step.{Enters, Exits, Removal, Begun, Between, Removed, AskedSpan, Drops, Opens, Releases, Removes, TakesOut, begun}
+use Rattle.span_registry.specs.Form.{Form}
+use Rattle.span_registry.specs.Hooks.{Notifies, StackSteps, Stays}
 use Rattle.span_registry.specs.Store.{IsChain, IsClosing, IsForest, IsOpen, RegistryState, Span, Spans, Stacks, Store, new_registry, parent_of, stack_of, take_handle, with_extensions, with_stack}
 use Rattle.span_registry.specs.declared.limits.Limits.{Limits}
 use Rattle.span_registry.specs.Subscriber.{AndHooks, SameButExtensions}
 use Rattle.span_registry.specs.Extensions.{Place, value_under, with_value}
 use Rattle.span_registry.specs.declared.extensions.ExtensionMap.{ExtensionMap}
 use Rattle.span_registry.specs.declared.tag.Tag.{Tag}
-use Rattle.span_registry.specs.LaneStack.{leave}
-use Rattle.span_registry.specs.References.{FindsSpan, Reference, id_of_reference, mask_of, reference_to, references_to, scope_of_reference, subscriber_of}
+use Rattle.span_registry.specs.Context.{LooksAt, LooksAtLent, LooksAtRoot, RefersTo, filters_in, lane_in, store_at, store_in, view_in, view_lent}
+use Rattle.span_registry.specs.LaneStack.{leave, without_duplicates}
+use Rattle.span_registry.specs.Answers.{AreAlike, AreAlikeHistories, History, Notice, unextended}
+use Rattle.span_registry.specs.View.{SeenSpans, View, current_among, current_shown, extensions_shown, is_shown, see, shown, view_of}
+use Rattle.span_registry.specs.declared.context.Context.{Context}
+use Rattle.span_registry.specs.declared.context.ContextMut.{ContextMut}
+use Rattle.span_registry.specs.References.{FindsSpan, Reference, extensions_of_reference, id_of_reference, reference_to, references_to, scope_of_reference, subscriber_of}
 use Rattle.span_registry.specs.declared.scope.SpanRef.{SpanRef}
 use Rattle.span_registry.specs.declared.registry.Released.{Released}
 use Rattle.span_registry.specs.declared.registry.Released.TheVariants.{StillOpen, Closing}
+use Rattle.span_registry.proofs.Ancestry.{seen_at}
 use Rattle.span_registry.proofs.Chains.{same_test}
+use Rattle.span_registry.proofs.Finds.{store_found}
 use Rattle.span_registry.proofs.LookupLaws.{whole_chain}
 use Rattle.span_registry.proofs.StoreLaws.{stacks_restored}
+use Rattle.span_registry.proofs.View.{extensions_by}
 use Rattle.span_registry.proofs.Drops.{Progress, begins, forest_taken, none_dropped, progress_first, progress_last, progress_more, settled_added, settled_none, settled_now, settled_open, settled_taken}
 
 -- ---- the same, extensions aside
@@ -219,14 +232,94 @@ settled_exited lane id old new h s = subst IsSettled (sym (ap (λ (r : RegistryS
 -- ---- what is looked up
 
 -- the scope of a span that was found is the chain of its parents
-pub scope_found : {R : Type 0} (registry : R → RegistryState) (s : R) (id : Id) (r : SpanRef R) (o : Option (SpanRef R)) (chain : List ℕ) → FindsSpan registry s id o → o ≡ Some r → IsChain (registry s).store.spans (Some (number_of id)) chain → scope_of_reference registry r ≡ map (reference_to registry s (mask_of r)) chain
+pub scope_found : {R : Type 0} (registry : R → RegistryState) (s : R) (id : Id) (r : SpanRef R) (o : Option (SpanRef R)) (chain : List ℕ) → FindsSpan registry s id o → o ≡ Some r → IsChain (registry s).store.spans (Some (number_of id)) chain → scope_of_reference registry r ≡ map (reference_to registry s (λ n. false)) chain
 scope_found {R} registry s id r o chain h e c =
     let f : FindsSpan registry s id (Some r) = subst (FindsSpan registry s id) e h in
-    let subscriber : subscriber_of r ≡ s = ap (λ (q : Reference R). q.subscriber) f.reference in
-    let number : number_of (id_of_reference r) ≡ number_of id = ap (λ (q : Reference R). q.id) f.reference in
-    ap (λ (t : R). references_to registry t (mask_of r) (Some (number_of (id_of_reference r)))) subscriber
-    ∙ ap (λ (x : ℕ). references_to registry s (mask_of r) (Some x)) number
-    ∙ ap (map (reference_to registry s (mask_of r))) (whole_chain (registry s).store (has_filter (mask_of r)) (Some (number_of id)) chain f.mask c)
+    ap (λ (q : Reference R). references_to registry q.subscriber q.mask (Some q.id)) f.reference
+    ∙ ap (map (reference_to registry s (λ n. false))) (whole_chain (registry s).store (λ n. false) (Some (number_of id)) chain (λ n. refl) c)
+
+-- a context that looks at a subscriber shows the view of that lane of its store, under these filters
+pub view_looked_at : {S : Type 0} (registry : S → RegistryState) (c : Context S) (s : S) (lane : ℕ) (under : FilterSet) → LooksAt c (Some s) lane under → view_in registry c ≡ view_of (registry s).store lane under
+view_looked_at registry c s lane under h = λ i. view_of (store_found registry c.subscriber s h.subscriber i) (h.lane i) (h.filters i)
+
+-- a look at what a hook is lent sees what the hook sees
+pub view_lent_on : {S : Type 0} (registry : S → RegistryState) (c : ContextMut S) (look : Context S) → LooksAtLent c look → view_in registry look ≡ view_lent registry c
+view_lent_on registry c look h = λ i. view_of (store_found registry look.subscriber c.subscriber.now h.subscriber i) (h.lane i).0 (has_filter (h.mask i))
+
+store_at_root : {S : Type 0} (registry : S → RegistryState) (o : Option (Bor S)) (p : Option (Bor RegistryState)) → option_copied p ≡ option_map registry (option_copied o) → store_at (λ r. r) p ≡ store_at registry o
+store_at_root registry None None e = refl
+store_at_root registry None (Some b) e = absurd (cc)
+store_at_root registry (Some b) p e = store_found (λ r. r) p (registry b.now) e
+
+-- and one that looks at its registry alone shows the same
+pub view_at_root : {S : Type 0} (registry : S → RegistryState) (c : Context S) (root : Context RegistryState) → LooksAtRoot registry c root → view_in (λ r. r) root ≡ view_in registry c
+view_at_root registry c root h = λ i. view_of (store_at_root registry c.subscriber root.subscriber h.subscriber i) (h.lane i).0 (has_filter (h.mask i))
+
+-- what is found so is shown: it is in the store and isn't hidden
+abbrev pub GivesShown : (View → Option ℕ) → Type 0
+GivesShown which = (v : View) (x : ℕ) → which v ≡ Some x → is_shown v.spans x ≡ true
+
+held : {X : Type 0} (b : Bool) (o : Option X) (x : X) → cond b o None ≡ Some x → o ≡ Some x
+held true o x e = e
+held false o x e = absurd (cc)
+
+picked : (p : ℕ → Bool) (y : ℕ) (o : Option ℕ) (x : ℕ) (b : Bool) → p y ≡ b → cond b (Some y) o ≡ Some x → (o ≡ Some x → p x ≡ true) → p x ≡ true
+picked p y o x true h e k = let same : y ≡ x = cc in subst (λ (z : ℕ). p z ≡ true) same h
+picked p y o x false h e k = k e
+
+first_passes : (p : ℕ → Bool) (xs : List ℕ) (x : ℕ) → find p xs ≡ Some x → p x ≡ true
+first_passes p [] x e = absurd (cc)
+first_passes p (y ∷ ys) x e = picked p y (find p ys) x (p y) refl e (first_passes p ys x)
+
+current_passes : (m : SeenSpans) (xs : List ℕ) (x : ℕ) → current_among m xs ≡ Some x → is_shown m x ≡ true
+current_passes m [] x e = absurd (cc)
+current_passes m (y ∷ ys) x e = first_passes (is_shown m) (y ∷ ys) x (held _ _ x e)
+
+-- the span that a lane is in is shown
+pub current_is_shown : GivesShown current_shown
+current_is_shown v x e = current_passes v.spans (without_duplicates v.stack) x e
+
+-- a span that is looked up by its number is shown
+pub named_is_shown : (n : ℕ) → GivesShown (shown n)
+named_is_shown n v x e = by_test (is_shown v.spans n) refl e
+  where
+    same : Some n ≡ Some x → n ≡ x
+    same k = cc
+
+    by_test : (b : Bool) → is_shown v.spans n ≡ b → (if b then Some n else None) ≡ Some x → is_shown v.spans x ≡ true
+    by_test true h k = ap (is_shown v.spans) (sym (same k)) ∙ h
+    by_test false h k = absurd (cc)
+
+-- what is found through a context has the extensions that the view shows, and where nothing is found there are none
+pub extensions_found : {S : Type 0} (registry : S → RegistryState) (c : Context S) (which : View → Option ℕ) (found : Option (SpanRef S)) → GivesShown which → RefersTo registry c which found → option_map extensions_of_reference found ≡ option_and_then (λ x. extensions_shown x (view_in registry c)) (which (view_in registry c))
+extensions_found registry c which None shows h = ap (option_and_then (λ x. extensions_shown x (view_in registry c))) h.span
+extensions_found {S} registry c which (Some r) shows h =
+    let n = number_of (id_of_reference r) in
+    let v = view_in registry c in
+    let kept : get (store_in registry c).extensions n ≡ Some (extensions_of_reference r) =
+    ap (λ (t : Store). get t.extensions n) (store_found registry c.subscriber (subscriber_of r) h.subscriber) ∙ sym (ap (λ (q : Reference S). q.extensions) h.reference) in
+    sym (ap (option_and_then (λ x. extensions_shown x v)) (sym h.span) ∙ extensions_by (store_in registry c) (lane_in c).0 (filters_in c) n true (shows v n (sym h.span)) ∙ kept)
+
+-- where only extensions differ, the views do in extensions alone
+forgotten : (o : Option Span) (under : FilterSet) (e f : Option ExtensionMap) → option_map unextended (option_map (λ r. see under r e) o) ≡ option_map unextended (option_map (λ r. see under r f) o)
+forgotten None under e f = refl
+forgotten (Some r) under e f = refl
+
+pub views_alike : (v w : RegistryState) (lane : ℕ) (under : FilterSet) → SameButExtensions v w → AreAlike (view_of v.store lane under) (view_of w.store lane under)
+views_alike v w lane under h = record {
+  lane = refl;
+  stack = ap (λ (k : Stacks). stack_of k lane) (sym h.stacks);
+  spans = λ x.
+      ap (option_map unextended) (seen_at v.store under x)
+      ∙ forgotten (get v.store.spans x) under (get v.store.extensions x) (get w.store.extensions x)
+      ∙ ap (λ (m : Spans). option_map unextended (option_map (λ r. see under r (get w.store.extensions x)) (get m x))) (sym h.spans)
+      ∙ sym (ap (option_map unextended) (seen_at w.store under x));
+}
+
+-- every history is like itself
+pub histories_alike : (h : History) → AreAlikeHistories h h
+histories_alike [] = tt
+histories_alike ((e, v) ∷ h) = (refl, record { lane = refl; stack = refl; spans = λ x. refl }, histories_alike h)
 
 -- a span has the extensions that were written last
 pub extensions_written : (s : RegistryState) (x : ℕ) (e : ExtensionMap) → get (with_extensions s x e).store.extensions x ≡ Some e
@@ -236,6 +329,16 @@ extensions_written s x e = get-insert nat_cmp_total s.store.extensions x e x ∙
 pub value_written : {T : Type 0} (place : Place T) (s : RegistryState) (x : ℕ) (tag : Tag T) (v : T) (old new : ExtensionMap) → new ≡ with_value place old tag v → value_under place (with_value place old tag v) tag ≡ Some v → option_and_then (λ m. value_under place m tag) (get (with_extensions s x new).store.extensions x) ≡ Some v
 value_written place s x tag v old new e law =
     ap (option_and_then (λ m. value_under place m tag)) (extensions_written s x new) ∙ ap (λ (m : ExtensionMap). value_under place m tag) e ∙ law
+
+-- ---- notified stacks
+
+-- a registry takes a step, and then the stack's layers are notified: so hooks may write extensions after it
+pub and_hooks : {S : Type 0} {registry : S → RegistryState} {has_form : S → Form → Type 0} {stepped : StackSteps S} {lane : Lane} {refused : FilterSet} {e : Notice} {step : RegistryState → RegistryState → Type 0} {old new : S} → Notifies registry has_form stepped lane refused e step old new → AndHooks registry step old new
+and_hooks h = record { stepped = h.left; taken = h.taken; hooks = h.extensions }
+
+-- layers are notified where the registry takes no step: only extensions may differ
+pub hooks_alone : {S : Type 0} {registry : S → RegistryState} {has_form : S → Form → Type 0} {stepped : StackSteps S} {lane : Lane} {refused : FilterSet} {e : Notice} {old new : S} → Notifies registry has_form stepped lane refused e Stays old new → SameButExtensions (registry old) (registry new)
+hooks_alone {registry = registry} {new = new} h = subst (λ v. SameButExtensions v (registry new)) h.taken h.extensions
 
 -- ---- entering and leaving
 

@@ -1,5 +1,5 @@
 -- What a context finds, by what the store that it looks at has.
-use Rattle.std.proofs.Common.{◌≡◌, ℕ, Bool, true, false, cond, not, ◌&&◌, List, [], Option, None, Some, is_some, IfSome, refl, sym, ap, subst, ◌∙◌}
+use Rattle.std.proofs.Common.{◌≡◌, ℕ, Bool, false, cond, not, ◌&&◌, List, [], Option, None, Some, sym, ap, ◌∙◌}
 use Rattle.std.specs.Borrow.{Bor}
 use Rattle.std.specs.FinMap.{get, get-empty}
 use Rattle.std.specs.Option.{option_and_then, option_copied, option_map, option_map_or, unwrap_or}
@@ -7,11 +7,11 @@ use Rattle.std.specs.Ordering.{nat_cmp}
 use Rattle.span_core.specs.Filters.{FilterSet, is_enabled, meets, refuses}
 use Rattle.span_core.specs.Span.{number_of}
 use Rattle.span_core.specs.declared.filter.FilterId.{FilterId}
-use Rattle.span_registry.specs.Context.{RefersTo, filters_in, store_at, store_in, subscriber_in, view_in}
+use Rattle.span_registry.specs.Context.{RefersTo, filters_in, store_at, store_in, view_in}
 use Rattle.span_registry.specs.LaneStack.{newest, without_duplicates}
 use Rattle.span_registry.specs.References.{Reference, id_of_reference, span_of_reference, subscriber_of}
-use Rattle.span_registry.specs.Step.{IsCurrent, entered_last}
-use Rattle.span_registry.specs.Store.{IsInStore, RegistryState, Span, Store, empty_store}
+use Rattle.span_registry.specs.Step.{entered_last}
+use Rattle.span_registry.specs.Store.{RegistryState, Span, Store, empty_store}
 use Rattle.span_registry.specs.View.{SeenSpan, View, is_shown, metadata_shown, seen_spans, shown}
 use Rattle.span_registry.specs.declared.context.Context.{Context}
 use Rattle.span_registry.specs.declared.scope.SpanRef.{SpanRef}
@@ -56,7 +56,7 @@ module _ {S : Type 0} (registry : S → RegistryState) where
       ap (λ (q : Option (Bor S)). enabled_at (store_at registry q) mask filter x) is ∙ enabled_found (registry b.now).store mask filter x r e
       ∙ ap (λ (c : Bool). not c && is_enabled r.verdict filter) h
 
-  store_found : (o : Option (Bor S)) (s : S) → option_copied o ≡ Some s → store_at registry o ≡ (registry s).store
+  pub store_found : (o : Option (Bor S)) (s : S) → option_copied o ≡ Some s → store_at registry o ≡ (registry s).store
   store_found None s e = let no : None ≡ Some s = e in absurd (cc)
   store_found (Some b) s e = let same : b.now ≡ s = cc in ap (λ (q : S). (registry q).store) same
 

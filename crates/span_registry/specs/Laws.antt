@@ -1,5 +1,5 @@
 -- What the laws say, where that takes more than a line.
-use Rattle.std.specs.Prelude.{◌≡◌, ℕ, false, List, [], ◌∷◌, ◌++◌, Option, Some, None, reverse}
+use Rattle.std.specs.Prelude.{◌≡◌, ℕ, List, [], ◌∷◌, ◌++◌, Some, None, reverse}
 use Rattle.std.specs.FinMap.{get}
 use Rattle.std.specs.List.{filter, find}
 use Rattle.std.specs.Option.{option_map}
@@ -9,16 +9,20 @@ use Rattle.span_core.specs.declared.span.Id.{Id}
 use Rattle.span_registry.specs.Closes.{IsSettled}
 use Rattle.span_registry.specs.Extensions.{Place, SameTag, ValueType, no_values, value_under, with_value, without_value}
 use Rattle.span_registry.specs.Step.{Drops, IsCurrent, Releases, Removal}
-use Rattle.span_registry.specs.Store.{IsChain, IsForest, IsInStore, RegistryState, Spans, Store, parent_of, stack_of}
+use Rattle.span_registry.specs.Store.{IsChain, IsForest, IsInStore, RegistryState, SameStacks, Spans, Store, parent_of}
 use Rattle.span_registry.specs.Subscriber.{AndHooks, SameButExtensions}
 use Rattle.span_registry.specs.View.{IsDescent, current_shown, is_shown, parent_shown, scope, see, seen_spans, view_of}
 use Rattle.span_registry.specs.declared.extensions.ExtensionMap.{ExtensionMap}
 use Rattle.span_registry.specs.declared.registry.Released.TheVariants.{Closing}
 use Rattle.span_registry.specs.declared.tag.Tag.{Tag}
 
+-- where it holds of a first and a second, and of that and a third, it holds of the first and the third
+abbrev pub IsTransitive : {A : Type 0} → (A → A → Type 0) → Type 0
+IsTransitive {A} R = (a b c : A) → R a b → R b c → R a c
+
 -- each lane has the stack that it had, and nothing else differs
 pub record RestoresStacks (old new : Store) : Type 0 where
-  pub stacks : (lane : ℕ) → stack_of new.stacks lane ≡ stack_of old.stacks lane
+  pub stacks : SameStacks old new
   pub rest : new ≡ record old { stacks = new.stacks }
 
 -- the chain of parents of x leads to a root, which is in the store

@@ -1,22 +1,31 @@
 //! A subscriber as its parts see it: from a lane, under a mask.
+ghost use Rattle.std.specs.Borrow.{sem};
 ghost use Rattle.std.specs.FinMap.{get};
-ghost use Rattle.std.specs.Prelude.{◌≡◌, ⊤, None, Some, IsTrue, false, is_some};
+ghost use Rattle.std.specs.Option.{option_copied_mut};
+ghost use Rattle.std.specs.Prelude.{◌≡◌, ⊤, None, Some, IsTrue, false, is_some, not, IfSome};
 ghost use Rattle.span_core.specs.Event.{event_parent};
-ghost use Rattle.span_core.specs.Filters.{has_filter, is_attached};
+ghost use Rattle.span_core.specs.Filters.{has_filter, is_attached, is_enabled};
+ghost use Rattle.span_core.specs.Pass.{refused_of};
 ghost use Rattle.span_core.specs.Span.{number_of};
-ghost use Rattle.span_registry.specs.Context.{GivesScope, LooksAt, LooksAtRoot, Narrows, RefersTo, enabled_in, lane_in, store_in, subscriber_in, view_in};
+ghost use Rattle.span_registry.specs.Context.{Borrows, AnswersProbe, Exchanges, GivesScope, IsLent, LendsOver, LentOn, LooksAt, LooksAtLent, LooksAtRoot, MasksMore, Narrows, NarrowsLent, RefersTo, SendsEvent, enabled_in, enabled_lent, extensions_lent, is_shown_to, lane_in, lane_lent, loan_of, mask_of_loan, refused_lent, store_in, subscriber_in, subscriber_lent, view_in, with_mask};
+ghost use Rattle.span_registry.specs.Lends.{lends_seen, lends_subscriber};
 ghost use Rattle.span_registry.specs.Marks.{spans_to_give};
 ghost use Rattle.span_registry.specs.Step.{ShowsCurrent};
+ghost use Rattle.span_registry.specs.Store.{new_registry};
 ghost use Rattle.span_registry.specs.View.{current_shown, event_shown, first_shown, metadata_shown, shown};
 
+use crate::extensions::ExtensionsMut;
+use crate::limits::Limits;
 use crate::lookup::LookupSpan;
+use crate::mask::Mask;
 use crate::registry::Registry;
 use crate::scope::{Scope, SpanRef};
 use crate::span_data::SpanData;
 use crate::stack::StackIter;
 use crate::subscriber::Subscriber;
-use span_core::{Current, Event, FilterId, Id, Lane, Metadata, Parent, Pass};
+use span_core::{Current, Event, FilterId, FilterMap, Id, Lane, Metadata, Parent, Pass};
 use std::alloc::AllocError;
+use std::mem;
 
 /// A shared look at a subscriber, from a lane and under a mask: or at none, and then no span is there.
 ///
@@ -24,7 +33,7 @@ use std::alloc::AllocError;
 pub struct Context<'a, S> {
     subscriber: Option<&'a S>,
     lane: Lane,
-    mask: FilterId,
+    mask: Mask,
 }
 
 impl<S> Clone for Context<'_, S> {
@@ -47,7 +56,7 @@ impl<'a, S> Context<'a, S> {
         Context {
             subscriber: None,
             lane: Lane(0),
-            mask: FilterId::none(),
+            mask: Mask::none(),
         }
     }
 
@@ -58,7 +67,7 @@ impl<'a, S> Context<'a, S> {
         Context {
             subscriber: Some(subscriber),
             lane,
-            mask: FilterId::none(),
+            mask: Mask::none(),
         }
     }
 
@@ -192,7 +201,7 @@ impl<'a, S: LookupSpan> Context<'a, S> {
         }
     }
 
-    /// The span is in the store, isn't hidden, and is enabled for these filters: for none that is unattached.
+    /// The id is attached, the span is in the store and isn't hidden, and none of the id's filters refused it.
     pub fn is_enabled_for(&self, id: Id, filter: FilterId) -> bool
         ensures { result ≡ enabled_in S.registry self.now filter (number_of id) }
     {
@@ -220,7 +229,9 @@ impl<S: Subscriber> Context<'_, S> {
     /// Whether the subscriber wants a span or an event with this metadata. What its filters say goes into a pass that is
     /// thrown away. Without a subscriber it is true.
     pub fn enabled(&self, meta: &Metadata) -> bool
-        ensures { subscriber_in self.now ≡ None → IsTrue result }
+        requires { IfSome (subscriber_in self.now) S.usable }
+        ensures asked { AnswersProbe S.registry S.has_form self.now meta.now result }
+        ensures absent { subscriber_in self.now ≡ None → IsTrue result }
     {
         match self.subscriber {
             Some(subscriber) => {
@@ -246,4 +257,176 @@ fn first_of<'a, S: LookupSpan>(
         }
     }
     None
+}
+
+/// A subscriber lent to a hook, from a lane and under a mask, with what the filters said during the request.
+#[derive(Drop)]
+pub struct ContextMut<'a, S> {
+    subscriber: &'a mut S,
+    lane: Lane,
+    mask: Mask,
+    refused: FilterMap,
+}
+
+impl<'a, S> ContextMut<'a, S> {
+    /// Lends a subscriber under a mask of no filter, with the refusals of this pass.
+    pub fn new(subscriber: &'a mut S, lane: Lane, pass: &Pass) -> ContextMut<'a, S>
+        ensures loan { Borrows result subscriber.entry.ghost_name }
+        ensures lent { IsLent result subscriber.old lane.0 (λ n. false) (refused_of pass.now) }
+    {
+        ContextMut {
+            subscriber,
+            lane,
+            mask: Mask::none(),
+            refused: pass.refused(),
+        }
+    }
+
+    /// Lends the same under the filters of this id too, which is attached.
+    pub fn with_filter(mut self, filter: FilterId) -> ContextMut<'a, S>
+        requires { IsTrue (is_attached filter) }
+        ensures loan { Borrows result (loan_of self.entry) }
+        ensures lent { NarrowsLent self.entry (has_filter filter) result }
+    {
+        self.mask = self.mask.and(filter);
+        self
+    }
+
+    /// Puts the filters of this id, which is attached, into the mask too, and answers the mask that was.
+    ///
+    /// `widen` puts that back.
+    pub fn narrow(&mut self, filter: FilterId) -> Mask
+        requires { IsTrue (is_attached filter) }
+        ensures before { result ≡ mask_of_loan self.old }
+        ensures narrowed { MasksMore self.old (has_filter filter) self.new }
+    {
+        let before = self.mask;
+        self.mask = before.and(filter);
+        before
+    }
+
+    /// Puts this mask in the place of the one that is there.
+    pub fn widen(&mut self, mask: Mask)
+        ensures { self.new ≡ with_mask self.old mask }
+    {
+        self.mask = mask;
+    }
+
+    /// The same, lent on until what is answered is given back.
+    pub fn lend(&mut self) -> ContextMut<'_, S>
+        ensures* writes_back { sem 𝓛 (lends_subscriber S.row self.entry result) }
+        ensures lent { LentOn self.old result }
+    {
+        let lane = self.lane;
+        let mask = self.mask;
+        let refused = self.refused;
+        let subscriber = &mut *self.subscriber;
+        ContextMut {
+            subscriber,
+            lane,
+            mask,
+            refused,
+        }
+    }
+
+    /// Lends another subscriber from the same lane, under the same mask and with the same refusals.
+    pub fn over<'r, T>(&self, subscriber: &'r mut T) -> ContextMut<'r, T>
+        ensures loan { Borrows result subscriber.entry.ghost_name }
+        ensures lent { LendsOver self.now subscriber.old result }
+    {
+        let (lane, mask) = (self.lane, self.mask);
+        ContextMut {
+            subscriber,
+            lane,
+            mask,
+            refused: self.refused,
+        }
+    }
+
+    /// A shared look at the same subscriber, from the same lane and under the same mask.
+    pub fn ctx(&self) -> Context<'_, S>
+        ensures { LooksAtLent self.now result }
+    {
+        let mut look = Context::new(&*self.subscriber, self.lane);
+        look.mask = self.mask;
+        look
+    }
+
+    /// The lane.
+    pub fn lane(&self) -> Lane
+        ensures { result ≡ lane_lent self.now }
+    {
+        self.lane
+    }
+
+    /// A filter of this id refused during the request, or the id is unattached.
+    pub fn refuses(&self, filter: FilterId) -> bool
+        ensures { result ≡ not (is_enabled (refused_lent self.now) filter) }
+    {
+        !self.refused.is_enabled(filter)
+    }
+}
+
+impl<'a, S: LookupSpan> ContextMut<'a, S> {
+    /// The extensions of a span that is in the store and isn't hidden, to be read and changed.
+    pub fn extensions_mut(&mut self, id: Id) -> Option<ExtensionsMut<'_>>
+        ensures* writes_back { sem 𝓛 (lends_seen S.row S.registry S.with_registry self.entry id result) }
+        ensures value { option_copied_mut result ≡ extensions_lent S.registry self.old id }
+        ensures there { is_some result ≡ is_shown_to S.registry self.old id }
+    {
+        if !self.shows(id) {
+            return None;
+        }
+        let root = self.subscriber.root_mut();
+        root.extensions_mut(id)
+    }
+
+    /// Takes the registry that the subscriber stands on out of it, and leaves an empty one in its place.
+    ///
+    /// `over` lends it from the same lane and under the same mask, and then `put_root` puts it back: the three stand for a
+    /// `to_root`.
+    pub fn take_root(&mut self) -> Registry
+        ensures root { result ≡ S.registry (subscriber_lent self.old) }
+        ensures rest { Exchanges S.with_registry (new_registry Limits.MAX) self.old self.new }
+    {
+        let root = self.subscriber.root_mut();
+        let empty = root.emptied();
+        mem::replace(root, empty)
+    }
+
+    /// Puts a registry in the place of the one that is there.
+    pub fn put_root(&mut self, root: Registry)
+        ensures { Exchanges S.with_registry root self.old self.new }
+    {
+        let place = self.subscriber.root_mut();
+        *place = root;
+    }
+
+    /// The span is in the store, and isn't hidden.
+    fn shows(&self, id: Id) -> bool
+        ensures { result ≡ is_shown_to S.registry self.now id }
+    {
+        match self.subscriber.span_data(id) {
+            Some(found) => !found.is_hidden(self.mask),
+            None => false,
+        }
+    }
+
+    /// The id is attached, the span is in the store and isn't hidden, and none of the id's filters refused it.
+    pub fn is_enabled_for(&self, id: Id, filter: FilterId) -> bool
+        ensures { result ≡ enabled_lent S.registry self.now filter id }
+    {
+        self.ctx().is_enabled_for(id, filter)
+    }
+}
+
+impl<'a, S: Subscriber> ContextMut<'a, S> {
+    /// Gives the subscriber an event, with an empty pass: its filters are not asked.
+    pub fn event(&mut self, event: &Event<'_>)
+        requires { S.usable (subscriber_lent self.old) }
+        ensures usable { S.usable (subscriber_lent self.new) }
+        ensures sent { SendsEvent S.registry S.has_form S.stepped event.now self.old self.new }
+    {
+        self.subscriber.event(self.lane, event, &Pass::new());
+    }
 }

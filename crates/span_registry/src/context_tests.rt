@@ -1,10 +1,11 @@
 //! Tests of contexts: what one filter refused is hidden from those that stand under it, and from nobody else.
-use crate::context::Context;
+use crate::context::{Context, ContextMut};
 use crate::lookup::LookupSpan;
 use crate::registry::Registry;
 use crate::scope::{Scope, SpanRef};
 use crate::span_data::SpanData;
 use crate::subscriber::Subscriber;
+use crate::tag::Tag;
 use span_core::{
     Attributes, Event, FieldSet, FilterId, Id, Kind, Lane, Level, Metadata, Pass, TraceError,
 };
@@ -36,6 +37,21 @@ fn enter_new(
     let id = registry.new_span(LANE, &attributes, &pass)?;
     registry.enter(LANE, id)?;
     Ok(id)
+}
+
+/// Spans each in the one before, all of them entered. One filter refused the child alone.
+#[derive(Clone, Copy, Drop)]
+struct Family {
+    root: Id,
+    child: Id,
+    leaf: Id,
+}
+
+fn family_in(registry: &mut Registry, refusing: FilterId) -> Result<Family, TraceError> {
+    let root = enter_new(registry, "root", None, None)?;
+    let child = enter_new(registry, "child", Some(root), Some(refusing))?;
+    let leaf = enter_new(registry, "leaf", Some(child), None)?;
+    Ok(Family { root, child, leaf })
 }
 
 /// An event in this span.
@@ -77,9 +93,7 @@ fn names_from_root<S: LookupSpan>(
 fn one_filter_hides_from_its_own_alone(rt: HostRuntime) -> Result<(), Fail> {
     let mut registry = Registry::new(rt.alloc());
     let info = registry.register_filter()?;
-    let root = enter_new(&mut registry, "root", None, None)?;
-    let child = enter_new(&mut registry, "child", Some(root), Some(info))?;
-    let leaf = enter_new(&mut registry, "leaf", Some(child), None)?;
+    let Family { child, leaf, .. } = family_in(&mut registry, info)?;
     let all = Context::new(&registry, LANE);
     let filtered = all.with_filter(info);
 
@@ -104,9 +118,7 @@ fn one_filter_hides_from_its_own_alone(rt: HostRuntime) -> Result<(), Fail> {
 fn what_is_hidden_is_found_by_nobody_under_the_mask(rt: HostRuntime) -> Result<(), Fail> {
     let mut registry = Registry::new(rt.alloc());
     let info = registry.register_filter()?;
-    let root = enter_new(&mut registry, "root", None, None)?;
-    let child = enter_new(&mut registry, "child", Some(root), Some(info))?;
-    let leaf = enter_new(&mut registry, "leaf", Some(child), None)?;
+    let Family { child, leaf, .. } = family_in(&mut registry, info)?;
     let all = Context::new(&registry, LANE);
     let filtered = all.with_filter(info);
 
@@ -135,8 +147,8 @@ fn what_is_hidden_is_found_by_nobody_under_the_mask(rt: HostRuntime) -> Result<(
 fn an_event_is_in_the_span_that_is_shown(rt: HostRuntime) -> Result<(), Fail> {
     let mut registry = Registry::new(rt.alloc());
     let info = registry.register_filter()?;
-    let root = enter_new(&mut registry, "root", None, None)?;
-    let child = enter_new(&mut registry, "child", Some(root), Some(info))?;
+    let Family { root, child, leaf } = family_in(&mut registry, info)?;
+    registry.exit(LANE, leaf);
     let metadata = metadata_of("event", Level::INFO, Kind::EVENT);
     let all = Context::new(&registry, LANE);
     let filtered = all.with_filter(info);
@@ -154,7 +166,8 @@ fn an_event_is_in_the_span_that_is_shown(rt: HostRuntime) -> Result<(), Fail> {
         None
     );
     assert_eq!(rt; filtered.current_span().id(), Some(child));
-    assert_eq!(rt; name_of(filtered.lookup_current()), Some("root"));
+    let current = filtered.lookup_current().ok_or("no root")?;
+    assert_eq!(rt; current.id(), root);
     assert_eq!(rt; name_of(filtered.to_root().lookup_current()), Some("root"));
     assert!(rt; filtered.enabled(&metadata));
     Ok(())
@@ -172,5 +185,43 @@ fn without_a_subscriber_no_span_is_there(rt: HostRuntime) -> Result<(), Fail> {
     assert!(rt; nowhere.lookup_current().is_none());
     assert!(rt; nowhere.current_span().id().is_none());
     assert!(rt; nowhere.enabled(&metadata));
+    Ok(())
+}
+
+#[test]
+fn a_hook_writes_what_it_sees(rt: HostRuntime) -> Result<(), Fail> {
+    let mut registry = Registry::new(rt.alloc());
+    let info = registry.register_filter()?;
+    let Family { child, leaf, .. } = family_in(&mut registry, info)?;
+    let size = Tag::<u64>::new(0);
+    let mut pass = Pass::new();
+    pass.set(info, false);
+
+    let mut hook = ContextMut::new(&mut registry, LANE, &pass);
+    assert!(rt; hook.refuses(info));
+    assert!(rt; !hook.refuses(FilterId::of(1)));
+    assert!(rt; hook.refuses(FilterId::unattached()));
+    let extensions = hook.extensions_mut(child).ok_or("no child")?;
+    extensions.insert(size, 3)?;
+    assert_eq!(rt; name_of(hook.lend().ctx().span(child)), Some("child"));
+
+    let mut filtered = hook.with_filter(info);
+    assert_eq!(rt; filtered.lane(), LANE);
+    assert!(rt; filtered.extensions_mut(child).is_none());
+    let extensions = filtered.extensions_mut(leaf).ok_or("no leaf")?;
+    extensions.insert(size, 4)?;
+    assert!(rt; filtered.is_enabled_for(leaf, info));
+    assert!(rt; !filtered.is_enabled_for(child, info));
+    filtered.event(&event_in(leaf));
+    let mut root = filtered.take_root();
+    assert!(rt; !filtered.ctx().exists(leaf));
+    assert!(rt; filtered.over(&mut root).extensions_mut(leaf).is_some());
+    filtered.put_root(root);
+    assert_eq!(rt; name_of(filtered.ctx().lookup_current()), Some("leaf"));
+
+    let found = registry.span(child).ok_or("no child")?;
+    assert_eq!(rt; found.extensions().get(size), Some(&3));
+    let found = registry.span(leaf).ok_or("no leaf")?;
+    assert_eq!(rt; found.extensions().get(size), Some(&4));
     Ok(())
 }

@@ -13,6 +13,7 @@ mod limits;
 mod lookup;
 #[cfg(test)]
 mod lookup_tests;
+mod mask;
 mod registry;
 mod scope;
 mod span_data;
@@ -26,11 +27,12 @@ mod tag;
 #[cfg(test)]
 mod tests;
 
-pub use context::Context;
+pub use context::{Context, ContextMut};
 pub use extension_value::ExtensionValue;
 pub use extensions::{ExtensionMap, Extensions, ExtensionsMut};
 pub use limits::Limits;
 pub use lookup::LookupSpan;
+pub use mask::Mask;
 pub use registry::{Registry, Released};
 pub use scope::{Scope, ScopeFromRoot, SpanRef};
 pub use span_data::{Data, SpanData};

@@ -1,11 +1,12 @@
 //! Spans are found by their ids, in whatever a registry stands in.
-ghost use Rattle.std.specs.Borrow.{Lends, sem};
+ghost use Rattle.std.specs.Borrow.{sem};
 ghost use Rattle.std.specs.Prelude.{◌≡◌, IfErr, IfOk, OnErr};
+ghost use Rattle.span_registry.specs.Lends.{lends_registry};
 ghost use Rattle.span_registry.specs.References.{FindsSpan, FindsData};
 ghost use Rattle.span_registry.specs.Step.{HandsOut, RefusesFilter};
 ghost use Rattle.span_registry.specs.Store.{IsForest, RegistryState};
-ghost use Rattle.span_registry.specs.contracts.registry.Registry.{the_row};
 
+use crate::mask::Mask;
 use crate::registry::Registry;
 use crate::scope::SpanRef;
 use crate::span_data::Data;
@@ -27,7 +28,7 @@ pub trait LookupSpan {
 
     /// The registry, to be changed.
     fn root_mut(&mut self) -> &mut Registry
-        ensures* writes_back { sem 𝓛 (Lends Self.row the_row self.entry result (with_registry self.old)) }
+        ensures* writes_back { sem 𝓛 (lends_registry Self.row with_registry self.entry result) }
         ensures value { result.now ≡ registry self.old };
 
     /// What is kept of a span that is in the store, closing or not.
@@ -49,7 +50,7 @@ pub trait LookupSpan {
         ensures { FindsSpan registry self.now id result }
     {
         let data = self.span_data(id)?;
-        Some(SpanRef::new(self, data, FilterId::none()))
+        Some(SpanRef::new(self, data, Mask::none()))
     }
 
     ghost registry_with: { (s : Self) (w : RegistryState) → registry (with_registry s w) ≡ w };

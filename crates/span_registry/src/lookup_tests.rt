@@ -1,5 +1,6 @@
 //! Tests of the look-ups: spans by their ids, parents and scopes under masks.
 use crate::lookup::LookupSpan;
+use crate::mask::Mask;
 use crate::registry::Registry;
 use crate::scope::{Scope, SpanRef};
 use crate::span_data::SpanData;
@@ -47,7 +48,7 @@ fn leaf_in_child_in_root(registry: &mut Registry) -> Result<Id, TraceError> {
     open_span(registry, "leaf", Some(child), None)
 }
 
-fn under<'a, R: LookupSpan>(subscriber: &'a R, id: Id, mask: FilterId) -> Option<SpanRef<'a, R>> {
+fn under<'a, R: LookupSpan>(subscriber: &'a R, id: Id, mask: Mask) -> Option<SpanRef<'a, R>> {
     let found = subscriber.span_data(id)?;
     Some(SpanRef::new(subscriber, found, mask))
 }
@@ -78,11 +79,12 @@ fn names_from_root<R: LookupSpan>(
 fn scopes_under_masks(rt: HostRuntime) -> Result<(), Fail> {
     let mut registry = Registry::new(rt.alloc());
     let id = leaf_in_child_in_root(&mut registry)?;
-    let child_hidden = FilterId::of(0);
-    let root_hidden = FilterId::of(1);
-    let rows: [(FilterId, &[&str], &[&str], Option<&str>); 4] = [
+    let child_hidden = Mask::none().and(FilterId::of(0));
+    let root_hidden = Mask::none().and(FilterId::of(1));
+    let both_hidden = child_hidden.and(FilterId::of(1));
+    let rows: [(Mask, &[&str], &[&str], Option<&str>); 4] = [
         (
-            FilterId::none(),
+            Mask::none(),
             &["leaf", "child", "root"],
             &["root", "child", "leaf"],
             Some("child"),
@@ -99,7 +101,7 @@ fn scopes_under_masks(rt: HostRuntime) -> Result<(), Fail> {
             &["child", "leaf"],
             Some("child"),
         ),
-        (child_hidden.and(root_hidden), &["leaf"], &["leaf"], None),
+        (both_hidden, &["leaf"], &["leaf"], None),
     ];
     for (mask, up, down, parent) in rows {
         let leaf = under(&registry, id, mask).ok_or("no leaf")?;
@@ -130,7 +132,7 @@ fn scopes_of_ancestors(rt: HostRuntime) -> Result<(), Fail> {
         ["root"].as_slice()
     );
     assert!(rt; root.parent().is_none());
-    let hidden = under(&registry, child.id(), FilterId::of(0)).ok_or("no child")?;
+    let hidden = under(&registry, child.id(), Mask::none().and(FilterId::of(0))).ok_or("no child")?;
     assert_eq!(rt;
         names(rt.alloc(), hidden.scope())?.as_slice(),
         ["root"].as_slice()

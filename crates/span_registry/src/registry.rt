@@ -1,14 +1,17 @@
 //! The spans that are open, and what each lane has entered.
 ghost use Rattle.std.specs.Borrow.{sem};
-ghost use Rattle.std.specs.FinMap as map;
+ghost use Rattle.std.specs.FinMap.{get};
 ghost use Rattle.std.specs.FinSet as set;
 ghost use Rattle.std.specs.Option.{option_copied, option_copied_mut, option_map, unwrap_or};
 ghost use Rattle.std.specs.Prelude.{◌≡◌, ◌≤◌, ◌↔◌, [], OnErr, OnOk, IfErr, IfOk, IsSome, IsTrue, MatchBool, None, false, refl, true};
 ghost use Rattle.span_core.specs.Pass.{interest_sum, refused_of};
 ghost use Rattle.span_core.specs.Span.{asked_parent, number_of};
+ghost use Rattle.span_registry.specs.Form.{Bare, Base};
+ghost use Rattle.span_registry.specs.Hooks.{registry_laws};
+ghost use Rattle.span_registry.specs.Kept.{IsChosen};
 ghost use Rattle.span_registry.specs.Lends.{lends_extensions};
-ghost use Rattle.span_registry.specs.Step.{Enters, Exits, HasNoPlace, HasPlace, IsContext, IsParentFor, Opens, RefusesEnter, RefusesNew, RefusesRelease, Releases, Removes, RetiresLate, asked, entered_last};
-ghost use Rattle.span_registry.specs.Store.{IsClosing, IsForest, IsInStore, IsOpen, limits_of, new_registry, stack_of};
+ghost use Rattle.span_registry.specs.Step.{Enters, Exits, HasNoPlace, HasPlace, IsContext, Opens, RefusesEnter, RefusesNew, RefusesRelease, Releases, Removes, RetiresLate, asked, entered_last};
+ghost use Rattle.span_registry.specs.Store.{IsClosing, IsForest, IsInStore, IsOpen, new_registry, stack_of};
 ghost use Rattle.span_registry.specs.Subscriber.{registry_interest, sum_after};
 
 use crate::extensions::ExtensionsMut;
@@ -77,7 +80,7 @@ impl Model for Registry {
 impl Registry {
     /// An empty registry, with limits as high as they go.
     pub fn new(alloc: Global) -> Self
-        ensures { result ≡ new_registry (limits_of u32.MAX) }
+        ensures { result ≡ new_registry Limits.MAX }
     {
         Registry::with_limits(alloc, Limits::MAX)
     }
@@ -98,6 +101,13 @@ impl Registry {
             stacks: BTreeMap::new(alloc),
             filters: 0,
         }
+    }
+
+    /// An empty registry in the same memory, with limits as high as they go.
+    pub(crate) fn emptied(&self) -> Self
+        ensures { result ≡ new_registry Limits.MAX }
+    {
+        Registry::new(self.alloc)
     }
 
     /// No id was issued.
@@ -137,7 +147,7 @@ impl Registry {
     /// The extensions of a span that is in the store, closing or not, to be read and changed.
     pub fn extensions_mut(&mut self, id: Id) -> Option<ExtensionsMut<'_>>
         ensures* writes_back { sem 𝓛 (lends_extensions self.entry id result) }
-        ensures value { option_copied_mut result ≡ map.get self.old.store.extensions (number_of id) }
+        ensures value { option_copied_mut result ≡ get self.old.store.extensions (number_of id) }
         ensures there { IsSome result ↔ IsInStore self.old.store.spans (number_of id) }
     {
         let number = id.into_u64();
@@ -219,7 +229,7 @@ impl Registry {
 
     /// The parent that a new span gets.
     fn parent_for(&self, lane: Lane, asked: Parent) -> Result<Option<Id>, TraceError>
-        ensures chosen { IfOk result (λ p. IsParentFor self.now.store lane asked (option_map number_of p)) }
+        ensures chosen { IfOk result (IsChosen self.now.store lane asked) }
         ensures refused { IfErr result (RefusesNew self.now lane asked) }
     {
         match asked {
@@ -284,6 +294,14 @@ impl LookupSpan for Registry {
 }
 
 impl Subscriber for Registry {
+    ghost has_form = { λ s f. f ≡ Bare Base };
+
+    ghost stepped = { λ x p e lane v y w. w ≡ v };
+
+    ghost registered = { λ x y. y ≡ x };
+
+    ghost laws = { registry_laws };
+
     fn on_register_dispatch(&mut self)
         ensures { self.new ≡ self.old }
     {

@@ -4,9 +4,10 @@ ghost use Rattle.std.specs.Prelude.{IsTrue, is_some};
 
 use crate::extensions::Extensions;
 use crate::lookup::LookupSpan;
+use crate::mask::Mask;
 use crate::span_data::{Data, SpanData};
 use smallvec::SmallVec;
-use span_core::{FieldSet, FilterId, Id, Metadata, TraceError};
+use span_core::{FieldSet, Id, Metadata, TraceError};
 use std::alloc::Global;
 use std::fmt;
 
@@ -17,20 +18,21 @@ use std::fmt;
 pub struct SpanRef<'a, R> {
     subscriber: &'a R,
     data: Data<'a>,
-    mask: FilterId,
+    mask: Mask,
 }
 
 impl<'a, R> SpanRef<'a, R> {
     ghost use Rattle.std.specs.Prelude.{◌≡◌};
     ghost use Rattle.span_core.specs.Metadata.{fields_of, name_of};
     ghost use Rattle.span_registry.specs.Extensions.{shown_map};
+    ghost use Rattle.span_registry.specs.Mask.{filters_of};
     ghost use Rattle.span_registry.specs.References.{extensions_of_reference, id_of_reference, mask_of, span_of_reference, subscriber_of};
     ghost use Rattle.span_registry.specs.References.{data_extensions, data_id, data_span};
 
     /// A reference to the span with these data.
-    pub(crate) fn new(subscriber: &'a R, found: Data<'a>, mask: FilterId) -> SpanRef<'a, R>
+    pub(crate) fn new(subscriber: &'a R, found: Data<'a>, mask: Mask) -> SpanRef<'a, R>
         ensures subscriber { subscriber_of result ≡ subscriber.now }
-        ensures mask { mask_of result ≡ mask }
+        ensures mask { mask_of result ≡ filters_of mask }
         ensures id { id_of_reference result ≡ data_id found.entry }
         ensures span { span_of_reference result ≡ data_span found.entry }
         ensures extensions { extensions_of_reference result ≡ data_extensions found.entry }
@@ -81,12 +83,12 @@ impl<'a, R> SpanRef<'a, R> {
 impl<'a, R: LookupSpan> SpanRef<'a, R> {
     ghost use Rattle.std.specs.Option.{option_map};
     ghost use Rattle.std.specs.Prelude.{◌≡◌};
-    ghost use Rattle.span_core.specs.Span.{number_of};
+    ghost use Rattle.span_registry.specs.Mask.{filters_of};
     ghost use Rattle.span_registry.specs.References.{FindsNearest, parent_of_reference, reference_of, scope_of_reference, to_give};
 
     /// The span nearest to `from`, itself or above it, that the mask doesn't hide.
-    fn nearest_shown(subscriber: &'a R, from: Option<Id>, mask: FilterId) -> Option<SpanRef<'a, R>>
-        ensures { FindsNearest R.registry subscriber.now mask (option_map number_of from) result }
+    fn nearest_shown(subscriber: &'a R, from: Option<Id>, mask: Mask) -> Option<SpanRef<'a, R>>
+        ensures { FindsNearest R.registry subscriber.now (filters_of mask) from result }
     {
         let mut next = from;
         while let Some(id) = next {
@@ -125,7 +127,7 @@ impl<'a, R: LookupSpan> SpanRef<'a, R> {
 pub struct Scope<'a, R> {
     subscriber: &'a R,
     next: Option<Id>,
-    mask: FilterId,
+    mask: Mask,
 }
 
 impl<'a, R: LookupSpan> Iterator for Scope<'a, R> {
@@ -164,12 +166,12 @@ pub struct ScopeFromRoot<'a, R> {
 }
 
 impl<'a, R: LookupSpan> Scope<'a, R> {
-    ghost use Rattle.std.specs.Prelude.{◌≡◌, ◌≤◌, length, reverse, IfErr, IfOk, IsOk};
-    ghost use Rattle.span_registry.specs.References.{to_give, to_give_from_root};
+    ghost use Rattle.std.specs.Prelude.{◌≡◌, ◌≤◌, length, IfErr, IfOk, IsOk};
+    ghost use Rattle.span_registry.specs.References.{Reverses, to_give};
 
     /// The same spans from the root on. Up to 16 need no memory, and more are refused for want of memory alone.
     pub fn from_root(self, alloc: Global) -> Result<ScopeFromRoot<'a, R>, TraceError>
-        ensures reversed { IfOk result (λ r. to_give_from_root r ≡ reverse (to_give R.registry self.entry)) }
+        ensures reversed { IfOk result (Reverses R.registry self.entry) }
         ensures memory { IfErr result (λ e. e ≡ TraceError.OutOfMemory) }
         ensures short { length (to_give R.registry self.entry) ≤ 16 → IsOk result }
     {

@@ -1,13 +1,11 @@
 //! What the registry keeps of a span, and how it is written.
-ghost use Rattle.std.specs.Prelude.{◌≡◌, ◌<◌, ◌≤◌, ◌-◌, ◌↔◌, IsTrue, OnOk, OnErr, IfErr, IfSome, IsSome, None, Some};
+ghost use Rattle.std.specs.Prelude.{◌≡◌, ◌<◌, ◌≤◌, ◌↔◌, IsTrue, OnOk, OnErr, IfErr, IfSome, IsSome, None, Some};
 ghost use Rattle.std.specs.BTreeMap as tree;
-ghost use Rattle.std.specs.BTreeMap.{is_at};
-ghost use Rattle.std.specs.Map.{remove_entry};
-ghost use Rattle.std.specs.Option.{IsSomeAnd, option_map};
+ghost use Rattle.std.specs.Option.{option_map};
 ghost use Rattle.std.specs.Ordering.{nat_cmp};
 ghost use Rattle.span_core.specs.Span.{number_of};
 ghost use Rattle.span_registry.specs.Extensions.{no_values};
-ghost use Rattle.span_registry.specs.Kept.{Adds, CountsAny, CountsBelow, CountsOneChild, Writes, counts_in, more, record_of};
+ghost use Rattle.span_registry.specs.Kept.{Adds, CountsAny, CountsBelow, CountsOneChild, HasRecord, SetsAt, Writes, counts_in, entries_without, fewer, more, record_of};
 
 use crate::extensions::ExtensionMap;
 use crate::registry::Released;
@@ -97,8 +95,8 @@ pub(crate) fn set_children(records: &mut Records, id: Id, children: u32)
 pub(crate) fn take_out(records: &mut Records, id: Id) -> Option<Id>
     requires { IsSome (record_of records.old id) }
     ensures parent { option_map (λ r. r.parent) (record_of records.old id) ≡ Some result }
-    ensures updates { tree.Updates nat_cmp records.old records.new (number_of id) None }
-    ensures entries { records.new.entries ≡ remove_entry (is_at (nat_cmp (number_of id))) records.old.entries }
+    ensures updates { SetsAt id None records.old records.new }
+    ensures entries { records.new.entries ≡ entries_without id records.old.entries }
     ensures ordered { tree.IsOrdered nat_cmp records.new }
 {
     match records.remove(&id.into_u64()) {
@@ -109,10 +107,10 @@ pub(crate) fn take_out(records: &mut Records, id: Id) -> Option<Id>
 
 /// Takes a child from a span. Answers it, if it is closing by this.
 pub(crate) fn lose_child(records: &mut Records, id: Id) -> Option<Id>
-    requires { IsSomeAnd (record_of records.old id) (λ r. 0 < r.children) }
-    ensures written { Writes id (λ r. record r { children = r.children - 1 }) records.old records.new }
-    ensures closing { IfSome result (λ p. (p ≡ id) × IsSomeAnd (record_of records.old id) CountsOneChild) }
-    ensures still_open { result ≡ None → IsSomeAnd (record_of records.old id) (λ r. ¬ (CountsOneChild r)) }
+    requires { HasRecord records.old id (λ r. 0 < r.children) }
+    ensures written { Writes id fewer records.old records.new }
+    ensures closing { IfSome result (λ p. (p ≡ id) × HasRecord records.old id CountsOneChild) }
+    ensures still_open { result ≡ None → HasRecord records.old id (λ r. ¬ (CountsOneChild r)) }
 {
     let counts = counts_of(records, id)?;
     set_children(records, id, counts.children - 1);
@@ -124,7 +122,7 @@ pub(crate) fn lose_child(records: &mut Records, id: Id) -> Option<Id>
 
 /// Gives a span a child.
 fn gain_child(records: &mut Records, id: Id, count: u32)
-    requires { IsSomeAnd (record_of records.old id) (λ r. r.children < count) }
+    requires { HasRecord records.old id (λ r. r.children < count) }
     ensures { Writes id more records.old records.new }
 {
     if let Some(counts) = counts_of(records, id) {
@@ -157,7 +155,7 @@ pub(crate) fn add_span(
 /// The parent of a new span, if it can count no further child.
 pub(crate) fn full(records: &Records, parent: Option<Id>, count: u32) -> Option<Id>
     ensures same { IfSome result (λ p. parent ≡ Some p) }
-    ensures full { IfSome result (λ p. IsSomeAnd (record_of records.now p) (λ r. count ≤ r.children)) }
+    ensures full { IfSome result (λ p. HasRecord records.now p (λ r. count ≤ r.children)) }
     ensures room { result ≡ None → CountsBelow count records.now.entries parent }
 {
     let id = parent?;
@@ -178,7 +176,7 @@ pub(crate) fn add_extensions(
     id: Id,
     alloc: Global,
 ) -> Result<(), TraceError>
-    ensures ok { OnOk result (tree.Updates nat_cmp extensions.old extensions.new (number_of id) (Some no_values)) }
+    ensures ok { OnOk result (SetsAt id (Some no_values) extensions.old extensions.new) }
     ensures err { OnErr result (extensions.new.entries ≡ extensions.old.entries) }
     ensures memory { IfErr result (λ e. e ≡ TraceError.OutOfMemory) }
 {
@@ -188,7 +186,7 @@ pub(crate) fn add_extensions(
 
 /// Takes a span's extensions away.
 pub(crate) fn remove_extensions(extensions: &mut SpanExtensions, id: Id)
-    ensures { tree.Updates nat_cmp extensions.old extensions.new (number_of id) None }
+    ensures { SetsAt id None extensions.old extensions.new }
 {
     let _gone = extensions.remove(&id.into_u64());
 }

@@ -1,8 +1,11 @@
 //! What a stack is asked and notified of.
-ghost use Rattle.std.specs.Prelude.{◌≡◌, IfErr, IfOk, OnErr, OnOk};
+ghost use Rattle.std.specs.Prelude.{◌≡◌, ⊤, IfErr, IfOk, OnErr, OnOk};
 ghost use Rattle.span_core.specs.Span.{asked_parent};
-ghost use Rattle.span_registry.specs.Step.{Clones, Enters, Exits, Opens, RefusesClone, RefusesEnter, RefusesNew, ShowsCurrent, asked};
-ghost use Rattle.span_registry.specs.Subscriber.{AndHooks, SameButExtensions};
+ghost use Rattle.span_registry.specs.Answers.{OnClose, OnEnter, OnEvent, OnExit, OnFollows, OnRecord};
+ghost use Rattle.span_registry.specs.Form.{Form, is_absent, is_base, is_marked};
+ghost use Rattle.span_registry.specs.Hooks.{Notifies, AnswersEnabled, AnswersEvent, AnswersInterest, OpensAndNotifies, StackLaws, StackSteps, Stays, no_filter};
+ghost use Rattle.span_registry.specs.Question.{ShowsBy, hint_of, refusals};
+ghost use Rattle.span_registry.specs.Step.{Clones, Enters, Exits, RefusesClone, RefusesEnter, RefusesNew, ShowsCurrent};
 
 use crate::lookup::LookupSpan;
 use span_core::{
@@ -11,26 +14,51 @@ use span_core::{
 
 /// A stack: a registry, or a layer on a stack.
 ///
-/// Questions answer by the layers' filters and keep what these said in the pass. State calls go to the registry first,
-/// and then the layers are notified. A layer's hook may write extensions, and leaves the rest of the registry alone.
+/// Questions answer by the stack's form and keep what its filters said in the pass. State calls go to the registry first,
+/// and then the layers are notified: of a new span and an event as the pass says, of all else as the verdicts of spans say.
+/// A layer's hook may write extensions, and leaves the rest of the registry alone. A stack without a form may answer
+/// anything.
 ///
 /// Stands for `tracing_core::Subscriber`, with the lane and the pass handed in.
 pub trait Subscriber: LookupSpan {
-    /// Tells all layers that they are in use.
+    /// It may be asked and notified. Only one that holds a closure says more than that it always may.
+    ghost usable: { Self → Type 0 } = { λ s. ⊤ };
+
+    /// Which form it has. One that doesn't answer as a form does has none.
+    ghost has_form: { Self → Form → Type 0 };
+
+    /// How its layers go on when they are notified.
+    ghost stepped: { StackSteps Self };
+
+    /// How its layers go on when they are put in use.
+    ghost registered: { Self → Self → Type 0 };
+
+    /// Puts all layers in use.
     fn on_register_dispatch(&mut self)
-        ensures { Self.registry self.new ≡ Self.registry self.old };
+        requires { usable self.old }
+        ensures usable { usable self.new }
+        ensures registered { registered self.old self.new }
+        ensures registry { Self.registry self.new ≡ Self.registry self.old };
 
     /// Whether the stack wants what this callsite makes. The filters add their interests to the pass.
-    fn register_callsite(&self, meta: &Metadata, pass: &mut Pass) -> Interest;
+    fn register_callsite(&self, meta: &Metadata, pass: &mut Pass) -> Interest
+        requires { usable self.now }
+        ensures { AnswersInterest Self.registry has_form self.now meta.now pass.old result pass.new };
 
     /// Whether the stack wants a span or an event with this metadata. The filters' answers go into the pass.
-    fn enabled(&self, lane: Lane, meta: &Metadata, pass: &mut Pass) -> bool;
+    fn enabled(&self, lane: Lane, meta: &Metadata, pass: &mut Pass) -> bool
+        requires { usable self.now }
+        ensures { AnswersEnabled Self.registry has_form self.now lane meta.now pass.old result pass.new };
 
     /// Whether the stack wants this event, after `enabled`. The filters' answers go into the pass.
-    fn event_enabled(&self, lane: Lane, event: &Event<'_>, pass: &mut Pass) -> bool;
+    fn event_enabled(&self, lane: Lane, event: &Event<'_>, pass: &mut Pass) -> bool
+        requires { usable self.now }
+        ensures { AnswersEvent Self.registry has_form self.now lane event.now pass.old result pass.new };
 
     /// The highest level that the stack may want, if it knows one.
-    fn max_level_hint(&self) -> Option<LevelFilter>;
+    fn max_level_hint(&self) -> Option<LevelFilter>
+        requires { usable self.now }
+        ensures { ShowsBy (has_form self.now) hint_of result };
 
     /// Opens a span with one handle, and answers its id, which was never handed out before. The filters that the pass
     /// holds as refusing are its verdict.
@@ -43,38 +71,52 @@ pub trait Subscriber: LookupSpan {
         attrs: &Attributes<'_>,
         pass: &Pass,
     ) -> Result<Id, TraceError>
-        ensures opened { IfOk result (λ id. AndHooks Self.registry (Opens lane (asked attrs.now pass.now) id) self.old self.new) }
+        requires { usable self.old }
+        ensures usable { usable self.new }
+        ensures opened { IfOk result (OpensAndNotifies Self.registry has_form stepped lane attrs.now pass.now self.old self.new) }
         ensures refused { IfErr result (RefusesNew (Self.registry self.old) lane (asked_parent attrs.now)) }
         ensures unchanged { OnErr result (self.new ≡ self.old) };
 
     /// Notifies of values that a span was given later.
     fn record(&mut self, lane: Lane, id: Id, values: &Record<'_>)
-        ensures { SameButExtensions (Self.registry self.old) (Self.registry self.new) };
+        requires { usable self.old }
+        ensures usable { usable self.new }
+        ensures hooks { Notifies Self.registry has_form stepped lane no_filter (OnRecord id values.now) Stays self.old self.new };
 
     /// Notifies that a span follows from another one.
     fn record_follows_from(&mut self, lane: Lane, id: Id, follows: Id)
-        ensures { SameButExtensions (Self.registry self.old) (Self.registry self.new) };
+        requires { usable self.old }
+        ensures usable { usable self.new }
+        ensures hooks { Notifies Self.registry has_form stepped lane no_filter (OnFollows id follows) Stays self.old self.new };
 
     /// Notifies of an event.
     fn event(&mut self, lane: Lane, event: &Event<'_>, pass: &Pass)
-        ensures { SameButExtensions (Self.registry self.old) (Self.registry self.new) };
+        requires { usable self.old }
+        ensures usable { usable self.new }
+        ensures hooks { Notifies Self.registry has_form stepped lane (refusals pass.now) (OnEvent event.now) Stays self.old self.new };
 
     /// Enters a span on a lane, whether it stands there already or not.
     ///
     /// Refused where the span isn't open (`UnknownSpan`), else for want of memory.
     fn enter(&mut self, lane: Lane, id: Id) -> Result<(), TraceError>
-        ensures entered { OnOk result (AndHooks Self.registry (Enters lane id) self.old self.new) }
+        requires { usable self.old }
+        ensures usable { usable self.new }
+        ensures entered { OnOk result (Notifies Self.registry has_form stepped lane no_filter (OnEnter id) (Enters lane id) self.old self.new) }
         ensures refused { IfErr result (RefusesEnter (Self.registry self.old) id) }
         ensures unchanged { OnErr result (self.new ≡ self.old) };
 
     /// Leaves a span on a lane, whether it is open and stands there or not.
     fn exit(&mut self, lane: Lane, id: Id)
-        ensures { AndHooks Self.registry (Exits lane id) self.old self.new };
+        requires { usable self.old }
+        ensures usable { usable self.new }
+        ensures hooks { Notifies Self.registry has_form stepped lane no_filter (OnExit id) (Exits lane id) self.old self.new };
 
     /// Adds a handle, and answers the same id. The lane makes no difference, and no layer is notified.
     ///
     /// Refused where the span isn't open (`UnknownSpan`), else where its handles are at the limit (`CountFull`).
     fn clone_span(&mut self, lane: Lane, id: Id) -> Result<Id, TraceError>
+        requires { usable self.old }
+        ensures usable { usable self.new }
         ensures same { IfOk result (λ cloned. cloned ≡ id) }
         ensures cloned { OnOk result (Clones id (Self.registry self.old) (Self.registry self.new)) }
         ensures alone { self.new ≡ Self.with_registry self.old (Self.registry self.new) }
@@ -87,14 +129,22 @@ pub trait Subscriber: LookupSpan {
 
     /// Notifies that a span is closing, while it is still in the store.
     fn close_hooks(&mut self, lane: Lane, id: Id)
-        ensures { SameButExtensions (Self.registry self.old) (Self.registry self.new) };
+        requires { usable self.old }
+        ensures usable { usable self.new }
+        ensures hooks { Notifies Self.registry has_form stepped lane no_filter (OnClose id) Stays self.old self.new };
 
     /// A layer of the stack is marked: it stands under a filter of its own.
-    fn is_filtered(&self) -> bool;
+    fn is_filtered(&self) -> bool
+        ensures { ShowsBy (has_form self.now) is_marked result };
 
     /// A layer of the stack is absent.
-    fn is_absent(&self) -> bool;
+    fn is_absent(&self) -> bool
+        ensures { ShowsBy (has_form self.now) is_absent result };
 
     /// The stack is a registry alone.
-    fn is_registry(&self) -> bool;
+    fn is_registry(&self) -> bool
+        ensures { ShowsBy (has_form self.now) is_base result };
+
+    /// A notified stack keeps its form, and another registry makes no difference to it.
+    ghost laws: { StackLaws Self.with_registry usable has_form stepped registered };
 }

@@ -1,7 +1,7 @@
 //! Generic code over a subscriber, proved from the trait's contract, and each call of the trait once at a registry.
-ghost use Rattle.std.specs.Prelude.{◌≡◌, IfOk, OnOk, ℕ};
+ghost use Rattle.std.specs.Prelude.{◌≡◌, IfOk, OnOk};
 ghost use Rattle.span_core.specs.Span.{number_of};
-ghost use Rattle.span_registry.specs.Store.{handles_of, stack_of};
+ghost use Rattle.span_registry.specs.Store.{SameStacks, handles_of};
 
 use crate::{LookupSpan, Registry, Subscriber};
 use span_core::{
@@ -13,7 +13,9 @@ use std::test::Fail;
 
 /// Enters a span and leaves it at once: each lane has the stack that it had.
 fn enter_and_exit<S: Subscriber>(stack: &mut S, lane: Lane, id: Id) -> Result<(), TraceError>
-    ensures { OnOk result ((any : ℕ) → stack_of (S.registry stack.new).store.stacks any ≡ stack_of (S.registry stack.old).store.stacks any) }
+    requires { S.usable stack.old }
+    ensures usable { S.usable stack.new }
+    ensures stacks { OnOk result (SameStacks (S.registry stack.old).store (S.registry stack.new).store) }
 {
     stack.enter(lane, id)?;
     stack.exit(lane, id);
@@ -27,7 +29,9 @@ fn open_twice<S: Subscriber>(
     attrs: &Attributes<'_>,
     pass: &Pass,
 ) -> Result<Id, TraceError>
-    ensures { IfOk result (λ id. handles_of (S.registry stack.new).store.spans (number_of id) ≡ 2) }
+    requires { S.usable stack.old }
+    ensures usable { S.usable stack.new }
+    ensures handles { IfOk result (λ id. handles_of (S.registry stack.new).store.spans (number_of id) ≡ 2) }
 {
     let id = stack.new_span(lane, attrs, pass)?;
     stack.clone_span(lane, id)
@@ -38,7 +42,9 @@ fn metadata(kind: Kind) -> Metadata {
 }
 
 /// Asks a stack on which nothing was done yet every question.
-fn ask<S: Subscriber>(rt: &impl Abort, stack: &S) -> Result<(), Fail> {
+fn ask<S: Subscriber>(rt: &impl Abort, stack: &S) -> Result<(), Fail>
+    requires { S.usable stack.now }
+{
     let lane = Lane(0);
     let meta = metadata(Kind::SPAN);
     let event = Event::new(metadata(Kind::EVENT), &[]);
@@ -53,8 +59,10 @@ fn ask<S: Subscriber>(rt: &impl Abort, stack: &S) -> Result<(), Fail> {
     Ok(())
 }
 
-/// Tells a stack on which nothing was done yet everything.
-fn tell<S: Subscriber>(rt: &impl Abort, stack: &mut S) -> Result<(), Fail> {
+/// Notifies a stack on which nothing was done yet of everything.
+fn notify<S: Subscriber>(rt: &impl Abort, stack: &mut S) -> Result<(), Fail>
+    requires { S.usable stack.old }
+{
     let lane = Lane(0);
     let attrs = Attributes::new(metadata(Kind::SPAN), &[]);
     let pass = Pass::new();
@@ -86,7 +94,7 @@ fn tell<S: Subscriber>(rt: &impl Abort, stack: &mut S) -> Result<(), Fail> {
 fn a_registry_is_a_subscriber(rt: HostRuntime) -> Result<(), Fail> {
     let mut registry = Registry::new(rt.alloc());
     ask(&rt, &registry)?;
-    tell(&rt, &mut registry)
+    notify(&rt, &mut registry)
 }
 
 #[test]

@@ -1,1 +1,4 @@
+pub mod Filters
+pub mod Layers
+pub mod Stacks
 pub mod Uses

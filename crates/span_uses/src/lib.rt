@@ -12,6 +12,10 @@ ghost use Rattle.span_registry.specs.Subscriber.{SameButExtensions};
 ghost use Rattle.span_uses.specs.Uses.{Begins, DropsAndLists, IsChainOf, Lists, RemovesAndLists};
 ghost use Rattle.span_uses.specs.Uses.{left, name_in, parent_name_in, stack_in, value_in};
 
+pub mod filter;
+pub mod layer;
+pub mod stack;
+
 use span_core::{Attributes, Id, Lane, Pass, Record, TraceError};
 use span_registry::{
     ExtensionValue, LookupSpan, Registry, Released, SpanData, Subscriber, Tag, laws,
@@ -161,6 +165,8 @@ pub fn record_in<S: Subscriber>(
     id: Id,
     values: &Record<'_>,
 ) -> Result<(), TraceError>
+    requires { S.usable s.old }
+    ensures usable { S.usable s.new }
     ensures spans { (S.registry s.new).store.spans ≡ (S.registry s.old).store.spans }
     ensures stacks { (n : ℕ) → stack_in (S.registry s.new) n ≡ stack_in (S.registry s.old) n }
     ensures refused { IfErr result (RefusesEnter (S.registry s.old) id) }

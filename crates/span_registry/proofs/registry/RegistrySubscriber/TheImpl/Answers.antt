@@ -1,26 +1,47 @@
+use Rattle.std.specs.Prelude.{◌≡◌, refl}
 use Rattle.std.proofs.lemmas.Result.{IfOk-weaker}
-use Rattle.span_core.specs.declared.span.Id.{Id}
+use Rattle.span_core.specs.Filters.{FilterSet}
+use Rattle.span_core.specs.declared.span.Lane.{Lane}
+use Rattle.span_registry.specs.Answers.{Notice, OnEnter, OnNewSpan}
+use Rattle.span_registry.specs.Form.{Bare, Base}
+use Rattle.span_registry.specs.Hooks.{Notifies, OpensAndNotifies, no_filter}
+use Rattle.span_registry.specs.Plan.{Plan}
+use Rattle.span_registry.specs.Question.{refusals}
 use Rattle.span_registry.specs.Step.{Enters, Opens, asked}
 use Rattle.span_registry.specs.Store.{RegistryState}
-use Rattle.span_registry.specs.Subscriber.{AndHooks}
-use Rattle.span_registry.proofs.CallerLemmas.{no_hooks}
 use Rattle.span_registry.proofs.States.{on_ok_map}
 use Rattle.span_registry.proofs.registry.RegistrySubscriber.TheImpl.Goals as goal
+
+-- a registry alone has no layer to notify
+alone : (lane : Lane) (refused : FilterSet) (e : Notice) (step : RegistryState → RegistryState → Type 0) (old new : RegistryState) → step old new
+    → Notifies (λ (s : RegistryState). s) (λ s f. f ≡ Bare Base) (λ x (p : Plan) d l v y w. w ≡ v) lane refused e step old new
+alone lane refused e step old new h = record {
+  left = new;
+  taken = h;
+  extensions = record { spans = refl; issued = refl; stacks = refl; limits = refl; filters = refl; retired = refl };
+  notified = λ f d. refl;
+}
 
 pub new_span-tells : goal.new_span-tells
 new_span-tells c =
     let old = c.args.self.now in
     let new = c.new.self.now in
-    let step = λ (id : Id). Opens c.args.lane (asked c.args.attrs.now c.args.pass.now) id in
+    let lane = c.args.lane in
+    let attrs = c.args.attrs.now in
+    let pass = c.args.pass.now in
     record {
-      opened = IfOk-weaker c.result (λ id. step id old new) (λ id. AndHooks (λ (s : RegistryState). s) (step id) old new) (λ id o. no_hooks (step id) old new o) c.ensures.opened;
+      usable = tt;
+      opened = IfOk-weaker c.result (λ id. Opens lane (asked attrs pass) id old new)
+          (OpensAndNotifies (λ (s : RegistryState). s) (λ s f. f ≡ Bare Base) (λ x p e l v y w. w ≡ v) lane attrs pass old new)
+          (λ id o. alone lane (refusals pass) (OnNewSpan attrs id) (Opens lane (asked attrs pass) id) old new o) c.ensures.opened;
       refused = c.ensures.refused;
       unchanged = c.ensures.unchanged;
     }
 
 pub enter-tells : goal.enter-tells
 enter-tells c = record {
-  entered = on_ok_map c.result c.ensures.entered (λ e. no_hooks (Enters c.args.lane c.args.id) c.args.self.now c.new.self.now e);
+  usable = tt;
+  entered = on_ok_map c.result c.ensures.entered (λ e. alone c.args.lane no_filter (OnEnter c.args.id) (Enters c.args.lane c.args.id) c.args.self.now c.new.self.now e);
   refused = c.ensures.refused;
   unchanged = c.ensures.unchanged;
 }

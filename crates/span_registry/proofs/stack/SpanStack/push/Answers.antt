@@ -1,8 +1,7 @@
-use Rattle.std.proofs.Common.{subst, List, ◌≡◌, false}
+use Rattle.std.proofs.Common.{subst, List}
 use Rattle.span_core.specs.Span.{number_of}
 use Rattle.span_registry.specs.declared.stack.Entry.{Entry}
-use Rattle.span_registry.specs.LaneStack.{stands}
-use Rattle.span_registry.specs.Marks.{ids, IsAtLast, IsLastOf}
+use Rattle.span_registry.specs.Marks.{IsAtLast}
 use Rattle.span_registry.proofs.Marks.{marked_pushed, marked_as}
 use Rattle.span_registry.proofs.stack.SpanStack.push.Goals as goal
 

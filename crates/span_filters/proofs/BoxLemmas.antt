@@ -1,0 +1,35 @@
+-- Boxed filters keep the law, and so do the filters in their boxes.
+use mathlib.Core.List.{mem-append_right}
+use base.Fml.{Incl, Lft}
+use Rattle.std.specs.Prelude.{◌≡◌, ℕ, ◌++◌, refl}
+use Rattle.std.proofs.Common.{subst}
+use Rattle.span_core.specs.Filters.{FilterSet}
+use Rattle.span_filters.specs.Boxed.{KeepsLaw, StepsLawfully}
+use Rattle.span_filters.specs.Filter.{FilterLaws, FilterSteps}
+use Rattle.span_registry.specs.Answers.{Answers, Conduct, Notice}
+use Rattle.span_registry.specs.Store.{RegistryState}
+use Rattle.span_registry.specs.View.{view_of}
+
+-- a filter that keeps the law keeps it as an object
+pub law_kept : {F : Type 0} {has : F → Answers → Type 0} {steps : FilterSteps F} {acts : F → Conduct → Type 0} → FilterLaws has steps acts
+    → (f : F) (e : Notice) (lane : ℕ) (under : FilterSet) (v : RegistryState) (g : F) (w : RegistryState) → steps f e lane under v g w
+    → KeepsLaw has acts e (view_of v.store lane under) f g
+law_kept laws f e lane under v g w s = record {
+  answers = λ a h. let x = laws.keeps f e lane under v g w a s h in (x.0, record { answered = x.1; honest = laws.honest g x.0 x.1 }, x.2);
+  conduct = λ b h.
+      let n = laws.goes_on f e lane under v g w b h s in
+      let c = laws.now g _ n in
+      record { acted = n; plain = laws.plain g _ n; now = record { answered = c; honest = laws.honest g _ c } };
+}
+
+-- what a call of an object asks: that its type outlives the call, and what the call requires
+pub asked_of_object : {A : Type 0} (x : A) (call lives : Lft) (P : Type 0) → P → (x ≡ x) × (Incl call (call ++ lives) → Unit {0} × (Incl call lives × P))
+asked_of_object x call lives P p = (refl, λ i. (tt, ((λ a m. i a (mem-append_right call m)), p)))
+
+-- the object that was called is the one in the box: where it goes on so and keeps the law, so does the box
+pub boxed_lawfully : {I : Type 0} {V : I → Type 0} {B : Type 0} (boxed : (i : I) → V i → B) (has : B → Answers → Type 0) (inside : FilterSteps B) (acts : B → Conduct → Type 0)
+    (x y : (i : I) × V i) → x ≡ y → (e : Notice) (lane : ℕ) (under : FilterSet) (v : RegistryState) (z : V x.0) (w : RegistryState) → inside (boxed x.0 x.1) e lane under v (boxed x.0 z) w
+    → KeepsLaw (λ k. has (boxed x.0 k)) (λ k. acts (boxed x.0 k)) e (view_of v.store lane under) x.1 z → StepsLawfully has inside acts (boxed y.0 y.1) e lane under v (boxed x.0 z) w
+boxed_lawfully {I} {V} boxed has inside acts x y same e lane under v z w taken law =
+    subst (λ (p : (i : I) × V i). StepsLawfully has inside acts (boxed p.0 p.1) e lane under v (boxed x.0 z) w) same
+    (record { taken = taken; law = record { answers = law.answers; conduct = law.conduct } })

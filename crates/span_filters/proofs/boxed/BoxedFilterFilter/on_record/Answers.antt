@@ -1,0 +1,18 @@
+use Rattle.std.proofs.Common.{refl, rules, subst, sym}
+use Rattle.span_filters.specs.Boxed.{StepsInside}
+use Rattle.span_filters.proofs.BoxLemmas.{asked_of_object, boxed_lawfully}
+use Rattle.span_filters.proofs.boxed.BoxedFilterFilter.on_record.Goals as goal
+
+pub dyn_on_record-requires : goal.dyn_on_record-requires
+dyn_on_record-requires g c κs = asked_of_object _ _ _ _ (subst (λ z. (goal.DynFilter-dyn g z).dyn_usable z.1) (sym c.deref_box_mut-1.ensures.value.1) c.requires)
+
+pub returns-clause-hook : goal.returns-clause-hook
+returns-clause-hook g c =
+    let d = goal.DynFilter-dyn g in
+    let lawfully =
+    boxed_lawfully (λ i x. record c.args.self.now { object = record c.args.self.now.object { vtable = i; value = x } })
+    (λ f. (d (f.object.vtable, f.object.value)).dyn_answers f.object.value)
+    (StepsInside (λ f. (d (f.object.vtable, f.object.value)).dyn_hooked))
+    (λ f. (d (f.object.vtable, f.object.value)).dyn_acts f.object.value) _ _ c.deref_box_mut-1.ensures.value.1 _ _ _ _ _ _ (_, refl, c.dyn_on_record.ensures.1.0)
+    c.dyn_on_record.ensures.1.1.0 in
+    search (rules, lawfully)

@@ -1,0 +1,94 @@
+-- What every filter keeps: its answers are honest, its hooks keep interest and hint, and where it is plain extensions make no difference.
+use Rattle.std.specs.Prelude.{◌≡◌, ℕ, Bool, [], ◌∷◌, refl}
+use Rattle.std.proofs.Common.{ap, sym, subst}
+use Rattle.span_core.specs.Filters.{FilterSet}
+use Rattle.span_core.specs.declared.event.Event.{Event}
+use Rattle.span_core.specs.declared.metadata.Metadata.{Metadata}
+use Rattle.span_registry.specs.Answers.{Answers, AreHonest, ArePlain, Conduct, IsPlain, Notice, SameInterestAndHint}
+use Rattle.span_registry.specs.Context.{filters_lent, lane_lent, subscriber_lent}
+use Rattle.span_registry.specs.Store.{RegistryState}
+use Rattle.span_registry.specs.View.{View, view_of}
+use Rattle.span_registry.specs.declared.context.ContextMut.{ContextMut}
+
+-- the answer is what these answers give
+abbrev pub Says : {A : Type 0} → (Answers → Type 0) → (Answers → A) → A → Type 0
+Says has which answer = (a : Answers) → has a → answer ≡ which a
+
+-- whether metadata pass in this view, by whatever answers there are
+abbrev pub SaysEnabled : (Answers → Type 0) → Metadata → View → Bool → Type 0
+SaysEnabled has m v = Says has (λ a. a.enabled m v)
+
+-- whether an event passes, of which the metadata do
+abbrev pub SaysEvent : (Answers → Type 0) → Event → View → Bool → Type 0
+SaysEvent has e v = Says has (λ a. a.event e v)
+
+-- how a filter goes on when it is notified: from which filter, by which notice on which lane under which filters, it and the registry become which
+abbrev pub FilterSteps : Type 0 → Type 1
+FilterSteps F = F → Notice → ℕ → FilterSet → RegistryState → F → RegistryState → Type 0
+
+-- it stays as it is, and so does the registry
+abbrev pub unmoved : {F : Type 0} → FilterSteps F
+unmoved f e lane under v g w = (g ≡ f) × (w ≡ v)
+
+-- a filter that is notified in a context goes on so
+abbrev pub Notified : {F S : Type 0} → FilterSteps F → (S → RegistryState) → Notice → F → ContextMut S → F → ContextMut S → Type 0
+Notified hooked registry e f c g d =
+    hooked f e (lane_lent c).0 (filters_lent c) (registry (subscriber_lent c)) g (registry (subscriber_lent d))
+
+-- after a step there are answers with the same interest and hint
+abbrev pub KeepsInterestAndHint : (Answers → Type 0) → Answers → Type 0
+KeepsInterestAndHint has a = (b : Answers) × has b × SameInterestAndHint a b
+
+-- the law of every filter: its answers are honest, and its hooks keep interest and hint. Where it has a conduct it is plain: that
+-- conduct says how it now answers, and goes on with each notice
+pub record FilterLaws {F : Type 0} (has_answers : F → Answers → Type 0) (hooked : FilterSteps F) (acts : F → Conduct → Type 0) : Type 0 where
+  pub honest : (f : F) (a : Answers) → has_answers f a → AreHonest a
+  pub keeps : (f : F) (e : Notice) (lane : ℕ) (under : FilterSet) (v : RegistryState) (g : F) (w : RegistryState) (a : Answers) → hooked f e lane under v g w → has_answers f a → KeepsInterestAndHint (has_answers g) a
+  pub plain : (f : F) (b : Conduct) → acts f b → IsPlain b
+  pub now : (f : F) (b : Conduct) → acts f b → has_answers f (b [])
+  pub goes_on : (f : F) (e : Notice) (lane : ℕ) (under : FilterSet) (v : RegistryState) (g : F) (w : RegistryState) (b : Conduct) → acts f b → hooked f e lane under v g w → acts g (λ h. b ((e, view_of v.store lane under) ∷ h))
+
+-- it always answers so, and extensions make no difference to that
+pub record ActsSteadily {F : Type 0} (has : F → Answers → Type 0) (f : F) (conduct : Conduct) : Type 0 where
+  pub always : Answers
+  pub answered : has f always
+  pub plain : ArePlain always
+  pub steady : conduct ≡ (λ h. always)
+
+always_plain : (a : Answers) → ArePlain a → IsPlain (λ h. a)
+always_plain a p = record { answers = λ h. p; history = λ h k e. refl }
+
+-- a filter whose hooks do nothing keeps the law if its answers are honest
+pub still_laws : {F : Type 0} (has : F → Answers → Type 0) → ((f : F) (a : Answers) → has f a → AreHonest a) → FilterLaws has unmoved (ActsSteadily has)
+still_laws has honest = record {
+  honest = honest;
+  keeps = λ f e lane under v g w a s h. (a, subst (λ k. has k a) (sym s.0) h, record { interest = refl; hint = refl });
+  plain = λ f b h. subst IsPlain (sym h.steady) (always_plain h.always h.plain);
+  now = λ f b h. subst (λ c. has f (c [])) (sym h.steady) h.answered;
+  goes_on = λ f e lane under v g w b h s. record {
+    always = h.always;
+    answered = subst (λ k. has k h.always) (sym s.0) h.answered;
+    plain = h.plain;
+    steady = ap (λ c k. c ((e, view_of v.store lane under) ∷ k)) h.steady;
+  };
+}
+
+-- a filter whose state settles its answers
+abbrev pub settled_answers : {F : Type 0} → (F → Answers) → F → Answers → Type 0
+settled_answers answers f a = a ≡ answers f
+
+-- keeps the law if these are honest, and its hooks do nothing
+pub settled_laws : {F : Type 0} (answers : F → Answers) → ((f : F) → AreHonest (answers f)) → FilterLaws (settled_answers answers) unmoved (ActsSteadily (settled_answers answers))
+settled_laws answers honest = still_laws (settled_answers answers) (λ f a h. subst AreHonest (sym h) (honest f))
+
+-- whatever answers a filter has, it always answers so
+abbrev pub IsSteady : {F : Type 0} → (F → Answers → Type 0) → (F → Conduct → Type 0) → F → Type 0
+IsSteady has acts f = (a : Answers) → has f a → acts f (λ h. a)
+
+-- the same where these answers are plain
+abbrev pub MayBeSteady : {F : Type 0} → (F → Answers → Type 0) → (F → Conduct → Type 0) → F → Type 0
+MayBeSteady has acts f = (a : Answers) → has f a → ArePlain a → acts f (λ h. a)
+
+-- each copy of the value is the value
+abbrev pub CopiesAlike : {A : Type 0} → (A → A → Type 0) → A → Type 0
+CopiesAlike {A = A} is_clone x = (copy : A) → is_clone x copy → copy ≡ x

@@ -1,0 +1,8 @@
+pub mod Boxed
+pub mod Closure
+pub mod Combinator
+pub mod CombinatorLaws
+pub mod Filter
+pub mod Function
+pub mod Level
+pub mod Tests

@@ -1,0 +1,230 @@
+//! Boxed filters: filters whose type is picked while the program runs.
+ghost use Rattle.span_filters.specs.Boxed.{ActsPlainly, AnswersHonestly, KeepsLaw, StepsInside, StepsLawfully, itself, object_laws, replaced};
+ghost use Rattle.span_filters.specs.Filter.{FilterSteps, Notified, Says, SaysEnabled, SaysEvent};
+ghost use Rattle.span_registry.specs.Answers.{Answers, Conduct, OnClose, OnEnter, OnExit, OnNewSpan, OnRecord};
+ghost use Rattle.span_registry.specs.Context.{WritesExtensions, view_in, view_lent};
+ghost use Rattle.std.specs.Prelude.{◌≡◌};
+
+use crate::filter::Filter;
+use span_core::{Attributes, Event, Id, Interest, LevelFilter, Metadata, Record};
+use span_registry::{Context, ContextMut, LookupSpan, Registry};
+use std::fmt;
+
+/// A filter over the registry, as an object. Each `Filter<Registry>` that can be let go of is one.
+///
+/// Its clauses are those of `Filter`. An object brings no law, so each hook has what the law says of it as the clause `keeps`.
+pub trait DynFilter: Drop {
+    /// It may be asked and notified.
+    ghost dyn_usable: { Self → Type 0 };
+
+    /// What it answers, as it now is.
+    ghost dyn_answers: { Self → Answers → Type 0 };
+
+    /// How it goes on when it is notified.
+    ghost dyn_hooked: { FilterSteps Self };
+
+    /// How it will answer after each list of notices.
+    ghost dyn_acts: { Self → Conduct → Type 0 };
+
+    /// Whether it wants a span or an event with this metadata.
+    fn dyn_enabled(&self, meta: &Metadata, cx: &Context<'_, Registry>) -> bool
+        requires { dyn_usable self.now }
+        ensures { SaysEnabled (dyn_answers self.now) meta.now (view_in itself cx.now) result };
+
+    /// Its interest in what a callsite with this metadata makes.
+    fn dyn_callsite_enabled(&self, meta: &Metadata) -> Interest
+        requires { dyn_usable self.now }
+        ensures { Says (dyn_answers self.now) (λ a. a.interest meta.now) result };
+
+    /// Whether it wants this event, of which `dyn_enabled` let the metadata by.
+    fn dyn_event_enabled(&self, event: &Event<'_>, cx: &Context<'_, Registry>) -> bool
+        requires { dyn_usable self.now }
+        ensures { SaysEvent (dyn_answers self.now) event.now (view_in itself cx.now) result };
+
+    /// The highest level that it may want, if it knows one.
+    fn dyn_max_level_hint(&self) -> Option<LevelFilter>
+        requires { dyn_usable self.now }
+        ensures { Says (dyn_answers self.now) (λ a. a.hint) result };
+
+    /// Notifies of a new span.
+    fn dyn_on_new_span(
+        &mut self,
+        attrs: &Attributes<'_>,
+        id: Id,
+        ctx: &mut ContextMut<'_, Registry>,
+    )
+        requires { dyn_usable self.old }
+        ensures usable { dyn_usable self.new }
+        ensures hook { Notified dyn_hooked itself (OnNewSpan attrs.now id) self.old ctx.old self.new ctx.new }
+        ensures keeps { KeepsLaw dyn_answers dyn_acts (OnNewSpan attrs.now id) (view_lent itself ctx.old) self.old self.new }
+        ensures written { WritesExtensions itself replaced ctx.old ctx.new };
+
+    /// Notifies of values that a span was given later.
+    fn dyn_on_record(&mut self, id: Id, values: &Record<'_>, ctx: &mut ContextMut<'_, Registry>)
+        requires { dyn_usable self.old }
+        ensures usable { dyn_usable self.new }
+        ensures hook { Notified dyn_hooked itself (OnRecord id values.now) self.old ctx.old self.new ctx.new }
+        ensures keeps { KeepsLaw dyn_answers dyn_acts (OnRecord id values.now) (view_lent itself ctx.old) self.old self.new }
+        ensures written { WritesExtensions itself replaced ctx.old ctx.new };
+
+    /// Notifies that a span is entered.
+    fn dyn_on_enter(&mut self, id: Id, ctx: &mut ContextMut<'_, Registry>)
+        requires { dyn_usable self.old }
+        ensures usable { dyn_usable self.new }
+        ensures hook { Notified dyn_hooked itself (OnEnter id) self.old ctx.old self.new ctx.new }
+        ensures keeps { KeepsLaw dyn_answers dyn_acts (OnEnter id) (view_lent itself ctx.old) self.old self.new }
+        ensures written { WritesExtensions itself replaced ctx.old ctx.new };
+
+    /// Notifies that a span is left.
+    fn dyn_on_exit(&mut self, id: Id, ctx: &mut ContextMut<'_, Registry>)
+        requires { dyn_usable self.old }
+        ensures usable { dyn_usable self.new }
+        ensures hook { Notified dyn_hooked itself (OnExit id) self.old ctx.old self.new ctx.new }
+        ensures keeps { KeepsLaw dyn_answers dyn_acts (OnExit id) (view_lent itself ctx.old) self.old self.new }
+        ensures written { WritesExtensions itself replaced ctx.old ctx.new };
+
+    /// Notifies that a span is closing, while it can still be read.
+    fn dyn_on_close(&mut self, id: Id, ctx: &mut ContextMut<'_, Registry>)
+        requires { dyn_usable self.old }
+        ensures usable { dyn_usable self.new }
+        ensures hook { Notified dyn_hooked itself (OnClose id) self.old ctx.old self.new ctx.new }
+        ensures keeps { KeepsLaw dyn_answers dyn_acts (OnClose id) (view_lent itself ctx.old) self.old self.new }
+        ensures written { WritesExtensions itself replaced ctx.old ctx.new };
+}
+
+impl<F: Filter<Registry> + Drop> DynFilter for F {
+    ghost dyn_usable = { F.usable };
+
+    ghost dyn_answers = { F.has_answers };
+
+    ghost dyn_hooked = { F.hooked };
+
+    ghost dyn_acts = { F.acts };
+
+    fn dyn_enabled(&self, meta: &Metadata, cx: &Context<'_, Registry>) -> bool {
+        self.enabled(meta, cx)
+    }
+
+    fn dyn_callsite_enabled(&self, meta: &Metadata) -> Interest {
+        self.callsite_enabled(meta)
+    }
+
+    fn dyn_event_enabled(&self, event: &Event<'_>, cx: &Context<'_, Registry>) -> bool {
+        self.event_enabled(event, cx)
+    }
+
+    fn dyn_max_level_hint(&self) -> Option<LevelFilter> {
+        self.max_level_hint()
+    }
+
+    fn dyn_on_new_span(
+        &mut self,
+        attrs: &Attributes<'_>,
+        id: Id,
+        ctx: &mut ContextMut<'_, Registry>,
+    ) {
+        self.on_new_span(attrs, id, ctx);
+    }
+
+    fn dyn_on_record(&mut self, id: Id, values: &Record<'_>, ctx: &mut ContextMut<'_, Registry>) {
+        self.on_record(id, values, ctx);
+    }
+
+    fn dyn_on_enter(&mut self, id: Id, ctx: &mut ContextMut<'_, Registry>) {
+        self.on_enter(id, ctx);
+    }
+
+    fn dyn_on_exit(&mut self, id: Id, ctx: &mut ContextMut<'_, Registry>) {
+        self.on_exit(id, ctx);
+    }
+
+    fn dyn_on_close(&mut self, id: Id, ctx: &mut ContextMut<'_, Registry>) {
+        self.on_close(id, ctx);
+    }
+}
+
+/// A filter in a box, which adds nothing to it. It is a filter over each subscriber: what it is asked and notified of, the
+/// filter in the box is, over the registry that the subscriber stands on, from the same lane and under the same mask.
+///
+/// A filter of a concrete type is boxed, one without closures and without boxes. Stands for
+/// `Box<dyn tracing_subscriber::layer::Filter<S> + Send + Sync>` where that is a filter.
+#[derive(Drop)]
+pub struct BoxedFilter {
+    /// The filter in its box.
+    pub object: Box<dyn DynFilter + Send>,
+}
+
+impl BoxedFilter {
+    /// Takes a filter in its box.
+    pub fn new(object: Box<dyn DynFilter + Send>) -> BoxedFilter
+        ensures { result.object ≡ object }
+    {
+        BoxedFilter { object }
+    }
+}
+
+impl<S: LookupSpan> Filter<S> for BoxedFilter {
+    ghost usable = { λ f. (DynFilter-box f.object).dyn_usable f.object.value };
+
+    ghost has_answers = { λ f. AnswersHonestly ((DynFilter-box f.object).dyn_answers f.object.value) };
+
+    ghost hooked = { StepsLawfully (λ f. (DynFilter-box f.object).dyn_answers f.object.value) (StepsInside (λ f. (DynFilter-box f.object).dyn_hooked)) (λ f. (DynFilter-box f.object).dyn_acts f.object.value) };
+
+    ghost acts = { λ f. ActsPlainly ((DynFilter-box f.object).dyn_answers f.object.value) ((DynFilter-box f.object).dyn_acts f.object.value) };
+
+    ghost laws = { object_laws };
+
+    fn enabled(&self, meta: &Metadata, cx: &Context<'_, S>) -> bool {
+        self.object.dyn_enabled(meta, &cx.to_root())
+    }
+
+    fn callsite_enabled(&self, meta: &Metadata) -> Interest {
+        self.object.dyn_callsite_enabled(meta)
+    }
+
+    fn event_enabled(&self, event: &Event<'_>, cx: &Context<'_, S>) -> bool {
+        self.object.dyn_event_enabled(event, &cx.to_root())
+    }
+
+    fn max_level_hint(&self) -> Option<LevelFilter> {
+        self.object.dyn_max_level_hint()
+    }
+
+    fn on_new_span(&mut self, attrs: &Attributes<'_>, id: Id, ctx: &mut ContextMut<'_, S>) {
+        let mut root = ctx.take_root();
+        self.object
+            .dyn_on_new_span(attrs, id, &mut ctx.over(&mut root));
+        ctx.put_root(root);
+    }
+
+    fn on_record(&mut self, id: Id, values: &Record<'_>, ctx: &mut ContextMut<'_, S>) {
+        let mut root = ctx.take_root();
+        self.object
+            .dyn_on_record(id, values, &mut ctx.over(&mut root));
+        ctx.put_root(root);
+    }
+
+    fn on_enter(&mut self, id: Id, ctx: &mut ContextMut<'_, S>) {
+        let mut root = ctx.take_root();
+        self.object.dyn_on_enter(id, &mut ctx.over(&mut root));
+        ctx.put_root(root);
+    }
+
+    fn on_exit(&mut self, id: Id, ctx: &mut ContextMut<'_, S>) {
+        let mut root = ctx.take_root();
+        self.object.dyn_on_exit(id, &mut ctx.over(&mut root));
+        ctx.put_root(root);
+    }
+
+    fn on_close(&mut self, id: Id, ctx: &mut ContextMut<'_, S>) {
+        let mut root = ctx.take_root();
+        self.object.dyn_on_close(id, &mut ctx.over(&mut root));
+        ctx.put_root(root);
+    }
+}
+
+impl fmt::Debug for BoxedFilter {
+    fn fmt<W: fmt::Write>(&self, f: &mut fmt::Formatter<W>) -> fmt::Result {
+        f.debug_struct("BoxedFilter").finish_non_exhaustive()
+    }
+}

@@ -1,0 +1,217 @@
+//! Tests of boxed filters: a box adds nothing to the filter in it.
+ghost use Rattle.span_filters.specs.Filter.{ActsSteadily, settled_answers, settled_laws};
+ghost use Rattle.span_filters.specs.Tests.{if_answers, if_laws, in_span_answers, in_span_honest};
+ghost use Rattle.std.specs.Prelude.{◌≡◌};
+
+use crate::boxed::{BoxedFilter, DynFilter};
+use crate::combinator::{And, FilterExt, Not, Or};
+use crate::filter::Filter;
+use span_core::{
+    Attributes, Event, FieldSet, Id, Interest, Kind, Lane, Level, LevelFilter, Metadata, Pass,
+    Record,
+};
+use span_registry::{Context, ContextMut, LookupSpan, Registry, Subscriber};
+use std::test::Fail;
+
+const LANE: Lane = Lane(0);
+
+fn metadata_at(level: Level, kind: Kind) -> Metadata {
+    Metadata::new(1, "name", "tests", level, kind, FieldSet::new(&[]))
+}
+
+/// All that a filter says of an event.
+#[derive(Clone, Copy, Debug, PartialEq, Eq)]
+struct Said {
+    enabled: bool,
+    event: bool,
+    interest: Interest,
+    hint: Option<LevelFilter>,
+}
+
+/// What a filter says of an event at this level, in this context.
+fn answers_of<F: Filter<Registry>>(filter: &F, level: Level, cx: &Context<'_, Registry>) -> Said
+    requires { F.usable filter.now }
+{
+    let metadata = metadata_at(level, Kind::EVENT);
+    Said {
+        enabled: filter.enabled(&metadata, cx),
+        event: filter.event_enabled(&Event::new(metadata, &[]), cx),
+        interest: filter.callsite_enabled(&metadata),
+        hint: filter.max_level_hint(),
+    }
+}
+
+/// Info and errors.
+fn two_levels() -> Or<And<LevelFilter, Not<LevelFilter>>, LevelFilter> {
+    LevelFilter::INFO
+        .and(LevelFilter::WARN.not())
+        .or(LevelFilter::ERROR)
+}
+
+#[test]
+fn a_boxed_chain_answers_as_the_chain(rt: HostRuntime) -> Result<(), Fail> {
+    let object: Box<dyn DynFilter + Send> = Box::new(rt.alloc(), two_levels())?;
+    let boxed = BoxedFilter::new(object);
+    let nowhere: Context<'_, Registry> = Context::none();
+    for (level, wanted) in [
+        (Level::ERROR, true),
+        (Level::WARN, false),
+        (Level::INFO, true),
+        (Level::DEBUG, false),
+    ] {
+        let said = answers_of(&boxed, level, &nowhere);
+        assert_eq!(rt; said, answers_of(&two_levels(), level, &nowhere));
+        assert_eq!(rt; said.enabled, wanted);
+    }
+    assert_eq!(rt;
+        format!(in rt.alloc(); "{boxed:?}")?.as_str(),
+        "BoxedFilter { .. }"
+    );
+    Ok(())
+}
+
+#[test]
+fn a_chain_with_a_box_in_it(rt: HostRuntime) -> Result<(), Fail> {
+    let object: Box<dyn DynFilter + Send> = Box::new(rt.alloc(), LevelFilter::INFO)?;
+    let chain = BoxedFilter::new(object)
+        .not()
+        .and(LevelFilter::DEBUG)
+        .or(LevelFilter::ERROR);
+    let nowhere: Context<'_, Registry> = Context::none();
+    for (level, wanted) in [
+        (Level::ERROR, true),
+        (Level::INFO, false),
+        (Level::DEBUG, true),
+        (Level::TRACE, false),
+    ] {
+        let said = answers_of(&chain, level, &nowhere);
+        assert_eq!(rt; said.enabled, wanted);
+        assert_eq!(rt; said.interest.is_always(), wanted);
+        assert_eq!(rt; said.hint, None);
+    }
+    Ok(())
+}
+
+/// Wants what comes in a span that it sees.
+#[derive(Drop)]
+struct InSpan;
+
+impl<S: LookupSpan> Filter<S> for InSpan {
+    ghost has_answers = { settled_answers (λ f. in_span_answers) };
+
+    ghost acts = { ActsSteadily (settled_answers (λ f. in_span_answers)) };
+
+    ghost laws = { settled_laws (λ f. in_span_answers) (λ f. in_span_honest) };
+
+    fn enabled(&self, _meta: &Metadata, cx: &Context<'_, S>) -> bool {
+        cx.lookup_current().is_some()
+    }
+
+    fn callsite_enabled(&self, _meta: &Metadata) -> Interest {
+        Interest::Sometimes
+    }
+
+    fn event_enabled(&self, _event: &Event<'_>, _cx: &Context<'_, S>) -> bool {
+        true
+    }
+
+    fn max_level_hint(&self) -> Option<LevelFilter> {
+        None
+    }
+
+    fn on_new_span(&mut self, _attrs: &Attributes<'_>, _id: Id, _ctx: &mut ContextMut<'_, S>) {}
+
+    fn on_record(&mut self, _id: Id, _values: &Record<'_>, _ctx: &mut ContextMut<'_, S>) {}
+
+    fn on_enter(&mut self, _id: Id, _ctx: &mut ContextMut<'_, S>) {}
+
+    fn on_exit(&mut self, _id: Id, _ctx: &mut ContextMut<'_, S>) {}
+
+    fn on_close(&mut self, _id: Id, _ctx: &mut ContextMut<'_, S>) {}
+}
+
+#[test]
+fn a_box_sees_what_its_mask_shows(rt: HostRuntime) -> Result<(), Fail> {
+    let object: Box<dyn DynFilter + Send> = Box::new(rt.alloc(), InSpan)?;
+    let boxed = BoxedFilter::new(object);
+    let mut registry = Registry::new(rt.alloc());
+    let hiding = registry.register_filter()?;
+    let mut pass = Pass::new();
+    pass.set(hiding, false);
+    let attributes = Attributes::new_root(metadata_at(Level::INFO, Kind::SPAN), &[]);
+    let id = registry.new_span(LANE, &attributes, &pass)?;
+    registry.enter(LANE, id)?;
+
+    let all = Context::new(&registry, LANE);
+    assert!(rt; answers_of(&boxed, Level::INFO, &all).enabled);
+    let filtered = all.with_filter(hiding);
+    assert!(rt; !answers_of(&boxed, Level::INFO, &filtered).enabled);
+    Ok(())
+}
+
+/// Wants everything from the first span on that is entered, and nothing before.
+#[derive(Drop)]
+struct SinceEntered {
+    entered: bool,
+}
+
+impl<S: LookupSpan> Filter<S> for SinceEntered {
+    ghost has_answers = { settled_answers (λ f. if_answers f.entered) };
+
+    ghost hooked = { λ f e lane under v g w. w ≡ v };
+
+    ghost acts = { λ f b. ⊥ };
+
+    ghost laws = { if_laws (λ f. f.entered) };
+
+    fn enabled(&self, _meta: &Metadata, _cx: &Context<'_, S>) -> bool {
+        self.entered
+    }
+
+    fn callsite_enabled(&self, _meta: &Metadata) -> Interest {
+        Interest::Sometimes
+    }
+
+    fn event_enabled(&self, _event: &Event<'_>, _cx: &Context<'_, S>) -> bool {
+        true
+    }
+
+    fn max_level_hint(&self) -> Option<LevelFilter> {
+        None
+    }
+
+    fn on_new_span(&mut self, _attrs: &Attributes<'_>, _id: Id, _ctx: &mut ContextMut<'_, S>) {}
+
+    fn on_record(&mut self, _id: Id, _values: &Record<'_>, _ctx: &mut ContextMut<'_, S>) {}
+
+    fn on_enter(&mut self, _id: Id, _ctx: &mut ContextMut<'_, S>) {
+        self.entered = true;
+    }
+
+    fn on_exit(&mut self, _id: Id, _ctx: &mut ContextMut<'_, S>) {}
+
+    fn on_close(&mut self, _id: Id, _ctx: &mut ContextMut<'_, S>) {}
+}
+
+/// Notifies a filter that a span is entered.
+fn enters<F: Filter<Registry>>(filter: &mut F, registry: &mut Registry, id: Id)
+    requires { F.usable filter.old }
+    ensures { F.usable filter.new }
+{
+    filter.on_enter(id, &mut ContextMut::new(registry, LANE, &Pass::new()));
+}
+
+#[test]
+fn a_box_hands_a_notice_on(rt: HostRuntime) -> Result<(), Fail> {
+    let mut registry = Registry::new(rt.alloc());
+    let attributes = Attributes::new_root(metadata_at(Level::INFO, Kind::SPAN), &[]);
+    let id = registry.new_span(LANE, &attributes, &Pass::new())?;
+    let object: Box<dyn DynFilter + Send> = Box::new(rt.alloc(), SinceEntered { entered: false })?;
+    let mut boxed = BoxedFilter::new(object);
+    let nowhere: Context<'_, Registry> = Context::none();
+    assert!(rt; !answers_of(&boxed, Level::INFO, &nowhere).enabled);
+    enters(&mut boxed, &mut registry, id);
+    assert!(rt; answers_of(&boxed, Level::INFO, &nowhere).enabled);
+    assert!(rt; registry.is_open(id));
+    Ok(())
+}

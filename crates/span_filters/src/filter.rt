@@ -1,0 +1,88 @@
+//! What every filter answers, and what it is notified of.
+ghost use Rattle.std.specs.Prelude.{⊤};
+ghost use Rattle.span_filters.specs.Filter.{FilterLaws, FilterSteps, Notified, Says, SaysEnabled, SaysEvent, unmoved};
+ghost use Rattle.span_registry.specs.Answers.{Answers, Conduct, OnClose, OnEnter, OnExit, OnNewSpan, OnRecord};
+ghost use Rattle.span_registry.specs.Context.{WritesExtensions, view_in};
+
+use span_core::{Attributes, Event, Id, Interest, LevelFilter, Metadata, Record};
+use span_registry::{Context, ContextMut, LookupSpan};
+
+/// Decides which spans and events a layer is notified of, on a subscriber of the type `S`.
+///
+/// What it answers are functions of its own state, of what it is asked, and of the view that the context gives. These are
+/// honest: where its interest in a callsite is `always`, what that callsite makes passes in every view; where it is `never`,
+/// or the level is above the hint, it passes in none. Hooks keep interest and hint, and write extensions alone.
+///
+/// Stands for `tracing_subscriber::layer::Filter`, with hooks that change the filter. No method has a default body.
+pub trait Filter<S: LookupSpan> {
+    /// It may be asked and notified. Only one that holds a closure says more than that it always may.
+    ghost usable: { Self → Type 0 } = { λ f. ⊤ };
+
+    /// What it answers, as it now is.
+    ghost has_answers: { Self → Answers → Type 0 };
+
+    /// How it goes on when it is notified. By default it stays as it is, and writes nothing.
+    ghost hooked: { FilterSteps Self } = { unmoved };
+
+    /// How it will answer after each list of notices. Only a filter to which extensions make no difference has such a conduct:
+    /// it is plain.
+    ghost acts: { Self → Conduct → Type 0 };
+
+    /// Whether it wants a span or an event with this metadata.
+    fn enabled(&self, meta: &Metadata, cx: &Context<'_, S>) -> bool
+        requires { usable self.now }
+        ensures { SaysEnabled (has_answers self.now) meta.now (view_in S.registry cx.now) result };
+
+    /// Its interest in what a callsite with this metadata makes.
+    fn callsite_enabled(&self, meta: &Metadata) -> Interest
+        requires { usable self.now }
+        ensures { Says (has_answers self.now) (λ a. a.interest meta.now) result };
+
+    /// Whether it wants this event, of which `enabled` let the metadata by.
+    fn event_enabled(&self, event: &Event<'_>, cx: &Context<'_, S>) -> bool
+        requires { usable self.now }
+        ensures { SaysEvent (has_answers self.now) event.now (view_in S.registry cx.now) result };
+
+    /// The highest level that it may want, if it knows one.
+    fn max_level_hint(&self) -> Option<LevelFilter>
+        requires { usable self.now }
+        ensures { Says (has_answers self.now) (λ a. a.hint) result };
+
+    /// Notifies of a new span.
+    fn on_new_span(&mut self, attrs: &Attributes<'_>, id: Id, ctx: &mut ContextMut<'_, S>)
+        requires { usable self.old }
+        ensures usable { usable self.new }
+        ensures hook { Notified hooked S.registry (OnNewSpan attrs.now id) self.old ctx.old self.new ctx.new }
+        ensures written { WritesExtensions S.registry S.with_registry ctx.old ctx.new };
+
+    /// Notifies of values that a span was given later.
+    fn on_record(&mut self, id: Id, values: &Record<'_>, ctx: &mut ContextMut<'_, S>)
+        requires { usable self.old }
+        ensures usable { usable self.new }
+        ensures hook { Notified hooked S.registry (OnRecord id values.now) self.old ctx.old self.new ctx.new }
+        ensures written { WritesExtensions S.registry S.with_registry ctx.old ctx.new };
+
+    /// Notifies that a span is entered.
+    fn on_enter(&mut self, id: Id, ctx: &mut ContextMut<'_, S>)
+        requires { usable self.old }
+        ensures usable { usable self.new }
+        ensures hook { Notified hooked S.registry (OnEnter id) self.old ctx.old self.new ctx.new }
+        ensures written { WritesExtensions S.registry S.with_registry ctx.old ctx.new };
+
+    /// Notifies that a span is left.
+    fn on_exit(&mut self, id: Id, ctx: &mut ContextMut<'_, S>)
+        requires { usable self.old }
+        ensures usable { usable self.new }
+        ensures hook { Notified hooked S.registry (OnExit id) self.old ctx.old self.new ctx.new }
+        ensures written { WritesExtensions S.registry S.with_registry ctx.old ctx.new };
+
+    /// Notifies that a span is closing, while it can still be read.
+    fn on_close(&mut self, id: Id, ctx: &mut ContextMut<'_, S>)
+        requires { usable self.old }
+        ensures usable { usable self.new }
+        ensures hook { Notified hooked S.registry (OnClose id) self.old ctx.old self.new ctx.new }
+        ensures written { WritesExtensions S.registry S.with_registry ctx.old ctx.new };
+
+    /// Its answers are honest, hooks keep interest and hint, and it is plain where it says so.
+    ghost laws: { FilterLaws has_answers hooked acts };
+}

@@ -1,0 +1,29 @@
+//! Filters that are plain. The functions make no call: what they ensure is the law.
+ghost use Rattle.span_filters.specs.Closure.{test_plain, view_plain};
+ghost use Rattle.span_filters.specs.Filter.{IsSteady, MayBeSteady};
+ghost use Rattle.span_filters.specs.Level.{level_answers, level_plain};
+
+use crate::closure::{DynFilterFn, FilterFn};
+use crate::filter::Filter;
+use crate::function::{Function, FunctionIn};
+use span_core::{Interest, LevelFilter, Metadata};
+use span_registry::LookupSpan;
+
+/// A filter by level always answers as it does, whatever the extensions.
+pub fn levels_are_plain<S: LookupSpan>(filter: &LevelFilter)
+    ensures { ⟦<LevelFilter as Filter<S>>⟧.acts filter.now (λ h. level_answers filter.now) }
+{}
+
+/// A filter by a test of metadata always answers as it does, whatever the extensions.
+pub fn tests_are_plain<S: LookupSpan, F: Function<Metadata, bool>>(filter: &FilterFn<F>)
+    ensures { let i = ⟦<FilterFn<F> as Filter<S>>⟧ in IsSteady i.has_answers i.acts filter.now }
+{}
+
+/// A filter by a test of metadata and context does, where its answers are the same in views that differ in extensions alone.
+pub fn view_tests_may_be_plain<
+    S: LookupSpan,
+    F: FunctionIn<Metadata, S, bool>,
+    R: Function<Metadata, Interest>,
+>(filter: &DynFilterFn<F, R>)
+    ensures { let i = ⟦<DynFilterFn<F, R> as Filter<S>>⟧ in MayBeSteady i.has_answers i.acts filter.now }
+{}

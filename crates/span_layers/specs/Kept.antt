@@ -1,0 +1,140 @@
+-- Layers that are made of parts keep what they have of their forms, since their parts do.
+use Rattle.std.specs.Prelude.{◌≡◌, ℕ, Option, refl}
+use Rattle.std.proofs.Common.{sym, subst}
+use Rattle.span_core.specs.Filters.{FilterSet}
+use Rattle.span_core.specs.declared.filter.FilterId.{FilterId}
+use Rattle.span_filters.specs.Filter.{FilterLaws, FilterSteps, KeepsInterestAndHint}
+use Rattle.span_layers.specs.Filtered.{FilteredForm, FilteredSteps, Hooked, IsNumber}
+use Rattle.span_layers.specs.Layer.{LayerLaws, LayerSteps}
+use Rattle.span_layers.specs.Layered.{LayeredSteps, OverForm, PairSteps}
+use Rattle.span_registry.specs.Answers.{Answers, Conduct, Notice, OnClose, OnEnter, OnEvent, OnExit, OnFollows, OnIdChange, OnNewSpan, OnRecord}
+use Rattle.span_registry.specs.Follows.{Follows, kept_form}
+use Rattle.span_registry.specs.Form.{Bare, Filtered, Form, InPair, Joint, Leaf, OnSubscriber, Over}
+use Rattle.span_registry.specs.Hooks.{StackLaws, StackSteps, no_filter}
+use Rattle.span_registry.specs.Plan.{Both, Itself, Nobody, Plan, Through}
+use Rattle.span_registry.specs.Store.{RegistryState}
+
+-- ---- a filter round a layer
+
+module _ {F L : Type 0} {has_answers : F → Answers → Type 0} {hooked : FilterSteps F} {acts : F → Conduct → Type 0} {has_form : L → Form → Type 0} {stepped : LayerSteps L} {registered : L → L → Type 0} (own : FilterLaws has_answers hooked acts) (inside : LayerLaws has_form stepped registered) where
+  same_answers : (f g : F) (a : Answers) → g ≡ f → has_answers f a → KeepsInterestAndHint (has_answers g) a
+  same_answers f g a e h = (a, subst (λ k. has_answers k a) (sym e) h, record { interest = refl; hint = refl })
+
+  -- a filter's hooks keep interest and hint, and so do those that do nothing
+  hooks_keep : (f : F) (e : Notice) (lane : ℕ) (under : FilterSet) (v : RegistryState) (g : F) (w : RegistryState) (a : Answers) → Hooked hooked f e lane under v g w → has_answers f a → KeepsInterestAndHint (has_answers g) a
+  hooks_keep f (OnNewSpan attrs id) lane under v g w a h d = own.keeps f (OnNewSpan attrs id) lane under v g w a h d
+  hooks_keep f (OnRecord id values) lane under v g w a h d = own.keeps f (OnRecord id values) lane under v g w a h d
+  hooks_keep f (OnFollows id other) lane under v g w a h d = same_answers f g a h.0 d
+  hooks_keep f (OnEvent e) lane under v g w a h d = same_answers f g a h.0 d
+  hooks_keep f (OnEnter id) lane under v g w a h d = own.keeps f (OnEnter id) lane under v g w a h d
+  hooks_keep f (OnExit id) lane under v g w a h d = own.keeps f (OnExit id) lane under v g w a h d
+  hooks_keep f (OnIdChange id other) lane under v g w a h d = same_answers f g a h.0 d
+  hooks_keep f (OnClose id) lane under v g w a h d = own.keeps f (OnClose id) lane under v g w a h d
+
+  -- the form of what filter and layer have become
+  filtered_follows : (id k : FilterId) (g : F) (y : L) (n : Option ℕ) (a : Answers) (f : Form) → k ≡ id → IsNumber id n → KeepsInterestAndHint (has_answers g) a → Follows (has_form y) f
+      → Follows (FilteredForm k (has_answers g) (has_form y)) (Filtered n a f)
+  filtered_follows id k g y n a f same number answers form =
+      (Filtered n answers.0 form.0, (subst (λ z. IsNumber z n) (sym same) number, answers.1, form.1), (refl, answers.2, (λ h. own.honest g answers.0 answers.1), form.2))
+
+  filtered_keeps : (i : FilterId) (a : F) (x : L) (p : Plan) (e : Notice) (lane : ℕ) (under : FilterSet) (v : RegistryState) (k : FilterId) (b : F) (y : L) (w : RegistryState) (f : Form)
+      → k ≡ i → FilteredSteps hooked stepped i a x p e lane under v b y w → FilteredForm i (has_answers a) (has_form x) f → Follows (FilteredForm k (has_answers b) (has_form y)) f
+  filtered_keeps i a x Nobody e lane under v k b y w (Filtered n c f) same s h =
+      filtered_follows i k b y n c f same h.0 (same_answers a b c s.0 h.1) (f, subst (λ z. has_form z f) (sym s.1) h.2, kept_form f)
+  filtered_keeps i a x (Through p) e lane under v k b y w (Filtered n c f) same s h =
+      filtered_follows i k b y n c f same h.0 (hooks_keep a e lane _ v b s.between c s.filter h.1) (inside.keeps x p e lane _ s.between y w f s.layer h.2)
+  filtered_keeps i a x Itself e lane under v k b y w f same s h = absurd s
+  filtered_keeps i a x (Both p q) e lane under v k b y w f same s h = absurd s
+  filtered_keeps i a x p e lane under v k b y w (Leaf c) same s h = absurd h
+  filtered_keeps i a x p e lane under v k b y w (Over j o z) same s h = absurd h
+  filtered_keeps i a x p e lane under v k b y w (Bare z) same s h = absurd h
+
+  filtered_used : (i : FilterId) (a : F) (x : L) (k : FilterId) (b : F) (y : L) (f : Form) → k ≡ i → b ≡ a → registered x y → FilteredForm i (has_answers a) (has_form x) f → Follows (FilteredForm k (has_answers b) (has_form y)) f
+  filtered_used i a x k b y (Filtered n c f) same own_same used h = filtered_follows i k b y n c f same h.0 (same_answers a b c own_same h.1) (inside.put_in_use x y f used h.2)
+  filtered_used i a x k b y (Leaf c) same own_same used h = absurd h
+  filtered_used i a x k b y (Over j o z) same own_same used h = absurd h
+  filtered_used i a x k b y (Bare z) same own_same used h = absurd h
+
+  -- a filtered layer keeps the law, since its filter and its layer keep theirs
+  pub filtered_laws : {X : Type 0} (id : X → FilterId) (filter : X → F) (layer : X → L)
+      → LayerLaws (λ x. FilteredForm (id x) (has_answers (filter x)) (has_form (layer x)))
+      (λ x p e lane under v y w. (id y ≡ id x) × FilteredSteps hooked stepped (id x) (filter x) (layer x) p e lane under v (filter y) (layer y) w)
+      (λ x y. (id y ≡ id x) × (filter y ≡ filter x) × registered (layer x) (layer y))
+  filtered_laws id filter layer = record {
+    keeps = λ x p e lane under v y w f s h. filtered_keeps (id x) (filter x) (layer x) p e lane under v (id y) (filter y) (layer y) w f s.0 s.1 h;
+    put_in_use = λ x y f s h. filtered_used (id x) (filter x) (layer x) (id y) (filter y) (layer y) f s.0 s.1 s.2 h;
+  }
+
+-- ---- two layers
+
+over_follows : (joint : Joint) {outer inner : Form → Type 0} (k : Joint) (o i : Form) → k ≡ joint → Follows outer o → Follows inner i → Follows (OverForm joint outer inner) (Over k o i)
+over_follows joint k o i same s t = (Over k s.0 t.0, (same, s.1, t.1), (refl, s.2, t.2))
+
+module _ {L I : Type 0} {outer_form : L → Form → Type 0} {inner_form : I → Form → Type 0} {outer_steps : LayerSteps L} {inner_steps : LayerSteps I} {outer_used : L → L → Type 0} {inner_used : I → I → Type 0} (outer : LayerLaws outer_form outer_steps outer_used) (inner : LayerLaws inner_form inner_steps inner_used) where
+  pair_keeps : (x : L) (i : I) (p : Plan) (e : Notice) (lane : ℕ) (under : FilterSet) (v : RegistryState) (y : L) (j : I) (w : RegistryState) (f : Form)
+      → PairSteps outer_steps inner_steps x i p e lane under v y j w → OverForm InPair (outer_form x) (inner_form i) f → Follows (OverForm InPair (outer_form y) (inner_form j)) f
+  pair_keeps x i (Both p q) e lane under v y j w (Over k o z) s h =
+      over_follows InPair k o z h.0 (outer.keeps x p e lane under s.between y w o s.second h.1) (inner.keeps i q e lane under v j s.between z s.first h.2)
+  pair_keeps x i Nobody e lane under v y j w f s h = absurd s
+  pair_keeps x i Itself e lane under v y j w f s h = absurd s
+  pair_keeps x i (Through p) e lane under v y j w f s h = absurd s
+  pair_keeps x i p e lane under v y j w (Leaf a) s h = absurd h
+  pair_keeps x i p e lane under v y j w (Filtered n a f) s h = absurd h
+  pair_keeps x i p e lane under v y j w (Bare z) s h = absurd h
+
+  pair_used : (x : L) (i : I) (y : L) (j : I) (f : Form) → outer_used x y → inner_used i j → OverForm InPair (outer_form x) (inner_form i) f → Follows (OverForm InPair (outer_form y) (inner_form j)) f
+  pair_used x i y j (Over k o z) s t h = over_follows InPair k o z h.0 (outer.put_in_use x y o s h.1) (inner.put_in_use i j z t h.2)
+  pair_used x i y j (Leaf a) s t h = absurd h
+  pair_used x i y j (Filtered n a f) s t h = absurd h
+  pair_used x i y j (Bare z) s t h = absurd h
+
+  -- two layers keep the law, since each does
+  pub pair_laws : {X : Type 0} (layer : X → L) (below : X → I)
+      → LayerLaws (λ x. OverForm InPair (outer_form (layer x)) (inner_form (below x)))
+      (λ x p e lane under v y w. PairSteps outer_steps inner_steps (layer x) (below x) p e lane under v (layer y) (below y) w)
+      (λ x y. outer_used (layer x) (layer y) × inner_used (below x) (below y))
+  pair_laws layer below = record {
+    keeps = λ x p e lane under v y w f s h. pair_keeps (layer x) (below x) p e lane under v (layer y) (below y) w f s h;
+    put_in_use = λ x y f s h. pair_used (layer x) (below x) (layer y) (below y) f s.0 s.1 h;
+  }
+
+-- ---- a layer on a subscriber
+
+module _ {L I : Type 0} {with_registry : I → RegistryState → I} {inner_usable : I → Type 0} {outer_form : L → Form → Type 0} {inner_form : I → Form → Type 0} {outer_steps : LayerSteps L} {inner_steps : StackSteps I} {outer_used : L → L → Type 0} {inner_used : I → I → Type 0} (outer : LayerLaws outer_form outer_steps outer_used) (inner : StackLaws with_registry inner_usable inner_form inner_steps inner_used) where
+  stack_keeps : (x : L) (i : I) (p : Plan) (e : Notice) (lane : ℕ) (v : RegistryState) (y : L) (j : I) (w : RegistryState) (f : Form)
+      → LayeredSteps with_registry outer_steps inner_steps x i p e lane v y j w → OverForm OnSubscriber (outer_form x) (inner_form i) f → Follows (OverForm OnSubscriber (outer_form y) (inner_form j)) f
+  stack_keeps x i (Both p q) e lane v y j w (Over k o z) s h =
+      let below = inner.keeps i q e lane v s.notified s.between z s.first h.2 in
+      over_follows OnSubscriber k o z h.0 (outer.keeps x p e lane no_filter s.between y w o s.second h.1)
+      (below.0, subst (λ r. inner_form r below.0) (sym s.rest) (inner.form_with s.notified w below.0 below.1), below.2)
+  stack_keeps x i Nobody e lane v y j w f s h = absurd s
+  stack_keeps x i Itself e lane v y j w f s h = absurd s
+  stack_keeps x i (Through p) e lane v y j w f s h = absurd s
+  stack_keeps x i p e lane v y j w (Leaf a) s h = absurd h
+  stack_keeps x i p e lane v y j w (Filtered n a f) s h = absurd h
+  stack_keeps x i p e lane v y j w (Bare z) s h = absurd h
+
+  stack_used : (x : L) (i : I) (y : L) (j : I) (f : Form) → outer_used x y → inner_used i j → OverForm OnSubscriber (outer_form x) (inner_form i) f → Follows (OverForm OnSubscriber (outer_form y) (inner_form j)) f
+  stack_used x i y j (Over k o z) s t h = over_follows OnSubscriber k o z h.0 (outer.put_in_use x y o s h.1) (inner.put_in_use i j z t h.2)
+  stack_used x i y j (Leaf a) s t h = absurd h
+  stack_used x i y j (Filtered n a f) s t h = absurd h
+  stack_used x i y j (Bare z) s t h = absurd h
+
+  stack_with : (x : L) (i : I) (w : RegistryState) (f : Form) → OverForm OnSubscriber (outer_form x) (inner_form i) f → OverForm OnSubscriber (outer_form x) (inner_form (with_registry i w)) f
+  stack_with x i w (Over k o z) h = (h.0, h.1, inner.form_with i w z h.2)
+  stack_with x i w (Leaf a) h = absurd h
+  stack_with x i w (Filtered n a f) h = absurd h
+  stack_with x i w (Bare z) h = absurd h
+
+  -- a layer on a stack keeps the law, since both do
+  pub stack_laws : {X : Type 0} (outer_usable : L → Type 0) (layer : X → L) (below : X → I) (with_below : X → I → X) → ((x : X) (i : I) → layer (with_below x i) ≡ layer x) → ((x : X) (i : I) → below (with_below x i) ≡ i)
+      → StackLaws (λ x w. with_below x (with_registry (below x) w)) (λ x. outer_usable (layer x) × inner_usable (below x)) (λ x. OverForm OnSubscriber (outer_form (layer x)) (inner_form (below x)))
+      (λ x p e lane v y w. LayeredSteps with_registry outer_steps inner_steps (layer x) (below x) p e lane v (layer y) (below y) w)
+      (λ x y. outer_used (layer x) (layer y) × inner_used (below x) (below y))
+  stack_laws outer_usable layer below with_below own rest = record {
+    keeps = λ x p e lane v y w f s h. stack_keeps (layer x) (below x) p e lane v (layer y) (below y) w f s h;
+    put_in_use = λ x y f s h. stack_used (layer x) (below x) (layer y) (below y) f s.0 s.1 h;
+    form_with = λ x w f h. subst (λ l. OverForm OnSubscriber (outer_form l) (inner_form (below (with_below x (with_registry (below x) w)))) f) (sym (own x (with_registry (below x) w)))
+        (subst (λ b. OverForm OnSubscriber (outer_form (layer x)) (inner_form b) f) (sym (rest x (with_registry (below x) w))) (stack_with (layer x) (below x) w f h));
+    usable_with = λ x w h. (subst outer_usable (sym (own x (with_registry (below x) w))) h.0, subst inner_usable (sym (rest x (with_registry (below x) w))) (inner.usable_with (below x) w h.1));
+  }

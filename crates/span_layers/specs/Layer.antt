@@ -1,0 +1,56 @@
+-- How a layer is asked and notified, in a context.
+use Rattle.std.specs.Prelude.{ℕ, Bool, IfSome}
+use Rattle.span_core.specs.Filters.{FilterSet, refuses}
+use Rattle.span_core.specs.declared.event.Event.{Event}
+use Rattle.span_core.specs.declared.interest.Interest.{Interest}
+use Rattle.span_core.specs.declared.metadata.Metadata.{Metadata}
+use Rattle.span_core.specs.declared.pass.Pass.{Pass}
+use Rattle.span_registry.specs.Answers.{Notice}
+use Rattle.span_registry.specs.Context.{WritesExtensions, filters_in, filters_lent, lane_in, lane_lent, refused_lent, store_in, subscriber_in, subscriber_lent}
+use Rattle.span_registry.specs.Follows.{Follows}
+use Rattle.span_registry.specs.Form.{Form}
+use Rattle.span_registry.specs.Plan.{Plan, by_pass}
+use Rattle.span_registry.specs.Question.{AnswersBy, SumsBy, asked, event_asked, interest_of}
+use Rattle.span_registry.specs.Store.{RegistryState}
+use Rattle.span_registry.specs.declared.context.Context.{Context}
+use Rattle.span_registry.specs.declared.context.ContextMut.{ContextMut}
+
+-- layer and subscriber may be asked
+abbrev pub MayAsk : {L S : Type 0} → (L → Type 0) → (S → Type 0) → L → Context S → Type 0
+MayAsk usable inner x c = usable x × IfSome (subscriber_in c) inner
+
+-- layer and subscriber may be notified
+abbrev pub MayNotify : {L S : Type 0} → (L → Type 0) → (S → Type 0) → L → ContextMut S → Type 0
+MayNotify usable inner x c = usable x × inner (subscriber_lent c)
+
+-- whether a layer wants these metadata, in this context
+abbrev pub LayerEnabled : {L S : Type 0} → (S → RegistryState) → (L → Form → Type 0) → L → Metadata → Context S → Pass → Bool → Pass → Type 0
+LayerEnabled registry has_form x m c old answer new =
+    AnswersBy (has_form x) (λ f. asked f m (store_in registry c) (lane_in c).0 (filters_in c)) old answer new
+
+-- whether it wants this event
+abbrev pub LayerEvent : {L S : Type 0} → (S → RegistryState) → (L → Form → Type 0) → L → Event → Context S → Pass → Bool → Pass → Type 0
+LayerEvent registry has_form x e c old answer new =
+    AnswersBy (has_form x) (λ f. event_asked f e (store_in registry c) (lane_in c).0 (filters_in c)) old answer new
+
+-- its interest in what a callsite makes, however many filters the registry handed out
+abbrev pub LayerInterest : {L : Type 0} → (L → Form → Type 0) → L → Metadata → Pass → Interest → Pass → Type 0
+LayerInterest has_form x m old answer new = (filters : ℕ) → SumsBy (has_form x) (λ f. interest_of f m filters) old answer new
+
+-- how a layer goes on when it is notified: which layer by which plan of which notice, on which lane, under which filters, in which registry, becomes which, and which registry it leaves
+abbrev pub LayerSteps : Type 0 → Type 1
+LayerSteps L = L → Plan → Notice → ℕ → FilterSet → RegistryState → L → RegistryState → Type 0
+
+-- whatever form a layer has, it is notified by that form and goes on so
+abbrev pub Notified : {L S : Type 0} → (S → RegistryState) → (L → Form → Type 0) → LayerSteps L → Notice → L → ContextMut S → L → ContextMut S → Type 0
+Notified registry has_form stepped e x c y d =
+    (f : Form) → has_form x f → stepped x (by_pass f e (registry (subscriber_lent c)).store.spans (filters_lent c) (refuses (refused_lent c))) e (lane_lent c).0 (filters_lent c) (registry (subscriber_lent c)) y (registry (subscriber_lent d))
+
+-- a layer that has a form writes extensions alone: it sends no event
+abbrev pub LeavesAlone : {L S : Type 0} → (S → RegistryState) → (S → RegistryState → S) → (L → Form → Type 0) → L → ContextMut S → ContextMut S → Type 0
+LeavesAlone registry with_registry has_form x c d = (f : Form) → has_form x f → WritesExtensions registry with_registry c d
+
+-- the law of every layer: where it is notified, or put in use, it keeps what it has of its form
+pub record LayerLaws {L : Type 0} (has_form : L → Form → Type 0) (stepped : LayerSteps L) (registered : L → L → Type 0) : Type 0 where
+  pub keeps : (x : L) (p : Plan) (e : Notice) (lane : ℕ) (under : FilterSet) (v : RegistryState) (y : L) (w : RegistryState) (f : Form) → stepped x p e lane under v y w → has_form x f → Follows (has_form y) f
+  pub put_in_use : (x y : L) (f : Form) → registered x y → has_form x f → Follows (has_form y) f

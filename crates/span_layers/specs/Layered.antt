@@ -1,0 +1,58 @@
+-- An outer part over an inner one.
+use Rattle.std.specs.Prelude.{◌≡◌, ℕ}
+use Rattle.span_core.specs.Filters.{FilterSet}
+use Rattle.span_layers.specs.Layer.{LayerSteps}
+use Rattle.span_layers.specs.declared.layered.Layered.{Layered}
+use Rattle.span_registry.specs.Answers.{Notice}
+use Rattle.span_registry.specs.Form.{Form, Joint, Over}
+use Rattle.span_registry.specs.Hooks.{StackSteps, no_filter}
+use Rattle.span_registry.specs.Plan.{Both, Plan}
+use Rattle.span_registry.specs.Store.{RegistryState}
+use Rattle.span_registry.specs.Subscriber.{SameButExtensions}
+
+-- its outer part
+abbrev pub outer_of : {L I : Type 0} → Layered L I → L
+outer_of x = x.layer
+
+-- its inner part
+abbrev pub inner_of : {L I : Type 0} → Layered L I → I
+inner_of x = x.inner
+
+-- the same with another outer part
+abbrev pub with_outer : {L I : Type 0} → Layered L I → L → Layered L I
+with_outer x l = record x { layer = l }
+
+-- the same with another inner part
+abbrev pub with_inner : {L I : Type 0} → Layered L I → I → Layered L I
+with_inner x i = record x { inner = i }
+
+-- the parts of the form are these parts' forms
+abbrev pub OverForm : Joint → (Form → Type 0) → (Form → Type 0) → Form → Type 0
+OverForm joint outer inner (Over k o i) = (k ≡ joint) × outer o × inner i
+OverForm joint outer inner other = ⊥
+
+-- the inner layer is notified and writes extensions alone, and then the outer one is in what the inner one left
+pub record GoBoth {L I : Type 0} (outer : LayerSteps L) (inner : LayerSteps I) (x : L) (i : I) (p q : Plan) (e : Notice) (lane : ℕ) (under : FilterSet) (v : RegistryState) (y : L) (j : I) (w : RegistryState) : Type 0 where
+  pub between : RegistryState
+  pub extensions : SameButExtensions v between
+  pub first : inner i q e lane under v j between
+  pub second : outer x p e lane under between y w
+
+-- both layers of a pair are notified, each by its plan
+abbrev pub PairSteps : {L I : Type 0} → LayerSteps L → LayerSteps I → L → I → Plan → Notice → ℕ → FilterSet → RegistryState → L → I → RegistryState → Type 0
+PairSteps outer inner x i (Both p q) e lane under v y j w = GoBoth outer inner x i p q e lane under v y j w
+PairSteps outer inner x i other e lane under v y j w = ⊥
+
+-- the inner stack's layers are notified and write extensions alone, and then the layer on it is in what they left, whose hooks leave another registry in the inner stack and nothing else
+pub record GoUp {L I : Type 0} (with_registry : I → RegistryState → I) (outer : LayerSteps L) (inner : StackSteps I) (x : L) (i : I) (p q : Plan) (e : Notice) (lane : ℕ) (v : RegistryState) (y : L) (j : I) (w : RegistryState) : Type 0 where
+  pub between : RegistryState
+  pub notified : I
+  pub extensions : SameButExtensions v between
+  pub first : inner i q e lane v notified between
+  pub second : outer x p e lane no_filter between y w
+  pub rest : j ≡ with_registry notified w
+
+-- a stack's layers are notified, each by its plan
+abbrev pub LayeredSteps : {L I : Type 0} → (I → RegistryState → I) → LayerSteps L → StackSteps I → L → I → Plan → Notice → ℕ → RegistryState → L → I → RegistryState → Type 0
+LayeredSteps with_registry outer inner x i (Both p q) e lane v y j w = GoUp with_registry outer inner x i p q e lane v y j w
+LayeredSteps with_registry outer inner x i other e lane v y j w = ⊥

@@ -1,0 +1,10 @@
+pub mod Attach
+pub mod Filtered
+pub mod Honest
+pub mod Kept
+pub mod Layer
+pub mod Layered
+pub mod Number
+pub mod Observe
+pub mod Path
+pub mod Verdict

@@ -1,0 +1,50 @@
+-- A leaf that refuses nothing, and is notified through one method.
+use Rattle.std.specs.Prelude.{◌≡◌, ℕ, true, None}
+use Rattle.span_core.specs.Filters.{FilterSet}
+use Rattle.span_core.specs.declared.interest.Interest.TheVariants.{Always}
+use Rattle.span_layers.specs.Layer.{LayerLaws}
+use Rattle.span_layers.specs.declared.observe.Observed.TheVariants.{Close, Enter, Event, Exit, FollowsFrom, IdChange, NewSpan, Record}
+use Rattle.span_layers.specs.declared.observe.Observed.{Observed}
+use Rattle.span_layers.specs.declared.observe.Observer.{Observer}
+use Rattle.span_registry.specs.Answers.{Answers, Notice, OnClose, OnEnter, OnEvent, OnExit, OnFollows, OnIdChange, OnNewSpan, OnRecord}
+use Rattle.span_registry.specs.Context.{filters_lent, lane_lent, subscriber_lent}
+use Rattle.span_registry.specs.Follows.{kept_form}
+use Rattle.span_registry.specs.Form.{Leaf}
+use Rattle.span_registry.specs.Plan.{Plan}
+use Rattle.span_registry.specs.Store.{RegistryState}
+use Rattle.span_registry.specs.declared.context.ContextMut.{ContextMut}
+
+-- the notice that an observer is given
+abbrev pub notice_of : Observed → Notice
+notice_of (NewSpan attrs id) = OnNewSpan attrs.now id
+notice_of (Record id values) = OnRecord id values.now
+notice_of (FollowsFrom id other) = OnFollows id other
+notice_of (Event event) = OnEvent event.now
+notice_of (Enter id) = OnEnter id
+notice_of (Exit id) = OnExit id
+notice_of (IdChange id other) = OnIdChange id other
+notice_of (Close id) = OnClose id
+
+-- how an observer goes on: from which one, by which notice, on which lane, under which filters, it and the registry become which
+abbrev pub ObserverSteps : Type 0 → Type 1
+ObserverSteps T = T → Notice → ℕ → FilterSet → RegistryState → T → RegistryState → Type 0
+
+-- an observer that is notified in a context goes on so
+abbrev pub Observes : {T S : Type 0} → ObserverSteps T → (S → RegistryState) → Observed → T → ContextMut S → T → ContextMut S → Type 0
+Observes observed registry e x c y d =
+    observed x (notice_of e) (lane_lent c).0 (filters_lent c) (registry (subscriber_lent c)) y (registry (subscriber_lent d))
+
+-- the observer inside
+abbrev pub observer_of : {T : Type 0} → Observer T → T
+observer_of x = x.observer
+
+-- it refuses nothing, and is interested in everything
+abbrev pub open_answers : Answers
+open_answers = record { enabled = λ m v. true; event = λ e v. true; interest = λ m. Always; hint = None }
+
+-- whatever a leaf that refuses nothing does, it stays one
+pub open_laws : {L : Type 0} (stepped : L → Plan → Notice → ℕ → FilterSet → RegistryState → L → RegistryState → Type 0) → LayerLaws (λ x f. f ≡ Leaf open_answers) stepped (λ x y. y ≡ x)
+open_laws stepped = record {
+  keeps = λ x p e lane under v y w f s h. (f, h, kept_form f);
+  put_in_use = λ x y f s h. (f, h, kept_form f);
+}

@@ -1,0 +1,226 @@
+//! A layer under a filter.
+ghost use Rattle.std.specs.Borrow.{Lends, sem};
+ghost use Rattle.std.specs.Prelude.{◌≡◌};
+ghost use Rattle.span_layers.specs.contracts.filtered.Filtered.{the_row};
+ghost use Rattle.span_layers.specs.Filtered.{FilteredForm, FilteredSteps, IsUnnumbered, filter_of, layer_of, with_filter, with_layer};
+ghost use Rattle.span_layers.specs.Kept.{filtered_laws};
+
+use crate::layer::Layer;
+use span_core::{Attributes, Event, FilterId, Id, Interest, LevelFilter, Metadata, Pass, Record};
+use span_filters::Filter;
+use span_registry::{Context, ContextMut, Subscriber};
+
+/// A layer that is notified of what its filter passes. What the filter refuses is refused for this layer alone.
+///
+/// Stands for `tracing_subscriber::filter::Filtered`.
+#[derive(Debug, Drop)]
+pub struct Filtered<L, F> {
+    filter: F,
+    layer: L,
+    id: FilterId,
+}
+
+impl<L, F> Filtered<L, F> {
+    /// A layer under a filter that has no number yet: it is notified of nothing until a subscriber gives the filter one.
+    pub fn new(layer: L, filter: F) -> Filtered<L, F>
+        ensures { IsUnnumbered result layer filter }
+    {
+        Filtered {
+            filter,
+            layer,
+            id: FilterId::unattached(),
+        }
+    }
+
+    /// Its filter, as it now is.
+    pub fn filter(&self) -> &F
+        ensures { result.now ≡ filter_of self.now }
+    {
+        &self.filter
+    }
+
+    /// Its filter, to be changed. What the filter answers then may differ from what is kept of its answers.
+    pub fn filter_mut(&mut self) -> &mut F
+        ensures* writes_back { sem 𝓛 (Lends (the_row L.row F.row) F.row self.entry result (with_filter self.old)) }
+        ensures value { result.now ≡ filter_of self.old }
+    {
+        &mut self.filter
+    }
+
+    /// Its layer, as it now is.
+    pub fn inner(&self) -> &L
+        ensures { result.now ≡ layer_of self.now }
+    {
+        &self.layer
+    }
+
+    /// Its layer, to be changed.
+    pub fn inner_mut(&mut self) -> &mut L
+        ensures* writes_back { sem 𝓛 (Lends (the_row L.row F.row) L.row self.entry result (with_layer self.old)) }
+        ensures value { result.now ≡ layer_of self.old }
+    {
+        &mut self.layer
+    }
+}
+
+impl<S: Subscriber, L: Layer<S>, F: Filter<S>> Layer<S> for Filtered<L, F> {
+    ghost usable = { λ x. F.usable x.filter × L.usable x.layer };
+
+    ghost has_form = { λ x. FilteredForm x.id (F.has_answers x.filter) (L.has_form x.layer) };
+
+    ghost stepped = { λ x p e lane under v y w. (y.id ≡ x.id) × FilteredSteps F.hooked L.stepped x.id x.filter x.layer p e lane under v y.filter y.layer w };
+
+    ghost registered = { λ x y. (y.id ≡ x.id) × (y.filter ≡ x.filter) × L.registered x.layer y.layer };
+
+    ghost attached = { λ x y. (y.filter ≡ x.filter) × L.attached x.layer y.layer };
+
+    ghost laws = { filtered_laws F.laws L.laws (λ x. x.id) (λ x. x.filter) (λ x. x.layer) };
+
+    fn on_register_dispatch(&mut self) {
+        self.layer.on_register_dispatch();
+    }
+
+    fn on_layer(&mut self, subscriber: &mut S) {
+        if let Ok(id) = subscriber.register_filter() {
+            self.id = id;
+        }
+        self.layer.on_layer(subscriber);
+    }
+
+    fn register_callsite(&self, meta: &Metadata, pass: &mut Pass) -> Interest {
+        if self.id.is_unattached() {
+            return Interest::Always;
+        }
+        let interest = self.filter.callsite_enabled(meta);
+        if !interest.is_never() {
+            self.layer.register_callsite(meta, pass);
+        }
+        pass.add_interest(interest);
+        Interest::Always
+    }
+
+    fn enabled(&self, meta: &Metadata, ctx: &Context<'_, S>, pass: &mut Pass) -> bool {
+        if self.id.is_unattached() {
+            return true;
+        }
+        let inner = ctx.with_filter(self.id);
+        if !self.filter.enabled(meta, &inner) {
+            pass.set(self.id, false);
+            return true;
+        }
+        pass.set(self.id, true);
+        self.layer.enabled(meta, &inner, pass)
+    }
+
+    fn event_enabled(&self, event: &Event<'_>, ctx: &Context<'_, S>, pass: &mut Pass) -> bool {
+        if self.id.is_unattached() {
+            return true;
+        }
+        let inner = ctx.with_filter(self.id);
+        if !pass.refused().is_enabled(self.id) {
+            return true;
+        }
+        if !self.filter.event_enabled(event, &inner) {
+            pass.set(self.id, false);
+            return true;
+        }
+        pass.set(self.id, true);
+        self.layer.event_enabled(event, &inner, pass)
+    }
+
+    fn max_level_hint(&self) -> Option<LevelFilter> {
+        self.filter.max_level_hint()
+    }
+
+    fn filter_count(&self) -> u32 {
+        self.layer.filter_count().saturating_add(1)
+    }
+
+    fn is_filtered(&self) -> bool {
+        true // It has a filter of its own.
+    }
+
+    fn is_absent(&self) -> bool {
+        self.layer.is_absent()
+    }
+
+    fn on_new_span(&mut self, attrs: &Attributes<'_>, id: Id, ctx: &mut ContextMut<'_, S>) {
+        if ctx.refuses(self.id) {
+            return;
+        }
+        let before = ctx.narrow(self.id);
+        self.filter.on_new_span(attrs, id, ctx);
+        self.layer.on_new_span(attrs, id, ctx);
+        ctx.widen(before);
+    }
+
+    fn on_record(&mut self, id: Id, values: &Record<'_>, ctx: &mut ContextMut<'_, S>) {
+        if !ctx.is_enabled_for(id, self.id) {
+            return;
+        }
+        let before = ctx.narrow(self.id);
+        self.filter.on_record(id, values, ctx);
+        self.layer.on_record(id, values, ctx);
+        ctx.widen(before);
+    }
+
+    fn on_follows_from(&mut self, id: Id, follows: Id, ctx: &mut ContextMut<'_, S>) {
+        if !ctx.is_enabled_for(id, self.id) {
+            return;
+        }
+        if !ctx.is_enabled_for(follows, self.id) {
+            return;
+        }
+        let before = ctx.narrow(self.id);
+        self.layer.on_follows_from(id, follows, ctx);
+        ctx.widen(before);
+    }
+
+    fn on_event(&mut self, event: &Event<'_>, ctx: &mut ContextMut<'_, S>) {
+        if ctx.refuses(self.id) {
+            return;
+        }
+        let before = ctx.narrow(self.id);
+        self.layer.on_event(event, ctx);
+        ctx.widen(before);
+    }
+
+    fn on_enter(&mut self, id: Id, ctx: &mut ContextMut<'_, S>) {
+        if !ctx.is_enabled_for(id, self.id) {
+            return;
+        }
+        let before = ctx.narrow(self.id);
+        self.filter.on_enter(id, ctx);
+        self.layer.on_enter(id, ctx);
+        ctx.widen(before);
+    }
+
+    fn on_exit(&mut self, id: Id, ctx: &mut ContextMut<'_, S>) {
+        if !ctx.is_enabled_for(id, self.id) {
+            return;
+        }
+        let before = ctx.narrow(self.id);
+        self.filter.on_exit(id, ctx);
+        self.layer.on_exit(id, ctx);
+        ctx.widen(before);
+    }
+
+    fn on_id_change(&mut self, id: Id, new: Id, ctx: &mut ContextMut<'_, S>) {
+        if !ctx.is_enabled_for(id, self.id) {
+            return;
+        }
+        let before = ctx.narrow(self.id);
+        self.layer.on_id_change(id, new, ctx);
+        ctx.widen(before);
+    }
+
+    fn on_close(&mut self, id: Id, ctx: &mut ContextMut<'_, S>) {
+        if !ctx.is_enabled_for(id, self.id) {
+            return;
+        }
+        let before = ctx.narrow(self.id);
+        self.filter.on_close(id, ctx);
+        self.layer.on_close(id, ctx);
+        ctx.widen(before);
+    }
+}

@@ -1,0 +1,149 @@
+//! What a layer is asked and notified of.
+ghost use Rattle.std.specs.Prelude.{⊤, min};
+ghost use Rattle.span_layers.specs.Layer.{LayerEnabled, LayerEvent, LayerInterest, LayerLaws, LayerSteps, LeavesAlone, MayAsk, MayNotify, Notified};
+ghost use Rattle.span_layers.specs.Number.{TakesNumbers, filters_in};
+ghost use Rattle.span_registry.specs.Answers.{OnClose, OnEnter, OnEvent, OnExit, OnFollows, OnIdChange, OnNewSpan, OnRecord};
+ghost use Rattle.span_registry.specs.Context.{HandsOn};
+ghost use Rattle.span_registry.specs.Form.{Form, is_absent, is_marked};
+ghost use Rattle.span_registry.specs.Question.{ShowsBy, hint_of};
+
+use span_core::{Attributes, Event, Id, Interest, LevelFilter, Metadata, Pass, Record};
+use span_registry::{Context, ContextMut, Subscriber};
+
+/// A part of a stack, on a subscriber of the type `S`.
+///
+/// What it answers follows from its form. It is notified of a new span and of an event as the pass says, of all else as the
+/// verdicts of spans say. A hook may write extensions, and leaves the rest of the registry alone; one that sends an event has
+/// no form, and nothing is promised of its stack but that the registry stays sound.
+///
+/// Stands for `tracing_subscriber::Layer`, with hooks that change the layer. No method has a default body.
+pub trait Layer<S: Subscriber> {
+    /// It may be asked and notified. Only one that holds a closure says more than that it always may.
+    ghost usable: { Self → Type 0 } = { λ x. ⊤ };
+
+    /// Which form it has. One that doesn't answer as a form does has none.
+    ghost has_form: { Self → Form → Type 0 };
+
+    /// How it goes on when it is notified.
+    ghost stepped: { LayerSteps Self };
+
+    /// How it goes on when it is put in use.
+    ghost registered: { Self → Self → Type 0 };
+
+    /// How it goes on when it is put on a subscriber, but for its filters' numbers.
+    ghost attached: { Self → Self → Type 0 };
+
+    /// Puts it in use.
+    fn on_register_dispatch(&mut self)
+        requires { usable self.old }
+        ensures usable { usable self.new }
+        ensures registered { registered self.old self.new };
+
+    /// Gives its filters the next numbers of the registry that the subscriber stands on.
+    fn on_layer(&mut self, subscriber: &mut S)
+        requires layer { usable self.old }
+        requires subscriber { S.usable subscriber.old }
+        ensures layer { usable self.new }
+        ensures subscriber { S.usable subscriber.new }
+        ensures attached { attached self.old self.new }
+        ensures numbers { TakesNumbers S.registry S.with_registry has_form self.old subscriber.old self.new subscriber.new };
+
+    /// Its interest in what a callsite with this metadata makes. Its filters add their interests to the pass.
+    fn register_callsite(&self, meta: &Metadata, pass: &mut Pass) -> Interest
+        requires { usable self.now }
+        ensures { LayerInterest has_form self.now meta.now pass.old result pass.new };
+
+    /// Whether it wants a span or an event with this metadata. Its filters' answers go into the pass.
+    fn enabled(&self, meta: &Metadata, ctx: &Context<'_, S>, pass: &mut Pass) -> bool
+        requires { MayAsk usable S.usable self.now ctx.now }
+        ensures { LayerEnabled S.registry has_form self.now meta.now ctx.now pass.old result pass.new };
+
+    /// Whether it wants this event, after `enabled`. Its filters' answers go into the pass.
+    fn event_enabled(&self, event: &Event<'_>, ctx: &Context<'_, S>, pass: &mut Pass) -> bool
+        requires { MayAsk usable S.usable self.now ctx.now }
+        ensures { LayerEvent S.registry has_form self.now event.now ctx.now pass.old result pass.new };
+
+    /// The highest level that it may want, if it knows one.
+    fn max_level_hint(&self) -> Option<LevelFilter>
+        requires { usable self.now }
+        ensures { ShowsBy (has_form self.now) hint_of result };
+
+    /// How many filters it has, 4,294,967,295 at most.
+    fn filter_count(&self) -> u32
+        ensures { ShowsBy (has_form self.now) (λ f. min (filters_in f) u32.MAX) result };
+
+    /// It is marked: what it refuses, it refuses through filters of its own.
+    fn is_filtered(&self) -> bool
+        ensures { ShowsBy (has_form self.now) is_marked result };
+
+    /// A layer in it is absent.
+    fn is_absent(&self) -> bool
+        ensures { ShowsBy (has_form self.now) is_absent result };
+
+    /// Notifies of a new span, while it can be read.
+    fn on_new_span(&mut self, attrs: &Attributes<'_>, id: Id, ctx: &mut ContextMut<'_, S>)
+        requires { MayNotify usable S.usable self.old ctx.old }
+        ensures usable { MayNotify usable S.usable self.new ctx.new }
+        ensures rest { HandsOn S.registry ctx.old ctx.new }
+        ensures alone { LeavesAlone S.registry S.with_registry has_form self.old ctx.old ctx.new }
+        ensures hook { Notified S.registry has_form stepped (OnNewSpan attrs.now id) self.old ctx.old self.new ctx.new };
+
+    /// Notifies of values that a span was given later.
+    fn on_record(&mut self, id: Id, values: &Record<'_>, ctx: &mut ContextMut<'_, S>)
+        requires { MayNotify usable S.usable self.old ctx.old }
+        ensures usable { MayNotify usable S.usable self.new ctx.new }
+        ensures rest { HandsOn S.registry ctx.old ctx.new }
+        ensures alone { LeavesAlone S.registry S.with_registry has_form self.old ctx.old ctx.new }
+        ensures hook { Notified S.registry has_form stepped (OnRecord id values.now) self.old ctx.old self.new ctx.new };
+
+    /// Notifies that a span follows from another one.
+    fn on_follows_from(&mut self, id: Id, follows: Id, ctx: &mut ContextMut<'_, S>)
+        requires { MayNotify usable S.usable self.old ctx.old }
+        ensures usable { MayNotify usable S.usable self.new ctx.new }
+        ensures rest { HandsOn S.registry ctx.old ctx.new }
+        ensures alone { LeavesAlone S.registry S.with_registry has_form self.old ctx.old ctx.new }
+        ensures hook { Notified S.registry has_form stepped (OnFollows id follows) self.old ctx.old self.new ctx.new };
+
+    /// Notifies of an event.
+    fn on_event(&mut self, event: &Event<'_>, ctx: &mut ContextMut<'_, S>)
+        requires { MayNotify usable S.usable self.old ctx.old }
+        ensures usable { MayNotify usable S.usable self.new ctx.new }
+        ensures rest { HandsOn S.registry ctx.old ctx.new }
+        ensures alone { LeavesAlone S.registry S.with_registry has_form self.old ctx.old ctx.new }
+        ensures hook { Notified S.registry has_form stepped (OnEvent event.now) self.old ctx.old self.new ctx.new };
+
+    /// Notifies that a span is entered.
+    fn on_enter(&mut self, id: Id, ctx: &mut ContextMut<'_, S>)
+        requires { MayNotify usable S.usable self.old ctx.old }
+        ensures usable { MayNotify usable S.usable self.new ctx.new }
+        ensures rest { HandsOn S.registry ctx.old ctx.new }
+        ensures alone { LeavesAlone S.registry S.with_registry has_form self.old ctx.old ctx.new }
+        ensures hook { Notified S.registry has_form stepped (OnEnter id) self.old ctx.old self.new ctx.new };
+
+    /// Notifies that a span is left.
+    fn on_exit(&mut self, id: Id, ctx: &mut ContextMut<'_, S>)
+        requires { MayNotify usable S.usable self.old ctx.old }
+        ensures usable { MayNotify usable S.usable self.new ctx.new }
+        ensures rest { HandsOn S.registry ctx.old ctx.new }
+        ensures alone { LeavesAlone S.registry S.with_registry has_form self.old ctx.old ctx.new }
+        ensures hook { Notified S.registry has_form stepped (OnExit id) self.old ctx.old self.new ctx.new };
+
+    /// Notifies that a span's handle was cloned under another id.
+    fn on_id_change(&mut self, id: Id, new: Id, ctx: &mut ContextMut<'_, S>)
+        requires { MayNotify usable S.usable self.old ctx.old }
+        ensures usable { MayNotify usable S.usable self.new ctx.new }
+        ensures rest { HandsOn S.registry ctx.old ctx.new }
+        ensures alone { LeavesAlone S.registry S.with_registry has_form self.old ctx.old ctx.new }
+        ensures hook { Notified S.registry has_form stepped (OnIdChange id new) self.old ctx.old self.new ctx.new };
+
+    /// Notifies that a span is closing, while it can still be read.
+    fn on_close(&mut self, id: Id, ctx: &mut ContextMut<'_, S>)
+        requires { MayNotify usable S.usable self.old ctx.old }
+        ensures usable { MayNotify usable S.usable self.new ctx.new }
+        ensures rest { HandsOn S.registry ctx.old ctx.new }
+        ensures alone { LeavesAlone S.registry S.with_registry has_form self.old ctx.old ctx.new }
+        ensures hook { Notified S.registry has_form stepped (OnClose id) self.old ctx.old self.new ctx.new };
+
+    /// Where it is notified, or put in use, it keeps what it has of its form.
+    ghost laws: { LayerLaws has_form stepped registered };
+}

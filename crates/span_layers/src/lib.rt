@@ -1,0 +1,18 @@
+//! Layers: what is notified of spans and events, each under its own filters.
+#![tactic(auto)]
+
+mod attach;
+mod filtered;
+pub mod laws;
+mod layer;
+mod layered;
+mod observe;
+mod stack;
+#[cfg(test)]
+mod tests;
+
+pub use attach::{LayerExt, SubscriberExt, Unattached};
+pub use filtered::Filtered;
+pub use layer::Layer;
+pub use layered::Layered;
+pub use observe::{Observe, Observed, Observer};

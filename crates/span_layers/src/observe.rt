@@ -1,0 +1,152 @@
+//! A layer with one method: it refuses nothing, and is notified of everything through it.
+ghost use Rattle.std.specs.Prelude.{◌≡◌, ⊤};
+ghost use Rattle.span_layers.specs.Observe.{ObserverSteps, Observes, observer_of, open_answers, open_laws};
+ghost use Rattle.span_registry.specs.Context.{WritesExtensions, subscriber_lent};
+ghost use Rattle.span_registry.specs.Form.{Leaf};
+
+use crate::layer::Layer;
+use span_core::{Attributes, Event, Id, Interest, LevelFilter, Metadata, Pass, Record};
+use span_registry::{Context, ContextMut, Subscriber};
+
+/// What an observer is notified of.
+#[derive(Clone, Copy)]
+pub enum Observed<'a, 'b> {
+    /// A new span, which can be read.
+    NewSpan(&'a Attributes<'b>, Id),
+    /// Values that a span was given later.
+    Record(Id, &'a Record<'b>),
+    /// The first span follows from the second.
+    FollowsFrom(Id, Id),
+    /// An event.
+    Event(&'a Event<'b>),
+    /// A span is entered.
+    Enter(Id),
+    /// A span is left.
+    Exit(Id),
+    /// The first span's handle was cloned under the second id.
+    IdChange(Id, Id),
+    /// A span is closing, and can still be read.
+    Close(Id),
+}
+
+/// A layer that refuses nothing and writes only the method that it needs. `Observer` makes a layer of it.
+pub trait Observe<S: Subscriber> {
+    /// It may be notified. Only one that holds a closure says more than that it always may.
+    ghost usable: { Self → Type 0 } = { λ x. ⊤ };
+
+    /// How it goes on when it is notified.
+    ghost observed: { ObserverSteps Self };
+
+    /// Notifies of all that passes the filters round it.
+    fn observe(&mut self, notice: Observed<'_, '_>, ctx: &mut ContextMut<'_, S>)
+        requires own { usable self.old }
+        requires subscriber { S.usable (subscriber_lent ctx.old) }
+        ensures own { usable self.new }
+        ensures hook { Observes observed S.registry notice.entry self.old ctx.old self.new ctx.new }
+        ensures written { WritesExtensions S.registry S.with_registry ctx.old ctx.new };
+}
+
+/// An observer as a layer.
+#[derive(Debug, Drop)]
+pub struct Observer<T> {
+    observer: T,
+}
+
+impl<T> Observer<T> {
+    /// The layer of this observer.
+    pub fn new(observer: T) -> Observer<T>
+        ensures { observer_of result ≡ observer }
+    {
+        Observer { observer }
+    }
+
+    /// The observer, as it now is.
+    pub fn observer(&self) -> &T
+        ensures { result.now ≡ observer_of self.now }
+    {
+        &self.observer
+    }
+}
+
+impl<S: Subscriber, T: Observe<S>> Layer<S> for Observer<T> {
+    ghost usable = { λ x. T.usable x.observer };
+
+    ghost has_form = { λ x f. f ≡ Leaf open_answers };
+
+    ghost stepped = { λ x p e lane under v y w. T.observed x.observer e lane under v y.observer w };
+
+    ghost registered = { λ x y. y ≡ x };
+
+    ghost attached = { λ x y. y ≡ x };
+
+    ghost laws = { open_laws (λ x p e lane under v y w. T.observed x.observer e lane under v y.observer w) };
+
+    fn on_register_dispatch(&mut self) {
+        // It has nothing to do.
+    }
+
+    fn on_layer(&mut self, _subscriber: &mut S) {
+        // It has no filter.
+    }
+
+    fn register_callsite(&self, _meta: &Metadata, _pass: &mut Pass) -> Interest {
+        Interest::Always
+    }
+
+    fn enabled(&self, _meta: &Metadata, _ctx: &Context<'_, S>, _pass: &mut Pass) -> bool {
+        true // It refuses nothing.
+    }
+
+    fn event_enabled(&self, _event: &Event<'_>, _ctx: &Context<'_, S>, _pass: &mut Pass) -> bool {
+        true // It refuses no event.
+    }
+
+    fn max_level_hint(&self) -> Option<LevelFilter> {
+        None
+    }
+
+    fn filter_count(&self) -> u32 {
+        0
+    }
+
+    fn is_filtered(&self) -> bool {
+        false // No filter is its own.
+    }
+
+    fn is_absent(&self) -> bool {
+        false // It is there.
+    }
+
+    fn on_new_span(&mut self, attrs: &Attributes<'_>, id: Id, ctx: &mut ContextMut<'_, S>) {
+        self.observer.observe(Observed::NewSpan(attrs, id), ctx);
+    }
+
+    fn on_record(&mut self, id: Id, values: &Record<'_>, ctx: &mut ContextMut<'_, S>) {
+        self.observer.observe(Observed::Record(id, values), ctx);
+    }
+
+    fn on_follows_from(&mut self, id: Id, follows: Id, ctx: &mut ContextMut<'_, S>) {
+        self.observer
+            .observe(Observed::FollowsFrom(id, follows), ctx);
+    }
+
+    fn on_event(&mut self, event: &Event<'_>, ctx: &mut ContextMut<'_, S>) {
+        self.observer.observe(Observed::Event(event), ctx);
+    }
+
+    fn on_enter(&mut self, id: Id, ctx: &mut ContextMut<'_, S>) {
+        self.observer.observe(Observed::Enter(id), ctx);
+    }
+
+    fn on_exit(&mut self, id: Id, ctx: &mut ContextMut<'_, S>) {
+        self.observer.observe(Observed::Exit(id), ctx);
+    }
+
+    fn on_id_change(&mut self, id: Id, new: Id, ctx: &mut ContextMut<'_, S>) {
+        self.observer.observe(Observed::IdChange(id, new), ctx);
+    }
+
+    fn on_close(&mut self, id: Id, ctx: &mut ContextMut<'_, S>) {
+        self.observer.observe(Observed::Close(id), ctx);
+    }
+}

@@ -1,0 +1,390 @@
+//! Tests of stacks, as a program drives them, with layers that keep what they are notified of.
+ghost use Rattle.std.specs.Prelude.{⊤};
+ghost use Rattle.span_registry.specs.Context.{WritesExtensions};
+
+use crate::{Filtered, Layer, LayerExt, Layered, Observe, Observed, Observer, SubscriberExt};
+use span_core::{
+    Attributes, Event, FieldSet, Id, Kind, Lane, Level, LevelFilter, Metadata, Pass, Record,
+    TraceError,
+};
+use span_registry::{Context, ContextMut, LookupSpan, Registry, Subscriber, Tag};
+use std::alloc::Global;
+use std::test::Fail;
+
+const LANE: Lane = Lane(0);
+
+/// What a watcher saw.
+#[derive(Clone, Copy, Debug, PartialEq, Eq)]
+enum Seen {
+    /// A new span; its scope follows, leaf first.
+    NewSpan(Id),
+    /// An event; the scope of its span follows, leaf first.
+    Event,
+    /// A span of a scope.
+    InScope(Id),
+    /// A span is entered.
+    Enter(Id),
+    /// A span is left.
+    Exit(Id),
+    /// A span has values.
+    Record(Id),
+    /// The first follows from the second.
+    Follows(Id, Id),
+    /// A span is closing, and was found.
+    Close(Id),
+    /// A span is closing, and was not found.
+    CloseUnseen(Id),
+}
+
+/// Keeps what it sees, as far as there is memory.
+#[derive(Drop)]
+struct Watcher {
+    seen: Vec<Seen>,
+}
+
+impl Watcher {
+    fn keep(&mut self, seen: Seen) {
+        let _ = self.seen.push(seen);
+    }
+}
+
+impl<S: Subscriber> Observe<S> for Watcher {
+    ghost observed = { λ x e lane under v y w. ⊤ };
+
+    fn observe(&mut self, notice: Observed<'_, '_>, ctx: &mut ContextMut<'_, S>) {
+        match notice {
+            Observed::NewSpan(_, id) => {
+                self.keep(Seen::NewSpan(id));
+                if let Some(scope) = ctx.ctx().span_scope(id) {
+                    for span in scope {
+                        self.keep(Seen::InScope(span.id()));
+                    }
+                }
+            }
+            Observed::Event(event) => {
+                self.keep(Seen::Event);
+                if let Some(scope) = ctx.ctx().event_scope(event) {
+                    for span in scope {
+                        self.keep(Seen::InScope(span.id()));
+                    }
+                }
+            }
+            Observed::Enter(id) => self.keep(Seen::Enter(id)),
+            Observed::Exit(id) => self.keep(Seen::Exit(id)),
+            Observed::Record(id, _) => self.keep(Seen::Record(id)),
+            Observed::FollowsFrom(id, other) => self.keep(Seen::Follows(id, other)),
+            Observed::IdChange(_, _) => {}
+            Observed::Close(id) => {
+                if ctx.ctx().span(id).is_some() {
+                    self.keep(Seen::Close(id));
+                } else {
+                    self.keep(Seen::CloseUnseen(id));
+                }
+            }
+        }
+    }
+}
+
+fn new_watcher(alloc: Global) -> Observer<Watcher> {
+    Observer::new(Watcher {
+        seen: Vec::new(alloc),
+    })
+}
+
+/// Adds one to a number in the extensions of each event's span.
+#[derive(Drop)]
+struct Marker {
+    tag: Tag<u64>,
+}
+
+impl<S: Subscriber> Observe<S> for Marker {
+    ghost observed = { λ x e lane under v y w. ⊤ };
+
+    fn observe(&mut self, notice: Observed<'_, '_>, ctx: &mut ContextMut<'_, S>) {
+        let Observed::Event(event) = notice else {
+            return;
+        };
+        let Some(id) = span_of(event, ctx) else {
+            return;
+        };
+        mark(self.tag, id, ctx);
+    }
+}
+
+fn span_of<S: Subscriber>(event: &Event<'_>, ctx: &ContextMut<'_, S>) -> Option<Id> {
+    match ctx.ctx().event_span(event) {
+        Some(span) => Some(span.id()),
+        None => None,
+    }
+}
+
+/// Adds one to the number under this tag, as far as there is memory.
+fn mark<S: Subscriber>(tag: Tag<u64>, id: Id, ctx: &mut ContextMut<'_, S>)
+    ensures { WritesExtensions S.registry S.with_registry ctx.old ctx.new }
+{
+    let Some(mut extensions) = ctx.extensions_mut(id) else {
+        return;
+    };
+    let count = match extensions.get_mut(tag) {
+        Some(count) => count.saturating_add(1),
+        None => 1,
+    };
+    let _ = extensions.replace(tag, count);
+}
+
+/// The number under this tag of a span's extensions.
+fn marks<S: LookupSpan>(stack: &S, tag: Tag<u64>, id: Id) -> Option<u64> {
+    let span = stack.span(id)?;
+    span.extensions().get(tag).copied()
+}
+
+/// An open watcher, and outside it one under INFO.
+type TwoWatchers = Layered<
+    Filtered<Observer<Watcher>, LevelFilter>,
+    Layered<Observer<Watcher>, Registry>,
+>;
+
+fn two_watchers(alloc: Global) -> Result<TwoWatchers, Fail> {
+    let under_info = new_watcher(alloc).with_filter(LevelFilter::INFO);
+    let Ok(stack) = Registry::new(alloc).with(new_watcher(alloc)) else {
+        return Err(Fail::from("there is no room"));
+    };
+    match stack.with(under_info) {
+        Ok(stack) => Ok(stack),
+        Err(_) => Err(Fail::from("there is no room")),
+    }
+}
+
+fn metadata_of(level: Level, kind: Kind) -> Metadata {
+    Metadata::new(1, "made", "tests", level, kind, FieldSet::new(&[]))
+}
+
+/// Opens a span, as a dispatcher that keeps nothing does: in a parent, or a root. Fails where a layer vetoes.
+fn open<S: Subscriber>(stack: &mut S, level: Level, parent: Option<Id>) -> Result<Id, Fail>
+    requires { S.usable stack.old }
+    ensures { S.usable stack.new }
+{
+    let metadata = metadata_of(level, Kind::SPAN);
+    let attributes = match parent {
+        Some(id) => Attributes::child_of(id, metadata, &[]),
+        None => Attributes::new_root(metadata, &[]),
+    };
+    let mut pass = Pass::new();
+    if !stack.enabled(LANE, &metadata, &mut pass) {
+        return Err(Fail::from("a layer vetoes"));
+    }
+    Ok(stack.new_span(LANE, &attributes, &pass)?)
+}
+
+/// Sends an event in a span. True where no layer vetoes.
+fn send<S: Subscriber>(stack: &mut S, level: Level, span: Id) -> bool
+    requires { S.usable stack.old }
+    ensures { S.usable stack.new }
+{
+    let metadata = metadata_of(level, Kind::EVENT);
+    let event = Event::new_child_of(span, metadata, &[]);
+    let mut pass = Pass::new();
+    if !stack.enabled(LANE, &metadata, &mut pass) {
+        return false;
+    }
+    if !stack.event_enabled(LANE, &event, &mut pass) {
+        return false;
+    }
+    stack.event(LANE, &event, &pass);
+    true
+}
+
+#[test]
+fn one_layers_filter_hides_nothing_from_another(rt: HostRuntime) -> Result<(), Fail> {
+    let mut stack = two_watchers(rt.alloc())?;
+    let root = open(&mut stack, Level::INFO, None)?;
+    let child = open(&mut stack, Level::DEBUG, Some(root))?;
+    let leaf = open(&mut stack, Level::INFO, Some(child))?;
+    assert!(rt; send(&mut stack, Level::INFO, child));
+    let filtered = stack.layer().inner().observer();
+    let open = stack.inner().layer().observer();
+    assert_eq!(rt;
+        filtered.seen.as_slice(),
+        [
+            Seen::NewSpan(root),
+            Seen::InScope(root),
+            Seen::NewSpan(leaf),
+            Seen::InScope(leaf),
+            Seen::InScope(root),
+            Seen::Event,
+        ]
+        .as_slice()
+    );
+    assert_eq!(rt;
+        open.seen.as_slice(),
+        [
+            Seen::NewSpan(root),
+            Seen::InScope(root),
+            Seen::NewSpan(child),
+            Seen::InScope(child),
+            Seen::InScope(root),
+            Seen::NewSpan(leaf),
+            Seen::InScope(leaf),
+            Seen::InScope(child),
+            Seen::InScope(root),
+            Seen::Event,
+            Seen::InScope(child),
+            Seen::InScope(root),
+        ]
+        .as_slice()
+    );
+    Ok(())
+}
+
+/// Notifies a stack of the first span, and that the second follows from it, and from itself.
+fn notify<S: Subscriber>(stack: &mut S, span: Id, other: Id) -> Result<(), TraceError>
+    requires { S.usable stack.old }
+    ensures { S.usable stack.new }
+{
+    stack.enter(LANE, span)?;
+    stack.record(LANE, span, &Record::new(&[]));
+    stack.record_follows_from(LANE, other, span);
+    stack.exit(LANE, span);
+    stack.record(LANE, other, &Record::new(&[]));
+    stack.record_follows_from(LANE, other, other);
+    stack.close_hooks(LANE, span);
+    Ok(())
+}
+
+#[test]
+fn a_hidden_span_is_hidden_from_its_layer_alone(rt: HostRuntime) -> Result<(), Fail> {
+    let mut stack = two_watchers(rt.alloc())?;
+    let shown = open(&mut stack, Level::INFO, None)?;
+    let hidden = open(&mut stack, Level::DEBUG, None)?;
+    notify(&mut stack, hidden, shown)?;
+    let filtered = stack.layer().inner().observer();
+    assert_eq!(rt;
+        filtered.seen.as_slice(),
+        [
+            Seen::NewSpan(shown),
+            Seen::InScope(shown),
+            Seen::Record(shown),
+            Seen::Follows(shown, shown),
+        ]
+        .as_slice()
+    );
+    let open = stack.inner().layer().observer();
+    assert_eq!(rt;
+        open.seen.as_slice(),
+        [
+            Seen::NewSpan(shown),
+            Seen::InScope(shown),
+            Seen::NewSpan(hidden),
+            Seen::InScope(hidden),
+            Seen::Enter(hidden),
+            Seen::Record(hidden),
+            Seen::Follows(shown, hidden),
+            Seen::Exit(hidden),
+            Seen::Record(shown),
+            Seen::Follows(shown, shown),
+            Seen::Close(hidden),
+        ]
+        .as_slice()
+    );
+    Ok(())
+}
+
+#[test]
+fn every_layer_sees_a_closing_span(rt: HostRuntime) -> Result<(), Fail> {
+    let pair = new_watcher(rt.alloc()).and_then(new_watcher(rt.alloc()));
+    let Ok(stack) = Registry::new(rt.alloc()).with(pair) else {
+        return Err(Fail::from("there is no room"));
+    };
+    let Ok(mut stack) = new_watcher(rt.alloc()).with_subscriber(stack) else {
+        return Err(Fail::from("there is no room"));
+    };
+    stack.on_register_dispatch();
+    let id = open(&mut stack, Level::TRACE, None)?;
+    stack.close_hooks(LANE, id);
+    let closed = Some(Seen::Close(id));
+    assert_eq!(rt; stack.layer().observer().seen.last().copied(), closed);
+    let pair = stack.inner().layer();
+    assert_eq!(rt; pair.layer().observer().seen.last().copied(), closed);
+    assert_eq!(rt; pair.inner().observer().seen.last().copied(), closed);
+    Ok(())
+}
+
+#[test]
+fn a_registry_has_room_for_64_filters(rt: HostRuntime) -> Result<(), Fail> {
+    let mut registry = Registry::new(rt.alloc());
+    for _ in 0..64 {
+        registry.register_filter()?;
+    }
+    let layer = new_watcher(rt.alloc()).with_filter(LevelFilter::INFO);
+    let Err(back) = registry.with(layer) else {
+        return Err(Fail::from("a 65th filter got a number"));
+    };
+    assert_eq!(rt; back.error, TraceError::TooManyFilters);
+    assert_eq!(rt; back.subscriber.filters(), 64);
+    assert_eq!(rt; *back.layer.filter(), LevelFilter::INFO);
+    let Ok(stack) = back.subscriber.with(new_watcher(rt.alloc())) else {
+        return Err(Fail::from("a layer without filters needs no number"));
+    };
+    assert_eq!(rt; stack.inner().filters(), 64);
+    Ok(())
+}
+
+#[test]
+fn an_unattached_filter_keeps_everything_from_its_layer(rt: HostRuntime) -> Result<(), Fail> {
+    let mut registry = Registry::new(rt.alloc());
+    let mut layer = Filtered::new(new_watcher(rt.alloc()), LevelFilter::TRACE);
+    let metadata = metadata_of(Level::ERROR, Kind::EVENT);
+    let event = Event::new(metadata, &[]);
+    let mut pass = Pass::new();
+    assert!(rt; layer.enabled(&metadata, &Context::new(&registry, LANE), &mut pass));
+    assert!(rt; layer.event_enabled(&event, &Context::new(&registry, LANE), &mut pass));
+    layer.on_event(&event, &mut ContextMut::new(&mut registry, LANE, &pass));
+    assert!(rt; layer.inner().observer().seen.as_slice().is_empty());
+    Ok(())
+}
+
+#[test]
+fn nested_filters_must_all_pass(rt: HostRuntime) -> Result<(), Fail> {
+    let layer = new_watcher(rt.alloc())
+        .with_filter(LevelFilter::TRACE)
+        .with_filter(LevelFilter::INFO)
+        .with_filter(LevelFilter::DEBUG);
+    let Ok(mut stack) = Registry::new(rt.alloc()).with(layer) else {
+        return Err(Fail::from("there is no room"));
+    };
+    assert_eq!(rt; stack.root().filters(), 3);
+    let id = open(&mut stack, Level::INFO, None)?;
+    assert!(rt; send(&mut stack, Level::TRACE, id));
+    assert!(rt; send(&mut stack, Level::DEBUG, id));
+    assert!(rt; send(&mut stack, Level::INFO, id));
+    let seen = &stack.layer().inner().inner().inner().observer().seen;
+    assert_eq!(rt;
+        seen.as_slice(),
+        [
+            Seen::NewSpan(id),
+            Seen::InScope(id),
+            Seen::Event,
+            Seen::InScope(id),
+        ]
+        .as_slice()
+    );
+    Ok(())
+}
+
+#[test]
+fn hooks_write_extensions_under_their_filters(rt: HostRuntime) -> Result<(), Fail> {
+    let (all, few) = (Tag::new(0), Tag::new(1));
+    let pair = Observer::new(Marker { tag: few })
+        .with_filter(LevelFilter::INFO)
+        .and_then(Observer::new(Marker { tag: all }).with_filter(LevelFilter::DEBUG));
+    let Ok(mut stack) = Registry::new(rt.alloc()).with(pair) else {
+        return Err(Fail::from("there is no room"));
+    };
+    let id = open(&mut stack, Level::INFO, None)?;
+    assert!(rt; send(&mut stack, Level::INFO, id));
+    assert!(rt; send(&mut stack, Level::DEBUG, id));
+    assert!(rt; send(&mut stack, Level::TRACE, id));
+    assert_eq!(rt; marks(&stack, all, id), Some(2));
+    assert_eq!(rt; marks(&stack, few, id), Some(1));
+    Ok(())
+}

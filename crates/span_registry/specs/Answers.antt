@@ -1,0 +1,78 @@
+-- What a filter answers, as functions of what it is asked and of the view that it is asked in; when that is honest, and when plain.
+use Rattle.std.specs.Prelude.{◌≡◌, ⊤, ℕ, Bool, true, false, List, [], ◌∷◌, Option, None}
+use Rattle.std.specs.FinMap.{get}
+use Rattle.std.specs.Option.{option_map}
+use Rattle.span_core.specs.Level.{is_above}
+use Rattle.span_core.specs.Metadata.{level_of}
+use Rattle.span_core.specs.declared.event.Event.{Event}
+use Rattle.span_core.specs.declared.interest.Interest.TheVariants.{Always, Never}
+use Rattle.span_core.specs.declared.interest.Interest.{Interest}
+use Rattle.span_core.specs.declared.level.LevelFilter.{LevelFilter}
+use Rattle.span_core.specs.declared.metadata.Metadata.{Metadata}
+use Rattle.span_core.specs.declared.span.Attributes.{Attributes}
+use Rattle.span_core.specs.declared.span.Id.{Id}
+use Rattle.span_core.specs.declared.span.Record.{Record}
+use Rattle.span_registry.specs.View.{SeenSpan, View}
+
+-- whether metadata pass; whether an event passes, where its metadata do; the interest in a callsite; the hint
+pub record Answers : Type 0 where
+  pub enabled : Metadata → View → Bool
+  pub event : Event → View → Bool
+  pub interest : Metadata → Interest
+  pub hint : Option LevelFilter
+
+-- an interest of always: passes in every view; of never, or a level above the hint: in none
+pub record AreHonest (a : Answers) : Type 0 where
+  pub always : (m : Metadata) (v : View) → a.interest m ≡ Always → a.enabled m v ≡ true
+  pub never : (m : Metadata) (v : View) → a.interest m ≡ Never → a.enabled m v ≡ false
+  pub above : (m : Metadata) (v : View) → is_above (level_of m) a.hint ≡ true → a.enabled m v ≡ false
+
+-- the two have the same interest and the same hint
+pub record SameInterestAndHint (a b : Answers) : Type 0 where
+  pub interest : b.interest ≡ a.interest
+  pub hint : b.hint ≡ a.hint
+
+-- a span as it is seen, its extensions left out
+abbrev pub unextended : SeenSpan → SeenSpan
+unextended r = record r { extensions = None }
+
+-- the two views differ in extensions alone
+pub record AreAlike (v w : View) : Type 0 where
+  pub lane : v.lane ≡ w.lane
+  pub stack : v.stack ≡ w.stack
+  pub spans : (x : ℕ) → option_map unextended (get v.spans x) ≡ option_map unextended (get w.spans x)
+
+-- the answers are the same in views that differ in extensions alone
+pub record ArePlain (a : Answers) : Type 0 where
+  pub enabled : (m : Metadata) (v w : View) → AreAlike v w → a.enabled m v ≡ a.enabled m w
+  pub event : (e : Event) (v w : View) → AreAlike v w → a.event e v ≡ a.event e w
+
+-- what a layer is notified of. A filter is notified of new spans, records, enters, exits and closes alone
+pub data Notice : Type 0 where
+  OnNewSpan : Attributes → Id → Notice
+  OnRecord : Id → Record → Notice
+  OnFollows : Id → Id → Notice
+  OnEvent : Event → Notice
+  OnEnter : Id → Notice
+  OnExit : Id → Notice
+  OnIdChange : Id → Id → Notice
+  OnClose : Id → Notice
+
+-- what a filter will be notified of, first things first, each with the view that it is then given
+abbrev pub History : Type 0
+History = List (Notice × View)
+
+-- how a filter will answer after each history
+abbrev pub Conduct : Type 0
+Conduct = History → Answers
+
+-- the same notices, in views that differ in extensions alone
+abbrev pub AreAlikeHistories : History → History → Type 0
+AreAlikeHistories [] [] = ⊤
+AreAlikeHistories ((e, v) ∷ h) ((d, w) ∷ k) = (e ≡ d) × AreAlike v w × AreAlikeHistories h k
+AreAlikeHistories h k = ⊥
+
+-- extensions make no difference: neither to the answers nor to what the filter learns from a notice
+pub record IsPlain (conduct : Conduct) : Type 0 where
+  pub answers : (h : History) → ArePlain (conduct h)
+  pub history : (h k : History) → AreAlikeHistories h k → conduct h ≡ conduct k

@@ -1,0 +1,53 @@
+-- Forms: how the layers of a stack stand together, and what each answers. A form names no type of layer, and no code.
+use Rattle.std.specs.Prelude.{ℕ, Bool, true, false, ◌&&◌, ◌||◌, Option}
+use Rattle.span_registry.specs.Answers.{Answers}
+
+-- how two parts stand together: a layer on a subscriber, two layers in a pair, or the first member of a list and the rest
+pub data Joint : Type 0 where
+  OnSubscriber : Joint
+  InPair : Joint
+  InList : Joint
+
+-- what is neither leaf nor filter nor made of parts: the registry, an absent layer, the end of a list
+pub data Void : Type 0 where
+  Base : Void
+  Absent : Void
+  End : Void
+
+-- a leaf, by what it answers; a filter round a form, by its number, if it has one, and what it answers; an outer part, or the first member of a list, and an inner one, or the rest; or none of these
+pub data Form : Type 0 where
+  Leaf : Answers → Form
+  Filtered : Option ℕ → Answers → Form → Form
+  Over : Joint → Form → Form → Form
+  Bare : Void → Form
+
+-- whether it is the registry
+abbrev pub is_base : Form → Bool
+is_base (Bare Base) = true
+is_base other = false
+
+-- whether it is the end of a list
+abbrev pub is_end : Form → Bool
+is_end (Bare End) = true
+is_end other = false
+
+-- whether two parts are marked: on a subscriber where either is, in a pair where both are, in a list where all members are
+abbrev pub both_marked : Joint → Bool → Bool → Bool → Bool
+both_marked OnSubscriber first last second = first || second
+both_marked InPair first last second = first && second
+both_marked InList first last second = first && (last || second)
+
+-- whether it is marked: what it refuses, it refuses through a filter, for its own part alone
+abbrev pub is_marked : Form → Bool
+is_marked (Leaf a) = false
+is_marked (Filtered n a f) = true
+is_marked (Over k o i) = both_marked k (is_marked o) (is_end i) (is_marked i)
+is_marked (Bare v) = false
+
+-- whether a layer in it is absent
+abbrev pub is_absent : Form → Bool
+is_absent (Leaf a) = false
+is_absent (Filtered n a f) = is_absent f
+is_absent (Over k o i) = is_absent o || is_absent i
+is_absent (Bare Absent) = true
+is_absent (Bare v) = false

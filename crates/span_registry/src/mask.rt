@@ -1,0 +1,45 @@
+//! The filters that one looks under.
+ghost use Rattle.std.specs.Prelude.{IsTrue};
+ghost use Rattle.span_core.specs.Filters.{is_attached};
+
+use span_core::{FilterId, FilterMap};
+
+/// A set of filters: a span that one of them refused is hidden. Each of them has its number.
+#[derive(Clone, Copy)]
+pub struct Mask {
+    filters: FilterId,
+
+    ghost attached: { IsTrue (is_attached filters) },
+}
+
+impl Mask {
+    ghost use Rattle.std.specs.Prelude.{◌≡◌, false};
+    ghost use Rattle.span_core.specs.Filters.{has_filter, meets, refuses, union};
+    ghost use Rattle.span_registry.specs.Mask.{filters_of};
+
+    /// No filter.
+    pub(crate) fn none() -> Mask
+        ensures { filters_of result ≡ (λ n. false) }
+    {
+        Mask {
+            filters: FilterId::none(),
+        }
+    }
+
+    /// The filters of this id too, which is attached.
+    pub(crate) fn and(self, filter: FilterId) -> Mask
+        requires { IsTrue (is_attached filter) }
+        ensures { filters_of result ≡ union (filters_of self) (has_filter filter) }
+    {
+        Mask {
+            filters: self.filters.and(filter),
+        }
+    }
+
+    /// One of these filters refused.
+    pub(crate) fn hides(self, verdict: FilterMap) -> bool
+        ensures { result ≡ meets (filters_of self) (refuses verdict) }
+    {
+        !verdict.is_enabled(self.filters)
+    }
+}
