@@ -91,7 +91,7 @@ module _ {F L S : Type 0} (hooked : FilterSteps F) (stepped : LayerSteps L) (has
   filtered_skips e x c kept (Filtered (Some n) a f) h =
       (refl, subst (λ (b : Bool). GoesOn e x (if b then plan_through f e c (single n) else Nobody) c x.filter x.layer c) (sym (kept (Some n) h.0)) (refl, refl, refl))
   filtered_skips e x c kept (Filtered None a f) h = (refl, (refl, refl, refl))
-  filtered_skips e x c kept (Leaf a) h = absurd h
+  filtered_skips e x c kept (Leaf still a) h = absurd h
   filtered_skips e x c kept (Over k o i) h = absurd h
   filtered_skips e x c kept (Bare v) h = absurd h
 
@@ -120,6 +120,6 @@ module _ {F L S : Type 0} (hooked : FilterSteps F) (stepped : LayerSteps L) (has
       let both = both_notified e x g y old left new mask narrowed own handed layer widened f h.2 in
       (refl, transport (λ i. GoesOn e x (if sym (passed (Some n) h.0) i then plan_through f e old (h.0.1 i) else Nobody) old g y new) both)
   filtered_notified e x g y old left new mask passed narrowed own handed layer widened (Filtered None a f) h = absurd (false≢true (passed None h.0))
-  filtered_notified e x g y old left new mask passed narrowed own handed layer widened (Leaf a) h = absurd h
+  filtered_notified e x g y old left new mask passed narrowed own handed layer widened (Leaf still a) h = absurd h
   filtered_notified e x g y old left new mask passed narrowed own handed layer widened (Over k o i) h = absurd h
   filtered_notified e x g y old left new mask passed narrowed own handed layer widened (Bare v) h = absurd h

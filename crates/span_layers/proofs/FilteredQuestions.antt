@@ -63,7 +63,7 @@ module _ {S : Type 0} (registry : S → RegistryState) where
           let asked_by = λ (set : FilterSet). once_asked f set (refusals old) (passes a (view_of (store_in registry c) (lane_in c).0 (union (filters_in c) set))) in
           (f, h.2, is_asked n h.0 a f ∙ ap asked_by (sym h.0.1) ∙ ap (once_asked f (has_filter id) (refusals old)) (sym (narrowed (λ s lane set. passes a (view_of s lane set)) c d (has_filter id) inside) ∙ sym (says a h.1)))
       by_filter b says (Filtered None a f) h = absurd (false≢true (attached ∙ ap not h.0))
-      by_filter b says (Leaf a) h = absurd h
+      by_filter b says (Leaf still a) h = absurd h
       by_filter b says (Over k o i) h = absurd h
       by_filter b says (Bare v) h = absurd h
 
@@ -98,7 +98,7 @@ module _ (id : FilterId) (e : Event) (s : Store) (lane : ℕ) (under : FilterSet
   refused_before answers form same out (Filtered (Some n) a f) h =
       subst (λ (b : Bool). AnswersSo (if b then (true, refusals old) else asked_now n a f) old true old) (sym (refuses_at id n false h.0 same out)) (record { answer = refl; refused = refl; sum = refl })
   refused_before answers form same out (Filtered None a f) h = record { answer = refl; refused = refl; sum = refl }
-  refused_before answers form same out (Leaf a) h = absurd h
+  refused_before answers form same out (Leaf still a) h = absurd h
   refused_before answers form same out (Over k o i) h = absurd h
   refused_before answers form same out (Bare v) h = absurd h
 
@@ -131,6 +131,6 @@ module _ (id : FilterId) (answers : Answers → Type 0) (form : Form → Type 0)
       let before = inner.0 ∙ ap (λ (b : Bool). if b then interest_sum old else (interest_of f m filters (interest_sum old)).1) (never_by i never is ∙ ap is_never own) in
       record { answer = refl; sum = sum ∙ (λ k. Some (sum_with (before k) (own k))); refused = refused ∙ inner.1 }
   filtered_interest i old mid new attached says sum refused never is layer filters (Filtered None a f) h = absurd (false≢true (attached ∙ ap not h.0))
-  filtered_interest i old mid new attached says sum refused never is layer filters (Leaf a) h = absurd h
+  filtered_interest i old mid new attached says sum refused never is layer filters (Leaf still a) h = absurd h
   filtered_interest i old mid new attached says sum refused never is layer filters (Over k o z) h = absurd h
   filtered_interest i old mid new attached says sum refused never is layer filters (Bare v) h = absurd h

@@ -36,7 +36,7 @@ apart : (o i : Form) (n m k : ℕ) → IsWithin o n m → IsWithin i m k → (j 
 apart o i n m k a b j h = false_from_ne_true (numbers_of i j) (λ g. let x = (a.bounds j h).1 in let y = (b.bounds j g).0 in omega (arith, x, y))
 
 took : (f : Form) (n : ℕ) → n + filters_in f ≤ LIMIT → Took f n
-took (Leaf a) n h = record { next = omega (arith); within = record { distinct = tt; bounds = λ k g. absurd (false≢true g) } }
+took (Leaf still a) n h = record { next = omega (arith); within = record { distinct = tt; bounds = λ k g. absurd (false≢true g) } }
 took (Bare v) n h = record { next = omega (arith); within = record { distinct = tt; bounds = λ k g. absurd (false≢true g) } }
 took (Filtered m a f) n h =
     let inside : Took f (n + 1) = took f (n + 1) (omega (arith, h)) in

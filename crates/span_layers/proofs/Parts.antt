@@ -17,7 +17,7 @@ use Rattle.span_layers.specs.declared.layered.Layered.{Layered}
 use Rattle.span_registry.proofs.CallerLemmas.{same_further}
 use Rattle.span_registry.specs.Answers.{Notice}
 use Rattle.span_registry.specs.Context.{HandsOn, IsLent, filters_lent, refused_lent, subscriber_lent}
-use Rattle.span_registry.specs.Form.{Bare, Filtered, Form, InPair, Joint, Leaf, OnSubscriber, Over, is_marked}
+use Rattle.span_registry.specs.Form.{Bare, Filtered, Form, InPair, IsStill, Joint, Leaf, OnSubscriber, Over, is_marked}
 use Rattle.span_registry.specs.Hooks.{Notifies, StackNotified, StackSteps, no_filter}
 use Rattle.span_registry.specs.Plan.{by_pass}
 use Rattle.span_registry.specs.Question.{ShowsBy, SumsBy, SumsSo, interest_of, is_calm, is_never, joint_interest, over_interest}
@@ -44,7 +44,7 @@ module _ {L I S : Type 0} (outer : LayerSteps L) (inner : LayerSteps I) (outer_f
             (λ n. outer x (by_pass o e (rest.extensions.spans n) (under n) (refuses (rest.loan.refused n))) e (rest.loan.lane n).0 (under n) (registry (subscriber_lent d)) y (registry (subscriber_lent f)))
             (second o h.1);
       }
-  pair_notified f first rest second (Leaf a) h = absurd h
+  pair_notified f first rest second (Leaf still a) h = absurd h
   pair_notified f first rest second (Filtered n a k) h = absurd h
   pair_notified f first rest second (Bare z) h = absurd h
 
@@ -53,9 +53,9 @@ module _ {L I : Type 0} (outer : LayerSteps L) (inner : StackSteps I) (outer_for
   go_up : (e : Notice) (x y : L) (i k : I) (lane : Lane) (refused : FilterSet) (v : RegistryState) (map : FilterMap) (c d : ContextMut I)
       → StackNotified registry inner_form inner lane refused e i v k → SameButExtensions v (registry k) → IsLent c k lane.0 no_filter map → refuses map ≡ refused
       → LeavesAlone registry with_registry outer_form x c d → Notified registry outer_form outer e x c y d
-      → (h : Form) → OverForm OnSubscriber (outer_form x) (inner_form i) h
+      → (h : Form) → OverForm OnSubscriber (outer_form x) (inner_form i) h → IsStill h
       → LayeredSteps with_registry outer inner x i (by_pass h e v.store.spans no_filter refused) e lane.0 v y (subscriber_lent d) (registry (subscriber_lent d))
-  go_up e x y i k lane refused v map c d first same lent is alone second (Over j o z) h =
+  go_up e x y i k lane refused v map c d first same lent is alone second (Over j o z) h q =
       let state : registry (subscriber_lent c) ≡ registry k = ap registry lent.subscriber in
       let spans : (registry (subscriber_lent c)).store.spans ≡ v.store.spans = ap (λ (s : RegistryState). s.store.spans) state ∙ same.spans in
       let refusals : refuses (refused_lent c) ≡ refused = ap (λ (m : FilterMap). refuses m) lent.refused ∙ is in
@@ -63,13 +63,13 @@ module _ {L I : Type 0} (outer : LayerSteps L) (inner : StackSteps I) (outer_for
         between = registry k;
         notified = k;
         extensions = same;
-        first = first z h.2;
+        first = first z h.2 q.1;
         second = transport (λ n. outer x (by_pass o e (spans n) (lent.filters n) (refusals n)) e (lent.lane n) (lent.filters n) (state n) y (registry (subscriber_lent d))) (second o h.1);
-        rest = (alone o h.1).alone ∙ ap (λ s. with_registry s (registry (subscriber_lent d))) lent.subscriber;
+        rest = (alone o h.1 q.0).alone ∙ ap (λ s. with_registry s (registry (subscriber_lent d))) lent.subscriber;
       }
-  go_up e x y i k lane refused v map c d first same lent is alone second (Leaf a) h = absurd h
-  go_up e x y i k lane refused v map c d first same lent is alone second (Filtered n a f) h = absurd h
-  go_up e x y i k lane refused v map c d first same lent is alone second (Bare z) h = absurd h
+  go_up e x y i k lane refused v map c d first same lent is alone second (Leaf still a) h q = absurd h
+  go_up e x y i k lane refused v map c d first same lent is alone second (Filtered n a f) h q = absurd h
+  go_up e x y i k lane refused v map c d first same lent is alone second (Bare z) h q = absurd h
 
   -- a stack takes the step that its inner stack took, and then all its layers are notified
   pub stack_notified : {e : Notice} {step : RegistryState → RegistryState → Type 0} {x y : L} {i k : I} {lane : Lane} {refused : FilterSet} {map : FilterMap} {c d : ContextMut I}
@@ -102,7 +102,7 @@ module _ {outer : Form → Type 0} (inner : Form → Type 0) {m : Metadata} {fil
       (sym (ap (λ interest. interest marked a (is_calm joint i) below) together)
       ∙ (λ n. joint_interest (sym h.0 n) (shown o h.1 n) (own.answer n) (is_calm (sym h.0 n) i) (interest_of i m filters (own.sum n))))
       (both i h.2 own.refused)
-  over_sums marked a said shown first both (Leaf c) h = absurd h
+  over_sums marked a said shown first both (Leaf still c) h = absurd h
   over_sums marked a said shown first both (Filtered n c f) h = absurd h
   over_sums marked a said shown first both (Bare z) h = absurd h
 

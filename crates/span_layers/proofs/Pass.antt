@@ -22,7 +22,7 @@ use Rattle.span_registry.specs.View.{view_of}
 
 -- who is notified of a new span or an event, as a pass says
 abbrev pub pass_plan : Form → FilterSet → Plan
-pass_plan (Leaf a) p = Itself
+pass_plan (Leaf still a) p = Itself
 pass_plan (Bare z) p = Nobody
 pass_plan (Filtered None a f) p = Nobody
 pass_plan (Filtered (Some n) a f) p = if not (p n) then Through (pass_plan f p) else Nobody
@@ -30,7 +30,7 @@ pass_plan (Over j o i) p = Both (pass_plan o p) (pass_plan i p)
 
 -- who is notified where each filter is asked of the metadata alone
 abbrev pub metadata_plan : Form → Metadata → Store → ℕ → FilterSet → Plan
-metadata_plan (Leaf a) e s l m = Itself
+metadata_plan (Leaf still a) e s l m = Itself
 metadata_plan (Bare z) e s l m = Nobody
 metadata_plan (Filtered None a f) e s l m = Nobody
 metadata_plan (Filtered (Some n) a f) e s l m = if a.enabled e (view_of s l (union m (single n))) then Through (metadata_plan f e s l (union m (single n))) else Nobody
@@ -39,21 +39,21 @@ metadata_plan (Over j o i) e s l m = Both (metadata_plan o e s l m) (metadata_pl
 -- ---- the plans of a new span and of an event
 
 pub new_by_pass : (f : Form) (t : Attributes) (x : Id) (v : Spans) (m p : FilterSet) → by_pass f (OnNewSpan t x) v m p ≡ pass_plan f p
-new_by_pass (Leaf a) t x v m p = refl
+new_by_pass (Leaf still a) t x v m p = refl
 new_by_pass (Bare z) t x v m p = refl
 new_by_pass (Filtered None a f) t x v m p = refl
 new_by_pass (Filtered (Some n) a f) t x v m p = ap (λ (q : Plan). if not (p n) then Through q else Nobody) (new_by_pass f t x v (union m (single n)) p)
 new_by_pass (Over j o i) t x v m p = λ k. Both (new_by_pass o t x v m p k) (new_by_pass i t x v m p k)
 
 pub event_by_pass : (f : Form) (e : Event) (v : Spans) (m p : FilterSet) → by_pass f (OnEvent e) v m p ≡ pass_plan f p
-event_by_pass (Leaf a) e v m p = refl
+event_by_pass (Leaf still a) e v m p = refl
 event_by_pass (Bare z) e v m p = refl
 event_by_pass (Filtered None a f) e v m p = refl
 event_by_pass (Filtered (Some n) a f) e v m p = ap (λ (q : Plan). if not (p n) then Through q else Nobody) (event_by_pass f e v (union m (single n)) p)
 event_by_pass (Over j o i) e v m p = λ k. Both (event_by_pass o e v m p k) (event_by_pass i e v m p k)
 
 pub new_afresh : (f : Form) (t : Attributes) (x : Id) (s : Store) (l : ℕ) (m : FilterSet) → asked_afresh f (OnNewSpan t x) s l m ≡ metadata_plan f (metadata_of t) s l m
-new_afresh (Leaf a) t x s l m = refl
+new_afresh (Leaf still a) t x s l m = refl
 new_afresh (Bare z) t x s l m = refl
 new_afresh (Filtered None a f) t x s l m = refl
 new_afresh (Filtered (Some n) a f) t x s l m = ap (λ (q : Plan). if a.enabled (metadata_of t) (view_of s l (union m (single n))) then Through q else Nobody) (new_afresh f t x s l (union m (single n)))
@@ -63,7 +63,7 @@ new_afresh (Over j o i) t x s l m = λ k. Both (new_afresh o t x s l m k) (new_a
 
 -- where verdicts alone decide, a pass makes no difference
 by_verdicts : (f : Form) (e : Notice) (s : Store) (l : ℕ) (m p : FilterSet) → ((n : ℕ) (a : Answers) (set : FilterSet) → lets_by n e s.spans set p ≡ passes a e s l set) → by_pass f e s.spans m p ≡ asked_afresh f e s l m
-by_verdicts (Leaf a) e s l m p h = refl
+by_verdicts (Leaf still a) e s l m p h = refl
 by_verdicts (Bare z) e s l m p h = refl
 by_verdicts (Filtered None a f) e s l m p h = refl
 by_verdicts (Filtered (Some n) a f) e s l m p h = λ k. if h n a (union m (single n)) k then Through (by_verdicts f e s l (union m (single n)) p h k) else Nobody
@@ -96,7 +96,7 @@ still_clean p n k h = by_test (k == n)
 
 -- a question leaves the numbers of other parts alone
 pub frame : (f : Form) (e : Metadata) (s : Store) (l : ℕ) (m p : FilterSet) (k : ℕ) → numbers_of f k ≡ false → (asked f e s l m p).1 k ≡ p k
-frame (Leaf a) e s l m p k h = refl
+frame (Leaf still a) e s l m p k h = refl
 frame (Bare z) e s l m p k h = refl
 frame (Filtered None a f) e s l m p k h = refl
 frame (Filtered (Some n) a f) e s l m p k h =
@@ -113,7 +113,7 @@ frame (Over j o i) e s l m p k h =
     ]
 
 pub event_frame : (f : Form) (e : Event) (s : Store) (l : ℕ) (m p : FilterSet) (k : ℕ) → numbers_of f k ≡ false → (event_asked f e s l m p).1 k ≡ p k
-event_frame (Leaf a) e s l m p k h = refl
+event_frame (Leaf still a) e s l m p k h = refl
 event_frame (Bare z) e s l m p k h = refl
 event_frame (Filtered None a f) e s l m p k h = refl
 event_frame (Filtered (Some n) a f) e s l m p k h =
@@ -134,7 +134,7 @@ event_frame (Over j o i) e s l m p k h =
 
 -- hooks look at the pass only at the numbers of their own part
 pub local : (f : Form) (p q : FilterSet) → ((k : ℕ) → numbers_of f k ≡ true → p k ≡ q k) → pass_plan f p ≡ pass_plan f q
-local (Leaf a) p q h = refl
+local (Leaf still a) p q h = refl
 local (Bare z) p q h = refl
 local (Filtered None a f) p q h = refl
 local (Filtered (Some n) a f) p q h =
@@ -152,7 +152,7 @@ apart o i k h g = false_from_ne_true (numbers_of o k) (λ x. both_ways (numbers_
 -- after the metadata was asked of all, the pass says what the filters answer afresh
 pub answers_meta : (f : Form) (e : Metadata) (s : Store) (l : ℕ) (m p : FilterSet) → AreDistinct f → ((k : ℕ) → numbers_of f k ≡ true → p k ≡ false) → (asked f e s l m p).0 ≡ true
     → pass_plan f (asked f e s l m p).1 ≡ metadata_plan f e s l m
-answers_meta (Leaf a) e s l m p d h ok = refl
+answers_meta (Leaf still a) e s l m p d h ok = refl
 answers_meta (Bare z) e s l m p d h ok = refl
 answers_meta (Filtered None a f) e s l m p d h ok = refl
 answers_meta (Filtered (Some n) a f) e s l m p d h ok =
@@ -191,7 +191,7 @@ both_right p q r t e = cc
 -- a pass that is right for the metadata becomes right for the event
 pub answers_event : (f : Form) (e : Event) (s : Store) (l : ℕ) (m p : FilterSet) → AreDistinct f → pass_plan f p ≡ metadata_plan f (event_metadata e) s l m → (event_asked f e s l m p).0 ≡ true
     → pass_plan f (event_asked f e s l m p).1 ≡ asked_afresh f (OnEvent e) s l m
-answers_event (Leaf a) e s l m p d h ok = refl
+answers_event (Leaf still a) e s l m p d h ok = refl
 answers_event (Bare z) e s l m p d h ok = refl
 answers_event (Filtered None a f) e s l m p d h ok = refl
 answers_event (Filtered (Some n) a f) e s l m p d h ok =
@@ -233,7 +233,7 @@ answers_event (Over j o i) e s l m p d h ok =
 -- ---- who refuses for all
 
 quiet_asked : (f : Form) (e : Metadata) (s : Store) (l : ℕ) (m p : FilterSet) → IsQuiet f → (asked f e s l m p).0 ≡ true
-quiet_asked (Leaf a) e s l m p q = q.enabled e (view_of s l m)
+quiet_asked (Leaf still a) e s l m p q = q.enabled e (view_of s l m)
 quiet_asked (Bare z) e s l m p q = refl
 quiet_asked (Filtered None a f) e s l m p q = refl
 quiet_asked (Filtered (Some n) a f) e s l m p q =
@@ -245,7 +245,7 @@ quiet_asked (Over j o i) e s l m p q = rw (quiet_asked o e s l m p q.0) (quiet_a
 
 -- where no leaf refuses, none vetoes
 quiet_veto : (f : Form) (e : Metadata) (s : Store) (l : ℕ) → IsQuiet f → vetoes f e s l ≡ false
-quiet_veto (Leaf a) e s l q = ap not (q.enabled e (view_of s l no_filter))
+quiet_veto (Leaf still a) e s l q = ap not (q.enabled e (view_of s l no_filter))
 quiet_veto (Bare z) e s l q = refl
 quiet_veto (Filtered n a f) e s l q = refl
 quiet_veto (Over j o i) e s l q = rw (quiet_veto o e s l q.0) (quiet_veto i e s l q.1)
@@ -260,7 +260,7 @@ asked_over j o i e s l p first second =
     (cases_Bool (vetoes o e s l))
 
 pub asked_unless_vetoed : (f : Form) (e : Metadata) (s : Store) (l : ℕ) (p : FilterSet) → IsOrderly f → (asked f e s l no_filter p).0 ≡ not (vetoes f e s l)
-asked_unless_vetoed (Leaf a) e s l p q = elim (a.enabled e (view_of s l no_filter)) as (λ b. b ≡ not (not b)) [ true ↦ refl | false ↦ refl ]
+asked_unless_vetoed (Leaf still a) e s l p q = elim (a.enabled e (view_of s l no_filter)) as (λ b. b ≡ not (not b)) [ true ↦ refl | false ↦ refl ]
 asked_unless_vetoed (Bare z) e s l p q = refl
 asked_unless_vetoed (Filtered n a f) e s l p q = quiet_asked (Filtered n a f) e s l no_filter p q
 asked_unless_vetoed (Over OnSubscriber o i) e s l p q = asked_over OnSubscriber o i e s l p (asked_unless_vetoed o e s l p q.0) (λ r. asked_unless_vetoed i e s l r q.1)
@@ -268,7 +268,7 @@ asked_unless_vetoed (Over InPair o i) e s l p q = asked_over InPair o i e s l p 
 asked_unless_vetoed (Over InList o i) e s l p q = quiet_asked (Over InList o i) e s l no_filter p q ∙ sym (ap not (quiet_veto (Over InList o i) e s l q))
 
 quiet_event : (f : Form) (e : Event) (s : Store) (l : ℕ) (m p : FilterSet) → IsQuiet f → (event_asked f e s l m p).0 ≡ true
-quiet_event (Leaf a) e s l m p q = q.event e (view_of s l m)
+quiet_event (Leaf still a) e s l m p q = q.event e (view_of s l m)
 quiet_event (Bare z) e s l m p q = refl
 quiet_event (Filtered None a f) e s l m p q = refl
 quiet_event (Filtered (Some n) a f) e s l m p q =
@@ -282,7 +282,7 @@ quiet_event (Filtered (Some n) a f) e s l m p q =
 quiet_event (Over j o i) e s l m p q = rw (quiet_event o e s l m p q.0) (quiet_event i e s l m (event_asked o e s l m p).1 q.1)
 
 quiet_event_veto : (f : Form) (e : Event) (s : Store) (l : ℕ) → IsQuiet f → vetoes_event f e s l ≡ false
-quiet_event_veto (Leaf a) e s l q = ap not (q.event e (view_of s l no_filter))
+quiet_event_veto (Leaf still a) e s l q = ap not (q.event e (view_of s l no_filter))
 quiet_event_veto (Bare z) e s l q = refl
 quiet_event_veto (Filtered n a f) e s l q = refl
 quiet_event_veto (Over j o i) e s l q = rw (quiet_event_veto o e s l q.0) (quiet_event_veto i e s l q.1)
@@ -296,7 +296,7 @@ event_over j o i e s l p first second =
     (cases_Bool (vetoes_event o e s l))
 
 pub event_unless_vetoed : (f : Form) (e : Event) (s : Store) (l : ℕ) (p : FilterSet) → IsOrderly f → (event_asked f e s l no_filter p).0 ≡ not (vetoes_event f e s l)
-event_unless_vetoed (Leaf a) e s l p q = elim (a.event e (view_of s l no_filter)) as (λ b. b ≡ not (not b)) [ true ↦ refl | false ↦ refl ]
+event_unless_vetoed (Leaf still a) e s l p q = elim (a.event e (view_of s l no_filter)) as (λ b. b ≡ not (not b)) [ true ↦ refl | false ↦ refl ]
 event_unless_vetoed (Bare z) e s l p q = refl
 event_unless_vetoed (Filtered n a f) e s l p q = quiet_event (Filtered n a f) e s l no_filter p q
 event_unless_vetoed (Over OnSubscriber o i) e s l p q = event_over OnSubscriber o i e s l p (event_unless_vetoed o e s l p q.0) (λ r. event_unless_vetoed i e s l r q.1)
@@ -316,7 +316,7 @@ or_nothing false = refl
 -- a clean pass gains exactly the verdict
 pub gains_verdict : (f : Form) (e : Metadata) (s : Store) (l : ℕ) (m p : FilterSet) (k : ℕ) → AreDistinct f → ((j : ℕ) → numbers_of f j ≡ true → p j ≡ false) → (asked f e s l m p).0 ≡ true
     → (asked f e s l m p).1 k ≡ p k || in_verdict f e s l m k
-gains_verdict (Leaf a) e s l m p k d h ok = or_nothing (p k)
+gains_verdict (Leaf still a) e s l m p k d h ok = or_nothing (p k)
 gains_verdict (Bare z) e s l m p k d h ok = or_nothing (p k)
 gains_verdict (Filtered None a f) e s l m p k d h ok = or_nothing (p k)
 gains_verdict (Filtered (Some n) a f) e s l m p k d h ok =
@@ -387,13 +387,13 @@ under_filter n a f p path e s lane under h inside = beneath (path_at f p) refl h
 
 -- a leaf is reached through the filters of its path alone
 pub reached : (f : Form) (place : Place) (path : Path) (e : Notice) (s : Store) (lane : ℕ) (under : FilterSet) → NotifiesWhosePathPasses f place path e s lane under
-reached (Leaf a) Here path e s lane under h = ap (λ (p : Path). passes_path p e s lane under) (inside h)
+reached (Leaf still a) Here path e s lane under h = ap (λ (p : Path). passes_path p e s lane under) (inside h)
   where
     inside : Some [] ≡ Some path → [] ≡ path
     inside k = cc
-reached (Leaf a) (Under p) path e s lane under h = absurd (cc)
-reached (Leaf a) (Outer p) path e s lane under h = absurd (cc)
-reached (Leaf a) (Inner p) path e s lane under h = absurd (cc)
+reached (Leaf still a) (Under p) path e s lane under h = absurd (cc)
+reached (Leaf still a) (Outer p) path e s lane under h = absurd (cc)
+reached (Leaf still a) (Inner p) path e s lane under h = absurd (cc)
 reached (Bare z) p path e s lane under h = absurd (cc)
 reached (Filtered None a f) Here path e s lane under h = ap (λ (p : Path). passes_path p e s lane under) (inside h)
   where

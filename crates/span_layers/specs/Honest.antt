@@ -3,11 +3,11 @@ use Rattle.std.specs.Prelude.{⊤, ℕ, Bool, true, false, ◌&&◌, ◌||◌, I
 use Rattle.span_layers.specs.Verdict.{HasOwnNumbers, IsOrderly}
 use Rattle.span_registry.specs.Answers.{AreHonest}
 use Rattle.span_registry.specs.Follows.{Keeps}
-use Rattle.span_registry.specs.Form.{Absent, Bare, Filtered, Form, InList, InPair, Joint, Leaf, OnSubscriber, Over, is_base, is_end}
+use Rattle.span_registry.specs.Form.{Absent, Bare, Filtered, Form, InList, InPair, IsStill, Joint, Leaf, OnSubscriber, Over, is_base, is_end}
 
 -- the answers of each filter and each leaf are honest
 abbrev pub HasHonestAnswers : Form → Type 0
-HasHonestAnswers (Leaf a) = AreHonest a
+HasHonestAnswers (Leaf still a) = AreHonest a
 HasHonestAnswers (Filtered n a f) = AreHonest a × HasHonestAnswers f
 HasHonestAnswers (Over joint o i) = HasHonestAnswers o × HasHonestAnswers i
 HasHonestAnswers (Bare v) = ⊤
@@ -25,7 +25,7 @@ both_full InList first last second = first && (last || second)
 
 -- whether a layer has neither an absent layer nor an empty list in it
 abbrev pub is_full : Form → Bool
-is_full (Leaf a) = true
+is_full (Leaf still a) = true
 is_full (Filtered n a f) = is_full f
 is_full (Over k o i) = both_full k (is_full o) (is_end i) (is_full i)
 is_full (Bare v) = false
@@ -37,16 +37,17 @@ makes_stack other layer below = false
 
 -- whether it is a stack: a registry, or a layer on a stack that is absent itself, or full
 abbrev pub is_stack : Form → Bool
-is_stack (Leaf a) = false
+is_stack (Leaf still a) = false
 is_stack (Filtered n a f) = false
 is_stack (Over k o i) = makes_stack k (is_missing o || is_full o) (is_stack i)
 is_stack (Bare v) = is_base (Bare v)
 
--- an honest stack, on a registry that handed out this many filters: all answer honestly, filters have numbers of their own, no leaf under a filter or in a list refuses anything, and layers are absent directly on the stack alone
+-- an honest stack, on a registry that handed out this many filters: all answer honestly, filters have numbers of their own, no leaf under a filter or in a list refuses anything, no hook does more than write extensions, and layers are absent directly on the stack alone
 pub record IsHonestStack (f : Form) (filters : ℕ) : Type 0 where
   pub answers : HasHonestAnswers f
   pub numbers : HasOwnNumbers f filters
   pub orderly : IsOrderly f
+  pub still : IsStill f
   pub stack : IsTrue (is_stack f)
 
 -- a stack that keeps what it has of its form stays honest

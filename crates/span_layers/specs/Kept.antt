@@ -45,13 +45,13 @@ module _ {F L : Type 0} {has_answers : F → Answers → Type 0} {hooked : Filte
       filtered_follows i k b y n c f same h.0 (hooks_keep a e lane _ v b s.between c s.filter h.1) (inside.keeps x p e lane _ s.between y w f s.layer h.2)
   filtered_keeps i a x Itself e lane under v k b y w f same s h = absurd s
   filtered_keeps i a x (Both p q) e lane under v k b y w f same s h = absurd s
-  filtered_keeps i a x p e lane under v k b y w (Leaf c) same s h = absurd h
+  filtered_keeps i a x p e lane under v k b y w (Leaf still c) same s h = absurd h
   filtered_keeps i a x p e lane under v k b y w (Over j o z) same s h = absurd h
   filtered_keeps i a x p e lane under v k b y w (Bare z) same s h = absurd h
 
   filtered_used : (i : FilterId) (a : F) (x : L) (k : FilterId) (b : F) (y : L) (f : Form) → k ≡ i → b ≡ a → registered x y → FilteredForm i (has_answers a) (has_form x) f → Follows (FilteredForm k (has_answers b) (has_form y)) f
   filtered_used i a x k b y (Filtered n c f) same own_same used h = filtered_follows i k b y n c f same h.0 (same_answers a b c own_same h.1) (inside.put_in_use x y f used h.2)
-  filtered_used i a x k b y (Leaf c) same own_same used h = absurd h
+  filtered_used i a x k b y (Leaf still c) same own_same used h = absurd h
   filtered_used i a x k b y (Over j o z) same own_same used h = absurd h
   filtered_used i a x k b y (Bare z) same own_same used h = absurd h
 
@@ -78,13 +78,13 @@ module _ {L I : Type 0} {outer_form : L → Form → Type 0} {inner_form : I →
   pair_keeps x i Nobody e lane under v y j w f s h = absurd s
   pair_keeps x i Itself e lane under v y j w f s h = absurd s
   pair_keeps x i (Through p) e lane under v y j w f s h = absurd s
-  pair_keeps x i p e lane under v y j w (Leaf a) s h = absurd h
+  pair_keeps x i p e lane under v y j w (Leaf still a) s h = absurd h
   pair_keeps x i p e lane under v y j w (Filtered n a f) s h = absurd h
   pair_keeps x i p e lane under v y j w (Bare z) s h = absurd h
 
   pair_used : (x : L) (i : I) (y : L) (j : I) (f : Form) → outer_used x y → inner_used i j → OverForm InPair (outer_form x) (inner_form i) f → Follows (OverForm InPair (outer_form y) (inner_form j)) f
   pair_used x i y j (Over k o z) s t h = over_follows InPair k o z h.0 (outer.put_in_use x y o s h.1) (inner.put_in_use i j z t h.2)
-  pair_used x i y j (Leaf a) s t h = absurd h
+  pair_used x i y j (Leaf still a) s t h = absurd h
   pair_used x i y j (Filtered n a f) s t h = absurd h
   pair_used x i y j (Bare z) s t h = absurd h
 
@@ -110,19 +110,19 @@ module _ {L I : Type 0} {with_registry : I → RegistryState → I} {inner_usabl
   stack_keeps x i Nobody e lane v y j w f s h = absurd s
   stack_keeps x i Itself e lane v y j w f s h = absurd s
   stack_keeps x i (Through p) e lane v y j w f s h = absurd s
-  stack_keeps x i p e lane v y j w (Leaf a) s h = absurd h
+  stack_keeps x i p e lane v y j w (Leaf still a) s h = absurd h
   stack_keeps x i p e lane v y j w (Filtered n a f) s h = absurd h
   stack_keeps x i p e lane v y j w (Bare z) s h = absurd h
 
   stack_used : (x : L) (i : I) (y : L) (j : I) (f : Form) → outer_used x y → inner_used i j → OverForm OnSubscriber (outer_form x) (inner_form i) f → Follows (OverForm OnSubscriber (outer_form y) (inner_form j)) f
   stack_used x i y j (Over k o z) s t h = over_follows OnSubscriber k o z h.0 (outer.put_in_use x y o s h.1) (inner.put_in_use i j z t h.2)
-  stack_used x i y j (Leaf a) s t h = absurd h
+  stack_used x i y j (Leaf still a) s t h = absurd h
   stack_used x i y j (Filtered n a f) s t h = absurd h
   stack_used x i y j (Bare z) s t h = absurd h
 
   stack_with : (x : L) (i : I) (w : RegistryState) (f : Form) → OverForm OnSubscriber (outer_form x) (inner_form i) f → OverForm OnSubscriber (outer_form x) (inner_form (with_registry i w)) f
   stack_with x i w (Over k o z) h = (h.0, h.1, inner.form_with i w z h.2)
-  stack_with x i w (Leaf a) h = absurd h
+  stack_with x i w (Leaf still a) h = absurd h
   stack_with x i w (Filtered n a f) h = absurd h
   stack_with x i w (Bare z) h = absurd h
 

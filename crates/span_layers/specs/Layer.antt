@@ -8,7 +8,7 @@ use Rattle.span_core.specs.declared.pass.Pass.{Pass}
 use Rattle.span_registry.specs.Answers.{Notice}
 use Rattle.span_registry.specs.Context.{WritesExtensions, filters_in, filters_lent, lane_in, lane_lent, refused_lent, store_in, subscriber_in, subscriber_lent}
 use Rattle.span_registry.specs.Follows.{Follows}
-use Rattle.span_registry.specs.Form.{Form}
+use Rattle.span_registry.specs.Form.{Form, IsStill}
 use Rattle.span_registry.specs.Plan.{Plan, by_pass}
 use Rattle.span_registry.specs.Question.{AnswersBy, SumsBy, asked, event_asked, interest_of}
 use Rattle.span_registry.specs.Store.{RegistryState}
@@ -46,9 +46,9 @@ abbrev pub Notified : {L S : Type 0} → (S → RegistryState) → (L → Form �
 Notified registry has_form stepped e x c y d =
     (f : Form) → has_form x f → stepped x (by_pass f e (registry (subscriber_lent c)).store.spans (filters_lent c) (refuses (refused_lent c))) e (lane_lent c).0 (filters_lent c) (registry (subscriber_lent c)) y (registry (subscriber_lent d))
 
--- a layer that has a form writes extensions alone: it sends no event
+-- a layer whose hooks write extensions alone, by its form, does so
 abbrev pub LeavesAlone : {L S : Type 0} → (S → RegistryState) → (S → RegistryState → S) → (L → Form → Type 0) → L → ContextMut S → ContextMut S → Type 0
-LeavesAlone registry with_registry has_form x c d = (f : Form) → has_form x f → WritesExtensions registry with_registry c d
+LeavesAlone registry with_registry has_form x c d = (f : Form) → has_form x f → IsStill f → WritesExtensions registry with_registry c d
 
 -- the law of every layer: where it is notified, or put in use, it keeps what it has of its form
 pub record LayerLaws {L : Type 0} (has_form : L → Form → Type 0) (stepped : LayerSteps L) (registered : L → L → Type 0) : Type 0 where

@@ -6,14 +6,14 @@ use Rattle.span_registry.specs.Store.{RegistryState}
 
 -- how many filters a form has
 abbrev pub filters_in : Form → ℕ
-filters_in (Leaf a) = 0
+filters_in (Leaf still a) = 0
 filters_in (Filtered n a f) = 1 + filters_in f
 filters_in (Over k o i) = filters_in o + filters_in i
 filters_in (Bare v) = 0
 
 -- the form where its filters took the next numbers, a filter before those in it, the outer part before the inner one; and the number that is next. Where all are given away, a filter stays as it is
 abbrev pub numbered : Form → ℕ → Form × ℕ
-numbered (Leaf a) n = (Leaf a, n)
+numbered (Leaf still a) n = (Leaf still a, n)
 numbered (Filtered m a f) n =
     if nat_lt n LIMIT then (Filtered (Some n) a (numbered f (n + 1)).0, (numbered f (n + 1)).1)
     else (Filtered m a (numbered f n).0, (numbered f n).1)

@@ -43,7 +43,7 @@ abbrev pub open_answers : Answers
 open_answers = record { enabled = λ m v. true; event = λ e v. true; interest = λ m. Always; hint = None }
 
 -- whatever a leaf that refuses nothing does, it stays one
-pub open_laws : {L : Type 0} (stepped : L → Plan → Notice → ℕ → FilterSet → RegistryState → L → RegistryState → Type 0) → LayerLaws (λ x f. f ≡ Leaf open_answers) stepped (λ x y. y ≡ x)
+pub open_laws : {L : Type 0} (stepped : L → Plan → Notice → ℕ → FilterSet → RegistryState → L → RegistryState → Type 0) → LayerLaws (λ x f. f ≡ Leaf true open_answers) stepped (λ x y. y ≡ x)
 open_laws stepped = record {
   keeps = λ x p e lane under v y w f s h. (f, h, kept_form f);
   put_in_use = λ x y f s h. (f, h, kept_form f);

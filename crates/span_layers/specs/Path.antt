@@ -21,7 +21,7 @@ Path = List (Option ℕ × Answers)
 
 -- the path of the leaf or the filter at a place, if one stands there
 abbrev pub path_at : Form → Place → Option Path
-path_at (Leaf a) Here = Some []
+path_at (Leaf still a) Here = Some []
 path_at (Filtered n a f) Here = Some ((n, a) ∷ [])
 path_at (Filtered n a f) (Under p) = option_map (λ path. (n, a) ∷ path) (path_at f p)
 path_at (Over k o i) (Outer p) = path_at o p

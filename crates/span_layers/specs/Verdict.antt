@@ -21,7 +21,7 @@ use Rattle.span_registry.specs.View.{view_of}
 
 -- whether k is the number of a filter of the form
 abbrev pub numbers_of : Form → FilterSet
-numbers_of (Leaf a) k = false
+numbers_of (Leaf still a) k = false
 numbers_of (Filtered None a f) k = numbers_of f k
 numbers_of (Filtered (Some n) a f) k = (k == n) || numbers_of f k
 numbers_of (Over joint o i) k = numbers_of o k || numbers_of i k
@@ -29,7 +29,7 @@ numbers_of (Bare v) k = false
 
 -- no two filters have one number
 abbrev pub AreDistinct : Form → Type 0
-AreDistinct (Leaf a) = ⊤
+AreDistinct (Leaf still a) = ⊤
 AreDistinct (Filtered None a f) = AreDistinct f
 AreDistinct (Filtered (Some n) a f) = (numbers_of f n ≡ false) × AreDistinct f
 AreDistinct (Over joint o i) = AreDistinct o × AreDistinct i × ((k : ℕ) → numbers_of o k ≡ true → numbers_of i k ≡ false)
@@ -42,14 +42,14 @@ pub record HasOwnNumbers (f : Form) (next : ℕ) : Type 0 where
 
 -- no leaf of it refuses anything
 abbrev pub IsQuiet : Form → Type 0
-IsQuiet (Leaf a) = RefusesNothing a
+IsQuiet (Leaf still a) = RefusesNothing a
 IsQuiet (Filtered n a f) = IsQuiet f
 IsQuiet (Over joint o i) = IsQuiet o × IsQuiet i
 IsQuiet (Bare v) = ⊤
 
 -- no leaf under a filter, or in a list, refuses anything
 abbrev pub IsOrderly : Form → Type 0
-IsOrderly (Leaf a) = ⊤
+IsOrderly (Leaf still a) = ⊤
 IsOrderly (Filtered n a f) = IsQuiet f
 IsOrderly (Over OnSubscriber o i) = IsOrderly o × IsOrderly i
 IsOrderly (Over InPair o i) = IsOrderly o × IsOrderly i
@@ -58,21 +58,21 @@ IsOrderly (Bare v) = ⊤
 
 -- whether a leaf with no filter round it refuses these metadata, in the view of the lane
 abbrev pub vetoes : Form → Metadata → Store → ℕ → Bool
-vetoes (Leaf a) m s lane = not (a.enabled m (view_of s lane no_filter))
+vetoes (Leaf still a) m s lane = not (a.enabled m (view_of s lane no_filter))
 vetoes (Filtered n a f) m s lane = false
 vetoes (Over joint o i) m s lane = vetoes o m s lane || vetoes i m s lane
 vetoes (Bare v) m s lane = false
 
 -- whether a leaf with no filter round it refuses this event, of which it lets the metadata by
 abbrev pub vetoes_event : Form → Event → Store → ℕ → Bool
-vetoes_event (Leaf a) e s lane = not (a.event e (view_of s lane no_filter))
+vetoes_event (Leaf still a) e s lane = not (a.event e (view_of s lane no_filter))
 vetoes_event (Filtered n a f) e s lane = false
 vetoes_event (Over joint o i) e s lane = vetoes_event o e s lane || vetoes_event i e s lane
 vetoes_event (Bare v) e s lane = false
 
 -- whether the filter k is in the verdict of a new span: it refuses the metadata, and every filter outside it on its path has a number and passes them
 abbrev pub in_verdict : Form → Metadata → Store → ℕ → FilterSet → FilterSet
-in_verdict (Leaf a) m s lane under k = false
+in_verdict (Leaf still a) m s lane under k = false
 in_verdict (Filtered None a f) m s lane under k = false
 in_verdict (Filtered (Some n) a f) m s lane under k =
     if a.enabled m (view_of s lane (union under (single n))) then in_verdict f m s lane (union under (single n)) k else (k == n)

@@ -13,8 +13,8 @@ use span_registry::{Context, ContextMut, Subscriber};
 /// A part of a stack, on a subscriber of the type `S`.
 ///
 /// What it answers follows from its form. It is notified of a new span and of an event as the pass says, of all else as the
-/// verdicts of spans say. A hook may write extensions, and leaves the rest of the registry alone; one that sends an event has
-/// no form, and nothing is promised of its stack but that the registry stays sound.
+/// verdicts of spans say. A hook may write extensions, and leaves the rest alone; a layer whose hooks send events says so in its
+/// form, and then nobody says who is notified in its stack. The registry stays sound in any case.
 ///
 /// Stands for `tracing_subscriber::Layer`, with hooks that change the layer. No method has a default body.
 pub trait Layer<S: Subscriber> {

@@ -1,5 +1,5 @@
 //! A layer with one method: it refuses nothing, and is notified of everything through it.
-ghost use Rattle.std.specs.Prelude.{◌≡◌, ⊤};
+ghost use Rattle.std.specs.Prelude.{◌≡◌, ⊤, true};
 ghost use Rattle.span_layers.specs.Observe.{ObserverSteps, Observes, observer_of, open_answers, open_laws};
 ghost use Rattle.span_registry.specs.Context.{WritesExtensions, subscriber_lent};
 ghost use Rattle.span_registry.specs.Form.{Leaf};
@@ -71,7 +71,7 @@ impl<T> Observer<T> {
 impl<S: Subscriber, T: Observe<S>> Layer<S> for Observer<T> {
     ghost usable = { λ x. T.usable x.observer };
 
-    ghost has_form = { λ x f. f ≡ Leaf open_answers };
+    ghost has_form = { λ x f. f ≡ Leaf true open_answers };
 
     ghost stepped = { λ x p e lane under v y w. T.observed x.observer e lane under v y.observer w };
 

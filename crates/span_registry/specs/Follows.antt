@@ -19,7 +19,7 @@ pub record AnswersKeep (a b : Answers) : Type 0 where
 
 -- the form g, where the form was f: the parts stand together as they did, and filters have the numbers that they had
 abbrev pub Keeps : Form → Form → Type 0
-Keeps (Leaf a) (Leaf b) = AnswersKeep a b
+Keeps (Leaf still a) (Leaf quiet b) = (quiet ≡ still) × AnswersKeep a b
 Keeps (Filtered n a f) (Filtered m b g) = (m ≡ n) × SameInterestAndHint a b × (AreHonest a → AreHonest b) × Keeps f g
 Keeps (Over k o i) (Over l p j) = (l ≡ k) × Keeps o p × Keeps i j
 Keeps (Bare v) (Bare w) = w ≡ v
@@ -35,7 +35,7 @@ kept_answers a = record { same = record { interest = refl; hint = refl }; honest
 
 -- a form keeps what it has
 pub kept_form : (f : Form) → Keeps f f
-kept_form (Leaf a) = kept_answers a
+kept_form (Leaf still a) = (refl, kept_answers a)
 kept_form (Filtered n a f) = (refl, record { interest = refl; hint = refl }, (λ h. h), kept_form f)
 kept_form (Over k o i) = (refl, kept_form o, kept_form i)
 kept_form (Bare v) = refl

@@ -1,5 +1,5 @@
 -- Forms: how the layers of a stack stand together, and what each answers. A form names no type of layer, and no code.
-use Rattle.std.specs.Prelude.{ℕ, Bool, true, false, ◌&&◌, ◌||◌, Option}
+use Rattle.std.specs.Prelude.{⊤, ℕ, Bool, true, false, ◌&&◌, ◌||◌, IsTrue, Option}
 use Rattle.span_registry.specs.Answers.{Answers}
 
 -- how two parts stand together: a layer on a subscriber, two layers in a pair, or the first member of a list and the rest
@@ -14,9 +14,9 @@ pub data Void : Type 0 where
   Absent : Void
   End : Void
 
--- a leaf, by what it answers; a filter round a form, by its number, if it has one, and what it answers; an outer part, or the first member of a list, and an inner one, or the rest; or none of these
+-- a leaf, by whether its hooks write extensions alone, and what it answers; a filter round a form, by its number, if it has one, and what it answers; an outer part, or the first member of a list, and an inner one, or the rest; or none of these
 pub data Form : Type 0 where
-  Leaf : Answers → Form
+  Leaf : Bool → Answers → Form
   Filtered : Option ℕ → Answers → Form → Form
   Over : Joint → Form → Form → Form
   Bare : Void → Form
@@ -39,15 +39,22 @@ both_marked InList first last second = first && (last || second)
 
 -- whether it is marked: what it refuses, it refuses through a filter, for its own part alone
 abbrev pub is_marked : Form → Bool
-is_marked (Leaf a) = false
+is_marked (Leaf still a) = false
 is_marked (Filtered n a f) = true
 is_marked (Over k o i) = both_marked k (is_marked o) (is_end i) (is_marked i)
 is_marked (Bare v) = false
 
 -- whether a layer in it is absent
 abbrev pub is_absent : Form → Bool
-is_absent (Leaf a) = false
+is_absent (Leaf still a) = false
 is_absent (Filtered n a f) = is_absent f
 is_absent (Over k o i) = is_absent o || is_absent i
 is_absent (Bare Absent) = true
 is_absent (Bare v) = false
+
+-- no hook of a leaf in it does more than write extensions
+abbrev pub IsStill : Form → Type 0
+IsStill (Leaf still a) = IsTrue still
+IsStill (Filtered n a f) = IsStill f
+IsStill (Over k o i) = IsStill o × IsStill i
+IsStill (Bare v) = ⊤

@@ -10,7 +10,7 @@ use Rattle.span_core.specs.declared.span.Id.{Id}
 use Rattle.span_core.specs.declared.span.Lane.{Lane}
 use Rattle.span_registry.specs.Answers.{Notice, OnNewSpan}
 use Rattle.span_registry.specs.Follows.{Follows, kept_form}
-use Rattle.span_registry.specs.Form.{Bare, Base, Form}
+use Rattle.span_registry.specs.Form.{Bare, Base, Form, IsStill}
 use Rattle.span_registry.specs.Plan.{Plan, by_pass}
 use Rattle.span_registry.specs.Question.{AnswersBy, SumsBy, asked, event_asked, interest_of, refusals}
 use Rattle.span_registry.specs.Step.{Opens, asked as asked_span}
@@ -40,10 +40,10 @@ AnswersInterest registry has_form x m old answer new =
 abbrev pub StackSteps : Type 0 → Type 1
 StackSteps S = S → Plan → Notice → ℕ → RegistryState → S → RegistryState → Type 0
 
--- whatever form a stack has, its layers are notified by that form and go on so; v is the registry that the request left
+-- whatever form a stack has, if hooks write extensions alone, its layers are notified by that form and go on so; v is the registry that the request left
 abbrev pub StackNotified : {S : Type 0} → (S → RegistryState) → (S → Form → Type 0) → StackSteps S → Lane → FilterSet → Notice → S → RegistryState → S → Type 0
 StackNotified registry has_form stepped lane refused e old v new =
-    (f : Form) → has_form old f → stepped old (by_pass f e v.store.spans no_filter refused) e lane.0 v new (registry new)
+    (f : Form) → has_form old f → IsStill f → stepped old (by_pass f e v.store.spans no_filter refused) e lane.0 v new (registry new)
 
 -- the registry takes a step, and then the layers are notified of it, whose hooks may write extensions
 pub record Notifies {S : Type 0} (registry : S → RegistryState) (has_form : S → Form → Type 0) (stepped : StackSteps S) (lane : Lane) (refused : FilterSet) (e : Notice) (step : RegistryState → RegistryState → Type 0) (old new : S) : Type 0 where

@@ -37,7 +37,7 @@ lets_by n (OnClose id) spans set refused = is_passed spans set id
 
 -- who is notified, as pass and verdicts say, under these filters
 abbrev pub by_pass : Form → Notice → Spans → FilterSet → FilterSet → Plan
-by_pass (Leaf a) e spans under refused = Itself
+by_pass (Leaf still a) e spans under refused = Itself
 by_pass (Filtered None a f) e spans under refused = Nobody
 by_pass (Filtered (Some n) a f) e spans under refused =
     if lets_by n e spans (union under (single n)) refused then Through (by_pass f e spans (union under (single n)) refused) else Nobody
@@ -57,7 +57,7 @@ passes a (OnClose id) s lane set = is_passed s.spans set id
 
 -- who is notified where each filter is asked afresh: what every filter round it passes, in the view under the filters from outside down to that one
 abbrev pub asked_afresh : Form → Notice → Store → ℕ → FilterSet → Plan
-asked_afresh (Leaf a) e s lane under = Itself
+asked_afresh (Leaf still a) e s lane under = Itself
 asked_afresh (Filtered None a f) e s lane under = Nobody
 asked_afresh (Filtered (Some n) a f) e s lane under =
     if passes a e s lane (union under (single n)) then Through (asked_afresh f e s lane (union under (single n))) else Nobody

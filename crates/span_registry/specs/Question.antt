@@ -26,7 +26,7 @@ answered refused set passed n = if set n then not passed else refused n
 
 -- whether metadata pass, asked on a lane of a store under these filters, and which filters then refuse; these did before
 abbrev pub asked : Form → Metadata → Store → ℕ → FilterSet → FilterSet → Bool × FilterSet
-asked (Leaf a) m s lane under refused = (a.enabled m (view_of s lane under), refused)
+asked (Leaf still a) m s lane under refused = (a.enabled m (view_of s lane under), refused)
 asked (Filtered None a f) m s lane under refused = (true, refused)
 asked (Filtered (Some n) a f) m s lane under refused =
     if a.enabled m (view_of s lane (union under (single n))) then asked f m s lane (union under (single n)) (answered refused (single n) true)
@@ -38,7 +38,7 @@ asked (Bare v) m s lane under refused = (true, refused)
 
 -- whether an event passes, after its metadata did, and which filters then refuse. One that refused already isn't asked again
 abbrev pub event_asked : Form → Event → Store → ℕ → FilterSet → FilterSet → Bool × FilterSet
-event_asked (Leaf a) e s lane under refused = (a.event e (view_of s lane under), refused)
+event_asked (Leaf still a) e s lane under refused = (a.event e (view_of s lane under), refused)
 event_asked (Filtered None a f) e s lane under refused = (true, refused)
 event_asked (Filtered (Some n) a f) e s lane under refused =
     if refused n then (true, refused)
@@ -80,7 +80,7 @@ is_calm other i = is_marked i
 
 -- the interest in a callsite, and the sum that the pass then holds; the registry handed out this many filters, and the pass held this sum
 abbrev pub interest_of : Form → Metadata → ℕ → Option Interest → Interest × Option Interest
-interest_of (Leaf a) m filters sum = (a.interest m, sum)
+interest_of (Leaf still a) m filters sum = (a.interest m, sum)
 interest_of (Filtered None a f) m filters sum = (Always, sum)
 interest_of (Filtered (Some n) a f) m filters sum =
     (Always, Some (sum_with (if is_never (a.interest m) then sum else (interest_of f m filters sum).1) (a.interest m)))
@@ -108,7 +108,7 @@ over_hint InList o i h k = wider_hint h k
 
 -- the highest level that it may want, if it knows one
 abbrev pub hint_of : Form → Option LevelFilter
-hint_of (Leaf a) = a.hint
+hint_of (Leaf still a) = a.hint
 hint_of (Filtered n a f) = a.hint
 hint_of (Over k o i) = over_hint k o i (hint_of o) (hint_of i)
 hint_of (Bare Base) = None

@@ -16,7 +16,8 @@ use span_core::{
 ///
 /// Questions answer by the stack's form and keep what its filters said in the pass. State calls go to the registry first,
 /// and then the layers are notified: of a new span and an event as the pass says, of all else as the verdicts of spans say.
-/// A layer's hook may write extensions, and leaves the rest of the registry alone. A stack without a form may answer
+/// A layer's hook may write extensions, and leaves the rest of the registry alone. Who is notified is promised of stacks in
+/// which no hook sends events (`IsStill`, of the form). A stack without a form may answer
 /// anything.
 ///
 /// Stands for `tracing_core::Subscriber`, with the lane and the pass handed in.

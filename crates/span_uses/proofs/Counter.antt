@@ -38,10 +38,10 @@ use Rattle.span_uses.specs.declared.layer.SpanCounter.{SpanCounter}
 
 -- the form of the stack
 abbrev pub form_of : LevelFilter → ℕ → Form
-form_of level n = Over OnSubscriber (Filtered (Some n) (level_answers level) (Leaf open_answers)) (Bare Base)
+form_of level n = Over OnSubscriber (Filtered (Some n) (level_answers level) (Leaf true open_answers)) (Bare Base)
 
 abbrev pub HasForm : Counted → Form → Type 0
-HasForm x = OverForm OnSubscriber (FilteredForm (id_of (outer_of x)) (settled_answers level_answers (level_in x)) (λ f. f ≡ Leaf open_answers)) (λ f. f ≡ Bare Base)
+HasForm x = OverForm OnSubscriber (FilteredForm (id_of (outer_of x)) (settled_answers level_answers (level_in x)) (λ f. f ≡ Leaf true open_answers)) (λ f. f ≡ Bare Base)
 
 -- how its parts go on, as their types say
 abbrev pub counter_steps : LayerSteps (Observer SpanCounter)
@@ -75,7 +75,7 @@ goes old new lane attrs fresh pass said m pass_law veto_law numbered same empty 
     let true_of_all = veto_law f (metadata_of attrs) s lane.0 no_filter (record { enabled = λ m v. refl; event = λ e v. refl }, tt) in
     let law = pass_law f attrs id s lane.0 ((refl, tt), tt, λ k h. refl) true_of_all in
     let plan = asked_with_new_pass f attrs id s lane.0 fresh pass said m same empty law (answer f has) h.left.store.spans in
-    let steps = subst (λ p. stack_steps old p (OnNewSpan attrs id) lane.0 h.left new (inner_of new)) plan (h.notified f has) in
+    let steps = subst (λ p. stack_steps old p (OnNewSpan attrs id) lane.0 h.left new (inner_of new)) plan (h.notified f has (refl, tt)) in
     let outer = steps.second in
     let both = went (passes_level (level_in old) (level_of (metadata_of attrs))) attrs id (outer_of old) (outer_of new) lane.0 no_filter steps.between (inner_of new) outer.1 in
     record { counts = both.0; number = outer.0; level = both.1 }
@@ -83,21 +83,21 @@ goes old new lane attrs fresh pass said m pass_law veto_law numbered same empty 
 -- ---- the new stack
 
 abbrev pub UnderLevel : FilteredLayer (Observer SpanCounter) LevelFilter → Form → Type 0
-UnderLevel x = FilteredForm (id_of x) (settled_answers level_answers (filter_of x)) (λ f. f ≡ Leaf open_answers)
+UnderLevel x = FilteredForm (id_of x) (settled_answers level_answers (filter_of x)) (λ f. f ≡ Leaf true open_answers)
 
 has_room : (n : ℕ) → n + 1 ≤ LIMIT → nat_lt n LIMIT ≡ true
 has_room n h = grind (arith, nat_tests, h)
 
 -- the form of a counter under a filter, and the next number, once that took this one, if there was room
 abbrev took : Answers → ℕ → Bool → Form × ℕ
-took a n b = if b then (Filtered (Some n) a (Leaf open_answers), n + 1) else (Filtered None a (Leaf open_answers), n)
+took a n b = if b then (Filtered (Some n) a (Leaf true open_answers), n + 1) else (Filtered None a (Leaf true open_answers), n)
 
 -- a counter that took the next number counts from nothing
 pub starts : (level : LevelFilter) (n : ℕ) (counter : SpanCounter) (layer : Observer SpanCounter) (u : FilteredLayer (Observer SpanCounter) LevelFilter) (x : Counted) → opened_by counter ≡ 0 → observer_of layer ≡ counter → IsUnnumbered u layer level
     → ((f : Form) → UnderLevel u f → UnderLevel (outer_of x) (numbered f n).0) → ((f : Form) → UnderLevel u f → n + filters_in f ≤ LIMIT) → (filter_of (outer_of x) ≡ filter_of u) × (layer_of (outer_of x) ≡ layer_of u) → StartsToCount level x
 starts level n counter layer u x opened observer unnumbered form room attached =
     let a = level_answers (filter_of u) in
-    let f = Filtered None a (Leaf open_answers) in
+    let f = Filtered None a (Leaf true open_answers) in
     let has : UnderLevel u f = (unnumbered.id, refl, refl) in
     let r : n + 1 ≤ LIMIT = room f has in
     let given = subst (λ b. UnderLevel (outer_of x) (took a n b).0) (has_room n r) (form f has) in

@@ -19,7 +19,7 @@ alone lane refused e step old new h = record {
   left = new;
   taken = h;
   extensions = record { spans = refl; issued = refl; stacks = refl; limits = refl; filters = refl; retired = refl };
-  notified = λ f d. refl;
+  notified = λ f d q. refl;
 }
 
 pub new_span-tells : goal.new_span-tells
