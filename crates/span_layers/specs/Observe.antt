@@ -9,7 +9,7 @@ use Rattle.span_layers.specs.declared.observe.Observer.{Observer}
 use Rattle.span_registry.specs.Answers.{Answers, Notice, OnClose, OnEnter, OnEvent, OnExit, OnFollows, OnIdChange, OnNewSpan, OnRecord}
 use Rattle.span_registry.specs.Context.{filters_lent, lane_lent, subscriber_lent}
 use Rattle.span_registry.specs.Follows.{kept_form}
-use Rattle.span_registry.specs.Form.{Leaf}
+use Rattle.span_registry.specs.Form.{Form}
 use Rattle.span_registry.specs.Plan.{Plan}
 use Rattle.span_registry.specs.Store.{RegistryState}
 use Rattle.span_registry.specs.declared.context.ContextMut.{ContextMut}
@@ -42,9 +42,9 @@ observer_of x = x.observer
 abbrev pub open_answers : Answers
 open_answers = record { enabled = λ m v. true; event = λ e v. true; interest = λ m. Always; hint = None }
 
--- whatever a leaf that refuses nothing does, it stays one
-pub open_laws : {L : Type 0} (stepped : L → Plan → Notice → ℕ → FilterSet → RegistryState → L → RegistryState → Type 0) → LayerLaws (λ x f. f ≡ Leaf true open_answers) stepped (λ x y. y ≡ x)
-open_laws stepped = record {
+-- a layer that always has this one form keeps it, whatever it does
+pub fixed_laws : {L : Type 0} (form : Form) (stepped : L → Plan → Notice → ℕ → FilterSet → RegistryState → L → RegistryState → Type 0) → LayerLaws (λ x f. f ≡ form) stepped (λ x y. y ≡ x)
+fixed_laws form stepped = record {
   keeps = λ x p e lane under v y w f s h. (f, h, kept_form f);
   put_in_use = λ x y f s h. (f, h, kept_form f);
 }

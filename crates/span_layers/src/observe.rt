@@ -1,6 +1,6 @@
 //! A layer with one method: it refuses nothing, and is notified of everything through it.
 ghost use Rattle.std.specs.Prelude.{◌≡◌, ⊤, true};
-ghost use Rattle.span_layers.specs.Observe.{ObserverSteps, Observes, observer_of, open_answers, open_laws};
+ghost use Rattle.span_layers.specs.Observe.{ObserverSteps, Observes, observer_of, fixed_laws, open_answers};
 ghost use Rattle.span_registry.specs.Context.{WritesExtensions, subscriber_lent};
 ghost use Rattle.span_registry.specs.Form.{Leaf};
 
@@ -79,7 +79,7 @@ impl<S: Subscriber, T: Observe<S>> Layer<S> for Observer<T> {
 
     ghost attached = { λ x y. y ≡ x };
 
-    ghost laws = { open_laws (λ x p e lane under v y w. T.observed x.observer e lane under v y.observer w) };
+    ghost laws = { fixed_laws (Leaf true open_answers) (λ x p e lane under v y w. T.observed x.observer e lane under v y.observer w) };
 
     fn on_register_dispatch(&mut self) {
         // It has nothing to do.

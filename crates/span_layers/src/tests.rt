@@ -1,11 +1,13 @@
 //! Tests of stacks, as a program drives them, with layers that keep what they are notified of.
-ghost use Rattle.std.specs.Prelude.{⊤};
+ghost use Rattle.std.specs.Prelude.{◌≡◌, ⊤, false};
+ghost use Rattle.span_layers.specs.Observe.{fixed_laws, open_answers};
+ghost use Rattle.span_registry.specs.Form.{Leaf};
 ghost use Rattle.span_registry.specs.Context.{WritesExtensions};
 
 use crate::{Filtered, Layer, LayerExt, Layered, Observe, Observed, Observer, SubscriberExt};
 use span_core::{
-    Attributes, Event, FieldSet, Id, Kind, Lane, Level, LevelFilter, Metadata, Pass, Record,
-    TraceError,
+    Attributes, Event, FieldSet, Id, Interest, Kind, Lane, Level, LevelFilter, Metadata, Pass,
+    Record, TraceError,
 };
 use span_registry::{Context, ContextMut, LookupSpan, Registry, Subscriber, Tag};
 use std::alloc::Global;
@@ -136,6 +138,73 @@ fn mark<S: Subscriber>(tag: Tag<u64>, id: Id, ctx: &mut ContextMut<'_, S>)
 fn marks<S: LookupSpan>(stack: &S, tag: Tag<u64>, id: Id) -> Option<u64> {
     let span = stack.span(id)?;
     span.extensions().get(tag).copied()
+}
+
+/// Sends an event at each new span. Its hooks do more than write extensions, and its form says so.
+#[derive(Drop)]
+struct Echo;
+
+impl<S: Subscriber> Layer<S> for Echo {
+    ghost has_form = { λ x f. f ≡ Leaf false open_answers };
+
+    ghost stepped = { λ x p e lane under v y w. ⊤ };
+
+    ghost registered = { λ x y. y ≡ x };
+
+    ghost attached = { λ x y. y ≡ x };
+
+    ghost laws = { fixed_laws (Leaf false open_answers) (λ x p e lane under v y w. ⊤) };
+
+    fn on_register_dispatch(&mut self) {}
+
+    fn on_layer(&mut self, _subscriber: &mut S) {}
+
+    fn register_callsite(&self, _meta: &Metadata, _pass: &mut Pass) -> Interest {
+        Interest::Always
+    }
+
+    fn enabled(&self, _meta: &Metadata, _ctx: &Context<'_, S>, _pass: &mut Pass) -> bool {
+        true
+    }
+
+    fn event_enabled(&self, _event: &Event<'_>, _ctx: &Context<'_, S>, _pass: &mut Pass) -> bool {
+        true
+    }
+
+    fn max_level_hint(&self) -> Option<LevelFilter> {
+        None
+    }
+
+    fn filter_count(&self) -> u32 {
+        0
+    }
+
+    fn is_filtered(&self) -> bool {
+        false
+    }
+
+    fn is_absent(&self) -> bool {
+        false
+    }
+
+    fn on_new_span(&mut self, _attrs: &Attributes<'_>, id: Id, ctx: &mut ContextMut<'_, S>) {
+        let event = Event::new_child_of(id, metadata_of(Level::INFO, Kind::EVENT), &[]);
+        ctx.event(&event);
+    }
+
+    fn on_record(&mut self, _id: Id, _values: &Record<'_>, _ctx: &mut ContextMut<'_, S>) {}
+
+    fn on_follows_from(&mut self, _id: Id, _follows: Id, _ctx: &mut ContextMut<'_, S>) {}
+
+    fn on_event(&mut self, _event: &Event<'_>, _ctx: &mut ContextMut<'_, S>) {}
+
+    fn on_enter(&mut self, _id: Id, _ctx: &mut ContextMut<'_, S>) {}
+
+    fn on_exit(&mut self, _id: Id, _ctx: &mut ContextMut<'_, S>) {}
+
+    fn on_id_change(&mut self, _id: Id, _new: Id, _ctx: &mut ContextMut<'_, S>) {}
+
+    fn on_close(&mut self, _id: Id, _ctx: &mut ContextMut<'_, S>) {}
 }
 
 /// An open watcher, and outside it one under INFO.
@@ -386,5 +455,27 @@ fn hooks_write_extensions_under_their_filters(rt: HostRuntime) -> Result<(), Fai
     assert!(rt; send(&mut stack, Level::TRACE, id));
     assert_eq!(rt; marks(&stack, all, id), Some(2));
     assert_eq!(rt; marks(&stack, few, id), Some(1));
+    Ok(())
+}
+
+#[test]
+fn a_hook_may_send_an_event(rt: HostRuntime) -> Result<(), Fail> {
+    let Ok(stack) = Registry::new(rt.alloc()).with(new_watcher(rt.alloc())) else {
+        return Err(Fail::from("there is no room"));
+    };
+    let Ok(mut stack) = stack.with(Echo) else {
+        return Err(Fail::from("there is no room"));
+    };
+    let id = open(&mut stack, Level::INFO, None)?;
+    assert_eq!(rt;
+        stack.inner().layer().observer().seen.as_slice(),
+        [
+            Seen::NewSpan(id),
+            Seen::InScope(id),
+            Seen::Event,
+            Seen::InScope(id),
+        ]
+        .as_slice()
+    );
     Ok(())
 }
