@@ -1,1 +1,4 @@
+pub mod Call
 pub mod Outcome
+pub mod Recorder
+pub mod Serve

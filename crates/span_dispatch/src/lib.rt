@@ -1,8 +1,12 @@
 //! A dispatcher: it takes requests, asks the layers of a stack, and notifies them.
 #![tactic(auto)]
 
+mod dispatch;
 mod notice;
+mod recorder;
 mod request;
 
+pub use dispatch::Dispatch;
 pub use notice::Notice;
+pub use recorder::Recorder;
 pub use request::{Answer, Request, Which, WhichParent};

@@ -16,7 +16,7 @@ use Rattle.span_registry.specs.Question.{AnswersSo, asked, event_asked, refusals
 use Rattle.span_registry.specs.Store.{Store}
 
 -- what is asked with a new pass is asked where no filter refuses
-asked_by_nobody : (f : Form) (s : Store) (lane : ℕ) (fresh : Pass) (m meta : Metadata) → m ≡ meta → IsEmpty (refusals fresh) → (asked f m s lane no_filter (refusals fresh)).1 ≡ (asked f meta s lane no_filter no_filter).1
+pub asked_by_nobody : (f : Form) (s : Store) (lane : ℕ) (fresh : Pass) (m meta : Metadata) → m ≡ meta → IsEmpty (refusals fresh) → (asked f m s lane no_filter (refusals fresh)).1 ≡ (asked f meta s lane no_filter no_filter).1
 asked_by_nobody f s lane fresh m meta same empty = λ k. (asked f (same k) s lane no_filter (λ n. empty n k)).1
 
 -- of a new span

@@ -2,7 +2,7 @@ pub mod CallerLemmas
 mod FilterNumber
 mod FilteredHooks
 mod FilteredQuestions
-mod HonestKept
+pub mod HonestKept
 mod Number
 mod Parts
-mod Pass
+pub mod Pass

@@ -12,7 +12,7 @@ use Rattle.span_core.specs.declared.span.Id.{Id}
 use Rattle.span_core.specs.declared.span.Lane.{Lane}
 use Rattle.span_registry.specs.Closes.{AreUnheld, IsSettled, IsSettledBut, Member}
 use Rattle.span_registry.specs.Laws.{ClosesAll}
-use Rattle.span_registry.specs.Step.{Enters, Exits, Removal, Begun, Between, Removed, AskedSpan, Drops, Opens, Releases, Removes, TakesOut, begun}
+use Rattle.span_registry.specs.Step.{Clones, Enters, Exits, Removal, Begun, Between, Removed, AskedSpan, Drops, Opens, Releases, Removes, TakesOut, begun}
 use Rattle.span_registry.specs.Form.{Form}
 use Rattle.span_registry.specs.Hooks.{Notifies, StackSteps, Stays}
 use Rattle.span_registry.specs.Store.{IsChain, IsClosing, IsForest, IsOpen, RegistryState, Span, Spans, Stacks, Store, new_registry, parent_of, stack_of, take_handle, with_extensions, with_stack}
@@ -37,7 +37,7 @@ use Rattle.span_registry.proofs.Finds.{store_found}
 use Rattle.span_registry.proofs.LookupLaws.{whole_chain}
 use Rattle.span_registry.proofs.StoreLaws.{stacks_restored}
 use Rattle.span_registry.proofs.View.{extensions_by}
-use Rattle.span_registry.proofs.Drops.{Progress, begins, forest_taken, none_dropped, progress_first, progress_last, progress_more, settled_added, settled_none, settled_now, settled_open, settled_taken}
+use Rattle.span_registry.proofs.Drops.{Progress, begins, forest_taken, none_dropped, progress_first, progress_last, progress_more, settled_added, settled_none, settled_now, settled_open, settled_raised, settled_taken}
 
 -- ---- the same, extensions aside
 
@@ -70,6 +70,10 @@ settled_new l = settled_none _ refl
 pub settled_opened : (lane : Lane) (span : AskedSpan) (id : Id) (old new : RegistryState) → Opens lane span id old new → IsSettled old.store.spans → IsSettled new.store.spans
 settled_opened lane span id old new o s =
     subst IsSettled (sym (ap (λ (r : RegistryState). r.store.spans) o.state)) (settled_added old.store.spans (number_of id) (begun span o.parent) o.unused (omega arith) s)
+
+-- after a handle is added
+pub settled_cloned : (id : Id) (old new : RegistryState) → Clones id old new → IsSettled old.store.spans → IsSettled new.store.spans
+settled_cloned id old new c s = subst IsSettled (sym (ap (λ (r : RegistryState). r.store.spans) c.state)) (settled_raised old.store.spans (number_of id) s c.is_open)
 
 -- after a handle was released by which its span isn't closing
 pub settled_released : (id : Id) (old new : RegistryState) → Releases id StillOpen old new → IsSettled old.store.spans → IsSettled new.store.spans

@@ -1,0 +1,286 @@
+-- How each call of a dispatcher is served, from what the stack's own calls say.
+use Rattle.std.proofs.Common.{◌≡◌, ℕ, Bool, true, false, not, ◌||◌, List, [], ◌∷◌, ◌++◌, map, Option, Some, None, Result, Ok, Err, IfSome, IfErr, OnOk, OnErr, refl, sym, ap, subst, ◌∙◌}
+use Rattle.std.proofs.lemmas.Bool.{true≢false}
+use Rattle.span_core.specs.Event.{event_metadata}
+use Rattle.span_core.specs.Filters.{FilterSet, IsEmpty}
+use Rattle.span_core.specs.Pass.{refused_of}
+use Rattle.span_core.specs.Span.{asked_parent, id_of, metadata_of, number_of}
+use Rattle.span_core.specs.declared.error.TraceError.{TraceError}
+use Rattle.span_core.specs.declared.event.Event.{Event}
+use Rattle.span_core.specs.declared.metadata.Metadata.{Metadata}
+use Rattle.span_core.specs.declared.pass.Pass.{Pass}
+use Rattle.span_core.specs.declared.span.Attributes.{Attributes}
+use Rattle.span_core.specs.declared.span.Id.{Id}
+use Rattle.span_core.specs.declared.span.Lane.{Lane}
+use Rattle.span_core.specs.declared.span.Record.{Record}
+use Rattle.span_dispatch.proofs.Goes.{Done, by_call, by_change, by_none, honest_after, honest_quietly, quietly}
+use Rattle.span_dispatch.specs.Call.{AddHandle, Call, DropHandle, Enter, Exit, Follow, OpenSpan, Probe, RecordValues, SendEvent, closes_of, done_answer}
+use Rattle.span_dispatch.specs.Outcome.{GoneLeft, HandleAdded, HandleTaken, IsHonest, Made, Makes, Noticed, Notices, Outcome, Quiet}
+use Rattle.span_dispatch.specs.Serve.{ClosesEach, IsReady, IsReadySomehow, outcome_of}
+use Rattle.span_dispatch.specs.declared.request.Answer.TheVariants as answer
+use Rattle.span_dispatch.specs.declared.request.Answer.{Answer}
+use Rattle.span_layers.proofs.CallerLemmas.{asked_by_nobody, asked_with_new_pass, event_asked_with_new_pass}
+use Rattle.span_layers.proofs.HonestKept.{honesty_is_kept}
+use Rattle.span_layers.specs.Honest.{IsHonestStack}
+use Rattle.span_layers.proofs.Pass.{asked_unless_vetoed, event_fresh, event_unless_vetoed, new_span_fresh, others_afresh}
+use Rattle.span_layers.specs.Verdict.{vetoes, vetoes_event}
+use Rattle.span_registry.specs.Answers.{Notice, OnClose, OnEnter, OnEvent, OnExit, OnFollows, OnNewSpan, OnRecord}
+use Rattle.span_registry.specs.Closes.{IsSettled}
+use Rattle.span_registry.specs.Form.{Form}
+use Rattle.span_registry.specs.Hooks.{AnswersEnabled, AnswersEvent, Notifies, OpensAndNotifies, StackLaws, StackSteps, Stays, no_filter}
+use Rattle.span_registry.specs.Plan.{by_pass}
+use Rattle.span_registry.specs.Question.{asked, refusals}
+use Rattle.span_registry.specs.Step.{Begun, Between, Clones, Enters, Exits, RefusesClone, RefusesEnter, Releases, Removal, Removed, Removes}
+use Rattle.span_registry.specs.Store.{IsClosing, IsForest, IsOpen, RegistryState, Spans}
+use Rattle.span_registry.specs.Subscriber.{SameButExtensions}
+use Rattle.span_registry.specs.Laws.{ClosesAll}
+use Rattle.span_registry.specs.declared.registry.Released.{Released}
+use Rattle.span_registry.specs.declared.registry.Released.TheVariants.{Closing, StillOpen}
+use Rattle.span_registry.proofs.CallerLemmas.{closes_itself, closes_with_hooks, drops_open, hooks_alone, next_is_closing, settled_cloned, settled_closed, settled_still}
+use Rattle.std.specs.List.{FoldsTo}
+
+not_true : (b : Bool) → not b ≡ true → b ≡ false
+not_true true h = sym h
+not_true false h = refl
+
+not_false : (b : Bool) → not b ≡ false → b ≡ true
+not_false true h = refl
+not_false false h = sym h
+
+or_right_true : (a b : Bool) → b ≡ true → a || b ≡ true
+or_right_true true b h = refl
+or_right_true false b h = h
+
+or_left_true : (a b : Bool) → a ≡ true → a || b ≡ true
+or_left_true true b h = refl
+or_left_true false b h = absurd (true≢false (sym h))
+
+or_both_false : (a b : Bool) → a ≡ false → b ≡ false → a || b ≡ false
+or_both_false true b h k = h
+or_both_false false b h k = k
+
+module _ {S : Type 0} {registry : S → RegistryState} {with_registry : S → RegistryState → S} {usable : S → Type 0} {has_form : S → Form → Type 0} {stepped : StackSteps S} {registered : S → S → Type 0}
+    (laws : StackLaws with_registry usable has_form stepped registered) (with_own : (s : S) → with_registry s (registry s) ≡ s) where
+  abbrev pub Ready : Form → S → Type 0
+  Ready f x = IsReady registry with_registry has_form stepped f x
+
+  abbrev pub Ends : Call → Answer → Form → S → S → Type 0
+  Ends call a f x y = Done laws with_own call a f x y
+
+  -- ---- questions
+
+  -- a question of metadata is answered false exactly where a leaf vetoes them
+  pub vetoed : (f : Form) (x : S) (lane : Lane) (m meta : Metadata) (fresh pass : Pass) (said : Bool) → Ready f x → m ≡ meta → AnswersEnabled registry has_form x lane m fresh said pass
+      → said ≡ not (vetoes f meta (registry x).store lane.0)
+  vetoed f x lane m meta fresh pass said h same a =
+      (a f h.honest.has).answer ∙ asked_unless_vetoed f m (registry x).store lane.0 (refusals fresh) h.honest.rules.orderly ∙ ap (λ n. not (vetoes f n (registry x).store lane.0)) same
+
+  vetoed_event : (f : Form) (x : S) (lane : Lane) (e : Event) (before pass : Pass) (said : Bool) → Ready f x → AnswersEvent registry has_form x lane e before said pass
+      → said ≡ not (vetoes_event f e (registry x).store lane.0)
+  vetoed_event f x lane e before pass said h a = (a f h.honest.has).answer ∙ event_unless_vetoed f e (registry x).store lane.0 (refusals before) h.honest.rules.orderly
+
+  pub probed : (lane : Lane) (m : Metadata) (fresh pass : Pass) (said : Bool) (f : Form) (x : S) → AnswersEnabled registry has_form x lane m fresh said pass → Ready f x → Ends (Probe lane m) (answer.Yes said) f x x
+  probed lane m fresh pass said f x a h = by_none laws with_own (Probe lane m) (answer.Yes said) f x x h refl (vetoed f x lane m m fresh pass said h refl a, refl)
+
+  -- ---- new spans
+
+  pub span_dropped : (lane : Lane) (attrs : Attributes) (m : Metadata) (fresh pass : Pass) (said : Bool) (f : Form) (x : S) → m ≡ metadata_of attrs → said ≡ false → AnswersEnabled registry has_form x lane m fresh said pass → Ready f x
+      → Ends (OpenSpan lane attrs) answer.Dropped f x x
+  span_dropped lane attrs m fresh pass said f x same no_one a h =
+      by_none laws with_own (OpenSpan lane attrs) answer.Dropped f x x h refl (not_false _ (sym (vetoed f x lane m (metadata_of attrs) fresh pass said h same a) ∙ no_one), refl)
+
+  unvetoed : (lane : Lane) (m meta : Metadata) (fresh pass : Pass) (said : Bool) (f : Form) (x : S) → m ≡ meta → said ≡ true → AnswersEnabled registry has_form x lane m fresh said pass → Ready f x → vetoes f meta (registry x).store lane.0 ≡ false
+  unvetoed lane m meta fresh pass said f x same agreed a h = not_true _ (sym (vetoed f x lane m meta fresh pass said h same a) ∙ agreed)
+
+  -- a question that is answered true is answered so with a new pass
+  asked_true : (lane : Lane) (m meta : Metadata) (fresh pass : Pass) (said : Bool) (f : Form) (x : S) → m ≡ meta → said ≡ true → AnswersEnabled registry has_form x lane m fresh said pass → Ready f x
+      → (asked f meta (registry x).store lane.0 no_filter no_filter).0 ≡ true
+  asked_true lane m meta fresh pass said f x same agreed a h =
+      asked_unless_vetoed f meta (registry x).store lane.0 no_filter h.honest.rules.orderly ∙ ap not (unvetoed lane m meta fresh pass said f x same agreed a h)
+
+  pub span_made : (lane : Lane) (attrs : Attributes) (m : Metadata) (fresh pass : Pass) (said : Bool) (id : Id) (f : Form) (x y : S) → m ≡ metadata_of attrs → IsEmpty (refusals fresh) → said ≡ true
+      → AnswersEnabled registry has_form x lane m fresh said pass → OpensAndNotifies registry has_form stepped lane attrs pass x y id → Ready f x → Ends (OpenSpan lane attrs) (answer.Made id) f x y
+  span_made lane attrs m fresh pass said id f x y same empty agreed a n h =
+      let s = (registry x).store in
+      let law = new_span_fresh f attrs id s lane.0 h.honest.rules.numbers.distinct (asked_true lane m (metadata_of attrs) fresh pass said f x same agreed a h) in
+      let plan = asked_with_new_pass f attrs id s lane.0 fresh pass said m same empty law (a f h.honest.has) n.left.store.spans in
+      let refused = (a f h.honest.has).refused ∙ asked_by_nobody f s lane.0 fresh m (metadata_of attrs) same empty in
+      by_call laws with_own (OpenSpan lane attrs) (answer.Made id) f lane (OnNewSpan attrs id) (refusals pass) _ x y h (unvetoed lane m (metadata_of attrs) fresh pass said f x same agreed a h, refl)
+      n plan (refused_of pass, (λ k. ap (λ (r : FilterSet). r k) refused ∙ law.verdict k), n.taken) refl
+
+  pub span_refused : (lane : Lane) (attrs : Attributes) (m : Metadata) (fresh pass : Pass) (said : Bool) (e : TraceError) (f : Form) (x y : S) → m ≡ metadata_of attrs → said ≡ true → AnswersEnabled registry has_form x lane m fresh said pass
+      → Rattle.span_registry.specs.Step.RefusesNew (registry x) lane (asked_parent attrs) e → y ≡ x → Ready f x → Ends (OpenSpan lane attrs) (answer.Refused e) f x y
+  span_refused lane attrs m fresh pass said e f x y same agreed a r u h =
+      by_none laws with_own (OpenSpan lane attrs) (answer.Refused e) f x y h u ((unvetoed lane m (metadata_of attrs) fresh pass said f x same agreed a h, r), refl)
+
+  -- ---- events
+
+  pub event_dropped : (lane : Lane) (e : Event) (m : Metadata) (fresh pass : Pass) (said : Bool) (f : Form) (x : S) → m ≡ event_metadata e → said ≡ false → AnswersEnabled registry has_form x lane m fresh said pass → Ready f x
+      → Ends (SendEvent lane e) answer.Dropped f x x
+  event_dropped lane e m fresh pass said f x same no_one a h =
+      by_none laws with_own (SendEvent lane e) answer.Dropped f x x h refl (or_left_true _ _ (not_false _ (sym (vetoed f x lane m (event_metadata e) fresh pass said h same a) ∙ no_one)), refl)
+
+  pub event_vetoed : (lane : Lane) (e : Event) (before pass : Pass) (said : Bool) (f : Form) (x : S) → said ≡ false → AnswersEvent registry has_form x lane e before said pass → Ready f x → Ends (SendEvent lane e) answer.Dropped f x x
+  event_vetoed lane e before pass said f x no_one a h =
+      by_none laws with_own (SendEvent lane e) answer.Dropped f x x h refl (or_right_true _ _ (not_false _ (sym (vetoed_event f x lane e before pass said h a) ∙ no_one)), refl)
+
+  pub event_made : (lane : Lane) (e : Event) (m : Metadata) (fresh first second : Pass) (said wanted : Bool) (f : Form) (x y : S) → m ≡ event_metadata e → IsEmpty (refusals fresh) → said ≡ true → wanted ≡ true
+      → AnswersEnabled registry has_form x lane m fresh said first → AnswersEvent registry has_form x lane e first wanted second
+      → Notifies registry has_form stepped lane (refusals second) (OnEvent e) Stays x y → Ready f x → Ends (SendEvent lane e) answer.Done f x y
+  event_made lane e m fresh first second said wanted f x y same empty agreed more a b n h =
+      let s = (registry x).store in
+      let unvetoed_now = not_true _ (sym (vetoed_event f x lane e first second wanted h b) ∙ more) in
+      let true_of_all = event_unless_vetoed f e s lane.0 (asked f (event_metadata e) s lane.0 no_filter no_filter).1 h.honest.rules.orderly ∙ ap not unvetoed_now in
+      let law = event_fresh f e s lane.0 h.honest.rules.numbers.distinct (asked_true lane m (event_metadata e) fresh first said f x same agreed a h) true_of_all in
+      let plan = event_asked_with_new_pass f e s lane.0 fresh first second said wanted m same empty law (a f h.honest.has) (b f h.honest.has) n.left.store.spans in
+      by_call laws with_own (SendEvent lane e) answer.Done f lane (OnEvent e) (refusals second) _ x y h (or_both_false _ _ (unvetoed lane m (event_metadata e) fresh first said f x same agreed a h) unvetoed_now, refl)
+      n plan n.taken refl
+
+  -- ---- enters, exits, and what else is said of a span
+
+  -- who is notified of all else is who is notified afresh, since the spans are as before
+  kept_plan : (f : Form) (e : Notice) (x : S) (lane : Lane) (spans : Spans) → spans ≡ (registry x).store.spans → by_pass f e (registry x).store.spans no_filter no_filter ≡ Rattle.span_registry.specs.Plan.asked_afresh f e (registry x).store lane.0 no_filter
+      → by_pass f e spans no_filter no_filter ≡ Rattle.span_registry.specs.Plan.asked_afresh f e (registry x).store lane.0 no_filter
+  kept_plan f e x lane spans same law = ap (λ v. by_pass f e v no_filter no_filter) same ∙ law
+
+  pub entered_so : (lane : Lane) (id : Id) (r : Result (Unit {0}) TraceError) (f : Form) (x y : S) → OnOk r (Notifies registry has_form stepped lane no_filter (OnEnter id) (Enters lane id) x y) → IfErr r (RefusesEnter (registry x) id) → OnErr r (y ≡ x)
+      → Ready f x → Ends (Enter lane id) (done_answer r) f x y
+  entered_so lane id (Ok u) f x y n r e h =
+      by_call laws with_own (Enter lane id) answer.Done f lane (OnEnter id) no_filter _ x y h (tt, refl)
+      n (kept_plan f (OnEnter id) x lane _ (ap (λ (t : RegistryState). t.store.spans) n.taken.state) (others_afresh f (OnEnter id) (registry x).store lane.0 no_filter no_filter)) n.taken refl
+  entered_so lane id (Err error) f x y n r e h = by_none laws with_own (Enter lane id) (answer.Refused error) f x y h e (r, refl)
+
+  pub left_so : (lane : Lane) (id : Id) (f : Form) (x y : S) → IsOpen (registry x).store.spans (number_of id) → Notifies registry has_form stepped lane no_filter (OnExit id) (Exits lane id) x y → Ready f x → Ends (Exit lane id) answer.Done f x y
+  left_so lane id f x y there n h =
+      by_call laws with_own (Exit lane id) answer.Done f lane (OnExit id) no_filter _ x y h (record { there = λ o. refl; gone = λ shut. absurd (shut there) })
+      n (kept_plan f (OnExit id) x lane _ (ap (λ (t : RegistryState). t.store.spans) n.taken) (others_afresh f (OnExit id) (registry x).store lane.0 no_filter no_filter)) (there, n.taken) refl
+
+  pub gone_so : ((s : S) (w : RegistryState) → registry (with_registry s w) ≡ w) → (lane : Lane) (id : Id) (f : Form) (x : S) (w : RegistryState) → ¬ (IsOpen (registry x).store.spans (number_of id)) → Exits lane id (registry x) w → Ready f x
+      → Ends (Exit lane id) answer.Done f x (with_registry x w)
+  gone_so registry_with lane id f x w shut e h =
+      by_change laws with_own (Exit lane id) answer.Done f (GoneLeft lane id) x (with_registry x w) h (record { there = λ o. absurd (shut o); gone = λ s. refl })
+      (quietly laws with_own registry_with (GoneLeft lane id) x w (shut, e)) (subst (λ (t : RegistryState). IsSettled t.store.spans) (sym (registry_with x w)) (subst IsSettled (sym (ap (λ (t : RegistryState). t.store.spans) e)) h.settled))
+
+  pub recorded_so : (lane : Lane) (id : Id) (values : Record) (f : Form) (x y : S) → IsOpen (registry x).store.spans (number_of id) → Notifies registry has_form stepped lane no_filter (OnRecord id values) Stays x y → Ready f x
+      → Ends (RecordValues lane id values) answer.Done f x y
+  recorded_so lane id values f x y there n h =
+      by_call laws with_own (RecordValues lane id values) answer.Done f lane (OnRecord id values) no_filter _ x y h (tt, refl)
+      n (kept_plan f (OnRecord id values) x lane _ (ap (λ (t : RegistryState). t.store.spans) n.taken) (others_afresh f (OnRecord id values) (registry x).store lane.0 no_filter no_filter)) (there, n.taken) refl
+
+  pub followed_so : (lane : Lane) (id other : Id) (f : Form) (x y : S) → IsOpen (registry x).store.spans (number_of id) → Notifies registry has_form stepped lane no_filter (OnFollows id other) Stays x y → Ready f x
+      → Ends (Follow lane id other) answer.Done f x y
+  followed_so lane id other f x y there n h =
+      by_call laws with_own (Follow lane id other) answer.Done f lane (OnFollows id other) no_filter _ x y h (tt, refl)
+      n (kept_plan f (OnFollows id other) x lane _ (ap (λ (t : RegistryState). t.store.spans) n.taken) (others_afresh f (OnFollows id other) (registry x).store lane.0 no_filter no_filter)) (there, n.taken) refl
+
+  -- ---- handles
+
+  pub cloned_so : (lane : Lane) (id : Id) (r : Result Id TraceError) (f : Form) (x y : S) → OnOk r (Clones id (registry x) (registry y)) → y ≡ with_registry x (registry y) → IfErr r (RefusesClone (registry x) id) → OnErr r (y ≡ x)
+      → Ready f x → Ends (AddHandle lane id) (done_answer r) f x y
+  cloned_so lane id (Ok other) f x y n rest r e h =
+      by_change laws with_own (AddHandle lane id) answer.Done f (HandleAdded id) x y h (tt, refl) (record { changes = n; rest = rest }) (settled_cloned id (registry x) (registry y) n h.settled)
+  cloned_so lane id (Err error) f x y n rest r e h = by_none laws with_own (AddHandle lane id) (answer.Refused error) f x y h e (r, refl)
+
+  pub still_open_so : ((s : S) (w : RegistryState) → registry (with_registry s w) ≡ w) → (lane : Lane) (id : Id) (a : Released) (f : Form) (x : S) (w : RegistryState) → Releases id a (registry x) w → a ≡ StillOpen → IsForest (registry x).store.spans → Ready f x
+      → Ends (DropHandle lane id) (answer.Yes false) f x (with_registry x w)
+  still_open_so registry_with lane id a f x w r same forest h =
+      let drops = drops_open forest h.settled r same in
+      by_change laws with_own (DropHandle lane id) (answer.Yes false) f (HandleTaken id) x (with_registry x w) h
+      (record { closed = []; exact = drops.closes; outcomes = refl; itself = (λ t. absurd (true≢false (sym t)), λ n. absurd n) })
+      (quietly laws with_own registry_with (HandleTaken id) x w (r.held, r.state)) (subst (λ (t : RegistryState). IsSettled t.store.spans) (sym (registry_with x w)) (settled_still h.settled r same))
+
+  -- ---- closes
+
+  -- all that closes by a drop closes
+  pub closed_so : ((s : S) (w : RegistryState) → registry (with_registry s w) ≡ w) → (lane : Lane) (id : Id) (a : Released) (f : Form) (x y : S) (w : RegistryState) → Releases id a (registry x) w → a ≡ Closing → IsForest (registry x).store.spans
+      → ClosesEach registry with_registry has_form stepped lane id (with_registry x w) y → Ready f x → Ends (DropHandle lane id) (answer.Yes true) f x y
+  closed_so registry_with lane id a f x y w r same forest k h =
+      let m : Made = record { form = f; store = (registry x).store; outcome = Quiet (HandleTaken id) } in
+      let z = with_registry x w in
+      let q = quietly laws with_own registry_with (HandleTaken id) x w (r.held, r.state) in
+      let after = honest_quietly laws with_own f (HandleTaken id) x z h.honest q in
+      let notices = k.notices after.0 after.1 in
+      let release : Releases id Closing (registry x) (registry z) = subst (λ t. Releases id Closing (registry x) t) (sym (registry_with x w)) (subst (λ b. Releases id b (registry x) w) same r) in
+      let all : ClosesAll SameButExtensions (registry x) id k.closed (registry y) = record { released = registry z; is_forest = forest; settled = h.settled; release = release; removal = k.removal } in
+      let drops = (closes_with_hooks (registry x) (registry y) id k.closed all).taken in
+      let itself = closes_itself id (registry x) (registry z) k.closed release drops.closes in (
+        (
+          m ∷ notices.0,
+          record {
+            comes = record { closed = k.closed; exact = drops.closes; outcomes = ap (λ os. Quiet (HandleTaken id) ∷ os) notices.2; itself = (λ _. itself, λ _. refl) };
+            goes = (z, record { honest = h.honest; store = refl; goes = q }, notices.1);
+          },
+        ),
+        (notices.3.0, record { honest = notices.3.1; settled = settled_closed (registry x) (registry y) id k.closed all }),
+      )
+
+  -- so far these spans have closed, and this one is closing now
+  pub record SoFar (lane : Lane) (id : Id) (x : S) (xs : List ℕ) (next : Option Id) (y : S) : Type 0 where
+    pub removal : Removal SameButExtensions (registry x) id xs next (registry y)
+    pub notices : (f : Form) → IsHonest registry with_registry has_form stepped f x → (made : List Made) × FoldsTo (Makes registry with_registry has_form stepped) x made y × (map outcome_of made ≡ closes_of lane xs) × ((g : Form) × IsHonest registry with_registry has_form stepped g y)
+
+  pub nothing_yet : (lane : Lane) (id : Id) (x : S) → SoFar lane id x [] (Some id) x
+  nothing_yet lane id x = record { removal = Begun; notices = λ f h. ([], refl, refl, (f, h)) }
+
+  closes_more : (lane : Lane) (xs : List ℕ) (x : ℕ) → closes_of lane (xs ++ (x ∷ [])) ≡ closes_of lane xs ++ (Noticed lane (OnClose (id_of x)) ∷ [])
+  closes_more lane [] x = refl
+  closes_more lane (y ∷ ys) x = ap (λ (os : List Outcome). Noticed lane (OnClose (id_of y)) ∷ os) (closes_more lane ys x)
+
+  outcomes_more : (ms : List Made) (m : Made) → map outcome_of (ms ++ (m ∷ [])) ≡ map outcome_of ms ++ (m.outcome ∷ [])
+  outcomes_more [] m = refl
+  outcomes_more (n ∷ ms) m = ap (λ (os : List Outcome). n.outcome ∷ os) (outcomes_more ms m)
+
+  folds_more : (x : S) (ms : List Made) (y : S) (m : Made) (z : S) → FoldsTo (Makes registry with_registry has_form stepped) x ms y → Makes registry with_registry has_form stepped y m z → FoldsTo (Makes registry with_registry has_form stepped) x (ms ++ (m ∷ [])) z
+  folds_more x [] y m z p q = (z, subst (λ w. Makes registry with_registry has_form stepped w m z) (sym p) q, refl)
+  folds_more x (n ∷ ms) y m z p q = (p.0, p.1, folds_more p.0 ms y m z p.2 q)
+
+  -- the span that is next is closing
+  pub is_next : (lane : Lane) (id : Id) (x : S) (xs : List ℕ) (o : Option Id) (y : S) (span : Id) → IsClosing (registry x).store.spans (number_of id) → SoFar lane id x xs o y → o ≡ Some span → IsClosing (registry y).store.spans (number_of span)
+  is_next lane id x xs o y span k c same =
+      subst (λ (o : Option Id). IfSome o (λ p. IsClosing (registry y).store.spans (number_of p))) same (next_is_closing SameButExtensions (registry x) id (λ s t b. b) k c.removal)
+
+  -- one span more closes: all are notified of it, and then it is taken out
+  pub one_more : ((s : S) (w : RegistryState) → registry (with_registry s w) ≡ w) → (lane : Lane) (id : Id) (x : S) (xs : List ℕ) (o : Option Id) (y z : S) (span : Id) (w : RegistryState) (next : Option Id) → IsClosing (registry x).store.spans (number_of id)
+      → SoFar lane id x xs o y → o ≡ Some span → Notifies registry has_form stepped lane no_filter (OnClose span) Stays y z → Removes span next (registry z) w → SoFar lane id x (xs ++ (number_of span ∷ [])) next (with_registry z w)
+  one_more registry_with lane id x xs o y z span w next k c same n r =
+      let u = with_registry z w in
+      let aside : SameButExtensions (registry y) (registry z) = hooks_alone n in
+      let closing = is_next lane id x xs o y span k c same in
+      let removes : Removes span next (registry z) (registry u) = subst (λ t. Removes span next (registry z) t) (sym (registry_with z w)) r in
+      record {
+        removal = Removed (Between (subst (λ (p : Option Id). Removal SameButExtensions (registry x) id xs p (registry y)) same c.removal) aside) removes;
+        notices = λ f h.
+            let before = c.notices f h in
+            let g = before.3.0 in
+            let plan = ap (λ v. by_pass g (OnClose span) v no_filter no_filter) (ap (λ (t : RegistryState). t.store.spans) n.taken) ∙ others_afresh g (OnClose span) (registry y).store lane.0 no_filter no_filter in
+            let notice : Notices registry with_registry has_form stepped g lane (OnClose span) y u = record {
+              left = n.left;
+              before = (closing, n.taken);
+              notified = z;
+              layers = subst (λ p. stepped y p (OnClose span) lane.0 n.left z (registry z)) plan (n.notified g before.3.1.has before.3.1.rules.still);
+              extensions = n.extensions;
+              after = (next, removes);
+              rest = ap (λ t. with_registry z t) (sym (registry_with z w));
+            } in
+            let m : Made = record { form = g; store = (registry y).store; outcome = Noticed lane (OnClose span) } in (
+              before.0 ++ (m ∷ []),
+              folds_more x before.0 y m u before.1 (record { honest = before.3.1; store = refl; goes = notice }),
+              outcomes_more before.0 m ∙ ap (λ os. os ++ (m.outcome ∷ [])) before.2 ∙ sym (closes_more lane xs (number_of span)),
+              honest_after laws with_own g lane (OnClose span) y u before.3.1 notice,
+            );
+      }
+
+  pub all_closed : (lane : Lane) (id : Id) (x : S) (xs : List ℕ) (o : Option Id) (y : S) → SoFar lane id x xs o y → o ≡ None → ClosesEach registry with_registry has_form stepped lane id x y
+  all_closed lane id x xs o y c same = record { closed = xs; removal = subst (λ (p : Option Id). Removal SameButExtensions (registry x) id xs p (registry y)) same c.removal; notices = c.notices }
+
+  -- ---- a stack that is put in use
+
+  pub used_so : (f : Form) (x y : S) → registered x y → registry y ≡ registry x → Ready f x → IsReadySomehow registry with_registry has_form stepped y
+  used_so f x y used same h =
+      let next = laws.put_in_use x y f used h.honest.has in (
+        next.0,
+        record {
+          honest = record { has = next.1; rules = subst (λ n. IsHonestStack next.0 n) (sym (ap (λ (s : RegistryState). s.filters) same)) (honesty_is_kept f next.0 (registry x).filters next.2 h.honest.rules) };
+          settled = subst (λ (s : RegistryState). IsSettled s.store.spans) (sym same) h.settled;
+        },
+      )

@@ -1,0 +1,136 @@
+-- How an honest stack goes on: through a notice or a quiet change, after which it is honest; and how a call is served by one of these.
+use Rattle.std.proofs.Common.{◌≡◌, List, [], ◌∷◌, refl, sym, ap, subst, ◌∙◌}
+use Rattle.span_core.specs.Filters.{FilterSet}
+use Rattle.span_core.specs.declared.span.Lane.{Lane}
+use Rattle.span_dispatch.specs.Call.{Call, Comes}
+use Rattle.span_dispatch.specs.Outcome.{Change, Changes, GoneLeft, HandleAdded, HandleTaken, IsHonest, Made, Noticed, Notices, Quiet, Quiets, StepsAfter, StepsBefore}
+use Rattle.span_dispatch.specs.Serve.{IsReady, IsReadySomehow, Serves}
+use Rattle.span_dispatch.specs.declared.request.Answer.{Answer}
+use Rattle.span_layers.proofs.HonestKept.{honesty_is_kept}
+use Rattle.span_layers.specs.Honest.{IsHonestStack}
+use Rattle.span_registry.proofs.CallerLemmas.{settled_opened}
+use Rattle.span_registry.specs.Answers.{Notice, OnClose, OnEnter, OnEvent, OnExit, OnFollows, OnIdChange, OnNewSpan, OnRecord}
+use Rattle.span_registry.specs.Closes.{IsSettled}
+use Rattle.span_registry.specs.Follows.{Follows, kept_form}
+use Rattle.span_registry.specs.Form.{Form}
+use Rattle.span_registry.specs.Hooks.{Notifies, StackLaws, StackSteps, no_filter}
+use Rattle.span_registry.specs.Plan.{asked_afresh, by_pass}
+use Rattle.span_registry.specs.Store.{RegistryState}
+
+-- ---- what a notice leaves of the registry
+
+filters_same : {s t : RegistryState} → t ≡ s → t.filters ≡ s.filters
+filters_same e = ap (λ (r : RegistryState). r.filters) e
+
+filters_before : (f : Form) (lane : Lane) (e : Notice) (s t : RegistryState) → StepsBefore f lane e s t → t.filters ≡ s.filters
+filters_before f lane (OnNewSpan attrs id) s t b = filters_same b.2.state
+filters_before f lane (OnRecord id values) s t b = filters_same b.1
+filters_before f lane (OnFollows id other) s t b = filters_same b.1
+filters_before f lane (OnEvent e) s t b = filters_same b
+filters_before f lane (OnEnter id) s t b = filters_same b.state
+filters_before f lane (OnExit id) s t b = filters_same b.1
+filters_before f lane (OnIdChange id other) s t b = absurd b
+filters_before f lane (OnClose id) s t b = filters_same b.1
+
+filters_after : (e : Notice) (s t : RegistryState) → StepsAfter e s t → t.filters ≡ s.filters
+filters_after (OnNewSpan attrs id) s t b = filters_same b
+filters_after (OnRecord id values) s t b = filters_same b
+filters_after (OnFollows id other) s t b = filters_same b
+filters_after (OnEvent e) s t b = filters_same b
+filters_after (OnEnter id) s t b = filters_same b
+filters_after (OnExit id) s t b = filters_same b
+filters_after (OnIdChange id other) s t b = filters_same b
+filters_after (OnClose id) s t b = b.1.taken.filters
+
+filters_changed : (c : Change) (s t : RegistryState) → Changes c s t → t.filters ≡ s.filters
+filters_changed (HandleAdded id) s t b = filters_same b.state
+filters_changed (HandleTaken id) s t b = filters_same b.1
+filters_changed (GoneLeft lane id) s t b = filters_same b.1
+
+settled_same : (s t : RegistryState) → t.store.spans ≡ s.store.spans → IsSettled s.store.spans → IsSettled t.store.spans
+settled_same s t e h = subst IsSettled (sym e) h
+
+spans_same : {s t : RegistryState} → t ≡ s → t.store.spans ≡ s.store.spans
+spans_same e = ap (λ (r : RegistryState). r.store.spans) e
+
+-- what the registry does before a notice leaves no span closing
+pub settled_before : (f : Form) (lane : Lane) (e : Notice) (s t : RegistryState) → StepsBefore f lane e s t → IsSettled s.store.spans → IsSettled t.store.spans
+settled_before f lane (OnNewSpan attrs id) s t b h = settled_opened lane _ id s t b.2 h
+settled_before f lane (OnRecord id values) s t b h = settled_same s t (spans_same b.1) h
+settled_before f lane (OnFollows id other) s t b h = settled_same s t (spans_same b.1) h
+settled_before f lane (OnEvent e) s t b h = settled_same s t (spans_same b) h
+settled_before f lane (OnEnter id) s t b h = settled_same s t (spans_same b.state) h
+settled_before f lane (OnExit id) s t b h = settled_same s t (spans_same b.1) h
+settled_before f lane (OnIdChange id other) s t b h = absurd b
+settled_before f lane (OnClose id) s t b h = settled_same s t (spans_same b.1) h
+
+module _ {S : Type 0} {registry : S → RegistryState} {with_registry : S → RegistryState → S} {usable : S → Type 0} {has_form : S → Form → Type 0} {stepped : StackSteps S} {registered : S → S → Type 0}
+    (laws : StackLaws with_registry usable has_form stepped registered) (with_own : (s : S) → with_registry s (registry s) ≡ s) where
+  abbrev pub Honest : Form → S → Type 0
+  Honest f x = IsHonest registry with_registry has_form stepped f x
+
+  -- a form that follows, on as many filters, is honest
+  followed : (f : Form) (x y : S) → Honest f x → Follows (has_form y) f → (registry y).filters ≡ (registry x).filters → (g : Form) × Honest g y
+  followed f x y h k e = (k.0, record { has = k.1; rules = subst (λ n. IsHonestStack k.0 n) (sym e) (honesty_is_kept f k.0 (registry x).filters k.2 h.rules) })
+
+  elsewhere : (f : Form) (x y : S) (w : RegistryState) → y ≡ with_registry x w → Follows (has_form x) f → Follows (has_form y) f
+  elsewhere f x y w e k = (k.0, subst (λ z. has_form z k.0) (sym e) (laws.form_with x w k.0 k.1), k.2)
+
+  -- after a notice an honest stack is honest
+  pub honest_after : (f : Form) (lane : Lane) (e : Notice) (x y : S) → Honest f x → Notices registry with_registry has_form stepped f lane e x y → (g : Form) × Honest g y
+  honest_after f lane e x y h n =
+      let next = laws.keeps x _ e lane.0 n.left n.notified (registry n.notified) f n.layers h.has in
+      followed f x y h (elsewhere f n.notified y (registry y) n.rest next) (filters_after e (registry n.notified) (registry y) n.after ∙ n.extensions.filters ∙ filters_before f lane e (registry x) n.left n.before)
+
+  -- after a quiet change it is
+  pub honest_quietly : (f : Form) (c : Change) (x y : S) → Honest f x → Quiets registry with_registry has_form stepped c x y → (g : Form) × Honest g y
+  honest_quietly f c x y h q = followed f x y h (elsewhere f x y (registry y) q.rest (f, h.has, kept_form f)) (filters_changed c (registry x) (registry y) q.changes)
+
+  -- ---- a call that is served by one outcome, or by none
+
+  abbrev pub Ready : Form → S → Type 0
+  Ready f x = IsReady registry with_registry has_form stepped f x
+
+  -- it is served, and the stack is ready again
+  abbrev pub Done : Call → Answer → Form → S → S → Type 0
+  Done call a f x y = ((made : List Made) × Serves registry with_registry has_form stepped call f x a made y) × IsReadySomehow registry with_registry has_form stepped y
+
+  pub by_none : (call : Call) (a : Answer) (f : Form) (x y : S) → Ready f x → y ≡ x → Comes call f (registry x) a [] → Done call a f x y
+  by_none call a f x y h e c = (([], record { comes = c; goes = sym e }), (f, subst (Ready f) (sym e) h))
+
+  pub by_notice : (call : Call) (a : Answer) (f : Form) (lane : Lane) (e : Notice) (x y : S) → Ready f x → Comes call f (registry x) a (Noticed lane e ∷ [])
+      → (n : Notices registry with_registry has_form stepped f lane e x y) → (registry y).store.spans ≡ n.left.store.spans → Done call a f x y
+  by_notice call a f lane e x y h c n same =
+      let m : Made = record { form = f; store = (registry x).store; outcome = Noticed lane e } in
+      let next = honest_after f lane e x y h.honest n in (
+        (m ∷ [], record { comes = c; goes = (y, record { honest = h.honest; store = refl; goes = n }, refl) }),
+        (next.0, record { honest = next.1; settled = subst IsSettled (sym same) (settled_before f lane e (registry x) n.left n.before h.settled) }),
+      )
+
+  -- the same of a call of the stack, which notified by a plan that is the plan asked afresh
+  pub by_call : (call : Call) (a : Answer) (f : Form) (lane : Lane) (e : Notice) (refused : FilterSet) (step : RegistryState → RegistryState → Type 0) (x y : S) → Ready f x → Comes call f (registry x) a (Noticed lane e ∷ [])
+      → (n : Notifies registry has_form stepped lane refused e step x y) → by_pass f e n.left.store.spans no_filter refused ≡ asked_afresh f e (registry x).store lane.0 no_filter
+      → StepsBefore f lane e (registry x) n.left → StepsAfter e (registry y) (registry y) → Done call a f x y
+  by_call call a f lane e refused step x y h c n plan before after =
+      by_notice call a f lane e x y h c (record {
+        left = n.left;
+        before = before;
+        notified = y;
+        layers = subst (λ p. stepped x p e lane.0 n.left y (registry y)) plan (n.notified f h.honest.has h.honest.rules.still);
+        extensions = n.extensions;
+        after = after;
+        rest = sym (with_own y);
+      }) n.extensions.spans
+
+  pub by_change : (call : Call) (a : Answer) (f : Form) (k : Change) (x y : S) → Ready f x → Comes call f (registry x) a (Quiet k ∷ [])
+      → (q : Quiets registry with_registry has_form stepped k x y) → IsSettled (registry y).store.spans → Done call a f x y
+  by_change call a f k x y h c q s =
+      let m : Made = record { form = f; store = (registry x).store; outcome = Quiet k } in
+      let next = honest_quietly f k x y h.honest q in (
+        (m ∷ [], record { comes = c; goes = (y, record { honest = h.honest; store = refl; goes = q }, refl) }),
+        (next.0, record { honest = next.1; settled = s }),
+      )
+
+  -- a stack with another registry
+  pub quietly : ((s : S) (w : RegistryState) → registry (with_registry s w) ≡ w) → (k : Change) (x : S) (w : RegistryState) → Changes k (registry x) w → Quiets registry with_registry has_form stepped k x (with_registry x w)
+  quietly registry_with k x w c = record { changes = subst (λ r. Changes k (registry x) r) (sym (registry_with x w)) c; rest = ap (λ r. with_registry x r) (sym (registry_with x w)) }

@@ -1,0 +1,119 @@
+-- What a dispatcher is asked, and how it answers: which outcomes come of a call, and when it is refused.
+use Rattle.std.specs.Prelude.{◌≡◌, ◌↔◌, ⊤, ℕ, Bool, true, false, not, ◌||◌, IsTrue, List, [], ◌∷◌, map, Option, Some, None, Result, Ok, Err}
+use Rattle.std.specs.Option.{option_map}
+use Rattle.span_core.specs.Event.{event_metadata}
+use Rattle.span_core.specs.Span.{asked_parent, current_span, id_of, metadata_of, number_of}
+use Rattle.span_core.specs.declared.error.TraceError.TheVariants.{UnknownSpan}
+use Rattle.span_core.specs.declared.error.TraceError.{TraceError}
+use Rattle.span_core.specs.declared.event.Event.{Event}
+use Rattle.span_core.specs.declared.metadata.Metadata.{Metadata}
+use Rattle.span_core.specs.declared.span.Attributes.{Attributes}
+use Rattle.span_core.specs.declared.span.Current.{Current}
+use Rattle.span_core.specs.declared.span.Id.{Id}
+use Rattle.span_core.specs.declared.span.Lane.{Lane}
+use Rattle.span_core.specs.declared.span.Record.{Record}
+use Rattle.span_dispatch.specs.Outcome.{HandleAdded, HandleTaken, GoneLeft, Noticed, Outcome, Quiet}
+use Rattle.span_dispatch.specs.declared.request.Answer.TheVariants as answer
+use Rattle.span_dispatch.specs.declared.request.Answer.{Answer}
+use Rattle.span_layers.specs.Verdict.{vetoes, vetoes_event}
+use Rattle.span_registry.specs.Answers.{OnClose, OnEnter, OnEvent, OnExit, OnFollows, OnNewSpan, OnRecord}
+use Rattle.span_registry.specs.Closes.{Closes, Member}
+use Rattle.span_registry.specs.Form.{Form}
+use Rattle.span_registry.specs.Step.{IsCurrent, RefusesClone, RefusesEnter, RefusesNew, RefusesRelease}
+use Rattle.span_registry.specs.Store.{IsOpen, RegistryState, Store}
+
+-- what a dispatcher is asked, from a lane
+pub data Call : Type 0 where
+  OpenSpan : Lane → Attributes → Call
+  SendEvent : Lane → Event → Call
+  Enter : Lane → Id → Call
+  Exit : Lane → Id → Call
+  RecordValues : Lane → Id → Record → Call
+  Follow : Lane → Id → Id → Call
+  AddHandle : Lane → Id → Call
+  DropHandle : Lane → Id → Call
+  Probe : Lane → Metadata → Call
+  AskCurrent : Lane → Call
+
+-- whether a leaf with no filter round it refuses an event, by its metadata or itself
+abbrev pub vetoes_whole : Form → Event → Store → Lane → Bool
+vetoes_whole f e s lane = vetoes f (event_metadata e) s lane.0 || vetoes_event f e s lane.0
+
+-- why a notice of a span is refused: it isn't open
+abbrev pub RefusesUnlessOpen : RegistryState → Id → TraceError → Type 0
+RefusesUnlessOpen s x (UnknownSpan y) = (y ≡ x) × ¬ (IsOpen s.store.spans (number_of x))
+RefusesUnlessOpen s x other = ⊥
+
+-- a lane leaves a span: all are notified where it is open, and nobody where it is gone
+pub record Leaves (lane : Lane) (id : Id) (s : RegistryState) (os : List Outcome) : Type 0 where
+  pub there : IsOpen s.store.spans (number_of id) → os ≡ Noticed lane (OnExit id) ∷ []
+  pub gone : ¬ (IsOpen s.store.spans (number_of id)) → os ≡ Quiet (GoneLeft lane id) ∷ []
+
+-- each of these spans closes
+abbrev pub closes_of : Lane → List ℕ → List Outcome
+closes_of lane closed = map (λ x. Noticed lane (OnClose (id_of x))) closed
+
+-- a handle is taken, and all that is closed by that closes, in the order in which it should; whether the span is one of them
+pub record DropsHandle (lane : Lane) (id : Id) (s : RegistryState) (closes : Bool) (os : List Outcome) : Type 0 where
+  pub closed : List ℕ
+  pub exact : Closes s.store.spans (number_of id) closed
+  pub outcomes : os ≡ Quiet (HandleTaken id) ∷ closes_of lane closed
+  pub itself : IsTrue closes ↔ Member (number_of id) closed
+
+-- a fact holds, and nothing comes of the call
+abbrev pub AndNothing : Type 0 → List Outcome → Type 0
+AndNothing fact os = fact × (os ≡ [])
+
+-- a fact holds, and this alone comes of the call
+abbrev pub AndOne : Type 0 → Outcome → List Outcome → Type 0
+AndOne fact o os = fact × (os ≡ o ∷ [])
+
+-- how a call is answered by a stack of this form on this registry, and which outcomes come of it. A new span and an event are dropped exactly where a leaf vetoes; all refusals are those of the registry
+abbrev pub Comes : Call → Form → RegistryState → Answer → List Outcome → Type 0
+Comes (OpenSpan lane a) f s (answer.Made id) os = AndOne (vetoes f (metadata_of a) s.store lane.0 ≡ false) (Noticed lane (OnNewSpan a id)) os
+Comes (OpenSpan lane a) f s answer.Dropped os = AndNothing (vetoes f (metadata_of a) s.store lane.0 ≡ true) os
+Comes (OpenSpan lane a) f s (answer.Refused e) os = AndNothing ((vetoes f (metadata_of a) s.store lane.0 ≡ false) × RefusesNew s lane (asked_parent a) e) os
+Comes (SendEvent lane e) f s answer.Done os = AndOne (vetoes_whole f e s.store lane ≡ false) (Noticed lane (OnEvent e)) os
+Comes (SendEvent lane e) f s answer.Dropped os = AndNothing (vetoes_whole f e s.store lane ≡ true) os
+Comes (Enter lane id) f s answer.Done os = AndOne ⊤ (Noticed lane (OnEnter id)) os
+Comes (Enter lane id) f s (answer.Refused e) os = AndNothing (RefusesEnter s id e) os
+Comes (Exit lane id) f s answer.Done os = Leaves lane id s os
+Comes (RecordValues lane id values) f s answer.Done os = AndOne ⊤ (Noticed lane (OnRecord id values)) os
+Comes (RecordValues lane id values) f s (answer.Refused e) os = AndNothing (RefusesUnlessOpen s id e) os
+Comes (Follow lane id other) f s answer.Done os = AndOne ⊤ (Noticed lane (OnFollows id other)) os
+Comes (Follow lane id other) f s (answer.Refused e) os = AndNothing (RefusesUnlessOpen s id e) os
+Comes (AddHandle lane id) f s answer.Done os = AndOne ⊤ (Quiet (HandleAdded id)) os
+Comes (AddHandle lane id) f s (answer.Refused e) os = AndNothing (RefusesClone s id e) os
+Comes (DropHandle lane id) f s (answer.Yes closes) os = DropsHandle lane id s closes os
+Comes (DropHandle lane id) f s (answer.Refused e) os = AndNothing (RefusesRelease s id e) os
+Comes (Probe lane m) f s (answer.Yes wanted) os = AndNothing (wanted ≡ not (vetoes f m s.store lane.0)) os
+Comes (AskCurrent lane) f s (answer.Current o) os = AndNothing (IsCurrent s.store lane.0 (option_map number_of o)) os
+Comes call f s a os = ⊥
+
+-- Below: what a call of a dispatcher gives, as an answer.
+
+-- of a new span
+abbrev pub span_answer : Result (Option Id) TraceError → Answer
+span_answer (Ok (Some id)) = answer.Made id
+span_answer (Ok None) = answer.Dropped
+span_answer (Err e) = answer.Refused e
+
+-- of an event
+abbrev pub event_answer : Result Bool TraceError → Answer
+event_answer (Ok true) = answer.Done
+event_answer (Ok false) = answer.Dropped
+event_answer (Err e) = answer.Refused e
+
+-- of a call that gives nothing but a refusal
+abbrev pub done_answer : {A : Type 0} → Result A TraceError → Answer
+done_answer (Ok a) = answer.Done
+done_answer (Err e) = answer.Refused e
+
+-- of a call that gives a truth value
+abbrev pub yes_answer : Result Bool TraceError → Answer
+yes_answer (Ok said) = answer.Yes said
+yes_answer (Err e) = answer.Refused e
+
+-- of a look at the span that a lane is in
+abbrev pub current_answer : Current → Answer
+current_answer c = answer.Current (option_map (λ o. o.0) (current_span c))

@@ -1,0 +1,56 @@
+-- What a recorder keeps of what it is notified of.
+use Rattle.std.specs.Prelude.{◌≡◌, ℕ, ◌+◌, ◌≤◌, Bool, true, false, List, [], ◌∷◌, ◌++◌, length}
+use Rattle.span_core.specs.Event.{event_metadata}
+use Rattle.span_core.specs.Metadata.{callsite_of}
+use Rattle.span_core.specs.declared.span.Lane.{Lane}
+use Rattle.span_dispatch.specs.declared.notice.Notice.TheVariants as kept
+use Rattle.span_dispatch.specs.declared.notice.Notice.{Notice as KeptNotice}
+use Rattle.span_layers.specs.Layer.{LayerLaws, LayerSteps}
+use Rattle.span_layers.specs.Observe.{fixed_laws, open_answers}
+use Rattle.span_registry.specs.Answers.{Notice, OnClose, OnEnter, OnEvent, OnExit, OnFollows, OnIdChange, OnNewSpan, OnRecord}
+use Rattle.span_registry.specs.Form.{Leaf}
+
+-- a recorder: the notices that it keeps, how many more it has memory for, and whether it has failed for want of memory
+pub record Kept : Type 0 where
+  pub notices : List KeptNotice
+  pub room : ℕ
+  pub failed : Bool
+
+-- a recorder as it begins
+abbrev pub new_recorder : Kept
+new_recorder = record { notices = []; room = 0; failed = false }
+
+-- a recorder is notified of these: behind what it has it keeps a beginning of them, all of them unless it fails, and none once it has failed. It fails only where a notice is lost for which it had no room. Notified of nothing, it is as before
+pub record Records (old new : Kept) (due : List KeptNotice) : Type 0 where
+  pub more : List KeptNotice
+  pub lost : List KeptNotice
+  pub split : due ≡ more ++ lost
+  pub kept : new.notices ≡ old.notices ++ more
+  pub all : new.failed ≡ false → lost ≡ []
+  pub failed : old.failed ≡ true → (new.failed ≡ true) × (more ≡ [])
+  pub fails : old.failed ≡ false → new.failed ≡ true → ¬ (lost ≡ []) × (old.room ≤ length more)
+  pub room : old.room ≤ length more + new.room
+  pub silent : due ≡ [] → new ≡ old
+
+-- the lane with this number
+abbrev pub lane_of : ℕ → Lane
+lane_of n = record { 0 = n }
+
+-- what it keeps of a notice on a lane
+abbrev pub kept_notice : ℕ × Notice → KeptNotice
+kept_notice (lane, OnNewSpan attrs id) = kept.New (lane_of lane) id
+kept_notice (lane, OnRecord id values) = kept.Record (lane_of lane) id
+kept_notice (lane, OnFollows id other) = kept.Follows (lane_of lane) id other
+kept_notice (lane, OnEvent e) = kept.Event (lane_of lane) (callsite_of (event_metadata e))
+kept_notice (lane, OnEnter id) = kept.Enter (lane_of lane) id
+kept_notice (lane, OnExit id) = kept.Exit (lane_of lane) id
+kept_notice (lane, OnIdChange id other) = kept.IdChange (lane_of lane) id other
+kept_notice (lane, OnClose id) = kept.Close (lane_of lane) id
+
+-- it is notified of each notice of a hook, and leaves the registry alone
+abbrev pub recorder_steps : LayerSteps Kept
+recorder_steps x p e lane under v y w = Records x y (kept_notice (lane, e) ∷ []) × (w ≡ v)
+
+-- it has one form, whatever it keeps
+pub recorder_laws : LayerLaws (λ (x : Kept) f. f ≡ Leaf true open_answers) recorder_steps (λ x y. y ≡ x)
+recorder_laws = fixed_laws (Leaf true open_answers) recorder_steps

@@ -1,0 +1,133 @@
+-- How a dispatcher serves a call, and a list of requests.
+use Rattle.std.specs.Prelude.{◌≡◌, ℕ, List, [], ◌∷◌, ◌++◌, map, Option, Some, None, slice_get}
+use Rattle.std.specs.List.{FoldsTo}
+use Rattle.std.specs.Option.{option_and_then, option_map, option_map_or}
+use Rattle.span_core.specs.Event.{event_metadata, event_parent, event_values}
+use Rattle.span_core.specs.Span.{asked_parent, metadata_of, number_of, recorded_values, values_of}
+use Rattle.span_core.specs.declared.span.Id.{Id}
+use Rattle.span_core.specs.declared.span.Parent.TheVariants as parent
+use Rattle.span_core.specs.declared.span.Parent.{Parent}
+use Rattle.span_dispatch.specs.Call.{AddHandle, AskCurrent, Call, Comes, DropHandle, Enter, Exit, Follow, OpenSpan, Probe, RecordValues, SendEvent, closes_of}
+use Rattle.span_dispatch.specs.Outcome.{IsHonest, Made, Makes, Noticed, Outcome}
+use Rattle.span_dispatch.specs.declared.dispatch.Dispatch.{Dispatch}
+use Rattle.span_dispatch.specs.declared.request.Answer.TheVariants as answer
+use Rattle.span_dispatch.specs.declared.request.Answer.{Answer}
+use Rattle.span_dispatch.specs.declared.request.Request.TheVariants as request
+use Rattle.span_dispatch.specs.declared.request.Request.{Request}
+use Rattle.span_dispatch.specs.declared.request.Which.TheVariants as which
+use Rattle.span_dispatch.specs.declared.request.Which.{Which}
+use Rattle.span_dispatch.specs.declared.request.WhichParent.TheVariants as asked
+use Rattle.span_dispatch.specs.declared.request.WhichParent.{WhichParent}
+use Rattle.span_registry.specs.Answers.{OnClose}
+use Rattle.span_registry.specs.Closes.{IsSettled, Member}
+use Rattle.span_registry.specs.Form.{Form}
+use Rattle.span_core.specs.declared.span.Lane.{Lane}
+use Rattle.span_registry.specs.Hooks.{StackSteps}
+use Rattle.span_registry.specs.Step.{Removal}
+use Rattle.span_registry.specs.Subscriber.{SameButExtensions}
+use Rattle.span_registry.specs.Store.{RegistryState}
+
+-- the stack of a dispatcher
+abbrev pub stack_of : {S : Type 0} → Dispatch S → S
+stack_of d = d.stack
+
+-- the span that an answer gave
+abbrev pub made_by : Option Answer → Option Id
+made_by (Some (answer.Made x)) = Some x
+made_by o = None
+
+-- the span that a request names, where these are the answers so far
+abbrev pub resolved : List Answer → Which → Option Id
+resolved past (which.Known x) = Some x
+resolved past (which.Made k) = made_by (slice_get past k)
+
+-- the parent that a request asks for, where these are the answers so far: a root where its span was not made
+abbrev pub resolved_parent : List Answer → WhichParent → Parent
+resolved_parent past asked.Root = parent.Root
+resolved_parent past asked.Contextual = parent.Contextual
+resolved_parent past (asked.Explicit w) = option_map_or (λ x. parent.Explicit x) (resolved past w) parent.Root
+
+-- what a request asks of a dispatcher, where these are the answers so far: nothing where it names no span. Values are handed on as they came
+abbrev pub AsksFor : List Answer → Request → Option Call → Type 0
+AsksFor past (request.NewSpan lane m p values) (Some (OpenSpan l a)) = (l ≡ lane) × (metadata_of a ≡ m) × (asked_parent a ≡ resolved_parent past p) × (values_of a ≡ values.now)
+AsksFor past (request.Event lane m p values) (Some (SendEvent l e)) = (l ≡ lane) × (event_metadata e ≡ m) × (event_parent e ≡ resolved_parent past p) × (event_values e ≡ values.now)
+AsksFor past (request.Enter lane w) o = o ≡ option_map (λ x. Enter lane x) (resolved past w)
+AsksFor past (request.Exit lane w) o = o ≡ option_map (λ x. Exit lane x) (resolved past w)
+AsksFor past (request.Record lane w values) (Some (RecordValues l x r)) = (l ≡ lane) × (resolved past w ≡ Some x) × (recorded_values r ≡ values.now)
+AsksFor past (request.Record lane w values) None = resolved past w ≡ None
+AsksFor past (request.Follows lane w v) o = o ≡ option_and_then (λ x. option_map (λ y. Follow lane x y) (resolved past v)) (resolved past w)
+AsksFor past (request.Clone lane w) o = o ≡ option_map (λ x. AddHandle lane x) (resolved past w)
+AsksFor past (request.Drop lane w) o = o ≡ option_map (λ x. DropHandle lane x) (resolved past w)
+AsksFor past (request.Enabled lane m) o = o ≡ Some (Probe lane m)
+AsksFor past (request.Current lane) o = o ≡ Some (AskCurrent lane)
+AsksFor past r o = ⊥
+
+-- the outcome that was made
+abbrev pub outcome_of : Made → Outcome
+outcome_of m = m.outcome
+
+-- the span that an outcome closes, if it is a close
+abbrev pub closed_by : Outcome → List ℕ
+closed_by (Noticed lane (OnClose id)) = number_of id ∷ []
+closed_by other = []
+
+-- the spans that a run closes, in order
+abbrev pub closed_in : List Made → List ℕ
+closed_in [] = []
+closed_in (m ∷ ms) = closed_by m.outcome ++ closed_in ms
+
+-- none of them stands twice
+abbrev pub StandOnce : List ℕ → Type 0
+StandOnce [] = Unit {0}
+StandOnce (x ∷ xs) = ¬ (Member x xs) × StandOnce xs
+
+-- all that was made, request by request, in one list
+abbrev pub flat : List (List Made) → List Made
+flat [] = []
+flat (ms ∷ made) = ms ++ flat made
+
+module _ {S : Type 0} (registry : S → RegistryState) (with_registry : S → RegistryState → S) (has_form : S → Form → Type 0) (stepped : StackSteps S) where
+  -- between two requests: no span is closing, and the stack is honest by this form
+  pub record IsReady (f : Form) (x : S) : Type 0 where
+    pub honest : IsHonest registry with_registry has_form stepped f x
+    pub settled : IsSettled (registry x).store.spans
+
+  -- the same by some form
+  abbrev pub IsReadySomehow : S → Type 0
+  IsReadySomehow x = (f : Form) × IsReady f x
+
+  -- a call is answered so by a stack of this form, and this was made of it
+  pub record Serves (call : Call) (f : Form) (x : S) (a : Answer) (made : List Made) (y : S) : Type 0 where
+    pub comes : Comes call f (registry x) a (map outcome_of made)
+    pub goes : FoldsTo (Makes registry with_registry has_form stepped) x made y
+
+  -- a dispatcher that is ready answers a call so, and then it is ready again
+  abbrev pub Answers : Call → Answer → Dispatch S → Dispatch S → Type 0
+  Answers call a old new = (f : Form) → IsReady f (stack_of old) → (made : List Made) × Serves call f (stack_of old) a made (stack_of new)
+
+  abbrev pub StaysReady : Dispatch S → Dispatch S → Type 0
+  StaysReady old new = IsReadySomehow (stack_of old) → IsReadySomehow (stack_of new)
+
+  -- one request: what it asks for is served, or, where it names no span, nothing is asked and nothing changes
+  abbrev pub ServesAsked : Option Call → S → Answer → List Made → S → Type 0
+  ServesAsked None x a made y = (a ≡ answer.Dropped) × (made ≡ []) × (y ≡ x)
+  ServesAsked (Some call) x a made y = (f : Form) × IsReady f x × Serves call f x a made y
+
+  -- a list of requests, one after another, behind these answers: one answer for each, and a list of what was made of it
+  abbrev pub Run : List Answer → List Request → List Answer → List (List Made) → S → S → Type 0
+  Run past [] [] [] x y = y ≡ x
+  Run past (r ∷ rs) (a ∷ answers) (ms ∷ made) x y =
+      (z : S) × (asked : Option Call) × AsksFor past r asked × ServesAsked asked x a ms z × Run (past ++ (a ∷ [])) rs answers made z y
+  Run past rs answers made x y = ⊥
+
+  -- the requests are served so: there is one list of what was made of them, and over the whole of it no span closes twice
+  pub record Served (x : S) (requests : List Request) (answers : List Answer) (y : S) : Type 0 where
+    pub made : List (List Made)
+    pub run : Run [] requests answers made x y
+    pub once : StandOnce (closed_in (flat made))
+
+  -- from a stack in which a span is closing: it is taken out, and so is each parent that closes by that; before each is, all are notified of its close
+  pub record ClosesEach (lane : Lane) (id : Id) (x y : S) : Type 0 where
+    pub closed : List ℕ
+    pub removal : Removal SameButExtensions (registry x) id closed None (registry y)
+    pub notices : (f : Form) → IsHonest registry with_registry has_form stepped f x → (made : List Made) × FoldsTo (Makes registry with_registry has_form stepped) x made y × (map outcome_of made ≡ closes_of lane closed) × ((g : Form) × IsHonest registry with_registry has_form stepped g y)

@@ -1,0 +1,153 @@
+//! A layer that keeps what it is notified of.
+ghost use Rattle.std.specs.Prelude.{◌≡◌, ◌∷◌, [], true};
+ghost use Rattle.span_dispatch.specs.Recorder.{Records, new_recorder, recorder_laws, recorder_steps};
+ghost use Rattle.span_layers.specs.Observe.{open_answers};
+ghost use Rattle.span_registry.specs.Form.{Leaf};
+
+use crate::notice::Notice;
+use span_core::{Attributes, Event, Id, Interest, LevelFilter, Metadata, Pass, Record};
+use span_layers::Layer;
+use span_registry::{Context, ContextMut, Subscriber};
+use std::alloc::Global;
+use std::marker::Model;
+
+/// A layer that wants everything, and keeps a notice of each hook, up to the first that found no memory.
+///
+/// Own to this port.
+#[derive(Debug, Drop)]
+pub struct Recorder {
+    notices: Vec<Notice>,
+    failed: bool,
+}
+
+impl Model for Recorder {
+    ghost use Rattle.std.specs.Prelude.{◌-◌, vec_capacity, vec_len};
+    ghost use Rattle.span_dispatch.specs.Recorder.{Kept};
+
+    ghost Value = { Kept };
+
+    ghost view = { λ a. record {
+      notices = a.notices.items;
+      room = vec_capacity a.notices - vec_len a.notices;
+      failed = a.failed;
+    } };
+}
+
+impl Recorder {
+    /// A recorder that was notified of nothing yet.
+    pub fn new(alloc: Global) -> Self
+        ensures { result ≡ new_recorder }
+    {
+        Recorder {
+            notices: Vec::new(alloc),
+            failed: false,
+        }
+    }
+
+    /// What it keeps, in the order in which it was notified.
+    pub fn notices(&self) -> &[Notice]
+        ensures { result.now ≡ self.now.notices }
+    {
+        &self.notices
+    }
+
+    /// It found no memory for a notice, and has kept nothing since.
+    pub fn failed(&self) -> bool
+        ensures { result ≡ self.now.failed }
+    {
+        self.failed
+    }
+
+    /// Keeps a notice, if there is memory for it.
+    fn keep(&mut self, notice: Notice)
+        ensures { Records self.old self.new (notice ∷ []) }
+    {
+        if self.failed {
+            return;
+        }
+        if self.notices.push(notice).is_err() {
+            self.failed = true;
+            return;
+        }
+    }
+}
+
+impl<S: Subscriber> Layer<S> for Recorder {
+    ghost has_form = { λ x f. f ≡ Leaf true open_answers };
+
+    ghost stepped = { recorder_steps };
+
+    ghost registered = { λ x y. y ≡ x };
+
+    ghost attached = { λ x y. y ≡ x };
+
+    ghost laws = { recorder_laws };
+
+    fn on_register_dispatch(&mut self) {
+        // It has nothing to do.
+    }
+
+    fn on_layer(&mut self, _subscriber: &mut S) {
+        // It has no filter.
+    }
+
+    fn register_callsite(&self, _meta: &Metadata, _pass: &mut Pass) -> Interest {
+        Interest::Always
+    }
+
+    fn enabled(&self, _meta: &Metadata, _ctx: &Context<'_, S>, _pass: &mut Pass) -> bool {
+        true // It wants everything.
+    }
+
+    fn event_enabled(&self, _event: &Event<'_>, _ctx: &Context<'_, S>, _pass: &mut Pass) -> bool {
+        true // It wants every event.
+    }
+
+    fn max_level_hint(&self) -> Option<LevelFilter> {
+        None // It wants all levels.
+    }
+
+    fn filter_count(&self) -> u32 {
+        0
+    }
+
+    fn is_filtered(&self) -> bool {
+        false // No filter is its own.
+    }
+
+    fn is_absent(&self) -> bool {
+        false // It is there.
+    }
+
+    fn on_new_span(&mut self, _attrs: &Attributes<'_>, id: Id, ctx: &mut ContextMut<'_, S>) {
+        self.keep(Notice::New(ctx.lane(), id));
+    }
+
+    fn on_record(&mut self, id: Id, _values: &Record<'_>, ctx: &mut ContextMut<'_, S>) {
+        self.keep(Notice::Record(ctx.lane(), id));
+    }
+
+    fn on_follows_from(&mut self, id: Id, follows: Id, ctx: &mut ContextMut<'_, S>) {
+        self.keep(Notice::Follows(ctx.lane(), id, follows));
+    }
+
+    fn on_event(&mut self, event: &Event<'_>, ctx: &mut ContextMut<'_, S>) {
+        self.keep(Notice::Event(ctx.lane(), event.metadata().callsite()));
+    }
+
+    fn on_enter(&mut self, id: Id, ctx: &mut ContextMut<'_, S>) {
+        self.keep(Notice::Enter(ctx.lane(), id));
+    }
+
+    fn on_exit(&mut self, id: Id, ctx: &mut ContextMut<'_, S>) {
+        self.keep(Notice::Exit(ctx.lane(), id));
+    }
+
+    fn on_id_change(&mut self, id: Id, new: Id, ctx: &mut ContextMut<'_, S>) {
+        self.keep(Notice::IdChange(ctx.lane(), id, new));
+    }
+
+    fn on_close(&mut self, id: Id, ctx: &mut ContextMut<'_, S>) {
+        self.keep(Notice::Close(ctx.lane(), id));
+    }
+}
