@@ -4,17 +4,19 @@ use Rattle.std.proofs.lemmas.Bool.{true≢false}
 use Rattle.span_core.specs.Event.{event_metadata}
 use Rattle.span_core.specs.Filters.{FilterSet, IsEmpty}
 use Rattle.span_core.specs.Pass.{refused_of}
-use Rattle.span_core.specs.Span.{asked_parent, id_of, metadata_of, number_of}
+use Rattle.span_core.specs.Span.{asked_parent, current_span, id_of, metadata_of, number_of}
 use Rattle.span_core.specs.declared.error.TraceError.{TraceError}
 use Rattle.span_core.specs.declared.event.Event.{Event}
 use Rattle.span_core.specs.declared.metadata.Metadata.{Metadata}
 use Rattle.span_core.specs.declared.pass.Pass.{Pass}
 use Rattle.span_core.specs.declared.span.Attributes.{Attributes}
+use Rattle.span_core.specs.declared.span.Current.{Current}
+use Rattle.std.specs.Option.{option_map}
 use Rattle.span_core.specs.declared.span.Id.{Id}
 use Rattle.span_core.specs.declared.span.Lane.{Lane}
 use Rattle.span_core.specs.declared.span.Record.{Record}
 use Rattle.span_dispatch.proofs.Goes.{Done, by_call, by_change, by_none, honest_after, honest_quietly, quietly}
-use Rattle.span_dispatch.specs.Call.{AddHandle, Call, DropHandle, Enter, Exit, Follow, OpenSpan, Probe, RecordValues, SendEvent, closes_of, done_answer}
+use Rattle.span_dispatch.specs.Call.{AddHandle, AskCurrent, Call, DropHandle, Enter, Exit, Follow, OpenSpan, Probe, RecordValues, SendEvent, closes_of, current_answer, done_answer}
 use Rattle.span_dispatch.specs.Outcome.{GoneLeft, HandleAdded, HandleTaken, IsHonest, Made, Makes, Noticed, Notices, Outcome, Quiet}
 use Rattle.span_dispatch.specs.Serve.{ClosesEach, IsReady, IsReadySomehow, outcome_of}
 use Rattle.span_dispatch.specs.declared.request.Answer.TheVariants as answer
@@ -30,8 +32,8 @@ use Rattle.span_registry.specs.Form.{Form}
 use Rattle.span_registry.specs.Hooks.{AnswersEnabled, AnswersEvent, Notifies, OpensAndNotifies, StackLaws, StackSteps, Stays, no_filter}
 use Rattle.span_registry.specs.Plan.{by_pass}
 use Rattle.span_registry.specs.Question.{asked, refusals}
-use Rattle.span_registry.specs.Step.{Begun, Between, Clones, Enters, Exits, RefusesClone, RefusesEnter, Releases, Removal, Removed, Removes}
-use Rattle.span_registry.specs.Store.{IsClosing, IsForest, IsOpen, RegistryState, Spans}
+use Rattle.span_registry.specs.Step.{Begun, Between, Clones, Enters, Exits, IsCurrent, ShowsCurrent, RefusesClone, RefusesEnter, Releases, Removal, Removed, Removes}
+use Rattle.span_registry.specs.Store.{IsClosing, IsForest, IsOpen, RegistryState, Spans, Store}
 use Rattle.span_registry.specs.Subscriber.{SameButExtensions}
 use Rattle.span_registry.specs.Laws.{ClosesAll}
 use Rattle.span_registry.specs.declared.registry.Released.{Released}
@@ -81,6 +83,13 @@ module _ {S : Type 0} {registry : S → RegistryState} {with_registry : S → Re
 
   pub probed : (lane : Lane) (m : Metadata) (fresh pass : Pass) (said : Bool) (f : Form) (x : S) → AnswersEnabled registry has_form x lane m fresh said pass → Ready f x → Ends (Probe lane m) (answer.Yes said) f x x
   probed lane m fresh pass said f x a h = by_none laws with_own (Probe lane m) (answer.Yes said) f x x h refl (vetoed f x lane m m fresh pass said h refl a, refl)
+
+  current_number : (s : Store) (lane : ℕ) (o : Option (Id × Metadata)) → IsCurrent s lane (option_map (λ p. number_of p.0) o) → IsCurrent s lane (option_map number_of (option_map (λ p. p.0) o))
+  current_number s lane None h = h
+  current_number s lane (Some p) h = h
+
+  pub current_so : (lane : Lane) (c : Current) (f : Form) (x : S) → ShowsCurrent (registry x).store lane c → Ready f x → Ends (AskCurrent lane) (current_answer c) f x x
+  current_so lane c f x shown h = by_none laws with_own (AskCurrent lane) (current_answer c) f x x h refl (current_number (registry x).store lane.0 (current_span c) shown.span, refl)
 
   -- ---- new spans
 

@@ -113,18 +113,29 @@ module _ {S : Type 0} (registry : S → RegistryState) (with_registry : S → Re
   ServesAsked None x a made y = (a ≡ answer.Dropped) × (made ≡ []) × (y ≡ x)
   ServesAsked (Some call) x a made y = (f : Form) × IsReady f x × Serves call f x a made y
 
+  -- what becomes of a request behind these answers: what it asks for is served so
+  pub record ServesRequest (past : List Answer) (r : Request) (x : S) (a : Answer) (made : List Made) (y : S) : Type 0 where
+    pub call : Option Call
+    pub asks : AsksFor past r call
+    pub served : ServesAsked call x a made y
+
   -- a list of requests, one after another, behind these answers: one answer for each, and a list of what was made of it
   abbrev pub Run : List Answer → List Request → List Answer → List (List Made) → S → S → Type 0
   Run past [] [] [] x y = y ≡ x
-  Run past (r ∷ rs) (a ∷ answers) (ms ∷ made) x y =
-      (z : S) × (asked : Option Call) × AsksFor past r asked × ServesAsked asked x a ms z × Run (past ++ (a ∷ [])) rs answers made z y
+  Run past (r ∷ rs) (a ∷ answers) (ms ∷ made) x y = (z : S) × ServesRequest past r x a ms z × Run (past ++ (a ∷ [])) rs answers made z y
   Run past rs answers made x y = ⊥
 
   -- the requests are served so: there is one list of what was made of them, and over the whole of it no span closes twice
-  pub record Served (x : S) (requests : List Request) (answers : List Answer) (y : S) : Type 0 where
+  pub record Served (requests : List Request) (answers : List Answer) (x y : S) : Type 0 where
     pub made : List (List Made)
     pub run : Run [] requests answers made x y
-    pub once : StandOnce (closed_in (flat made))
+
+  -- a dispatcher that is ready serves one request, or a list of them, so
+  abbrev pub ServesNext : List Answer → Request → Answer → Dispatch S → Dispatch S → Type 0
+  ServesNext past r a old new = IsReadySomehow (stack_of old) → (made : List Made) × ServesRequest past r (stack_of old) a made (stack_of new)
+
+  abbrev pub ServesList : List Request → List Answer → Dispatch S → Dispatch S → Type 0
+  ServesList requests answers old new = IsReadySomehow (stack_of old) → Served requests answers (stack_of old) (stack_of new)
 
   -- from a stack in which a span is closing: it is taken out, and so is each parent that closes by that; before each is, all are notified of its close
   pub record ClosesEach (lane : Lane) (id : Id) (x y : S) : Type 0 where

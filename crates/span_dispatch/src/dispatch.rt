@@ -199,7 +199,8 @@ impl<S: Subscriber> Dispatch<S> {
 
     /// The span that a lane is in.
     pub fn current_span(&self, lane: Lane) -> Current
-        ensures { ShowsCurrent (S.registry (stack_of self.now)).store lane result }
+        ensures shown { ShowsCurrent (S.registry (stack_of self.now)).store lane result }
+        ensures served { Answers S.registry S.with_registry S.has_form S.stepped (AskCurrent lane) (current_answer result) self.now self.now }
     {
         self.stack.current_span(lane)
     }

@@ -5,6 +5,7 @@ mod dispatch;
 mod notice;
 mod recorder;
 mod request;
+mod serve;
 
 pub use dispatch::Dispatch;
 pub use notice::Notice;

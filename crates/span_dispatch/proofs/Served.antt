@@ -1,0 +1,59 @@
+-- Serving a list, request by request.
+use Rattle.std.proofs.Common.{◌≡◌, List, [], ◌∷◌, ◌++◌, Option, Some, refl, sym, subst, append_assoc, ◌∙◌}
+use Rattle.std.proofs.lemmas.List.{append-nil}
+use Rattle.span_core.specs.declared.span.Id.{Id}
+use Rattle.span_dispatch.specs.Call.{Call}
+use Rattle.span_dispatch.specs.Outcome.{Made}
+use Rattle.span_dispatch.specs.Serve.{Answers, AsksFor, IsReadySomehow, Run, Served, Serves, ServesNext, ServesRequest, stack_of}
+use Rattle.span_dispatch.specs.declared.dispatch.Dispatch.{Dispatch}
+use Rattle.span_dispatch.specs.declared.request.Answer.{Answer}
+use Rattle.span_dispatch.specs.declared.request.Request.{Request}
+use Rattle.span_registry.specs.Form.{Form}
+use Rattle.span_registry.specs.Hooks.{StackSteps}
+use Rattle.span_registry.specs.Store.{RegistryState}
+
+-- the span that is named
+pub named : {o p : Option Id} {id : Id} → o ≡ p → o ≡ Some id → p ≡ Some id
+named e i = sym e ∙ i
+
+module _ {S : Type 0} (registry : S → RegistryState) (with_registry : S → RegistryState → S) (has_form : S → Form → Type 0) (stepped : StackSteps S) where
+  -- what a request asks for was served
+  pub served_by : (past : List Answer) (r other : Request) (call : Call) (a b : Answer) (old new : Dispatch S) → r ≡ other → AsksFor past other (Some call) → b ≡ a → Answers registry with_registry has_form stepped call a old new
+      → ServesNext registry with_registry has_form stepped past r b old new
+  served_by past r other call a b old new same asks answer served k =
+      let done = served k.0 k.1 in
+      (done.0, record { call = Some call; asks = subst (λ q. AsksFor past q (Some call)) (sym same) asks; served = (k.0, k.1, subst (λ z. Serves registry with_registry has_form stepped call k.0 (stack_of old) z done.0 (stack_of new)) (sym answer) done.1) })
+
+  -- a run, and then one request more
+  run_more : (past : List Answer) (rs : List Request) (answers : List Answer) (made : List (List Made)) (x y : S) (r : Request) (a : Answer) (ms : List Made) (z : S) → Run registry with_registry has_form stepped past rs answers made x y
+      → ServesRequest registry with_registry has_form stepped (past ++ answers) r y a ms z → Run registry with_registry has_form stepped past (rs ++ (r ∷ [])) (answers ++ (a ∷ [])) (made ++ (ms ∷ [])) x z
+  run_more past [] [] [] x y r a ms z h s =
+      let here = subst (λ p. ServesRequest registry with_registry has_form stepped p r y a ms z) (append-nil past) s in
+      (z, subst (λ v. ServesRequest registry with_registry has_form stepped past r v a ms z) h here, refl)
+  run_more past [] [] (m ∷ made) x y r a ms z h s = absurd h
+  run_more past [] (b ∷ answers) made x y r a ms z h s = absurd h
+  run_more past (q ∷ rs) [] made x y r a ms z h s = absurd h
+  run_more past (q ∷ rs) (b ∷ answers) [] x y r a ms z h s = absurd h
+  run_more past (q ∷ rs) (b ∷ answers) (m ∷ made) x y r a ms z h s =
+      (h.0, h.1, run_more (past ++ (b ∷ [])) rs answers made h.0 y r a ms z h.2 (subst (λ p. ServesRequest registry with_registry has_form stepped p r y a ms z) (sym (append_assoc past (b ∷ []) answers)) s))
+
+  -- these requests were served so far
+  pub record SoFar (first now : S) (done : List Request) (answers : List Answer) : Type 0 where
+    pub ready : IsReadySomehow registry with_registry has_form stepped now
+    pub made : List (List Made)
+    pub run : Run registry with_registry has_form stepped [] done answers made first now
+
+  pub nothing_yet : (first : S) → IsReadySomehow registry with_registry has_form stepped first → SoFar first first [] []
+  nothing_yet first ready = record { ready = ready; made = []; run = refl }
+
+  pub one_more : (first now next : S) (done all : List Request) (past answers after : List Answer) (a : Answer) (r : Request) → SoFar first now done answers → past ≡ answers → after ≡ answers ++ (a ∷ []) → all ≡ done ++ (r ∷ [])
+      → (IsReadySomehow registry with_registry has_form stepped now → IsReadySomehow registry with_registry has_form stepped next)
+      → (IsReadySomehow registry with_registry has_form stepped now → (made : List Made) × ServesRequest registry with_registry has_form stepped past r now a made next) → SoFar first next all after
+  one_more first now next done all past answers after a r h same longer one ready served =
+      let s = served h.ready in
+      let step = subst (λ p. ServesRequest registry with_registry has_form stepped p r now a s.0 next) same s.1 in
+      subst (λ us. SoFar first next all us) (sym longer) (subst (λ rs. SoFar first next rs (answers ++ (a ∷ []))) (sym one)
+      (record { ready = ready h.ready; made = h.made ++ (s.0 ∷ []); run = run_more [] done answers h.made first now r a s.0 next h.run step }))
+
+  pub all_served : (first now : S) (all : List Request) (answers : List Answer) → SoFar first now all answers → Served registry with_registry has_form stepped all answers first now
+  all_served first now all answers h = record { made = h.made; run = h.run }

@@ -1,0 +1,50 @@
+use Rattle.std.proofs.Common.{◌+◌, ap, arith, sym, subst, take, List, [], ◌∙◌}
+use Rattle.std.proofs.lemmas.List.{take_all, take_more}
+use Rattle.span_dispatch.specs.Serve.{stack_of}
+use Rattle.span_dispatch.specs.declared.request.Request.{Request}
+use Rattle.span_dispatch.proofs.Served.{SoFar, all_served, nothing_yet, one_more}
+use Rattle.span_dispatch.proofs.dispatch.Dispatch.serve.Goals as goal
+
+pub loop-request-init : goal.loop-request-init
+loop-request-init g c =
+    let e = c.in_ok-answers.ensures in
+    record {
+      usable = c.requires;
+      served = λ ready. subst (SoFar g.S.LookupSpan.registry g.S.LookupSpan.with_registry g.S.Subscriber.has_form g.S.Subscriber.stepped (stack_of c.args.self.now) (stack_of c.args.self.now) []) (sym e.items) (nothing_yet g.S.LookupSpan.registry g.S.LookupSpan.with_registry g.S.Subscriber.has_form g.S.Subscriber.stepped (stack_of c.args.self.now) ready);
+      len = e.len;
+      room = e.capacity;
+    }
+
+pub serve_one-answer-requires : goal.serve_one-answer-requires
+serve_one-answer-requires g c = c.loop-request.invariant.usable
+
+pub append-requires : goal.append-requires
+append-requires g c = omega (arith, c.loop-request.invariant.len, c.loop-request.invariant.room, c.loop-request-test.true)
+
+pub loop-request-preserved : goal.loop-request-preserved
+loop-request-preserved g c =
+    let h = c.loop-request.invariant in
+    let now = c.loop-request.self in
+    let next = c.serve_one-answer.new.self in
+    let a = c.serve_one-answer.result in
+    let xs = c.args.requests.now in
+    let i = c.loop-request.request-index in
+    record {
+      usable = c.serve_one-answer.ensures.usable;
+      served = λ ready.
+          one_more g.S.LookupSpan.registry g.S.LookupSpan.with_registry g.S.Subscriber.has_form g.S.Subscriber.stepped (stack_of c.args.self.now) (stack_of now) (stack_of next) (take i xs) (take (i + 1) xs) _ c.loop-request.answers.items c.append.new.answers.items a _ (h.served ready) c.deref.ensures.value c.append.ensures.items
+          (take_more xs i _ c.loop-request-test.true) c.serve_one-answer.ensures.ready c.serve_one-answer.ensures.served;
+      len = c.append.ensures.len ∙ ap (λ n. n + 1) h.len;
+      room = omega (arith, h.room, c.append.ensures.capacity);
+    }
+
+pub returns-clause-usable : goal.returns-clause-usable
+returns-clause-usable g c = c.loop-request.invariant.usable
+
+pub returns-clause-ready : goal.returns-clause-ready
+returns-clause-ready g c = λ ready. (c.loop-request.invariant.served ready).ready
+
+pub returns-clause-served : goal.returns-clause-served
+returns-clause-served g c = λ ready.
+    all_served g.S.LookupSpan.registry g.S.LookupSpan.with_registry g.S.Subscriber.has_form g.S.Subscriber.stepped (stack_of c.args.self.now) (stack_of c.loop-request.self) c.args.requests.now c.loop-request.answers.items
+    (subst (λ (rs : List Request). SoFar g.S.LookupSpan.registry g.S.LookupSpan.with_registry g.S.Subscriber.has_form g.S.Subscriber.stepped (stack_of c.args.self.now) (stack_of c.loop-request.self) rs c.loop-request.answers.items) (take_all c.loop-request.request-index c.args.requests.now c.loop-request-test.false) (c.loop-request.invariant.served ready))
