@@ -1,3 +1,4 @@
 mod Calls
 mod Goes
+mod Once
 mod Served

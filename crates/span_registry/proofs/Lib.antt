@@ -1,7 +1,7 @@
 pub mod CallerLemmas
 mod Added
 mod Ancestry
-mod Chains
+pub mod Chains
 mod Closing
 mod Finds
 mod Counts

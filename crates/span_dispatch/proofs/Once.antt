@@ -1,0 +1,185 @@
+-- No span closes twice: a closed span's id was issued, and an issued id that isn't in the store never is again.
+use Rattle.std.proofs.Common.{◌≡◌, ℕ, ◌⊎◌, inl, inr, Bool, true, false, cond, ◌||◌, List, [], ◌∷◌, ◌++◌, Option, Some, None, refl, sym, ap, subst, ◌∙◌}
+use Rattle.std.proofs.lemmas.Bool.{true≢false, or_right}
+use Rattle.std.specs.Cmp.{nat_cmp_total}
+use Rattle.std.specs.FinMap.{get, insert, remove}
+use Rattle.std.specs.FinSet.{contains, contains-insert}
+use Rattle.std.specs.List.{FoldsTo}
+use Rattle.std.specs.Ordering.{eq_by_cmp, nat_cmp}
+use Rattle.span_core.specs.Span.{number_of}
+use Rattle.span_core.specs.declared.span.Id.{Id}
+use Rattle.span_core.specs.declared.span.Lane.{Lane}
+use Rattle.span_dispatch.specs.Outcome.{Change, Changes, GoesOn, GoneLeft, HandleAdded, HandleTaken, Made, Makes, Noticed, Notices, Outcome, Quiet, StepsAfter, StepsBefore}
+use Rattle.span_dispatch.specs.Serve.{StandOnce, closed_by, closed_in}
+use Rattle.span_registry.proofs.Chains.{get_beside, get_kept, get_put, get_removed, same_test, test_same}
+use Rattle.span_registry.specs.Answers.{Notice, OnClose, OnEnter, OnEvent, OnExit, OnFollows, OnIdChange, OnNewSpan, OnRecord}
+use Rattle.span_registry.specs.Closes.{Member}
+use Rattle.span_registry.specs.Form.{Form}
+use Rattle.span_registry.specs.Hooks.{StackSteps}
+use Rattle.span_registry.specs.Step.{Opens, Removes}
+use Rattle.span_registry.specs.Store.{AreIssued, IsInStore, RegistryState, Span, Spans, Store, add_handle, take_handle, with_handles}
+use Rattle.span_registry.specs.Subscriber.{SameButExtensions}
+
+-- from one store to the next: issued ids stay issued, one that isn't in the store stays out of it, and all in it are issued
+pub record Onward (s t : Store) : Type 0 where
+  pub issued : (c : ℕ) → contains s.issued c ≡ true → contains t.issued c ≡ true
+  pub back : (c : ℕ) → IsInStore t.spans c → contains s.issued c ≡ true → IsInStore s.spans c
+  pub sound : AreIssued s → AreIssued t
+
+onward_further : (s t u : Store) → Onward s t → Onward t u → Onward s u
+onward_further s t u a b = record { issued = λ c h. b.issued c (a.issued c h); back = λ c h k. a.back c (b.back c h (a.issued c k)) k; sound = λ h. b.sound (a.sound h) }
+
+-- no id is issued, and no span comes in
+onward_shrinks : (s t : Store) → t.issued ≡ s.issued → ((c : ℕ) → IsInStore t.spans c → IsInStore s.spans c) → Onward s t
+onward_shrinks s t e back =
+    let kept : (c : ℕ) → contains s.issued c ≡ true → contains t.issued c ≡ true = λ c h. ap (λ i. contains i c) e ∙ h in
+    record { issued = kept; back = λ c h k. back c h; sound = λ h c k. kept c (h c (back c k)) }
+
+onward_same : (s t : Store) → t.issued ≡ s.issued → t.spans ≡ s.spans → Onward s t
+onward_same s t e f = onward_shrinks s t e (λ c h. subst (λ (m : Spans). IsInStore m c) f h)
+
+store_same : (s t : RegistryState) → t ≡ s → Onward s.store t.store
+store_same s t e = onward_same s.store t.store (ap (λ (r : RegistryState). r.store.issued) e) (ap (λ (r : RegistryState). r.store.spans) e)
+
+-- a span is opened under an id that was never issued
+opened_back : (s : Store) (x : ℕ) (r : Span) (c : ℕ) → contains s.issued x ≡ false → IsInStore (insert s.spans x r) c → contains s.issued c ≡ true → IsInStore s.spans c
+opened_back s x r c fresh h k =
+    let other : c ≡ x → ⊥ = λ e. true≢false (sym k ∙ ap (contains s.issued) e ∙ fresh) in
+    (h.0, sym (get_beside s.spans x r c other) ∙ h.1)
+
+issued_itself : (s : Store) (x c : ℕ) → contains (Rattle.std.specs.FinSet.insert s.issued x) c ≡ (eq_by_cmp nat_cmp c x || contains s.issued c)
+issued_itself s x c = contains-insert nat_cmp_total s.issued x c
+
+opened_sound : (s : Store) (x : ℕ) (r : Span) → AreIssued s → (c : ℕ) → IsInStore (insert s.spans x r) c → contains (Rattle.std.specs.FinSet.insert s.issued x) c ≡ true
+opened_sound s x r sound c h = issued_itself s x c ∙ by_test (eq_by_cmp nat_cmp c x) refl
+  where
+    by_test : (b : Bool) → eq_by_cmp nat_cmp c x ≡ b → (b || contains s.issued c) ≡ true
+    by_test true e = refl
+    by_test false e = sound c (h.0, sym (get_beside s.spans x r c (λ same. true≢false (sym (same_test c x same) ∙ e))) ∙ h.1)
+
+onward_opened : (lane : Lane) (span : Rattle.span_registry.specs.Step.AskedSpan) (id : Id) (s t : RegistryState) → Opens lane span id s t → Onward s.store t.store
+onward_opened lane span id s t o =
+    let x = number_of id in
+    let spans = ap (λ (r : RegistryState). r.store.spans) o.state in
+    let issued = ap (λ (r : RegistryState). r.store.issued) o.state in
+    record {
+      issued = λ c h. ap (λ i. contains i c) issued ∙ issued_itself s.store x c ∙ or_right (eq_by_cmp nat_cmp c x) _ h;
+      back = λ c h k. opened_back s.store x _ c o.fresh (subst (λ (m : Spans). IsInStore m c) spans h) k;
+      sound = λ h c k. ap (λ i. contains i c) issued ∙ opened_sound s.store x _ h c (subst (λ (m : Spans). IsInStore m c) spans k);
+    }
+
+-- a span's handles make no difference to which are in the store
+handles_back : (f : ℕ → ℕ) (m : Spans) (x c : ℕ) (o : Option Span) → get m x ≡ o → IsInStore (with_handles f m x o) c → IsInStore m c
+handles_back f m x c None e h = h
+handles_back f m x c (Some r) e h = by_test (eq_by_cmp nat_cmp c x) refl
+  where
+    by_test : (b : Bool) → eq_by_cmp nat_cmp c x ≡ b → IsInStore m c
+    by_test true t = (r, ap (get m) (test_same c x t) ∙ e)
+    by_test false t = (h.0, sym (get_beside m x (record r { handles = f r.handles }) c (λ same. true≢false (sym (same_test c x same) ∙ t))) ∙ h.1)
+
+removed_back : (m : Spans) (x c : ℕ) → IsInStore (remove m x) c → IsInStore m c
+removed_back m x c h = by_test (eq_by_cmp nat_cmp c x) refl
+  where
+    by_test : (b : Bool) → eq_by_cmp nat_cmp c x ≡ b → IsInStore m c
+    by_test true t =
+        let gone : Some h.0 ≡ None = sym h.1 ∙ ap (get (remove m x)) (test_same c x t) ∙ get_removed m x in
+        let no : ⊥ = cc in
+        absurd no
+    by_test false t = (h.0, sym (get_kept m x c (λ same. true≢false (sym (same_test c x same) ∙ t))) ∙ h.1)
+
+onward_removed : (id : Id) (next : Option Id) (s t : RegistryState) → Removes id next s t → Onward s.store t.store
+onward_removed id next s t r =
+    onward_shrinks s.store t.store (ap (λ (u : Store). u.issued) r.taken.store) (λ c h. removed_back s.store.spans (number_of id) c (subst (λ (m : Spans). IsInStore m c) (ap (λ (u : Store). u.spans) r.taken.store) h))
+
+onward_changed : (k : Change) (s t : RegistryState) → Changes k s t → Onward s.store t.store
+onward_changed (HandleAdded id) s t c =
+    onward_shrinks s.store t.store (ap (λ (r : RegistryState). r.store.issued) c.state)
+    (λ y h. handles_back _ s.store.spans (number_of id) y (get s.store.spans (number_of id)) refl (subst (λ (m : Spans). IsInStore m y) (ap (λ (r : RegistryState). r.store.spans) c.state) h))
+onward_changed (HandleTaken id) s t c =
+    onward_shrinks s.store t.store (ap (λ (r : RegistryState). r.store.issued) c.1)
+    (λ y h. handles_back _ s.store.spans (number_of id) y (get s.store.spans (number_of id)) refl (subst (λ (m : Spans). IsInStore m y) (ap (λ (r : RegistryState). r.store.spans) c.1) h))
+onward_changed (GoneLeft lane id) s t c = onward_same s.store t.store (ap (λ (r : RegistryState). r.store.issued) c.1) (ap (λ (r : RegistryState). r.store.spans) c.1)
+
+onward_before : (f : Form) (lane : Lane) (e : Notice) (s t : RegistryState) → StepsBefore f lane e s t → Onward s.store t.store
+onward_before f lane (OnNewSpan attrs id) s t b = onward_opened lane _ id s t b.2
+onward_before f lane (OnRecord id values) s t b = store_same s t b.1
+onward_before f lane (OnFollows id other) s t b = store_same s t b.1
+onward_before f lane (OnEvent e) s t b = store_same s t b
+onward_before f lane (OnEnter id) s t b = onward_same s.store t.store (ap (λ (r : RegistryState). r.store.issued) b.state) (ap (λ (r : RegistryState). r.store.spans) b.state)
+onward_before f lane (OnExit id) s t b = onward_same s.store t.store (ap (λ (r : RegistryState). r.store.issued) b.1) (ap (λ (r : RegistryState). r.store.spans) b.1)
+onward_before f lane (OnIdChange id other) s t b = absurd b
+onward_before f lane (OnClose id) s t b = store_same s t b.1
+
+onward_after : (e : Notice) (s t : RegistryState) → StepsAfter e s t → Onward s.store t.store
+onward_after (OnNewSpan attrs id) s t b = store_same s t b
+onward_after (OnRecord id values) s t b = store_same s t b
+onward_after (OnFollows id other) s t b = store_same s t b
+onward_after (OnEvent e) s t b = store_same s t b
+onward_after (OnEnter id) s t b = store_same s t b
+onward_after (OnExit id) s t b = store_same s t b
+onward_after (OnIdChange id other) s t b = store_same s t b
+onward_after (OnClose id) s t b = onward_removed id b.0 s t b.1
+
+-- ---- lists of closes
+
+member_split : (xs ys : List ℕ) (c : ℕ) → Member c (xs ++ ys) → Member c xs ⊎ Member c ys
+member_split [] ys c h = inr h
+member_split (x ∷ xs) ys c (inl e) = inl (inl e)
+member_split (x ∷ xs) ys c (inr h) = elim (member_split xs ys c h) [ inl a ↦ inl (inr a) | inr b ↦ inr b ]
+
+-- at most one span closes by an outcome
+closes_join : (o : Outcome) (ys : List ℕ) → StandOnce ys → ((c : ℕ) → Member c (closed_by o) → Member c ys → ⊥) → StandOnce (closed_by o ++ ys)
+closes_join (Noticed lane (OnNewSpan attrs id)) ys h k = h
+closes_join (Noticed lane (OnRecord id values)) ys h k = h
+closes_join (Noticed lane (OnFollows id other)) ys h k = h
+closes_join (Noticed lane (OnEvent e)) ys h k = h
+closes_join (Noticed lane (OnEnter id)) ys h k = h
+closes_join (Noticed lane (OnExit id)) ys h k = h
+closes_join (Noticed lane (OnIdChange id other)) ys h k = h
+closes_join (Noticed lane (OnClose id)) ys h k = (k (number_of id) (inl refl), h)
+closes_join (Quiet c) ys h k = h
+
+module _ {S : Type 0} (registry : S → RegistryState) (with_registry : S → RegistryState → S) (has_form : S → Form → Type 0) (stepped : StackSteps S) where
+  onward_notice : (f : Form) (lane : Lane) (e : Notice) (x y : S) → Notices registry with_registry has_form stepped f lane e x y → Onward (registry x).store (registry y).store
+  onward_notice f lane e x y n =
+      onward_further (registry x).store n.left.store (registry y).store (onward_before f lane e (registry x) n.left n.before)
+      (onward_further n.left.store (registry n.notified).store (registry y).store (onward_same n.left.store (registry n.notified).store n.extensions.issued n.extensions.spans) (onward_after e (registry n.notified) (registry y) n.after))
+
+  onward_on : (f : Form) (o : Outcome) (x y : S) → GoesOn registry with_registry has_form stepped f o x y → Onward (registry x).store (registry y).store
+  onward_on f (Noticed lane e) x y g = onward_notice f lane e x y g
+  onward_on f (Quiet c) x y g = onward_changed c (registry x) (registry y) g.changes
+
+  -- what closes by an outcome was in the store, and isn't any more
+  closing_on : (f : Form) (o : Outcome) (x y : S) (c : ℕ) → GoesOn registry with_registry has_form stepped f o x y → Member c (closed_by o) → IsInStore (registry x).store.spans c × (IsInStore (registry y).store.spans c → ⊥)
+  closing_on f (Noticed lane (OnNewSpan attrs id)) x y c g h = absurd h
+  closing_on f (Noticed lane (OnRecord id values)) x y c g h = absurd h
+  closing_on f (Noticed lane (OnFollows id other)) x y c g h = absurd h
+  closing_on f (Noticed lane (OnEvent e)) x y c g h = absurd h
+  closing_on f (Noticed lane (OnEnter id)) x y c g h = absurd h
+  closing_on f (Noticed lane (OnExit id)) x y c g h = absurd h
+  closing_on f (Noticed lane (OnIdChange id other)) x y c g h = absurd h
+  closing_on f (Quiet k) x y c g h = absurd h
+  closing_on f (Noticed lane (OnClose id)) x y c g (inr h) = absurd h
+  closing_on f (Noticed lane (OnClose id)) x y c g (inl e) =
+      let gone : get (registry y).store.spans (number_of id) ≡ None = ap (λ (u : Store). get u.spans (number_of id)) g.after.1.taken.store ∙ get_removed (registry g.notified).store.spans (number_of id) in (
+        subst (IsInStore (registry x).store.spans) (sym e) (g.before.0.0, g.before.0.1),
+        λ h. let there : Some h.0 ≡ None = sym h.1 ∙ ap (get (registry y).store.spans) e ∙ gone in let no : ⊥ = cc in no,
+      )
+
+  -- an issued id that isn't in the store closes no more
+  never_again : (x : S) (ms : List Made) (y : S) (c : ℕ) → FoldsTo (Makes registry with_registry has_form stepped) x ms y → contains (registry x).store.issued c ≡ true → (IsInStore (registry x).store.spans c → ⊥) → Member c (closed_in ms) → ⊥
+  never_again x [] y c h issued out k = k
+  never_again x (m ∷ ms) y c h issued out k =
+      let on = onward_on m.form m.outcome x h.0 h.1.goes in
+      elim (member_split (closed_by m.outcome) (closed_in ms) c k) [
+        | inl now ↦ out (closing_on m.form m.outcome x h.0 c h.1.goes now).0
+        | inr later ↦ never_again h.0 ms y c h.2 (on.issued c issued) (λ k. out (on.back c k issued)) later
+      ]
+
+  -- over a whole run no span closes twice
+  pub closed_once : (x : S) (ms : List Made) (y : S) → AreIssued (registry x).store → FoldsTo (Makes registry with_registry has_form stepped) x ms y → StandOnce (closed_in ms)
+  closed_once x [] y sound h = tt
+  closed_once x (m ∷ ms) y sound h =
+      let on = onward_on m.form m.outcome x h.0 h.1.goes in
+      closes_join m.outcome (closed_in ms) (closed_once h.0 ms y (on.sound sound) h.2)
+      (λ c now later. let both = closing_on m.form m.outcome x h.0 c h.1.goes now in never_again h.0 ms y c h.2 (on.issued c (sound c both.0)) both.1 later)
