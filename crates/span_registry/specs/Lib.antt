@@ -11,6 +11,7 @@ pub mod Laws
 pub mod Lends
 pub mod Marks
 pub mod Mask
+pub mod Place
 pub mod Plan
 pub mod Question
 pub mod References

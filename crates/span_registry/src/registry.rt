@@ -3,7 +3,7 @@ ghost use Rattle.std.specs.Borrow.{sem};
 ghost use Rattle.std.specs.FinMap.{get};
 ghost use Rattle.std.specs.FinSet as set;
 ghost use Rattle.std.specs.Option.{option_copied, option_copied_mut, option_map, unwrap_or};
-ghost use Rattle.std.specs.Prelude.{◌≡◌, ◌≤◌, ◌↔◌, [], OnErr, OnOk, IfErr, IfOk, IsSome, IsTrue, MatchBool, None, false, refl, true};
+ghost use Rattle.std.specs.Prelude.{◌≡◌, ◌≤◌, ◌↔◌, ⊤, [], OnErr, OnOk, IfErr, IfOk, IsSome, IsTrue, MatchBool, None, false, refl, true};
 ghost use Rattle.span_core.specs.Pass.{interest_sum, refused_of};
 ghost use Rattle.span_core.specs.Span.{asked_parent, number_of};
 ghost use Rattle.span_registry.specs.Form.{Bare, Base};
@@ -11,7 +11,7 @@ ghost use Rattle.span_registry.specs.Hooks.{registry_laws};
 ghost use Rattle.span_registry.specs.Kept.{IsChosen};
 ghost use Rattle.span_registry.specs.Lends.{lends_extensions};
 ghost use Rattle.span_registry.specs.Step.{Enters, Exits, HasNoPlace, HasPlace, IsContext, Opens, RefusesEnter, RefusesNew, RefusesRelease, Releases, Removes, RetiresLate, asked, entered_last};
-ghost use Rattle.span_registry.specs.Store.{IsClosing, IsForest, IsInStore, IsOpen, new_registry, stack_of};
+ghost use Rattle.span_registry.specs.Store.{AreIssued, IsClosing, IsForest, IsInStore, IsOpen, new_registry, stack_of};
 ghost use Rattle.span_registry.specs.Subscriber.{registry_interest, sum_after};
 
 use crate::extensions::ExtensionsMut;
@@ -142,6 +142,15 @@ impl Registry {
         // A field's read shows the prover the registry's value.
         let _ = &self.issued;
         0
+    }
+
+    /// Each chain of parents ends at a root, and every span in the store was issued.
+    pub(crate) fn is_sound(&self)
+        ensures forest { IsForest self.now.store.spans }
+        ensures issued { AreIssued self.now.store }
+    {
+        // A field's read shows the prover the registry's value.
+        let _ = &self.filters;
     }
 
     /// The extensions of a span that is in the store, closing or not, to be read and changed.
@@ -297,6 +306,8 @@ impl Subscriber for Registry {
     ghost has_form = { λ s f. f ≡ Bare Base };
 
     ghost stepped = { λ x p e lane v y w. w ≡ v };
+
+    ghost hears = { λ x place h y. ⊤ };
 
     ghost registered = { λ x y. y ≡ x };
 

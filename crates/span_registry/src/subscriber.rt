@@ -4,6 +4,7 @@ ghost use Rattle.span_core.specs.Span.{asked_parent};
 ghost use Rattle.span_registry.specs.Answers.{OnClose, OnEnter, OnEvent, OnExit, OnFollows, OnRecord};
 ghost use Rattle.span_registry.specs.Form.{Form, is_absent, is_base, is_marked};
 ghost use Rattle.span_registry.specs.Hooks.{Notifies, AnswersEnabled, AnswersEvent, AnswersInterest, OpensAndNotifies, StackLaws, StackSteps, Stays, no_filter};
+ghost use Rattle.span_registry.specs.Place.{HearSteps};
 ghost use Rattle.span_registry.specs.Question.{ShowsBy, hint_of, refusals};
 ghost use Rattle.span_registry.specs.Step.{Clones, Enters, Exits, RefusesClone, RefusesEnter, RefusesNew, ShowsCurrent};
 
@@ -30,6 +31,9 @@ pub trait Subscriber: LookupSpan {
 
     /// How its layers go on when they are notified.
     ghost stepped: { StackSteps Self };
+
+    /// Which notices the leaf at a place went through, from one value of the stack to another.
+    ghost hears: { HearSteps Self };
 
     /// How its layers go on when they are put in use.
     ghost registered: { Self → Self → Type 0 };
@@ -146,6 +150,7 @@ pub trait Subscriber: LookupSpan {
     fn is_registry(&self) -> bool
         ensures { ShowsBy (has_form self.now) is_base result };
 
-    /// A notified stack keeps its form, and another registry makes no difference to it.
-    ghost laws: { StackLaws Self.with_registry usable has_form stepped registered };
+    /// A notified stack keeps its form, its leaves hear what they are notified of, and another registry makes no difference to
+    /// either.
+    ghost laws: { StackLaws Self.with_registry usable has_form stepped hears registered };
 }

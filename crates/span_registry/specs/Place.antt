@@ -1,0 +1,76 @@
+-- Where leaves stand, whom a plan notifies there, and what a leaf was notified of.
+use Rattle.std.specs.Prelude.{⊤, ℕ, Bool, true, false, if◌then◌else◌, List, [], ◌∷◌, ◌++◌, refl}
+use Rattle.std.proofs.Common.{subst, sym}
+use Rattle.std.specs.List.{FoldsTo}
+use Rattle.span_registry.specs.Answers.{Notice}
+use Rattle.span_registry.specs.Plan.{Both, Itself, Plan, Through}
+
+-- where a leaf or a filter stands: there itself, under a filter, in the outer part, or in the inner one
+pub data Place : Type 0 where
+  Here : Place
+  Under : Place → Place
+  Outer : Place → Place
+  Inner : Place → Place
+
+-- whether the leaf or the filter at a place is notified by a plan
+abbrev pub is_notified : Plan → Place → Bool
+is_notified Itself Here = true
+is_notified (Through p) Here = true
+is_notified (Through p) (Under place) = is_notified p place
+is_notified (Both p q) (Outer place) = is_notified p place
+is_notified (Both p q) (Inner place) = is_notified q place
+is_notified other place = false
+
+-- what a leaf was notified of, first things first, each with its lane
+abbrev pub Heard : Type 0
+Heard = List (ℕ × Notice)
+
+-- what the leaf at a place hears where a plan is notified of this, on this lane: this, or nothing
+abbrev pub heard_by : Plan → Place → ℕ → Notice → Heard
+heard_by plan place lane e = if is_notified plan place then (lane, e) ∷ [] else []
+
+-- whether the leaf at a place went through these notices, from one value to another
+abbrev pub HearSteps : Type 0 → Type 1
+HearSteps T = T → Place → Heard → T → Type 0
+
+-- the law of what leaves hear: nothing leaves them as they are, and one list after another is both in a row
+pub record HearLaws {T : Type 0} (hears : HearSteps T) : Type 0 where
+  pub nothing : (x : T) (place : Place) → hears x place [] x
+  pub further : (x y z : T) (place : Place) (h k : Heard) → hears x place h y → hears y place k z → hears x place (h ++ k) z
+
+-- where no leaf stands, nothing is said
+pub no_leaf_laws : {T : Type 0} → HearLaws {T = T} (λ x place h y. ⊤)
+no_leaf_laws = record { nothing = λ x place. tt; further = λ x y z place h k a b. tt }
+
+-- the leaf went through them one by one, each as its own step says; no leaf stands at another place
+abbrev pub LeafHears : {T : Type 0} → (T → Notice → ℕ → T → Type 0) → HearSteps T
+LeafHears goes x Here h y = FoldsTo (λ a one b. goes a one.1 one.0 b) x h y
+LeafHears goes x other h y = ⊤
+
+module _ {T : Type 0} (goes : T → Notice → ℕ → T → Type 0) where
+  one_by_one : (h k : Heard) (x y z : T) → LeafHears goes x Here h y → LeafHears goes y Here k z → LeafHears goes x Here (h ++ k) z
+  one_by_one [] k x y z a b = subst (λ v. LeafHears goes v Here k z) (sym a) b
+  one_by_one (one ∷ h) k x y z a b = (a.0, a.1, one_by_one h k a.0 y z a.2 b)
+
+  leaf_nothing : (x : T) (place : Place) → LeafHears goes x place [] x
+  leaf_nothing x Here = refl
+  leaf_nothing x (Under p) = tt
+  leaf_nothing x (Outer p) = tt
+  leaf_nothing x (Inner p) = tt
+
+  leaf_further : (x y z : T) (place : Place) (h k : Heard) → LeafHears goes x place h y → LeafHears goes y place k z → LeafHears goes x place (h ++ k) z
+  leaf_further x y z Here h k a b = one_by_one h k x y z a b
+  leaf_further x y z (Under p) h k a b = tt
+  leaf_further x y z (Outer p) h k a b = tt
+  leaf_further x y z (Inner p) h k a b = tt
+
+  -- a leaf keeps the law
+  pub leaf_hear_laws : HearLaws (LeafHears goes)
+  leaf_hear_laws = record { nothing = leaf_nothing; further = leaf_further }
+
+  -- a leaf that went by its own step heard what the plan of a leaf notifies it of
+  pub leaf_heard : (x : T) (e : Notice) (lane : ℕ) (y : T) (place : Place) → goes x e lane y → LeafHears goes x place (heard_by Itself place lane e) y
+  leaf_heard x e lane y Here g = (y, g, refl)
+  leaf_heard x e lane y (Under p) g = tt
+  leaf_heard x e lane y (Outer p) g = tt
+  leaf_heard x e lane y (Inner p) g = tt
