@@ -1,5 +1,5 @@
 -- A layer under a filter.
-use Rattle.std.specs.Prelude.{◌≡◌, ℕ, ◌<◌, true, false, Option, Some, None}
+use Rattle.std.specs.Prelude.{◌≡◌, ⊤, ℕ, ◌<◌, true, false, Option, Some, None}
 use Rattle.span_core.specs.Filters.{FilterSet, has_filter, is_attached, union}
 use Rattle.span_core.specs.declared.filter.FilterId.{FilterId}
 use Rattle.span_core.specs.declared.filter.TheConstants.FilterId.{LIMIT}
@@ -8,6 +8,7 @@ use Rattle.span_layers.specs.Layer.{LayerSteps}
 use Rattle.span_layers.specs.declared.filtered.Filtered.{Filtered as FilteredLayer}
 use Rattle.span_registry.specs.Answers.{Answers, Notice, OnClose, OnEnter, OnEvent, OnExit, OnFollows, OnIdChange, OnNewSpan, OnRecord}
 use Rattle.span_registry.specs.Form.{Filtered, Form}
+use Rattle.span_registry.specs.Place.{HearSteps, Under}
 use Rattle.span_registry.specs.Plan.{Nobody, Plan, Through}
 use Rattle.span_registry.specs.Question.{single}
 use Rattle.span_registry.specs.Store.{RegistryState}
@@ -72,3 +73,8 @@ abbrev pub FilteredSteps : {F L : Type 0} → FilterSteps F → LayerSteps L →
 FilteredSteps hooked stepped id f x Nobody e lane under v g y w = (g ≡ f) × (y ≡ x) × (w ≡ v)
 FilteredSteps hooked stepped id f x (Through p) e lane under v g y w = GoThrough hooked stepped id f x p e lane under v g y w
 FilteredSteps hooked stepped id f x other e lane under v g y w = ⊥
+
+-- what is under the filter went through these notices; the filter itself is no leaf
+abbrev pub FilteredHears : {L : Type 0} → HearSteps L → HearSteps L
+FilteredHears hears x (Under p) h y = hears x p h y
+FilteredHears hears x other h y = ⊤

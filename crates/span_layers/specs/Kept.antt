@@ -1,22 +1,23 @@
 -- Layers that are made of parts keep what they have of their forms, since their parts do.
-use Rattle.std.specs.Prelude.{◌≡◌, ℕ, Option, refl}
-use Rattle.std.proofs.Common.{sym, subst}
+use Rattle.std.specs.Prelude.{◌≡◌, ℕ, [], ◌++◌, Option, refl}
+use Rattle.std.proofs.Common.{append-nil, sym, subst}
 use Rattle.span_core.specs.Filters.{FilterSet}
 use Rattle.span_core.specs.declared.filter.FilterId.{FilterId}
 use Rattle.span_filters.specs.Filter.{FilterLaws, FilterSteps, KeepsInterestAndHint}
-use Rattle.span_layers.specs.Filtered.{FilteredForm, FilteredSteps, Hooked, IsNumber}
+use Rattle.span_layers.specs.Filtered.{FilteredForm, FilteredHears, FilteredSteps, Hooked, IsNumber}
 use Rattle.span_layers.specs.Layer.{LayerLaws, LayerSteps}
-use Rattle.span_layers.specs.Layered.{LayeredSteps, OverForm, PairSteps}
+use Rattle.span_layers.specs.Layered.{LayeredHears, LayeredSteps, OverForm, PairSteps}
 use Rattle.span_registry.specs.Answers.{Answers, Conduct, Notice, OnClose, OnEnter, OnEvent, OnExit, OnFollows, OnIdChange, OnNewSpan, OnRecord}
 use Rattle.span_registry.specs.Follows.{Follows, kept_form}
 use Rattle.span_registry.specs.Form.{Bare, Filtered, Form, InPair, Joint, Leaf, OnSubscriber, Over}
 use Rattle.span_registry.specs.Hooks.{StackLaws, StackSteps, no_filter}
+use Rattle.span_registry.specs.Place.{HearLaws, HearSteps, Heard, Here, Inner, Outer, Place, Under, heard_by}
 use Rattle.span_registry.specs.Plan.{Both, Itself, Nobody, Plan, Through}
 use Rattle.span_registry.specs.Store.{RegistryState}
 
 -- ---- a filter round a layer
 
-module _ {F L : Type 0} {has_answers : F → Answers → Type 0} {hooked : FilterSteps F} {acts : F → Conduct → Type 0} {has_form : L → Form → Type 0} {stepped : LayerSteps L} {registered : L → L → Type 0} (own : FilterLaws has_answers hooked acts) (inside : LayerLaws has_form stepped registered) where
+module _ {F L : Type 0} {has_answers : F → Answers → Type 0} {hooked : FilterSteps F} {acts : F → Conduct → Type 0} {has_form : L → Form → Type 0} {stepped : LayerSteps L} {hears : HearSteps L} {registered : L → L → Type 0} (own : FilterLaws has_answers hooked acts) (inside : LayerLaws has_form stepped hears registered) where
   same_answers : (f g : F) (a : Answers) → g ≡ f → has_answers f a → KeepsInterestAndHint (has_answers g) a
   same_answers f g a e h = (a, subst (λ k. has_answers k a) (sym e) h, record { interest = refl; hint = refl })
 
@@ -55,14 +56,43 @@ module _ {F L : Type 0} {has_answers : F → Answers → Type 0} {hooked : Filte
   filtered_used i a x k b y (Over j o z) same own_same used h = absurd h
   filtered_used i a x k b y (Bare z) same own_same used h = absurd h
 
+  filtered_nothing : (x : L) (place : Place) → FilteredHears hears x place [] x
+  filtered_nothing x (Under q) = inside.heard.nothing x q
+  filtered_nothing x Here = tt
+  filtered_nothing x (Outer q) = tt
+  filtered_nothing x (Inner q) = tt
+
+  filtered_further : (x y z : L) (place : Place) (h k : Heard) → FilteredHears hears x place h y → FilteredHears hears y place k z → FilteredHears hears x place (h ++ k) z
+  filtered_further x y z (Under q) h k a b = inside.heard.further x y z q h k a b
+  filtered_further x y z Here h k a b = tt
+  filtered_further x y z (Outer q) h k a b = tt
+  filtered_further x y z (Inner q) h k a b = tt
+
+  -- what is under the filter hears what that lets by
+  filtered_heard : (i : FilterId) (a : F) (x : L) (p : Plan) (e : Notice) (lane : ℕ) (under : FilterSet) (v : RegistryState) (b : F) (y : L) (w : RegistryState) (place : Place)
+      → FilteredSteps hooked stepped i a x p e lane under v b y w → FilteredHears hears x place (heard_by p place lane e) y
+  filtered_heard i a x Nobody e lane under v b y w (Under q) s = subst (λ z. hears x q [] z) (sym s.1) (inside.heard.nothing x q)
+  filtered_heard i a x (Through p) e lane under v b y w (Under q) s = inside.notified x p e lane _ s.between y w q s.layer
+  filtered_heard i a x Itself e lane under v b y w (Under q) s = absurd s
+  filtered_heard i a x (Both p r) e lane under v b y w (Under q) s = absurd s
+  filtered_heard i a x p e lane under v b y w Here s = tt
+  filtered_heard i a x p e lane under v b y w (Outer q) s = tt
+  filtered_heard i a x p e lane under v b y w (Inner q) s = tt
+
   -- a filtered layer keeps the law, since its filter and its layer keep theirs
   pub filtered_laws : {X : Type 0} (id : X → FilterId) (filter : X → F) (layer : X → L)
       → LayerLaws (λ x. FilteredForm (id x) (has_answers (filter x)) (has_form (layer x)))
       (λ x p e lane under v y w. (id y ≡ id x) × FilteredSteps hooked stepped (id x) (filter x) (layer x) p e lane under v (filter y) (layer y) w)
+      (λ x place h y. FilteredHears hears (layer x) place h (layer y))
       (λ x y. (id y ≡ id x) × (filter y ≡ filter x) × registered (layer x) (layer y))
   filtered_laws id filter layer = record {
     keeps = λ x p e lane under v y w f s h. filtered_keeps (id x) (filter x) (layer x) p e lane under v (id y) (filter y) (layer y) w f s.0 s.1 h;
     put_in_use = λ x y f s h. filtered_used (id x) (filter x) (layer x) (id y) (filter y) (layer y) f s.0 s.1 s.2 h;
+    heard = record {
+      nothing = λ x place. filtered_nothing (layer x) place;
+      further = λ x y z place h k a b. filtered_further (layer x) (layer y) (layer z) place h k a b;
+    };
+    notified = λ x p e lane under v y w place s. filtered_heard (id x) (filter x) (layer x) p e lane under v (filter y) (layer y) w place s.1;
   }
 
 -- ---- two layers
@@ -70,7 +100,28 @@ module _ {F L : Type 0} {has_answers : F → Answers → Type 0} {hooked : Filte
 over_follows : (joint : Joint) {outer inner : Form → Type 0} (k : Joint) (o i : Form) → k ≡ joint → Follows outer o → Follows inner i → Follows (OverForm joint outer inner) (Over k o i)
 over_follows joint k o i same s t = (Over k s.0 t.0, (same, s.1, t.1), (refl, s.2, t.2))
 
-module _ {L I : Type 0} {outer_form : L → Form → Type 0} {inner_form : I → Form → Type 0} {outer_steps : LayerSteps L} {inner_steps : LayerSteps I} {outer_used : L → L → Type 0} {inner_used : I → I → Type 0} (outer : LayerLaws outer_form outer_steps outer_used) (inner : LayerLaws inner_form inner_steps inner_used) where
+-- each part hears its own
+module _ {L I : Type 0} {outer_hears : HearSteps L} {inner_hears : HearSteps I} (outer : HearLaws outer_hears) (inner : HearLaws inner_hears) where
+  layered_nothing : (x : L) (i : I) (place : Place) → LayeredHears outer_hears inner_hears x i place [] x i
+  layered_nothing x i (Outer q) = outer.nothing x q
+  layered_nothing x i (Inner q) = inner.nothing i q
+  layered_nothing x i Here = tt
+  layered_nothing x i (Under q) = tt
+
+  layered_further : (x : L) (i : I) (y : L) (j : I) (z : L) (l : I) (place : Place) (h k : Heard) → LayeredHears outer_hears inner_hears x i place h y j → LayeredHears outer_hears inner_hears y j place k z l
+      → LayeredHears outer_hears inner_hears x i place (h ++ k) z l
+  layered_further x i y j z l (Outer q) h k a b = outer.further x y z q h k a b
+  layered_further x i y j z l (Inner q) h k a b = inner.further i j l q h k a b
+  layered_further x i y j z l Here h k a b = tt
+  layered_further x i y j z l (Under q) h k a b = tt
+
+  layered_hear_laws : {X : Type 0} (layer : X → L) (below : X → I) → HearLaws (λ x place h y. LayeredHears outer_hears inner_hears (layer x) (below x) place h (layer y) (below y))
+  layered_hear_laws layer below = record {
+    nothing = λ x place. layered_nothing (layer x) (below x) place;
+    further = λ x y z place h k a b. layered_further (layer x) (below x) (layer y) (below y) (layer z) (below z) place h k a b;
+  }
+
+module _ {L I : Type 0} {outer_form : L → Form → Type 0} {inner_form : I → Form → Type 0} {outer_steps : LayerSteps L} {inner_steps : LayerSteps I} {outer_hears : HearSteps L} {inner_hears : HearSteps I} {outer_used : L → L → Type 0} {inner_used : I → I → Type 0} (outer : LayerLaws outer_form outer_steps outer_hears outer_used) (inner : LayerLaws inner_form inner_steps inner_hears inner_used) where
   pair_keeps : (x : L) (i : I) (p : Plan) (e : Notice) (lane : ℕ) (under : FilterSet) (v : RegistryState) (y : L) (j : I) (w : RegistryState) (f : Form)
       → PairSteps outer_steps inner_steps x i p e lane under v y j w → OverForm InPair (outer_form x) (inner_form i) f → Follows (OverForm InPair (outer_form y) (inner_form j)) f
   pair_keeps x i (Both p q) e lane under v y j w (Over k o z) s h =
@@ -88,19 +139,32 @@ module _ {L I : Type 0} {outer_form : L → Form → Type 0} {inner_form : I →
   pair_used x i y j (Filtered n a f) s t h = absurd h
   pair_used x i y j (Bare z) s t h = absurd h
 
+  pair_heard : (x : L) (i : I) (p : Plan) (e : Notice) (lane : ℕ) (under : FilterSet) (v : RegistryState) (y : L) (j : I) (w : RegistryState) (place : Place)
+      → PairSteps outer_steps inner_steps x i p e lane under v y j w → LayeredHears outer_hears inner_hears x i place (heard_by p place lane e) y j
+  pair_heard x i (Both p q) e lane under v y j w (Outer r) s = outer.notified x p e lane under s.between y w r s.second
+  pair_heard x i (Both p q) e lane under v y j w (Inner r) s = inner.notified i q e lane under v j s.between r s.first
+  pair_heard x i (Both p q) e lane under v y j w Here s = tt
+  pair_heard x i (Both p q) e lane under v y j w (Under r) s = tt
+  pair_heard x i Nobody e lane under v y j w place s = absurd s
+  pair_heard x i Itself e lane under v y j w place s = absurd s
+  pair_heard x i (Through p) e lane under v y j w place s = absurd s
+
   -- two layers keep the law, since each does
   pub pair_laws : {X : Type 0} (layer : X → L) (below : X → I)
       → LayerLaws (λ x. OverForm InPair (outer_form (layer x)) (inner_form (below x)))
       (λ x p e lane under v y w. PairSteps outer_steps inner_steps (layer x) (below x) p e lane under v (layer y) (below y) w)
+      (λ x place h y. LayeredHears outer_hears inner_hears (layer x) (below x) place h (layer y) (below y))
       (λ x y. outer_used (layer x) (layer y) × inner_used (below x) (below y))
   pair_laws layer below = record {
     keeps = λ x p e lane under v y w f s h. pair_keeps (layer x) (below x) p e lane under v (layer y) (below y) w f s h;
     put_in_use = λ x y f s h. pair_used (layer x) (below x) (layer y) (below y) f s.0 s.1 h;
+    heard = layered_hear_laws outer.heard inner.heard layer below;
+    notified = λ x p e lane under v y w place s. pair_heard (layer x) (below x) p e lane under v (layer y) (below y) w place s;
   }
 
 -- ---- a layer on a subscriber
 
-module _ {L I : Type 0} {with_registry : I → RegistryState → I} {inner_usable : I → Type 0} {outer_form : L → Form → Type 0} {inner_form : I → Form → Type 0} {outer_steps : LayerSteps L} {inner_steps : StackSteps I} {outer_used : L → L → Type 0} {inner_used : I → I → Type 0} (outer : LayerLaws outer_form outer_steps outer_used) (inner : StackLaws with_registry inner_usable inner_form inner_steps inner_used) where
+module _ {L I : Type 0} {with_registry : I → RegistryState → I} {inner_usable : I → Type 0} {outer_form : L → Form → Type 0} {inner_form : I → Form → Type 0} {outer_steps : LayerSteps L} {inner_steps : StackSteps I} {outer_hears : HearSteps L} {inner_hears : HearSteps I} {outer_used : L → L → Type 0} {inner_used : I → I → Type 0} (outer : LayerLaws outer_form outer_steps outer_hears outer_used) (inner : StackLaws with_registry inner_usable inner_form inner_steps inner_hears inner_used) where
   stack_keeps : (x : L) (i : I) (p : Plan) (e : Notice) (lane : ℕ) (v : RegistryState) (y : L) (j : I) (w : RegistryState) (f : Form)
       → LayeredSteps with_registry outer_steps inner_steps x i p e lane v y j w → OverForm OnSubscriber (outer_form x) (inner_form i) f → Follows (OverForm OnSubscriber (outer_form y) (inner_form j)) f
   stack_keeps x i (Both p q) e lane v y j w (Over k o z) s h =
@@ -126,10 +190,35 @@ module _ {L I : Type 0} {with_registry : I → RegistryState → I} {inner_usabl
   stack_with x i w (Filtered n a f) h = absurd h
   stack_with x i w (Bare z) h = absurd h
 
+  -- the inner stack hears its own, and the registry that the layer on it leaves makes no difference to that
+  below_heard : (i : I) (q : Plan) (e : Notice) (lane : ℕ) (v : RegistryState) (k : I) (between : RegistryState) (j : I) (w : RegistryState) (place : Place) → inner_steps i q e lane v k between → j ≡ with_registry k w
+      → inner_hears i place (heard_by q place lane e) j
+  below_heard i q e lane v k between j w place s same =
+      let heard = heard_by q place lane e in
+      let both = inner.heard.further i k (with_registry k w) place heard [] (inner.notified i q e lane v k between place s) (inner.hears_with k w place) in
+      subst (λ h. inner_hears i place h j) (append-nil heard) (subst (λ z. inner_hears i place (heard ++ []) z) (sym same) both)
+
+  stack_heard : (x : L) (i : I) (p : Plan) (e : Notice) (lane : ℕ) (v : RegistryState) (y : L) (j : I) (w : RegistryState) (place : Place)
+      → LayeredSteps with_registry outer_steps inner_steps x i p e lane v y j w → LayeredHears outer_hears inner_hears x i place (heard_by p place lane e) y j
+  stack_heard x i (Both p q) e lane v y j w (Outer r) s = outer.notified x p e lane no_filter s.between y w r s.second
+  stack_heard x i (Both p q) e lane v y j w (Inner r) s = below_heard i q e lane v s.notified s.between j w r s.first s.rest
+  stack_heard x i (Both p q) e lane v y j w Here s = tt
+  stack_heard x i (Both p q) e lane v y j w (Under r) s = tt
+  stack_heard x i Nobody e lane v y j w place s = absurd s
+  stack_heard x i Itself e lane v y j w place s = absurd s
+  stack_heard x i (Through p) e lane v y j w place s = absurd s
+
+  stack_hears_with : (x : L) (i : I) (w : RegistryState) (place : Place) → LayeredHears outer_hears inner_hears x i place [] x (with_registry i w)
+  stack_hears_with x i w (Outer q) = outer.heard.nothing x q
+  stack_hears_with x i w (Inner q) = inner.hears_with i w q
+  stack_hears_with x i w Here = tt
+  stack_hears_with x i w (Under q) = tt
+
   -- a layer on a stack keeps the law, since both do
   pub stack_laws : {X : Type 0} (outer_usable : L → Type 0) (layer : X → L) (below : X → I) (with_below : X → I → X) → ((x : X) (i : I) → layer (with_below x i) ≡ layer x) → ((x : X) (i : I) → below (with_below x i) ≡ i)
       → StackLaws (λ x w. with_below x (with_registry (below x) w)) (λ x. outer_usable (layer x) × inner_usable (below x)) (λ x. OverForm OnSubscriber (outer_form (layer x)) (inner_form (below x)))
       (λ x p e lane v y w. LayeredSteps with_registry outer_steps inner_steps (layer x) (below x) p e lane v (layer y) (below y) w)
+      (λ x place h y. LayeredHears outer_hears inner_hears (layer x) (below x) place h (layer y) (below y))
       (λ x y. outer_used (layer x) (layer y) × inner_used (below x) (below y))
   stack_laws outer_usable layer below with_below own rest = record {
     keeps = λ x p e lane v y w f s h. stack_keeps (layer x) (below x) p e lane v (layer y) (below y) w f s h;
@@ -137,4 +226,8 @@ module _ {L I : Type 0} {with_registry : I → RegistryState → I} {inner_usabl
     form_with = λ x w f h. subst (λ l. OverForm OnSubscriber (outer_form l) (inner_form (below (with_below x (with_registry (below x) w)))) f) (sym (own x (with_registry (below x) w)))
         (subst (λ b. OverForm OnSubscriber (outer_form (layer x)) (inner_form b) f) (sym (rest x (with_registry (below x) w))) (stack_with (layer x) (below x) w f h));
     usable_with = λ x w h. (subst outer_usable (sym (own x (with_registry (below x) w))) h.0, subst inner_usable (sym (rest x (with_registry (below x) w))) (inner.usable_with (below x) w h.1));
+    heard = layered_hear_laws outer.heard inner.heard layer below;
+    notified = λ x p e lane v y w place s. stack_heard (layer x) (below x) p e lane v (layer y) (below y) w place s;
+    hears_with = λ x w place. subst (λ l. LayeredHears outer_hears inner_hears (layer x) (below x) place [] l (below (with_below x (with_registry (below x) w)))) (sym (own x (with_registry (below x) w)))
+        (subst (λ b. LayeredHears outer_hears inner_hears (layer x) (below x) place [] (layer x) b) (sym (rest x (with_registry (below x) w))) (stack_hears_with (layer x) (below x) w place));
   }

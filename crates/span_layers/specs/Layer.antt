@@ -9,6 +9,7 @@ use Rattle.span_registry.specs.Answers.{Notice}
 use Rattle.span_registry.specs.Context.{WritesExtensions, filters_in, filters_lent, lane_in, lane_lent, refused_lent, store_in, subscriber_in, subscriber_lent}
 use Rattle.span_registry.specs.Follows.{Follows}
 use Rattle.span_registry.specs.Form.{Form, IsStill}
+use Rattle.span_registry.specs.Place.{HearLaws, HearSteps, Place, heard_by}
 use Rattle.span_registry.specs.Plan.{Plan, by_pass}
 use Rattle.span_registry.specs.Question.{AnswersBy, SumsBy, asked, event_asked, interest_of}
 use Rattle.span_registry.specs.Store.{RegistryState}
@@ -50,7 +51,9 @@ Notified registry has_form stepped e x c y d =
 abbrev pub LeavesAlone : {L S : Type 0} → (S → RegistryState) → (S → RegistryState → S) → (L → Form → Type 0) → L → ContextMut S → ContextMut S → Type 0
 LeavesAlone registry with_registry has_form x c d = (f : Form) → has_form x f → IsStill f → WritesExtensions registry with_registry c d
 
--- the law of every layer: where it is notified, or put in use, it keeps what it has of its form
-pub record LayerLaws {L : Type 0} (has_form : L → Form → Type 0) (stepped : LayerSteps L) (registered : L → L → Type 0) : Type 0 where
+-- the law of every layer: where it is notified, or put in use, it keeps what it has of its form; and each leaf hears what the plan says
+pub record LayerLaws {L : Type 0} (has_form : L → Form → Type 0) (stepped : LayerSteps L) (hears : HearSteps L) (registered : L → L → Type 0) : Type 0 where
   pub keeps : (x : L) (p : Plan) (e : Notice) (lane : ℕ) (under : FilterSet) (v : RegistryState) (y : L) (w : RegistryState) (f : Form) → stepped x p e lane under v y w → has_form x f → Follows (has_form y) f
   pub put_in_use : (x y : L) (f : Form) → registered x y → has_form x f → Follows (has_form y) f
+  pub heard : HearLaws hears
+  pub notified : (x : L) (p : Plan) (e : Notice) (lane : ℕ) (under : FilterSet) (v : RegistryState) (y : L) (w : RegistryState) (place : Place) → stepped x p e lane under v y w → hears x place (heard_by p place lane e) y

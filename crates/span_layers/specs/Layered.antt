@@ -1,11 +1,12 @@
 -- An outer part over an inner one.
-use Rattle.std.specs.Prelude.{◌≡◌, ℕ}
+use Rattle.std.specs.Prelude.{◌≡◌, ⊤, ℕ}
 use Rattle.span_core.specs.Filters.{FilterSet}
 use Rattle.span_layers.specs.Layer.{LayerSteps}
 use Rattle.span_layers.specs.declared.layered.Layered.{Layered}
 use Rattle.span_registry.specs.Answers.{Notice}
 use Rattle.span_registry.specs.Form.{Form, Joint, Over}
 use Rattle.span_registry.specs.Hooks.{StackSteps, no_filter}
+use Rattle.span_registry.specs.Place.{Heard, HearSteps, Inner, Outer, Place}
 use Rattle.span_registry.specs.Plan.{Both, Plan}
 use Rattle.span_registry.specs.Store.{RegistryState}
 use Rattle.span_registry.specs.Subscriber.{SameButExtensions}
@@ -56,3 +57,9 @@ pub record GoUp {L I : Type 0} (with_registry : I → RegistryState → I) (oute
 abbrev pub LayeredSteps : {L I : Type 0} → (I → RegistryState → I) → LayerSteps L → StackSteps I → L → I → Plan → Notice → ℕ → RegistryState → L → I → RegistryState → Type 0
 LayeredSteps with_registry outer inner x i (Both p q) e lane v y j w = GoUp with_registry outer inner x i p q e lane v y j w
 LayeredSteps with_registry outer inner x i other e lane v y j w = ⊥
+
+-- each part went through its own notices; no leaf stands at another place
+abbrev pub LayeredHears : {L I : Type 0} → HearSteps L → HearSteps I → L → I → Place → Heard → L → I → Type 0
+LayeredHears outer inner x i (Outer p) h y j = outer x p h y
+LayeredHears outer inner x i (Inner p) h y j = inner i p h j
+LayeredHears outer inner x i other h y j = ⊤

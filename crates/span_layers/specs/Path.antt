@@ -4,16 +4,10 @@ use Rattle.std.specs.Option.{option_map}
 use Rattle.span_core.specs.Filters.{FilterSet, union}
 use Rattle.span_registry.specs.Answers.{Answers, Notice}
 use Rattle.span_registry.specs.Form.{Filtered, Form, Leaf, Over}
-use Rattle.span_registry.specs.Plan.{Both, Itself, Plan, Through, passes}
+use Rattle.span_registry.specs.Place.{Here, Inner, Outer, Place, Under}
+use Rattle.span_registry.specs.Plan.{passes}
 use Rattle.span_registry.specs.Question.{single}
 use Rattle.span_registry.specs.Store.{Store}
-
--- where a leaf or a filter stands: there itself, under a filter, in the outer part, or in the inner one
-pub data Place : Type 0 where
-  Here : Place
-  Under : Place → Place
-  Outer : Place → Place
-  Inner : Place → Place
 
 -- filters from outside in, each by its number, if it has one, and what it answers
 abbrev pub Path : Type 0
@@ -33,12 +27,3 @@ abbrev pub passes_path : Path → Notice → Store → ℕ → FilterSet → Boo
 passes_path [] e s lane under = true
 passes_path ((None, a) ∷ path) e s lane under = false
 passes_path ((Some n, a) ∷ path) e s lane under = passes a e s lane (union under (single n)) && passes_path path e s lane (union under (single n))
-
--- whether the leaf or the filter at a place is notified by a plan
-abbrev pub is_notified : Plan → Place → Bool
-is_notified Itself Here = true
-is_notified (Through p) Here = true
-is_notified (Through p) (Under place) = is_notified p place
-is_notified (Both p q) (Outer place) = is_notified p place
-is_notified (Both p q) (Inner place) = is_notified q place
-is_notified other place = false

@@ -9,11 +9,12 @@ use Rattle.span_core.specs.declared.span.Attributes.{Attributes}
 use Rattle.span_core.specs.declared.span.Id.{Id}
 use Rattle.span_core.specs.declared.filter.TheConstants.FilterId.{LIMIT}
 use Rattle.span_layers.specs.Number.{filters_in, numbered}
-use Rattle.span_layers.specs.Path.{Path, Place, is_notified, passes_path, path_at}
+use Rattle.span_layers.specs.Path.{Path, passes_path, path_at}
 use Rattle.span_registry.specs.Answers.{Notice, OnEvent, OnNewSpan}
 use Rattle.span_registry.specs.Follows.{RefusesNothing}
 use Rattle.span_registry.specs.Form.{Bare, Filtered, Form, InList, InPair, Leaf, OnSubscriber, Over}
 use Rattle.span_registry.specs.Hooks.{no_filter}
+use Rattle.span_registry.specs.Place.{Place, is_notified}
 use Rattle.span_registry.specs.Plan.{asked_afresh, by_pass}
 use Rattle.span_registry.specs.Question.{asked, event_asked, single}
 use Rattle.span_registry.specs.Store.{Spans, Store}

@@ -2,7 +2,7 @@
 ghost use Rattle.std.specs.Borrow.{Lends, sem};
 ghost use Rattle.std.specs.Prelude.{◌≡◌};
 ghost use Rattle.span_layers.specs.contracts.filtered.Filtered.{the_row};
-ghost use Rattle.span_layers.specs.Filtered.{FilteredForm, FilteredSteps, IsUnnumbered, filter_of, layer_of, with_filter, with_layer};
+ghost use Rattle.span_layers.specs.Filtered.{FilteredForm, FilteredHears, FilteredSteps, IsUnnumbered, filter_of, layer_of, with_filter, with_layer};
 ghost use Rattle.span_layers.specs.Kept.{filtered_laws};
 
 use crate::layer::Layer;
@@ -69,6 +69,8 @@ impl<S: Subscriber, L: Layer<S>, F: Filter<S>> Layer<S> for Filtered<L, F> {
     ghost has_form = { λ x. FilteredForm x.id (F.has_answers x.filter) (L.has_form x.layer) };
 
     ghost stepped = { λ x p e lane under v y w. (y.id ≡ x.id) × FilteredSteps F.hooked L.stepped x.id x.filter x.layer p e lane under v y.filter y.layer w };
+
+    ghost hears = { λ x place h y. FilteredHears L.hears x.layer place h y.layer };
 
     ghost registered = { λ x y. (y.id ≡ x.id) × (y.filter ≡ x.filter) × L.registered x.layer y.layer };
 

@@ -5,6 +5,7 @@ ghost use Rattle.span_layers.specs.Number.{TakesNumbers, filters_in};
 ghost use Rattle.span_registry.specs.Answers.{OnClose, OnEnter, OnEvent, OnExit, OnFollows, OnIdChange, OnNewSpan, OnRecord};
 ghost use Rattle.span_registry.specs.Context.{HandsOn};
 ghost use Rattle.span_registry.specs.Form.{Form, is_absent, is_marked};
+ghost use Rattle.span_registry.specs.Place.{HearSteps};
 ghost use Rattle.span_registry.specs.Question.{ShowsBy, hint_of};
 
 use span_core::{Attributes, Event, Id, Interest, LevelFilter, Metadata, Pass, Record};
@@ -26,6 +27,9 @@ pub trait Layer<S: Subscriber> {
 
     /// How it goes on when it is notified.
     ghost stepped: { LayerSteps Self };
+
+    /// Which notices the leaf at a place went through, from one value of the layer to another.
+    ghost hears: { HearSteps Self };
 
     /// How it goes on when it is put in use.
     ghost registered: { Self → Self → Type 0 };
@@ -144,6 +148,6 @@ pub trait Layer<S: Subscriber> {
         ensures alone { LeavesAlone S.registry S.with_registry has_form self.old ctx.old ctx.new }
         ensures hook { Notified S.registry has_form stepped (OnClose id) self.old ctx.old self.new ctx.new };
 
-    /// Where it is notified, or put in use, it keeps what it has of its form.
-    ghost laws: { LayerLaws has_form stepped registered };
+    /// Where it is notified, or put in use, it keeps what it has of its form, and its leaves hear what they are notified of.
+    ghost laws: { LayerLaws has_form stepped hears registered };
 }

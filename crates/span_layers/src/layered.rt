@@ -5,7 +5,7 @@ ghost use Rattle.span_layers.specs.contracts.layered.Layered.{the_row};
 ghost use Rattle.span_core.specs.Level.{greater_hint};
 ghost use Rattle.span_core.specs.declared.interest.Interest.TheVariants.{Sometimes};
 ghost use Rattle.span_layers.specs.Kept.{pair_laws};
-ghost use Rattle.span_layers.specs.Layered.{OverForm, PairSteps, inner_of, outer_of, with_inner, with_outer};
+ghost use Rattle.span_layers.specs.Layered.{LayeredHears, OverForm, PairSteps, inner_of, outer_of, with_inner, with_outer};
 ghost use Rattle.span_registry.specs.Form.{InPair};
 ghost use Rattle.span_registry.specs.Question.{hint_by, is_never};
 
@@ -115,6 +115,8 @@ impl<S: Subscriber, L: Layer<S>, I: Layer<S>> Layer<S> for Layered<L, I> {
     ghost has_form = { λ x. OverForm InPair (L.has_form x.layer) (I.has_form x.inner) };
 
     ghost stepped = { λ x p e lane under v y w. PairSteps L.stepped I.stepped x.layer x.inner p e lane under v y.layer y.inner w };
+
+    ghost hears = { λ x place h y. LayeredHears L.hears I.hears x.layer x.inner place h y.layer y.inner };
 
     ghost registered = { λ x y. L.registered x.layer y.layer × I.registered x.inner y.inner };
 

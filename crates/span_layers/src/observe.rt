@@ -1,8 +1,9 @@
 //! A layer with one method: it refuses nothing, and is notified of everything through it.
 ghost use Rattle.std.specs.Prelude.{◌≡◌, ⊤, true};
-ghost use Rattle.span_layers.specs.Observe.{ObserverSteps, Observes, observer_of, fixed_laws, open_answers};
+ghost use Rattle.span_layers.specs.Observe.{HearsOne, ObserverStep, ObserverSteps, Observes, observer_laws, observer_of, open_answers};
 ghost use Rattle.span_registry.specs.Context.{WritesExtensions, subscriber_lent};
 ghost use Rattle.span_registry.specs.Form.{Leaf};
+ghost use Rattle.span_registry.specs.Place.{LeafHears};
 
 use crate::layer::Layer;
 use span_core::{Attributes, Event, Id, Interest, LevelFilter, Metadata, Pass, Record};
@@ -73,13 +74,15 @@ impl<S: Subscriber, T: Observe<S>> Layer<S> for Observer<T> {
 
     ghost has_form = { λ x f. f ≡ Leaf true open_answers };
 
-    ghost stepped = { λ x p e lane under v y w. T.observed x.observer e lane under v y.observer w };
+    ghost stepped = { λ x p e lane under v y w. ObserverStep T.observed x.observer p e lane under v y.observer w };
+
+    ghost hears = { λ x place h y. LeafHears (HearsOne T.observed) x.observer place h y.observer };
 
     ghost registered = { λ x y. y ≡ x };
 
     ghost attached = { λ x y. y ≡ x };
 
-    ghost laws = { fixed_laws (Leaf true open_answers) (λ x p e lane under v y w. T.observed x.observer e lane under v y.observer w) };
+    ghost laws = { observer_laws T.observed (λ x. x.observer) };
 
     fn on_register_dispatch(&mut self) {
         // It has nothing to do.

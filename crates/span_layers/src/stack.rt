@@ -2,7 +2,7 @@
 ghost use Rattle.std.specs.Prelude.{◌≡◌, refl};
 ghost use Rattle.std.proofs.Common.{ap};
 ghost use Rattle.span_layers.specs.Kept.{stack_laws};
-ghost use Rattle.span_layers.specs.Layered.{LayeredSteps, OverForm};
+ghost use Rattle.span_layers.specs.Layered.{LayeredHears, LayeredSteps, OverForm};
 ghost use Rattle.span_registry.specs.Form.{OnSubscriber};
 
 use crate::layer::Layer;
@@ -47,6 +47,8 @@ impl<I: Subscriber, L: Layer<I>> Subscriber for Layered<L, I> {
     ghost has_form = { λ x. OverForm OnSubscriber (L.has_form x.layer) (I.has_form x.inner) };
 
     ghost stepped = { λ x p e lane v y w. LayeredSteps I.with_registry L.stepped I.stepped x.layer x.inner p e lane v y.layer y.inner w };
+
+    ghost hears = { λ x place h y. LayeredHears L.hears I.hears x.layer x.inner place h y.layer y.inner };
 
     ghost registered = { λ x y. L.registered x.layer y.layer × I.registered x.inner y.inner };
 

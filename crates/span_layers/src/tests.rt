@@ -3,6 +3,7 @@ ghost use Rattle.std.specs.Prelude.{◌≡◌, ⊤, false};
 ghost use Rattle.span_layers.specs.Observe.{fixed_laws, open_answers};
 ghost use Rattle.span_registry.specs.Form.{Leaf};
 ghost use Rattle.span_registry.specs.Context.{WritesExtensions};
+ghost use Rattle.span_registry.specs.Place.{no_leaf_laws};
 
 use crate::{Filtered, Layer, LayerExt, Layered, Observe, Observed, Observer, SubscriberExt};
 use span_core::{
@@ -149,11 +150,13 @@ impl<S: Subscriber> Layer<S> for Echo {
 
     ghost stepped = { λ x p e lane under v y w. ⊤ };
 
+    ghost hears = { λ x place h y. ⊤ };
+
     ghost registered = { λ x y. y ≡ x };
 
     ghost attached = { λ x y. y ≡ x };
 
-    ghost laws = { fixed_laws (Leaf false open_answers) (λ x p e lane under v y w. ⊤) };
+    ghost laws = { fixed_laws (Leaf false open_answers) (λ x p e lane under v y w. ⊤) no_leaf_laws (λ x p e lane under v y w place s. tt) };
 
     fn on_register_dispatch(&mut self) {}
 
