@@ -30,6 +30,7 @@ use Rattle.span_registry.specs.Answers.{Notice, OnClose, OnEnter, OnEvent, OnExi
 use Rattle.span_registry.specs.Closes.{IsSettled}
 use Rattle.span_registry.specs.Form.{Form}
 use Rattle.span_registry.specs.Hooks.{AnswersEnabled, AnswersEvent, Notifies, OpensAndNotifies, StackLaws, StackSteps, Stays, no_filter}
+use Rattle.span_registry.specs.Place.{HearSteps}
 use Rattle.span_registry.specs.Plan.{by_pass}
 use Rattle.span_registry.specs.Question.{asked, refusals}
 use Rattle.span_registry.specs.Step.{Begun, Between, Clones, Enters, Exits, IsCurrent, ShowsCurrent, RefusesClone, RefusesEnter, Releases, Removal, Removed, Removes}
@@ -61,8 +62,8 @@ or_both_false : (a b : Bool) → a ≡ false → b ≡ false → a || b ≡ fals
 or_both_false true b h k = h
 or_both_false false b h k = k
 
-module _ {S : Type 0} {registry : S → RegistryState} {with_registry : S → RegistryState → S} {usable : S → Type 0} {has_form : S → Form → Type 0} {stepped : StackSteps S} {registered : S → S → Type 0}
-    (laws : StackLaws with_registry usable has_form stepped registered) (with_own : (s : S) → with_registry s (registry s) ≡ s) where
+module _ {S : Type 0} {registry : S → RegistryState} {with_registry : S → RegistryState → S} {usable : S → Type 0} {has_form : S → Form → Type 0} {stepped : StackSteps S} {hears : HearSteps S} {registered : S → S → Type 0}
+    (laws : StackLaws with_registry usable has_form stepped hears registered) (with_own : (s : S) → with_registry s (registry s) ≡ s) where
   abbrev pub Ready : Form → S → Type 0
   Ready f x = IsReady registry with_registry has_form stepped f x
 

@@ -14,6 +14,7 @@ use Rattle.span_registry.specs.Closes.{IsSettled}
 use Rattle.span_registry.specs.Follows.{Follows, kept_form}
 use Rattle.span_registry.specs.Form.{Form}
 use Rattle.span_registry.specs.Hooks.{Notifies, StackLaws, StackSteps, no_filter}
+use Rattle.span_registry.specs.Place.{HearSteps}
 use Rattle.span_registry.specs.Plan.{asked_afresh, by_pass}
 use Rattle.span_registry.specs.Store.{RegistryState}
 
@@ -64,8 +65,8 @@ settled_before f lane (OnExit id) s t b h = settled_same s t (spans_same b.1) h
 settled_before f lane (OnIdChange id other) s t b h = absurd b
 settled_before f lane (OnClose id) s t b h = settled_same s t (spans_same b.1) h
 
-module _ {S : Type 0} {registry : S → RegistryState} {with_registry : S → RegistryState → S} {usable : S → Type 0} {has_form : S → Form → Type 0} {stepped : StackSteps S} {registered : S → S → Type 0}
-    (laws : StackLaws with_registry usable has_form stepped registered) (with_own : (s : S) → with_registry s (registry s) ≡ s) where
+module _ {S : Type 0} {registry : S → RegistryState} {with_registry : S → RegistryState → S} {usable : S → Type 0} {has_form : S → Form → Type 0} {stepped : StackSteps S} {hears : HearSteps S} {registered : S → S → Type 0}
+    (laws : StackLaws with_registry usable has_form stepped hears registered) (with_own : (s : S) → with_registry s (registry s) ≡ s) where
   abbrev pub Honest : Form → S → Type 0
   Honest f x = IsHonest registry with_registry has_form stepped f x
 

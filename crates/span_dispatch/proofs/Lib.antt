@@ -1,4 +1,5 @@
 mod Calls
 mod Goes
 mod Once
+mod Seen
 mod Served

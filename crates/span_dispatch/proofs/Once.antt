@@ -1,5 +1,5 @@
 -- No span closes twice: a closed span's id was issued, and an issued id that isn't in the store never is again.
-use Rattle.std.proofs.Common.{◌≡◌, ℕ, ◌⊎◌, inl, inr, Bool, true, false, cond, ◌||◌, List, [], ◌∷◌, ◌++◌, Option, Some, None, refl, sym, ap, subst, ◌∙◌}
+use Rattle.std.proofs.Common.{◌≡◌, ℕ, ◌⊎◌, inl, inr, Bool, true, false, ◌||◌, List, [], ◌∷◌, ◌++◌, Option, Some, None, refl, sym, ap, subst, ◌∙◌}
 use Rattle.std.proofs.lemmas.Bool.{true≢false, or_right}
 use Rattle.std.specs.Cmp.{nat_cmp_total}
 use Rattle.std.specs.FinMap.{get, insert, remove}
@@ -11,14 +11,13 @@ use Rattle.span_core.specs.declared.span.Id.{Id}
 use Rattle.span_core.specs.declared.span.Lane.{Lane}
 use Rattle.span_dispatch.specs.Outcome.{Change, Changes, GoesOn, GoneLeft, HandleAdded, HandleTaken, Made, Makes, Noticed, Notices, Outcome, Quiet, StepsAfter, StepsBefore}
 use Rattle.span_dispatch.specs.Serve.{StandOnce, closed_by, closed_in}
-use Rattle.span_registry.proofs.Chains.{get_beside, get_kept, get_put, get_removed, same_test, test_same}
+use Rattle.span_registry.proofs.Chains.{get_beside, get_kept, get_removed, same_test, test_same}
 use Rattle.span_registry.specs.Answers.{Notice, OnClose, OnEnter, OnEvent, OnExit, OnFollows, OnIdChange, OnNewSpan, OnRecord}
 use Rattle.span_registry.specs.Closes.{Member}
 use Rattle.span_registry.specs.Form.{Form}
 use Rattle.span_registry.specs.Hooks.{StackSteps}
 use Rattle.span_registry.specs.Step.{Opens, Removes}
-use Rattle.span_registry.specs.Store.{AreIssued, IsInStore, RegistryState, Span, Spans, Store, add_handle, take_handle, with_handles}
-use Rattle.span_registry.specs.Subscriber.{SameButExtensions}
+use Rattle.span_registry.specs.Store.{AreIssued, IsInStore, RegistryState, Span, Spans, Store, with_handles}
 
 -- from one store to the next: issued ids stay issued, one that isn't in the store stays out of it, and all in it are issued
 pub record Onward (s t : Store) : Type 0 where

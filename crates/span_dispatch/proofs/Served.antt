@@ -4,13 +4,16 @@ use Rattle.std.proofs.lemmas.List.{append-nil}
 use Rattle.span_core.specs.declared.span.Id.{Id}
 use Rattle.span_dispatch.specs.Call.{Call}
 use Rattle.span_dispatch.specs.Outcome.{Made}
-use Rattle.span_dispatch.specs.Serve.{Answers, AsksFor, IsReadySomehow, Run, Served, Serves, ServesNext, ServesRequest, stack_of}
+use Rattle.span_dispatch.specs.Serve.{Answers, AsksFor, IsReadySomehow, Run, Served, Serves, ServesNext, ServesRequest, flat, stack_of}
 use Rattle.span_dispatch.specs.declared.dispatch.Dispatch.{Dispatch}
 use Rattle.span_dispatch.specs.declared.request.Answer.{Answer}
 use Rattle.span_dispatch.specs.declared.request.Request.{Request}
 use Rattle.span_registry.specs.Form.{Form}
-use Rattle.span_registry.specs.Hooks.{StackSteps}
-use Rattle.span_registry.specs.Store.{RegistryState}
+use Rattle.span_registry.specs.Hooks.{StackLaws, StackSteps}
+use Rattle.span_registry.specs.Place.{HearSteps}
+use Rattle.span_dispatch.proofs.Once.{closed_once}
+use Rattle.span_dispatch.proofs.Seen.{goes_through, run_folds}
+use Rattle.span_registry.specs.Store.{AreIssued, RegistryState}
 
 -- the span that is named
 pub named : {o p : Option Id} {id : Id} → o ≡ p → o ≡ Some id → p ≡ Some id
@@ -55,5 +58,16 @@ module _ {S : Type 0} (registry : S → RegistryState) (with_registry : S → Re
       subst (λ us. SoFar first next all us) (sym longer) (subst (λ rs. SoFar first next rs (answers ++ (a ∷ []))) (sym one)
       (record { ready = ready h.ready; made = h.made ++ (s.0 ∷ []); run = run_more [] done answers h.made first now r a s.0 next h.run step }))
 
-  pub all_served : (first now : S) (all : List Request) (answers : List Answer) → SoFar first now all answers → Served registry with_registry has_form stepped all answers first now
-  all_served first now all answers h = record { made = h.made; run = h.run }
+module _ {S : Type 0} {registry : S → RegistryState} {with_registry : S → RegistryState → S} {usable : S → Type 0} {has_form : S → Form → Type 0} {stepped : StackSteps S} {hears : HearSteps S} {registered : S → S → Type 0}
+    (laws : StackLaws with_registry usable has_form stepped hears registered) where
+  -- all were served
+  pub all_served : (first now : S) (all done : List Request) (answers : List Answer) → AreIssued (registry first).store → done ≡ all → SoFar registry with_registry has_form stepped first now done answers
+      → Served registry with_registry has_form stepped hears all answers first now
+  all_served first now all done answers issued same h =
+      let folds = run_folds registry with_registry has_form stepped [] done answers h.made first now h.run in
+      record {
+        made = h.made;
+        run = subst (λ rs. Run registry with_registry has_form stepped [] rs answers h.made first now) same h.run;
+        once = closed_once registry with_registry has_form stepped first (flat h.made) now issued folds;
+        each = λ place. goes_through registry laws first (flat h.made) now place folds;
+      }

@@ -1,4 +1,5 @@
 pub mod Call
 pub mod Outcome
 pub mod Recorder
+mod RecorderLaws
 pub mod Serve

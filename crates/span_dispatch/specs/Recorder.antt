@@ -1,14 +1,14 @@
 -- What a recorder keeps of what it is notified of.
-use Rattle.std.specs.Prelude.{◌≡◌, ℕ, ◌+◌, ◌≤◌, Bool, true, false, List, [], ◌∷◌, ◌++◌, length}
+use Rattle.std.specs.Prelude.{◌≡◌, ⊤, ℕ, ◌+◌, ◌≤◌, Bool, true, false, List, [], ◌∷◌, ◌++◌, length, map}
 use Rattle.span_core.specs.Event.{event_metadata}
 use Rattle.span_core.specs.Metadata.{callsite_of}
 use Rattle.span_core.specs.declared.span.Lane.{Lane}
 use Rattle.span_dispatch.specs.declared.notice.Notice.TheVariants as kept
 use Rattle.span_dispatch.specs.declared.notice.Notice.{Notice as KeptNotice}
-use Rattle.span_layers.specs.Layer.{LayerLaws, LayerSteps}
-use Rattle.span_layers.specs.Observe.{fixed_laws, open_answers}
+use Rattle.span_layers.specs.Layer.{LayerSteps}
 use Rattle.span_registry.specs.Answers.{Notice, OnClose, OnEnter, OnEvent, OnExit, OnFollows, OnIdChange, OnNewSpan, OnRecord}
-use Rattle.span_registry.specs.Form.{Leaf}
+use Rattle.span_registry.specs.Place.{HearSteps, Here}
+use Rattle.span_registry.specs.Plan.{Itself}
 
 -- a recorder: the notices that it keeps, how many more it has memory for, and whether it has failed for want of memory
 pub record Kept : Type 0 where
@@ -49,8 +49,9 @@ kept_notice (lane, OnClose id) = kept.Close (lane_of lane) id
 
 -- it is notified of each notice of a hook, and leaves the registry alone
 abbrev pub recorder_steps : LayerSteps Kept
-recorder_steps x p e lane under v y w = Records x y (kept_notice (lane, e) ∷ []) × (w ≡ v)
+recorder_steps x p e lane under v y w = (p ≡ Itself) × Records x y (kept_notice (lane, e) ∷ []) × (w ≡ v)
 
--- it has one form, whatever it keeps
-pub recorder_laws : LayerLaws (λ (x : Kept) f. f ≡ Leaf true open_answers) recorder_steps (λ x y. y ≡ x)
-recorder_laws = fixed_laws (Leaf true open_answers) recorder_steps
+-- it went through these notices: it keeps what it keeps of them
+abbrev pub recorder_hears : HearSteps Kept
+recorder_hears x Here h y = Records x y (map kept_notice h)
+recorder_hears x other h y = ⊤

@@ -1,5 +1,5 @@
 -- How a dispatcher serves a call, and a list of requests.
-use Rattle.std.specs.Prelude.{◌≡◌, ℕ, List, [], ◌∷◌, ◌++◌, map, Option, Some, None, slice_get}
+use Rattle.std.specs.Prelude.{◌≡◌, ℕ, List, [], ◌∷◌, ◌++◌, map, Option, Some, None, if◌then◌else◌, slice_get}
 use Rattle.std.specs.List.{FoldsTo}
 use Rattle.std.specs.Option.{option_and_then, option_map, option_map_or}
 use Rattle.span_core.specs.Event.{event_metadata, event_parent, event_values}
@@ -22,10 +22,12 @@ use Rattle.span_registry.specs.Answers.{OnClose}
 use Rattle.span_registry.specs.Closes.{IsSettled, Member}
 use Rattle.span_registry.specs.Form.{Form}
 use Rattle.span_core.specs.declared.span.Lane.{Lane}
-use Rattle.span_registry.specs.Hooks.{StackSteps}
+use Rattle.span_layers.specs.Path.{Path, passes_path, path_at}
+use Rattle.span_registry.specs.Hooks.{StackSteps, no_filter}
+use Rattle.span_registry.specs.Place.{HearSteps, Heard, Place}
 use Rattle.span_registry.specs.Step.{Removal}
 use Rattle.span_registry.specs.Subscriber.{SameButExtensions}
-use Rattle.span_registry.specs.Store.{RegistryState}
+use Rattle.span_registry.specs.Store.{RegistryState, Store}
 
 -- the stack of a dispatcher
 abbrev pub stack_of : {S : Type 0} → Dispatch S → S
@@ -81,6 +83,16 @@ abbrev pub StandOnce : List ℕ → Type 0
 StandOnce [] = Unit {0}
 StandOnce (x ∷ xs) = ¬ (Member x xs) × StandOnce xs
 
+-- what passes the path of a leaf or a filter, of an outcome on this store: of a notice that passes all its filters, asked afresh, this with its lane; of all else nothing
+abbrev pub passed : Option Path → Outcome → Store → Heard
+passed (Some path) (Noticed lane e) s = if passes_path path e s lane.0 no_filter then (lane.0, e) ∷ [] else []
+passed path o s = []
+
+-- what the leaf at a place sees of what was made
+abbrev pub seen : Place → List Made → Heard
+seen place [] = []
+seen place (m ∷ ms) = passed (path_at m.form place) m.outcome m.store ++ seen place ms
+
 -- all that was made, request by request, in one list
 abbrev pub flat : List (List Made) → List Made
 flat [] = []
@@ -125,17 +137,19 @@ module _ {S : Type 0} (registry : S → RegistryState) (with_registry : S → Re
   Run past (r ∷ rs) (a ∷ answers) (ms ∷ made) x y = (z : S) × ServesRequest past r x a ms z × Run (past ++ (a ∷ [])) rs answers made z y
   Run past rs answers made x y = ⊥
 
-  -- the requests are served so: there is one list of what was made of them, and over the whole of it no span closes twice
-  pub record Served (requests : List Request) (answers : List Answer) (x y : S) : Type 0 where
+  -- the requests are served so: there is one list of what was made of each; over all of it no span closes twice, and the leaf at each place went through what it sees of it
+  pub record Served (hears : HearSteps S) (requests : List Request) (answers : List Answer) (x y : S) : Type 0 where
     pub made : List (List Made)
     pub run : Run [] requests answers made x y
+    pub once : StandOnce (closed_in (flat made))
+    pub each : (place : Place) → hears x place (seen place (flat made)) y
 
   -- a dispatcher that is ready serves one request, or a list of them, so
   abbrev pub ServesNext : List Answer → Request → Answer → Dispatch S → Dispatch S → Type 0
   ServesNext past r a old new = IsReadySomehow (stack_of old) → (made : List Made) × ServesRequest past r (stack_of old) a made (stack_of new)
 
-  abbrev pub ServesList : List Request → List Answer → Dispatch S → Dispatch S → Type 0
-  ServesList requests answers old new = IsReadySomehow (stack_of old) → Served requests answers (stack_of old) (stack_of new)
+  abbrev pub ServesList : HearSteps S → List Request → List Answer → Dispatch S → Dispatch S → Type 0
+  ServesList hears requests answers old new = IsReadySomehow (stack_of old) → Served hears requests answers (stack_of old) (stack_of new)
 
   -- from a stack in which a span is closing: it is taken out, and so is each parent that closes by that; before each is, all are notified of its close
   pub record ClosesEach (lane : Lane) (id : Id) (x y : S) : Type 0 where

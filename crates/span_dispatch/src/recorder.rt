@@ -1,6 +1,7 @@
 //! A layer that keeps what it is notified of.
 ghost use Rattle.std.specs.Prelude.{◌≡◌, ◌∷◌, [], true};
-ghost use Rattle.span_dispatch.specs.Recorder.{Records, new_recorder, recorder_laws, recorder_steps};
+ghost use Rattle.span_dispatch.specs.Recorder.{Records, new_recorder, recorder_hears, recorder_steps};
+ghost use Rattle.span_dispatch.specs.RecorderLaws.{recorder_laws};
 ghost use Rattle.span_layers.specs.Observe.{open_answers};
 ghost use Rattle.span_registry.specs.Form.{Leaf};
 
@@ -76,6 +77,8 @@ impl<S: Subscriber> Layer<S> for Recorder {
     ghost has_form = { λ x f. f ≡ Leaf true open_answers };
 
     ghost stepped = { recorder_steps };
+
+    ghost hears = { recorder_hears };
 
     ghost registered = { λ x y. y ≡ x };
 

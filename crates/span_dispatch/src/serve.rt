@@ -8,7 +8,7 @@ ghost use Rattle.span_dispatch.specs.Serve.{ServesList, ServesNext, StaysReady, 
 use crate::dispatch::Dispatch;
 use crate::request::{Answer, Request, Which, WhichParent};
 use span_core::{Attributes, Current, Event, FieldValue, Id, Metadata, Parent, Record, TraceError};
-use span_registry::Subscriber;
+use span_registry::{LookupSpan, Subscriber, laws};
 use std::alloc::Global;
 
 impl<S: Subscriber> Dispatch<S> {
@@ -23,10 +23,11 @@ impl<S: Subscriber> Dispatch<S> {
         requires { S.usable (stack_of self.old) }
         ensures usable { S.usable (stack_of self.new) }
         ensures ready { StaysReady S.registry S.with_registry S.has_form S.stepped self.old self.new }
-        ensures served { IfOk result (λ a. ServesList S.registry S.with_registry S.has_form S.stepped requests.now a.items self.old self.new) }
+        ensures served { IfOk result (λ a. ServesList S.registry S.with_registry S.has_form S.stepped S.hears requests.now a.items self.old self.new) }
         ensures memory { IfErr result (λ e. e ≡ TraceError.OutOfMemory) }
         ensures unchanged { OnErr result (self.new ≡ self.old) }
     {
+        laws::a_registry_is_sound(self.stack().root());
         let mut answers = Vec::with_capacity(alloc, requests.len())?;
         for request in requests {
             let answer = self.serve_one(&answers, request);

@@ -1,7 +1,7 @@
-use Rattle.std.proofs.Common.{◌+◌, ap, arith, sym, subst, take, List, [], ◌∙◌}
+use Rattle.std.proofs.Common.{◌+◌, ap, arith, sym, subst, take, [], ◌∙◌}
 use Rattle.std.proofs.lemmas.List.{take_all, take_more}
 use Rattle.span_dispatch.specs.Serve.{stack_of}
-use Rattle.span_dispatch.specs.declared.request.Request.{Request}
+use Rattle.span_registry.specs.Store.{AreIssued, RegistryState}
 use Rattle.span_dispatch.proofs.Served.{SoFar, all_served, nothing_yet, one_more}
 use Rattle.span_dispatch.proofs.dispatch.Dispatch.serve.Goals as goal
 
@@ -46,5 +46,5 @@ returns-clause-ready g c = λ ready. (c.loop-request.invariant.served ready).rea
 
 pub returns-clause-served : goal.returns-clause-served
 returns-clause-served g c = λ ready.
-    all_served g.S.LookupSpan.registry g.S.LookupSpan.with_registry g.S.Subscriber.has_form g.S.Subscriber.stepped (stack_of c.args.self.now) (stack_of c.loop-request.self) c.args.requests.now c.loop-request.answers.items
-    (subst (λ (rs : List Request). SoFar g.S.LookupSpan.registry g.S.LookupSpan.with_registry g.S.Subscriber.has_form g.S.Subscriber.stepped (stack_of c.args.self.now) (stack_of c.loop-request.self) rs c.loop-request.answers.items) (take_all c.loop-request.request-index c.args.requests.now c.loop-request-test.false) (c.loop-request.invariant.served ready))
+    all_served g.met.S.Subscriber.laws (stack_of c.args.self.now) (stack_of c.loop-request.self) c.args.requests.now (take c.loop-request.request-index c.args.requests.now) c.loop-request.answers.items
+    (subst (λ x. AreIssued (g.S.LookupSpan.registry x).store) c.stack.ensures (subst (λ (s : RegistryState). AreIssued s.store) c.root.ensures c.a_registry_is_sound.ensures.issued)) (take_all c.loop-request.request-index c.args.requests.now c.loop-request-test.false) (c.loop-request.invariant.served ready)

@@ -1,0 +1,105 @@
+-- Each leaf goes through what passes its path, and nothing else.
+use Rattle.std.proofs.Common.{◌≡◌, ℕ, Bool, true, false, List, [], ◌∷◌, ◌++◌, Option, Some, None, if◌then◌else◌, refl, sym, ap, subst}
+use Rattle.std.proofs.lemmas.List.{append-nil}
+use Rattle.std.specs.List.{FoldsTo}
+use Rattle.std.specs.Option.{option_map}
+use Rattle.span_core.specs.Filters.{FilterSet, union}
+use Rattle.span_core.specs.declared.span.Lane.{Lane}
+use Rattle.span_dispatch.specs.Call.{Call}
+use Rattle.span_dispatch.specs.Outcome.{Change, GoesOn, Made, Makes, Noticed, Outcome, Quiet}
+use Rattle.span_dispatch.specs.Serve.{Run, ServesAsked, flat, passed, seen}
+use Rattle.span_dispatch.specs.declared.request.Answer.{Answer}
+use Rattle.span_dispatch.specs.declared.request.Request.{Request}
+use Rattle.span_layers.proofs.Pass.{reached}
+use Rattle.span_layers.specs.Path.{Path, path_at}
+use Rattle.span_registry.specs.Answers.{Notice}
+use Rattle.span_registry.specs.Form.{Bare, Filtered, Form, Leaf, Over}
+use Rattle.span_registry.specs.Hooks.{StackLaws, StackSteps, no_filter}
+use Rattle.span_registry.specs.Place.{HearSteps, Heard, Here, Inner, Outer, Place, Under, heard_by, is_notified}
+use Rattle.span_registry.specs.Plan.{Nobody, Through, asked_afresh, passes}
+use Rattle.span_registry.specs.Question.{single}
+use Rattle.span_registry.specs.Store.{RegistryState, Store}
+
+-- where nothing stands, nobody is notified
+unreached : (f : Form) (place : Place) (e : Notice) (s : Store) (lane : ℕ) (under : FilterSet) → path_at f place ≡ None → is_notified (asked_afresh f e s lane under) place ≡ false
+unreached (Leaf still a) Here e s lane under h = absurd (cc)
+unreached (Leaf still a) (Under p) e s lane under h = refl
+unreached (Leaf still a) (Outer p) e s lane under h = refl
+unreached (Leaf still a) (Inner p) e s lane under h = refl
+unreached (Bare v) p e s lane under h = refl
+unreached (Filtered None a f) p e s lane under h = refl
+unreached (Filtered (Some n) a f) Here e s lane under h = absurd (cc)
+unreached (Filtered (Some n) a f) (Under p) e s lane under h = by_test (passes a e s lane (union under (single n))) (unreached f p e s lane (union under (single n)) (beneath (path_at f p) h))
+  where
+    by_test : (b : Bool) → is_notified (asked_afresh f e s lane (union under (single n))) p ≡ false → is_notified (if b then Through (asked_afresh f e s lane (union under (single n))) else Nobody) (Under p) ≡ false
+    by_test true k = k
+    by_test false k = refl
+
+    beneath : (o : Option Path) → option_map (λ (r : Path). (Some n, a) ∷ r) o ≡ None → o ≡ None
+    beneath None k = refl
+    beneath (Some r) k = absurd (cc)
+unreached (Filtered (Some n) a f) (Outer p) e s lane under h = by_test (passes a e s lane (union under (single n)))
+  where
+    by_test : (b : Bool) → is_notified (if b then Through (asked_afresh f e s lane (union under (single n))) else Nobody) (Outer p) ≡ false
+    by_test true = refl
+    by_test false = refl
+unreached (Filtered (Some n) a f) (Inner p) e s lane under h = by_test (passes a e s lane (union under (single n)))
+  where
+    by_test : (b : Bool) → is_notified (if b then Through (asked_afresh f e s lane (union under (single n))) else Nobody) (Inner p) ≡ false
+    by_test true = refl
+    by_test false = refl
+unreached (Over j o i) Here e s lane under h = refl
+unreached (Over j o i) (Under p) e s lane under h = refl
+unreached (Over j o i) (Outer p) e s lane under h = unreached o p e s lane under h
+unreached (Over j o i) (Inner p) e s lane under h = unreached i p e s lane under h
+
+-- whom the plan asked afresh notifies sees what passes its path
+sees_passed : (f : Form) (place : Place) (lane : Lane) (e : Notice) (s : Store) → heard_by (asked_afresh f e s lane.0 no_filter) place lane.0 e ≡ passed (path_at f place) (Noticed lane e) s
+sees_passed f place lane e s = by_path (path_at f place) refl
+  where
+    by_path : (o : Option Path) → path_at f place ≡ o → heard_by (asked_afresh f e s lane.0 no_filter) place lane.0 e ≡ passed o (Noticed lane e) s
+    by_path None h = ap (λ b. if b then (lane.0, e) ∷ [] else []) (unreached f place e s lane.0 no_filter h)
+    by_path (Some path) h = ap (λ b. if b then (lane.0, e) ∷ [] else []) (reached f place path e s lane.0 no_filter h)
+
+nothing_passed : (o : Option Path) (c : Change) (s : Store) → passed o (Quiet c) s ≡ []
+nothing_passed None c s = refl
+nothing_passed (Some path) c s = refl
+
+module _ {S : Type 0} (registry : S → RegistryState) {with_registry : S → RegistryState → S} {usable : S → Type 0} {has_form : S → Form → Type 0} {stepped : StackSteps S} {hears : HearSteps S} {registered : S → S → Type 0}
+    (laws : StackLaws with_registry usable has_form stepped hears registered) where
+  -- another registry makes no difference to a leaf
+  aside : (x y z : S) (place : Place) (h : Heard) → hears x place h y → z ≡ with_registry y (registry z) → hears x place h z
+  aside x y z place h a e =
+      let more = subst (λ w. hears y place [] w) (sym e) (laws.hears_with y (registry z) place) in
+      subst (λ k. hears x place k z) (append-nil h) (laws.heard.further x y z place h [] a more)
+
+  by_outcome : (f : Form) (o : Outcome) (s : Store) (x y : S) (place : Place) → s ≡ (registry x).store → GoesOn registry with_registry has_form stepped f o x y → hears x place (passed (path_at f place) o s) y
+  by_outcome f (Noticed lane e) s x y place same g =
+      let plan = asked_afresh f e (registry x).store lane.0 no_filter in
+      let now = aside x g.notified y place (heard_by plan place lane.0 e) (laws.notified x plan e lane.0 g.left g.notified (registry g.notified) place g.layers) g.rest in
+      subst (λ t. hears x place (passed (path_at f place) (Noticed lane e) t) y) (sym same) (subst (λ h. hears x place h y) (sees_passed f place lane e (registry x).store) now)
+  by_outcome f (Quiet c) s x y place same g = subst (λ h. hears x place h y) (sym (nothing_passed (path_at f place) c s)) (aside x x y place [] (laws.heard.nothing x place) g.rest)
+
+  -- each leaf went through what it sees of what was made
+  pub goes_through : (x : S) (ms : List Made) (y : S) (place : Place) → FoldsTo (Makes registry with_registry has_form stepped) x ms y → hears x place (seen place ms) y
+  goes_through x [] y place h = subst (λ z. hears x place [] z) h (laws.heard.nothing x place)
+  goes_through x (m ∷ ms) y place h =
+      laws.heard.further x h.0 y place _ _ (by_outcome m.form m.outcome m.store x h.0 place h.1.store h.1.goes) (goes_through h.0 ms y place h.2)
+
+module _ {S : Type 0} (registry : S → RegistryState) (with_registry : S → RegistryState → S) (has_form : S → Form → Type 0) (stepped : StackSteps S) where
+  folds_append : (x : S) (ms ns : List Made) (y z : S) → FoldsTo (Makes registry with_registry has_form stepped) x ms y → FoldsTo (Makes registry with_registry has_form stepped) y ns z → FoldsTo (Makes registry with_registry has_form stepped) x (ms ++ ns) z
+  folds_append x [] ns y z h k = subst (λ w. FoldsTo (Makes registry with_registry has_form stepped) w ns z) (sym h) k
+  folds_append x (m ∷ ms) ns y z h k = (h.0, h.1, folds_append h.0 ms ns y z h.2 k)
+
+  asked_folds : (o : Option Call) (x : S) (a : Answer) (ms : List Made) (y : S) → ServesAsked registry with_registry has_form stepped o x a ms y → FoldsTo (Makes registry with_registry has_form stepped) x ms y
+  asked_folds None x a ms y h = subst (λ ns. FoldsTo (Makes registry with_registry has_form stepped) x ns y) (sym h.1) (sym h.2)
+  asked_folds (Some call) x a ms y h = h.2.goes
+
+  -- a run goes through all that was made, one after another
+  pub run_folds : (past : List Answer) (rs : List Request) (answers : List Answer) (made : List (List Made)) (x y : S) → Run registry with_registry has_form stepped past rs answers made x y → FoldsTo (Makes registry with_registry has_form stepped) x (flat made) y
+  run_folds past [] [] [] x y h = sym h
+  run_folds past [] [] (m ∷ made) x y h = absurd h
+  run_folds past [] (b ∷ answers) made x y h = absurd h
+  run_folds past (q ∷ rs) [] made x y h = absurd h
+  run_folds past (q ∷ rs) (b ∷ answers) [] x y h = absurd h
+  run_folds past (q ∷ rs) (b ∷ answers) (ms ∷ made) x y h = folds_append x ms (flat made) h.0 y (asked_folds h.1.call x b ms h.0 h.1.served) (run_folds (past ++ (b ∷ [])) rs answers made h.0 y h.2)
