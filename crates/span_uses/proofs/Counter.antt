@@ -45,7 +45,7 @@ HasForm x = OverForm OnSubscriber (FilteredForm (id_of (outer_of x)) (settled_an
 
 -- how its parts go on, as their types say
 abbrev pub counter_steps : LayerSteps (Observer SpanCounter)
-counter_steps x p e lane under v y w = (observer_of y ≡ counted e (observer_of x)) × (w ≡ v)
+counter_steps x p e lane under v y w = (p ≡ Itself) × ((observer_of y ≡ counted e (observer_of x)) × (w ≡ v))
 
 abbrev pub under_level : LayerSteps (FilteredLayer (Observer SpanCounter) LevelFilter)
 under_level x p e lane under v y w = (id_of y ≡ id_of x) × FilteredSteps unmoved counter_steps (id_of x) (filter_of x) (layer_of x) p e lane under v (filter_of y) (layer_of y) w
@@ -57,7 +57,7 @@ stack_steps x p e lane v y w = LayeredSteps (λ (s t : RegistryState). t) under_
 went : (passed : Bool) (attrs : Attributes) (id : Id) (x y : FilteredLayer (Observer SpanCounter) LevelFilter) (lane : ℕ) (under : FilterSet) (v w : RegistryState)
     → FilteredSteps unmoved counter_steps (id_of x) (filter_of x) (layer_of x) (if passed then Through Itself else Nobody) (OnNewSpan attrs id) lane under v (filter_of y) (layer_of y) w
     → (observer_of (layer_of y) ≡ (if passed then counted (OnNewSpan attrs id) (observer_of (layer_of x)) else observer_of (layer_of x))) × (filter_of y ≡ filter_of x)
-went true attrs id x y lane under v w h = (h.layer.0, h.filter.0)
+went true attrs id x y lane under v w h = (h.layer.1.0, h.filter.0)
 went false attrs id x y lane under v w h = (ap observer_of h.1, h.0)
 
 -- what a new span makes of the stack
