@@ -1,5 +1,6 @@
 mod Calls
+pub mod Fixed
 mod Goes
 mod Once
-mod Seen
+pub mod Seen
 mod Served

@@ -1,4 +1,5 @@
 pub mod Call
+pub mod Fixed
 pub mod Outcome
 pub mod Recorder
 mod RecorderLaws

@@ -1,0 +1,67 @@
+-- For the proofs of callers: a run of a stack whose form never changes, said of its registry alone.
+use Rattle.std.proofs.Common.{◌≡◌, ℕ, List, [], ◌∷◌, ◌++◌, Option, Some, None, refl, sym, ap, subst}
+use Rattle.std.specs.List.{FoldsTo}
+use Rattle.std.specs.Prelude.{⊤}
+use Rattle.span_dispatch.specs.Call.{Call}
+use Rattle.span_dispatch.specs.Outcome.{GoesOn, IsHonest, Made, Makes, Noticed, Outcome, Quiet}
+use Rattle.span_dispatch.specs.Serve.{Run, ServesAsked}
+use Rattle.span_dispatch.specs.declared.request.Answer.{Answer}
+use Rattle.span_dispatch.specs.declared.request.Request.{Request}
+use Rattle.span_registry.specs.Answers.{Notice}
+use Rattle.span_registry.specs.Form.{Form}
+use Rattle.span_registry.specs.Hooks.{StackSteps}
+use Rattle.span_registry.specs.Plan.{Plan}
+use Rattle.span_registry.specs.Store.{RegistryState}
+
+-- a stack stays as it is in what decides its form
+module _ {S : Type 0} (registry : S → RegistryState) (with_registry : S → RegistryState → S) (has_form : S → Form → Type 0) (stepped : StackSteps S) (f : Form) (Stays : S → Type 0)
+    (known : (x : S) (g : Form) → Stays x → has_form x g → g ≡ f) (goes : (x : S) (p : Plan) (e : Notice) (lane : ℕ) (v : RegistryState) (y : S) (w : RegistryState) → stepped x p e lane v y w → Stays x → Stays y)
+    (aside : (x : S) (w : RegistryState) → Stays x → Stays (with_registry x w)) where
+  abbrev Alone : RegistryState → Made → RegistryState → Type 0
+  Alone s m t = Makes (λ (r : RegistryState). r) (λ r w. w) (λ r g. g ≡ f) (λ r p e lane v q w. ⊤) s m t
+
+  honest : (g : Form) (x : S) → Stays x → IsHonest registry with_registry has_form stepped g x → IsHonest (λ (r : RegistryState). r) (λ r w. w) (λ r k. k ≡ f) (λ r p e lane v q w. ⊤) g (registry x)
+  honest g x stays h = record { has = known x g stays h.has; rules = h.rules }
+
+  stays_on : (g : Form) (o : Outcome) (x y : S) → Stays x → GoesOn registry with_registry has_form stepped g o x y → Stays y
+  stays_on g (Noticed lane e) x y stays n = subst Stays (sym n.rest) (aside n.notified (registry y) (goes x _ e lane.0 n.left n.notified (registry n.notified) n.layers stays))
+  stays_on g (Quiet c) x y stays q = subst Stays (sym q.rest) (aside x (registry y) stays)
+
+  goes_alone : (g : Form) (o : Outcome) (x y : S) → GoesOn registry with_registry has_form stepped g o x y → GoesOn (λ (r : RegistryState). r) (λ r w. w) (λ r k. k ≡ f) (λ r p e lane v q w. ⊤) g o (registry x) (registry y)
+  goes_alone g (Noticed lane e) x y n = record { left = n.left; before = n.before; notified = registry n.notified; layers = tt; extensions = n.extensions; after = n.after; rest = refl }
+  goes_alone g (Quiet c) x y q = record { changes = q.changes; rest = refl }
+
+  alone : (x : S) (m : Made) (y : S) → Stays x → Makes registry with_registry has_form stepped x m y → Alone (registry x) m (registry y)
+  alone x m y stays h = record { honest = honest m.form x stays h.honest; store = h.store; goes = goes_alone m.form m.outcome x y h.goes }
+
+  stays_through : (x : S) (ms : List Made) (y : S) → Stays x → FoldsTo (Makes registry with_registry has_form stepped) x ms y → Stays y
+  stays_through x [] y stays h = subst Stays h stays
+  stays_through x (m ∷ ms) y stays h = stays_through h.0 ms y (stays_on m.form m.outcome x h.0 stays h.1.goes) h.2
+
+  through_alone : (x : S) (ms : List Made) (y : S) → Stays x → FoldsTo (Makes registry with_registry has_form stepped) x ms y → FoldsTo Alone (registry x) ms (registry y)
+  through_alone x [] y stays h = ap registry h
+  through_alone x (m ∷ ms) y stays h = (registry h.0, alone x m h.0 stays h.1, through_alone h.0 ms y (stays_on m.form m.outcome x h.0 stays h.1.goes) h.2)
+
+  asked_stays : (o : Option Call) (x : S) (a : Answer) (ms : List Made) (y : S) → Stays x → ServesAsked registry with_registry has_form stepped o x a ms y → Stays y
+  asked_stays None x a ms y stays h = subst Stays (sym h.2) stays
+  asked_stays (Some call) x a ms y stays h = stays_through x ms y stays h.2.goes
+
+  asked_alone : (o : Option Call) (x : S) (a : Answer) (ms : List Made) (y : S) → Stays x → ServesAsked registry with_registry has_form stepped o x a ms y
+      → ServesAsked (λ (r : RegistryState). r) (λ r w. w) (λ r g. g ≡ f) (λ r p e lane v q w. ⊤) o (registry x) a ms (registry y)
+  asked_alone None x a ms y stays h = (h.0, h.1, ap registry h.2)
+  asked_alone (Some call) x a ms y stays h =
+      (h.0, record { honest = honest h.0 x stays h.1.honest; settled = h.1.settled }, record { comes = h.2.comes; goes = through_alone x ms y stays h.2.goes })
+
+  -- a run of such a stack is a run by its form
+  pub runs_by : (past : List Answer) (rs : List Request) (answers : List Answer) (made : List (List Made)) (x y : S) → Stays x → Run registry with_registry has_form stepped past rs answers made x y
+      → Run (λ (r : RegistryState). r) (λ r w. w) (λ r g. g ≡ f) (λ r p e lane v q w. ⊤) past rs answers made (registry x) (registry y)
+  runs_by past [] [] [] x y stays h = ap registry h
+  runs_by past [] [] (m ∷ made) x y stays h = absurd h
+  runs_by past [] (b ∷ answers) made x y stays h = absurd h
+  runs_by past (q ∷ rs) [] made x y stays h = absurd h
+  runs_by past (q ∷ rs) (b ∷ answers) [] x y stays h = absurd h
+  runs_by past (q ∷ rs) (b ∷ answers) (ms ∷ made) x y stays h = (
+    registry h.0,
+    record { call = h.1.call; asks = h.1.asks; served = asked_alone h.1.call x b ms h.0 stays h.1.served },
+    runs_by (past ++ (b ∷ [])) rs answers made h.0 y (asked_stays h.1.call x b ms h.0 stays h.1.served) h.2,
+  )
