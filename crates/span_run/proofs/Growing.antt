@@ -8,7 +8,7 @@ use Rattle.std.specs.Cmp.Lexicographic.{slice_cmp}
 use Rattle.std.specs.BTreeMap as tree
 use Rattle.span_run.specs.Script.{declared_label, IsLine, lines_of, requests_of, place_of, Asks, AskFor, nothing, more, Declares, DeclaresAt, IsScript}
 use Rattle.span_run.specs.declared.line.Line.{Line}
-use Rattle.span_run.specs.declared.request.Request.{Request}
+use Rattle.span_dispatch.specs.declared.request.Request.{Request}
 use Rattle.span_run.specs.declared.script.Script.{Script}
 
 -- no line declares this label

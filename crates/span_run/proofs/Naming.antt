@@ -12,8 +12,8 @@ use Rattle.std.proofs.lemmas.Bool.Decides.{nat_tests}
 use Rattle.span_core.specs.Span.{number_of}
 use Rattle.span_run.specs.Program.{AreLabels, IsNamed, IsNamedAt}
 use Rattle.span_run.specs.declared.line.Line.{Line}
-use Rattle.span_run.specs.declared.request.Answer.{Answer}
-use Rattle.span_run.specs.declared.request.Answer.TheVariants.{Made}
+use Rattle.span_dispatch.specs.declared.request.Answer.{Answer}
+use Rattle.span_dispatch.specs.declared.request.Answer.TheVariants.{Made}
 
 pub MatchOption-map : {X : Type 0} (o : Option X) (P P' : Type 0) (Q : X → Type 0) → MatchOption o P Q → (P → P') → MatchOption o P' Q
 MatchOption-map None P P' Q h f = f h

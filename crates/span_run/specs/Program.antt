@@ -1,5 +1,6 @@
 -- What the program prints for a script, and how it ends.
-use Rattle.std.specs.Prelude.{◌≡◌, ◌⊎◌, ◌<◌, ℕ, List, [], ◌∷◌, ◌++◌, ⊤, Option, Some, None, Result, String, IfSome, MatchOption, IsErrAnd, IsSomeAnd, flat_map, decimal, length, slice_get, string_bytes, codes}
+use Rattle.std.specs.Prelude.{◌≡◌, ◌⊎◌, ◌<◌, ℕ, List, [], ◌∷◌, ◌++◌, ⊤, Option, Some, None, Result, String, IfSome, MatchOption, IsErrAnd, IsSomeAnd, Bool, true, false, flat_map, map, decimal, length, slice_get, string_bytes, codes}
+use Rattle.std.specs.List.{zip}
 use Rattle.std.specs.Option.{unwrap_or, option_map}
 use Rattle.std.specs.Borrow.{Bor}
 use Rattle.std.specs.BTreeMap as tree
@@ -11,17 +12,19 @@ use Rattle.span_core.specs.TraceError.{refusal_number}
 use Rattle.span_core.specs.declared.span.Id.{Id}
 use Rattle.span_registry.specs.Store.{RegistryState, new_registry}
 use Rattle.span_registry.specs.declared.limits.TheConstants.Limits.{MAX}
+use Rattle.span_dispatch.specs.declared.notice.Notice.{Notice}
+use Rattle.span_dispatch.specs.declared.notice.Notice.TheVariants as notice
+use Rattle.span_dispatch.specs.declared.request.Answer.{Answer}
+use Rattle.span_dispatch.specs.declared.request.Answer.TheVariants.{Made, Dropped, Done, Yes, Current, Refused}
+use Rattle.span_dispatch.specs.declared.request.Request.{Request}
 use Rattle.span_run.specs.declared.line.Line.{Line}
+use Rattle.span_run.specs.declared.line.Line.TheVariants.{Enabled}
+use Rattle.span_run.specs.declared.reply.Heard.{Heard}
 use Rattle.span_run.specs.declared.reply.Names.{Names}
-use Rattle.span_run.specs.declared.request.Answer.{Answer}
-use Rattle.span_run.specs.declared.request.Answer.TheVariants.{Made, Dropped, Current, Refused}
-use Rattle.span_run.specs.declared.request.Notice.{Notice}
-use Rattle.span_run.specs.declared.request.Notice.TheVariants as notice
 use Rattle.span_run.specs.Run.{Run}
 use Rattle.span_run.specs.Script.{declared_label, AskFor, IsScriptFault, IsSpelled}
 use Rattle.span_run.specs.declared.fault.RunFault.{RunFault}
 use Rattle.span_run.specs.declared.fault.RunFault.TheVariants.{Line as LineFault, Io}
-use Rattle.span_run.specs.declared.request.Request.{Request}
 
 -- a line declares this label, and the answer to its request made the span with this number
 abbrev pub IsNamed : Line → Option Answer → ℕ → List ℕ → Type 0
@@ -61,30 +64,60 @@ IsContinued old new bytes = string_bytes new ≡ string_bytes old ++ bytes
 abbrev pub line_of : List ℕ → List ℕ
 line_of text = text ++ 10 ∷ []
 
--- the line that replies to a request, where spans are named so
-abbrev pub reply_text : (Id → List ℕ) → Answer → List ℕ
-reply_text name (Made id) = line_of (name id)
-reply_text name Dropped = codes "none\n"
-reply_text name (Current None) = codes "none\n"
-reply_text name (Current (Some id)) = line_of (name id)
-reply_text name (Refused error) = codes "refused " ++ line_of (decimal (refusal_number error))
-reply_text name answer = codes "ok\n"
+-- what a yes or a no is replied as: it is told to `enabled`, and a drop says `ok` whether or not its span closed by it
+abbrev pub yes_text : Line → Bool → List ℕ
+yes_text (Enabled lane site) true = codes "true\n"
+yes_text (Enabled lane site) false = codes "false\n"
+yes_text l yes = codes "ok\n"
+
+-- the line that replies to a line, where spans are named so
+abbrev pub reply_text : (Id → List ℕ) → Line → Answer → List ℕ
+reply_text name l (Made id) = line_of (name id)
+reply_text name l Dropped = codes "none\n"
+reply_text name l Done = codes "ok\n"
+reply_text name l (Yes yes) = yes_text l yes
+reply_text name l (Current None) = codes "none\n"
+reply_text name l (Current (Some id)) = line_of (name id)
+reply_text name l (Refused error) = codes "refused " ++ line_of (decimal (refusal_number error))
+
+-- two names, one space apart
+abbrev pub pair_of : List ℕ → List ℕ → List ℕ
+pair_of name other = name ++ 32 ∷ other
 
 -- the line of a notice
 abbrev pub notice_text : (Id → List ℕ) → Notice → List ℕ
 notice_text name (notice.New lane id) = codes "new " ++ line_of (name id)
 notice_text name (notice.Record lane id) = codes "record " ++ line_of (name id)
+notice_text name (notice.Follows lane id other) = codes "follows " ++ line_of (pair_of (name id) (name other))
+notice_text name (notice.Event lane callsite) = codes "event " ++ line_of (decimal callsite)
 notice_text name (notice.Enter lane id) = codes "enter " ++ line_of (name id)
 notice_text name (notice.Exit lane id) = codes "exit " ++ line_of (name id)
+notice_text name (notice.IdChange lane id other) = codes "id " ++ line_of (pair_of (name id) (name other))
 notice_text name (notice.Close lane id) = codes "close " ++ line_of (name id)
 
--- all that is printed: a line for each answer, the recorder's head, and a line for each notice
-abbrev pub printed : (Id → List ℕ) → List Answer → List Notice → List ℕ
-printed name answers notices = flat_map (reply_text name) answers ++ codes "== base\n" ++ flat_map (notice_text name) notices
+-- a recorder's name, as its bytes, and the notices that it kept
+abbrev pub heard_in : Heard → List ℕ × List Notice
+heard_in heard = (heard.name.now, heard.notices.now)
 
--- the text is what is printed for these lines, answers and notices
-abbrev pub IsPrinted : List Line → List Answer → List Notice → List ℕ → Type 0
-IsPrinted lines answers notices text = (labels : ℕ → Option (List ℕ)) × (AreLabels lines answers labels × (text ≡ printed (name_by labels) answers notices))
+-- the same of each recorder
+abbrev pub all_heard : List Heard → List (List ℕ × List Notice)
+all_heard heard = map heard_in heard
+
+-- a recorder's head, and a line for each notice that it kept
+abbrev pub heard_text : (Id → List ℕ) → List ℕ × List Notice → List ℕ
+heard_text name heard = codes "== " ++ line_of heard.0 ++ flat_map (notice_text name) heard.1
+
+-- a line for each line of a script and its answer
+abbrev pub replies : (Id → List ℕ) → List Line → List Answer → List ℕ
+replies name lines answers = flat_map (λ both. reply_text name both.0 both.1) (zip lines answers)
+
+-- all that is printed: the replies, and then what each recorder kept
+abbrev pub printed : (Id → List ℕ) → List Line → List Answer → List (List ℕ × List Notice) → List ℕ
+printed name lines answers heard = replies name lines answers ++ flat_map (heard_text name) heard
+
+-- the text is what is printed for these lines, answers and recorders
+abbrev pub IsPrinted : List Line → List Answer → List (List ℕ × List Notice) → List ℕ → Type 0
+IsPrinted lines answers heard text = (labels : ℕ → Option (List ℕ)) × (AreLabels lines answers labels × (text ≡ printed (name_by labels) lines answers heard))
 
 -- the text spells lines, they ask for requests, these run from an empty registry with their answers and the notices that are due, and that is printed
 pub record Prints (text output : List ℕ) : Type 0 where

@@ -1,5 +1,5 @@
 -- Scripts: how lines are spelled, what they ask for, and what can be wrong with them.
-use Rattle.std.specs.Prelude.{◌≡◌, ◌≢◌, ◌⊎◌, ℕ, ◌+◌, ◌<◌, ◌==◌, List, [], ◌∷◌, ◌++◌, ⊤, Bool, ◌&&◌, ◌||◌, not, nat_le, IsTrue, Option, Some, None, IsSome, IsSomeAnd, IfSome, MatchOption, length, map, filter, take, codes, bytes_eq, slice_get, slice_index}
+use Rattle.std.specs.Prelude.{◌≡◌, ◌≢◌, ◌⊎◌, ℕ, ◌+◌, ◌<◌, ◌≤◌, ◌==◌, List, [], ◌∷◌, ◌++◌, ⊤, Bool, true, ◌&&◌, ◌||◌, not, nat_le, IsTrue, Option, Some, None, IsSome, IsSomeAnd, IfSome, MatchOption, length, map, filter, take, codes, bytes_eq, slice_get, slice_index}
 use Rattle.std.specs.List.{list_all, slice_split}
 use Rattle.std.specs.Borrow.{Bor}
 use Rattle.std.specs.Char.{is_ascii_lowercase, is_ascii_digit}
@@ -8,26 +8,34 @@ use Rattle.std.specs.Ordering.{nat_cmp}
 use Rattle.std.specs.Cmp.Lexicographic.{slice_cmp}
 use Rattle.std.specs.BTreeMap as tree
 use Rattle.span_core.specs.Metadata.{callsite_of, name_of, names_of, target_of, level_of, kind_of, fields_of}
+use Rattle.span_core.specs.declared.field.FieldValue.{FieldValue}
+use Rattle.span_core.specs.declared.field.FieldValue.TheVariants as value
+use Rattle.span_core.specs.declared.level.Level.{Level}
 use Rattle.span_core.specs.declared.level.TheConstants.Level.{ERROR, WARN, INFO, DEBUG, TRACE}
 use Rattle.span_core.specs.declared.metadata.Metadata.{Metadata}
-use Rattle.span_core.specs.declared.metadata.TheConstants.Kind.{SPAN}
+use Rattle.span_core.specs.declared.metadata.Kind.{Kind}
+use Rattle.span_core.specs.declared.metadata.TheConstants.Kind.{SPAN, EVENT}
 use Rattle.span_core.specs.declared.span.Lane.{Lane}
 use Rattle.span_core.specs.Span.{number_of}
 use Rattle.span_run.specs.declared.line.Name.{Name}
 use Rattle.span_run.specs.declared.line.Name.TheVariants.{Nobody, Label}
 use Rattle.span_run.specs.declared.line.ParentName.{ParentName}
 use Rattle.span_run.specs.declared.line.ParentName.TheVariants.{Contextual, Root, In}
+use Rattle.span_run.specs.declared.line.Mute.{Mute}
+use Rattle.span_run.specs.declared.line.Mute.TheVariants.{Absent, Given}
 use Rattle.span_run.specs.declared.line.Line.{Line}
-use Rattle.span_run.specs.declared.line.Line.TheVariants.{New, Enter, Exit, Record, Drop, Current}
+use Rattle.span_run.specs.declared.line.Line.TheVariants.{New, Event, Enter, Exit, Record, Follows, Clone, Drop, Enabled, Current}
 use Rattle.span_run.specs.declared.fault.RunFault.{RunFault}
 use Rattle.span_run.specs.declared.fault.RunFault.TheVariants as fault
-use Rattle.span_run.specs.declared.request.Which.{Which}
-use Rattle.span_run.specs.declared.request.Which.TheVariants.{Known, Made}
-use Rattle.span_run.specs.declared.request.WhichParent.{WhichParent}
-use Rattle.span_run.specs.declared.request.WhichParent.TheVariants as asked
-use Rattle.span_run.specs.declared.request.Request.{Request}
-use Rattle.span_run.specs.declared.request.Request.TheVariants as request
+use Rattle.span_dispatch.specs.declared.request.Which.{Which}
+use Rattle.span_dispatch.specs.declared.request.Which.TheVariants.{Known, Made}
+use Rattle.span_dispatch.specs.declared.request.WhichParent.{WhichParent}
+use Rattle.span_dispatch.specs.declared.request.WhichParent.TheVariants as asked
+use Rattle.span_dispatch.specs.declared.request.Request.{Request}
+use Rattle.span_dispatch.specs.declared.request.Request.TheVariants as request
 use Rattle.span_run.specs.declared.script.Script.{Script}
+use Rattle.span_run.specs.declared.stack_name.StackName.{StackName}
+use Rattle.span_run.specs.declared.stack_name.StackName.TheVariants.{Plain, Pair, Nested}
 
 -- the texts that are borrowed
 abbrev pub texts_in : List (Bor (List ℕ)) → List (List ℕ)
@@ -49,14 +57,29 @@ is_letter_or_digit c = is_ascii_lowercase c || is_ascii_digit c
 abbrev pub is_label : List ℕ → Bool
 is_label word = not (is_keyword word) && nat_le (length word) 16 && is_ascii_lowercase (slice_index word 0) && list_all is_letter_or_digit word
 
--- the metadata of one of the five callsites of spans, which have no fields
-pub record IsSpanSite (site : Metadata) : Type 0 where
-  pub number : callsite_of site < 5
+-- the levels of the ten callsites, by their numbers
+abbrev pub site_levels : List Level
+site_levels = ERROR ∷ WARN ∷ INFO ∷ DEBUG ∷ TRACE ∷ ERROR ∷ WARN ∷ INFO ∷ DEBUG ∷ TRACE ∷ []
+
+-- the metadata of one of the ten callsites, with this kind and these fields
+pub record IsSite (makes : Kind) (names : List (List ℕ)) (site : Metadata) : Type 0 where
   pub name : name_of site ≡ 115 ∷ (48 + callsite_of site) ∷ []
   pub target : target_of site ≡ codes "script"
-  pub level : slice_get (ERROR ∷ WARN ∷ INFO ∷ DEBUG ∷ TRACE ∷ []) (callsite_of site) ≡ Some (level_of site)
-  pub kind : kind_of site ≡ SPAN
-  pub fields : names_of (fields_of site) ≡ []
+  pub level : slice_get site_levels (callsite_of site) ≡ Some (level_of site)
+  pub kind : kind_of site ≡ makes
+  pub fields : texts_in (names_of (fields_of site)) ≡ names
+
+-- the first five callsites are of spans, without fields
+abbrev pub IsSpanSite : Metadata → Type 0
+IsSpanSite site = (callsite_of site < 5) × IsSite SPAN [] site
+
+-- the others are of events, with the field `mute`
+abbrev pub IsEventSite : Metadata → Type 0
+IsEventSite site = (5 ≤ callsite_of site) × (callsite_of site < 10) × IsSite EVENT (codes "mute" ∷ []) site
+
+-- one of the ten callsites
+abbrev pub IsAnySite : Metadata → Type 0
+IsAnySite site = IsSpanSite site ⊎ IsEventSite site
 
 -- the word of a digit
 abbrev pub digit : ℕ → List ℕ
@@ -77,13 +100,26 @@ parent_words Contextual = []
 parent_words Root = codes "root" ∷ []
 parent_words (In name) = codes "in" ∷ word_of name ∷ []
 
+-- the words of the value that an event is given
+abbrev pub mute_words : Mute → List (List ℕ)
+mute_words Absent = []
+mute_words Given = codes "mute" ∷ []
+
+-- the words of a parent and a value
+abbrev pub tail_words : ParentName × Mute → List (List ℕ)
+tail_words tail = parent_words tail.0 ++ mute_words tail.1
+
 -- the words of a line
 abbrev pub words_of : Line → List (List ℕ)
 words_of (New lane site label parent) = codes "new" ∷ digit lane.0 ∷ digit (callsite_of site) ∷ label.now ∷ parent_words parent
+words_of (Event lane site parent mute) = codes "event" ∷ digit lane.0 ∷ digit (callsite_of site) ∷ tail_words (parent, mute)
 words_of (Enter lane name) = codes "enter" ∷ lane_words (lane, name)
 words_of (Exit lane name) = codes "exit" ∷ lane_words (lane, name)
 words_of (Record lane name) = codes "record" ∷ lane_words (lane, name)
+words_of (Follows lane name other) = codes "follows" ∷ digit lane.0 ∷ word_of name ∷ word_of other ∷ []
+words_of (Clone name) = codes "clone" ∷ word_of name ∷ []
 words_of (Drop lane name) = codes "drop" ∷ lane_words (lane, name)
+words_of (Enabled lane site) = codes "enabled" ∷ digit lane.0 ∷ digit (callsite_of site) ∷ []
 words_of (Current lane) = codes "current" ∷ digit lane.0 ∷ []
 
 -- the label that a line declares, if it declares one
@@ -109,18 +145,34 @@ abbrev pub IsParentName : ParentName → Type 0
 IsParentName (In name) = IsName name
 IsParentName parent = ⊤
 
--- the lane is a digit, the site one of the five of spans, and the names are names
+-- the same of a parent and a value
+abbrev pub IsTail : ParentName × Mute → Type 0
+IsTail tail = IsParentName tail.0
+
+-- the words are no parent and value
+abbrev pub IsNoTail : List (List ℕ) → Type 0
+IsNoTail words = (parent : ParentName) (mute : Mute) → IsParentName parent → words ≢ parent_words parent ++ mute_words mute
+
+-- the lane is a digit, the site one of spans, of events, or any, and the names are names
 abbrev pub IsLine : Line → Type 0
 IsLine (New lane site label parent) = (lane.0 < 10) × IsSpanSite site × IsTrue (is_label label.now) × IsParentName parent
+IsLine (Event lane site parent mute) = (lane.0 < 10) × IsEventSite site × IsParentName parent
 IsLine (Enter lane name) = IsLaneAndName (lane, name)
 IsLine (Exit lane name) = IsLaneAndName (lane, name)
 IsLine (Record lane name) = IsLaneAndName (lane, name)
+IsLine (Follows lane name other) = (lane.0 < 10) × IsName name × IsName other
+IsLine (Clone name) = IsName name
 IsLine (Drop lane name) = IsLaneAndName (lane, name)
+IsLine (Enabled lane site) = (lane.0 < 10) × IsAnySite site
 IsLine (Current lane) = lane.0 < 10
 
 -- the parts of a text between these bytes
 abbrev pub cut : ℕ → List ℕ → List (List ℕ)
 cut byte text = slice_split (λ b. b == byte) text
+
+-- the stack that the first line names
+abbrev pub stack_of : Script → StackName
+stack_of script = script.stack
 
 -- the lines after the first
 abbrev pub lines_of : Script → List Line
@@ -151,13 +203,26 @@ MeansParent before Root asked.Root = ⊤
 MeansParent before (In name) (asked.Explicit which) = Means before name which
 MeansParent before name parent = ⊥
 
--- after these lines, a line asks for this request
+-- the names of fields, as their bytes, and their values
+abbrev pub values_in : Bor (List (Bor (List ℕ) × FieldValue)) → List (List ℕ × FieldValue)
+values_in values = map (λ field. (field.0.now, field.1)) values.now
+
+-- the values that an event is given
+abbrev pub mute_values : Mute → List (List ℕ × FieldValue)
+mute_values Absent = []
+mute_values Given = (codes "mute", value.Bool true) ∷ []
+
+-- after these lines, a line asks for this request; a clone is asked for on lane 0
 abbrev pub Asks : List Line → Line → Request → Type 0
-Asks before (New lane site label name) (request.NewSpan lane' site' parent) = (lane' ≡ lane) × (site' ≡ site) × MeansParent before name parent
+Asks before (New lane site label name) (request.NewSpan lane' site' parent values) = (lane' ≡ lane) × (site' ≡ site) × MeansParent before name parent × (values_in values ≡ [])
+Asks before (Event lane site name mute) (request.Event lane' site' parent values) = (lane' ≡ lane) × (site' ≡ site) × MeansParent before name parent × (values_in values ≡ mute_values mute)
 Asks before (Enter lane name) (request.Enter lane' which) = (lane' ≡ lane) × Means before name which
 Asks before (Exit lane name) (request.Exit lane' which) = (lane' ≡ lane) × Means before name which
-Asks before (Record lane name) (request.Record lane' which) = (lane' ≡ lane) × Means before name which
+Asks before (Record lane name) (request.Record lane' which values) = (lane' ≡ lane) × Means before name which × (values_in values ≡ [])
+Asks before (Follows lane name other) (request.Follows lane' which which') = (lane' ≡ lane) × Means before name which × Means before other which'
+Asks before (Clone name) (request.Clone lane' which) = (lane'.0 ≡ 0) × Means before name which
 Asks before (Drop lane name) (request.Drop lane' which) = (lane' ≡ lane) × Means before name which
+Asks before (Enabled lane site) (request.Enabled lane' site') = (lane' ≡ lane) × (site' ≡ site)
 Asks before (Current lane) (request.Current lane') = lane' ≡ lane
 Asks before l r = ⊥
 
@@ -190,14 +255,30 @@ Declares old l new = MatchOption (declared_label l) (new.labels ≡ old.labels) 
 abbrev pub CanFollow : List Line → Line → Type 0
 CanFollow before l = ((r : Request) × Asks before l r) × IsNewIn before l
 
--- the words of the first line
-abbrev pub first_words : List (List ℕ)
-first_words = codes "stack" ∷ codes "plain" ∷ []
+-- the word of a stack
+abbrev pub stack_word : StackName → List ℕ
+stack_word Plain = codes "plain"
+stack_word Pair = codes "pair"
+stack_word Nested = codes "nested"
 
--- the words of the lines, the first included; there are none before it
-abbrev pub words_in : Option (List Line) → List (List (List ℕ))
+-- the names of a stack's recorders, innermost first
+abbrev pub recorders_of : StackName → List (List ℕ)
+recorders_of Plain = codes "base" ∷ []
+recorders_of Pair = codes "a" ∷ codes "b" ∷ []
+recorders_of Nested = codes "base" ∷ codes "deep" ∷ []
+
+-- the words of the first line
+abbrev pub first_words : StackName → List (List ℕ)
+first_words stack = codes "stack" ∷ stack_word stack ∷ []
+
+-- the words are no first line
+abbrev pub NamesNoStack : List (List ℕ) → Type 0
+NamesNoStack words = (stack : StackName) → words ≢ first_words stack
+
+-- the words of what was read of a script: of its first line, which names the stack, and of the lines after it
+abbrev pub words_in : Option (StackName × List Line) → List (List (List ℕ))
 words_in None = []
-words_in (Some lines) = first_words ∷ map words_of lines
+words_in (Some read) = first_words read.0 ∷ map words_of read.1
 
 -- a text that is not empty
 abbrev pub is_full : List ℕ → Bool
@@ -207,28 +288,28 @@ is_full text = not (length text == 0)
 abbrev pub words_of_texts : List (List ℕ) → List (List (List ℕ))
 words_of_texts texts = map (cut 32) (filter is_full texts)
 
--- cut at line feeds and, empty lines aside, at spaces, the text is `stack plain` and the words of these lines
-abbrev pub IsSpelled : List ℕ → List Line → Type 0
-IsSpelled text lines = words_of_texts (cut 10 text) ≡ words_in (Some lines)
+-- cut at line feeds and, empty lines aside, at spaces, the text is the first line of this stack and the words of these lines
+abbrev pub IsSpelled : List ℕ → StackName → List Line → Type 0
+IsSpelled text stack lines = words_of_texts (cut 10 text) ≡ words_in (Some (stack, lines))
 
--- the text is not empty, and can't follow these lines: its words are no line, or one that can't
-abbrev pub IsWrongAfter : Option (List Line) → List ℕ → Type 0
-IsWrongAfter None text = IsTrue (is_full text) × (cut 32 text ≢ first_words)
-IsWrongAfter (Some before) text = IsTrue (is_full text) × (SpellsNone IsLine words_of (cut 32 text) ⊎ ((l : Line) × (IsLine l × (cut 32 text ≡ words_of l) × ¬ (CanFollow before l))))
+-- the text is not empty, and can't follow what was read: its words are no first line; or they are no line, or one that can't
+abbrev pub IsWrongAfter : Option (StackName × List Line) → List ℕ → Type 0
+IsWrongAfter None text = IsTrue (is_full text) × NamesNoStack (cut 32 text)
+IsWrongAfter (Some read) text = IsTrue (is_full text) × (SpellsNone IsLine words_of (cut 32 text) ⊎ ((l : Line) × (IsLine l × (cut 32 text ≡ words_of l) × ¬ (CanFollow read.1 l))))
 
--- the lines so far, if the first was read, and what they ask for
-abbrev pub lines_in : Option Script → Option (List Line)
-lines_in None = None
-lines_in (Some script) = Some (lines_of script)
+-- what was read of a script, if its first line was
+abbrev pub read_in : Option Script → Option (StackName × List Line)
+read_in None = None
+read_in (Some script) = Some (stack_of script, lines_of script)
 
 -- a script reads a text more: its words are added, if there are any
 abbrev pub ReadsText : Option Script → List ℕ → Option Script → Type 0
-ReadsText before text after = words_in (lines_in after) ≡ words_in (lines_in before) ++ words_of_texts (text ∷ [])
+ReadsText before text after = words_in (read_in after) ≡ words_in (read_in before) ++ words_of_texts (text ∷ [])
 
 -- the text at this place can't follow the ones before it, which are read
 pub record IsWrongAt (texts : List (List ℕ)) (place : ℕ) : Type 0 where
-  pub before : Option (List Line)
-  pub asked : IfSome before (λ lines. (requests : List Request) × AskFor lines requests)
+  pub before : Option (StackName × List Line)
+  pub asked : IfSome before (λ read. (requests : List Request) × AskFor read.1 requests)
   pub spelled : words_in before ≡ words_of_texts (take place texts)
   pub wrong : IsSomeAnd (slice_get texts place) (IsWrongAfter before)
 

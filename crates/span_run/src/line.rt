@@ -2,9 +2,9 @@
 ghost use Rattle.std.specs.Prelude.{◌≡◌, ◌≢◌, ◌<◌, ◌∷◌, ℕ, codes, IfNone, IfSome, is_some, slice_index};
 ghost use Rattle.std.specs.Char.{is_ascii_lowercase};
 ghost use Rattle.std.specs.List.{list_all};
-ghost use Rattle.span_run.specs.Script.{digit, is_keyword, is_label, is_letter_or_digit, lane_words, parent_words, texts_in, word_of, words_of, IsLaneAndName, IsLine, IsName, IsNoLaneAndName, IsParentName, SpellsNone};
+ghost use Rattle.span_run.specs.Script.{digit, is_keyword, is_label, is_letter_or_digit, lane_words, parent_words, tail_words, texts_in, word_of, words_of, IsLaneAndName, IsLine, IsName, IsNoLaneAndName, IsNoTail, IsParentName, IsTail, SpellsNone};
 
-use crate::site::span_site;
+use crate::site::{any_site, event_site, span_site};
 use span_core::{Lane, Metadata};
 
 /// The most characters that a label has.
@@ -30,19 +30,36 @@ pub enum ParentName<'a> {
     In(Name<'a>),
 }
 
+/// The value that a line gives to an event's field `mute`.
+#[derive(Clone, Copy, Debug, PartialEq, Eq)]
+pub enum Mute {
+    /// None, by nothing.
+    Absent,
+    /// True, by `mute`.
+    Given,
+}
+
 /// A line after the first.
 #[derive(Clone, Copy, Debug)]
 pub enum Line<'a> {
     /// `new L SITE LABEL`, and then `root`, `in X` or nothing.
     New(Lane, Metadata, &'a str, ParentName<'a>),
+    /// `event L SITE`, then `root`, `in X` or nothing, and then `mute` or nothing.
+    Event(Lane, Metadata, ParentName<'a>, Mute),
     /// `enter L X`
     Enter(Lane, Name<'a>),
     /// `exit L X`
     Exit(Lane, Name<'a>),
     /// `record L X`
     Record(Lane, Name<'a>),
+    /// `follows L X Y`
+    Follows(Lane, Name<'a>, Name<'a>),
+    /// `clone X`
+    Clone(Name<'a>),
     /// `drop L X`
     Drop(Lane, Name<'a>),
+    /// `enabled L SITE`
+    Enabled(Lane, Metadata),
     /// `current L`
     Current(Lane),
 }
@@ -87,6 +104,12 @@ impl<'a> Line<'a> {
         let (verb, words) = words.split_first()?;
         match *verb {
             "new" => new_of(words),
+            "event" => event_of(words),
+            "follows" => follows_of(words),
+            "clone" => match words {
+                [name] => Some(Line::Clone(Name::of(name)?)),
+                _ => None,
+            },
             "enter" => {
                 let (lane, name) = lane_and_name(words)?;
                 Some(Line::Enter(lane, name))
@@ -103,6 +126,10 @@ impl<'a> Line<'a> {
                 let (lane, name) = lane_and_name(words)?;
                 Some(Line::Drop(lane, name))
             }
+            "enabled" => match words {
+                [lane, site] => Some(Line::Enabled(lane_of(lane)?, any_site(site)?)),
+                _ => None,
+            },
             "current" => match words {
                 [lane] => Some(Line::Current(lane_of(lane)?)),
                 _ => None,
@@ -124,6 +151,52 @@ fn new_of<'a>(words: &[&'a str]) -> Option<Line<'a>>
             span_site(site)?,
             label_of(label)?,
             ParentName::of(parent)?,
+        )),
+        _ => None,
+    }
+}
+
+/// The line that the words after `event` make, if they make one.
+fn event_of<'a>(words: &[&'a str]) -> Option<Line<'a>>
+    ensures spelled { IfSome result (λ line. codes "event" ∷ texts_in words.now ≡ words_of line) }
+    ensures line { IfSome result IsLine }
+    ensures none { IfNone result (SpellsNone IsLine words_of (codes "event" ∷ texts_in words.now)) }
+{
+    match words {
+        [lane, site, tail @ ..] => {
+            let (lane, site) = (lane_of(lane)?, event_site(site)?);
+            let (parent, mute) = tail_of(tail)?;
+            Some(Line::Event(lane, site, parent, mute))
+        }
+        _ => None,
+    }
+}
+
+/// The parent and the value that the last words of an event's line are, if they are both.
+fn tail_of<'a>(words: &[&'a str]) -> Option<(ParentName<'a>, Mute)>
+    ensures spelled { IfSome result (λ tail. texts_in words.now ≡ tail_words tail) }
+    ensures tail { IfSome result IsTail }
+    ensures none { IfNone result (IsNoTail (texts_in words.now)) }
+{
+    match words {
+        ["mute"] => Some((ParentName::Contextual, Mute::Given)),
+        ["root", "mute"] => Some((ParentName::Root, Mute::Given)),
+        ["in", name, "mute"] => Some((ParentName::In(Name::of(name)?), Mute::Given)),
+        _ => Some((ParentName::of(words)?, Mute::Absent)),
+    }
+}
+
+/// The line that the words after `follows` make, if they make one.
+fn follows_of<'a>(words: &[&'a str]) -> Option<Line<'a>>
+    ensures spelled { IfSome result (λ line. codes "follows" ∷ texts_in words.now ≡ words_of line) }
+    ensures line { IfSome result IsLine }
+    ensures none { IfNone result (SpellsNone IsLine words_of (codes "follows" ∷ texts_in words.now)) }
+{
+    match words {
+        [lane, name, other] => Some(Line::Follows(
+            lane_of(lane)?,
+            Name::of(name)?,
+            Name::of(other)?,
         )),
         _ => None,
     }

@@ -11,6 +11,7 @@ mod run;
 mod script;
 mod serve;
 mod site;
+mod stack_name;
 #[cfg(test)]
 mod tests;
 

@@ -1,12 +1,21 @@
 //! What a script prints.
 ghost use Rattle.std.specs.Prelude.{◌≡◌, OnOk, IfOk, slice_get, string_bytes};
-ghost use Rattle.span_run.specs.Program.{labels_in, name_in, notice_text, reply_text, AreLabels, IsContinued, IsNaming, IsPrinted};
+ghost use Rattle.span_run.specs.Program.{all_heard, heard_in, heard_text, labels_in, name_in, notice_text, reply_text, yes_text, AreLabels, IsContinued, IsNaming, IsPrinted};
 
 use crate::line::Line;
-use crate::request::{Answer, Notice};
 use span_core::Id;
+use span_dispatch::{Answer, Notice};
 use std::alloc::{AllocError, Global};
 use std::collections::BTreeMap;
+
+/// A recorder's name, and the notices that it kept.
+#[derive(Clone, Copy, Debug)]
+pub struct Heard<'a> {
+    /// The name.
+    pub name: &'a str,
+    /// The notices, in their order.
+    pub notices: &'a [Notice],
+}
 
 /// The labels of the spans that were made, by the numbers of their ids.
 #[derive(Drop)]
@@ -49,37 +58,63 @@ fn named<'a>(line: &Line<'a>, answers: &[Answer], place: usize) -> Option<(u64, 
     }
 }
 
-/// What is printed for the lines of a script: a line for each answer, and then the notices.
+/// What is printed for the lines of a script: a line for each answer, and then what each recorder
+/// kept, in the order in which they are given.
 pub fn text_of(
     alloc: Global,
     lines: &[Line<'_>],
     answers: &[Answer],
-    notices: &[Notice],
+    heard: &[Heard<'_>],
 ) -> Result<String, AllocError>
-    ensures { IfOk result (λ s. IsPrinted lines.now answers.now notices.now (string_bytes s)) }
+    ensures { IfOk result (λ s. IsPrinted lines.now answers.now (all_heard heard.now) (string_bytes s)) }
 {
     let names = Names::new(alloc, lines, answers)?;
     let mut text = String::new(alloc);
-    for answer in answers {
-        write_answer(&mut text, &names, *answer)?;
+    for (line, answer) in lines.iter().zip(answers) {
+        write_answer(&mut text, &names, line, *answer)?;
     }
-    text.push_str("== base\n")?;
-    for notice in notices {
-        write_notice(&mut text, &names, *notice)?;
+    for one in heard {
+        write_heard(&mut text, &names, one)?;
     }
     Ok(text)
 }
 
-fn write_answer(text: &mut String, names: &Names<'_>, answer: Answer) -> Result<(), AllocError>
-    ensures { OnOk result (IsContinued text.old text.new (reply_text (name_in names.now) answer)) }
+fn write_answer(
+    text: &mut String,
+    names: &Names<'_>,
+    line: &Line<'_>,
+    answer: Answer,
+) -> Result<(), AllocError>
+    ensures { OnOk result (IsContinued text.old text.new (reply_text (name_in names.now) line.now answer)) }
 {
     match answer {
         Answer::Made(id) => writeln!(text, "{}", names.of(id)),
         Answer::Current(Some(id)) => writeln!(text, "{}", names.of(id)),
         Answer::Dropped | Answer::Current(None) => writeln!(text, "none"),
-        Answer::Done | Answer::Yes(_) => writeln!(text, "ok"),
+        Answer::Done => writeln!(text, "ok"),
+        Answer::Yes(yes) => write_yes(text, line, yes),
         Answer::Refused(error) => writeln!(text, "refused {}", error.number()),
     }
+}
+
+/// A drop says `ok`, whether or not its span closed by it.
+fn write_yes(text: &mut String, line: &Line<'_>, yes: bool) -> Result<(), AllocError>
+    ensures { OnOk result (IsContinued text.old text.new (yes_text line.now yes)) }
+{
+    match line {
+        Line::Enabled(_, _) => writeln!(text, "{yes}"),
+        _ => writeln!(text, "ok"),
+    }
+}
+
+fn write_heard(text: &mut String, names: &Names<'_>, heard: &Heard<'_>) -> Result<(), AllocError>
+    ensures { OnOk result (IsContinued text.old text.new (heard_text (name_in names.now) (heard_in heard.now))) }
+{
+    writeln!(text, "== {}", heard.name)?;
+    for notice in heard.notices {
+        write_notice(text, names, *notice)?;
+    }
+    Ok(())
 }
 
 fn write_notice(text: &mut String, names: &Names<'_>, notice: Notice) -> Result<(), AllocError>
@@ -88,8 +123,14 @@ fn write_notice(text: &mut String, names: &Names<'_>, notice: Notice) -> Result<
     match notice {
         Notice::New(_, id) => writeln!(text, "new {}", names.of(id)),
         Notice::Record(_, id) => writeln!(text, "record {}", names.of(id)),
+        Notice::Follows(_, id, other) => {
+            writeln!(text, "follows {} {}", names.of(id), names.of(other))
+        }
+        Notice::Event(_, callsite) => writeln!(text, "event {callsite}"),
         Notice::Enter(_, id) => writeln!(text, "enter {}", names.of(id)),
         Notice::Exit(_, id) => writeln!(text, "exit {}", names.of(id)),
+        // No stack of scripts changes ids, so this is never written.
+        Notice::IdChange(_, id, other) => writeln!(text, "id {} {}", names.of(id), names.of(other)),
         Notice::Close(_, id) => writeln!(text, "close {}", names.of(id)),
     }
 }

@@ -1,6 +1,6 @@
 use Rattle.std.proofs.Common.{◌∙◌, ◌++◌, ◌∷◌, [], Option, IfSome, ap, refl, subst}
 use Rattle.span_run.specs.Script.{lines_of, Asks}
-use Rattle.span_run.specs.declared.request.Request.{Request}
+use Rattle.span_dispatch.specs.declared.request.Request.{Request}
 use Rattle.span_run.proofs.Growing.{IsScript-add}
 use Rattle.span_run.proofs.script.Script.add.Goals as goal
 

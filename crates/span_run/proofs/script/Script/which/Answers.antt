@@ -1,7 +1,7 @@
 use Rattle.std.proofs.Common.{sym, subst}
 use Rattle.span_run.specs.Script.{lines_of, Means}
 use Rattle.span_run.specs.declared.line.Name.{Name}
-use Rattle.span_run.specs.declared.request.Which.TheVariants.{Made}
+use Rattle.span_dispatch.specs.declared.request.Which.TheVariants.{Made}
 use Rattle.span_run.proofs.script.Script.which.Goals as goal
 
 -- the place of a label is that of the line that declares it

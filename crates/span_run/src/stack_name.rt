@@ -1,0 +1,40 @@
+//! The stacks that a script can name.
+ghost use Rattle.std.specs.Prelude.{◌≡◌, IfNone, IfSome};
+ghost use Rattle.span_run.specs.Script.{first_words, recorders_of, texts_in, NamesNoStack};
+
+/// A stack, by the name that the first line of a script gives.
+#[derive(Clone, Copy, Debug, PartialEq, Eq)]
+pub enum StackName {
+    /// `plain`, with the one recorder `base`.
+    Plain,
+    /// `pair`, with the recorders `a` and `b`.
+    Pair,
+    /// `nested`, with the recorders `base` and `deep`.
+    Nested,
+}
+
+impl StackName {
+    /// The stack that the words of a first line name, if they name one.
+    pub fn of(words: &[&str]) -> Option<StackName>
+        ensures spelled { IfSome result (λ stack. texts_in words.now ≡ first_words stack) }
+        ensures none { IfNone result (NamesNoStack (texts_in words.now)) }
+    {
+        match words {
+            ["stack", "plain"] => Some(StackName::Plain),
+            ["stack", "pair"] => Some(StackName::Pair),
+            ["stack", "nested"] => Some(StackName::Nested),
+            _ => None,
+        }
+    }
+
+    /// The names of its recorders, innermost first.
+    pub fn recorders(self) -> &'static [&'static str]
+        ensures { texts_in result.now ≡ recorders_of self }
+    {
+        match self {
+            StackName::Plain => &["base"],
+            StackName::Pair => &["a", "b"],
+            StackName::Nested => &["base", "deep"],
+        }
+    }
+}
