@@ -64,18 +64,18 @@ IsContinued old new bytes = string_bytes new ≡ string_bytes old ++ bytes
 abbrev pub line_of : List ℕ → List ℕ
 line_of text = text ++ 10 ∷ []
 
--- what a yes or a no is replied as: it is told to `enabled`, and a drop says `ok` whether or not its span closed by it
+-- the reply to `enabled`; a drop says `ok`, whether or not its span closed by it
 abbrev pub yes_text : Line → Bool → List ℕ
 yes_text (Enabled lane site) true = codes "true\n"
 yes_text (Enabled lane site) false = codes "false\n"
-yes_text l yes = codes "ok\n"
+yes_text l b = codes "ok\n"
 
 -- the line that replies to a line, where spans are named so
 abbrev pub reply_text : (Id → List ℕ) → Line → Answer → List ℕ
 reply_text name l (Made id) = line_of (name id)
 reply_text name l Dropped = codes "none\n"
 reply_text name l Done = codes "ok\n"
-reply_text name l (Yes yes) = yes_text l yes
+reply_text name l (Yes b) = yes_text l b
 reply_text name l (Current None) = codes "none\n"
 reply_text name l (Current (Some id)) = line_of (name id)
 reply_text name l (Refused error) = codes "refused " ++ line_of (decimal (refusal_number error))
