@@ -5,8 +5,8 @@ use Rattle.std.proofs.lemmas.List.{append-nil, length-append}
 use Rattle.span_core.specs.Span.{id_of}
 use Rattle.span_core.specs.declared.span.Lane.{Lane}
 use Rattle.span_run.specs.Run.{Kept, Hears, closes_of}
-use Rattle.span_run.specs.declared.request.Notice.{Notice}
-use Rattle.span_run.specs.declared.request.Notice.TheVariants.{Close}
+use Rattle.span_dispatch.specs.declared.notice.Notice.{Notice}
+use Rattle.span_dispatch.specs.declared.notice.Notice.TheVariants.{Close}
 
 pub hears_nothing : (r : Kept) → Hears r r []
 hears_nothing r = record { more = []; lost = []; split = refl; kept = sym (append-nil r.notices); all = λ _. refl; failed = λ f. (f, refl); fails = λ f t. absurd (true≢false (sym t ∙ f)); room = omega arith; silent = λ _. refl }

@@ -3,9 +3,9 @@ use Rattle.std.proofs.Common.{List, [], ◌∷◌, ◌++◌, refl, sym, subst, a
 use Rattle.std.proofs.lemmas.List.{append-nil}
 use Rattle.span_registry.specs.Store.{RegistryState}
 use Rattle.span_run.specs.Run.{AndHears, Watched, Hears, Step, Run}
-use Rattle.span_run.specs.declared.request.Notice.{Notice}
-use Rattle.span_run.specs.declared.request.Request.{Request}
-use Rattle.span_run.specs.declared.request.Answer.{Answer}
+use Rattle.span_dispatch.specs.declared.notice.Notice.{Notice}
+use Rattle.span_dispatch.specs.declared.request.Request.{Request}
+use Rattle.span_dispatch.specs.declared.request.Answer.{Answer}
 use Rattle.span_run.proofs.Hears.{hears_nothing, hears_more}
 
 -- a run of what is left, behind the answers so far, makes the whole run

@@ -1,3 +1,4 @@
 pub mod Program
 pub mod Run
 pub mod Script
+pub mod Stacks

@@ -10,8 +10,6 @@ use Rattle.std.specs.Str.Lossy.{utf8_lossy}
 use Rattle.span_core.specs.Span.{number_of}
 use Rattle.span_core.specs.TraceError.{refusal_number}
 use Rattle.span_core.specs.declared.span.Id.{Id}
-use Rattle.span_registry.specs.Store.{RegistryState, new_registry}
-use Rattle.span_registry.specs.declared.limits.TheConstants.Limits.{MAX}
 use Rattle.span_dispatch.specs.declared.notice.Notice.{Notice}
 use Rattle.span_dispatch.specs.declared.notice.Notice.TheVariants as notice
 use Rattle.span_dispatch.specs.declared.request.Answer.{Answer}
@@ -21,10 +19,12 @@ use Rattle.span_run.specs.declared.line.Line.{Line}
 use Rattle.span_run.specs.declared.line.Line.TheVariants.{Enabled}
 use Rattle.span_run.specs.declared.reply.Heard.{Heard}
 use Rattle.span_run.specs.declared.reply.Names.{Names}
-use Rattle.span_run.specs.Run.{Run}
-use Rattle.span_run.specs.Script.{declared_label, AskFor, IsScriptFault, IsSpelled}
+use Rattle.span_run.specs.Script.{declared_label, lines_of, recorders_of, requests_of, AskFor, IsScriptFault, IsSpelled}
+use Rattle.span_run.specs.Stacks.{Serves}
 use Rattle.span_run.specs.declared.fault.RunFault.{RunFault}
 use Rattle.span_run.specs.declared.fault.RunFault.TheVariants.{Line as LineFault, Io}
+use Rattle.span_run.specs.declared.script.Script.{Script}
+use Rattle.span_run.specs.declared.stack_name.StackName.{StackName}
 
 -- a line declares this label, and the answer to its request made the span with this number
 abbrev pub IsNamed : Line → Option Answer → ℕ → List ℕ → Type 0
@@ -119,17 +119,34 @@ printed name lines answers heard = replies name lines answers ++ flat_map (heard
 abbrev pub IsPrinted : List Line → List Answer → List (List ℕ × List Notice) → List ℕ → Type 0
 IsPrinted lines answers heard text = (labels : ℕ → Option (List ℕ)) × (AreLabels lines answers labels × (text ≡ printed (name_by labels) lines answers heard))
 
--- the text spells lines, they ask for requests, these run from an empty registry with their answers and the notices that are due, and that is printed
-pub record Prints (text output : List ℕ) : Type 0 where
+-- what serves a stack's requests: with which answers, and with which notices that each of its recorders keeps, innermost first
+abbrev pub Serving : Type 1
+Serving = StackName → List Request → List Answer → List (List Notice) → Type 0
+
+-- these requests of these lines are served so, and that is printed, each recorder by its name
+pub record PrintsServed (Served : Serving) (stack : StackName) (lines : List Line) (requests : List Request) (output : List ℕ) : Type 0 where
+  pub answers : List Answer
+  pub heard : List (List ℕ × List Notice)
+  pub served : Served stack requests answers (map (λ one. one.1) heard)
+  pub named : map (λ one. one.0) heard ≡ recorders_of stack
+  pub printed : IsPrinted lines answers heard output
+
+-- a script whose requests this stack serves gives this text
+abbrev pub Gives : StackName → Script → List ℕ → Type 0
+Gives stack script output = PrintsServed Serves stack (lines_of script) (requests_of script) output
+
+-- the text spells a stack and lines, these ask for requests, and what comes of serving them so is printed
+pub record PrintsBy (Served : Serving) (text output : List ℕ) : Type 0 where
+  pub stack : StackName
   pub lines : List Line
   pub requests : List Request
-  pub answers : List Answer
-  pub notices : List Notice
-  pub after : RegistryState
-  pub spelled : IsSpelled text lines
+  pub spelled : IsSpelled text stack lines
   pub asked : AskFor lines requests
-  pub served : Run [] requests answers (new_registry MAX) notices after
-  pub printed : IsPrinted lines answers notices output
+  pub printed : PrintsServed Served stack lines requests output
+
+-- the same, where the stacks serve them
+abbrev pub Prints : List ℕ → List ℕ → Type 0
+Prints text output = PrintsBy Serves text output
 
 -- a wrong line ends with 2, all else with 1
 abbrev pub status_of : RunFault → ℕ

@@ -1,5 +1,5 @@
 -- What a list of requests does, and what a recorder keeps of what it hears.
-use Rattle.std.specs.Prelude.{◌≡◌, ℕ, ◌+◌, ◌≤◌, ◌↔◌, IsTrue, IsSomeAnd, Bool, true, false, List, [], ◌∷◌, ◌++◌, Option, Some, None, length, map, refl, slice_get}
+use Rattle.std.specs.Prelude.{◌≡◌, ℕ, ◌+◌, ◌≤◌, ◌↔◌, IsTrue, IsSomeAnd, Bool, true, false, List, [], ◌∷◌, ◌++◌, Option, Some, None, length, map, slice_get}
 use Rattle.std.specs.Option.{option_map, option_map_or}
 use Rattle.span_core.specs.Filters.{refuses}
 use Rattle.span_core.specs.Span.{asked_parent, id_of, metadata_of, number_of}
@@ -15,16 +15,16 @@ use Rattle.span_core.specs.declared.error.TraceError.TheVariants.{UnknownSpan}
 use Rattle.span_registry.specs.Closes.{Member}
 use Rattle.span_registry.specs.Step.{Drops, Enters, Exits, IsCurrent, Opens, Removal, RefusesEnter, RefusesNew, RefusesRelease}
 use Rattle.span_registry.specs.Store.{RegistryState, IsHeld, IsOpen}
-use Rattle.span_run.specs.declared.request.Notice.{Notice}
-use Rattle.span_run.specs.declared.request.Notice.TheVariants as notice
-use Rattle.span_run.specs.declared.request.Which.{Which}
-use Rattle.span_run.specs.declared.request.Which.TheVariants as which
-use Rattle.span_run.specs.declared.request.WhichParent.{WhichParent}
-use Rattle.span_run.specs.declared.request.WhichParent.TheVariants as asked
-use Rattle.span_run.specs.declared.request.Request.{Request}
-use Rattle.span_run.specs.declared.request.Request.TheVariants as request
-use Rattle.span_run.specs.declared.request.Answer.{Answer}
-use Rattle.span_run.specs.declared.request.Answer.TheVariants as answer
+use Rattle.span_dispatch.specs.declared.notice.Notice.{Notice}
+use Rattle.span_dispatch.specs.declared.notice.Notice.TheVariants as notice
+use Rattle.span_dispatch.specs.declared.request.Which.{Which}
+use Rattle.span_dispatch.specs.declared.request.Which.TheVariants as which
+use Rattle.span_dispatch.specs.declared.request.WhichParent.{WhichParent}
+use Rattle.span_dispatch.specs.declared.request.WhichParent.TheVariants as asked
+use Rattle.span_dispatch.specs.declared.request.Request.{Request}
+use Rattle.span_dispatch.specs.declared.request.Request.TheVariants as request
+use Rattle.span_dispatch.specs.declared.request.Answer.{Answer}
+use Rattle.span_dispatch.specs.declared.request.Answer.TheVariants as answer
 
 -- a recorder: the notices that it keeps, how many more it has memory for, and whether it has failed for want of memory
 pub record Kept : Type 0 where
@@ -136,13 +136,15 @@ IfNamed (Some x) step a s due t = step x a s due t
 
 -- one request, where these are the answers so far
 abbrev pub Step : List Answer → Request → Answer → RegistryState → List Notice → RegistryState → Type 0
-Step past (request.NewSpan lane metadata w) a s due t = NewStep lane metadata (resolved_parent past w) a s due t
+Step past (request.NewSpan lane metadata w values) a s due t = NewStep lane metadata (resolved_parent past w) a s due t
 Step past (request.Enter lane w) a s due t = IfNamed (resolved past w) (EnterStep lane) a s due t
 Step past (request.Exit lane w) a s due t = IfNamed (resolved past w) (ExitStep lane) a s due t
-Step past (request.Record lane w) a s due t = IfNamed (resolved past w) (RecordStep lane) a s due t
+Step past (request.Record lane w values) a s due t = IfNamed (resolved past w) (RecordStep lane) a s due t
 Step past (request.Drop lane w) a s due t = IfNamed (resolved past w) (DropStep lane) a s due t
 Step past (request.Current lane) (answer.Current o) s due t = IsCurrent s.store lane.0 (option_map number_of o) × IsIdle s due t
 Step past (request.Current lane) a s due t = ⊥
+Step past r answer.Dropped s due t = IsIdle s due t
+Step past r a s due t = ⊥
 
 -- a list of requests, one after another, behind these answers: one answer for each, and all that is due
 abbrev pub Run : List Answer → List Request → List Answer → RegistryState → List Notice → RegistryState → Type 0

@@ -166,6 +166,10 @@ IsLine (Drop lane name) = IsLaneAndName (lane, name)
 IsLine (Enabled lane site) = (lane.0 < 10) × IsAnySite site
 IsLine (Current lane) = lane.0 < 10
 
+-- the words are no line
+abbrev pub IsNoLine : List (List ℕ) → Type 0
+IsNoLine words = SpellsNone IsLine words_of words
+
 -- the parts of a text between these bytes
 abbrev pub cut : ℕ → List ℕ → List (List ℕ)
 cut byte text = slice_split (λ b. b == byte) text
@@ -295,7 +299,7 @@ IsSpelled text stack lines = words_of_texts (cut 10 text) ≡ words_in (Some (st
 -- the text is not empty, and can't follow what was read: its words are no first line; or they are no line, or one that can't
 abbrev pub IsWrongAfter : Option (StackName × List Line) → List ℕ → Type 0
 IsWrongAfter None text = IsTrue (is_full text) × NamesNoStack (cut 32 text)
-IsWrongAfter (Some read) text = IsTrue (is_full text) × (SpellsNone IsLine words_of (cut 32 text) ⊎ ((l : Line) × (IsLine l × (cut 32 text ≡ words_of l) × ¬ (CanFollow read.1 l))))
+IsWrongAfter (Some read) text = IsTrue (is_full text) × (IsNoLine (cut 32 text) ⊎ ((l : Line) × (IsLine l × (cut 32 text ≡ words_of l) × ¬ (CanFollow read.1 l))))
 
 -- what was read of a script, if its first line was
 abbrev pub read_in : Option Script → Option (StackName × List Line)

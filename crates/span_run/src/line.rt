@@ -2,7 +2,7 @@
 ghost use Rattle.std.specs.Prelude.{◌≡◌, ◌≢◌, ◌<◌, ◌∷◌, ℕ, codes, IfNone, IfSome, is_some, slice_index};
 ghost use Rattle.std.specs.Char.{is_ascii_lowercase};
 ghost use Rattle.std.specs.List.{list_all};
-ghost use Rattle.span_run.specs.Script.{digit, is_keyword, is_label, is_letter_or_digit, lane_words, parent_words, tail_words, texts_in, word_of, words_of, IsLaneAndName, IsLine, IsName, IsNoLaneAndName, IsNoTail, IsParentName, IsTail, SpellsNone};
+ghost use Rattle.span_run.specs.Script.{digit, is_keyword, is_label, is_letter_or_digit, lane_words, parent_words, tail_words, texts_in, word_of, words_of, IsLaneAndName, IsLine, IsName, IsNoLaneAndName, IsNoLine, IsNoTail, IsParentName, IsTail, SpellsNone};
 
 use crate::site::{any_site, event_site, span_site};
 use span_core::{Lane, Metadata};
@@ -99,7 +99,7 @@ impl<'a> Line<'a> {
     pub fn of(words: &[&'a str]) -> Option<Line<'a>>
         ensures spelled { IfSome result (λ line. texts_in words.now ≡ words_of line) }
         ensures line { IfSome result IsLine }
-        ensures none { IfNone result (SpellsNone IsLine words_of (texts_in words.now)) }
+        ensures none { IfNone result (IsNoLine (texts_in words.now)) }
     {
         let (verb, words) = words.split_first()?;
         match *verb {
@@ -143,7 +143,7 @@ impl<'a> Line<'a> {
 fn new_of<'a>(words: &[&'a str]) -> Option<Line<'a>>
     ensures spelled { IfSome result (λ line. codes "new" ∷ texts_in words.now ≡ words_of line) }
     ensures line { IfSome result IsLine }
-    ensures none { IfNone result (SpellsNone IsLine words_of (codes "new" ∷ texts_in words.now)) }
+    ensures none { IfNone result (IsNoLine (codes "new" ∷ texts_in words.now)) }
 {
     match words {
         [lane, site, label, parent @ ..] => Some(Line::New(
@@ -160,7 +160,7 @@ fn new_of<'a>(words: &[&'a str]) -> Option<Line<'a>>
 fn event_of<'a>(words: &[&'a str]) -> Option<Line<'a>>
     ensures spelled { IfSome result (λ line. codes "event" ∷ texts_in words.now ≡ words_of line) }
     ensures line { IfSome result IsLine }
-    ensures none { IfNone result (SpellsNone IsLine words_of (codes "event" ∷ texts_in words.now)) }
+    ensures none { IfNone result (IsNoLine (codes "event" ∷ texts_in words.now)) }
 {
     match words {
         [lane, site, tail @ ..] => {
@@ -190,7 +190,7 @@ fn tail_of<'a>(words: &[&'a str]) -> Option<(ParentName<'a>, Mute)>
 fn follows_of<'a>(words: &[&'a str]) -> Option<Line<'a>>
     ensures spelled { IfSome result (λ line. codes "follows" ∷ texts_in words.now ≡ words_of line) }
     ensures line { IfSome result IsLine }
-    ensures none { IfNone result (SpellsNone IsLine words_of (codes "follows" ∷ texts_in words.now)) }
+    ensures none { IfNone result (IsNoLine (codes "follows" ∷ texts_in words.now)) }
 {
     match words {
         [lane, name, other] => Some(Line::Follows(

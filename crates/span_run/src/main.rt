@@ -6,12 +6,12 @@ mod line;
 mod plain;
 mod recorder;
 mod reply;
-mod request;
 mod run;
 mod script;
 mod serve;
 mod site;
 mod stack_name;
+mod stacks;
 #[cfg(test)]
 mod tests;
 

@@ -5,11 +5,11 @@ ghost use Rattle.span_registry.specs.Closes.{IsSettled};
 ghost use Rattle.span_registry.specs.Step.{RefusesEnter, RefusesNew, RefusesRelease, ShowsCurrent};
 ghost use Rattle.span_registry.specs.Store.{IsClosing, new_registry};
 ghost use Rattle.span_run.specs.Run.{AndHears, new_recorder, ClosesAndHears, DropsHandle, EnterStep, ExitStep, MakesSpan, RecordStep, RefusesRecord};
-ghost use Rattle.span_run.specs.declared.request.Answer.{Answer};
+ghost use Rattle.span_dispatch.specs.declared.request.Answer.{Answer};
 
 use crate::recorder::Recorder;
-use crate::request::Notice;
 use span_core::{Attributes, Current, Id, Lane, Pass, Record, TraceError};
+use span_dispatch::Notice;
 use span_registry::{Limits, Registry, Released, Subscriber};
 use std::alloc::Global;
 use std::marker::Model;

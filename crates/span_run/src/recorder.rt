@@ -2,7 +2,7 @@
 ghost use Rattle.std.specs.Prelude.{◌≡◌, ◌∷◌, []};
 ghost use Rattle.span_run.specs.Run.{Hears, new_recorder};
 
-use crate::request::Notice;
+use span_dispatch::Notice;
 use std::alloc::Global;
 use std::marker::Model;
 

@@ -66,7 +66,8 @@ pub fn text_of(
     answers: &[Answer],
     heard: &[Heard<'_>],
 ) -> Result<String, AllocError>
-    ensures { IfOk result (λ s. IsPrinted lines.now answers.now (all_heard heard.now) (string_bytes s)) }
+    ensures { IfOk result (λ s.
+        IsPrinted lines.now answers.now (all_heard heard.now) (string_bytes s)) }
 {
     let names = Names::new(alloc, lines, answers)?;
     let mut text = String::new(alloc);
@@ -85,7 +86,8 @@ fn write_answer(
     line: &Line<'_>,
     answer: Answer,
 ) -> Result<(), AllocError>
-    ensures { OnOk result (IsContinued text.old text.new (reply_text (name_in names.now) line.now answer)) }
+    ensures { OnOk result
+        (IsContinued text.old text.new (reply_text (name_in names.now) line.now answer)) }
 {
     match answer {
         Answer::Made(id) => writeln!(text, "{}", names.of(id)),
@@ -108,7 +110,8 @@ fn write_yes(text: &mut String, line: &Line<'_>, yes: bool) -> Result<(), AllocE
 }
 
 fn write_heard(text: &mut String, names: &Names<'_>, heard: &Heard<'_>) -> Result<(), AllocError>
-    ensures { OnOk result (IsContinued text.old text.new (heard_text (name_in names.now) (heard_in heard.now))) }
+    ensures { OnOk result
+        (IsContinued text.old text.new (heard_text (name_in names.now) (heard_in heard.now))) }
 {
     writeln!(text, "== {}", heard.name)?;
     for notice in heard.notices {

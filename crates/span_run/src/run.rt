@@ -5,9 +5,8 @@ ghost use Rattle.span_run.specs.Program.{BlamesFirstWrong, IsUnwritten, IsWrongL
 ghost use Rattle.span_run.specs.Script.{IsScriptFault};
 
 use crate::fault::RunFault;
-use crate::plain::Plain;
-use crate::reply::text_of;
 use crate::script::Script;
+use crate::stacks::served_text;
 use std::alloc::Global;
 use std::io::{ErrorKind, Read, Write};
 
@@ -67,14 +66,7 @@ fn output_of(alloc: Global, text: &str) -> Result<String, RunFault>
     ensures fault { IfErr result (IsScriptFault text.now) }
 {
     let script = Script::parse(alloc, text)?;
-    let mut plain = Plain::new(alloc);
-    let Ok(answers) = plain.serve(alloc, script.requests()) else {
-        return Err(RunFault::Memory);
-    };
-    if plain.failed() {
-        return Err(RunFault::Memory);
-    }
-    Ok(text_of(alloc, script.lines(), &answers, plain.notices())?)
+    served_text(alloc, &script)
 }
 
 /// Writes all of the output, or fails.

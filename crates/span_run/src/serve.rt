@@ -4,34 +4,36 @@ ghost use Rattle.span_core.specs.Span.{asked_parent, metadata_of, number_of, val
 ghost use Rattle.span_run.specs.Run.{AndHears, DropStep, EnterStep, ExitStep, NewStep, RecordStep, Run, Step, resolved, resolved_parent};
 
 use crate::plain::Plain;
-use crate::request::{Answer, Request, Which, WhichParent};
 use span_core::{Attributes, Id, Lane, Metadata, Parent, Record, TraceError};
+use span_dispatch::{Answer, Request, Which, WhichParent};
 use std::alloc::Global;
 
 impl Plain {
     /// Serves requests in order, with one answer for each. Refused for want of memory before
     /// anything is served.
-    pub fn serve(&mut self, alloc: Global, requests: &[Request]) -> Result<Vec<Answer>, TraceError>
+    pub fn serve(
+        &mut self,
+        alloc: Global,
+        requests: &[Request<'_>],
+    ) -> Result<Vec<Answer>, TraceError>
         ensures run { IfOk result (λ a. AndHears (Run [] requests.now a.items) self.old self.new) }
         ensures memory { IfErr result (λ e. e ≡ TraceError.OutOfMemory) }
         ensures unchanged { OnErr result (self.new ≡ self.old) }
     {
         let mut answers = Vec::with_capacity(alloc, requests.len())?;
-        let mut left = requests;
-        while let Some((request, rest)) = left.split_first() {
+        for request in requests {
             let answer = self.serve_one(&answers, request);
             append(&mut answers, answer);
-            left = rest;
         }
         Ok(answers)
     }
 
     /// One request, where these are the answers so far.
-    fn serve_one(&mut self, past: &[Answer], request: &Request) -> Answer
+    fn serve_one(&mut self, past: &[Answer], request: &Request<'_>) -> Answer
         ensures { AndHears (Step past.now request.now result) self.old self.new }
     {
         match request {
-            Request::NewSpan(lane, metadata, parent) => {
+            Request::NewSpan(lane, metadata, parent, _) => {
                 self.serve_new(*lane, *metadata, parent_of(past, *parent))
             }
             Request::Enter(lane, which) => match span_of(past, *which) {
@@ -42,7 +44,7 @@ impl Plain {
                 None => Answer::Dropped,
                 Some(id) => self.serve_exit(*lane, id),
             },
-            Request::Record(lane, which) => match span_of(past, *which) {
+            Request::Record(lane, which, _) => match span_of(past, *which) {
                 None => Answer::Dropped,
                 Some(id) => self.serve_record(*lane, id),
             },
@@ -51,6 +53,11 @@ impl Plain {
                 Some(id) => self.serve_drop(*lane, id),
             },
             Request::Current(lane) => Answer::Current(self.current_span(*lane).id()),
+            // Not served yet: a dispatcher knows these too.
+            Request::Event(_, _, _, _)
+            | Request::Follows(_, _, _)
+            | Request::Clone(_, _)
+            | Request::Enabled(_, _) => Answer::Dropped,
         }
     }
 

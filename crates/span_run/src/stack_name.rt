@@ -1,6 +1,6 @@
 //! The stacks that a script can name.
 ghost use Rattle.std.specs.Prelude.{◌≡◌, IfNone, IfSome};
-ghost use Rattle.span_run.specs.Script.{first_words, recorders_of, texts_in, NamesNoStack};
+ghost use Rattle.span_run.specs.Script.{first_words, texts_in, NamesNoStack};
 
 /// A stack, by the name that the first line of a script gives.
 #[derive(Clone, Copy, Debug, PartialEq, Eq)]
@@ -24,17 +24,6 @@ impl StackName {
             ["stack", "pair"] => Some(StackName::Pair),
             ["stack", "nested"] => Some(StackName::Nested),
             _ => None,
-        }
-    }
-
-    /// The names of its recorders, innermost first.
-    pub fn recorders(self) -> &'static [&'static str]
-        ensures { texts_in result.now ≡ recorders_of self }
-    {
-        match self {
-            StackName::Plain => &["base"],
-            StackName::Pair => &["a", "b"],
-            StackName::Nested => &["base", "deep"],
         }
     }
 }

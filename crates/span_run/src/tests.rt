@@ -1,8 +1,12 @@
 use crate::fault::RunFault;
 use crate::plain::Plain;
+use crate::reply::{Heard, text_of};
 use crate::run::run;
+use crate::script::Script;
 use crate::site::span_site;
-use span_core::{Attributes, Lane};
+use crate::stack_name::StackName;
+use span_core::{Attributes, FieldValue, Id, Lane, TraceError};
+use span_dispatch::{Answer, Notice, Request, Which};
 use std::alloc::{AllocError, Global};
 use std::io;
 use std::io::{ErrorKind, Read, Write};
@@ -67,15 +71,18 @@ fn rows(rt: HostRuntime) -> Result<(), Fail> {
 }
 
 /// Scripts that are no scripts, and the first of their lines that is wrong.
-const WRONG: [(&[u8], u64); 48] = [
+const WRONG: [(&[u8], u64); 70] = [
     // What stands first.
     (b"", 1),
     (b"\n\n\n", 1),
     (b"new 0 2 p", 1),
-    (b"\n\nstack pair", 3),
+    (b"\n\nstack pairs", 3),
+    (b"stack Pair", 1),
+    (b"stack none", 1),
     (b"stack", 1),
     (b"stack plain base", 1),
     (b"stack plain\nstack plain", 2),
+    (b"stack nested\ncurrent 0\nstack pair", 3),
     // What parts lines and words.
     (b" stack plain", 1),
     (b"stack  plain", 1),
@@ -94,10 +101,8 @@ const WRONG: [(&[u8], u64); 48] = [
     // The word for what is asked.
     (b"stack plain\nnews 0 2 p", 2),
     (b"stack plain\nNew 0 2 p", 2),
-    (b"stack plain\nevent 0 7", 2),
-    (b"stack plain\nenabled 0 2", 2),
-    (b"stack plain\nnew 0 2 p\nclone p", 3),
-    (b"stack plain\nnew 0 2 p\nfollows 0 p p", 3),
+    (b"stack plain\nevents 0 7", 2),
+    (b"stack plain\nid 0", 2),
     // Lanes and sites.
     (b"stack plain\ncurrent", 2),
     (b"stack plain\ncurrent 10", 2),
@@ -106,6 +111,12 @@ const WRONG: [(&[u8], u64); 48] = [
     (b"stack plain\ncurrent ", 2),
     (b"stack plain\nnew 0 5 p", 2),
     (b"stack plain\nnew 0 02 p", 2),
+    (b"stack plain\nevent 0", 2),
+    (b"stack plain\nevent 0 4", 2),
+    (b"stack plain\nevent 0 10", 2),
+    (b"stack plain\nenabled 0", 2),
+    (b"stack plain\nenabled 0 10", 2),
+    (b"stack plain\nenabled 0 x", 2),
     // Labels.
     (b"stack plain\nnew 0 2", 2),
     (b"stack plain\nnew 0 2 ", 2),
@@ -117,12 +128,27 @@ const WRONG: [(&[u8], u64); 48] = [
     (b"stack plain\nnew 0 2 p\n\nnew 0 2 p", 4),
     (b"stack plain\ncurrent 0\nenter 0 p\nnew 0 2 p", 3),
     (b"stack plain\nnew 0 2 p in p", 2),
+    (b"stack plain\nclone p", 2),
+    (b"stack plain\nnew 0 2 p\nfollows 0 p q", 3),
+    (b"stack plain\nnew 0 2 p\nfollows 0 q p", 3),
+    (b"stack plain\nevent 0 7 in p", 2),
     // What stands last.
     (b"stack plain\nnew 0 2 p of ?", 2),
     (b"stack plain\nnew 0 2 p in", 2),
     (b"stack plain\nnew 0 2 p in root", 2),
     (b"stack plain\nnew 0 2 p root root", 2),
     (b"stack plain\nnew 0 2 p\ndrop 0 p p", 3),
+    (b"stack plain\nnew 0 2 p mute", 2),
+    (b"stack plain\nnew 0 2 p\nclone 0 p", 3),
+    (b"stack plain\nclone", 2),
+    (b"stack plain\nfollows 0 ?", 2),
+    (b"stack plain\nfollows 0 ? ? ?", 2),
+    (b"stack plain\nenabled 0 2 root", 2),
+    (b"stack plain\nevent 0 7 in", 2),
+    (b"stack plain\nevent 0 7 in mute", 2),
+    (b"stack plain\nevent 0 7 mute mute", 2),
+    (b"stack plain\nevent 0 7 mute root", 2),
+    (b"stack plain\nevent 0 7 in ? root", 2),
 ];
 
 #[test]
@@ -134,6 +160,81 @@ fn wrong_lines(rt: HostRuntime) {
         assert_eq!(rt; ended, Err(RunFault::Line(line)), "{script:?}");
         assert!(rt; output.is_empty());
     }
+}
+
+/// Every line of scripts, in every form.
+const EVERY_LINE: &str =
+    "stack nested / new 0 0 a / new 1 4 b root / new 2 1 c in a / new 9 3 d in ? / enter 0 a / exit 0 ? / record 3 b / follows 4 a ? / clone b / drop 5 b / event 0 5 / event 0 6 mute / event 0 7 root / event 0 8 root mute / event 0 9 in c / event 0 5 in ? mute / enabled 0 0 / enabled 0 9 / current 0";
+
+#[test]
+fn every_line(rt: HostRuntime) -> Result<(), Fail> {
+    let text = lines(rt.alloc(), EVERY_LINE)?;
+    let script = Script::parse(rt.alloc(), text.as_str())?;
+    assert_eq!(rt; script.stack(), StackName::Nested);
+    assert_eq!(rt; script.lines().len(), 19);
+    assert_eq!(rt; script.requests().len(), 19);
+    let mut muted = 0;
+    for request in script.requests() {
+        match request {
+            Request::Clone(lane, which) => {
+                assert_eq!(rt; *lane, Lane(0));
+                assert_eq!(rt; *which, Which::Made(1));
+            }
+            Request::Event(_, _, _, [(name, value)]) => {
+                assert_eq!(rt; *name, "mute");
+                assert_eq!(rt; *value, FieldValue::Bool(true));
+                muted += 1;
+            }
+            _ => {}
+        }
+    }
+    assert_eq!(rt; muted, 3);
+    Ok(())
+}
+
+#[test]
+fn replies_by_lines(rt: HostRuntime) -> Result<(), Fail> {
+    let row =
+        "stack pair / new 0 2 p / new 0 3 q / event 0 5 / event 0 5 mute / enabled 0 2 / enabled 0 3 / clone p / follows 0 p q / current 0 / drop 0 p / drop 0 p / enter 0 p";
+    let text = lines(rt.alloc(), row)?;
+    let script = Script::parse(rt.alloc(), text.as_str())?;
+    let (lane, made, other) = (Lane(0), Id::from_u64(3), Id::from_u64(7));
+    let answers = [
+        Answer::Made(made),
+        Answer::Dropped,
+        Answer::Done,
+        Answer::Dropped,
+        Answer::Yes(true),
+        Answer::Yes(false),
+        Answer::Done,
+        Answer::Dropped,
+        Answer::Current(Some(other)),
+        Answer::Yes(false),
+        Answer::Yes(true),
+        Answer::Refused(TraceError::UnknownSpan(made)),
+    ];
+    let notices = [
+        Notice::New(lane, made),
+        Notice::Event(lane, 5),
+        Notice::Follows(lane, made, other),
+        Notice::IdChange(lane, Id::from_u64(0), made),
+        Notice::Close(lane, made),
+    ];
+    let heard = [
+        Heard {
+            name: "a",
+            notices: &notices,
+        },
+        Heard {
+            name: "b",
+            notices: &[],
+        },
+    ];
+    let printed = text_of(rt.alloc(), script.lines(), &answers, &heard)?;
+    let wanted =
+        "p / none / ok / none / true / false / ok / none / ? / ok / ok / refused 1 / == a / new p / event 5 / follows p ? / id ? p / close p / == b";
+    assert_eq!(rt; printed.as_str(), lines(rt.alloc(), wanted)?.as_str());
+    Ok(())
 }
 
 #[test]

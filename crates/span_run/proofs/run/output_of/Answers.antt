@@ -1,44 +1,23 @@
-use Rattle.std.proofs.Common.{◌≡◌, ◌∙◌, List, [], ◌++◌, false, ap, sym, subst, string_bytes}
-use Rattle.std.proofs.lemmas.List.{append-nil}
-use Rattle.span_registry.specs.Store.{RegistryState, new_registry}
-use Rattle.span_registry.specs.declared.limits.TheConstants.Limits.{MAX}
-use Rattle.span_run.specs.Program.{IsPrinted}
-use Rattle.span_run.specs.Run.{Hears, Kept, new_recorder, Run}
-use Rattle.span_run.specs.Script.{lines_of, requests_of}
-use Rattle.span_run.specs.declared.line.Line.{Line}
-use Rattle.span_run.specs.declared.request.Answer.{Answer}
-use Rattle.span_run.specs.declared.request.Notice.{Notice}
-use Rattle.span_run.specs.declared.request.Request.{Request}
+use Rattle.std.proofs.Common.{Result, Ok, Err, IfOk, string_bytes}
+use Rattle.span_run.specs.Program.{Prints, Gives}
+use Rattle.span_run.specs.Script.{lines_of, requests_of, stack_of}
 use Rattle.span_run.proofs.run.output_of.Goals as goal
 
--- a recorder that heard nothing before and hasn't failed keeps all that is due
-all-kept : (old new : Kept) (due : List Notice) → Hears old new due → old ≡ new_recorder → new.failed ≡ false → due ≡ new.notices
-all-kept old new due heard begins holds =
-    heard.split ∙ ap (λ lost. heard.more ++ lost) (heard.all holds) ∙ append-nil heard.more ∙ sym (heard.kept ∙ ap (λ r. r.notices ++ heard.more) begins)
-
--- the run of an empty registry, with the notices that its recorder keeps
-run-of : (before after : RegistryState) (asked requests : List Request) (given answers : List Answer) (old new : Kept) (notices : List Notice)
-    → (due : List Notice) × Run [] asked given before due after × Hears old new due
-    → before ≡ new_registry MAX → asked ≡ requests → answers ≡ given → old ≡ new_recorder → new.failed ≡ false → notices ≡ new.notices
-    → Run [] requests answers (new_registry MAX) notices after
-run-of before after asked requests given answers old new notices run empty same_requests same_answers begins holds kept =
-    let heard : run.0 ≡ notices = all-kept old new run.0 run.2 begins holds ∙ sym kept in
-    subst (λ r. Run [] requests answers r notices after) empty
-    (subst (λ rs. Run [] rs answers before notices after) same_requests
-    (subst (λ xs. Run [] asked xs before notices after) (sym same_answers)
-    (subst (λ ns. Run [] asked given before ns after) heard run.1)))
+-- what follows of each value
+if-ok : {X Y : Type 0} (r : Result X Y) (P Q : X → Type 0) → IfOk r P → ((x : X) → P x → Q x) → IfOk r Q
+if-ok (Ok x) P Q p f = f x p
+if-ok (Err e) P Q p f = tt
 
 pub returns-clause-printed : goal.returns-clause-printed
-returns-clause-printed c = record {
-  lines = lines_of c.in_ok-script.script;
-  requests = requests_of c.in_ok-script.script;
-  answers = c.deref.result.now;
-  notices = c.notices.result.now;
-  after = c.serve.new.self.registry;
-  spelled = c.in_ok-script.ensures.spelled;
-  asked = c.in_ok-script.ensures.script.asked;
-  served = run-of c.new-plain.result.registry c.serve.new.self.registry c.requests.result.now (requests_of c.in_ok-script.script) c.in-Ok.answers.items c.deref.result.now
-      c.new-plain.result.recorder c.serve.new.self.recorder c.notices.result.now c.in-Ok.ensures.run
-      c.new-plain.ensures.registry c.requests.ensures c.deref.ensures.value c.new-plain.ensures.recorder (sym c.failed.ensures ∙ c.if-failed.false) c.notices.ensures;
-  printed = subst (λ (lines : List Line). IsPrinted lines c.deref.result.now c.notices.result.now (string_bytes c.in_ok-text_of.field-0)) c.lines.ensures c.in_ok-text_of.ensures;
-}
+returns-clause-printed c =
+    let script = c.in_ok-script.script in
+    if-ok c.served_text.result (λ s. Gives (stack_of script) script (string_bytes s))
+    (λ s. Prints c.args.text.now (string_bytes s)) c.served_text.ensures.printed
+    (λ s printed. record {
+      stack = stack_of script;
+      lines = lines_of script;
+      requests = requests_of script;
+      spelled = c.in_ok-script.ensures.spelled;
+      asked = c.in_ok-script.ensures.script.asked;
+      printed = printed;
+    })

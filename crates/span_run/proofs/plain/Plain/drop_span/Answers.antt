@@ -8,7 +8,7 @@ use Rattle.span_registry.specs.declared.registry.Released.{Released}
 use Rattle.span_registry.specs.declared.registry.Released.TheVariants.{Closing, StillOpen}
 use Rattle.span_registry.proofs.CallerLemmas.{closes_alone, closes_itself, closes_nothing, settled_alone, settled_released}
 use Rattle.span_run.specs.Run.{AndHears, Watched, closes_of, DropStep}
-use Rattle.span_run.specs.declared.request.Answer.TheVariants.{Yes}
+use Rattle.span_dispatch.specs.declared.request.Answer.TheVariants.{Yes}
 use Rattle.span_run.proofs.Hears.{hears_nothing}
 use Rattle.span_run.proofs.plain.Plain.drop_span.Goals as goal
 

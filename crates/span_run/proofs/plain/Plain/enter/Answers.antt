@@ -4,8 +4,8 @@ use Rattle.span_registry.specs.Closes.{IsSettled}
 use Rattle.span_registry.specs.Step.{RefusesEnter}
 use Rattle.span_registry.specs.Store.{RegistryState, Spans}
 use Rattle.span_run.specs.Run.{AndHears, Watched, EnterStep}
-use Rattle.span_run.specs.declared.request.Answer.TheVariants.{Done}
-use Rattle.span_run.specs.declared.request.Notice.TheVariants.{Enter}
+use Rattle.span_dispatch.specs.declared.request.Answer.TheVariants.{Done}
+use Rattle.span_dispatch.specs.declared.notice.Notice.TheVariants.{Enter}
 use Rattle.span_run.proofs.plain.Plain.enter.Goals as goal
 
 pub returns-in_err-enter-clause-error : goal.returns-in_err-enter-clause-error

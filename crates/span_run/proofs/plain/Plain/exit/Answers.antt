@@ -3,9 +3,9 @@ use Rattle.std.proofs.lemmas.Bool.{true≢false}
 use Rattle.span_registry.specs.Closes.{IsSettled}
 use Rattle.span_registry.specs.Store.{RegistryState, Spans}
 use Rattle.span_run.specs.Run.{AndHears, Watched, ExitStep}
-use Rattle.span_run.specs.declared.request.Answer.TheVariants.{Done}
-use Rattle.span_run.specs.declared.request.Notice.{Notice}
-use Rattle.span_run.specs.declared.request.Notice.TheVariants.{Exit}
+use Rattle.span_dispatch.specs.declared.request.Answer.TheVariants.{Done}
+use Rattle.span_dispatch.specs.declared.notice.Notice.{Notice}
+use Rattle.span_dispatch.specs.declared.notice.Notice.TheVariants.{Exit}
 use Rattle.span_run.proofs.Hears.{hears_nothing}
 use Rattle.span_run.proofs.plain.Plain.exit.Goals as goal
 

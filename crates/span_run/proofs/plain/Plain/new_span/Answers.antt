@@ -7,7 +7,7 @@ use Rattle.span_registry.specs.Step.{RefusesNew, asked}
 use Rattle.span_registry.specs.Store.{RegistryState}
 use Rattle.span_registry.proofs.CallerLemmas.{settled_opened}
 use Rattle.span_run.specs.Run.{AndHears, Watched, MakesSpan}
-use Rattle.span_run.specs.declared.request.Notice.TheVariants.{New}
+use Rattle.span_dispatch.specs.declared.notice.Notice.TheVariants.{New}
 use Rattle.span_run.proofs.plain.Plain.new_span.Goals as goal
 
 pub returns-in_err-id-clause-error : goal.returns-in_err-id-clause-error

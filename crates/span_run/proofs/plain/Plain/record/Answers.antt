@@ -3,8 +3,8 @@ use Rattle.std.proofs.lemmas.Bool.{true≢false}
 use Rattle.span_core.specs.Span.{number_of}
 use Rattle.span_registry.specs.Store.{IsOpen}
 use Rattle.span_run.specs.Run.{AndHears, Watched, RecordStep}
-use Rattle.span_run.specs.declared.request.Answer.TheVariants.{Done}
-use Rattle.span_run.specs.declared.request.Notice.TheVariants.{Record}
+use Rattle.span_dispatch.specs.declared.request.Answer.TheVariants.{Done}
+use Rattle.span_dispatch.specs.declared.notice.Notice.TheVariants.{Record}
 use Rattle.span_run.proofs.plain.Plain.record.Goals as goal
 
 pub returns-then-not-is_open-clause-error : goal.returns-then-not-is_open-clause-error

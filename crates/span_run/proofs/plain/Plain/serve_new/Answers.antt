@@ -4,7 +4,7 @@ use Rattle.span_core.specs.declared.metadata.Metadata.{Metadata}
 use Rattle.span_core.specs.declared.span.Id.{Id}
 use Rattle.span_core.specs.declared.span.Parent.{Parent}
 use Rattle.span_run.specs.Run.{AndHears, MakesSpan, NewStep}
-use Rattle.span_run.specs.declared.request.Answer.TheVariants.{Made}
+use Rattle.span_dispatch.specs.declared.request.Answer.TheVariants.{Made}
 use Rattle.span_run.proofs.plain.Plain.serve_new.Goals as goal
 
 pub returns-in-Ok-Some : goal.returns-in-Ok-Some

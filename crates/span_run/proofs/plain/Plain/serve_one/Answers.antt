@@ -5,8 +5,8 @@ use Rattle.span_core.specs.declared.metadata.Metadata.{Metadata}
 use Rattle.span_core.specs.declared.span.Id.{Id}
 use Rattle.span_registry.specs.Step.{IsCurrent}
 use Rattle.span_run.specs.Run.{Step}
-use Rattle.span_run.specs.declared.request.Answer.TheVariants.{Current}
-use Rattle.span_run.specs.declared.request.Request.{Request}
+use Rattle.span_dispatch.specs.declared.request.Answer.TheVariants.{Current}
+use Rattle.span_dispatch.specs.declared.request.Request.{Request}
 use Rattle.span_run.proofs.Hears.{hears_nothing}
 use Rattle.span_run.proofs.plain.Plain.serve_one.Goals as goal
 
