@@ -2,12 +2,14 @@
 ghost use Rattle.std.specs.Prelude.{◌≡◌, ◌∷◌, [], ◌++◌, OnErr, IfOk, IfErr, ◌<◌, ◌≤◌, ◌+◌, vec_len, vec_capacity};
 ghost use Rattle.span_core.specs.Event.{event_metadata, event_parent, event_values};
 ghost use Rattle.span_core.specs.Span.{asked_parent, metadata_of, values_of};
-ghost use Rattle.span_dispatch.specs.Call.{current_answer, done_answer, event_answer, span_answer, yes_answer};
-ghost use Rattle.span_dispatch.specs.Serve.{ServesList, ServesNext, StaysReady, resolved, resolved_parent, stack_of};
+ghost use Rattle.span_dispatch.specs.Call.{Exit, current_answer, done_answer, event_answer, span_answer, yes_answer};
+ghost use Rattle.span_dispatch.specs.Serve.{Answers, ServesList, ServesNext, StaysReady, resolved, resolved_parent, stack_of};
 
 use crate::dispatch::Dispatch;
 use crate::request::{Answer, Request, Which, WhichParent};
-use span_core::{Attributes, Current, Event, FieldValue, Id, Metadata, Parent, Record, TraceError};
+use span_core::{
+    Attributes, Current, Event, FieldValue, Id, Lane, Metadata, Parent, Record, TraceError,
+};
 use span_registry::{LookupSpan, Subscriber, laws};
 use std::alloc::Global;
 
@@ -58,10 +60,7 @@ impl<S: Subscriber> Dispatch<S> {
             },
             Request::Exit(lane, which) => match span_of(past, *which) {
                 None => Answer::Dropped,
-                Some(id) => {
-                    self.exit(*lane, id);
-                    Answer::Done
-                }
+                Some(id) => self.leave(*lane, id),
             },
             Request::Record(lane, which, values) => match span_of(past, *which) {
                 None => Answer::Dropped,
@@ -85,6 +84,16 @@ impl<S: Subscriber> Dispatch<S> {
             Request::Enabled(lane, metadata) => of_yes(self.enabled(*lane, metadata)),
             Request::Current(lane) => of_current(self.current_span(*lane)),
         }
+    }
+
+    fn leave(&mut self, lane: Lane, id: Id) -> Answer
+        requires { S.usable (stack_of self.old) }
+        ensures usable { S.usable (stack_of self.new) }
+        ensures ready { StaysReady S.registry S.with_registry S.has_form S.stepped self.old self.new }
+        ensures served { Answers S.registry S.with_registry S.has_form S.stepped (Exit lane id) result self.old self.new }
+    {
+        self.exit(lane, id);
+        Answer::Done
     }
 }
 

@@ -2,7 +2,6 @@ use Rattle.std.proofs.Common.{ap, refl, sym, ◌∙◌}
 use Rattle.std.specs.Option.{option_and_then, option_map}
 use Rattle.span_dispatch.specs.Call.{AddHandle, AskCurrent, DropHandle, Enter, Exit, Follow, OpenSpan, Probe, RecordValues, SendEvent, current_answer, done_answer, event_answer, span_answer, yes_answer}
 use Rattle.span_dispatch.specs.Serve.{resolved}
-use Rattle.span_dispatch.specs.declared.request.Answer.TheVariants as answer
 use Rattle.span_dispatch.specs.declared.request.Request.TheVariants as request
 use Rattle.span_dispatch.proofs.Served.{named, served_by}
 use Rattle.span_dispatch.proofs.dispatch.Dispatch.serve_one.Goals as goal
@@ -17,7 +16,7 @@ pub returns-in-Some-clause-served : goal.returns-in-Some-clause-served
 returns-in-Some-clause-served g c = served_by g.S.LookupSpan.registry g.S.LookupSpan.with_registry g.S.Subscriber.has_form g.S.Subscriber.stepped c.args.past.now c.args.request.now (request.Enter c.in-Enter.lane c.in-Enter.which) (Enter c.in-Enter.lane c.in-Some.id) (done_answer c.enter.result) c.of_done.result c.args.self.now c.enter.new.self c.in-Enter.is (ap (option_map (λ x. Enter c.in-Enter.lane x)) (sym (named c.span_of.ensures c.in-Some.is))) c.of_done.ensures c.enter.ensures.served
 
 pub returns-in-Some-span_of-clause-served : goal.returns-in-Some-span_of-clause-served
-returns-in-Some-span_of-clause-served g c = served_by g.S.LookupSpan.registry g.S.LookupSpan.with_registry g.S.Subscriber.has_form g.S.Subscriber.stepped c.args.past.now c.args.request.now (request.Exit c.in-Exit.lane c.in-Exit.which) (Exit c.in-Exit.lane c.in-Some-span_of.id) (answer.Done) answer.Done c.args.self.now c.exit.new.self c.in-Exit.is (ap (option_map (λ x. Exit c.in-Exit.lane x)) (sym (named c.span_of-in-Exit.ensures c.in-Some-span_of.is))) refl c.exit.ensures.served
+returns-in-Some-span_of-clause-served g c = served_by g.S.LookupSpan.registry g.S.LookupSpan.with_registry g.S.Subscriber.has_form g.S.Subscriber.stepped c.args.past.now c.args.request.now (request.Exit c.in-Exit.lane c.in-Exit.which) (Exit c.in-Exit.lane c.in-Some-span_of.id) (c.leave.result) c.leave.result c.args.self.now c.leave.new.self c.in-Exit.is (ap (option_map (λ x. Exit c.in-Exit.lane x)) (sym (named c.span_of-in-Exit.ensures c.in-Some-span_of.is))) refl c.leave.ensures.served
 
 pub returns-in-Some-span_of-2-clause-served : goal.returns-in-Some-span_of-2-clause-served
 returns-in-Some-span_of-2-clause-served g c = served_by g.S.LookupSpan.registry g.S.LookupSpan.with_registry g.S.Subscriber.has_form g.S.Subscriber.stepped c.args.past.now c.args.request.now (request.Record c.in-Record.lane c.in-Record.which c.in-Record.values) (RecordValues c.in-Record.lane c.in-Some-span_of-2.id c.new.result) (done_answer c.record.result) c.of_done-in-Some-span_of-2.result c.args.self.now c.record.new.self c.in-Record.is (refl, named c.span_of-in-Record.ensures c.in-Some-span_of-2.is, c.new.ensures) c.of_done-in-Some-span_of-2.ensures c.record.ensures.served
