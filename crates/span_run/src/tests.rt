@@ -173,7 +173,7 @@ fn every_line(rt: HostRuntime) -> Result<(), Fail> {
     assert_eq!(rt; script.stack(), StackName::Nested);
     assert_eq!(rt; script.lines().len(), 19);
     assert_eq!(rt; script.requests().len(), 19);
-    let mut muted = 0;
+    let mut muted = 0usize;
     for request in script.requests() {
         match request {
             Request::Clone(lane, which) => {
@@ -183,7 +183,7 @@ fn every_line(rt: HostRuntime) -> Result<(), Fail> {
             Request::Event(_, _, _, [(name, value)]) => {
                 assert_eq!(rt; *name, "mute");
                 assert_eq!(rt; *value, FieldValue::Bool(true));
-                muted += 1;
+                muted = muted.saturating_add(1);
             }
             _ => {}
         }
