@@ -4,3 +4,4 @@ mod Goes
 mod Once
 pub mod Seen
 mod Served
+mod Stores

@@ -6,6 +6,7 @@ use Rattle.span_core.specs.Span.{asked_parent, current_span, id_of, metadata_of,
 use Rattle.span_core.specs.declared.error.TraceError.TheVariants.{UnknownSpan}
 use Rattle.span_core.specs.declared.error.TraceError.{TraceError}
 use Rattle.span_core.specs.declared.event.Event.{Event}
+use Rattle.span_core.specs.declared.filter.FilterMap.{FilterMap}
 use Rattle.span_core.specs.declared.metadata.Metadata.{Metadata}
 use Rattle.span_core.specs.declared.span.Attributes.{Attributes}
 use Rattle.span_core.specs.declared.span.Current.{Current}
@@ -19,8 +20,8 @@ use Rattle.span_layers.specs.Verdict.{vetoes, vetoes_event}
 use Rattle.span_registry.specs.Answers.{OnClose, OnEnter, OnEvent, OnExit, OnFollows, OnNewSpan, OnRecord}
 use Rattle.span_registry.specs.Closes.{Closes, Member}
 use Rattle.span_registry.specs.Form.{Form}
-use Rattle.span_registry.specs.Step.{IsCurrent, RefusesClone, RefusesEnter, RefusesNew, RefusesRelease}
-use Rattle.span_registry.specs.Store.{IsOpen, RegistryState, Store}
+use Rattle.span_registry.specs.Step.{Drops, IsCurrent, Opens, RefusesClone, RefusesEnter, RefusesNew, RefusesRelease}
+use Rattle.span_registry.specs.Store.{IsHeld, IsOpen, RegistryState, Store}
 
 -- what a dispatcher is asked, from a lane
 pub data Call : Type 0 where
@@ -89,6 +90,20 @@ Comes (DropHandle lane id) f s (answer.Refused e) os = AndNothing (RefusesReleas
 Comes (Probe lane m) f s (answer.Yes wanted) os = AndNothing (wanted ≡ not (vetoes f m s.store lane.0)) os
 Comes (AskCurrent lane) f s (answer.Current o) os = AndNothing (IsCurrent s.store lane.0 (option_map number_of o)) os
 Comes call f s a os = ⊥
+
+-- Below: what a call does to a registry where it isn't refused, whatever the stack answers. Hooks may write extensions after it.
+
+-- a span is opened that these attributes ask for, with some verdict
+abbrev pub OpensFor : Lane → Attributes → Id → RegistryState → RegistryState → Type 0
+OpensFor lane attrs id s t = (v : FilterMap) × Opens lane (record { metadata = metadata_of attrs; parent = asked_parent attrs; verdict = v }) id s t
+
+-- the span is open, and nothing changes
+abbrev pub FindsOpen : Id → RegistryState → RegistryState → Type 0
+FindsOpen id s t = IsOpen s.store.spans (number_of id) × (t ≡ s)
+
+-- a handle is taken, and what closes by that is taken out; whether the span is among it
+abbrev pub DropsSpan : Id → Bool → RegistryState → RegistryState → Type 0
+DropsSpan id closes s t = IsHeld s.store.spans (number_of id) × ((closed : List ℕ) × Drops s (number_of id) closed t × (IsTrue closes ↔ Member (number_of id) closed))
 
 -- Below: what a call of a dispatcher gives, as an answer.
 

@@ -26,12 +26,16 @@ use Rattle.span_layers.specs.Path.{Path, passes_path, path_at}
 use Rattle.span_registry.specs.Hooks.{StackSteps, no_filter}
 use Rattle.span_registry.specs.Place.{HearSteps, Heard, Place}
 use Rattle.span_registry.specs.Step.{Removal}
-use Rattle.span_registry.specs.Subscriber.{SameButExtensions}
+use Rattle.span_registry.specs.Subscriber.{AndHooks, SameButExtensions}
 use Rattle.span_registry.specs.Store.{RegistryState, Store}
 
 -- the stack of a dispatcher
 abbrev pub stack_of : {S : Type 0} → Dispatch S → S
 stack_of d = d.stack
+
+-- the registry takes a step, whatever the stack, and then hooks may write extensions
+abbrev pub TakesStep : {S : Type 0} → (S → RegistryState) → (RegistryState → RegistryState → Type 0) → Dispatch S → Dispatch S → Type 0
+TakesStep registry step old new = AndHooks registry step (stack_of old) (stack_of new)
 
 -- the span that an answer gave
 abbrev pub made_by : Option Answer → Option Id

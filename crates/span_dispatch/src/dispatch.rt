@@ -1,10 +1,12 @@
 //! A dispatcher that asks everything: at each new span, event and probe it asks every filter, with a new pass.
-ghost use Rattle.std.specs.Prelude.{◌≡◌, None, IfErr, IfOk, OnErr};
+ghost use Rattle.std.specs.Prelude.{◌≡◌, None, Ok, false, IfErr, IfOk, MatchOption, OnErr, OnOk};
 ghost use Rattle.span_core.specs.Span.{asked_parent, number_of};
-ghost use Rattle.span_dispatch.specs.Call.{AddHandle, AskCurrent, DropHandle, Enter, Exit, Follow, OpenSpan, Probe, RecordValues, RefusesUnlessOpen, SendEvent, current_answer, done_answer, event_answer, span_answer, yes_answer};
+ghost use Rattle.span_dispatch.specs.Call.{AddHandle, AskCurrent, DropHandle, DropsSpan, Enter, Exit, FindsOpen, Follow, OpensFor, OpenSpan, Probe, RecordValues, RefusesUnlessOpen, SendEvent, current_answer, done_answer, event_answer, span_answer, yes_answer};
 ghost use Rattle.span_dispatch.specs.declared.request.Answer.TheVariants.{Done};
-ghost use Rattle.span_dispatch.specs.Serve.{Answers, ClosesEach, IsReadySomehow, StaysReady, stack_of};
-ghost use Rattle.span_registry.specs.Step.{RefusesClone, RefusesEnter, RefusesNew, RefusesRelease, ShowsCurrent};
+ghost use Rattle.span_dispatch.specs.Serve.{Answers, ClosesEach, IsReadySomehow, StaysReady, TakesStep, stack_of};
+ghost use Rattle.span_registry.specs.Step.{Clones, Enters, Exits, RefusesClone, RefusesEnter, RefusesNew, RefusesRelease, ShowsCurrent};
+ghost use Rattle.span_registry.specs.Closes.{IsSettled};
+ghost use Rattle.span_registry.specs.Hooks.{Stays};
 ghost use Rattle.span_registry.specs.Store.{IsClosing};
 
 use span_core::{
@@ -72,6 +74,7 @@ impl<S: Subscriber> Dispatch<S> {
         ensures usable { S.usable (stack_of self.new) }
         ensures ready { StaysReady S.registry S.with_registry S.has_form S.stepped self.old self.new }
         ensures served { Answers S.registry S.with_registry S.has_form S.stepped (OpenSpan lane attrs.now) (span_answer result) self.old self.new }
+        ensures store { IfOk result (λ o. MatchOption o (self.new ≡ self.old) (λ id. TakesStep S.registry (OpensFor lane attrs.now id) self.old self.new)) }
         ensures refused { IfErr result (RefusesNew (S.registry (stack_of self.old)) lane (asked_parent attrs.now)) }
         ensures unchanged { OnErr result (self.new ≡ self.old) }
     {
@@ -91,6 +94,8 @@ impl<S: Subscriber> Dispatch<S> {
         ensures usable { S.usable (stack_of self.new) }
         ensures ready { StaysReady S.registry S.with_registry S.has_form S.stepped self.old self.new }
         ensures served { Answers S.registry S.with_registry S.has_form S.stepped (SendEvent lane event.now) (event_answer result) self.old self.new }
+        ensures store { TakesStep S.registry Stays self.old self.new }
+        ensures dropped { result ≡ Ok false → self.new ≡ self.old }
         ensures accepted { IfErr result (λ e. ⊥) }
     {
         let mut pass = Pass::new();
@@ -110,6 +115,7 @@ impl<S: Subscriber> Dispatch<S> {
         ensures usable { S.usable (stack_of self.new) }
         ensures ready { StaysReady S.registry S.with_registry S.has_form S.stepped self.old self.new }
         ensures served { Answers S.registry S.with_registry S.has_form S.stepped (Enter lane id) (done_answer result) self.old self.new }
+        ensures store { OnOk result (TakesStep S.registry (Enters lane id) self.old self.new) }
         ensures refused { IfErr result (RefusesEnter (S.registry (stack_of self.old)) id) }
         ensures unchanged { OnErr result (self.new ≡ self.old) }
     {
@@ -122,6 +128,7 @@ impl<S: Subscriber> Dispatch<S> {
         ensures usable { S.usable (stack_of self.new) }
         ensures ready { StaysReady S.registry S.with_registry S.has_form S.stepped self.old self.new }
         ensures served { Answers S.registry S.with_registry S.has_form S.stepped (Exit lane id) (Done) self.old self.new }
+        ensures store { TakesStep S.registry (Exits lane id) self.old self.new }
     {
         if self.stack.root().is_open(id) {
             self.stack.exit(lane, id);
@@ -136,6 +143,7 @@ impl<S: Subscriber> Dispatch<S> {
         ensures usable { S.usable (stack_of self.new) }
         ensures ready { StaysReady S.registry S.with_registry S.has_form S.stepped self.old self.new }
         ensures served { Answers S.registry S.with_registry S.has_form S.stepped (RecordValues lane id values.now) (done_answer result) self.old self.new }
+        ensures store { OnOk result (TakesStep S.registry (FindsOpen id) self.old self.new) }
         ensures refused { IfErr result (RefusesUnlessOpen (S.registry (stack_of self.old)) id) }
         ensures unchanged { OnErr result (self.new ≡ self.old) }
     {
@@ -152,6 +160,7 @@ impl<S: Subscriber> Dispatch<S> {
         ensures usable { S.usable (stack_of self.new) }
         ensures ready { StaysReady S.registry S.with_registry S.has_form S.stepped self.old self.new }
         ensures served { Answers S.registry S.with_registry S.has_form S.stepped (Follow lane id follows) (done_answer result) self.old self.new }
+        ensures store { OnOk result (TakesStep S.registry (FindsOpen id) self.old self.new) }
         ensures refused { IfErr result (RefusesUnlessOpen (S.registry (stack_of self.old)) id) }
         ensures unchanged { OnErr result (self.new ≡ self.old) }
     {
@@ -169,6 +178,7 @@ impl<S: Subscriber> Dispatch<S> {
         ensures ready { StaysReady S.registry S.with_registry S.has_form S.stepped self.old self.new }
         ensures same { IfOk result (λ cloned. cloned ≡ id) }
         ensures served { Answers S.registry S.with_registry S.has_form S.stepped (AddHandle lane id) (done_answer result) self.old self.new }
+        ensures store { OnOk result (TakesStep S.registry (Clones id) self.old self.new) }
         ensures refused { IfErr result (RefusesClone (S.registry (stack_of self.old)) id) }
         ensures unchanged { OnErr result (self.new ≡ self.old) }
     {
@@ -184,6 +194,8 @@ impl<S: Subscriber> Dispatch<S> {
         ensures usable { S.usable (stack_of self.new) }
         ensures ready { StaysReady S.registry S.with_registry S.has_form S.stepped self.old self.new }
         ensures served { Answers S.registry S.with_registry S.has_form S.stepped (DropHandle lane id) (yes_answer result) self.old self.new }
+        ensures store { IfOk result (λ closes. IsSettled (S.registry (stack_of self.old)).store.spans → TakesStep S.registry (DropsSpan id closes) self.old self.new) }
+        ensures settled { IsSettled (S.registry (stack_of self.old)).store.spans → IsSettled (S.registry (stack_of self.new)).store.spans }
         ensures refused { IfErr result (RefusesRelease (S.registry (stack_of self.old)) id) }
         ensures unchanged { OnErr result (self.new ≡ self.old) }
     {

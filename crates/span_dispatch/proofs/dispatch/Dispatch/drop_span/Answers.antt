@@ -1,5 +1,7 @@
-use Rattle.std.proofs.Common.{subst, sym}
+use Rattle.span_dispatch.proofs.Stores.{closed_store, still_open_store}
+use Rattle.std.proofs.Common.{subst, sym, ◌∙◌}
 use Rattle.span_core.specs.Span.{number_of}
+use Rattle.span_registry.specs.Closes.{IsSettled}
 use Rattle.span_registry.specs.Step.{Releases}
 use Rattle.span_registry.specs.Store.{IsClosing, IsForest, RegistryState}
 use Rattle.span_registry.proofs.CallerLemmas.{closing_now}
@@ -20,3 +22,19 @@ returns-in-Ok-Closing-clause-ready g c = λ k. (closed_so g.met.S.Subscriber.law
 
 pub returns-in-Ok-Closing-clause-served : goal.returns-in-Ok-Closing-clause-served
 returns-in-Ok-Closing-clause-served g c = λ f h. (closed_so g.met.S.Subscriber.laws g.met.S.LookupSpan.with_own g.met.S.LookupSpan.registry_with c.args.lane c.args.id c.in-Ok-Closing.field-0 f c.args.self.now.stack c.close_all.new.stack c.release.new.self (subst (λ (s : RegistryState). Releases c.args.id c.in-Ok-Closing.field-0 s c.release.new.self) c.root_mut.ensures.value c.in-Ok-Closing.ensures.released) c.in-Ok-Closing.field-0-is (subst (λ (s : RegistryState). IsForest s.store.spans) c.root_mut.ensures.value c.in-Ok-Closing.ensures.forest) c.close_all.ensures.closes h).0
+
+pub returns-in-Err-clause-settled : goal.returns-in-Err-clause-settled
+returns-in-Err-clause-settled g c = λ h.
+    subst (λ (s : RegistryState). IsSettled s.store.spans) (sym (g.met.S.LookupSpan.registry_with c.args.self.now.stack c.release.new.self ∙ c.in-Err.ensures.unchanged ∙ c.root_mut.ensures.value)) h
+
+pub returns-in-Ok-StillOpen-clause-store : goal.returns-in-Ok-StillOpen-clause-store
+returns-in-Ok-StillOpen-clause-store g c = λ h. (still_open_store g.S.LookupSpan.registry g.S.LookupSpan.with_registry g.met.S.LookupSpan.registry_with c.args.id c.in-Ok-StillOpen.field-0 c.args.self.now.stack c.release.new.self (subst (λ (s : RegistryState). Releases c.args.id c.in-Ok-StillOpen.field-0 s c.release.new.self) c.root_mut.ensures.value c.in-Ok-StillOpen.ensures.released) c.in-Ok-StillOpen.field-0-is (subst (λ (s : RegistryState). IsForest s.store.spans) c.root_mut.ensures.value c.in-Ok-StillOpen.ensures.forest) h).0
+
+pub returns-in-Ok-StillOpen-clause-settled : goal.returns-in-Ok-StillOpen-clause-settled
+returns-in-Ok-StillOpen-clause-settled g c = λ h. (still_open_store g.S.LookupSpan.registry g.S.LookupSpan.with_registry g.met.S.LookupSpan.registry_with c.args.id c.in-Ok-StillOpen.field-0 c.args.self.now.stack c.release.new.self (subst (λ (s : RegistryState). Releases c.args.id c.in-Ok-StillOpen.field-0 s c.release.new.self) c.root_mut.ensures.value c.in-Ok-StillOpen.ensures.released) c.in-Ok-StillOpen.field-0-is (subst (λ (s : RegistryState). IsForest s.store.spans) c.root_mut.ensures.value c.in-Ok-StillOpen.ensures.forest) h).1
+
+pub returns-in-Ok-Closing-clause-store : goal.returns-in-Ok-Closing-clause-store
+returns-in-Ok-Closing-clause-store g c = λ h. (closed_store g.S.LookupSpan.registry g.S.LookupSpan.with_registry g.S.Subscriber.has_form g.S.Subscriber.stepped g.met.S.LookupSpan.registry_with c.args.lane c.args.id c.in-Ok-Closing.field-0 c.args.self.now.stack c.close_all.new.stack c.release.new.self (subst (λ (s : RegistryState). Releases c.args.id c.in-Ok-Closing.field-0 s c.release.new.self) c.root_mut.ensures.value c.in-Ok-Closing.ensures.released) c.in-Ok-Closing.field-0-is (subst (λ (s : RegistryState). IsForest s.store.spans) c.root_mut.ensures.value c.in-Ok-Closing.ensures.forest) c.close_all.ensures.closes h).0
+
+pub returns-in-Ok-Closing-clause-settled : goal.returns-in-Ok-Closing-clause-settled
+returns-in-Ok-Closing-clause-settled g c = λ h. (closed_store g.S.LookupSpan.registry g.S.LookupSpan.with_registry g.S.Subscriber.has_form g.S.Subscriber.stepped g.met.S.LookupSpan.registry_with c.args.lane c.args.id c.in-Ok-Closing.field-0 c.args.self.now.stack c.close_all.new.stack c.release.new.self (subst (λ (s : RegistryState). Releases c.args.id c.in-Ok-Closing.field-0 s c.release.new.self) c.root_mut.ensures.value c.in-Ok-Closing.ensures.released) c.in-Ok-Closing.field-0-is (subst (λ (s : RegistryState). IsForest s.store.spans) c.root_mut.ensures.value c.in-Ok-Closing.ensures.forest) c.close_all.ensures.closes h).1

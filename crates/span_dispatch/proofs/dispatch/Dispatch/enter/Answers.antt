@@ -1,3 +1,5 @@
+use Rattle.span_dispatch.proofs.Stores.{on_ok}
+use Rattle.span_registry.proofs.CallerLemmas.{and_hooks}
 use Rattle.span_dispatch.proofs.Calls.{entered_so}
 use Rattle.span_dispatch.proofs.dispatch.Dispatch.enter.Goals as goal
 
@@ -6,3 +8,6 @@ returns-clause-ready g c = λ k. (entered_so g.met.S.Subscriber.laws g.met.S.Loo
 
 pub returns-clause-served : goal.returns-clause-served
 returns-clause-served g c = λ f h. (entered_so g.met.S.Subscriber.laws g.met.S.LookupSpan.with_own c.args.lane c.args.id c.enter.result f c.args.self.now.stack c.enter.new.self c.enter.ensures.entered c.enter.ensures.refused c.enter.ensures.unchanged h).0
+
+pub returns-clause-store : goal.returns-clause-store
+returns-clause-store g c = on_ok c.enter.result (λ u. and_hooks) c.enter.ensures.entered

@@ -1,3 +1,4 @@
+use Rattle.span_dispatch.proofs.Stores.{no_step}
 use Rattle.span_dispatch.proofs.Calls.{event_dropped, event_made, event_vetoed}
 use Rattle.span_dispatch.proofs.dispatch.Dispatch.event.Goals as goal
 
@@ -12,3 +13,9 @@ returns-clause-ready g c = λ k. (event_made g.met.S.Subscriber.laws g.met.S.Loo
 
 pub returns-clause-served : goal.returns-clause-served
 returns-clause-served g c = λ f h. (event_made g.met.S.Subscriber.laws g.met.S.LookupSpan.with_own c.args.lane c.args.event.now c.metadata.result c.new-pass.result c.enabled.new.pass c.event_enabled.new.pass c.enabled.result c.event_enabled.result f c.args.self.now.stack c.event.new.self c.metadata.ensures c.new-pass.ensures.refused c.if-not-enabled.false c.if-not-event_enabled.false c.enabled.ensures c.event_enabled.ensures c.event.ensures.hooks h).0
+
+pub returns-then-not-enabled-clause-store : goal.returns-then-not-enabled-clause-store
+returns-then-not-enabled-clause-store g c = no_step g.S.LookupSpan.registry c.args.self.now.stack
+
+pub returns-then-not-event_enabled-clause-store : goal.returns-then-not-event_enabled-clause-store
+returns-then-not-event_enabled-clause-store g c = no_step g.S.LookupSpan.registry c.args.self.now.stack

@@ -1,3 +1,4 @@
+use Rattle.span_dispatch.proofs.Stores.{gone_store}
 use Rattle.std.proofs.Common.{subst, sym, ◌∙◌}
 use Rattle.std.proofs.lemmas.Bool.{true≢false}
 use Rattle.span_core.specs.Span.{number_of}
@@ -17,3 +18,6 @@ returns-clause-ready g c = λ k. (gone_so g.met.S.Subscriber.laws g.met.S.Lookup
 
 pub returns-clause-served : goal.returns-clause-served
 returns-clause-served g c = λ f h. (gone_so g.met.S.Subscriber.laws g.met.S.LookupSpan.with_own g.met.S.LookupSpan.registry_with c.args.lane c.args.id f c.args.self.now.stack c.exit-2.new.self (λ o. true≢false (sym (c.is_open.ensures.1 (subst (λ (s : RegistryState). IsOpen s.store.spans (number_of c.args.id)) (sym c.root.ensures) o)) ∙ c.if-is_open.false)) (subst (λ (s : RegistryState). Exits c.args.lane c.args.id s c.exit-2.new.self) c.root_mut.ensures.value c.exit-2.ensures) h).0
+
+pub returns-clause-store : goal.returns-clause-store
+returns-clause-store g c = gone_store g.S.LookupSpan.registry g.S.LookupSpan.with_registry g.met.S.LookupSpan.registry_with c.args.lane c.args.id c.args.self.now.stack c.exit-2.new.self (subst (λ (s : RegistryState). Exits c.args.lane c.args.id s c.exit-2.new.self) c.root_mut.ensures.value c.exit-2.ensures)

@@ -1,3 +1,5 @@
+use Rattle.span_dispatch.proofs.Stores.{found_store}
+use Rattle.span_registry.proofs.CallerLemmas.{and_hooks}
 use Rattle.std.proofs.Common.{[], refl, subst, sym, ◌∙◌}
 use Rattle.std.proofs.lemmas.Bool.{true≢false}
 use Rattle.span_core.specs.Span.{number_of}
@@ -16,3 +18,6 @@ returns-clause-ready g c = λ k. (recorded_so g.met.S.Subscriber.laws g.met.S.Lo
 
 pub returns-clause-served : goal.returns-clause-served
 returns-clause-served g c = λ f h. (recorded_so g.met.S.Subscriber.laws g.met.S.LookupSpan.with_own c.args.lane c.args.id c.args.values.now f c.args.self.now.stack c.record.new.self (subst (λ (s : RegistryState). IsOpen s.store.spans (number_of c.args.id)) c.root.ensures (c.is_open.ensures.0 c.if-not-is_open.false)) c.record.ensures.hooks h).0
+
+pub returns-clause-store : goal.returns-clause-store
+returns-clause-store g c = found_store g.S.LookupSpan.registry c.args.id c.args.self.now.stack c.record.new.self (subst (λ (s : RegistryState). IsOpen s.store.spans (number_of c.args.id)) c.root.ensures (c.is_open.ensures.0 c.if-not-is_open.false)) (and_hooks c.record.ensures.hooks)
