@@ -122,7 +122,7 @@ impl<S: LookupSpan, A: Filter<S>> Filter<S> for Not<A> {
     }
 
     fn max_level_hint(&self) -> Option<LevelFilter> {
-        None
+        None // What its part refuses, it wants: at any level.
     }
 
     fn on_new_span(&mut self, attrs: &Attributes<'_>, id: Id, ctx: &mut ContextMut<'_, S>) {
