@@ -164,7 +164,8 @@ impl<S: Subscriber> Dispatch<S> {
         ensures refused { IfErr result (RefusesUnlessOpen (S.registry (stack_of self.old)) id) }
         ensures unchanged { OnErr result (self.new ≡ self.old) }
     {
-        if !self.stack.root().is_open(id) {
+        let registry = self.stack.root();
+        if !registry.is_open(id) {
             return Err(TraceError::UnknownSpan(id));
         }
         self.stack.record_follows_from(lane, id, follows);

@@ -8,16 +8,16 @@ use Rattle.span_dispatch.proofs.Calls.{followed_so}
 use Rattle.span_dispatch.proofs.dispatch.Dispatch.follows_from.Goals as goal
 
 pub returns-then-not-is_open-clause-refused : goal.returns-then-not-is_open-clause-refused
-returns-then-not-is_open-clause-refused g c = (refl, (λ o. true≢false (sym (c.is_open.ensures.1 (subst (λ (s : RegistryState). IsOpen s.store.spans (number_of c.args.id)) (sym c.root.ensures) o)) ∙ c.if-not-is_open.true)))
+returns-then-not-is_open-clause-refused g c = (refl, (λ o. true≢false (sym (c.is_open.ensures.1 (subst (λ (s : RegistryState). IsOpen s.store.spans (number_of c.args.id)) (sym c.root-registry.ensures) o)) ∙ c.if-not-is_open.true)))
 
 pub returns-then-not-is_open-clause-served : goal.returns-then-not-is_open-clause-served
-returns-then-not-is_open-clause-served g c = λ f h. ([], record { comes = ((refl, (λ o. true≢false (sym (c.is_open.ensures.1 (subst (λ (s : RegistryState). IsOpen s.store.spans (number_of c.args.id)) (sym c.root.ensures) o)) ∙ c.if-not-is_open.true))), refl); goes = refl })
+returns-then-not-is_open-clause-served g c = λ f h. ([], record { comes = ((refl, (λ o. true≢false (sym (c.is_open.ensures.1 (subst (λ (s : RegistryState). IsOpen s.store.spans (number_of c.args.id)) (sym c.root-registry.ensures) o)) ∙ c.if-not-is_open.true))), refl); goes = refl })
 
 pub returns-clause-ready : goal.returns-clause-ready
-returns-clause-ready g c = λ k. (followed_so g.met.S.Subscriber.laws g.met.S.LookupSpan.with_own c.args.lane c.args.id c.args.follows k.0 c.args.self.now.stack c.record_follows_from.new.self (subst (λ (s : RegistryState). IsOpen s.store.spans (number_of c.args.id)) c.root.ensures (c.is_open.ensures.0 c.if-not-is_open.false)) c.record_follows_from.ensures.hooks k.1).1
+returns-clause-ready g c = λ k. (followed_so g.met.S.Subscriber.laws g.met.S.LookupSpan.with_own c.args.lane c.args.id c.args.follows k.0 c.args.self.now.stack c.record_follows_from.new.self (subst (λ (s : RegistryState). IsOpen s.store.spans (number_of c.args.id)) c.root-registry.ensures (c.is_open.ensures.0 c.if-not-is_open.false)) c.record_follows_from.ensures.hooks k.1).1
 
 pub returns-clause-served : goal.returns-clause-served
-returns-clause-served g c = λ f h. (followed_so g.met.S.Subscriber.laws g.met.S.LookupSpan.with_own c.args.lane c.args.id c.args.follows f c.args.self.now.stack c.record_follows_from.new.self (subst (λ (s : RegistryState). IsOpen s.store.spans (number_of c.args.id)) c.root.ensures (c.is_open.ensures.0 c.if-not-is_open.false)) c.record_follows_from.ensures.hooks h).0
+returns-clause-served g c = λ f h. (followed_so g.met.S.Subscriber.laws g.met.S.LookupSpan.with_own c.args.lane c.args.id c.args.follows f c.args.self.now.stack c.record_follows_from.new.self (subst (λ (s : RegistryState). IsOpen s.store.spans (number_of c.args.id)) c.root-registry.ensures (c.is_open.ensures.0 c.if-not-is_open.false)) c.record_follows_from.ensures.hooks h).0
 
 pub returns-clause-store : goal.returns-clause-store
-returns-clause-store g c = found_store g.S.LookupSpan.registry c.args.id c.args.self.now.stack c.record_follows_from.new.self (subst (λ (s : RegistryState). IsOpen s.store.spans (number_of c.args.id)) c.root.ensures (c.is_open.ensures.0 c.if-not-is_open.false)) (and_hooks c.record_follows_from.ensures.hooks)
+returns-clause-store g c = found_store g.S.LookupSpan.registry c.args.id c.args.self.now.stack c.record_follows_from.new.self (subst (λ (s : RegistryState). IsOpen s.store.spans (number_of c.args.id)) c.root-registry.ensures (c.is_open.ensures.0 c.if-not-is_open.false)) (and_hooks c.record_follows_from.ensures.hooks)
