@@ -1,4 +1,5 @@
 mod Calls
+pub mod CallerLemmas
 pub mod Fixed
 mod Goes
 mod Once

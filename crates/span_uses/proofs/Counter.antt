@@ -1,6 +1,5 @@
 -- A counter under a level: what a new span makes of it.
-use Rattle.std.proofs.Common.{arith, ◌≡◌, ◌+◌, ◌≤◌, nat_lt, None, ℕ, Bool, true, false, refl, ap, subst, ◌∙◌, Result, Ok, Err}
-use Rattle.std.proofs.lemmas.Bool.Decides.{nat_tests}
+use Rattle.std.proofs.Common.{◌≡◌, ◌+◌, ◌≤◌, ℕ, Bool, true, false, refl, ap, subst, ◌∙◌, Result, Ok, Err}
 use Rattle.std.specs.Prelude.{if◌then◌else◌, IfOk, OnErr, Some}
 use Rattle.span_core.specs.Filters.{FilterSet, IsEmpty}
 use Rattle.span_core.specs.Level.{passes_level}
@@ -24,12 +23,13 @@ use Rattle.span_layers.specs.Verdict.{NewSpansAreFresh, VetoesAloneRefuse}
 use Rattle.span_layers.proofs.CallerLemmas.{asked_with_new_pass}
 use Rattle.span_layers.specs.declared.filtered.Filtered.{Filtered as FilteredLayer}
 use Rattle.span_layers.specs.declared.observe.Observer.{Observer}
-use Rattle.span_registry.specs.Answers.{Answers, OnNewSpan}
+use Rattle.span_registry.specs.Answers.{OnNewSpan}
 use Rattle.span_registry.specs.Form.{Bare, Base, Filtered, Form, Leaf, OnSubscriber, Over}
 use Rattle.span_registry.specs.Hooks.{AnswersEnabled, OpensAndNotifies, StackSteps, no_filter}
 use Rattle.span_registry.specs.Plan.{Itself, Nobody, Through}
 use Rattle.span_registry.specs.Question.{refusals}
 use Rattle.span_registry.specs.Store.{RegistryState}
+use Rattle.span_uses.proofs.Level.{has_room, leaf_under, took}
 use Rattle.span_uses.specs.Layers.{counted, opened_by}
 use Rattle.span_uses.specs.Stacks.{Counted, CountsWhatPasses, IsNumbered, StartsToCount, level_in}
 use Rattle.span_uses.specs.declared.layer.SpanCounter.{SpanCounter}
@@ -85,19 +85,12 @@ goes old new lane attrs fresh pass said m pass_law veto_law numbered same empty 
 abbrev pub UnderLevel : FilteredLayer (Observer SpanCounter) LevelFilter → Form → Type 0
 UnderLevel x = FilteredForm (id_of x) (settled_answers level_answers (filter_of x)) (λ f. f ≡ Leaf true open_answers)
 
-has_room : (n : ℕ) → n + 1 ≤ LIMIT → nat_lt n LIMIT ≡ true
-has_room n h = grind (arith, nat_tests, h)
-
--- the form of a counter under a filter, and the next number, once that took this one, if there was room
-abbrev took : Answers → ℕ → Bool → Form × ℕ
-took a n b = if b then (Filtered (Some n) a (Leaf true open_answers), n + 1) else (Filtered None a (Leaf true open_answers), n)
-
 -- a counter that took the next number counts from nothing
 pub starts : (level : LevelFilter) (n : ℕ) (counter : SpanCounter) (layer : Observer SpanCounter) (u : FilteredLayer (Observer SpanCounter) LevelFilter) (x : Counted) → opened_by counter ≡ 0 → observer_of layer ≡ counter → IsUnnumbered u layer level
     → ((f : Form) → UnderLevel u f → UnderLevel (outer_of x) (numbered f n).0) → ((f : Form) → UnderLevel u f → n + filters_in f ≤ LIMIT) → (filter_of (outer_of x) ≡ filter_of u) × (layer_of (outer_of x) ≡ layer_of u) → StartsToCount level x
 starts level n counter layer u x opened observer unnumbered form room attached =
     let a = level_answers (filter_of u) in
-    let f = Filtered None a (Leaf true open_answers) in
+    let f = leaf_under a in
     let has : UnderLevel u f = (unnumbered.id, refl, refl) in
     let r : n + 1 ≤ LIMIT = room f has in
     let given = subst (λ b. UnderLevel (outer_of x) (took a n b).0) (has_room n r) (form f has) in

@@ -1,1 +1,3 @@
 mod Counter
+mod Level
+mod Recorded

@@ -1,3 +1,4 @@
+pub mod Dispatches
 pub mod Filters
 pub mod Layers
 pub mod Stacks

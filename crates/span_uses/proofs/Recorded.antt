@@ -1,0 +1,283 @@
+-- A recorder under a level: what it keeps of a list of requests.
+use Rattle.std.proofs.Common.{◌≡◌, ◌∙◌, Bool, true, false, List, [], ◌∷◌, ◌++◌, None, Some, ap, map, refl, subst, sym, ℕ, ◌+◌, ◌≤◌, ◌&&◌}
+use Rattle.std.proofs.lemmas.Bool.{false≢true, true≢false}
+use Rattle.std.proofs.lemmas.List.{append-nil, map-append}
+use Rattle.std.specs.Prelude.{if◌then◌else◌, ⊤}
+use Rattle.std.specs.declared.alloc.Global.{Global}
+use Rattle.std.specs.declared.vec.Vec.{Vec}
+use Rattle.span_core.specs.Event.{event_metadata}
+use Rattle.span_core.specs.Filters.{FilterSet}
+use Rattle.span_core.specs.Level.{passes_level}
+use Rattle.span_core.specs.Metadata.{level_of}
+use Rattle.span_core.specs.Span.{metadata_of}
+use Rattle.span_core.specs.declared.event.Event.{Event}
+use Rattle.span_core.specs.declared.filter.TheConstants.FilterId.{LIMIT}
+use Rattle.span_core.specs.declared.level.LevelFilter.{LevelFilter}
+use Rattle.span_core.specs.declared.metadata.Metadata.{Metadata}
+use Rattle.span_core.specs.declared.span.Attributes.{Attributes}
+use Rattle.span_core.specs.declared.span.Id.{Id}
+use Rattle.span_core.specs.declared.span.Lane.{Lane}
+use Rattle.span_dispatch.proofs.CallerLemmas.{event_served, next_served, none_served, seen_append, span_served}
+use Rattle.span_dispatch.specs.Call.{vetoes_whole}
+use Rattle.span_dispatch.specs.Outcome.{GoesOn, Made, Makes, Noticed, Outcome, Quiet}
+use Rattle.span_dispatch.specs.Recorder.{Kept, Records, kept_notice, new_recorder, recorder_hears, recorder_steps}
+use Rattle.span_dispatch.specs.Serve.{IsReadySomehow, Run, Served, ServesRequest, flat, passed, seen, stack_of}
+use Rattle.span_dispatch.specs.declared.dispatch.Dispatch.{Dispatch}
+use Rattle.span_dispatch.specs.declared.notice.Notice.{Notice as KeptNotice}
+use Rattle.span_dispatch.specs.declared.request.Answer.TheVariants as answer
+use Rattle.span_dispatch.specs.declared.request.Answer.{Answer}
+use Rattle.span_dispatch.specs.declared.request.Request.TheVariants as request
+use Rattle.span_dispatch.specs.declared.request.Request.{Request}
+use Rattle.span_dispatch.specs.declared.request.WhichParent.{WhichParent}
+use Rattle.span_filters.specs.Filter.{settled_answers, unmoved}
+use Rattle.span_filters.specs.Level.{level_answers, level_honest}
+use Rattle.span_layers.specs.Filtered.{FilteredForm, FilteredHears, FilteredSteps, Hooked, IsNumber, IsUnnumbered, filter_of, id_of, layer_of}
+use Rattle.span_layers.specs.Honest.{IsHonestStack}
+use Rattle.span_layers.specs.Layer.{LayerSteps}
+use Rattle.span_layers.specs.Layered.{LayeredHears, LayeredSteps, OverForm, inner_of, outer_of, with_inner}
+use Rattle.span_layers.specs.Number.{TakesNumbers, filters_in}
+use Rattle.span_layers.specs.Observe.{open_answers}
+use Rattle.span_layers.specs.Path.{path_at}
+use Rattle.span_layers.specs.Verdict.{HasOwnNumbers, NumbersStayOwn}
+use Rattle.span_layers.specs.declared.filtered.Filtered.{Filtered as FilteredLayer}
+use Rattle.span_registry.proofs.CallerLemmas.{settled_new}
+use Rattle.span_registry.specs.Answers.{AreHonest, Notice, OnClose, OnEnter, OnEvent, OnExit, OnFollows, OnIdChange, OnNewSpan, OnRecord}
+use Rattle.span_registry.specs.Closes.{IsSettled}
+use Rattle.span_registry.specs.Form.{Bare, Base, Filtered, Form, Leaf, OnSubscriber, Over}
+use Rattle.span_registry.specs.Hooks.{StackSteps}
+use Rattle.span_registry.specs.Place.{HearSteps, Here, Outer, Place, Under}
+use Rattle.span_registry.specs.Plan.{Itself, Nobody, Through}
+use Rattle.span_registry.specs.Store.{RegistryState, new_registry}
+use Rattle.span_registry.specs.declared.limits.Limits.{Limits}
+use Rattle.span_uses.proofs.Level.{has_room, leaf_under, took}
+use Rattle.span_uses.specs.Dispatches.{KeepsWhatPasses, Recorded, kept_event, kept_of, kept_span, recorder_of}
+
+-- ---- this form
+
+-- the form of the stack
+abbrev form_of : LevelFilter → ℕ → Form
+form_of level n = Over OnSubscriber (Filtered (Some n) (level_answers level) (Leaf true open_answers)) (Bare Base)
+
+abbrev UnderLevel : FilteredLayer Kept LevelFilter → Form → Type 0
+UnderLevel x = FilteredForm (id_of x) (settled_answers level_answers (filter_of x)) (λ f. f ≡ Leaf true open_answers)
+
+abbrev pub HasForm : Recorded → Form → Type 0
+HasForm x = OverForm OnSubscriber (UnderLevel (outer_of x)) (λ f. f ≡ Bare Base)
+
+-- how its parts go on, as their types say
+abbrev under_level : LayerSteps (FilteredLayer Kept LevelFilter)
+under_level x p e lane under v y w = (id_of y ≡ id_of x) × FilteredSteps unmoved recorder_steps (id_of x) (filter_of x) (layer_of x) p e lane under v (filter_of y) (layer_of y) w
+
+abbrev pub stack_steps : StackSteps Recorded
+stack_steps x p e lane v y w = LayeredSteps (λ (s t : RegistryState). t) under_level (λ x p e lane v y w. w ≡ v) (outer_of x) (inner_of x) p e lane v (outer_of y) (inner_of y) w
+
+-- what its leaf hears
+abbrev pub stack_hears : HearSteps Recorded
+stack_hears x p h y = LayeredHears (λ (a : FilteredLayer Kept LevelFilter) q k b. FilteredHears recorder_hears (layer_of a) q k (layer_of b)) (λ (i : RegistryState) q k j. ⊤) (outer_of x) (inner_of x) p h (outer_of y) (inner_of y)
+
+-- where the recorder stands
+abbrev pub place : Place
+place = Outer (Under Here)
+
+-- its filter is this level, and has a number
+pub record IsUnder (level : LevelFilter) (x : FilteredLayer Kept LevelFilter) : Type 0 where
+  pub number : (n : ℕ) × IsNumber (id_of x) (Some n)
+  pub own : filter_of x ≡ level
+
+stays_under : (level : LevelFilter) (x y : FilteredLayer Kept LevelFilter) → id_of y ≡ id_of x → filter_of y ≡ filter_of x → IsUnder level x → IsUnder level y
+stays_under level x y id own h = record { number = (h.number.0, subst (λ i. IsNumber i (Some h.number.0)) (sym id) h.number.1); own = own ∙ h.own }
+
+-- so that is its form
+formed : (level : LevelFilter) (x : Recorded) (f : Form) → IsUnder level (outer_of x) → HasForm x f → (n : ℕ) × (f ≡ form_of level n)
+formed level x (Over k (Filtered (Some n) a g) i) u h = (n, λ j. Over (h.0 j) (Filtered (Some n) ((h.1.1 ∙ ap level_answers u.own) j) (h.1.2 j)) (h.2 j))
+formed level x (Over k (Filtered None a g) i) u h = absurd (true≢false (sym u.number.1.0 ∙ h.1.0))
+formed level x (Over k (Leaf still a) i) u h = absurd h.1
+formed level x (Over k (Over l o p) i) u h = absurd h.1
+formed level x (Over k (Bare v) i) u h = absurd h.1
+formed level x (Leaf still a) u h = absurd h
+formed level x (Filtered n a g) u h = absurd h
+formed level x (Bare v) u h = absurd h
+
+-- ---- how it goes on
+
+stays : (e : Notice) (f g : LevelFilter) (lane : ℕ) (under : FilterSet) (v w : RegistryState) → Hooked unmoved f e lane under v g w → g ≡ f
+stays (OnNewSpan attrs id) f g lane under v w h = h.0
+stays (OnRecord id values) f g lane under v w h = h.0
+stays (OnFollows id other) f g lane under v w h = h.0
+stays (OnEvent e) f g lane under v w h = h.0
+stays (OnEnter id) f g lane under v w h = h.0
+stays (OnExit id) f g lane under v w h = h.0
+stays (OnIdChange id other) f g lane under v w h = h.0
+stays (OnClose id) f g lane under v w h = h.0
+
+filter_stays : (passes : Bool) (e : Notice) (x y : FilteredLayer Kept LevelFilter) (lane : ℕ) (under : FilterSet) (v w : RegistryState)
+    → FilteredSteps unmoved recorder_steps (id_of x) (filter_of x) (layer_of x) (if passes then Through Itself else Nobody) e lane under v (filter_of y) (layer_of y) w → filter_of y ≡ filter_of x
+filter_stays true e x y lane under v w h = stays e _ _ _ _ _ _ h.filter
+filter_stays false e x y lane under v w h = h.0
+
+-- whatever is made of the stack, its filter stays
+goes_under : (level : LevelFilter) (f : Form) (o : Outcome) (x y : Recorded) → IsUnder level (outer_of x) → HasForm x f → GoesOn inner_of with_inner HasForm stack_steps f o x y → IsUnder level (outer_of y)
+goes_under level f (Noticed lane e) x y u has n =
+    let form = formed level x f u has in
+    let goes = subst (λ g. GoesOn inner_of with_inner HasForm stack_steps g (Noticed lane e) x y) form.1 n in
+    let outer = goes.layers.second in
+    stays_under level (outer_of x) (outer_of y) (ap (λ (z : Recorded). id_of (outer_of z)) goes.rest ∙ outer.0)
+    (ap (λ (z : Recorded). filter_of (outer_of z)) goes.rest ∙ filter_stays _ e (outer_of x) (outer_of goes.notified) lane.0 _ _ _ outer.1) u
+goes_under level f (Quiet c) x y u has q = stays_under level (outer_of x) (outer_of y) (ap (λ (z : Recorded). id_of (outer_of z)) q.rest) (ap (λ (z : Recorded). filter_of (outer_of z)) q.rest) u
+
+-- ---- what the recorder keeps
+
+-- what it keeps of what was made
+abbrev pub kept_from : List Made → List KeptNotice
+kept_from made = map kept_notice (seen place made)
+
+kept_append : (ms ns : List Made) → kept_from (ms ++ ns) ≡ kept_from ms ++ kept_from ns
+kept_append ms ns = ap (map kept_notice) (seen_append place ms ns) ∙ map-append kept_notice (seen place ms) (seen place ns)
+
+-- of what the level passes, and the leaf then passes too
+by_level : (b : Bool) (one : ℕ × Notice) → map kept_notice ((if b && true then one ∷ [] else []) ++ []) ≡ (if b then kept_notice one ∷ [] else [])
+by_level true one = refl
+by_level false one = refl
+
+by_level_twice : (b : Bool) (one : ℕ × Notice) → map kept_notice ((if (b && true) && true then one ∷ [] else []) ++ []) ≡ (if b then kept_notice one ∷ [] else [])
+by_level_twice true one = refl
+by_level_twice false one = refl
+
+-- a request was served: the recorder keeps this of it, and its filter stays
+pub record Keeps (level : LevelFilter) (due : List KeptNotice) (made : List Made) (y : Recorded) : Type 0 where
+  pub keeps : kept_from made ≡ due
+  pub under : IsUnder level (outer_of y)
+
+abbrev MakesOne : Recorded → Made → Recorded → Type 0
+MakesOne = Makes inner_of with_inner HasForm stack_steps
+
+kept_new : (level : LevelFilter) (lane : Lane) (m : Metadata) (x : Recorded) → IsUnder level (outer_of x) → (id : Id) (attrs : Attributes) (one : Made) (z : Recorded) → metadata_of attrs ≡ m → one.outcome ≡ Noticed lane (OnNewSpan attrs id) → MakesOne x one z
+    → Keeps level (kept_span level lane m (answer.Made id)) (one ∷ []) z
+kept_new level lane m x u id attrs one z same is made =
+    let form = formed level x one.form u made.honest.has in
+    let seen_so : kept_from (one ∷ []) ≡ map kept_notice (passed (path_at (form_of level form.0) place) (Noticed lane (OnNewSpan attrs id)) one.store ++ []) = λ j. map kept_notice (passed (path_at (form.1 j) place) (is j) one.store ++ []) in
+    record {
+      keeps = seen_so ∙ by_level (passes_level level (level_of (metadata_of attrs))) (lane.0, OnNewSpan attrs id) ∙ ap (λ k. kept_span level lane k (answer.Made id)) same;
+      under = goes_under level one.form one.outcome x z u made.honest.has made.goes;
+    }
+
+kept_sent : (level : LevelFilter) (lane : Lane) (m : Metadata) (x : Recorded) → IsUnder level (outer_of x) → (e : Event) (one : Made) (z : Recorded) → event_metadata e ≡ m → one.outcome ≡ Noticed lane (OnEvent e) → MakesOne x one z
+    → Keeps level (kept_event level lane m) (one ∷ []) z
+kept_sent level lane m x u e one z same is made =
+    let form = formed level x one.form u made.honest.has in
+    let seen_so : kept_from (one ∷ []) ≡ map kept_notice (passed (path_at (form_of level form.0) place) (Noticed lane (OnEvent e)) one.store ++ []) = λ j. map kept_notice (passed (path_at (form.1 j) place) (is j) one.store ++ []) in
+    record {
+      keeps = seen_so ∙ by_level_twice (passes_level level (level_of (event_metadata e))) (lane.0, OnEvent e) ∙ ap (λ k. kept_event level lane k) same;
+      under = goes_under level one.form one.outcome x z u made.honest.has made.goes;
+    }
+
+abbrev ServesOne : List Answer → Request → Recorded → Answer → List Made → Recorded → Type 0
+ServesOne = ServesRequest inner_of with_inner HasForm stack_steps
+
+keeps_span : (level : LevelFilter) (past : List Answer) (lane : Lane) (m : Metadata) (p : WhichParent) (values : _) (x : Recorded) (a : Answer) (made : List Made) (y : Recorded) → IsUnder level (outer_of x) → ServesOne past (request.NewSpan lane m p values) x a made y → Keeps level (kept_span level lane m a) made y
+keeps_span level past lane m p values x a made y u h =
+    span_served inner_of with_inner HasForm stack_steps past lane m p values x a made y (λ b ms z. Keeps level (kept_span level lane m b) ms z)
+    (kept_new level lane m x u) (λ f ready vetoed. record { keeps = refl; under = u }) (λ attrs e refused. record { keeps = refl; under = u }) h
+
+-- nobody in this stack vetoes an event
+never_vetoed : (level : LevelFilter) (x : Recorded) (f : Form) (e : Event) (lane : Lane) → IsUnder level (outer_of x) → HasForm x f → vetoes_whole f e (inner_of x).store lane ≡ true → ⊥
+never_vetoed level x f e lane u has h =
+    let form = formed level x f u has in
+    false≢true (subst (λ g. vetoes_whole g e (inner_of x).store lane ≡ true) form.1 h)
+
+keeps_event : (level : LevelFilter) (past : List Answer) (lane : Lane) (m : Metadata) (p : WhichParent) (values : _) (x : Recorded) (a : Answer) (made : List Made) (y : Recorded) → IsUnder level (outer_of x) → ServesOne past (request.Event lane m p values) x a made y → (a ≡ answer.Done) × Keeps level (kept_event level lane m) made y
+keeps_event level past lane m p values x a made y u h =
+    event_served inner_of with_inner HasForm stack_steps past lane m p values x a made y (λ b ms z. (b ≡ answer.Done) × Keeps level (kept_event level lane m) ms z)
+    (λ e one z same is made. (refl, kept_sent level lane m x u e one z same is made)) (λ f e ready vetoed. absurd (never_vetoed level x f e lane u ready.honest.has vetoed)) h
+
+-- what is kept of two spans and an event
+pub record KeepsThree (level : LevelFilter) (lane : Lane) (outer inner event : Metadata) (answers : List Answer) (made : List (List Made)) : Type 0 where
+  pub first : Answer
+  pub second : Answer
+  pub answered : answers ≡ first ∷ second ∷ answer.Done ∷ []
+  pub keeps : kept_from (flat made) ≡ kept_of level lane outer inner event first second
+
+three_kept : (ms ns os : List Made) (a b c : List KeptNotice) → kept_from ms ≡ a → kept_from ns ≡ b → kept_from os ≡ c → kept_from (ms ++ (ns ++ (os ++ []))) ≡ a ++ (b ++ c)
+three_kept ms ns os a b c f g h =
+    kept_append ms (ns ++ (os ++ [])) ∙ (λ j. f j ++ (kept_append ns (os ++ []) ∙ (λ i. g i ++ (ap kept_from (append-nil os) ∙ h) i)) j)
+
+pub keeps_three : (level : LevelFilter) (lane : Lane) (outer inner event : Metadata) (p q r : WhichParent) (us vs ws : _) (x y : Recorded) (answers : List Answer) (made : List (List Made)) → IsUnder level (outer_of x)
+    → Run inner_of with_inner HasForm stack_steps [] (request.NewSpan lane outer p us ∷ request.NewSpan lane inner q vs ∷ request.Event lane event r ws ∷ []) answers made x y → KeepsThree level lane outer inner event answers made
+keeps_three level lane outer inner event p q r us vs ws x y answers made u =
+    let second = request.NewSpan lane inner q vs in
+    let third = request.Event lane event r ws in
+    next_served inner_of with_inner HasForm stack_steps [] (request.NewSpan lane outer p us) (second ∷ third ∷ []) answers made x y (KeepsThree level lane outer inner event)
+    (λ a others ms rest z s.
+      let one = keeps_span level [] lane outer p us x a ms z u s in
+      next_served inner_of with_inner HasForm stack_steps (a ∷ []) second (third ∷ []) others rest z y (λ bs nss. KeepsThree level lane outer inner event (a ∷ bs) (ms ∷ nss))
+      (λ b more ns last w t.
+        let two = keeps_span level (a ∷ []) lane inner q vs z b ns w one.under t in
+        next_served inner_of with_inner HasForm stack_steps (a ∷ b ∷ []) third [] more last w y (λ cs oss. KeepsThree level lane outer inner event (a ∷ b ∷ cs) (ms ∷ ns ∷ oss))
+        (λ c none os end v k.
+          let three = keeps_event level (a ∷ b ∷ []) lane event r ws w c os v two.under k in
+          none_served inner_of with_inner HasForm stack_steps (a ∷ b ∷ c ∷ []) none end v y (λ ds pss. KeepsThree level lane outer inner event (a ∷ b ∷ c ∷ ds) (ms ∷ ns ∷ os ∷ pss))
+          (record { first = a; second = b; answered = (λ j. a ∷ b ∷ three.0 j ∷ []); keeps = three_kept ms ns os _ _ _ one.keeps two.keeps three.1.keeps }))))
+
+-- ---- at first
+
+-- a new recorder under a level, on an empty registry
+pub record Starts (level : LevelFilter) (x : Recorded) : Type 0 where
+  pub ready : IsReadySomehow inner_of with_inner HasForm stack_steps x
+  pub under : IsUnder level (outer_of x)
+  pub empty : layer_of (outer_of x) ≡ new_recorder
+
+-- a leaf that wants everything is honest, and refuses nothing
+open_honest : AreHonest open_answers
+open_honest = record { always = λ m v e. refl; never = λ m v e. absurd (cc); above = λ m v e. absurd (false≢true e) }
+
+honest_stack : (level : LevelFilter) (n : ℕ) → HasOwnNumbers (form_of level n) (n + 1) → IsHonestStack (form_of level n) (n + 1)
+honest_stack level n own = record {
+  answers = ((level_honest level, open_honest), tt);
+  numbers = own;
+  orderly = (record { enabled = λ m v. refl; event = λ e v. refl }, tt);
+  still = (refl, tt);
+  stack = refl;
+}
+
+base_own : (n : ℕ) → HasOwnNumbers (Bare Base) n
+base_own n = record { distinct = tt; handed_out = λ k e. absurd (false≢true e) }
+
+-- it was put on that registry, and took the next number
+pub starts : NumbersStayOwn → (level : LevelFilter) (l : Limits) (s : RegistryState) (recorder : Kept) (u : FilteredLayer Kept LevelFilter) (x : Recorded) → s ≡ new_registry l → recorder ≡ new_recorder → IsUnnumbered u recorder level
+    → TakesNumbers (λ (t : RegistryState). t) (λ (t w : RegistryState). w) UnderLevel u s (outer_of x) (inner_of x) → ((f : Form) → UnderLevel u f → s.filters + filters_in f ≤ LIMIT) → (filter_of (outer_of x) ≡ filter_of u) × (layer_of (outer_of x) ≡ layer_of u) → Starts level x
+starts law level l s recorder u x new empty unnumbered numbers room attached =
+    let a = level_answers (filter_of u) in
+    let f = leaf_under a in
+    let n = s.filters in
+    let has : UnderLevel u f = (unnumbered.id, refl, refl) in
+    let r : n + 1 ≤ LIMIT = room f has in
+    let form = subst (λ b. UnderLevel (outer_of x) (took a n b).0) (has_room n r) (numbers.form f has) in
+    let next = subst (λ b. (inner_of x).filters ≡ (took a n b).1) (has_room n r) (numbers.next f has) in
+    let own = subst (λ b. HasOwnNumbers (Over OnSubscriber (took a n b).0 (Bare Base)) (took a n b).1) (has_room n r) ((law f n r).stack (Bare Base) (base_own n)) in
+    let spans = ap (λ (t : RegistryState). t.store.spans) numbers.alone ∙ ap (λ (t : RegistryState). t.store.spans) new in
+    record {
+      ready = (form_of (filter_of u) n, record {
+        honest = record { has = (refl, form, refl); rules = subst (λ k. IsHonestStack (form_of (filter_of u) n) k) (sym next) (honest_stack (filter_of u) n own) };
+        settled = subst IsSettled (sym spans) (settled_new l);
+      });
+      under = record { number = (n, form.0); own = attached.0 ∙ unnumbered.own };
+      empty = attached.1 ∙ unnumbered.inner ∙ empty;
+    }
+
+-- a dispatcher puts it in use
+pub in_use : (level : LevelFilter) (x y : Recorded) → Starts level x → (IsReadySomehow inner_of with_inner HasForm stack_steps x → IsReadySomehow inner_of with_inner HasForm stack_steps y)
+    → (id_of (outer_of y) ≡ id_of (outer_of x)) × (filter_of (outer_of y) ≡ filter_of (outer_of x)) × (layer_of (outer_of y) ≡ layer_of (outer_of x)) → Starts level y
+in_use level x y h ready same = record { ready = ready h.ready; under = stays_under level (outer_of x) (outer_of y) same.0 same.1 h.under; empty = same.2 ∙ h.empty }
+
+-- a new recorder that didn't fail keeps all that it was notified of
+keeps_all : (r : Kept) (due : List KeptNotice) → Records new_recorder r due → r.failed ≡ false → r.notices ≡ due
+keeps_all r due h f = h.kept ∙ sym (h.split ∙ ap (λ (us : List KeptNotice). h.more ++ us) (h.all f) ∙ append-nil h.more)
+
+-- two spans and an event were served by a new stack
+pub served_three : (level : LevelFilter) (lane : Lane) (outer inner event : Metadata) (p q r : WhichParent) (us vs ws : _) (x : Recorded) (done : Dispatch Recorded × Vec Answer Global) → Starts level x
+    → Served inner_of with_inner HasForm stack_steps stack_hears (request.NewSpan lane outer p us ∷ request.NewSpan lane inner q vs ∷ request.Event lane event r ws ∷ []) done.1.items x (stack_of done.0) → KeepsWhatPasses level lane outer inner event done
+served_three level lane outer inner event p q r us vs ws x done new served =
+    let three = keeps_three level lane outer inner event p q r us vs ws x (stack_of done.0) done.1.items served.made new.under served.run in
+    let heard : Records (layer_of (outer_of x)) (recorder_of done.0) (kept_from (flat served.made)) = served.each place in
+    let due = subst (λ h. Records new_recorder (recorder_of done.0) h) three.keeps (subst (λ k. Records k (recorder_of done.0) (kept_from (flat served.made))) new.empty heard) in
+    record { first = three.first; second = three.second; answers = three.answered; notified = due; kept = keeps_all (recorder_of done.0) _ due }
