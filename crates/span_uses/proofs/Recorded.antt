@@ -1,5 +1,5 @@
 -- A recorder under a level: what it keeps of a list of requests.
-use Rattle.std.proofs.Common.{◌≡◌, ◌∙◌, Bool, true, false, List, [], ◌∷◌, ◌++◌, None, Some, ap, map, refl, subst, sym, ℕ, ◌+◌, ◌≤◌, ◌&&◌}
+use Rattle.std.proofs.Common.{◌<◌, arith, ◌≡◌, ◌∙◌, Bool, true, false, List, [], ◌∷◌, ◌++◌, None, Some, ap, map, refl, subst, sym, ℕ, ◌+◌, ◌≤◌, ◌&&◌}
 use Rattle.std.proofs.lemmas.Bool.{false≢true, true≢false}
 use Rattle.std.proofs.lemmas.List.{append-nil, map-append}
 use Rattle.std.specs.Prelude.{if◌then◌else◌, ⊤}
@@ -263,6 +263,13 @@ starts law level l s recorder u x new empty unnumbered numbers room attached =
       under = record { number = (n, form.0); own = attached.0 ∙ unnumbered.own };
       empty = attached.1 ∙ unnumbered.inner ∙ empty;
     }
+
+-- an empty registry has room for it
+pub has_room_at_first : (l : Limits) (s : RegistryState) (level : LevelFilter) (recorder : Kept) (u : FilteredLayer Kept LevelFilter) → s ≡ new_registry l → IsUnnumbered u recorder level → ((f : Form) → UnderLevel u f → LIMIT < s.filters + filters_in f) → ⊥
+has_room_at_first l s level recorder u new unnumbered full =
+    let none : s.filters ≡ 0 = ap (λ (t : RegistryState). t.filters) new in
+    let more : LIMIT < s.filters + 1 = full (leaf_under (level_answers (filter_of u))) (unnumbered.id, refl, refl) in
+    omega (arith, none, more)
 
 -- a dispatcher puts it in use
 pub in_use : (level : LevelFilter) (x y : Recorded) → Starts level x → (IsReadySomehow inner_of with_inner HasForm stack_steps x → IsReadySomehow inner_of with_inner HasForm stack_steps y)

@@ -1,5 +1,5 @@
 //! Requests, served by a dispatcher, and what a recorder in its stack keeps of them.
-ghost use Rattle.std.specs.Prelude.{IfOk};
+ghost use Rattle.std.specs.Prelude.{◌≡◌, IfErr, IfOk};
 ghost use Rattle.span_uses.specs.Dispatches.{KeepsWhatPasses};
 
 use span_core::{Lane, LevelFilter, Metadata, TraceError};
@@ -20,7 +20,8 @@ pub fn record_some(
     inner: Metadata,
     event: Metadata,
 ) -> Result<(Dispatch<Recorded>, Vec<Answer>), TraceError>
-    ensures { IfOk result (KeepsWhatPasses level lane outer inner event) }
+    ensures kept { IfOk result (KeepsWhatPasses level lane outer inner event) }
+    ensures memory { IfErr result (λ e. e ≡ TraceError.OutOfMemory) }
 {
     laws::numbers_are_own();
     let layer = Recorder::new(alloc).with_filter(level);
