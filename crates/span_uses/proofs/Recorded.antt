@@ -38,7 +38,7 @@ use Rattle.span_layers.specs.Layered.{LayeredHears, LayeredSteps, OverForm, inne
 use Rattle.span_layers.specs.Number.{TakesNumbers, filters_in}
 use Rattle.span_layers.specs.Observe.{open_answers}
 use Rattle.span_layers.specs.Path.{path_at}
-use Rattle.span_layers.specs.Verdict.{HasOwnNumbers, NumbersStayOwn}
+use Rattle.span_layers.specs.Verdict.{HasOwnNumbers, NumbersStayOwn, vetoes}
 use Rattle.span_layers.specs.declared.filtered.Filtered.{Filtered as FilteredLayer}
 use Rattle.span_registry.proofs.CallerLemmas.{settled_new}
 use Rattle.span_registry.specs.Answers.{AreHonest, Notice, OnClose, OnEnter, OnEvent, OnExit, OnFollows, OnIdChange, OnNewSpan, OnRecord}
@@ -50,7 +50,7 @@ use Rattle.span_registry.specs.Plan.{Itself, Nobody, Through}
 use Rattle.span_registry.specs.Store.{RegistryState, new_registry}
 use Rattle.span_registry.specs.declared.limits.Limits.{Limits}
 use Rattle.span_uses.proofs.Level.{has_room, leaf_under, took}
-use Rattle.span_uses.specs.Dispatches.{KeepsWhatPasses, Recorded, kept_event, kept_of, kept_span, recorder_of}
+use Rattle.span_uses.specs.Dispatches.{IsMadeOrRefused, KeepsWhatPasses, Recorded, kept_event, kept_of, kept_span, recorder_of}
 
 -- ---- this form
 
@@ -174,27 +174,36 @@ kept_sent level lane m x u e one z same is made =
 abbrev ServesOne : List Answer → Request → Recorded → Answer → List Made → Recorded → Type 0
 ServesOne = ServesRequest inner_of with_inner HasForm stack_steps
 
-keeps_span : (level : LevelFilter) (past : List Answer) (lane : Lane) (m : Metadata) (p : WhichParent) (values : _) (x : Recorded) (a : Answer) (made : List Made) (y : Recorded) → IsUnder level (outer_of x) → ServesOne past (request.NewSpan lane m p values) x a made y → Keeps level (kept_span level lane m a) made y
-keeps_span level past lane m p values x a made y u h =
-    span_served inner_of with_inner HasForm stack_steps past lane m p values x a made y (λ b ms z. Keeps level (kept_span level lane m b) ms z)
-    (kept_new level lane m x u) (λ f ready vetoed. record { keeps = refl; under = u }) (λ attrs e refused. record { keeps = refl; under = u }) h
+-- nobody in this stack vetoes
+never_vetoed : (level : LevelFilter) (x : Recorded) (f : Form) (m : Metadata) (lane : Lane) → IsUnder level (outer_of x) → HasForm x f → vetoes f m (inner_of x).store lane.0 ≡ true → ⊥
+never_vetoed level x f m lane u has h =
+    let form = formed level x f u has in
+    false≢true (subst (λ g. vetoes g m (inner_of x).store lane.0 ≡ true) form.1 h)
 
--- nobody in this stack vetoes an event
-never_vetoed : (level : LevelFilter) (x : Recorded) (f : Form) (e : Event) (lane : Lane) → IsUnder level (outer_of x) → HasForm x f → vetoes_whole f e (inner_of x).store lane ≡ true → ⊥
-never_vetoed level x f e lane u has h =
+never_vetoed_whole : (level : LevelFilter) (x : Recorded) (f : Form) (e : Event) (lane : Lane) → IsUnder level (outer_of x) → HasForm x f → vetoes_whole f e (inner_of x).store lane ≡ true → ⊥
+never_vetoed_whole level x f e lane u has h =
     let form = formed level x f u has in
     false≢true (subst (λ g. vetoes_whole g e (inner_of x).store lane ≡ true) form.1 h)
+
+keeps_span : (level : LevelFilter) (past : List Answer) (lane : Lane) (m : Metadata) (p : WhichParent) (values : _) (x : Recorded) (a : Answer) (made : List Made) (y : Recorded) → IsUnder level (outer_of x) → ServesOne past (request.NewSpan lane m p values) x a made y
+    → IsMadeOrRefused a × Keeps level (kept_span level lane m a) made y
+keeps_span level past lane m p values x a made y u h =
+    span_served inner_of with_inner HasForm stack_steps past lane m p values x a made y (λ b ms z. IsMadeOrRefused b × Keeps level (kept_span level lane m b) ms z)
+    (λ id attrs one z same is made. (tt, kept_new level lane m x u id attrs one z same is made))
+    (λ f ready vetoed. absurd (never_vetoed level x f m lane u ready.honest.has vetoed))
+    (λ attrs e refused. (tt, record { keeps = refl; under = u })) h
 
 keeps_event : (level : LevelFilter) (past : List Answer) (lane : Lane) (m : Metadata) (p : WhichParent) (values : _) (x : Recorded) (a : Answer) (made : List Made) (y : Recorded) → IsUnder level (outer_of x) → ServesOne past (request.Event lane m p values) x a made y → (a ≡ answer.Done) × Keeps level (kept_event level lane m) made y
 keeps_event level past lane m p values x a made y u h =
     event_served inner_of with_inner HasForm stack_steps past lane m p values x a made y (λ b ms z. (b ≡ answer.Done) × Keeps level (kept_event level lane m) ms z)
-    (λ e one z same is made. (refl, kept_sent level lane m x u e one z same is made)) (λ f e ready vetoed. absurd (never_vetoed level x f e lane u ready.honest.has vetoed)) h
+    (λ e one z same is made. (refl, kept_sent level lane m x u e one z same is made)) (λ f e ready vetoed. absurd (never_vetoed_whole level x f e lane u ready.honest.has vetoed)) h
 
 -- what is kept of two spans and an event
 pub record KeepsThree (level : LevelFilter) (lane : Lane) (outer inner event : Metadata) (answers : List Answer) (made : List (List Made)) : Type 0 where
   pub first : Answer
   pub second : Answer
   pub answered : answers ≡ first ∷ second ∷ answer.Done ∷ []
+  pub spans : IsMadeOrRefused first × IsMadeOrRefused second
   pub keeps : kept_from (flat made) ≡ kept_of level lane outer inner event first second
 
 three_kept : (ms ns os : List Made) (a b c : List KeptNotice) → kept_from ms ≡ a → kept_from ns ≡ b → kept_from os ≡ c → kept_from (ms ++ (ns ++ (os ++ []))) ≡ a ++ (b ++ c)
@@ -208,15 +217,15 @@ keeps_three level lane outer inner event p q r us vs ws x y answers made u =
     let third = request.Event lane event r ws in
     next_served inner_of with_inner HasForm stack_steps [] (request.NewSpan lane outer p us) (second ∷ third ∷ []) answers made x y (KeepsThree level lane outer inner event)
     (λ a others ms rest z s.
-      let one = keeps_span level [] lane outer p us x a ms z u s in
-      next_served inner_of with_inner HasForm stack_steps (a ∷ []) second (third ∷ []) others rest z y (λ bs nss. KeepsThree level lane outer inner event (a ∷ bs) (ms ∷ nss))
-      (λ b more ns last w t.
-        let two = keeps_span level (a ∷ []) lane inner q vs z b ns w one.under t in
-        next_served inner_of with_inner HasForm stack_steps (a ∷ b ∷ []) third [] more last w y (λ cs oss. KeepsThree level lane outer inner event (a ∷ b ∷ cs) (ms ∷ ns ∷ oss))
-        (λ c none os end v k.
-          let three = keeps_event level (a ∷ b ∷ []) lane event r ws w c os v two.under k in
-          none_served inner_of with_inner HasForm stack_steps (a ∷ b ∷ c ∷ []) none end v y (λ ds pss. KeepsThree level lane outer inner event (a ∷ b ∷ c ∷ ds) (ms ∷ ns ∷ os ∷ pss))
-          (record { first = a; second = b; answered = (λ j. a ∷ b ∷ three.0 j ∷ []); keeps = three_kept ms ns os _ _ _ one.keeps two.keeps three.1.keeps }))))
+    let one = keeps_span level [] lane outer p us x a ms z u s in
+    next_served inner_of with_inner HasForm stack_steps (a ∷ []) second (third ∷ []) others rest z y (λ bs nss. KeepsThree level lane outer inner event (a ∷ bs) (ms ∷ nss))
+    (λ b more ns last w t.
+    let two = keeps_span level (a ∷ []) lane inner q vs z b ns w one.1.under t in
+    next_served inner_of with_inner HasForm stack_steps (a ∷ b ∷ []) third [] more last w y (λ cs oss. KeepsThree level lane outer inner event (a ∷ b ∷ cs) (ms ∷ ns ∷ oss))
+    (λ c none os end v k.
+    let three = keeps_event level (a ∷ b ∷ []) lane event r ws w c os v two.1.under k in
+    none_served inner_of with_inner HasForm stack_steps (a ∷ b ∷ c ∷ []) none end v y (λ ds pss. KeepsThree level lane outer inner event (a ∷ b ∷ c ∷ ds) (ms ∷ ns ∷ os ∷ pss))
+    (record { first = a; second = b; answered = (λ j. a ∷ b ∷ three.0 j ∷ []); spans = (one.0, two.0); keeps = three_kept ms ns os _ _ _ one.1.keeps two.1.keeps three.1.keeps }))))
 
 -- ---- at first
 
@@ -256,10 +265,13 @@ starts law level l s recorder u x new empty unnumbered numbers room attached =
     let own = subst (λ b. HasOwnNumbers (Over OnSubscriber (took a n b).0 (Bare Base)) (took a n b).1) (has_room n r) ((law f n r).stack (Bare Base) (base_own n)) in
     let spans = ap (λ (t : RegistryState). t.store.spans) numbers.alone ∙ ap (λ (t : RegistryState). t.store.spans) new in
     record {
-      ready = (form_of (filter_of u) n, record {
-        honest = record { has = (refl, form, refl); rules = subst (λ k. IsHonestStack (form_of (filter_of u) n) k) (sym next) (honest_stack (filter_of u) n own) };
-        settled = subst IsSettled (sym spans) (settled_new l);
-      });
+      ready = (
+        form_of (filter_of u) n,
+        record {
+          honest = record { has = (refl, form, refl); rules = subst (λ k. IsHonestStack (form_of (filter_of u) n) k) (sym next) (honest_stack (filter_of u) n own) };
+          settled = subst IsSettled (sym spans) (settled_new l);
+        },
+      );
       under = record { number = (n, form.0); own = attached.0 ∙ unnumbered.own };
       empty = attached.1 ∙ unnumbered.inner ∙ empty;
     }
@@ -287,4 +299,4 @@ served_three level lane outer inner event p q r us vs ws x done new served =
     let three = keeps_three level lane outer inner event p q r us vs ws x (stack_of done.0) done.1.items served.made new.under served.run in
     let heard : Records (layer_of (outer_of x)) (recorder_of done.0) (kept_from (flat served.made)) = served.each place in
     let due = subst (λ h. Records new_recorder (recorder_of done.0) h) three.keeps (subst (λ k. Records k (recorder_of done.0) (kept_from (flat served.made))) new.empty heard) in
-    record { first = three.first; second = three.second; answers = three.answered; notified = due; kept = keeps_all (recorder_of done.0) _ due }
+    record { first = three.first; second = three.second; answers = three.answered; spans = three.spans; notified = due; kept = keeps_all (recorder_of done.0) _ due }

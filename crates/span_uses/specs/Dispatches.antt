@@ -1,5 +1,5 @@
 -- A recorder under a level, behind a dispatcher.
-use Rattle.std.specs.Prelude.{◌≡◌, false, List, [], ◌∷◌, ◌++◌, if◌then◌else◌}
+use Rattle.std.specs.Prelude.{◌≡◌, ⊤, false, List, [], ◌∷◌, ◌++◌, if◌then◌else◌}
 use Rattle.std.specs.declared.alloc.Global.{Global}
 use Rattle.std.specs.declared.vec.Vec.{Vec}
 use Rattle.span_core.specs.Level.{passes_level}
@@ -12,7 +12,7 @@ use Rattle.span_dispatch.specs.Serve.{stack_of}
 use Rattle.span_dispatch.specs.declared.dispatch.Dispatch.{Dispatch}
 use Rattle.span_dispatch.specs.declared.notice.Notice.TheVariants.{Event, New}
 use Rattle.span_dispatch.specs.declared.notice.Notice.{Notice}
-use Rattle.span_dispatch.specs.declared.request.Answer.TheVariants.{Done, Made}
+use Rattle.span_dispatch.specs.declared.request.Answer.TheVariants.{Done, Made, Refused}
 use Rattle.span_dispatch.specs.declared.request.Answer.{Answer}
 use Rattle.span_layers.specs.Filtered.{layer_of}
 use Rattle.span_layers.specs.Layered.{outer_of}
@@ -32,6 +32,12 @@ recorder_of d = layer_of (outer_of (stack_of d))
 abbrev pub kept_if : LevelFilter → Metadata → Notice → List Notice
 kept_if level m notice = if passes_level level (level_of m) then notice ∷ [] else []
 
+-- a new span was made, or refused: nobody vetoed it
+abbrev pub IsMadeOrRefused : Answer → Type 0
+IsMadeOrRefused (Made id) = ⊤
+IsMadeOrRefused (Refused e) = ⊤
+IsMadeOrRefused other = ⊥
+
 -- what is kept of a new span, by its answer: that it is new, where it was made and the level passes it
 abbrev pub kept_span : LevelFilter → Lane → Metadata → Answer → List Notice
 kept_span level lane m (Made id) = kept_if level m (New lane id)
@@ -50,5 +56,6 @@ pub record KeepsWhatPasses (level : LevelFilter) (lane : Lane) (outer inner even
   pub first : Answer
   pub second : Answer
   pub answers : done.1.items ≡ first ∷ second ∷ Done ∷ []
+  pub spans : IsMadeOrRefused first × IsMadeOrRefused second
   pub notified : Records new_recorder (recorder_of done.0) (kept_of level lane outer inner event first second)
   pub kept : (recorder_of done.0).failed ≡ false → (recorder_of done.0).notices ≡ kept_of level lane outer inner event first second
