@@ -1,6 +1,5 @@
 -- For the proofs of callers: what was made of a list that was served, request by request, and what a leaf sees of it.
 use Rattle.std.proofs.Common.{◌≡◌, ◌∙◌, Option, Some, None, List, [], ◌∷◌, ◌++◌, ap, append_assoc, refl, sym, subst, true}
-use Rattle.span_core.specs.Event.{event_metadata}
 use Rattle.span_core.specs.Span.{asked_parent, metadata_of}
 use Rattle.span_core.specs.declared.error.TraceError.{TraceError}
 use Rattle.span_core.specs.declared.event.Event.{Event}
@@ -47,39 +46,44 @@ module _ {S : Type 0} (registry : S → RegistryState) (with_registry : S → Re
 
   -- ---- a request for a new span: it was made, and its notice alone came of it; or a leaf vetoed it, or it was refused, and nothing came of it
 
-  abbrev MadeSpan : Lane → Metadata → S → (Answer → List Made → S → Type 0) → Type 0
-  MadeSpan lane m x G = (id : Id) (attrs : Attributes) (one : Made) (z : S) → metadata_of attrs ≡ m → one.outcome ≡ Noticed lane (OnNewSpan attrs id) → Makes registry with_registry has_form stepped x one z → G (answer.Made id) (one ∷ []) z
+  -- this is shown of a request, where that was answered so, from here, and all this was made of it
+  abbrev pub Goal : Type 1
+  Goal = Answer → List Made → S → Type 0
 
-  abbrev VetoedSpan : Lane → Metadata → S → (Answer → List Made → S → Type 0) → Type 0
-  VetoedSpan lane m x G = (f : Form) → IsReady registry with_registry has_form stepped f x → vetoes f m (registry x).store lane.0 ≡ true → G answer.Dropped [] x
+  abbrev pub MadeSpan : List Answer → Request → Lane → S → Goal → Type 0
+  MadeSpan past r lane x G = (id : Id) (attrs : Attributes) (one : Made) (z : S) → AsksFor past r (Some (OpenSpan lane attrs)) → one.outcome ≡ Noticed lane (OnNewSpan attrs id) → Makes registry with_registry has_form stepped x one z → G (answer.Made id) (one ∷ []) z
 
-  abbrev RefusedSpan : Lane → S → (Answer → List Made → S → Type 0) → Type 0
-  RefusedSpan lane x G = (attrs : Attributes) (e : TraceError) → RefusesNew (registry x) lane (asked_parent attrs) e → G (answer.Refused e) [] x
+  abbrev pub VetoedSpan : List Answer → Request → Lane → S → Goal → Type 0
+  VetoedSpan past r lane x G = (attrs : Attributes) (f : Form) → AsksFor past r (Some (OpenSpan lane attrs)) → IsReady registry with_registry has_form stepped f x → vetoes f (metadata_of attrs) (registry x).store lane.0 ≡ true → G answer.Dropped [] x
 
-  opened : (lane : Lane) (m : Metadata) (attrs : Attributes) (f : Form) (x : S) (a : Answer) (made : List Made) (y : S) (G : Answer → List Made → S → Type 0) → MadeSpan lane m x G → VetoedSpan lane m x G → RefusedSpan lane x G
-      → metadata_of attrs ≡ m → IsReady registry with_registry has_form stepped f x → Serves registry with_registry has_form stepped (OpenSpan lane attrs) f x a made y → G a made y
-  opened lane m attrs f x (answer.Made id) [] y G new vetoed refused same ready s = let e = s.comes.1 in absurd (cc)
-  opened lane m attrs f x (answer.Made id) (one ∷ []) y G new vetoed refused same ready s =
+  abbrev pub RefusedSpan : List Answer → Request → Lane → S → Goal → Type 0
+  RefusedSpan past r lane x G = (attrs : Attributes) (e : TraceError) → AsksFor past r (Some (OpenSpan lane attrs)) → RefusesNew (registry x) lane (asked_parent attrs) e → G (answer.Refused e) [] x
+
+  opened : (past : List Answer) (r : Request) (lane : Lane) (attrs : Attributes) (f : Form) (x : S) (a : Answer) (made : List Made) (y : S) (G : Goal) → MadeSpan past r lane x G → VetoedSpan past r lane x G → RefusedSpan past r lane x G
+      → AsksFor past r (Some (OpenSpan lane attrs)) → IsReady registry with_registry has_form stepped f x → Serves registry with_registry has_form stepped (OpenSpan lane attrs) f x a made y → G a made y
+  opened past r lane attrs f x (answer.Made id) [] y G new vetoed refused asks ready s = let e = s.comes.1 in absurd (cc)
+  opened past r lane attrs f x (answer.Made id) (one ∷ []) y G new vetoed refused asks ready s =
       let e = s.comes.1 in
       let h = s.goes in
       let o : one.outcome ≡ Noticed lane (OnNewSpan attrs id) = cc in
-      subst (λ z. G (answer.Made id) (one ∷ []) z) h.2 (new id attrs one h.0 same o h.1)
-  opened lane m attrs f x (answer.Made id) (one ∷ two ∷ made) y G new vetoed refused same ready s = let e = s.comes.1 in absurd (cc)
-  opened lane m attrs f x answer.Dropped [] y G new vetoed refused same ready s = subst (λ z. G answer.Dropped [] z) s.goes (vetoed f ready (subst (λ k. vetoes f k (registry x).store lane.0 ≡ true) same s.comes.0))
-  opened lane m attrs f x answer.Dropped (one ∷ made) y G new vetoed refused same ready s = let e = s.comes.1 in absurd (cc)
-  opened lane m attrs f x (answer.Refused e) [] y G new vetoed refused same ready s = subst (λ z. G (answer.Refused e) [] z) s.goes (refused attrs e s.comes.0.1)
-  opened lane m attrs f x (answer.Refused e) (one ∷ made) y G new vetoed refused same ready s = let d = s.comes.1 in absurd (cc)
-  opened lane m attrs f x answer.Done made y G new vetoed refused same ready s = absurd s.comes
-  opened lane m attrs f x (answer.Yes b) made y G new vetoed refused same ready s = absurd s.comes
-  opened lane m attrs f x (answer.Current o) made y G new vetoed refused same ready s = absurd s.comes
+      subst (λ z. G (answer.Made id) (one ∷ []) z) h.2 (new id attrs one h.0 asks o h.1)
+  opened past r lane attrs f x (answer.Made id) (one ∷ two ∷ made) y G new vetoed refused asks ready s = let e = s.comes.1 in absurd (cc)
+  opened past r lane attrs f x answer.Dropped [] y G new vetoed refused asks ready s = subst (λ z. G answer.Dropped [] z) s.goes (vetoed attrs f asks ready s.comes.0)
+  opened past r lane attrs f x answer.Dropped (one ∷ made) y G new vetoed refused asks ready s = let e = s.comes.1 in absurd (cc)
+  opened past r lane attrs f x (answer.Refused e) [] y G new vetoed refused asks ready s = subst (λ z. G (answer.Refused e) [] z) s.goes (refused attrs e asks s.comes.0.1)
+  opened past r lane attrs f x (answer.Refused e) (one ∷ made) y G new vetoed refused asks ready s = let d = s.comes.1 in absurd (cc)
+  opened past r lane attrs f x answer.Done made y G new vetoed refused asks ready s = absurd s.comes
+  opened past r lane attrs f x (answer.Yes b) made y G new vetoed refused asks ready s = absurd s.comes
+  opened past r lane attrs f x (answer.Current o) made y G new vetoed refused asks ready s = absurd s.comes
 
-  pub span_served : (past : List Answer) (lane : Lane) (m : Metadata) (p : WhichParent) (values : _) (x : S) (a : Answer) (made : List Made) (y : S) (G : Answer → List Made → S → Type 0) → MadeSpan lane m x G → VetoedSpan lane m x G → RefusedSpan lane x G
+  pub span_served : (past : List Answer) (lane : Lane) (m : Metadata) (p : WhichParent) (values : _) (x : S) (a : Answer) (made : List Made) (y : S) (G : Goal)
+      → MadeSpan past (request.NewSpan lane m p values) lane x G → VetoedSpan past (request.NewSpan lane m p values) lane x G → RefusedSpan past (request.NewSpan lane m p values) lane x G
       → ServesRequest registry with_registry has_form stepped past (request.NewSpan lane m p values) x a made y → G a made y
   span_served past lane m p values x a made y G new vetoed refused h = by_call h.call h.asks h.served
     where
       by_call : (o : Option Call) → AsksFor past (request.NewSpan lane m p values) o → ServesAsked registry with_registry has_form stepped o x a made y → G a made y
       by_call (Some (OpenSpan l attrs)) asks s =
-          opened lane m attrs s.0 x a made y G new vetoed refused asks.1 s.1 (subst (λ k. Serves registry with_registry has_form stepped (OpenSpan k attrs) s.0 x a made y) asks.0 s.2)
+          opened past (request.NewSpan lane m p values) lane attrs s.0 x a made y G new vetoed refused (refl, asks.1, asks.2, asks.3) s.1 (subst (λ k. Serves registry with_registry has_form stepped (OpenSpan k attrs) s.0 x a made y) asks.0 s.2)
       by_call (Some (SendEvent l e)) asks s = absurd asks
       by_call (Some (Enter l id)) asks s = absurd asks
       by_call (Some (Exit l id)) asks s = absurd asks
@@ -93,35 +97,36 @@ module _ {S : Type 0} (registry : S → RegistryState) (with_registry : S → Re
 
   -- ---- a request for an event: its notice alone came of it; or a leaf vetoed it, and nothing came of it
 
-  abbrev MadeEvent : Lane → Metadata → S → (Answer → List Made → S → Type 0) → Type 0
-  MadeEvent lane m x G = (e : Event) (one : Made) (z : S) → event_metadata e ≡ m → one.outcome ≡ Noticed lane (OnEvent e) → Makes registry with_registry has_form stepped x one z → G answer.Done (one ∷ []) z
+  abbrev pub MadeEvent : List Answer → Request → Lane → S → Goal → Type 0
+  MadeEvent past r lane x G = (e : Event) (one : Made) (z : S) → AsksFor past r (Some (SendEvent lane e)) → one.outcome ≡ Noticed lane (OnEvent e) → Makes registry with_registry has_form stepped x one z → G answer.Done (one ∷ []) z
 
-  abbrev VetoedEvent : Lane → Metadata → S → (Answer → List Made → S → Type 0) → Type 0
-  VetoedEvent lane m x G = (f : Form) (e : Event) → IsReady registry with_registry has_form stepped f x → vetoes_whole f e (registry x).store lane ≡ true → G answer.Dropped [] x
+  abbrev pub VetoedEvent : List Answer → Request → Lane → S → Goal → Type 0
+  VetoedEvent past r lane x G = (e : Event) (f : Form) → AsksFor past r (Some (SendEvent lane e)) → IsReady registry with_registry has_form stepped f x → vetoes_whole f e (registry x).store lane ≡ true → G answer.Dropped [] x
 
-  sent : (lane : Lane) (m : Metadata) (event : Event) (f : Form) (x : S) (a : Answer) (made : List Made) (y : S) (G : Answer → List Made → S → Type 0) → MadeEvent lane m x G → VetoedEvent lane m x G
-      → event_metadata event ≡ m → IsReady registry with_registry has_form stepped f x → Serves registry with_registry has_form stepped (SendEvent lane event) f x a made y → G a made y
-  sent lane m event f x answer.Done [] y G new vetoed same ready s = let e = s.comes.1 in absurd (cc)
-  sent lane m event f x answer.Done (one ∷ []) y G new vetoed same ready s =
+  sent : (past : List Answer) (r : Request) (lane : Lane) (event : Event) (f : Form) (x : S) (a : Answer) (made : List Made) (y : S) (G : Goal) → MadeEvent past r lane x G → VetoedEvent past r lane x G
+      → AsksFor past r (Some (SendEvent lane event)) → IsReady registry with_registry has_form stepped f x → Serves registry with_registry has_form stepped (SendEvent lane event) f x a made y → G a made y
+  sent past r lane event f x answer.Done [] y G new vetoed asks ready s = let e = s.comes.1 in absurd (cc)
+  sent past r lane event f x answer.Done (one ∷ []) y G new vetoed asks ready s =
       let e = s.comes.1 in
       let h = s.goes in
       let o : one.outcome ≡ Noticed lane (OnEvent event) = cc in
-      subst (λ z. G answer.Done (one ∷ []) z) h.2 (new event one h.0 same o h.1)
-  sent lane m event f x answer.Done (one ∷ two ∷ made) y G new vetoed same ready s = let e = s.comes.1 in absurd (cc)
-  sent lane m event f x answer.Dropped [] y G new vetoed same ready s = subst (λ z. G answer.Dropped [] z) s.goes (vetoed f event ready s.comes.0)
-  sent lane m event f x answer.Dropped (one ∷ made) y G new vetoed same ready s = let e = s.comes.1 in absurd (cc)
-  sent lane m event f x (answer.Made id) made y G new vetoed same ready s = absurd s.comes
-  sent lane m event f x (answer.Refused e) made y G new vetoed same ready s = absurd s.comes
-  sent lane m event f x (answer.Yes b) made y G new vetoed same ready s = absurd s.comes
-  sent lane m event f x (answer.Current o) made y G new vetoed same ready s = absurd s.comes
+      subst (λ z. G answer.Done (one ∷ []) z) h.2 (new event one h.0 asks o h.1)
+  sent past r lane event f x answer.Done (one ∷ two ∷ made) y G new vetoed asks ready s = let e = s.comes.1 in absurd (cc)
+  sent past r lane event f x answer.Dropped [] y G new vetoed asks ready s = subst (λ z. G answer.Dropped [] z) s.goes (vetoed event f asks ready s.comes.0)
+  sent past r lane event f x answer.Dropped (one ∷ made) y G new vetoed asks ready s = let e = s.comes.1 in absurd (cc)
+  sent past r lane event f x (answer.Made id) made y G new vetoed asks ready s = absurd s.comes
+  sent past r lane event f x (answer.Refused e) made y G new vetoed asks ready s = absurd s.comes
+  sent past r lane event f x (answer.Yes b) made y G new vetoed asks ready s = absurd s.comes
+  sent past r lane event f x (answer.Current o) made y G new vetoed asks ready s = absurd s.comes
 
-  pub event_served : (past : List Answer) (lane : Lane) (m : Metadata) (p : WhichParent) (values : _) (x : S) (a : Answer) (made : List Made) (y : S) (G : Answer → List Made → S → Type 0) → MadeEvent lane m x G → VetoedEvent lane m x G
+  pub event_served : (past : List Answer) (lane : Lane) (m : Metadata) (p : WhichParent) (values : _) (x : S) (a : Answer) (made : List Made) (y : S) (G : Goal)
+      → MadeEvent past (request.Event lane m p values) lane x G → VetoedEvent past (request.Event lane m p values) lane x G
       → ServesRequest registry with_registry has_form stepped past (request.Event lane m p values) x a made y → G a made y
   event_served past lane m p values x a made y G new vetoed h = by_call h.call h.asks h.served
     where
       by_call : (o : Option Call) → AsksFor past (request.Event lane m p values) o → ServesAsked registry with_registry has_form stepped o x a made y → G a made y
       by_call (Some (SendEvent l e)) asks s =
-          sent lane m e s.0 x a made y G new vetoed asks.1 s.1 (subst (λ k. Serves registry with_registry has_form stepped (SendEvent k e) s.0 x a made y) asks.0 s.2)
+          sent past (request.Event lane m p values) lane e s.0 x a made y G new vetoed (refl, asks.1, asks.2, asks.3) s.1 (subst (λ k. Serves registry with_registry has_form stepped (SendEvent k e) s.0 x a made y) asks.0 s.2)
       by_call (Some (OpenSpan l attrs)) asks s = absurd asks
       by_call (Some (Enter l id)) asks s = absurd asks
       by_call (Some (Exit l id)) asks s = absurd asks

@@ -189,14 +189,14 @@ keeps_span : (level : LevelFilter) (past : List Answer) (lane : Lane) (m : Metad
     → IsMadeOrRefused a × Keeps level (kept_span level lane m a) made y
 keeps_span level past lane m p values x a made y u h =
     span_served inner_of with_inner HasForm stack_steps past lane m p values x a made y (λ b ms z. IsMadeOrRefused b × Keeps level (kept_span level lane m b) ms z)
-    (λ id attrs one z same is made. (tt, kept_new level lane m x u id attrs one z same is made))
-    (λ f ready vetoed. absurd (never_vetoed level x f m lane u ready.honest.has vetoed))
-    (λ attrs e refused. (tt, record { keeps = refl; under = u })) h
+    (λ id attrs one z asks is made. (tt, kept_new level lane m x u id attrs one z asks.1 is made))
+    (λ attrs f asks ready vetoed. absurd (never_vetoed level x f (metadata_of attrs) lane u ready.honest.has vetoed))
+    (λ attrs e asks refused. (tt, record { keeps = refl; under = u })) h
 
 keeps_event : (level : LevelFilter) (past : List Answer) (lane : Lane) (m : Metadata) (p : WhichParent) (values : _) (x : Recorded) (a : Answer) (made : List Made) (y : Recorded) → IsUnder level (outer_of x) → ServesOne past (request.Event lane m p values) x a made y → (a ≡ answer.Done) × Keeps level (kept_event level lane m) made y
 keeps_event level past lane m p values x a made y u h =
     event_served inner_of with_inner HasForm stack_steps past lane m p values x a made y (λ b ms z. (b ≡ answer.Done) × Keeps level (kept_event level lane m) ms z)
-    (λ e one z same is made. (refl, kept_sent level lane m x u e one z same is made)) (λ f e ready vetoed. absurd (never_vetoed_whole level x f e lane u ready.honest.has vetoed)) h
+    (λ e one z asks is made. (refl, kept_sent level lane m x u e one z asks.1 is made)) (λ e f asks ready vetoed. absurd (never_vetoed_whole level x f e lane u ready.honest.has vetoed)) h
 
 -- what is kept of two spans and an event
 pub record KeepsThree (level : LevelFilter) (lane : Lane) (outer inner event : Metadata) (answers : List Answer) (made : List (List Made)) : Type 0 where
