@@ -67,82 +67,85 @@ module _ {S : Type 0} {registry : S → RegistryState} {with_registry : S → Re
   abbrev pub Ready : Form → S → Type 0
   Ready f x = IsReady registry with_registry has_form stepped f x
 
+  abbrev pub Honest : Form → S → Type 0
+  Honest f x = IsHonest registry with_registry has_form stepped f x
+
   abbrev pub Ends : Call → Answer → Form → S → S → Type 0
   Ends call a f x y = Done laws with_own call a f x y
 
   -- ---- questions
 
   -- a question of metadata is answered false exactly where a leaf vetoes them
-  pub vetoed : (f : Form) (x : S) (lane : Lane) (m meta : Metadata) (fresh pass : Pass) (said : Bool) → Ready f x → m ≡ meta → AnswersEnabled registry has_form x lane m fresh said pass
+  pub vetoed : (f : Form) (x : S) (lane : Lane) (m meta : Metadata) (fresh pass : Pass) (said : Bool) → Honest f x → m ≡ meta → AnswersEnabled registry has_form x lane m fresh said pass
       → said ≡ not (vetoes f meta (registry x).store lane.0)
   vetoed f x lane m meta fresh pass said h same a =
-      (a f h.honest.has).answer ∙ asked_unless_vetoed f m (registry x).store lane.0 (refusals fresh) h.honest.rules.orderly ∙ ap (λ n. not (vetoes f n (registry x).store lane.0)) same
+      (a f h.has).answer ∙ asked_unless_vetoed f m (registry x).store lane.0 (refusals fresh) h.rules.orderly ∙ ap (λ n. not (vetoes f n (registry x).store lane.0)) same
 
-  vetoed_event : (f : Form) (x : S) (lane : Lane) (e : Event) (before pass : Pass) (said : Bool) → Ready f x → AnswersEvent registry has_form x lane e before said pass
+  vetoed_event : (f : Form) (x : S) (lane : Lane) (e : Event) (before pass : Pass) (said : Bool) → Honest f x → AnswersEvent registry has_form x lane e before said pass
       → said ≡ not (vetoes_event f e (registry x).store lane.0)
-  vetoed_event f x lane e before pass said h a = (a f h.honest.has).answer ∙ event_unless_vetoed f e (registry x).store lane.0 (refusals before) h.honest.rules.orderly
+  vetoed_event f x lane e before pass said h a = (a f h.has).answer ∙ event_unless_vetoed f e (registry x).store lane.0 (refusals before) h.rules.orderly
 
-  pub probed : (lane : Lane) (m : Metadata) (fresh pass : Pass) (said : Bool) (f : Form) (x : S) → AnswersEnabled registry has_form x lane m fresh said pass → Ready f x → Ends (Probe lane m) (answer.Yes said) f x x
+  pub probed : (lane : Lane) (m : Metadata) (fresh pass : Pass) (said : Bool) (f : Form) (x : S) → AnswersEnabled registry has_form x lane m fresh said pass → Honest f x → Ends (Probe lane m) (answer.Yes said) f x x
   probed lane m fresh pass said f x a h = by_none laws with_own (Probe lane m) (answer.Yes said) f x x h refl (vetoed f x lane m m fresh pass said h refl a, refl)
 
   current_number : (s : Store) (lane : ℕ) (o : Option (Id × Metadata)) → IsCurrent s lane (option_map (λ p. number_of p.0) o) → IsCurrent s lane (option_map number_of (option_map (λ p. p.0) o))
   current_number s lane None h = h
   current_number s lane (Some p) h = h
 
-  pub current_so : (lane : Lane) (c : Current) (f : Form) (x : S) → ShowsCurrent (registry x).store lane c → Ready f x → Ends (AskCurrent lane) (current_answer c) f x x
+  pub current_so : (lane : Lane) (c : Current) (f : Form) (x : S) → ShowsCurrent (registry x).store lane c → Honest f x → Ends (AskCurrent lane) (current_answer c) f x x
   current_so lane c f x shown h = by_none laws with_own (AskCurrent lane) (current_answer c) f x x h refl (current_number (registry x).store lane.0 (current_span c) shown.span, refl)
 
   -- ---- new spans
 
-  pub span_dropped : (lane : Lane) (attrs : Attributes) (m : Metadata) (fresh pass : Pass) (said : Bool) (f : Form) (x : S) → m ≡ metadata_of attrs → said ≡ false → AnswersEnabled registry has_form x lane m fresh said pass → Ready f x
+  pub span_dropped : (lane : Lane) (attrs : Attributes) (m : Metadata) (fresh pass : Pass) (said : Bool) (f : Form) (x : S) → m ≡ metadata_of attrs → said ≡ false → AnswersEnabled registry has_form x lane m fresh said pass → Honest f x
       → Ends (OpenSpan lane attrs) answer.Dropped f x x
   span_dropped lane attrs m fresh pass said f x same no_one a h =
       by_none laws with_own (OpenSpan lane attrs) answer.Dropped f x x h refl (not_false _ (sym (vetoed f x lane m (metadata_of attrs) fresh pass said h same a) ∙ no_one), refl)
 
-  unvetoed : (lane : Lane) (m meta : Metadata) (fresh pass : Pass) (said : Bool) (f : Form) (x : S) → m ≡ meta → said ≡ true → AnswersEnabled registry has_form x lane m fresh said pass → Ready f x → vetoes f meta (registry x).store lane.0 ≡ false
+  unvetoed : (lane : Lane) (m meta : Metadata) (fresh pass : Pass) (said : Bool) (f : Form) (x : S) → m ≡ meta → said ≡ true → AnswersEnabled registry has_form x lane m fresh said pass → Honest f x → vetoes f meta (registry x).store lane.0 ≡ false
   unvetoed lane m meta fresh pass said f x same agreed a h = not_true _ (sym (vetoed f x lane m meta fresh pass said h same a) ∙ agreed)
 
   -- a question that is answered true is answered so with a new pass
-  asked_true : (lane : Lane) (m meta : Metadata) (fresh pass : Pass) (said : Bool) (f : Form) (x : S) → m ≡ meta → said ≡ true → AnswersEnabled registry has_form x lane m fresh said pass → Ready f x
+  asked_true : (lane : Lane) (m meta : Metadata) (fresh pass : Pass) (said : Bool) (f : Form) (x : S) → m ≡ meta → said ≡ true → AnswersEnabled registry has_form x lane m fresh said pass → Honest f x
       → (asked f meta (registry x).store lane.0 no_filter no_filter).0 ≡ true
   asked_true lane m meta fresh pass said f x same agreed a h =
-      asked_unless_vetoed f meta (registry x).store lane.0 no_filter h.honest.rules.orderly ∙ ap not (unvetoed lane m meta fresh pass said f x same agreed a h)
+      asked_unless_vetoed f meta (registry x).store lane.0 no_filter h.rules.orderly ∙ ap not (unvetoed lane m meta fresh pass said f x same agreed a h)
 
   pub span_made : (lane : Lane) (attrs : Attributes) (m : Metadata) (fresh pass : Pass) (said : Bool) (id : Id) (f : Form) (x y : S) → m ≡ metadata_of attrs → IsEmpty (refusals fresh) → said ≡ true
-      → AnswersEnabled registry has_form x lane m fresh said pass → OpensAndNotifies registry has_form stepped lane attrs pass x y id → Ready f x → Ends (OpenSpan lane attrs) (answer.Made id) f x y
+      → AnswersEnabled registry has_form x lane m fresh said pass → OpensAndNotifies registry has_form stepped lane attrs pass x y id → Honest f x → Ends (OpenSpan lane attrs) (answer.Made id) f x y
   span_made lane attrs m fresh pass said id f x y same empty agreed a n h =
       let s = (registry x).store in
-      let law = new_span_fresh f attrs id s lane.0 h.honest.rules.numbers.distinct (asked_true lane m (metadata_of attrs) fresh pass said f x same agreed a h) in
-      let plan = asked_with_new_pass f attrs id s lane.0 fresh pass said m same empty law (a f h.honest.has) n.left.store.spans in
-      let refused = (a f h.honest.has).refused ∙ asked_by_nobody f s lane.0 fresh m (metadata_of attrs) same empty in
+      let law = new_span_fresh f attrs id s lane.0 h.rules.numbers.distinct (asked_true lane m (metadata_of attrs) fresh pass said f x same agreed a h) in
+      let plan = asked_with_new_pass f attrs id s lane.0 fresh pass said m same empty law (a f h.has) n.left.store.spans in
+      let refused = (a f h.has).refused ∙ asked_by_nobody f s lane.0 fresh m (metadata_of attrs) same empty in
       by_call laws with_own (OpenSpan lane attrs) (answer.Made id) f lane (OnNewSpan attrs id) (refusals pass) _ x y h (unvetoed lane m (metadata_of attrs) fresh pass said f x same agreed a h, refl)
       n plan (refused_of pass, (λ k. ap (λ (r : FilterSet). r k) refused ∙ law.verdict k), n.taken) refl
 
   pub span_refused : (lane : Lane) (attrs : Attributes) (m : Metadata) (fresh pass : Pass) (said : Bool) (e : TraceError) (f : Form) (x y : S) → m ≡ metadata_of attrs → said ≡ true → AnswersEnabled registry has_form x lane m fresh said pass
-      → Rattle.span_registry.specs.Step.RefusesNew (registry x) lane (asked_parent attrs) e → y ≡ x → Ready f x → Ends (OpenSpan lane attrs) (answer.Refused e) f x y
+      → Rattle.span_registry.specs.Step.RefusesNew (registry x) lane (asked_parent attrs) e → y ≡ x → Honest f x → Ends (OpenSpan lane attrs) (answer.Refused e) f x y
   span_refused lane attrs m fresh pass said e f x y same agreed a r u h =
       by_none laws with_own (OpenSpan lane attrs) (answer.Refused e) f x y h u ((unvetoed lane m (metadata_of attrs) fresh pass said f x same agreed a h, r), refl)
 
   -- ---- events
 
-  pub event_dropped : (lane : Lane) (e : Event) (m : Metadata) (fresh pass : Pass) (said : Bool) (f : Form) (x : S) → m ≡ event_metadata e → said ≡ false → AnswersEnabled registry has_form x lane m fresh said pass → Ready f x
+  pub event_dropped : (lane : Lane) (e : Event) (m : Metadata) (fresh pass : Pass) (said : Bool) (f : Form) (x : S) → m ≡ event_metadata e → said ≡ false → AnswersEnabled registry has_form x lane m fresh said pass → Honest f x
       → Ends (SendEvent lane e) answer.Dropped f x x
   event_dropped lane e m fresh pass said f x same no_one a h =
       by_none laws with_own (SendEvent lane e) answer.Dropped f x x h refl (or_left_true _ _ (not_false _ (sym (vetoed f x lane m (event_metadata e) fresh pass said h same a) ∙ no_one)), refl)
 
-  pub event_vetoed : (lane : Lane) (e : Event) (before pass : Pass) (said : Bool) (f : Form) (x : S) → said ≡ false → AnswersEvent registry has_form x lane e before said pass → Ready f x → Ends (SendEvent lane e) answer.Dropped f x x
+  pub event_vetoed : (lane : Lane) (e : Event) (before pass : Pass) (said : Bool) (f : Form) (x : S) → said ≡ false → AnswersEvent registry has_form x lane e before said pass → Honest f x → Ends (SendEvent lane e) answer.Dropped f x x
   event_vetoed lane e before pass said f x no_one a h =
       by_none laws with_own (SendEvent lane e) answer.Dropped f x x h refl (or_right_true _ _ (not_false _ (sym (vetoed_event f x lane e before pass said h a) ∙ no_one)), refl)
 
   pub event_made : (lane : Lane) (e : Event) (m : Metadata) (fresh first second : Pass) (said wanted : Bool) (f : Form) (x y : S) → m ≡ event_metadata e → IsEmpty (refusals fresh) → said ≡ true → wanted ≡ true
       → AnswersEnabled registry has_form x lane m fresh said first → AnswersEvent registry has_form x lane e first wanted second
-      → Notifies registry has_form stepped lane (refusals second) (OnEvent e) Stays x y → Ready f x → Ends (SendEvent lane e) answer.Done f x y
+      → Notifies registry has_form stepped lane (refusals second) (OnEvent e) Stays x y → Honest f x → Ends (SendEvent lane e) answer.Done f x y
   event_made lane e m fresh first second said wanted f x y same empty agreed more a b n h =
       let s = (registry x).store in
       let unvetoed_now = not_true _ (sym (vetoed_event f x lane e first second wanted h b) ∙ more) in
-      let true_of_all = event_unless_vetoed f e s lane.0 (asked f (event_metadata e) s lane.0 no_filter no_filter).1 h.honest.rules.orderly ∙ ap not unvetoed_now in
-      let law = event_fresh f e s lane.0 h.honest.rules.numbers.distinct (asked_true lane m (event_metadata e) fresh first said f x same agreed a h) true_of_all in
-      let plan = event_asked_with_new_pass f e s lane.0 fresh first second said wanted m same empty law (a f h.honest.has) (b f h.honest.has) n.left.store.spans in
+      let true_of_all = event_unless_vetoed f e s lane.0 (asked f (event_metadata e) s lane.0 no_filter no_filter).1 h.rules.orderly ∙ ap not unvetoed_now in
+      let law = event_fresh f e s lane.0 h.rules.numbers.distinct (asked_true lane m (event_metadata e) fresh first said f x same agreed a h) true_of_all in
+      let plan = event_asked_with_new_pass f e s lane.0 fresh first second said wanted m same empty law (a f h.has) (b f h.has) n.left.store.spans in
       by_call laws with_own (SendEvent lane e) answer.Done f lane (OnEvent e) (refusals second) _ x y h (or_both_false _ _ (unvetoed lane m (event_metadata e) fresh first said f x same agreed a h) unvetoed_now, refl)
       n plan n.taken refl
 
@@ -154,30 +157,30 @@ module _ {S : Type 0} {registry : S → RegistryState} {with_registry : S → Re
   kept_plan f e x lane spans same law = ap (λ v. by_pass f e v no_filter no_filter) same ∙ law
 
   pub entered_so : (lane : Lane) (id : Id) (r : Result (Unit {0}) TraceError) (f : Form) (x y : S) → OnOk r (Notifies registry has_form stepped lane no_filter (OnEnter id) (Enters lane id) x y) → IfErr r (RefusesEnter (registry x) id) → OnErr r (y ≡ x)
-      → Ready f x → Ends (Enter lane id) (done_answer r) f x y
+      → Honest f x → Ends (Enter lane id) (done_answer r) f x y
   entered_so lane id (Ok u) f x y n r e h =
       by_call laws with_own (Enter lane id) answer.Done f lane (OnEnter id) no_filter _ x y h (tt, refl)
       n (kept_plan f (OnEnter id) x lane _ (ap (λ (t : RegistryState). t.store.spans) n.taken.state) (others_afresh f (OnEnter id) (registry x).store lane.0 no_filter no_filter)) n.taken refl
   entered_so lane id (Err error) f x y n r e h = by_none laws with_own (Enter lane id) (answer.Refused error) f x y h e (r, refl)
 
-  pub left_so : (lane : Lane) (id : Id) (f : Form) (x y : S) → IsOpen (registry x).store.spans (number_of id) → Notifies registry has_form stepped lane no_filter (OnExit id) (Exits lane id) x y → Ready f x → Ends (Exit lane id) answer.Done f x y
+  pub left_so : (lane : Lane) (id : Id) (f : Form) (x y : S) → IsOpen (registry x).store.spans (number_of id) → Notifies registry has_form stepped lane no_filter (OnExit id) (Exits lane id) x y → Honest f x → Ends (Exit lane id) answer.Done f x y
   left_so lane id f x y there n h =
       by_call laws with_own (Exit lane id) answer.Done f lane (OnExit id) no_filter _ x y h (record { there = λ o. refl; gone = λ shut. absurd (shut there) })
       n (kept_plan f (OnExit id) x lane _ (ap (λ (t : RegistryState). t.store.spans) n.taken) (others_afresh f (OnExit id) (registry x).store lane.0 no_filter no_filter)) (there, n.taken) refl
 
-  pub gone_so : ((s : S) (w : RegistryState) → registry (with_registry s w) ≡ w) → (lane : Lane) (id : Id) (f : Form) (x : S) (w : RegistryState) → ¬ (IsOpen (registry x).store.spans (number_of id)) → Exits lane id (registry x) w → Ready f x
+  pub gone_so : ((s : S) (w : RegistryState) → registry (with_registry s w) ≡ w) → (lane : Lane) (id : Id) (f : Form) (x : S) (w : RegistryState) → ¬ (IsOpen (registry x).store.spans (number_of id)) → Exits lane id (registry x) w → Honest f x
       → Ends (Exit lane id) answer.Done f x (with_registry x w)
   gone_so registry_with lane id f x w shut e h =
       by_change laws with_own (Exit lane id) answer.Done f (GoneLeft lane id) x (with_registry x w) h (record { there = λ o. absurd (shut o); gone = λ s. refl })
-      (quietly laws with_own registry_with (GoneLeft lane id) x w (shut, e)) (subst (λ (t : RegistryState). IsSettled t.store.spans) (sym (registry_with x w)) (subst IsSettled (sym (ap (λ (t : RegistryState). t.store.spans) e)) h.settled))
+      (quietly laws with_own registry_with (GoneLeft lane id) x w (shut, e)) (λ s. subst (λ (t : RegistryState). IsSettled t.store.spans) (sym (registry_with x w)) (subst IsSettled (sym (ap (λ (t : RegistryState). t.store.spans) e)) s))
 
-  pub recorded_so : (lane : Lane) (id : Id) (values : Record) (f : Form) (x y : S) → IsOpen (registry x).store.spans (number_of id) → Notifies registry has_form stepped lane no_filter (OnRecord id values) Stays x y → Ready f x
+  pub recorded_so : (lane : Lane) (id : Id) (values : Record) (f : Form) (x y : S) → IsOpen (registry x).store.spans (number_of id) → Notifies registry has_form stepped lane no_filter (OnRecord id values) Stays x y → Honest f x
       → Ends (RecordValues lane id values) answer.Done f x y
   recorded_so lane id values f x y there n h =
       by_call laws with_own (RecordValues lane id values) answer.Done f lane (OnRecord id values) no_filter _ x y h (tt, refl)
       n (kept_plan f (OnRecord id values) x lane _ (ap (λ (t : RegistryState). t.store.spans) n.taken) (others_afresh f (OnRecord id values) (registry x).store lane.0 no_filter no_filter)) (there, n.taken) refl
 
-  pub followed_so : (lane : Lane) (id other : Id) (f : Form) (x y : S) → IsOpen (registry x).store.spans (number_of id) → Notifies registry has_form stepped lane no_filter (OnFollows id other) Stays x y → Ready f x
+  pub followed_so : (lane : Lane) (id other : Id) (f : Form) (x y : S) → IsOpen (registry x).store.spans (number_of id) → Notifies registry has_form stepped lane no_filter (OnFollows id other) Stays x y → Honest f x
       → Ends (Follow lane id other) answer.Done f x y
   followed_so lane id other f x y there n h =
       by_call laws with_own (Follow lane id other) answer.Done f lane (OnFollows id other) no_filter _ x y h (tt, refl)
@@ -186,18 +189,18 @@ module _ {S : Type 0} {registry : S → RegistryState} {with_registry : S → Re
   -- ---- handles
 
   pub cloned_so : (lane : Lane) (id : Id) (r : Result Id TraceError) (f : Form) (x y : S) → OnOk r (Clones id (registry x) (registry y)) → y ≡ with_registry x (registry y) → IfErr r (RefusesClone (registry x) id) → OnErr r (y ≡ x)
-      → Ready f x → Ends (AddHandle lane id) (done_answer r) f x y
+      → Honest f x → Ends (AddHandle lane id) (done_answer r) f x y
   cloned_so lane id (Ok other) f x y n rest r e h =
-      by_change laws with_own (AddHandle lane id) answer.Done f (HandleAdded id) x y h (tt, refl) (record { changes = n; rest = rest }) (settled_cloned id (registry x) (registry y) n h.settled)
+      by_change laws with_own (AddHandle lane id) answer.Done f (HandleAdded id) x y h (tt, refl) (record { changes = n; rest = rest }) (settled_cloned id (registry x) (registry y) n)
   cloned_so lane id (Err error) f x y n rest r e h = by_none laws with_own (AddHandle lane id) (answer.Refused error) f x y h e (r, refl)
 
   pub still_open_so : ((s : S) (w : RegistryState) → registry (with_registry s w) ≡ w) → (lane : Lane) (id : Id) (a : Released) (f : Form) (x : S) (w : RegistryState) → Releases id a (registry x) w → a ≡ StillOpen → IsForest (registry x).store.spans → Ready f x
       → Ends (DropHandle lane id) (answer.Yes false) f x (with_registry x w)
   still_open_so registry_with lane id a f x w r same forest h =
       let drops = drops_open forest h.settled r same in
-      by_change laws with_own (DropHandle lane id) (answer.Yes false) f (HandleTaken id) x (with_registry x w) h
+      by_change laws with_own (DropHandle lane id) (answer.Yes false) f (HandleTaken id) x (with_registry x w) h.honest
       (record { closed = []; exact = drops.closes; outcomes = refl; itself = (λ t. absurd (true≢false (sym t)), λ n. absurd n) })
-      (quietly laws with_own registry_with (HandleTaken id) x w (r.held, r.state)) (subst (λ (t : RegistryState). IsSettled t.store.spans) (sym (registry_with x w)) (settled_still h.settled r same))
+      (quietly laws with_own registry_with (HandleTaken id) x w (r.held, r.state)) (λ s. subst (λ (t : RegistryState). IsSettled t.store.spans) (sym (registry_with x w)) (settled_still s r same))
 
   -- ---- closes
 
@@ -221,7 +224,7 @@ module _ {S : Type 0} {registry : S → RegistryState} {with_registry : S → Re
             goes = (z, record { honest = h.honest; store = refl; goes = q }, notices.1);
           },
         ),
-        (notices.3.0, record { honest = notices.3.1; settled = settled_closed (registry x) (registry y) id k.closed all }),
+        λ s. (notices.3.0, record { honest = notices.3.1; settled = settled_closed (registry x) (registry y) id k.closed all }),
       )
 
   -- so far these spans have closed, and this one is closing now

@@ -92,24 +92,24 @@ module _ {S : Type 0} {registry : S → RegistryState} {with_registry : S → Re
   abbrev pub Ready : Form → S → Type 0
   Ready f x = IsReady registry with_registry has_form stepped f x
 
-  -- it is served, and the stack is ready again
+  -- it is served, and the stack is ready again where no span was closing
   abbrev pub Done : Call → Answer → Form → S → S → Type 0
-  Done call a f x y = ((made : List Made) × Serves registry with_registry has_form stepped call f x a made y) × IsReadySomehow registry with_registry has_form stepped y
+  Done call a f x y = ((made : List Made) × Serves registry with_registry has_form stepped call f x a made y) × (IsSettled (registry x).store.spans → IsReadySomehow registry with_registry has_form stepped y)
 
-  pub by_none : (call : Call) (a : Answer) (f : Form) (x y : S) → Ready f x → y ≡ x → Comes call f (registry x) a [] → Done call a f x y
-  by_none call a f x y h e c = (([], record { comes = c; goes = sym e }), (f, subst (Ready f) (sym e) h))
+  pub by_none : (call : Call) (a : Answer) (f : Form) (x y : S) → Honest f x → y ≡ x → Comes call f (registry x) a [] → Done call a f x y
+  by_none call a f x y h e c = (([], record { comes = c; goes = sym e }), λ s. (f, subst (Ready f) (sym e) (record { honest = h; settled = s })))
 
-  pub by_notice : (call : Call) (a : Answer) (f : Form) (lane : Lane) (e : Notice) (x y : S) → Ready f x → Comes call f (registry x) a (Noticed lane e ∷ [])
+  pub by_notice : (call : Call) (a : Answer) (f : Form) (lane : Lane) (e : Notice) (x y : S) → Honest f x → Comes call f (registry x) a (Noticed lane e ∷ [])
       → (n : Notices registry with_registry has_form stepped f lane e x y) → (registry y).store.spans ≡ n.left.store.spans → Done call a f x y
   by_notice call a f lane e x y h c n same =
       let m : Made = record { form = f; store = (registry x).store; outcome = Noticed lane e } in
-      let next = honest_after f lane e x y h.honest n in (
-        (m ∷ [], record { comes = c; goes = (y, record { honest = h.honest; store = refl; goes = n }, refl) }),
-        (next.0, record { honest = next.1; settled = subst IsSettled (sym same) (settled_before f lane e (registry x) n.left n.before h.settled) }),
+      let next = honest_after f lane e x y h n in (
+        (m ∷ [], record { comes = c; goes = (y, record { honest = h; store = refl; goes = n }, refl) }),
+        λ s. (next.0, record { honest = next.1; settled = subst IsSettled (sym same) (settled_before f lane e (registry x) n.left n.before s) }),
       )
 
   -- the same of a call of the stack, which notified by a plan that is the plan asked afresh
-  pub by_call : (call : Call) (a : Answer) (f : Form) (lane : Lane) (e : Notice) (refused : FilterSet) (step : RegistryState → RegistryState → Type 0) (x y : S) → Ready f x → Comes call f (registry x) a (Noticed lane e ∷ [])
+  pub by_call : (call : Call) (a : Answer) (f : Form) (lane : Lane) (e : Notice) (refused : FilterSet) (step : RegistryState → RegistryState → Type 0) (x y : S) → Honest f x → Comes call f (registry x) a (Noticed lane e ∷ [])
       → (n : Notifies registry has_form stepped lane refused e step x y) → by_pass f e n.left.store.spans no_filter refused ≡ asked_afresh f e (registry x).store lane.0 no_filter
       → StepsBefore f lane e (registry x) n.left → StepsAfter e (registry y) (registry y) → Done call a f x y
   by_call call a f lane e refused step x y h c n plan before after =
@@ -117,19 +117,19 @@ module _ {S : Type 0} {registry : S → RegistryState} {with_registry : S → Re
         left = n.left;
         before = before;
         notified = y;
-        layers = subst (λ p. stepped x p e lane.0 n.left y (registry y)) plan (n.notified f h.honest.has h.honest.rules.still);
+        layers = subst (λ p. stepped x p e lane.0 n.left y (registry y)) plan (n.notified f h.has h.rules.still);
         extensions = n.extensions;
         after = after;
         rest = sym (with_own y);
       }) n.extensions.spans
 
-  pub by_change : (call : Call) (a : Answer) (f : Form) (k : Change) (x y : S) → Ready f x → Comes call f (registry x) a (Quiet k ∷ [])
-      → (q : Quiets registry with_registry has_form stepped k x y) → IsSettled (registry y).store.spans → Done call a f x y
+  pub by_change : (call : Call) (a : Answer) (f : Form) (k : Change) (x y : S) → Honest f x → Comes call f (registry x) a (Quiet k ∷ [])
+      → (q : Quiets registry with_registry has_form stepped k x y) → (IsSettled (registry x).store.spans → IsSettled (registry y).store.spans) → Done call a f x y
   by_change call a f k x y h c q s =
       let m : Made = record { form = f; store = (registry x).store; outcome = Quiet k } in
-      let next = honest_quietly f k x y h.honest q in (
-        (m ∷ [], record { comes = c; goes = (y, record { honest = h.honest; store = refl; goes = q }, refl) }),
-        (next.0, record { honest = next.1; settled = s }),
+      let next = honest_quietly f k x y h q in (
+        (m ∷ [], record { comes = c; goes = (y, record { honest = h; store = refl; goes = q }, refl) }),
+        λ before. (next.0, record { honest = next.1; settled = s before }),
       )
 
   -- a stack with another registry

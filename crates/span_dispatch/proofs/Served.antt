@@ -4,7 +4,7 @@ use Rattle.std.proofs.lemmas.List.{append-nil}
 use Rattle.span_core.specs.declared.span.Id.{Id}
 use Rattle.span_dispatch.specs.Call.{Call}
 use Rattle.span_dispatch.specs.Outcome.{Made}
-use Rattle.span_dispatch.specs.Serve.{Answers, AsksFor, IsReadySomehow, Run, Served, Serves, ServesNext, ServesRequest, flat, stack_of}
+use Rattle.span_dispatch.specs.Serve.{AnswersDrop, AsksFor, IsReadySomehow, Run, Served, Serves, ServesNext, ServesRequest, flat, stack_of}
 use Rattle.span_dispatch.specs.declared.dispatch.Dispatch.{Dispatch}
 use Rattle.span_dispatch.specs.declared.request.Answer.{Answer}
 use Rattle.span_dispatch.specs.declared.request.Request.{Request}
@@ -21,7 +21,7 @@ named e i = sym e ∙ i
 
 module _ {S : Type 0} (registry : S → RegistryState) (with_registry : S → RegistryState → S) (has_form : S → Form → Type 0) (stepped : StackSteps S) where
   -- what a request asks for was served
-  pub served_by : (past : List Answer) (r other : Request) (call : Call) (a b : Answer) (old new : Dispatch S) → r ≡ other → AsksFor past other (Some call) → b ≡ a → Answers registry with_registry has_form stepped call a old new
+  pub served_by : (past : List Answer) (r other : Request) (call : Call) (a b : Answer) (old new : Dispatch S) → r ≡ other → AsksFor past other (Some call) → b ≡ a → AnswersDrop registry with_registry has_form stepped call a old new
       → ServesNext registry with_registry has_form stepped past r b old new
   served_by past r other call a b old new same asks answer served k =
       let done = served k.0 k.1 in

@@ -117,10 +117,15 @@ module _ {S : Type 0} (registry : S → RegistryState) (with_registry : S → Re
     pub comes : Comes call f (registry x) a (map outcome_of made)
     pub goes : FoldsTo (Makes registry with_registry has_form stepped) x made y
 
-  -- a dispatcher that is ready answers a call so, and then it is ready again
-  abbrev pub Answers : Call → Answer → Dispatch S → Dispatch S → Type 0
-  Answers call a old new = (f : Form) → IsReady f (stack_of old) → (made : List Made) × Serves call f (stack_of old) a made (stack_of new)
+  -- an honest stack answers a call so
+  abbrev pub AnswersCall : Call → Answer → Dispatch S → Dispatch S → Type 0
+  AnswersCall call a old new = (f : Form) → IsHonest registry with_registry has_form stepped f (stack_of old) → (made : List Made) × Serves call f (stack_of old) a made (stack_of new)
 
+  -- an honest stack in which no span is closing answers a drop so
+  abbrev pub AnswersDrop : Call → Answer → Dispatch S → Dispatch S → Type 0
+  AnswersDrop call a old new = (f : Form) → IsReady f (stack_of old) → (made : List Made) × Serves call f (stack_of old) a made (stack_of new)
+
+  -- a dispatcher that was ready is ready again
   abbrev pub StaysReady : Dispatch S → Dispatch S → Type 0
   StaysReady old new = IsReadySomehow (stack_of old) → IsReadySomehow (stack_of new)
 
@@ -148,14 +153,15 @@ module _ {S : Type 0} (registry : S → RegistryState) (with_registry : S → Re
     pub once : StandOnce (closed_in (flat made))
     pub each : (place : Place) → hears x place (seen place (flat made)) y
 
-  -- a dispatcher that is ready serves one request, or a list of them, so
+  -- a dispatcher that is ready serves the next request so
   abbrev pub ServesNext : List Answer → Request → Answer → Dispatch S → Dispatch S → Type 0
   ServesNext past r a old new = IsReadySomehow (stack_of old) → (made : List Made) × ServesRequest past r (stack_of old) a made (stack_of new)
 
+  -- a dispatcher that is ready serves a list so
   abbrev pub ServesList : HearSteps S → List Request → List Answer → Dispatch S → Dispatch S → Type 0
   ServesList hears requests answers old new = IsReadySomehow (stack_of old) → Served hears requests answers (stack_of old) (stack_of new)
 
-  -- from a stack in which a span is closing: it is taken out, and so is each parent that closes by that; before each is, all are notified of its close
+  -- from a stack in which a span is closing: it is taken out, and so is each parent that closes by that; before each is, a notice of its close is given
   pub record ClosesEach (lane : Lane) (id : Id) (x y : S) : Type 0 where
     pub closed : List ℕ
     pub removal : Removal SameButExtensions (registry x) id closed None (registry y)

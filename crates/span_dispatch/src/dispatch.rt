@@ -3,7 +3,7 @@ ghost use Rattle.std.specs.Prelude.{◌≡◌, None, Ok, false, IfErr, IfOk, Mat
 ghost use Rattle.span_core.specs.Span.{asked_parent, number_of};
 ghost use Rattle.span_dispatch.specs.Call.{AddHandle, AskCurrent, DropHandle, DropsSpan, Enter, Exit, FindsOpen, Follow, OpensFor, OpenSpan, Probe, RecordValues, RefusesUnlessOpen, SendEvent, current_answer, done_answer, event_answer, span_answer, yes_answer};
 ghost use Rattle.span_dispatch.specs.declared.request.Answer.TheVariants.{Done};
-ghost use Rattle.span_dispatch.specs.Serve.{Answers, ClosesEach, IsReadySomehow, StaysReady, TakesStep, stack_of};
+ghost use Rattle.span_dispatch.specs.Serve.{AnswersCall, AnswersDrop, ClosesEach, IsReadySomehow, StaysReady, TakesStep, stack_of};
 ghost use Rattle.span_registry.specs.Step.{Clones, Enters, Exits, RefusesClone, RefusesEnter, RefusesNew, RefusesRelease, ShowsCurrent};
 ghost use Rattle.span_registry.specs.Closes.{IsSettled};
 ghost use Rattle.span_registry.specs.Hooks.{Stays};
@@ -60,7 +60,7 @@ impl<S: Subscriber> Dispatch<S> {
         requires { S.usable (stack_of self.old) }
         ensures same { self.new ≡ self.old }
         ensures accepted { IfErr result (λ e. ⊥) }
-        ensures served { Answers S.registry S.with_registry S.has_form S.stepped (Probe lane meta.now) (yes_answer result) self.old self.new }
+        ensures served { AnswersCall S.registry S.with_registry S.has_form S.stepped (Probe lane meta.now) (yes_answer result) self.old self.new }
     {
         let mut pass = Pass::new();
         Ok(self.stack.enabled(lane, meta, &mut pass))
@@ -73,7 +73,7 @@ impl<S: Subscriber> Dispatch<S> {
         requires { S.usable (stack_of self.old) }
         ensures usable { S.usable (stack_of self.new) }
         ensures ready { StaysReady S.registry S.with_registry S.has_form S.stepped self.old self.new }
-        ensures served { Answers S.registry S.with_registry S.has_form S.stepped (OpenSpan lane attrs.now) (span_answer result) self.old self.new }
+        ensures served { AnswersCall S.registry S.with_registry S.has_form S.stepped (OpenSpan lane attrs.now) (span_answer result) self.old self.new }
         ensures store { IfOk result (λ o. MatchOption o (self.new ≡ self.old) (λ id. TakesStep S.registry (OpensFor lane attrs.now id) self.old self.new)) }
         ensures refused { IfErr result (RefusesNew (S.registry (stack_of self.old)) lane (asked_parent attrs.now)) }
         ensures unchanged { OnErr result (self.new ≡ self.old) }
@@ -93,7 +93,7 @@ impl<S: Subscriber> Dispatch<S> {
         requires { S.usable (stack_of self.old) }
         ensures usable { S.usable (stack_of self.new) }
         ensures ready { StaysReady S.registry S.with_registry S.has_form S.stepped self.old self.new }
-        ensures served { Answers S.registry S.with_registry S.has_form S.stepped (SendEvent lane event.now) (event_answer result) self.old self.new }
+        ensures served { AnswersCall S.registry S.with_registry S.has_form S.stepped (SendEvent lane event.now) (event_answer result) self.old self.new }
         ensures store { TakesStep S.registry Stays self.old self.new }
         ensures dropped { result ≡ Ok false → self.new ≡ self.old }
         ensures accepted { IfErr result (λ e. ⊥) }
@@ -114,7 +114,7 @@ impl<S: Subscriber> Dispatch<S> {
         requires { S.usable (stack_of self.old) }
         ensures usable { S.usable (stack_of self.new) }
         ensures ready { StaysReady S.registry S.with_registry S.has_form S.stepped self.old self.new }
-        ensures served { Answers S.registry S.with_registry S.has_form S.stepped (Enter lane id) (done_answer result) self.old self.new }
+        ensures served { AnswersCall S.registry S.with_registry S.has_form S.stepped (Enter lane id) (done_answer result) self.old self.new }
         ensures store { OnOk result (TakesStep S.registry (Enters lane id) self.old self.new) }
         ensures refused { IfErr result (RefusesEnter (S.registry (stack_of self.old)) id) }
         ensures unchanged { OnErr result (self.new ≡ self.old) }
@@ -127,7 +127,7 @@ impl<S: Subscriber> Dispatch<S> {
         requires { S.usable (stack_of self.old) }
         ensures usable { S.usable (stack_of self.new) }
         ensures ready { StaysReady S.registry S.with_registry S.has_form S.stepped self.old self.new }
-        ensures served { Answers S.registry S.with_registry S.has_form S.stepped (Exit lane id) (Done) self.old self.new }
+        ensures served { AnswersCall S.registry S.with_registry S.has_form S.stepped (Exit lane id) (Done) self.old self.new }
         ensures store { TakesStep S.registry (Exits lane id) self.old self.new }
     {
         if self.stack.root().is_open(id) {
@@ -142,7 +142,7 @@ impl<S: Subscriber> Dispatch<S> {
         requires { S.usable (stack_of self.old) }
         ensures usable { S.usable (stack_of self.new) }
         ensures ready { StaysReady S.registry S.with_registry S.has_form S.stepped self.old self.new }
-        ensures served { Answers S.registry S.with_registry S.has_form S.stepped (RecordValues lane id values.now) (done_answer result) self.old self.new }
+        ensures served { AnswersCall S.registry S.with_registry S.has_form S.stepped (RecordValues lane id values.now) (done_answer result) self.old self.new }
         ensures store { OnOk result (TakesStep S.registry (FindsOpen id) self.old self.new) }
         ensures refused { IfErr result (RefusesUnlessOpen (S.registry (stack_of self.old)) id) }
         ensures unchanged { OnErr result (self.new ≡ self.old) }
@@ -159,7 +159,7 @@ impl<S: Subscriber> Dispatch<S> {
         requires { S.usable (stack_of self.old) }
         ensures usable { S.usable (stack_of self.new) }
         ensures ready { StaysReady S.registry S.with_registry S.has_form S.stepped self.old self.new }
-        ensures served { Answers S.registry S.with_registry S.has_form S.stepped (Follow lane id follows) (done_answer result) self.old self.new }
+        ensures served { AnswersCall S.registry S.with_registry S.has_form S.stepped (Follow lane id follows) (done_answer result) self.old self.new }
         ensures store { OnOk result (TakesStep S.registry (FindsOpen id) self.old self.new) }
         ensures refused { IfErr result (RefusesUnlessOpen (S.registry (stack_of self.old)) id) }
         ensures unchanged { OnErr result (self.new ≡ self.old) }
@@ -178,7 +178,7 @@ impl<S: Subscriber> Dispatch<S> {
         ensures usable { S.usable (stack_of self.new) }
         ensures ready { StaysReady S.registry S.with_registry S.has_form S.stepped self.old self.new }
         ensures same { IfOk result (λ cloned. cloned ≡ id) }
-        ensures served { Answers S.registry S.with_registry S.has_form S.stepped (AddHandle lane id) (done_answer result) self.old self.new }
+        ensures served { AnswersCall S.registry S.with_registry S.has_form S.stepped (AddHandle lane id) (done_answer result) self.old self.new }
         ensures store { OnOk result (TakesStep S.registry (Clones id) self.old self.new) }
         ensures refused { IfErr result (RefusesClone (S.registry (stack_of self.old)) id) }
         ensures unchanged { OnErr result (self.new ≡ self.old) }
@@ -194,7 +194,7 @@ impl<S: Subscriber> Dispatch<S> {
         requires { S.usable (stack_of self.old) }
         ensures usable { S.usable (stack_of self.new) }
         ensures ready { StaysReady S.registry S.with_registry S.has_form S.stepped self.old self.new }
-        ensures served { Answers S.registry S.with_registry S.has_form S.stepped (DropHandle lane id) (yes_answer result) self.old self.new }
+        ensures served { AnswersDrop S.registry S.with_registry S.has_form S.stepped (DropHandle lane id) (yes_answer result) self.old self.new }
         ensures store { IfOk result (λ closes. IsSettled (S.registry (stack_of self.old)).store.spans → TakesStep S.registry (DropsSpan id closes) self.old self.new) }
         ensures settled { IsSettled (S.registry (stack_of self.old)).store.spans → IsSettled (S.registry (stack_of self.new)).store.spans }
         ensures refused { IfErr result (RefusesRelease (S.registry (stack_of self.old)) id) }
@@ -213,7 +213,7 @@ impl<S: Subscriber> Dispatch<S> {
     /// The span that a lane is in.
     pub fn current_span(&self, lane: Lane) -> Current
         ensures shown { ShowsCurrent (S.registry (stack_of self.now)).store lane result }
-        ensures served { Answers S.registry S.with_registry S.has_form S.stepped (AskCurrent lane) (current_answer result) self.now self.now }
+        ensures served { AnswersCall S.registry S.with_registry S.has_form S.stepped (AskCurrent lane) (current_answer result) self.now self.now }
     {
         self.stack.current_span(lane)
     }

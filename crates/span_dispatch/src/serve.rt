@@ -3,7 +3,7 @@ ghost use Rattle.std.specs.Prelude.{◌≡◌, ◌∷◌, [], ◌++◌, OnErr, I
 ghost use Rattle.span_core.specs.Event.{event_metadata, event_parent, event_values};
 ghost use Rattle.span_core.specs.Span.{asked_parent, metadata_of, values_of};
 ghost use Rattle.span_dispatch.specs.Call.{Exit, current_answer, done_answer, event_answer, span_answer, yes_answer};
-ghost use Rattle.span_dispatch.specs.Serve.{Answers, ServesList, ServesNext, StaysReady, resolved, resolved_parent, stack_of};
+ghost use Rattle.span_dispatch.specs.Serve.{AnswersCall, ServesList, ServesNext, StaysReady, resolved, resolved_parent, stack_of};
 
 use crate::dispatch::Dispatch;
 use crate::request::{Answer, Request, Which, WhichParent};
@@ -90,7 +90,7 @@ impl<S: Subscriber> Dispatch<S> {
         requires { S.usable (stack_of self.old) }
         ensures usable { S.usable (stack_of self.new) }
         ensures ready { StaysReady S.registry S.with_registry S.has_form S.stepped self.old self.new }
-        ensures served { Answers S.registry S.with_registry S.has_form S.stepped (Exit lane id) result self.old self.new }
+        ensures served { AnswersCall S.registry S.with_registry S.has_form S.stepped (Exit lane id) result self.old self.new }
     {
         self.exit(lane, id);
         Answer::Done

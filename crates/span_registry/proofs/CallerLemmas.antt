@@ -1,5 +1,5 @@
 -- What a caller's proof may need: registries that are the same extensions aside, and drops with their removals.
-use Rattle.std.proofs.Common.{◌≡◌, ℕ, Bool, true, false, cond, map, ◌<◌, ◌∷◌, [], ◌++◌, List, Option, Some, None, IfSome, refl, sym, ap, subst, ◌∙◌, arith}
+use Rattle.std.proofs.Common.{◌≡◌, ℕ, Bool, true, false, cond, map, ◌<◌, ◌⊎◌, inl, inr, ◌∷◌, [], ◌++◌, List, Option, Some, None, IfSome, refl, sym, ap, subst, ◌∙◌, arith}
 use Rattle.std.specs.Prelude.{if◌then◌else◌}
 use Rattle.std.specs.FinMap.{get, get-insert, len, remove}
 use Rattle.std.specs.Cmp.{nat_cmp_total}
@@ -37,7 +37,7 @@ use Rattle.span_registry.proofs.Finds.{store_found}
 use Rattle.span_registry.proofs.LookupLaws.{whole_chain}
 use Rattle.span_registry.proofs.StoreLaws.{stacks_restored}
 use Rattle.span_registry.proofs.View.{extensions_by}
-use Rattle.span_registry.proofs.Drops.{Progress, begins, forest_taken, none_dropped, progress_first, progress_last, progress_more, settled_added, settled_none, settled_now, settled_open, settled_raised, settled_taken}
+use Rattle.span_registry.proofs.Drops.{Progress, begins, forest_taken, none_dropped, progress_first, progress_last, progress_more, settled_added, settled_none, settled_now, settled_open, settled_raised, settled_taken, taken_more}
 
 -- ---- the same, extensions aside
 
@@ -146,6 +146,42 @@ aside first id (Removed {xs} {o} {next} {now} {new} r e) =
     let u = aside first id r in
     let v = removes_aside next o u.0 now new u.2 e in
     (v.0, Removed u.1 v.1, v.2)
+
+nothing_taken : (s : RegistryState) → TakesOut s [] s
+nothing_taken s = record { store = refl; limits = refl; filters = refl; retired = omega arith; no_other = omega arith; late = λ h. h }
+
+taken_alone : (first : RegistryState) (id : Id) {xs : List ℕ} {o : Option Id} {now : RegistryState} → Removal (λ _ _. ⊥) first id xs o now → TakesOut first xs now
+taken_alone first id Begun = nothing_taken first
+taken_alone first id (Between {xs} {o} {now} {new} r b) = absurd b
+taken_alone first id (Removed {xs} {o} {next} {now} {new} r e) = taken_more first now new next xs o (taken_alone first id r) e
+
+-- a loop of removals, with hooks in between, takes out what was removed, and nothing else, whatever store it began in
+pub taken_out : (first : RegistryState) (id : Id) (xs : List ℕ) (o : Option Id) (now : RegistryState) → Removal SameButExtensions first id xs o now → (s : RegistryState) × TakesOut first xs s × SameButExtensions s now
+taken_out first id xs o now r = let u = aside first id r in (u.0, taken_alone first id u.1, u.2)
+
+member_before : (x : ℕ) (xs ys : List ℕ) → Member x xs → Member x (xs ++ ys)
+member_before x [] ys h = absurd h
+member_before x (y ∷ xs) ys (inl e) = inl e
+member_before x (y ∷ xs) ys (inr h) = inr (member_before x xs ys h)
+
+member_last : (x : ℕ) (xs : List ℕ) → Member x (xs ++ (x ∷ []))
+member_last x [] = inl refl
+member_last x (y ∷ xs) = inr (member_last x xs)
+
+same_next : (id next : Id) → Some next ≡ Some id → number_of id ≡ number_of next
+same_next id next e = let f : next ≡ id = cc in sym (ap number_of f)
+
+first_or_removed : (between : RegistryState → RegistryState → Type 0) (first : RegistryState) (id : Id) {xs : List ℕ} {o : Option Id} {now : RegistryState} → Removal between first id xs o now → ((xs ≡ []) × (o ≡ Some id)) ⊎ Member (number_of id) xs
+first_or_removed between first id Begun = inl (refl, refl)
+first_or_removed between first id (Between r b) = first_or_removed between first id r
+first_or_removed between first id (Removed {xs} {o} {next} r e) = elim (first_or_removed between first id r) [
+  | inl both ↦ inr (subst (λ (n : ℕ). Member n (xs ++ (number_of next ∷ []))) (sym (same_next id next both.1)) (member_last (number_of next) xs))
+  | inr h ↦ inr (member_before (number_of id) xs (number_of next ∷ []) h)
+]
+
+-- a loop of removals that ended removed the span that it began with
+pub begins_with : (between : RegistryState → RegistryState → Type 0) (first : RegistryState) (id : Id) (xs : List ℕ) (now : RegistryState) → Removal between first id xs None now → Member (number_of id) xs
+begins_with between first id xs now r = elim (first_or_removed between first id r) [ inl both ↦ let e = both.1 in absurd (cc) | inr h ↦ h ]
 
 whole : (between : RegistryState → RegistryState → Type 0) (old : RegistryState) (id : Id) (xs : List ℕ) (new s : RegistryState) → (c : ClosesAll between old id xs new) → Removal (λ _ _. ⊥) c.released id xs None s → Progress c.released s None xs
 whole between old id xs new s c r =

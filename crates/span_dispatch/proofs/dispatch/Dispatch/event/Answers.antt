@@ -9,7 +9,7 @@ pub returns-then-not-event_enabled-clause-served : goal.returns-then-not-event_e
 returns-then-not-event_enabled-clause-served g c = λ f h. (event_vetoed g.met.S.Subscriber.laws g.met.S.LookupSpan.with_own c.args.lane c.args.event.now c.enabled.new.pass c.event_enabled.new.pass c.event_enabled.result f c.args.self.now.stack c.if-not-event_enabled.true c.event_enabled.ensures h).0
 
 pub returns-clause-ready : goal.returns-clause-ready
-returns-clause-ready g c = λ k. (event_made g.met.S.Subscriber.laws g.met.S.LookupSpan.with_own c.args.lane c.args.event.now c.metadata.result c.new-pass.result c.enabled.new.pass c.event_enabled.new.pass c.enabled.result c.event_enabled.result k.0 c.args.self.now.stack c.event.new.self c.metadata.ensures c.new-pass.ensures.refused c.if-not-enabled.false c.if-not-event_enabled.false c.enabled.ensures c.event_enabled.ensures c.event.ensures.hooks k.1).1
+returns-clause-ready g c = λ k. (event_made g.met.S.Subscriber.laws g.met.S.LookupSpan.with_own c.args.lane c.args.event.now c.metadata.result c.new-pass.result c.enabled.new.pass c.event_enabled.new.pass c.enabled.result c.event_enabled.result k.0 c.args.self.now.stack c.event.new.self c.metadata.ensures c.new-pass.ensures.refused c.if-not-enabled.false c.if-not-event_enabled.false c.enabled.ensures c.event_enabled.ensures c.event.ensures.hooks k.1.honest).1 k.1.settled
 
 pub returns-clause-served : goal.returns-clause-served
 returns-clause-served g c = λ f h. (event_made g.met.S.Subscriber.laws g.met.S.LookupSpan.with_own c.args.lane c.args.event.now c.metadata.result c.new-pass.result c.enabled.new.pass c.event_enabled.new.pass c.enabled.result c.event_enabled.result f c.args.self.now.stack c.event.new.self c.metadata.ensures c.new-pass.ensures.refused c.if-not-enabled.false c.if-not-event_enabled.false c.enabled.ensures c.event_enabled.ensures c.event.ensures.hooks h).0

@@ -14,7 +14,7 @@ pub returns-then-not-is_open-clause-served : goal.returns-then-not-is_open-claus
 returns-then-not-is_open-clause-served g c = λ f h. ([], record { comes = ((refl, (λ o. true≢false (sym (c.is_open.ensures.1 (subst (λ (s : RegistryState). IsOpen s.store.spans (number_of c.args.id)) (sym c.root-registry.ensures) o)) ∙ c.if-not-is_open.true))), refl); goes = refl })
 
 pub returns-clause-ready : goal.returns-clause-ready
-returns-clause-ready g c = λ k. (followed_so g.met.S.Subscriber.laws g.met.S.LookupSpan.with_own c.args.lane c.args.id c.args.follows k.0 c.args.self.now.stack c.record_follows_from.new.self (subst (λ (s : RegistryState). IsOpen s.store.spans (number_of c.args.id)) c.root-registry.ensures (c.is_open.ensures.0 c.if-not-is_open.false)) c.record_follows_from.ensures.hooks k.1).1
+returns-clause-ready g c = λ k. (followed_so g.met.S.Subscriber.laws g.met.S.LookupSpan.with_own c.args.lane c.args.id c.args.follows k.0 c.args.self.now.stack c.record_follows_from.new.self (subst (λ (s : RegistryState). IsOpen s.store.spans (number_of c.args.id)) c.root-registry.ensures (c.is_open.ensures.0 c.if-not-is_open.false)) c.record_follows_from.ensures.hooks k.1.honest).1 k.1.settled
 
 pub returns-clause-served : goal.returns-clause-served
 returns-clause-served g c = λ f h. (followed_so g.met.S.Subscriber.laws g.met.S.LookupSpan.with_own c.args.lane c.args.id c.args.follows f c.args.self.now.stack c.record_follows_from.new.self (subst (λ (s : RegistryState). IsOpen s.store.spans (number_of c.args.id)) c.root-registry.ensures (c.is_open.ensures.0 c.if-not-is_open.false)) c.record_follows_from.ensures.hooks h).0

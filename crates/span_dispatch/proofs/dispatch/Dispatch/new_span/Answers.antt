@@ -5,7 +5,7 @@ pub returns-then-not-enabled-clause-served : goal.returns-then-not-enabled-claus
 returns-then-not-enabled-clause-served g c = λ f h. (span_dropped g.met.S.Subscriber.laws g.met.S.LookupSpan.with_own c.args.lane c.args.attrs.now c.metadata.result c.new-pass.result c.enabled.new.pass c.enabled.result f c.args.self.now.stack c.metadata.ensures c.if-not-enabled.true c.enabled.ensures h).0
 
 pub returns-in-Ok-clause-ready : goal.returns-in-Ok-clause-ready
-returns-in-Ok-clause-ready g c = λ k. (span_made g.met.S.Subscriber.laws g.met.S.LookupSpan.with_own c.args.lane c.args.attrs.now c.metadata.result c.new-pass.result c.enabled.new.pass c.enabled.result c.in-Ok.id k.0 c.args.self.now.stack c.new_span.new.self c.metadata.ensures c.new-pass.ensures.refused c.if-not-enabled.false c.enabled.ensures c.in-Ok.ensures.opened k.1).1
+returns-in-Ok-clause-ready g c = λ k. (span_made g.met.S.Subscriber.laws g.met.S.LookupSpan.with_own c.args.lane c.args.attrs.now c.metadata.result c.new-pass.result c.enabled.new.pass c.enabled.result c.in-Ok.id k.0 c.args.self.now.stack c.new_span.new.self c.metadata.ensures c.new-pass.ensures.refused c.if-not-enabled.false c.enabled.ensures c.in-Ok.ensures.opened k.1.honest).1 k.1.settled
 
 pub returns-in-Ok-clause-served : goal.returns-in-Ok-clause-served
 returns-in-Ok-clause-served g c = λ f h. (span_made g.met.S.Subscriber.laws g.met.S.LookupSpan.with_own c.args.lane c.args.attrs.now c.metadata.result c.new-pass.result c.enabled.new.pass c.enabled.result c.in-Ok.id f c.args.self.now.stack c.new_span.new.self c.metadata.ensures c.new-pass.ensures.refused c.if-not-enabled.false c.enabled.ensures c.in-Ok.ensures.opened h).0
