@@ -1,5 +1,5 @@
 -- What a dispatcher is asked, and how it answers: which outcomes come of a call, and when it is refused.
-use Rattle.std.specs.Prelude.{◌≡◌, ◌↔◌, ⊤, ℕ, Bool, true, false, not, ◌||◌, IsTrue, List, [], ◌∷◌, map, Option, Some, None, Result, Ok, Err}
+use Rattle.std.specs.Prelude.{◌≡◌, ◌↔◌, ⊤, ℕ, Bool, true, false, not, ◌&&◌, ◌||◌, IsTrue, List, [], ◌∷◌, map, Option, Some, None, Result, Ok, Err}
 use Rattle.std.specs.Option.{option_map}
 use Rattle.span_core.specs.Event.{event_metadata}
 use Rattle.span_core.specs.Span.{asked_parent, current_span, id_of, metadata_of, number_of}
@@ -20,8 +20,10 @@ use Rattle.span_layers.specs.Verdict.{vetoes, vetoes_event}
 use Rattle.span_registry.specs.Answers.{OnClose, OnEnter, OnEvent, OnExit, OnFollows, OnNewSpan, OnRecord}
 use Rattle.span_registry.specs.Closes.{Closes, Member}
 use Rattle.span_registry.specs.Form.{Form}
-use Rattle.span_registry.specs.Step.{Drops, IsCurrent, Opens, RefusesClone, RefusesEnter, RefusesNew, RefusesRelease}
-use Rattle.span_registry.specs.Store.{IsHeld, IsOpen, RegistryState, Store}
+use Rattle.span_registry.specs.Hooks.{no_filter}
+use Rattle.span_registry.specs.Question.{asked, event_asked}
+use Rattle.span_registry.specs.Step.{Drops, IsCurrent, Opens, TakesOut, RefusesClone, RefusesEnter, RefusesNew, RefusesRelease}
+use Rattle.span_registry.specs.Store.{IsHeld, IsOpen, RegistryState, Store, take_handle, with_spans}
 
 -- what a dispatcher is asked, from a lane
 pub data Call : Type 0 where
@@ -45,7 +47,7 @@ abbrev pub RefusesUnlessOpen : RegistryState → Id → TraceError → Type 0
 RefusesUnlessOpen s x (UnknownSpan y) = (y ≡ x) × ¬ (IsOpen s.store.spans (number_of x))
 RefusesUnlessOpen s x other = ⊥
 
--- a lane leaves a span: all are notified where it is open, and nobody where it is gone
+-- a lane leaves a span: a notice comes of it where the span is open, else a quiet change
 pub record Leaves (lane : Lane) (id : Id) (s : RegistryState) (os : List Outcome) : Type 0 where
   pub there : IsOpen s.store.spans (number_of id) → os ≡ Noticed lane (OnExit id) ∷ []
   pub gone : ¬ (IsOpen s.store.spans (number_of id)) → os ≡ Quiet (GoneLeft lane id) ∷ []
@@ -54,7 +56,7 @@ pub record Leaves (lane : Lane) (id : Id) (s : RegistryState) (os : List Outcome
 abbrev pub closes_of : Lane → List ℕ → List Outcome
 closes_of lane closed = map (λ x. Noticed lane (OnClose (id_of x))) closed
 
--- a handle is taken, and all that is closed by that closes, in the order in which it should; whether the span is one of them
+-- a handle is taken, and all that is closed by that closes, in the order in which it should; the answer is whether the span is among them
 pub record DropsHandle (lane : Lane) (id : Id) (s : RegistryState) (closes : Bool) (os : List Outcome) : Type 0 where
   pub closed : List ℕ
   pub exact : Closes s.store.spans (number_of id) closed
@@ -69,7 +71,7 @@ AndNothing fact os = fact × (os ≡ [])
 abbrev pub AndOne : Type 0 → Outcome → List Outcome → Type 0
 AndOne fact o os = fact × (os ≡ o ∷ [])
 
--- how a call is answered by a stack of this form on this registry, and which outcomes come of it. A new span and an event are dropped exactly where a leaf vetoes; all refusals are those of the registry
+-- how a call is answered by a stack of this form on this registry, and which outcomes come of it. A new span and an event are dropped exactly where a leaf vetoes; no layer refuses anything else
 abbrev pub Comes : Call → Form → RegistryState → Answer → List Outcome → Type 0
 Comes (OpenSpan lane a) f s (answer.Made id) os = AndOne (vetoes f (metadata_of a) s.store lane.0 ≡ false) (Noticed lane (OnNewSpan a id)) os
 Comes (OpenSpan lane a) f s answer.Dropped os = AndNothing (vetoes f (metadata_of a) s.store lane.0 ≡ true) os
@@ -91,6 +93,15 @@ Comes (Probe lane m) f s (answer.Yes wanted) os = AndNothing (wanted ≡ not (ve
 Comes (AskCurrent lane) f s (answer.Current o) os = AndNothing (IsCurrent s.store lane.0 (option_map number_of o)) os
 Comes call f s a os = ⊥
 
+-- whether a stack wants these metadata, asked with a new pass, whatever form it has
+abbrev pub WantsMetadata : {S : Type 0} → (S → RegistryState) → (S → Form → Type 0) → Lane → Metadata → S → Bool → Type 0
+WantsMetadata registry has_form lane m x wanted = (f : Form) → has_form x f → wanted ≡ (asked f m (registry x).store lane.0 no_filter no_filter).0
+
+-- whether it wants this event: its metadata, and then itself
+abbrev pub WantsEvent : {S : Type 0} → (S → RegistryState) → (S → Form → Type 0) → Lane → Event → S → Bool → Type 0
+WantsEvent registry has_form lane e x wanted =
+    (f : Form) → has_form x f → let first = asked f (event_metadata e) (registry x).store lane.0 no_filter no_filter in wanted ≡ first.0 && (event_asked f e (registry x).store lane.0 no_filter first.1).0
+
 -- Below: what a call does to a registry where it isn't refused, whatever the stack answers. Hooks may write extensions after it.
 
 -- a span is opened that these attributes ask for, with some verdict
@@ -101,7 +112,12 @@ OpensFor lane attrs id s t = (v : FilterMap) × Opens lane (record { metadata = 
 abbrev pub FindsOpen : Id → RegistryState → RegistryState → Type 0
 FindsOpen id s t = IsOpen s.store.spans (number_of id) × (t ≡ s)
 
--- a handle is taken, and what closes by that is taken out; whether the span is among it
+-- a handle is taken from a span that has one, and some spans are taken out; the answer is whether the span is among them
+abbrev pub TakesHandle : Id → Bool → RegistryState → RegistryState → Type 0
+TakesHandle id closes s t =
+    IsHeld s.store.spans (number_of id) × ((closed : List ℕ) × TakesOut (with_spans s (take_handle s.store.spans (number_of id))) closed t × (IsTrue closes ↔ Member (number_of id) closed))
+
+-- a handle is taken, and what closes by that is taken out; the answer is whether the span is among it
 abbrev pub DropsSpan : Id → Bool → RegistryState → RegistryState → Type 0
 DropsSpan id closes s t = IsHeld s.store.spans (number_of id) × ((closed : List ℕ) × Drops s (number_of id) closed t × (IsTrue closes ↔ Member (number_of id) closed))
 

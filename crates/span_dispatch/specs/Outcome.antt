@@ -27,7 +27,7 @@ pub data Outcome : Type 0 where
   Noticed : Lane → Notice → Outcome
   Quiet : Change → Outcome
 
--- what was made: an outcome, of a stack that had this form, on this store
+-- what was made: an outcome, of a stack that had this form, and the store before it
 pub record Made : Type 0 where
   pub form : Form
   pub store : Store
@@ -37,7 +37,7 @@ pub record Made : Type 0 where
 abbrev pub IsVerdict : Form → Metadata → Store → Lane → FilterMap → Type 0
 IsVerdict f m s lane v = (k : ℕ) → refuses v k ≡ in_verdict f m s lane.0 no_filter k
 
--- what the registry does before a notice is given: a new span is opened with its verdict, an open one is entered or left, or is as it was
+-- what the registry does before a notice is given: it opens a new span with its verdict, or a lane enters or leaves an open one; for all else it stays as it is
 abbrev pub StepsBefore : Form → Lane → Notice → RegistryState → RegistryState → Type 0
 StepsBefore f lane (OnNewSpan attrs id) s t =
     (v : FilterMap) × IsVerdict f (metadata_of attrs) s.store lane v
@@ -72,7 +72,7 @@ module _ {S : Type 0} (registry : S → RegistryState) (with_registry : S → Re
     pub after : StepsAfter e (registry notified) (registry y)
     pub rest : y ≡ with_registry notified (registry y)
 
-  -- a quiet change: the store alone is another
+  -- a quiet change: only the registry changes
   pub record Quiets (c : Change) (x y : S) : Type 0 where
     pub changes : Changes c (registry x) (registry y)
     pub rest : y ≡ with_registry x (registry y)

@@ -47,11 +47,11 @@ kept_notice (lane, OnExit id) = kept.Exit (lane_of lane) id
 kept_notice (lane, OnIdChange id other) = kept.IdChange (lane_of lane) id other
 kept_notice (lane, OnClose id) = kept.Close (lane_of lane) id
 
--- it is notified of each notice of a hook, and leaves the registry alone
+-- notified of one notice it keeps that, and leaves the registry alone
 abbrev pub recorder_steps : LayerSteps Kept
 recorder_steps x p e lane under v y w = (p ≡ Itself) × Records x y (kept_notice (lane, e) ∷ []) × (w ≡ v)
 
--- it went through these notices: it keeps what it keeps of them
+-- notified of these, it keeps of each what `kept_notice` says
 abbrev pub recorder_hears : HearSteps Kept
 recorder_hears x Here h y = Records x y (map kept_notice h)
 recorder_hears x other h y = ⊤

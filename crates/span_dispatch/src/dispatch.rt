@@ -1,7 +1,7 @@
-//! A dispatcher that asks everything: at each new span, event and probe it asks every filter, with a new pass.
-ghost use Rattle.std.specs.Prelude.{◌≡◌, None, Ok, false, IfErr, IfOk, MatchOption, OnErr, OnOk};
-ghost use Rattle.span_core.specs.Span.{asked_parent, number_of};
-ghost use Rattle.span_dispatch.specs.Call.{AddHandle, AskCurrent, DropHandle, DropsSpan, Enter, Exit, FindsOpen, Follow, OpensFor, OpenSpan, Probe, RecordValues, RefusesUnlessOpen, SendEvent, current_answer, done_answer, event_answer, span_answer, yes_answer};
+//! A dispatcher that asks everything: at each new span, event and probe it asks the stack anew, with a new pass.
+ghost use Rattle.std.specs.Prelude.{◌≡◌, None, Ok, false, IfErr, IfOk, MatchOption, OnErr, OnOk, is_some};
+ghost use Rattle.span_core.specs.Span.{asked_parent, metadata_of, number_of};
+ghost use Rattle.span_dispatch.specs.Call.{AddHandle, AskCurrent, DropHandle, DropsSpan, Enter, Exit, FindsOpen, Follow, OpensFor, OpenSpan, Probe, RecordValues, RefusesUnlessOpen, SendEvent, TakesHandle, WantsEvent, WantsMetadata, current_answer, done_answer, event_answer, span_answer, yes_answer};
 ghost use Rattle.span_dispatch.specs.declared.request.Answer.TheVariants.{Done};
 ghost use Rattle.span_dispatch.specs.Serve.{AnswersCall, AnswersDrop, ClosesEach, IsReadySomehow, StaysReady, TakesStep, stack_of};
 ghost use Rattle.span_registry.specs.Step.{Clones, Enters, Exits, RefusesClone, RefusesEnter, RefusesNew, RefusesRelease, ShowsCurrent};
@@ -17,8 +17,8 @@ use std::alloc::Global;
 
 /// A stack behind one door: it takes requests, asks the stack's layers, and notifies them.
 ///
-/// The passes of `tracing_core::Dispatch` and of `tracing_subscriber::Registry`'s thread are one value here, which ends with its
-/// request.
+/// Stands for `tracing_core::Dispatch`. What `tracing_subscriber` keeps of filters' answers in a thread local is a `Pass` here,
+/// which ends with its request.
 #[derive(Debug, Drop)]
 pub struct Dispatch<S> {
     stack: S,
@@ -60,13 +60,14 @@ impl<S: Subscriber> Dispatch<S> {
         requires { S.usable (stack_of self.old) }
         ensures same { self.new ≡ self.old }
         ensures accepted { IfErr result (λ e. ⊥) }
+        ensures asked { IfOk result (WantsMetadata S.registry S.has_form lane meta.now (stack_of self.old)) }
         ensures served { AnswersCall S.registry S.with_registry S.has_form S.stepped (Probe lane meta.now) (yes_answer result) self.old self.new }
     {
         let mut pass = Pass::new();
         Ok(self.stack.enabled(lane, meta, &mut pass))
     }
 
-    /// Opens a span with one handle, unless a layer vetoes it: then it answers none, and changes nothing.
+    /// Opens a span with one handle and notifies of it, unless a layer vetoes it: then it answers none, and changes nothing.
     ///
     /// Refused as `Subscriber::new_span` is.
     pub fn new_span(&mut self, lane: Lane, attrs: &Attributes<'_>) -> Result<Option<Id>, TraceError>
@@ -74,6 +75,7 @@ impl<S: Subscriber> Dispatch<S> {
         ensures usable { S.usable (stack_of self.new) }
         ensures ready { StaysReady S.registry S.with_registry S.has_form S.stepped self.old self.new }
         ensures served { AnswersCall S.registry S.with_registry S.has_form S.stepped (OpenSpan lane attrs.now) (span_answer result) self.old self.new }
+        ensures asked { IfOk result (λ o. WantsMetadata S.registry S.has_form lane (metadata_of attrs.now) (stack_of self.old) (is_some o)) }
         ensures store { IfOk result (λ o. MatchOption o (self.new ≡ self.old) (λ id. TakesStep S.registry (OpensFor lane attrs.now id) self.old self.new)) }
         ensures refused { IfErr result (RefusesNew (S.registry (stack_of self.old)) lane (asked_parent attrs.now)) }
         ensures unchanged { OnErr result (self.new ≡ self.old) }
@@ -96,6 +98,7 @@ impl<S: Subscriber> Dispatch<S> {
         ensures served { AnswersCall S.registry S.with_registry S.has_form S.stepped (SendEvent lane event.now) (event_answer result) self.old self.new }
         ensures store { TakesStep S.registry Stays self.old self.new }
         ensures dropped { result ≡ Ok false → self.new ≡ self.old }
+        ensures asked { IfOk result (WantsEvent S.registry S.has_form lane event.now (stack_of self.old)) }
         ensures accepted { IfErr result (λ e. ⊥) }
     {
         let mut pass = Pass::new();
@@ -109,7 +112,7 @@ impl<S: Subscriber> Dispatch<S> {
         Ok(true)
     }
 
-    /// Enters a span. Refused where it isn't open (`UnknownSpan`), else for want of memory.
+    /// Enters a span, and notifies of that. Refused where it isn't open (`UnknownSpan`), else for want of memory.
     pub fn enter(&mut self, lane: Lane, id: Id) -> Result<(), TraceError>
         requires { S.usable (stack_of self.old) }
         ensures usable { S.usable (stack_of self.new) }
@@ -122,7 +125,7 @@ impl<S: Subscriber> Dispatch<S> {
         self.stack.enter(lane, id)
     }
 
-    /// Leaves a span. Where it isn't open, the lane leaves it and no layer is notified.
+    /// Leaves a span, and notifies of that. Where it isn't open, the lane leaves it and no layer is notified.
     pub fn exit(&mut self, lane: Lane, id: Id)
         requires { S.usable (stack_of self.old) }
         ensures usable { S.usable (stack_of self.new) }
@@ -195,6 +198,7 @@ impl<S: Subscriber> Dispatch<S> {
         ensures usable { S.usable (stack_of self.new) }
         ensures ready { StaysReady S.registry S.with_registry S.has_form S.stepped self.old self.new }
         ensures served { AnswersDrop S.registry S.with_registry S.has_form S.stepped (DropHandle lane id) (yes_answer result) self.old self.new }
+        ensures taken { IfOk result (λ closes. TakesStep S.registry (TakesHandle id closes) self.old self.new) }
         ensures store { IfOk result (λ closes. IsSettled (S.registry (stack_of self.old)).store.spans → TakesStep S.registry (DropsSpan id closes) self.old self.new) }
         ensures settled { IsSettled (S.registry (stack_of self.old)).store.spans → IsSettled (S.registry (stack_of self.new)).store.spans }
         ensures refused { IfErr result (RefusesRelease (S.registry (stack_of self.old)) id) }

@@ -1,5 +1,5 @@
 //! Lists of requests, served in order.
-ghost use Rattle.std.specs.Prelude.{◌≡◌, ◌∷◌, [], ◌++◌, OnErr, IfOk, IfErr, ◌<◌, ◌≤◌, ◌+◌, vec_len, vec_capacity};
+ghost use Rattle.std.specs.Prelude.{◌≡◌, ◌∷◌, [], ◌++◌, OnErr, IfOk, IfErr, ◌<◌, ◌≤◌, ◌+◌, length, vec_len, vec_capacity};
 ghost use Rattle.span_core.specs.Event.{event_metadata, event_parent, event_values};
 ghost use Rattle.span_core.specs.Span.{asked_parent, metadata_of, values_of};
 ghost use Rattle.span_dispatch.specs.Call.{Exit, current_answer, done_answer, event_answer, span_answer, yes_answer};
@@ -26,6 +26,7 @@ impl<S: Subscriber> Dispatch<S> {
         ensures usable { S.usable (stack_of self.new) }
         ensures ready { StaysReady S.registry S.with_registry S.has_form S.stepped self.old self.new }
         ensures served { IfOk result (λ a. ServesList S.registry S.with_registry S.has_form S.stepped S.hears requests.now a.items self.old self.new) }
+        ensures length { IfOk result (λ a. length a.items ≡ length requests.now) }
         ensures memory { IfErr result (λ e. e ≡ TraceError.OutOfMemory) }
         ensures unchanged { OnErr result (self.new ≡ self.old) }
     {

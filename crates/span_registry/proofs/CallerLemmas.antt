@@ -147,7 +147,7 @@ aside first id (Removed {xs} {o} {next} {now} {new} r e) =
     let v = removes_aside next o u.0 now new u.2 e in
     (v.0, Removed u.1 v.1, v.2)
 
-nothing_taken : (s : RegistryState) → TakesOut s [] s
+pub nothing_taken : (s : RegistryState) → TakesOut s [] s
 nothing_taken s = record { store = refl; limits = refl; filters = refl; retired = omega arith; no_other = omega arith; late = λ h. h }
 
 taken_alone : (first : RegistryState) (id : Id) {xs : List ℕ} {o : Option Id} {now : RegistryState} → Removal (λ _ _. ⊥) first id xs o now → TakesOut first xs now

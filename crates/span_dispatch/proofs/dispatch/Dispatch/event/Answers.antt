@@ -1,3 +1,4 @@
+use Rattle.span_dispatch.proofs.Stores.{event_wanted}
 use Rattle.span_dispatch.proofs.Stores.{no_step}
 use Rattle.span_dispatch.proofs.Calls.{event_dropped, event_made, event_vetoed}
 use Rattle.span_dispatch.proofs.dispatch.Dispatch.event.Goals as goal
@@ -19,3 +20,7 @@ returns-then-not-enabled-clause-store g c = no_step g.S.LookupSpan.registry c.ar
 
 pub returns-then-not-event_enabled-clause-store : goal.returns-then-not-event_enabled-clause-store
 returns-then-not-event_enabled-clause-store g c = no_step g.S.LookupSpan.registry c.args.self.now.stack
+
+pub returns-clause-asked : goal.returns-clause-asked
+returns-clause-asked g c = event_wanted g.S.LookupSpan.registry g.S.Subscriber.has_form c.args.lane c.args.event.now c.args.self.now.stack c.metadata.result c.new-pass.result c.enabled.new.pass c.event_enabled.new.pass c.enabled.result c.event_enabled.result
+    c.metadata.ensures c.new-pass.ensures.refused c.if-not-enabled.false c.if-not-event_enabled.false c.enabled.ensures c.event_enabled.ensures
