@@ -1,5 +1,7 @@
+mod Begins
+mod Gives
 mod Growing
-mod Hears
+mod Honest
 mod Naming
-mod Served
+mod Steady
 mod Wrong

@@ -1,4 +1,4 @@
+pub mod Mute
 pub mod Program
-pub mod Run
 pub mod Script
 pub mod Stacks

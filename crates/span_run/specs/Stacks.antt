@@ -1,15 +1,90 @@
 -- What serves the requests of a script: the stack that it names.
-use Rattle.std.specs.Prelude.{List, [], ◌∷◌}
+use Rattle.std.specs.Prelude.{◌≡◌, ℕ, true, List, [], ◌∷◌, Some, map}
+use Rattle.span_core.specs.declared.level.LevelFilter.{LevelFilter}
+use Rattle.span_core.specs.declared.level.TheConstants.LevelFilter.{INFO, TRACE}
+use Rattle.span_dispatch.specs.Fixed.{RunsBy, kept_at}
+use Rattle.span_dispatch.specs.Outcome.{Made}
+use Rattle.span_dispatch.specs.Recorder.{Kept, new_recorder}
+use Rattle.span_dispatch.specs.Serve.{IsReadySomehow, Served}
 use Rattle.span_dispatch.specs.declared.notice.Notice.{Notice}
 use Rattle.span_dispatch.specs.declared.request.Answer.{Answer}
 use Rattle.span_dispatch.specs.declared.request.Request.{Request}
+use Rattle.span_filters.specs.Level.{level_answers}
+use Rattle.span_layers.specs.Filtered.{IsNumber, filter_of, id_of, layer_of}
+use Rattle.span_layers.specs.Layered.{inner_of, outer_of}
+use Rattle.span_layers.specs.Observe.{open_answers}
+use Rattle.span_layers.specs.declared.filtered.Filtered.{Filtered as FilteredLayer}
+use Rattle.span_layers.specs.declared.layered.Layered.{Layered}
+use Rattle.span_registry.specs.Form.{Bare, Base, Filtered, Form, InPair, Leaf, OnSubscriber, Over}
+use Rattle.span_registry.specs.Hooks.{StackSteps}
+use Rattle.span_registry.specs.Place.{HearSteps, Here, Inner, Outer, Place, Under}
 use Rattle.span_registry.specs.Store.{RegistryState, new_registry}
 use Rattle.span_registry.specs.declared.limits.TheConstants.Limits.{MAX}
-use Rattle.span_run.specs.Run.{Run}
+use Rattle.span_run.specs.Mute.{mute_answers}
+use Rattle.span_run.specs.declared.mute.Mute.{Mute}
 use Rattle.span_run.specs.declared.stack_name.StackName.{StackName}
-use Rattle.span_run.specs.declared.stack_name.StackName.TheVariants.{Plain}
+use Rattle.span_run.specs.declared.stack_name.StackName.TheVariants.{Nested, Pair, Plain}
 
--- the stack answers these requests so, from an empty registry, and its recorders, innermost first, keep these notices
+-- the form of a recorder
+abbrev pub leaf : Form
+leaf = Leaf true open_answers
+
+-- the form of a stack. Plain: a recorder on the registry. Pair: `a`, which every level passes, and outside it `b`, which info and what is less verbose pass. Nested: `base`, and outside it `deep`, which those levels pass, where the event isn't muted
+abbrev pub form_of : StackName → Form
+form_of Plain = Over OnSubscriber leaf (Bare Base)
+form_of Pair = Over OnSubscriber (Over InPair (Filtered (Some 0) (level_answers INFO) leaf) (Filtered (Some 1) (level_answers TRACE) leaf)) (Bare Base)
+form_of Nested = Over OnSubscriber (Filtered (Some 0) mute_answers (Filtered (Some 1) (level_answers INFO) leaf)) (Over OnSubscriber leaf (Bare Base))
+
+-- where its recorders stand, innermost first
+abbrev pub places_of : StackName → List Place
+places_of Plain = Outer Here ∷ []
+places_of Pair = Outer (Inner (Under Here)) ∷ Outer (Outer (Under Here)) ∷ []
+places_of Nested = Inner (Outer Here) ∷ Outer (Under (Under Here)) ∷ []
+
+-- how many filters it has
+abbrev pub filters_of : StackName → ℕ
+filters_of Plain = 0
+filters_of Pair = 2
+filters_of Nested = 2
+
+-- its registry before the first request: it is empty, and handed out the stack's filters
+abbrev pub start_of : StackName → RegistryState
+start_of stack = record (new_registry MAX) { filters = filters_of stack }
+
+-- the stack answers these requests so, from its first registry on, and its recorders, innermost first, keep these notices
 abbrev pub Serves : StackName → List Request → List Answer → List (List Notice) → Type 0
-Serves Plain requests answers (notices ∷ []) = (after : RegistryState) × Run [] requests answers (new_registry MAX) notices after
-Serves stack requests answers kept = ⊥
+Serves stack requests answers kept =
+    (made : List (List Made)) × (after : RegistryState) × RunsBy (form_of stack) requests answers made (start_of stack) after × (kept ≡ map (kept_at made) (places_of stack))
+
+-- Below: the stacks themselves, before the first request.
+
+-- a new recorder on the first registry
+pub record BeginsPlain (x : Layered Kept RegistryState) : Type 0 where
+  pub base : outer_of x ≡ new_recorder
+  pub registry : inner_of x ≡ start_of Plain
+
+-- a new recorder under the filter of this number, which passes levels up to this one
+pub record BeginsUnder (n : ℕ) (most : LevelFilter) (x : FilteredLayer Kept LevelFilter) : Type 0 where
+  pub number : IsNumber (id_of x) (Some n)
+  pub level : filter_of x ≡ most
+  pub recorder : layer_of x ≡ new_recorder
+
+-- two new recorders, each under its level, on the first registry
+pub record BeginsPair (x : Layered (Layered (FilteredLayer Kept LevelFilter) (FilteredLayer Kept LevelFilter)) RegistryState) : Type 0 where
+  pub a : BeginsUnder 1 TRACE (inner_of (outer_of x))
+  pub b : BeginsUnder 0 INFO (outer_of (outer_of x))
+  pub registry : inner_of x ≡ start_of Pair
+
+-- a new recorder on the first registry, and outside it one under a level, and that under the filter of muted events
+pub record BeginsNested (x : Layered (FilteredLayer (FilteredLayer Kept LevelFilter) Mute) (Layered Kept RegistryState)) : Type 0 where
+  pub base : outer_of (inner_of x) ≡ new_recorder
+  pub number : IsNumber (id_of (outer_of x)) (Some 0)
+  pub deep : BeginsUnder 1 INFO (layer_of (outer_of x))
+  pub registry : inner_of (inner_of x) ≡ start_of Nested
+
+-- a stack was put in use, and then, if it was ready, it served these requests so
+pub record ServesInUse {S : Type 0} (registry : S → RegistryState) (with_registry : S → RegistryState → S) (has_form : S → Form → Type 0) (stepped : StackSteps S) (hears : HearSteps S) (registered : S → S → Type 0) (requests : List Request) (answers : List Answer) (x y : S) : Type 0 where
+  pub begun : S
+  pub in_use : registered x begun
+  pub same : registry begun ≡ registry x
+  pub served : IsReadySomehow registry with_registry has_form stepped x → Served registry with_registry has_form stepped hears requests answers begun y

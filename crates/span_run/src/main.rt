@@ -3,12 +3,10 @@
 
 mod fault;
 mod line;
-mod plain;
-mod recorder;
+mod mute;
 mod reply;
 mod run;
 mod script;
-mod serve;
 mod site;
 mod stack_name;
 mod stacks;

@@ -1,11 +1,9 @@
 use crate::fault::RunFault;
-use crate::plain::Plain;
 use crate::reply::{Heard, text_of};
 use crate::run::run;
 use crate::script::Script;
-use crate::site::span_site;
 use crate::stack_name::StackName;
-use span_core::{Attributes, FieldValue, Id, Lane, TraceError};
+use span_core::{FieldValue, Id, Lane, TraceError};
 use span_dispatch::{Answer, Notice, Request, Which};
 use std::alloc::{AllocError, Global};
 use std::io;
@@ -22,7 +20,7 @@ fn lines(alloc: Global, row: &str) -> Result<String, AllocError> {
 }
 
 /// Scripts and what they print.
-const ROWS: [(&str, &str); 9] = [
+const ROWS: [(&str, &str); 16] = [
     ("stack plain", "== base"),
     (
         "stack plain / new 0 2 p / new 0 3 c in p / drop 0 p / drop 0 c",
@@ -55,6 +53,34 @@ const ROWS: [(&str, &str); 9] = [
     (
         "stack plain / new 0 2 a / new 1 2 b / enter 0 a / enter 1 b / enter 1 a / enter 1 b / current 0 / current 1 / exit 1 b / current 1 / exit 1 a / current 1",
         "a / b / ok / ok / ok / ok / a / a / ok / a / ok / b / == base / new a / new b / enter a / enter b / enter a / enter b / exit b / exit a",
+    ),
+    (
+        "stack plain / new 0 2 p / clone p / drop 0 p / drop 0 p",
+        "p / ok / ok / ok / == base / new p / close p",
+    ),
+    (
+        "stack plain / enabled 0 5 / enabled 0 0",
+        "true / true / == base",
+    ),
+    (
+        "stack plain / event 0 9 mute / follows 0 ? ? / new 0 2 p / follows 0 p ?",
+        "ok / refused 1 / p / ok / == base / event 9 / new p / follows p ?",
+    ),
+    (
+        "stack pair / event 0 8 / event 0 7",
+        "ok / ok / == a / event 8 / event 7 / == b / event 7",
+    ),
+    (
+        "stack pair / new 0 3 p / new 0 2 q in p / enter 0 p / enter 0 q / record 0 p / follows 0 q p / exit 0 q / drop 0 q / exit 0 p / drop 0 p",
+        "p / q / ok / ok / ok / ok / ok / ok / ok / ok / == a / new p / new q / enter p / enter q / record p / follows q p / exit q / close q / exit p / close p / == b / new q / enter q / exit q / close q",
+    ),
+    (
+        "stack nested / event 0 8 mute / event 0 7 / event 0 7 mute",
+        "ok / ok / ok / == base / event 8 / event 7 / event 7 / == deep / event 7",
+    ),
+    (
+        "stack nested / new 0 2 p / new 0 2 q / drop 0 q / follows 0 p q / follows 0 p p / follows 0 q p",
+        "p / q / ok / ok / ok / refused 1 / == base / new p / new q / close q / follows p q / follows p p / == deep / new p / new q / close q / follows p p",
     ),
 ];
 
@@ -406,23 +432,5 @@ fn a_chain_closes_by_one_drop(rt: HostRuntime) -> Result<(), Fail> {
     let mut output = Vec::new(rt.alloc());
     run(rt.alloc(), &mut script.as_bytes(), &mut output)?;
     assert!(rt; output.as_slice() == replies.as_bytes());
-    Ok(())
-}
-
-#[test]
-fn a_stack_shows_its_registry(rt: HostRuntime) -> Result<(), Fail> {
-    let mut plain = Plain::new(rt.alloc());
-    let lane = Lane(0);
-    let site = span_site("2");
-    assert!(rt; site.is_some());
-    if let Some(site) = site {
-        let made = plain.new_span(lane, &Attributes::new(site, &[]))?;
-        assert!(rt; made.is_some());
-        if let Some(id) = made {
-            assert!(rt; plain.registry().is_open(id));
-            assert!(rt; plain.drop_span(lane, id)?);
-            assert!(rt; !plain.registry().is_open(id));
-        }
-    }
     Ok(())
 }

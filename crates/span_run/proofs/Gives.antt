@@ -1,0 +1,31 @@
+-- What is printed of what a stack serves.
+use Rattle.std.proofs.Common.{◌≡◌, ℕ, List, map, Result, Ok, Err, IfOk, sym, subst}
+use Rattle.span_dispatch.specs.declared.notice.Notice.{Notice}
+use Rattle.span_dispatch.specs.declared.request.Answer.{Answer}
+use Rattle.span_dispatch.specs.declared.request.Request.{Request}
+use Rattle.span_run.specs.Program.{Gives, IsPrinted}
+use Rattle.span_run.specs.Script.{lines_of, recorders_of, requests_of}
+use Rattle.span_run.specs.Stacks.{Serves}
+use Rattle.span_run.specs.declared.script.Script.{Script}
+use Rattle.span_run.specs.declared.stack_name.StackName.{StackName}
+
+pub gives : (stack : StackName) (script : Script) (asked : List Request) (given answers : List Answer) (heard : List (List ℕ × List Notice)) (kept : List (List Notice)) (text : List ℕ) → Serves stack asked given kept → asked ≡ requests_of script → answers ≡ given
+    → map (λ one. one.1) heard ≡ kept → map (λ one. one.0) heard ≡ recorders_of stack → IsPrinted (lines_of script) answers heard text → Gives stack script text
+gives stack script asked given answers heard kept text served same_requests same_answers same_kept named printed = record {
+  answers = answers;
+  heard = heard;
+  served = subst (λ rs. Serves stack rs answers (map (λ one. one.1) heard)) same_requests
+      (subst (λ xs. Serves stack asked xs (map (λ one. one.1) heard)) (sym same_answers)
+      (subst (λ ns. Serves stack asked given ns) (sym same_kept) served));
+  named = named;
+  printed = printed;
+}
+
+-- two facts of what came of a call, and three
+pub two_ok : {X Y : Type 0} (r : Result X Y) (P Q R : X → Type 0) → IfOk r P → IfOk r Q → ((x : X) → P x → Q x → R x) → IfOk r R
+two_ok (Ok x) P Q R p q f = f x p q
+two_ok (Err e) P Q R p q f = tt
+
+pub three_ok : {X Y : Type 0} (r : Result X Y) (P Q T R : X → Type 0) → IfOk r P → IfOk r Q → IfOk r T → ((x : X) → P x → Q x → T x → R x) → IfOk r R
+three_ok (Ok x) P Q T R p q t f = f x p q t
+three_ok (Err e) P Q T R p q t f = tt

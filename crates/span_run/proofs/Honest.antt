@@ -1,0 +1,128 @@
+-- The three stacks are honest, and stay so.
+use Rattle.std.proofs.Common.{◌≡◌, ℕ, ◌<◌, ◌||◌, ◌==◌, Bool, true, false, Some, arith, refl, sym, ap, subst, ◌∙◌}
+use Rattle.std.proofs.lemmas.Bool.{eqb-true, false_from_ne_true, false≢true}
+use Rattle.std.specs.Prelude.{⊤}
+use Rattle.span_core.specs.declared.level.LevelFilter.{LevelFilter}
+use Rattle.span_core.specs.declared.level.TheConstants.LevelFilter.{INFO, TRACE}
+use Rattle.span_dispatch.specs.Recorder.{Kept, new_recorder}
+use Rattle.span_filters.specs.Level.{level_answers, level_honest}
+use Rattle.span_layers.specs.Filtered.{IsNumber, filter_of, id_of, layer_of}
+use Rattle.span_layers.specs.Honest.{IsHonestStack}
+use Rattle.span_layers.specs.Layered.{inner_of, outer_of}
+use Rattle.span_layers.specs.Observe.{open_answers}
+use Rattle.span_layers.specs.declared.filtered.Filtered.{Filtered as FilteredLayer}
+use Rattle.span_layers.specs.declared.layered.Layered.{Layered}
+use Rattle.span_registry.specs.Answers.{AreHonest}
+use Rattle.span_registry.specs.Follows.{RefusesNothing}
+use Rattle.span_registry.specs.Store.{RegistryState}
+use Rattle.span_run.proofs.Begins.{Levelled}
+use Rattle.span_run.proofs.Steady.{StayBoth, StaysUnder}
+use Rattle.span_run.specs.Mute.{mute_answers, mute_honest}
+use Rattle.span_run.specs.Stacks.{BeginsNested, BeginsPair, BeginsUnder, form_of}
+use Rattle.span_run.specs.declared.mute.Mute.{Mute}
+use Rattle.span_run.specs.declared.stack_name.StackName.TheVariants.{Nested, Pair, Plain}
+
+open_honest : AreHonest open_answers
+open_honest = record { always = λ m v e. refl; never = λ m v e. absurd (cc); above = λ m v e. absurd (cc) }
+
+quiet : RefusesNothing open_answers
+quiet = record { enabled = λ m v. refl; event = λ e v. refl }
+
+pub honest_plain : IsHonestStack (form_of Plain) 0
+honest_plain = record {
+  answers = (open_honest, tt);
+  numbers = record { distinct = (tt, tt, λ k h. refl); handed_out = λ k h. absurd (false≢true h) };
+  orderly = (tt, tt);
+  still = (refl, tt);
+  stack = refl;
+}
+
+either : (a b : Bool) {A : Type 0} → (a ≡ true → A) → (b ≡ true → A) → (a || b) ≡ true → A
+either true b f g h = f refl
+either false b f g h = g h
+
+is_one : (k n : ℕ) → ((k == n) || false) ≡ true → k ≡ n
+is_one k n h = either (k == n) false (λ e. eqb-true k n e) (λ e. absurd (false≢true e)) h
+
+-- the two numbers are each another
+apart : (k : ℕ) → ((k == 0) || false) ≡ true → ((k == 1) || false) ≡ false
+apart k h = false_from_ne_true ((k == 1) || false) (λ g. let x = is_one k 0 h in let y = is_one k 1 g in omega (arith, x, y))
+
+none_below_two : (k : ℕ) → k ≡ 0 → k < 2
+none_below_two k x = omega (arith, x)
+
+one_below_two : (k : ℕ) → k ≡ 1 → k < 2
+one_below_two k x = omega (arith, x)
+
+first_two : (k : ℕ) → ((((k == 0) || false) || ((k == 1) || false)) || false) ≡ true → k < 2
+first_two k h =
+    either (((k == 0) || false) || ((k == 1) || false)) false
+    (λ e. either ((k == 0) || false) ((k == 1) || false) (λ f. none_below_two k (is_one k 0 f)) (λ f. one_below_two k (is_one k 1 f)) e) (λ e. absurd (false≢true e)) h
+
+both_first : (k : ℕ) → (((k == 0) || ((k == 1) || false)) || (false || false)) ≡ true → k < 2
+both_first k h =
+    either ((k == 0) || ((k == 1) || false)) (false || false)
+    (λ e. either (k == 0) ((k == 1) || false) (λ f. none_below_two k (eqb-true k 0 f)) (λ f. one_below_two k (is_one k 1 f)) e) (λ e. absurd (false≢true e)) h
+
+pub honest_pair : IsHonestStack (form_of Pair) 2
+honest_pair = record {
+  answers = (((level_honest INFO, open_honest), (level_honest TRACE, open_honest)), tt);
+  numbers = record { distinct = (((refl, tt), (refl, tt), apart), tt, λ k h. refl); handed_out = first_two };
+  orderly = ((quiet, quiet), tt);
+  still = ((refl, refl), tt);
+  stack = refl;
+}
+
+pub honest_nested : IsHonestStack (form_of Nested) 2
+honest_nested = record {
+  answers = ((mute_honest, (level_honest INFO, open_honest)), (open_honest, tt));
+  numbers = record { distinct = ((refl, (refl, tt)), (tt, tt, λ k h. refl), λ k h. refl); handed_out = both_first };
+  orderly = (quiet, (tt, tt));
+  still = (refl, (refl, tt));
+  stack = refl;
+}
+
+-- ---- what settles their forms
+
+abbrev pub StaysLevelled : ℕ → LevelFilter → Levelled → Type 0
+StaysLevelled n level = StaysUnder n level_answers (level_answers level) (λ (r : Kept). ⊤)
+
+abbrev pub StaysPlain : Layered Kept RegistryState → Type 0
+StaysPlain = StayBoth (λ r. ⊤) (λ s. ⊤)
+
+abbrev pub StaysPair : Layered (Layered Levelled Levelled) RegistryState → Type 0
+StaysPair = StayBoth (StayBoth (StaysLevelled 0 INFO) (StaysLevelled 1 TRACE)) (λ s. ⊤)
+
+abbrev pub StaysNested : Layered (FilteredLayer Levelled Mute) (Layered Kept RegistryState) → Type 0
+StaysNested = StayBoth (StaysUnder 0 (λ (f : Mute). mute_answers) mute_answers (StaysLevelled 1 INFO)) StaysPlain
+
+pub stays_plain : (x : Layered Kept RegistryState) → StaysPlain x
+stays_plain x = record { outer = tt; inner = tt }
+
+stays_levelled : (n : ℕ) (level : LevelFilter) (x : Levelled) → BeginsUnder n level x → StaysLevelled n level x
+stays_levelled n level x h = record { number = h.number; answered = ap level_answers h.level; inside = tt }
+
+pub stays_pair : (x : Layered (Layered Levelled Levelled) RegistryState) → BeginsPair x → StaysPair x
+stays_pair x h = record { outer = record { outer = stays_levelled 0 INFO (outer_of (outer_of x)) h.b; inner = stays_levelled 1 TRACE (inner_of (outer_of x)) h.a }; inner = tt }
+
+pub stays_nested : (x : Layered (FilteredLayer Levelled Mute) (Layered Kept RegistryState)) → BeginsNested x → StaysNested x
+stays_nested x h = record { outer = record { number = h.number; answered = refl; inside = stays_levelled 1 INFO (layer_of (outer_of x)) h.deep }; inner = stays_plain (inner_of x) }
+
+-- ---- they begin as they were made, once they are in use
+
+abbrev IsUsed : Levelled → Levelled → Type 0
+IsUsed x y = (id_of y ≡ id_of x) × (filter_of y ≡ filter_of x) × (layer_of y ≡ layer_of x)
+
+used_levelled : (n : ℕ) (level : LevelFilter) (x y : Levelled) → IsUsed x y → BeginsUnder n level x → BeginsUnder n level y
+used_levelled n level x y u h = record { number = subst (λ i. IsNumber i (Some n)) (sym u.0) h.number; level = u.1 ∙ h.level; recorder = u.2 ∙ h.recorder }
+
+pub used_pair : (x y : Layered (Layered Levelled Levelled) RegistryState) → IsUsed (outer_of (outer_of x)) (outer_of (outer_of y)) → IsUsed (inner_of (outer_of x)) (inner_of (outer_of y)) → inner_of y ≡ inner_of x → BeginsPair x → BeginsPair y
+used_pair x y b a same h = record { a = used_levelled 1 TRACE (inner_of (outer_of x)) (inner_of (outer_of y)) a h.a; b = used_levelled 0 INFO (outer_of (outer_of x)) (outer_of (outer_of y)) b h.b; registry = same ∙ h.registry }
+
+pub used_nested : (x y : Layered (FilteredLayer Levelled Mute) (Layered Kept RegistryState)) → id_of (outer_of y) ≡ id_of (outer_of x) → IsUsed (layer_of (outer_of x)) (layer_of (outer_of y)) → outer_of (inner_of y) ≡ outer_of (inner_of x) → inner_of (inner_of y) ≡ inner_of (inner_of x) → BeginsNested x → BeginsNested y
+used_nested x y id deep base same h = record {
+  base = base ∙ h.base;
+  number = subst (λ i. IsNumber i (Some 0)) (sym id) h.number;
+  deep = used_levelled 1 INFO (layer_of (outer_of x)) (layer_of (outer_of y)) deep h.deep;
+  registry = same ∙ h.registry;
+}

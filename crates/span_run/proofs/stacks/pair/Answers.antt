@@ -1,0 +1,21 @@
+use Rattle.std.proofs.Common.{subst, sym}
+use Rattle.span_core.specs.declared.level.TheConstants.LevelFilter.{INFO, TRACE}
+use Rattle.span_layers.specs.Filtered.{IsUnnumbered}
+use Rattle.span_run.proofs.Begins.{Levelled, begins_pair, pair_has_room}
+use Rattle.span_run.proofs.stacks.pair.Goals as goal
+
+pub unreachable-requires : goal.unreachable-requires
+unreachable-requires c =
+    let p = c.and_then.ensures in
+    pair_has_room c.and_then.result c.new.result c.new-2.result c.new-3.result c.new-3.ensures
+    (subst (λ (u : Levelled). IsUnnumbered u c.new.result TRACE) (sym p.below) c.with_filter-a.ensures)
+    (subst (λ (u : Levelled). IsUnnumbered u c.new-2.result INFO) (sym p.layer) c.with_filter-b.ensures) c.in-Err.ensures.refused.full
+
+pub returns : goal.returns
+returns c =
+    let p = c.and_then.ensures in
+    let h = c.in-Ok.ensures.attached in
+    begins_pair c.and_then.result c.new.result c.new-2.result c.new-3.result c.new-3.ensures
+    (subst (λ (u : Levelled). IsUnnumbered u c.new.result TRACE) (sym p.below) c.with_filter-a.ensures)
+    (subst (λ (u : Levelled). IsUnnumbered u c.new-2.result INFO) (sym p.layer) c.with_filter-b.ensures)
+    c.in-Ok.stack c.new.ensures c.new-2.ensures h.numbers.alone h.numbers.form h.numbers.next h.layer_as_it_was.0 h.layer_as_it_was.1
