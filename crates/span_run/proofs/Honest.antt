@@ -4,7 +4,7 @@ use Rattle.std.proofs.lemmas.Bool.{eqb-true, false_from_ne_true, false≢true}
 use Rattle.std.specs.Prelude.{⊤}
 use Rattle.span_core.specs.declared.level.LevelFilter.{LevelFilter}
 use Rattle.span_core.specs.declared.level.TheConstants.LevelFilter.{INFO, TRACE}
-use Rattle.span_dispatch.specs.Recorder.{Kept, new_recorder}
+use Rattle.span_dispatch.specs.Recorder.{Kept}
 use Rattle.span_filters.specs.Level.{level_answers, level_honest}
 use Rattle.span_layers.specs.Filtered.{IsNumber, filter_of, id_of, layer_of}
 use Rattle.span_layers.specs.Honest.{IsHonestStack}

@@ -1,15 +1,13 @@
 -- Stacks that always have one form, since what settles it stays as it is: their runs, and what their recorders keep.
-use Rattle.std.proofs.Common.{◌≡◌, ℕ, ◌<◌, List, [], ◌∷◌, ◌++◌, Bool, true, false, ◌||◌, ◌==◌, Option, Some, None, refl, sym, ap, subst, ◌∙◌, map, arith}
+use Rattle.std.proofs.Common.{◌≡◌, ℕ, List, [], ◌++◌, false, Option, Some, None, refl, sym, ap, subst, ◌∙◌}
 use Rattle.std.specs.Prelude.{⊤}
-use Rattle.std.proofs.lemmas.Bool.{eq-eqb, eqb-true, false≢true, true≢false}
+use Rattle.std.proofs.lemmas.Bool.{eq-eqb, eqb-true, true≢false}
 use Rattle.std.proofs.lemmas.List.{append-nil}
 use Rattle.span_core.specs.Filters.{FilterSet}
 use Rattle.span_core.specs.declared.filter.FilterId.{FilterId}
-use Rattle.span_core.specs.declared.level.LevelFilter.{LevelFilter}
 use Rattle.span_dispatch.proofs.Fixed.{runs_by}
 use Rattle.span_dispatch.specs.Fixed.{RunsBy}
-use Rattle.span_dispatch.specs.Outcome.{IsHonest}
-use Rattle.span_dispatch.specs.Recorder.{Kept, Records, kept_notice, new_recorder, recorder_steps}
+use Rattle.span_dispatch.specs.Recorder.{Kept, Records, new_recorder, recorder_steps}
 use Rattle.span_dispatch.specs.Serve.{IsReadySomehow, Served}
 use Rattle.span_dispatch.specs.declared.notice.Notice.{Notice as KeptNotice}
 use Rattle.span_dispatch.specs.declared.request.Answer.{Answer}

@@ -1,5 +1,5 @@
 -- What the filter answers that lets no muted event by.
-use Rattle.std.specs.Prelude.{◌≡◌, ℕ, Bool, true, false, not, ◌&&◌, List, None, bytes_eq, codes, refl}
+use Rattle.std.specs.Prelude.{ℕ, Bool, true, false, not, ◌&&◌, List, None, bytes_eq, codes, refl}
 use Rattle.std.specs.Borrow.{Bor}
 use Rattle.std.specs.List.{list_any}
 use Rattle.span_core.specs.Event.{event_values}

@@ -1,4 +1,4 @@
-use Rattle.std.proofs.Common.{◌≡◌, ◌∷◌, [], List, false, codes, refl, ap, subst, ◌∙◌, string_bytes}
+use Rattle.std.proofs.Common.{◌≡◌, ◌∷◌, [], false, codes, refl, ap, subst, ◌∙◌, string_bytes}
 use Rattle.span_core.specs.declared.level.TheConstants.LevelFilter.{INFO}
 use Rattle.span_dispatch.specs.Recorder.{Kept}
 use Rattle.span_dispatch.specs.Serve.{stack_of}

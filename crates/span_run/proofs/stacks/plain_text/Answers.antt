@@ -1,5 +1,4 @@
-use Rattle.std.proofs.Common.{◌≡◌, ◌∷◌, [], List, false, codes, refl, sym, ap, subst, ◌∙◌, string_bytes}
-use Rattle.span_dispatch.specs.Fixed.{kept_at}
+use Rattle.std.proofs.Common.{◌≡◌, ◌∷◌, [], List, false, codes, refl, ap, subst, ◌∙◌, string_bytes}
 use Rattle.span_dispatch.specs.Recorder.{Kept}
 use Rattle.span_dispatch.specs.Serve.{stack_of}
 use Rattle.span_dispatch.specs.declared.notice.Notice.{Notice}
