@@ -15,10 +15,10 @@ use Rattle.std.specs.Option.{option_map}
 use Rattle.span_core.specs.declared.span.Id.{Id}
 use Rattle.span_core.specs.declared.span.Lane.{Lane}
 use Rattle.span_core.specs.declared.span.Record.{Record}
-use Rattle.span_dispatch.proofs.Goes.{Done, by_call, by_change, by_none, honest_after, honest_quietly, quietly}
+use Rattle.span_dispatch.proofs.Goes.{Done, keeps_again, by_call, by_change, by_none, honest_after, honest_quietly, quietly}
 use Rattle.span_dispatch.specs.Call.{AddHandle, AskCurrent, Call, DropHandle, Enter, Exit, Follow, OpenSpan, Probe, RecordValues, SendEvent, closes_of, current_answer, done_answer}
 use Rattle.span_dispatch.specs.Outcome.{GoneLeft, HandleAdded, HandleTaken, IsHonest, Made, Makes, Noticed, Notices, Outcome, Quiet}
-use Rattle.span_dispatch.specs.Serve.{ClosesEach, IsReady, IsReadySomehow, outcome_of}
+use Rattle.span_dispatch.specs.Serve.{ClosesEach, IsReady, IsReadyAfter, outcome_of}
 use Rattle.span_dispatch.specs.declared.request.Answer.TheVariants as answer
 use Rattle.span_dispatch.specs.declared.request.Answer.{Answer}
 use Rattle.span_layers.proofs.CallerLemmas.{asked_by_nobody, asked_with_new_pass, event_asked_with_new_pass}
@@ -28,6 +28,7 @@ use Rattle.span_layers.proofs.Pass.{asked_unless_vetoed, event_fresh, event_unle
 use Rattle.span_layers.specs.Verdict.{vetoes, vetoes_event}
 use Rattle.span_registry.specs.Answers.{Notice, OnClose, OnEnter, OnEvent, OnExit, OnFollows, OnNewSpan, OnRecord}
 use Rattle.span_registry.specs.Closes.{IsSettled}
+use Rattle.span_registry.specs.Follows.{Keeps, kept_form}
 use Rattle.span_registry.specs.Form.{Form}
 use Rattle.span_registry.specs.Hooks.{AnswersEnabled, AnswersEvent, Notifies, OpensAndNotifies, StackLaws, StackSteps, Stays, no_filter}
 use Rattle.span_registry.specs.Place.{HearSteps}
@@ -224,16 +225,16 @@ module _ {S : Type 0} {registry : S → RegistryState} {with_registry : S → Re
             goes = (z, record { honest = h.honest; store = refl; goes = q }, notices.1);
           },
         ),
-        λ s. (notices.3.0, record { honest = notices.3.1; settled = settled_closed (registry x) (registry y) id k.closed all }),
+        λ s. (notices.3.0, record { honest = notices.3.1; settled = settled_closed (registry x) (registry y) id k.closed all }, keeps_again f after.0 notices.3.0 after.2 notices.3.2),
       )
 
   -- so far these spans have closed, and this one is closing now
   pub record SoFar (lane : Lane) (id : Id) (x : S) (xs : List ℕ) (next : Option Id) (y : S) : Type 0 where
     pub removal : Removal SameButExtensions (registry x) id xs next (registry y)
-    pub notices : (f : Form) → IsHonest registry with_registry has_form stepped f x → (made : List Made) × FoldsTo (Makes registry with_registry has_form stepped) x made y × (map outcome_of made ≡ closes_of lane xs) × ((g : Form) × IsHonest registry with_registry has_form stepped g y)
+    pub notices : (f : Form) → IsHonest registry with_registry has_form stepped f x → (made : List Made) × FoldsTo (Makes registry with_registry has_form stepped) x made y × (map outcome_of made ≡ closes_of lane xs) × ((g : Form) × IsHonest registry with_registry has_form stepped g y × Keeps f g)
 
   pub nothing_yet : (lane : Lane) (id : Id) (x : S) → SoFar lane id x [] (Some id) x
-  nothing_yet lane id x = record { removal = Begun; notices = λ f h. ([], refl, refl, (f, h)) }
+  nothing_yet lane id x = record { removal = Begun; notices = λ f h. ([], refl, refl, (f, h, kept_form f)) }
 
   closes_more : (lane : Lane) (xs : List ℕ) (x : ℕ) → closes_of lane (xs ++ (x ∷ [])) ≡ closes_of lane xs ++ (Noticed lane (OnClose (id_of x)) ∷ [])
   closes_more lane [] x = refl
@@ -275,11 +276,12 @@ module _ {S : Type 0} {registry : S → RegistryState} {with_registry : S → Re
               after = (next, removes);
               rest = ap (λ t. with_registry z t) (sym (registry_with z w));
             } in
+            let last = honest_after laws with_own g lane (OnClose span) y u before.3.1 notice in
             let m : Made = record { form = g; store = (registry y).store; outcome = Noticed lane (OnClose span) } in (
               before.0 ++ (m ∷ []),
               folds_more x before.0 y m u before.1 (record { honest = before.3.1; store = refl; goes = notice }),
               outcomes_more before.0 m ∙ ap (λ os. os ++ (m.outcome ∷ [])) before.2 ∙ sym (closes_more lane xs (number_of span)),
-              honest_after laws with_own g lane (OnClose span) y u before.3.1 notice,
+              (last.0, last.1, keeps_again f g last.0 before.3.2 last.2),
             );
       }
 
@@ -288,7 +290,7 @@ module _ {S : Type 0} {registry : S → RegistryState} {with_registry : S → Re
 
   -- ---- a stack that is put in use
 
-  pub used_so : (f : Form) (x y : S) → registered x y → registry y ≡ registry x → Ready f x → IsReadySomehow registry with_registry has_form stepped y
+  pub used_so : (f : Form) (x y : S) → registered x y → registry y ≡ registry x → Ready f x → IsReadyAfter registry with_registry has_form stepped f y
   used_so f x y used same h =
       let next = laws.put_in_use x y f used h.honest.has in (
         next.0,
@@ -296,4 +298,5 @@ module _ {S : Type 0} {registry : S → RegistryState} {with_registry : S → Re
           honest = record { has = next.1; rules = subst (λ n. IsHonestStack next.0 n) (sym (ap (λ (s : RegistryState). s.filters) same)) (honesty_is_kept f next.0 (registry x).filters next.2 h.honest.rules) };
           settled = subst (λ (s : RegistryState). IsSettled s.store.spans) (sym same) h.settled;
         },
+        next.2,
       )

@@ -4,19 +4,59 @@ use Rattle.span_core.specs.Filters.{FilterSet}
 use Rattle.span_core.specs.declared.span.Lane.{Lane}
 use Rattle.span_dispatch.specs.Call.{Call, Comes}
 use Rattle.span_dispatch.specs.Outcome.{Change, Changes, GoneLeft, HandleAdded, HandleTaken, IsHonest, Made, Noticed, Notices, Quiet, Quiets, StepsAfter, StepsBefore}
-use Rattle.span_dispatch.specs.Serve.{IsReady, IsReadySomehow, Serves}
+use Rattle.span_dispatch.specs.Serve.{IsReady, IsReadyAfter, Serves}
 use Rattle.span_dispatch.specs.declared.request.Answer.{Answer}
 use Rattle.span_layers.proofs.HonestKept.{honesty_is_kept}
 use Rattle.span_layers.specs.Honest.{IsHonestStack}
 use Rattle.span_registry.proofs.CallerLemmas.{settled_opened}
-use Rattle.span_registry.specs.Answers.{Notice, OnClose, OnEnter, OnEvent, OnExit, OnFollows, OnIdChange, OnNewSpan, OnRecord}
+use Rattle.span_registry.specs.Answers.{Answers, Notice, OnClose, OnEnter, OnEvent, OnExit, OnFollows, OnIdChange, OnNewSpan, OnRecord}
 use Rattle.span_registry.specs.Closes.{IsSettled}
-use Rattle.span_registry.specs.Follows.{Follows, kept_form}
-use Rattle.span_registry.specs.Form.{Form}
+use Rattle.span_registry.specs.Follows.{AnswersKeep, Follows, Keeps, kept_form}
+use Rattle.span_registry.specs.Form.{Bare, Filtered, Form, Leaf, Over}
 use Rattle.span_registry.specs.Hooks.{Notifies, StackLaws, StackSteps, no_filter}
 use Rattle.span_registry.specs.Place.{HearSteps}
 use Rattle.span_registry.specs.Plan.{asked_afresh, by_pass}
 use Rattle.span_registry.specs.Store.{RegistryState}
+
+-- ---- what is kept of what was kept is kept
+
+answers_again : (a b c : Answers) → AnswersKeep a b → AnswersKeep b c → AnswersKeep a c
+answers_again a b c p q = record {
+  same = record { interest = q.same.interest ∙ p.same.interest; hint = q.same.hint ∙ p.same.hint };
+  honest = λ h. q.honest (p.honest h);
+  quiet = λ h. q.quiet (p.quiet h);
+}
+
+pub keeps_again : (f g h : Form) → Keeps f g → Keeps g h → Keeps f h
+keeps_again (Leaf still a) (Leaf quiet b) (Leaf calm c) p q = (q.0 ∙ p.0, answers_again a b c p.1 q.1)
+keeps_again (Filtered n a f) (Filtered m b g) (Filtered l c h) p q =
+    (q.0 ∙ p.0, record { interest = q.1.interest ∙ p.1.interest; hint = q.1.hint ∙ p.1.hint }, (λ k. q.2 (p.2 k)), keeps_again f g h p.3 q.3)
+keeps_again (Over k o i) (Over l p j) (Over m q n) x y = (y.0 ∙ x.0, keeps_again o p q x.1 y.1, keeps_again i j n x.2 y.2)
+keeps_again (Bare v) (Bare w) (Bare z) p q = q ∙ p
+keeps_again (Leaf a0 a1) (Leaf b0 b1) (Filtered c0 c1 c2) p q = absurd q
+keeps_again (Leaf a0 a1) (Leaf b0 b1) (Over c0 c1 c2) p q = absurd q
+keeps_again (Leaf a0 a1) (Leaf b0 b1) (Bare c0) p q = absurd q
+keeps_again (Leaf a0 a1) (Filtered b0 b1 b2) h p q = absurd p
+keeps_again (Leaf a0 a1) (Over b0 b1 b2) h p q = absurd p
+keeps_again (Leaf a0 a1) (Bare b0) h p q = absurd p
+keeps_again (Filtered a0 a1 a2) (Leaf b0 b1) h p q = absurd p
+keeps_again (Filtered a0 a1 a2) (Filtered b0 b1 b2) (Leaf c0 c1) p q = absurd q
+keeps_again (Filtered a0 a1 a2) (Filtered b0 b1 b2) (Over c0 c1 c2) p q = absurd q
+keeps_again (Filtered a0 a1 a2) (Filtered b0 b1 b2) (Bare c0) p q = absurd q
+keeps_again (Filtered a0 a1 a2) (Over b0 b1 b2) h p q = absurd p
+keeps_again (Filtered a0 a1 a2) (Bare b0) h p q = absurd p
+keeps_again (Over a0 a1 a2) (Leaf b0 b1) h p q = absurd p
+keeps_again (Over a0 a1 a2) (Filtered b0 b1 b2) h p q = absurd p
+keeps_again (Over a0 a1 a2) (Over b0 b1 b2) (Leaf c0 c1) p q = absurd q
+keeps_again (Over a0 a1 a2) (Over b0 b1 b2) (Filtered c0 c1 c2) p q = absurd q
+keeps_again (Over a0 a1 a2) (Over b0 b1 b2) (Bare c0) p q = absurd q
+keeps_again (Over a0 a1 a2) (Bare b0) h p q = absurd p
+keeps_again (Bare a0) (Leaf b0 b1) h p q = absurd p
+keeps_again (Bare a0) (Filtered b0 b1 b2) h p q = absurd p
+keeps_again (Bare a0) (Over b0 b1 b2) h p q = absurd p
+keeps_again (Bare a0) (Bare b0) (Leaf c0 c1) p q = absurd q
+keeps_again (Bare a0) (Bare b0) (Filtered c0 c1 c2) p q = absurd q
+keeps_again (Bare a0) (Bare b0) (Over c0 c1 c2) p q = absurd q
 
 -- ---- what a notice leaves of the registry
 
@@ -71,20 +111,20 @@ module _ {S : Type 0} {registry : S → RegistryState} {with_registry : S → Re
   Honest f x = IsHonest registry with_registry has_form stepped f x
 
   -- a form that follows, on as many filters, is honest
-  followed : (f : Form) (x y : S) → Honest f x → Follows (has_form y) f → (registry y).filters ≡ (registry x).filters → (g : Form) × Honest g y
-  followed f x y h k e = (k.0, record { has = k.1; rules = subst (λ n. IsHonestStack k.0 n) (sym e) (honesty_is_kept f k.0 (registry x).filters k.2 h.rules) })
+  followed : (f : Form) (x y : S) → Honest f x → Follows (has_form y) f → (registry y).filters ≡ (registry x).filters → (g : Form) × Honest g y × Keeps f g
+  followed f x y h k e = (k.0, record { has = k.1; rules = subst (λ n. IsHonestStack k.0 n) (sym e) (honesty_is_kept f k.0 (registry x).filters k.2 h.rules) }, k.2)
 
   elsewhere : (f : Form) (x y : S) (w : RegistryState) → y ≡ with_registry x w → Follows (has_form x) f → Follows (has_form y) f
   elsewhere f x y w e k = (k.0, subst (λ z. has_form z k.0) (sym e) (laws.form_with x w k.0 k.1), k.2)
 
   -- after a notice an honest stack is honest
-  pub honest_after : (f : Form) (lane : Lane) (e : Notice) (x y : S) → Honest f x → Notices registry with_registry has_form stepped f lane e x y → (g : Form) × Honest g y
+  pub honest_after : (f : Form) (lane : Lane) (e : Notice) (x y : S) → Honest f x → Notices registry with_registry has_form stepped f lane e x y → (g : Form) × Honest g y × Keeps f g
   honest_after f lane e x y h n =
       let next = laws.keeps x _ e lane.0 n.left n.notified (registry n.notified) f n.layers h.has in
       followed f x y h (elsewhere f n.notified y (registry y) n.rest next) (filters_after e (registry n.notified) (registry y) n.after ∙ n.extensions.filters ∙ filters_before f lane e (registry x) n.left n.before)
 
   -- after a quiet change it is
-  pub honest_quietly : (f : Form) (c : Change) (x y : S) → Honest f x → Quiets registry with_registry has_form stepped c x y → (g : Form) × Honest g y
+  pub honest_quietly : (f : Form) (c : Change) (x y : S) → Honest f x → Quiets registry with_registry has_form stepped c x y → (g : Form) × Honest g y × Keeps f g
   honest_quietly f c x y h q = followed f x y h (elsewhere f x y (registry y) q.rest (f, h.has, kept_form f)) (filters_changed c (registry x) (registry y) q.changes)
 
   -- ---- a call that is served by one outcome, or by none
@@ -94,10 +134,10 @@ module _ {S : Type 0} {registry : S → RegistryState} {with_registry : S → Re
 
   -- it is served, and the stack is ready again where no span was closing
   abbrev pub Done : Call → Answer → Form → S → S → Type 0
-  Done call a f x y = ((made : List Made) × Serves registry with_registry has_form stepped call f x a made y) × (IsSettled (registry x).store.spans → IsReadySomehow registry with_registry has_form stepped y)
+  Done call a f x y = ((made : List Made) × Serves registry with_registry has_form stepped call f x a made y) × (IsSettled (registry x).store.spans → IsReadyAfter registry with_registry has_form stepped f y)
 
   pub by_none : (call : Call) (a : Answer) (f : Form) (x y : S) → Honest f x → y ≡ x → Comes call f (registry x) a [] → Done call a f x y
-  by_none call a f x y h e c = (([], record { comes = c; goes = sym e }), λ s. (f, subst (Ready f) (sym e) (record { honest = h; settled = s })))
+  by_none call a f x y h e c = (([], record { comes = c; goes = sym e }), λ s. (f, subst (Ready f) (sym e) (record { honest = h; settled = s }), kept_form f))
 
   pub by_notice : (call : Call) (a : Answer) (f : Form) (lane : Lane) (e : Notice) (x y : S) → Honest f x → Comes call f (registry x) a (Noticed lane e ∷ [])
       → (n : Notices registry with_registry has_form stepped f lane e x y) → (registry y).store.spans ≡ n.left.store.spans → Done call a f x y
@@ -105,7 +145,7 @@ module _ {S : Type 0} {registry : S → RegistryState} {with_registry : S → Re
       let m : Made = record { form = f; store = (registry x).store; outcome = Noticed lane e } in
       let next = honest_after f lane e x y h n in (
         (m ∷ [], record { comes = c; goes = (y, record { honest = h; store = refl; goes = n }, refl) }),
-        λ s. (next.0, record { honest = next.1; settled = subst IsSettled (sym same) (settled_before f lane e (registry x) n.left n.before s) }),
+        λ s. (next.0, record { honest = next.1; settled = subst IsSettled (sym same) (settled_before f lane e (registry x) n.left n.before s) }, next.2),
       )
 
   -- the same of a call of the stack, which notified by a plan that is the plan asked afresh
@@ -129,9 +169,13 @@ module _ {S : Type 0} {registry : S → RegistryState} {with_registry : S → Re
       let m : Made = record { form = f; store = (registry x).store; outcome = Quiet k } in
       let next = honest_quietly f k x y h q in (
         (m ∷ [], record { comes = c; goes = (y, record { honest = h; store = refl; goes = q }, refl) }),
-        λ before. (next.0, record { honest = next.1; settled = s before }),
+        λ before. (next.0, record { honest = next.1; settled = s before }, next.2),
       )
 
   -- a stack with another registry
   pub quietly : ((s : S) (w : RegistryState) → registry (with_registry s w) ≡ w) → (k : Change) (x : S) (w : RegistryState) → Changes k (registry x) w → Quiets registry with_registry has_form stepped k x (with_registry x w)
   quietly registry_with k x w c = record { changes = subst (λ r. Changes k (registry x) r) (sym (registry_with x w)) c; rest = ap (λ r. with_registry x r) (sym (registry_with x w)) }
+
+  -- a stack that stays as it is, or is the same, is ready by the form that it had
+  pub stays_so : (f : Form) (x y : S) → y ≡ x → Ready f x → IsReadyAfter registry with_registry has_form stepped f y
+  stays_so f x y e h = (f, subst (Ready f) (sym e) h, kept_form f)

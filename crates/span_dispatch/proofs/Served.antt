@@ -4,10 +4,12 @@ use Rattle.std.proofs.lemmas.List.{append-nil}
 use Rattle.span_core.specs.declared.span.Id.{Id}
 use Rattle.span_dispatch.specs.Call.{Call}
 use Rattle.span_dispatch.specs.Outcome.{Made}
-use Rattle.span_dispatch.specs.Serve.{AnswersDrop, AsksFor, IsReadySomehow, Run, Served, Serves, ServesNext, ServesRequest, flat, stack_of}
+use Rattle.span_dispatch.specs.Serve.{AnswersDrop, AsksFor, IsReady, IsReadyAfter, IsReadySomehow, Run, Served, Serves, ServesNext, ServesRequest, flat, stack_of}
 use Rattle.span_dispatch.specs.declared.dispatch.Dispatch.{Dispatch}
 use Rattle.span_dispatch.specs.declared.request.Answer.{Answer}
 use Rattle.span_dispatch.specs.declared.request.Request.{Request}
+use Rattle.span_registry.specs.Follows.{kept_form}
+use Rattle.span_dispatch.proofs.Goes.{keeps_again}
 use Rattle.span_registry.specs.Form.{Form}
 use Rattle.span_registry.specs.Hooks.{StackLaws, StackSteps}
 use Rattle.span_registry.specs.Place.{HearSteps}
@@ -41,29 +43,30 @@ module _ {S : Type 0} (registry : S → RegistryState) (with_registry : S → Re
       (h.0, h.1, run_more (past ++ (b ∷ [])) rs answers made h.0 y r a ms z h.2 (subst (λ p. ServesRequest registry with_registry has_form stepped p r y a ms z) (sym (append_assoc past (b ∷ []) answers)) s))
 
   -- these requests were served so far
-  pub record SoFar (first now : S) (done : List Request) (answers : List Answer) : Type 0 where
-    pub ready : IsReadySomehow registry with_registry has_form stepped now
+  pub record SoFar (f : Form) (first now : S) (done : List Request) (answers : List Answer) : Type 0 where
+    pub ready : IsReadyAfter registry with_registry has_form stepped f now
     pub made : List (List Made)
     pub run : Run registry with_registry has_form stepped [] done answers made first now
 
-  pub nothing_yet : (first : S) → IsReadySomehow registry with_registry has_form stepped first → SoFar first first [] []
-  nothing_yet first ready = record { ready = ready; made = []; run = refl }
+  pub nothing_yet : (f : Form) (first : S) → IsReady registry with_registry has_form stepped f first → SoFar f first first [] []
+  nothing_yet f first ready = record { ready = (f, ready, kept_form f); made = []; run = refl }
 
-  pub one_more : (first now next : S) (done all : List Request) (past answers after : List Answer) (a : Answer) (r : Request) → SoFar first now done answers → past ≡ answers → after ≡ answers ++ (a ∷ []) → all ≡ done ++ (r ∷ [])
-      → (IsReadySomehow registry with_registry has_form stepped now → IsReadySomehow registry with_registry has_form stepped next)
-      → (IsReadySomehow registry with_registry has_form stepped now → (made : List Made) × ServesRequest registry with_registry has_form stepped past r now a made next) → SoFar first next all after
-  one_more first now next done all past answers after a r h same longer one ready served =
-      let s = served h.ready in
+  pub one_more : (f : Form) (first now next : S) (done all : List Request) (past answers after : List Answer) (a : Answer) (r : Request) → SoFar f first now done answers → past ≡ answers → after ≡ answers ++ (a ∷ []) → all ≡ done ++ (r ∷ [])
+      → ((g : Form) → IsReady registry with_registry has_form stepped g now → IsReadyAfter registry with_registry has_form stepped g next)
+      → (IsReadySomehow registry with_registry has_form stepped now → (made : List Made) × ServesRequest registry with_registry has_form stepped past r now a made next) → SoFar f first next all after
+  one_more f first now next done all past answers after a r h same longer one ready served =
+      let s = served (h.ready.0, h.ready.1) in
+      let after_it = ready h.ready.0 h.ready.1 in
       let step = subst (λ p. ServesRequest registry with_registry has_form stepped p r now a s.0 next) same s.1 in
-      subst (λ us. SoFar first next all us) (sym longer) (subst (λ rs. SoFar first next rs (answers ++ (a ∷ []))) (sym one)
-      (record { ready = ready h.ready; made = h.made ++ (s.0 ∷ []); run = run_more [] done answers h.made first now r a s.0 next h.run step }))
+      subst (λ us. SoFar f first next all us) (sym longer) (subst (λ rs. SoFar f first next rs (answers ++ (a ∷ []))) (sym one)
+      (record { ready = (after_it.0, after_it.1, keeps_again f h.ready.0 after_it.0 h.ready.2 after_it.2); made = h.made ++ (s.0 ∷ []); run = run_more [] done answers h.made first now r a s.0 next h.run step }))
 
 module _ {S : Type 0} {registry : S → RegistryState} {with_registry : S → RegistryState → S} {usable : S → Type 0} {has_form : S → Form → Type 0} {stepped : StackSteps S} {hears : HearSteps S} {registered : S → S → Type 0}
     (laws : StackLaws with_registry usable has_form stepped hears registered) where
   -- all were served
-  pub all_served : (first now : S) (all done : List Request) (answers : List Answer) → AreIssued (registry first).store → done ≡ all → SoFar registry with_registry has_form stepped first now done answers
+  pub all_served : (f : Form) (first now : S) (all done : List Request) (answers : List Answer) → AreIssued (registry first).store → done ≡ all → SoFar registry with_registry has_form stepped f first now done answers
       → Served registry with_registry has_form stepped hears all answers first now
-  all_served first now all done answers issued same h =
+  all_served f first now all done answers issued same h =
       let folds = run_folds registry with_registry has_form stepped [] done answers h.made first now h.run in
       record {
         made = h.made;

@@ -20,6 +20,7 @@ use Rattle.span_dispatch.specs.declared.request.WhichParent.TheVariants as asked
 use Rattle.span_dispatch.specs.declared.request.WhichParent.{WhichParent}
 use Rattle.span_registry.specs.Answers.{OnClose}
 use Rattle.span_registry.specs.Closes.{IsSettled, Member}
+use Rattle.span_registry.specs.Follows.{Keeps}
 use Rattle.span_registry.specs.Form.{Form}
 use Rattle.span_core.specs.declared.span.Lane.{Lane}
 use Rattle.span_layers.specs.Path.{Path, passes_path, path_at}
@@ -125,9 +126,13 @@ module _ {S : Type 0} (registry : S → RegistryState) (with_registry : S → Re
   abbrev pub AnswersDrop : Call → Answer → Dispatch S → Dispatch S → Type 0
   AnswersDrop call a old new = (f : Form) → IsReady f (stack_of old) → (made : List Made) × Serves call f (stack_of old) a made (stack_of new)
 
-  -- a dispatcher that was ready is ready again
+  -- ready by a form that keeps what this one had
+  abbrev pub IsReadyAfter : Form → S → Type 0
+  IsReadyAfter f y = (g : Form) × IsReady g y × Keeps f g
+
+  -- a dispatcher that was ready is ready again, by a form that keeps what the old one had
   abbrev pub StaysReady : Dispatch S → Dispatch S → Type 0
-  StaysReady old new = IsReadySomehow (stack_of old) → IsReadySomehow (stack_of new)
+  StaysReady old new = (f : Form) → IsReady f (stack_of old) → IsReadyAfter f (stack_of new)
 
   -- one request: what it asks for is served, or, where it names no span, nothing is asked and nothing changes
   abbrev pub ServesAsked : Option Call → S → Answer → List Made → S → Type 0
@@ -165,4 +170,4 @@ module _ {S : Type 0} (registry : S → RegistryState) (with_registry : S → Re
   pub record ClosesEach (lane : Lane) (id : Id) (x y : S) : Type 0 where
     pub closed : List ℕ
     pub removal : Removal SameButExtensions (registry x) id closed None (registry y)
-    pub notices : (f : Form) → IsHonest registry with_registry has_form stepped f x → (made : List Made) × FoldsTo (Makes registry with_registry has_form stepped) x made y × (map outcome_of made ≡ closes_of lane closed) × ((g : Form) × IsHonest registry with_registry has_form stepped g y)
+    pub notices : (f : Form) → IsHonest registry with_registry has_form stepped f x → (made : List Made) × FoldsTo (Makes registry with_registry has_form stepped) x made y × (map outcome_of made ≡ closes_of lane closed) × ((g : Form) × IsHonest registry with_registry has_form stepped g y × Keeps f g)

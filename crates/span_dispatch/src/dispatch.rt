@@ -3,9 +3,10 @@ ghost use Rattle.std.specs.Prelude.{◌≡◌, None, Ok, false, IfErr, IfOk, Mat
 ghost use Rattle.span_core.specs.Span.{asked_parent, metadata_of, number_of};
 ghost use Rattle.span_dispatch.specs.Call.{AddHandle, AskCurrent, DropHandle, DropsSpan, Enter, Exit, FindsOpen, Follow, OpensFor, OpenSpan, Probe, RecordValues, RefusesUnlessOpen, SendEvent, TakesHandle, WantsEvent, WantsMetadata, current_answer, done_answer, event_answer, span_answer, yes_answer};
 ghost use Rattle.span_dispatch.specs.declared.request.Answer.TheVariants.{Done};
-ghost use Rattle.span_dispatch.specs.Serve.{AnswersCall, AnswersDrop, ClosesEach, IsReadySomehow, StaysReady, TakesStep, stack_of};
+ghost use Rattle.span_dispatch.specs.Serve.{AnswersCall, AnswersDrop, ClosesEach, IsReady, IsReadyAfter, StaysReady, TakesStep, stack_of};
 ghost use Rattle.span_registry.specs.Step.{Clones, Enters, Exits, RefusesClone, RefusesEnter, RefusesNew, RefusesRelease, ShowsCurrent};
 ghost use Rattle.span_registry.specs.Closes.{IsSettled};
+ghost use Rattle.span_registry.specs.Form.{Form};
 ghost use Rattle.span_registry.specs.Hooks.{Stays};
 ghost use Rattle.span_registry.specs.Store.{IsClosing};
 
@@ -33,7 +34,7 @@ impl<S: Subscriber> Dispatch<S> {
         ensures usable { S.usable (stack_of result) }
         ensures registered { S.registered stack (stack_of result) }
         ensures registry { S.registry (stack_of result) ≡ S.registry stack }
-        ensures ready { IsReadySomehow S.registry S.with_registry S.has_form S.stepped stack → IsReadySomehow S.registry S.with_registry S.has_form S.stepped (stack_of result) }
+        ensures ready { (f : Form) → IsReady S.registry S.with_registry S.has_form S.stepped f stack → IsReadyAfter S.registry S.with_registry S.has_form S.stepped f (stack_of result) }
     {
         let mut stack = stack;
         stack.on_register_dispatch();

@@ -4,7 +4,7 @@ use Rattle.span_dispatch.proofs.Calls.{entered_so}
 use Rattle.span_dispatch.proofs.dispatch.Dispatch.enter.Goals as goal
 
 pub returns-clause-ready : goal.returns-clause-ready
-returns-clause-ready g c = λ k. (entered_so g.met.S.Subscriber.laws g.met.S.LookupSpan.with_own c.args.lane c.args.id c.enter.result k.0 c.args.self.now.stack c.enter.new.self c.enter.ensures.entered c.enter.ensures.refused c.enter.ensures.unchanged k.1.honest).1 k.1.settled
+returns-clause-ready g c = λ f k. (entered_so g.met.S.Subscriber.laws g.met.S.LookupSpan.with_own c.args.lane c.args.id c.enter.result f c.args.self.now.stack c.enter.new.self c.enter.ensures.entered c.enter.ensures.refused c.enter.ensures.unchanged k.honest).1 k.settled
 
 pub returns-clause-served : goal.returns-clause-served
 returns-clause-served g c = λ f h. (entered_so g.met.S.Subscriber.laws g.met.S.LookupSpan.with_own c.args.lane c.args.id c.enter.result f c.args.self.now.stack c.enter.new.self c.enter.ensures.entered c.enter.ensures.refused c.enter.ensures.unchanged h).0

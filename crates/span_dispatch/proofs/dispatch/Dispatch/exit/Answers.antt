@@ -8,13 +8,13 @@ use Rattle.span_dispatch.proofs.Calls.{gone_so, left_so}
 use Rattle.span_dispatch.proofs.dispatch.Dispatch.exit.Goals as goal
 
 pub returns-then-is_open-clause-ready : goal.returns-then-is_open-clause-ready
-returns-then-is_open-clause-ready g c = λ k. (left_so g.met.S.Subscriber.laws g.met.S.LookupSpan.with_own c.args.lane c.args.id k.0 c.args.self.now.stack c.exit.new.self (subst (λ (s : RegistryState). IsOpen s.store.spans (number_of c.args.id)) c.root.ensures (c.is_open.ensures.0 c.if-is_open.true)) c.exit.ensures.hooks k.1.honest).1 k.1.settled
+returns-then-is_open-clause-ready g c = λ f k. (left_so g.met.S.Subscriber.laws g.met.S.LookupSpan.with_own c.args.lane c.args.id f c.args.self.now.stack c.exit.new.self (subst (λ (s : RegistryState). IsOpen s.store.spans (number_of c.args.id)) c.root.ensures (c.is_open.ensures.0 c.if-is_open.true)) c.exit.ensures.hooks k.honest).1 k.settled
 
 pub returns-then-is_open-clause-served : goal.returns-then-is_open-clause-served
 returns-then-is_open-clause-served g c = λ f h. (left_so g.met.S.Subscriber.laws g.met.S.LookupSpan.with_own c.args.lane c.args.id f c.args.self.now.stack c.exit.new.self (subst (λ (s : RegistryState). IsOpen s.store.spans (number_of c.args.id)) c.root.ensures (c.is_open.ensures.0 c.if-is_open.true)) c.exit.ensures.hooks h).0
 
 pub returns-clause-ready : goal.returns-clause-ready
-returns-clause-ready g c = λ k. (gone_so g.met.S.Subscriber.laws g.met.S.LookupSpan.with_own g.met.S.LookupSpan.registry_with c.args.lane c.args.id k.0 c.args.self.now.stack c.exit-2.new.self (λ o. true≢false (sym (c.is_open.ensures.1 (subst (λ (s : RegistryState). IsOpen s.store.spans (number_of c.args.id)) (sym c.root.ensures) o)) ∙ c.if-is_open.false)) (subst (λ (s : RegistryState). Exits c.args.lane c.args.id s c.exit-2.new.self) c.root_mut.ensures.value c.exit-2.ensures) k.1.honest).1 k.1.settled
+returns-clause-ready g c = λ f k. (gone_so g.met.S.Subscriber.laws g.met.S.LookupSpan.with_own g.met.S.LookupSpan.registry_with c.args.lane c.args.id f c.args.self.now.stack c.exit-2.new.self (λ o. true≢false (sym (c.is_open.ensures.1 (subst (λ (s : RegistryState). IsOpen s.store.spans (number_of c.args.id)) (sym c.root.ensures) o)) ∙ c.if-is_open.false)) (subst (λ (s : RegistryState). Exits c.args.lane c.args.id s c.exit-2.new.self) c.root_mut.ensures.value c.exit-2.ensures) k.honest).1 k.settled
 
 pub returns-clause-served : goal.returns-clause-served
 returns-clause-served g c = λ f h. (gone_so g.met.S.Subscriber.laws g.met.S.LookupSpan.with_own g.met.S.LookupSpan.registry_with c.args.lane c.args.id f c.args.self.now.stack c.exit-2.new.self (λ o. true≢false (sym (c.is_open.ensures.1 (subst (λ (s : RegistryState). IsOpen s.store.spans (number_of c.args.id)) (sym c.root.ensures) o)) ∙ c.if-is_open.false)) (subst (λ (s : RegistryState). Exits c.args.lane c.args.id s c.exit-2.new.self) c.root_mut.ensures.value c.exit-2.ensures) h).0

@@ -1,7 +1,8 @@
+use Rattle.span_dispatch.proofs.Goes.{stays_so}
 use Rattle.std.proofs.Common.{ap, refl, sym, ◌∙◌}
 use Rattle.std.specs.Option.{option_and_then, option_map}
 use Rattle.span_dispatch.specs.Call.{AddHandle, AskCurrent, DropHandle, Enter, Exit, Follow, OpenSpan, Probe, RecordValues, SendEvent, current_answer, done_answer, event_answer, span_answer, yes_answer}
-use Rattle.span_dispatch.specs.Serve.{resolved}
+use Rattle.span_dispatch.specs.Serve.{resolved, stack_of}
 use Rattle.span_dispatch.specs.declared.request.Request.TheVariants as request
 use Rattle.span_dispatch.proofs.Served.{named, served_by}
 use Rattle.span_dispatch.proofs.dispatch.Dispatch.serve_one.Goals as goal
@@ -36,3 +37,30 @@ returns-in-Enabled-clause-served g c = served_by g.S.LookupSpan.registry g.S.Loo
 
 pub returns-in-Current-clause-served : goal.returns-in-Current-clause-served
 returns-in-Current-clause-served g c = served_by g.S.LookupSpan.registry g.S.LookupSpan.with_registry g.S.Subscriber.has_form g.S.Subscriber.stepped c.args.past.now c.args.request.now (request.Current c.in-Current.lane) (AskCurrent c.in-Current.lane) (current_answer c.current_span.result) c.of_current.result c.args.self.now c.args.self.now c.in-Current.is refl c.of_current.ensures (λ f h. c.current_span.ensures.served f h.honest)
+
+pub returns-in-None-clause-ready : goal.returns-in-None-clause-ready
+returns-in-None-clause-ready g c = λ f k. stays_so g.met.S.Subscriber.laws g.met.S.LookupSpan.with_own f c.args.self.now.stack c.args.self.now.stack refl k
+
+pub returns-in-None-span_of-clause-ready : goal.returns-in-None-span_of-clause-ready
+returns-in-None-span_of-clause-ready g c = λ f k. stays_so g.met.S.Subscriber.laws g.met.S.LookupSpan.with_own f c.args.self.now.stack c.args.self.now.stack refl k
+
+pub returns-in-None-span_of-2-clause-ready : goal.returns-in-None-span_of-2-clause-ready
+returns-in-None-span_of-2-clause-ready g c = λ f k. stays_so g.met.S.Subscriber.laws g.met.S.LookupSpan.with_own f c.args.self.now.stack c.args.self.now.stack refl k
+
+pub returns-in-None-span_of-3-clause-ready : goal.returns-in-None-span_of-3-clause-ready
+returns-in-None-span_of-3-clause-ready g c = λ f k. stays_so g.met.S.Subscriber.laws g.met.S.LookupSpan.with_own f c.args.self.now.stack c.args.self.now.stack refl k
+
+pub returns-in-None-span_of-4-clause-ready : goal.returns-in-None-span_of-4-clause-ready
+returns-in-None-span_of-4-clause-ready g c = λ f k. stays_so g.met.S.Subscriber.laws g.met.S.LookupSpan.with_own f c.args.self.now.stack c.args.self.now.stack refl k
+
+pub returns-in-None-span_of-5-clause-ready : goal.returns-in-None-span_of-5-clause-ready
+returns-in-None-span_of-5-clause-ready g c = λ f k. stays_so g.met.S.Subscriber.laws g.met.S.LookupSpan.with_own f c.args.self.now.stack c.args.self.now.stack refl k
+
+pub returns-in-None-span_of-6-clause-ready : goal.returns-in-None-span_of-6-clause-ready
+returns-in-None-span_of-6-clause-ready g c = λ f k. stays_so g.met.S.Subscriber.laws g.met.S.LookupSpan.with_own f c.args.self.now.stack c.args.self.now.stack refl k
+
+pub returns-in-Current-clause-ready : goal.returns-in-Current-clause-ready
+returns-in-Current-clause-ready g c = λ f k. stays_so g.met.S.Subscriber.laws g.met.S.LookupSpan.with_own f c.args.self.now.stack c.args.self.now.stack refl k
+
+pub returns-in-Enabled-clause-ready : goal.returns-in-Enabled-clause-ready
+returns-in-Enabled-clause-ready g c = λ f k. stays_so g.met.S.Subscriber.laws g.met.S.LookupSpan.with_own f c.args.self.now.stack c.enabled.new.self.stack (ap (λ d. stack_of d) c.enabled.ensures.same) k
