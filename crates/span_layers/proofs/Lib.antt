@@ -1,8 +1,11 @@
+mod Asked
 pub mod CallerLemmas
 mod FilterNumber
 mod FilteredHooks
 mod FilteredQuestions
 pub mod HonestKept
+mod Hint
+mod Interest
 mod Number
 mod Parts
 pub mod Pass

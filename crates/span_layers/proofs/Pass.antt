@@ -245,7 +245,7 @@ quiet_asked (Filtered (Some n) a f) e s l m p q =
 quiet_asked (Over j o i) e s l m p q = rw (quiet_asked o e s l m p q.0) (quiet_asked i e s l m (asked o e s l m p).1 q.1)
 
 -- where no leaf refuses, none vetoes
-quiet_veto : (f : Form) (e : Metadata) (s : Store) (l : ℕ) → IsQuiet f → vetoes f e s l ≡ false
+pub quiet_veto : (f : Form) (e : Metadata) (s : Store) (l : ℕ) → IsQuiet f → vetoes f e s l ≡ false
 quiet_veto (Leaf still a) e s l q = ap not (q.enabled e (view_of s l no_filter))
 quiet_veto (Bare z) e s l q = refl
 quiet_veto (Filtered n a f) e s l q = refl

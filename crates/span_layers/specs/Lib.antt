@@ -8,3 +8,4 @@ pub mod Number
 pub mod Observe
 pub mod Path
 pub mod Verdict
+pub mod Wanted

@@ -1,6 +1,7 @@
 //! Who is notified: laws over forms, which name no type of layer. The functions make no call: what they ensure is the law.
 ghost use Rattle.span_layers.specs.Honest.{HonestyIsKept};
 ghost use Rattle.span_layers.specs.Verdict.{EventsAreFresh, NewSpansAreFresh, NotifiesByPaths, NumbersStayOwn, OthersStayFresh, VetoesAloneRefuse, VetoesAloneRefuseEvents};
+ghost use Rattle.span_layers.specs.Wanted.{AboveIsUnwanted, AlwaysIsWanted, NeverIsUnwanted};
 
 /// Who is notified by the pass is who is notified where each filter is asked afresh, and what the pass holds of a new span is
 /// its verdict.
@@ -32,4 +33,17 @@ pub fn numbers_are_own()
 /// An honest stack that was notified, or put in use, is honest.
 pub fn honesty_is_kept()
     ensures { HonestyIsKept }
+{}
+
+/// Nobody wants what an honest stack rules out: metadata of which its interest, asked with a new pass, is `never`, or of which the
+/// level is above its hint. A leaf vetoes them, or no path of a leaf or a filter passes them.
+pub fn the_ruled_out_are_unwanted()
+    ensures never { NeverIsUnwanted }
+    ensures above { AboveIsUnwanted }
+{}
+
+/// Where the interest of an honest stack, asked with a new pass, is `always`, no leaf vetoes, all filters asked pass, and a pass
+/// holds no refusal: if the stack isn't asked whether it wants the metadata, nothing changes for anyone.
+pub fn always_is_wanted()
+    ensures { AlwaysIsWanted }
 {}
