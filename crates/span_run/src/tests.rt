@@ -218,11 +218,17 @@ fn every_line(rt: HostRuntime) -> Result<(), Fail> {
     Ok(())
 }
 
+/// A script with each kind of line that has a reply of its own.
+const ANSWERED: &str =
+    "stack pair / new 0 2 p / new 0 3 q / event 0 5 / event 0 5 mute / enabled 0 2 / enabled 0 3 / clone p / follows 0 p q / current 0 / drop 0 p / drop 0 p / enter 0 p";
+
+/// What it prints where it is answered as `replies_by_lines` says.
+const REPLIED: &str =
+    "p / none / ok / none / true / false / ok / none / ? / ok / ok / refused 1 / == a / new p / event 5 / follows p ? / id ? p / close p / == b";
+
 #[test]
 fn replies_by_lines(rt: HostRuntime) -> Result<(), Fail> {
-    let row =
-        "stack pair / new 0 2 p / new 0 3 q / event 0 5 / event 0 5 mute / enabled 0 2 / enabled 0 3 / clone p / follows 0 p q / current 0 / drop 0 p / drop 0 p / enter 0 p";
-    let text = lines(rt.alloc(), row)?;
+    let text = lines(rt.alloc(), ANSWERED)?;
     let script = Script::parse(rt.alloc(), text.as_str())?;
     let (lane, made, other) = (Lane(0), Id::from_u64(3), Id::from_u64(7));
     let answers = [
@@ -257,9 +263,7 @@ fn replies_by_lines(rt: HostRuntime) -> Result<(), Fail> {
         },
     ];
     let printed = text_of(rt.alloc(), script.lines(), &answers, &heard)?;
-    let wanted =
-        "p / none / ok / none / true / false / ok / none / ? / ok / ok / refused 1 / == a / new p / event 5 / follows p ? / id ? p / close p / == b";
-    assert_eq!(rt; printed.as_str(), lines(rt.alloc(), wanted)?.as_str());
+    assert_eq!(rt; printed.as_str(), lines(rt.alloc(), REPLIED)?.as_str());
     Ok(())
 }
 
