@@ -1,6 +1,7 @@
 pub mod Attach
 pub mod Filtered
 pub mod Honest
+pub mod Idle
 pub mod Kept
 pub mod Layer
 pub mod Layered

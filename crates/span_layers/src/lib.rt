@@ -3,6 +3,7 @@
 
 mod attach;
 mod filtered;
+mod identity;
 pub mod laws;
 mod layer;
 mod layered;
@@ -13,6 +14,7 @@ mod tests;
 
 pub use attach::{LayerExt, SubscriberExt, Unattached};
 pub use filtered::Filtered;
+pub use identity::Identity;
 pub use layer::Layer;
 pub use layered::Layered;
 pub use observe::{Observe, Observed, Observer};

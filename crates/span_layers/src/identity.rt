@@ -1,0 +1,98 @@
+//! A layer that does nothing.
+ghost use Rattle.std.specs.Prelude.{◌≡◌, true};
+ghost use Rattle.span_layers.specs.Idle.{IdleHears, IdleSteps, identity, idle_laws};
+ghost use Rattle.span_layers.specs.Observe.{open_answers};
+ghost use Rattle.span_registry.specs.Form.{Leaf};
+
+use crate::layer::Layer;
+use span_core::{Attributes, Event, Id, Interest, LevelFilter, Metadata, Pass, Record};
+use span_registry::{Context, ContextMut, Subscriber};
+
+/// A layer that wants everything and does nothing.
+///
+/// Stands for `tracing_subscriber::layer::Identity`.
+#[derive(Clone, Copy, Debug)]
+pub struct Identity;
+
+impl Identity {
+    /// The layer that does nothing.
+    pub fn new() -> Identity
+        ensures { result ≡ identity }
+    {
+        Identity
+    }
+}
+
+impl Default for Identity {
+    ghost is_default = { λ x. x ≡ identity };
+
+    fn default() -> Identity {
+        Identity::new()
+    }
+}
+
+impl<S: Subscriber> Layer<S> for Identity {
+    ghost has_form = { λ x f. f ≡ Leaf true open_answers };
+
+    ghost stepped = { IdleSteps };
+
+    ghost hears = { IdleHears };
+
+    ghost registered = { λ x y. y ≡ x };
+
+    ghost attached = { λ x y. y ≡ x };
+
+    ghost laws = { idle_laws (λ x f. f ≡ Leaf true open_answers) };
+
+    fn on_register_dispatch(&mut self) {
+        // It has nothing to do.
+    }
+
+    fn on_layer(&mut self, _subscriber: &mut S) {
+        // It has no filter.
+    }
+
+    fn register_callsite(&self, _meta: &Metadata, _pass: &mut Pass) -> Interest {
+        Interest::Always
+    }
+
+    fn enabled(&self, _meta: &Metadata, _ctx: &Context<'_, S>, _pass: &mut Pass) -> bool {
+        true // It refuses nothing.
+    }
+
+    fn event_enabled(&self, _event: &Event<'_>, _ctx: &Context<'_, S>, _pass: &mut Pass) -> bool {
+        true // It refuses no event.
+    }
+
+    fn max_level_hint(&self) -> Option<LevelFilter> {
+        None
+    }
+
+    fn filter_count(&self) -> u32 {
+        0
+    }
+
+    fn is_filtered(&self) -> bool {
+        false // No filter is its own.
+    }
+
+    fn is_absent(&self) -> bool {
+        false // It is there.
+    }
+
+    fn on_new_span(&mut self, _attrs: &Attributes<'_>, _id: Id, _ctx: &mut ContextMut<'_, S>) {}
+
+    fn on_record(&mut self, _id: Id, _values: &Record<'_>, _ctx: &mut ContextMut<'_, S>) {}
+
+    fn on_follows_from(&mut self, _id: Id, _follows: Id, _ctx: &mut ContextMut<'_, S>) {}
+
+    fn on_event(&mut self, _event: &Event<'_>, _ctx: &mut ContextMut<'_, S>) {}
+
+    fn on_enter(&mut self, _id: Id, _ctx: &mut ContextMut<'_, S>) {}
+
+    fn on_exit(&mut self, _id: Id, _ctx: &mut ContextMut<'_, S>) {}
+
+    fn on_id_change(&mut self, _id: Id, _new: Id, _ctx: &mut ContextMut<'_, S>) {}
+
+    fn on_close(&mut self, _id: Id, _ctx: &mut ContextMut<'_, S>) {}
+}
