@@ -7,6 +7,7 @@ pub mod Layer
 pub mod Layered
 pub mod Number
 pub mod Observe
+pub mod Optional
 pub mod Path
 pub mod Verdict
 pub mod Wanted

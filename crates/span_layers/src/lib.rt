@@ -8,6 +8,7 @@ pub mod laws;
 mod layer;
 mod layered;
 mod observe;
+mod optional;
 mod stack;
 #[cfg(test)]
 mod tests;

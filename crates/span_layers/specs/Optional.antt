@@ -1,0 +1,75 @@
+-- A layer that may be absent: one that is there is what it is without the `Some`.
+use Rattle.std.specs.Prelude.{◌≡◌, ⊤, ℕ, [], ◌++◌, Option, Some, None}
+use Rattle.span_core.specs.Filters.{FilterSet}
+use Rattle.span_layers.specs.Layer.{LayerLaws, LayerSteps}
+use Rattle.span_registry.specs.Answers.{Notice}
+use Rattle.span_registry.specs.Follows.{Follows, kept_form}
+use Rattle.span_registry.specs.Form.{Absent, Bare, Form}
+use Rattle.span_registry.specs.Place.{HearSteps, Heard, Place, heard_by}
+use Rattle.span_registry.specs.Plan.{Nobody, Plan}
+use Rattle.span_registry.specs.Store.{RegistryState}
+
+-- the absent layer's form, or the form of the one that is there
+abbrev pub OptionForm : {L : Type 0} → (L → Form → Type 0) → Option L → Form → Type 0
+OptionForm has_form None f = f ≡ Bare Absent
+OptionForm has_form (Some x) f = has_form x f
+
+-- absent it stays so, nobody is notified, and the registry stays as it is; one that is there goes on by its own step
+abbrev pub OptionSteps : {L : Type 0} → LayerSteps L → LayerSteps (Option L)
+OptionSteps stepped None p e lane under v None w = (p ≡ Nobody) × (w ≡ v)
+OptionSteps stepped (Some x) p e lane under v (Some y) w = stepped x p e lane under v y w
+OptionSteps stepped x p e lane under v y w = ⊥
+
+-- one that is there went through its own notices; absent there is no leaf
+abbrev pub OptionHears : {L : Type 0} → HearSteps L → HearSteps (Option L)
+OptionHears hears None place h None = ⊤
+OptionHears hears (Some x) place h (Some y) = hears x place h y
+OptionHears hears x place h y = ⊥
+
+-- absent it stays so, and one that is there goes on so
+abbrev pub OptionGoes : {L : Type 0} → (L → L → Type 0) → Option L → Option L → Type 0
+OptionGoes goes None None = ⊤
+OptionGoes goes (Some x) (Some y) = goes x y
+OptionGoes goes x y = ⊥
+
+module _ {L : Type 0} {has_form : L → Form → Type 0} {stepped : LayerSteps L} {hears : HearSteps L} {registered : L → L → Type 0} (held : LayerLaws has_form stepped hears registered) where
+  option_keeps : (x : Option L) (p : Plan) (e : Notice) (lane : ℕ) (under : FilterSet) (v : RegistryState) (y : Option L) (w : RegistryState) (f : Form)
+      → OptionSteps stepped x p e lane under v y w → OptionForm has_form x f → Follows (OptionForm has_form y) f
+  option_keeps None p e lane under v None w f s h = (f, h, kept_form f)
+  option_keeps (Some x) p e lane under v (Some y) w f s h = held.keeps x p e lane under v y w f s h
+  option_keeps None p e lane under v (Some y) w f s h = absurd s
+  option_keeps (Some x) p e lane under v None w f s h = absurd s
+
+  option_used : (x y : Option L) (f : Form) → OptionGoes registered x y → OptionForm has_form x f → Follows (OptionForm has_form y) f
+  option_used None None f s h = (f, h, kept_form f)
+  option_used (Some x) (Some y) f s h = held.put_in_use x y f s h
+  option_used None (Some y) f s h = absurd s
+  option_used (Some x) None f s h = absurd s
+
+  option_nothing : (x : Option L) (place : Place) → OptionHears hears x place [] x
+  option_nothing None place = tt
+  option_nothing (Some x) place = held.heard.nothing x place
+
+  option_further : (x y z : Option L) (place : Place) (h k : Heard) → OptionHears hears x place h y → OptionHears hears y place k z → OptionHears hears x place (h ++ k) z
+  option_further None None None place h k a b = tt
+  option_further None None (Some z) place h k a b = absurd b
+  option_further None (Some y) z place h k a b = absurd a
+  option_further (Some x) None z place h k a b = absurd a
+  option_further (Some x) (Some y) None place h k a b = absurd b
+  option_further (Some x) (Some y) (Some z) place h k a b = held.heard.further x y z place h k a b
+
+  option_heard : (x : Option L) (p : Plan) (e : Notice) (lane : ℕ) (under : FilterSet) (v : RegistryState) (y : Option L) (w : RegistryState) (place : Place)
+      → OptionSteps stepped x p e lane under v y w → OptionHears hears x place (heard_by p place lane e) y
+  option_heard None p e lane under v None w place s = tt
+  option_heard (Some x) p e lane under v (Some y) w place s = held.notified x p e lane under v y w place s
+  option_heard None p e lane under v (Some y) w place s = absurd s
+  option_heard (Some x) p e lane under v None w place s = absurd s
+
+  -- a layer that may be absent keeps the law, since the one that is there does
+  pub option_laws : LayerLaws (OptionForm has_form) (OptionSteps stepped) (OptionHears hears) (OptionGoes registered)
+  option_laws = record {
+    keeps = option_keeps;
+    put_in_use = option_used;
+    heard = record { nothing = option_nothing; further = option_further };
+    notified = option_heard;
+  }

@@ -1,0 +1,133 @@
+//! A layer that may be absent.
+ghost use Rattle.std.specs.Prelude.{IfSome};
+ghost use Rattle.span_layers.specs.Optional.{OptionForm, OptionGoes, OptionHears, OptionSteps, option_laws};
+
+use crate::layer::Layer;
+use span_core::{Attributes, Event, Id, Interest, LevelFilter, Metadata, Pass, Record};
+use span_registry::{Context, ContextMut, Subscriber};
+
+/// `None` is an absent layer: it refuses nothing, does nothing, and its hint is `OFF`. `Some` is what it holds.
+impl<S: Subscriber, L: Layer<S>> Layer<S> for Option<L> {
+    ghost usable = { λ x. IfSome x L.usable };
+
+    ghost has_form = { OptionForm L.has_form };
+
+    ghost stepped = { OptionSteps L.stepped };
+
+    ghost hears = { OptionHears L.hears };
+
+    ghost registered = { OptionGoes L.registered };
+
+    ghost attached = { OptionGoes L.attached };
+
+    ghost laws = { option_laws L.laws };
+
+    fn on_register_dispatch(&mut self) {
+        if let Some(layer) = self {
+            layer.on_register_dispatch();
+        }
+    }
+
+    fn on_layer(&mut self, subscriber: &mut S) {
+        if let Some(layer) = self {
+            layer.on_layer(subscriber);
+        }
+    }
+
+    fn register_callsite(&self, meta: &Metadata, pass: &mut Pass) -> Interest {
+        match self {
+            Some(layer) => layer.register_callsite(meta, pass),
+            None => Interest::Always,
+        }
+    }
+
+    fn enabled(&self, meta: &Metadata, ctx: &Context<'_, S>, pass: &mut Pass) -> bool {
+        match self {
+            Some(layer) => layer.enabled(meta, ctx, pass),
+            None => true,
+        }
+    }
+
+    fn event_enabled(&self, event: &Event<'_>, ctx: &Context<'_, S>, pass: &mut Pass) -> bool {
+        match self {
+            Some(layer) => layer.event_enabled(event, ctx, pass),
+            None => true,
+        }
+    }
+
+    fn max_level_hint(&self) -> Option<LevelFilter> {
+        match self {
+            Some(layer) => layer.max_level_hint(),
+            None => Some(LevelFilter::OFF),
+        }
+    }
+
+    fn filter_count(&self) -> u32 {
+        match self {
+            Some(layer) => layer.filter_count(),
+            None => 0,
+        }
+    }
+
+    fn is_filtered(&self) -> bool {
+        match self {
+            Some(layer) => layer.is_filtered(),
+            None => false,
+        }
+    }
+
+    fn is_absent(&self) -> bool {
+        match self {
+            Some(layer) => layer.is_absent(),
+            None => true,
+        }
+    }
+
+    fn on_new_span(&mut self, attrs: &Attributes<'_>, id: Id, ctx: &mut ContextMut<'_, S>) {
+        if let Some(layer) = self {
+            layer.on_new_span(attrs, id, ctx);
+        }
+    }
+
+    fn on_record(&mut self, id: Id, values: &Record<'_>, ctx: &mut ContextMut<'_, S>) {
+        if let Some(layer) = self {
+            layer.on_record(id, values, ctx);
+        }
+    }
+
+    fn on_follows_from(&mut self, id: Id, follows: Id, ctx: &mut ContextMut<'_, S>) {
+        if let Some(layer) = self {
+            layer.on_follows_from(id, follows, ctx);
+        }
+    }
+
+    fn on_event(&mut self, event: &Event<'_>, ctx: &mut ContextMut<'_, S>) {
+        if let Some(layer) = self {
+            layer.on_event(event, ctx);
+        }
+    }
+
+    fn on_enter(&mut self, id: Id, ctx: &mut ContextMut<'_, S>) {
+        if let Some(layer) = self {
+            layer.on_enter(id, ctx);
+        }
+    }
+
+    fn on_exit(&mut self, id: Id, ctx: &mut ContextMut<'_, S>) {
+        if let Some(layer) = self {
+            layer.on_exit(id, ctx);
+        }
+    }
+
+    fn on_id_change(&mut self, id: Id, new: Id, ctx: &mut ContextMut<'_, S>) {
+        if let Some(layer) = self {
+            layer.on_id_change(id, new, ctx);
+        }
+    }
+
+    fn on_close(&mut self, id: Id, ctx: &mut ContextMut<'_, S>) {
+        if let Some(layer) = self {
+            layer.on_close(id, ctx);
+        }
+    }
+}
