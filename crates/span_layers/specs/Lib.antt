@@ -1,4 +1,5 @@
 pub mod Attach
+pub mod Boxed
 pub mod Filtered
 pub mod Honest
 pub mod Idle

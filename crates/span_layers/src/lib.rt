@@ -2,6 +2,7 @@
 #![tactic(auto)]
 
 mod attach;
+mod boxed;
 mod filtered;
 mod identity;
 pub mod laws;

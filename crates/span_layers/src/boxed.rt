@@ -1,0 +1,91 @@
+//! A layer in a box.
+ghost use Rattle.span_layers.specs.Boxed.{held_laws};
+
+use crate::layer::Layer;
+use span_core::{Attributes, Event, Id, Interest, LevelFilter, Metadata, Pass, Record};
+use span_registry::{Context, ContextMut, Subscriber};
+
+/// It is what it holds.
+impl<S: Subscriber, L: Layer<S>> Layer<S> for Box<L> {
+    ghost usable = { λ x. L.usable x.value };
+
+    ghost has_form = { λ x. L.has_form x.value };
+
+    ghost stepped = { λ x p e lane under v y w. L.stepped x.value p e lane under v y.value w };
+
+    ghost hears = { λ x place h y. L.hears x.value place h y.value };
+
+    ghost registered = { λ x y. L.registered x.value y.value };
+
+    ghost attached = { λ x y. L.attached x.value y.value };
+
+    ghost laws = { held_laws L.laws (λ x. x.value) };
+
+    fn on_register_dispatch(&mut self) {
+        (**self).on_register_dispatch();
+    }
+
+    fn on_layer(&mut self, subscriber: &mut S) {
+        (**self).on_layer(subscriber);
+    }
+
+    fn register_callsite(&self, meta: &Metadata, pass: &mut Pass) -> Interest {
+        (**self).register_callsite(meta, pass)
+    }
+
+    fn enabled(&self, meta: &Metadata, ctx: &Context<'_, S>, pass: &mut Pass) -> bool {
+        (**self).enabled(meta, ctx, pass)
+    }
+
+    fn event_enabled(&self, event: &Event<'_>, ctx: &Context<'_, S>, pass: &mut Pass) -> bool {
+        (**self).event_enabled(event, ctx, pass)
+    }
+
+    fn max_level_hint(&self) -> Option<LevelFilter> {
+        (**self).max_level_hint()
+    }
+
+    fn filter_count(&self) -> u32 {
+        (**self).filter_count()
+    }
+
+    fn is_filtered(&self) -> bool {
+        (**self).is_filtered()
+    }
+
+    fn is_absent(&self) -> bool {
+        (**self).is_absent()
+    }
+
+    fn on_new_span(&mut self, attrs: &Attributes<'_>, id: Id, ctx: &mut ContextMut<'_, S>) {
+        (**self).on_new_span(attrs, id, ctx);
+    }
+
+    fn on_record(&mut self, id: Id, values: &Record<'_>, ctx: &mut ContextMut<'_, S>) {
+        (**self).on_record(id, values, ctx);
+    }
+
+    fn on_follows_from(&mut self, id: Id, follows: Id, ctx: &mut ContextMut<'_, S>) {
+        (**self).on_follows_from(id, follows, ctx);
+    }
+
+    fn on_event(&mut self, event: &Event<'_>, ctx: &mut ContextMut<'_, S>) {
+        (**self).on_event(event, ctx);
+    }
+
+    fn on_enter(&mut self, id: Id, ctx: &mut ContextMut<'_, S>) {
+        (**self).on_enter(id, ctx);
+    }
+
+    fn on_exit(&mut self, id: Id, ctx: &mut ContextMut<'_, S>) {
+        (**self).on_exit(id, ctx);
+    }
+
+    fn on_id_change(&mut self, id: Id, new: Id, ctx: &mut ContextMut<'_, S>) {
+        (**self).on_id_change(id, new, ctx);
+    }
+
+    fn on_close(&mut self, id: Id, ctx: &mut ContextMut<'_, S>) {
+        (**self).on_close(id, ctx);
+    }
+}
