@@ -13,6 +13,8 @@ mod optional;
 mod stack;
 #[cfg(test)]
 mod tests;
+#[cfg(test)]
+mod tests_optional;
 
 pub use attach::{LayerExt, SubscriberExt, Unattached};
 pub use filtered::Filtered;

@@ -1,0 +1,217 @@
+//! Tests of layers that add nothing of their own: one that does nothing, one that may be absent, one in a box.
+ghost use Rattle.std.specs.Prelude.{◌≡◌, ⊤, true};
+ghost use Rattle.span_layers.specs.Observe.{open_answers};
+ghost use Rattle.span_registry.specs.Follows.{kept_form};
+ghost use Rattle.span_registry.specs.Form.{Leaf};
+ghost use Rattle.span_registry.specs.Place.{no_leaf_laws};
+
+use crate::{Identity, Layer, LayerExt, SubscriberExt};
+use span_core::{
+    Attributes, Event, FieldSet, Id, Interest, Kind, Lane, Level, LevelFilter, Metadata, Pass,
+    Record,
+};
+use span_registry::{Context, ContextMut, LookupSpan, Registry, Subscriber};
+use std::test::Fail;
+
+const LANE: Lane = Lane(0);
+
+/// Counts how often it is put in use, and some of what it is notified of.
+#[derive(Drop)]
+struct Counter {
+    registered: u32,
+    events: u32,
+    changes: u32,
+}
+
+impl Counter {
+    fn new() -> Counter {
+        Counter {
+            registered: 0,
+            events: 0,
+            changes: 0,
+        }
+    }
+}
+
+impl<S: Subscriber> Layer<S> for Counter {
+    ghost has_form = { λ x f. f ≡ Leaf true open_answers };
+
+    ghost stepped = { λ x p e lane under v y w. ⊤ };
+
+    ghost hears = { λ x place h y. ⊤ };
+
+    ghost registered = { λ x y. ⊤ };
+
+    ghost attached = { λ x y. y ≡ x };
+
+    ghost laws = { record { keeps = λ x p e lane under v y w f s h. (f, h, kept_form f); put_in_use = λ x y f s h. (f, h, kept_form f); heard = no_leaf_laws; notified = λ x p e lane under v y w place s. tt } };
+
+    fn on_register_dispatch(&mut self) {
+        self.registered = self.registered.saturating_add(1);
+    }
+
+    fn on_layer(&mut self, _subscriber: &mut S) {}
+
+    fn register_callsite(&self, _meta: &Metadata, _pass: &mut Pass) -> Interest {
+        Interest::Always
+    }
+
+    fn enabled(&self, _meta: &Metadata, _ctx: &Context<'_, S>, _pass: &mut Pass) -> bool {
+        true
+    }
+
+    fn event_enabled(&self, _event: &Event<'_>, _ctx: &Context<'_, S>, _pass: &mut Pass) -> bool {
+        true
+    }
+
+    fn max_level_hint(&self) -> Option<LevelFilter> {
+        None
+    }
+
+    fn filter_count(&self) -> u32 {
+        0
+    }
+
+    fn is_filtered(&self) -> bool {
+        false
+    }
+
+    fn is_absent(&self) -> bool {
+        false
+    }
+
+    fn on_new_span(&mut self, _attrs: &Attributes<'_>, _id: Id, _ctx: &mut ContextMut<'_, S>) {}
+
+    fn on_record(&mut self, _id: Id, _values: &Record<'_>, _ctx: &mut ContextMut<'_, S>) {}
+
+    fn on_follows_from(&mut self, _id: Id, _follows: Id, _ctx: &mut ContextMut<'_, S>) {}
+
+    fn on_event(&mut self, _event: &Event<'_>, _ctx: &mut ContextMut<'_, S>) {
+        self.events = self.events.saturating_add(1);
+    }
+
+    fn on_enter(&mut self, _id: Id, _ctx: &mut ContextMut<'_, S>) {}
+
+    fn on_exit(&mut self, _id: Id, _ctx: &mut ContextMut<'_, S>) {}
+
+    fn on_id_change(&mut self, _id: Id, _new: Id, _ctx: &mut ContextMut<'_, S>) {
+        self.changes = self.changes.saturating_add(1);
+    }
+
+    fn on_close(&mut self, _id: Id, _ctx: &mut ContextMut<'_, S>) {}
+}
+
+fn metadata_of(level: Level) -> Metadata {
+    Metadata::new(
+        1,
+        "made",
+        "tests_optional",
+        level,
+        Kind::EVENT,
+        FieldSet::new(&[]),
+    )
+}
+
+/// Asks a stack of an event outside every span, and sends it.
+fn send<S: Subscriber>(stack: &mut S, level: Level)
+    requires { S.usable stack.old }
+    ensures { S.usable stack.new }
+{
+    let metadata = metadata_of(level);
+    let mut pass = Pass::new();
+    if stack.enabled(LANE, &metadata, &mut pass) {
+        stack.event(LANE, &Event::new(metadata, &[]), &pass);
+    }
+}
+
+#[test]
+fn an_absent_layer_wants_no_level(rt: HostRuntime) -> Result<(), Fail> {
+    let absent: Option<Counter> = None;
+    let Ok(stack) = Registry::new(rt.alloc()).with(absent) else {
+        return Err(Fail::from("there is no room"));
+    };
+    let metadata = metadata_of(Level::ERROR);
+    let mut pass = Pass::new();
+    assert!(rt; stack.is_absent());
+    assert!(rt; stack.enabled(LANE, &metadata, &mut pass));
+    assert_eq!(rt;
+        stack.register_callsite(&metadata, &mut pass),
+        Interest::Always
+    );
+    assert_eq!(rt; stack.max_level_hint(), Some(LevelFilter::OFF));
+    // A layer on an absent one has the hint that it has without that.
+    let Ok(stack) = stack.with(Identity) else {
+        return Err(Fail::from("there is no room"));
+    };
+    assert!(rt; stack.is_absent());
+    assert_eq!(rt; stack.max_level_hint(), None);
+    Ok(())
+}
+
+#[test]
+fn a_layer_that_is_there_is_what_it_is(rt: HostRuntime) -> Result<(), Fail> {
+    let layer = Some(Counter::new().with_filter(LevelFilter::INFO));
+    let Ok(mut stack) = Registry::new(rt.alloc()).with(layer) else {
+        return Err(Fail::from("there is no room"));
+    };
+    stack.on_register_dispatch();
+    send(&mut stack, Level::INFO);
+    send(&mut stack, Level::DEBUG);
+    assert_eq!(rt; stack.root().filters(), 1);
+    assert!(rt; stack.is_filtered());
+    assert!(rt; !stack.is_absent());
+    assert_eq!(rt; stack.max_level_hint(), Some(LevelFilter::INFO));
+    let Some(layer) = stack.layer() else {
+        return Err(Fail::from("the layer is absent"));
+    };
+    assert_eq!(rt; layer.inner().registered, 1);
+    assert_eq!(rt; layer.inner().events, 1);
+    Ok(())
+}
+
+#[test]
+fn a_boxed_layer_is_what_it_holds(rt: HostRuntime) -> Result<(), Fail> {
+    let layer = Box::new(rt.alloc(), Counter::new().with_filter(LevelFilter::INFO))?;
+    let Ok(mut stack) = Registry::new(rt.alloc()).with(layer) else {
+        return Err(Fail::from("there is no room"));
+    };
+    stack.on_register_dispatch();
+    send(&mut stack, Level::INFO);
+    send(&mut stack, Level::DEBUG);
+    assert_eq!(rt; stack.root().filters(), 1);
+    assert!(rt; stack.is_filtered());
+    assert_eq!(rt; stack.max_level_hint(), Some(LevelFilter::INFO));
+    assert_eq!(rt; stack.layer().inner().registered, 1);
+    assert_eq!(rt; stack.layer().inner().events, 1);
+    Ok(())
+}
+
+#[test]
+fn a_changed_id_reaches_what_is_held(rt: HostRuntime) -> Result<(), Fail> {
+    let mut registry = Registry::new(rt.alloc());
+    let mut layer = Box::new(rt.alloc(), Some(Counter::new()))?;
+    let (pass, id) = (Pass::new(), Id::from_u64(1));
+    layer.on_id_change(id, id, &mut ContextMut::new(&mut registry, LANE, &pass));
+    let Some(counter) = &*layer else {
+        return Err(Fail::from("the layer is absent"));
+    };
+    assert_eq!(rt; counter.changes, 1);
+    Ok(())
+}
+
+#[test]
+fn a_layer_may_do_nothing(rt: HostRuntime) -> Result<(), Fail> {
+    let Ok(stack) = Registry::new(rt.alloc()).with(Identity::default()) else {
+        return Err(Fail::from("there is no room"));
+    };
+    let mut pass = Pass::new();
+    assert!(rt; !stack.is_absent());
+    assert_eq!(rt;
+        stack.register_callsite(&metadata_of(Level::TRACE), &mut pass),
+        Interest::Always
+    );
+    assert_eq!(rt; stack.max_level_hint(), None);
+    let text = format!(in rt.alloc(); "{:?}", stack.layer())?;
+    assert_eq!(rt; text.as_str(), "Identity");
+    Ok(())
+}
