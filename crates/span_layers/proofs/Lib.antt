@@ -9,3 +9,4 @@ mod Interest
 mod Number
 mod Parts
 pub mod Pass
+mod VetoHint

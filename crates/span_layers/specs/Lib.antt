@@ -11,4 +11,5 @@ pub mod Observe
 pub mod Optional
 pub mod Path
 pub mod Verdict
+pub mod Veto
 pub mod Wanted

@@ -15,6 +15,7 @@ mod stack;
 mod tests;
 #[cfg(test)]
 mod tests_optional;
+mod veto;
 
 pub use attach::{LayerExt, SubscriberExt, Unattached};
 pub use filtered::Filtered;

@@ -1,0 +1,214 @@
+//! Filters as layers: they veto, for all layers, what they refuse.
+ghost use Rattle.std.specs.Prelude.{◌≡◌, true};
+ghost use Rattle.span_filters.specs.Closure.{ClosuresAre, HasTestAnswers, HasViewAnswers, test_in};
+ghost use Rattle.span_filters.specs.Filter.{settled_answers};
+ghost use Rattle.span_filters.specs.Level.{level_answers};
+ghost use Rattle.span_layers.specs.Veto.{HearsUnmoved, LeafStays, VetoForm, veto_laws};
+
+use crate::layer::Layer;
+use span_core::{Attributes, Event, Id, Interest, LevelFilter, Metadata, Pass, Record};
+use span_filters::{DynFilterFn, Filter, FilterFn, Function, FunctionIn};
+use span_registry::{Context, ContextMut, Subscriber};
+
+impl<S: Subscriber> Layer<S> for LevelFilter {
+    ghost has_form = { λ x. VetoForm (settled_answers level_answers x) };
+
+    ghost stepped = { LeafStays };
+
+    ghost hears = { HearsUnmoved };
+
+    ghost registered = { λ x y. y ≡ x };
+
+    ghost attached = { λ x y. y ≡ x };
+
+    ghost laws = { veto_laws (settled_answers level_answers) };
+
+    fn on_register_dispatch(&mut self) {
+        // It has nothing to do.
+    }
+
+    fn on_layer(&mut self, _subscriber: &mut S) {
+        // It takes no number: what it refuses is refused for all.
+    }
+
+    fn register_callsite(&self, meta: &Metadata, _pass: &mut Pass) -> Interest {
+        <Self as Filter<S>>::callsite_enabled(self, meta)
+    }
+
+    fn enabled(&self, meta: &Metadata, ctx: &Context<'_, S>, _pass: &mut Pass) -> bool {
+        <Self as Filter<S>>::enabled(self, meta, ctx)
+    }
+
+    fn event_enabled(&self, _event: &Event<'_>, _ctx: &Context<'_, S>, _pass: &mut Pass) -> bool {
+        true // It refuses by the level, before.
+    }
+
+    fn max_level_hint(&self) -> Option<LevelFilter> {
+        <Self as Filter<S>>::max_level_hint(self)
+    }
+
+    fn filter_count(&self) -> u32 {
+        0
+    }
+
+    fn is_filtered(&self) -> bool {
+        false // It stands under no filter.
+    }
+
+    fn is_absent(&self) -> bool {
+        false // It is there.
+    }
+
+    fn on_new_span(&mut self, _attrs: &Attributes<'_>, _id: Id, _ctx: &mut ContextMut<'_, S>) {}
+
+    fn on_record(&mut self, _id: Id, _values: &Record<'_>, _ctx: &mut ContextMut<'_, S>) {}
+
+    fn on_follows_from(&mut self, _id: Id, _follows: Id, _ctx: &mut ContextMut<'_, S>) {}
+
+    fn on_event(&mut self, _event: &Event<'_>, _ctx: &mut ContextMut<'_, S>) {}
+
+    fn on_enter(&mut self, _id: Id, _ctx: &mut ContextMut<'_, S>) {}
+
+    fn on_exit(&mut self, _id: Id, _ctx: &mut ContextMut<'_, S>) {}
+
+    fn on_id_change(&mut self, _id: Id, _new: Id, _ctx: &mut ContextMut<'_, S>) {}
+
+    fn on_close(&mut self, _id: Id, _ctx: &mut ContextMut<'_, S>) {}
+}
+
+impl<S: Subscriber, F: Function<Metadata, bool>> Layer<S> for FilterFn<F> {
+    ghost usable = { λ x. F.callable (test_in x) };
+
+    ghost has_form = { λ x. VetoForm (HasTestAnswers F.gives x) };
+
+    ghost stepped = { LeafStays };
+
+    ghost hears = { HearsUnmoved };
+
+    ghost registered = { λ x y. y ≡ x };
+
+    ghost attached = { λ x y. y ≡ x };
+
+    ghost laws = { veto_laws (HasTestAnswers F.gives) };
+
+    fn on_register_dispatch(&mut self) {
+        // It has nothing to do.
+    }
+
+    fn on_layer(&mut self, _subscriber: &mut S) {
+        // It takes no number: what it refuses is refused for all.
+    }
+
+    fn register_callsite(&self, meta: &Metadata, _pass: &mut Pass) -> Interest {
+        <Self as Filter<S>>::callsite_enabled(self, meta)
+    }
+
+    fn enabled(&self, meta: &Metadata, ctx: &Context<'_, S>, _pass: &mut Pass) -> bool {
+        <Self as Filter<S>>::enabled(self, meta, ctx)
+    }
+
+    fn event_enabled(&self, _event: &Event<'_>, _ctx: &Context<'_, S>, _pass: &mut Pass) -> bool {
+        true // Its test is asked of metadata alone.
+    }
+
+    fn max_level_hint(&self) -> Option<LevelFilter> {
+        <Self as Filter<S>>::max_level_hint(self)
+    }
+
+    fn filter_count(&self) -> u32 {
+        0
+    }
+
+    fn is_filtered(&self) -> bool {
+        false // It stands under no filter.
+    }
+
+    fn is_absent(&self) -> bool {
+        false // It is there.
+    }
+
+    fn on_new_span(&mut self, _attrs: &Attributes<'_>, _id: Id, _ctx: &mut ContextMut<'_, S>) {}
+
+    fn on_record(&mut self, _id: Id, _values: &Record<'_>, _ctx: &mut ContextMut<'_, S>) {}
+
+    fn on_follows_from(&mut self, _id: Id, _follows: Id, _ctx: &mut ContextMut<'_, S>) {}
+
+    fn on_event(&mut self, _event: &Event<'_>, _ctx: &mut ContextMut<'_, S>) {}
+
+    fn on_enter(&mut self, _id: Id, _ctx: &mut ContextMut<'_, S>) {}
+
+    fn on_exit(&mut self, _id: Id, _ctx: &mut ContextMut<'_, S>) {}
+
+    fn on_id_change(&mut self, _id: Id, _new: Id, _ctx: &mut ContextMut<'_, S>) {}
+
+    fn on_close(&mut self, _id: Id, _ctx: &mut ContextMut<'_, S>) {}
+}
+
+impl<S: Subscriber, F: FunctionIn<Metadata, S, bool>, R: Function<Metadata, Interest>> Layer<S>
+    for DynFilterFn<F, R> {
+    ghost usable = { ClosuresAre F.callable_in R.callable };
+
+    ghost has_form = { λ x. VetoForm (HasViewAnswers S.registry F.gives_in R.gives x) };
+
+    ghost stepped = { LeafStays };
+
+    ghost hears = { HearsUnmoved };
+
+    ghost registered = { λ x y. y ≡ x };
+
+    ghost attached = { λ x y. y ≡ x };
+
+    ghost laws = { veto_laws (HasViewAnswers S.registry F.gives_in R.gives) };
+
+    fn on_register_dispatch(&mut self) {
+        // It has nothing to do.
+    }
+
+    fn on_layer(&mut self, _subscriber: &mut S) {
+        // It takes no number: what it refuses is refused for all.
+    }
+
+    fn register_callsite(&self, meta: &Metadata, _pass: &mut Pass) -> Interest {
+        <Self as Filter<S>>::callsite_enabled(self, meta)
+    }
+
+    fn enabled(&self, meta: &Metadata, ctx: &Context<'_, S>, _pass: &mut Pass) -> bool {
+        <Self as Filter<S>>::enabled(self, meta, ctx)
+    }
+
+    fn event_enabled(&self, _event: &Event<'_>, _ctx: &Context<'_, S>, _pass: &mut Pass) -> bool {
+        true // Its test was asked of the metadata, in the context.
+    }
+
+    fn max_level_hint(&self) -> Option<LevelFilter> {
+        <Self as Filter<S>>::max_level_hint(self)
+    }
+
+    fn filter_count(&self) -> u32 {
+        0
+    }
+
+    fn is_filtered(&self) -> bool {
+        false // It stands under no filter.
+    }
+
+    fn is_absent(&self) -> bool {
+        false // It is there.
+    }
+
+    fn on_new_span(&mut self, _attrs: &Attributes<'_>, _id: Id, _ctx: &mut ContextMut<'_, S>) {}
+
+    fn on_record(&mut self, _id: Id, _values: &Record<'_>, _ctx: &mut ContextMut<'_, S>) {}
+
+    fn on_follows_from(&mut self, _id: Id, _follows: Id, _ctx: &mut ContextMut<'_, S>) {}
+
+    fn on_event(&mut self, _event: &Event<'_>, _ctx: &mut ContextMut<'_, S>) {}
+
+    fn on_enter(&mut self, _id: Id, _ctx: &mut ContextMut<'_, S>) {}
+
+    fn on_exit(&mut self, _id: Id, _ctx: &mut ContextMut<'_, S>) {}
+
+    fn on_id_change(&mut self, _id: Id, _new: Id, _ctx: &mut ContextMut<'_, S>) {}
+
+    fn on_close(&mut self, _id: Id, _ctx: &mut ContextMut<'_, S>) {}
+}
