@@ -6,6 +6,10 @@ mod FilteredQuestions
 pub mod HonestKept
 mod Hint
 mod Interest
+mod MemberLoops
+mod MembersAsked
+mod MembersNotified
+mod MembersNumbered
 mod Number
 mod Parts
 pub mod Pass

@@ -6,6 +6,7 @@ pub mod Idle
 pub mod Kept
 pub mod Layer
 pub mod Layered
+pub mod Members
 pub mod Number
 pub mod Observe
 pub mod Optional

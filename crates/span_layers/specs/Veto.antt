@@ -1,14 +1,12 @@
 -- Filters as layers: leaves that answer as the filter does, for all layers, and whose hooks do nothing.
-use Rattle.std.specs.Prelude.{◌≡◌, ℕ, true}
+use Rattle.std.specs.Prelude.{◌≡◌, true}
 use Rattle.std.proofs.Common.{subst, sym}
-use Rattle.span_core.specs.Filters.{FilterSet}
 use Rattle.span_layers.specs.Layer.{LayerLaws, LayerSteps}
-use Rattle.span_registry.specs.Answers.{Answers, Notice}
+use Rattle.span_registry.specs.Answers.{Answers}
 use Rattle.span_registry.specs.Follows.{Follows, kept_form}
 use Rattle.span_registry.specs.Form.{Form, Leaf}
-use Rattle.span_registry.specs.Place.{HearSteps, LeafHears, Place, heard_by, leaf_hear_laws, leaf_heard}
-use Rattle.span_registry.specs.Plan.{Itself, Plan}
-use Rattle.span_registry.specs.Store.{RegistryState}
+use Rattle.span_registry.specs.Place.{HearSteps, LeafHears, heard_by, leaf_hear_laws, leaf_heard}
+use Rattle.span_registry.specs.Plan.{Itself}
 
 -- a leaf that answers so, and whose hooks write nothing
 abbrev pub VetoForm : (Answers → Type 0) → Form → Type 0

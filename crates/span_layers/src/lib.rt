@@ -8,6 +8,7 @@ mod identity;
 pub mod laws;
 mod layer;
 mod layered;
+mod list;
 mod observe;
 mod optional;
 mod stack;

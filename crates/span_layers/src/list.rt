@@ -1,0 +1,219 @@
+//! A list of layers. Questions and hooks go by index: the first member is asked first, and notified first.
+ghost use Rattle.std.specs.List.{All, AllZip};
+ghost use Rattle.std.specs.Prelude.{◌≡◌};
+ghost use Rattle.span_core.specs.Level.{wider_hint};
+ghost use Rattle.span_layers.specs.Layer.{LeavesAlone, MayNotify, Notified};
+ghost use Rattle.span_layers.specs.Members.{ListForm, ListHears, ListSteps, list_laws};
+ghost use Rattle.span_layers.specs.Number.{TakesNumbers};
+ghost use Rattle.span_layers.specs.Observe.{notice_of};
+ghost use Rattle.span_registry.specs.Context.{HandsOn};
+ghost use Rattle.span_registry.specs.Question.{higher};
+
+use crate::layer::Layer;
+use crate::observe::Observed;
+use span_core::{Attributes, Event, Id, Interest, LevelFilter, Metadata, Pass, Record};
+use span_registry::{Context, ContextMut, Subscriber};
+
+/// The higher of the two interests.
+fn higher_of(i: Interest, j: Interest) -> Interest
+    ensures { result ≡ higher i j }
+{
+    match (i, j) {
+        (Interest::Never, _) => j,
+        (Interest::Sometimes, Interest::Always) => Interest::Always,
+        (Interest::Sometimes, _) => Interest::Sometimes,
+        (Interest::Always, _) => Interest::Always,
+    }
+}
+
+/// The greater of the two hints, and none where either is none.
+fn wider_of(h: Option<LevelFilter>, k: Option<LevelFilter>) -> Option<LevelFilter>
+    ensures { result ≡ wider_hint h k }
+{
+    match (h, k) {
+        (Some(f), Some(g)) => Some(if f <= g { g } else { f }),
+        _ => None,
+    }
+}
+
+/// Puts all members in use, by index.
+fn put_in_use<S: Subscriber, L: Layer<S>>(members: &mut [L])
+    requires { All L.usable members.old }
+    ensures usable { All L.usable members.new }
+    ensures registered { AllZip L.registered members.old members.new }
+{
+    for member in members.iter_mut() {
+        member.on_register_dispatch();
+    }
+}
+
+/// Gives the members' filters the next numbers, by index.
+fn number<S: Subscriber, L: Layer<S>>(members: &mut [L], subscriber: &mut S)
+    requires members { All L.usable members.old }
+    requires subscriber { S.usable subscriber.old }
+    ensures members { All L.usable members.new }
+    ensures subscriber { S.usable subscriber.new }
+    ensures attached { AllZip L.attached members.old members.new }
+    ensures numbers { TakesNumbers S.registry S.with_registry (ListForm L.has_form) members.old subscriber.old members.new subscriber.new }
+{
+    for member in members.iter_mut() {
+        member.on_layer(subscriber);
+    }
+}
+
+/// Calls the hook that this notice is for.
+fn notify<S: Subscriber, L: Layer<S>>(
+    member: &mut L,
+    notice: Observed<'_, '_>,
+    ctx: &mut ContextMut<'_, S>,
+)
+    requires { MayNotify L.usable S.usable member.old ctx.old }
+    ensures usable { MayNotify L.usable S.usable member.new ctx.new }
+    ensures rest { HandsOn S.registry ctx.old ctx.new }
+    ensures alone { LeavesAlone S.registry S.with_registry L.has_form member.old ctx.old ctx.new }
+    ensures hook { Notified S.registry L.has_form L.stepped (notice_of notice.entry) member.old ctx.old member.new ctx.new }
+{
+    match notice {
+        Observed::NewSpan(attrs, id) => member.on_new_span(attrs, id, ctx),
+        Observed::Record(id, values) => member.on_record(id, values, ctx),
+        Observed::FollowsFrom(id, follows) => member.on_follows_from(id, follows, ctx),
+        Observed::Event(event) => member.on_event(event, ctx),
+        Observed::Enter(id) => member.on_enter(id, ctx),
+        Observed::Exit(id) => member.on_exit(id, ctx),
+        Observed::IdChange(id, new) => member.on_id_change(id, new, ctx),
+        Observed::Close(id) => member.on_close(id, ctx),
+    }
+}
+
+/// Notifies all members, by index.
+fn notify_all<S: Subscriber, L: Layer<S>>(
+    members: &mut [L],
+    notice: Observed<'_, '_>,
+    ctx: &mut ContextMut<'_, S>,
+)
+    requires { MayNotify (All L.usable) S.usable members.old ctx.old }
+    ensures usable { MayNotify (All L.usable) S.usable members.new ctx.new }
+    ensures rest { HandsOn S.registry ctx.old ctx.new }
+    ensures alone { LeavesAlone S.registry S.with_registry (ListForm L.has_form) members.old ctx.old ctx.new }
+    ensures hook { Notified S.registry (ListForm L.has_form) (ListSteps L.stepped) (notice_of notice.entry) members.old ctx.old members.new ctx.new }
+{
+    for member in members.iter_mut() {
+        notify(member, notice, ctx);
+    }
+}
+
+impl<S: Subscriber, L: Layer<S>> Layer<S> for Vec<L> {
+    ghost usable = { λ x. All L.usable x.items };
+
+    ghost has_form = { λ x. ListForm L.has_form x.items };
+
+    ghost stepped = { λ x p e lane under v y w. ListSteps L.stepped x.items p e lane under v y.items w };
+
+    ghost hears = { λ x place h y. ListHears L.hears x.items place h y.items };
+
+    ghost registered = { λ x y. AllZip L.registered x.items y.items };
+
+    ghost attached = { λ x y. AllZip L.attached x.items y.items };
+
+    ghost laws = { list_laws L.laws (λ x. x.items) };
+
+    fn on_register_dispatch(&mut self) {
+        put_in_use(self.as_mut_slice());
+    }
+
+    fn on_layer(&mut self, subscriber: &mut S) {
+        number(self.as_mut_slice(), subscriber);
+    }
+
+    fn register_callsite(&self, meta: &Metadata, pass: &mut Pass) -> Interest {
+        let mut highest = Interest::Never;
+        for member in self.iter() {
+            highest = higher_of(highest, member.register_callsite(meta, pass));
+        }
+        highest
+    }
+
+    fn enabled(&self, meta: &Metadata, ctx: &Context<'_, S>, pass: &mut Pass) -> bool {
+        for member in self.iter() {
+            if !member.enabled(meta, ctx, pass) {
+                return false;
+            }
+        }
+        true
+    }
+
+    fn event_enabled(&self, event: &Event<'_>, ctx: &Context<'_, S>, pass: &mut Pass) -> bool {
+        for member in self.iter() {
+            if !member.event_enabled(event, ctx, pass) {
+                return false;
+            }
+        }
+        true
+    }
+
+    fn max_level_hint(&self) -> Option<LevelFilter> {
+        let mut widest = Some(LevelFilter::OFF);
+        for member in self.iter() {
+            widest = wider_of(widest, member.max_level_hint());
+        }
+        widest
+    }
+
+    fn filter_count(&self) -> u32 {
+        let mut count: u32 = 0;
+        for member in self.iter() {
+            count = count.saturating_add(member.filter_count());
+        }
+        count
+    }
+
+    fn is_filtered(&self) -> bool {
+        for member in self.iter() {
+            if !member.is_filtered() {
+                return false;
+            }
+        }
+        !self.as_slice().is_empty()
+    }
+
+    fn is_absent(&self) -> bool {
+        for member in self.iter() {
+            if member.is_absent() {
+                return true;
+            }
+        }
+        false
+    }
+
+    fn on_new_span(&mut self, attrs: &Attributes<'_>, id: Id, ctx: &mut ContextMut<'_, S>) {
+        notify_all(self.as_mut_slice(), Observed::NewSpan(attrs, id), ctx);
+    }
+
+    fn on_record(&mut self, id: Id, values: &Record<'_>, ctx: &mut ContextMut<'_, S>) {
+        notify_all(self.as_mut_slice(), Observed::Record(id, values), ctx);
+    }
+
+    fn on_follows_from(&mut self, id: Id, follows: Id, ctx: &mut ContextMut<'_, S>) {
+        notify_all(self.as_mut_slice(), Observed::FollowsFrom(id, follows), ctx);
+    }
+
+    fn on_event(&mut self, event: &Event<'_>, ctx: &mut ContextMut<'_, S>) {
+        notify_all(self.as_mut_slice(), Observed::Event(event), ctx);
+    }
+
+    fn on_enter(&mut self, id: Id, ctx: &mut ContextMut<'_, S>) {
+        notify_all(self.as_mut_slice(), Observed::Enter(id), ctx);
+    }
+
+    fn on_exit(&mut self, id: Id, ctx: &mut ContextMut<'_, S>) {
+        notify_all(self.as_mut_slice(), Observed::Exit(id), ctx);
+    }
+
+    fn on_id_change(&mut self, id: Id, new: Id, ctx: &mut ContextMut<'_, S>) {
+        notify_all(self.as_mut_slice(), Observed::IdChange(id, new), ctx);
+    }
+
+    fn on_close(&mut self, id: Id, ctx: &mut ContextMut<'_, S>) {
+        notify_all(self.as_mut_slice(), Observed::Close(id), ctx);
+    }
+}
