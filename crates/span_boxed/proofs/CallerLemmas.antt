@@ -1,0 +1,58 @@
+-- What a caller's proof may need of a boxed layer: a box adds nothing to the layer in it.
+use Rattle.std.specs.Prelude.{◌≡◌, ℕ, refl}
+use Rattle.std.proofs.Common.{Global, subst, sym}
+use Rattle.std.specs.declared.dyn_box.DynBox.{DynBox}
+use denote.Param.Table.{Entry, Table}
+use Rattle.span_boxed.specs.Boxed.{ChangesInside, Further, HearsInside, HearsInTurn, Nothing, StepsInside}
+use Rattle.span_boxed.specs.declared.boxed.BoxedLayer.{BoxedLayer}
+use Rattle.span_core.specs.Filters.{FilterSet}
+use Rattle.span_filters.proofs.CallerLemmas.{IsBoxOf, in_a_box}
+use Rattle.span_layers.specs.Layer.{LayerSteps}
+use Rattle.span_registry.specs.Answers.{Notice}
+use Rattle.span_registry.specs.Form.{Form}
+use Rattle.span_registry.specs.Place.{Heard, HearLaws, HearSteps, Place}
+use Rattle.span_registry.specs.Plan.{Plan}
+use Rattle.span_registry.specs.Store.{RegistryState}
+
+-- T and at are `own-1` and `at-1-1` of the caller's `OwnLists`: the types that it puts into boxes, and the one in this box
+module _ {G : Type 0 → Type 1} {C : Type 0} (T : Table G C) (at : T.I) where
+  -- a boxed layer over these types
+  abbrev pub Boxed : Type 0
+  Boxed = BoxedLayer T.I (λ i. (T.entry i).0.Denot)
+
+  -- the box was made of this layer
+  abbrev pub Holds : Boxed → (T.entry at).0.Denot → Type 0
+  Holds b x = IsBoxOf T at b.object.vtable b.object.value x
+
+  -- a boxed layer has the form of the layer
+  pub form_in_a_box : (form : (j : Entry G C) → j.0.Denot → Form → Type 0) (b : Boxed) (x : (T.entry at).0.Denot) (f : Form) → Holds b x → form (T.entry at) x f → form (T.entry b.object.vtable) b.object.value f
+  form_in_a_box form b x f made h = in_a_box T at (λ j z. form j z f) made h
+
+  module _ (change : (j : Entry G C) → j.0.Denot → j.0.Denot → Type 0) (x : (T.entry at).0.Denot) where
+    -- the layer changed so, and the box is one of what it became
+    abbrev pub ChangesTo : (i : T.I) → (T.entry i).0.Denot → Type 0
+    ChangesTo i new = (y : (T.entry at).0.Denot) × IsBoxOf T at i new y × change (T.entry at) x y
+
+    changed : (i : T.I) → at ≡ i → (y new : (T.entry i).0.Denot) → (T.entry i).0.coded.code y ≡ (T.entry at).0.coded.code x → change (T.entry i) y new → ChangesTo i new
+    changed i same =
+        subst (λ (k : T.I). (y new : (T.entry k).0.Denot) → (T.entry k).0.coded.code y ≡ (T.entry at).0.coded.code x → change (T.entry k) y new → ChangesTo k new) same
+        (λ y new code s. (new, record { index = refl; codes = refl }, subst (λ z. change (T.entry at) z new) ((T.entry at).0.coded.inj y x code) s))
+
+    -- and changes as the layer does: where it is put in use, or on a registry
+    pub changes_in_a_box : (b c : Boxed) → Holds b x → ChangesInside (λ k. change (T.entry k.object.vtable)) b c → ChangesTo c.object.vtable c.object.value
+    changes_in_a_box b c made s =
+        subst (λ (o : DynBox T.I Global (λ i. (T.entry i).0.Denot)). ChangesTo o.vtable o.value) (sym s.1) (changed b.object.vtable (sym made.index) b.object.value s.0 made.codes s.2)
+
+  -- it goes on as the layer does, where it is notified
+  pub steps_in_a_box : (steps : (j : Entry G C) → LayerSteps j.0.Denot) (x : (T.entry at).0.Denot) (b : Boxed) (p : Plan) (e : Notice) (lane : ℕ) (under : FilterSet) (v : RegistryState) (c : Boxed) (w : RegistryState)
+      → Holds b x → StepsInside (λ k. steps (T.entry k.object.vtable)) b p e lane under v c w → ChangesTo (λ j y z. steps j y p e lane under v z w) x c.object.vtable c.object.value
+  steps_in_a_box steps x b p e lane under v c w made s = changes_in_a_box (λ j y z. steps j y p e lane under v z w) x b c made s
+
+  module _ (hears : (j : Entry G C) → HearSteps j.0.Denot) (laws : HearLaws (hears (T.entry at))) (x : (T.entry at).0.Denot) (b : Boxed) (made : Holds b x) (place : Place) where
+    -- and hears as the layer does
+    pub hears_in_a_box : {h : Heard} {c : Boxed} → HearsInTurn (HearsInside (λ k. hears (T.entry k.object.vtable))) b place h c → ChangesTo (λ j y z. hears j y place h z) x c.object.vtable c.object.value
+    hears_in_a_box Nothing = (x, made, laws.nothing x place)
+    hears_in_a_box (Further {h} {k} {y} {z} before one) =
+        let u = hears_in_a_box before in
+        let s = changes_in_a_box (λ j a o. hears j a place k o) u.0 y z u.1 one in
+        (s.0, s.1, laws.further x u.0 s.0 place h k u.2 s.2)

@@ -1,0 +1,2 @@
+mod BoxLemmas
+pub mod CallerLemmas

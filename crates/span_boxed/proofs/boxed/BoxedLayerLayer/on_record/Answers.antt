@@ -1,0 +1,18 @@
+use Rattle.std.proofs.Common.{refl, rules, subst, sym}
+use Rattle.span_boxed.specs.Boxed.{HearsInside, StepsInside, StepsLawfully}
+use Rattle.span_boxed.proofs.BoxLemmas.{asked_of_object, notified_over_root}
+use Rattle.span_boxed.proofs.boxed.BoxedLayerLayer.on_record.Goals as goal
+
+pub dyn_on_record-requires : goal.dyn_on_record-requires
+dyn_on_record-requires g c κs = asked_of_object _ _ _ _ (subst (λ z. (goal.DynLayer-dyn g z).dyn_usable z.1) (sym c.deref_box_mut-1.ensures.value.1) c.requires.0)
+
+pub returns-clause-hook : goal.returns-clause-hook
+returns-clause-hook g c =
+    let d = goal.DynLayer-dyn g in
+    notified_over_root g.S.LookupSpan.registry g.S.LookupSpan.with_registry g.met.S.LookupSpan.registry_with
+    (λ i x. record c.args.self.now { object = record c.args.self.now.object { vtable = i; value = x } })
+    (λ b. (d (b.object.vtable, b.object.value)).dyn_form b.object.value) _ _ c.deref_box_mut-1.ensures.value.1 _
+    (StepsLawfully (λ b. (d (b.object.vtable, b.object.value)).dyn_form b.object.value) (StepsInside (λ b. (d (b.object.vtable, b.object.value)).dyn_stepped)) (HearsInside (λ b. (d (b.object.vtable, b.object.value)).dyn_hears))) _
+    c.args.ctx.now c.take_root-root.new.self c.put_root.new.self _ _ _ c.over.result c.dyn_on_record.new.ctx
+    c.take_root-root.ensures.root c.take_root-root.ensures.rest c.over.ensures.lent (search (rules)) c.put_root.ensures
+    (λ f h. let s = c.dyn_on_record.ensures.1.1 f h in record { taken = (_, refl, s.taken); follows = s.follows; heard = λ place. (_, refl, s.heard place) })

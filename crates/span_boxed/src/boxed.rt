@@ -1,0 +1,140 @@
+//! Boxed layers: layers whose type is picked while the program runs.
+ghost use Rattle.std.specs.Prelude.{◌≡◌};
+ghost use Rattle.span_boxed.specs.Boxed.{ChangesInside, HearsInTurn, HearsInside, RegistersLawfully, StepsInside, StepsLawfully, object_laws};
+
+use crate::object::DynLayer;
+use span_core::{Attributes, Event, Id, Interest, LevelFilter, Metadata, Pass, Record};
+use span_layers::Layer;
+use span_registry::{Context, ContextMut, Subscriber};
+use std::fmt;
+
+/// A layer in a box, which adds nothing to it: it has the form of the layer in the box. It is a layer over each subscriber: what
+/// it is asked and notified of, the layer in the box is, over the registry that the subscriber stands on, from the same lane,
+/// under the same mask and with the same refusals. So an event that the layer in the box sends reaches nobody.
+///
+/// A layer of a concrete type is boxed, one without closures and without boxes. Stands for
+/// `Box<dyn tracing_subscriber::Layer<S> + Send + Sync>` where that is a layer.
+#[derive(Drop)]
+pub struct BoxedLayer {
+    /// The layer in its box.
+    pub object: Box<dyn DynLayer + Send>,
+}
+
+impl BoxedLayer {
+    /// Takes a layer in its box.
+    pub fn new(object: Box<dyn DynLayer + Send>) -> BoxedLayer
+        ensures { result.object ≡ object }
+    {
+        BoxedLayer { object }
+    }
+}
+
+impl<S: Subscriber> Layer<S> for BoxedLayer {
+    ghost usable = { λ x. (DynLayer-box x.object).dyn_usable x.object.value };
+
+    ghost has_form = { λ x. (DynLayer-box x.object).dyn_form x.object.value };
+
+    ghost stepped = { StepsLawfully (λ x. (DynLayer-box x.object).dyn_form x.object.value) (StepsInside (λ x. (DynLayer-box x.object).dyn_stepped)) (HearsInside (λ x. (DynLayer-box x.object).dyn_hears)) };
+
+    ghost hears = { HearsInTurn (HearsInside (λ x. (DynLayer-box x.object).dyn_hears)) };
+
+    ghost registered = { RegistersLawfully (λ x. (DynLayer-box x.object).dyn_form x.object.value) (ChangesInside (λ x. (DynLayer-box x.object).dyn_registered)) };
+
+    ghost attached = { ChangesInside (λ x. (DynLayer-box x.object).dyn_attached) };
+
+    ghost laws = { object_laws };
+
+    fn on_register_dispatch(&mut self) {
+        self.object.dyn_on_register_dispatch();
+    }
+
+    fn on_layer(&mut self, subscriber: &mut S) {
+        self.object.dyn_on_layer(subscriber.root_mut());
+    }
+
+    fn register_callsite(&self, meta: &Metadata, pass: &mut Pass) -> Interest {
+        self.object.dyn_register_callsite(meta, pass)
+    }
+
+    fn enabled(&self, meta: &Metadata, ctx: &Context<'_, S>, pass: &mut Pass) -> bool {
+        self.object.dyn_enabled(meta, &ctx.to_root(), pass)
+    }
+
+    fn event_enabled(&self, event: &Event<'_>, ctx: &Context<'_, S>, pass: &mut Pass) -> bool {
+        self.object.dyn_event_enabled(event, &ctx.to_root(), pass)
+    }
+
+    fn max_level_hint(&self) -> Option<LevelFilter> {
+        self.object.dyn_max_level_hint()
+    }
+
+    fn filter_count(&self) -> u32 {
+        self.object.dyn_filter_count()
+    }
+
+    fn is_filtered(&self) -> bool {
+        self.object.dyn_is_filtered()
+    }
+
+    fn is_absent(&self) -> bool {
+        self.object.dyn_is_absent()
+    }
+
+    fn on_new_span(&mut self, attrs: &Attributes<'_>, id: Id, ctx: &mut ContextMut<'_, S>) {
+        let mut root = ctx.take_root();
+        self.object
+            .dyn_on_new_span(attrs, id, &mut ctx.over(&mut root));
+        ctx.put_root(root);
+    }
+
+    fn on_record(&mut self, id: Id, values: &Record<'_>, ctx: &mut ContextMut<'_, S>) {
+        let mut root = ctx.take_root();
+        self.object
+            .dyn_on_record(id, values, &mut ctx.over(&mut root));
+        ctx.put_root(root);
+    }
+
+    fn on_follows_from(&mut self, id: Id, follows: Id, ctx: &mut ContextMut<'_, S>) {
+        let mut root = ctx.take_root();
+        self.object
+            .dyn_on_follows_from(id, follows, &mut ctx.over(&mut root));
+        ctx.put_root(root);
+    }
+
+    fn on_event(&mut self, event: &Event<'_>, ctx: &mut ContextMut<'_, S>) {
+        let mut root = ctx.take_root();
+        self.object.dyn_on_event(event, &mut ctx.over(&mut root));
+        ctx.put_root(root);
+    }
+
+    fn on_enter(&mut self, id: Id, ctx: &mut ContextMut<'_, S>) {
+        let mut root = ctx.take_root();
+        self.object.dyn_on_enter(id, &mut ctx.over(&mut root));
+        ctx.put_root(root);
+    }
+
+    fn on_exit(&mut self, id: Id, ctx: &mut ContextMut<'_, S>) {
+        let mut root = ctx.take_root();
+        self.object.dyn_on_exit(id, &mut ctx.over(&mut root));
+        ctx.put_root(root);
+    }
+
+    fn on_id_change(&mut self, id: Id, new: Id, ctx: &mut ContextMut<'_, S>) {
+        let mut root = ctx.take_root();
+        self.object
+            .dyn_on_id_change(id, new, &mut ctx.over(&mut root));
+        ctx.put_root(root);
+    }
+
+    fn on_close(&mut self, id: Id, ctx: &mut ContextMut<'_, S>) {
+        let mut root = ctx.take_root();
+        self.object.dyn_on_close(id, &mut ctx.over(&mut root));
+        ctx.put_root(root);
+    }
+}
+
+impl fmt::Debug for BoxedLayer {
+    fn fmt<W: fmt::Write>(&self, f: &mut fmt::Formatter<W>) -> fmt::Result {
+        f.debug_struct("BoxedLayer").finish_non_exhaustive()
+    }
+}

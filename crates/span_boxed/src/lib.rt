@@ -1,0 +1,10 @@
+//! Boxed layers: layers whose type is picked while the program runs.
+#![tactic(auto)]
+
+mod boxed;
+mod object;
+#[cfg(test)]
+mod tests;
+
+pub use boxed::BoxedLayer;
+pub use object::DynLayer;
