@@ -16,8 +16,8 @@ use span_registry::{Context, ContextMut, Registry};
 
 /// A layer over the registry, as an object. Each `Layer<Registry>` that can be let go of is one.
 ///
-/// Its clauses are those of `Layer`. An object brings no law, so each call that changes it says what the law says of that, beside
-/// how it goes on.
+/// Its clauses are those of `Layer`: a registry that is handed on (`rest`) has other extensions alone. An object brings no law, so
+/// each call that notifies it, or puts it in use, says what the law says of that, beside how it goes on.
 pub trait DynLayer: Drop {
     /// It may be asked and notified.
     ghost dyn_usable: { Self → Type 0 };
