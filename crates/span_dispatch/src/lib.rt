@@ -2,10 +2,14 @@
 #![tactic(auto)]
 
 mod dispatch;
+#[cfg(test)]
+mod layer_tests;
 mod notice;
 mod recorder;
 mod request;
 mod serve;
+#[cfg(test)]
+mod tests;
 
 pub use dispatch::Dispatch;
 pub use notice::Notice;
