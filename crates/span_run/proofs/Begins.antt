@@ -1,13 +1,13 @@
 -- Stacks as they begin: their filters took the first numbers, and there was room for them.
-use Rattle.std.proofs.Common.{◌≡◌, ℕ, ◌+◌, ◌<◌, Some, None, arith, refl, sym, ap, subst, ◌∙◌}
+use Rattle.std.proofs.Common.{◌≡◌, ℕ, ◌+◌, ◌<◌, Option, Some, None, arith, refl, sym, ap, subst, ◌∙◌}
 use Rattle.span_core.specs.declared.filter.TheConstants.FilterId.{LIMIT}
 use Rattle.span_core.specs.declared.level.LevelFilter.{LevelFilter}
-use Rattle.span_core.specs.declared.level.TheConstants.LevelFilter.{INFO, TRACE}
+use Rattle.span_core.specs.declared.level.TheConstants.LevelFilter.{INFO, TRACE, WARN}
 use Rattle.span_dispatch.specs.Recorder.{Kept, new_recorder}
 use Rattle.span_filters.specs.Filter.{settled_answers}
 use Rattle.span_filters.specs.Level.{level_answers}
 use Rattle.span_layers.specs.Filtered.{FilteredForm, IsNumber, IsUnnumbered, filter_of, id_of, layer_of}
-use Rattle.span_layers.specs.Layered.{OverForm, inner_of, outer_of}
+use Rattle.span_layers.specs.Layered.{OverForm, inner_of, outer_of, with_inner}
 use Rattle.span_layers.specs.Number.{filters_in, numbered}
 use Rattle.span_layers.specs.declared.filtered.Filtered.{Filtered as FilteredLayer}
 use Rattle.span_layers.specs.declared.layered.Layered.{Layered}
@@ -15,11 +15,21 @@ use Rattle.span_registry.specs.Form.{Filtered, Form, InPair, Over}
 use Rattle.span_registry.specs.Store.{RegistryState, new_registry}
 use Rattle.span_registry.specs.declared.limits.TheConstants.Limits.{MAX}
 use Rattle.span_run.specs.Mute.{mute_answers}
-use Rattle.span_run.specs.Stacks.{BeginsNested, BeginsPair, BeginsPlain, BeginsUnder, leaf}
+use Rattle.span_run.specs.Stacks.{BeginsAbsent, BeginsNested, BeginsPair, BeginsPlain, BeginsUnder, BeginsVeto, BeginsWarned, leaf}
 use Rattle.span_run.specs.declared.mute.Mute.{Mute}
+use Rattle.span_run.specs.declared.mute_veto.MuteVeto.{MuteVeto}
 
 abbrev pub Levelled : Type 0
 Levelled = FilteredLayer Kept LevelFilter
+
+abbrev pub Warned : Type 0
+Warned = Layered Levelled (Layered Kept RegistryState)
+
+abbrev pub VetoStack : Type 0
+VetoStack = Layered LevelFilter (Layered MuteVeto Warned)
+
+abbrev pub AbsentStack : Type 0
+AbsentStack = Layered Kept (Layered (Option Kept) RegistryState)
 
 abbrev pub UnderLevel : Levelled → Form → Type 0
 UnderLevel x = FilteredForm (id_of x) (settled_answers level_answers (filter_of x)) (λ f. f ≡ leaf)
@@ -33,6 +43,11 @@ PairForm x = OverForm InPair (UnderLevel (outer_of x)) (UnderLevel (inner_of x))
 -- a registry of which filters alone are others
 pub registry_then : (s u t : RegistryState) (n : ℕ) → s ≡ u → t ≡ record s { filters = t.filters } → t.filters ≡ n → t ≡ record u { filters = n }
 registry_then s u t n same alone next = alone ∙ (λ i. record (same i) { filters = next i })
+
+-- where the registry handed out no filter more, nothing changed
+as_before : {S : Type 0} (registry : S → RegistryState) (with_registry : S → RegistryState → S) (own : (x : S) → with_registry x (registry x) ≡ x) (s t : S)
+    → t ≡ with_registry s (record (registry s) { filters = (registry t).filters }) → (registry t).filters ≡ (registry s).filters → t ≡ s
+as_before registry with_registry own s t alone same = alone ∙ (λ i. with_registry s (record (registry s) { filters = same i })) ∙ own s
 
 -- the forms without numbers
 abbrev level_form : LevelFilter → Form
@@ -73,6 +88,10 @@ module _ (p : Layered Levelled Levelled) (a b : Kept) (s : RegistryState) (first
         registry = registry_then s (new_registry MAX) (inner_of x) 2 first alone two;
       }
 
+-- the stack `plain` handed out no filter
+none_yet : (s : Layered Kept RegistryState) → BeginsPlain s → (inner_of s).filters ≡ 0
+none_yet s begun = ap (λ (r : RegistryState). r.filters) begun.registry
+
 -- ---- nested
 
 module _ (u : FilteredLayer Levelled Mute) (l : Levelled) (deep : Kept) (mute : Mute) (s : Layered Kept RegistryState) (begun : BeginsPlain s) (inside : IsUnnumbered l deep INFO) (outside : IsUnnumbered u l mute) where
@@ -82,23 +101,69 @@ module _ (u : FilteredLayer Levelled Mute) (l : Levelled) (deep : Kept) (mute : 
   mute_has : UnderMute u mute_form
   mute_has = (outside.id, refl, under_level (layer_of u) deep INFO inner_one)
 
-  none_yet : (inner_of s).filters ≡ 0
-  none_yet = ap (λ (r : RegistryState). r.filters) begun.registry
-
   pub nested_has_room : ((f : Form) → UnderMute u f → LIMIT < (inner_of s).filters + filters_in f) → ⊥
   nested_has_room full =
-      let many : LIMIT < 0 + 2 = subst (λ n. LIMIT < n + 2) none_yet (full mute_form mute_has) in
+      let many : LIMIT < 0 + 2 = subst (λ n. LIMIT < n + 2) (none_yet s begun) (full mute_form mute_has) in
       omega (arith, many)
 
   pub begins_nested : (x : Layered (FilteredLayer Levelled Mute) (Layered Kept RegistryState)) → deep ≡ new_recorder → inner_of x ≡ record s { inner = record (inner_of s) { filters = (inner_of (inner_of x)).filters } }
       → ((f : Form) → UnderMute u f → UnderMute (outer_of x) (numbered f (inner_of s).filters).0) → ((f : Form) → UnderMute u f → (inner_of (inner_of x)).filters ≡ (numbered f (inner_of s).filters).1)
       → (filter_of (layer_of (outer_of x)) ≡ filter_of (layer_of u)) × (layer_of (layer_of (outer_of x)) ≡ layer_of (layer_of u)) → BeginsNested x
   begins_nested x deep_new alone form next attached =
-      let has : UnderMute (outer_of x) (numbered mute_form 0).0 = subst (λ n. UnderMute (outer_of x) (numbered mute_form n).0) none_yet (form mute_form mute_has) in
-      let two : (inner_of (inner_of x)).filters ≡ (numbered mute_form 0).1 = next mute_form mute_has ∙ ap (λ n. (numbered mute_form n).1) none_yet in
+      let has : UnderMute (outer_of x) (numbered mute_form 0).0 = subst (λ n. UnderMute (outer_of x) (numbered mute_form n).0) (none_yet s begun) (form mute_form mute_has) in
+      let two : (inner_of (inner_of x)).filters ≡ (numbered mute_form 0).1 = next mute_form mute_has ∙ ap (λ n. (numbered mute_form n).1) (none_yet s begun) in
       record {
         base = ap (λ (r : Layered Kept RegistryState). outer_of r) alone ∙ begun.base;
         number = has.0;
         deep = begins_under (layer_of u) (layer_of (outer_of x)) deep INFO 1 inner_one deep_new attached has.2.0;
         registry = registry_then (inner_of s) (new_registry MAX) (inner_of (inner_of x)) 2 begun.registry (ap (λ (r : Layered Kept RegistryState). inner_of r) alone) two;
       }
+
+-- ---- veto
+
+module _ (l : Levelled) (warn : Kept) (s : Layered Kept RegistryState) (begun : BeginsPlain s) (outside : IsUnnumbered l warn WARN) where
+  pub warned_has_room : ((f : Form) → UnderLevel l f → LIMIT < (inner_of s).filters + filters_in f) → ⊥
+  warned_has_room full =
+      let many : LIMIT < 0 + 1 = subst (λ n. LIMIT < n + 1) (none_yet s begun) (full (level_form WARN) (under_level l warn WARN outside)) in
+      omega (arith, many)
+
+  pub begins_warned : (x : Warned) → warn ≡ new_recorder → inner_of x ≡ record s { inner = record (inner_of s) { filters = (inner_of (inner_of x)).filters } }
+      → ((f : Form) → UnderLevel l f → UnderLevel (outer_of x) (numbered f (inner_of s).filters).0) → ((f : Form) → UnderLevel l f → (inner_of (inner_of x)).filters ≡ (numbered f (inner_of s).filters).1)
+      → (filter_of (outer_of x) ≡ filter_of l) × (layer_of (outer_of x) ≡ layer_of l) → BeginsWarned x
+  begins_warned x warn_new alone form next attached =
+      let has : UnderLevel (outer_of x) (numbered (level_form WARN) 0).0 = subst (λ n. UnderLevel (outer_of x) (numbered (level_form WARN) n).0) (none_yet s begun) (form (level_form WARN) (under_level l warn WARN outside)) in
+      let one : (inner_of (inner_of x)).filters ≡ (numbered (level_form WARN) 0).1 = next (level_form WARN) (under_level l warn WARN outside) ∙ ap (λ n. (numbered (level_form WARN) n).1) (none_yet s begun) in
+      record {
+        base = ap (λ (r : Layered Kept RegistryState). outer_of r) alone ∙ begun.base;
+        warn = begins_under l (outer_of x) warn WARN 0 outside warn_new attached has.0;
+        registry = registry_then (inner_of s) (new_registry MAX) (inner_of (inner_of x)) 1 begun.registry (ap (λ (r : Layered Kept RegistryState). inner_of r) alone) one;
+      }
+
+-- one filter leaves room for a layer without filters
+pub warned_leaves_room : (w : Warned) → BeginsWarned w → LIMIT < (inner_of (inner_of w)).filters + 0 → ⊥
+warned_leaves_room w begun full =
+    let one : (inner_of (inner_of w)).filters ≡ 1 = ap (λ (r : RegistryState). r.filters) begun.registry in
+    omega (arith, one, full)
+
+-- the layer that vetoes muted events took no number
+pub begins_muted : (w : Warned) → BeginsWarned w → (x : Layered MuteVeto Warned) → inner_of x ≡ record w { inner = record (inner_of w) { inner = record (inner_of (inner_of w)) { filters = (inner_of (inner_of (inner_of x))).filters } } }
+    → (inner_of (inner_of (inner_of x))).filters ≡ (inner_of (inner_of w)).filters → BeginsWarned (inner_of x)
+begins_muted w begun x alone none =
+    let same = as_before (λ (z : Warned). inner_of (inner_of z)) (λ z r. with_inner z (with_inner (inner_of z) r)) (λ z. refl) w (inner_of x) alone none in
+    subst BeginsWarned (sym same) begun
+
+-- nor did the level outside it
+pub begins_veto : (m : Layered MuteVeto Warned) → BeginsWarned (inner_of m) → (x : VetoStack) → outer_of x ≡ INFO
+    → inner_of x ≡ record m { inner = record (inner_of m) { inner = record (inner_of (inner_of m)) { inner = record (inner_of (inner_of (inner_of m))) { filters = (inner_of (inner_of (inner_of (inner_of x)))).filters } } } }
+    → (inner_of (inner_of (inner_of (inner_of x)))).filters ≡ (inner_of (inner_of (inner_of m))).filters → BeginsVeto x
+begins_veto m begun x level alone none =
+    let same = as_before (λ (z : Layered MuteVeto Warned). inner_of (inner_of (inner_of z))) (λ z r. with_inner z (with_inner (inner_of z) (with_inner (inner_of (inner_of z)) r))) (λ z. refl) m (inner_of x) alone none in
+    record { level = level; below = subst (λ (z : Layered MuteVeto Warned). BeginsWarned (inner_of z)) (sym same) begun }
+
+-- ---- absent
+
+pub begins_absent : (b : Layered (Option Kept) RegistryState) → outer_of b ≡ None → inner_of b ≡ new_registry MAX → (x : AbsentStack) → outer_of x ≡ new_recorder
+    → inner_of x ≡ record b { inner = record (inner_of b) { filters = (inner_of (inner_of x)).filters } } → (inner_of (inner_of x)).filters ≡ (inner_of b).filters → BeginsAbsent x
+begins_absent b missing first x base alone none =
+    let same = as_before (λ (z : Layered (Option Kept) RegistryState). inner_of z) (λ z r. with_inner z r) (λ z. refl) b (inner_of x) alone none in
+    record { base = base; absent = ap (λ (z : Layered (Option Kept) RegistryState). outer_of z) same ∙ missing; registry = ap (λ (z : Layered (Option Kept) RegistryState). inner_of z) same ∙ first }

@@ -1,26 +1,28 @@
--- The three stacks are honest, and stay so.
-use Rattle.std.proofs.Common.{◌≡◌, ℕ, ◌<◌, ◌||◌, ◌==◌, Bool, true, false, Some, arith, refl, sym, ap, subst, ◌∙◌}
+-- The stacks are honest, and stay so.
+use Rattle.std.proofs.Common.{◌≡◌, ℕ, ◌<◌, ◌||◌, ◌==◌, Bool, true, false, Option, None, Some, arith, refl, sym, ap, subst, ◌∙◌}
 use Rattle.std.proofs.lemmas.Bool.{eqb-true, false_from_ne_true, false≢true}
 use Rattle.std.specs.Prelude.{⊤}
 use Rattle.span_core.specs.declared.level.LevelFilter.{LevelFilter}
-use Rattle.span_core.specs.declared.level.TheConstants.LevelFilter.{INFO, TRACE}
+use Rattle.span_core.specs.declared.level.TheConstants.LevelFilter.{INFO, TRACE, WARN}
 use Rattle.span_dispatch.specs.Recorder.{Kept}
 use Rattle.span_filters.specs.Level.{level_answers, level_honest}
 use Rattle.span_layers.specs.Filtered.{IsNumber, filter_of, id_of, layer_of}
 use Rattle.span_layers.specs.Honest.{IsHonestStack}
 use Rattle.span_layers.specs.Layered.{inner_of, outer_of}
 use Rattle.span_layers.specs.Observe.{open_answers}
+use Rattle.span_layers.specs.Optional.{OptionGoes}
 use Rattle.span_layers.specs.declared.filtered.Filtered.{Filtered as FilteredLayer}
 use Rattle.span_layers.specs.declared.layered.Layered.{Layered}
 use Rattle.span_registry.specs.Answers.{AreHonest}
 use Rattle.span_registry.specs.Follows.{RefusesNothing}
 use Rattle.span_registry.specs.Store.{RegistryState}
-use Rattle.span_run.proofs.Begins.{Levelled}
-use Rattle.span_run.proofs.Steady.{StayBoth, StaysUnder}
+use Rattle.span_run.proofs.Begins.{AbsentStack, Levelled, VetoStack, Warned}
+use Rattle.span_run.proofs.Steady.{StayBoth, StaysUnder, still_absent}
 use Rattle.span_run.specs.Mute.{mute_answers, mute_honest}
-use Rattle.span_run.specs.Stacks.{BeginsNested, BeginsPair, BeginsUnder, form_of}
+use Rattle.span_run.specs.Stacks.{BeginsAbsent, BeginsNested, BeginsPair, BeginsUnder, BeginsVeto, BeginsWarned, form_of}
 use Rattle.span_run.specs.declared.mute.Mute.{Mute}
-use Rattle.span_run.specs.declared.stack_name.StackName.TheVariants.{Nested, Pair, Plain}
+use Rattle.span_run.specs.declared.mute_veto.MuteVeto.{MuteVeto}
+use Rattle.span_run.specs.declared.stack_name.StackName.TheVariants.{Absent, Nested, Pair, Plain, Veto}
 
 open_honest : AreHonest open_answers
 open_honest = record { always = λ m v e. refl; never = λ m v e. absurd (cc); above = λ m v e. absurd (cc) }
@@ -82,6 +84,31 @@ honest_nested = record {
   stack = refl;
 }
 
+-- it has the one number
+the_first : (k : ℕ) → (((k == 0) || false) || (false || false)) ≡ true → k < 1
+the_first k h = either ((k == 0) || false) (false || false) (λ e. let x = is_one k 0 e in omega (arith, x)) (λ e. absurd (false≢true e)) h
+
+pub honest_veto : IsHonestStack (form_of Veto) 1
+honest_veto = record {
+  answers = (level_honest INFO, (mute_honest, ((level_honest WARN, open_honest), (open_honest, tt))));
+  numbers = record {
+    distinct = (tt, (tt, ((refl, tt), (tt, tt, λ k h. refl), λ k h. refl), λ k h. absurd (false≢true h)), λ k h. absurd (false≢true h));
+    handed_out = the_first;
+  };
+  orderly = (tt, (tt, (quiet, (tt, tt))));
+  still = (refl, (refl, (refl, (refl, tt))));
+  stack = refl;
+}
+
+pub honest_absent : IsHonestStack (form_of Absent) 0
+honest_absent = record {
+  answers = (open_honest, (tt, tt));
+  numbers = record { distinct = (tt, (tt, tt, λ k h. refl), λ k h. absurd (false≢true h)); handed_out = λ k h. absurd (false≢true h) };
+  orderly = (tt, (tt, tt));
+  still = (refl, (tt, tt));
+  stack = refl;
+}
+
 -- ---- what settles their forms
 
 abbrev pub StaysLevelled : ℕ → LevelFilter → Levelled → Type 0
@@ -96,6 +123,15 @@ StaysPair = StayBoth (StayBoth (StaysLevelled 0 INFO) (StaysLevelled 1 TRACE)) (
 abbrev pub StaysNested : Layered (FilteredLayer Levelled Mute) (Layered Kept RegistryState) → Type 0
 StaysNested = StayBoth (StaysUnder 0 (λ (f : Mute). mute_answers) mute_answers (StaysLevelled 1 INFO)) StaysPlain
 
+abbrev pub StaysWarned : Warned → Type 0
+StaysWarned = StayBoth (StaysLevelled 0 WARN) StaysPlain
+
+abbrev pub StaysVeto : VetoStack → Type 0
+StaysVeto = StayBoth (λ f. level_answers f ≡ level_answers INFO) (StayBoth (λ (m : MuteVeto). mute_answers ≡ mute_answers) StaysWarned)
+
+abbrev pub StaysAbsent : AbsentStack → Type 0
+StaysAbsent = StayBoth (λ r. ⊤) (StayBoth (λ (o : Option Kept). o ≡ None) (λ s. ⊤))
+
 pub stays_plain : (x : Layered Kept RegistryState) → StaysPlain x
 stays_plain x = record { outer = tt; inner = tt }
 
@@ -107,6 +143,17 @@ stays_pair x h = record { outer = record { outer = stays_levelled 0 INFO (outer_
 
 pub stays_nested : (x : Layered (FilteredLayer Levelled Mute) (Layered Kept RegistryState)) → BeginsNested x → StaysNested x
 stays_nested x h = record { outer = record { number = h.number; answered = refl; inside = stays_levelled 1 INFO (layer_of (outer_of x)) h.deep }; inner = stays_plain (inner_of x) }
+
+pub stays_veto : (x : VetoStack) → BeginsVeto x → StaysVeto x
+stays_veto x h =
+    let warned = inner_of (inner_of x) in
+    record {
+      outer = ap level_answers h.level;
+      inner = record { outer = refl; inner = record { outer = stays_levelled 0 WARN (outer_of warned) h.below.warn; inner = stays_plain (inner_of warned) } };
+    }
+
+pub stays_absent : (x : AbsentStack) → BeginsAbsent x → StaysAbsent x
+stays_absent x h = record { outer = tt; inner = record { outer = h.absent; inner = tt } }
 
 -- ---- they begin as they were made, once they are in use
 
@@ -126,3 +173,13 @@ used_nested x y id deep base same h = record {
   deep = used_levelled 1 INFO (layer_of (outer_of x)) (layer_of (outer_of y)) deep h.deep;
   registry = same ∙ h.registry;
 }
+
+used_warned : (x y : Warned) → IsUsed (outer_of x) (outer_of y) → outer_of (inner_of y) ≡ outer_of (inner_of x) → inner_of (inner_of y) ≡ inner_of (inner_of x) → BeginsWarned x → BeginsWarned y
+used_warned x y warn base same h = record { base = base ∙ h.base; warn = used_levelled 0 WARN (outer_of x) (outer_of y) warn h.warn; registry = same ∙ h.registry }
+
+pub used_veto : (x y : VetoStack) → outer_of y ≡ outer_of x → IsUsed (outer_of (inner_of (inner_of x))) (outer_of (inner_of (inner_of y)))
+    → outer_of (inner_of (inner_of (inner_of y))) ≡ outer_of (inner_of (inner_of (inner_of x))) → inner_of (inner_of (inner_of (inner_of y))) ≡ inner_of (inner_of (inner_of (inner_of x))) → BeginsVeto x → BeginsVeto y
+used_veto x y level warn base same h = record { level = level ∙ h.level; below = used_warned (inner_of (inner_of x)) (inner_of (inner_of y)) warn base same h.below }
+
+pub used_absent : (x y : AbsentStack) → outer_of y ≡ outer_of x → OptionGoes (λ (a b : Kept). b ≡ a) (outer_of (inner_of x)) (outer_of (inner_of y)) → inner_of (inner_of y) ≡ inner_of (inner_of x) → BeginsAbsent x → BeginsAbsent y
+used_absent x y base none same h = record { base = base ∙ h.base; absent = still_absent (λ (a b : Kept). b ≡ a) (outer_of (inner_of x)) (outer_of (inner_of y)) none h.absent; registry = same ∙ h.registry }

@@ -1,5 +1,5 @@
 -- Stacks that always have one form, since what settles it stays as it is: their runs, and what their recorders keep.
-use Rattle.std.proofs.Common.{◌≡◌, ℕ, List, [], ◌++◌, false, Option, Some, None, refl, sym, ap, subst, ◌∙◌}
+use Rattle.std.proofs.Common.{◌≡◌, ℕ, List, [], ◌++◌, true, false, Option, Some, None, refl, sym, ap, subst, ◌∙◌}
 use Rattle.std.specs.Prelude.{⊤}
 use Rattle.std.proofs.lemmas.Bool.{eq-eqb, eqb-true, true≢false}
 use Rattle.std.proofs.lemmas.List.{append-nil}
@@ -17,12 +17,14 @@ use Rattle.span_layers.specs.Filtered.{FilteredForm, FilteredSteps, Hooked, IsNu
 use Rattle.span_layers.specs.Honest.{IsHonestStack}
 use Rattle.span_layers.specs.Layer.{LayerSteps}
 use Rattle.span_layers.specs.Layered.{LayeredSteps, OverForm, PairSteps, inner_of, outer_of, with_inner}
+use Rattle.span_layers.specs.Optional.{OptionForm, OptionGoes, OptionSteps}
+use Rattle.span_layers.specs.Veto.{LeafStays, VetoForm}
 use Rattle.span_layers.specs.declared.filtered.Filtered.{Filtered as FilteredLayer}
 use Rattle.span_layers.specs.declared.layered.Layered.{Layered}
 use Rattle.span_registry.proofs.CallerLemmas.{settled_new}
 use Rattle.span_registry.specs.Answers.{Answers, Notice, OnClose, OnEnter, OnEvent, OnExit, OnFollows, OnIdChange, OnNewSpan, OnRecord}
 use Rattle.span_registry.specs.Closes.{IsSettled}
-use Rattle.span_registry.specs.Form.{Bare, Base, Filtered, Form, InPair, Joint, Leaf, OnSubscriber, Over}
+use Rattle.span_registry.specs.Form.{Absent, Bare, Base, Filtered, Form, InPair, Joint, Leaf, OnSubscriber, Over}
 use Rattle.span_registry.specs.Hooks.{StackSteps, no_filter}
 use Rattle.span_registry.specs.Place.{HearSteps}
 use Rattle.span_registry.specs.Plan.{Both, Itself, Nobody, Plan, Through}
@@ -41,6 +43,35 @@ pub record IsSteady {L : Type 0} (has_form : L → Form → Type 0) (stepped : L
 
 pub steady_recorder : IsSteady (λ (x : Kept) f. f ≡ leaf) recorder_steps leaf (λ x. ⊤)
 steady_recorder = record { known = λ x g s h. h; has = λ x s. refl; goes = λ x p e lane under v y w h s. tt }
+
+-- a leaf that vetoes and stays as it is, which answers so
+pub steady_veto : {L : Type 0} (answers : L → Answers) (a : Answers) → IsSteady (λ x. VetoForm (settled_answers answers x)) LeafStays (Leaf true a) (λ x. answers x ≡ a)
+steady_veto answers a = record {
+  known = λ x g s h. h.2 ∙ ap (λ b. Leaf true b) (h.1 ∙ s);
+  has = λ x s. (a, sym s, refl);
+  goes = λ x p e lane under v y w h s. ap answers h.1 ∙ s;
+}
+
+-- an absent layer stays absent, whatever it is told
+module _ {L : Type 0} (goes : L → L → Type 0) where
+  pub still_absent : (x y : Option L) → OptionGoes goes x y → x ≡ None → y ≡ None
+  still_absent None None h s = refl
+  still_absent None (Some y) h s = absurd h
+  still_absent (Some x) y h s = absurd (cc)
+
+module _ {L : Type 0} (has_form : L → Form → Type 0) (stepped : LayerSteps L) where
+  goes_absent : (x : Option L) (p : Plan) (e : Notice) (lane : ℕ) (under : FilterSet) (v : RegistryState) (y : Option L) (w : RegistryState) → OptionSteps stepped x p e lane under v y w → x ≡ None → y ≡ None
+  goes_absent None p e lane under v None w h s = refl
+  goes_absent None p e lane under v (Some y) w h s = absurd h
+  goes_absent (Some x) p e lane under v y w h s = absurd (cc)
+
+  -- so it is steady
+  pub steady_absent : IsSteady (OptionForm has_form) (OptionSteps stepped) (Bare Absent) (λ x. x ≡ None)
+  steady_absent = record {
+    known = λ x g s h. subst (λ o. OptionForm has_form o g) s h;
+    has = λ x s. subst (λ o. OptionForm has_form o (Bare Absent)) (sym s) refl;
+    goes = goes_absent;
+  }
 
 -- an id has one number
 same_number : (id : FilterId) (m : Option ℕ) (n : ℕ) → IsNumber id m → IsNumber id (Some n) → m ≡ Some n

@@ -1,4 +1,4 @@
--- What the filter answers that lets no muted event by.
+-- What the filter and the layer answer that let no muted event by.
 use Rattle.std.specs.Prelude.{ℕ, Bool, true, false, not, ◌&&◌, List, None, bytes_eq, codes, refl}
 use Rattle.std.specs.Borrow.{Bor}
 use Rattle.std.specs.List.{list_any}

@@ -35,7 +35,7 @@ use Rattle.span_dispatch.specs.declared.request.Request.{Request}
 use Rattle.span_dispatch.specs.declared.request.Request.TheVariants as request
 use Rattle.span_run.specs.declared.script.Script.{Script}
 use Rattle.span_run.specs.declared.stack_name.StackName.{StackName}
-use Rattle.span_run.specs.declared.stack_name.StackName.TheVariants.{Plain, Pair, Nested}
+use Rattle.span_run.specs.declared.stack_name.StackName.TheVariants.{Plain, Pair, Nested, Veto, Absent as AbsentStack}
 
 -- the texts that are borrowed
 abbrev pub texts_in : List (Bor (List ℕ)) → List (List ℕ)
@@ -264,12 +264,16 @@ abbrev pub stack_word : StackName → List ℕ
 stack_word Plain = codes "plain"
 stack_word Pair = codes "pair"
 stack_word Nested = codes "nested"
+stack_word Veto = codes "veto"
+stack_word AbsentStack = codes "absent"
 
 -- the names of a stack's recorders, innermost first
 abbrev pub recorders_of : StackName → List (List ℕ)
 recorders_of Plain = codes "base" ∷ []
 recorders_of Pair = codes "a" ∷ codes "b" ∷ []
 recorders_of Nested = codes "base" ∷ codes "deep" ∷ []
+recorders_of Veto = codes "base" ∷ codes "warn" ∷ []
+recorders_of AbsentStack = codes "base" ∷ []
 
 -- the words of the first line
 abbrev pub first_words : StackName → List (List ℕ)

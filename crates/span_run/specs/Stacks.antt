@@ -1,7 +1,7 @@
 -- What serves the requests of a script: the stack that it names.
-use Rattle.std.specs.Prelude.{◌≡◌, ℕ, true, List, [], ◌∷◌, Some, map}
+use Rattle.std.specs.Prelude.{◌≡◌, ℕ, true, List, [], ◌∷◌, Option, None, Some, map}
 use Rattle.span_core.specs.declared.level.LevelFilter.{LevelFilter}
-use Rattle.span_core.specs.declared.level.TheConstants.LevelFilter.{INFO, TRACE}
+use Rattle.span_core.specs.declared.level.TheConstants.LevelFilter.{INFO, TRACE, WARN}
 use Rattle.span_dispatch.specs.Fixed.{RunsBy, kept_at}
 use Rattle.span_dispatch.specs.Outcome.{Made}
 use Rattle.span_dispatch.specs.Recorder.{Kept, new_recorder}
@@ -15,37 +15,44 @@ use Rattle.span_layers.specs.Layered.{inner_of, outer_of}
 use Rattle.span_layers.specs.Observe.{open_answers}
 use Rattle.span_layers.specs.declared.filtered.Filtered.{Filtered as FilteredLayer}
 use Rattle.span_layers.specs.declared.layered.Layered.{Layered}
-use Rattle.span_registry.specs.Form.{Bare, Base, Filtered, Form, InPair, Leaf, OnSubscriber, Over}
+use Rattle.span_registry.specs.Form.{Absent, Bare, Base, Filtered, Form, InPair, Leaf, OnSubscriber, Over}
 use Rattle.span_registry.specs.Hooks.{StackSteps}
 use Rattle.span_registry.specs.Place.{HearSteps, Here, Inner, Outer, Place, Under}
 use Rattle.span_registry.specs.Store.{RegistryState, new_registry}
 use Rattle.span_registry.specs.declared.limits.TheConstants.Limits.{MAX}
 use Rattle.span_run.specs.Mute.{mute_answers}
 use Rattle.span_run.specs.declared.mute.Mute.{Mute}
+use Rattle.span_run.specs.declared.mute_veto.MuteVeto.{MuteVeto}
 use Rattle.span_run.specs.declared.stack_name.StackName.{StackName}
-use Rattle.span_run.specs.declared.stack_name.StackName.TheVariants.{Nested, Pair, Plain}
+use Rattle.span_run.specs.declared.stack_name.StackName.TheVariants.{Absent as AbsentStack, Nested, Pair, Plain, Veto}
 
 -- the form of a recorder
 abbrev pub leaf : Form
 leaf = Leaf true open_answers
 
--- the form of a stack. Plain: a recorder on the registry. Pair: `a`, which every level passes, and outside it `b`, which info and what is less verbose pass. Nested: `base`, and outside it `deep`, which those levels pass, where the event isn't muted
+-- the form of a stack. Plain: a recorder on the registry. Pair: `a`, which every level passes, and outside it `b`, which info and what is less verbose pass. Nested: `base`, and outside it `deep`, which those levels pass, where the event isn't muted. Veto: `base`, outside it `warn`, which warnings and errors pass, and outside these two leaves that veto, one muted events and the outer one what is more verbose than info. Absent: an absent layer, and outside it `base`
 abbrev pub form_of : StackName → Form
 form_of Plain = Over OnSubscriber leaf (Bare Base)
 form_of Pair = Over OnSubscriber (Over InPair (Filtered (Some 0) (level_answers INFO) leaf) (Filtered (Some 1) (level_answers TRACE) leaf)) (Bare Base)
 form_of Nested = Over OnSubscriber (Filtered (Some 0) mute_answers (Filtered (Some 1) (level_answers INFO) leaf)) (Over OnSubscriber leaf (Bare Base))
+form_of Veto = Over OnSubscriber (Leaf true (level_answers INFO)) (Over OnSubscriber (Leaf true mute_answers) (Over OnSubscriber (Filtered (Some 0) (level_answers WARN) leaf) (Over OnSubscriber leaf (Bare Base))))
+form_of AbsentStack = Over OnSubscriber leaf (Over OnSubscriber (Bare Absent) (Bare Base))
 
 -- where its recorders stand, innermost first
 abbrev pub places_of : StackName → List Place
 places_of Plain = Outer Here ∷ []
 places_of Pair = Outer (Inner (Under Here)) ∷ Outer (Outer (Under Here)) ∷ []
 places_of Nested = Inner (Outer Here) ∷ Outer (Under (Under Here)) ∷ []
+places_of Veto = Inner (Inner (Inner (Outer Here))) ∷ Inner (Inner (Outer (Under Here))) ∷ []
+places_of AbsentStack = Outer Here ∷ []
 
 -- how many filters it has
 abbrev pub filters_of : StackName → ℕ
 filters_of Plain = 0
 filters_of Pair = 2
 filters_of Nested = 2
+filters_of Veto = 1
+filters_of AbsentStack = 0
 
 -- its registry before the first request: it is empty, and handed out the stack's filters
 abbrev pub start_of : StackName → RegistryState
@@ -81,6 +88,23 @@ pub record BeginsNested (x : Layered (FilteredLayer (FilteredLayer Kept LevelFil
   pub number : IsNumber (id_of (outer_of x)) (Some 0)
   pub deep : BeginsUnder 1 INFO (layer_of (outer_of x))
   pub registry : inner_of (inner_of x) ≡ start_of Nested
+
+-- a new recorder on the first registry, and outside it one under warnings
+pub record BeginsWarned (x : Layered (FilteredLayer Kept LevelFilter) (Layered Kept RegistryState)) : Type 0 where
+  pub base : outer_of (inner_of x) ≡ new_recorder
+  pub warn : BeginsUnder 0 WARN (outer_of x)
+  pub registry : inner_of (inner_of x) ≡ start_of Veto
+
+-- outside these a layer that vetoes muted events, and outside that one which vetoes what is more verbose than info
+pub record BeginsVeto (x : Layered LevelFilter (Layered MuteVeto (Layered (FilteredLayer Kept LevelFilter) (Layered Kept RegistryState)))) : Type 0 where
+  pub level : outer_of x ≡ INFO
+  pub below : BeginsWarned (inner_of (inner_of x))
+
+-- an absent layer on the first registry, and outside it a new recorder
+pub record BeginsAbsent (x : Layered Kept (Layered (Option Kept) RegistryState)) : Type 0 where
+  pub base : outer_of x ≡ new_recorder
+  pub absent : outer_of (inner_of x) ≡ None
+  pub registry : inner_of (inner_of x) ≡ start_of AbsentStack
 
 -- a stack was put in use, and then, if it was ready, it served these requests so
 pub record ServesInUse {S : Type 0} (registry : S → RegistryState) (with_registry : S → RegistryState → S) (has_form : S → Form → Type 0) (stepped : StackSteps S) (hears : HearSteps S) (registered : S → S → Type 0) (requests : List Request) (answers : List Answer) (x y : S) : Type 0 where

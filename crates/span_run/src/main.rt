@@ -4,6 +4,7 @@
 mod fault;
 mod line;
 mod mute;
+mod mute_veto;
 mod reply;
 mod run;
 mod script;

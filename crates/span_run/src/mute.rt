@@ -12,7 +12,7 @@ use span_registry::{Context, ContextMut, LookupSpan};
 pub struct Mute;
 
 /// One of the values is `true`, under the name `mute`.
-fn is_muted(values: &[(&'static str, FieldValue<'_>)]) -> bool
+pub fn is_muted(values: &[(&'static str, FieldValue<'_>)]) -> bool
     ensures { result ≡ is_muted values.now }
 {
     values

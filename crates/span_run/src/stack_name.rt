@@ -11,6 +11,10 @@ pub enum StackName {
     Pair,
     /// `nested`, with the recorders `base` and `deep`.
     Nested,
+    /// `veto`, with the recorders `base` and `warn`.
+    Veto,
+    /// `absent`, with the one recorder `base`.
+    Absent,
 }
 
 impl StackName {
@@ -23,6 +27,8 @@ impl StackName {
             ["stack", "plain"] => Some(StackName::Plain),
             ["stack", "pair"] => Some(StackName::Pair),
             ["stack", "nested"] => Some(StackName::Nested),
+            ["stack", "veto"] => Some(StackName::Veto),
+            ["stack", "absent"] => Some(StackName::Absent),
             _ => None,
         }
     }

@@ -3,10 +3,11 @@ ghost use Rattle.std.specs.Prelude.{◌≡◌, ◌∷◌, [], codes, string_byte
 ghost use Rattle.span_dispatch.specs.Serve.{stack_of as stack_in};
 ghost use Rattle.span_run.specs.Program.{Gives, IsPrinted};
 ghost use Rattle.span_run.specs.Script.{lines_of, stack_of};
-ghost use Rattle.span_run.specs.Stacks.{BeginsNested, BeginsPair, BeginsPlain, ServesInUse};
+ghost use Rattle.span_run.specs.Stacks.{BeginsAbsent, BeginsNested, BeginsPair, BeginsPlain, BeginsVeto, BeginsWarned, ServesInUse};
 
 use crate::fault::RunFault;
 use crate::mute::Mute;
+use crate::mute_veto::MuteVeto;
 use crate::reply::{Heard, text_of};
 use crate::script::Script;
 use crate::stack_name::StackName;
@@ -28,6 +29,15 @@ type Pair = Layered<Layered<Levelled, Levelled>, Registry>;
 /// The stack `nested`: a recorder, and outside it one under two filters.
 type Nested = Layered<Filtered<Levelled, Mute>, Plain>;
 
+/// A recorder, and outside it one under a level.
+type Warned = Layered<Levelled, Plain>;
+
+/// The stack `veto`: two recorders, and outside them two layers that veto.
+type Veto = Layered<LevelFilter, Layered<MuteVeto, Warned>>;
+
+/// The stack `absent`: a layer that is absent, and outside it a recorder.
+type Absent = Layered<Recorder, Layered<Option<Recorder>, Registry>>;
+
 /// What a script prints, where the stack that it names serves its requests.
 pub fn served_text(alloc: Global, script: &Script<'_>) -> Result<String, RunFault>
     ensures printed { IfOk result (λ s. Gives (stack_of script.now) script.now (string_bytes s)) }
@@ -37,6 +47,8 @@ pub fn served_text(alloc: Global, script: &Script<'_>) -> Result<String, RunFaul
         StackName::Plain => plain_text(alloc, script),
         StackName::Pair => pair_text(alloc, script),
         StackName::Nested => nested_text(alloc, script),
+        StackName::Veto => veto_text(alloc, script),
+        StackName::Absent => absent_text(alloc, script),
     }
 }
 
@@ -70,6 +82,44 @@ fn nested(alloc: Global) -> Nested
     match plain(alloc).with(deep.with_filter(Mute)) {
         Ok(stack) => stack,
         Err(_) => unreachable!(), // It has two filters, and there is room for 64.
+    }
+}
+
+/// The recorders of the stack `veto`.
+fn warned(alloc: Global) -> Warned
+    ensures { BeginsWarned result }
+{
+    let warn = Recorder::new(alloc).with_filter(LevelFilter::WARN);
+    match plain(alloc).with(warn) {
+        Ok(stack) => stack,
+        Err(_) => unreachable!(), // It has one filter, and there is room for 64.
+    }
+}
+
+/// The stack `veto`.
+fn veto(alloc: Global) -> Veto
+    ensures { BeginsVeto result }
+{
+    let Ok(muted) = warned(alloc).with(MuteVeto) else {
+        unreachable!() // It has no filter.
+    };
+    match muted.with(LevelFilter::INFO) {
+        Ok(stack) => stack,
+        Err(_) => unreachable!(), // It has no filter either.
+    }
+}
+
+/// The stack `absent`.
+fn absent(alloc: Global) -> Absent
+    ensures { BeginsAbsent result }
+{
+    let none: Option<Recorder> = None;
+    let Ok(below) = Registry::new(alloc).with(none) else {
+        unreachable!() // It has no filter.
+    };
+    match below.with(Recorder::new(alloc)) {
+        Ok(stack) => stack,
+        Err(_) => unreachable!(), // It has no filter either.
     }
 }
 
@@ -175,4 +225,25 @@ fn nested_text(alloc: Global, script: &Script<'_>) -> Result<String, RunFault>
     let base = stack.inner().layer();
     let deep = stack.layer().inner().inner();
     text_of_two(alloc, script, &answers, ("base", "deep"), base, deep)
+}
+
+/// What a script prints, where the stack `veto` serves its requests.
+fn veto_text(alloc: Global, script: &Script<'_>) -> Result<String, RunFault>
+    ensures printed { IfOk result (λ s. Gives StackName.Veto script.now (string_bytes s)) }
+    ensures fault { IfErr result (λ fault. fault ≡ RunFault.Memory) }
+{
+    let (answers, dispatch) = serve(alloc, veto(alloc), script.requests())?;
+    let warned = dispatch.stack().inner().inner();
+    let base = warned.inner().layer();
+    let warn = warned.layer().inner();
+    text_of_two(alloc, script, &answers, ("base", "warn"), base, warn)
+}
+
+/// What a script prints, where the stack `absent` serves its requests.
+fn absent_text(alloc: Global, script: &Script<'_>) -> Result<String, RunFault>
+    ensures printed { IfOk result (λ s. Gives StackName.Absent script.now (string_bytes s)) }
+    ensures fault { IfErr result (λ fault. fault ≡ RunFault.Memory) }
+{
+    let (answers, dispatch) = serve(alloc, absent(alloc), script.requests())?;
+    text_of_one(alloc, script, &answers, dispatch.stack().layer())
 }
