@@ -20,7 +20,7 @@ fn lines(alloc: Global, row: &str) -> Result<String, AllocError> {
 }
 
 /// Scripts and what they print.
-const ROWS: [(&str, &str); 16] = [
+const ROWS: [(&str, &str); 19] = [
     ("stack plain", "== base"),
     (
         "stack plain / new 0 2 p / new 0 3 c in p / drop 0 p / drop 0 c",
@@ -82,6 +82,15 @@ const ROWS: [(&str, &str); 16] = [
         "stack nested / new 0 2 p / new 0 2 q / drop 0 q / follows 0 p q / follows 0 p p / follows 0 q p",
         "p / q / ok / ok / ok / refused 1 / == base / new p / new q / close q / follows p q / follows p p / == deep / new p / new q / close q / follows p p",
     ),
+    (
+        "stack veto / event 0 7 mute / event 0 6 / event 0 7 / event 0 8 / enabled 0 8 / enabled 0 7",
+        "none / ok / ok / none / false / true / == base / event 6 / event 7 / == warn / event 6",
+    ),
+    (
+        "stack veto / new 0 3 p / enter 0 p / new 0 1 q in p / follows 0 q p / follows 0 p q / event 0 6 in p / drop 0 p / drop 0 q",
+        "none / none / q / none / none / ok / none / ok / == base / new q / event 6 / close q / == warn / new q / event 6 / close q",
+    ),
+    ("stack absent / event 0 9", "ok / == base / event 9"),
 ];
 
 #[test]
