@@ -1,5 +1,5 @@
 -- What metadata shows.
-use Rattle.std.specs.Prelude.{ℕ, List}
+use Rattle.std.specs.Prelude.{◌≡◌, ℕ, List, map}
 use Rattle.std.specs.Borrow.{Bor}
 use Rattle.span_core.specs.declared.metadata.Metadata.{Metadata}
 use Rattle.span_core.specs.declared.level.Level.{Level}
@@ -33,3 +33,12 @@ kind_of m = m.kind
 -- the names of the fields
 abbrev pub fields_of : Metadata → FieldSet
 fields_of m = m.fields
+
+-- the same is shown by both: callsite, name, target, level, kind, and the fields' names
+pub record ShowSame (m k : Metadata) : Type 0 where
+  pub callsite : callsite_of m ≡ callsite_of k
+  pub name : name_of m ≡ name_of k
+  pub target : target_of m ≡ target_of k
+  pub level : level_of m ≡ level_of k
+  pub kind : kind_of m ≡ kind_of k
+  pub fields : map (λ name. name.now) (names_of (fields_of m)) ≡ map (λ name. name.now) (names_of (fields_of k))

@@ -1,5 +1,5 @@
 //! The names of a callsite's fields, and their values.
-ghost use Rattle.std.specs.Prelude.{◌≡◌, ◌↔◌, ◌==◌, IsTrue, length, Any};
+ghost use Rattle.std.specs.Prelude.{◌≡◌, ◌↔◌, ◌==◌, IsTrue, length, map, Any};
 ghost use Rattle.span_core.specs.Metadata.{names_of};
 
 /// The names of a callsite's fields.
@@ -23,6 +23,13 @@ impl FieldSet {
         ensures { result.now ≡ names_of self.now }
     {
         self.names
+    }
+
+    /// The same names in the same order.
+    pub fn has_same_names(&self, other: &FieldSet) -> bool
+        ensures { IsTrue result ↔ (map (λ name. name.now) (names_of self.now) ≡ map (λ name. name.now) (names_of other.now)) }
+    {
+        self.names == other.names
     }
 
     /// How many names there are.

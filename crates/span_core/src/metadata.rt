@@ -1,7 +1,7 @@
 //! What a callsite says of its spans or events.
 ghost use Rattle.std.specs.Prelude.{◌≡◌, ◌↔◌, IsTrue};
 ghost use Rattle.span_core.specs.Metadata.{callsite_of, fields_of, kind_of, level_of};
-ghost use Rattle.span_core.specs.Metadata.{name_of, target_of};
+ghost use Rattle.span_core.specs.Metadata.{ShowSame, name_of, target_of};
 
 use crate::field::FieldSet;
 use crate::level::Level;
@@ -121,4 +121,37 @@ impl Metadata {
     {
         self.kind == Kind::EVENT
     }
+
+    /// Both show the same: callsite, name, target, level, kind and the fields' names. `==` answers so, too.
+    ///
+    /// Own to this port: the crate knows metadata by their address.
+    pub fn shows_same(&self, other: &Metadata) -> bool
+        ensures { IsTrue result ↔ ShowSame self.now other.now }
+    {
+        self.callsite == other.callsite
+            && same_text(self.name, other.name)
+            && same_text(self.target, other.target)
+            && same_level(self.level, other.level)
+            && same_kind(self.kind, other.kind)
+            && self.fields.has_same_names(&other.fields)
+    }
+}
+
+/// Both have the same bytes.
+fn same_text(a: &str, b: &str) -> bool
+    ensures { IsTrue result ↔ (a.now ≡ b.now) }
+{
+    a == b
+}
+
+fn same_level(a: Level, b: Level) -> bool
+    ensures { IsTrue result ↔ (a ≡ b) }
+{
+    a == b
+}
+
+fn same_kind(a: Kind, b: Kind) -> bool
+    ensures { IsTrue result ↔ (a ≡ b) }
+{
+    a == b
 }

@@ -2,7 +2,7 @@
 use Rattle.std.specs.Prelude.{◌≡◌, Bool, true, false, if◌then◌else◌, IfSome, Option, Some, None, refl}
 use Rattle.std.proofs.Common.{ap, sym, subst}
 use Rattle.span_core.specs.Level.{is_above}
-use Rattle.span_core.specs.Metadata.{level_of}
+use Rattle.span_core.specs.Metadata.{ShowSame, level_of}
 use Rattle.span_core.specs.declared.interest.Interest.TheVariants.{Never, Sometimes}
 use Rattle.span_core.specs.declared.interest.Interest.{Interest}
 use Rattle.span_core.specs.declared.level.LevelFilter.{LevelFilter}
@@ -33,21 +33,31 @@ test_answers p hint = record { enabled = λ m v. p m; event = λ e v. true; inte
 abbrev pub RefusesAbove : (Metadata → Bool) → Option LevelFilter → Type 0
 RefusesAbove p hint = (m : Metadata) → is_above (level_of m) hint ≡ true → p m ≡ false
 
--- the answers of a test are honest if it refuses every level above the hint
-pub test_answers_honest : (p : Metadata → Bool) (hint : Option LevelFilter) → RefusesAbove p hint → AreHonest (test_answers p hint)
-test_answers_honest p hint refuses = record { always = λ m v e. always_passes _ e; never = λ m v e. never_passes _ e; above = λ m v e. refuses m e }
+-- the test goes by what metadata show
+abbrev pub GoesByWhatShows : (Metadata → Bool) → Type 0
+GoesByWhatShows p = (m k : Metadata) → ShowSame m k → p m ≡ p k
+
+-- the answers of a test are honest if it goes by what metadata show and refuses every level above the hint
+pub test_answers_honest : (p : Metadata → Bool) (hint : Option LevelFilter) → GoesByWhatShows p → RefusesAbove p hint → AreHonest (test_answers p hint)
+test_answers_honest p hint shown refuses = record {
+  always = λ m v e. always_passes _ e;
+  never = λ m v e. never_passes _ e;
+  above = λ m v e. refuses m e;
+  alike = λ m k e. ap interest_by (shown m k e);
+}
 
 none_above : (p : Metadata → Bool) → RefusesAbove p None
 none_above p m e = absurd (cc)
 
 -- and so are those of a test without a hint
-pub unhinted_honest : (p : Metadata → Bool) → AreHonest (test_answers p None)
-unhinted_honest p = test_answers_honest p None (none_above p)
+pub unhinted_honest : (p : Metadata → Bool) → GoesByWhatShows p → AreHonest (test_answers p None)
+unhinted_honest p shown = test_answers_honest p None shown (none_above p)
 
--- a filter by a test of metadata: its closure computes a test that refuses every level above the hint
+-- a filter by a test of metadata: its closure computes a test that goes by what metadata show, and refuses every level above the hint
 pub record HasTestAnswers {F : Type 0} (gives : F → Metadata → Bool → Type 0) (f : FilterFn F) (a : Answers) : Type 0 where
   pub test : Metadata → Bool
   pub computed : Computes gives f.enabled test
+  pub shown : GoesByWhatShows test
   pub refuses : RefusesAbove test f.max_level_hint
   pub answers : a ≡ test_answers test f.max_level_hint
 
@@ -74,7 +84,7 @@ pub record HasViewAnswers {S F R : Type 0} (registry : S → RegistryState) (giv
   pub honest : AreHonest a
 
 test_honest : {F : Type 0} (gives : F → Metadata → Bool → Type 0) (f : FilterFn F) (a : Answers) → HasTestAnswers gives f a → AreHonest a
-test_honest gives f a h = subst AreHonest (sym h.answers) (test_answers_honest h.test f.max_level_hint h.refuses)
+test_honest gives f a h = subst AreHonest (sym h.answers) (test_answers_honest h.test f.max_level_hint h.shown h.refuses)
 
 -- such filters keep the law
 pub test_laws : {F : Type 0} (gives : F → Metadata → Bool → Type 0) → FilterLaws (HasTestAnswers gives) unmoved (ActsSteadily (HasTestAnswers gives))
@@ -105,7 +115,7 @@ pub record TestsInBy {F R : Type 0} (f : DynFilterFn F R) (test : F) (callsite :
 
 -- a test of metadata and view without an interest of its own and without a hint is honest whatever it says
 pub unhinted_view_honest : (p : Metadata → View → Bool) → AreHonest (view_answers p (interest_under None) None)
-unhinted_view_honest p = record { always = λ m v e. absurd (cc); never = λ m v e. absurd (cc); above = λ m v e. absurd (cc) }
+unhinted_view_honest p = record { always = λ m v e. absurd (cc); never = λ m v e. absurd (cc); above = λ m v e. absurd (cc); alike = λ m k e. refl }
 
 -- so a filter that was made of a closure alone has the answers of the test that the closure computes
 pub made_of_test : {S F R : Type 0} (registry : S → RegistryState) (gives : F → Metadata → Context S → Bool → Type 0) (registered : R → Metadata → Interest → Type 0) (f : DynFilterFn F R) (test : F) (p : Metadata → View → Bool) → TestsInBy f test None None → ComputesIn registry gives test p → HasViewAnswers registry gives registered f (view_answers p (interest_under None) None)

@@ -114,6 +114,7 @@ not_honest x h = record {
   always = λ m v e. not_true (x.enabled m v) (h.never m v (turned_always (x.interest m) e));
   never = λ m v e. not_false (x.enabled m v) (h.always m v (turned_never (x.interest m) e));
   above = λ m v e. absurd (cc);
+  alike = λ m k e. ap not_interest (h.alike m k e);
 }
 
 pub not_same : (x y : Answers) → SameInterestAndHint x y → SameInterestAndHint (not_answers x) (not_answers y)
@@ -203,6 +204,7 @@ and_honest x y h k = record {
   always = λ m v e. let i = and_always (x.interest m) (y.interest m) e in both_true (x.enabled m v) (y.enabled m v) (h.always m v i.0) (k.always m v i.1);
   never = λ m v e. one_false (x.enabled m v) (y.enabled m v) (either (h.never m v) (k.never m v) (and_never (x.interest m) (y.interest m) e));
   above = λ m v e. one_false (x.enabled m v) (y.enabled m v) (either (h.above m v) (k.above m v) (and_above (level_of m) x.hint y.hint e));
+  alike = λ m n e i. and_interest (h.alike m n e i) (k.alike m n e i);
 }
 
 pub or_honest : (x y : Answers) → AreHonest x → AreHonest y → AreHonest (or_answers x y)
@@ -210,6 +212,7 @@ or_honest x y h k = record {
   always = λ m v e. one_true (x.enabled m v) (y.enabled m v) (either (h.always m v) (k.always m v) (or_always (x.interest m) (y.interest m) e));
   never = λ m v e. let i = or_never (x.interest m) (y.interest m) e in both_false (x.enabled m v) (y.enabled m v) (h.never m v i.0) (k.never m v i.1);
   above = λ m v e. let i = or_above (level_of m) x.hint y.hint e in both_false (x.enabled m v) (y.enabled m v) (h.above m v i.0) (k.above m v i.1);
+  alike = λ m n e i. or_interest (h.alike m n e i) (k.alike m n e i);
 }
 
 pub and_same : (x y u w : Answers) → SameInterestAndHint x u → SameInterestAndHint y w → SameInterestAndHint (and_answers x y) (and_answers u w)
@@ -231,7 +234,7 @@ or_plain x y p q = record {
 }
 
 all_honest : AreHonest all_answers
-all_honest = record { always = λ m v e. refl; never = λ m v e. absurd (cc); above = λ m v e. absurd (cc) }
+all_honest = record { always = λ m v e. refl; never = λ m v e. absurd (cc); above = λ m v e. absurd (cc); alike = λ m k e. refl }
 
 all_plain : IsPlain (λ h. all_answers)
 all_plain = record { answers = λ h. record { enabled = λ m v w e. refl; event = λ e v w d. refl }; history = λ h k e. refl }

@@ -1,5 +1,6 @@
 -- What a filter by level answers.
 use Rattle.std.specs.Prelude.{◌≡◌, Bool, true, false, not, if◌then◌else◌, Some, refl}
+use Rattle.std.proofs.Common.{ap}
 use Rattle.span_core.specs.Level.{passes_level}
 use Rattle.span_core.specs.Metadata.{level_of}
 use Rattle.span_core.specs.declared.interest.Interest.TheVariants.{Always, Never}
@@ -36,7 +37,7 @@ not_passed false e = refl
 
 -- what a filter by level answers is honest
 pub level_honest : (f : LevelFilter) → AreHonest (level_answers f)
-level_honest f = record { always = λ m v e. always_passes _ e; never = λ m v e. never_passes _ e; above = λ m v e. not_passed _ e }
+level_honest f = record { always = λ m v e. always_passes _ e; never = λ m v e. never_passes _ e; above = λ m v e. not_passed _ e; alike = λ m k e. ap (λ l. interest_by (passes_level f l)) e.level }
 
 -- and plain, since it looks at no view
 pub level_plain : (f : LevelFilter) → ActsSteadily (settled_answers level_answers) f (λ h. level_answers f)

@@ -12,7 +12,7 @@ abbrev pub mute_answers : Answers
 mute_answers = record { enabled = λ m v. true; event = λ e v. false; interest = λ m. Always; hint = None }
 
 pub mute_honest : AreHonest mute_answers
-mute_honest = record { always = λ m v e. refl; never = λ m v e. absurd (cc); above = λ m v e. absurd (cc) }
+mute_honest = record { always = λ m v e. refl; never = λ m v e. absurd (cc); above = λ m v e. absurd (cc); alike = λ m k e. refl }
 
 -- what comes in a span that is seen
 abbrev pub in_span_answers : Answers

@@ -4,8 +4,8 @@ mod FilterNumber
 mod FilteredHooks
 mod FilteredQuestions
 pub mod HonestKept
-mod Hint
-mod Interest
+pub mod Hint
+pub mod Interest
 mod MemberLoops
 mod MembersAsked
 mod MembersNotified

@@ -3,7 +3,7 @@ use Rattle.std.specs.Prelude.{◌≡◌, ⊤, ℕ, Bool, true, false, List, [], 
 use Rattle.std.specs.FinMap.{get}
 use Rattle.std.specs.Option.{option_map}
 use Rattle.span_core.specs.Level.{is_above}
-use Rattle.span_core.specs.Metadata.{level_of}
+use Rattle.span_core.specs.Metadata.{ShowSame, level_of}
 use Rattle.span_core.specs.declared.event.Event.{Event}
 use Rattle.span_core.specs.declared.interest.Interest.TheVariants.{Always, Never}
 use Rattle.span_core.specs.declared.interest.Interest.{Interest}
@@ -21,11 +21,12 @@ pub record Answers : Type 0 where
   pub interest : Metadata → Interest
   pub hint : Option LevelFilter
 
--- an interest of always: passes in every view; of never, or a level above the hint: in none
+-- an interest of always: passes in every view; of never, or a level above the hint: in none; and metadata that show the same are of the same interest
 pub record AreHonest (a : Answers) : Type 0 where
   pub always : (m : Metadata) (v : View) → a.interest m ≡ Always → a.enabled m v ≡ true
   pub never : (m : Metadata) (v : View) → a.interest m ≡ Never → a.enabled m v ≡ false
   pub above : (m : Metadata) (v : View) → is_above (level_of m) a.hint ≡ true → a.enabled m v ≡ false
+  pub alike : (m k : Metadata) → ShowSame m k → a.interest m ≡ a.interest k
 
 -- the two have the same interest and the same hint
 pub record SameInterestAndHint (a b : Answers) : Type 0 where

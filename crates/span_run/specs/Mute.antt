@@ -27,7 +27,7 @@ mute_answers = record { enabled = λ m v. true; event = λ e v. not (is_muted (e
 
 -- these are honest
 pub mute_honest : AreHonest mute_answers
-mute_honest = record { always = λ m v e. refl; never = λ m v e. absurd (cc); above = λ m v e. absurd (cc) }
+mute_honest = record { always = λ m v e. refl; never = λ m v e. absurd (cc); above = λ m v e. absurd (cc); alike = λ m k e. refl }
 
 -- and plain, since they look at no view
 pub mute_plain : ArePlain mute_answers

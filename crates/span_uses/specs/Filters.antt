@@ -1,12 +1,13 @@
 -- What the filters answer.
 use Rattle.std.specs.Prelude.{ℕ, Bool, List, Option, None, bytes_eq, false, is_some}
+use Rattle.std.proofs.Common.{ap}
 use Rattle.std.specs.Borrow.{Bor}
 use Rattle.std.specs.List.{list_any}
 use Rattle.std.specs.Option.{option_and_then}
 use Rattle.span_core.specs.Metadata.{target_of}
 use Rattle.span_core.specs.declared.span.Lane.{Lane}
 use Rattle.span_core.specs.declared.metadata.Metadata.{Metadata}
-use Rattle.span_filters.specs.Closure.{test_answers}
+use Rattle.span_filters.specs.Closure.{GoesByWhatShows, test_answers}
 use Rattle.span_registry.specs.Answers.{Answers}
 use Rattle.span_registry.specs.Extensions.{Place, value_under}
 use Rattle.span_registry.specs.Store.{RegistryState}
@@ -22,6 +23,10 @@ wanted_by f = f.wanted.now
 -- whether the target is one of them
 abbrev pub wants_target : Targets → Metadata → Bool
 wants_target f m = list_any (λ t. bytes_eq t.now (target_of m)) (wanted_by f)
+
+-- so it goes by what metadata show
+pub goes_by_target : (f : Targets) → GoesByWhatShows (wants_target f)
+goes_by_target f m k e = ap (λ target. list_any (λ t. bytes_eq t.now target) (wanted_by f)) e.target
 
 -- what a filter by targets answers: that test, and no hint
 abbrev pub target_answers : Targets → Answers

@@ -6,7 +6,7 @@ ghost use Rattle.span_filters.specs.Closure.{unhinted_honest};
 ghost use Rattle.span_filters.specs.Filter.{ActsSteadily, settled_answers, settled_laws};
 ghost use Rattle.span_registry.specs.Context.{view_in};
 ghost use Rattle.span_uses.specs.Filters.{is_marked, view_on};
-ghost use Rattle.span_uses.specs.Filters.{target_answers, wanted_by, wants_target};
+ghost use Rattle.span_uses.specs.Filters.{goes_by_target, target_answers, wanted_by, wants_target};
 
 use span_core::{Attributes, Event, Id, Interest, Lane, LevelFilter, Metadata, Record};
 use span_filters::{BoxedFilter, DynFilter, Filter, dynamic_filter_fn};
@@ -41,7 +41,7 @@ impl<S: LookupSpan> Filter<S> for Targets {
 
     ghost acts = { ActsSteadily (settled_answers target_answers) };
 
-    ghost laws = { settled_laws target_answers (λ f. unhinted_honest (wants_target f)) };
+    ghost laws = { settled_laws target_answers (λ f. unhinted_honest (wants_target f) (goes_by_target f)) };
 
     fn enabled(&self, meta: &Metadata, _cx: &Context<'_, S>) -> bool {
         self.wants(meta)
