@@ -1,5 +1,7 @@
 -- For the proofs of callers: what was made of a list that was served, request by request, and what a leaf sees of it.
-use Rattle.std.proofs.Common.{◌≡◌, ◌∙◌, Option, Some, None, List, [], ◌∷◌, ◌++◌, ap, append_assoc, refl, sym, subst, true}
+use Rattle.std.proofs.Common.{◌≡◌, ◌∙◌, ◌⊎◌, inl, inr, Bool, Option, Some, None, List, [], ◌∷◌, ◌++◌, ap, append_assoc, false, refl, sym, subst, true}
+use Rattle.std.proofs.lemmas.Bool.{false≢true}
+use Rattle.span_core.specs.Event.{event_metadata}
 use Rattle.span_core.specs.Span.{asked_parent, metadata_of}
 use Rattle.span_core.specs.declared.error.TraceError.{TraceError}
 use Rattle.span_core.specs.declared.event.Event.{Event}
@@ -7,6 +9,8 @@ use Rattle.span_core.specs.declared.metadata.Metadata.{Metadata}
 use Rattle.span_core.specs.declared.span.Attributes.{Attributes}
 use Rattle.span_core.specs.declared.span.Id.{Id}
 use Rattle.span_core.specs.declared.span.Lane.{Lane}
+use Rattle.span_dispatch.specs.Admission.{IsDropped, IsUnknown, Learns, learned}
+use Rattle.span_dispatch.specs.Cache.{Memory}
 use Rattle.span_dispatch.specs.Call.{AddHandle, AskCurrent, Call, DropHandle, Enter, Exit, Follow, OpenSpan, Probe, RecordValues, SendEvent, vetoes_whole}
 use Rattle.span_dispatch.specs.Outcome.{Made, Makes, Noticed}
 use Rattle.span_dispatch.specs.Serve.{AsksFor, IsReady, Run, Serves, ServesAsked, ServesRequest, passed, seen}
@@ -31,59 +35,67 @@ seen_append place (m ∷ ms) ns = ap (λ h. passed (path_at m.form place) m.outc
 
 module _ {S : Type 0} (registry : S → RegistryState) (with_registry : S → RegistryState → S) (has_form : S → Form → Type 0) (stepped : StackSteps S) where
   -- a list that begins with a request: it has an answer, and the rest was served behind that
-  pub next_served : (past : List Answer) (r : Request) (rs : List Request) (answers : List Answer) (made : List (List Made)) (x y : S) (G : List Answer → List (List Made) → Type 0)
-      → ((a : Answer) (rest : List Answer) (ms : List Made) (more : List (List Made)) (z : S) → ServesRequest registry with_registry has_form stepped past r x a ms z → Run registry with_registry has_form stepped (past ++ (a ∷ [])) rs rest more z y → G (a ∷ rest) (ms ∷ more))
-      → Run registry with_registry has_form stepped past (r ∷ rs) answers made x y → G answers made
-  next_served past r rs [] made x y G k h = absurd h
-  next_served past r rs (a ∷ rest) [] x y G k h = absurd h
-  next_served past r rs (a ∷ rest) (ms ∷ more) x y G k h = k a rest ms more h.0 h.1 h.2
+  pub next_served : (past : List Answer) (r : Request) (rs : List Request) (answers : List Answer) (made : List (List Made)) (memory : Memory) (x : S) (after : Memory) (y : S) (G : List Answer → List (List Made) → Type 0)
+      → ((a : Answer) (rest : List Answer) (ms : List Made) (more : List (List Made)) (between : Memory) (z : S) → ServesRequest registry with_registry has_form stepped past r memory x a ms between z
+      → Run registry with_registry has_form stepped (past ++ (a ∷ [])) rs rest more between z after y → G (a ∷ rest) (ms ∷ more))
+      → Run registry with_registry has_form stepped past (r ∷ rs) answers made memory x after y → G answers made
+  next_served past r rs [] made memory x after y G k h = absurd h
+  next_served past r rs (a ∷ rest) [] memory x after y G k h = absurd h
+  next_served past r rs (a ∷ rest) (ms ∷ more) memory x after y G k h = k a rest ms more h.0 h.1 h.2 h.3
 
   -- an empty list has no answer, and nothing was made of it
-  pub none_served : (past : List Answer) (answers : List Answer) (made : List (List Made)) (x y : S) (G : List Answer → List (List Made) → Type 0) → G [] [] → Run registry with_registry has_form stepped past [] answers made x y → G answers made
-  none_served past [] [] x y G k h = k
-  none_served past [] (m ∷ made) x y G k h = absurd h
-  none_served past (a ∷ answers) made x y G k h = absurd h
+  pub none_served : (past : List Answer) (answers : List Answer) (made : List (List Made)) (memory : Memory) (x : S) (after : Memory) (y : S) (G : List Answer → List (List Made) → Type 0) → G [] [] → Run registry with_registry has_form stepped past [] answers made memory x after y → G answers made
+  none_served past [] [] memory x after y G k h = k
+  none_served past [] (m ∷ made) memory x after y G k h = absurd h
+  none_served past (a ∷ answers) made memory x after y G k h = absurd h
 
-  -- ---- a request for a new span: it was made, and its notice alone came of it; or a leaf vetoed it, or it was refused, and nothing came of it
+  -- ---- a request for a new span: it was made, and its notice alone came of it; or it was dropped, or refused, and nothing came of it
 
-  -- this is shown of a request, where that was answered so, from here, and all this was made of it
+  -- this is shown of a request, where that was answered so, all this was made of it, and then this is kept, from here
   abbrev pub Goal : Type 1
-  Goal = Answer → List Made → S → Type 0
+  Goal = Answer → List Made → Memory → S → Type 0
 
-  abbrev pub MadeSpan : List Answer → Request → Lane → S → Goal → Type 0
-  MadeSpan past r lane x G = (id : Id) (attrs : Attributes) (one : Made) (z : S) → AsksFor past r (Some (OpenSpan lane attrs)) → one.outcome ≡ Noticed lane (OnNewSpan attrs id) → Makes registry with_registry has_form stepped x one z → G (answer.Made id) (one ∷ []) z
+  abbrev pub MadeSpan : List Answer → Request → Lane → Memory → S → Goal → Type 0
+  MadeSpan past r lane memory x G = (id : Id) (attrs : Attributes) (f : Form) (one : Made) (after : Memory) (z : S) → AsksFor past r (Some (OpenSpan lane attrs)) → after ≡ learned memory f (metadata_of attrs)
+      → one.outcome ≡ Noticed lane (OnNewSpan attrs id) → Makes registry with_registry has_form stepped x one z → G (answer.Made id) (one ∷ []) after z
 
-  abbrev pub VetoedSpan : List Answer → Request → Lane → S → Goal → Type 0
-  VetoedSpan past r lane x G = (attrs : Attributes) (f : Form) → AsksFor past r (Some (OpenSpan lane attrs)) → IsReady registry with_registry has_form stepped f x → vetoes f (metadata_of attrs) (registry x).store lane.0 ≡ true → G answer.Dropped [] x
+  abbrev pub DroppedSpan : List Answer → Request → Lane → Memory → S → Goal → Type 0
+  DroppedSpan past r lane memory x G = (attrs : Attributes) (f : Form) (after : Memory) → AsksFor past r (Some (OpenSpan lane attrs)) → IsReady registry with_registry has_form stepped f x
+      → IsDropped memory f (registry x) lane (metadata_of attrs) (vetoes f (metadata_of attrs) (registry x).store lane.0) → after ≡ learned memory f (metadata_of attrs) → G answer.Dropped [] after x
 
-  abbrev pub RefusedSpan : List Answer → Request → Lane → S → Goal → Type 0
-  RefusedSpan past r lane x G = (attrs : Attributes) (e : TraceError) → AsksFor past r (Some (OpenSpan lane attrs)) → RefusesNew (registry x) lane (asked_parent attrs) e → G (answer.Refused e) [] x
+  abbrev pub RefusedSpan : List Answer → Request → Lane → Memory → S → Goal → Type 0
+  RefusedSpan past r lane memory x G = (attrs : Attributes) (e : TraceError) (f : Form) (after : Memory) → AsksFor past r (Some (OpenSpan lane attrs)) → IsUnknown memory f (metadata_of attrs) e ⊎ RefusesNew (registry x) lane (asked_parent attrs) e
+      → Learns memory f (metadata_of attrs) (answer.Refused e) after → G (answer.Refused e) [] after x
 
-  opened : (past : List Answer) (r : Request) (lane : Lane) (attrs : Attributes) (f : Form) (x : S) (a : Answer) (made : List Made) (y : S) (G : Goal) → MadeSpan past r lane x G → VetoedSpan past r lane x G → RefusedSpan past r lane x G
-      → AsksFor past r (Some (OpenSpan lane attrs)) → IsReady registry with_registry has_form stepped f x → Serves registry with_registry has_form stepped (OpenSpan lane attrs) f x a made y → G a made y
-  opened past r lane attrs f x (answer.Made id) [] y G new vetoed refused asks ready s = let e = s.comes.1 in absurd (cc)
-  opened past r lane attrs f x (answer.Made id) (one ∷ []) y G new vetoed refused asks ready s =
+  opened : (past : List Answer) (r : Request) (lane : Lane) (attrs : Attributes) (f : Form) (memory : Memory) (x : S) (a : Answer) (made : List Made) (after : Memory) (y : S) (G : Goal) → MadeSpan past r lane memory x G → DroppedSpan past r lane memory x G
+      → RefusedSpan past r lane memory x G → AsksFor past r (Some (OpenSpan lane attrs)) → IsReady registry with_registry has_form stepped f x → Serves registry with_registry has_form stepped (OpenSpan lane attrs) f memory x a made after y → G a made after y
+  opened past r lane attrs f memory x (answer.Made id) [] after y G new dropped refused asks ready s = let e = s.comes.1 in absurd (cc)
+  opened past r lane attrs f memory x (answer.Made id) (one ∷ []) after y G new dropped refused asks ready s =
       let e = s.comes.1 in
       let h = s.goes in
       let o : one.outcome ≡ Noticed lane (OnNewSpan attrs id) = cc in
-      subst (λ z. G (answer.Made id) (one ∷ []) z) h.2 (new id attrs one h.0 asks o h.1)
-  opened past r lane attrs f x (answer.Made id) (one ∷ two ∷ made) y G new vetoed refused asks ready s = let e = s.comes.1 in absurd (cc)
-  opened past r lane attrs f x answer.Dropped [] y G new vetoed refused asks ready s = subst (λ z. G answer.Dropped [] z) s.goes (vetoed attrs f asks ready s.comes.0)
-  opened past r lane attrs f x answer.Dropped (one ∷ made) y G new vetoed refused asks ready s = let e = s.comes.1 in absurd (cc)
-  opened past r lane attrs f x (answer.Refused e) [] y G new vetoed refused asks ready s = subst (λ z. G (answer.Refused e) [] z) s.goes (refused attrs e asks s.comes.0.1)
-  opened past r lane attrs f x (answer.Refused e) (one ∷ made) y G new vetoed refused asks ready s = let d = s.comes.1 in absurd (cc)
-  opened past r lane attrs f x answer.Done made y G new vetoed refused asks ready s = absurd s.comes
-  opened past r lane attrs f x (answer.Yes b) made y G new vetoed refused asks ready s = absurd s.comes
-  opened past r lane attrs f x (answer.Current o) made y G new vetoed refused asks ready s = absurd s.comes
-
-  pub span_served : (past : List Answer) (lane : Lane) (m : Metadata) (p : WhichParent) (values : _) (x : S) (a : Answer) (made : List Made) (y : S) (G : Goal)
-      → MadeSpan past (request.NewSpan lane m p values) lane x G → VetoedSpan past (request.NewSpan lane m p values) lane x G → RefusedSpan past (request.NewSpan lane m p values) lane x G
-      → ServesRequest registry with_registry has_form stepped past (request.NewSpan lane m p values) x a made y → G a made y
-  span_served past lane m p values x a made y G new vetoed refused h = by_call h.call h.asks h.served
+      subst (λ z. G (answer.Made id) (one ∷ []) after z) h.2 (new id attrs f one after h.0 asks s.keeps o h.1)
+  opened past r lane attrs f memory x (answer.Made id) (one ∷ two ∷ made) after y G new dropped refused asks ready s = let e = s.comes.1 in absurd (cc)
+  opened past r lane attrs f memory x answer.Dropped [] after y G new dropped refused asks ready s = subst (λ z. G answer.Dropped [] after z) s.goes (dropped attrs f after asks ready s.comes.0 s.keeps)
+  opened past r lane attrs f memory x answer.Dropped (one ∷ made) after y G new dropped refused asks ready s = let e = s.comes.1 in absurd (cc)
+  opened past r lane attrs f memory x (answer.Refused e) [] after y G new dropped refused asks ready s = subst (λ z. G (answer.Refused e) [] after z) s.goes (refused attrs e f after asks (why s.comes.0) s.keeps)
     where
-      by_call : (o : Option Call) → AsksFor past (request.NewSpan lane m p values) o → ServesAsked registry with_registry has_form stepped o x a made y → G a made y
+      why : {P Q R : Type 0} → P ⊎ (Q × R) → P ⊎ R
+      why (inl p) = inl p
+      why (inr q) = inr q.1
+  opened past r lane attrs f memory x (answer.Refused e) (one ∷ made) after y G new dropped refused asks ready s = let d = s.comes.1 in absurd (cc)
+  opened past r lane attrs f memory x answer.Done made after y G new dropped refused asks ready s = absurd s.comes
+  opened past r lane attrs f memory x (answer.Yes b) made after y G new dropped refused asks ready s = absurd s.comes
+  opened past r lane attrs f memory x (answer.Current o) made after y G new dropped refused asks ready s = absurd s.comes
+
+  pub span_served : (past : List Answer) (lane : Lane) (m : Metadata) (p : WhichParent) (values : _) (memory : Memory) (x : S) (a : Answer) (made : List Made) (after : Memory) (y : S) (G : Goal)
+      → MadeSpan past (request.NewSpan lane m p values) lane memory x G → DroppedSpan past (request.NewSpan lane m p values) lane memory x G → RefusedSpan past (request.NewSpan lane m p values) lane memory x G
+      → ServesRequest registry with_registry has_form stepped past (request.NewSpan lane m p values) memory x a made after y → G a made after y
+  span_served past lane m p values memory x a made after y G new dropped refused h = by_call h.call h.asks h.served
+    where
+      by_call : (o : Option Call) → AsksFor past (request.NewSpan lane m p values) o → ServesAsked registry with_registry has_form stepped o memory x a made after y → G a made after y
       by_call (Some (OpenSpan l attrs)) asks s =
-          opened past (request.NewSpan lane m p values) lane attrs s.0 x a made y G new vetoed refused (refl, asks.1, asks.2, asks.3) s.1 (subst (λ k. Serves registry with_registry has_form stepped (OpenSpan k attrs) s.0 x a made y) asks.0 s.2)
+          opened past (request.NewSpan lane m p values) lane attrs s.0 memory x a made after y G new dropped refused (refl, asks.1, asks.2, asks.3) s.1 (subst (λ k. Serves registry with_registry has_form stepped (OpenSpan k attrs) s.0 memory x a made after y) asks.0 s.2)
       by_call (Some (SendEvent l e)) asks s = absurd asks
       by_call (Some (Enter l id)) asks s = absurd asks
       by_call (Some (Exit l id)) asks s = absurd asks
@@ -95,38 +107,45 @@ module _ {S : Type 0} (registry : S → RegistryState) (with_registry : S → Re
       by_call (Some (AskCurrent l)) asks s = absurd asks
       by_call None asks s = absurd asks
 
-  -- ---- a request for an event: its notice alone came of it; or a leaf vetoed it, and nothing came of it
+  -- ---- a request for an event: its notice alone came of it; or it was dropped, or refused, and nothing came of it
 
-  abbrev pub MadeEvent : List Answer → Request → Lane → S → Goal → Type 0
-  MadeEvent past r lane x G = (e : Event) (one : Made) (z : S) → AsksFor past r (Some (SendEvent lane e)) → one.outcome ≡ Noticed lane (OnEvent e) → Makes registry with_registry has_form stepped x one z → G answer.Done (one ∷ []) z
+  abbrev pub MadeEvent : List Answer → Request → Lane → Memory → S → Goal → Type 0
+  MadeEvent past r lane memory x G = (e : Event) (f : Form) (one : Made) (after : Memory) (z : S) → AsksFor past r (Some (SendEvent lane e)) → after ≡ learned memory f (event_metadata e) → one.outcome ≡ Noticed lane (OnEvent e)
+      → Makes registry with_registry has_form stepped x one z → G answer.Done (one ∷ []) after z
 
-  abbrev pub VetoedEvent : List Answer → Request → Lane → S → Goal → Type 0
-  VetoedEvent past r lane x G = (e : Event) (f : Form) → AsksFor past r (Some (SendEvent lane e)) → IsReady registry with_registry has_form stepped f x → vetoes_whole f e (registry x).store lane ≡ true → G answer.Dropped [] x
+  abbrev pub DroppedEvent : List Answer → Request → Lane → Memory → S → Goal → Type 0
+  DroppedEvent past r lane memory x G = (e : Event) (f : Form) (after : Memory) → AsksFor past r (Some (SendEvent lane e)) → IsReady registry with_registry has_form stepped f x
+      → IsDropped memory f (registry x) lane (event_metadata e) (vetoes_whole f e (registry x).store lane) → after ≡ learned memory f (event_metadata e) → G answer.Dropped [] after x
 
-  sent : (past : List Answer) (r : Request) (lane : Lane) (event : Event) (f : Form) (x : S) (a : Answer) (made : List Made) (y : S) (G : Goal) → MadeEvent past r lane x G → VetoedEvent past r lane x G
-      → AsksFor past r (Some (SendEvent lane event)) → IsReady registry with_registry has_form stepped f x → Serves registry with_registry has_form stepped (SendEvent lane event) f x a made y → G a made y
-  sent past r lane event f x answer.Done [] y G new vetoed asks ready s = let e = s.comes.1 in absurd (cc)
-  sent past r lane event f x answer.Done (one ∷ []) y G new vetoed asks ready s =
+  abbrev pub RefusedEvent : List Answer → Request → Lane → Memory → S → Goal → Type 0
+  RefusedEvent past r lane memory x G = (e : Event) (error : TraceError) (f : Form) (after : Memory) → AsksFor past r (Some (SendEvent lane e)) → IsUnknown memory f (event_metadata e) error → Learns memory f (event_metadata e) (answer.Refused error) after
+      → G (answer.Refused error) [] after x
+
+  sent : (past : List Answer) (r : Request) (lane : Lane) (event : Event) (f : Form) (memory : Memory) (x : S) (a : Answer) (made : List Made) (after : Memory) (y : S) (G : Goal) → MadeEvent past r lane memory x G → DroppedEvent past r lane memory x G
+      → RefusedEvent past r lane memory x G → AsksFor past r (Some (SendEvent lane event)) → IsReady registry with_registry has_form stepped f x → Serves registry with_registry has_form stepped (SendEvent lane event) f memory x a made after y → G a made after y
+  sent past r lane event f memory x answer.Done [] after y G new dropped refused asks ready s = let e = s.comes.1 in absurd (cc)
+  sent past r lane event f memory x answer.Done (one ∷ []) after y G new dropped refused asks ready s =
       let e = s.comes.1 in
       let h = s.goes in
       let o : one.outcome ≡ Noticed lane (OnEvent event) = cc in
-      subst (λ z. G answer.Done (one ∷ []) z) h.2 (new event one h.0 asks o h.1)
-  sent past r lane event f x answer.Done (one ∷ two ∷ made) y G new vetoed asks ready s = let e = s.comes.1 in absurd (cc)
-  sent past r lane event f x answer.Dropped [] y G new vetoed asks ready s = subst (λ z. G answer.Dropped [] z) s.goes (vetoed event f asks ready s.comes.0)
-  sent past r lane event f x answer.Dropped (one ∷ made) y G new vetoed asks ready s = let e = s.comes.1 in absurd (cc)
-  sent past r lane event f x (answer.Made id) made y G new vetoed asks ready s = absurd s.comes
-  sent past r lane event f x (answer.Refused e) made y G new vetoed asks ready s = absurd s.comes
-  sent past r lane event f x (answer.Yes b) made y G new vetoed asks ready s = absurd s.comes
-  sent past r lane event f x (answer.Current o) made y G new vetoed asks ready s = absurd s.comes
+      subst (λ z. G answer.Done (one ∷ []) after z) h.2 (new event f one after h.0 asks s.keeps o h.1)
+  sent past r lane event f memory x answer.Done (one ∷ two ∷ made) after y G new dropped refused asks ready s = let e = s.comes.1 in absurd (cc)
+  sent past r lane event f memory x answer.Dropped [] after y G new dropped refused asks ready s = subst (λ z. G answer.Dropped [] after z) s.goes (dropped event f after asks ready s.comes.0 s.keeps)
+  sent past r lane event f memory x answer.Dropped (one ∷ made) after y G new dropped refused asks ready s = let e = s.comes.1 in absurd (cc)
+  sent past r lane event f memory x (answer.Refused e) [] after y G new dropped refused asks ready s = subst (λ z. G (answer.Refused e) [] after z) s.goes (refused event e f after asks s.comes.0 s.keeps)
+  sent past r lane event f memory x (answer.Refused e) (one ∷ made) after y G new dropped refused asks ready s = let d = s.comes.1 in absurd (cc)
+  sent past r lane event f memory x (answer.Made id) made after y G new dropped refused asks ready s = absurd s.comes
+  sent past r lane event f memory x (answer.Yes b) made after y G new dropped refused asks ready s = absurd s.comes
+  sent past r lane event f memory x (answer.Current o) made after y G new dropped refused asks ready s = absurd s.comes
 
-  pub event_served : (past : List Answer) (lane : Lane) (m : Metadata) (p : WhichParent) (values : _) (x : S) (a : Answer) (made : List Made) (y : S) (G : Goal)
-      → MadeEvent past (request.Event lane m p values) lane x G → VetoedEvent past (request.Event lane m p values) lane x G
-      → ServesRequest registry with_registry has_form stepped past (request.Event lane m p values) x a made y → G a made y
-  event_served past lane m p values x a made y G new vetoed h = by_call h.call h.asks h.served
+  pub event_served : (past : List Answer) (lane : Lane) (m : Metadata) (p : WhichParent) (values : _) (memory : Memory) (x : S) (a : Answer) (made : List Made) (after : Memory) (y : S) (G : Goal)
+      → MadeEvent past (request.Event lane m p values) lane memory x G → DroppedEvent past (request.Event lane m p values) lane memory x G → RefusedEvent past (request.Event lane m p values) lane memory x G
+      → ServesRequest registry with_registry has_form stepped past (request.Event lane m p values) memory x a made after y → G a made after y
+  event_served past lane m p values memory x a made after y G new dropped refused h = by_call h.call h.asks h.served
     where
-      by_call : (o : Option Call) → AsksFor past (request.Event lane m p values) o → ServesAsked registry with_registry has_form stepped o x a made y → G a made y
+      by_call : (o : Option Call) → AsksFor past (request.Event lane m p values) o → ServesAsked registry with_registry has_form stepped o memory x a made after y → G a made after y
       by_call (Some (SendEvent l e)) asks s =
-          sent past (request.Event lane m p values) lane e s.0 x a made y G new vetoed (refl, asks.1, asks.2, asks.3) s.1 (subst (λ k. Serves registry with_registry has_form stepped (SendEvent k e) s.0 x a made y) asks.0 s.2)
+          sent past (request.Event lane m p values) lane e s.0 memory x a made after y G new dropped refused (refl, asks.1, asks.2, asks.3) s.1 (subst (λ k. Serves registry with_registry has_form stepped (SendEvent k e) s.0 memory x a made after y) asks.0 s.2)
       by_call (Some (OpenSpan l attrs)) asks s = absurd asks
       by_call (Some (Enter l id)) asks s = absurd asks
       by_call (Some (Exit l id)) asks s = absurd asks
@@ -137,3 +156,20 @@ module _ {S : Type 0} (registry : S → RegistryState) (with_registry : S → Re
       by_call (Some (Probe l k)) asks s = absurd asks
       by_call (Some (AskCurrent l)) asks s = absurd asks
       by_call None asks s = absurd asks
+
+-- where nothing is kept, what is dropped is vetoed, and no interest is wanting
+pub vetoed_unkept : (f : Form) (s : RegistryState) (lane : Lane) (m : Metadata) (vetoed : Bool) → IsDropped None f s lane m vetoed → vetoed ≡ true
+vetoed_unkept f s lane m vetoed (inl r) = absurd (by_rule r.rule)
+  where
+    by_rule : {P : Type 0} → (false ≡ true) ⊎ (P × (false ≡ true)) → ⊥
+    by_rule (inl e) = false≢true e
+    by_rule (inr e) = false≢true e.1
+vetoed_unkept f s lane m vetoed (inr v) = v.1
+
+pub known_unkept : (f : Form) (m : Metadata) (e : TraceError) → IsUnknown None f m e → ⊥
+known_unkept f m e h = h.refused
+
+-- and nothing is kept afterwards
+pub unkept_still : (f : Form) (m : Metadata) (e : TraceError) (after : Memory) → Learns None f m (answer.Refused e) after → after ≡ None
+unkept_still f m e after (inl h) = h
+unkept_still f m e after (inr h) = h

@@ -1,8 +1,8 @@
 -- How each call of a dispatcher is served, from what the stack's own calls say.
-use Rattle.std.proofs.Common.{◌≡◌, ℕ, Bool, true, false, not, ◌||◌, List, [], ◌∷◌, ◌++◌, map, Option, Some, None, Result, Ok, Err, IfSome, IfErr, OnOk, OnErr, refl, sym, ap, subst, ◌∙◌}
+use Rattle.std.proofs.Common.{◌≡◌, ℕ, Bool, true, false, not, ◌||◌, List, [], ◌∷◌, ◌++◌, map, Option, Some, None, Result, Ok, Err, ◌⊎◌, inl, inr, IfSome, IfErr, OnOk, OnErr, refl, sym, ap, subst, ◌∙◌}
 use Rattle.std.proofs.lemmas.Bool.{true≢false}
 use Rattle.span_core.specs.Event.{event_metadata}
-use Rattle.span_core.specs.Filters.{FilterSet, IsEmpty}
+use Rattle.span_core.specs.Filters.{FilterSet}
 use Rattle.span_core.specs.Pass.{refused_of}
 use Rattle.span_core.specs.Span.{asked_parent, current_span, id_of, metadata_of, number_of}
 use Rattle.span_core.specs.declared.error.TraceError.{TraceError}
@@ -15,26 +15,27 @@ use Rattle.std.specs.Option.{option_map}
 use Rattle.span_core.specs.declared.span.Id.{Id}
 use Rattle.span_core.specs.declared.span.Lane.{Lane}
 use Rattle.span_core.specs.declared.span.Record.{Record}
-use Rattle.span_dispatch.proofs.Goes.{Done, keeps_again, by_call, by_change, by_none, honest_after, honest_quietly, quietly}
-use Rattle.span_dispatch.specs.Call.{AddHandle, AskCurrent, Call, DropHandle, Enter, Exit, Follow, OpenSpan, Probe, RecordValues, SendEvent, closes_of, current_answer, done_answer}
+use Rattle.span_dispatch.proofs.Goes.{Done, StillReady, keeps_again, by_call, by_change, by_none, honest_after, honest_quietly, quietly}
+use Rattle.span_dispatch.specs.Admission.{IsAdmitted, IsDropped}
+use Rattle.span_dispatch.specs.Cache.{Memory}
+use Rattle.span_dispatch.specs.Call.{AddHandle, AskCurrent, Call, DropHandle, Enter, Exit, Follow, OpenSpan, Probe, RecordValues, SendEvent, closes_of, current_answer, done_answer, vetoes_whole, yes_answer}
 use Rattle.span_dispatch.specs.Outcome.{GoneLeft, HandleAdded, HandleTaken, IsHonest, Made, Makes, Noticed, Notices, Outcome, Quiet}
-use Rattle.span_dispatch.specs.Serve.{ClosesEach, IsReady, IsReadyAfter, outcome_of}
+use Rattle.span_dispatch.specs.Serve.{ClosesEach, IsReady, outcome_of}
 use Rattle.span_dispatch.specs.declared.request.Answer.TheVariants as answer
 use Rattle.span_dispatch.specs.declared.request.Answer.{Answer}
-use Rattle.span_layers.proofs.CallerLemmas.{asked_by_nobody, asked_with_new_pass, event_asked_with_new_pass}
 use Rattle.span_layers.proofs.HonestKept.{honesty_is_kept}
 use Rattle.span_layers.specs.Honest.{IsHonestStack}
 use Rattle.span_layers.proofs.Pass.{asked_unless_vetoed, event_fresh, event_unless_vetoed, new_span_fresh, others_afresh}
-use Rattle.span_layers.specs.Verdict.{vetoes, vetoes_event}
+use Rattle.span_layers.specs.Verdict.{IsOrderly, vetoes, vetoes_event}
 use Rattle.span_registry.specs.Answers.{Notice, OnClose, OnEnter, OnEvent, OnExit, OnFollows, OnNewSpan, OnRecord}
 use Rattle.span_registry.specs.Closes.{IsSettled}
 use Rattle.span_registry.specs.Follows.{Keeps, kept_form}
 use Rattle.span_registry.specs.Form.{Form}
-use Rattle.span_registry.specs.Hooks.{AnswersEnabled, AnswersEvent, Notifies, OpensAndNotifies, StackLaws, StackSteps, Stays, no_filter}
+use Rattle.span_registry.specs.Hooks.{AnswersEvent, Notifies, OpensAndNotifies, StackLaws, StackSteps, Stays, no_filter}
 use Rattle.span_registry.specs.Place.{HearSteps}
-use Rattle.span_registry.specs.Plan.{by_pass}
-use Rattle.span_registry.specs.Question.{asked, refusals}
-use Rattle.span_registry.specs.Step.{Begun, Between, Clones, Enters, Exits, IsCurrent, ShowsCurrent, RefusesClone, RefusesEnter, Releases, Removal, Removed, Removes}
+use Rattle.span_registry.specs.Plan.{asked_afresh, by_pass}
+use Rattle.span_registry.specs.Question.{asked, event_asked, refusals}
+use Rattle.span_registry.specs.Step.{Begun, Between, Clones, Enters, Exits, IsCurrent, ShowsCurrent, RefusesClone, RefusesEnter, RefusesNew, Releases, Removal, Removed, Removes}
 use Rattle.span_registry.specs.Store.{IsClosing, IsForest, IsOpen, RegistryState, Spans, Store}
 use Rattle.span_registry.specs.Subscriber.{SameButExtensions}
 use Rattle.span_registry.specs.Laws.{ClosesAll}
@@ -64,127 +65,148 @@ or_both_false true b h k = h
 or_both_false false b h k = k
 
 module _ {S : Type 0} {registry : S → RegistryState} {with_registry : S → RegistryState → S} {usable : S → Type 0} {has_form : S → Form → Type 0} {stepped : StackSteps S} {hears : HearSteps S} {registered : S → S → Type 0}
-    (laws : StackLaws with_registry usable has_form stepped hears registered) (with_own : (s : S) → with_registry s (registry s) ≡ s) where
+    (laws : StackLaws with_registry usable has_form stepped hears registered) (with_own : (s : S) → with_registry s (registry s) ≡ s) (memory : Memory) where
   abbrev pub Ready : Form → S → Type 0
   Ready f x = IsReady registry with_registry has_form stepped f x
 
   abbrev pub Honest : Form → S → Type 0
   Honest f x = IsHonest registry with_registry has_form stepped f x
 
+  -- a call is served that leaves what is kept as it is
   abbrev pub Ends : Call → Answer → Form → S → S → Type 0
-  Ends call a f x y = Done laws with_own call a f x y
+  Ends call a f x y = Done laws with_own call a f memory x memory y
 
   -- ---- questions
-
-  -- a question of metadata is answered false exactly where a leaf vetoes them
-  pub vetoed : (f : Form) (x : S) (lane : Lane) (m meta : Metadata) (fresh pass : Pass) (said : Bool) → Honest f x → m ≡ meta → AnswersEnabled registry has_form x lane m fresh said pass
-      → said ≡ not (vetoes f meta (registry x).store lane.0)
-  vetoed f x lane m meta fresh pass said h same a =
-      (a f h.has).answer ∙ asked_unless_vetoed f m (registry x).store lane.0 (refusals fresh) h.rules.orderly ∙ ap (λ n. not (vetoes f n (registry x).store lane.0)) same
-
-  vetoed_event : (f : Form) (x : S) (lane : Lane) (e : Event) (before pass : Pass) (said : Bool) → Honest f x → AnswersEvent registry has_form x lane e before said pass
-      → said ≡ not (vetoes_event f e (registry x).store lane.0)
-  vetoed_event f x lane e before pass said h a = (a f h.has).answer ∙ event_unless_vetoed f e (registry x).store lane.0 (refusals before) h.rules.orderly
-
-  pub probed : (lane : Lane) (m : Metadata) (fresh pass : Pass) (said : Bool) (f : Form) (x : S) → AnswersEnabled registry has_form x lane m fresh said pass → Honest f x → Ends (Probe lane m) (answer.Yes said) f x x
-  probed lane m fresh pass said f x a h = by_none laws with_own (Probe lane m) (answer.Yes said) f x x h refl (vetoed f x lane m m fresh pass said h refl a, refl)
 
   current_number : (s : Store) (lane : ℕ) (o : Option (Id × Metadata)) → IsCurrent s lane (option_map (λ p. number_of p.0) o) → IsCurrent s lane (option_map number_of (option_map (λ p. p.0) o))
   current_number s lane None h = h
   current_number s lane (Some p) h = h
 
   pub current_so : (lane : Lane) (c : Current) (f : Form) (x : S) → ShowsCurrent (registry x).store lane c → Honest f x → Ends (AskCurrent lane) (current_answer c) f x x
-  current_so lane c f x shown h = by_none laws with_own (AskCurrent lane) (current_answer c) f x x h refl (current_number (registry x).store lane.0 (current_span c) shown.span, refl)
+  current_so lane c f x shown h = by_none laws with_own (AskCurrent lane) (current_answer c) f memory x memory x h refl (current_number (registry x).store lane.0 (current_span c) shown.span, refl) refl
+
+  -- where all were asked and answered true, no leaf vetoes
+  unvetoed : (f : Form) (m : Metadata) (s : Store) (lane : Lane) (pass : Pass) → IsOrderly f → asked f m s lane.0 no_filter no_filter ≡ (true, refusals pass) → vetoes f m s lane.0 ≡ false
+  unvetoed f m s lane pass orderly e = not_true _ (sym (asked_unless_vetoed f m s lane.0 no_filter orderly) ∙ ap (λ (p : Bool × FilterSet). p.0) e)
+
+  pub probed : (lane : Lane) (m : Metadata) (pass : Pass) (said : Result Bool TraceError) (after : Memory) (f : Form) (x : S) → IsAdmitted memory f (registry x) lane m pass after said → Honest f x → Done laws with_own (Probe lane m) (yes_answer said) f memory x after x
+  probed lane m pass (Ok true) after f x a h = by_none laws with_own (Probe lane m) (answer.Yes true) f memory x after x h refl ((a.0, unvetoed f m (registry x).store lane pass h.rules.orderly a.1), refl) a.2
+  probed lane m pass (Ok false) after f x a h = by_none laws with_own (Probe lane m) (answer.Yes false) f memory x after x h refl (a.0, refl) a.1
+  probed lane m pass (Err e) after f x a h = by_none laws with_own (Probe lane m) (answer.Refused e) f memory x after x h refl (a.0, refl) (inl a.1)
 
   -- ---- new spans
 
-  pub span_dropped : (lane : Lane) (attrs : Attributes) (m : Metadata) (fresh pass : Pass) (said : Bool) (f : Form) (x : S) → m ≡ metadata_of attrs → said ≡ false → AnswersEnabled registry has_form x lane m fresh said pass → Honest f x
-      → Ends (OpenSpan lane attrs) answer.Dropped f x x
-  span_dropped lane attrs m fresh pass said f x same no_one a h =
-      by_none laws with_own (OpenSpan lane attrs) answer.Dropped f x x h refl (not_false _ (sym (vetoed f x lane m (metadata_of attrs) fresh pass said h same a) ∙ no_one), refl)
+  abbrev Admitted : Form → S → Lane → Metadata → Pass → Memory → Result Bool TraceError → Type 0
+  Admitted f x lane m pass after said = IsAdmitted memory f (registry x) lane m pass after said
 
-  unvetoed : (lane : Lane) (m meta : Metadata) (fresh pass : Pass) (said : Bool) (f : Form) (x : S) → m ≡ meta → said ≡ true → AnswersEnabled registry has_form x lane m fresh said pass → Honest f x → vetoes f meta (registry x).store lane.0 ≡ false
-  unvetoed lane m meta fresh pass said f x same agreed a h = not_true _ (sym (vetoed f x lane m meta fresh pass said h same a) ∙ agreed)
+  -- this was said of the metadata
+  by_metadata : (f : Form) (x : S) (lane : Lane) (m meta : Metadata) (pass : Pass) (after : Memory) (said : Result Bool TraceError) → m ≡ meta → Admitted f x lane m pass after said → Admitted f x lane meta pass after said
+  by_metadata f x lane m meta pass after said same a = subst (λ n. Admitted f x lane n pass after said) same a
 
-  -- a question that is answered true is answered so with a new pass
-  asked_true : (lane : Lane) (m meta : Metadata) (fresh pass : Pass) (said : Bool) (f : Form) (x : S) → m ≡ meta → said ≡ true → AnswersEnabled registry has_form x lane m fresh said pass → Honest f x
-      → (asked f meta (registry x).store lane.0 no_filter no_filter).0 ≡ true
-  asked_true lane m meta fresh pass said f x same agreed a h =
-      asked_unless_vetoed f meta (registry x).store lane.0 no_filter h.rules.orderly ∙ ap not (unvetoed lane m meta fresh pass said f x same agreed a h)
+  pub span_dropped : (lane : Lane) (attrs : Attributes) (m : Metadata) (pass : Pass) (after : Memory) (f : Form) (x : S) → m ≡ metadata_of attrs → Admitted f x lane m pass after (Ok false) → Honest f x → Done laws with_own (OpenSpan lane attrs) answer.Dropped f memory x after x
+  span_dropped lane attrs m pass after f x same a h =
+      let d = by_metadata f x lane m (metadata_of attrs) pass after (Ok false) same a in
+      by_none laws with_own (OpenSpan lane attrs) answer.Dropped f memory x after x h refl (d.0, refl) d.1
 
-  pub span_made : (lane : Lane) (attrs : Attributes) (m : Metadata) (fresh pass : Pass) (said : Bool) (id : Id) (f : Form) (x y : S) → m ≡ metadata_of attrs → IsEmpty (refusals fresh) → said ≡ true
-      → AnswersEnabled registry has_form x lane m fresh said pass → OpensAndNotifies registry has_form stepped lane attrs pass x y id → Honest f x → Ends (OpenSpan lane attrs) (answer.Made id) f x y
-  span_made lane attrs m fresh pass said id f x y same empty agreed a n h =
+  pub span_unknown : (lane : Lane) (attrs : Attributes) (m : Metadata) (pass : Pass) (e : TraceError) (after : Memory) (f : Form) (x : S) → m ≡ metadata_of attrs → Admitted f x lane m pass after (Err e) → Honest f x → Done laws with_own (OpenSpan lane attrs) (answer.Refused e) f memory x after x
+  span_unknown lane attrs m pass e after f x same a h =
+      let d = by_metadata f x lane m (metadata_of attrs) pass after (Err e) same a in
+      by_none laws with_own (OpenSpan lane attrs) (answer.Refused e) f memory x after x h refl (inl d.0, refl) (inl d.1)
+
+  pub span_made : (lane : Lane) (attrs : Attributes) (m : Metadata) (pass : Pass) (id : Id) (after : Memory) (f : Form) (x y : S) → m ≡ metadata_of attrs → Admitted f x lane m pass after (Ok true)
+      → OpensAndNotifies registry has_form stepped lane attrs pass x y id → Honest f x → Done laws with_own (OpenSpan lane attrs) (answer.Made id) f memory x after y
+  span_made lane attrs m pass id after f x y same a n h =
       let s = (registry x).store in
-      let law = new_span_fresh f attrs id s lane.0 h.rules.numbers.distinct (asked_true lane m (metadata_of attrs) fresh pass said f x same agreed a h) in
-      let plan = asked_with_new_pass f attrs id s lane.0 fresh pass said m same empty law (a f h.has) n.left.store.spans in
-      let refused = (a f h.has).refused ∙ asked_by_nobody f s lane.0 fresh m (metadata_of attrs) same empty in
-      by_call laws with_own (OpenSpan lane attrs) (answer.Made id) f lane (OnNewSpan attrs id) (refusals pass) _ x y h (unvetoed lane m (metadata_of attrs) fresh pass said f x same agreed a h, refl)
-      n plan (refused_of pass, (λ k. ap (λ (r : FilterSet). r k) refused ∙ law.verdict k), n.taken) refl
+      let d = by_metadata f x lane m (metadata_of attrs) pass after (Ok true) same a in
+      let refused = ap (λ (p : Bool × FilterSet). p.1) d.1 in
+      let law = new_span_fresh f attrs id s lane.0 h.rules.numbers.distinct (ap (λ (p : Bool × FilterSet). p.0) d.1) in
+      let plan = subst (λ r. by_pass f (OnNewSpan attrs id) n.left.store.spans no_filter r ≡ asked_afresh f (OnNewSpan attrs id) s lane.0 no_filter) refused (law.plan n.left.store.spans) in
+      by_call laws with_own (OpenSpan lane attrs) (answer.Made id) f lane (OnNewSpan attrs id) (refusals pass) _ memory x after y h ((d.0, unvetoed f (metadata_of attrs) s lane pass h.rules.orderly d.1), refl) d.2
+      n plan (refused_of pass, (λ k. ap (λ (r : FilterSet). r k) (sym refused) ∙ law.verdict k), n.taken) refl
 
-  pub span_refused : (lane : Lane) (attrs : Attributes) (m : Metadata) (fresh pass : Pass) (said : Bool) (e : TraceError) (f : Form) (x y : S) → m ≡ metadata_of attrs → said ≡ true → AnswersEnabled registry has_form x lane m fresh said pass
-      → Rattle.span_registry.specs.Step.RefusesNew (registry x) lane (asked_parent attrs) e → y ≡ x → Honest f x → Ends (OpenSpan lane attrs) (answer.Refused e) f x y
-  span_refused lane attrs m fresh pass said e f x y same agreed a r u h =
-      by_none laws with_own (OpenSpan lane attrs) (answer.Refused e) f x y h u ((unvetoed lane m (metadata_of attrs) fresh pass said f x same agreed a h, r), refl)
+  pub span_refused : (lane : Lane) (attrs : Attributes) (m : Metadata) (pass : Pass) (e : TraceError) (after : Memory) (f : Form) (x y : S) → m ≡ metadata_of attrs → Admitted f x lane m pass after (Ok true)
+      → RefusesNew (registry x) lane (asked_parent attrs) e → y ≡ x → Honest f x → Done laws with_own (OpenSpan lane attrs) (answer.Refused e) f memory x after y
+  span_refused lane attrs m pass e after f x y same a r u h =
+      let d = by_metadata f x lane m (metadata_of attrs) pass after (Ok true) same a in
+      by_none laws with_own (OpenSpan lane attrs) (answer.Refused e) f memory x after y h u (inr ((d.0, unvetoed f (metadata_of attrs) (registry x).store lane pass h.rules.orderly d.1), r), refl) (inr d.2)
 
   -- ---- events
 
-  pub event_dropped : (lane : Lane) (e : Event) (m : Metadata) (fresh pass : Pass) (said : Bool) (f : Form) (x : S) → m ≡ event_metadata e → said ≡ false → AnswersEnabled registry has_form x lane m fresh said pass → Honest f x
-      → Ends (SendEvent lane e) answer.Dropped f x x
-  event_dropped lane e m fresh pass said f x same no_one a h =
-      by_none laws with_own (SendEvent lane e) answer.Dropped f x x h refl (or_left_true _ _ (not_false _ (sym (vetoed f x lane m (event_metadata e) fresh pass said h same a) ∙ no_one)), refl)
+  -- an event whose metadata are dropped is dropped
+  dropped_whole : (f : Form) (s : RegistryState) (lane : Lane) (e : Event) → IsDropped memory f s lane (event_metadata e) (vetoes f (event_metadata e) s.store lane.0) → IsDropped memory f s lane (event_metadata e) (vetoes_whole f e s.store lane)
+  dropped_whole f s lane e (inl d) = inl d
+  dropped_whole f s lane e (inr d) = inr (d.0, or_left_true _ _ d.1)
 
-  pub event_vetoed : (lane : Lane) (e : Event) (before pass : Pass) (said : Bool) (f : Form) (x : S) → said ≡ false → AnswersEvent registry has_form x lane e before said pass → Honest f x → Ends (SendEvent lane e) answer.Dropped f x x
-  event_vetoed lane e before pass said f x no_one a h =
-      by_none laws with_own (SendEvent lane e) answer.Dropped f x x h refl (or_right_true _ _ (not_false _ (sym (vetoed_event f x lane e before pass said h a) ∙ no_one)), refl)
+  pub event_dropped : (lane : Lane) (e : Event) (m : Metadata) (pass : Pass) (after : Memory) (f : Form) (x : S) → m ≡ event_metadata e → Admitted f x lane m pass after (Ok false) → Honest f x → Done laws with_own (SendEvent lane e) answer.Dropped f memory x after x
+  event_dropped lane e m pass after f x same a h =
+      let d = by_metadata f x lane m (event_metadata e) pass after (Ok false) same a in
+      by_none laws with_own (SendEvent lane e) answer.Dropped f memory x after x h refl (dropped_whole f (registry x) lane e d.0, refl) d.1
 
-  pub event_made : (lane : Lane) (e : Event) (m : Metadata) (fresh first second : Pass) (said wanted : Bool) (f : Form) (x y : S) → m ≡ event_metadata e → IsEmpty (refusals fresh) → said ≡ true → wanted ≡ true
-      → AnswersEnabled registry has_form x lane m fresh said first → AnswersEvent registry has_form x lane e first wanted second
-      → Notifies registry has_form stepped lane (refusals second) (OnEvent e) Stays x y → Honest f x → Ends (SendEvent lane e) answer.Done f x y
-  event_made lane e m fresh first second said wanted f x y same empty agreed more a b n h =
+  pub event_unknown : (lane : Lane) (e : Event) (m : Metadata) (pass : Pass) (error : TraceError) (after : Memory) (f : Form) (x : S) → m ≡ event_metadata e → Admitted f x lane m pass after (Err error) → Honest f x → Done laws with_own (SendEvent lane e) (answer.Refused error) f memory x after x
+  event_unknown lane e m pass error after f x same a h =
+      let d = by_metadata f x lane m (event_metadata e) pass after (Err error) same a in
+      by_none laws with_own (SendEvent lane e) (answer.Refused error) f memory x after x h refl (d.0, refl) (inl d.1)
+
+  wanted_or_vetoed : (f : Form) (x : S) (lane : Lane) (e : Event) (before pass : Pass) (said : Bool) → Honest f x → AnswersEvent registry has_form x lane e before said pass → said ≡ not (vetoes_event f e (registry x).store lane.0)
+  wanted_or_vetoed f x lane e before pass said h a = (a f h.has).answer ∙ event_unless_vetoed f e (registry x).store lane.0 (refusals before) h.rules.orderly
+
+  pub event_vetoed : (lane : Lane) (e : Event) (m : Metadata) (first second : Pass) (wanted : Bool) (after : Memory) (f : Form) (x : S) → m ≡ event_metadata e → Admitted f x lane m first after (Ok true) → wanted ≡ false
+      → AnswersEvent registry has_form x lane e first wanted second → Honest f x → Done laws with_own (SendEvent lane e) answer.Dropped f memory x after x
+  event_vetoed lane e m first second wanted after f x same a no_one b h =
+      let d = by_metadata f x lane m (event_metadata e) first after (Ok true) same a in
+      let vetoed = not_false _ (sym (wanted_or_vetoed f x lane e first second wanted h b) ∙ no_one) in
+      by_none laws with_own (SendEvent lane e) answer.Dropped f memory x after x h refl (inr (d.0, or_right_true _ _ vetoed), refl) d.2
+
+  pub event_made : (lane : Lane) (e : Event) (m : Metadata) (first second : Pass) (wanted : Bool) (after : Memory) (f : Form) (x y : S) → m ≡ event_metadata e → Admitted f x lane m first after (Ok true) → wanted ≡ true
+      → AnswersEvent registry has_form x lane e first wanted second → Notifies registry has_form stepped lane (refusals second) (OnEvent e) Stays x y → Honest f x → Done laws with_own (SendEvent lane e) answer.Done f memory x after y
+  event_made lane e m first second wanted after f x y same a agreed b n h =
       let s = (registry x).store in
-      let unvetoed_now = not_true _ (sym (vetoed_event f x lane e first second wanted h b) ∙ more) in
-      let true_of_all = event_unless_vetoed f e s lane.0 (asked f (event_metadata e) s lane.0 no_filter no_filter).1 h.rules.orderly ∙ ap not unvetoed_now in
-      let law = event_fresh f e s lane.0 h.rules.numbers.distinct (asked_true lane m (event_metadata e) fresh first said f x same agreed a h) true_of_all in
-      let plan = event_asked_with_new_pass f e s lane.0 fresh first second said wanted m same empty law (a f h.has) (b f h.has) n.left.store.spans in
-      by_call laws with_own (SendEvent lane e) answer.Done f lane (OnEvent e) (refusals second) _ x y h (or_both_false _ _ (unvetoed lane m (event_metadata e) fresh first said f x same agreed a h) unvetoed_now, refl)
-      n plan n.taken refl
+      let d = by_metadata f x lane m (event_metadata e) first after (Ok true) same a in
+      let unvetoed_now = not_true _ (sym (wanted_or_vetoed f x lane e first second wanted h b) ∙ agreed) in
+      let asked_first = (asked f (event_metadata e) s lane.0 no_filter no_filter).1 in
+      let true_of_all = event_unless_vetoed f e s lane.0 asked_first h.rules.orderly ∙ ap not unvetoed_now in
+      let law = event_fresh f e s lane.0 h.rules.numbers.distinct (ap (λ (p : Bool × FilterSet). p.0) d.1) true_of_all in
+      let refused : refusals second ≡ (event_asked f e s lane.0 no_filter asked_first).1 =
+      (b f h.has).refused ∙ ap (λ r. (event_asked f e s lane.0 no_filter r).1) (sym (ap (λ (p : Bool × FilterSet). p.1) d.1)) in
+      let plan = subst (λ r. by_pass f (OnEvent e) n.left.store.spans no_filter r ≡ asked_afresh f (OnEvent e) s lane.0 no_filter) (sym refused) (law n.left.store.spans) in
+      by_call laws with_own (SendEvent lane e) answer.Done f lane (OnEvent e) (refusals second) _ memory x after y h
+      ((d.0, or_both_false _ _ (unvetoed f (event_metadata e) s lane first h.rules.orderly d.1) unvetoed_now), refl) d.2 n plan n.taken refl
 
   -- ---- enters, exits, and what else is said of a span
 
   -- who is notified of all else is who is notified afresh, since the spans are as before
-  kept_plan : (f : Form) (e : Notice) (x : S) (lane : Lane) (spans : Spans) → spans ≡ (registry x).store.spans → by_pass f e (registry x).store.spans no_filter no_filter ≡ Rattle.span_registry.specs.Plan.asked_afresh f e (registry x).store lane.0 no_filter
-      → by_pass f e spans no_filter no_filter ≡ Rattle.span_registry.specs.Plan.asked_afresh f e (registry x).store lane.0 no_filter
+  kept_plan : (f : Form) (e : Notice) (x : S) (lane : Lane) (spans : Spans) → spans ≡ (registry x).store.spans → by_pass f e (registry x).store.spans no_filter no_filter ≡ asked_afresh f e (registry x).store lane.0 no_filter
+      → by_pass f e spans no_filter no_filter ≡ asked_afresh f e (registry x).store lane.0 no_filter
   kept_plan f e x lane spans same law = ap (λ v. by_pass f e v no_filter no_filter) same ∙ law
 
   pub entered_so : (lane : Lane) (id : Id) (r : Result (Unit {0}) TraceError) (f : Form) (x y : S) → OnOk r (Notifies registry has_form stepped lane no_filter (OnEnter id) (Enters lane id) x y) → IfErr r (RefusesEnter (registry x) id) → OnErr r (y ≡ x)
       → Honest f x → Ends (Enter lane id) (done_answer r) f x y
   entered_so lane id (Ok u) f x y n r e h =
-      by_call laws with_own (Enter lane id) answer.Done f lane (OnEnter id) no_filter _ x y h (tt, refl)
+      by_call laws with_own (Enter lane id) answer.Done f lane (OnEnter id) no_filter _ memory x memory y h (tt, refl) refl
       n (kept_plan f (OnEnter id) x lane _ (ap (λ (t : RegistryState). t.store.spans) n.taken.state) (others_afresh f (OnEnter id) (registry x).store lane.0 no_filter no_filter)) n.taken refl
-  entered_so lane id (Err error) f x y n r e h = by_none laws with_own (Enter lane id) (answer.Refused error) f x y h e (r, refl)
+  entered_so lane id (Err error) f x y n r e h = by_none laws with_own (Enter lane id) (answer.Refused error) f memory x memory y h e (r, refl) refl
 
   pub left_so : (lane : Lane) (id : Id) (f : Form) (x y : S) → IsOpen (registry x).store.spans (number_of id) → Notifies registry has_form stepped lane no_filter (OnExit id) (Exits lane id) x y → Honest f x → Ends (Exit lane id) answer.Done f x y
   left_so lane id f x y there n h =
-      by_call laws with_own (Exit lane id) answer.Done f lane (OnExit id) no_filter _ x y h (record { there = λ o. refl; gone = λ shut. absurd (shut there) })
+      by_call laws with_own (Exit lane id) answer.Done f lane (OnExit id) no_filter _ memory x memory y h (record { there = λ o. refl; gone = λ shut. absurd (shut there) }) refl
       n (kept_plan f (OnExit id) x lane _ (ap (λ (t : RegistryState). t.store.spans) n.taken) (others_afresh f (OnExit id) (registry x).store lane.0 no_filter no_filter)) (there, n.taken) refl
 
   pub gone_so : ((s : S) (w : RegistryState) → registry (with_registry s w) ≡ w) → (lane : Lane) (id : Id) (f : Form) (x : S) (w : RegistryState) → ¬ (IsOpen (registry x).store.spans (number_of id)) → Exits lane id (registry x) w → Honest f x
       → Ends (Exit lane id) answer.Done f x (with_registry x w)
   gone_so registry_with lane id f x w shut e h =
-      by_change laws with_own (Exit lane id) answer.Done f (GoneLeft lane id) x (with_registry x w) h (record { there = λ o. absurd (shut o); gone = λ s. refl })
+      by_change laws with_own (Exit lane id) answer.Done f (GoneLeft lane id) memory x memory (with_registry x w) h (record { there = λ o. absurd (shut o); gone = λ s. refl }) refl
       (quietly laws with_own registry_with (GoneLeft lane id) x w (shut, e)) (λ s. subst (λ (t : RegistryState). IsSettled t.store.spans) (sym (registry_with x w)) (subst IsSettled (sym (ap (λ (t : RegistryState). t.store.spans) e)) s))
 
   pub recorded_so : (lane : Lane) (id : Id) (values : Record) (f : Form) (x y : S) → IsOpen (registry x).store.spans (number_of id) → Notifies registry has_form stepped lane no_filter (OnRecord id values) Stays x y → Honest f x
       → Ends (RecordValues lane id values) answer.Done f x y
   recorded_so lane id values f x y there n h =
-      by_call laws with_own (RecordValues lane id values) answer.Done f lane (OnRecord id values) no_filter _ x y h (tt, refl)
+      by_call laws with_own (RecordValues lane id values) answer.Done f lane (OnRecord id values) no_filter _ memory x memory y h (tt, refl) refl
       n (kept_plan f (OnRecord id values) x lane _ (ap (λ (t : RegistryState). t.store.spans) n.taken) (others_afresh f (OnRecord id values) (registry x).store lane.0 no_filter no_filter)) (there, n.taken) refl
 
   pub followed_so : (lane : Lane) (id other : Id) (f : Form) (x y : S) → IsOpen (registry x).store.spans (number_of id) → Notifies registry has_form stepped lane no_filter (OnFollows id other) Stays x y → Honest f x
       → Ends (Follow lane id other) answer.Done f x y
   followed_so lane id other f x y there n h =
-      by_call laws with_own (Follow lane id other) answer.Done f lane (OnFollows id other) no_filter _ x y h (tt, refl)
+      by_call laws with_own (Follow lane id other) answer.Done f lane (OnFollows id other) no_filter _ memory x memory y h (tt, refl) refl
       n (kept_plan f (OnFollows id other) x lane _ (ap (λ (t : RegistryState). t.store.spans) n.taken) (others_afresh f (OnFollows id other) (registry x).store lane.0 no_filter no_filter)) (there, n.taken) refl
 
   -- ---- handles
@@ -192,15 +214,15 @@ module _ {S : Type 0} {registry : S → RegistryState} {with_registry : S → Re
   pub cloned_so : (lane : Lane) (id : Id) (r : Result Id TraceError) (f : Form) (x y : S) → OnOk r (Clones id (registry x) (registry y)) → y ≡ with_registry x (registry y) → IfErr r (RefusesClone (registry x) id) → OnErr r (y ≡ x)
       → Honest f x → Ends (AddHandle lane id) (done_answer r) f x y
   cloned_so lane id (Ok other) f x y n rest r e h =
-      by_change laws with_own (AddHandle lane id) answer.Done f (HandleAdded id) x y h (tt, refl) (record { changes = n; rest = rest }) (settled_cloned id (registry x) (registry y) n)
-  cloned_so lane id (Err error) f x y n rest r e h = by_none laws with_own (AddHandle lane id) (answer.Refused error) f x y h e (r, refl)
+      by_change laws with_own (AddHandle lane id) answer.Done f (HandleAdded id) memory x memory y h (tt, refl) refl (record { changes = n; rest = rest }) (settled_cloned id (registry x) (registry y) n)
+  cloned_so lane id (Err error) f x y n rest r e h = by_none laws with_own (AddHandle lane id) (answer.Refused error) f memory x memory y h e (r, refl) refl
 
   pub still_open_so : ((s : S) (w : RegistryState) → registry (with_registry s w) ≡ w) → (lane : Lane) (id : Id) (a : Released) (f : Form) (x : S) (w : RegistryState) → Releases id a (registry x) w → a ≡ StillOpen → IsForest (registry x).store.spans → Ready f x
       → Ends (DropHandle lane id) (answer.Yes false) f x (with_registry x w)
   still_open_so registry_with lane id a f x w r same forest h =
       let drops = drops_open forest h.settled r same in
-      by_change laws with_own (DropHandle lane id) (answer.Yes false) f (HandleTaken id) x (with_registry x w) h.honest
-      (record { closed = []; exact = drops.closes; outcomes = refl; itself = (λ t. absurd (true≢false (sym t)), λ n. absurd n) })
+      by_change laws with_own (DropHandle lane id) (answer.Yes false) f (HandleTaken id) memory x memory (with_registry x w) h.honest
+      (record { closed = []; exact = drops.closes; outcomes = refl; itself = (λ t. absurd (true≢false (sym t)), λ n. absurd n) }) refl
       (quietly laws with_own registry_with (HandleTaken id) x w (r.held, r.state)) (λ s. subst (λ (t : RegistryState). IsSettled t.store.spans) (sym (registry_with x w)) (settled_still s r same))
 
   -- ---- closes
@@ -223,18 +245,19 @@ module _ {S : Type 0} {registry : S → RegistryState} {with_registry : S → Re
           record {
             comes = record { closed = k.closed; exact = drops.closes; outcomes = ap (λ os. Quiet (HandleTaken id) ∷ os) notices.2; itself = (λ _. itself, λ _. refl) };
             goes = (z, record { honest = h.honest; store = refl; goes = q }, notices.1);
+            keeps = refl;
           },
         ),
-        λ s. (notices.3.0, record { honest = notices.3.1; settled = settled_closed (registry x) (registry y) id k.closed all }, keeps_again f after.0 notices.3.0 after.2 notices.3.2),
+        λ s. (notices.3.0, record { honest = notices.3.1; settled = settled_closed (registry x) (registry y) id k.closed all }, keeps_again f after.0 notices.3.0 after.2 notices.3.2, notices.3.3 ∙ after.3),
       )
 
   -- so far these spans have closed, and this one is closing now
   pub record SoFar (lane : Lane) (id : Id) (x : S) (xs : List ℕ) (next : Option Id) (y : S) : Type 0 where
     pub removal : Removal SameButExtensions (registry x) id xs next (registry y)
-    pub notices : (f : Form) → IsHonest registry with_registry has_form stepped f x → (made : List Made) × FoldsTo (Makes registry with_registry has_form stepped) x made y × (map outcome_of made ≡ closes_of lane xs) × ((g : Form) × IsHonest registry with_registry has_form stepped g y × Keeps f g)
+    pub notices : (f : Form) → IsHonest registry with_registry has_form stepped f x → (made : List Made) × FoldsTo (Makes registry with_registry has_form stepped) x made y × (map outcome_of made ≡ closes_of lane xs) × ((g : Form) × IsHonest registry with_registry has_form stepped g y × Keeps f g × ((registry y).filters ≡ (registry x).filters))
 
   pub nothing_yet : (lane : Lane) (id : Id) (x : S) → SoFar lane id x [] (Some id) x
-  nothing_yet lane id x = record { removal = Begun; notices = λ f h. ([], refl, refl, (f, h, kept_form f)) }
+  nothing_yet lane id x = record { removal = Begun; notices = λ f h. ([], refl, refl, (f, h, kept_form f, refl)) }
 
   closes_more : (lane : Lane) (xs : List ℕ) (x : ℕ) → closes_of lane (xs ++ (x ∷ [])) ≡ closes_of lane xs ++ (Noticed lane (OnClose (id_of x)) ∷ [])
   closes_more lane [] x = refl
@@ -281,7 +304,7 @@ module _ {S : Type 0} {registry : S → RegistryState} {with_registry : S → Re
               before.0 ++ (m ∷ []),
               folds_more x before.0 y m u before.1 (record { honest = before.3.1; store = refl; goes = notice }),
               outcomes_more before.0 m ∙ ap (λ os. os ++ (m.outcome ∷ [])) before.2 ∙ sym (closes_more lane xs (number_of span)),
-              (last.0, last.1, keeps_again f g last.0 before.3.2 last.2),
+              (last.0, last.1, keeps_again f g last.0 before.3.2 last.2, last.3 ∙ before.3.3),
             );
       }
 
@@ -290,7 +313,7 @@ module _ {S : Type 0} {registry : S → RegistryState} {with_registry : S → Re
 
   -- ---- a stack that is put in use
 
-  pub used_so : (f : Form) (x y : S) → registered x y → registry y ≡ registry x → Ready f x → IsReadyAfter registry with_registry has_form stepped f y
+  pub used_so : (f : Form) (x y : S) → registered x y → registry y ≡ registry x → Ready f x → StillReady laws with_own f x y
   used_so f x y used same h =
       let next = laws.put_in_use x y f used h.honest.has in (
         next.0,
@@ -299,4 +322,5 @@ module _ {S : Type 0} {registry : S → RegistryState} {with_registry : S → Re
           settled = subst (λ (s : RegistryState). IsSettled s.store.spans) (sym same) h.settled;
         },
         next.2,
+        ap (λ (s : RegistryState). s.filters) same,
       )

@@ -2,6 +2,7 @@
 use Rattle.std.proofs.Common.{◌≡◌, ℕ, List, [], ◌∷◌, ◌++◌, Option, Some, None, refl, sym, ap, subst}
 use Rattle.std.specs.List.{FoldsTo}
 use Rattle.std.specs.Prelude.{⊤}
+use Rattle.span_dispatch.specs.Cache.{Memory}
 use Rattle.span_dispatch.specs.Call.{Call}
 use Rattle.span_dispatch.specs.Outcome.{GoesOn, IsHonest, Made, Makes, Noticed, Outcome, Quiet}
 use Rattle.span_dispatch.specs.Serve.{Run, ServesAsked}
@@ -42,26 +43,27 @@ module _ {S : Type 0} (registry : S → RegistryState) (with_registry : S → Re
   through_alone x [] y stays h = ap registry h
   through_alone x (m ∷ ms) y stays h = (registry h.0, alone x m h.0 stays h.1, through_alone h.0 ms y (stays_on m.form m.outcome x h.0 stays h.1.goes) h.2)
 
-  asked_stays : (o : Option Call) (x : S) (a : Answer) (ms : List Made) (y : S) → Stays x → ServesAsked registry with_registry has_form stepped o x a ms y → Stays y
-  asked_stays None x a ms y stays h = subst Stays (sym h.2) stays
-  asked_stays (Some call) x a ms y stays h = stays_through x ms y stays h.2.goes
+  asked_stays : (o : Option Call) (memory : Memory) (x : S) (a : Answer) (ms : List Made) (after : Memory) (y : S) → Stays x → ServesAsked registry with_registry has_form stepped o memory x a ms after y → Stays y
+  asked_stays None memory x a ms after y stays h = subst Stays (sym h.3) stays
+  asked_stays (Some call) memory x a ms after y stays h = stays_through x ms y stays h.2.goes
 
-  asked_alone : (o : Option Call) (x : S) (a : Answer) (ms : List Made) (y : S) → Stays x → ServesAsked registry with_registry has_form stepped o x a ms y
-      → ServesAsked (λ (r : RegistryState). r) (λ r w. w) (λ r g. g ≡ f) (λ r p e lane v q w. ⊤) o (registry x) a ms (registry y)
-  asked_alone None x a ms y stays h = (h.0, h.1, ap registry h.2)
-  asked_alone (Some call) x a ms y stays h =
-      (h.0, record { honest = honest h.0 x stays h.1.honest; settled = h.1.settled }, record { comes = h.2.comes; goes = through_alone x ms y stays h.2.goes })
+  asked_alone : (o : Option Call) (memory : Memory) (x : S) (a : Answer) (ms : List Made) (after : Memory) (y : S) → Stays x → ServesAsked registry with_registry has_form stepped o memory x a ms after y
+      → ServesAsked (λ (r : RegistryState). r) (λ r w. w) (λ r g. g ≡ f) (λ r p e lane v q w. ⊤) o memory (registry x) a ms after (registry y)
+  asked_alone None memory x a ms after y stays h = (h.0, h.1, h.2, ap registry h.3)
+  asked_alone (Some call) memory x a ms after y stays h =
+      (h.0, record { honest = honest h.0 x stays h.1.honest; settled = h.1.settled }, record { comes = h.2.comes; goes = through_alone x ms y stays h.2.goes; keeps = h.2.keeps })
 
   -- a run of such a stack is a run by its form
-  pub runs_by : (past : List Answer) (rs : List Request) (answers : List Answer) (made : List (List Made)) (x y : S) → Stays x → Run registry with_registry has_form stepped past rs answers made x y
-      → Run (λ (r : RegistryState). r) (λ r w. w) (λ r g. g ≡ f) (λ r p e lane v q w. ⊤) past rs answers made (registry x) (registry y)
-  runs_by past [] [] [] x y stays h = ap registry h
-  runs_by past [] [] (m ∷ made) x y stays h = absurd h
-  runs_by past [] (b ∷ answers) made x y stays h = absurd h
-  runs_by past (q ∷ rs) [] made x y stays h = absurd h
-  runs_by past (q ∷ rs) (b ∷ answers) [] x y stays h = absurd h
-  runs_by past (q ∷ rs) (b ∷ answers) (ms ∷ made) x y stays h = (
-    registry h.0,
-    record { call = h.1.call; asks = h.1.asks; served = asked_alone h.1.call x b ms h.0 stays h.1.served },
-    runs_by (past ++ (b ∷ [])) rs answers made h.0 y (asked_stays h.1.call x b ms h.0 stays h.1.served) h.2,
+  pub runs_by : (past : List Answer) (rs : List Request) (answers : List Answer) (made : List (List Made)) (memory : Memory) (x : S) (after : Memory) (y : S) → Stays x → Run registry with_registry has_form stepped past rs answers made memory x after y
+      → Run (λ (r : RegistryState). r) (λ r w. w) (λ r g. g ≡ f) (λ r p e lane v q w. ⊤) past rs answers made memory (registry x) after (registry y)
+  runs_by past [] [] [] memory x after y stays h = (h.0, ap registry h.1)
+  runs_by past [] [] (m ∷ made) memory x after y stays h = absurd h
+  runs_by past [] (b ∷ answers) made memory x after y stays h = absurd h
+  runs_by past (q ∷ rs) [] made memory x after y stays h = absurd h
+  runs_by past (q ∷ rs) (b ∷ answers) [] memory x after y stays h = absurd h
+  runs_by past (q ∷ rs) (b ∷ answers) (ms ∷ made) memory x after y stays h = (
+    h.0,
+    registry h.1,
+    record { call = h.2.call; asks = h.2.asks; served = asked_alone h.2.call memory x b ms h.0 h.1 stays h.2.served },
+    runs_by (past ++ (b ∷ [])) rs answers made h.0 h.1 after y (asked_stays h.2.call memory x b ms h.0 h.1 stays h.2.served) h.3,
   )

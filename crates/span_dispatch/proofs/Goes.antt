@@ -1,12 +1,18 @@
 -- How an honest stack goes on: through a notice or a quiet change, after which it is honest; and how a call is served by one of these.
-use Rattle.std.proofs.Common.{◌≡◌, List, [], ◌∷◌, refl, sym, ap, subst, ◌∙◌}
+use Rattle.std.proofs.Common.{◌≡◌, ℕ, List, [], ◌∷◌, Option, None, refl, sym, ap, subst, ◌∙◌}
 use Rattle.span_core.specs.Filters.{FilterSet}
+use Rattle.span_core.specs.declared.interest.Interest.{Interest}
 use Rattle.span_core.specs.declared.span.Lane.{Lane}
-use Rattle.span_dispatch.specs.Call.{Call, Comes}
+use Rattle.span_dispatch.specs.Cache.{IsCurrent, IsUpToDate, Memory}
+use Rattle.span_dispatch.specs.Call.{Call, Comes, KeepsAfter}
 use Rattle.span_dispatch.specs.Outcome.{Change, Changes, GoneLeft, HandleAdded, HandleTaken, IsHonest, Made, Noticed, Notices, Quiet, Quiets, StepsAfter, StepsBefore}
-use Rattle.span_dispatch.specs.Serve.{IsReady, IsReadyAfter, Serves}
+use Rattle.span_dispatch.specs.Serve.{IsReady, IsReadyAfter, IsReadyBy, KeepsUpToDate, Serves, ServesCall, kept_by, stack_of}
+use Rattle.span_dispatch.specs.declared.cache.Cache.TheVariants as cache
+use Rattle.span_dispatch.specs.declared.cache.Cache.{Cache}
+use Rattle.span_dispatch.specs.declared.cache.Known.{Known}
+use Rattle.span_dispatch.specs.declared.dispatch.Dispatch.{Dispatch}
 use Rattle.span_dispatch.specs.declared.request.Answer.{Answer}
-use Rattle.span_layers.proofs.HonestKept.{honesty_is_kept}
+use Rattle.span_layers.proofs.HonestKept.{hint_is_kept, honesty_is_kept, interest_is_kept}
 use Rattle.span_layers.specs.Honest.{IsHonestStack}
 use Rattle.span_registry.proofs.CallerLemmas.{settled_opened}
 use Rattle.span_registry.specs.Answers.{Answers, Notice, OnClose, OnEnter, OnEvent, OnExit, OnFollows, OnIdChange, OnNewSpan, OnRecord}
@@ -111,20 +117,23 @@ module _ {S : Type 0} {registry : S → RegistryState} {with_registry : S → Re
   Honest f x = IsHonest registry with_registry has_form stepped f x
 
   -- a form that follows, on as many filters, is honest
-  followed : (f : Form) (x y : S) → Honest f x → Follows (has_form y) f → (registry y).filters ≡ (registry x).filters → (g : Form) × Honest g y × Keeps f g
-  followed f x y h k e = (k.0, record { has = k.1; rules = subst (λ n. IsHonestStack k.0 n) (sym e) (honesty_is_kept f k.0 (registry x).filters k.2 h.rules) }, k.2)
+  abbrev pub StillHonest : Form → S → S → Type 0
+  StillHonest f x y = (g : Form) × Honest g y × Keeps f g × ((registry y).filters ≡ (registry x).filters)
+
+  followed : (f : Form) (x y : S) → Honest f x → Follows (has_form y) f → (registry y).filters ≡ (registry x).filters → StillHonest f x y
+  followed f x y h k e = (k.0, record { has = k.1; rules = subst (λ n. IsHonestStack k.0 n) (sym e) (honesty_is_kept f k.0 (registry x).filters k.2 h.rules) }, k.2, e)
 
   elsewhere : (f : Form) (x y : S) (w : RegistryState) → y ≡ with_registry x w → Follows (has_form x) f → Follows (has_form y) f
   elsewhere f x y w e k = (k.0, subst (λ z. has_form z k.0) (sym e) (laws.form_with x w k.0 k.1), k.2)
 
   -- after a notice an honest stack is honest
-  pub honest_after : (f : Form) (lane : Lane) (e : Notice) (x y : S) → Honest f x → Notices registry with_registry has_form stepped f lane e x y → (g : Form) × Honest g y × Keeps f g
+  pub honest_after : (f : Form) (lane : Lane) (e : Notice) (x y : S) → Honest f x → Notices registry with_registry has_form stepped f lane e x y → StillHonest f x y
   honest_after f lane e x y h n =
       let next = laws.keeps x _ e lane.0 n.left n.notified (registry n.notified) f n.layers h.has in
       followed f x y h (elsewhere f n.notified y (registry y) n.rest next) (filters_after e (registry n.notified) (registry y) n.after ∙ n.extensions.filters ∙ filters_before f lane e (registry x) n.left n.before)
 
   -- after a quiet change it is
-  pub honest_quietly : (f : Form) (c : Change) (x y : S) → Honest f x → Quiets registry with_registry has_form stepped c x y → (g : Form) × Honest g y × Keeps f g
+  pub honest_quietly : (f : Form) (c : Change) (x y : S) → Honest f x → Quiets registry with_registry has_form stepped c x y → StillHonest f x y
   honest_quietly f c x y h q = followed f x y h (elsewhere f x y (registry y) q.rest (f, h.has, kept_form f)) (filters_changed c (registry x) (registry y) q.changes)
 
   -- ---- a call that is served by one outcome, or by none
@@ -132,50 +141,89 @@ module _ {S : Type 0} {registry : S → RegistryState} {with_registry : S → Re
   abbrev pub Ready : Form → S → Type 0
   Ready f x = IsReady registry with_registry has_form stepped f x
 
+  -- it is ready again, by a form that keeps what the old one had, on as many filters
+  abbrev pub StillReady : Form → S → S → Type 0
+  StillReady f x y = (g : Form) × Ready g y × Keeps f g × ((registry y).filters ≡ (registry x).filters)
+
   -- it is served, and the stack is ready again where no span was closing
-  abbrev pub Done : Call → Answer → Form → S → S → Type 0
-  Done call a f x y = ((made : List Made) × Serves registry with_registry has_form stepped call f x a made y) × (IsSettled (registry x).store.spans → IsReadyAfter registry with_registry has_form stepped f y)
+  abbrev pub Done : Call → Answer → Form → Memory → S → Memory → S → Type 0
+  Done call a f memory x after y = ((made : List Made) × Serves registry with_registry has_form stepped call f memory x a made after y) × (IsSettled (registry x).store.spans → StillReady f x y)
 
-  pub by_none : (call : Call) (a : Answer) (f : Form) (x y : S) → Honest f x → y ≡ x → Comes call f (registry x) a [] → Done call a f x y
-  by_none call a f x y h e c = (([], record { comes = c; goes = sym e }), λ s. (f, subst (Ready f) (sym e) (record { honest = h; settled = s }), kept_form f))
+  pub by_none : (call : Call) (a : Answer) (f : Form) (memory : Memory) (x : S) (after : Memory) (y : S) → Honest f x → y ≡ x → Comes call memory f (registry x) a [] → KeepsAfter call memory f a after → Done call a f memory x after y
+  by_none call a f memory x after y h e c k =
+      (([], record { comes = c; goes = sym e; keeps = k }), λ s. (f, subst (Ready f) (sym e) (record { honest = h; settled = s }), kept_form f, ap (λ z. (registry z).filters) e))
 
-  pub by_notice : (call : Call) (a : Answer) (f : Form) (lane : Lane) (e : Notice) (x y : S) → Honest f x → Comes call f (registry x) a (Noticed lane e ∷ [])
-      → (n : Notices registry with_registry has_form stepped f lane e x y) → (registry y).store.spans ≡ n.left.store.spans → Done call a f x y
-  by_notice call a f lane e x y h c n same =
+  pub by_notice : (call : Call) (a : Answer) (f : Form) (lane : Lane) (e : Notice) (memory : Memory) (x : S) (after : Memory) (y : S) → Honest f x → Comes call memory f (registry x) a (Noticed lane e ∷ []) → KeepsAfter call memory f a after
+      → (n : Notices registry with_registry has_form stepped f lane e x y) → (registry y).store.spans ≡ n.left.store.spans → Done call a f memory x after y
+  by_notice call a f lane e memory x after y h c k n same =
       let m : Made = record { form = f; store = (registry x).store; outcome = Noticed lane e } in
       let next = honest_after f lane e x y h n in (
-        (m ∷ [], record { comes = c; goes = (y, record { honest = h; store = refl; goes = n }, refl) }),
-        λ s. (next.0, record { honest = next.1; settled = subst IsSettled (sym same) (settled_before f lane e (registry x) n.left n.before s) }, next.2),
+        (m ∷ [], record { comes = c; goes = (y, record { honest = h; store = refl; goes = n }, refl); keeps = k }),
+        λ s. (next.0, record { honest = next.1; settled = subst IsSettled (sym same) (settled_before f lane e (registry x) n.left n.before s) }, next.2, next.3),
       )
 
   -- the same of a call of the stack, which notified by a plan that is the plan asked afresh
-  pub by_call : (call : Call) (a : Answer) (f : Form) (lane : Lane) (e : Notice) (refused : FilterSet) (step : RegistryState → RegistryState → Type 0) (x y : S) → Honest f x → Comes call f (registry x) a (Noticed lane e ∷ [])
-      → (n : Notifies registry has_form stepped lane refused e step x y) → by_pass f e n.left.store.spans no_filter refused ≡ asked_afresh f e (registry x).store lane.0 no_filter
-      → StepsBefore f lane e (registry x) n.left → StepsAfter e (registry y) (registry y) → Done call a f x y
-  by_call call a f lane e refused step x y h c n plan before after =
-      by_notice call a f lane e x y h c (record {
+  pub by_call : (call : Call) (a : Answer) (f : Form) (lane : Lane) (e : Notice) (refused : FilterSet) (step : RegistryState → RegistryState → Type 0) (memory : Memory) (x : S) (after : Memory) (y : S) → Honest f x → Comes call memory f (registry x) a (Noticed lane e ∷ [])
+      → KeepsAfter call memory f a after → (n : Notifies registry has_form stepped lane refused e step x y) → by_pass f e n.left.store.spans no_filter refused ≡ asked_afresh f e (registry x).store lane.0 no_filter
+      → StepsBefore f lane e (registry x) n.left → StepsAfter e (registry y) (registry y) → Done call a f memory x after y
+  by_call call a f lane e refused step memory x after y h c k n plan before ended =
+      by_notice call a f lane e memory x after y h c k (record {
         left = n.left;
         before = before;
         notified = y;
         layers = subst (λ p. stepped x p e lane.0 n.left y (registry y)) plan (n.notified f h.has h.rules.still);
         extensions = n.extensions;
-        after = after;
+        after = ended;
         rest = sym (with_own y);
       }) n.extensions.spans
 
-  pub by_change : (call : Call) (a : Answer) (f : Form) (k : Change) (x y : S) → Honest f x → Comes call f (registry x) a (Quiet k ∷ [])
-      → (q : Quiets registry with_registry has_form stepped k x y) → (IsSettled (registry x).store.spans → IsSettled (registry y).store.spans) → Done call a f x y
-  by_change call a f k x y h c q s =
-      let m : Made = record { form = f; store = (registry x).store; outcome = Quiet k } in
-      let next = honest_quietly f k x y h q in (
-        (m ∷ [], record { comes = c; goes = (y, record { honest = h; store = refl; goes = q }, refl) }),
-        λ before. (next.0, record { honest = next.1; settled = s before }, next.2),
+  pub by_change : (call : Call) (a : Answer) (f : Form) (c : Change) (memory : Memory) (x : S) (after : Memory) (y : S) → Honest f x → Comes call memory f (registry x) a (Quiet c ∷ []) → KeepsAfter call memory f a after
+      → (q : Quiets registry with_registry has_form stepped c x y) → (IsSettled (registry x).store.spans → IsSettled (registry y).store.spans) → Done call a f memory x after y
+  by_change call a f c memory x after y h comes k q s =
+      let m : Made = record { form = f; store = (registry x).store; outcome = Quiet c } in
+      let next = honest_quietly f c x y h q in (
+        (m ∷ [], record { comes = comes; goes = (y, record { honest = h; store = refl; goes = q }, refl); keeps = k }),
+        λ before. (next.0, record { honest = next.1; settled = s before }, next.2, next.3),
       )
 
   -- a stack with another registry
-  pub quietly : ((s : S) (w : RegistryState) → registry (with_registry s w) ≡ w) → (k : Change) (x : S) (w : RegistryState) → Changes k (registry x) w → Quiets registry with_registry has_form stepped k x (with_registry x w)
-  quietly registry_with k x w c = record { changes = subst (λ r. Changes k (registry x) r) (sym (registry_with x w)) c; rest = ap (λ r. with_registry x r) (sym (registry_with x w)) }
+  pub quietly : ((s : S) (w : RegistryState) → registry (with_registry s w) ≡ w) → (c : Change) (x : S) (w : RegistryState) → Changes c (registry x) w → Quiets registry with_registry has_form stepped c x (with_registry x w)
+  quietly registry_with c x w h = record { changes = subst (λ r. Changes c (registry x) r) (sym (registry_with x w)) h; rest = ap (λ r. with_registry x r) (sym (registry_with x w)) }
+
+-- ---- a dispatcher that is ready
+
+-- what a form that keeps what another had would answer now is what that would
+current_again : (f g : Form) (n : ℕ) (k : Known) → Keeps f g → IsCurrent f n k → IsCurrent g n k
+current_again f g n k e h = record {
+  hint = h.hint ∙ sym (hint_is_kept f g e);
+  number = h.number;
+  interest = λ m one at. h.interest m one at ∙ sym (ap (λ (p : Interest × Option Interest). p.0) (interest_is_kept f g e one.metadata n));
+}
+
+pub up_to_date_again : (f g : Form) (n : ℕ) (c : Cache) → Keeps f g → IsUpToDate f n c → IsUpToDate g n c
+up_to_date_again f g n cache.Off e h = h
+up_to_date_again f g n cache.Empty e h = h
+up_to_date_again f g n (cache.Filled k) e h = current_again f g n k e h
+
+module _ {S : Type 0} (registry : S → RegistryState) (with_registry : S → RegistryState → S) (has_form : S → Form → Type 0) (stepped : StackSteps S) where
+  -- whose stack is ready again, and which keeps what the old stack would answer
+  pub ready_again : (f : Form) (old new : Dispatch S)
+      → (g : Form) × IsReady registry with_registry has_form stepped g (stack_of new) × Keeps f g × ((registry (stack_of new)).filters ≡ (registry (stack_of old)).filters) → KeepsUpToDate f (registry (stack_of old)).filters new
+      → IsReadyAfter registry with_registry has_form stepped f new
+  ready_again f old new h k = (h.0, record { stack = h.1; kept = subst (λ n. IsUpToDate h.0 n new.cache) (sym h.3) (up_to_date_again f h.0 (registry (stack_of old)).filters new.cache h.2 k) }, h.2)
 
   -- a stack that stays as it is, or is the same, is ready by the form that it had
-  pub stays_so : (f : Form) (x y : S) → y ≡ x → Ready f x → IsReadyAfter registry with_registry has_form stepped f y
-  stays_so f x y e h = (f, subst (Ready f) (sym e) h, kept_form f)
+  pub stays_so : (f : Form) (old new : Dispatch S) → stack_of new ≡ stack_of old → KeepsUpToDate f (registry (stack_of old)).filters new → IsReadyBy registry with_registry has_form stepped f old → IsReadyAfter registry with_registry has_form stepped f new
+  stays_so f old new e k h =
+      ready_again f old new (f, subst (λ x. IsReady registry with_registry has_form stepped f x) (sym e) h.stack, kept_form f, ap (λ x. (registry x).filters) e) k
+
+  -- one that is new, and keeps nothing yet
+  pub first_ready : (f : Form) (x : S) (d : Dispatch S)
+      → (g : Form) × IsReady registry with_registry has_form stepped g (stack_of d) × Keeps f g × ((registry (stack_of d)).filters ≡ (registry x).filters) → ((g : Form) (n : ℕ) → KeepsUpToDate g n d)
+      → IsReadyAfter registry with_registry has_form stepped f d
+  first_ready f x d h k = (h.0, record { stack = h.1; kept = k h.0 (registry (stack_of d)).filters }, h.2)
+
+  -- a call that leaves the stack as it is
+  pub same_stack : (call : Call) (f : Form) (a : Answer) (old new : Dispatch S) → stack_of new ≡ stack_of old → (made : List Made) × Serves registry with_registry has_form stepped call f (kept_by old) (stack_of old) a made (kept_by new) (stack_of old)
+      → ServesCall registry with_registry has_form stepped call f a old new
+  same_stack call f a old new e h = (h.0, subst (λ y. Serves registry with_registry has_form stepped call f (kept_by old) (stack_of old) a h.0 (kept_by new) y) (sym e) h.1)

@@ -1,3 +1,4 @@
+mod Admits
 mod Calls
 pub mod CallerLemmas
 pub mod Fixed

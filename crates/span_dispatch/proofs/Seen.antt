@@ -5,6 +5,7 @@ use Rattle.std.specs.List.{FoldsTo}
 use Rattle.std.specs.Option.{option_map}
 use Rattle.span_core.specs.Filters.{FilterSet, union}
 use Rattle.span_core.specs.declared.span.Lane.{Lane}
+use Rattle.span_dispatch.specs.Cache.{Memory}
 use Rattle.span_dispatch.specs.Call.{Call}
 use Rattle.span_dispatch.specs.Outcome.{Change, GoesOn, Made, Makes, Noticed, Outcome, Quiet}
 use Rattle.span_dispatch.specs.Serve.{Run, ServesAsked, flat, passed, seen}
@@ -91,15 +92,17 @@ module _ {S : Type 0} (registry : S → RegistryState) (with_registry : S → Re
   folds_append x [] ns y z h k = subst (λ w. FoldsTo (Makes registry with_registry has_form stepped) w ns z) (sym h) k
   folds_append x (m ∷ ms) ns y z h k = (h.0, h.1, folds_append h.0 ms ns y z h.2 k)
 
-  asked_folds : (o : Option Call) (x : S) (a : Answer) (ms : List Made) (y : S) → ServesAsked registry with_registry has_form stepped o x a ms y → FoldsTo (Makes registry with_registry has_form stepped) x ms y
-  asked_folds None x a ms y h = subst (λ ns. FoldsTo (Makes registry with_registry has_form stepped) x ns y) (sym h.1) (sym h.2)
-  asked_folds (Some call) x a ms y h = h.2.goes
+  asked_folds : (o : Option Call) (memory : Memory) (x : S) (a : Answer) (ms : List Made) (after : Memory) (y : S) → ServesAsked registry with_registry has_form stepped o memory x a ms after y → FoldsTo (Makes registry with_registry has_form stepped) x ms y
+  asked_folds None memory x a ms after y h = subst (λ ns. FoldsTo (Makes registry with_registry has_form stepped) x ns y) (sym h.1) (sym h.3)
+  asked_folds (Some call) memory x a ms after y h = h.2.goes
 
   -- a run goes through all that was made, one after another
-  pub run_folds : (past : List Answer) (rs : List Request) (answers : List Answer) (made : List (List Made)) (x y : S) → Run registry with_registry has_form stepped past rs answers made x y → FoldsTo (Makes registry with_registry has_form stepped) x (flat made) y
-  run_folds past [] [] [] x y h = sym h
-  run_folds past [] [] (m ∷ made) x y h = absurd h
-  run_folds past [] (b ∷ answers) made x y h = absurd h
-  run_folds past (q ∷ rs) [] made x y h = absurd h
-  run_folds past (q ∷ rs) (b ∷ answers) [] x y h = absurd h
-  run_folds past (q ∷ rs) (b ∷ answers) (ms ∷ made) x y h = folds_append x ms (flat made) h.0 y (asked_folds h.1.call x b ms h.0 h.1.served) (run_folds (past ++ (b ∷ [])) rs answers made h.0 y h.2)
+  pub run_folds : (past : List Answer) (rs : List Request) (answers : List Answer) (made : List (List Made)) (memory : Memory) (x : S) (after : Memory) (y : S) → Run registry with_registry has_form stepped past rs answers made memory x after y
+      → FoldsTo (Makes registry with_registry has_form stepped) x (flat made) y
+  run_folds past [] [] [] memory x after y h = sym h.1
+  run_folds past [] [] (m ∷ made) memory x after y h = absurd h
+  run_folds past [] (b ∷ answers) made memory x after y h = absurd h
+  run_folds past (q ∷ rs) [] made memory x after y h = absurd h
+  run_folds past (q ∷ rs) (b ∷ answers) [] memory x after y h = absurd h
+  run_folds past (q ∷ rs) (b ∷ answers) (ms ∷ made) memory x after y h =
+      folds_append x ms (flat made) h.1 y (asked_folds h.2.call memory x b ms h.0 h.1 h.2.served) (run_folds (past ++ (b ∷ [])) rs answers made h.0 h.1 after y h.3)

@@ -1,16 +1,19 @@
 -- What each call does to the store, whatever the stack answers.
-use Rattle.std.proofs.Common.{◌≡◌, Bool, true, false, ◌&&◌, [], None, Result, Ok, Err, OnOk, refl, sym, ap, subst, ◌∙◌}
+use Rattle.std.proofs.Common.{◌≡◌, Bool, true, false, ◌&&◌, [], Option, Some, None, Result, Ok, Err, IfOk, OnOk, refl, sym, ap, subst, ◌∙◌}
 use Rattle.std.proofs.lemmas.Bool.{true≢false}
 use Rattle.span_core.specs.Span.{number_of}
 use Rattle.span_core.specs.declared.error.TraceError.{TraceError}
+use Rattle.span_core.specs.Pass.{refused_of}
+use Rattle.span_core.specs.declared.span.Attributes.{Attributes}
 use Rattle.span_core.specs.declared.span.Id.{Id}
 use Rattle.span_core.specs.declared.span.Lane.{Lane}
-use Rattle.span_dispatch.specs.Call.{DropsSpan, FindsOpen, TakesHandle, WantsEvent}
+use Rattle.span_dispatch.specs.Cache.{Memory}
+use Rattle.span_dispatch.specs.Call.{DropsSpan, FindsOpen, OpensFor, TakesHandle, WantsEvent, WantsMetadata}
 use Rattle.span_dispatch.specs.Serve.{ClosesEach}
 use Rattle.span_registry.proofs.CallerLemmas.{begins_with, closes_itself, closes_with_hooks, drops_open, nothing_taken, same_itself, taken_out, settled_closed, settled_still}
 use Rattle.span_registry.specs.Closes.{IsSettled}
 use Rattle.span_registry.specs.Form.{Form}
-use Rattle.span_registry.specs.Hooks.{AnswersEnabled, AnswersEvent, StackSteps, Stays, no_filter}
+use Rattle.span_registry.specs.Hooks.{AnswersEnabled, AnswersEvent, OpensAndNotifies, StackSteps, Stays, no_filter}
 use Rattle.span_registry.specs.Question.{asked, event_asked, refusals}
 use Rattle.span_layers.proofs.CallerLemmas.{asked_by_nobody}
 use Rattle.span_core.specs.Event.{event_metadata}
@@ -33,16 +36,58 @@ both_true : (p q : Bool) → p ≡ true → q ≡ true → true ≡ p && q
 both_true true q a b = sym b
 both_true false q a b = sym a
 
--- an event whose two questions were answered true is wanted
-pub event_wanted : {S : Type 0} (registry : S → RegistryState) (has_form : S → Form → Type 0) (lane : Lane) (e : Event) (x : S) (m : Metadata) (fresh first second : Pass) (said wanted : Bool) → m ≡ event_metadata e → IsEmpty (refusals fresh) → said ≡ true → wanted ≡ true
-    → AnswersEnabled registry has_form x lane m fresh said first → AnswersEvent registry has_form x lane e first wanted second → WantsEvent registry has_form lane e x true
-event_wanted registry has_form lane e x m fresh first second said wanted same empty agreed more a b = λ f d.
-    let s = (registry x).store in
-    let asked_first : (asked f m s lane.0 no_filter (refusals fresh)).0 ≡ (asked f (event_metadata e) s lane.0 no_filter no_filter).0 = λ k. (asked f (same k) s lane.0 no_filter (λ n. empty n k)).0 in
-    let before = (a f d).refused ∙ asked_by_nobody f s lane.0 fresh m (event_metadata e) same empty in
-    both_true _ _ (sym asked_first ∙ sym (a f d).answer ∙ agreed) (sym (ap (λ (r : FilterSet). (event_asked f e s lane.0 no_filter r).0) before) ∙ sym (b f d).answer ∙ more)
+first_false : (p q : Bool) → p ≡ false → false ≡ p && q
+first_false true q a = absurd (true≢false a)
+first_false false q a = refl
+
+second_false : (p q : Bool) → q ≡ false → false ≡ p && q
+second_false true q a = sym a
+second_false false q a = refl
+
+-- ---- what is wanted, where nothing is kept
+
+module _ {S : Type 0} (registry : S → RegistryState) (has_form : S → Form → Type 0) (lane : Lane) (x : S) where
+  -- asking with an empty pass is asking with none
+  asked_same : (f : Form) (m meta : Metadata) (fresh : Pass) → m ≡ meta → IsEmpty (refusals fresh) → (asked f m (registry x).store lane.0 no_filter (refusals fresh)).0 ≡ (asked f meta (registry x).store lane.0 no_filter no_filter).0
+  asked_same f m meta fresh same empty = λ k. (asked f (same k) (registry x).store lane.0 no_filter (λ n. empty n k)).0
+
+  pub metadata_wanted : (memory : Memory) (m meta : Metadata) (fresh pass : Pass) (said : Bool) → m ≡ meta → IsEmpty (refusals fresh) → (memory ≡ None → AnswersEnabled registry has_form x lane m fresh said pass) → WantsMetadata registry has_form lane meta memory x said
+  metadata_wanted None m meta fresh pass said same empty a = λ f d. (a refl f d).answer ∙ asked_same f m meta fresh same empty
+  metadata_wanted (Some callsites) m meta fresh pass said same empty a = tt
+
+  pub asked_of : (memory : Memory) (m meta : Metadata) (fresh pass : Pass) (said : Result Bool TraceError) → m ≡ meta → IsEmpty (refusals fresh) → (memory ≡ None → IfOk said (λ b. AnswersEnabled registry has_form x lane m fresh b pass)) → IfOk said (WantsMetadata registry has_form lane meta memory x)
+  asked_of memory m meta fresh pass (Ok said) same empty a = metadata_wanted memory m meta fresh pass said same empty a
+  asked_of memory m meta fresh pass (Err e) same empty a = tt
+
+  -- an event whose metadata aren't wanted isn't
+  pub event_unwanted : (memory : Memory) (e : Event) (m : Metadata) (fresh pass : Pass) (said : Bool) → m ≡ event_metadata e → IsEmpty (refusals fresh) → said ≡ false → (memory ≡ None → AnswersEnabled registry has_form x lane m fresh said pass)
+      → WantsEvent registry has_form lane e memory x false
+  event_unwanted None e m fresh pass said same empty no_one a = λ f d. first_false _ _ (sym (asked_same f m (event_metadata e) fresh same empty) ∙ sym (a refl f d).answer ∙ no_one)
+  event_unwanted (Some callsites) e m fresh pass said same empty no_one a = tt
+
+  -- of one whose metadata are wanted, the second question says
+  asked_second : (f : Form) (e : Event) (m : Metadata) (fresh first second : Pass) (said wanted : Bool) → has_form x f → m ≡ event_metadata e → IsEmpty (refusals fresh) → AnswersEnabled registry has_form x lane m fresh said first
+      → AnswersEvent registry has_form x lane e first wanted second → (event_asked f e (registry x).store lane.0 no_filter (asked f (event_metadata e) (registry x).store lane.0 no_filter no_filter).1).0 ≡ wanted
+  asked_second f e m fresh first second said wanted d same empty a b =
+      let before = (a f d).refused ∙ asked_by_nobody f (registry x).store lane.0 fresh m (event_metadata e) same empty in
+      sym (ap (λ (r : FilterSet). (event_asked f e (registry x).store lane.0 no_filter r).0) before) ∙ sym (b f d).answer
+
+  pub event_refused : (memory : Memory) (e : Event) (m : Metadata) (fresh first second : Pass) (said wanted : Bool) → m ≡ event_metadata e → IsEmpty (refusals fresh) → wanted ≡ false → (memory ≡ None → AnswersEnabled registry has_form x lane m fresh said first)
+      → AnswersEvent registry has_form x lane e first wanted second → WantsEvent registry has_form lane e memory x false
+  event_refused None e m fresh first second said wanted same empty no_one a b = λ f d. second_false _ _ (asked_second f e m fresh first second said wanted d same empty (a refl) b ∙ no_one)
+  event_refused (Some callsites) e m fresh first second said wanted same empty no_one a b = tt
+
+  pub event_wanted : (memory : Memory) (e : Event) (m : Metadata) (fresh first second : Pass) (said wanted : Bool) → m ≡ event_metadata e → IsEmpty (refusals fresh) → said ≡ true → wanted ≡ true
+      → (memory ≡ None → AnswersEnabled registry has_form x lane m fresh said first) → AnswersEvent registry has_form x lane e first wanted second → WantsEvent registry has_form lane e memory x true
+  event_wanted None e m fresh first second said wanted same empty agreed more a b = λ f d.
+      both_true _ _ (sym (asked_same f m (event_metadata e) fresh same empty) ∙ sym (a refl f d).answer ∙ agreed) (asked_second f e m fresh first second said wanted d same empty (a refl) b ∙ more)
+  event_wanted (Some callsites) e m fresh first second said wanted same empty agreed more a b = tt
 
 module _ {S : Type 0} (registry : S → RegistryState) where
+  -- a span is opened with the pass's refusals for its verdict
+  pub opened_store : {has_form : S → Form → Type 0} {stepped : StackSteps S} (lane : Lane) (attrs : Attributes) (pass : Pass) (x y : S) (id : Id) → OpensAndNotifies registry has_form stepped lane attrs pass x y id → AndHooks registry (OpensFor lane attrs id) x y
+  opened_store lane attrs pass x y id n = record { stepped = n.left; taken = (refused_of pass, n.taken); hooks = n.extensions }
+
   pub no_step : (x : S) → AndHooks registry Stays x x
   no_step x = record { stepped = registry x; taken = refl; hooks = same_itself (registry x) }
 

@@ -1,5 +1,5 @@
 -- What a dispatcher is asked, and how it answers: which outcomes come of a call, and when it is refused.
-use Rattle.std.specs.Prelude.{◌≡◌, ◌↔◌, ⊤, ℕ, Bool, true, false, not, ◌&&◌, ◌||◌, IsTrue, List, [], ◌∷◌, map, Option, Some, None, Result, Ok, Err}
+use Rattle.std.specs.Prelude.{◌≡◌, ◌↔◌, ◌⊎◌, ⊤, ℕ, Bool, true, false, not, ◌&&◌, ◌||◌, IsTrue, List, [], ◌∷◌, map, Option, Some, None, Result, Ok, Err}
 use Rattle.std.specs.Option.{option_map}
 use Rattle.span_core.specs.Event.{event_metadata}
 use Rattle.span_core.specs.Span.{asked_parent, current_span, id_of, metadata_of, number_of}
@@ -13,6 +13,8 @@ use Rattle.span_core.specs.declared.span.Current.{Current}
 use Rattle.span_core.specs.declared.span.Id.{Id}
 use Rattle.span_core.specs.declared.span.Lane.{Lane}
 use Rattle.span_core.specs.declared.span.Record.{Record}
+use Rattle.span_dispatch.specs.Admission.{IsDropped, IsMade, IsUnknown, Learns}
+use Rattle.span_dispatch.specs.Cache.{Memory, RefusesInterest}
 use Rattle.span_dispatch.specs.Outcome.{HandleAdded, HandleTaken, GoneLeft, Noticed, Outcome, Quiet}
 use Rattle.span_dispatch.specs.declared.request.Answer.TheVariants as answer
 use Rattle.span_dispatch.specs.declared.request.Answer.{Answer}
@@ -71,35 +73,48 @@ AndNothing fact os = fact × (os ≡ [])
 abbrev pub AndOne : Type 0 → Outcome → List Outcome → Type 0
 AndOne fact o os = fact × (os ≡ o ∷ [])
 
--- how a call is answered by a stack of this form on this registry, and which outcomes come of it. A new span and an event are dropped exactly where a leaf vetoes; no layer refuses anything else
-abbrev pub Comes : Call → Form → RegistryState → Answer → List Outcome → Type 0
-Comes (OpenSpan lane a) f s (answer.Made id) os = AndOne (vetoes f (metadata_of a) s.store lane.0 ≡ false) (Noticed lane (OnNewSpan a id)) os
-Comes (OpenSpan lane a) f s answer.Dropped os = AndNothing (vetoes f (metadata_of a) s.store lane.0 ≡ true) os
-Comes (OpenSpan lane a) f s (answer.Refused e) os = AndNothing ((vetoes f (metadata_of a) s.store lane.0 ≡ false) × RefusesNew s lane (asked_parent a) e) os
-Comes (SendEvent lane e) f s answer.Done os = AndOne (vetoes_whole f e s.store lane ≡ false) (Noticed lane (OnEvent e)) os
-Comes (SendEvent lane e) f s answer.Dropped os = AndNothing (vetoes_whole f e s.store lane ≡ true) os
-Comes (Enter lane id) f s answer.Done os = AndOne ⊤ (Noticed lane (OnEnter id)) os
-Comes (Enter lane id) f s (answer.Refused e) os = AndNothing (RefusesEnter s id e) os
-Comes (Exit lane id) f s answer.Done os = Leaves lane id s os
-Comes (RecordValues lane id values) f s answer.Done os = AndOne ⊤ (Noticed lane (OnRecord id values)) os
-Comes (RecordValues lane id values) f s (answer.Refused e) os = AndNothing (RefusesUnlessOpen s id e) os
-Comes (Follow lane id other) f s answer.Done os = AndOne ⊤ (Noticed lane (OnFollows id other)) os
-Comes (Follow lane id other) f s (answer.Refused e) os = AndNothing (RefusesUnlessOpen s id e) os
-Comes (AddHandle lane id) f s answer.Done os = AndOne ⊤ (Quiet (HandleAdded id)) os
-Comes (AddHandle lane id) f s (answer.Refused e) os = AndNothing (RefusesClone s id e) os
-Comes (DropHandle lane id) f s (answer.Yes closes) os = DropsHandle lane id s closes os
-Comes (DropHandle lane id) f s (answer.Refused e) os = AndNothing (RefusesRelease s id e) os
-Comes (Probe lane m) f s (answer.Yes wanted) os = AndNothing (wanted ≡ not (vetoes f m s.store lane.0)) os
-Comes (AskCurrent lane) f s (answer.Current o) os = AndNothing (IsCurrent s.store lane.0 (option_map number_of o)) os
-Comes call f s a os = ⊥
+-- how a call is answered by a stack of this form on this registry, where these callsites are kept, and which outcomes come of it. A new span and an event are dropped exactly where hint or interest rule them out or a leaf vetoes; no layer refuses anything else
+abbrev pub Comes : Call → Memory → Form → RegistryState → Answer → List Outcome → Type 0
+Comes (OpenSpan lane a) memory f s (answer.Made id) os = AndOne (IsMade memory f s (metadata_of a) (vetoes f (metadata_of a) s.store lane.0)) (Noticed lane (OnNewSpan a id)) os
+Comes (OpenSpan lane a) memory f s answer.Dropped os = AndNothing (IsDropped memory f s lane (metadata_of a) (vetoes f (metadata_of a) s.store lane.0)) os
+Comes (OpenSpan lane a) memory f s (answer.Refused e) os =
+    AndNothing (IsUnknown memory f (metadata_of a) e ⊎ (IsMade memory f s (metadata_of a) (vetoes f (metadata_of a) s.store lane.0) × RefusesNew s lane (asked_parent a) e)) os
+Comes (SendEvent lane e) memory f s answer.Done os = AndOne (IsMade memory f s (event_metadata e) (vetoes_whole f e s.store lane)) (Noticed lane (OnEvent e)) os
+Comes (SendEvent lane e) memory f s answer.Dropped os = AndNothing (IsDropped memory f s lane (event_metadata e) (vetoes_whole f e s.store lane)) os
+Comes (SendEvent lane e) memory f s (answer.Refused error) os = AndNothing (IsUnknown memory f (event_metadata e) error) os
+Comes (Enter lane id) memory f s answer.Done os = AndOne ⊤ (Noticed lane (OnEnter id)) os
+Comes (Enter lane id) memory f s (answer.Refused e) os = AndNothing (RefusesEnter s id e) os
+Comes (Exit lane id) memory f s answer.Done os = Leaves lane id s os
+Comes (RecordValues lane id values) memory f s answer.Done os = AndOne ⊤ (Noticed lane (OnRecord id values)) os
+Comes (RecordValues lane id values) memory f s (answer.Refused e) os = AndNothing (RefusesUnlessOpen s id e) os
+Comes (Follow lane id other) memory f s answer.Done os = AndOne ⊤ (Noticed lane (OnFollows id other)) os
+Comes (Follow lane id other) memory f s (answer.Refused e) os = AndNothing (RefusesUnlessOpen s id e) os
+Comes (AddHandle lane id) memory f s answer.Done os = AndOne ⊤ (Quiet (HandleAdded id)) os
+Comes (AddHandle lane id) memory f s (answer.Refused e) os = AndNothing (RefusesClone s id e) os
+Comes (DropHandle lane id) memory f s (answer.Yes closes) os = DropsHandle lane id s closes os
+Comes (DropHandle lane id) memory f s (answer.Refused e) os = AndNothing (RefusesRelease s id e) os
+Comes (Probe lane m) memory f s (answer.Yes true) os = AndNothing (IsMade memory f s m (vetoes f m s.store lane.0)) os
+Comes (Probe lane m) memory f s (answer.Yes false) os = AndNothing (IsDropped memory f s lane m (vetoes f m s.store lane.0)) os
+Comes (Probe lane m) memory f s (answer.Refused e) os = AndNothing (IsUnknown memory f m e) os
+Comes (AskCurrent lane) memory f s (answer.Current o) os = AndNothing (IsCurrent s.store lane.0 (option_map number_of o)) os
+Comes call memory f s a os = ⊥
 
--- whether a stack wants these metadata, asked with a new pass, whatever form it has
-abbrev pub WantsMetadata : {S : Type 0} → (S → RegistryState) → (S → Form → Type 0) → Lane → Metadata → S → Bool → Type 0
-WantsMetadata registry has_form lane m x wanted = (f : Form) → has_form x f → wanted ≡ (asked f m (registry x).store lane.0 no_filter no_filter).0
+-- which callsites are kept after a call was answered so: of what is asked by metadata that callsite, too
+abbrev pub KeepsAfter : Call → Memory → Form → Answer → Memory → Type 0
+KeepsAfter (OpenSpan lane attrs) memory f a after = Learns memory f (metadata_of attrs) a after
+KeepsAfter (SendEvent lane e) memory f a after = Learns memory f (event_metadata e) a after
+KeepsAfter (Probe lane m) memory f a after = Learns memory f m a after
+KeepsAfter call memory f a after = after ≡ memory
+
+-- whether a stack wants these metadata, whatever form it has, where nothing is memory and it is asked with a new pass
+abbrev pub WantsMetadata : {S : Type 0} → (S → RegistryState) → (S → Form → Type 0) → Lane → Metadata → Memory → S → Bool → Type 0
+WantsMetadata registry has_form lane m (Some callsites) x wanted = ⊤
+WantsMetadata registry has_form lane m None x wanted = (f : Form) → has_form x f → wanted ≡ (asked f m (registry x).store lane.0 no_filter no_filter).0
 
 -- whether it wants this event: its metadata, and then itself
-abbrev pub WantsEvent : {S : Type 0} → (S → RegistryState) → (S → Form → Type 0) → Lane → Event → S → Bool → Type 0
-WantsEvent registry has_form lane e x wanted =
+abbrev pub WantsEvent : {S : Type 0} → (S → RegistryState) → (S → Form → Type 0) → Lane → Event → Memory → S → Bool → Type 0
+WantsEvent registry has_form lane e (Some callsites) x wanted = ⊤
+WantsEvent registry has_form lane e None x wanted =
     (f : Form) → has_form x f → let first = asked f (event_metadata e) (registry x).store lane.0 no_filter no_filter in wanted ≡ first.0 && (event_asked f e (registry x).store lane.0 no_filter first.1).0
 
 -- Below: what a call does to a registry where it isn't refused, whatever the stack answers. Hooks may write extensions after it.
@@ -107,6 +122,10 @@ WantsEvent registry has_form lane e x wanted =
 -- a span is opened that these attributes ask for, with some verdict
 abbrev pub OpensFor : Lane → Attributes → Id → RegistryState → RegistryState → Type 0
 OpensFor lane attrs id s t = (v : FilterMap) × Opens lane (record { metadata = metadata_of attrs; parent = asked_parent attrs; verdict = v }) id s t
+
+-- why a new span is refused: its interest isn't to be had, or the registry has no room or no such parent
+abbrev pub RefusesSpan : Memory → RegistryState → Lane → Attributes → TraceError → Type 0
+RefusesSpan memory s lane attrs e = RefusesInterest memory (metadata_of attrs) e ⊎ RefusesNew s lane (asked_parent attrs) e
 
 -- the span is open, and nothing changes
 abbrev pub FindsOpen : Id → RegistryState → RegistryState → Type 0

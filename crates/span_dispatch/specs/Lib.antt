@@ -1,3 +1,5 @@
+pub mod Admission
+pub mod Cache
 pub mod Call
 pub mod Fixed
 pub mod Outcome

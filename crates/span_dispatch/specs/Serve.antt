@@ -1,13 +1,18 @@
 -- How a dispatcher serves a call, and a list of requests.
-use Rattle.std.specs.Prelude.{◌≡◌, ℕ, List, [], ◌∷◌, ◌++◌, map, Option, Some, None, if◌then◌else◌, slice_get}
+use Rattle.std.specs.Prelude.{◌≡◌, ℕ, List, [], ◌∷◌, ◌++◌, map, Bool, Option, Some, None, Result, if◌then◌else◌, slice_get}
 use Rattle.std.specs.List.{FoldsTo}
 use Rattle.std.specs.Option.{option_and_then, option_map, option_map_or}
 use Rattle.span_core.specs.Event.{event_metadata, event_parent, event_values}
 use Rattle.span_core.specs.Span.{asked_parent, metadata_of, number_of, recorded_values, values_of}
+use Rattle.span_core.specs.declared.error.TraceError.{TraceError}
+use Rattle.span_core.specs.declared.metadata.Metadata.{Metadata}
+use Rattle.span_core.specs.declared.pass.Pass.{Pass}
 use Rattle.span_core.specs.declared.span.Id.{Id}
 use Rattle.span_core.specs.declared.span.Parent.TheVariants as parent
 use Rattle.span_core.specs.declared.span.Parent.{Parent}
-use Rattle.span_dispatch.specs.Call.{AddHandle, AskCurrent, Call, Comes, DropHandle, Enter, Exit, Follow, OpenSpan, Probe, RecordValues, SendEvent, closes_of}
+use Rattle.span_dispatch.specs.Admission.{IsAdmitted}
+use Rattle.span_dispatch.specs.Cache.{IsUpToDate, Memory, forgotten, kept_in}
+use Rattle.span_dispatch.specs.Call.{AddHandle, AskCurrent, Call, Comes, DropHandle, KeepsAfter, Enter, Exit, Follow, OpenSpan, Probe, RecordValues, SendEvent, closes_of}
 use Rattle.span_dispatch.specs.Outcome.{IsHonest, Made, Makes, Noticed, Outcome}
 use Rattle.span_dispatch.specs.declared.dispatch.Dispatch.{Dispatch}
 use Rattle.span_dispatch.specs.declared.request.Answer.TheVariants as answer
@@ -33,6 +38,22 @@ use Rattle.span_registry.specs.Store.{RegistryState, Store}
 -- the stack of a dispatcher
 abbrev pub stack_of : {S : Type 0} → Dispatch S → S
 stack_of d = d.stack
+
+-- the same with another stack
+abbrev pub with_stack : {S : Type 0} → Dispatch S → S → Dispatch S
+with_stack d x = record d { stack = x }
+
+-- the callsites whose interest it keeps; or none, where it never keeps anything
+abbrev pub kept_by : {S : Type 0} → Dispatch S → Memory
+kept_by d = kept_in d.cache
+
+-- what it keeps, if anything, is what its stack, of this form and on this many filters, would answer now
+abbrev pub KeepsUpToDate : {S : Type 0} → Form → ℕ → Dispatch S → Type 0
+KeepsUpToDate f filters d = IsUpToDate f filters d.cache
+
+-- the same dispatcher with nothing kept any more
+abbrev pub forgetful : {S : Type 0} → Dispatch S → Dispatch S
+forgetful d = record d { cache = forgotten d.cache }
 
 -- the registry takes a step, whatever the stack, and then hooks may write extensions
 abbrev pub TakesStep : {S : Type 0} → (S → RegistryState) → (RegistryState → RegistryState → Type 0) → Dispatch S → Dispatch S → Type 0
@@ -109,65 +130,81 @@ module _ {S : Type 0} (registry : S → RegistryState) (with_registry : S → Re
     pub honest : IsHonest registry with_registry has_form stepped f x
     pub settled : IsSettled (registry x).store.spans
 
-  -- the same by some form
-  abbrev pub IsReadySomehow : S → Type 0
-  IsReadySomehow x = (f : Form) × IsReady f x
+  -- the same of a dispatcher, which keeps what its stack would answer now
+  pub record IsReadyBy (f : Form) (d : Dispatch S) : Type 0 where
+    pub stack : IsReady f (stack_of d)
+    pub kept : KeepsUpToDate f (registry (stack_of d)).filters d
 
-  -- a call is answered so by a stack of this form, and this was made of it
-  pub record Serves (call : Call) (f : Form) (x : S) (a : Answer) (made : List Made) (y : S) : Type 0 where
-    pub comes : Comes call f (registry x) a (map outcome_of made)
+  -- a call is answered so by a stack of this form, where these callsites are kept; this was made of it, and then these are kept
+  pub record Serves (call : Call) (f : Form) (kept : Memory) (x : S) (a : Answer) (made : List Made) (after : Memory) (y : S) : Type 0 where
+    pub comes : Comes call kept f (registry x) a (map outcome_of made)
     pub goes : FoldsTo (Makes registry with_registry has_form stepped) x made y
+    pub keeps : KeepsAfter call kept f a after
 
-  -- an honest stack answers a call so
+  -- a dispatcher's call is answered so
+  abbrev pub ServesCall : Call → Form → Answer → Dispatch S → Dispatch S → Type 0
+  ServesCall call f a old new = (made : List Made) × Serves call f (kept_by old) (stack_of old) a made (kept_by new) (stack_of new)
+
+  -- what comes of asking an honest stack whether metadata are wanted, where what is kept is what it would answer now
+  abbrev pub Admits : Lane → Metadata → Dispatch S → Pass → Result Bool TraceError → Dispatch S → Type 0
+  Admits lane m old pass said new =
+      (f : Form) → IsHonest registry with_registry has_form stepped f (stack_of old) → KeepsUpToDate f (registry (stack_of old)).filters old
+      → IsAdmitted (kept_by old) f (registry (stack_of old)) lane m pass (kept_by new) said
+
+  -- an honest stack answers a call so, where what is kept is what it would answer now
   abbrev pub AnswersCall : Call → Answer → Dispatch S → Dispatch S → Type 0
-  AnswersCall call a old new = (f : Form) → IsHonest registry with_registry has_form stepped f (stack_of old) → (made : List Made) × Serves call f (stack_of old) a made (stack_of new)
+  AnswersCall call a old new = (f : Form) → IsHonest registry with_registry has_form stepped f (stack_of old) → KeepsUpToDate f (registry (stack_of old)).filters old → ServesCall call f a old new
 
-  -- an honest stack in which no span is closing answers a drop so
+  -- and so does a dispatcher that is ready answer a drop
   abbrev pub AnswersDrop : Call → Answer → Dispatch S → Dispatch S → Type 0
-  AnswersDrop call a old new = (f : Form) → IsReady f (stack_of old) → (made : List Made) × Serves call f (stack_of old) a made (stack_of new)
+  AnswersDrop call a old new = (f : Form) → IsReadyBy f old → ServesCall call f a old new
 
   -- ready by a form that keeps what this one had
-  abbrev pub IsReadyAfter : Form → S → Type 0
-  IsReadyAfter f y = (g : Form) × IsReady g y × Keeps f g
+  abbrev pub IsReadyAfter : Form → Dispatch S → Type 0
+  IsReadyAfter f d = (g : Form) × IsReadyBy g d × Keeps f g
+
+  -- ready by some form
+  abbrev pub IsReadySomehow : Dispatch S → Type 0
+  IsReadySomehow d = (f : Form) × IsReadyBy f d
 
   -- a dispatcher that was ready is ready again, by a form that keeps what the old one had
   abbrev pub StaysReady : Dispatch S → Dispatch S → Type 0
-  StaysReady old new = (f : Form) → IsReady f (stack_of old) → IsReadyAfter f (stack_of new)
+  StaysReady old new = (f : Form) → IsReadyBy f old → IsReadyAfter f new
 
   -- one request: what it asks for is served, or, where it names no span, nothing is asked and nothing changes
-  abbrev pub ServesAsked : Option Call → S → Answer → List Made → S → Type 0
-  ServesAsked None x a made y = (a ≡ answer.Dropped) × (made ≡ []) × (y ≡ x)
-  ServesAsked (Some call) x a made y = (f : Form) × IsReady f x × Serves call f x a made y
+  abbrev pub ServesAsked : Option Call → Memory → S → Answer → List Made → Memory → S → Type 0
+  ServesAsked None kept x a made after y = (a ≡ answer.Dropped) × (made ≡ []) × (after ≡ kept) × (y ≡ x)
+  ServesAsked (Some call) kept x a made after y = (f : Form) × IsReady f x × Serves call f kept x a made after y
 
   -- what becomes of a request behind these answers: what it asks for is served so
-  pub record ServesRequest (past : List Answer) (r : Request) (x : S) (a : Answer) (made : List Made) (y : S) : Type 0 where
+  pub record ServesRequest (past : List Answer) (r : Request) (kept : Memory) (x : S) (a : Answer) (made : List Made) (after : Memory) (y : S) : Type 0 where
     pub call : Option Call
     pub asks : AsksFor past r call
-    pub served : ServesAsked call x a made y
+    pub served : ServesAsked call kept x a made after y
 
   -- a list of requests, one after another, behind these answers: one answer for each, and a list of what was made of it
-  abbrev pub Run : List Answer → List Request → List Answer → List (List Made) → S → S → Type 0
-  Run past [] [] [] x y = y ≡ x
-  Run past (r ∷ rs) (a ∷ answers) (ms ∷ made) x y = (z : S) × ServesRequest past r x a ms z × Run (past ++ (a ∷ [])) rs answers made z y
-  Run past rs answers made x y = ⊥
+  abbrev pub Run : List Answer → List Request → List Answer → List (List Made) → Memory → S → Memory → S → Type 0
+  Run past [] [] [] kept x after y = (after ≡ kept) × (y ≡ x)
+  Run past (r ∷ rs) (a ∷ answers) (ms ∷ made) kept x after y = (k : Memory) × (z : S) × ServesRequest past r kept x a ms k z × Run (past ++ (a ∷ [])) rs answers made k z after y
+  Run past rs answers made kept x after y = ⊥
 
   -- the requests are served so: there is one list of what was made of each; over all of it no span closes twice, and the leaf at each place went through what it sees of it
-  pub record Served (hears : HearSteps S) (requests : List Request) (answers : List Answer) (x y : S) : Type 0 where
+  pub record Served (hears : HearSteps S) (requests : List Request) (answers : List Answer) (old new : Dispatch S) : Type 0 where
     pub made : List (List Made)
-    pub run : Run [] requests answers made x y
+    pub run : Run [] requests answers made (kept_by old) (stack_of old) (kept_by new) (stack_of new)
     pub once : StandOnce (closed_in (flat made))
-    pub each : (place : Place) → hears x place (seen place (flat made)) y
+    pub each : (place : Place) → hears (stack_of old) place (seen place (flat made)) (stack_of new)
 
   -- a dispatcher that is ready serves the next request so
   abbrev pub ServesNext : List Answer → Request → Answer → Dispatch S → Dispatch S → Type 0
-  ServesNext past r a old new = IsReadySomehow (stack_of old) → (made : List Made) × ServesRequest past r (stack_of old) a made (stack_of new)
+  ServesNext past r a old new = IsReadySomehow old → (made : List Made) × ServesRequest past r (kept_by old) (stack_of old) a made (kept_by new) (stack_of new)
 
   -- a dispatcher that is ready serves a list so
   abbrev pub ServesList : HearSteps S → List Request → List Answer → Dispatch S → Dispatch S → Type 0
-  ServesList hears requests answers old new = IsReadySomehow (stack_of old) → Served hears requests answers (stack_of old) (stack_of new)
+  ServesList hears requests answers old new = IsReadySomehow old → Served hears requests answers old new
 
   -- from a stack in which a span is closing: it is taken out, and so is each parent that closes by that; before each is, a notice of its close is given
   pub record ClosesEach (lane : Lane) (id : Id) (x y : S) : Type 0 where
     pub closed : List ℕ
     pub removal : Removal SameButExtensions (registry x) id closed None (registry y)
-    pub notices : (f : Form) → IsHonest registry with_registry has_form stepped f x → (made : List Made) × FoldsTo (Makes registry with_registry has_form stepped) x made y × (map outcome_of made ≡ closes_of lane closed) × ((g : Form) × IsHonest registry with_registry has_form stepped g y × Keeps f g)
+    pub notices : (f : Form) → IsHonest registry with_registry has_form stepped f x → (made : List Made) × FoldsTo (Makes registry with_registry has_form stepped) x made y × (map outcome_of made ≡ closes_of lane closed) × ((g : Form) × IsHonest registry with_registry has_form stepped g y × Keeps f g × ((registry y).filters ≡ (registry x).filters))

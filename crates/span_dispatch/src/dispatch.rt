@@ -1,17 +1,25 @@
-//! A dispatcher that asks everything: at each new span, event and probe it asks the stack anew, with a new pass.
-ghost use Rattle.std.specs.Prelude.{◌≡◌, None, Ok, false, IfErr, IfOk, MatchOption, OnErr, OnOk, is_some};
-ghost use Rattle.span_core.specs.Span.{asked_parent, metadata_of, number_of};
-ghost use Rattle.span_dispatch.specs.Call.{AddHandle, AskCurrent, DropHandle, DropsSpan, Enter, Exit, FindsOpen, Follow, OpensFor, OpenSpan, Probe, RecordValues, RefusesUnlessOpen, SendEvent, TakesHandle, WantsEvent, WantsMetadata, current_answer, done_answer, event_answer, span_answer, yes_answer};
+//! A dispatcher: it takes requests, asks the layers of a stack, and notifies them.
+ghost use Rattle.std.specs.Borrow.{Lends, sem};
+ghost use Rattle.std.specs.Prelude.{◌≡◌, ℕ, None, Ok, Some, false, IfErr, IfOk, MatchOption, OnErr, OnOk, is_some};
+ghost use Rattle.span_core.specs.Event.{event_metadata};
+ghost use Rattle.span_core.specs.Filters.{IsEmpty};
+ghost use Rattle.span_core.specs.Span.{metadata_of, number_of};
+ghost use Rattle.span_dispatch.specs.Admission.{hint_kept};
+ghost use Rattle.span_dispatch.specs.Cache.{RefusesInterest, no_callsite};
+ghost use Rattle.span_dispatch.specs.Call.{AddHandle, AskCurrent, DropHandle, DropsSpan, Enter, Exit, FindsOpen, Follow, OpensFor, OpenSpan, Probe, RecordValues, RefusesSpan, RefusesUnlessOpen, SendEvent, TakesHandle, WantsEvent, WantsMetadata, current_answer, done_answer, event_answer, span_answer, yes_answer};
+ghost use Rattle.span_dispatch.specs.contracts.dispatch.Dispatch.{the_row};
 ghost use Rattle.span_dispatch.specs.declared.request.Answer.TheVariants.{Done};
-ghost use Rattle.span_dispatch.specs.Serve.{AnswersCall, AnswersDrop, ClosesEach, IsReady, IsReadyAfter, StaysReady, TakesStep, stack_of};
-ghost use Rattle.span_registry.specs.Step.{Clones, Enters, Exits, RefusesClone, RefusesEnter, RefusesNew, RefusesRelease, ShowsCurrent};
+ghost use Rattle.span_dispatch.specs.Serve.{Admits, AnswersCall, AnswersDrop, ClosesEach, IsReady, IsReadyAfter, KeepsUpToDate, StaysReady, TakesStep, forgetful, kept_by, stack_of, with_stack};
+ghost use Rattle.span_registry.specs.Step.{Clones, Enters, Exits, RefusesClone, RefusesEnter, RefusesRelease, ShowsCurrent};
 ghost use Rattle.span_registry.specs.Closes.{IsSettled};
 ghost use Rattle.span_registry.specs.Form.{Form};
-ghost use Rattle.span_registry.specs.Hooks.{Stays};
+ghost use Rattle.span_registry.specs.Hooks.{AnswersEnabled, Stays};
+ghost use Rattle.span_registry.specs.Question.{refusals};
 ghost use Rattle.span_registry.specs.Store.{IsClosing};
 
+use crate::cache::Cache;
 use span_core::{
-    Attributes, Current, Event, Id, Lane, LevelFilter, Metadata, Pass, Record, TraceError,
+    Attributes, Current, Event, Id, Interest, Lane, LevelFilter, Metadata, Pass, Record, TraceError,
 };
 use span_registry::{Released, Subscriber};
 use std::alloc::Global;
@@ -19,26 +27,52 @@ use std::alloc::Global;
 /// A stack behind one door: it takes requests, asks the stack's layers, and notifies them.
 ///
 /// Stands for `tracing_core::Dispatch`. What `tracing_subscriber` keeps of filters' answers in a thread local is a `Pass` here,
-/// which ends with its request.
+/// which ends with its request. What it keeps of callsites is kept here, for each dispatcher by itself.
 #[derive(Debug, Drop)]
 pub struct Dispatch<S> {
     stack: S,
+    alloc: Global,
+    cache: Cache,
 }
 
 impl<S: Subscriber> Dispatch<S> {
-    /// Puts all layers of the stack in use, once each.
-    ///
-    /// Own to this port: it has no hint and keeps no interest, and so takes no memory.
-    pub fn fresh(_alloc: Global, stack: S) -> Dispatch<S>
+    /// Puts all layers of the stack in use, once each. The dispatcher goes by the stack's hint, and keeps its interest in each
+    /// callsite that it is asked of.
+    pub fn new(alloc: Global, stack: S) -> Dispatch<S>
         requires { S.usable stack }
         ensures usable { S.usable (stack_of result) }
         ensures registered { S.registered stack (stack_of result) }
         ensures registry { S.registry (stack_of result) ≡ S.registry stack }
-        ensures ready { (f : Form) → IsReady S.registry S.with_registry S.has_form S.stepped f stack → IsReadyAfter S.registry S.with_registry S.has_form S.stepped f (stack_of result) }
+        ensures kept { kept_by result ≡ Some no_callsite }
+        ensures ready { (f : Form) → IsReady S.registry S.with_registry S.has_form S.stepped f stack → IsReadyAfter S.registry S.with_registry S.has_form S.stepped f result }
     {
         let mut stack = stack;
         stack.on_register_dispatch();
-        Dispatch { stack }
+        Dispatch {
+            stack,
+            alloc,
+            cache: Cache::Empty,
+        }
+    }
+
+    /// Puts all layers of the stack in use, once each. The dispatcher keeps nothing, and asks everything at each request.
+    ///
+    /// Own to this port.
+    pub fn fresh(alloc: Global, stack: S) -> Dispatch<S>
+        requires { S.usable stack }
+        ensures usable { S.usable (stack_of result) }
+        ensures registered { S.registered stack (stack_of result) }
+        ensures registry { S.registry (stack_of result) ≡ S.registry stack }
+        ensures kept { kept_by result ≡ None }
+        ensures ready { (f : Form) → IsReady S.registry S.with_registry S.has_form S.stepped f stack → IsReadyAfter S.registry S.with_registry S.has_form S.stepped f result }
+    {
+        let mut stack = stack;
+        stack.on_register_dispatch();
+        Dispatch {
+            stack,
+            alloc,
+            cache: Cache::Off,
+        }
     }
 
     /// The stack, as it now is.
@@ -48,69 +82,114 @@ impl<S: Subscriber> Dispatch<S> {
         &self.stack
     }
 
-    /// The highest level that may be wanted, if the dispatcher keeps one: this one keeps none.
-    pub fn max_level_hint(&self) -> Option<LevelFilter>
-        ensures { result ≡ None }
+    /// The stack, to be changed. Whatever was kept of its answers is forgotten.
+    pub fn stack_mut(&mut self) -> &mut S
+        ensures* writes_back { sem 𝓛 (Lends (the_row S.row) S.row self.entry result (with_stack (forgetful self.old))) }
+        ensures value { result.now ≡ stack_of self.old }
     {
-        None
+        self.cache.forget();
+        &mut self.stack
     }
 
-    /// Whether a span or an event with this metadata would be made, as far as metadata decide: no layer vetoes it. Never
-    /// refused.
+    /// The highest level that may be wanted, as the stack's hint says. None under a dispatcher that keeps nothing.
+    pub fn max_level_hint(&self) -> Option<LevelFilter>
+        requires { S.usable (stack_of self.now) }
+        ensures none { kept_by self.now ≡ None → result ≡ None }
+        ensures hint { (f : Form) (n : ℕ) → S.has_form (stack_of self.now) f → KeepsUpToDate f n self.now → result ≡ hint_kept (kept_by self.now) f }
+    {
+        match &self.cache {
+            Cache::Off => None,
+            Cache::Empty => self.stack.max_level_hint(),
+            Cache::Filled(known) => known.hint(),
+        }
+    }
+
+    /// Whether a span or an event with this metadata is wanted, as far as metadata decide. The filters' answers go into the
+    /// pass, which is a new one.
+    fn admits(&mut self, lane: Lane, meta: &Metadata, pass: &mut Pass) -> Result<bool, TraceError>
+        requires usable { S.usable (stack_of self.old) }
+        requires fresh { IsEmpty (refusals pass.old) }
+        ensures stack { stack_of self.new ≡ stack_of self.old }
+        ensures admitted { Admits S.registry S.with_registry S.has_form S.stepped lane meta.now self.old pass.new result self.new }
+        ensures kept { (f : Form) → S.has_form (stack_of self.old) f → KeepsUpToDate f (S.registry (stack_of self.old)).filters self.old → KeepsUpToDate f (S.registry (stack_of self.old)).filters self.new }
+        ensures nothing_kept { kept_by self.old ≡ None → IfOk result (λ said. AnswersEnabled S.registry S.has_form (stack_of self.old) lane meta.now pass.old said pass.new) }
+        ensures refused { IfErr result (RefusesInterest (kept_by self.old) meta.now) }
+    {
+        match self.cache.interest(self.alloc, &self.stack, meta) {
+            Err(error) => Err(error),
+            Ok(Interest::Never) => Ok(false),
+            Ok(Interest::Sometimes) => Ok(self.stack.enabled(lane, meta, pass)),
+            Ok(Interest::Always) => Ok(true),
+        }
+    }
+
+    /// Whether a span or an event with this metadata would be made, as far as metadata decide: neither hint nor interest rules it
+    /// out, and no layer vetoes it.
+    ///
+    /// Refused where its callsite was kept with other metadata (`CallsiteMismatch`), else for want of memory; never where nothing
+    /// is kept.
     pub fn enabled(&mut self, lane: Lane, meta: &Metadata) -> Result<bool, TraceError>
         requires { S.usable (stack_of self.old) }
-        ensures same { self.new ≡ self.old }
-        ensures accepted { IfErr result (λ e. ⊥) }
-        ensures asked { IfOk result (WantsMetadata S.registry S.has_form lane meta.now (stack_of self.old)) }
+        ensures stack { stack_of self.new ≡ stack_of self.old }
+        ensures ready { StaysReady S.registry S.with_registry S.has_form S.stepped self.old self.new }
+        ensures asked { IfOk result (WantsMetadata S.registry S.has_form lane meta.now (kept_by self.old) (stack_of self.old)) }
         ensures served { AnswersCall S.registry S.with_registry S.has_form S.stepped (Probe lane meta.now) (yes_answer result) self.old self.new }
+        ensures refused { IfErr result (RefusesInterest (kept_by self.old) meta.now) }
     {
         let mut pass = Pass::new();
-        Ok(self.stack.enabled(lane, meta, &mut pass))
+        self.admits(lane, meta, &mut pass)
     }
 
-    /// Opens a span with one handle and notifies of it, unless a layer vetoes it: then it answers none, and changes nothing.
+    /// Opens a span with one handle and notifies of it, unless hint or interest rule it out or a layer vetoes it: then it answers
+    /// none, and the stack stays as it is.
     ///
-    /// Refused as `Subscriber::new_span` is.
+    /// Refused as `enabled` is, else as `Subscriber::new_span` is.
     pub fn new_span(&mut self, lane: Lane, attrs: &Attributes<'_>) -> Result<Option<Id>, TraceError>
         requires { S.usable (stack_of self.old) }
         ensures usable { S.usable (stack_of self.new) }
         ensures ready { StaysReady S.registry S.with_registry S.has_form S.stepped self.old self.new }
         ensures served { AnswersCall S.registry S.with_registry S.has_form S.stepped (OpenSpan lane attrs.now) (span_answer result) self.old self.new }
-        ensures asked { IfOk result (λ o. WantsMetadata S.registry S.has_form lane (metadata_of attrs.now) (stack_of self.old) (is_some o)) }
-        ensures store { IfOk result (λ o. MatchOption o (self.new ≡ self.old) (λ id. TakesStep S.registry (OpensFor lane attrs.now id) self.old self.new)) }
-        ensures refused { IfErr result (RefusesNew (S.registry (stack_of self.old)) lane (asked_parent attrs.now)) }
-        ensures unchanged { OnErr result (self.new ≡ self.old) }
+        ensures asked { IfOk result (λ o. WantsMetadata S.registry S.has_form lane (metadata_of attrs.now) (kept_by self.old) (stack_of self.old) (is_some o)) }
+        ensures store { IfOk result (λ o. MatchOption o (stack_of self.new ≡ stack_of self.old) (λ id. TakesStep S.registry (OpensFor lane attrs.now id) self.old self.new)) }
+        ensures refused { IfErr result (RefusesSpan (kept_by self.old) (S.registry (stack_of self.old)) lane attrs.now) }
+        ensures unchanged { OnErr result (stack_of self.new ≡ stack_of self.old) }
     {
         let mut pass = Pass::new();
-        if !self.stack.enabled(lane, &attrs.metadata(), &mut pass) {
-            return Ok(None);
-        }
-        match self.stack.new_span(lane, attrs, &pass) {
-            Ok(id) => Ok(Some(id)),
+        match self.admits(lane, &attrs.metadata(), &mut pass) {
             Err(error) => Err(error),
+            Ok(false) => Ok(None),
+            Ok(true) => match self.stack.new_span(lane, attrs, &pass) {
+                Ok(id) => Ok(Some(id)),
+                Err(error) => Err(error),
+            },
         }
     }
 
-    /// Notifies of an event, unless a layer vetoes it: then it answers false. Never refused.
+    /// Notifies of an event, unless hint or interest rule it out or a layer vetoes it: then it answers false. Refused as `enabled`
+    /// is.
     pub fn event(&mut self, lane: Lane, event: &Event<'_>) -> Result<bool, TraceError>
         requires { S.usable (stack_of self.old) }
         ensures usable { S.usable (stack_of self.new) }
         ensures ready { StaysReady S.registry S.with_registry S.has_form S.stepped self.old self.new }
         ensures served { AnswersCall S.registry S.with_registry S.has_form S.stepped (SendEvent lane event.now) (event_answer result) self.old self.new }
         ensures store { TakesStep S.registry Stays self.old self.new }
-        ensures dropped { result ≡ Ok false → self.new ≡ self.old }
-        ensures asked { IfOk result (WantsEvent S.registry S.has_form lane event.now (stack_of self.old)) }
-        ensures accepted { IfErr result (λ e. ⊥) }
+        ensures dropped { result ≡ Ok false → stack_of self.new ≡ stack_of self.old }
+        ensures asked { IfOk result (WantsEvent S.registry S.has_form lane event.now (kept_by self.old) (stack_of self.old)) }
+        ensures refused { IfErr result (RefusesInterest (kept_by self.old) (event_metadata event.now)) }
+        ensures unchanged { OnErr result (stack_of self.new ≡ stack_of self.old) }
     {
         let mut pass = Pass::new();
-        if !self.stack.enabled(lane, &event.metadata(), &mut pass) {
-            return Ok(false);
+        match self.admits(lane, &event.metadata(), &mut pass) {
+            Err(error) => Err(error),
+            Ok(false) => Ok(false),
+            Ok(true) => {
+                if !self.stack.event_enabled(lane, event, &mut pass) {
+                    return Ok(false);
+                }
+                self.stack.event(lane, event, &pass);
+                Ok(true)
+            }
         }
-        if !self.stack.event_enabled(lane, event, &mut pass) {
-            return Ok(false);
-        }
-        self.stack.event(lane, event, &pass);
-        Ok(true)
     }
 
     /// Enters a span, and notifies of that. Refused where it isn't open (`UnknownSpan`), else for want of memory.

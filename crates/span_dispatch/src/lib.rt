@@ -1,6 +1,7 @@
 //! A dispatcher: it takes requests, asks the layers of a stack, and notifies them.
 #![tactic(auto)]
 
+mod cache;
 mod dispatch;
 #[cfg(test)]
 mod layer_tests;

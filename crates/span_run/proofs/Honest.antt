@@ -25,7 +25,7 @@ use Rattle.span_run.specs.declared.mute_veto.MuteVeto.{MuteVeto}
 use Rattle.span_run.specs.declared.stack_name.StackName.TheVariants.{Absent, Nested, Pair, Plain, Veto}
 
 open_honest : AreHonest open_answers
-open_honest = record { always = λ m v e. refl; never = λ m v e. absurd (cc); above = λ m v e. absurd (cc) }
+open_honest = record { always = λ m v e. refl; never = λ m v e. absurd (cc); above = λ m v e. absurd (cc); alike = λ m k e. refl }
 
 quiet : RefusesNothing open_answers
 quiet = record { enabled = λ m v. refl; event = λ e v. refl }

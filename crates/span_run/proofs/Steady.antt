@@ -8,7 +8,9 @@ use Rattle.span_core.specs.declared.filter.FilterId.{FilterId}
 use Rattle.span_dispatch.proofs.Fixed.{runs_by}
 use Rattle.span_dispatch.specs.Fixed.{RunsBy}
 use Rattle.span_dispatch.specs.Recorder.{Kept, Records, new_recorder, recorder_steps}
-use Rattle.span_dispatch.specs.Serve.{IsReadySomehow, Served}
+use Rattle.span_dispatch.specs.Cache.{no_callsite}
+use Rattle.span_dispatch.specs.Serve.{IsReady, Served, kept_by, stack_of}
+use Rattle.span_dispatch.specs.declared.dispatch.Dispatch.{Dispatch}
 use Rattle.span_dispatch.specs.declared.notice.Notice.{Notice as KeptNotice}
 use Rattle.span_dispatch.specs.declared.request.Answer.{Answer}
 use Rattle.span_dispatch.specs.declared.request.Request.{Request}
@@ -193,7 +195,7 @@ module _ {L I : Type 0} {with_registry : I → RegistryState → I} {outer_form 
 
 module _ {S : Type 0} {with_registry : S → RegistryState → S} {has_form : S → Form → Type 0} {stepped : StackSteps S} {f : Form} {Stays : S → Type 0} (steady : IsSteadyStack with_registry has_form stepped f Stays) (registry : S → RegistryState) where
   -- it is ready on the first registry, if its form is honest there
-  pub ready_at_first : (stack : StackName) (x : S) → Stays x → registry x ≡ start_of stack → IsHonestStack f (start_of stack).filters → IsReadySomehow registry with_registry has_form stepped x
+  pub ready_at_first : (stack : StackName) (x : S) → Stays x → registry x ≡ start_of stack → IsHonestStack f (start_of stack).filters → (g : Form) × IsReady registry with_registry has_form stepped g x
   ready_at_first stack x stays first honest = (
     f,
     record {
@@ -202,11 +204,13 @@ module _ {S : Type 0} {with_registry : S → RegistryState → S} {has_form : S 
     },
   )
 
-  -- what it served is a run of its form
-  pub run_of : {hears : HearSteps S} {requests : List Request} {answers : List Answer} (x y : S) (s : RegistryState) → Stays x → registry x ≡ s → (h : Served registry with_registry has_form stepped hears requests answers x y) → RunsBy f requests answers h.made s (registry y)
-  run_of {hears} {requests} {answers} x y s stays first h =
-      subst (λ r. RunsBy f requests answers h.made r (registry y)) first
-      (runs_by registry with_registry has_form stepped f Stays steady.known steady.goes steady.aside [] requests answers h.made x y stays h.run)
+  -- what it served, with nothing kept at first, is a run of its form
+  pub run_of : {hears : HearSteps S} {requests : List Request} {answers : List Answer} (old new : Dispatch S) (s : RegistryState) → Stays (stack_of old) → registry (stack_of old) ≡ s → kept_by old ≡ Some no_callsite
+      → (h : Served registry with_registry has_form stepped hears requests answers old new) → RunsBy f requests answers h.made (Some no_callsite) s (kept_by new) (registry (stack_of new))
+  run_of {hears} {requests} {answers} old new s stays first kept h =
+      subst (λ k. RunsBy f requests answers h.made k s (kept_by new) (registry (stack_of new))) kept
+      (subst (λ r. RunsBy f requests answers h.made (kept_by old) r (kept_by new) (registry (stack_of new))) first
+      (runs_by registry with_registry has_form stepped f Stays steady.known steady.goes steady.aside [] requests answers h.made (kept_by old) (stack_of old) (kept_by new) (stack_of new) stays h.run))
 
 -- a new recorder that hasn't failed keeps all that it went through
 pub all_kept : (old new : Kept) (due : List KeptNotice) → Records old new due → old ≡ new_recorder → new.failed ≡ false → new.notices ≡ due

@@ -2,10 +2,12 @@
 use Rattle.std.specs.Prelude.{◌≡◌, ℕ, true, List, [], ◌∷◌, Option, None, Some, map}
 use Rattle.span_core.specs.declared.level.LevelFilter.{LevelFilter}
 use Rattle.span_core.specs.declared.level.TheConstants.LevelFilter.{INFO, TRACE, WARN}
+use Rattle.span_dispatch.specs.Cache.{Memory, no_callsite}
 use Rattle.span_dispatch.specs.Fixed.{RunsBy, kept_at}
 use Rattle.span_dispatch.specs.Outcome.{Made}
 use Rattle.span_dispatch.specs.Recorder.{Kept, new_recorder}
-use Rattle.span_dispatch.specs.Serve.{IsReadySomehow, Served}
+use Rattle.span_dispatch.specs.Serve.{IsReady, Served, kept_by, stack_of}
+use Rattle.span_dispatch.specs.declared.dispatch.Dispatch.{Dispatch}
 use Rattle.span_dispatch.specs.declared.notice.Notice.{Notice}
 use Rattle.span_dispatch.specs.declared.request.Answer.{Answer}
 use Rattle.span_dispatch.specs.declared.request.Request.{Request}
@@ -58,10 +60,10 @@ filters_of AbsentStack = 0
 abbrev pub start_of : StackName → RegistryState
 start_of stack = record (new_registry MAX) { filters = filters_of stack }
 
--- the stack answers these requests so, from its first registry on, and its recorders, innermost first, keep these notices
+-- the stack answers these requests so, from its first registry on and with nothing kept at first, and its recorders, innermost first, keep these notices
 abbrev pub Serves : StackName → List Request → List Answer → List (List Notice) → Type 0
 Serves stack requests answers kept =
-    (made : List (List Made)) × (after : RegistryState) × RunsBy (form_of stack) requests answers made (start_of stack) after × (kept ≡ map (kept_at made) (places_of stack))
+    (made : List (List Made)) × (memory : Memory) × (after : RegistryState) × RunsBy (form_of stack) requests answers made (Some no_callsite) (start_of stack) memory after × (kept ≡ map (kept_at made) (places_of stack))
 
 -- Below: the stacks themselves, before the first request.
 
@@ -106,9 +108,10 @@ pub record BeginsAbsent (x : Layered Kept (Layered (Option Kept) RegistryState))
   pub absent : outer_of (inner_of x) ≡ None
   pub registry : inner_of (inner_of x) ≡ start_of AbsentStack
 
--- a stack was put in use, and then, if it was ready, it served these requests so
-pub record ServesInUse {S : Type 0} (registry : S → RegistryState) (with_registry : S → RegistryState → S) (has_form : S → Form → Type 0) (stepped : StackSteps S) (hears : HearSteps S) (registered : S → S → Type 0) (requests : List Request) (answers : List Answer) (x y : S) : Type 0 where
-  pub begun : S
-  pub in_use : registered x begun
-  pub same : registry begun ≡ registry x
-  pub served : IsReadySomehow registry with_registry has_form stepped x → Served registry with_registry has_form stepped hears requests answers begun y
+-- a stack was put in use, with nothing kept yet, and then, if it was ready, it served these requests so
+pub record ServesInUse {S : Type 0} (registry : S → RegistryState) (with_registry : S → RegistryState → S) (has_form : S → Form → Type 0) (stepped : StackSteps S) (hears : HearSteps S) (registered : S → S → Type 0) (requests : List Request) (answers : List Answer) (x : S) (d : Dispatch S) : Type 0 where
+  pub begun : Dispatch S
+  pub in_use : registered x (stack_of begun)
+  pub same : registry (stack_of begun) ≡ registry x
+  pub kept : kept_by begun ≡ Some no_callsite
+  pub served : (f : Form) × IsReady registry with_registry has_form stepped f x → Served registry with_registry has_form stepped hears requests answers begun d

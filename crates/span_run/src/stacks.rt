@@ -1,6 +1,5 @@
 //! The stacks that scripts are served by.
 ghost use Rattle.std.specs.Prelude.{◌≡◌, ◌∷◌, [], codes, string_bytes, IfErr, IfOk, false};
-ghost use Rattle.span_dispatch.specs.Serve.{stack_of as stack_in};
 ghost use Rattle.span_run.specs.Program.{Gives, IsPrinted};
 ghost use Rattle.span_run.specs.Script.{lines_of, stack_of};
 ghost use Rattle.span_run.specs.Stacks.{BeginsAbsent, BeginsNested, BeginsPair, BeginsPlain, BeginsVeto, BeginsWarned, ServesInUse};
@@ -130,10 +129,10 @@ fn serve<S: Subscriber + Drop>(
     requests: &[Request<'_>],
 ) -> Result<(Vec<Answer>, Dispatch<S>), RunFault>
     requires { S.usable stack }
-    ensures served { IfOk result (λ both. ServesInUse S.registry S.with_registry S.has_form S.stepped S.hears S.registered requests.now both.0.items stack (stack_in both.1)) }
+    ensures served { IfOk result (λ both. ServesInUse S.registry S.with_registry S.has_form S.stepped S.hears S.registered requests.now both.0.items stack both.1) }
     ensures fault { IfErr result (λ fault. fault ≡ RunFault.Memory) }
 {
-    let mut dispatch = Dispatch::fresh(alloc, stack);
+    let mut dispatch = Dispatch::new(alloc, stack);
     match dispatch.serve(alloc, requests) {
         Ok(answers) => Ok((answers, dispatch)),
         Err(_) => Err(RunFault::Memory), // It is refused for nothing else.

@@ -17,11 +17,12 @@ use Rattle.span_core.specs.declared.metadata.Metadata.{Metadata}
 use Rattle.span_core.specs.declared.span.Attributes.{Attributes}
 use Rattle.span_core.specs.declared.span.Id.{Id}
 use Rattle.span_core.specs.declared.span.Lane.{Lane}
-use Rattle.span_dispatch.proofs.CallerLemmas.{event_served, next_served, none_served, seen_append, span_served}
+use Rattle.span_dispatch.proofs.CallerLemmas.{event_served, known_unkept, next_served, none_served, seen_append, span_served, unkept_still, vetoed_unkept}
 use Rattle.span_dispatch.specs.Call.{vetoes_whole}
 use Rattle.span_dispatch.specs.Outcome.{GoesOn, Made, Makes, Noticed, Outcome, Quiet}
 use Rattle.span_dispatch.specs.Recorder.{Kept, Records, kept_notice, new_recorder, recorder_hears, recorder_steps}
-use Rattle.span_dispatch.specs.Serve.{IsReadySomehow, Run, Served, ServesRequest, flat, passed, seen, stack_of}
+use Rattle.span_dispatch.specs.Cache.{Memory}
+use Rattle.span_dispatch.specs.Serve.{IsReady, Run, Served, ServesRequest, flat, kept_by, passed, seen, stack_of}
 use Rattle.span_dispatch.specs.declared.dispatch.Dispatch.{Dispatch}
 use Rattle.span_dispatch.specs.declared.notice.Notice.{Notice as KeptNotice}
 use Rattle.span_dispatch.specs.declared.request.Answer.TheVariants as answer
@@ -171,8 +172,8 @@ kept_sent level lane m x u e one z same is made =
       under = goes_under level one.form one.outcome x z u made.honest.has made.goes;
     }
 
-abbrev ServesOne : List Answer → Request → Recorded → Answer → List Made → Recorded → Type 0
-ServesOne = ServesRequest inner_of with_inner HasForm stack_steps
+abbrev ServesOne : List Answer → Request → Recorded → Answer → List Made → Memory → Recorded → Type 0
+ServesOne past r x a made after y = ServesRequest inner_of with_inner HasForm stack_steps past r None x a made after y
 
 -- nobody in this stack vetoes
 never_vetoed : (level : LevelFilter) (x : Recorded) (f : Form) (m : Metadata) (lane : Lane) → IsUnder level (outer_of x) → HasForm x f → vetoes f m (inner_of x).store lane.0 ≡ true → ⊥
@@ -185,18 +186,21 @@ never_vetoed_whole level x f e lane u has h =
     let form = formed level x f u has in
     false≢true (subst (λ g. vetoes_whole g e (inner_of x).store lane ≡ true) form.1 h)
 
-keeps_span : (level : LevelFilter) (past : List Answer) (lane : Lane) (m : Metadata) (p : WhichParent) (values : _) (x : Recorded) (a : Answer) (made : List Made) (y : Recorded) → IsUnder level (outer_of x) → ServesOne past (request.NewSpan lane m p values) x a made y
-    → IsMadeOrRefused a × Keeps level (kept_span level lane m a) made y
-keeps_span level past lane m p values x a made y u h =
-    span_served inner_of with_inner HasForm stack_steps past lane m p values x a made y (λ b ms z. IsMadeOrRefused b × Keeps level (kept_span level lane m b) ms z)
-    (λ id attrs one z asks is made. (tt, kept_new level lane m x u id attrs one z asks.1 is made))
-    (λ attrs f asks ready vetoed. absurd (never_vetoed level x f (metadata_of attrs) lane u ready.honest.has vetoed))
-    (λ attrs e asks refused. (tt, record { keeps = refl; under = u })) h
+keeps_span : (level : LevelFilter) (past : List Answer) (lane : Lane) (m : Metadata) (p : WhichParent) (values : _) (x : Recorded) (a : Answer) (made : List Made) (after : Memory) (y : Recorded) → IsUnder level (outer_of x)
+    → ServesOne past (request.NewSpan lane m p values) x a made after y → IsMadeOrRefused a × Keeps level (kept_span level lane m a) made y × (after ≡ None)
+keeps_span level past lane m p values x a made after y u h =
+    span_served inner_of with_inner HasForm stack_steps past lane m p values None x a made after y (λ b ms k z. IsMadeOrRefused b × Keeps level (kept_span level lane m b) ms z × (k ≡ None))
+    (λ id attrs f one k z asks keeps is made. (tt, kept_new level lane m x u id attrs one z asks.1 is made, keeps))
+    (λ attrs f k asks ready dropped keeps. absurd (never_vetoed level x f (metadata_of attrs) lane u ready.honest.has (vetoed_unkept f (inner_of x) lane (metadata_of attrs) _ dropped)))
+    (λ attrs e f k asks refused keeps. (tt, record { keeps = refl; under = u }, unkept_still f (metadata_of attrs) e k keeps)) h
 
-keeps_event : (level : LevelFilter) (past : List Answer) (lane : Lane) (m : Metadata) (p : WhichParent) (values : _) (x : Recorded) (a : Answer) (made : List Made) (y : Recorded) → IsUnder level (outer_of x) → ServesOne past (request.Event lane m p values) x a made y → (a ≡ answer.Done) × Keeps level (kept_event level lane m) made y
-keeps_event level past lane m p values x a made y u h =
-    event_served inner_of with_inner HasForm stack_steps past lane m p values x a made y (λ b ms z. (b ≡ answer.Done) × Keeps level (kept_event level lane m) ms z)
-    (λ e one z asks is made. (refl, kept_sent level lane m x u e one z asks.1 is made)) (λ e f asks ready vetoed. absurd (never_vetoed_whole level x f e lane u ready.honest.has vetoed)) h
+keeps_event : (level : LevelFilter) (past : List Answer) (lane : Lane) (m : Metadata) (p : WhichParent) (values : _) (x : Recorded) (a : Answer) (made : List Made) (after : Memory) (y : Recorded) → IsUnder level (outer_of x)
+    → ServesOne past (request.Event lane m p values) x a made after y → (a ≡ answer.Done) × Keeps level (kept_event level lane m) made y × (after ≡ None)
+keeps_event level past lane m p values x a made after y u h =
+    event_served inner_of with_inner HasForm stack_steps past lane m p values None x a made after y (λ b ms k z. (b ≡ answer.Done) × Keeps level (kept_event level lane m) ms z × (k ≡ None))
+    (λ e f one k z asks keeps is made. (refl, kept_sent level lane m x u e one z asks.1 is made, keeps))
+    (λ e f k asks ready dropped keeps. absurd (never_vetoed_whole level x f e lane u ready.honest.has (vetoed_unkept f (inner_of x) lane (event_metadata e) _ dropped)))
+    (λ e error f k asks unknown keeps. absurd (known_unkept f (event_metadata e) error unknown)) h
 
 -- what is kept of two spans and an event
 pub record KeepsThree (level : LevelFilter) (lane : Lane) (outer inner event : Metadata) (answers : List Answer) (made : List (List Made)) : Type 0 where
@@ -210,34 +214,34 @@ three_kept : (ms ns os : List Made) (a b c : List KeptNotice) → kept_from ms �
 three_kept ms ns os a b c f g h =
     kept_append ms (ns ++ (os ++ [])) ∙ (λ j. f j ++ (kept_append ns (os ++ []) ∙ (λ i. g i ++ (ap kept_from (append-nil os) ∙ h) i)) j)
 
-pub keeps_three : (level : LevelFilter) (lane : Lane) (outer inner event : Metadata) (p q r : WhichParent) (us vs ws : _) (x y : Recorded) (answers : List Answer) (made : List (List Made)) → IsUnder level (outer_of x)
-    → Run inner_of with_inner HasForm stack_steps [] (request.NewSpan lane outer p us ∷ request.NewSpan lane inner q vs ∷ request.Event lane event r ws ∷ []) answers made x y → KeepsThree level lane outer inner event answers made
-keeps_three level lane outer inner event p q r us vs ws x y answers made u =
+pub keeps_three : (level : LevelFilter) (lane : Lane) (outer inner event : Metadata) (p q r : WhichParent) (us vs ws : _) (x : Recorded) (after : Memory) (y : Recorded) (answers : List Answer) (made : List (List Made)) → IsUnder level (outer_of x)
+    → Run inner_of with_inner HasForm stack_steps [] (request.NewSpan lane outer p us ∷ request.NewSpan lane inner q vs ∷ request.Event lane event r ws ∷ []) answers made None x after y → KeepsThree level lane outer inner event answers made
+keeps_three level lane outer inner event p q r us vs ws x after y answers made u =
     let second = request.NewSpan lane inner q vs in
     let third = request.Event lane event r ws in
-    next_served inner_of with_inner HasForm stack_steps [] (request.NewSpan lane outer p us) (second ∷ third ∷ []) answers made x y (KeepsThree level lane outer inner event)
-    (λ a others ms rest z s.
-    let one = keeps_span level [] lane outer p us x a ms z u s in
-    next_served inner_of with_inner HasForm stack_steps (a ∷ []) second (third ∷ []) others rest z y (λ bs nss. KeepsThree level lane outer inner event (a ∷ bs) (ms ∷ nss))
-    (λ b more ns last w t.
-    let two = keeps_span level (a ∷ []) lane inner q vs z b ns w one.1.under t in
-    next_served inner_of with_inner HasForm stack_steps (a ∷ b ∷ []) third [] more last w y (λ cs oss. KeepsThree level lane outer inner event (a ∷ b ∷ cs) (ms ∷ ns ∷ oss))
-    (λ c none os end v k.
-    let three = keeps_event level (a ∷ b ∷ []) lane event r ws w c os v two.1.under k in
-    none_served inner_of with_inner HasForm stack_steps (a ∷ b ∷ c ∷ []) none end v y (λ ds pss. KeepsThree level lane outer inner event (a ∷ b ∷ c ∷ ds) (ms ∷ ns ∷ os ∷ pss))
-    (record { first = a; second = b; answered = (λ j. a ∷ b ∷ three.0 j ∷ []); spans = (one.0, two.0); keeps = three_kept ms ns os _ _ _ one.1.keeps two.1.keeps three.1.keeps }))))
+    next_served inner_of with_inner HasForm stack_steps [] (request.NewSpan lane outer p us) (second ∷ third ∷ []) answers made None x after y (KeepsThree level lane outer inner event)
+    (λ a others ms rest i z s.
+    let one = keeps_span level [] lane outer p us x a ms i z u s in
+    next_served inner_of with_inner HasForm stack_steps (a ∷ []) second (third ∷ []) others rest i z after y (λ bs nss. KeepsThree level lane outer inner event (a ∷ bs) (ms ∷ nss))
+    (λ b more ns last j w t.
+    let two = keeps_span level (a ∷ []) lane inner q vs z b ns j w one.1.under (subst (λ k. ServesRequest inner_of with_inner HasForm stack_steps (a ∷ []) second k z b ns j w) one.2 t) in
+    next_served inner_of with_inner HasForm stack_steps (a ∷ b ∷ []) third [] more last j w after y (λ cs oss. KeepsThree level lane outer inner event (a ∷ b ∷ cs) (ms ∷ ns ∷ oss))
+    (λ c none os end l v k.
+    let three = keeps_event level (a ∷ b ∷ []) lane event r ws w c os l v two.1.under (subst (λ n. ServesRequest inner_of with_inner HasForm stack_steps (a ∷ b ∷ []) third n w c os l v) two.2 k) in
+    none_served inner_of with_inner HasForm stack_steps (a ∷ b ∷ c ∷ []) none end l v after y (λ ds pss. KeepsThree level lane outer inner event (a ∷ b ∷ c ∷ ds) (ms ∷ ns ∷ os ∷ pss))
+    (record { first = a; second = b; answered = (λ n. a ∷ b ∷ three.0 n ∷ []); spans = (one.0, two.0); keeps = three_kept ms ns os _ _ _ one.1.keeps two.1.keeps three.1.keeps }))))
 
 -- ---- at first
 
 -- a new recorder under a level, on an empty registry
 pub record Starts (level : LevelFilter) (x : Recorded) : Type 0 where
-  pub ready : IsReadySomehow inner_of with_inner HasForm stack_steps x
+  pub ready : (f : Form) × IsReady inner_of with_inner HasForm stack_steps f x
   pub under : IsUnder level (outer_of x)
   pub empty : layer_of (outer_of x) ≡ new_recorder
 
 -- a leaf that wants everything is honest, and refuses nothing
 open_honest : AreHonest open_answers
-open_honest = record { always = λ m v e. refl; never = λ m v e. absurd (cc); above = λ m v e. absurd (false≢true e) }
+open_honest = record { always = λ m v e. refl; never = λ m v e. absurd (cc); above = λ m v e. absurd (false≢true e); alike = λ m k e. refl }
 
 honest_stack : (level : LevelFilter) (n : ℕ) → HasOwnNumbers (form_of level n) (n + 1) → IsHonestStack (form_of level n) (n + 1)
 honest_stack level n own = record {
@@ -284,7 +288,7 @@ has_room_at_first l s level recorder u new unnumbered full =
     omega (arith, none, more)
 
 -- a dispatcher puts it in use
-pub in_use : (level : LevelFilter) (x y : Recorded) → Starts level x → (IsReadySomehow inner_of with_inner HasForm stack_steps x → IsReadySomehow inner_of with_inner HasForm stack_steps y)
+pub in_use : (level : LevelFilter) (x y : Recorded) → Starts level x → ((f : Form) × IsReady inner_of with_inner HasForm stack_steps f x → (f : Form) × IsReady inner_of with_inner HasForm stack_steps f y)
     → (id_of (outer_of y) ≡ id_of (outer_of x)) × (filter_of (outer_of y) ≡ filter_of (outer_of x)) × (layer_of (outer_of y) ≡ layer_of (outer_of x)) → Starts level y
 in_use level x y h ready same = record { ready = ready h.ready; under = stays_under level (outer_of x) (outer_of y) same.0 same.1 h.under; empty = same.2 ∙ h.empty }
 
@@ -293,10 +297,13 @@ keeps_all : (r : Kept) (due : List KeptNotice) → Records new_recorder r due �
 keeps_all r due h f = h.kept ∙ sym (h.split ∙ ap (λ (us : List KeptNotice). h.more ++ us) (h.all f) ∙ append-nil h.more)
 
 -- two spans and an event were served by a new stack
-pub served_three : (level : LevelFilter) (lane : Lane) (outer inner event : Metadata) (p q r : WhichParent) (us vs ws : _) (x : Recorded) (done : Dispatch Recorded × Vec Answer Global) → Starts level x
-    → Served inner_of with_inner HasForm stack_steps stack_hears (request.NewSpan lane outer p us ∷ request.NewSpan lane inner q vs ∷ request.Event lane event r ws ∷ []) done.1.items x (stack_of done.0) → KeepsWhatPasses level lane outer inner event done
-served_three level lane outer inner event p q r us vs ws x done new served =
-    let three = keeps_three level lane outer inner event p q r us vs ws x (stack_of done.0) done.1.items served.made new.under served.run in
+pub served_three : (level : LevelFilter) (lane : Lane) (outer inner event : Metadata) (p q r : WhichParent) (us vs ws : _) (old : Dispatch Recorded) (done : Dispatch Recorded × Vec Answer Global) → Starts level (stack_of old) → kept_by old ≡ None
+    → Served inner_of with_inner HasForm stack_steps stack_hears (request.NewSpan lane outer p us ∷ request.NewSpan lane inner q vs ∷ request.Event lane event r ws ∷ []) done.1.items old done.0 → KeepsWhatPasses level lane outer inner event done
+served_three level lane outer inner event p q r us vs ws old done new kept served =
+    let x = stack_of old in
+    let requests = request.NewSpan lane outer p us ∷ request.NewSpan lane inner q vs ∷ request.Event lane event r ws ∷ [] in
+    let run = subst (λ k. Run inner_of with_inner HasForm stack_steps [] requests done.1.items served.made k x (kept_by done.0) (stack_of done.0)) kept served.run in
+    let three = keeps_three level lane outer inner event p q r us vs ws x (kept_by done.0) (stack_of done.0) done.1.items served.made new.under run in
     let heard : Records (layer_of (outer_of x)) (recorder_of done.0) (kept_from (flat served.made)) = served.each place in
     let due = subst (λ h. Records new_recorder (recorder_of done.0) h) three.keeps (subst (λ k. Records k (recorder_of done.0) (kept_from (flat served.made))) new.empty heard) in
     record { first = three.first; second = three.second; answers = three.answered; spans = three.spans; notified = due; kept = keeps_all (recorder_of done.0) _ due }

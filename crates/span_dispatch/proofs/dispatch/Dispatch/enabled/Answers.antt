@@ -1,5 +1,20 @@
+use Rattle.std.proofs.Common.{refl}
 use Rattle.span_dispatch.proofs.Calls.{probed}
+use Rattle.span_dispatch.proofs.Goes.{same_stack, stays_so}
+use Rattle.span_dispatch.proofs.Stores.{asked_of}
+use Rattle.span_dispatch.specs.Call.{Probe, yes_answer}
+use Rattle.span_dispatch.specs.Serve.{kept_by, stack_of}
 use Rattle.span_dispatch.proofs.dispatch.Dispatch.enabled.Goals as goal
 
+pub returns-clause-ready : goal.returns-clause-ready
+returns-clause-ready g c = λ f k.
+    stays_so g.S.LookupSpan.registry g.S.LookupSpan.with_registry g.S.Subscriber.has_form g.S.Subscriber.stepped f c.args.self.now c.admits.new.self c.admits.ensures.stack (c.admits.ensures.kept f k.stack.honest.has k.kept) k
+
+pub returns-clause-asked : goal.returns-clause-asked
+returns-clause-asked g c =
+    asked_of g.S.LookupSpan.registry g.S.Subscriber.has_form c.args.lane (stack_of c.args.self.now) (kept_by c.args.self.now) c.args.meta.now c.args.meta.now c.new-pass.result c.admits.new.pass c.admits.result refl c.new-pass.ensures.refused c.admits.ensures.nothing_kept
+
 pub returns-clause-served : goal.returns-clause-served
-returns-clause-served g c = λ f h. (probed g.met.S.Subscriber.laws g.met.S.LookupSpan.with_own c.args.lane c.args.meta.now c.new-pass.result c.enabled.new.pass c.enabled.result f c.args.self.now.stack c.enabled.ensures h).0
+returns-clause-served g c = λ f h u.
+    same_stack g.S.LookupSpan.registry g.S.LookupSpan.with_registry g.S.Subscriber.has_form g.S.Subscriber.stepped (Probe c.args.lane c.args.meta.now) f (yes_answer c.admits.result) c.args.self.now c.admits.new.self c.admits.ensures.stack
+    ((probed g.met.S.Subscriber.laws g.met.S.LookupSpan.with_own (kept_by c.args.self.now) c.args.lane c.args.meta.now c.admits.new.pass c.admits.result (kept_by c.admits.new.self) f (stack_of c.args.self.now) (c.admits.ensures.admitted f h u) h).0)

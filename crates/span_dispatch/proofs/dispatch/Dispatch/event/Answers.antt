@@ -1,34 +1,70 @@
-use Rattle.std.proofs.Common.{refl}
-use Rattle.span_dispatch.proofs.Goes.{stays_so}
-use Rattle.span_dispatch.proofs.Stores.{event_wanted}
-use Rattle.span_dispatch.proofs.Stores.{no_step}
-use Rattle.span_dispatch.proofs.Calls.{event_dropped, event_made, event_vetoed}
+use Rattle.std.proofs.Common.{Ok, refl, subst, sym}
+use Rattle.span_dispatch.proofs.Calls.{event_made, event_vetoed}
+use Rattle.span_dispatch.proofs.Goes.{ready_again, same_stack, stays_so}
+use Rattle.span_dispatch.proofs.Stores.{event_unwanted, event_wanted, no_step}
+use Rattle.span_dispatch.specs.Admission.{IsAdmitted}
+use Rattle.span_dispatch.specs.Call.{SendEvent}
+use Rattle.span_dispatch.specs.Serve.{kept_by, stack_of, with_stack}
+use Rattle.span_dispatch.specs.declared.request.Answer.TheVariants as answer
+use Rattle.span_registry.proofs.CallerLemmas.{and_hooks}
+use Rattle.span_registry.specs.Answers.{OnEvent}
+use Rattle.span_registry.specs.Hooks.{AnswersEnabled, AnswersEvent, Notifies, Stays}
+use Rattle.span_registry.specs.Question.{refusals}
+use Rattle.span_registry.specs.Subscriber.{AndHooks}
 use Rattle.span_dispatch.proofs.dispatch.Dispatch.event.Goals as goal
 
-pub returns-then-not-enabled-clause-served : goal.returns-then-not-enabled-clause-served
-returns-then-not-enabled-clause-served g c = λ f h. (event_dropped g.met.S.Subscriber.laws g.met.S.LookupSpan.with_own c.args.lane c.args.event.now c.metadata.result c.new-pass.result c.enabled.new.pass c.enabled.result f c.args.self.now.stack c.metadata.ensures c.if-not-enabled.true c.enabled.ensures h).0
+pub returns-in-Err-clause-ready : goal.returns-in-Err-clause-ready
+returns-in-Err-clause-ready g c = λ f k. stays_so g.S.LookupSpan.registry g.S.LookupSpan.with_registry g.S.Subscriber.has_form g.S.Subscriber.stepped f c.args.self.now c.admits.new.self c.admits.ensures.stack (c.admits.ensures.kept f k.stack.honest.has k.kept) k
 
-pub returns-then-not-event_enabled-clause-served : goal.returns-then-not-event_enabled-clause-served
-returns-then-not-event_enabled-clause-served g c = λ f h. (event_vetoed g.met.S.Subscriber.laws g.met.S.LookupSpan.with_own c.args.lane c.args.event.now c.enabled.new.pass c.event_enabled.new.pass c.event_enabled.result f c.args.self.now.stack c.if-not-event_enabled.true c.event_enabled.ensures h).0
+pub returns-in-Err-clause-store : goal.returns-in-Err-clause-store
+returns-in-Err-clause-store g c = subst (λ y. AndHooks g.S.LookupSpan.registry Stays (stack_of c.args.self.now) y) (sym c.admits.ensures.stack) (no_step g.S.LookupSpan.registry (stack_of c.args.self.now))
 
-pub returns-clause-ready : goal.returns-clause-ready
-returns-clause-ready g c = λ f k. (event_made g.met.S.Subscriber.laws g.met.S.LookupSpan.with_own c.args.lane c.args.event.now c.metadata.result c.new-pass.result c.enabled.new.pass c.event_enabled.new.pass c.enabled.result c.event_enabled.result f c.args.self.now.stack c.event.new.self c.metadata.ensures c.new-pass.ensures.refused c.if-not-enabled.false c.if-not-event_enabled.false c.enabled.ensures c.event_enabled.ensures c.event.ensures.hooks k.honest).1 k.settled
+pub returns-in-Ok-false-clause-ready : goal.returns-in-Ok-false-clause-ready
+returns-in-Ok-false-clause-ready g c = λ f k. stays_so g.S.LookupSpan.registry g.S.LookupSpan.with_registry g.S.Subscriber.has_form g.S.Subscriber.stepped f c.args.self.now c.admits.new.self c.admits.ensures.stack (c.admits.ensures.kept f k.stack.honest.has k.kept) k
 
-pub returns-clause-served : goal.returns-clause-served
-returns-clause-served g c = λ f h. (event_made g.met.S.Subscriber.laws g.met.S.LookupSpan.with_own c.args.lane c.args.event.now c.metadata.result c.new-pass.result c.enabled.new.pass c.event_enabled.new.pass c.enabled.result c.event_enabled.result f c.args.self.now.stack c.event.new.self c.metadata.ensures c.new-pass.ensures.refused c.if-not-enabled.false c.if-not-event_enabled.false c.enabled.ensures c.event_enabled.ensures c.event.ensures.hooks h).0
+pub returns-in-Ok-false-clause-store : goal.returns-in-Ok-false-clause-store
+returns-in-Ok-false-clause-store g c = subst (λ y. AndHooks g.S.LookupSpan.registry Stays (stack_of c.args.self.now) y) (sym c.admits.ensures.stack) (no_step g.S.LookupSpan.registry (stack_of c.args.self.now))
 
-pub returns-then-not-enabled-clause-store : goal.returns-then-not-enabled-clause-store
-returns-then-not-enabled-clause-store g c = no_step g.S.LookupSpan.registry c.args.self.now.stack
-
-pub returns-then-not-event_enabled-clause-store : goal.returns-then-not-event_enabled-clause-store
-returns-then-not-event_enabled-clause-store g c = no_step g.S.LookupSpan.registry c.args.self.now.stack
-
-pub returns-clause-asked : goal.returns-clause-asked
-returns-clause-asked g c = event_wanted g.S.LookupSpan.registry g.S.Subscriber.has_form c.args.lane c.args.event.now c.args.self.now.stack c.metadata.result c.new-pass.result c.enabled.new.pass c.event_enabled.new.pass c.enabled.result c.event_enabled.result
-    c.metadata.ensures c.new-pass.ensures.refused c.if-not-enabled.false c.if-not-event_enabled.false c.enabled.ensures c.event_enabled.ensures
-
-pub returns-then-not-enabled-clause-ready : goal.returns-then-not-enabled-clause-ready
-returns-then-not-enabled-clause-ready g c = λ f k. stays_so g.met.S.Subscriber.laws g.met.S.LookupSpan.with_own f c.args.self.now.stack c.args.self.now.stack refl k
+pub returns-in-Ok-false-clause-asked : goal.returns-in-Ok-false-clause-asked
+returns-in-Ok-false-clause-asked g c =
+    event_unwanted g.S.LookupSpan.registry g.S.Subscriber.has_form c.args.lane (stack_of c.args.self.now) (kept_by c.args.self.now) c.args.event.now c.metadata.result c.new-pass.result c.admits.new.pass _ c.metadata.ensures c.new-pass.ensures.refused refl (λ e. subst (λ b. AnswersEnabled g.S.LookupSpan.registry g.S.Subscriber.has_form (stack_of c.args.self.now) c.args.lane c.metadata.result c.new-pass.result b c.admits.new.pass) c.in-Ok-false.field-0-test (c.in-Ok-false.ensures.nothing_kept e))
 
 pub returns-then-not-event_enabled-clause-ready : goal.returns-then-not-event_enabled-clause-ready
-returns-then-not-event_enabled-clause-ready g c = λ f k. stays_so g.met.S.Subscriber.laws g.met.S.LookupSpan.with_own f c.args.self.now.stack c.args.self.now.stack refl k
+returns-then-not-event_enabled-clause-ready g c = λ f k. stays_so g.S.LookupSpan.registry g.S.LookupSpan.with_registry g.S.Subscriber.has_form g.S.Subscriber.stepped f c.args.self.now c.admits.new.self c.admits.ensures.stack (c.admits.ensures.kept f k.stack.honest.has k.kept) k
+
+pub returns-then-not-event_enabled-clause-store : goal.returns-then-not-event_enabled-clause-store
+returns-then-not-event_enabled-clause-store g c = subst (λ y. AndHooks g.S.LookupSpan.registry Stays (stack_of c.args.self.now) y) (sym c.admits.ensures.stack) (no_step g.S.LookupSpan.registry (stack_of c.args.self.now))
+
+pub returns-then-not-event_enabled-clause-served : goal.returns-then-not-event_enabled-clause-served
+returns-then-not-event_enabled-clause-served g c = λ f h u.
+    same_stack g.S.LookupSpan.registry g.S.LookupSpan.with_registry g.S.Subscriber.has_form g.S.Subscriber.stepped (SendEvent c.args.lane c.args.event.now) f answer.Dropped c.args.self.now c.admits.new.self c.admits.ensures.stack
+    ((event_vetoed g.met.S.Subscriber.laws g.met.S.LookupSpan.with_own (kept_by c.args.self.now) c.args.lane c.args.event.now c.metadata.result c.admits.new.pass c.event_enabled.new.pass c.event_enabled.result (kept_by c.admits.new.self) f (stack_of c.args.self.now) c.metadata.ensures
+    (subst (λ b. IsAdmitted (kept_by c.args.self.now) f (g.S.LookupSpan.registry (stack_of c.args.self.now)) c.args.lane c.metadata.result c.admits.new.pass (kept_by c.admits.new.self) (Ok b)) c.in-Ok-true.field-0-test (c.in-Ok-true.ensures.admitted f h u))
+    c.if-not-event_enabled.true
+    (subst (λ x. AnswersEvent g.S.LookupSpan.registry g.S.Subscriber.has_form x c.args.lane c.args.event.now c.admits.new.pass c.event_enabled.result c.event_enabled.new.pass) c.admits.ensures.stack c.event_enabled.ensures) h).0)
+
+pub returns-else-not-event_enabled-clause-ready : goal.returns-else-not-event_enabled-clause-ready
+returns-else-not-event_enabled-clause-ready g c = λ f k.
+    ready_again g.S.LookupSpan.registry g.S.LookupSpan.with_registry g.S.Subscriber.has_form g.S.Subscriber.stepped f c.args.self.now (with_stack c.admits.new.self c.event.new.self)
+    ((event_made g.met.S.Subscriber.laws g.met.S.LookupSpan.with_own (kept_by c.args.self.now) c.args.lane c.args.event.now c.metadata.result c.admits.new.pass c.event_enabled.new.pass c.event_enabled.result (kept_by c.admits.new.self) f (stack_of c.args.self.now) c.event.new.self c.metadata.ensures
+    (subst (λ b. IsAdmitted (kept_by c.args.self.now) f (g.S.LookupSpan.registry (stack_of c.args.self.now)) c.args.lane c.metadata.result c.admits.new.pass (kept_by c.admits.new.self) (Ok b)) c.in-Ok-true.field-0-test (c.in-Ok-true.ensures.admitted f k.stack.honest k.kept))
+    c.if-not-event_enabled.false
+    (subst (λ x. AnswersEvent g.S.LookupSpan.registry g.S.Subscriber.has_form x c.args.lane c.args.event.now c.admits.new.pass c.event_enabled.result c.event_enabled.new.pass) c.admits.ensures.stack c.event_enabled.ensures)
+    (subst (λ x. Notifies g.S.LookupSpan.registry g.S.Subscriber.has_form g.S.Subscriber.stepped c.args.lane (refusals c.event_enabled.new.pass) (OnEvent c.args.event.now) Stays x c.event.new.self) c.admits.ensures.stack c.event.ensures.hooks) k.stack.honest).1 k.stack.settled) (c.admits.ensures.kept f k.stack.honest.has k.kept)
+
+pub returns-else-not-event_enabled-clause-served : goal.returns-else-not-event_enabled-clause-served
+returns-else-not-event_enabled-clause-served g c = λ f h u.
+    (event_made g.met.S.Subscriber.laws g.met.S.LookupSpan.with_own (kept_by c.args.self.now) c.args.lane c.args.event.now c.metadata.result c.admits.new.pass c.event_enabled.new.pass c.event_enabled.result (kept_by c.admits.new.self) f (stack_of c.args.self.now) c.event.new.self c.metadata.ensures
+    (subst (λ b. IsAdmitted (kept_by c.args.self.now) f (g.S.LookupSpan.registry (stack_of c.args.self.now)) c.args.lane c.metadata.result c.admits.new.pass (kept_by c.admits.new.self) (Ok b)) c.in-Ok-true.field-0-test (c.in-Ok-true.ensures.admitted f h u))
+    c.if-not-event_enabled.false
+    (subst (λ x. AnswersEvent g.S.LookupSpan.registry g.S.Subscriber.has_form x c.args.lane c.args.event.now c.admits.new.pass c.event_enabled.result c.event_enabled.new.pass) c.admits.ensures.stack c.event_enabled.ensures)
+    (subst (λ x. Notifies g.S.LookupSpan.registry g.S.Subscriber.has_form g.S.Subscriber.stepped c.args.lane (refusals c.event_enabled.new.pass) (OnEvent c.args.event.now) Stays x c.event.new.self) c.admits.ensures.stack c.event.ensures.hooks) h).0
+
+pub returns-else-not-event_enabled-clause-store : goal.returns-else-not-event_enabled-clause-store
+returns-else-not-event_enabled-clause-store g c = and_hooks
+    (subst (λ x. Notifies g.S.LookupSpan.registry g.S.Subscriber.has_form g.S.Subscriber.stepped c.args.lane (refusals c.event_enabled.new.pass) (OnEvent c.args.event.now) Stays x c.event.new.self) c.admits.ensures.stack c.event.ensures.hooks)
+
+pub returns-else-not-event_enabled-clause-asked : goal.returns-else-not-event_enabled-clause-asked
+returns-else-not-event_enabled-clause-asked g c =
+    event_wanted g.S.LookupSpan.registry g.S.Subscriber.has_form c.args.lane (stack_of c.args.self.now) (kept_by c.args.self.now) c.args.event.now c.metadata.result c.new-pass.result c.admits.new.pass c.event_enabled.new.pass _ c.event_enabled.result c.metadata.ensures c.new-pass.ensures.refused refl c.if-not-event_enabled.false (λ e. subst (λ b. AnswersEnabled g.S.LookupSpan.registry g.S.Subscriber.has_form (stack_of c.args.self.now) c.args.lane c.metadata.result c.new-pass.result b c.admits.new.pass) c.in-Ok-true.field-0-test (c.in-Ok-true.ensures.nothing_kept e))
+    (subst (λ x. AnswersEvent g.S.LookupSpan.registry g.S.Subscriber.has_form x c.args.lane c.args.event.now c.admits.new.pass c.event_enabled.result c.event_enabled.new.pass) c.admits.ensures.stack c.event_enabled.ensures)

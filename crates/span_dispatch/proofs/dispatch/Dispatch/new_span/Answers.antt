@@ -1,22 +1,52 @@
-use Rattle.std.proofs.Common.{refl}
-use Rattle.span_dispatch.proofs.Goes.{stays_so}
-use Rattle.span_dispatch.proofs.Calls.{span_dropped, span_made, span_refused}
+use Rattle.std.proofs.Common.{Ok, inr, subst, ◌∙◌}
+use Rattle.span_core.specs.Span.{asked_parent, metadata_of}
+use Rattle.span_dispatch.proofs.Calls.{span_made, span_refused}
+use Rattle.span_dispatch.proofs.Goes.{ready_again, stays_so}
+use Rattle.span_dispatch.proofs.Stores.{metadata_wanted, opened_store}
+use Rattle.span_dispatch.specs.Admission.{IsAdmitted}
+use Rattle.span_dispatch.specs.Call.{WantsMetadata}
+use Rattle.span_dispatch.specs.Serve.{kept_by, stack_of, with_stack}
+use Rattle.span_registry.specs.Hooks.{OpensAndNotifies}
+use Rattle.span_registry.specs.Step.{RefusesNew}
 use Rattle.span_dispatch.proofs.dispatch.Dispatch.new_span.Goals as goal
 
-pub returns-then-not-enabled-clause-served : goal.returns-then-not-enabled-clause-served
-returns-then-not-enabled-clause-served g c = λ f h. (span_dropped g.met.S.Subscriber.laws g.met.S.LookupSpan.with_own c.args.lane c.args.attrs.now c.metadata.result c.new-pass.result c.enabled.new.pass c.enabled.result f c.args.self.now.stack c.metadata.ensures c.if-not-enabled.true c.enabled.ensures h).0
+pub returns-in-Err-clause-ready : goal.returns-in-Err-clause-ready
+returns-in-Err-clause-ready g c = λ f k. stays_so g.S.LookupSpan.registry g.S.LookupSpan.with_registry g.S.Subscriber.has_form g.S.Subscriber.stepped f c.args.self.now c.admits.new.self c.admits.ensures.stack (c.admits.ensures.kept f k.stack.honest.has k.kept) k
+
+pub returns-in-Ok-false-clause-ready : goal.returns-in-Ok-false-clause-ready
+returns-in-Ok-false-clause-ready g c = λ f k. stays_so g.S.LookupSpan.registry g.S.LookupSpan.with_registry g.S.Subscriber.has_form g.S.Subscriber.stepped f c.args.self.now c.admits.new.self c.admits.ensures.stack (c.admits.ensures.kept f k.stack.honest.has k.kept) k
+
+pub returns-in-Ok-false-clause-asked : goal.returns-in-Ok-false-clause-asked
+returns-in-Ok-false-clause-asked g c =
+    subst (λ b. WantsMetadata g.S.LookupSpan.registry g.S.Subscriber.has_form c.args.lane (metadata_of c.args.attrs.now) (kept_by c.args.self.now) (stack_of c.args.self.now) b) c.in-Ok-false.field-0-test
+    (metadata_wanted g.S.LookupSpan.registry g.S.Subscriber.has_form c.args.lane (stack_of c.args.self.now) (kept_by c.args.self.now) c.metadata.result (metadata_of c.args.attrs.now) c.new-pass.result c.admits.new.pass c.in-Ok-false.field-0 c.metadata.ensures c.new-pass.ensures.refused c.in-Ok-false.ensures.nothing_kept)
 
 pub returns-in-Ok-clause-ready : goal.returns-in-Ok-clause-ready
-returns-in-Ok-clause-ready g c = λ f k. (span_made g.met.S.Subscriber.laws g.met.S.LookupSpan.with_own c.args.lane c.args.attrs.now c.metadata.result c.new-pass.result c.enabled.new.pass c.enabled.result c.in-Ok.id f c.args.self.now.stack c.new_span.new.self c.metadata.ensures c.new-pass.ensures.refused c.if-not-enabled.false c.enabled.ensures c.in-Ok.ensures.opened k.honest).1 k.settled
+returns-in-Ok-clause-ready g c = λ f k.
+    ready_again g.S.LookupSpan.registry g.S.LookupSpan.with_registry g.S.Subscriber.has_form g.S.Subscriber.stepped f c.args.self.now (with_stack c.admits.new.self c.new_span.new.self)
+    ((span_made g.met.S.Subscriber.laws g.met.S.LookupSpan.with_own (kept_by c.args.self.now) c.args.lane c.args.attrs.now c.metadata.result c.admits.new.pass c.in-Ok.id (kept_by c.admits.new.self) f (stack_of c.args.self.now) c.new_span.new.self c.metadata.ensures
+    (subst (λ b. IsAdmitted (kept_by c.args.self.now) f (g.S.LookupSpan.registry (stack_of c.args.self.now)) c.args.lane c.metadata.result c.admits.new.pass (kept_by c.admits.new.self) (Ok b)) c.in-Ok-true.field-0-test (c.in-Ok-true.ensures.admitted f k.stack.honest k.kept))
+    (subst (λ x. OpensAndNotifies g.S.LookupSpan.registry g.S.Subscriber.has_form g.S.Subscriber.stepped c.args.lane c.args.attrs.now c.admits.new.pass x c.new_span.new.self c.in-Ok.id) c.admits.ensures.stack c.in-Ok.ensures.opened) k.stack.honest).1 k.stack.settled) (c.admits.ensures.kept f k.stack.honest.has k.kept)
 
 pub returns-in-Ok-clause-served : goal.returns-in-Ok-clause-served
-returns-in-Ok-clause-served g c = λ f h. (span_made g.met.S.Subscriber.laws g.met.S.LookupSpan.with_own c.args.lane c.args.attrs.now c.metadata.result c.new-pass.result c.enabled.new.pass c.enabled.result c.in-Ok.id f c.args.self.now.stack c.new_span.new.self c.metadata.ensures c.new-pass.ensures.refused c.if-not-enabled.false c.enabled.ensures c.in-Ok.ensures.opened h).0
+returns-in-Ok-clause-served g c = λ f h u.
+    (span_made g.met.S.Subscriber.laws g.met.S.LookupSpan.with_own (kept_by c.args.self.now) c.args.lane c.args.attrs.now c.metadata.result c.admits.new.pass c.in-Ok.id (kept_by c.admits.new.self) f (stack_of c.args.self.now) c.new_span.new.self c.metadata.ensures
+    (subst (λ b. IsAdmitted (kept_by c.args.self.now) f (g.S.LookupSpan.registry (stack_of c.args.self.now)) c.args.lane c.metadata.result c.admits.new.pass (kept_by c.admits.new.self) (Ok b)) c.in-Ok-true.field-0-test (c.in-Ok-true.ensures.admitted f h u))
+    (subst (λ x. OpensAndNotifies g.S.LookupSpan.registry g.S.Subscriber.has_form g.S.Subscriber.stepped c.args.lane c.args.attrs.now c.admits.new.pass x c.new_span.new.self c.in-Ok.id) c.admits.ensures.stack c.in-Ok.ensures.opened) h).0
 
-pub returns-in-Err-clause-served : goal.returns-in-Err-clause-served
-returns-in-Err-clause-served g c = λ f h. (span_refused g.met.S.Subscriber.laws g.met.S.LookupSpan.with_own c.args.lane c.args.attrs.now c.metadata.result c.new-pass.result c.enabled.new.pass c.enabled.result c.in-Err.error f c.args.self.now.stack c.new_span.new.self c.metadata.ensures c.if-not-enabled.false c.enabled.ensures c.in-Err.ensures.refused c.in-Err.ensures.unchanged h).0
+pub returns-in-Ok-clause-store : goal.returns-in-Ok-clause-store
+returns-in-Ok-clause-store g c = opened_store g.S.LookupSpan.registry c.args.lane c.args.attrs.now c.admits.new.pass (stack_of c.args.self.now) c.new_span.new.self c.in-Ok.id
+    (subst (λ x. OpensAndNotifies g.S.LookupSpan.registry g.S.Subscriber.has_form g.S.Subscriber.stepped c.args.lane c.args.attrs.now c.admits.new.pass x c.new_span.new.self c.in-Ok.id) c.admits.ensures.stack c.in-Ok.ensures.opened)
 
-pub returns-then-not-enabled-clause-ready : goal.returns-then-not-enabled-clause-ready
-returns-then-not-enabled-clause-ready g c = λ f k. stays_so g.met.S.Subscriber.laws g.met.S.LookupSpan.with_own f c.args.self.now.stack c.args.self.now.stack refl k
+pub returns-in-Err-new_span-clause-ready : goal.returns-in-Err-new_span-clause-ready
+returns-in-Err-new_span-clause-ready g c = λ f k.
+    stays_so g.S.LookupSpan.registry g.S.LookupSpan.with_registry g.S.Subscriber.has_form g.S.Subscriber.stepped f c.args.self.now (with_stack c.admits.new.self c.new_span.new.self) (c.in-Err-new_span.ensures.unchanged ∙ c.admits.ensures.stack) (c.admits.ensures.kept f k.stack.honest.has k.kept) k
 
-pub returns-in-Err-clause-ready : goal.returns-in-Err-clause-ready
-returns-in-Err-clause-ready g c = λ f k. stays_so g.met.S.Subscriber.laws g.met.S.LookupSpan.with_own f c.args.self.now.stack c.new_span.new.self c.in-Err.ensures.unchanged k
+pub returns-in-Err-new_span-clause-served : goal.returns-in-Err-new_span-clause-served
+returns-in-Err-new_span-clause-served g c = λ f h u.
+    (span_refused g.met.S.Subscriber.laws g.met.S.LookupSpan.with_own (kept_by c.args.self.now) c.args.lane c.args.attrs.now c.metadata.result c.admits.new.pass c.in-Err-new_span.error (kept_by c.admits.new.self) f (stack_of c.args.self.now) c.new_span.new.self c.metadata.ensures
+    (subst (λ b. IsAdmitted (kept_by c.args.self.now) f (g.S.LookupSpan.registry (stack_of c.args.self.now)) c.args.lane c.metadata.result c.admits.new.pass (kept_by c.admits.new.self) (Ok b)) c.in-Ok-true.field-0-test (c.in-Ok-true.ensures.admitted f h u))
+    (subst (λ x. RefusesNew (g.S.LookupSpan.registry x) c.args.lane (asked_parent c.args.attrs.now) c.in-Err-new_span.error) c.admits.ensures.stack c.in-Err-new_span.ensures.refused) (c.in-Err-new_span.ensures.unchanged ∙ c.admits.ensures.stack) h).0
+
+pub returns-in-Err-new_span-clause-refused : goal.returns-in-Err-new_span-clause-refused
+returns-in-Err-new_span-clause-refused g c = inr (subst (λ x. RefusesNew (g.S.LookupSpan.registry x) c.args.lane (asked_parent c.args.attrs.now) c.in-Err-new_span.error) c.admits.ensures.stack c.in-Err-new_span.ensures.refused)

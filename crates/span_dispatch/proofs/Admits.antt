@@ -1,0 +1,258 @@
+-- Which interest a cache gives, and what comes of it.
+use Rattle.std.proofs.Common.{◌≡◌, ℕ, Bool, true, false, not, ◌==◌, if◌then◌else◌, Option, Some, None, Result, Ok, Err, inl, inr, refl, sym, ap, subst, arith, ◌∙◌}
+use Rattle.std.proofs.lemmas.Bool.Decides.{nat_tests}
+use Rattle.std.proofs.lemmas.Bool.{eq-eqb, eqb-true, false≢true, true≢false}
+use Rattle.std.specs.BTreeMap as tree
+use Rattle.std.specs.Option.{option_map, unwrap_or}
+use Rattle.std.specs.Ordering.{is_eq, nat_cmp}
+use Rattle.span_core.specs.Filters.{FilterSet, IsEmpty}
+use Rattle.span_core.specs.Level.{is_above}
+use Rattle.span_core.specs.Metadata.{ShowSame, callsite_of, level_of}
+use Rattle.span_core.specs.Pass.{interest_sum}
+use Rattle.span_core.specs.declared.error.TraceError.TheVariants.{CallsiteMismatch, OutOfMemory}
+use Rattle.span_core.specs.declared.error.TraceError.{TraceError}
+use Rattle.span_core.specs.declared.interest.Interest.TheVariants.{Always, Never, Sometimes}
+use Rattle.span_core.specs.declared.interest.Interest.{Interest}
+use Rattle.span_core.specs.declared.metadata.Metadata.{Metadata}
+use Rattle.span_core.specs.declared.pass.Pass.{Pass}
+use Rattle.span_core.specs.declared.span.Lane.{Lane}
+use Rattle.span_dispatch.specs.Admission.{GivesInterest, HasInterestBy, IsAdmitted, IsInterestBy, IsLetBy, interests_nobody, is_above_hint, learned, learned_if}
+use Rattle.span_dispatch.specs.Cache.{Callsites, IsCurrent, IsUpToDate, Memory, RefusesInterest, callsites_of, kept_in, no_callsite, with_callsite}
+use Rattle.span_dispatch.specs.declared.cache.Cache.TheVariants.{Empty, Filled, Off}
+use Rattle.span_dispatch.specs.declared.cache.Cache.{Cache}
+use Rattle.span_dispatch.specs.declared.cache.Callsite.{Callsite}
+use Rattle.span_dispatch.specs.declared.cache.Known.{Known}
+use Rattle.span_layers.proofs.Hint.{above_is_unwanted}
+use Rattle.span_layers.proofs.HonestKept.{alike_interest}
+use Rattle.span_layers.proofs.Interest.{always_is_wanted, never_is_unwanted}
+use Rattle.span_layers.proofs.Pass.{asked_unless_vetoed}
+use Rattle.span_layers.specs.Honest.{HasHonestAnswers, IsHonestStack}
+use Rattle.span_layers.specs.Verdict.{vetoes}
+use Rattle.span_layers.specs.Wanted.{IsUnwanted}
+use Rattle.span_registry.specs.Form.{Form}
+use Rattle.span_registry.specs.Hooks.{AnswersEnabled, AnswersInterest, no_filter}
+use Rattle.span_registry.specs.Question.{asked, hint_of, interest_of, is_never, refusals}
+use Rattle.span_registry.specs.Store.{RegistryState, Store}
+
+-- ---- what hint and interest say
+
+is_it_never : (i : Interest) → is_never i ≡ true → i ≡ Never
+is_it_never Never e = refl
+is_it_never Sometimes e = absurd (false≢true e)
+is_it_never Always e = absurd (false≢true e)
+
+unwanted_above : (memory : Memory) (f : Form) (s : RegistryState) (lane : Lane) (m : Metadata) → IsHonestStack f s.filters → is_above_hint memory f m ≡ true → IsUnwanted f m s.store lane.0
+unwanted_above None f s lane m honest e = absurd (false≢true e)
+unwanted_above (Some callsites) f s lane m honest e = above_is_unwanted f s.filters m s.store lane.0 honest e
+
+unwanted_never : (memory : Memory) (f : Form) (s : RegistryState) (lane : Lane) (m : Metadata) → IsHonestStack f s.filters → interests_nobody memory f s.filters m ≡ true → IsUnwanted f m s.store lane.0
+unwanted_never None f s lane m honest e = absurd (false≢true e)
+unwanted_never (Some callsites) f s lane m honest e = never_is_unwanted f s.filters m s.store lane.0 honest (is_it_never _ e)
+
+module _ (memory : Memory) (f : Form) (s : RegistryState) (lane : Lane) (m : Metadata) (after : Memory) (honest : IsHonestStack f s.filters) where
+  -- never: they are ruled out
+  pub admits_never : (pass : Pass) (i : Interest) → IsInterestBy memory f s.filters m after i → i ≡ Never → IsAdmitted memory f s lane m pass after (Ok false)
+  admits_never pass i h same = (inl (by_hint (is_above_hint memory f m) refl), h.learned)
+    where
+      by_hint : (b : Bool) → is_above_hint memory f m ≡ b → Rattle.span_dispatch.specs.Admission.IsRuledOut memory f s lane m
+      by_hint true e = record { rule = inl e; unwanted = unwanted_above memory f s lane m honest e }
+      by_hint false e =
+          let nobody : interests_nobody memory f s.filters m ≡ true = h.never e ∙ ap is_never same in
+          record { rule = inr (h.agrees e, nobody); unwanted = unwanted_never memory f s lane m honest nobody }
+
+  -- any other interest lets them by
+  lets_by : (i : Interest) → IsInterestBy memory f s.filters m after i → is_never i ≡ false → IsLetBy memory f s m
+  lets_by i h other = by_hint (is_above_hint memory f m) refl
+    where
+      by_hint : (b : Bool) → is_above_hint memory f m ≡ b → IsLetBy memory f s m
+      by_hint true e = absurd (true≢false (sym (ap is_never (h.above e)) ∙ other))
+      by_hint false e = record { hint = e; agrees = h.agrees e; interest = h.never e ∙ other }
+
+  -- always: nothing is asked, and a new pass stays as it is
+  pub admits_always : (pass : Pass) (i : Interest) → IsInterestBy memory f s.filters m after i → i ≡ Always → IsEmpty (refusals pass) → IsAdmitted memory f s lane m pass after (Ok true)
+  admits_always pass i h same empty =
+      let wanted = always_is_wanted f s.filters m s.store lane.0 honest (h.always same) in
+      (lets_by i h (ap is_never same), wanted.question ∙ (λ k. (true, λ n. sym (empty n) k)), h.learned)
+
+  -- sometimes: all are asked
+  pub admits_asked : {S : Type 0} (registry : S → RegistryState) (has_form : S → Form → Type 0) (x : S) (fresh pass : Pass) (i : Interest) (said : Bool) → registry x ≡ s → has_form x f → IsInterestBy memory f s.filters m after i → i ≡ Sometimes → IsEmpty (refusals fresh)
+      → AnswersEnabled registry has_form x lane m fresh said pass → IsAdmitted memory f s lane m pass after (Ok said)
+  admits_asked registry has_form x fresh pass i said at d h same empty a = by_answer said refl
+    where
+      here : asked f m s.store lane.0 no_filter no_filter ≡ asked f m (registry x).store lane.0 no_filter (refusals fresh)
+      here = λ k. asked f m (sym at k).store lane.0 no_filter (λ n. sym (empty n) k)
+
+      by_answer : (b : Bool) → said ≡ b → IsAdmitted memory f s lane m pass after (Ok b)
+      by_answer true e = (lets_by i h (ap is_never same), here ∙ (λ k. ((sym (a f d).answer ∙ e) k, sym (a f d).refused k)), h.learned)
+      by_answer false e = (
+        inr (lets_by i h (ap is_never same), not_true _ (sym (asked_unless_vetoed f m s.store lane.0 no_filter honest.orderly) ∙ ap (λ (p : Bool × FilterSet). p.0) here ∙ sym (a f d).answer ∙ e)),
+        h.learned,
+      )
+        where
+          not_true : (b : Bool) → not b ≡ false → b ≡ true
+          not_true true e = refl
+          not_true false e = sym e
+
+-- ---- what a cache gives
+
+-- two tests of one thing
+same_test : (n m : ℕ) (b : Bool) → is_eq (nat_cmp n m) ≡ b → (n == m) ≡ b
+same_test n m true e = grind (arith, nat_tests)
+same_test n m false e = grind (arith, nat_tests)
+
+-- a level that passes is not above
+pub passes_below : (passes above : Bool) → passes ≡ not above → passes ≡ true → above ≡ false
+passes_below true above e f = not_false above (sym e)
+  where
+    not_false : (b : Bool) → not b ≡ true → b ≡ false
+    not_false true h = sym h
+    not_false false h = refl
+passes_below false above e f = absurd (false≢true f)
+
+pub fails_above : (passes above : Bool) → passes ≡ not above → passes ≡ false → above ≡ true
+fails_above true above e f = absurd (true≢false f)
+fails_above false above e f = not_true above (sym e)
+  where
+    not_true : (b : Bool) → not b ≡ false → b ≡ true
+    not_true true h = refl
+    not_true false h = sym h
+
+module _ {S : Type 0} (registry : S → RegistryState) (has_form : S → Form → Type 0) (x : S) (m : Metadata) where
+  -- nothing is ever kept
+  pub gives_off : GivesInterest registry has_form x m (Ok Sometimes) Off Off
+  gives_off = record {
+    off = λ e. refl;
+    refused = tt;
+    by_form = λ f d h u. record { above = λ e. absurd (false≢true e); agrees = λ e. tt; never = λ e. refl; always = λ e. absurd (cc); learned = refl };
+    kept = λ f d u. tt;
+  }
+
+  -- the level is above the hint
+  pub gives_above : (k : Known) → is_above (level_of m) k.hint ≡ true → GivesInterest registry has_form x m (Ok Never) (Filled k) (Filled k)
+  gives_above k e = record {
+    off = λ o. absurd (cc);
+    refused = tt;
+    by_form = λ f d h u.
+        let above = ap (is_above (level_of m)) (sym u.hint) ∙ e in
+        record {
+          above = λ a. refl;
+          agrees = λ a. absurd (true≢false (sym above ∙ a));
+          never = λ a. absurd (true≢false (sym above ∙ a));
+          always = λ a. absurd (cc);
+          learned = sym (ap (λ b. learned_if b (Some (callsites_of k)) m) above);
+        };
+    kept = λ f d u. u;
+  }
+
+  same_callsite : (n : ℕ) (b : Bool) → (callsite_of m == n) ≡ b → b ≡ true → callsite_of m ≡ n
+  same_callsite n b e t = eqb-true (callsite_of m) n (e ∙ t)
+
+  -- what is kept already is kept still
+  kept_still : (c : Callsites) (one : Metadata) → c (callsite_of m) ≡ Some one → with_callsite c m ≡ c
+  kept_still c one e = λ i n. by_number n (callsite_of m == n) refl i
+    where
+      by_number : (n : ℕ) (b : Bool) → (callsite_of m == n) ≡ b → (if b then Some (unwrap_or (c n) m) else c n) ≡ c n
+      by_number n true t =
+          let at : c n ≡ Some one = ap c (sym (eqb-true (callsite_of m) n t)) ∙ e in
+          ap (λ (o : Option Metadata). Some (unwrap_or o m)) at ∙ sym at
+      by_number n false t = refl
+
+  -- the callsite is kept with metadata that show the same
+  pub gives_kept : (k : Known) (one : Callsite) → is_above (level_of m) k.hint ≡ false → tree.get nat_cmp k.callsites (callsite_of m) ≡ Some one → ShowSame one.metadata m → GivesInterest registry has_form x m (Ok one.interest) (Filled k) (Filled k)
+  gives_kept k one passes at same = record {
+    off = λ o. absurd (cc);
+    refused = tt;
+    by_form = λ f d h u.
+        let below = ap (is_above (level_of m)) (sym u.hint) ∙ passes in
+        let interest = u.interest (callsite_of m) one at ∙ ap (λ (p : Interest × Option Interest). p.0) (alike_interest f h one.metadata m same (registry x).filters None) in
+        let there : callsites_of k (callsite_of m) ≡ Some one.metadata = ap (option_map (λ (c : Callsite). c.metadata)) at in
+        record {
+          above = λ a. absurd (true≢false (sym a ∙ below));
+          agrees = λ a other e. let which : Some other ≡ Some one.metadata = sym e ∙ there in let it : other ≡ one.metadata = cc in subst (λ z. ShowSame z m) (sym it) same;
+          never = λ a. ap is_never (sym interest);
+          always = λ a. sym interest ∙ a;
+          learned = sym (ap (λ c. Some c) (kept_still (callsites_of k) one.metadata there)) ∙ sym (ap (λ b. learned_if b (Some (callsites_of k)) m) below);
+        };
+    kept = λ f d u. u;
+  }
+
+  -- it is kept with other metadata
+  pub gives_mismatch : (k : Known) (one : Callsite) → is_above (level_of m) k.hint ≡ false → tree.get nat_cmp k.callsites (callsite_of m) ≡ Some one → ¬ (ShowSame one.metadata m) → GivesInterest registry has_form x m (Err CallsiteMismatch) (Filled k) (Filled k)
+  gives_mismatch k one passes at other = record {
+    off = λ o. absurd (cc);
+    refused = (one.metadata, ap (option_map (λ (c : Callsite). c.metadata)) at, other);
+    by_form = λ f d h u. (ap (is_above (level_of m)) (sym u.hint) ∙ passes, refl);
+    kept = λ f d u. u;
+  }
+
+  -- it isn't kept, and memory was refused
+  pub gives_no_memory : (k l : Known) → is_above (level_of m) k.hint ≡ false → tree.get nat_cmp k.callsites (callsite_of m) ≡ None → l.hint ≡ k.hint → ((n : ℕ) → tree.get nat_cmp l.callsites n ≡ tree.get nat_cmp k.callsites n)
+      → GivesInterest registry has_form x m (Err OutOfMemory) (Filled k) (Filled l)
+  gives_no_memory k l passes at hint same = record {
+    off = λ o. absurd (cc);
+    refused = ap (option_map (λ (c : Callsite). c.metadata)) at;
+    by_form = λ f d h u. (ap (is_above (level_of m)) (sym u.hint) ∙ passes, λ i. Some (λ n. option_map (λ (c : Callsite). c.metadata) (same n i)));
+    kept = λ f d u. record { hint = hint ∙ u.hint; number = λ n one e. u.number n one (sym (same n) ∙ e); interest = λ n one e. u.interest n one (sym (same n) ∙ e) };
+  }
+
+  -- it isn't kept, is asked for, and is kept then
+  pub gives_asked : (k l : Known) (i : Interest) (fresh pass : Pass) → is_above (level_of m) k.hint ≡ false → tree.get nat_cmp k.callsites (callsite_of m) ≡ None → l.hint ≡ k.hint → interest_sum fresh ≡ None → AnswersInterest registry has_form x m fresh i pass
+      → ((n : ℕ) → tree.get nat_cmp l.callsites n ≡ if is_eq (nat_cmp (callsite_of m) n) then Some (record { metadata = m; interest = i }) else tree.get nat_cmp k.callsites n)
+      → GivesInterest registry has_form x m (Ok i) (Filled k) (Filled l)
+  gives_asked k l i fresh pass passes at hint none a updates = record {
+    off = λ o. absurd (cc);
+    refused = tt;
+    by_form = λ f d h u.
+        let below = ap (is_above (level_of m)) (sym u.hint) ∙ passes in
+        record {
+          above = λ b. absurd (true≢false (sym b ∙ below));
+          agrees = λ b other e. let no : Some other ≡ None = sym e ∙ ap (option_map (λ (c : Callsite). c.metadata)) at in absurd (cc);
+          never = λ b. ap is_never (sym (interest f d));
+          always = λ b. sym (interest f d) ∙ b;
+          learned = (λ z. Some (λ n. grown n z)) ∙ sym (ap (λ b. learned_if b (Some (callsites_of k)) m) below);
+        };
+    kept = λ f d u. record { hint = hint ∙ u.hint; number = λ n one e. numbered f u n one e; interest = λ n one e. answered f d u n one e };
+  }
+    where
+      interest : (f : Form) → has_form x f → i ≡ (interest_of f m (registry x).filters None).0
+      interest f d = (a f d).answer ∙ ap (λ sum. (interest_of f m (registry x).filters sum).0) none
+
+      is_it : (n : ℕ) (b : Bool) → is_eq (nat_cmp (callsite_of m) n) ≡ b → (callsite_of m == n) ≡ b
+      is_it n b e = same_test (callsite_of m) n b e
+
+      grown : (n : ℕ) → callsites_of l n ≡ with_callsite (callsites_of k) m n
+      grown n = ap (option_map (λ (c : Callsite). c.metadata)) (updates n) ∙ by_test (is_eq (nat_cmp (callsite_of m) n)) refl
+        where
+          by_test : (b : Bool) → is_eq (nat_cmp (callsite_of m) n) ≡ b
+              → option_map (λ (c : Callsite). c.metadata) (if b then Some (record { metadata = m; interest = i }) else tree.get nat_cmp k.callsites n) ≡ (if (callsite_of m == n) then Some (unwrap_or (callsites_of k n) m) else callsites_of k n)
+          by_test true e =
+              let it = is_it n true e in
+              let gone : callsites_of k n ≡ None = ap (λ z. option_map (λ (c : Callsite). c.metadata) (tree.get nat_cmp k.callsites z)) (sym (eqb-true (callsite_of m) n it)) ∙ ap (option_map (λ (c : Callsite). c.metadata)) at in
+              ap (λ (o : Option Metadata). Some (unwrap_or o m)) (sym gone) ∙ sym (ap (λ b. if b then Some (unwrap_or (callsites_of k n) m) else callsites_of k n) it)
+          by_test false e = sym (ap (λ b. if b then Some (unwrap_or (callsites_of k n) m) else callsites_of k n) (is_it n false e))
+
+      entry : (n : ℕ) (one : Callsite) (P : Callsite → Type 0) → (callsite_of m ≡ n → P (record { metadata = m; interest = i })) → (tree.get nat_cmp k.callsites n ≡ Some one → P one) → tree.get nat_cmp l.callsites n ≡ Some one → P one
+      entry n one P new old e = by_test (is_eq (nat_cmp (callsite_of m) n)) refl (sym (updates n) ∙ e)
+        where
+          by_test : (b : Bool) → is_eq (nat_cmp (callsite_of m) n) ≡ b → (if b then Some (record { metadata = m; interest = i }) else tree.get nat_cmp k.callsites n) ≡ Some one → P one
+          by_test true t h = let it : record { metadata = m; interest = i } ≡ one = cc in subst P it (new (eqb-true (callsite_of m) n (is_it n true t)))
+          by_test false t h = old h
+
+      numbered : (f : Form) → IsCurrent f (registry x).filters k → (n : ℕ) (one : Callsite) → tree.get nat_cmp l.callsites n ≡ Some one → callsite_of one.metadata ≡ n
+      numbered f u n one e = entry n one (λ c. callsite_of c.metadata ≡ n) (λ it. it) (u.number n one) e
+
+      answered : (f : Form) → has_form x f → IsCurrent f (registry x).filters k → (n : ℕ) (one : Callsite) → tree.get nat_cmp l.callsites n ≡ Some one → one.interest ≡ (interest_of f one.metadata (registry x).filters None).0
+      answered f d u n one e = entry n one (λ c. c.interest ≡ (interest_of f c.metadata (registry x).filters None).0) (λ it. interest f d) (u.interest n one) e
+
+  -- a cache that was just begun: nothing is in it but the hint
+  pub gives_begun : (k : Known) (new : Cache) (i : Result Interest TraceError) → ((n : ℕ) → tree.get nat_cmp k.callsites n ≡ None) → ((f : Form) → has_form x f → k.hint ≡ hint_of f) → GivesInterest registry has_form x m i (Filled k) new → GivesInterest registry has_form x m i Empty new
+  gives_begun k new i nothing hint h =
+      let none : callsites_of k ≡ no_callsite = λ z n. option_map (λ (c : Callsite). c.metadata) (nothing n z) in
+      let current : (f : Form) → has_form x f → IsCurrent f (registry x).filters k =
+      λ f d. record { hint = hint f d; number = λ n one e. let no : None ≡ Some one = sym (nothing n) ∙ e in absurd (cc); interest = λ n one e. let no : None ≡ Some one = sym (nothing n) ∙ e in absurd (cc) } in
+      record {
+        off = λ o. absurd (cc);
+        refused = subst (λ c. Rattle.std.specs.Prelude.IfErr i (RefusesInterest (Some c) m)) none h.refused;
+        by_form = λ f d g u. subst (λ c. HasInterestBy (Some c) f (registry x).filters m (kept_in new) i) none (h.by_form f d g (current f d));
+        kept = λ f d u. h.kept f d (current f d);
+      }

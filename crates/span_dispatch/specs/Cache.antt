@@ -1,0 +1,70 @@
+-- What a dispatcher keeps of its stack's answers: the hint, and the interest in the callsites that it was asked of.
+use Rattle.std.specs.Prelude.{◌≡◌, ⊤, ℕ, ◌==◌, if◌then◌else◌, Option, Some, None}
+use Rattle.std.specs.BTreeMap as tree
+use Rattle.std.specs.Option.{option_map, unwrap_or}
+use Rattle.std.specs.Ordering.{nat_cmp}
+use Rattle.span_core.specs.Metadata.{ShowSame, callsite_of}
+use Rattle.span_core.specs.declared.error.TraceError.TheVariants.{CallsiteMismatch, OutOfMemory}
+use Rattle.span_core.specs.declared.error.TraceError.{TraceError}
+use Rattle.span_core.specs.declared.metadata.Metadata.{Metadata}
+use Rattle.span_dispatch.specs.declared.cache.Cache.TheVariants as cache
+use Rattle.span_dispatch.specs.declared.cache.Cache.{Cache}
+use Rattle.span_dispatch.specs.declared.cache.Callsite.{Callsite}
+use Rattle.span_dispatch.specs.declared.cache.Known.{Known}
+use Rattle.span_registry.specs.Form.{Form}
+use Rattle.span_registry.specs.Question.{hint_of, interest_of}
+
+-- callsites by number, each with the metadata of which the interest was asked
+abbrev pub Callsites : Type 0
+Callsites = ℕ → Option Metadata
+
+-- none
+abbrev pub no_callsite : Callsites
+no_callsite n = None
+
+-- these and the callsite of these metadata, unless it is among them already
+abbrev pub with_callsite : Callsites → Metadata → Callsites
+with_callsite callsites m n = if callsite_of m == n then Some (unwrap_or (callsites n) m) else callsites n
+
+-- the callsites whose interest is kept; or none, where nothing ever is
+abbrev pub Memory : Type 0
+Memory = Option Callsites
+
+-- if their callsite is kept, then with metadata that show the same
+abbrev pub Agrees : Memory → Metadata → Type 0
+Agrees None m = ⊤
+Agrees (Some callsites) m = (k : Metadata) → callsites (callsite_of m) ≡ Some k → ShowSame k m
+
+-- why an interest isn't to be had: the callsite is kept with other metadata, or it isn't kept, and memory was refused. Where nothing is kept none is needed
+abbrev pub RefusesInterest : Memory → Metadata → TraceError → Type 0
+RefusesInterest (Some callsites) m CallsiteMismatch = (k : Metadata) × (callsites (callsite_of m) ≡ Some k) × ¬ (ShowSame k m)
+RefusesInterest (Some callsites) m OutOfMemory = callsites (callsite_of m) ≡ None
+RefusesInterest memory m e = ⊥
+
+-- Below: the cache itself.
+
+-- the callsites that are known
+abbrev pub callsites_of : Known → Callsites
+callsites_of k n = option_map (λ (one : Callsite). one.metadata) (tree.get nat_cmp k.callsites n)
+
+-- what is kept in a cache
+abbrev pub kept_in : Cache → Memory
+kept_in cache.Off = None
+kept_in cache.Empty = Some no_callsite
+kept_in (cache.Filled k) = Some (callsites_of k)
+
+-- the same with nothing kept any more
+abbrev pub forgotten : Cache → Cache
+forgotten (cache.Filled k) = cache.Empty
+forgotten other = other
+
+-- what is known is what a stack of this form would answer now, on a registry that handed out this many filters
+pub record IsCurrent (f : Form) (filters : ℕ) (k : Known) : Type 0 where
+  pub hint : k.hint ≡ hint_of f
+  pub number : (n : ℕ) (one : Callsite) → tree.get nat_cmp k.callsites n ≡ Some one → callsite_of one.metadata ≡ n
+  pub interest : (n : ℕ) (one : Callsite) → tree.get nat_cmp k.callsites n ≡ Some one → one.interest ≡ (interest_of f one.metadata filters None).0
+
+-- what is kept, if anything, is that
+abbrev pub IsUpToDate : Form → ℕ → Cache → Type 0
+IsUpToDate f filters (cache.Filled k) = IsCurrent f filters k
+IsUpToDate f filters other = ⊤
