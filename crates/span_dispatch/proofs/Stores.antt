@@ -7,7 +7,7 @@ use Rattle.span_core.specs.Pass.{refused_of}
 use Rattle.span_core.specs.declared.span.Attributes.{Attributes}
 use Rattle.span_core.specs.declared.span.Id.{Id}
 use Rattle.span_core.specs.declared.span.Lane.{Lane}
-use Rattle.span_dispatch.specs.Cache.{Memory}
+use Rattle.span_dispatch.specs.Cache.{Memory, RefusesInterest}
 use Rattle.span_dispatch.specs.Call.{DropsSpan, FindsOpen, OpensFor, TakesHandle, WantsEvent, WantsMetadata}
 use Rattle.span_dispatch.specs.Serve.{ClosesEach}
 use Rattle.span_registry.proofs.CallerLemmas.{begins_with, closes_itself, closes_with_hooks, drops_open, nothing_taken, same_itself, taken_out, settled_closed, settled_still}
@@ -54,6 +54,11 @@ module _ {S : Type 0} (registry : S → RegistryState) (has_form : S → Form �
   pub metadata_wanted : (memory : Memory) (m meta : Metadata) (fresh pass : Pass) (said : Bool) → m ≡ meta → IsEmpty (refusals fresh) → (memory ≡ None → AnswersEnabled registry has_form x lane m fresh said pass) → WantsMetadata registry has_form lane meta memory x said
   metadata_wanted None m meta fresh pass said same empty a = λ f d. (a refl f d).answer ∙ asked_same f m meta fresh same empty
   metadata_wanted (Some callsites) m meta fresh pass said same empty a = tt
+
+  -- where nothing is kept no interest is wanting
+  pub unrefused : (memory : Memory) (m meta : Metadata) (e : TraceError) → RefusesInterest memory m e → WantsMetadata registry has_form lane meta memory x true
+  unrefused None m meta e h = absurd h
+  unrefused (Some callsites) m meta e h = tt
 
   pub asked_of : (memory : Memory) (m meta : Metadata) (fresh pass : Pass) (said : Result Bool TraceError) → m ≡ meta → IsEmpty (refusals fresh) → (memory ≡ None → IfOk said (λ b. AnswersEnabled registry has_form x lane m fresh b pass)) → IfOk said (WantsMetadata registry has_form lane meta memory x)
   asked_of memory m meta fresh pass (Ok said) same empty a = metadata_wanted memory m meta fresh pass said same empty a

@@ -59,6 +59,10 @@ forgetful d = record d { cache = forgotten d.cache }
 abbrev pub TakesStep : {S : Type 0} → (S → RegistryState) → (RegistryState → RegistryState → Type 0) → Dispatch S → Dispatch S → Type 0
 TakesStep registry step old new = AndHooks registry step (stack_of old) (stack_of new)
 
+-- the registry alone changes: no layer is notified
+abbrev pub ChangesAlone : {S : Type 0} → (S → RegistryState) → (S → RegistryState → S) → Dispatch S → Dispatch S → Type 0
+ChangesAlone registry with_registry old new = stack_of new ≡ with_registry (stack_of old) (registry (stack_of new))
+
 -- the span that an answer gave
 abbrev pub made_by : Option Answer → Option Id
 made_by (Some (answer.Made x)) = Some x

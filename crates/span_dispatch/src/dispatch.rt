@@ -1,6 +1,6 @@
 //! A dispatcher: it takes requests, asks the layers of a stack, and notifies them.
 ghost use Rattle.std.specs.Borrow.{Lends, sem};
-ghost use Rattle.std.specs.Prelude.{◌≡◌, ℕ, None, Ok, Some, false, IfErr, IfOk, MatchOption, OnErr, OnOk, is_some};
+ghost use Rattle.std.specs.Prelude.{◌≡◌, ℕ, None, Ok, Some, false, true, IfErr, IfOk, MatchOption, OnErr, OnOk, is_some};
 ghost use Rattle.span_core.specs.Event.{event_metadata};
 ghost use Rattle.span_core.specs.Filters.{IsEmpty};
 ghost use Rattle.span_core.specs.Span.{metadata_of, number_of};
@@ -9,13 +9,13 @@ ghost use Rattle.span_dispatch.specs.Cache.{RefusesInterest, no_callsite};
 ghost use Rattle.span_dispatch.specs.Call.{AddHandle, AskCurrent, DropHandle, DropsSpan, Enter, Exit, FindsOpen, Follow, OpensFor, OpenSpan, Probe, RecordValues, RefusesSpan, RefusesUnlessOpen, SendEvent, TakesHandle, WantsEvent, WantsMetadata, current_answer, done_answer, event_answer, span_answer, yes_answer};
 ghost use Rattle.span_dispatch.specs.contracts.dispatch.Dispatch.{the_row};
 ghost use Rattle.span_dispatch.specs.declared.request.Answer.TheVariants.{Done};
-ghost use Rattle.span_dispatch.specs.Serve.{Admits, AnswersCall, AnswersDrop, ClosesEach, IsReady, IsReadyAfter, KeepsUpToDate, StaysReady, TakesStep, forgetful, kept_by, stack_of, with_stack};
+ghost use Rattle.span_dispatch.specs.Serve.{Admits, AnswersCall, AnswersDrop, ChangesAlone, ClosesEach, IsReady, IsReadyAfter, KeepsUpToDate, StaysReady, TakesStep, forgetful, kept_by, stack_of, with_stack};
 ghost use Rattle.span_registry.specs.Step.{Clones, Enters, Exits, RefusesClone, RefusesEnter, RefusesRelease, ShowsCurrent};
 ghost use Rattle.span_registry.specs.Closes.{IsSettled};
 ghost use Rattle.span_registry.specs.Form.{Form};
 ghost use Rattle.span_registry.specs.Hooks.{AnswersEnabled, Stays};
 ghost use Rattle.span_registry.specs.Question.{refusals};
-ghost use Rattle.span_registry.specs.Store.{IsClosing};
+ghost use Rattle.span_registry.specs.Store.{IsClosing, IsOpen};
 
 use crate::cache::Cache;
 use span_core::{
@@ -151,6 +151,7 @@ impl<S: Subscriber> Dispatch<S> {
         ensures served { AnswersCall S.registry S.with_registry S.has_form S.stepped (OpenSpan lane attrs.now) (span_answer result) self.old self.new }
         ensures asked { IfOk result (λ o. WantsMetadata S.registry S.has_form lane (metadata_of attrs.now) (kept_by self.old) (stack_of self.old) (is_some o)) }
         ensures store { IfOk result (λ o. MatchOption o (stack_of self.new ≡ stack_of self.old) (λ id. TakesStep S.registry (OpensFor lane attrs.now id) self.old self.new)) }
+        ensures wanted { IfErr result (λ e. WantsMetadata S.registry S.has_form lane (metadata_of attrs.now) (kept_by self.old) (stack_of self.old) true) }
         ensures refused { IfErr result (RefusesSpan (kept_by self.old) (S.registry (stack_of self.old)) lane attrs.now) }
         ensures unchanged { OnErr result (stack_of self.new ≡ stack_of self.old) }
     {
@@ -212,6 +213,7 @@ impl<S: Subscriber> Dispatch<S> {
         ensures ready { StaysReady S.registry S.with_registry S.has_form S.stepped self.old self.new }
         ensures served { AnswersCall S.registry S.with_registry S.has_form S.stepped (Exit lane id) (Done) self.old self.new }
         ensures store { TakesStep S.registry (Exits lane id) self.old self.new }
+        ensures gone { ¬ (IsOpen (S.registry (stack_of self.old)).store.spans (number_of id)) → ChangesAlone S.registry S.with_registry self.old self.new }
     {
         if self.stack.root().is_open(id) {
             self.stack.exit(lane, id);
@@ -263,6 +265,7 @@ impl<S: Subscriber> Dispatch<S> {
         ensures same { IfOk result (λ cloned. cloned ≡ id) }
         ensures served { AnswersCall S.registry S.with_registry S.has_form S.stepped (AddHandle lane id) (done_answer result) self.old self.new }
         ensures store { OnOk result (TakesStep S.registry (Clones id) self.old self.new) }
+        ensures alone { ChangesAlone S.registry S.with_registry self.old self.new }
         ensures refused { IfErr result (RefusesClone (S.registry (stack_of self.old)) id) }
         ensures unchanged { OnErr result (self.new ≡ self.old) }
     {

@@ -1,7 +1,7 @@
-use Rattle.span_dispatch.specs.Serve.{kept_by, with_stack}
+use Rattle.span_dispatch.specs.Serve.{kept_by, stack_of, with_stack}
 use Rattle.span_dispatch.proofs.Goes.{ready_again}
 use Rattle.span_dispatch.proofs.Stores.{gone_store}
-use Rattle.std.proofs.Common.{subst, sym, ◌∙◌}
+use Rattle.std.proofs.Common.{ap, subst, sym, ◌∙◌}
 use Rattle.std.proofs.lemmas.Bool.{true≢false}
 use Rattle.span_core.specs.Span.{number_of}
 use Rattle.span_registry.specs.Step.{Exits}
@@ -27,3 +27,9 @@ returns-clause-served g c = λ f h u. (gone_so g.met.S.Subscriber.laws g.met.S.L
 
 pub returns-clause-store : goal.returns-clause-store
 returns-clause-store g c = gone_store g.S.LookupSpan.registry g.S.LookupSpan.with_registry g.met.S.LookupSpan.registry_with c.args.lane c.args.id c.args.self.now.stack c.exit-2.new.self (subst (λ (s : RegistryState). Exits c.args.lane c.args.id s c.exit-2.new.self) c.root_mut.ensures.value c.exit-2.ensures)
+
+pub returns-then-is_open-clause-gone : goal.returns-then-is_open-clause-gone
+returns-then-is_open-clause-gone g c = λ shut. absurd (shut (subst (λ (s : RegistryState). IsOpen s.store.spans (number_of c.args.id)) c.root.ensures (c.is_open.ensures.0 c.if-is_open.true)))
+
+pub returns-clause-gone : goal.returns-clause-gone
+returns-clause-gone g c = λ shut. ap (λ w. g.S.LookupSpan.with_registry (stack_of c.args.self.now) w) (sym (g.met.S.LookupSpan.registry_with (stack_of c.args.self.now) c.exit-2.new.self))
