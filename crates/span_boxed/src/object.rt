@@ -79,7 +79,7 @@ pub trait DynLayer: Drop {
     fn dyn_filter_count(&self) -> u32
         ensures { ShowsBy (dyn_form self.now) (λ f. min (filters_in f) u32.MAX) result };
 
-    /// It is marked: what it refuses, it refuses through filters of its own.
+    /// It is marked: a layer under a filter, or made of such as its form says.
     fn dyn_is_filtered(&self) -> bool
         ensures { ShowsBy (dyn_form self.now) is_marked result };
 

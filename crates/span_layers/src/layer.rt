@@ -76,7 +76,7 @@ pub trait Layer<S: Subscriber> {
     fn filter_count(&self) -> u32
         ensures { ShowsBy (has_form self.now) (λ f. min (filters_in f) u32.MAX) result };
 
-    /// It is marked: what it refuses, it refuses through filters of its own.
+    /// It is marked: a layer under a filter, or made of such as its form says.
     fn is_filtered(&self) -> bool
         ensures { ShowsBy (has_form self.now) is_marked result };
 

@@ -15,6 +15,8 @@ mod stack;
 #[cfg(test)]
 mod tests;
 #[cfg(test)]
+mod tests_hooks;
+#[cfg(test)]
 mod tests_list;
 #[cfg(test)]
 mod tests_optional;

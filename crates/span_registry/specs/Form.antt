@@ -37,7 +37,7 @@ both_marked OnSubscriber first last second = first || second
 both_marked InPair first last second = first && second
 both_marked InList first last second = first && (last || second)
 
--- whether it is marked: what it refuses, it refuses through a filter, for its own part alone
+-- whether it is marked: it is a layer under a filter, or made of such, as its parts stand together
 abbrev pub is_marked : Form → Bool
 is_marked (Leaf still a) = false
 is_marked (Filtered n a f) = true
