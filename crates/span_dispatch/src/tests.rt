@@ -59,13 +59,11 @@ fn a_span_closes_with_its_last_handle(rt: HostRuntime) -> Result<(), Fail> {
     Ok(())
 }
 
-#[test]
-fn a_list_names_spans_by_their_places(rt: HostRuntime) -> Result<(), Fail> {
-    let mut dispatch = plain(rt.alloc())?;
-    let never = Id::from_u64(0);
+/// Requests that name spans by the places of those that make them.
+fn requests_by_places(never: Id) -> [Request<'static>; 9] {
     let span = metadata_of(Kind::SPAN);
     let event = metadata_of(Kind::EVENT);
-    let requests = [
+    [
         Request::NewSpan(LANE, span, WhichParent::Root, &[]),
         Request::NewSpan(LANE, span, WhichParent::Explicit(Which::Made(0)), &[]),
         Request::Event(LANE, event, WhichParent::Explicit(Which::Made(1)), &[]),
@@ -75,7 +73,14 @@ fn a_list_names_spans_by_their_places(rt: HostRuntime) -> Result<(), Fail> {
         Request::Follows(LANE, Which::Made(0), Which::Made(3)),
         Request::Enter(LANE, Which::Known(never)),
         Request::NewSpan(LANE, span, WhichParent::Explicit(Which::Known(never)), &[]),
-    ];
+    ]
+}
+
+#[test]
+fn a_list_names_spans_by_their_places(rt: HostRuntime) -> Result<(), Fail> {
+    let mut dispatch = plain(rt.alloc())?;
+    let never = Id::from_u64(0);
+    let requests = requests_by_places(never);
     let answers = dispatch.serve(rt.alloc(), &requests)?;
     let root = made(&answers, 0)?;
     let child = made(&answers, 1)?;
@@ -110,12 +115,10 @@ fn a_list_names_spans_by_their_places(rt: HostRuntime) -> Result<(), Fail> {
     Ok(())
 }
 
-#[test]
-fn a_list_is_answered_in_its_order(rt: HostRuntime) -> Result<(), Fail> {
-    let mut dispatch = plain(rt.alloc())?;
+/// Requests of each kind, for one span.
+fn requests_of_one_span(never: Id) -> [Request<'static>; 13] {
     let span = Which::Made(0);
-    let never = Id::from_u64(0);
-    let requests = [
+    [
         Request::NewSpan(LANE, metadata_of(Kind::SPAN), WhichParent::Contextual, &[]),
         Request::Clone(LANE, span),
         Request::Enter(LANE, span),
@@ -129,7 +132,14 @@ fn a_list_is_answered_in_its_order(rt: HostRuntime) -> Result<(), Fail> {
         Request::Drop(LANE, span),
         Request::Drop(LANE, span),
         Request::Clone(LANE, span),
-    ];
+    ]
+}
+
+#[test]
+fn a_list_is_answered_in_its_order(rt: HostRuntime) -> Result<(), Fail> {
+    let mut dispatch = plain(rt.alloc())?;
+    let never = Id::from_u64(0);
+    let requests = requests_of_one_span(never);
     let answers = dispatch.serve(rt.alloc(), &requests)?;
     let id = made(&answers, 0)?;
     assert_eq!(rt;
