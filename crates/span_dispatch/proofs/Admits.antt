@@ -16,7 +16,7 @@ use Rattle.span_core.specs.declared.interest.Interest.{Interest}
 use Rattle.span_core.specs.declared.metadata.Metadata.{Metadata}
 use Rattle.span_core.specs.declared.pass.Pass.{Pass}
 use Rattle.span_core.specs.declared.span.Lane.{Lane}
-use Rattle.span_dispatch.specs.Admission.{GivesInterest, HasInterestBy, IsAdmitted, IsInterestBy, IsLetBy, interests_nobody, is_above_hint, learned, learned_if}
+use Rattle.span_dispatch.specs.Admission.{GivesInterest, HasInterestBy, IsAdmitted, IsInterestBy, IsLetBy, MayLearn, interests_nobody, is_above_hint, learned, learned_if}
 use Rattle.span_dispatch.specs.Cache.{Callsites, IsCurrent, IsUpToDate, Memory, RefusesInterest, callsites_of, kept_in, no_callsite, with_callsite}
 use Rattle.span_dispatch.specs.declared.cache.Cache.TheVariants.{Empty, Filled, Off}
 use Rattle.span_dispatch.specs.declared.cache.Cache.{Cache}
@@ -122,6 +122,7 @@ module _ {S : Type 0} (registry : S → RegistryState) (has_form : S → Form �
   pub gives_off : GivesInterest registry has_form x m (Ok Sometimes) Off Off
   gives_off = record {
     off = λ e. refl;
+    learns = inl refl;
     refused = tt;
     by_form = λ f d h u. record { above = λ e. absurd (false≢true e); agrees = λ e. tt; never = λ e. refl; always = λ e. absurd (cc); learned = refl };
     kept = λ f d u. tt;
@@ -131,6 +132,7 @@ module _ {S : Type 0} (registry : S → RegistryState) (has_form : S → Form �
   pub gives_above : (k : Known) → is_above (level_of m) k.hint ≡ true → GivesInterest registry has_form x m (Ok Never) (Filled k) (Filled k)
   gives_above k e = record {
     off = λ o. absurd (cc);
+    learns = inl refl;
     refused = tt;
     by_form = λ f d h u.
         let above = ap (is_above (level_of m)) (sym u.hint) ∙ e in
@@ -161,6 +163,7 @@ module _ {S : Type 0} (registry : S → RegistryState) (has_form : S → Form �
   pub gives_kept : (k : Known) (one : Callsite) → is_above (level_of m) k.hint ≡ false → tree.get nat_cmp k.callsites (callsite_of m) ≡ Some one → ShowSame one.metadata m → GivesInterest registry has_form x m (Ok one.interest) (Filled k) (Filled k)
   gives_kept k one passes at same = record {
     off = λ o. absurd (cc);
+    learns = inl refl;
     refused = tt;
     by_form = λ f d h u.
         let below = ap (is_above (level_of m)) (sym u.hint) ∙ passes in
@@ -180,6 +183,7 @@ module _ {S : Type 0} (registry : S → RegistryState) (has_form : S → Form �
   pub gives_mismatch : (k : Known) (one : Callsite) → is_above (level_of m) k.hint ≡ false → tree.get nat_cmp k.callsites (callsite_of m) ≡ Some one → ¬ (ShowSame one.metadata m) → GivesInterest registry has_form x m (Err CallsiteMismatch) (Filled k) (Filled k)
   gives_mismatch k one passes at other = record {
     off = λ o. absurd (cc);
+    learns = inl refl;
     refused = (one.metadata, ap (option_map (λ (c : Callsite). c.metadata)) at, other);
     by_form = λ f d h u. (ap (is_above (level_of m)) (sym u.hint) ∙ passes, refl);
     kept = λ f d u. u;
@@ -190,6 +194,7 @@ module _ {S : Type 0} (registry : S → RegistryState) (has_form : S → Form �
       → GivesInterest registry has_form x m (Err OutOfMemory) (Filled k) (Filled l)
   gives_no_memory k l passes at hint same = record {
     off = λ o. absurd (cc);
+    learns = inl (λ i. Some (λ n. option_map (λ (c : Callsite). c.metadata) (same n i)));
     refused = ap (option_map (λ (c : Callsite). c.metadata)) at;
     by_form = λ f d h u. (ap (is_above (level_of m)) (sym u.hint) ∙ passes, λ i. Some (λ n. option_map (λ (c : Callsite). c.metadata) (same n i)));
     kept = λ f d u. record { hint = hint ∙ u.hint; number = λ n one e. u.number n one (sym (same n) ∙ e); interest = λ n one e. u.interest n one (sym (same n) ∙ e) };
@@ -201,6 +206,7 @@ module _ {S : Type 0} (registry : S → RegistryState) (has_form : S → Form �
       → GivesInterest registry has_form x m (Ok i) (Filled k) (Filled l)
   gives_asked k l i fresh pass passes at hint none a updates = record {
     off = λ o. absurd (cc);
+    learns = inr (λ z. Some (λ n. grown n z));
     refused = tt;
     by_form = λ f d h u.
         let below = ap (is_above (level_of m)) (sym u.hint) ∙ passes in
@@ -252,6 +258,7 @@ module _ {S : Type 0} (registry : S → RegistryState) (has_form : S → Form �
       λ f d. record { hint = hint f d; number = λ n one e. let no : None ≡ Some one = sym (nothing n) ∙ e in absurd (cc); interest = λ n one e. let no : None ≡ Some one = sym (nothing n) ∙ e in absurd (cc) } in
       record {
         off = λ o. absurd (cc);
+        learns = subst (λ c. MayLearn (Some c) m (kept_in new)) none h.learns;
         refused = subst (λ c. Rattle.std.specs.Prelude.IfErr i (RefusesInterest (Some c) m)) none h.refused;
         by_form = λ f d g u. subst (λ c. HasInterestBy (Some c) f (registry x).filters m (kept_in new) i) none (h.by_form f d g (current f d));
         kept = λ f d u. h.kept f d (current f d);

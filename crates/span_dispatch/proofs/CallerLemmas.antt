@@ -1,5 +1,5 @@
 -- For the proofs of callers: what was made of a list that was served, request by request, and what a leaf sees of it.
-use Rattle.std.proofs.Common.{◌≡◌, ◌∙◌, ◌⊎◌, inl, inr, Bool, Option, Some, None, List, [], ◌∷◌, ◌++◌, ap, append_assoc, false, refl, sym, subst, true}
+use Rattle.std.proofs.Common.{◌≡◌, ◌∙◌, ◌⊎◌, ℕ, inl, inr, Bool, Option, Some, None, List, [], ◌∷◌, ◌++◌, ap, append_assoc, false, refl, sym, subst, true}
 use Rattle.std.proofs.lemmas.Bool.{false≢true}
 use Rattle.span_core.specs.Event.{event_metadata}
 use Rattle.span_core.specs.Span.{asked_parent, metadata_of}
@@ -9,11 +9,14 @@ use Rattle.span_core.specs.declared.metadata.Metadata.{Metadata}
 use Rattle.span_core.specs.declared.span.Attributes.{Attributes}
 use Rattle.span_core.specs.declared.span.Id.{Id}
 use Rattle.span_core.specs.declared.span.Lane.{Lane}
-use Rattle.span_dispatch.specs.Admission.{IsDropped, IsUnknown, Learns, learned}
-use Rattle.span_dispatch.specs.Cache.{Memory}
+use Rattle.span_dispatch.specs.Admission.{IsDropped, IsUnknown, LearnsOfSpan, learned}
+use Rattle.span_dispatch.specs.Cache.{IsUpToDate, Memory, forgotten}
 use Rattle.span_dispatch.specs.Call.{AddHandle, AskCurrent, Call, DropHandle, Enter, Exit, Follow, OpenSpan, Probe, RecordValues, SendEvent, vetoes_whole}
 use Rattle.span_dispatch.specs.Outcome.{Made, Makes, Noticed}
-use Rattle.span_dispatch.specs.Serve.{AsksFor, IsReady, Run, Serves, ServesAsked, ServesRequest, passed, seen}
+use Rattle.span_dispatch.specs.Serve.{AsksFor, IsReady, KeepsUpToDate, Run, Serves, ServesAsked, ServesRequest, forgetful, passed, seen, with_stack}
+use Rattle.span_dispatch.specs.declared.cache.Cache.TheVariants as cache
+use Rattle.span_dispatch.specs.declared.cache.Cache.{Cache}
+use Rattle.span_dispatch.specs.declared.dispatch.Dispatch.{Dispatch}
 use Rattle.span_dispatch.specs.declared.request.Answer.TheVariants as answer
 use Rattle.span_dispatch.specs.declared.request.Answer.{Answer}
 use Rattle.span_dispatch.specs.declared.request.Request.TheVariants as request
@@ -65,7 +68,7 @@ module _ {S : Type 0} (registry : S → RegistryState) (with_registry : S → Re
 
   abbrev pub RefusedSpan : List Answer → Request → Lane → Memory → S → Goal → Type 0
   RefusedSpan past r lane memory x G = (attrs : Attributes) (e : TraceError) (f : Form) (after : Memory) → AsksFor past r (Some (OpenSpan lane attrs)) → IsUnknown memory f (metadata_of attrs) e ⊎ RefusesNew (registry x) lane (asked_parent attrs) e
-      → Learns memory f (metadata_of attrs) (answer.Refused e) after → G (answer.Refused e) [] after x
+      → LearnsOfSpan memory f (metadata_of attrs) (answer.Refused e) after → G (answer.Refused e) [] after x
 
   opened : (past : List Answer) (r : Request) (lane : Lane) (attrs : Attributes) (f : Form) (memory : Memory) (x : S) (a : Answer) (made : List Made) (after : Memory) (y : S) (G : Goal) → MadeSpan past r lane memory x G → DroppedSpan past r lane memory x G
       → RefusedSpan past r lane memory x G → AsksFor past r (Some (OpenSpan lane attrs)) → IsReady registry with_registry has_form stepped f x → Serves registry with_registry has_form stepped (OpenSpan lane attrs) f memory x a made after y → G a made after y
@@ -118,7 +121,7 @@ module _ {S : Type 0} (registry : S → RegistryState) (with_registry : S → Re
       → IsDropped memory f (registry x) lane (event_metadata e) (vetoes_whole f e (registry x).store lane) → after ≡ learned memory f (event_metadata e) → G answer.Dropped [] after x
 
   abbrev pub RefusedEvent : List Answer → Request → Lane → Memory → S → Goal → Type 0
-  RefusedEvent past r lane memory x G = (e : Event) (error : TraceError) (f : Form) (after : Memory) → AsksFor past r (Some (SendEvent lane e)) → IsUnknown memory f (event_metadata e) error → Learns memory f (event_metadata e) (answer.Refused error) after
+  RefusedEvent past r lane memory x G = (e : Event) (error : TraceError) (f : Form) (after : Memory) → AsksFor past r (Some (SendEvent lane e)) → IsUnknown memory f (event_metadata e) error → after ≡ memory
       → G (answer.Refused error) [] after x
 
   sent : (past : List Answer) (r : Request) (lane : Lane) (event : Event) (f : Form) (memory : Memory) (x : S) (a : Answer) (made : List Made) (after : Memory) (y : S) (G : Goal) → MadeEvent past r lane memory x G → DroppedEvent past r lane memory x G
@@ -170,6 +173,15 @@ pub known_unkept : (f : Form) (m : Metadata) (e : TraceError) → IsUnknown None
 known_unkept f m e h = h.refused
 
 -- and nothing is kept afterwards
-pub unkept_still : (f : Form) (m : Metadata) (e : TraceError) (after : Memory) → Learns None f m (answer.Refused e) after → after ≡ None
-unkept_still f m e after (inl h) = h
+pub unkept_still : (f : Form) (m : Metadata) (e : TraceError) (after : Memory) → LearnsOfSpan None f m (answer.Refused e) after → after ≡ None
+unkept_still f m e after (inl h) = h.1
 unkept_still f m e after (inr h) = h
+
+-- what was forgotten is up to date, whatever the stack has become
+pub forgotten_is_current : {S : Type 0} (f : Form) (n : ℕ) (d : Dispatch S) (x : S) → KeepsUpToDate f n (with_stack (forgetful d) x)
+forgotten_is_current f n d x = by_cache d.cache
+  where
+    by_cache : (c : Cache) → IsUpToDate f n (forgotten c)
+    by_cache cache.Off = tt
+    by_cache cache.Empty = tt
+    by_cache (cache.Filled k) = tt

@@ -92,7 +92,7 @@ module _ {S : Type 0} {registry : S → RegistryState} {with_registry : S → Re
   pub probed : (lane : Lane) (m : Metadata) (pass : Pass) (said : Result Bool TraceError) (after : Memory) (f : Form) (x : S) → IsAdmitted memory f (registry x) lane m pass after said → Honest f x → Done laws with_own (Probe lane m) (yes_answer said) f memory x after x
   probed lane m pass (Ok true) after f x a h = by_none laws with_own (Probe lane m) (answer.Yes true) f memory x after x h refl ((a.0, unvetoed f m (registry x).store lane pass h.rules.orderly a.1), refl) a.2
   probed lane m pass (Ok false) after f x a h = by_none laws with_own (Probe lane m) (answer.Yes false) f memory x after x h refl (a.0, refl) a.1
-  probed lane m pass (Err e) after f x a h = by_none laws with_own (Probe lane m) (answer.Refused e) f memory x after x h refl (a.0, refl) (inl a.1)
+  probed lane m pass (Err e) after f x a h = by_none laws with_own (Probe lane m) (answer.Refused e) f memory x after x h refl (a.0, refl) a.1
 
   -- ---- new spans
 
@@ -111,7 +111,7 @@ module _ {S : Type 0} {registry : S → RegistryState} {with_registry : S → Re
   pub span_unknown : (lane : Lane) (attrs : Attributes) (m : Metadata) (pass : Pass) (e : TraceError) (after : Memory) (f : Form) (x : S) → m ≡ metadata_of attrs → Admitted f x lane m pass after (Err e) → Honest f x → Done laws with_own (OpenSpan lane attrs) (answer.Refused e) f memory x after x
   span_unknown lane attrs m pass e after f x same a h =
       let d = by_metadata f x lane m (metadata_of attrs) pass after (Err e) same a in
-      by_none laws with_own (OpenSpan lane attrs) (answer.Refused e) f memory x after x h refl (inl d.0, refl) (inl d.1)
+      by_none laws with_own (OpenSpan lane attrs) (answer.Refused e) f memory x after x h refl (inl d.0, refl) (inl (d.0.refused, d.1))
 
   pub span_made : (lane : Lane) (attrs : Attributes) (m : Metadata) (pass : Pass) (id : Id) (after : Memory) (f : Form) (x y : S) → m ≡ metadata_of attrs → Admitted f x lane m pass after (Ok true)
       → OpensAndNotifies registry has_form stepped lane attrs pass x y id → Honest f x → Done laws with_own (OpenSpan lane attrs) (answer.Made id) f memory x after y
@@ -145,7 +145,7 @@ module _ {S : Type 0} {registry : S → RegistryState} {with_registry : S → Re
   pub event_unknown : (lane : Lane) (e : Event) (m : Metadata) (pass : Pass) (error : TraceError) (after : Memory) (f : Form) (x : S) → m ≡ event_metadata e → Admitted f x lane m pass after (Err error) → Honest f x → Done laws with_own (SendEvent lane e) (answer.Refused error) f memory x after x
   event_unknown lane e m pass error after f x same a h =
       let d = by_metadata f x lane m (event_metadata e) pass after (Err error) same a in
-      by_none laws with_own (SendEvent lane e) (answer.Refused error) f memory x after x h refl (d.0, refl) (inl d.1)
+      by_none laws with_own (SendEvent lane e) (answer.Refused error) f memory x after x h refl (d.0, refl) d.1
 
   wanted_or_vetoed : (f : Form) (x : S) (lane : Lane) (e : Event) (before pass : Pass) (said : Bool) → Honest f x → AnswersEvent registry has_form x lane e before said pass → said ≡ not (vetoes_event f e (registry x).store lane.0)
   wanted_or_vetoed f x lane e before pass said h a = (a f h.has).answer ∙ event_unless_vetoed f e (registry x).store lane.0 (refusals before) h.rules.orderly

@@ -68,10 +68,19 @@ learned_if false memory m = option_map (λ callsites. with_callsite callsites m)
 abbrev pub learned : Memory → Form → Metadata → Memory
 learned memory f m = learned_if (is_above_hint memory f m) memory m
 
--- the same after an answer: of what was refused the callsite may be kept or not
+-- the same after an answer to an event or a probe: of what was refused, as it was
 abbrev pub Learns : Memory → Form → Metadata → Answer → Memory → Type 0
-Learns memory f m (answer.Refused e) after = (after ≡ memory) ⊎ (after ≡ learned memory f m)
+Learns memory f m (answer.Refused e) after = after ≡ memory
 Learns memory f m a after = after ≡ learned memory f m
+
+-- the same after an answer to a new span: where its interest wasn't to be had, as it was; where the registry refused it, its callsite is kept
+abbrev pub LearnsOfSpan : Memory → Form → Metadata → Answer → Memory → Type 0
+LearnsOfSpan memory f m (answer.Refused e) after = (RefusesInterest memory m e × (after ≡ memory)) ⊎ (after ≡ learned memory f m)
+LearnsOfSpan memory f m a after = after ≡ learned memory f m
+
+-- whatever the stack: the same is kept, and perhaps the callsite of these metadata
+abbrev pub MayLearn : Memory → Metadata → Memory → Type 0
+MayLearn memory m after = (after ≡ memory) ⊎ (after ≡ learned_if false memory m)
 
 -- Below: steps of the code, which no public clause cites.
 
@@ -91,6 +100,7 @@ HasInterestBy memory f filters m after (Err e) = (is_above_hint memory f m ≡ f
 -- a cache gives an interest: which one is said of an honest stack, where the cache is up to date, and it stays so
 pub record GivesInterest {S : Type 0} (registry : S → RegistryState) (has_form : S → Form → Type 0) (x : S) (m : Metadata) (i : Result Interest TraceError) (old new : Cache) : Type 0 where
   pub off : kept_in old ≡ None → i ≡ Ok Sometimes
+  pub learns : MayLearn (kept_in old) m (kept_in new)
   pub refused : IfErr i (RefusesInterest (kept_in old) m)
   pub by_form : (f : Form) → has_form x f → HasHonestAnswers f → IsUpToDate f (registry x).filters old → HasInterestBy (kept_in old) f (registry x).filters m (kept_in new) i
   pub kept : (f : Form) → has_form x f → IsUpToDate f (registry x).filters old → IsUpToDate f (registry x).filters new

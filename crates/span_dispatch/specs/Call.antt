@@ -13,7 +13,7 @@ use Rattle.span_core.specs.declared.span.Current.{Current}
 use Rattle.span_core.specs.declared.span.Id.{Id}
 use Rattle.span_core.specs.declared.span.Lane.{Lane}
 use Rattle.span_core.specs.declared.span.Record.{Record}
-use Rattle.span_dispatch.specs.Admission.{IsDropped, IsMade, IsUnknown, Learns}
+use Rattle.span_dispatch.specs.Admission.{IsDropped, IsMade, IsUnknown, Learns, LearnsOfSpan}
 use Rattle.span_dispatch.specs.Cache.{Memory, RefusesInterest}
 use Rattle.span_dispatch.specs.Outcome.{HandleAdded, HandleTaken, GoneLeft, Noticed, Outcome, Quiet}
 use Rattle.span_dispatch.specs.declared.request.Answer.TheVariants as answer
@@ -101,12 +101,12 @@ Comes call memory f s a os = ⊥
 
 -- which callsites are kept after a call was answered so: of what is asked by metadata that callsite, too
 abbrev pub KeepsAfter : Call → Memory → Form → Answer → Memory → Type 0
-KeepsAfter (OpenSpan lane attrs) memory f a after = Learns memory f (metadata_of attrs) a after
+KeepsAfter (OpenSpan lane attrs) memory f a after = LearnsOfSpan memory f (metadata_of attrs) a after
 KeepsAfter (SendEvent lane e) memory f a after = Learns memory f (event_metadata e) a after
 KeepsAfter (Probe lane m) memory f a after = Learns memory f m a after
 KeepsAfter call memory f a after = after ≡ memory
 
--- whether a stack wants these metadata, whatever form it has, where nothing is memory and it is asked with a new pass
+-- whether a stack wants these metadata, whatever form it has, where nothing is ever kept and it is asked with a new pass
 abbrev pub WantsMetadata : {S : Type 0} → (S → RegistryState) → (S → Form → Type 0) → Lane → Metadata → Memory → S → Bool → Type 0
 WantsMetadata registry has_form lane m (Some callsites) x wanted = ⊤
 WantsMetadata registry has_form lane m None x wanted = (f : Form) → has_form x f → wanted ≡ (asked f m (registry x).store lane.0 no_filter no_filter).0

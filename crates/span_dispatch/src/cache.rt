@@ -105,8 +105,10 @@ impl Known {
             metadata: *meta,
             interest,
         };
-        self.callsites.insert(meta.callsite(), callsite)?;
-        Ok(interest)
+        match self.callsites.insert(meta.callsite(), callsite) {
+            Ok(_) => Ok(interest),
+            Err(_) => Err(TraceError::OutOfMemory),
+        }
     }
 
     /// A level passes the hint, if there is one.

@@ -4,7 +4,7 @@ ghost use Rattle.std.specs.Prelude.{◌≡◌, ℕ, None, Ok, Some, false, true,
 ghost use Rattle.span_core.specs.Event.{event_metadata};
 ghost use Rattle.span_core.specs.Filters.{IsEmpty};
 ghost use Rattle.span_core.specs.Span.{metadata_of, number_of};
-ghost use Rattle.span_dispatch.specs.Admission.{hint_kept};
+ghost use Rattle.span_dispatch.specs.Admission.{MayLearn, hint_kept};
 ghost use Rattle.span_dispatch.specs.Cache.{RefusesInterest, no_callsite};
 ghost use Rattle.span_dispatch.specs.Call.{AddHandle, AskCurrent, DropHandle, DropsSpan, Enter, Exit, FindsOpen, Follow, OpensFor, OpenSpan, Probe, RecordValues, RefusesSpan, RefusesUnlessOpen, SendEvent, TakesHandle, WantsEvent, WantsMetadata, current_answer, done_answer, event_answer, span_answer, yes_answer};
 ghost use Rattle.span_dispatch.specs.contracts.dispatch.Dispatch.{the_row};
@@ -44,6 +44,7 @@ impl<S: Subscriber> Dispatch<S> {
         ensures registered { S.registered stack (stack_of result) }
         ensures registry { S.registry (stack_of result) ≡ S.registry stack }
         ensures kept { kept_by result ≡ Some no_callsite }
+        ensures current { (f : Form) (n : ℕ) → KeepsUpToDate f n result }
         ensures ready { (f : Form) → IsReady S.registry S.with_registry S.has_form S.stepped f stack → IsReadyAfter S.registry S.with_registry S.has_form S.stepped f result }
     {
         let mut stack = stack;
@@ -64,6 +65,7 @@ impl<S: Subscriber> Dispatch<S> {
         ensures registered { S.registered stack (stack_of result) }
         ensures registry { S.registry (stack_of result) ≡ S.registry stack }
         ensures kept { kept_by result ≡ None }
+        ensures current { (f : Form) (n : ℕ) → KeepsUpToDate f n result }
         ensures ready { (f : Form) → IsReady S.registry S.with_registry S.has_form S.stepped f stack → IsReadyAfter S.registry S.with_registry S.has_form S.stepped f result }
     {
         let mut stack = stack;
@@ -91,7 +93,7 @@ impl<S: Subscriber> Dispatch<S> {
         &mut self.stack
     }
 
-    /// The highest level that may be wanted, as the stack's hint says. None under a dispatcher that keeps nothing.
+    /// The highest level that may be wanted, as the stack's hint says. None under `fresh`.
     pub fn max_level_hint(&self) -> Option<LevelFilter>
         requires { S.usable (stack_of self.now) }
         ensures none { kept_by self.now ≡ None → result ≡ None }
@@ -112,6 +114,7 @@ impl<S: Subscriber> Dispatch<S> {
         ensures stack { stack_of self.new ≡ stack_of self.old }
         ensures admitted { Admits S.registry S.with_registry S.has_form S.stepped lane meta.now self.old pass.new result self.new }
         ensures kept { (f : Form) → S.has_form (stack_of self.old) f → KeepsUpToDate f (S.registry (stack_of self.old)).filters self.old → KeepsUpToDate f (S.registry (stack_of self.old)).filters self.new }
+        ensures learned { MayLearn (kept_by self.old) meta.now (kept_by self.new) }
         ensures nothing_kept { kept_by self.old ≡ None → IfOk result (λ said. AnswersEnabled S.registry S.has_form (stack_of self.old) lane meta.now pass.old said pass.new) }
         ensures refused { IfErr result (RefusesInterest (kept_by self.old) meta.now) }
     {
@@ -126,11 +129,12 @@ impl<S: Subscriber> Dispatch<S> {
     /// Whether a span or an event with this metadata would be made, as far as metadata decide: neither hint nor interest rules it
     /// out, and no layer vetoes it.
     ///
-    /// Refused where its callsite was kept with other metadata (`CallsiteMismatch`), else for want of memory; never where nothing
-    /// is kept.
+    /// Where its level isn't above the hint, refused where its callsite is kept with other metadata (`CallsiteMismatch`), and for want
+    /// of memory where it isn't kept; never under `fresh`.
     pub fn enabled(&mut self, lane: Lane, meta: &Metadata) -> Result<bool, TraceError>
         requires { S.usable (stack_of self.old) }
         ensures stack { stack_of self.new ≡ stack_of self.old }
+        ensures kept { MayLearn (kept_by self.old) meta.now (kept_by self.new) }
         ensures ready { StaysReady S.registry S.with_registry S.has_form S.stepped self.old self.new }
         ensures asked { IfOk result (WantsMetadata S.registry S.has_form lane meta.now (kept_by self.old) (stack_of self.old)) }
         ensures served { AnswersCall S.registry S.with_registry S.has_form S.stepped (Probe lane meta.now) (yes_answer result) self.old self.new }
@@ -147,6 +151,7 @@ impl<S: Subscriber> Dispatch<S> {
     pub fn new_span(&mut self, lane: Lane, attrs: &Attributes<'_>) -> Result<Option<Id>, TraceError>
         requires { S.usable (stack_of self.old) }
         ensures usable { S.usable (stack_of self.new) }
+        ensures kept { MayLearn (kept_by self.old) (metadata_of attrs.now) (kept_by self.new) }
         ensures ready { StaysReady S.registry S.with_registry S.has_form S.stepped self.old self.new }
         ensures served { AnswersCall S.registry S.with_registry S.has_form S.stepped (OpenSpan lane attrs.now) (span_answer result) self.old self.new }
         ensures asked { IfOk result (λ o. WantsMetadata S.registry S.has_form lane (metadata_of attrs.now) (kept_by self.old) (stack_of self.old) (is_some o)) }
@@ -171,6 +176,7 @@ impl<S: Subscriber> Dispatch<S> {
     pub fn event(&mut self, lane: Lane, event: &Event<'_>) -> Result<bool, TraceError>
         requires { S.usable (stack_of self.old) }
         ensures usable { S.usable (stack_of self.new) }
+        ensures kept { MayLearn (kept_by self.old) (event_metadata event.now) (kept_by self.new) }
         ensures ready { StaysReady S.registry S.with_registry S.has_form S.stepped self.old self.new }
         ensures served { AnswersCall S.registry S.with_registry S.has_form S.stepped (SendEvent lane event.now) (event_answer result) self.old self.new }
         ensures store { TakesStep S.registry Stays self.old self.new }
@@ -197,6 +203,7 @@ impl<S: Subscriber> Dispatch<S> {
     pub fn enter(&mut self, lane: Lane, id: Id) -> Result<(), TraceError>
         requires { S.usable (stack_of self.old) }
         ensures usable { S.usable (stack_of self.new) }
+        ensures rest { self.new ≡ with_stack self.old (stack_of self.new) }
         ensures ready { StaysReady S.registry S.with_registry S.has_form S.stepped self.old self.new }
         ensures served { AnswersCall S.registry S.with_registry S.has_form S.stepped (Enter lane id) (done_answer result) self.old self.new }
         ensures store { OnOk result (TakesStep S.registry (Enters lane id) self.old self.new) }
@@ -210,6 +217,7 @@ impl<S: Subscriber> Dispatch<S> {
     pub fn exit(&mut self, lane: Lane, id: Id)
         requires { S.usable (stack_of self.old) }
         ensures usable { S.usable (stack_of self.new) }
+        ensures rest { self.new ≡ with_stack self.old (stack_of self.new) }
         ensures ready { StaysReady S.registry S.with_registry S.has_form S.stepped self.old self.new }
         ensures served { AnswersCall S.registry S.with_registry S.has_form S.stepped (Exit lane id) (Done) self.old self.new }
         ensures store { TakesStep S.registry (Exits lane id) self.old self.new }
@@ -226,6 +234,7 @@ impl<S: Subscriber> Dispatch<S> {
     pub fn record(&mut self, lane: Lane, id: Id, values: &Record<'_>) -> Result<(), TraceError>
         requires { S.usable (stack_of self.old) }
         ensures usable { S.usable (stack_of self.new) }
+        ensures rest { self.new ≡ with_stack self.old (stack_of self.new) }
         ensures ready { StaysReady S.registry S.with_registry S.has_form S.stepped self.old self.new }
         ensures served { AnswersCall S.registry S.with_registry S.has_form S.stepped (RecordValues lane id values.now) (done_answer result) self.old self.new }
         ensures store { OnOk result (TakesStep S.registry (FindsOpen id) self.old self.new) }
@@ -243,6 +252,7 @@ impl<S: Subscriber> Dispatch<S> {
     pub fn follows_from(&mut self, lane: Lane, id: Id, follows: Id) -> Result<(), TraceError>
         requires { S.usable (stack_of self.old) }
         ensures usable { S.usable (stack_of self.new) }
+        ensures rest { self.new ≡ with_stack self.old (stack_of self.new) }
         ensures ready { StaysReady S.registry S.with_registry S.has_form S.stepped self.old self.new }
         ensures served { AnswersCall S.registry S.with_registry S.has_form S.stepped (Follow lane id follows) (done_answer result) self.old self.new }
         ensures store { OnOk result (TakesStep S.registry (FindsOpen id) self.old self.new) }
@@ -261,6 +271,7 @@ impl<S: Subscriber> Dispatch<S> {
     pub fn clone_span(&mut self, lane: Lane, id: Id) -> Result<Id, TraceError>
         requires { S.usable (stack_of self.old) }
         ensures usable { S.usable (stack_of self.new) }
+        ensures rest { self.new ≡ with_stack self.old (stack_of self.new) }
         ensures ready { StaysReady S.registry S.with_registry S.has_form S.stepped self.old self.new }
         ensures same { IfOk result (λ cloned. cloned ≡ id) }
         ensures served { AnswersCall S.registry S.with_registry S.has_form S.stepped (AddHandle lane id) (done_answer result) self.old self.new }
@@ -279,6 +290,7 @@ impl<S: Subscriber> Dispatch<S> {
     pub fn drop_span(&mut self, lane: Lane, id: Id) -> Result<bool, TraceError>
         requires { S.usable (stack_of self.old) }
         ensures usable { S.usable (stack_of self.new) }
+        ensures rest { self.new ≡ with_stack self.old (stack_of self.new) }
         ensures ready { StaysReady S.registry S.with_registry S.has_form S.stepped self.old self.new }
         ensures served { AnswersDrop S.registry S.with_registry S.has_form S.stepped (DropHandle lane id) (yes_answer result) self.old self.new }
         ensures taken { IfOk result (λ closes. TakesStep S.registry (TakesHandle id closes) self.old self.new) }

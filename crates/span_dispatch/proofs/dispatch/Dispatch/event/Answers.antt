@@ -1,7 +1,7 @@
 use Rattle.std.proofs.Common.{Ok, refl, subst, sym}
 use Rattle.span_dispatch.proofs.Calls.{event_made, event_vetoed}
 use Rattle.span_dispatch.proofs.Goes.{ready_again, same_stack, stays_so}
-use Rattle.span_dispatch.proofs.Stores.{event_unwanted, event_wanted, no_step}
+use Rattle.span_dispatch.proofs.Stores.{event_refused, event_unwanted, event_wanted, no_step}
 use Rattle.span_dispatch.specs.Admission.{IsAdmitted}
 use Rattle.span_dispatch.specs.Call.{SendEvent}
 use Rattle.span_dispatch.specs.Serve.{kept_by, stack_of, with_stack}
@@ -67,4 +67,9 @@ returns-else-not-event_enabled-clause-store g c = and_hooks
 pub returns-else-not-event_enabled-clause-asked : goal.returns-else-not-event_enabled-clause-asked
 returns-else-not-event_enabled-clause-asked g c =
     event_wanted g.S.LookupSpan.registry g.S.Subscriber.has_form c.args.lane (stack_of c.args.self.now) (kept_by c.args.self.now) c.args.event.now c.metadata.result c.new-pass.result c.admits.new.pass c.event_enabled.new.pass _ c.event_enabled.result c.metadata.ensures c.new-pass.ensures.refused refl c.if-not-event_enabled.false (λ e. subst (λ b. AnswersEnabled g.S.LookupSpan.registry g.S.Subscriber.has_form (stack_of c.args.self.now) c.args.lane c.metadata.result c.new-pass.result b c.admits.new.pass) c.in-Ok-true.field-0-test (c.in-Ok-true.ensures.nothing_kept e))
+    (subst (λ x. AnswersEvent g.S.LookupSpan.registry g.S.Subscriber.has_form x c.args.lane c.args.event.now c.admits.new.pass c.event_enabled.result c.event_enabled.new.pass) c.admits.ensures.stack c.event_enabled.ensures)
+
+pub returns-then-not-event_enabled-clause-asked : goal.returns-then-not-event_enabled-clause-asked
+returns-then-not-event_enabled-clause-asked g c =
+    event_refused g.S.LookupSpan.registry g.S.Subscriber.has_form c.args.lane (stack_of c.args.self.now) (kept_by c.args.self.now) c.args.event.now c.metadata.result c.new-pass.result c.admits.new.pass c.event_enabled.new.pass _ c.event_enabled.result c.metadata.ensures c.new-pass.ensures.refused c.if-not-event_enabled.true (λ e. subst (λ b. AnswersEnabled g.S.LookupSpan.registry g.S.Subscriber.has_form (stack_of c.args.self.now) c.args.lane c.metadata.result c.new-pass.result b c.admits.new.pass) c.in-Ok-true.field-0-test (c.in-Ok-true.ensures.nothing_kept e))
     (subst (λ x. AnswersEvent g.S.LookupSpan.registry g.S.Subscriber.has_form x c.args.lane c.args.event.now c.admits.new.pass c.event_enabled.result c.event_enabled.new.pass) c.admits.ensures.stack c.event_enabled.ensures)

@@ -58,3 +58,8 @@ pub returns-in-Err-new_span-clause-wanted : goal.returns-in-Err-new_span-clause-
 returns-in-Err-new_span-clause-wanted g c =
     subst (λ b. WantsMetadata g.S.LookupSpan.registry g.S.Subscriber.has_form c.args.lane (metadata_of c.args.attrs.now) (kept_by c.args.self.now) (stack_of c.args.self.now) b) c.in-Ok-true.field-0-test
     (metadata_wanted g.S.LookupSpan.registry g.S.Subscriber.has_form c.args.lane (stack_of c.args.self.now) (kept_by c.args.self.now) c.metadata.result (metadata_of c.args.attrs.now) c.new-pass.result c.admits.new.pass c.in-Ok-true.field-0 c.metadata.ensures c.new-pass.ensures.refused c.in-Ok-true.ensures.nothing_kept)
+
+pub returns-in-Ok-clause-asked : goal.returns-in-Ok-clause-asked
+returns-in-Ok-clause-asked g c =
+    subst (λ b. WantsMetadata g.S.LookupSpan.registry g.S.Subscriber.has_form c.args.lane (metadata_of c.args.attrs.now) (kept_by c.args.self.now) (stack_of c.args.self.now) b) c.in-Ok-true.field-0-test
+    (metadata_wanted g.S.LookupSpan.registry g.S.Subscriber.has_form c.args.lane (stack_of c.args.self.now) (kept_by c.args.self.now) c.metadata.result (metadata_of c.args.attrs.now) c.new-pass.result c.admits.new.pass c.in-Ok-true.field-0 c.metadata.ensures c.new-pass.ensures.refused c.in-Ok-true.ensures.nothing_kept)
