@@ -7,7 +7,8 @@ use crate::span::Id;
 use std::alloc::{AllocError, AllocFailed};
 use thiserror::Error;
 
-/// Why a call is refused. The store, the stacks and what else the call was to change are as before.
+/// Why a call is refused. The store, the stacks and what else the call was to change are as before; a dispatcher may have kept
+/// its stack's interest in a callsite.
 /// Its text carries no id.
 ///
 /// Own to this port: the crate panics there, or answers nothing.
