@@ -12,6 +12,7 @@ ghost use Rattle.span_registry.specs.Subscriber.{SameButExtensions};
 ghost use Rattle.span_uses.specs.Uses.{Begins, DropsAndLists, IsChainOf, Lists, RemovesAndLists};
 ghost use Rattle.span_uses.specs.Uses.{left, name_in, parent_name_in, stack_in, value_in};
 
+pub mod boxed;
 pub mod dispatch;
 pub mod filter;
 pub mod layer;
