@@ -2,4 +2,5 @@ pub mod Dispatches
 pub mod Filters
 pub mod Layers
 pub mod Stacks
+pub mod Tests
 pub mod Uses

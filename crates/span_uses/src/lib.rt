@@ -17,6 +17,8 @@ pub mod dispatch;
 pub mod filter;
 pub mod layer;
 pub mod stack;
+#[cfg(test)]
+mod tests_asked;
 
 use span_core::{Attributes, Id, Lane, Pass, Record, TraceError};
 use span_registry::{
