@@ -1,3 +1,4 @@
 mod Counter
 mod Level
+mod Optional
 mod Recorded

@@ -18,6 +18,8 @@ pub mod filter;
 pub mod layer;
 pub mod stack;
 #[cfg(test)]
+mod tests;
+#[cfg(test)]
 mod tests_asked;
 
 use span_core::{Attributes, Id, Lane, Pass, Record, TraceError};

@@ -1,0 +1,253 @@
+//! Tests over all crates: layers of many kinds in one receiver, a registry full of filters, and what a stack says of itself.
+ghost use Rattle.std.specs.Prelude.{⊤, IfOk};
+ghost use Rattle.span_dispatch.specs.Serve.{stack_of};
+ghost use Rattle.span_layers.specs.Layered.{outer_of};
+ghost use Rattle.span_registry.specs.Context.{WritesExtensions};
+
+use span_boxed::{BoxedLayer, DynLayer};
+use span_core::{
+    Event, FieldSet, Id, Interest, Kind, Lane, Level, LevelFilter, Metadata, Pass, TraceError,
+};
+use span_dispatch::{Answer, Dispatch, Notice, Recorder, Request, Which, WhichParent};
+use span_layers::{Filtered, Layer, LayerExt, Layered, Observe, Observed, Observer, SubscriberExt};
+use span_registry::{ContextMut, LookupSpan, Registry, Subscriber, Tag};
+use std::alloc::Global;
+use std::process::Abort;
+use std::test::Fail;
+
+const LANE: Lane = Lane(0);
+
+fn metadata_of(callsite: u64, level: Level, kind: Kind) -> Metadata {
+    Metadata::new(callsite, "made", "tests", level, kind, FieldSet::new(&[]))
+}
+
+/// A new span from this callsite, in none.
+fn root_from(callsite: u64, level: Level) -> Request<'static> {
+    let metadata = metadata_of(callsite, level, Kind::SPAN);
+    Request::NewSpan(LANE, metadata, WhichParent::Root, &[])
+}
+
+/// An event from this callsite, in the span that the first request of the list makes.
+fn event_from(callsite: u64, level: Level) -> Request<'static> {
+    let metadata = metadata_of(callsite, level, Kind::EVENT);
+    Request::Event(LANE, metadata, WhichParent::Explicit(Which::Made(0)), &[])
+}
+
+/// The span that the first request of the list made.
+fn first_made(answers: &[Answer]) -> Result<Id, Fail> {
+    match answers.first() {
+        Some(Answer::Made(id)) => Ok(*id),
+        _ => Err(Fail::from("no span was made")),
+    }
+}
+
+/// Counts the events of each span, in its extensions.
+#[derive(Drop)]
+struct EventCounter;
+
+/// The tag of the counts.
+fn counts() -> Tag<u64> {
+    Tag::new(0)
+}
+
+impl<S: Subscriber> Observe<S> for EventCounter {
+    ghost observed = { λ x e lane under v y w. ⊤ };
+
+    fn observe(&mut self, notice: Observed<'_, '_>, ctx: &mut ContextMut<'_, S>) {
+        let Observed::Event(event) = notice else {
+            return;
+        };
+        let Some(id) = span_of(event, ctx) else {
+            return;
+        };
+        count(id, ctx);
+    }
+}
+
+fn span_of<S: Subscriber>(event: &Event<'_>, ctx: &ContextMut<'_, S>) -> Option<Id> {
+    match ctx.ctx().event_span(event) {
+        Some(span) => Some(span.id()),
+        None => None,
+    }
+}
+
+/// Adds one to the count of a span, as far as there is memory.
+fn count<S: Subscriber>(id: Id, ctx: &mut ContextMut<'_, S>)
+    ensures { WritesExtensions S.registry S.with_registry ctx.old ctx.new }
+{
+    let Some(mut extensions) = ctx.extensions_mut(id) else {
+        return;
+    };
+    let count = match extensions.get_mut(counts()) {
+        Some(count) => count.saturating_add(1),
+        None => 1,
+    };
+    let _ = extensions.replace(counts(), count);
+}
+
+/// The count of a span.
+fn counted<S: LookupSpan>(stack: &S, id: Id) -> Option<u64> {
+    let span = stack.span(id)?;
+    span.extensions().get(counts()).copied()
+}
+
+/// A recorder under a level.
+type Recording = Filtered<Recorder, LevelFilter>;
+
+fn recording(alloc: Global, level: LevelFilter) -> Recording {
+    Recorder::new(alloc).with_filter(level)
+}
+
+/// Puts layers on a registry, under a dispatcher.
+fn receiver_of<L: Layer<Registry> + Drop>(
+    alloc: Global,
+    layers: L,
+) -> Result<Dispatch<Layered<L, Registry>>, Fail>
+    requires { L.usable layers }
+    ensures { IfOk result (λ d. L.usable (outer_of (stack_of d))) }
+{
+    match Registry::new(alloc).with(layers) {
+        Ok(stack) => Ok(Dispatch::fresh(alloc, stack)),
+        Err(_) => Err(Fail::from("there is no room")),
+    }
+}
+
+/// What the member at this place of a list was notified of.
+fn notices_at(list: &[Recording], place: usize) -> &[Notice] {
+    match list.get(place) {
+        Some(member) => member.inner().notices(),
+        None => &[],
+    }
+}
+
+#[test]
+fn a_receiver_of_five(rt: HostRuntime) -> Result<(), Fail> {
+    let alloc = rt.alloc();
+    let list = vec![in alloc;
+        recording(alloc, LevelFilter::INFO),
+        recording(alloc, LevelFilter::WARN),
+    ]?;
+    let object: Box<dyn DynLayer + Send> = Box::new(alloc, Observer::new(EventCounter))?;
+    let layers = Recorder::new(alloc)
+        .and_then(list)
+        .and_then(Some(recording(alloc, LevelFilter::WARN)))
+        .and_then(BoxedLayer::new(object))
+        .and_then(LevelFilter::DEBUG);
+    let mut dispatch = receiver_of(alloc, layers)?;
+    let requests = [
+        root_from(0, Level::INFO),
+        event_from(1, Level::TRACE),
+        event_from(2, Level::DEBUG),
+        event_from(3, Level::INFO),
+        event_from(4, Level::WARN),
+    ];
+    let answers = dispatch.serve(alloc, &requests)?;
+    let id = first_made(&answers)?;
+    assert_eq!(rt; answers.get(1).copied(), Some(Answer::Dropped));
+    assert_eq!(rt; counted(dispatch.stack(), id), Some(3));
+    each_heard_what_passes(&rt, dispatch.stack().layer().inner().inner(), id)
+}
+
+/// A layer that may be absent, on a list, on a recorder.
+type Recordings = Layered<Option<Recording>, Layered<Vec<Recording>, Recorder>>;
+
+/// The recorder heard all but the trace event, and each other one what its level passes: the new span is of level info.
+fn each_heard_what_passes(rt: &impl Abort, layers: &Recordings, id: Id) -> Result<(), Fail> {
+    let new = Notice::New(LANE, id);
+    let debug = Notice::Event(LANE, 2);
+    let info = Notice::Event(LANE, 3);
+    let warn = Notice::Event(LANE, 4);
+    let base = layers.inner().inner();
+    assert_eq!(rt; base.notices(), [new, debug, info, warn].as_slice());
+    let list = layers.inner().layer();
+    assert_eq!(rt; notices_at(list, 0), [new, info, warn].as_slice());
+    assert_eq!(rt; notices_at(list, 1), [warn].as_slice());
+    let Some(optional) = layers.layer() else {
+        return Err(Fail::from("the layer is absent"));
+    };
+    assert_eq!(rt; optional.inner().notices(), [warn].as_slice());
+    Ok(())
+}
+
+/// As many recorders under OFF as a registry has room for.
+fn silent_recorders(alloc: Global) -> Result<Vec<Recording>, Fail> {
+    let mut members = Vec::new(alloc);
+    for _ in 0..64 {
+        members.push(recording(alloc, LevelFilter::OFF))?;
+    }
+    Ok(members)
+}
+
+#[test]
+fn a_registry_full_of_filters(rt: HostRuntime) -> Result<(), Fail> {
+    let Ok(stack) = Registry::new(rt.alloc()).with(Recorder::new(rt.alloc())) else {
+        return Err(Fail::from("there is no room"));
+    };
+    let Ok(stack) = stack.with(silent_recorders(rt.alloc())?) else {
+        return Err(Fail::from("there is no room"));
+    };
+    let Err(back) = stack.with(recording(rt.alloc(), LevelFilter::WARN)) else {
+        return Err(Fail::from("a 65th filter got a number"));
+    };
+    assert_eq!(rt; back.error, TraceError::TooManyFilters);
+    assert_eq!(rt; *back.layer.filter(), LevelFilter::WARN);
+    assert_eq!(rt; back.subscriber.root().filters(), 64);
+    let mut dispatch = Dispatch::fresh(rt.alloc(), back.subscriber);
+    let event = Event::new_root(metadata_of(7, Level::ERROR, Kind::EVENT), &[]);
+    assert_eq!(rt; dispatch.event(LANE, &event), Ok(true));
+    let stack = dispatch.stack();
+    assert_eq!(rt;
+        stack.inner().layer().notices(),
+        [Notice::Event(LANE, 7)].as_slice()
+    );
+    for member in stack.layer().iter() {
+        assert!(rt; member.inner().notices().is_empty());
+    }
+    Ok(())
+}
+
+/// The interest of a stack in an error event, asked with a new pass.
+fn interest_of<S: Subscriber>(stack: &S) -> Interest
+    requires { S.usable stack.now }
+{
+    let metadata = metadata_of(1, Level::ERROR, Kind::EVENT);
+    stack.register_callsite(&metadata, &mut Pass::new())
+}
+
+#[test]
+fn what_one_filter_wants_is_of_interest(rt: HostRuntime) -> Result<(), Fail> {
+    let all = recording(rt.alloc(), LevelFilter::TRACE);
+    let nothing = recording(rt.alloc(), LevelFilter::OFF);
+    let Ok(stack) = Registry::new(rt.alloc()).with(all) else {
+        return Err(Fail::from("there is no room"));
+    };
+    assert_eq!(rt; interest_of(&stack), Interest::Always);
+    let Ok(stack) = stack.with(nothing) else {
+        return Err(Fail::from("there is no room"));
+    };
+    assert_eq!(rt; interest_of(&stack), Interest::Sometimes);
+    Ok(())
+}
+
+#[test]
+fn what_a_layer_without_a_filter_may_want_is_of_interest(rt: HostRuntime) -> Result<(), Fail> {
+    let Ok(stack) = Registry::new(rt.alloc()).with(Recorder::new(rt.alloc())) else {
+        return Err(Fail::from("there is no room"));
+    };
+    let Ok(stack) = stack.with(recording(rt.alloc(), LevelFilter::OFF)) else {
+        return Err(Fail::from("there is no room"));
+    };
+    assert_eq!(rt; interest_of(&stack), Interest::Sometimes);
+    Ok(())
+}
+
+#[test]
+fn a_pair_under_filters_has_the_wider_hint(rt: HostRuntime) -> Result<(), Fail> {
+    let all = recording(rt.alloc(), LevelFilter::TRACE);
+    let few = recording(rt.alloc(), LevelFilter::INFO);
+    let Ok(stack) = Registry::new(rt.alloc()).with(all.and_then(few)) else {
+        return Err(Fail::from("there is no room"));
+    };
+    assert_eq!(rt; stack.max_level_hint(), Some(LevelFilter::TRACE));
+    Ok(())
+}
