@@ -11,7 +11,8 @@ use span_registry::{Context, ContextMut, LookupSpan};
 ///
 /// What it answers are functions of its own state, of what it is asked, and of the view that the context gives. These are
 /// honest: where its interest in a callsite is `always`, what that callsite makes passes in every view; where it is `never`,
-/// or the level is above the hint, it passes in none; and metadata that show the same are of one interest. Hooks keep interest and hint, and write extensions alone.
+/// or the level is above the hint, it passes in none; and metadata that show the same are of one interest. Hooks keep interest
+/// and hint, and write extensions alone.
 ///
 /// Stands for `tracing_subscriber::layer::Filter`, with hooks that change the filter. No method has a default body.
 pub trait Filter<S: LookupSpan> {
