@@ -47,10 +47,8 @@ impl<S: Subscriber> Dispatch<S> {
         ensures current { (f : Form) (n : ℕ) → KeepsUpToDate f n result }
         ensures ready { (f : Form) → IsReady S.registry S.with_registry S.has_form S.stepped f stack → IsReadyAfter S.registry S.with_registry S.has_form S.stepped f result }
     {
-        let mut stack = stack;
-        stack.on_register_dispatch();
         Dispatch {
-            stack,
+            stack: put_in_use(stack),
             alloc,
             cache: Cache::Empty,
         }
@@ -68,10 +66,8 @@ impl<S: Subscriber> Dispatch<S> {
         ensures current { (f : Form) (n : ℕ) → KeepsUpToDate f n result }
         ensures ready { (f : Form) → IsReady S.registry S.with_registry S.has_form S.stepped f stack → IsReadyAfter S.registry S.with_registry S.has_form S.stepped f result }
     {
-        let mut stack = stack;
-        stack.on_register_dispatch();
         Dispatch {
-            stack,
+            stack: put_in_use(stack),
             alloc,
             cache: Cache::Off,
         }
@@ -330,4 +326,16 @@ fn close_all<S: Subscriber>(stack: &mut S, lane: Lane, id: Id)
         stack.close_hooks(lane, span);
         next = stack.root_mut().remove(span);
     }
+}
+
+/// The stack, with all its layers put in use.
+fn put_in_use<S: Subscriber>(stack: S) -> S
+    requires { S.usable stack }
+    ensures usable { S.usable result }
+    ensures registered { S.registered stack result }
+    ensures registry { S.registry result ≡ S.registry stack }
+{
+    let mut stack = stack;
+    stack.on_register_dispatch();
+    stack
 }
