@@ -2,6 +2,8 @@
 #![tactic(auto)]
 
 mod cache;
+#[cfg(test)]
+mod cache_tests;
 mod dispatch;
 #[cfg(test)]
 mod layer_tests;

@@ -300,3 +300,22 @@ fn a_refusal_of_memory_changes_nothing(rt: HostRuntime) -> Result<(), Fail> {
     assert_eq!(rt; recorder.failed(), recorder.notices().len() < 4);
     Ok(())
 }
+
+/// It passes too where any one allocation is refused.
+#[test]
+fn a_refused_interest_changes_nothing(rt: HostRuntime) -> Result<(), Fail> {
+    let Ok(stack) = Registry::new(rt.alloc()).with(Recorder::new(rt.alloc())) else {
+        return Err(Fail::from("there is no room"));
+    };
+    let mut dispatch = Dispatch::new(rt.alloc(), stack);
+    let event = Event::new(metadata_of(Kind::EVENT), &[]);
+    let before = seen(&dispatch);
+    if let Err(error) = dispatch.event(LANE, &event) {
+        assert_eq!(rt; error, TraceError::OutOfMemory);
+        assert_eq!(rt; seen(&dispatch), before);
+        assert_eq!(rt; dispatch.event(LANE, &event), Ok(true));
+    }
+    let recorder = dispatch.stack().layer();
+    assert_eq!(rt; recorder.failed(), recorder.notices().is_empty());
+    Ok(())
+}
