@@ -1,7 +1,5 @@
 //! Tests over all crates: layers of many kinds in one receiver, a registry full of filters, and what a stack says of itself.
-ghost use Rattle.std.specs.Prelude.{⊤, IfOk};
-ghost use Rattle.span_dispatch.specs.Serve.{stack_of};
-ghost use Rattle.span_layers.specs.Layered.{outer_of};
+ghost use Rattle.std.specs.Prelude.{⊤};
 ghost use Rattle.span_registry.specs.Context.{WritesExtensions};
 
 use span_boxed::{BoxedLayer, DynLayer};
@@ -98,20 +96,6 @@ fn recording(alloc: Global, level: LevelFilter) -> Recording {
     Recorder::new(alloc).with_filter(level)
 }
 
-/// Puts layers on a registry, under a dispatcher.
-fn receiver_of<L: Layer<Registry> + Drop>(
-    alloc: Global,
-    layers: L,
-) -> Result<Dispatch<Layered<L, Registry>>, Fail>
-    requires { L.usable layers }
-    ensures { IfOk result (λ d. L.usable (outer_of (stack_of d))) }
-{
-    match Registry::new(alloc).with(layers) {
-        Ok(stack) => Ok(Dispatch::fresh(alloc, stack)),
-        Err(_) => Err(Fail::from("there is no room")),
-    }
-}
-
 /// What the member at this place of a list was notified of.
 fn notices_at(list: &[Recording], place: usize) -> &[Notice] {
     match list.get(place) {
@@ -133,7 +117,10 @@ fn a_receiver_of_five(rt: HostRuntime) -> Result<(), Fail> {
         .and_then(Some(recording(alloc, LevelFilter::WARN)))
         .and_then(BoxedLayer::new(object))
         .and_then(LevelFilter::DEBUG);
-    let mut dispatch = receiver_of(alloc, layers)?;
+    let Ok(stack) = Registry::new(alloc).with(layers) else {
+        return Err(Fail::from("there is no room"));
+    };
+    let mut dispatch = Dispatch::new(alloc, stack);
     let requests = [
         root_from(0, Level::INFO),
         event_from(1, Level::TRACE),
