@@ -7,7 +7,7 @@ use span_core::{
     Event, FieldSet, Id, Interest, Kind, Lane, Level, LevelFilter, Metadata, Pass, TraceError,
 };
 use span_dispatch::{Answer, Dispatch, Notice, Recorder, Request, Which, WhichParent};
-use span_layers::{Filtered, Layer, LayerExt, Layered, Observe, Observed, Observer, SubscriberExt};
+use span_layers::{Filtered, LayerExt, Layered, Observe, Observed, Observer, SubscriberExt};
 use span_registry::{ContextMut, LookupSpan, Registry, Subscriber, Tag};
 use std::alloc::Global;
 use std::process::Abort;
