@@ -60,6 +60,7 @@ IsMade memory f s m vetoed = IsLetBy memory f s m × (vetoed ≡ false)
 abbrev pub IsDropped : Memory → Form → RegistryState → Lane → Metadata → Bool → Type 0
 IsDropped memory f s lane m vetoed = IsRuledOut memory f s lane m ⊎ (IsLetBy memory f s m × (vetoed ≡ true))
 
+-- what is kept, and their callsite too unless this is true
 abbrev pub learned_if : Bool → Memory → Metadata → Memory
 learned_if true memory m = memory
 learned_if false memory m = option_map (λ callsites. with_callsite callsites m) memory
