@@ -13,7 +13,8 @@ use Rattle.span_dispatch.specs.Admission.{IsDropped, IsUnknown, LearnsOfSpan, le
 use Rattle.span_dispatch.specs.Cache.{IsUpToDate, Memory, forgotten}
 use Rattle.span_dispatch.specs.Call.{AddHandle, AskCurrent, Call, DropHandle, Enter, Exit, Follow, OpenSpan, Probe, RecordValues, SendEvent, vetoes_whole}
 use Rattle.span_dispatch.specs.Outcome.{Made, Makes, Noticed}
-use Rattle.span_dispatch.specs.Serve.{AsksFor, IsReady, KeepsUpToDate, Run, Serves, ServesAsked, ServesRequest, forgetful, passed, seen, with_stack}
+use Rattle.span_dispatch.specs.Alone.{passed, seen}
+use Rattle.span_dispatch.specs.Serve.{AsksFor, IsReady, KeepsUpToDate, Run, Serves, ServesAsked, ServesRequest, forgetful, with_stack}
 use Rattle.span_dispatch.specs.declared.cache.Cache.TheVariants as cache
 use Rattle.span_dispatch.specs.declared.cache.Cache.{Cache}
 use Rattle.span_dispatch.specs.declared.dispatch.Dispatch.{Dispatch}
@@ -22,7 +23,7 @@ use Rattle.span_dispatch.specs.declared.request.Answer.{Answer}
 use Rattle.span_dispatch.specs.declared.request.Request.TheVariants as request
 use Rattle.span_dispatch.specs.declared.request.Request.{Request}
 use Rattle.span_dispatch.specs.declared.request.WhichParent.{WhichParent}
-use Rattle.span_layers.specs.Path.{path_at}
+use Rattle.span_registry.specs.Path.{path_at}
 use Rattle.span_layers.specs.Verdict.{vetoes}
 use Rattle.span_registry.specs.Answers.{OnEvent, OnNewSpan}
 use Rattle.span_registry.specs.Form.{Form}

@@ -8,11 +8,12 @@ use Rattle.span_core.specs.declared.span.Lane.{Lane}
 use Rattle.span_dispatch.specs.Cache.{Memory}
 use Rattle.span_dispatch.specs.Call.{Call}
 use Rattle.span_dispatch.specs.Outcome.{Change, GoesOn, Made, Makes, Noticed, Outcome, Quiet}
-use Rattle.span_dispatch.specs.Serve.{Run, ServesAsked, flat, passed, seen}
+use Rattle.span_dispatch.specs.Alone.{passed, seen}
+use Rattle.span_dispatch.specs.Serve.{Run, ServesAsked, flat}
 use Rattle.span_dispatch.specs.declared.request.Answer.{Answer}
 use Rattle.span_dispatch.specs.declared.request.Request.{Request}
 use Rattle.span_layers.proofs.Pass.{reached}
-use Rattle.span_layers.specs.Path.{Path, path_at}
+use Rattle.span_registry.specs.Path.{Path, path_at}
 use Rattle.span_registry.specs.Answers.{Notice}
 use Rattle.span_registry.specs.Form.{Bare, Filtered, Form, Leaf, Over}
 use Rattle.span_registry.specs.Hooks.{StackLaws, StackSteps, no_filter}

@@ -3,7 +3,8 @@ use Rattle.std.specs.Prelude.{◌≡◌, ⊤, List, [], map}
 use Rattle.span_dispatch.specs.Cache.{Memory}
 use Rattle.span_dispatch.specs.Outcome.{Made}
 use Rattle.span_dispatch.specs.Recorder.{kept_notice}
-use Rattle.span_dispatch.specs.Serve.{Run, flat, seen}
+use Rattle.span_dispatch.specs.Alone.{seen}
+use Rattle.span_dispatch.specs.Serve.{Run, flat}
 use Rattle.span_dispatch.specs.declared.notice.Notice.{Notice}
 use Rattle.span_dispatch.specs.declared.request.Answer.{Answer}
 use Rattle.span_dispatch.specs.declared.request.Request.{Request}

@@ -1,4 +1,5 @@
 pub mod Admission
+pub mod Alone
 pub mod Cache
 pub mod Call
 pub mod Fixed

@@ -11,6 +11,7 @@ use Rattle.span_core.specs.declared.span.Id.{Id}
 use Rattle.span_core.specs.declared.span.Parent.TheVariants as parent
 use Rattle.span_core.specs.declared.span.Parent.{Parent}
 use Rattle.span_dispatch.specs.Admission.{IsAdmitted}
+use Rattle.span_dispatch.specs.Alone.{Alone, seen}
 use Rattle.span_dispatch.specs.Cache.{IsUpToDate, Memory, forgotten, kept_in}
 use Rattle.span_dispatch.specs.Call.{AddHandle, AskCurrent, Call, Comes, DropHandle, KeepsAfter, Enter, Exit, Follow, OpenSpan, Probe, RecordValues, SendEvent, closes_of}
 use Rattle.span_dispatch.specs.Outcome.{IsHonest, Made, Makes, Noticed, Outcome}
@@ -28,9 +29,10 @@ use Rattle.span_registry.specs.Closes.{IsSettled, Member}
 use Rattle.span_registry.specs.Follows.{Keeps}
 use Rattle.span_registry.specs.Form.{Form}
 use Rattle.span_core.specs.declared.span.Lane.{Lane}
-use Rattle.span_layers.specs.Path.{Path, passes_path, path_at}
-use Rattle.span_registry.specs.Hooks.{StackSteps, no_filter}
-use Rattle.span_registry.specs.Place.{HearSteps, Heard, Place}
+use Rattle.span_registry.specs.Agree.{AgreeAt}
+use Rattle.span_registry.specs.Conducts.{ActsAt, Conducts, numbers_in}
+use Rattle.span_registry.specs.Hooks.{StackSteps}
+use Rattle.span_registry.specs.Place.{HearSteps, Place}
 use Rattle.span_registry.specs.Step.{Removal}
 use Rattle.span_registry.specs.Subscriber.{AndHooks, SameButExtensions}
 use Rattle.span_registry.specs.Store.{RegistryState, Store}
@@ -113,20 +115,24 @@ abbrev pub StandOnce : List ℕ → Type 0
 StandOnce [] = Unit {0}
 StandOnce (x ∷ xs) = ¬ (Member x xs) × StandOnce xs
 
--- what passes the path of a leaf or a filter, of an outcome on this store: of a notice that passes all its filters, asked afresh, this with its lane; of all else nothing
-abbrev pub passed : Option Path → Outcome → Store → Heard
-passed (Some path) (Noticed lane e) s = if passes_path path e s lane.0 no_filter then (lane.0, e) ∷ [] else []
-passed path o s = []
-
--- what the leaf at a place sees of what was made
-abbrev pub seen : Place → List Made → Heard
-seen place [] = []
-seen place (m ∷ ms) = passed (path_at m.form place) m.outcome m.store ++ seen place ms
-
 -- all that was made, request by request, in one list
 abbrev pub flat : List (List Made) → List Made
 flat [] = []
 flat (ms ∷ made) = ms ++ flat made
+
+-- the leaf at each place went through what it sees of what was made
+abbrev pub EachSees : {S : Type 0} → HearSteps S → S → List Made → S → Type 0
+EachSees hears x made y = (place : Place) → hears x place (seen place made) y
+
+-- where only plain filters stand round a leaf, what it sees of what was made is what it would see if it stood alone, on any store that differs in extensions and other filters' verdicts alone
+abbrev pub EachSeesAlone : {S : Type 0} → (S → RegistryState) → ActsAt S → S → List Made → Type 0
+EachSeesAlone registry acts_at x made =
+    (place : Place) (cs : Conducts) (s : Store) → acts_at x place cs → AgreeAt (numbers_in cs) (registry x).store s → Alone cs s (map outcome_of made) (seen place made)
+
+-- both
+pub record Sees {S : Type 0} (registry : S → RegistryState) (hears : HearSteps S) (acts_at : ActsAt S) (x : S) (made : List Made) (y : S) : Type 0 where
+  pub each : EachSees hears x made y
+  pub alone : EachSeesAlone registry acts_at x made
 
 module _ {S : Type 0} (registry : S → RegistryState) (with_registry : S → RegistryState → S) (has_form : S → Form → Type 0) (stepped : StackSteps S) where
   -- between two requests: no span is closing, and the stack is honest by this form
@@ -192,20 +198,25 @@ module _ {S : Type 0} (registry : S → RegistryState) (with_registry : S → Re
   Run past (r ∷ rs) (a ∷ answers) (ms ∷ made) kept x after y = (k : Memory) × (z : S) × ServesRequest past r kept x a ms k z × Run (past ++ (a ∷ [])) rs answers made k z after y
   Run past rs answers made kept x after y = ⊥
 
-  -- the requests are served so: there is one list of what was made of each; over all of it no span closes twice, and the leaf at each place went through what it sees of it
-  pub record Served (hears : HearSteps S) (requests : List Request) (answers : List Answer) (old new : Dispatch S) : Type 0 where
+  -- the requests are served so: there is one list of what was made of each; over all of it no span closes twice; and the leaf at each place sees of it what its path passes, as if it stood alone
+  pub record Served (hears : HearSteps S) (acts_at : ActsAt S) (requests : List Request) (answers : List Answer) (old new : Dispatch S) : Type 0 where
     pub made : List (List Made)
     pub run : Run [] requests answers made (kept_by old) (stack_of old) (kept_by new) (stack_of new)
     pub once : StandOnce (closed_in (flat made))
-    pub each : (place : Place) → hears (stack_of old) place (seen place (flat made)) (stack_of new)
+    pub each : EachSees hears (stack_of old) (flat made) (stack_of new)
+    pub alone : EachSeesAlone registry acts_at (stack_of old) (flat made)
+
+  -- whatever was made between the two, each leaf sees of it what its path passes, as if it stood alone
+  abbrev pub SeesWhatIsMade : HearSteps S → ActsAt S → Dispatch S → Dispatch S → Type 0
+  SeesWhatIsMade hears acts_at old new = (made : List Made) → FoldsTo (Makes registry with_registry has_form stepped) (stack_of old) made (stack_of new) → Sees registry hears acts_at (stack_of old) made (stack_of new)
 
   -- a dispatcher that is ready serves the next request so
   abbrev pub ServesNext : List Answer → Request → Answer → Dispatch S → Dispatch S → Type 0
   ServesNext past r a old new = IsReadySomehow old → (made : List Made) × ServesRequest past r (kept_by old) (stack_of old) a made (kept_by new) (stack_of new)
 
   -- a dispatcher that is ready serves a list so
-  abbrev pub ServesList : HearSteps S → List Request → List Answer → Dispatch S → Dispatch S → Type 0
-  ServesList hears requests answers old new = IsReadySomehow old → Served hears requests answers old new
+  abbrev pub ServesList : HearSteps S → ActsAt S → List Request → List Answer → Dispatch S → Dispatch S → Type 0
+  ServesList hears acts_at requests answers old new = IsReadySomehow old → Served hears acts_at requests answers old new
 
   -- from a stack in which a span is closing: it is taken out, and so is each parent that closes by that; before each is, a notice of its close is given
   pub record ClosesEach (lane : Lane) (id : Id) (x y : S) : Type 0 where

@@ -4,7 +4,7 @@ use Rattle.std.proofs.Common.{ap, sym, subst}
 use Rattle.span_core.specs.Filters.{FilterSet}
 use Rattle.span_core.specs.declared.event.Event.{Event}
 use Rattle.span_core.specs.declared.metadata.Metadata.{Metadata}
-use Rattle.span_registry.specs.Answers.{Answers, AreHonest, ArePlain, Conduct, IsPlain, Notice, SameInterestAndHint}
+use Rattle.span_registry.specs.Answers.{AnswerAlike, Answers, AreHonest, ArePlain, Conduct, IsPlain, Notice, SameInterestAndHint}
 use Rattle.span_registry.specs.Context.{filters_lent, lane_lent, subscriber_lent}
 use Rattle.span_registry.specs.Store.{RegistryState}
 use Rattle.span_registry.specs.View.{View, view_of}
@@ -40,18 +40,20 @@ abbrev pub KeepsInterestAndHint : (Answers → Type 0) → Answers → Type 0
 KeepsInterestAndHint has a = (b : Answers) × has b × SameInterestAndHint a b
 
 -- the law of every filter: its answers are honest, and its hooks keep interest and hint. Where it has a conduct it is plain: that
--- conduct says how it now answers, and goes on with each notice
+-- conduct says how it now answers, as all answers do that it has, and goes on with each notice
 pub record FilterLaws {F : Type 0} (has_answers : F → Answers → Type 0) (hooked : FilterSteps F) (acts : F → Conduct → Type 0) : Type 0 where
   pub honest : (f : F) (a : Answers) → has_answers f a → AreHonest a
   pub keeps : (f : F) (e : Notice) (lane : ℕ) (under : FilterSet) (v : RegistryState) (g : F) (w : RegistryState) (a : Answers) → hooked f e lane under v g w → has_answers f a → KeepsInterestAndHint (has_answers g) a
   pub plain : (f : F) (b : Conduct) → acts f b → IsPlain b
   pub now : (f : F) (b : Conduct) → acts f b → has_answers f (b [])
+  pub only : (f : F) (a : Answers) (b : Conduct) → has_answers f a → acts f b → AnswerAlike a (b [])
   pub goes_on : (f : F) (e : Notice) (lane : ℕ) (under : FilterSet) (v : RegistryState) (g : F) (w : RegistryState) (b : Conduct) → acts f b → hooked f e lane under v g w → acts g (λ h. b ((e, view_of v.store lane under) ∷ h))
 
 -- it always answers so, and extensions make no difference to that
 pub record ActsSteadily {F : Type 0} (has : F → Answers → Type 0) (f : F) (conduct : Conduct) : Type 0 where
   pub always : Answers
   pub answered : has f always
+  pub only : (a : Answers) → has f a → AnswerAlike a always
   pub plain : ArePlain always
   pub steady : conduct ≡ (λ h. always)
 

@@ -8,7 +8,7 @@ use Rattle.span_core.specs.Span.{metadata_of}
 use Rattle.span_core.specs.declared.metadata.Metadata.{Metadata}
 use Rattle.span_core.specs.declared.span.Attributes.{Attributes}
 use Rattle.span_core.specs.declared.span.Id.{Id}
-use Rattle.span_layers.specs.Path.{Path, passes_path, path_at}
+use Rattle.span_registry.specs.Path.{Path, passes_path, path_at}
 use Rattle.span_layers.specs.Verdict.{vetoes}
 use Rattle.span_layers.specs.Wanted.{HasMetadata, IsWantedByAll, IsWantedByNobody, is_numbered}
 use Rattle.span_registry.specs.Answers.{Answers, Notice, OnClose, OnEnter, OnEvent, OnExit, OnFollows, OnIdChange, OnNewSpan, OnRecord}

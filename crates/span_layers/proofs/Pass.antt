@@ -10,7 +10,7 @@ use Rattle.span_core.specs.declared.event.Event.{Event}
 use Rattle.span_core.specs.declared.metadata.Metadata.{Metadata}
 use Rattle.span_core.specs.declared.span.Attributes.{Attributes}
 use Rattle.span_core.specs.declared.span.Id.{Id}
-use Rattle.span_layers.specs.Path.{Path, passes_path, path_at}
+use Rattle.span_registry.specs.Path.{Path, passes_path, path_at}
 use Rattle.span_layers.specs.Verdict.{AreDistinct, EventIsFresh, IsOrderly, IsQuiet, NewSpanIsFresh, NotifiesWhosePathPasses, OthersAreFresh, in_verdict, numbers_of, vetoes, vetoes_event}
 use Rattle.span_registry.specs.Answers.{Answers, Notice, OnClose, OnEnter, OnEvent, OnExit, OnFollows, OnIdChange, OnNewSpan, OnRecord}
 use Rattle.span_registry.specs.Form.{Bare, Filtered, Form, InList, InPair, Joint, Leaf, OnSubscriber, Over}

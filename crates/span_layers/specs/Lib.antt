@@ -1,3 +1,4 @@
+pub mod Acts
 pub mod Attach
 pub mod Boxed
 pub mod Filtered
@@ -10,7 +11,6 @@ pub mod Members
 pub mod Number
 pub mod Observe
 pub mod Optional
-pub mod Path
 pub mod Verdict
 pub mod Veto
 pub mod Wanted

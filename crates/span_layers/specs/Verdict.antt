@@ -9,7 +9,7 @@ use Rattle.span_core.specs.declared.span.Attributes.{Attributes}
 use Rattle.span_core.specs.declared.span.Id.{Id}
 use Rattle.span_core.specs.declared.filter.TheConstants.FilterId.{LIMIT}
 use Rattle.span_layers.specs.Number.{filters_in, numbered}
-use Rattle.span_layers.specs.Path.{Path, passes_path, path_at}
+use Rattle.span_registry.specs.Path.{Path, passes_path, path_at}
 use Rattle.span_registry.specs.Answers.{Notice, OnEvent, OnNewSpan}
 use Rattle.span_registry.specs.Follows.{RefusesNothing}
 use Rattle.span_registry.specs.Form.{Bare, Filtered, Form, InList, InPair, Leaf, OnSubscriber, Over}

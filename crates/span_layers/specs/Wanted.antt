@@ -9,7 +9,7 @@ use Rattle.span_core.specs.declared.metadata.Metadata.{Metadata}
 use Rattle.span_core.specs.declared.span.Attributes.{Attributes}
 use Rattle.span_core.specs.declared.span.Id.{Id}
 use Rattle.span_layers.specs.Honest.{IsHonestStack}
-use Rattle.span_layers.specs.Path.{Path, passes_path, path_at}
+use Rattle.span_registry.specs.Path.{Path, passes_path, path_at}
 use Rattle.span_layers.specs.Verdict.{vetoes}
 use Rattle.span_registry.specs.Answers.{Notice, OnEvent, OnNewSpan}
 use Rattle.span_registry.specs.Form.{Form}

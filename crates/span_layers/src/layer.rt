@@ -1,8 +1,10 @@
 //! What a layer is asked and notified of.
 ghost use Rattle.std.specs.Prelude.{⊤, min};
+ghost use Rattle.span_layers.specs.Acts.{PathLaws};
 ghost use Rattle.span_layers.specs.Layer.{LayerEnabled, LayerEvent, LayerInterest, LayerLaws, LayerSteps, LeavesAlone, MayAsk, MayNotify, Notified};
 ghost use Rattle.span_layers.specs.Number.{TakesNumbers, filters_in};
 ghost use Rattle.span_registry.specs.Answers.{OnClose, OnEnter, OnEvent, OnExit, OnFollows, OnIdChange, OnNewSpan, OnRecord};
+ghost use Rattle.span_registry.specs.Conducts.{ActsAt};
 ghost use Rattle.span_registry.specs.Context.{HandsOn};
 ghost use Rattle.span_registry.specs.Form.{Form, is_absent, is_marked};
 ghost use Rattle.span_registry.specs.Place.{HearSteps};
@@ -30,6 +32,9 @@ pub trait Layer<S: Subscriber> {
 
     /// Which notices the leaf at a place went through, from one value of the layer to another.
     ghost hears: { HearSteps Self };
+
+    /// Which conducts the filters have on the path at a place. Only a path of plain filters has any.
+    ghost acts_at: { ActsAt Self };
 
     /// How it goes on when it is put in use.
     ghost registered: { Self → Self → Type 0 };
@@ -150,4 +155,7 @@ pub trait Layer<S: Subscriber> {
 
     /// Where it is notified, or put in use, it keeps what it has of its form, and its leaves hear what they are notified of.
     ghost laws: { LayerLaws has_form stepped hears registered };
+
+    /// The paths of plain filters act as their conducts say.
+    ghost paths: { PathLaws has_form stepped registered acts_at };
 }

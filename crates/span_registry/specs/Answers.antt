@@ -2,6 +2,7 @@
 use Rattle.std.specs.Prelude.{◌≡◌, ⊤, ℕ, Bool, true, false, List, [], ◌∷◌, Option, None}
 use Rattle.std.specs.FinMap.{get}
 use Rattle.std.specs.Option.{option_map}
+use Rattle.span_core.specs.Filters.{FilterSet}
 use Rattle.span_core.specs.Level.{is_above}
 use Rattle.span_core.specs.Metadata.{ShowSame, level_of}
 use Rattle.span_core.specs.declared.event.Event.{Event}
@@ -12,7 +13,8 @@ use Rattle.span_core.specs.declared.metadata.Metadata.{Metadata}
 use Rattle.span_core.specs.declared.span.Attributes.{Attributes}
 use Rattle.span_core.specs.declared.span.Id.{Id}
 use Rattle.span_core.specs.declared.span.Record.{Record}
-use Rattle.span_registry.specs.View.{SeenSpan, View}
+use Rattle.span_registry.specs.Store.{Store}
+use Rattle.span_registry.specs.View.{SeenSpan, View, view_of}
 
 -- whether metadata pass; whether an event passes, where its metadata do; the interest in a callsite; the hint
 pub record Answers : Type 0 where
@@ -27,6 +29,11 @@ pub record AreHonest (a : Answers) : Type 0 where
   pub never : (m : Metadata) (v : View) → a.interest m ≡ Never → a.enabled m v ≡ false
   pub above : (m : Metadata) (v : View) → is_above (level_of m) a.hint ≡ true → a.enabled m v ≡ false
   pub alike : (m k : Metadata) → ShowSame m k → a.interest m ≡ a.interest k
+
+-- of each store, from each lane and under each mask, the two answer the same
+pub record AnswerAlike (a b : Answers) : Type 0 where
+  pub enabled : (m : Metadata) (s : Store) (lane : ℕ) (mask : FilterSet) → a.enabled m (view_of s lane mask) ≡ b.enabled m (view_of s lane mask)
+  pub event : (e : Event) (s : Store) (lane : ℕ) (mask : FilterSet) → a.event e (view_of s lane mask) ≡ b.event e (view_of s lane mask)
 
 -- the two have the same interest and the same hint
 pub record SameInterestAndHint (a b : Answers) : Type 0 where

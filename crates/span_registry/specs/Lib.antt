@@ -1,5 +1,7 @@
+pub mod Agree
 pub mod Answers
 pub mod Closes
+pub mod Conducts
 pub mod Context
 pub mod Extensions
 pub mod Follows
@@ -11,6 +13,7 @@ pub mod Laws
 pub mod Lends
 pub mod Marks
 pub mod Mask
+pub mod Path
 pub mod Place
 pub mod Plan
 pub mod Question

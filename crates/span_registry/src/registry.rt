@@ -6,6 +6,7 @@ ghost use Rattle.std.specs.Option.{option_copied, option_copied_mut, option_map,
 ghost use Rattle.std.specs.Prelude.{◌≡◌, ◌≤◌, ◌↔◌, ⊤, [], OnErr, OnOk, IfErr, IfOk, IsSome, IsTrue, MatchBool, None, false, refl, true};
 ghost use Rattle.span_core.specs.Pass.{interest_sum, refused_of};
 ghost use Rattle.span_core.specs.Span.{asked_parent, number_of};
+ghost use Rattle.span_registry.specs.Conducts.{no_path, registry_path_laws};
 ghost use Rattle.span_registry.specs.Form.{Bare, Base};
 ghost use Rattle.span_registry.specs.Hooks.{registry_laws};
 ghost use Rattle.span_registry.specs.Kept.{IsChosen};
@@ -309,9 +310,13 @@ impl Subscriber for Registry {
 
     ghost hears = { λ x place h y. ⊤ };
 
+    ghost acts_at = { no_path };
+
     ghost registered = { λ x y. y ≡ x };
 
     ghost laws = { registry_laws };
+
+    ghost paths = { registry_path_laws };
 
     fn on_register_dispatch(&mut self)
         ensures { self.new ≡ self.old }

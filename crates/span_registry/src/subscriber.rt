@@ -2,6 +2,7 @@
 ghost use Rattle.std.specs.Prelude.{◌≡◌, ⊤, IfErr, IfOk, OnErr, OnOk};
 ghost use Rattle.span_core.specs.Span.{asked_parent};
 ghost use Rattle.span_registry.specs.Answers.{OnClose, OnEnter, OnEvent, OnExit, OnFollows, OnRecord};
+ghost use Rattle.span_registry.specs.Conducts.{ActsAt, StackPathLaws};
 ghost use Rattle.span_registry.specs.Form.{Form, is_absent, is_base, is_marked};
 ghost use Rattle.span_registry.specs.Hooks.{Notifies, AnswersEnabled, AnswersEvent, AnswersInterest, OpensAndNotifies, StackLaws, StackSteps, Stays, no_filter};
 ghost use Rattle.span_registry.specs.Place.{HearSteps};
@@ -34,6 +35,9 @@ pub trait Subscriber: LookupSpan {
 
     /// Which notices the leaf at a place went through, from one value of the stack to another.
     ghost hears: { HearSteps Self };
+
+    /// Which conducts the filters have on the path at a place. Only a path of plain filters has any.
+    ghost acts_at: { ActsAt Self };
 
     /// How its layers go on when they are put in use.
     ghost registered: { Self → Self → Type 0 };
@@ -153,4 +157,7 @@ pub trait Subscriber: LookupSpan {
     /// A notified stack keeps its form, its leaves hear what they are notified of, and another registry makes no difference to
     /// either.
     ghost laws: { StackLaws Self.with_registry usable has_form stepped hears registered };
+
+    /// The paths of plain filters act as their conducts say.
+    ghost paths: { StackPathLaws Self.with_registry has_form stepped registered acts_at };
 }

@@ -22,7 +22,8 @@ use Rattle.span_dispatch.specs.Call.{vetoes_whole}
 use Rattle.span_dispatch.specs.Outcome.{GoesOn, Made, Makes, Noticed, Outcome, Quiet}
 use Rattle.span_dispatch.specs.Recorder.{Kept, Records, kept_notice, new_recorder, recorder_hears, recorder_steps}
 use Rattle.span_dispatch.specs.Cache.{Memory}
-use Rattle.span_dispatch.specs.Serve.{IsReady, Run, Served, ServesRequest, flat, kept_by, passed, seen, stack_of}
+use Rattle.span_dispatch.specs.Alone.{passed, seen}
+use Rattle.span_dispatch.specs.Serve.{IsReady, Run, Served, ServesRequest, flat, kept_by, stack_of}
 use Rattle.span_dispatch.specs.declared.dispatch.Dispatch.{Dispatch}
 use Rattle.span_dispatch.specs.declared.notice.Notice.{Notice as KeptNotice}
 use Rattle.span_dispatch.specs.declared.request.Answer.TheVariants as answer
@@ -38,7 +39,7 @@ use Rattle.span_layers.specs.Layer.{LayerSteps}
 use Rattle.span_layers.specs.Layered.{LayeredHears, LayeredSteps, OverForm, inner_of, outer_of, with_inner}
 use Rattle.span_layers.specs.Number.{TakesNumbers, filters_in}
 use Rattle.span_layers.specs.Observe.{open_answers}
-use Rattle.span_layers.specs.Path.{path_at}
+use Rattle.span_registry.specs.Path.{path_at}
 use Rattle.span_layers.specs.Verdict.{HasOwnNumbers, NumbersStayOwn, vetoes}
 use Rattle.span_layers.specs.declared.filtered.Filtered.{Filtered as FilteredLayer}
 use Rattle.span_registry.proofs.CallerLemmas.{settled_new}
