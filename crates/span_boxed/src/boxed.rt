@@ -1,4 +1,6 @@
 //! Boxed layers: layers whose type is picked while the program runs.
+ghost use Rattle.span_layers.specs.Acts.{no_path_laws};
+ghost use Rattle.span_registry.specs.Conducts.{no_path};
 ghost use Rattle.std.specs.Prelude.{◌≡◌};
 ghost use Rattle.span_boxed.specs.Boxed.{ChangesInside, HearsInTurn, HearsInside, RegistersLawfully, StepsInside, StepsLawfully, object_laws};
 
@@ -38,11 +40,15 @@ impl<S: Subscriber> Layer<S> for BoxedLayer {
 
     ghost hears = { HearsInTurn (HearsInside (λ x. (DynLayer-box x.object).dyn_hears)) };
 
+    ghost acts_at = { no_path };
+
     ghost registered = { RegistersLawfully (λ x. (DynLayer-box x.object).dyn_form x.object.value) (ChangesInside (λ x. (DynLayer-box x.object).dyn_registered)) };
 
     ghost attached = { ChangesInside (λ x. (DynLayer-box x.object).dyn_attached) };
 
     ghost laws = { object_laws };
+
+    ghost paths = { no_path_laws };
 
     fn on_register_dispatch(&mut self) {
         self.object.dyn_on_register_dispatch();

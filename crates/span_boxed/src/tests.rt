@@ -1,4 +1,6 @@
 //! Tests of boxed layers: a box adds nothing to the layer in it.
+ghost use Rattle.span_layers.specs.Acts.{no_path_laws};
+ghost use Rattle.span_registry.specs.Conducts.{no_path};
 ghost use Rattle.std.specs.Prelude.{◌≡◌, ⊤, true};
 ghost use Rattle.span_boxed.specs.Tests.{late_laws};
 ghost use Rattle.span_layers.specs.Observe.{open_answers};
@@ -189,11 +191,15 @@ impl<S: Subscriber> Layer<S> for Late {
 
     ghost hears = { λ x place h y. ⊤ };
 
+    ghost acts_at = { no_path };
+
     ghost registered = { λ x y. ⊤ };
 
     ghost attached = { λ x y. y ≡ x };
 
     ghost laws = { late_laws };
+
+    ghost paths = { no_path_laws };
 
     fn on_register_dispatch(&mut self) {
         self.in_use = true;

@@ -1,4 +1,6 @@
 //! A layer that keeps what it is notified of.
+ghost use Rattle.span_layers.specs.Acts.{no_path_laws};
+ghost use Rattle.span_registry.specs.Conducts.{no_path};
 ghost use Rattle.std.specs.Prelude.{◌≡◌, ◌∷◌, [], true};
 ghost use Rattle.span_dispatch.specs.Recorder.{Records, new_recorder, recorder_hears, recorder_steps};
 ghost use Rattle.span_dispatch.specs.RecorderLaws.{recorder_laws};
@@ -80,11 +82,15 @@ impl<S: Subscriber> Layer<S> for Recorder {
 
     ghost hears = { recorder_hears };
 
+    ghost acts_at = { no_path };
+
     ghost registered = { λ x y. y ≡ x };
 
     ghost attached = { λ x y. y ≡ x };
 
     ghost laws = { recorder_laws };
+
+    ghost paths = { no_path_laws };
 
     fn on_register_dispatch(&mut self) {
         // It has nothing to do.

@@ -19,7 +19,7 @@ law_kept laws f e lane under v g w s = record {
   conduct = λ b h.
       let n = laws.goes_on f e lane under v g w b h s in
       let c = laws.now g _ n in
-      record { acted = n; plain = laws.plain g _ n; now = record { answered = c; honest = laws.honest g _ c } };
+      record { acted = n; plain = laws.plain g _ n; now = record { answered = c; honest = laws.honest g _ c }; only = λ a d. laws.only g a _ d n };
 }
 
 -- what a call of an object asks: that its type outlives the call, and what the call requires

@@ -31,7 +31,7 @@ module _ {G : Type 0 → Type 1} {C : Type 0} (T : Table G C) (at : T.I) where
       → FilterLaws (has (T.entry at)) steps (acts (T.entry at)) → {i : T.I} {y : (T.entry i).0.Denot} {x : (T.entry at).0.Denot} → IsBoxOf i y x → (b : Conduct) → acts (T.entry at) x b → ActsPlainly (has (T.entry i) y) (acts (T.entry i) y) b
   acts_in_a_box has acts laws {x = x} made b h =
       let now = laws.now x b h in
-      in_a_box (λ j z. ActsPlainly (has j z) (acts j z) b) made (record { acted = h; plain = laws.plain x b h; now = record { answered = now; honest = laws.honest x _ now } })
+      in_a_box (λ j z. ActsPlainly (has j z) (acts j z) b) made (record { acted = h; plain = laws.plain x b h; now = record { answered = now; honest = laws.honest x _ now }; only = λ a d. laws.only x a b d h })
 
   module _ (steps : (j : Entry G C) → FilterSteps j.0.Denot) (e : Notice) (lane : ℕ) (under : FilterSet) (v w : RegistryState) (x : (T.entry at).0.Denot) where
     -- the filter went on, and the box is one of what it became

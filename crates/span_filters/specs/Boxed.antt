@@ -3,7 +3,7 @@ use Rattle.std.specs.Prelude.{◌≡◌, ℕ, [], ◌∷◌}
 use Rattle.span_core.specs.Filters.{FilterSet}
 use Rattle.span_filters.specs.Filter.{FilterLaws, FilterSteps, KeepsInterestAndHint}
 use Rattle.span_filters.specs.declared.boxed.BoxedFilter.{BoxedFilter}
-use Rattle.span_registry.specs.Answers.{Answers, AreHonest, Conduct, IsPlain, Notice}
+use Rattle.span_registry.specs.Answers.{AnswerAlike, Answers, AreHonest, Conduct, IsPlain, Notice}
 use Rattle.span_registry.specs.Store.{RegistryState}
 use Rattle.span_registry.specs.View.{View, view_of}
 
@@ -20,11 +20,12 @@ pub record AnswersHonestly (has : Answers → Type 0) (a : Answers) : Type 0 whe
   pub answered : has a
   pub honest : AreHonest a
 
--- it has this conduct, which is plain, and says how it now answers
+-- it has this conduct, which is plain, and says how it now answers, as all answers do that it has
 pub record ActsPlainly (has : Answers → Type 0) (acts : Conduct → Type 0) (b : Conduct) : Type 0 where
   pub acted : acts b
   pub plain : IsPlain b
   pub now : AnswersHonestly has (b [])
+  pub only : (a : Answers) → has a → AnswerAlike a (b [])
 
 -- f, which was notified of this where this was seen, is g now: it keeps the law. Whatever it answered, it has honest answers of
 -- the same interest and hint, and whatever its conduct was goes on
@@ -48,5 +49,6 @@ object_laws = record {
   keeps = λ f e lane under v g w a s h. s.law.answers a h.answered;
   plain = λ f b h. h.plain;
   now = λ f b h. h.now;
+  only = λ f a b d h. h.only a d.answered;
   goes_on = λ f e lane under v g w b h s. s.law.conduct b h.acted;
 }

@@ -1,20 +1,21 @@
 -- What filters made of closures answer.
-use Rattle.std.specs.Prelude.{◌≡◌, Bool, true, false, if◌then◌else◌, IfSome, Option, Some, None, refl}
-use Rattle.std.proofs.Common.{ap, sym, subst}
+use Rattle.std.specs.Prelude.{◌≡◌, ℕ, Bool, true, false, if◌then◌else◌, IfSome, Option, Some, None, refl}
+use Rattle.std.proofs.Common.{ap, sym, subst, ◌∙◌}
+use Rattle.span_core.specs.Filters.{FilterSet}
 use Rattle.span_core.specs.Level.{is_above}
 use Rattle.span_core.specs.Metadata.{ShowSame, level_of}
 use Rattle.span_core.specs.declared.interest.Interest.TheVariants.{Never, Sometimes}
 use Rattle.span_core.specs.declared.interest.Interest.{Interest}
 use Rattle.span_core.specs.declared.level.LevelFilter.{LevelFilter}
 use Rattle.span_core.specs.declared.metadata.Metadata.{Metadata}
-use Rattle.span_filters.specs.Filter.{FilterLaws, ActsSteadily, still_laws, unmoved}
+use Rattle.span_filters.specs.Filter.{FilterLaws, ActsSteadily, HasOnly, still_laws, unmoved}
 use Rattle.span_filters.specs.Level.{always_passes, interest_by, never_passes}
 use Rattle.span_filters.specs.declared.closure.DynFilterFn.{DynFilterFn}
 use Rattle.span_filters.specs.declared.closure.FilterFn.{FilterFn}
 use Rattle.span_registry.specs.Answers.{Answers, AreHonest, ArePlain}
 use Rattle.span_registry.specs.Context.{view_in}
-use Rattle.span_registry.specs.Store.{RegistryState}
-use Rattle.span_registry.specs.View.{View}
+use Rattle.span_registry.specs.Store.{RegistryState, Store}
+use Rattle.span_registry.specs.View.{View, view_of}
 use Rattle.span_registry.specs.declared.context.Context.{Context}
 
 -- whatever it gives of metadata is what the function computes
@@ -94,13 +95,40 @@ test_laws gives = still_laws (HasTestAnswers gives) (test_honest gives)
 pub view_laws : {S F R : Type 0} (registry : S → RegistryState) (gives : F → Metadata → Context S → Bool → Type 0) (registered : R → Metadata → Interest → Type 0) → FilterLaws (HasViewAnswers registry gives registered) unmoved (ActsSteadily (HasViewAnswers registry gives registered))
 view_laws registry gives registered = still_laws (HasViewAnswers registry gives registered) (λ f a h. h.honest)
 
+-- of all metadata there is an answer that it may give
+abbrev pub AnswersAll : {F : Type 0} → (F → Metadata → Bool → Type 0) → F → Type 0
+AnswersAll gives f = (m : Metadata) → (r : Bool) × gives f m r
+
+-- of all metadata, on each store, from each lane and under each mask, there is an answer that it may give in a context that shows just that
+abbrev pub AnswersAllIn : {F S : Type 0} → (S → RegistryState) → (F → Metadata → Context S → Bool → Type 0) → F → Type 0
+AnswersAllIn {S = S} registry gives f = (m : Metadata) (s : Store) (lane : ℕ) (mask : FilterSet) → (c : Context S) × (view_in registry c ≡ view_of s lane mask) × ((r : Bool) × gives f m c r)
+
+-- so a filter by a test has but one test
+pub one_test : {F : Type 0} (gives : F → Metadata → Bool → Type 0) (f : FilterFn F) → AnswersAll gives f.enabled → HasOnly (HasTestAnswers gives) f
+one_test gives f all a b h k = record {
+  enabled = λ m s lane mask.
+      let r = all m in
+      (λ i. (h.answers i).enabled m (view_of s lane mask)) ∙ sym (h.computed m r.0 r.1) ∙ k.computed m r.0 r.1 ∙ sym (λ i. (k.answers i).enabled m (view_of s lane mask));
+  event = λ e s lane mask. (λ i. (h.answers i).event e (view_of s lane mask)) ∙ sym (λ i. (k.answers i).event e (view_of s lane mask));
+}
+
+-- and so does one by a test of metadata and view, of all that a store shows
+pub one_view_test : {S F R : Type 0} (registry : S → RegistryState) (gives : F → Metadata → Context S → Bool → Type 0) (registered : R → Metadata → Interest → Type 0) (f : DynFilterFn F R) → AnswersAllIn registry gives f.enabled → HasOnly (HasViewAnswers registry gives registered) f
+one_view_test registry gives registered f all a b h k = record {
+  enabled = λ m s lane mask.
+      let c = all m s lane mask in
+      (λ i. (h.answers i).enabled m (view_of s lane mask)) ∙ sym (ap (h.test m) c.1) ∙ sym (h.computed m c.0 c.2.0 c.2.1)
+      ∙ k.computed m c.0 c.2.0 c.2.1 ∙ ap (k.test m) c.1 ∙ sym (λ i. (k.answers i).enabled m (view_of s lane mask));
+  event = λ e s lane mask. (λ i. (h.answers i).event e (view_of s lane mask)) ∙ sym (λ i. (k.answers i).event e (view_of s lane mask));
+}
+
 -- the answers of a test of metadata are plain, since they look at no view
-pub test_plain : {F : Type 0} (gives : F → Metadata → Bool → Type 0) (f : FilterFn F) (a : Answers) → HasTestAnswers gives f a → ActsSteadily (HasTestAnswers gives) f (λ h. a)
-test_plain gives f a h = record { always = a; answered = h; plain = subst ArePlain (sym h.answers) (record { enabled = λ m v w e. refl; event = λ e v w d. refl }); steady = refl }
+pub test_plain : {F : Type 0} (gives : F → Metadata → Bool → Type 0) (f : FilterFn F) (a : Answers) → AnswersAll gives f.enabled → HasTestAnswers gives f a → ActsSteadily (HasTestAnswers gives) f (λ h. a)
+test_plain gives f a all h = record { always = a; answered = h; only = λ b k. one_test gives f all b a k h; plain = subst ArePlain (sym h.answers) (record { enabled = λ m v w e. refl; event = λ e v w d. refl }); steady = refl }
 
 -- those of a test of metadata and view are plain where they are the same in views that differ in extensions alone
-pub view_plain : {S F R : Type 0} (registry : S → RegistryState) (gives : F → Metadata → Context S → Bool → Type 0) (registered : R → Metadata → Interest → Type 0) (f : DynFilterFn F R) (a : Answers) → HasViewAnswers registry gives registered f a → ArePlain a → ActsSteadily (HasViewAnswers registry gives registered) f (λ h. a)
-view_plain registry gives registered f a h p = record { always = a; answered = h; plain = p; steady = refl }
+pub view_plain : {S F R : Type 0} (registry : S → RegistryState) (gives : F → Metadata → Context S → Bool → Type 0) (registered : R → Metadata → Interest → Type 0) (f : DynFilterFn F R) (a : Answers) → AnswersAllIn registry gives f.enabled → HasViewAnswers registry gives registered f a → ArePlain a → ActsSteadily (HasViewAnswers registry gives registered) f (λ h. a)
+view_plain registry gives registered f a all h p = record { always = a; answered = h; only = λ b k. one_view_test registry gives registered f all b a k h; plain = p; steady = refl }
 
 -- a filter of this test, and with this hint
 pub record TestsBy {F : Type 0} (f : FilterFn F) (test : F) (hint : Option LevelFilter) : Type 0 where

@@ -10,8 +10,8 @@ use Rattle.span_core.specs.declared.interest.Interest.{Interest}
 use Rattle.span_core.specs.declared.level.Level.{Level}
 use Rattle.span_core.specs.declared.level.LevelFilter.{LevelFilter}
 use Rattle.span_filters.specs.Combinator.{ActsBoth, ActsOne, ActsPart, HasBoth, HasOne, HasPart, StepsBoth, StepsPart, all_answers, and_answers, and_hint, and_interest, not_answers, not_interest, or_answers, or_hint, or_interest}
-use Rattle.span_filters.specs.Filter.{FilterLaws, FilterSteps, KeepsInterestAndHint}
-use Rattle.span_registry.specs.Answers.{Answers, AreHonest, ArePlain, Conduct, IsPlain, Notice, SameInterestAndHint}
+use Rattle.span_filters.specs.Filter.{FilterLaws, FilterSteps, KeepsInterestAndHint, equal_alike}
+use Rattle.span_registry.specs.Answers.{AnswerAlike, Answers, AreHonest, ArePlain, Conduct, IsPlain, Notice, SameInterestAndHint}
 use Rattle.span_registry.specs.Store.{RegistryState}
 use Rattle.span_registry.specs.View.{View, view_of}
 use Rattle.span_registry.proofs.CallerLemmas.{histories_alike, views_alike}
@@ -24,7 +24,8 @@ module _ {A C : Type 0} (turn : Answers → Answers) (part : C → A) {has : A �
     (laws : FilterLaws has steps acts)
     (honest : (x : Answers) → AreHonest x → AreHonest (turn x))
     (same : (x y : Answers) → SameInterestAndHint x y → SameInterestAndHint (turn x) (turn y))
-    (plain : (x : Answers) → ArePlain x → ArePlain (turn x)) where
+    (plain : (x : Answers) → ArePlain x → ArePlain (turn x))
+    (alike : (x y : Answers) → AnswerAlike x y → AnswerAlike (turn x) (turn y)) where
   -- a filter of one part
   pub one_laws : FilterLaws (λ f a. HasOne turn has (part f) a) (λ f e lane under v g w. steps (part f) e lane under v (part g) w) (λ f b. ActsOne turn acts (part f) b)
   one_laws = record {
@@ -36,6 +37,9 @@ module _ {A C : Type 0} (turn : Answers → Answers) (part : C → A) {has : A �
         let p = laws.plain (part f) h.inside h.acts_inside in
         subst IsPlain (sym h.turned) (record { answers = λ k. plain (h.inside k) (p.answers k); history = λ k n e. ap turn (p.history k n e) });
     now = λ f b h. record { inside = h.inside []; has_inside = laws.now (part f) h.inside h.acts_inside; turned = ap (λ (c : Conduct). c []) h.turned };
+    only = λ f a b d h.
+        let x = alike d.inside (h.inside []) (laws.only (part f) d.inside h.inside d.has_inside h.acts_inside) in
+        subst (λ c. AnswerAlike c (b [])) (sym d.turned) (subst (λ c. AnswerAlike (turn d.inside) (c [])) (sym h.turned) x);
     goes_on = λ f e lane under v g w b h s. record {
       inside = λ k. h.inside ((e, view_of v.store lane under) ∷ k);
       acts_inside = laws.goes_on (part f) e lane under v (part g) w h.inside h.acts_inside s;
@@ -48,7 +52,8 @@ module _ {A B C : Type 0} (join : Answers → Answers → Answers) (first : C �
     {other_has : B → Answers → Type 0} {other_steps : FilterSteps B} {other_acts : B → Conduct → Type 0} (others : FilterLaws other_has other_steps other_acts)
     (honest : (x y : Answers) → AreHonest x → AreHonest y → AreHonest (join x y))
     (same : (x y u w : Answers) → SameInterestAndHint x u → SameInterestAndHint y w → SameInterestAndHint (join x y) (join u w))
-    (plain : (x y : Answers) → ArePlain x → ArePlain y → ArePlain (join x y)) where
+    (plain : (x y : Answers) → ArePlain x → ArePlain y → ArePlain (join x y))
+    (alike : (x y u w : Answers) → AnswerAlike x u → AnswerAlike y w → AnswerAlike (join x y) (join u w)) where
   -- a filter of two parts
   pub both_laws : FilterLaws (λ f a. HasBoth join has other_has (first f) (second f) a)
       (λ f e lane under v g w. StepsBoth steps other_steps (first f) (second f) e lane under v (first g) (second g) w)
@@ -77,6 +82,10 @@ module _ {A B C : Type 0} (join : Answers → Answers → Answers) (first : C �
       has_right = others.now (second f) h.right h.acts_right;
       joined = ap (λ (c : Conduct). c []) h.joined;
     };
+    only = λ f a b d h.
+        let x = laws.only (first f) d.left h.left d.has_left h.acts_left in
+        let y = others.only (second f) d.right h.right d.has_right h.acts_right in
+        subst (λ c. AnswerAlike c (b [])) (sym d.joined) (subst (λ c. AnswerAlike (join d.left d.right) (c [])) (sym h.joined) (alike d.left d.right (h.left []) (h.right []) x y));
     goes_on = λ f e lane under v g w b h s.
         let q = others.plain (second f) h.right h.acts_right in
         record {
@@ -122,6 +131,9 @@ not_same x y s = record { interest = λ i m. not_interest (s.interest i m); hint
 
 pub not_plain : (x : Answers) → ArePlain x → ArePlain (not_answers x)
 not_plain x p = record { enabled = λ m v w e. ap not (p.enabled m v w e); event = λ e v w d. refl }
+
+pub not_alike : (x y : Answers) → AnswerAlike x y → AnswerAlike (not_answers x) (not_answers y)
+not_alike x y h = record { enabled = λ m s lane mask. ap not (h.enabled m s lane mask); event = λ e s lane mask. refl }
 
 and_always : (i j : Interest) → and_interest i j ≡ Always → (i ≡ Always) × (j ≡ Always)
 and_always Never j e = absurd (cc)
@@ -233,6 +245,18 @@ or_plain x y p q = record {
   event = λ n v w e i. p.event n v w e i || q.event n v w e i;
 }
 
+pub and_alike : (x y u w : Answers) → AnswerAlike x u → AnswerAlike y w → AnswerAlike (and_answers x y) (and_answers u w)
+and_alike x y u w h k = record {
+  enabled = λ m s lane mask i. h.enabled m s lane mask i && k.enabled m s lane mask i;
+  event = λ e s lane mask i. h.event e s lane mask i && k.event e s lane mask i;
+}
+
+pub or_alike : (x y u w : Answers) → AnswerAlike x u → AnswerAlike y w → AnswerAlike (or_answers x y) (or_answers u w)
+or_alike x y u w h k = record {
+  enabled = λ m s lane mask i. h.enabled m s lane mask i || k.enabled m s lane mask i;
+  event = λ e s lane mask i. h.event e s lane mask i || k.event e s lane mask i;
+}
+
 all_honest : AreHonest all_answers
 all_honest = record { always = λ m v e. refl; never = λ m v e. absurd (cc); above = λ m v e. absurd (cc); alike = λ m k e. refl }
 
@@ -258,6 +282,10 @@ module _ {F : Type 0} {has : F → Answers → Type 0} {steps : FilterSteps F} {
   part_now (Some f) b h = laws.now f b h
   part_now None b h = ap (λ (c : Conduct). c []) h
 
+  part_only : (f : Option F) (a : Answers) (b : Conduct) → HasPart has f a → ActsPart acts f b → AnswerAlike a (b [])
+  part_only (Some f) a b d h = laws.only f a b d h
+  part_only None a b d h = equal_alike a (b []) (d ∙ sym (ap (λ (c : Conduct). c []) h))
+
   part_goes_on : (f : Option F) (e : Notice) (lane : ℕ) (under : FilterSet) (v : RegistryState) (g : Option F) (w : RegistryState) (b : Conduct) → ActsPart acts f b → StepsPart steps f e lane under v g w → ActsPart acts g (λ h. b ((e, view_of v.store lane under) ∷ h))
   part_goes_on (Some f) e lane under v (Some g) w b h s = laws.goes_on f e lane under v g w b h s
   part_goes_on (Some f) e lane under v None w b h s = absurd s
@@ -266,4 +294,4 @@ module _ {F : Type 0} {has : F → Answers → Type 0} {steps : FilterSteps F} {
 
   -- an optional filter
   pub part_laws : FilterLaws (HasPart has) (StepsPart steps) (ActsPart acts)
-  part_laws = record { honest = part_honest; keeps = part_keeps; plain = part_plain; now = part_now; goes_on = part_goes_on }
+  part_laws = record { honest = part_honest; keeps = part_keeps; plain = part_plain; now = part_now; only = part_only; goes_on = part_goes_on }

@@ -57,6 +57,10 @@ pub record ActsSteadily {F : Type 0} (has : F → Answers → Type 0) (f : F) (c
   pub plain : ArePlain always
   pub steady : conduct ≡ (λ h. always)
 
+-- equal answers are alike
+pub equal_alike : (a b : Answers) → a ≡ b → AnswerAlike a b
+equal_alike a b e = record { enabled = λ m s lane mask i. (e i).enabled m (view_of s lane mask); event = λ n s lane mask i. (e i).event n (view_of s lane mask) }
+
 always_plain : (a : Answers) → ArePlain a → IsPlain (λ h. a)
 always_plain a p = record { answers = λ h. p; history = λ h k e. refl }
 
@@ -67,9 +71,11 @@ still_laws has honest = record {
   keeps = λ f e lane under v g w a s h. (a, subst (λ k. has k a) (sym s.0) h, record { interest = refl; hint = refl });
   plain = λ f b h. subst IsPlain (sym h.steady) (always_plain h.always h.plain);
   now = λ f b h. subst (λ c. has f (c [])) (sym h.steady) h.answered;
+  only = λ f a b d h. subst (λ c. AnswerAlike a (c [])) (sym h.steady) (h.only a d);
   goes_on = λ f e lane under v g w b h s. record {
     always = h.always;
     answered = subst (λ k. has k h.always) (sym s.0) h.answered;
+    only = λ a d. h.only a (subst (λ k. has k a) s.0 d);
     plain = h.plain;
     steady = ap (λ c k. c ((e, view_of v.store lane under) ∷ k)) h.steady;
   };
@@ -82,6 +88,10 @@ settled_answers answers f a = a ≡ answers f
 -- keeps the law if these are honest, and its hooks do nothing
 pub settled_laws : {F : Type 0} (answers : F → Answers) → ((f : F) → AreHonest (answers f)) → FilterLaws (settled_answers answers) unmoved (ActsSteadily (settled_answers answers))
 settled_laws answers honest = still_laws (settled_answers answers) (λ f a h. subst AreHonest (sym h) (honest f))
+
+-- whatever answers it has, they are alike
+abbrev pub HasOnly : {F : Type 0} → (F → Answers → Type 0) → F → Type 0
+HasOnly has f = (a b : Answers) → has f a → has f b → AnswerAlike a b
 
 -- whatever answers a filter has, it always answers so
 abbrev pub IsSteady : {F : Type 0} → (F → Answers → Type 0) → (F → Conduct → Type 0) → F → Type 0

@@ -6,7 +6,7 @@ use Rattle.span_core.specs.Metadata.{level_of}
 use Rattle.span_core.specs.declared.interest.Interest.TheVariants.{Always, Never}
 use Rattle.span_core.specs.declared.interest.Interest.{Interest}
 use Rattle.span_core.specs.declared.level.LevelFilter.{LevelFilter}
-use Rattle.span_filters.specs.Filter.{ActsSteadily, settled_answers}
+use Rattle.span_filters.specs.Filter.{ActsSteadily, equal_alike, settled_answers}
 use Rattle.span_registry.specs.Answers.{Answers, AreHonest}
 
 -- always or never, by whether metadata pass
@@ -41,4 +41,4 @@ level_honest f = record { always = λ m v e. always_passes _ e; never = λ m v e
 
 -- and plain, since it looks at no view
 pub level_plain : (f : LevelFilter) → ActsSteadily (settled_answers level_answers) f (λ h. level_answers f)
-level_plain f = record { always = level_answers f; answered = refl; plain = record { enabled = λ m v w e. refl; event = λ e v w d. refl }; steady = refl }
+level_plain f = record { always = level_answers f; answered = refl; only = λ a h. equal_alike a (level_answers f) h; plain = record { enabled = λ m v w e. refl; event = λ e v w d. refl }; steady = refl }

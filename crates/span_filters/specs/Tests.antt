@@ -32,5 +32,6 @@ if_laws wants = record {
   keeps = λ f e lane under v g w a s h. (if_answers (wants g), refl, subst (λ b. SameInterestAndHint b (if_answers (wants g))) (sym h) (record { interest = refl; hint = refl }));
   plain = λ f b h. absurd h;
   now = λ f b h. absurd h;
+  only = λ f a b d h. absurd h;
   goes_on = λ f e lane under v g w b h s. absurd h;
 }

@@ -1,7 +1,7 @@
 //! Filters made of filters.
 ghost use Rattle.span_filters.specs.Combinator.{ActsBoth, ActsOne, ActsPart, AndPartsAre, HasBoth, HasOne, HasPart, IsAnd, IsNot, IsOr, OrPartsAre, StepsBoth, StepsPart, and_answers, first_of_and, first_of_or, not_answers, or_answers, part_of_not, second_of_and, second_of_or};
 ghost use Rattle.span_core.specs.Level.{greater, lesser};
-ghost use Rattle.span_filters.specs.CombinatorLaws.{and_honest, and_plain, and_same, both_laws, not_honest, not_plain, not_same, one_laws, part_laws, or_honest, or_plain, or_same};
+ghost use Rattle.span_filters.specs.CombinatorLaws.{and_alike, not_alike, or_alike, and_honest, and_plain, and_same, both_laws, not_honest, not_plain, not_same, one_laws, part_laws, or_honest, or_plain, or_same};
 ghost use Rattle.span_core.specs.declared.error.TraceError.TheVariants.{OutOfMemory};
 ghost use Rattle.span_filters.specs.Filter.{CopiesAlike};
 ghost use Rattle.std.specs.Prelude.{◌≡◌, IfErr, IfOk, IfSome, IsOk};
@@ -103,7 +103,7 @@ impl<S: LookupSpan, A: Filter<S>> Filter<S> for Not<A> {
 
     ghost acts = { λ f b. ActsOne not_answers A.acts f.a b };
 
-    ghost laws = { one_laws not_answers (λ f. f.a) A.laws not_honest not_same not_plain };
+    ghost laws = { one_laws not_answers (λ f. f.a) A.laws not_honest not_same not_plain not_alike };
 
     fn enabled(&self, meta: &Metadata, cx: &Context<'_, S>) -> bool {
         !self.a.enabled(meta, cx)
@@ -155,7 +155,7 @@ impl<S: LookupSpan, A: Filter<S>, B: Filter<S>> Filter<S> for And<A, B> {
 
     ghost acts = { λ f b. ActsBoth and_answers A.acts B.acts f.a f.b b };
 
-    ghost laws = { both_laws and_answers (λ f. f.a) (λ f. f.b) A.laws B.laws and_honest and_same and_plain };
+    ghost laws = { both_laws and_answers (λ f. f.a) (λ f. f.b) A.laws B.laws and_honest and_same and_plain and_alike };
 
     fn enabled(&self, meta: &Metadata, cx: &Context<'_, S>) -> bool {
         if !self.a.enabled(meta, cx) {
@@ -230,7 +230,7 @@ impl<S: LookupSpan, A: Filter<S>, B: Filter<S>> Filter<S> for Or<A, B> {
 
     ghost acts = { λ f b. ActsBoth or_answers A.acts B.acts f.a f.b b };
 
-    ghost laws = { both_laws or_answers (λ f. f.a) (λ f. f.b) A.laws B.laws or_honest or_same or_plain };
+    ghost laws = { both_laws or_answers (λ f. f.a) (λ f. f.b) A.laws B.laws or_honest or_same or_plain or_alike };
 
     fn enabled(&self, meta: &Metadata, cx: &Context<'_, S>) -> bool {
         if self.a.enabled(meta, cx) {

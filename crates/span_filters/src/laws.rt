@@ -1,5 +1,5 @@
 //! Filters that are plain. The functions make no call: what they ensure is the law.
-ghost use Rattle.span_filters.specs.Closure.{test_plain, view_plain};
+ghost use Rattle.span_filters.specs.Closure.{AnswersAll, AnswersAllIn, test_in, test_plain, view_plain, view_test_in};
 ghost use Rattle.span_filters.specs.Filter.{IsSteady, MayBeSteady};
 ghost use Rattle.span_filters.specs.Level.{level_answers, level_plain};
 
@@ -14,16 +14,18 @@ pub fn levels_are_plain<S: LookupSpan>(filter: &LevelFilter)
     ensures { ⟦<LevelFilter as Filter<S>>⟧.acts filter.now (λ h. level_answers filter.now) }
 {}
 
-/// A filter by a test of metadata always answers as it does, whatever the extensions.
+/// A filter by a test of metadata always answers as it does, whatever the extensions, where its closure has an answer to all
+/// metadata.
 pub fn tests_are_plain<S: LookupSpan, F: Function<Metadata, bool>>(filter: &FilterFn<F>)
-    ensures { let i = ⟦<FilterFn<F> as Filter<S>>⟧ in IsSteady i.has_answers i.acts filter.now }
+    ensures { AnswersAll F.gives (test_in filter.now) → let i = ⟦<FilterFn<F> as Filter<S>>⟧ in IsSteady i.has_answers i.acts filter.now }
 {}
 
-/// A filter by a test of metadata and context does, where its answers are the same in views that differ in extensions alone.
+/// A filter by a test of metadata and context does, where its answers are the same in views that differ in extensions alone, and
+/// its closure has an answer to all metadata on each store.
 pub fn view_tests_may_be_plain<
     S: LookupSpan,
     F: FunctionIn<Metadata, S, bool>,
     R: Function<Metadata, Interest>,
 >(filter: &DynFilterFn<F, R>)
-    ensures { let i = ⟦<DynFilterFn<F, R> as Filter<S>>⟧ in MayBeSteady i.has_answers i.acts filter.now }
+    ensures { AnswersAllIn S.registry F.gives_in (view_test_in filter.now) → let i = ⟦<DynFilterFn<F, R> as Filter<S>>⟧ in MayBeSteady i.has_answers i.acts filter.now }
 {}

@@ -1,4 +1,6 @@
 //! A layer in a box.
+ghost use Rattle.span_layers.specs.Acts.{no_path_laws};
+ghost use Rattle.span_registry.specs.Conducts.{no_path};
 ghost use Rattle.span_layers.specs.Boxed.{held_laws};
 
 use crate::layer::Layer;
@@ -15,11 +17,15 @@ impl<S: Subscriber, L: Layer<S>> Layer<S> for Box<L> {
 
     ghost hears = { λ x place h y. L.hears x.value place h y.value };
 
+    ghost acts_at = { no_path };
+
     ghost registered = { λ x y. L.registered x.value y.value };
 
     ghost attached = { λ x y. L.attached x.value y.value };
 
     ghost laws = { held_laws L.laws (λ x. x.value) };
+
+    ghost paths = { no_path_laws };
 
     fn on_register_dispatch(&mut self) {
         (**self).on_register_dispatch();

@@ -1,4 +1,6 @@
 //! A layer under a filter.
+ghost use Rattle.span_layers.specs.Acts.{no_path_laws};
+ghost use Rattle.span_registry.specs.Conducts.{no_path};
 ghost use Rattle.std.specs.Borrow.{Lends, sem};
 ghost use Rattle.std.specs.Prelude.{◌≡◌};
 ghost use Rattle.span_layers.specs.contracts.filtered.Filtered.{the_row};
@@ -72,11 +74,15 @@ impl<S: Subscriber, L: Layer<S>, F: Filter<S>> Layer<S> for Filtered<L, F> {
 
     ghost hears = { λ x place h y. FilteredHears L.hears x.layer place h y.layer };
 
+    ghost acts_at = { no_path };
+
     ghost registered = { λ x y. (y.id ≡ x.id) × (y.filter ≡ x.filter) × L.registered x.layer y.layer };
 
     ghost attached = { λ x y. (y.filter ≡ x.filter) × L.attached x.layer y.layer };
 
     ghost laws = { filtered_laws F.laws L.laws (λ x. x.id) (λ x. x.filter) (λ x. x.layer) };
+
+    ghost paths = { no_path_laws };
 
     fn on_register_dispatch(&mut self) {
         self.layer.on_register_dispatch();

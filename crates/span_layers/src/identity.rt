@@ -1,4 +1,6 @@
 //! A layer that does nothing.
+ghost use Rattle.span_layers.specs.Acts.{no_path_laws};
+ghost use Rattle.span_registry.specs.Conducts.{no_path};
 ghost use Rattle.std.specs.Prelude.{◌≡◌, true};
 ghost use Rattle.span_layers.specs.Idle.{IdleHears, IdleSteps, identity, idle_laws};
 ghost use Rattle.span_layers.specs.Observe.{open_answers};
@@ -38,11 +40,15 @@ impl<S: Subscriber> Layer<S> for Identity {
 
     ghost hears = { IdleHears };
 
+    ghost acts_at = { no_path };
+
     ghost registered = { λ x y. y ≡ x };
 
     ghost attached = { λ x y. y ≡ x };
 
     ghost laws = { idle_laws (λ x f. f ≡ Leaf true open_answers) };
+
+    ghost paths = { no_path_laws };
 
     fn on_register_dispatch(&mut self) {
         // It has nothing to do.

@@ -1,4 +1,6 @@
 //! An outer part over an inner one.
+ghost use Rattle.span_layers.specs.Acts.{no_path_laws};
+ghost use Rattle.span_registry.specs.Conducts.{no_path};
 ghost use Rattle.std.specs.Borrow.{Lends, sem};
 ghost use Rattle.std.specs.Prelude.{◌≡◌, ◌&&◌, if◌then◌else◌};
 ghost use Rattle.span_layers.specs.contracts.layered.Layered.{the_row};
@@ -118,11 +120,15 @@ impl<S: Subscriber, L: Layer<S>, I: Layer<S>> Layer<S> for Layered<L, I> {
 
     ghost hears = { λ x place h y. LayeredHears L.hears I.hears x.layer x.inner place h y.layer y.inner };
 
+    ghost acts_at = { no_path };
+
     ghost registered = { λ x y. L.registered x.layer y.layer × I.registered x.inner y.inner };
 
     ghost attached = { λ x y. L.attached x.layer y.layer × I.attached x.inner y.inner };
 
     ghost laws = { pair_laws L.laws I.laws (λ x. x.layer) (λ x. x.inner) };
+
+    ghost paths = { no_path_laws };
 
     fn on_register_dispatch(&mut self) {
         self.layer.on_register_dispatch();

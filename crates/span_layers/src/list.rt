@@ -1,4 +1,6 @@
 //! A list of layers. Questions and hooks go by index: the first member is asked first, and notified first.
+ghost use Rattle.span_layers.specs.Acts.{no_path_laws};
+ghost use Rattle.span_registry.specs.Conducts.{no_path};
 ghost use Rattle.std.specs.List.{All, AllZip};
 ghost use Rattle.std.specs.Prelude.{◌≡◌};
 ghost use Rattle.span_core.specs.Level.{wider_hint};
@@ -111,11 +113,15 @@ impl<S: Subscriber, L: Layer<S>> Layer<S> for Vec<L> {
 
     ghost hears = { λ x place h y. ListHears L.hears x.items place h y.items };
 
+    ghost acts_at = { no_path };
+
     ghost registered = { λ x y. AllZip L.registered x.items y.items };
 
     ghost attached = { λ x y. AllZip L.attached x.items y.items };
 
     ghost laws = { list_laws L.laws (λ x. x.items) };
+
+    ghost paths = { no_path_laws };
 
     fn on_register_dispatch(&mut self) {
         put_in_use(self.as_mut_slice());

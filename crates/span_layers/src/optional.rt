@@ -1,4 +1,6 @@
 //! A layer that may be absent.
+ghost use Rattle.span_layers.specs.Acts.{no_path_laws};
+ghost use Rattle.span_registry.specs.Conducts.{no_path};
 ghost use Rattle.std.specs.Prelude.{IfSome};
 ghost use Rattle.span_layers.specs.Optional.{OptionForm, OptionGoes, OptionHears, OptionSteps, option_laws};
 
@@ -16,11 +18,15 @@ impl<S: Subscriber, L: Layer<S>> Layer<S> for Option<L> {
 
     ghost hears = { OptionHears L.hears };
 
+    ghost acts_at = { no_path };
+
     ghost registered = { OptionGoes L.registered };
 
     ghost attached = { OptionGoes L.attached };
 
     ghost laws = { option_laws L.laws };
+
+    ghost paths = { no_path_laws };
 
     fn on_register_dispatch(&mut self) {
         if let Some(layer) = self {

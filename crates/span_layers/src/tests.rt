@@ -1,4 +1,6 @@
 //! Tests of stacks, as a program drives them, with layers that keep what they are notified of.
+ghost use Rattle.span_layers.specs.Acts.{no_path_laws};
+ghost use Rattle.span_registry.specs.Conducts.{no_path};
 ghost use Rattle.std.specs.Prelude.{◌≡◌, ⊤, false};
 ghost use Rattle.span_layers.specs.Observe.{fixed_laws, open_answers};
 ghost use Rattle.span_registry.specs.Form.{Leaf};
@@ -152,11 +154,15 @@ impl<S: Subscriber> Layer<S> for Echo {
 
     ghost hears = { λ x place h y. ⊤ };
 
+    ghost acts_at = { no_path };
+
     ghost registered = { λ x y. y ≡ x };
 
     ghost attached = { λ x y. y ≡ x };
 
     ghost laws = { fixed_laws (Leaf false open_answers) (λ x p e lane under v y w. ⊤) no_leaf_laws (λ x p e lane under v y w place s. tt) };
+
+    ghost paths = { no_path_laws };
 
     fn on_register_dispatch(&mut self) {}
 

@@ -1,4 +1,6 @@
 //! Filters as layers: they veto, for all layers, what they refuse.
+ghost use Rattle.span_layers.specs.Acts.{no_path_laws};
+ghost use Rattle.span_registry.specs.Conducts.{no_path};
 ghost use Rattle.std.specs.Prelude.{◌≡◌, true};
 ghost use Rattle.span_filters.specs.Closure.{ClosuresAre, HasTestAnswers, HasViewAnswers, test_in};
 ghost use Rattle.span_filters.specs.Filter.{settled_answers};
@@ -17,11 +19,15 @@ impl<S: Subscriber> Layer<S> for LevelFilter {
 
     ghost hears = { HearsUnmoved };
 
+    ghost acts_at = { no_path };
+
     ghost registered = { λ x y. y ≡ x };
 
     ghost attached = { λ x y. y ≡ x };
 
     ghost laws = { veto_laws (settled_answers level_answers) };
+
+    ghost paths = { no_path_laws };
 
     fn on_register_dispatch(&mut self) {
         // It has nothing to do.
@@ -85,11 +91,15 @@ impl<S: Subscriber, F: Function<Metadata, bool>> Layer<S> for FilterFn<F> {
 
     ghost hears = { HearsUnmoved };
 
+    ghost acts_at = { no_path };
+
     ghost registered = { λ x y. y ≡ x };
 
     ghost attached = { λ x y. y ≡ x };
 
     ghost laws = { veto_laws (HasTestAnswers F.gives) };
+
+    ghost paths = { no_path_laws };
 
     fn on_register_dispatch(&mut self) {
         // It has nothing to do.
@@ -154,11 +164,15 @@ impl<S: Subscriber, F: FunctionIn<Metadata, S, bool>, R: Function<Metadata, Inte
 
     ghost hears = { HearsUnmoved };
 
+    ghost acts_at = { no_path };
+
     ghost registered = { λ x y. y ≡ x };
 
     ghost attached = { λ x y. y ≡ x };
 
     ghost laws = { veto_laws (HasViewAnswers S.registry F.gives_in R.gives) };
+
+    ghost paths = { no_path_laws };
 
     fn on_register_dispatch(&mut self) {
         // It has nothing to do.

@@ -1,4 +1,6 @@
 //! A layer that vetoes events by their values.
+ghost use Rattle.span_layers.specs.Acts.{no_path_laws};
+ghost use Rattle.span_registry.specs.Conducts.{no_path};
 ghost use Rattle.std.specs.Prelude.{◌≡◌};
 ghost use Rattle.span_filters.specs.Filter.{settled_answers};
 ghost use Rattle.span_layers.specs.Veto.{HearsUnmoved, LeafStays, VetoForm, veto_laws};
@@ -20,11 +22,15 @@ impl<S: Subscriber> Layer<S> for MuteVeto {
 
     ghost hears = { HearsUnmoved };
 
+    ghost acts_at = { no_path };
+
     ghost registered = { λ x y. y ≡ x };
 
     ghost attached = { λ x y. y ≡ x };
 
     ghost laws = { veto_laws (settled_answers (λ v. mute_answers)) };
+
+    ghost paths = { no_path_laws };
 
     fn on_register_dispatch(&mut self) {
         // It has nothing to do.

@@ -1,4 +1,6 @@
 //! Tests of how often a layer is asked: not of an event whose metadata it refused.
+ghost use Rattle.span_layers.specs.Acts.{no_path_laws};
+ghost use Rattle.span_registry.specs.Conducts.{no_path};
 ghost use Rattle.std.specs.Prelude.{◌≡◌, ⊤, true};
 ghost use Rattle.span_registry.specs.Form.{Leaf};
 ghost use Rattle.span_uses.specs.Tests.{fixed_answers, fixed_answers_laws};
@@ -33,11 +35,15 @@ impl<S: Subscriber> Layer<S> for Asked {
 
     ghost hears = { λ x place h y. ⊤ };
 
+    ghost acts_at = { no_path };
+
     ghost registered = { λ x y. y ≡ x };
 
     ghost attached = { λ x y. y ≡ x };
 
     ghost laws = { fixed_answers_laws (λ x. x.metadata_pass) (λ x. x.events_pass) };
+
+    ghost paths = { no_path_laws };
 
     fn on_register_dispatch(&mut self) {}
 
