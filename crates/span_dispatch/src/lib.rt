@@ -6,6 +6,8 @@ mod cache;
 mod cache_tests;
 mod dispatch;
 #[cfg(test)]
+mod isolation_tests;
+#[cfg(test)]
 mod layer_tests;
 mod notice;
 mod recorder;

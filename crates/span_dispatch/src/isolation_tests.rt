@@ -1,0 +1,189 @@
+//! Tests of what other layers' filters make no difference to, and of what they may where a filter reads extensions.
+ghost use Rattle.std.specs.Prelude.{⊤};
+
+use crate::{Answer, Dispatch, Notice, Recorder, Request, Which, WhichParent};
+use span_core::{FieldSet, Id, Kind, Lane, Level, LevelFilter, Metadata};
+use span_filters::dynamic_filter_fn;
+use span_layers::{Filtered, LayerExt, Layered, Observe, Observed, Observer, SubscriberExt};
+use span_registry::{Context, ContextMut, Registry, Subscriber, Tag};
+use std::alloc::Global;
+use std::process::Abort;
+use std::test::Fail;
+
+const LANE: Lane = Lane(0);
+
+fn no_room<T>() -> Result<T, Fail> {
+    Err(Fail::from("there is no room"))
+}
+
+/// What a callsite with this number makes.
+fn metadata_of(callsite: u64, level: Level, kind: Kind) -> Metadata {
+    Metadata::new(callsite, "made", "tests", level, kind, FieldSet::new(&[]))
+}
+
+/// A recorder under a level.
+type Levelled = Filtered<Recorder, LevelFilter>;
+
+/// From the registry outwards: B without a filter, A under INFO, and C under another level.
+type Three = Layered<Levelled, Layered<Levelled, Layered<Recorder, Registry>>>;
+
+fn three(alloc: Global, outermost: LevelFilter) -> Result<Dispatch<Three>, Fail> {
+    let Ok(stack) = Registry::new(alloc).with(Recorder::new(alloc)) else {
+        return no_room();
+    };
+    let Ok(stack) = stack.with(Recorder::new(alloc).with_filter(LevelFilter::INFO)) else {
+        return no_room();
+    };
+    let Ok(stack) = stack.with(Recorder::new(alloc).with_filter(outermost)) else {
+        return no_room();
+    };
+    Ok(Dispatch::new(alloc, stack))
+}
+
+/// Three spans at info, debug, info, each in the one before, all entered; an event of each level where the lane is; then all are
+/// left and dropped.
+fn requests() -> [Request<'static>; 17] {
+    let span = |callsite, level, parent| {
+        Request::NewSpan(LANE, metadata_of(callsite, level, Kind::SPAN), parent, &[])
+    };
+    let within = |place| WhichParent::Explicit(Which::Made(place));
+    let event = |callsite, level| {
+        let metadata = metadata_of(callsite, level, Kind::EVENT);
+        Request::Event(LANE, metadata, WhichParent::Contextual, &[])
+    };
+    [
+        span(0, Level::INFO, WhichParent::Root),
+        span(1, Level::DEBUG, within(0)),
+        span(2, Level::INFO, within(1)),
+        Request::Enter(LANE, Which::Made(0)),
+        Request::Enter(LANE, Which::Made(1)),
+        Request::Enter(LANE, Which::Made(2)),
+        event(5, Level::ERROR),
+        event(6, Level::WARN),
+        event(7, Level::INFO),
+        event(8, Level::DEBUG),
+        event(9, Level::TRACE),
+        Request::Exit(LANE, Which::Made(2)),
+        Request::Exit(LANE, Which::Made(1)),
+        Request::Exit(LANE, Which::Made(0)),
+        Request::Drop(LANE, Which::Made(2)),
+        Request::Drop(LANE, Which::Made(1)),
+        Request::Drop(LANE, Which::Made(0)),
+    ]
+}
+
+/// The span that the request at this place made.
+fn made(answers: &[Answer], place: usize) -> Result<Id, Fail> {
+    match answers.get(place) {
+        Some(Answer::Made(id)) => Ok(*id),
+        _ => Err(Fail::from("no span was made")),
+    }
+}
+
+/// Serves the list and looks at what A and B were notified of.
+fn a_and_b_beside(rt: &impl Abort, alloc: Global, outermost: LevelFilter) -> Result<(), Fail> {
+    let mut dispatch = three(alloc, outermost)?;
+    let answers = dispatch.serve(alloc, &requests())?;
+    let [p, q, r] = [made(&answers, 0)?, made(&answers, 1)?, made(&answers, 2)?];
+    let inner = dispatch.stack().inner();
+    assert_eq!(rt;
+        inner.layer().inner().notices(),
+        [
+            Notice::New(LANE, p),
+            Notice::New(LANE, r),
+            Notice::Enter(LANE, p),
+            Notice::Enter(LANE, r),
+            Notice::Event(LANE, 5),
+            Notice::Event(LANE, 6),
+            Notice::Event(LANE, 7),
+            Notice::Exit(LANE, r),
+            Notice::Exit(LANE, p),
+            Notice::Close(LANE, r),
+            Notice::Close(LANE, p),
+        ]
+        .as_slice()
+    );
+    assert_eq!(rt;
+        inner.inner().layer().notices(),
+        [
+            Notice::New(LANE, p),
+            Notice::New(LANE, q),
+            Notice::New(LANE, r),
+            Notice::Enter(LANE, p),
+            Notice::Enter(LANE, q),
+            Notice::Enter(LANE, r),
+            Notice::Event(LANE, 5),
+            Notice::Event(LANE, 6),
+            Notice::Event(LANE, 7),
+            Notice::Event(LANE, 8),
+            Notice::Event(LANE, 9),
+            Notice::Exit(LANE, r),
+            Notice::Exit(LANE, q),
+            Notice::Exit(LANE, p),
+            Notice::Close(LANE, r),
+            Notice::Close(LANE, q),
+            Notice::Close(LANE, p),
+        ]
+        .as_slice()
+    );
+    Ok(())
+}
+
+#[test]
+fn another_layers_filter_makes_no_difference(rt: HostRuntime) -> Result<(), Fail> {
+    a_and_b_beside(&rt, rt.alloc(), LevelFilter::TRACE)?;
+    a_and_b_beside(&rt, rt.alloc(), LevelFilter::OFF)
+}
+
+/// Marks each new span, as far as there is memory.
+#[derive(Drop)]
+struct Marker;
+
+impl<S: Subscriber> Observe<S> for Marker {
+    ghost observed = { λ x e lane under v y w. ⊤ };
+
+    fn observe(&mut self, notice: Observed<'_, '_>, ctx: &mut ContextMut<'_, S>) {
+        if let Observed::NewSpan(_, id) = notice {
+            if let Some(mut extensions) = ctx.extensions_mut(id) {
+                let _ = extensions.insert(Tag::<bool>::new(0), true);
+            }
+        }
+    }
+}
+
+/// How many notices a recorder gets of a span that is entered, an event in it, and its end: its filter passes spans, and events
+/// in a marked span. Another layer marks what this level passes.
+fn notices_beside_a_marker(alloc: Global, level: LevelFilter) -> Result<usize, Fail> {
+    let in_marked = dynamic_filter_fn(|meta: &Metadata, cx: &Context<'_, Registry>| {
+        meta.is_span()
+            || match cx.lookup_current() {
+                Some(span) => span.extensions().get(Tag::<bool>::new(0)).is_some(),
+                None => false,
+            }
+    });
+    let Ok(stack) = Registry::new(alloc).with(Recorder::new(alloc).with_filter(in_marked)) else {
+        return no_room();
+    };
+    let Ok(stack) = stack.with(Observer::new(Marker).with_filter(level)) else {
+        return no_room();
+    };
+    let mut dispatch = Dispatch::new(alloc, stack);
+    let span = metadata_of(2, Level::INFO, Kind::SPAN);
+    let event = metadata_of(7, Level::INFO, Kind::EVENT);
+    let requests = [
+        Request::NewSpan(LANE, span, WhichParent::Root, &[]),
+        Request::Enter(LANE, Which::Made(0)),
+        Request::Event(LANE, event, WhichParent::Contextual, &[]),
+        Request::Exit(LANE, Which::Made(0)),
+        Request::Drop(LANE, Which::Made(0)),
+    ];
+    let _ = dispatch.serve(alloc, &requests)?;
+    Ok(dispatch.stack().inner().layer().inner().notices().len())
+}
+
+#[test]
+fn a_filter_that_reads_extensions_sees_other_layers_work(rt: HostRuntime) -> Result<(), Fail> {
+    assert_eq!(rt; notices_beside_a_marker(rt.alloc(), LevelFilter::TRACE)?, 5);
+    assert_eq!(rt; notices_beside_a_marker(rt.alloc(), LevelFilter::OFF)?, 4);
+    Ok(())
+}
