@@ -1,5 +1,5 @@
--- Sets of filters: what two have in common, what a mask hides, and that members tell sets apart.
-use Rattle.std.proofs.Common.{◌≡◌, ℕ, ◌<◌, Bool, true, false, refl, ap, ◌∙◌, IsTrue, Option, None, Some}
+-- Sets of filters: what two have in common, what a mask hides, that members tell sets apart, and verdicts cut down to a set.
+use Rattle.std.proofs.Common.{◌≡◌, ℕ, ◌+◌, zero, suc, ◌<◌, Bool, true, false, refl, sym, ap, ◌∙◌, IsTrue, List, [], ◌∷◌, length, slice_index_or, Option, None, Some, arith}
 use Rattle.std.specs.Prelude.{◌&&◌, ◌||◌, ◌↔◌, is_some}
 use Rattle.std.specs.Option.{option_map_or}
 use Rattle.std.proofs.lemmas.Bool.{and_from, and_left, and_parts, and_right}
@@ -94,3 +94,30 @@ same_ids a b h = ap (λ (o : Option NumberSet). let id : FilterId = record { num
 -- maps with the same refusals
 pub same_maps : (a b : FilterMap) → SameMembers (refuses a) (refuses b) → a ≡ b
 same_maps a b h = ap (λ (s : NumberSet). let map : FilterMap = record { disabled_by = s } in map) (same_numbers a.disabled_by b.disabled_by h)
+
+-- ---- a verdict cut down to a set
+
+-- the marks from the i-th on, those outside the set taken out
+abbrev cut_marks : FilterSet → ℕ → List Bool → List Bool
+cut_marks numbers i [] = []
+cut_marks numbers i (b ∷ bs) = (numbers i && b) ∷ cut_marks numbers (suc i) bs
+
+as_many : (numbers : FilterSet) (i : ℕ) (bs : List Bool) → length (cut_marks numbers i bs) ≡ length bs
+as_many numbers i [] = refl
+as_many numbers i (b ∷ bs) = ap suc (as_many numbers (suc i) bs)
+
+marks_at : (numbers : FilterSet) (i : ℕ) (bs : List Bool) (n : ℕ) → slice_index_or (cut_marks numbers i bs) n false ≡ (numbers (i + n) && slice_index_or bs n false)
+marks_at numbers i [] n = sym (and_right _ _ refl)
+marks_at numbers i (b ∷ bs) zero = let same : i ≡ i + 0 = omega arith in ap (λ (k : ℕ). numbers k && b) same
+marks_at numbers i (b ∷ bs) (suc n) =
+    let same : suc i + n ≡ i + suc n = omega arith in
+    marks_at numbers (suc i) bs n ∙ ap (λ (k : ℕ). numbers k && slice_index_or bs n false) same
+
+-- a verdict of which the refusals of these filters alone are left
+pub cut_verdict : (numbers : FilterSet) (v : FilterMap) → (w : FilterMap) × ((n : ℕ) → refuses w n ≡ (numbers n && refuses v n))
+cut_verdict numbers v = (
+  record { disabled_by = record { held = cut_marks numbers 0 v.disabled_by.held; full = as_many numbers 0 v.disabled_by.held ∙ v.disabled_by.full } },
+  λ n.
+      let same : 0 + n ≡ n = omega arith in
+      marks_at numbers 0 v.disabled_by.held n ∙ ap (λ (k : ℕ). numbers k && refuses v n) same,
+)

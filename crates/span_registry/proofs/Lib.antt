@@ -1,5 +1,6 @@
 pub mod CallerLemmas
 mod Added
+pub mod Agreeing
 mod Ancestry
 pub mod Chains
 mod Closing

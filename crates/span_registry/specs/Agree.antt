@@ -3,7 +3,7 @@ use Rattle.std.specs.Prelude.{◌≡◌, ⊤, ℕ, IsTrue, Option, Some, None}
 use Rattle.std.specs.FinMap.{empty, get}
 use Rattle.span_core.specs.Filters.{FilterSet, refuses}
 use Rattle.span_core.specs.declared.filter.FilterMap.{FilterMap}
-use Rattle.span_registry.specs.Store.{Span, Spans, Store}
+use Rattle.span_registry.specs.Store.{Span, Store}
 
 -- of these filters, the same refused
 abbrev pub VerdictsAgree : FilterSet → FilterMap → FilterMap → Type 0

@@ -1,11 +1,13 @@
 -- What the laws say, where that takes more than a line.
-use Rattle.std.specs.Prelude.{◌≡◌, ℕ, List, [], ◌∷◌, ◌++◌, Some, None, reverse}
+use Rattle.std.specs.Prelude.{◌≡◌, ℕ, IsTrue, List, [], ◌∷◌, ◌++◌, Some, None, reverse}
 use Rattle.std.specs.FinMap.{get}
 use Rattle.std.specs.List.{filter, find}
 use Rattle.std.specs.Option.{option_map}
 use Rattle.span_core.specs.Filters.{FilterSet, IsEmpty}
 use Rattle.span_core.specs.Span.{number_of}
 use Rattle.span_core.specs.declared.span.Id.{Id}
+use Rattle.span_registry.specs.Agree.{AgreeAt, IsCutDown}
+use Rattle.span_registry.specs.Answers.{AreAlike}
 use Rattle.span_registry.specs.Closes.{IsSettled}
 use Rattle.span_registry.specs.Extensions.{Place, SameTag, ValueType, no_values, value_under, with_value, without_value}
 use Rattle.span_registry.specs.Step.{Drops, IsCurrent, Releases, Removal}
@@ -52,6 +54,14 @@ pub record LooksUp (s : Store) (mask : FilterSet) (x : ℕ) : Type 0 where
   pub parent : (above : List ℕ) → IsChain s.spans (Some x) (x ∷ above) → parent_shown (seen_spans s mask) x ≡ find (is_shown (seen_spans s mask)) above
   pub current : (lane : ℕ) → IsEmpty mask → IsCurrent s lane (current_shown (view_of s lane mask))
   pub descent : (chain : List ℕ) → IsChain s.spans (Some x) chain → IsDescent s.spans None (reverse chain) x
+
+-- some store is this one cut down to these filters
+abbrev pub CanBeCutDown : FilterSet → Store → Type 0
+CanBeCutDown numbers s = (t : Store) × IsCutDown numbers s t
+
+-- where the stores agree as far as these filters go, and each filter of the mask is one of them, a lane's views under the mask differ in extensions alone
+abbrev pub AreSeenAlike : FilterSet → FilterSet → Store → Store → ℕ → Type 0
+AreSeenAlike numbers mask s t lane = AgreeAt numbers s t → ((n : ℕ) → IsTrue (mask n) → IsTrue (numbers n)) → AreAlike (view_of s lane mask) (view_of t lane mask)
 
 -- at first no tag has a value; what is written is read, what is removed is gone, and each other tag keeps its value
 pub record KeepsByTag {T U : Type 0} (type : ValueType) (place : Place T) (other_type : ValueType) (other_place : Place U) : Type 0 where
