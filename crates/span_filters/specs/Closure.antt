@@ -54,9 +54,14 @@ none_above p m e = absurd (cc)
 pub unhinted_honest : (p : Metadata → Bool) → GoesByWhatShows p → AreHonest (test_answers p None)
 unhinted_honest p shown = test_answers_honest p None shown (none_above p)
 
--- a filter by a test of metadata: its closure computes a test that goes by what metadata show, and refuses every level above the hint
+-- of all metadata there is an answer that it may give
+abbrev pub AnswersAll : {F : Type 0} → (F → Metadata → Bool → Type 0) → F → Type 0
+AnswersAll gives f = (m : Metadata) → (r : Bool) × gives f m r
+
+-- a filter by a test of metadata: its closure answers all metadata, and computes a test that goes by what metadata show, and refuses every level above the hint
 pub record HasTestAnswers {F : Type 0} (gives : F → Metadata → Bool → Type 0) (f : FilterFn F) (a : Answers) : Type 0 where
   pub test : Metadata → Bool
+  pub all : AnswersAll gives f.enabled
   pub computed : Computes gives f.enabled test
   pub shown : GoesByWhatShows test
   pub refuses : RefusesAbove test f.max_level_hint
@@ -95,19 +100,15 @@ test_laws gives = still_laws (HasTestAnswers gives) (test_honest gives)
 pub view_laws : {S F R : Type 0} (registry : S → RegistryState) (gives : F → Metadata → Context S → Bool → Type 0) (registered : R → Metadata → Interest → Type 0) → FilterLaws (HasViewAnswers registry gives registered) unmoved (ActsSteadily (HasViewAnswers registry gives registered))
 view_laws registry gives registered = still_laws (HasViewAnswers registry gives registered) (λ f a h. h.honest)
 
--- of all metadata there is an answer that it may give
-abbrev pub AnswersAll : {F : Type 0} → (F → Metadata → Bool → Type 0) → F → Type 0
-AnswersAll gives f = (m : Metadata) → (r : Bool) × gives f m r
-
 -- of all metadata, on each store, from each lane and under each mask, there is an answer that it may give in a context that shows just that
 abbrev pub AnswersAllIn : {F S : Type 0} → (S → RegistryState) → (F → Metadata → Context S → Bool → Type 0) → F → Type 0
 AnswersAllIn {S = S} registry gives f = (m : Metadata) (s : Store) (lane : ℕ) (mask : FilterSet) → (c : Context S) × (view_in registry c ≡ view_of s lane mask) × ((r : Bool) × gives f m c r)
 
 -- so a filter by a test has but one test
-pub one_test : {F : Type 0} (gives : F → Metadata → Bool → Type 0) (f : FilterFn F) → AnswersAll gives f.enabled → HasOnly (HasTestAnswers gives) f
-one_test gives f all a b h k = record {
+pub one_test : {F : Type 0} (gives : F → Metadata → Bool → Type 0) (f : FilterFn F) → HasOnly (HasTestAnswers gives) f
+one_test gives f a b h k = record {
   enabled = λ m s lane mask.
-      let r = all m in
+      let r = h.all m in
       (λ i. (h.answers i).enabled m (view_of s lane mask)) ∙ sym (h.computed m r.0 r.1) ∙ k.computed m r.0 r.1 ∙ sym (λ i. (k.answers i).enabled m (view_of s lane mask));
   event = λ e s lane mask. (λ i. (h.answers i).event e (view_of s lane mask)) ∙ sym (λ i. (k.answers i).event e (view_of s lane mask));
 }
@@ -123,8 +124,8 @@ one_view_test registry gives registered f all a b h k = record {
 }
 
 -- the answers of a test of metadata are plain, since they look at no view
-pub test_plain : {F : Type 0} (gives : F → Metadata → Bool → Type 0) (f : FilterFn F) (a : Answers) → AnswersAll gives f.enabled → HasTestAnswers gives f a → ActsSteadily (HasTestAnswers gives) f (λ h. a)
-test_plain gives f a all h = record { always = a; answered = h; only = λ b k. one_test gives f all b a k h; plain = subst ArePlain (sym h.answers) (record { enabled = λ m v w e. refl; event = λ e v w d. refl }); steady = refl }
+pub test_plain : {F : Type 0} (gives : F → Metadata → Bool → Type 0) (f : FilterFn F) (a : Answers) → HasTestAnswers gives f a → ActsSteadily (HasTestAnswers gives) f (λ h. a)
+test_plain gives f a h = record { always = a; answered = h; only = λ b k. one_test gives f b a k h; plain = subst ArePlain (sym h.answers) (record { enabled = λ m v w e. refl; event = λ e v w d. refl }); steady = refl }
 
 -- those of a test of metadata and view are plain where they are the same in views that differ in extensions alone
 pub view_plain : {S F R : Type 0} (registry : S → RegistryState) (gives : F → Metadata → Context S → Bool → Type 0) (registered : R → Metadata → Interest → Type 0) (f : DynFilterFn F R) (a : Answers) → AnswersAllIn registry gives f.enabled → HasViewAnswers registry gives registered f a → ArePlain a → ActsSteadily (HasViewAnswers registry gives registered) f (λ h. a)

@@ -1,11 +1,11 @@
 -- What the filters of the tests answer. No public clause cites it.
-use Rattle.std.specs.Prelude.{◌≡◌, Bool, true, false, None, is_some, refl}
-use Rattle.std.proofs.Common.{subst, sym}
+use Rattle.std.specs.Prelude.{◌≡◌, Bool, true, false, [], ◌∷◌, None, is_some, refl}
+use Rattle.std.proofs.Common.{ap, subst, sym, ◌∙◌}
 use Rattle.span_core.specs.declared.interest.Interest.TheVariants.{Always}
 use Rattle.span_filters.specs.Closure.{interest_under, unhinted_view_honest, view_answers}
-use Rattle.span_filters.specs.Filter.{FilterLaws, settled_answers}
-use Rattle.span_registry.specs.Answers.{Answers, AreHonest, SameInterestAndHint}
-use Rattle.span_registry.specs.View.{current_shown}
+use Rattle.span_filters.specs.Filter.{FilterLaws, equal_alike, settled_answers}
+use Rattle.span_registry.specs.Answers.{Answers, AreAlikeHistories, AreHonest, ArePlain, Conduct, History, IsPlain, Notice, OnEnter, SameInterestAndHint}
+use Rattle.span_registry.specs.View.{current_shown, view_of}
 
 -- all metadata, and no event
 abbrev pub mute_answers : Answers
@@ -25,13 +25,33 @@ in_span_honest = unhinted_view_honest (λ m v. is_some (current_shown v))
 abbrev pub if_answers : Bool → Answers
 if_answers b = view_answers (λ m v. b) (interest_under None) None
 
--- a filter of such answers keeps the law, whatever it is notified of, where it has no conduct and writes nothing
-pub if_laws : {F : Type 0} (wants : F → Bool) → FilterLaws (settled_answers (λ f. if_answers (wants f))) (λ f e lane under v g w. w ≡ v) (λ f b. ⊥)
-if_laws wants = record {
+-- whether everything is wanted after a notice: from the first enter on
+abbrev pub wanted_after : Notice → Bool → Bool
+wanted_after (OnEnter id) wanted = true
+wanted_after e wanted = wanted
+
+-- so a filter acts that wants everything from the first enter on
+abbrev pub since_entered : Bool → Conduct
+since_entered wanted [] = if_answers wanted
+since_entered wanted ((e, v) ∷ h) = since_entered (wanted_after e wanted) h
+
+since_plain : (wanted : Bool) (h : History) → ArePlain (since_entered wanted h)
+since_plain wanted [] = record { enabled = λ m v w e. refl; event = λ e v w d. refl }
+since_plain wanted ((e, v) ∷ h) = since_plain (wanted_after e wanted) h
+
+since_same : (wanted : Bool) (h k : History) → AreAlikeHistories h k → since_entered wanted h ≡ since_entered wanted k
+since_same wanted [] [] a = refl
+since_same wanted [] ((d, w) ∷ k) a = absurd a
+since_same wanted ((e, v) ∷ h) [] a = absurd a
+since_same wanted ((e, v) ∷ h) ((d, w) ∷ k) a = since_same (wanted_after e wanted) h k a.2 ∙ ap (λ n. since_entered (wanted_after n wanted) k) a.0
+
+-- such a filter keeps the law
+pub since_laws : {F : Type 0} (wants : F → Bool) → FilterLaws (settled_answers (λ f. if_answers (wants f))) (λ f e lane under v g w. (wants g ≡ wanted_after e (wants f)) × (w ≡ v)) (λ f b. b ≡ since_entered (wants f))
+since_laws wants = record {
   honest = λ f a h. subst AreHonest (sym h) (unhinted_view_honest (λ m v. wants f));
   keeps = λ f e lane under v g w a s h. (if_answers (wants g), refl, subst (λ b. SameInterestAndHint b (if_answers (wants g))) (sym h) (record { interest = refl; hint = refl }));
-  plain = λ f b h. absurd h;
-  now = λ f b h. absurd h;
-  only = λ f a b d h. absurd h;
-  goes_on = λ f e lane under v g w b h s. absurd h;
+  plain = λ f b h. subst IsPlain (sym h) (record { answers = since_plain (wants f); history = since_same (wants f) });
+  now = λ f b h. ap (λ (c : Conduct). c []) h;
+  only = λ f a b d h. equal_alike a (b []) (d ∙ sym (ap (λ (c : Conduct). c []) h));
+  goes_on = λ f e lane under v g w b h s. (λ i k. h i ((e, view_of v.store lane under) ∷ k)) ∙ sym (ap since_entered s.0);
 }

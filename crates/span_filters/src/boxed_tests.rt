@@ -1,6 +1,6 @@
 //! Tests of boxed filters: a box adds nothing to the filter in it.
 ghost use Rattle.span_filters.specs.Filter.{ActsSteadily, settled_answers, settled_laws};
-ghost use Rattle.span_filters.specs.Tests.{if_answers, if_laws, in_span_answers, in_span_honest};
+ghost use Rattle.span_filters.specs.Tests.{if_answers, in_span_answers, in_span_honest, since_entered, since_laws, wanted_after};
 ghost use Rattle.std.specs.Prelude.{◌≡◌};
 
 use crate::boxed::{BoxedFilter, DynFilter};
@@ -158,11 +158,11 @@ struct SinceEntered {
 impl<S: LookupSpan> Filter<S> for SinceEntered {
     ghost has_answers = { settled_answers (λ f. if_answers f.entered) };
 
-    ghost hooked = { λ f e lane under v g w. w ≡ v };
+    ghost hooked = { λ f e lane under v g w. (g.entered ≡ wanted_after e f.entered) × (w ≡ v) };
 
-    ghost acts = { λ f b. ⊥ };
+    ghost acts = { λ f b. b ≡ since_entered f.entered };
 
-    ghost laws = { if_laws (λ f. f.entered) };
+    ghost laws = { since_laws (λ f. f.entered) };
 
     fn enabled(&self, _meta: &Metadata, _cx: &Context<'_, S>) -> bool {
         self.entered

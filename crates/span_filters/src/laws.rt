@@ -1,5 +1,5 @@
 //! Filters that are plain. The functions make no call: what they ensure is the law.
-ghost use Rattle.span_filters.specs.Closure.{AnswersAll, AnswersAllIn, test_in, test_plain, view_plain, view_test_in};
+ghost use Rattle.span_filters.specs.Closure.{AnswersAllIn, test_plain, view_plain, view_test_in};
 ghost use Rattle.span_filters.specs.Filter.{IsSteady, MayBeSteady};
 ghost use Rattle.span_filters.specs.Level.{level_answers, level_plain};
 
@@ -14,10 +14,9 @@ pub fn levels_are_plain<S: LookupSpan>(filter: &LevelFilter)
     ensures { ⟦<LevelFilter as Filter<S>>⟧.acts filter.now (λ h. level_answers filter.now) }
 {}
 
-/// A filter by a test of metadata always answers as it does, whatever the extensions, where its closure has an answer to all
-/// metadata.
+/// A filter by a test of metadata always answers as it does, whatever the extensions.
 pub fn tests_are_plain<S: LookupSpan, F: Function<Metadata, bool>>(filter: &FilterFn<F>)
-    ensures { AnswersAll F.gives (test_in filter.now) → let i = ⟦<FilterFn<F> as Filter<S>>⟧ in IsSteady i.has_answers i.acts filter.now }
+    ensures { let i = ⟦<FilterFn<F> as Filter<S>>⟧ in IsSteady i.has_answers i.acts filter.now }
 {}
 
 /// A filter by a test of metadata and context does, where its answers are the same in views that differ in extensions alone, and

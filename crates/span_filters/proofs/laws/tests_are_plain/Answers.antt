@@ -2,4 +2,4 @@ use Rattle.span_filters.specs.Closure.{test_plain}
 use Rattle.span_filters.proofs.laws.tests_are_plain.Goals as goal
 
 pub returns : goal.returns
-returns g c = λ all a h. test_plain _ _ a all h
+returns g c = λ a h. test_plain _ _ a h
