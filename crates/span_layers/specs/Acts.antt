@@ -5,9 +5,8 @@ use Rattle.span_core.specs.declared.filter.FilterId.{FilterId}
 use Rattle.span_layers.specs.Filtered.{IsNumber}
 use Rattle.span_layers.specs.Layer.{LayerSteps}
 use Rattle.span_registry.specs.Answers.{Conduct, Notice}
-use Rattle.span_registry.specs.Conducts.{ActsAt, ActsNow, ActsOn, ArePlainConducts, Conducts, StackPathLaws, no_path}
+use Rattle.span_registry.specs.Conducts.{ActsAt, ActsNow, ActsOn, ArePlainConducts, Conducts, no_path}
 use Rattle.span_registry.specs.Form.{Form}
-use Rattle.span_registry.specs.Hooks.{StackSteps}
 use Rattle.span_registry.specs.Place.{Here, Inner, Outer, Place, Under}
 use Rattle.span_registry.specs.Plan.{Plan}
 use Rattle.span_registry.specs.Store.{RegistryState}
@@ -54,13 +53,4 @@ no_path_laws = record {
   now = λ x place cs f a h. absurd a;
   goes_on = λ x p e lane under v y w place cs s a. absurd a;
   put_in_use = λ x y place cs s a. absurd a;
-}
-
-pub no_stack_path_laws : {S : Type 0} {with_registry : S → RegistryState → S} {has_form : S → Form → Type 0} {stepped : StackSteps S} {registered : S → S → Type 0} → StackPathLaws with_registry has_form stepped registered no_path
-no_stack_path_laws = record {
-  plain = λ x place cs a. absurd a;
-  now = λ x place cs f a h. absurd a;
-  goes_on = λ x p e lane v y w place cs s a. absurd a;
-  put_in_use = λ x y place cs s a. absurd a;
-  acts_with = λ x w place cs a. absurd a;
 }

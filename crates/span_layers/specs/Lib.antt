@@ -1,4 +1,5 @@
 pub mod Acts
+pub mod ActsKept
 pub mod Attach
 pub mod Boxed
 pub mod Filtered

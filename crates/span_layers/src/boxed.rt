@@ -1,6 +1,5 @@
 //! A layer in a box.
-ghost use Rattle.span_layers.specs.Acts.{no_path_laws};
-ghost use Rattle.span_registry.specs.Conducts.{no_path};
+ghost use Rattle.span_layers.specs.ActsKept.{held_path_laws};
 ghost use Rattle.span_layers.specs.Boxed.{held_laws};
 
 use crate::layer::Layer;
@@ -17,7 +16,7 @@ impl<S: Subscriber, L: Layer<S>> Layer<S> for Box<L> {
 
     ghost hears = { λ x place h y. L.hears x.value place h y.value };
 
-    ghost acts_at = { no_path };
+    ghost acts_at = { λ x. L.acts_at x.value };
 
     ghost registered = { λ x y. L.registered x.value y.value };
 
@@ -25,7 +24,7 @@ impl<S: Subscriber, L: Layer<S>> Layer<S> for Box<L> {
 
     ghost laws = { held_laws L.laws (λ x. x.value) };
 
-    ghost paths = { no_path_laws };
+    ghost paths = { held_path_laws L.paths (λ x. x.value) };
 
     fn on_register_dispatch(&mut self) {
         (**self).on_register_dispatch();

@@ -1,8 +1,8 @@
 //! A layer under a filter.
-ghost use Rattle.span_layers.specs.Acts.{no_path_laws};
-ghost use Rattle.span_registry.specs.Conducts.{no_path};
 ghost use Rattle.std.specs.Borrow.{Lends, sem};
 ghost use Rattle.std.specs.Prelude.{◌≡◌};
+ghost use Rattle.span_layers.specs.Acts.{FilteredActs};
+ghost use Rattle.span_layers.specs.ActsKept.{filtered_path_laws};
 ghost use Rattle.span_layers.specs.contracts.filtered.Filtered.{the_row};
 ghost use Rattle.span_layers.specs.Filtered.{FilteredForm, FilteredHears, FilteredSteps, IsUnnumbered, filter_of, layer_of, with_filter, with_layer};
 ghost use Rattle.span_layers.specs.Kept.{filtered_laws};
@@ -74,7 +74,7 @@ impl<S: Subscriber, L: Layer<S>, F: Filter<S>> Layer<S> for Filtered<L, F> {
 
     ghost hears = { λ x place h y. FilteredHears L.hears x.layer place h y.layer };
 
-    ghost acts_at = { no_path };
+    ghost acts_at = { λ x. FilteredActs x.id (F.acts x.filter) L.acts_at x.layer };
 
     ghost registered = { λ x y. (y.id ≡ x.id) × (y.filter ≡ x.filter) × L.registered x.layer y.layer };
 
@@ -82,7 +82,7 @@ impl<S: Subscriber, L: Layer<S>, F: Filter<S>> Layer<S> for Filtered<L, F> {
 
     ghost laws = { filtered_laws F.laws L.laws (λ x. x.id) (λ x. x.filter) (λ x. x.layer) };
 
-    ghost paths = { no_path_laws };
+    ghost paths = { filtered_path_laws F.laws L.paths (λ x. x.id) (λ x. x.filter) (λ x. x.layer) };
 
     fn on_register_dispatch(&mut self) {
         self.layer.on_register_dispatch();

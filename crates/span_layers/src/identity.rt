@@ -1,7 +1,7 @@
 //! A layer that does nothing.
-ghost use Rattle.span_layers.specs.Acts.{no_path_laws};
-ghost use Rattle.span_registry.specs.Conducts.{no_path};
 ghost use Rattle.std.specs.Prelude.{◌≡◌, true};
+ghost use Rattle.span_layers.specs.Acts.{LeafActs};
+ghost use Rattle.span_layers.specs.ActsKept.{is_leaf, leaf_path_laws};
 ghost use Rattle.span_layers.specs.Idle.{IdleHears, IdleSteps, identity, idle_laws};
 ghost use Rattle.span_layers.specs.Observe.{open_answers};
 ghost use Rattle.span_registry.specs.Form.{Leaf};
@@ -40,7 +40,7 @@ impl<S: Subscriber> Layer<S> for Identity {
 
     ghost hears = { IdleHears };
 
-    ghost acts_at = { no_path };
+    ghost acts_at = { LeafActs };
 
     ghost registered = { λ x y. y ≡ x };
 
@@ -48,7 +48,7 @@ impl<S: Subscriber> Layer<S> for Identity {
 
     ghost laws = { idle_laws (λ x f. f ≡ Leaf true open_answers) };
 
-    ghost paths = { no_path_laws };
+    ghost paths = { leaf_path_laws (λ x f h. is_leaf h) };
 
     fn on_register_dispatch(&mut self) {
         // It has nothing to do.

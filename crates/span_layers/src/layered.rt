@@ -1,8 +1,8 @@
 //! An outer part over an inner one.
-ghost use Rattle.span_layers.specs.Acts.{no_path_laws};
-ghost use Rattle.span_registry.specs.Conducts.{no_path};
 ghost use Rattle.std.specs.Borrow.{Lends, sem};
 ghost use Rattle.std.specs.Prelude.{◌≡◌, ◌&&◌, if◌then◌else◌};
+ghost use Rattle.span_layers.specs.Acts.{LayeredActs};
+ghost use Rattle.span_layers.specs.ActsKept.{pair_path_laws};
 ghost use Rattle.span_layers.specs.contracts.layered.Layered.{the_row};
 ghost use Rattle.span_core.specs.Level.{greater_hint};
 ghost use Rattle.span_core.specs.declared.interest.Interest.TheVariants.{Sometimes};
@@ -120,7 +120,7 @@ impl<S: Subscriber, L: Layer<S>, I: Layer<S>> Layer<S> for Layered<L, I> {
 
     ghost hears = { λ x place h y. LayeredHears L.hears I.hears x.layer x.inner place h y.layer y.inner };
 
-    ghost acts_at = { no_path };
+    ghost acts_at = { λ x. LayeredActs L.acts_at I.acts_at x.layer x.inner };
 
     ghost registered = { λ x y. L.registered x.layer y.layer × I.registered x.inner y.inner };
 
@@ -128,7 +128,7 @@ impl<S: Subscriber, L: Layer<S>, I: Layer<S>> Layer<S> for Layered<L, I> {
 
     ghost laws = { pair_laws L.laws I.laws (λ x. x.layer) (λ x. x.inner) };
 
-    ghost paths = { no_path_laws };
+    ghost paths = { pair_path_laws L.paths I.paths (λ x. x.layer) (λ x. x.inner) };
 
     fn on_register_dispatch(&mut self) {
         self.layer.on_register_dispatch();

@@ -1,9 +1,9 @@
 //! A list of layers. Questions and hooks go by index: the first member is asked first, and notified first.
-ghost use Rattle.span_layers.specs.Acts.{no_path_laws};
-ghost use Rattle.span_registry.specs.Conducts.{no_path};
 ghost use Rattle.std.specs.List.{All, AllZip};
 ghost use Rattle.std.specs.Prelude.{◌≡◌};
 ghost use Rattle.span_core.specs.Level.{wider_hint};
+ghost use Rattle.span_layers.specs.Acts.{ListActs};
+ghost use Rattle.span_layers.specs.ActsKept.{list_path_laws};
 ghost use Rattle.span_layers.specs.Layer.{LeavesAlone, MayNotify, Notified};
 ghost use Rattle.span_layers.specs.Members.{ListForm, ListHears, ListSteps, list_laws};
 ghost use Rattle.span_layers.specs.Number.{TakesNumbers};
@@ -113,7 +113,7 @@ impl<S: Subscriber, L: Layer<S>> Layer<S> for Vec<L> {
 
     ghost hears = { λ x place h y. ListHears L.hears x.items place h y.items };
 
-    ghost acts_at = { no_path };
+    ghost acts_at = { λ x. ListActs L.acts_at x.items };
 
     ghost registered = { λ x y. AllZip L.registered x.items y.items };
 
@@ -121,7 +121,7 @@ impl<S: Subscriber, L: Layer<S>> Layer<S> for Vec<L> {
 
     ghost laws = { list_laws L.laws (λ x. x.items) };
 
-    ghost paths = { no_path_laws };
+    ghost paths = { list_path_laws L.paths (λ x. x.items) };
 
     fn on_register_dispatch(&mut self) {
         put_in_use(self.as_mut_slice());

@@ -1,7 +1,7 @@
 //! A layer with one method: it refuses nothing, and is notified of everything through it.
-ghost use Rattle.span_layers.specs.Acts.{no_path_laws};
-ghost use Rattle.span_registry.specs.Conducts.{no_path};
 ghost use Rattle.std.specs.Prelude.{◌≡◌, ⊤, true};
+ghost use Rattle.span_layers.specs.Acts.{LeafActs};
+ghost use Rattle.span_layers.specs.ActsKept.{is_leaf, leaf_path_laws};
 ghost use Rattle.span_layers.specs.Observe.{HearsOne, ObserverStep, ObserverSteps, Observes, observer_laws, observer_of, open_answers};
 ghost use Rattle.span_registry.specs.Context.{WritesExtensions, subscriber_lent};
 ghost use Rattle.span_registry.specs.Form.{Leaf};
@@ -80,7 +80,7 @@ impl<S: Subscriber, T: Observe<S>> Layer<S> for Observer<T> {
 
     ghost hears = { λ x place h y. LeafHears (HearsOne T.observed) x.observer place h y.observer };
 
-    ghost acts_at = { no_path };
+    ghost acts_at = { LeafActs };
 
     ghost registered = { λ x y. y ≡ x };
 
@@ -88,7 +88,7 @@ impl<S: Subscriber, T: Observe<S>> Layer<S> for Observer<T> {
 
     ghost laws = { observer_laws T.observed (λ x. x.observer) };
 
-    ghost paths = { no_path_laws };
+    ghost paths = { leaf_path_laws (λ x f h. is_leaf h) };
 
     fn on_register_dispatch(&mut self) {
         // It has nothing to do.

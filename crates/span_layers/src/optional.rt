@@ -1,7 +1,7 @@
 //! A layer that may be absent.
-ghost use Rattle.span_layers.specs.Acts.{no_path_laws};
-ghost use Rattle.span_registry.specs.Conducts.{no_path};
 ghost use Rattle.std.specs.Prelude.{IfSome};
+ghost use Rattle.span_layers.specs.Acts.{OptionActs};
+ghost use Rattle.span_layers.specs.ActsKept.{option_path_laws};
 ghost use Rattle.span_layers.specs.Optional.{OptionForm, OptionGoes, OptionHears, OptionSteps, option_laws};
 
 use crate::layer::Layer;
@@ -18,7 +18,7 @@ impl<S: Subscriber, L: Layer<S>> Layer<S> for Option<L> {
 
     ghost hears = { OptionHears L.hears };
 
-    ghost acts_at = { no_path };
+    ghost acts_at = { OptionActs L.acts_at };
 
     ghost registered = { OptionGoes L.registered };
 
@@ -26,7 +26,7 @@ impl<S: Subscriber, L: Layer<S>> Layer<S> for Option<L> {
 
     ghost laws = { option_laws L.laws };
 
-    ghost paths = { no_path_laws };
+    ghost paths = { option_path_laws L.paths };
 
     fn on_register_dispatch(&mut self) {
         if let Some(layer) = self {

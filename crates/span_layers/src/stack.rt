@@ -1,8 +1,8 @@
 //! A layer on a subscriber.
-ghost use Rattle.span_layers.specs.Acts.{no_stack_path_laws};
-ghost use Rattle.span_registry.specs.Conducts.{no_path};
 ghost use Rattle.std.specs.Prelude.{◌≡◌, refl};
 ghost use Rattle.std.proofs.Common.{ap};
+ghost use Rattle.span_layers.specs.Acts.{LayeredActs};
+ghost use Rattle.span_layers.specs.ActsKept.{stack_path_laws};
 ghost use Rattle.span_layers.specs.Kept.{stack_laws};
 ghost use Rattle.span_layers.specs.Layered.{LayeredHears, LayeredSteps, OverForm};
 ghost use Rattle.span_registry.specs.Form.{OnSubscriber};
@@ -52,13 +52,13 @@ impl<I: Subscriber, L: Layer<I>> Subscriber for Layered<L, I> {
 
     ghost hears = { λ x place h y. LayeredHears L.hears I.hears x.layer x.inner place h y.layer y.inner };
 
-    ghost acts_at = { no_path };
+    ghost acts_at = { λ x. LayeredActs L.acts_at I.acts_at x.layer x.inner };
 
     ghost registered = { λ x y. L.registered x.layer y.layer × I.registered x.inner y.inner };
 
     ghost laws = { stack_laws L.laws I.laws L.usable (λ x. x.layer) (λ x. x.inner) (λ x i. record x { inner = i }) (λ x i. refl) (λ x i. refl) };
 
-    ghost paths = { no_stack_path_laws };
+    ghost paths = { stack_path_laws L.paths I.paths (λ x. x.layer) (λ x. x.inner) (λ x i. record x { inner = i }) (λ x i. refl) (λ x i. refl) };
 
     fn on_register_dispatch(&mut self) {
         self.inner.on_register_dispatch();

@@ -1,7 +1,7 @@
 //! Tests of stacks, as a program drives them, with layers that keep what they are notified of.
-ghost use Rattle.span_layers.specs.Acts.{no_path_laws};
-ghost use Rattle.span_registry.specs.Conducts.{no_path};
 ghost use Rattle.std.specs.Prelude.{◌≡◌, ⊤, false};
+ghost use Rattle.span_layers.specs.Acts.{LeafActs};
+ghost use Rattle.span_layers.specs.ActsKept.{is_leaf, leaf_path_laws};
 ghost use Rattle.span_layers.specs.Observe.{fixed_laws, open_answers};
 ghost use Rattle.span_registry.specs.Form.{Leaf};
 ghost use Rattle.span_registry.specs.Context.{WritesExtensions};
@@ -154,7 +154,7 @@ impl<S: Subscriber> Layer<S> for Echo {
 
     ghost hears = { λ x place h y. ⊤ };
 
-    ghost acts_at = { no_path };
+    ghost acts_at = { LeafActs };
 
     ghost registered = { λ x y. y ≡ x };
 
@@ -162,7 +162,7 @@ impl<S: Subscriber> Layer<S> for Echo {
 
     ghost laws = { fixed_laws (Leaf false open_answers) (λ x p e lane under v y w. ⊤) no_leaf_laws (λ x p e lane under v y w place s. tt) };
 
-    ghost paths = { no_path_laws };
+    ghost paths = { leaf_path_laws (λ x f h. is_leaf h) };
 
     fn on_register_dispatch(&mut self) {}
 

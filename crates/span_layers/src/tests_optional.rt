@@ -1,7 +1,7 @@
 //! Tests of layers that add nothing of their own: one that does nothing, one that may be absent, one in a box.
-ghost use Rattle.span_layers.specs.Acts.{no_path_laws};
-ghost use Rattle.span_registry.specs.Conducts.{no_path};
 ghost use Rattle.std.specs.Prelude.{◌≡◌, ⊤, true};
+ghost use Rattle.span_layers.specs.Acts.{LeafActs};
+ghost use Rattle.span_layers.specs.ActsKept.{is_leaf, leaf_path_laws};
 ghost use Rattle.span_layers.specs.Observe.{open_answers};
 ghost use Rattle.span_registry.specs.Follows.{kept_form};
 ghost use Rattle.span_registry.specs.Form.{Leaf};
@@ -42,7 +42,7 @@ impl<S: Subscriber> Layer<S> for Counter {
 
     ghost hears = { λ x place h y. ⊤ };
 
-    ghost acts_at = { no_path };
+    ghost acts_at = { LeafActs };
 
     ghost registered = { λ x y. ⊤ };
 
@@ -50,7 +50,7 @@ impl<S: Subscriber> Layer<S> for Counter {
 
     ghost laws = { record { keeps = λ x p e lane under v y w f s h. (f, h, kept_form f); put_in_use = λ x y f s h. (f, h, kept_form f); heard = no_leaf_laws; notified = λ x p e lane under v y w place s. tt } };
 
-    ghost paths = { no_path_laws };
+    ghost paths = { leaf_path_laws (λ x f h. is_leaf h) };
 
     fn on_register_dispatch(&mut self) {
         self.registered = self.registered.saturating_add(1);

@@ -1,10 +1,10 @@
 //! Filters as layers: they veto, for all layers, what they refuse.
-ghost use Rattle.span_layers.specs.Acts.{no_path_laws};
-ghost use Rattle.span_registry.specs.Conducts.{no_path};
 ghost use Rattle.std.specs.Prelude.{◌≡◌, true};
 ghost use Rattle.span_filters.specs.Closure.{ClosuresAre, HasTestAnswers, HasViewAnswers, test_in};
 ghost use Rattle.span_filters.specs.Filter.{settled_answers};
 ghost use Rattle.span_filters.specs.Level.{level_answers};
+ghost use Rattle.span_layers.specs.Acts.{LeafActs};
+ghost use Rattle.span_layers.specs.ActsKept.{is_leaf, leaf_path_laws};
 ghost use Rattle.span_layers.specs.Veto.{HearsUnmoved, LeafStays, VetoForm, veto_laws};
 
 use crate::layer::Layer;
@@ -19,7 +19,7 @@ impl<S: Subscriber> Layer<S> for LevelFilter {
 
     ghost hears = { HearsUnmoved };
 
-    ghost acts_at = { no_path };
+    ghost acts_at = { LeafActs };
 
     ghost registered = { λ x y. y ≡ x };
 
@@ -27,7 +27,7 @@ impl<S: Subscriber> Layer<S> for LevelFilter {
 
     ghost laws = { veto_laws (settled_answers level_answers) };
 
-    ghost paths = { no_path_laws };
+    ghost paths = { leaf_path_laws (λ x f h. is_leaf h.2) };
 
     fn on_register_dispatch(&mut self) {
         // It has nothing to do.
@@ -91,7 +91,7 @@ impl<S: Subscriber, F: Function<Metadata, bool>> Layer<S> for FilterFn<F> {
 
     ghost hears = { HearsUnmoved };
 
-    ghost acts_at = { no_path };
+    ghost acts_at = { LeafActs };
 
     ghost registered = { λ x y. y ≡ x };
 
@@ -99,7 +99,7 @@ impl<S: Subscriber, F: Function<Metadata, bool>> Layer<S> for FilterFn<F> {
 
     ghost laws = { veto_laws (HasTestAnswers F.gives) };
 
-    ghost paths = { no_path_laws };
+    ghost paths = { leaf_path_laws (λ x f h. is_leaf h.2) };
 
     fn on_register_dispatch(&mut self) {
         // It has nothing to do.
@@ -164,7 +164,7 @@ impl<S: Subscriber, F: FunctionIn<Metadata, S, bool>, R: Function<Metadata, Inte
 
     ghost hears = { HearsUnmoved };
 
-    ghost acts_at = { no_path };
+    ghost acts_at = { LeafActs };
 
     ghost registered = { λ x y. y ≡ x };
 
@@ -172,7 +172,7 @@ impl<S: Subscriber, F: FunctionIn<Metadata, S, bool>, R: Function<Metadata, Inte
 
     ghost laws = { veto_laws (HasViewAnswers S.registry F.gives_in R.gives) };
 
-    ghost paths = { no_path_laws };
+    ghost paths = { leaf_path_laws (λ x f h. is_leaf h.2) };
 
     fn on_register_dispatch(&mut self) {
         // It has nothing to do.
