@@ -1,4 +1,6 @@
+mod Acting
 mod Admits
+pub mod Alone
 mod Calls
 pub mod CallerLemmas
 pub mod Fixed

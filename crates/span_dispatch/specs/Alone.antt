@@ -1,5 +1,5 @@
 -- What a leaf sees of what was made; and what it would see if it and the filters round it stood alone, with no other layer or filter beside them.
-use Rattle.std.specs.Prelude.{◌≡◌, ℕ, if◌then◌else◌, List, [], ◌∷◌, ◌++◌, Option, Some, None}
+use Rattle.std.specs.Prelude.{◌≡◌, ℕ, true, if◌then◌else◌, List, [], ◌∷◌, ◌++◌, Option, Some, None}
 use Rattle.std.specs.FinMap.{insert}
 use Rattle.std.specs.FinSet.{insert as add}
 use Rattle.span_core.specs.Filters.{FilterSet, union}

@@ -3,6 +3,7 @@ pub mod Alone
 pub mod Cache
 pub mod Call
 pub mod Fixed
+pub mod Isolation
 pub mod Outcome
 pub mod Recorder
 mod RecorderLaws

@@ -5,6 +5,7 @@ mod cache;
 #[cfg(test)]
 mod cache_tests;
 mod dispatch;
+pub mod laws;
 #[cfg(test)]
 mod isolation_tests;
 #[cfg(test)]

@@ -1,0 +1,407 @@
+-- What a leaf sees of what was made is what it would see if it stood alone.
+use Rattle.std.proofs.Common.{◌≡◌, ℕ, Bool, true, false, ◌&&◌, ◌||◌, ◌==◌, IsTrue, List, [], ◌∷◌, ◌++◌, map, Option, Some, None, if◌then◌else◌, refl, sym, ap, subst, ◌∙◌, inl, inr}
+use Rattle.std.proofs.lemmas.Bool.{both_ways, eqb-true, false≢true, false_from_ne_true, or_cases, or_from, or_left, or_parts, or_right, true≢false}
+use Rattle.std.specs.List.{FoldsTo}
+use Rattle.std.specs.Option.{option_map}
+use Rattle.span_core.specs.Event.{event_metadata}
+use Rattle.span_core.specs.Filters.{FilterSet, refuses, union}
+use Rattle.span_core.specs.Span.{asked_parent, metadata_of, number_of}
+use Rattle.span_core.specs.declared.filter.FilterMap.{FilterMap}
+use Rattle.span_core.specs.declared.metadata.Metadata.{Metadata}
+use Rattle.span_core.specs.declared.span.Attributes.{Attributes}
+use Rattle.span_core.specs.declared.span.Id.{Id}
+use Rattle.span_core.specs.declared.span.Lane.{Lane}
+use Rattle.span_dispatch.proofs.Acting.{Within, acting_numbers, alone_over, behind_alike, itself_within, learnt_alike, none_within, number_itself, paths_further, paths_itself, same_numbers}
+use Rattle.span_registry.proofs.Agreeing.{agree_aside, agree_refl, agree_sym, agree_trans, new_agrees_with, views_alike, without_agrees}
+use Rattle.span_core.proofs.FilterLemmas.{cut_verdict}
+use Rattle.span_dispatch.specs.Alone.{Alone, OpensAlone, StepsAlone, acting, given_in, learning, lone, passed, seen, with_new}
+use Rattle.span_dispatch.specs.Isolation.{ActAlike, PathsActAlike}
+use Rattle.span_dispatch.specs.Outcome.{Change, Changes, GoneLeft, GoesOn, HandleAdded, HandleTaken, Made, Makes, Noticed, Notices, Outcome, Quiet, Quiets, StepsAfter, StepsBefore}
+use Rattle.span_dispatch.specs.Serve.{EachSeesAlone, outcome_of}
+use Rattle.span_layers.specs.Verdict.{AreDistinct, in_verdict, numbers_of}
+use Rattle.span_registry.specs.Agree.{AgreeAt, SpansAgree}
+use Rattle.span_registry.specs.Answers.{AnswerAlike, Answers, AreAlike, Conduct, IsPlain, Notice, OnClose, OnEnter, OnEvent, OnExit, OnFollows, OnIdChange, OnNewSpan, OnRecord}
+use Rattle.span_registry.specs.Closes.{without}
+use Rattle.span_registry.specs.Conducts.{ActOn, ActsAt, ArePlainConducts, Conducts, Learns, PathsAnswerAlike, StackPathLaws, behind, numbers_in, path_now}
+use Rattle.span_registry.specs.Form.{Bare, Filtered, Form, Leaf, Over}
+use Rattle.span_registry.specs.Hooks.{StackSteps, no_filter}
+use Rattle.span_registry.specs.Path.{Path, passes_path, path_at}
+use Rattle.span_registry.specs.Place.{Here, Inner, Outer, Place, Under}
+use Rattle.span_registry.specs.Plan.{Both, Itself, Nobody, Plan, Through, asked_afresh, passes}
+use Rattle.span_registry.specs.Question.{single}
+use Rattle.span_registry.specs.Step.{begun, entered, exited, with_span}
+use Rattle.span_registry.specs.Store.{RegistryState, Span, Store, add_handle, take_handle}
+use Rattle.span_registry.specs.Subscriber.{SameButExtensions}
+use Rattle.span_registry.specs.View.{view_of}
+
+-- ---- a path that answers as conducts say
+
+-- what passes it passes them
+passes_same : (a b : Answers) (e : Notice) (s : Store) (lane : ℕ) (set : FilterSet) → AnswerAlike a b → passes a e s lane set ≡ passes b e s lane set
+passes_same a b (OnNewSpan attrs id) s lane set h = h.enabled (metadata_of attrs) s lane set
+passes_same a b (OnEvent e) s lane set h = λ i. h.enabled (event_metadata e) s lane set i && h.event e s lane set i
+passes_same a b (OnRecord id values) s lane set h = refl
+passes_same a b (OnFollows id other) s lane set h = refl
+passes_same a b (OnEnter id) s lane set h = refl
+passes_same a b (OnExit id) s lane set h = refl
+passes_same a b (OnIdChange id other) s lane set h = refl
+passes_same a b (OnClose id) s lane set h = refl
+
+paths_pass_same : (path other : Path) (e : Notice) (s : Store) (lane : ℕ) (under : FilterSet) → PathsAnswerAlike path other → passes_path path e s lane under ≡ passes_path other e s lane under
+paths_pass_same [] [] e s lane under h = refl
+paths_pass_same [] ((m, b) ∷ other) e s lane under h = absurd h
+paths_pass_same ((n, a) ∷ path) [] e s lane under h = absurd h
+paths_pass_same ((None, a) ∷ path) ((m, b) ∷ other) e s lane under h = ap (λ (k : Option ℕ). passes_path ((k, b) ∷ other) e s lane under) h.0
+paths_pass_same ((Some n, a) ∷ path) ((m, b) ∷ other) e s lane under h =
+    let set = union under (single n) in
+    (λ i. passes_same a b e s lane set h.1 i && paths_pass_same path other e s lane set h.2 i) ∙ ap (λ (k : Option ℕ). passes_path ((k, b) ∷ other) e s lane under) h.0
+
+verdicts_same : (path other : Path) (meta : Metadata) (s : Store) (lane : ℕ) (under : FilterSet) (k : ℕ) → PathsAnswerAlike path other → in_verdict (lone path) meta s lane under k ≡ in_verdict (lone other) meta s lane under k
+verdicts_same [] [] meta s lane under k h = refl
+verdicts_same [] ((m, b) ∷ other) meta s lane under k h = absurd h
+verdicts_same ((n, a) ∷ path) [] meta s lane under k h = absurd h
+verdicts_same ((None, a) ∷ path) ((m, b) ∷ other) meta s lane under k h = ap (λ (j : Option ℕ). in_verdict (lone ((j, b) ∷ other)) meta s lane under k) h.0
+verdicts_same ((Some n, a) ∷ path) ((m, b) ∷ other) meta s lane under k h =
+    let set = union under (single n) in
+    (λ i. if h.1.enabled meta s lane set i then verdicts_same path other meta s lane set k h.2 i else (k == n)) ∙ ap (λ (j : Option ℕ). in_verdict (lone ((j, b) ∷ other)) meta s lane under k) h.0
+
+numbers_same : (path other : Path) → PathsAnswerAlike path other → numbers_of (lone path) ≡ numbers_of (lone other)
+numbers_same [] [] h = refl
+numbers_same [] ((m, b) ∷ other) h = absurd h
+numbers_same ((n, a) ∷ path) [] h = absurd h
+numbers_same ((None, a) ∷ path) ((m, b) ∷ other) h = numbers_same path other h.2 ∙ ap (λ (k : Option ℕ). numbers_of (lone ((k, b) ∷ other))) h.0
+numbers_same ((Some n, a) ∷ path) ((m, b) ∷ other) h = (λ i k. (k == n) || numbers_same path other h.2 i k) ∙ ap (λ (k : Option ℕ). numbers_of (lone ((k, b) ∷ other))) h.0
+
+lone_numbers : (cs : Conducts) → numbers_of (lone (path_now cs)) ≡ numbers_in cs
+lone_numbers [] = refl
+lone_numbers ((None, b) ∷ cs) = lone_numbers cs
+lone_numbers ((Some n, b) ∷ cs) = λ i k. (k == n) || lone_numbers cs i k
+
+-- ---- the verdict along a path
+
+no_verdict : (f : Form) (meta : Metadata) (s : Store) (lane : ℕ) (under : FilterSet) (k : ℕ) → numbers_of f k ≡ false → in_verdict f meta s lane under k ≡ false
+no_verdict (Leaf still a) meta s lane under k h = refl
+no_verdict (Filtered None a f) meta s lane under k h = refl
+no_verdict (Filtered (Some n) a f) meta s lane under k h =
+    let parts = or_parts (k == n) (numbers_of f k) h in
+    by_test (a.enabled meta (view_of s lane (union under (single n)))) (in_verdict f meta s lane (union under (single n)) k) (k == n) (no_verdict f meta s lane (union under (single n)) k parts.1) parts.0
+  where
+    by_test : (p b c : Bool) → b ≡ false → c ≡ false → (if p then b else c) ≡ false
+    by_test true b c d e = d
+    by_test false b c d e = e
+no_verdict (Over joint o i) meta s lane under k h =
+    let parts = or_parts (numbers_of o k) (numbers_of i k) h in
+    or_from (in_verdict o meta s lane under k) (in_verdict i meta s lane under k) (no_verdict o meta s lane under k parts.0) (no_verdict i meta s lane under k parts.1)
+no_verdict (Bare v) meta s lane under k h = refl
+
+some_path : (q r : Path) → Some q ≡ Some r → q ≡ r
+some_path q r e = cc
+
+-- the path under a filter begins with that filter
+beneath : (n : Option ℕ) (a : Answers) (o : Option Path) (path : Path) → option_map (λ (r : Path). (n, a) ∷ r) o ≡ Some path → (rest : Path) × (o ≡ Some rest) × ((n, a) ∷ rest ≡ path)
+beneath n a None path h = absurd (cc)
+beneath n a (Some rest) path h = (rest, refl, some_path ((n, a) ∷ rest) path h)
+
+-- the numbers of a path are numbers of the form
+on_path : (f : Form) (place : Place) (path : Path) (k : ℕ) → path_at f place ≡ Some path → IsTrue (numbers_of (lone path) k) → IsTrue (numbers_of f k)
+on_path (Leaf still a) Here path k h t = subst (λ (p : Path). IsTrue (numbers_of (lone p) k)) (sym (some_path [] path h)) t
+on_path (Leaf still a) (Under p) path k h t = absurd (cc)
+on_path (Leaf still a) (Outer p) path k h t = absurd (cc)
+on_path (Leaf still a) (Inner p) path k h t = absurd (cc)
+on_path (Bare v) p path k h t = absurd (cc)
+on_path (Filtered None a f) Here path k h t = absurd (false≢true (subst (λ (p : Path). IsTrue (numbers_of (lone p) k)) (sym (some_path ((None, a) ∷ []) path h)) t))
+on_path (Filtered (Some n) a f) Here path k h t =
+    let own : IsTrue ((k == n) || false) = subst (λ (p : Path). IsTrue (numbers_of (lone p) k)) (sym (some_path ((Some n, a) ∷ []) path h)) t in
+    elim (or_cases (k == n) false own) [
+      | inl x ↦ or_left (k == n) (numbers_of f k) x
+      | inr x ↦ absurd (false≢true x)
+    ]
+on_path (Filtered None a f) (Under p) path k h t =
+    let below = beneath None a (path_at f p) path h in
+    on_path f p below.0 k below.1 (subst (λ (r : Path). IsTrue (numbers_of (lone r) k)) (sym below.2) t)
+on_path (Filtered (Some n) a f) (Under p) path k h t =
+    let below = beneath (Some n) a (path_at f p) path h in
+    let own : IsTrue ((k == n) || numbers_of (lone below.0) k) = subst (λ (r : Path). IsTrue (numbers_of (lone r) k)) (sym below.2) t in
+    elim (or_cases (k == n) (numbers_of (lone below.0) k) own) [
+      | inl x ↦ or_left (k == n) (numbers_of f k) x
+      | inr x ↦ or_right (k == n) (numbers_of f k) (on_path f p below.0 k below.1 x)
+    ]
+on_path (Filtered n a f) (Outer p) path k h t = absurd (cc)
+on_path (Filtered n a f) (Inner p) path k h t = absurd (cc)
+on_path (Over joint o i) Here path k h t = absurd (cc)
+on_path (Over joint o i) (Under p) path k h t = absurd (cc)
+on_path (Over joint o i) (Outer p) path k h t = or_left (numbers_of o k) (numbers_of i k) (on_path o p path k h t)
+on_path (Over joint o i) (Inner p) path k h t = or_right (numbers_of o k) (numbers_of i k) (on_path i p path k h t)
+
+or_nothing : (a b : Bool) → b ≡ false → a || b ≡ a
+or_nothing true b h = refl
+or_nothing false b h = h
+
+nothing_or : (a b : Bool) → a ≡ false → a || b ≡ b
+nothing_or true b h = absurd (true≢false h)
+nothing_or false b h = refl
+
+same_test : (p b c d : Bool) → b ≡ c → (if p then b else d) ≡ (if p then c else d)
+same_test p b c d h = ap (λ (x : Bool). if p then x else d) h
+
+-- of the path's filters the verdict says what the path alone says
+verdict_of_path : (f : Form) (place : Place) (path : Path) (meta : Metadata) (s : Store) (lane : ℕ) (under : FilterSet) (k : ℕ) → AreDistinct f → path_at f place ≡ Some path → IsTrue (numbers_of (lone path) k)
+    → in_verdict f meta s lane under k ≡ in_verdict (lone path) meta s lane under k
+verdict_of_path (Leaf still a) Here path meta s lane under k d h t = absurd (false≢true (subst (λ (p : Path). IsTrue (numbers_of (lone p) k)) (sym (some_path [] path h)) t))
+verdict_of_path (Leaf still a) (Under p) path meta s lane under k d h t = absurd (cc)
+verdict_of_path (Leaf still a) (Outer p) path meta s lane under k d h t = absurd (cc)
+verdict_of_path (Leaf still a) (Inner p) path meta s lane under k d h t = absurd (cc)
+verdict_of_path (Bare v) p path meta s lane under k d h t = absurd (cc)
+verdict_of_path (Filtered None a f) Here path meta s lane under k d h t = ap (λ (p : Path). in_verdict (lone p) meta s lane under k) (some_path ((None, a) ∷ []) path h)
+verdict_of_path (Filtered (Some n) a f) Here path meta s lane under k d h t =
+    let set = union under (single n) in
+    let own : IsTrue ((k == n) || false) = subst (λ (p : Path). IsTrue (numbers_of (lone p) k)) (sym (some_path ((Some n, a) ∷ []) path h)) t in
+    let here : k ≡ n = eqb-true k n (sym (or_nothing (k == n) false refl) ∙ own) in
+    let none : in_verdict f meta s lane set k ≡ false = no_verdict f meta s lane set k (ap (numbers_of f) here ∙ d.0) in
+    same_test (a.enabled meta (view_of s lane set)) (in_verdict f meta s lane set k) false (k == n) none ∙ ap (λ (p : Path). in_verdict (lone p) meta s lane under k) (some_path ((Some n, a) ∷ []) path h)
+verdict_of_path (Filtered None a f) (Under p) path meta s lane under k d h t =
+    let below = beneath None a (path_at f p) path h in
+    ap (λ (r : Path). in_verdict (lone r) meta s lane under k) below.2
+verdict_of_path (Filtered (Some n) a f) (Under p) path meta s lane under k d h t =
+    let below = beneath (Some n) a (path_at f p) path h in
+    let set = union under (single n) in
+    let own : IsTrue ((k == n) || numbers_of (lone below.0) k) = subst (λ (r : Path). IsTrue (numbers_of (lone r) k)) (sym below.2) t in
+    let not_below : k ≡ n → numbers_of (lone below.0) k ≡ false = λ e. false_from_ne_true (numbers_of (lone below.0) k) (λ x. both_ways (numbers_of f k) (ap (numbers_of f) e ∙ d.0) (on_path f p below.0 k below.1 x)) in
+    let inside : in_verdict f meta s lane set k ≡ in_verdict (lone below.0) meta s lane set k = elim (or_cases (k == n) (numbers_of (lone below.0) k) own) [
+      | inl x ↦ no_verdict f meta s lane set k (ap (numbers_of f) (eqb-true k n x) ∙ d.0) ∙ sym (no_verdict (lone below.0) meta s lane set k (not_below (eqb-true k n x)))
+      | inr x ↦ verdict_of_path f p below.0 meta s lane set k d.1 below.1 x
+    ] in
+    same_test (a.enabled meta (view_of s lane set)) (in_verdict f meta s lane set k) (in_verdict (lone below.0) meta s lane set k) (k == n) inside ∙ ap (λ (r : Path). in_verdict (lone r) meta s lane under k) below.2
+verdict_of_path (Filtered n a f) (Outer p) path meta s lane under k d h t = absurd (cc)
+verdict_of_path (Filtered n a f) (Inner p) path meta s lane under k d h t = absurd (cc)
+verdict_of_path (Over joint o i) Here path meta s lane under k d h t = absurd (cc)
+verdict_of_path (Over joint o i) (Under p) path meta s lane under k d h t = absurd (cc)
+verdict_of_path (Over joint o i) (Outer p) path meta s lane under k d h t =
+    let elsewhere = no_verdict i meta s lane under k (d.2 k (on_path o p path k h t)) in
+    or_nothing (in_verdict o meta s lane under k) (in_verdict i meta s lane under k) elsewhere ∙ verdict_of_path o p path meta s lane under k d.0 h t
+verdict_of_path (Over joint o i) (Inner p) path meta s lane under k d h t =
+    let own = on_path i p path k h t in
+    let elsewhere = no_verdict o meta s lane under k (false_from_ne_true (numbers_of o k) (λ x. both_ways (numbers_of i k) (d.2 k x) own)) in
+    nothing_or (in_verdict o meta s lane under k) (in_verdict i meta s lane under k) elsewhere ∙ verdict_of_path i p path meta s lane under k d.1 h t
+
+-- ---- what a path learns where each filter is asked afresh
+
+unlearnt : (cs ds : Conducts) → ArePlainConducts cs → ds ≡ cs → PathsActAlike ds cs
+unlearnt cs ds p e = subst (λ (es : Conducts). PathsActAlike es cs) (sym e) (paths_itself cs p)
+
+-- given in a registry that differs in extensions alone
+learnt_so : (e : Notice) (lane : ℕ) (under : FilterSet) (v : RegistryState) (b c : Conduct) → IsPlain b → Learns e lane under v b c → ActAlike c (behind e (view_of v.store lane under) b)
+learnt_so e lane under v b c p l =
+    let agree = agree_sym under v.store l.between.store (agree_aside under v l.between l.extensions) in
+    let alike = behind_alike e (view_of l.between.store lane under) (view_of v.store lane under) b b (views_alike under under l.between.store v.store lane agree (itself_within under)) (record { plain = p.answers; same = p.history }) in
+    subst (λ (d : Conduct). ActAlike d (behind e (view_of v.store lane under) b)) (sym l.learnt) alike
+
+module _ (e : Notice) (s : Store) (lane : ℕ) (v : RegistryState) where
+  -- at a filter itself: where the plan goes through it, it learns
+  learns_here : (p q : Bool) (under : FilterSet) (plan : Plan) (n : ℕ) (b : Conduct) (ds : Conducts) → p ≡ q → IsPlain b → ActOn Here (if p then Through plan else Nobody) e lane under v ((Some n, b) ∷ []) ds
+      → PathsActAlike ds (if q then (Some n, behind e (view_of v.store lane (union under (single n))) b) ∷ [] else (Some n, b) ∷ [])
+  learns_here true false under plan n b ds same plain h = absurd (true≢false same)
+  learns_here false true under plan n b ds same plain h = absurd (false≢true same)
+  learns_here false false under plan n b ds same plain h = unlearnt ((Some n, b) ∷ []) ds (plain, tt) h
+  learns_here true true under plan n b [] same plain h = absurd (cc)
+  learns_here true true under plan n b ((m, c) ∷ []) same plain h = (h.0, learnt_so e lane (union under (single n)) v b c plain h.1, tt)
+  learns_here true true under plan n b ((m, c) ∷ d ∷ ds) same plain h = absurd (cc)
+
+  -- above others: it learns, and then they do
+  learns_above : (p q : Bool) (under : FilterSet) (place : Place) (plan : Plan) (n : ℕ) (b : Conduct) (cs ds learnt : Conducts) → p ≡ q → IsPlain b → ArePlainConducts cs
+      → ((es : Conducts) → ActOn place plan e lane (union under (single n)) v cs es → PathsActAlike es learnt)
+      → ActOn (Under place) (if p then Through plan else Nobody) e lane under v ((Some n, b) ∷ cs) ds
+      → PathsActAlike ds (if q then (Some n, behind e (view_of v.store lane (union under (single n))) b) ∷ learnt else (Some n, b) ∷ cs)
+  learns_above true false under place plan n b cs ds learnt same plain others rest h = absurd (true≢false same)
+  learns_above false true under place plan n b cs ds learnt same plain others rest h = absurd (false≢true same)
+  learns_above false false under place plan n b cs ds learnt same plain others rest h = unlearnt ((Some n, b) ∷ cs) ds (plain, others) h
+  learns_above true true under place plan n b cs [] learnt same plain others rest h = absurd (cc)
+  learns_above true true under place plan n b cs ((m, c) ∷ ds) learnt same plain others rest h = (h.0, learnt_so e lane (union under (single n)) v b c plain h.1, rest ds h.2)
+
+  abbrev LearnsAlong : Form → Place → FilterSet → Conducts → Conducts → Type 0
+  LearnsAlong f place under cs ds = ActOn place (asked_afresh f e s lane under) e lane under v cs ds → PathsActAlike ds (learning cs e s v.store lane under)
+
+  learns_nothing : (f : Form) (place : Place) (under : FilterSet) (cs ds : Conducts) → PathsAnswerAlike [] (path_now cs) → ActOn Here Itself e lane under v cs ds → PathsActAlike ds (learning cs e s v.store lane under)
+  learns_nothing f place under [] ds alike h = unlearnt [] ds tt h
+  learns_nothing f place under ((m, b) ∷ cs) ds alike h = absurd alike
+
+  -- each filter learns where all round it pass, and so does it
+  learns_along : (f : Form) (place : Place) (path : Path) (under : FilterSet) (cs ds : Conducts) → path_at f place ≡ Some path → PathsAnswerAlike path (path_now cs) → ArePlainConducts cs → LearnsAlong f place under cs ds
+  learns_along (Leaf still a) Here path under cs ds at alike plain h =
+      learns_nothing (Leaf still a) Here under cs ds (subst (λ (p : Path). PathsAnswerAlike p (path_now cs)) (sym (some_path [] path at)) alike) h
+  learns_along (Leaf still a) (Under p) path under cs ds at alike plain h = absurd (cc)
+  learns_along (Leaf still a) (Outer p) path under cs ds at alike plain h = absurd (cc)
+  learns_along (Leaf still a) (Inner p) path under cs ds at alike plain h = absurd (cc)
+  learns_along (Bare z) p path under cs ds at alike plain h = absurd (cc)
+  learns_along (Filtered n a f) (Outer p) path under cs ds at alike plain h = absurd (cc)
+  learns_along (Filtered n a f) (Inner p) path under cs ds at alike plain h = absurd (cc)
+  learns_along (Over joint o i) Here path under cs ds at alike plain h = absurd (cc)
+  learns_along (Over joint o i) (Under p) path under cs ds at alike plain h = absurd (cc)
+  learns_along (Over joint o i) (Outer p) path under cs ds at alike plain h = learns_along o p path under cs ds at alike plain h
+  learns_along (Over joint o i) (Inner p) path under cs ds at alike plain h = learns_along i p path under cs ds at alike plain h
+  learns_along (Filtered n a f) Here path under cs ds at alike plain h = by_conducts n cs (subst (λ (p : Path). PathsAnswerAlike p (path_now cs)) (sym (some_path ((n, a) ∷ []) path at)) alike) plain h
+    where
+      numbered : (m : Option ℕ) (b : Conduct) → AnswerAlike a (b []) → IsPlain b → LearnsAlong (Filtered m a f) Here under ((m, b) ∷ []) ds
+      numbered None b same p k = unlearnt ((None, b) ∷ []) ds (p, tt) k
+      numbered (Some j) b same p k =
+          let set = union under (single j) in
+          learns_here (passes a e s lane set) (passes (b []) e s lane set) under (asked_afresh f e s lane set) j b ds (passes_same a (b []) e s lane set same) p k
+
+      by_conducts : (m : Option ℕ) (es : Conducts) → PathsAnswerAlike ((m, a) ∷ []) (path_now es) → ArePlainConducts es → LearnsAlong (Filtered m a f) Here under es ds
+      by_conducts m [] k p = absurd k
+      by_conducts m ((l, b) ∷ []) k p = subst (λ (j : Option ℕ). LearnsAlong (Filtered m a f) Here under ((j, b) ∷ []) ds) k.0 (numbered m b k.1 p.0)
+      by_conducts m ((l, b) ∷ d ∷ es) k p = absurd k.2
+  learns_along (Filtered n a f) (Under p) path under cs ds at alike plain h =
+      let below = beneath n a (path_at f p) path at in
+      by_conducts n cs (subst (λ (r : Path). PathsAnswerAlike r (path_now cs)) (sym below.2) alike) plain (λ set es fs k l. learns_along f p below.0 set es fs below.1 k l) h
+    where
+      numbered : (m : Option ℕ) (b : Conduct) (es : Conducts) → AnswerAlike a (b []) → IsPlain b → ArePlainConducts es → ((set : FilterSet) (fs : Conducts) → LearnsAlong f p set es fs) → LearnsAlong (Filtered m a f) (Under p) under ((m, b) ∷ es) ds
+      numbered None b es same o q rest k = unlearnt ((None, b) ∷ es) ds (o, q) k
+      numbered (Some j) b es same o q rest k =
+          let set = union under (single j) in
+          learns_above (passes a e s lane set) (passes (b []) e s lane set) under p (asked_afresh f e s lane set) j b es ds (learning es e s v.store lane set) (passes_same a (b []) e s lane set same) o q (rest set) k
+
+      by_conducts : (m : Option ℕ) (es : Conducts) → PathsAnswerAlike ((m, a) ∷ (beneath n a (path_at f p) path at).0) (path_now es) → ArePlainConducts es
+          → ((set : FilterSet) (gs fs : Conducts) → PathsAnswerAlike (beneath n a (path_at f p) path at).0 (path_now gs) → ArePlainConducts gs → LearnsAlong f p set gs fs) → LearnsAlong (Filtered m a f) (Under p) under es ds
+      by_conducts m [] k o rest = absurd k
+      by_conducts m ((l, b) ∷ es) k o rest =
+          subst (λ (j : Option ℕ). LearnsAlong (Filtered m a f) (Under p) under ((j, b) ∷ es) ds) k.0 (numbered m b es k.1 o.0 o.1 (λ set fs. rest set es fs k.2 o.1))
+
+-- ---- one notice
+
+-- where the verdict is cut down to the path's filters, it is what they alone say
+cut_refuses : (f : Form) (place : Place) (path : Path) (cs : Conducts) (meta : Metadata) (s : Store) (lane : ℕ) (v : FilterMap) → AreDistinct f → path_at f place ≡ Some path → PathsAnswerAlike path (path_now cs)
+    → ((k : ℕ) → refuses v k ≡ in_verdict f meta s lane no_filter k) → (k : ℕ) → (numbers_in cs k && refuses v k) ≡ in_verdict (lone (path_now cs)) meta s lane no_filter k
+cut_refuses f place path cs meta s lane v d at alike said k = by_number (numbers_in cs k) refl
+  where
+    by_number : (b : Bool) → numbers_in cs k ≡ b → (b && refuses v k) ≡ in_verdict (lone (path_now cs)) meta s lane no_filter k
+    by_number true e =
+        let own : IsTrue (numbers_of (lone path) k) = (λ i. numbers_same path (path_now cs) alike i k) ∙ (λ i. lone_numbers cs i k) ∙ e in
+        said k ∙ verdict_of_path f place path meta s lane no_filter k d at own ∙ verdicts_same path (path_now cs) meta s lane no_filter k alike
+    by_number false e = sym (no_verdict (lone (path_now cs)) meta s lane no_filter k ((λ i. lone_numbers cs i k) ∙ e))
+
+agrees_so : (numbers : FilterSet) (s t : RegistryState) (u : Store) → t ≡ s → AgreeAt numbers s.store u → AgreeAt numbers t.store u
+agrees_so numbers s t u e h = subst (λ (r : RegistryState). AgreeAt numbers r.store u) (sym e) h
+
+-- what a notice leaves, alone: and how far it agrees with the store that it is given in, and with the one after it
+abbrev NoticedAlone : Conducts → Lane → Notice → RegistryState → RegistryState → RegistryState → Type 0
+NoticedAlone cs lane e s left y =
+    (t : Store) × StepsAlone (path_now cs) (Noticed lane e) s.store t × AgreeAt (numbers_in cs) left.store (given_in e s.store t) × AgreeAt (numbers_in cs) y.store t
+
+module _ (f : Form) (place : Place) (path : Path) (cs : Conducts) (distinct : AreDistinct f) (at : path_at f place ≡ Some path) (alike : PathsAnswerAlike path (path_now cs)) where
+  -- hooks write extensions, and then the registry stays as it is
+  onward : (left notified y : RegistryState) (t : Store) → AgreeAt (numbers_in cs) left.store t → SameButExtensions left notified → y ≡ notified → AgreeAt (numbers_in cs) y.store t
+  onward left notified y t h hooks e =
+      agrees_so (numbers_in cs) notified y t e (agree_trans (numbers_in cs) notified.store left.store t (agree_sym (numbers_in cs) left.store notified.store (agree_aside (numbers_in cs) left notified hooks)) h)
+
+  unchanged : (lane : Lane) (e : Notice) (s left notified y : RegistryState) → left ≡ s → SameButExtensions left notified → y ≡ notified → AgreeAt (numbers_in cs) left.store s.store × AgreeAt (numbers_in cs) y.store s.store
+  unchanged lane e s left notified y same hooks after =
+      let agree = agrees_so (numbers_in cs) s left s.store same (agree_refl (numbers_in cs) s.store) in
+      (agree, onward left notified y s.store agree hooks after)
+
+  noticed_alone : (lane : Lane) (e : Notice) (s left notified y : RegistryState) → StepsBefore f lane e s left → SameButExtensions left notified → StepsAfter e notified y → NoticedAlone cs lane e s left y
+  noticed_alone lane (OnNewSpan attrs id) s left notified y before hooks after =
+      let numbers = numbers_in cs in
+      let x = number_of id in
+      let parent = before.2.parent in
+      let cut = cut_verdict numbers before.0 in
+      let whole : Span = begun (record { metadata = metadata_of attrs; parent = asked_parent attrs; verdict = before.0 }) parent in
+      let own : Span = begun (record { metadata = metadata_of attrs; parent = asked_parent attrs; verdict = cut.0 }) parent in
+      let both : SpansAgree numbers whole own = record { metadata = refl; parent = refl; handles = refl; verdict = λ n t. sym (cut.1 n ∙ ap (λ (b : Bool). b && refuses before.0 n) t) } in
+      let opened : RegistryState = with_span s x whole in
+      let agree = agrees_so numbers opened left (with_new s.store x own) before.2.state (new_agrees_with numbers s.store s.store opened.store x whole own (agree_refl numbers s.store) both refl refl refl) in (
+        with_new s.store x own,
+        record {
+          parent = parent;
+          chosen = before.2.finds.chosen;
+          verdict = cut.0;
+          refused = λ k. cut.1 k ∙ cut_refuses f place path cs (metadata_of attrs) s.store lane.0 before.0 distinct at alike before.1 k;
+          state = refl;
+        },
+        agree,
+        onward left notified y (with_new s.store x own) agree hooks after,
+      )
+  noticed_alone lane (OnRecord id values) s left notified y before hooks after =
+      let both = unchanged lane (OnRecord id values) s left notified y before.1 hooks after in (s.store, refl, both.0, both.1)
+  noticed_alone lane (OnFollows id other) s left notified y before hooks after =
+      let both = unchanged lane (OnFollows id other) s left notified y before.1 hooks after in (s.store, refl, both.0, both.1)
+  noticed_alone lane (OnEvent e) s left notified y before hooks after =
+      let both = unchanged lane (OnEvent e) s left notified y before hooks after in (s.store, refl, both.0, both.1)
+  noticed_alone lane (OnEnter id) s left notified y before hooks after =
+      let t = entered s.store lane.0 (number_of id) in
+      let agree = agrees_so (numbers_in cs) (record s { store = t }) left t before.state (agree_refl (numbers_in cs) t) in
+      (t, refl, agree, onward left notified y t agree hooks after)
+  noticed_alone lane (OnExit id) s left notified y before hooks after =
+      let t = exited s.store lane.0 (number_of id) in
+      let agree = agrees_so (numbers_in cs) (record s { store = t }) left t before.1 (agree_refl (numbers_in cs) t) in
+      (t, refl, agree, onward left notified y t agree hooks after)
+  noticed_alone lane (OnIdChange id other) s left notified y before hooks after = absurd before
+  noticed_alone lane (OnClose id) s left notified y before hooks after =
+      let numbers = numbers_in cs in
+      let gone = number_of id ∷ [] in
+      let agree = agrees_so numbers s left s.store before.1 (agree_refl numbers s.store) in
+      let later = onward left notified notified s.store agree hooks refl in
+      (without s.store gone, refl, agree, subst (λ (u : Store). AgreeAt numbers u (without s.store gone)) (sym after.1.taken.store) (without_agrees numbers notified.store s.store gone later))
+
+-- ---- one outcome, and all that was made
+
+changed_alone : (cs : Conducts) (c : Change) (s t : RegistryState) → Changes c s t → (u : Store) × StepsAlone (path_now cs) (Quiet c) s.store u × AgreeAt (numbers_in cs) t.store u
+changed_alone cs (HandleAdded id) s t h =
+    let u : Store = record s.store { spans = add_handle s.store.spans (number_of id) } in
+    (u, refl, agrees_so (numbers_in cs) (record s { store = u }) t u h.state (agree_refl (numbers_in cs) u))
+changed_alone cs (HandleTaken id) s t h =
+    let u : Store = record s.store { spans = take_handle s.store.spans (number_of id) } in
+    (u, refl, agrees_so (numbers_in cs) (record s { store = u }) t u h.1 (agree_refl (numbers_in cs) u))
+changed_alone cs (GoneLeft lane id) s t h =
+    let u = exited s.store lane.0 (number_of id) in
+    (u, refl, agrees_so (numbers_in cs) (record s { store = u }) t u h.1 (agree_refl (numbers_in cs) u))
+
+passed_alone : (path : Path) (cs : Conducts) (o : Outcome) (s : Store) → PathsAnswerAlike path (path_now cs) → passed (Some path) o s ≡ passed (Some (path_now cs)) o s
+passed_alone path cs (Noticed lane e) s alike = ap (λ (b : Bool). if b then (lane.0, e) ∷ [] else []) (paths_pass_same path (path_now cs) e s lane.0 no_filter alike)
+passed_alone path cs (Quiet c) s alike = refl
+
+module _ {S : Type 0} (registry : S → RegistryState) {with_registry : S → RegistryState → S} {has_form : S → Form → Type 0} {stepped : StackSteps S} {registered : S → S → Type 0} {acts_at : ActsAt S}
+    (paths : StackPathLaws with_registry has_form stepped registered acts_at) where
+  -- what an outcome leaves, alone: a store that agrees, and conducts as they are learnt from it
+  abbrev LeavesAlone : Place → Conducts → Outcome → S → S → Type 0
+  LeavesAlone place cs o x y =
+      (t : Store) × StepsAlone (path_now cs) o (registry x).store t × AgreeAt (numbers_in cs) (registry y).store t × (ds : Conducts) × acts_at y place ds × PathsActAlike ds (acting cs o (registry x).store t)
+
+  leaves_alone : (f : Form) (o : Outcome) (x y : S) (place : Place) (cs : Conducts) → has_form x f → AreDistinct f → acts_at x place cs → GoesOn registry with_registry has_form stepped f o x y → LeavesAlone place cs o x y
+  leaves_alone f (Noticed lane e) x y place cs has distinct acts g =
+      let numbers = numbers_in cs in
+      let s = (registry x).store in
+      let plain = paths.plain x place cs acts in
+      let now = paths.now x place cs f acts has in
+      let step = noticed_alone f place now.0 cs distinct now.1 now.2 lane e (registry x) g.left (registry g.notified) (registry y) g.before g.extensions g.after in
+      let on = paths.goes_on x (asked_afresh f e s lane.0 no_filter) e lane.0 g.left g.notified (registry g.notified) place cs g.layers acts in
+      let there = subst (λ (z : S). acts_at z place on.0) (sym g.rest) (paths.acts_with g.notified (registry y) place on.0 on.1) in
+      let learnt = learns_along e s lane.0 g.left f place now.0 no_filter cs on.0 now.1 now.2 plain on.2 in
+      let moved = learnt_alike numbers cs cs e s s g.left.store (given_in e s step.0) lane.0 no_filter (agree_refl numbers s) step.2 (paths_itself cs plain) (itself_within numbers) (none_within numbers) in
+      (step.0, step.1, step.3, on.0, there, paths_further on.0 (learning cs e s g.left.store lane.0 no_filter) (learning cs e s (given_in e s step.0) lane.0 no_filter) learnt moved)
+  leaves_alone f (Quiet c) x y place cs has distinct acts g =
+      let step = changed_alone cs c (registry x) (registry y) g.changes in
+      (step.0, step.1, step.2, cs, subst (λ (z : S). acts_at z place cs) (sym g.rest) (paths.acts_with x (registry y) place cs acts), paths_itself cs (paths.plain x place cs acts))
+
+  -- on the stack's own store
+  sees_own : (x : S) (ms : List Made) (y : S) (place : Place) (cs : Conducts) → FoldsTo (Makes registry with_registry has_form stepped) x ms y → acts_at x place cs → Alone cs (registry x).store (map outcome_of ms) (seen place ms)
+  sees_own x [] y place cs h acts = refl
+  sees_own x (m ∷ ms) y place cs h acts =
+      let made = h.1 in
+      let s = (registry x).store in
+      let step = leaves_alone m.form m.outcome x h.0 place cs made.honest.has made.honest.rules.numbers.distinct acts made.goes in
+      let rest = sees_own h.0 ms y place step.3 h.2 step.4 in
+      let same : numbers_in cs ≡ numbers_in step.3 = sym (same_numbers step.3 (acting cs m.outcome s step.0) step.5 ∙ acting_numbers cs m.outcome s step.0) in
+      let agree = subst (λ (numbers : FilterSet). AgreeAt numbers (registry h.0).store step.0) same step.2 in
+      let now = paths.now x place cs m.form acts made.honest.has in
+      let first = ap (λ (o : Option Path). passed o m.outcome m.store) now.1 ∙ ap (λ (t : Store). passed (Some now.0) m.outcome t) made.store ∙ passed_alone now.0 cs m.outcome s now.2 in (
+        step.0,
+        seen place ms,
+        step.1,
+        alone_over step.3 (acting cs m.outcome s step.0) (registry h.0).store step.0 (map outcome_of ms) (seen place ms) step.5 agree rest,
+        ap (λ k. k ++ seen place ms) first,
+      )
+
+  -- what a leaf sees of what was made, it sees alone on any store that agrees
+  pub sees_alone : (x : S) (made : List Made) (y : S) → FoldsTo (Makes registry with_registry has_form stepped) x made y → EachSeesAlone registry acts_at x made
+  sees_alone x made y h place cs s acts agree = alone_over cs cs (registry x).store s (map outcome_of made) (seen place made) (paths_itself cs (paths.plain x place cs acts)) agree (sees_own x made y place cs h acts)
