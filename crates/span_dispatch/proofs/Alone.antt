@@ -14,19 +14,20 @@ use Rattle.span_core.specs.declared.span.Lane.{Lane}
 use Rattle.span_dispatch.proofs.Acting.{Within, acting_numbers, alone_over, behind_alike, itself_within, learnt_alike, none_within, number_itself, paths_further, paths_itself, same_numbers}
 use Rattle.span_registry.proofs.Agreeing.{agree_aside, agree_refl, agree_sym, agree_trans, new_agrees_with, views_alike, without_agrees}
 use Rattle.span_core.proofs.FilterLemmas.{cut_verdict}
+use Rattle.span_dispatch.proofs.Seen.{goes_through}
 use Rattle.span_dispatch.specs.Alone.{Alone, OpensAlone, StepsAlone, acting, given_in, learning, lone, passed, seen, with_new}
 use Rattle.span_dispatch.specs.Isolation.{ActAlike, PathsActAlike}
 use Rattle.span_dispatch.specs.Outcome.{Change, Changes, GoneLeft, GoesOn, HandleAdded, HandleTaken, Made, Makes, Noticed, Notices, Outcome, Quiet, Quiets, StepsAfter, StepsBefore}
-use Rattle.span_dispatch.specs.Serve.{EachSeesAlone, outcome_of}
+use Rattle.span_dispatch.specs.Serve.{EachSeesAlone, Sees, outcome_of}
 use Rattle.span_layers.specs.Verdict.{AreDistinct, in_verdict, numbers_of}
 use Rattle.span_registry.specs.Agree.{AgreeAt, SpansAgree}
 use Rattle.span_registry.specs.Answers.{AnswerAlike, Answers, AreAlike, Conduct, IsPlain, Notice, OnClose, OnEnter, OnEvent, OnExit, OnFollows, OnIdChange, OnNewSpan, OnRecord}
 use Rattle.span_registry.specs.Closes.{without}
 use Rattle.span_registry.specs.Conducts.{ActOn, ActsAt, ArePlainConducts, Conducts, Learns, PathsAnswerAlike, StackPathLaws, behind, numbers_in, path_now}
 use Rattle.span_registry.specs.Form.{Bare, Filtered, Form, Leaf, Over}
-use Rattle.span_registry.specs.Hooks.{StackSteps, no_filter}
+use Rattle.span_registry.specs.Hooks.{StackLaws, StackSteps, no_filter}
 use Rattle.span_registry.specs.Path.{Path, passes_path, path_at}
-use Rattle.span_registry.specs.Place.{Here, Inner, Outer, Place, Under}
+use Rattle.span_registry.specs.Place.{HearSteps, Here, Inner, Outer, Place, Under}
 use Rattle.span_registry.specs.Plan.{Both, Itself, Nobody, Plan, Through, asked_afresh, passes}
 use Rattle.span_registry.specs.Question.{single}
 use Rattle.span_registry.specs.Step.{begun, entered, exited, with_span}
@@ -405,3 +406,9 @@ module _ {S : Type 0} (registry : S → RegistryState) {with_registry : S → Re
   -- what a leaf sees of what was made, it sees alone on any store that agrees
   pub sees_alone : (x : S) (made : List Made) (y : S) → FoldsTo (Makes registry with_registry has_form stepped) x made y → EachSeesAlone registry acts_at x made
   sees_alone x made y h place cs s acts agree = alone_over cs cs (registry x).store s (map outcome_of made) (seen place made) (paths_itself cs (paths.plain x place cs acts)) agree (sees_own x made y place cs h acts)
+
+module _ {S : Type 0} (registry : S → RegistryState) {with_registry : S → RegistryState → S} {usable : S → Type 0} {has_form : S → Form → Type 0} {stepped : StackSteps S} {hears : HearSteps S} {registered : S → S → Type 0} {acts_at : ActsAt S}
+    (laws : StackLaws with_registry usable has_form stepped hears registered) (paths : StackPathLaws with_registry has_form stepped registered acts_at) where
+  -- each leaf goes through what it sees of what was made, and sees it alone
+  pub sees_what_is_made : {x y : S} (made : List Made) → FoldsTo (Makes registry with_registry has_form stepped) x made y → Sees registry hears acts_at x made y
+  sees_what_is_made {x} {y} made folds = record { each = λ place. goes_through registry laws x made y place folds; alone = sees_alone registry paths x made y folds }

@@ -11,11 +11,13 @@ use Rattle.span_dispatch.specs.declared.request.Answer.{Answer}
 use Rattle.span_dispatch.specs.declared.request.Request.{Request}
 use Rattle.span_registry.specs.Follows.{kept_form}
 use Rattle.span_dispatch.proofs.Goes.{keeps_again}
+use Rattle.span_registry.specs.Conducts.{ActsAt, StackPathLaws}
 use Rattle.span_registry.specs.Form.{Form}
 use Rattle.span_registry.specs.Hooks.{StackLaws, StackSteps}
 use Rattle.span_registry.specs.Place.{HearSteps}
 use Rattle.span_dispatch.proofs.Once.{closed_once}
-use Rattle.span_dispatch.proofs.Seen.{goes_through, run_folds}
+use Rattle.span_dispatch.proofs.Alone.{sees_what_is_made}
+use Rattle.span_dispatch.proofs.Seen.{run_folds}
 use Rattle.span_registry.specs.Store.{AreIssued, RegistryState}
 
 -- the span that is named
@@ -78,16 +80,18 @@ module _ {S : Type 0} (registry : S → RegistryState) (with_registry : S → Re
         run = run_more [] done answers h.made (kept_by first) (stack_of first) (kept_by now) (stack_of now) r a s.0 (kept_by next) (stack_of next) h.run step;
       }))
 
-module _ {S : Type 0} {registry : S → RegistryState} {with_registry : S → RegistryState → S} {usable : S → Type 0} {has_form : S → Form → Type 0} {stepped : StackSteps S} {hears : HearSteps S} {registered : S → S → Type 0}
-    (laws : StackLaws with_registry usable has_form stepped hears registered) where
+module _ {S : Type 0} {registry : S → RegistryState} {with_registry : S → RegistryState → S} {usable : S → Type 0} {has_form : S → Form → Type 0} {stepped : StackSteps S} {hears : HearSteps S} {registered : S → S → Type 0} {acts_at : ActsAt S}
+    (laws : StackLaws with_registry usable has_form stepped hears registered) (paths : StackPathLaws with_registry has_form stepped registered acts_at) where
   -- all were served
   pub all_served : (f : Form) (first now : Dispatch S) (all done : List Request) (answers : List Answer) → AreIssued (registry (stack_of first)).store → done ≡ all → SoFar registry with_registry has_form stepped f first now done answers
-      → Served registry with_registry has_form stepped hears all answers first now
+      → Served registry with_registry has_form stepped hears acts_at all answers first now
   all_served f first now all done answers issued same h =
       let folds = run_folds registry with_registry has_form stepped [] done answers h.made (kept_by first) (stack_of first) (kept_by now) (stack_of now) h.run in
+      let seen = sees_what_is_made registry laws paths (flat h.made) folds in
       record {
         made = h.made;
         run = subst (λ rs. Run registry with_registry has_form stepped [] rs answers h.made (kept_by first) (stack_of first) (kept_by now) (stack_of now)) same h.run;
         once = closed_once registry with_registry has_form stepped (stack_of first) (flat h.made) (stack_of now) issued folds;
-        each = λ place. goes_through registry laws (stack_of first) (flat h.made) (stack_of now) place folds;
+        each = seen.each;
+        alone = seen.alone;
       }

@@ -9,7 +9,7 @@ ghost use Rattle.span_dispatch.specs.Cache.{RefusesInterest, no_callsite};
 ghost use Rattle.span_dispatch.specs.Call.{AddHandle, AskCurrent, DropHandle, DropsSpan, Enter, Exit, FindsOpen, Follow, OpensFor, OpenSpan, Probe, RecordValues, RefusesSpan, RefusesUnlessOpen, SendEvent, TakesHandle, WantsEvent, WantsMetadata, current_answer, done_answer, event_answer, span_answer, yes_answer};
 ghost use Rattle.span_dispatch.specs.contracts.dispatch.Dispatch.{the_row};
 ghost use Rattle.span_dispatch.specs.declared.request.Answer.TheVariants.{Done};
-ghost use Rattle.span_dispatch.specs.Serve.{Admits, AnswersCall, AnswersDrop, ChangesAlone, ClosesEach, IsReady, IsReadyAfter, KeepsUpToDate, StaysReady, TakesStep, forgetful, kept_by, stack_of, with_stack};
+ghost use Rattle.span_dispatch.specs.Serve.{Admits, AnswersCall, AnswersDrop, ChangesAlone, ClosesEach, IsReady, IsReadyAfter, KeepsUpToDate, SeesWhatIsMade, StaysReady, TakesStep, forgetful, kept_by, stack_of, with_stack};
 ghost use Rattle.span_registry.specs.Step.{Clones, Enters, Exits, RefusesClone, RefusesEnter, RefusesRelease, ShowsCurrent};
 ghost use Rattle.span_registry.specs.Closes.{IsSettled};
 ghost use Rattle.span_registry.specs.Form.{Form};
@@ -134,6 +134,7 @@ impl<S: Subscriber> Dispatch<S> {
         ensures ready { StaysReady S.registry S.with_registry S.has_form S.stepped self.old self.new }
         ensures asked { IfOk result (WantsMetadata S.registry S.has_form lane meta.now (kept_by self.old) (stack_of self.old)) }
         ensures served { AnswersCall S.registry S.with_registry S.has_form S.stepped (Probe lane meta.now) (yes_answer result) self.old self.new }
+        ensures seen { SeesWhatIsMade S.registry S.with_registry S.has_form S.stepped S.hears S.acts_at self.old self.new }
         ensures refused { IfErr result (RefusesInterest (kept_by self.old) meta.now) }
     {
         let mut pass = Pass::new();
@@ -150,6 +151,7 @@ impl<S: Subscriber> Dispatch<S> {
         ensures kept { MayLearn (kept_by self.old) (metadata_of attrs.now) (kept_by self.new) }
         ensures ready { StaysReady S.registry S.with_registry S.has_form S.stepped self.old self.new }
         ensures served { AnswersCall S.registry S.with_registry S.has_form S.stepped (OpenSpan lane attrs.now) (span_answer result) self.old self.new }
+        ensures seen { SeesWhatIsMade S.registry S.with_registry S.has_form S.stepped S.hears S.acts_at self.old self.new }
         ensures asked { IfOk result (λ o. WantsMetadata S.registry S.has_form lane (metadata_of attrs.now) (kept_by self.old) (stack_of self.old) (is_some o)) }
         ensures store { IfOk result (λ o. MatchOption o (stack_of self.new ≡ stack_of self.old) (λ id. TakesStep S.registry (OpensFor lane attrs.now id) self.old self.new)) }
         ensures wanted { IfErr result (λ e. WantsMetadata S.registry S.has_form lane (metadata_of attrs.now) (kept_by self.old) (stack_of self.old) true) }
@@ -175,6 +177,7 @@ impl<S: Subscriber> Dispatch<S> {
         ensures kept { MayLearn (kept_by self.old) (event_metadata event.now) (kept_by self.new) }
         ensures ready { StaysReady S.registry S.with_registry S.has_form S.stepped self.old self.new }
         ensures served { AnswersCall S.registry S.with_registry S.has_form S.stepped (SendEvent lane event.now) (event_answer result) self.old self.new }
+        ensures seen { SeesWhatIsMade S.registry S.with_registry S.has_form S.stepped S.hears S.acts_at self.old self.new }
         ensures store { TakesStep S.registry Stays self.old self.new }
         ensures dropped { result ≡ Ok false → stack_of self.new ≡ stack_of self.old }
         ensures asked { IfOk result (WantsEvent S.registry S.has_form lane event.now (kept_by self.old) (stack_of self.old)) }
@@ -202,6 +205,7 @@ impl<S: Subscriber> Dispatch<S> {
         ensures rest { self.new ≡ with_stack self.old (stack_of self.new) }
         ensures ready { StaysReady S.registry S.with_registry S.has_form S.stepped self.old self.new }
         ensures served { AnswersCall S.registry S.with_registry S.has_form S.stepped (Enter lane id) (done_answer result) self.old self.new }
+        ensures seen { SeesWhatIsMade S.registry S.with_registry S.has_form S.stepped S.hears S.acts_at self.old self.new }
         ensures store { OnOk result (TakesStep S.registry (Enters lane id) self.old self.new) }
         ensures refused { IfErr result (RefusesEnter (S.registry (stack_of self.old)) id) }
         ensures unchanged { OnErr result (self.new ≡ self.old) }
@@ -216,6 +220,7 @@ impl<S: Subscriber> Dispatch<S> {
         ensures rest { self.new ≡ with_stack self.old (stack_of self.new) }
         ensures ready { StaysReady S.registry S.with_registry S.has_form S.stepped self.old self.new }
         ensures served { AnswersCall S.registry S.with_registry S.has_form S.stepped (Exit lane id) (Done) self.old self.new }
+        ensures seen { SeesWhatIsMade S.registry S.with_registry S.has_form S.stepped S.hears S.acts_at self.old self.new }
         ensures store { TakesStep S.registry (Exits lane id) self.old self.new }
         ensures gone { ¬ (IsOpen (S.registry (stack_of self.old)).store.spans (number_of id)) → ChangesAlone S.registry S.with_registry self.old self.new }
     {
@@ -233,6 +238,7 @@ impl<S: Subscriber> Dispatch<S> {
         ensures rest { self.new ≡ with_stack self.old (stack_of self.new) }
         ensures ready { StaysReady S.registry S.with_registry S.has_form S.stepped self.old self.new }
         ensures served { AnswersCall S.registry S.with_registry S.has_form S.stepped (RecordValues lane id values.now) (done_answer result) self.old self.new }
+        ensures seen { SeesWhatIsMade S.registry S.with_registry S.has_form S.stepped S.hears S.acts_at self.old self.new }
         ensures store { OnOk result (TakesStep S.registry (FindsOpen id) self.old self.new) }
         ensures refused { IfErr result (RefusesUnlessOpen (S.registry (stack_of self.old)) id) }
         ensures unchanged { OnErr result (self.new ≡ self.old) }
@@ -251,6 +257,7 @@ impl<S: Subscriber> Dispatch<S> {
         ensures rest { self.new ≡ with_stack self.old (stack_of self.new) }
         ensures ready { StaysReady S.registry S.with_registry S.has_form S.stepped self.old self.new }
         ensures served { AnswersCall S.registry S.with_registry S.has_form S.stepped (Follow lane id follows) (done_answer result) self.old self.new }
+        ensures seen { SeesWhatIsMade S.registry S.with_registry S.has_form S.stepped S.hears S.acts_at self.old self.new }
         ensures store { OnOk result (TakesStep S.registry (FindsOpen id) self.old self.new) }
         ensures refused { IfErr result (RefusesUnlessOpen (S.registry (stack_of self.old)) id) }
         ensures unchanged { OnErr result (self.new ≡ self.old) }
@@ -271,6 +278,7 @@ impl<S: Subscriber> Dispatch<S> {
         ensures ready { StaysReady S.registry S.with_registry S.has_form S.stepped self.old self.new }
         ensures same { IfOk result (λ cloned. cloned ≡ id) }
         ensures served { AnswersCall S.registry S.with_registry S.has_form S.stepped (AddHandle lane id) (done_answer result) self.old self.new }
+        ensures seen { SeesWhatIsMade S.registry S.with_registry S.has_form S.stepped S.hears S.acts_at self.old self.new }
         ensures store { OnOk result (TakesStep S.registry (Clones id) self.old self.new) }
         ensures alone { ChangesAlone S.registry S.with_registry self.old self.new }
         ensures refused { IfErr result (RefusesClone (S.registry (stack_of self.old)) id) }
@@ -289,6 +297,7 @@ impl<S: Subscriber> Dispatch<S> {
         ensures rest { self.new ≡ with_stack self.old (stack_of self.new) }
         ensures ready { StaysReady S.registry S.with_registry S.has_form S.stepped self.old self.new }
         ensures served { AnswersDrop S.registry S.with_registry S.has_form S.stepped (DropHandle lane id) (yes_answer result) self.old self.new }
+        ensures seen { SeesWhatIsMade S.registry S.with_registry S.has_form S.stepped S.hears S.acts_at self.old self.new }
         ensures taken { IfOk result (λ closes. TakesStep S.registry (TakesHandle id closes) self.old self.new) }
         ensures store { IfOk result (λ closes. IsSettled (S.registry (stack_of self.old)).store.spans → TakesStep S.registry (DropsSpan id closes) self.old self.new) }
         ensures settled { IsSettled (S.registry (stack_of self.old)).store.spans → IsSettled (S.registry (stack_of self.new)).store.spans }
@@ -309,6 +318,7 @@ impl<S: Subscriber> Dispatch<S> {
     pub fn current_span(&self, lane: Lane) -> Current
         ensures shown { ShowsCurrent (S.registry (stack_of self.now)).store lane result }
         ensures served { AnswersCall S.registry S.with_registry S.has_form S.stepped (AskCurrent lane) (current_answer result) self.now self.now }
+        ensures seen { SeesWhatIsMade S.registry S.with_registry S.has_form S.stepped S.hears S.acts_at self.now self.now }
     {
         self.stack.current_span(lane)
     }

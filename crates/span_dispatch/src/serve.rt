@@ -25,7 +25,7 @@ impl<S: Subscriber> Dispatch<S> {
         requires { S.usable (stack_of self.old) }
         ensures usable { S.usable (stack_of self.new) }
         ensures ready { StaysReady S.registry S.with_registry S.has_form S.stepped self.old self.new }
-        ensures served { IfOk result (λ a. ServesList S.registry S.with_registry S.has_form S.stepped S.hears requests.now a.items self.old self.new) }
+        ensures served { IfOk result (λ a. ServesList S.registry S.with_registry S.has_form S.stepped S.hears S.acts_at requests.now a.items self.old self.new) }
         ensures length { IfOk result (λ a. length a.items ≡ length requests.now) }
         ensures memory { IfErr result (λ e. e ≡ TraceError.OutOfMemory) }
         ensures unchanged { OnErr result (self.new ≡ self.old) }

@@ -1,3 +1,4 @@
+use Rattle.span_dispatch.proofs.Alone.{sees_what_is_made}
 use Rattle.span_dispatch.specs.Serve.{kept_by, with_stack}
 use Rattle.span_dispatch.proofs.Goes.{ready_again}
 use Rattle.span_dispatch.proofs.Stores.{cloned_store}
@@ -14,3 +15,6 @@ returns-clause-served g c = λ f h u. (cloned_so g.met.S.Subscriber.laws g.met.S
 
 pub returns-clause-store : goal.returns-clause-store
 returns-clause-store g c = cloned_store g.S.LookupSpan.registry c.args.id c.clone_span.result c.args.self.now.stack c.clone_span.new.self c.clone_span.ensures.cloned
+
+pub returns-clause-seen : goal.returns-clause-seen
+returns-clause-seen g c = sees_what_is_made g.S.LookupSpan.registry g.met.S.Subscriber.laws g.met.S.Subscriber.paths

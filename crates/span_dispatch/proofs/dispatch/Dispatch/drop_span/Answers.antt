@@ -1,3 +1,4 @@
+use Rattle.span_dispatch.proofs.Alone.{sees_what_is_made}
 use Rattle.span_dispatch.specs.Serve.{kept_by, with_stack}
 use Rattle.span_dispatch.proofs.Goes.{ready_again, stays_so}
 use Rattle.span_dispatch.proofs.Stores.{closed_taken, still_open_taken}
@@ -55,3 +56,12 @@ returns-in-Ok-Closing-clause-taken g c = closed_taken g.S.LookupSpan.registry g.
 pub returns-in-Err-clause-ready : goal.returns-in-Err-clause-ready
 returns-in-Err-clause-ready g c = λ f k.
     stays_so g.S.LookupSpan.registry g.S.LookupSpan.with_registry g.S.Subscriber.has_form g.S.Subscriber.stepped f c.args.self.now (with_stack c.args.self.now (g.S.LookupSpan.with_registry c.args.self.now.stack c.release.new.self)) (ap (λ w. g.S.LookupSpan.with_registry c.args.self.now.stack w) (c.in-Err.ensures.unchanged ∙ c.root_mut.ensures.value) ∙ g.met.S.LookupSpan.with_own c.args.self.now.stack) k.kept k
+
+pub returns-in-Err-clause-seen : goal.returns-in-Err-clause-seen
+returns-in-Err-clause-seen g c = sees_what_is_made g.S.LookupSpan.registry g.met.S.Subscriber.laws g.met.S.Subscriber.paths
+
+pub returns-in-Ok-StillOpen-clause-seen : goal.returns-in-Ok-StillOpen-clause-seen
+returns-in-Ok-StillOpen-clause-seen g c = sees_what_is_made g.S.LookupSpan.registry g.met.S.Subscriber.laws g.met.S.Subscriber.paths
+
+pub returns-in-Ok-Closing-clause-seen : goal.returns-in-Ok-Closing-clause-seen
+returns-in-Ok-Closing-clause-seen g c = sees_what_is_made g.S.LookupSpan.registry g.met.S.Subscriber.laws g.met.S.Subscriber.paths

@@ -1,3 +1,4 @@
+use Rattle.span_dispatch.proofs.Alone.{sees_what_is_made}
 use Rattle.std.proofs.Common.{refl}
 use Rattle.span_dispatch.proofs.Calls.{probed}
 use Rattle.span_dispatch.proofs.Goes.{same_stack, stays_so}
@@ -18,3 +19,6 @@ pub returns-clause-served : goal.returns-clause-served
 returns-clause-served g c = λ f h u.
     same_stack g.S.LookupSpan.registry g.S.LookupSpan.with_registry g.S.Subscriber.has_form g.S.Subscriber.stepped (Probe c.args.lane c.args.meta.now) f (yes_answer c.admits.result) c.args.self.now c.admits.new.self c.admits.ensures.stack
     ((probed g.met.S.Subscriber.laws g.met.S.LookupSpan.with_own (kept_by c.args.self.now) c.args.lane c.args.meta.now c.admits.new.pass c.admits.result (kept_by c.admits.new.self) f (stack_of c.args.self.now) (c.admits.ensures.admitted f h u) h).0)
+
+pub returns-clause-seen : goal.returns-clause-seen
+returns-clause-seen g c = sees_what_is_made g.S.LookupSpan.registry g.met.S.Subscriber.laws g.met.S.Subscriber.paths

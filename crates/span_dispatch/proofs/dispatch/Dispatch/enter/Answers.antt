@@ -1,3 +1,4 @@
+use Rattle.span_dispatch.proofs.Alone.{sees_what_is_made}
 use Rattle.span_dispatch.specs.Serve.{kept_by, with_stack}
 use Rattle.span_dispatch.proofs.Goes.{ready_again}
 use Rattle.span_dispatch.proofs.Stores.{on_ok}
@@ -15,3 +16,6 @@ returns-clause-served g c = λ f h u. (entered_so g.met.S.Subscriber.laws g.met.
 
 pub returns-clause-store : goal.returns-clause-store
 returns-clause-store g c = on_ok c.enter.result (λ u. and_hooks) c.enter.ensures.entered
+
+pub returns-clause-seen : goal.returns-clause-seen
+returns-clause-seen g c = sees_what_is_made g.S.LookupSpan.registry g.met.S.Subscriber.laws g.met.S.Subscriber.paths

@@ -1,3 +1,4 @@
+use Rattle.span_dispatch.proofs.Alone.{sees_what_is_made}
 use Rattle.std.proofs.Common.{Ok, refl, subst, sym}
 use Rattle.span_dispatch.proofs.Calls.{event_made, event_vetoed}
 use Rattle.span_dispatch.proofs.Goes.{ready_again, same_stack, stays_so}
@@ -73,3 +74,15 @@ pub returns-then-not-event_enabled-clause-asked : goal.returns-then-not-event_en
 returns-then-not-event_enabled-clause-asked g c =
     event_refused g.S.LookupSpan.registry g.S.Subscriber.has_form c.args.lane (stack_of c.args.self.now) (kept_by c.args.self.now) c.args.event.now c.metadata.result c.new-pass.result c.admits.new.pass c.event_enabled.new.pass _ c.event_enabled.result c.metadata.ensures c.new-pass.ensures.refused c.if-not-event_enabled.true (λ e. subst (λ b. AnswersEnabled g.S.LookupSpan.registry g.S.Subscriber.has_form (stack_of c.args.self.now) c.args.lane c.metadata.result c.new-pass.result b c.admits.new.pass) c.in-Ok-true.field-0-test (c.in-Ok-true.ensures.nothing_kept e))
     (subst (λ x. AnswersEvent g.S.LookupSpan.registry g.S.Subscriber.has_form x c.args.lane c.args.event.now c.admits.new.pass c.event_enabled.result c.event_enabled.new.pass) c.admits.ensures.stack c.event_enabled.ensures)
+
+pub returns-in-Err-clause-seen : goal.returns-in-Err-clause-seen
+returns-in-Err-clause-seen g c = sees_what_is_made g.S.LookupSpan.registry g.met.S.Subscriber.laws g.met.S.Subscriber.paths
+
+pub returns-in-Ok-false-clause-seen : goal.returns-in-Ok-false-clause-seen
+returns-in-Ok-false-clause-seen g c = sees_what_is_made g.S.LookupSpan.registry g.met.S.Subscriber.laws g.met.S.Subscriber.paths
+
+pub returns-then-not-event_enabled-clause-seen : goal.returns-then-not-event_enabled-clause-seen
+returns-then-not-event_enabled-clause-seen g c = sees_what_is_made g.S.LookupSpan.registry g.met.S.Subscriber.laws g.met.S.Subscriber.paths
+
+pub returns-else-not-event_enabled-clause-seen : goal.returns-else-not-event_enabled-clause-seen
+returns-else-not-event_enabled-clause-seen g c = sees_what_is_made g.S.LookupSpan.registry g.met.S.Subscriber.laws g.met.S.Subscriber.paths

@@ -1,3 +1,4 @@
+use Rattle.span_dispatch.proofs.Alone.{sees_what_is_made}
 use Rattle.span_dispatch.specs.Serve.{kept_by, stack_of, with_stack}
 use Rattle.span_dispatch.proofs.Goes.{ready_again}
 use Rattle.span_dispatch.proofs.Stores.{gone_store}
@@ -33,3 +34,9 @@ returns-then-is_open-clause-gone g c = λ shut. absurd (shut (subst (λ (s : Reg
 
 pub returns-clause-gone : goal.returns-clause-gone
 returns-clause-gone g c = λ shut. ap (λ w. g.S.LookupSpan.with_registry (stack_of c.args.self.now) w) (sym (g.met.S.LookupSpan.registry_with (stack_of c.args.self.now) c.exit-2.new.self))
+
+pub returns-then-is_open-clause-seen : goal.returns-then-is_open-clause-seen
+returns-then-is_open-clause-seen g c = sees_what_is_made g.S.LookupSpan.registry g.met.S.Subscriber.laws g.met.S.Subscriber.paths
+
+pub returns-clause-seen : goal.returns-clause-seen
+returns-clause-seen g c = sees_what_is_made g.S.LookupSpan.registry g.met.S.Subscriber.laws g.met.S.Subscriber.paths

@@ -1,3 +1,4 @@
+use Rattle.span_dispatch.proofs.Alone.{sees_what_is_made}
 use Rattle.span_dispatch.specs.Serve.{kept_by, with_stack}
 use Rattle.span_dispatch.proofs.Goes.{ready_again, stays_so}
 use Rattle.span_dispatch.proofs.Stores.{found_store}
@@ -28,3 +29,9 @@ returns-clause-store g c = found_store g.S.LookupSpan.registry c.args.id c.args.
 
 pub returns-then-not-is_open-clause-ready : goal.returns-then-not-is_open-clause-ready
 returns-then-not-is_open-clause-ready g c = λ f k. stays_so g.S.LookupSpan.registry g.S.LookupSpan.with_registry g.S.Subscriber.has_form g.S.Subscriber.stepped f c.args.self.now c.args.self.now refl k.kept k
+
+pub returns-then-not-is_open-clause-seen : goal.returns-then-not-is_open-clause-seen
+returns-then-not-is_open-clause-seen g c = sees_what_is_made g.S.LookupSpan.registry g.met.S.Subscriber.laws g.met.S.Subscriber.paths
+
+pub returns-clause-seen : goal.returns-clause-seen
+returns-clause-seen g c = sees_what_is_made g.S.LookupSpan.registry g.met.S.Subscriber.laws g.met.S.Subscriber.paths

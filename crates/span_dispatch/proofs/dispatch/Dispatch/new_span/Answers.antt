@@ -1,3 +1,4 @@
+use Rattle.span_dispatch.proofs.Alone.{sees_what_is_made}
 use Rattle.std.proofs.Common.{Ok, inr, subst, ◌∙◌}
 use Rattle.span_core.specs.Span.{asked_parent, metadata_of}
 use Rattle.span_dispatch.proofs.Calls.{span_made, span_refused}
@@ -63,3 +64,15 @@ pub returns-in-Ok-clause-asked : goal.returns-in-Ok-clause-asked
 returns-in-Ok-clause-asked g c =
     subst (λ b. WantsMetadata g.S.LookupSpan.registry g.S.Subscriber.has_form c.args.lane (metadata_of c.args.attrs.now) (kept_by c.args.self.now) (stack_of c.args.self.now) b) c.in-Ok-true.field-0-test
     (metadata_wanted g.S.LookupSpan.registry g.S.Subscriber.has_form c.args.lane (stack_of c.args.self.now) (kept_by c.args.self.now) c.metadata.result (metadata_of c.args.attrs.now) c.new-pass.result c.admits.new.pass c.in-Ok-true.field-0 c.metadata.ensures c.new-pass.ensures.refused c.in-Ok-true.ensures.nothing_kept)
+
+pub returns-in-Err-clause-seen : goal.returns-in-Err-clause-seen
+returns-in-Err-clause-seen g c = sees_what_is_made g.S.LookupSpan.registry g.met.S.Subscriber.laws g.met.S.Subscriber.paths
+
+pub returns-in-Ok-false-clause-seen : goal.returns-in-Ok-false-clause-seen
+returns-in-Ok-false-clause-seen g c = sees_what_is_made g.S.LookupSpan.registry g.met.S.Subscriber.laws g.met.S.Subscriber.paths
+
+pub returns-in-Ok-clause-seen : goal.returns-in-Ok-clause-seen
+returns-in-Ok-clause-seen g c = sees_what_is_made g.S.LookupSpan.registry g.met.S.Subscriber.laws g.met.S.Subscriber.paths
+
+pub returns-in-Err-new_span-clause-seen : goal.returns-in-Err-new_span-clause-seen
+returns-in-Err-new_span-clause-seen g c = sees_what_is_made g.S.LookupSpan.registry g.met.S.Subscriber.laws g.met.S.Subscriber.paths

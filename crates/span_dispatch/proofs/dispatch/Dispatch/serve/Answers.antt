@@ -47,7 +47,7 @@ returns-clause-ready g c = λ f ready. (c.loop-request.invariant.served f ready)
 
 pub returns-clause-served : goal.returns-clause-served
 returns-clause-served g c = λ ready.
-    all_served g.met.S.Subscriber.laws ready.0 c.args.self.now c.loop-request.self c.args.requests.now (take c.loop-request.request-index c.args.requests.now) c.loop-request.answers.items
+    all_served g.met.S.Subscriber.laws g.met.S.Subscriber.paths ready.0 c.args.self.now c.loop-request.self c.args.requests.now (take c.loop-request.request-index c.args.requests.now) c.loop-request.answers.items
     (subst (λ x. AreIssued (g.S.LookupSpan.registry x).store) c.stack.ensures (subst (λ (s : RegistryState). AreIssued s.store) c.root.ensures c.a_registry_is_sound.ensures.issued)) (take_all c.loop-request.request-index c.args.requests.now c.loop-request-test.false) (c.loop-request.invariant.served ready.0 ready.1)
 
 pub returns-in_err-answers-clause-ready : goal.returns-in_err-answers-clause-ready
