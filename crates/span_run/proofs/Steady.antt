@@ -26,6 +26,7 @@ use Rattle.span_layers.specs.declared.layered.Layered.{Layered}
 use Rattle.span_registry.proofs.CallerLemmas.{settled_new}
 use Rattle.span_registry.specs.Answers.{Answers, Notice, OnClose, OnEnter, OnEvent, OnExit, OnFollows, OnIdChange, OnNewSpan, OnRecord}
 use Rattle.span_registry.specs.Closes.{IsSettled}
+use Rattle.span_registry.specs.Conducts.{ActsAt}
 use Rattle.span_registry.specs.Form.{Absent, Bare, Base, Filtered, Form, InPair, Joint, Leaf, OnSubscriber, Over}
 use Rattle.span_registry.specs.Hooks.{StackSteps, no_filter}
 use Rattle.span_registry.specs.Place.{HearSteps}
@@ -205,8 +206,8 @@ module _ {S : Type 0} {with_registry : S → RegistryState → S} {has_form : S 
   )
 
   -- what it served, with nothing kept at first, is a run of its form
-  pub run_of : {hears : HearSteps S} {requests : List Request} {answers : List Answer} (old new : Dispatch S) (s : RegistryState) → Stays (stack_of old) → registry (stack_of old) ≡ s → kept_by old ≡ Some no_callsite
-      → (h : Served registry with_registry has_form stepped hears requests answers old new) → RunsBy f requests answers h.made (Some no_callsite) s (kept_by new) (registry (stack_of new))
+  pub run_of : {hears : HearSteps S} {acts_at : ActsAt S} {requests : List Request} {answers : List Answer} (old new : Dispatch S) (s : RegistryState) → Stays (stack_of old) → registry (stack_of old) ≡ s → kept_by old ≡ Some no_callsite
+      → (h : Served registry with_registry has_form stepped hears acts_at requests answers old new) → RunsBy f requests answers h.made (Some no_callsite) s (kept_by new) (registry (stack_of new))
   run_of {hears} {requests} {answers} old new s stays first kept h =
       subst (λ k. RunsBy f requests answers h.made k s (kept_by new) (registry (stack_of new))) kept
       (subst (λ r. RunsBy f requests answers h.made (kept_by old) r (kept_by new) (registry (stack_of new))) first

@@ -17,6 +17,7 @@ use Rattle.span_layers.specs.Layered.{inner_of, outer_of}
 use Rattle.span_layers.specs.Observe.{open_answers}
 use Rattle.span_layers.specs.declared.filtered.Filtered.{Filtered as FilteredLayer}
 use Rattle.span_layers.specs.declared.layered.Layered.{Layered}
+use Rattle.span_registry.specs.Conducts.{ActsAt}
 use Rattle.span_registry.specs.Form.{Absent, Bare, Base, Filtered, Form, InPair, Leaf, OnSubscriber, Over}
 use Rattle.span_registry.specs.Hooks.{StackSteps}
 use Rattle.span_registry.specs.Place.{HearSteps, Here, Inner, Outer, Place, Under}
@@ -109,9 +110,9 @@ pub record BeginsAbsent (x : Layered Kept (Layered (Option Kept) RegistryState))
   pub registry : inner_of (inner_of x) ≡ start_of AbsentStack
 
 -- a stack was put in use, with nothing kept yet, and then, if it was ready, it served these requests so
-pub record ServesInUse {S : Type 0} (registry : S → RegistryState) (with_registry : S → RegistryState → S) (has_form : S → Form → Type 0) (stepped : StackSteps S) (hears : HearSteps S) (registered : S → S → Type 0) (requests : List Request) (answers : List Answer) (x : S) (d : Dispatch S) : Type 0 where
+pub record ServesInUse {S : Type 0} (registry : S → RegistryState) (with_registry : S → RegistryState → S) (has_form : S → Form → Type 0) (stepped : StackSteps S) (hears : HearSteps S) (acts_at : ActsAt S) (registered : S → S → Type 0) (requests : List Request) (answers : List Answer) (x : S) (d : Dispatch S) : Type 0 where
   pub begun : Dispatch S
   pub in_use : registered x (stack_of begun)
   pub same : registry (stack_of begun) ≡ registry x
   pub kept : kept_by begun ≡ Some no_callsite
-  pub served : (f : Form) × IsReady registry with_registry has_form stepped f x → Served registry with_registry has_form stepped hears requests answers begun d
+  pub served : (f : Form) × IsReady registry with_registry has_form stepped f x → Served registry with_registry has_form stepped hears acts_at requests answers begun d

@@ -129,7 +129,7 @@ fn serve<S: Subscriber + Drop>(
     requests: &[Request<'_>],
 ) -> Result<(Vec<Answer>, Dispatch<S>), RunFault>
     requires { S.usable stack }
-    ensures served { IfOk result (λ both. ServesInUse S.registry S.with_registry S.has_form S.stepped S.hears S.registered requests.now both.0.items stack both.1) }
+    ensures served { IfOk result (λ both. ServesInUse S.registry S.with_registry S.has_form S.stepped S.hears S.acts_at S.registered requests.now both.0.items stack both.1) }
     ensures fault { IfErr result (λ fault. fault ≡ RunFault.Memory) }
 {
     let mut dispatch = Dispatch::new(alloc, stack);

@@ -44,6 +44,7 @@ use Rattle.span_layers.specs.Verdict.{HasOwnNumbers, NumbersStayOwn, vetoes}
 use Rattle.span_layers.specs.declared.filtered.Filtered.{Filtered as FilteredLayer}
 use Rattle.span_registry.proofs.CallerLemmas.{settled_new}
 use Rattle.span_registry.specs.Answers.{AreHonest, Notice, OnClose, OnEnter, OnEvent, OnExit, OnFollows, OnIdChange, OnNewSpan, OnRecord}
+use Rattle.span_registry.specs.Conducts.{ActsAt}
 use Rattle.span_registry.specs.Closes.{IsSettled}
 use Rattle.span_registry.specs.Form.{Bare, Base, Filtered, Form, Leaf, OnSubscriber, Over}
 use Rattle.span_registry.specs.Hooks.{StackSteps}
@@ -298,8 +299,8 @@ keeps_all : (r : Kept) (due : List KeptNotice) → Records new_recorder r due �
 keeps_all r due h f = h.kept ∙ sym (h.split ∙ ap (λ (us : List KeptNotice). h.more ++ us) (h.all f) ∙ append-nil h.more)
 
 -- two spans and an event were served by a new stack
-pub served_three : (level : LevelFilter) (lane : Lane) (outer inner event : Metadata) (p q r : WhichParent) (us vs ws : _) (old : Dispatch Recorded) (done : Dispatch Recorded × Vec Answer Global) → Starts level (stack_of old) → kept_by old ≡ None
-    → Served inner_of with_inner HasForm stack_steps stack_hears (request.NewSpan lane outer p us ∷ request.NewSpan lane inner q vs ∷ request.Event lane event r ws ∷ []) done.1.items old done.0 → KeepsWhatPasses level lane outer inner event done
+pub served_three : {acts_at : ActsAt Recorded} (level : LevelFilter) (lane : Lane) (outer inner event : Metadata) (p q r : WhichParent) (us vs ws : _) (old : Dispatch Recorded) (done : Dispatch Recorded × Vec Answer Global) → Starts level (stack_of old) → kept_by old ≡ None
+    → Served inner_of with_inner HasForm stack_steps stack_hears acts_at (request.NewSpan lane outer p us ∷ request.NewSpan lane inner q vs ∷ request.Event lane event r ws ∷ []) done.1.items old done.0 → KeepsWhatPasses level lane outer inner event done
 served_three level lane outer inner event p q r us vs ws old done new kept served =
     let x = stack_of old in
     let requests = request.NewSpan lane outer p us ∷ request.NewSpan lane inner q vs ∷ request.Event lane event r ws ∷ [] in
