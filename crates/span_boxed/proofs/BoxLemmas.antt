@@ -6,15 +6,19 @@ use Rattle.std.specs.Option.{option_copied, option_map, option_map_or}
 use Rattle.std.specs.Prelude.{◌≡◌, ℕ, Bool, ◌++◌, None, Option, Some, refl}
 use Rattle.std.proofs.Common.{ap, subst, sym, ◌∙◌}
 use Rattle.std.proofs.Math.Path.{transport}
+use Rattle.span_boxed.specs.Boxed.{ActsPlainlyAt, RegistersLawfully, StepsLawfully}
 use Rattle.span_core.specs.Filters.{FilterSet, has_filter, refuses}
 use Rattle.span_core.specs.declared.pass.Pass.{Pass}
 use Rattle.span_filters.specs.Boxed.{itself, replaced}
-use Rattle.span_layers.specs.Layer.{LayerSteps, Notified}
+use Rattle.span_layers.specs.Acts.{PathLaws}
+use Rattle.span_layers.specs.Layer.{LayerLaws, LayerSteps, Notified}
 use Rattle.span_layers.specs.Number.{TakesNumbers, numbered}
 use Rattle.span_registry.specs.Answers.{Notice}
+use Rattle.span_registry.specs.Conducts.{ActsAt, Conducts}
 use Rattle.span_registry.specs.Context.{Exchanges, LendsOver, LooksAtRoot, filters_in, lane_in, lane_lent, mask_lent, refused_lent, store_at, store_in, subscriber_lent}
 use Rattle.span_registry.specs.Form.{Form}
-use Rattle.span_registry.specs.Plan.{by_pass}
+use Rattle.span_registry.specs.Place.{HearSteps, Place}
+use Rattle.span_registry.specs.Plan.{Plan, by_pass}
 use Rattle.span_registry.specs.Question.{AnswersBy, AnswersSo, refusals}
 use Rattle.span_registry.specs.Store.{RegistryState, Store, empty_store}
 use Rattle.span_registry.specs.declared.context.Context.{Context}
@@ -29,6 +33,27 @@ asked_of_object x call lives P p = (refl, λ i. (tt, ((λ a m. i a (mem-append_r
 -- the object that was called is the one in the box: what holds between it and what it became, holds between the two boxes
 pub in_its_box : {I : Type 0} {V : I → Type 0} {B : Type 0} (boxed : (i : I) → V i → B) (P : B → B → Type 0) (x y : (i : I) × V i) → x ≡ y → (z : V x.0) → P (boxed x.0 x.1) (boxed x.0 z) → P (boxed y.0 y.1) (boxed x.0 z)
 in_its_box {I} {V} boxed P x y same z = subst (λ (p : (i : I) × V i). P (boxed p.0 p.1) (boxed x.0 z)) same
+
+-- ---- in a layer
+
+-- the paths of a layer that keep their law act plainly
+pub acts_plainly : {L : Type 0} {form : L → Form → Type 0} {steps : LayerSteps L} {registered : L → L → Type 0} {acts_at : ActsAt L} → PathLaws form steps registered acts_at
+    → (x : L) (place : Place) (cs : Conducts) → acts_at x place cs → ActsPlainlyAt form acts_at x place cs
+acts_plainly paths x place cs a = record { acted = a; plain = paths.plain x place cs a; now = λ f h. paths.now x place cs f a h }
+
+module _ {L : Type 0} {form : L → Form → Type 0} {steps : LayerSteps L} {hears : HearSteps L} {registered : L → L → Type 0} {acts_at : ActsAt L} (laws : LayerLaws form steps hears registered) (paths : PathLaws form steps registered acts_at) where
+  -- a layer that keeps the laws goes on lawfully as an object
+  pub steps_lawfully : (x : L) (p : Plan) (e : Notice) (lane : ℕ) (under : FilterSet) (v : RegistryState) (y : L) (w : RegistryState) → steps x p e lane under v y w → StepsLawfully form steps hears acts_at x p e lane under v y w
+  steps_lawfully x p e lane under v y w s = record {
+    taken = s;
+    follows = λ f h. laws.keeps x p e lane under v y w f s h;
+    heard = λ place. laws.notified x p e lane under v y w place s;
+    acts_on = λ place cs a. let n = paths.goes_on x p e lane under v y w place cs s a in (n.0, acts_plainly paths y place n.0 n.1, n.2);
+  }
+
+  -- and is put in use so
+  pub registers_lawfully : (x y : L) → registered x y → RegistersLawfully form registered acts_at x y
+  registers_lawfully x y s = record { taken = s; follows = λ f h. laws.put_in_use x y f s h; acts_still = λ place cs a. acts_plainly paths y place cs (paths.put_in_use x y place cs s a) }
 
 -- ---- over the registry that a subscriber stands on
 

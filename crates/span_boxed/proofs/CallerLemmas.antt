@@ -3,12 +3,15 @@ use Rattle.std.specs.Prelude.{◌≡◌, ℕ, refl}
 use Rattle.std.proofs.Common.{Global, subst, sym}
 use Rattle.std.specs.declared.dyn_box.DynBox.{DynBox}
 use denote.Param.Table.{Entry, Table}
-use Rattle.span_boxed.specs.Boxed.{ChangesInside, Further, HearsInside, HearsInTurn, Nothing, StepsInside}
+use Rattle.span_boxed.proofs.BoxLemmas.{acts_plainly}
+use Rattle.span_boxed.specs.Boxed.{ActsPlainlyAt, ChangesInside, Further, HearsInside, HearsInTurn, Nothing, StepsInside}
 use Rattle.span_boxed.specs.declared.boxed.BoxedLayer.{BoxedLayer}
 use Rattle.span_core.specs.Filters.{FilterSet}
 use Rattle.span_filters.proofs.CallerLemmas.{IsBoxOf, in_a_box}
+use Rattle.span_layers.specs.Acts.{PathLaws}
 use Rattle.span_layers.specs.Layer.{LayerSteps}
 use Rattle.span_registry.specs.Answers.{Notice}
+use Rattle.span_registry.specs.Conducts.{ActsAt, Conducts}
 use Rattle.span_registry.specs.Form.{Form}
 use Rattle.span_registry.specs.Place.{Heard, HearLaws, HearSteps, Place}
 use Rattle.span_registry.specs.Plan.{Plan}
@@ -27,6 +30,12 @@ module _ {G : Type 0 → Type 1} {C : Type 0} (T : Table G C) (at : T.I) where
   -- a boxed layer has the form of the layer
   pub form_in_a_box : (form : (j : Entry G C) → j.0.Denot → Form → Type 0) (b : Boxed) (x : (T.entry at).0.Denot) (f : Form) → Holds b x → form (T.entry at) x f → form (T.entry b.object.vtable) b.object.value f
   form_in_a_box form b x f made h = in_a_box T at (λ j z. form j z f) made h
+
+  -- and its paths act as the layer's do
+  pub acts_in_a_box : (form : (j : Entry G C) → j.0.Denot → Form → Type 0) (acts_at : (j : Entry G C) → ActsAt j.0.Denot) {steps : LayerSteps (T.entry at).0.Denot} {registered : (T.entry at).0.Denot → (T.entry at).0.Denot → Type 0}
+      → PathLaws (form (T.entry at)) steps registered (acts_at (T.entry at)) → (b : Boxed) (x : (T.entry at).0.Denot) (place : Place) (cs : Conducts) → Holds b x → acts_at (T.entry at) x place cs
+      → ActsPlainlyAt (form (T.entry b.object.vtable)) (acts_at (T.entry b.object.vtable)) b.object.value place cs
+  acts_in_a_box form acts_at paths b x place cs made h = in_a_box T at (λ j z. ActsPlainlyAt (form j) (acts_at j) z place cs) made (acts_plainly paths x place cs h)
 
   module _ (change : (j : Entry G C) → j.0.Denot → j.0.Denot → Type 0) (x : (T.entry at).0.Denot) where
     -- the layer changed so, and the box is one of what it became

@@ -4,24 +4,38 @@ use Rattle.std.proofs.Common.{append_assoc, subst, sym}
 use Rattle.std.proofs.lemmas.List.{append-nil}
 use Rattle.span_boxed.specs.declared.boxed.BoxedLayer.{BoxedLayer}
 use Rattle.span_core.specs.Filters.{FilterSet}
+use Rattle.span_layers.specs.Acts.{PathLaws}
 use Rattle.span_layers.specs.Layer.{LayerLaws, LayerSteps}
 use Rattle.span_registry.specs.Answers.{Notice}
+use Rattle.span_registry.specs.Conducts.{ActsAt, ActsNow, ActsOn, ArePlainConducts, Conducts}
 use Rattle.span_registry.specs.Follows.{Follows}
 use Rattle.span_registry.specs.Form.{Form}
 use Rattle.span_registry.specs.Place.{Heard, HearLaws, HearSteps, Place, heard_by}
 use Rattle.span_registry.specs.Plan.{Plan}
 use Rattle.span_registry.specs.Store.{RegistryState}
 
--- it goes on so, and then keeps the law: it has a form that keeps what it had, and the leaf at each place hears what the plan says
-pub record StepsLawfully {L : Type 0} (form : L → Form → Type 0) (steps : LayerSteps L) (hears : HearSteps L) (x : L) (p : Plan) (e : Notice) (lane : ℕ) (under : FilterSet) (v : RegistryState) (y : L) (w : RegistryState) : Type 0 where
+-- the filters on the path at a place have these conducts, which are plain, and say what they now answer
+pub record ActsPlainly (has : Form → Type 0) (acts : Place → Conducts → Type 0) (place : Place) (cs : Conducts) : Type 0 where
+  pub acted : acts place cs
+  pub plain : ArePlainConducts cs
+  pub now : (f : Form) → has f → ActsNow f place cs
+
+-- each path of an object that has conducts has them so
+abbrev pub ActsPlainlyAt : {L : Type 0} → (L → Form → Type 0) → ActsAt L → ActsAt L
+ActsPlainlyAt form acts_at x = ActsPlainly (form x) (acts_at x)
+
+-- it goes on so, and then keeps the laws: it has a form that keeps what it had, the leaf at each place hears what the plan says, and each path acts on
+pub record StepsLawfully {L : Type 0} (form : L → Form → Type 0) (steps : LayerSteps L) (hears : HearSteps L) (acts_at : ActsAt L) (x : L) (p : Plan) (e : Notice) (lane : ℕ) (under : FilterSet) (v : RegistryState) (y : L) (w : RegistryState) : Type 0 where
   pub taken : steps x p e lane under v y w
   pub follows : (f : Form) → form x f → Follows (form y) f
   pub heard : (place : Place) → hears x place (heard_by p place lane e) y
+  pub acts_on : (place : Place) (cs : Conducts) → acts_at x place cs → ActsOn (ActsPlainlyAt form acts_at) y place p e lane under v cs
 
--- it is put in use so, and then has a form that keeps what it had
-pub record RegistersLawfully {L : Type 0} (form : L → Form → Type 0) (registered : L → L → Type 0) (x y : L) : Type 0 where
+-- it is put in use so, and then has a form that keeps what it had, and its paths act as they did
+pub record RegistersLawfully {L : Type 0} (form : L → Form → Type 0) (registered : L → L → Type 0) (acts_at : ActsAt L) (x y : L) : Type 0 where
   pub taken : registered x y
   pub follows : (f : Form) → form x f → Follows (form y) f
+  pub acts_still : (place : Place) (cs : Conducts) → acts_at x place cs → ActsPlainlyAt form acts_at y place cs
 
 -- the object in the box becomes this one, and then it is another value of the same type there
 abbrev pub ChangesInside : {I : Type 0} {V : I → Type 0} → ((x : BoxedLayer I V) → V x.object.vtable → V x.object.vtable → Type 0) → BoxedLayer I V → BoxedLayer I V → Type 0
@@ -50,10 +64,21 @@ module _ {L : Type 0} (hears : HearSteps L) where
   in_turn_laws = record { nothing = λ x place. Nothing; further = λ x y z place h k a b. then_heard x y place h a b }
 
 -- what goes on lawfully keeps the law of layers
-pub object_laws : {L : Type 0} {form : L → Form → Type 0} {steps : LayerSteps L} {hears : HearSteps L} {registered : L → L → Type 0} → LayerLaws form (StepsLawfully form steps hears) (HearsInTurn hears) (RegistersLawfully form registered)
+pub object_laws : {L : Type 0} {form : L → Form → Type 0} {steps : LayerSteps L} {hears : HearSteps L} {registered : L → L → Type 0} {acts_at : ActsAt L}
+    → LayerLaws form (StepsLawfully form steps hears acts_at) (HearsInTurn hears) (RegistersLawfully form registered acts_at)
 object_laws {hears = hears} = record {
   keeps = λ x p e lane under v y w f s h. s.follows f h;
   put_in_use = λ x y f s h. s.follows f h;
   heard = in_turn_laws hears;
   notified = λ x p e lane under v y w place s. Further Nothing (s.heard place);
+}
+
+-- and that of paths
+pub object_path_laws : {L : Type 0} {form : L → Form → Type 0} {steps : LayerSteps L} {hears : HearSteps L} {registered : L → L → Type 0} {acts_at : ActsAt L}
+    → PathLaws form (StepsLawfully form steps hears acts_at) (RegistersLawfully form registered acts_at) (ActsPlainlyAt form acts_at)
+object_path_laws = record {
+  plain = λ x place cs a. a.plain;
+  now = λ x place cs f a h. a.now f h;
+  goes_on = λ x p e lane under v y w place cs s a. s.acts_on place cs a.acted;
+  put_in_use = λ x y place cs s a. s.acts_still place cs a.acted;
 }

@@ -1,8 +1,6 @@
 //! Boxed layers: layers whose type is picked while the program runs.
-ghost use Rattle.span_layers.specs.Acts.{no_path_laws};
-ghost use Rattle.span_registry.specs.Conducts.{no_path};
 ghost use Rattle.std.specs.Prelude.{◌≡◌};
-ghost use Rattle.span_boxed.specs.Boxed.{ChangesInside, HearsInTurn, HearsInside, RegistersLawfully, StepsInside, StepsLawfully, object_laws};
+ghost use Rattle.span_boxed.specs.Boxed.{ActsPlainlyAt, ChangesInside, HearsInTurn, HearsInside, RegistersLawfully, StepsInside, StepsLawfully, object_laws, object_path_laws};
 
 use crate::object::DynLayer;
 use span_core::{Attributes, Event, Id, Interest, LevelFilter, Metadata, Pass, Record};
@@ -36,19 +34,19 @@ impl<S: Subscriber> Layer<S> for BoxedLayer {
 
     ghost has_form = { λ x. (DynLayer-box x.object).dyn_form x.object.value };
 
-    ghost stepped = { StepsLawfully (λ x. (DynLayer-box x.object).dyn_form x.object.value) (StepsInside (λ x. (DynLayer-box x.object).dyn_stepped)) (HearsInside (λ x. (DynLayer-box x.object).dyn_hears)) };
+    ghost stepped = { StepsLawfully (λ x. (DynLayer-box x.object).dyn_form x.object.value) (StepsInside (λ x. (DynLayer-box x.object).dyn_stepped)) (HearsInside (λ x. (DynLayer-box x.object).dyn_hears)) (λ x. (DynLayer-box x.object).dyn_acts_at x.object.value) };
 
     ghost hears = { HearsInTurn (HearsInside (λ x. (DynLayer-box x.object).dyn_hears)) };
 
-    ghost acts_at = { no_path };
+    ghost acts_at = { ActsPlainlyAt (λ x. (DynLayer-box x.object).dyn_form x.object.value) (λ x. (DynLayer-box x.object).dyn_acts_at x.object.value) };
 
-    ghost registered = { RegistersLawfully (λ x. (DynLayer-box x.object).dyn_form x.object.value) (ChangesInside (λ x. (DynLayer-box x.object).dyn_registered)) };
+    ghost registered = { RegistersLawfully (λ x. (DynLayer-box x.object).dyn_form x.object.value) (ChangesInside (λ x. (DynLayer-box x.object).dyn_registered)) (λ x. (DynLayer-box x.object).dyn_acts_at x.object.value) };
 
     ghost attached = { ChangesInside (λ x. (DynLayer-box x.object).dyn_attached) };
 
     ghost laws = { object_laws };
 
-    ghost paths = { no_path_laws };
+    ghost paths = { object_path_laws };
 
     fn on_register_dispatch(&mut self) {
         self.object.dyn_on_register_dispatch();

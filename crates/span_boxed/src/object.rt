@@ -5,6 +5,7 @@ ghost use Rattle.span_filters.specs.Boxed.{itself, replaced};
 ghost use Rattle.span_layers.specs.Layer.{LayerEnabled, LayerEvent, LayerInterest, LayerSteps, Notified};
 ghost use Rattle.span_layers.specs.Number.{TakesNumbers, filters_in};
 ghost use Rattle.span_registry.specs.Answers.{OnClose, OnEnter, OnEvent, OnExit, OnFollows, OnIdChange, OnNewSpan, OnRecord};
+ghost use Rattle.span_registry.specs.Conducts.{ActsAt};
 ghost use Rattle.span_registry.specs.Context.{HandsOn};
 ghost use Rattle.span_registry.specs.Form.{Form, is_absent, is_marked};
 ghost use Rattle.span_registry.specs.Place.{HearSteps};
@@ -16,8 +17,8 @@ use span_registry::{Context, ContextMut, Registry};
 
 /// A layer over the registry, as an object. Each `Layer<Registry>` that can be let go of is one.
 ///
-/// Its clauses are those of `Layer`: a registry that is handed on (`rest`) has other extensions alone. An object brings no law, so
-/// each call that notifies it, or puts it in use, says what the law says of that, beside how it goes on.
+/// Its clauses are those of `Layer`: a registry that is handed on (`rest`) has other extensions alone. An object brings no laws, so
+/// each call that notifies it, or puts it in use, says what the laws say of that, beside how it goes on.
 pub trait DynLayer: Drop {
     /// It may be asked and notified.
     ghost dyn_usable: { Self → Type 0 };
@@ -31,6 +32,9 @@ pub trait DynLayer: Drop {
     /// Which notices the leaf at a place went through, from one value of the object to another.
     ghost dyn_hears: { HearSteps Self };
 
+    /// Which conducts the filters have on the path at a place.
+    ghost dyn_acts_at: { ActsAt Self };
+
     /// How it goes on when it is put in use.
     ghost dyn_registered: { Self → Self → Type 0 };
 
@@ -41,7 +45,7 @@ pub trait DynLayer: Drop {
     fn dyn_on_register_dispatch(&mut self)
         requires { dyn_usable self.old }
         ensures usable { dyn_usable self.new }
-        ensures registered { RegistersLawfully dyn_form dyn_registered self.old self.new };
+        ensures registered { RegistersLawfully dyn_form dyn_registered dyn_acts_at self.old self.new };
 
     /// Gives its filters the next numbers of the registry.
     fn dyn_on_layer(&mut self, root: &mut Registry)
@@ -97,56 +101,56 @@ pub trait DynLayer: Drop {
         requires { dyn_usable self.old }
         ensures usable { dyn_usable self.new }
         ensures rest { HandsOn itself ctx.old ctx.new }
-        ensures hook { Notified itself dyn_form (StepsLawfully dyn_form dyn_stepped dyn_hears) (OnNewSpan attrs.now id) self.old ctx.old self.new ctx.new };
+        ensures hook { Notified itself dyn_form (StepsLawfully dyn_form dyn_stepped dyn_hears dyn_acts_at) (OnNewSpan attrs.now id) self.old ctx.old self.new ctx.new };
 
     /// Notifies of values that a span was given later.
     fn dyn_on_record(&mut self, id: Id, values: &Record<'_>, ctx: &mut ContextMut<'_, Registry>)
         requires { dyn_usable self.old }
         ensures usable { dyn_usable self.new }
         ensures rest { HandsOn itself ctx.old ctx.new }
-        ensures hook { Notified itself dyn_form (StepsLawfully dyn_form dyn_stepped dyn_hears) (OnRecord id values.now) self.old ctx.old self.new ctx.new };
+        ensures hook { Notified itself dyn_form (StepsLawfully dyn_form dyn_stepped dyn_hears dyn_acts_at) (OnRecord id values.now) self.old ctx.old self.new ctx.new };
 
     /// Notifies that a span follows from another one.
     fn dyn_on_follows_from(&mut self, id: Id, follows: Id, ctx: &mut ContextMut<'_, Registry>)
         requires { dyn_usable self.old }
         ensures usable { dyn_usable self.new }
         ensures rest { HandsOn itself ctx.old ctx.new }
-        ensures hook { Notified itself dyn_form (StepsLawfully dyn_form dyn_stepped dyn_hears) (OnFollows id follows) self.old ctx.old self.new ctx.new };
+        ensures hook { Notified itself dyn_form (StepsLawfully dyn_form dyn_stepped dyn_hears dyn_acts_at) (OnFollows id follows) self.old ctx.old self.new ctx.new };
 
     /// Notifies of an event.
     fn dyn_on_event(&mut self, event: &Event<'_>, ctx: &mut ContextMut<'_, Registry>)
         requires { dyn_usable self.old }
         ensures usable { dyn_usable self.new }
         ensures rest { HandsOn itself ctx.old ctx.new }
-        ensures hook { Notified itself dyn_form (StepsLawfully dyn_form dyn_stepped dyn_hears) (OnEvent event.now) self.old ctx.old self.new ctx.new };
+        ensures hook { Notified itself dyn_form (StepsLawfully dyn_form dyn_stepped dyn_hears dyn_acts_at) (OnEvent event.now) self.old ctx.old self.new ctx.new };
 
     /// Notifies that a span is entered.
     fn dyn_on_enter(&mut self, id: Id, ctx: &mut ContextMut<'_, Registry>)
         requires { dyn_usable self.old }
         ensures usable { dyn_usable self.new }
         ensures rest { HandsOn itself ctx.old ctx.new }
-        ensures hook { Notified itself dyn_form (StepsLawfully dyn_form dyn_stepped dyn_hears) (OnEnter id) self.old ctx.old self.new ctx.new };
+        ensures hook { Notified itself dyn_form (StepsLawfully dyn_form dyn_stepped dyn_hears dyn_acts_at) (OnEnter id) self.old ctx.old self.new ctx.new };
 
     /// Notifies that a span is left.
     fn dyn_on_exit(&mut self, id: Id, ctx: &mut ContextMut<'_, Registry>)
         requires { dyn_usable self.old }
         ensures usable { dyn_usable self.new }
         ensures rest { HandsOn itself ctx.old ctx.new }
-        ensures hook { Notified itself dyn_form (StepsLawfully dyn_form dyn_stepped dyn_hears) (OnExit id) self.old ctx.old self.new ctx.new };
+        ensures hook { Notified itself dyn_form (StepsLawfully dyn_form dyn_stepped dyn_hears dyn_acts_at) (OnExit id) self.old ctx.old self.new ctx.new };
 
     /// Notifies that a span's handle was cloned under another id.
     fn dyn_on_id_change(&mut self, id: Id, new: Id, ctx: &mut ContextMut<'_, Registry>)
         requires { dyn_usable self.old }
         ensures usable { dyn_usable self.new }
         ensures rest { HandsOn itself ctx.old ctx.new }
-        ensures hook { Notified itself dyn_form (StepsLawfully dyn_form dyn_stepped dyn_hears) (OnIdChange id new) self.old ctx.old self.new ctx.new };
+        ensures hook { Notified itself dyn_form (StepsLawfully dyn_form dyn_stepped dyn_hears dyn_acts_at) (OnIdChange id new) self.old ctx.old self.new ctx.new };
 
     /// Notifies that a span is closing, while it can still be read.
     fn dyn_on_close(&mut self, id: Id, ctx: &mut ContextMut<'_, Registry>)
         requires { dyn_usable self.old }
         ensures usable { dyn_usable self.new }
         ensures rest { HandsOn itself ctx.old ctx.new }
-        ensures hook { Notified itself dyn_form (StepsLawfully dyn_form dyn_stepped dyn_hears) (OnClose id) self.old ctx.old self.new ctx.new };
+        ensures hook { Notified itself dyn_form (StepsLawfully dyn_form dyn_stepped dyn_hears dyn_acts_at) (OnClose id) self.old ctx.old self.new ctx.new };
 }
 
 impl<L: Layer<Registry> + Drop> DynLayer for L {
@@ -157,6 +161,8 @@ impl<L: Layer<Registry> + Drop> DynLayer for L {
     ghost dyn_stepped = { L.stepped };
 
     ghost dyn_hears = { L.hears };
+
+    ghost dyn_acts_at = { L.acts_at };
 
     ghost dyn_registered = { L.registered };
 

@@ -1,8 +1,8 @@
 //! Tests of boxed layers: a box adds nothing to the layer in it.
-ghost use Rattle.span_layers.specs.Acts.{no_path_laws};
-ghost use Rattle.span_registry.specs.Conducts.{no_path};
 ghost use Rattle.std.specs.Prelude.{◌≡◌, ⊤, true};
 ghost use Rattle.span_boxed.specs.Tests.{late_laws};
+ghost use Rattle.span_layers.specs.Acts.{LeafActs};
+ghost use Rattle.span_layers.specs.ActsKept.{is_leaf, leaf_path_laws};
 ghost use Rattle.span_layers.specs.Observe.{open_answers};
 ghost use Rattle.span_registry.specs.Context.{WritesExtensions};
 ghost use Rattle.span_registry.specs.Form.{Leaf};
@@ -191,7 +191,7 @@ impl<S: Subscriber> Layer<S> for Late {
 
     ghost hears = { λ x place h y. ⊤ };
 
-    ghost acts_at = { no_path };
+    ghost acts_at = { LeafActs };
 
     ghost registered = { λ x y. ⊤ };
 
@@ -199,7 +199,7 @@ impl<S: Subscriber> Layer<S> for Late {
 
     ghost laws = { late_laws };
 
-    ghost paths = { no_path_laws };
+    ghost paths = { leaf_path_laws (λ x f h. is_leaf h) };
 
     fn on_register_dispatch(&mut self) {
         self.in_use = true;

@@ -1,9 +1,9 @@
 //! A layer that keeps what it is notified of.
-ghost use Rattle.span_layers.specs.Acts.{no_path_laws};
-ghost use Rattle.span_registry.specs.Conducts.{no_path};
 ghost use Rattle.std.specs.Prelude.{◌≡◌, ◌∷◌, [], true};
 ghost use Rattle.span_dispatch.specs.Recorder.{Records, new_recorder, recorder_hears, recorder_steps};
 ghost use Rattle.span_dispatch.specs.RecorderLaws.{recorder_laws};
+ghost use Rattle.span_layers.specs.Acts.{LeafActs};
+ghost use Rattle.span_layers.specs.ActsKept.{is_leaf, leaf_path_laws};
 ghost use Rattle.span_layers.specs.Observe.{open_answers};
 ghost use Rattle.span_registry.specs.Form.{Leaf};
 
@@ -82,7 +82,7 @@ impl<S: Subscriber> Layer<S> for Recorder {
 
     ghost hears = { recorder_hears };
 
-    ghost acts_at = { no_path };
+    ghost acts_at = { LeafActs };
 
     ghost registered = { λ x y. y ≡ x };
 
@@ -90,7 +90,7 @@ impl<S: Subscriber> Layer<S> for Recorder {
 
     ghost laws = { recorder_laws };
 
-    ghost paths = { no_path_laws };
+    ghost paths = { leaf_path_laws (λ x f h. is_leaf h) };
 
     fn on_register_dispatch(&mut self) {
         // It has nothing to do.

@@ -1,8 +1,8 @@
 //! A layer that vetoes events by their values.
-ghost use Rattle.span_layers.specs.Acts.{no_path_laws};
-ghost use Rattle.span_registry.specs.Conducts.{no_path};
 ghost use Rattle.std.specs.Prelude.{◌≡◌};
 ghost use Rattle.span_filters.specs.Filter.{settled_answers};
+ghost use Rattle.span_layers.specs.Acts.{LeafActs};
+ghost use Rattle.span_layers.specs.ActsKept.{is_leaf, leaf_path_laws};
 ghost use Rattle.span_layers.specs.Veto.{HearsUnmoved, LeafStays, VetoForm, veto_laws};
 ghost use Rattle.span_run.specs.Mute.{mute_answers};
 
@@ -22,7 +22,7 @@ impl<S: Subscriber> Layer<S> for MuteVeto {
 
     ghost hears = { HearsUnmoved };
 
-    ghost acts_at = { no_path };
+    ghost acts_at = { LeafActs };
 
     ghost registered = { λ x y. y ≡ x };
 
@@ -30,7 +30,7 @@ impl<S: Subscriber> Layer<S> for MuteVeto {
 
     ghost laws = { veto_laws (settled_answers (λ v. mute_answers)) };
 
-    ghost paths = { no_path_laws };
+    ghost paths = { leaf_path_laws (λ x f h. is_leaf h.2) };
 
     fn on_register_dispatch(&mut self) {
         // It has nothing to do.

@@ -1,7 +1,7 @@
 //! Tests of how often a layer is asked: not of an event whose metadata it refused.
-ghost use Rattle.span_layers.specs.Acts.{no_path_laws};
-ghost use Rattle.span_registry.specs.Conducts.{no_path};
 ghost use Rattle.std.specs.Prelude.{◌≡◌, ⊤, true};
+ghost use Rattle.span_layers.specs.Acts.{LeafActs};
+ghost use Rattle.span_layers.specs.ActsKept.{is_leaf, leaf_path_laws};
 ghost use Rattle.span_registry.specs.Form.{Leaf};
 ghost use Rattle.span_uses.specs.Tests.{fixed_answers, fixed_answers_laws};
 
@@ -35,7 +35,7 @@ impl<S: Subscriber> Layer<S> for Asked {
 
     ghost hears = { λ x place h y. ⊤ };
 
-    ghost acts_at = { no_path };
+    ghost acts_at = { LeafActs };
 
     ghost registered = { λ x y. y ≡ x };
 
@@ -43,7 +43,7 @@ impl<S: Subscriber> Layer<S> for Asked {
 
     ghost laws = { fixed_answers_laws (λ x. x.metadata_pass) (λ x. x.events_pass) };
 
-    ghost paths = { no_path_laws };
+    ghost paths = { leaf_path_laws (λ x f h. is_leaf h) };
 
     fn on_register_dispatch(&mut self) {}
 

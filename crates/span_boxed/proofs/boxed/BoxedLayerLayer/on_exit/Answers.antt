@@ -12,7 +12,7 @@ returns-clause-hook g c =
     notified_over_root g.S.LookupSpan.registry g.S.LookupSpan.with_registry g.met.S.LookupSpan.registry_with
     (λ i x. record c.args.self.now { object = record c.args.self.now.object { vtable = i; value = x } })
     (λ b. (d (b.object.vtable, b.object.value)).dyn_form b.object.value) _ _ c.deref_box_mut-1.ensures.value.1 _
-    (StepsLawfully (λ b. (d (b.object.vtable, b.object.value)).dyn_form b.object.value) (StepsInside (λ b. (d (b.object.vtable, b.object.value)).dyn_stepped)) (HearsInside (λ b. (d (b.object.vtable, b.object.value)).dyn_hears))) _
+    (StepsLawfully (λ b. (d (b.object.vtable, b.object.value)).dyn_form b.object.value) (StepsInside (λ b. (d (b.object.vtable, b.object.value)).dyn_stepped)) (HearsInside (λ b. (d (b.object.vtable, b.object.value)).dyn_hears)) (λ b. (d (b.object.vtable, b.object.value)).dyn_acts_at b.object.value)) _
     c.args.ctx.now c.take_root-root.new.self c.put_root.new.self _ _ _ c.over.result c.dyn_on_exit.new.ctx
     c.take_root-root.ensures.root c.take_root-root.ensures.rest c.over.ensures.lent (search (rules)) c.put_root.ensures
-    (λ f h. let s = c.dyn_on_exit.ensures.1.1 f h in record { taken = (_, refl, s.taken); follows = s.follows; heard = λ place. (_, refl, s.heard place) })
+    (λ f h. let s = c.dyn_on_exit.ensures.1.1 f h in record { taken = (_, refl, s.taken); follows = s.follows; heard = λ place. (_, refl, s.heard place); acts_on = s.acts_on })

@@ -11,5 +11,5 @@ returns-clause-registered g c =
     let d = goal.DynLayer-dyn g in
     let registers = c.dyn_on_register_dispatch.ensures.1 in
     in_its_box (λ i x. record c.args.self.now { object = record c.args.self.now.object { vtable = i; value = x } })
-    (RegistersLawfully (λ b. (d (b.object.vtable, b.object.value)).dyn_form b.object.value) (ChangesInside (λ b. (d (b.object.vtable, b.object.value)).dyn_registered))) _ _ c.deref_box_mut-1.ensures.value.1 _
-    (record { taken = (_, refl, registers.taken); follows = registers.follows })
+    (RegistersLawfully (λ b. (d (b.object.vtable, b.object.value)).dyn_form b.object.value) (ChangesInside (λ b. (d (b.object.vtable, b.object.value)).dyn_registered)) (λ b. (d (b.object.vtable, b.object.value)).dyn_acts_at b.object.value)) _ _ c.deref_box_mut-1.ensures.value.1 _
+    (record { taken = (_, refl, registers.taken); follows = registers.follows; acts_still = registers.acts_still })
