@@ -1,32 +1,28 @@
 -- Filters that act alike, on stores that agree: what one path passes the other passes too, and so what a leaf behind each sees alone is the same.
-use Rattle.std.proofs.Common.{◌≡◌, ◌⊎◌, ℕ, Bool, true, false, ◌&&◌, ◌||◌, ◌==◌, IsTrue, IfSome, List, [], ◌∷◌, ◌++◌, Option, Some, None, if◌then◌else◌, refl, sym, ap, subst, ◌∙◌, inl, inr}
+use Rattle.std.proofs.Common.{◌≡◌, ℕ, Bool, true, false, ◌&&◌, ◌==◌, IsTrue, IfSome, List, [], ◌∷◌, ◌++◌, Option, Some, None, if◌then◌else◌, refl, sym, ap, subst, ◌∙◌, inl, inr}
 use Rattle.std.proofs.lemmas.Bool.{eq-eqb, eqb-true, false≢true, true≢false, or_cases, or_left, or_right}
-use Rattle.std.specs.FinMap.{get}
-use Rattle.std.specs.Option.{option_map}
 use Rattle.span_core.specs.Event.{event_metadata}
-use Rattle.span_core.specs.Filters.{FilterSet, refuses, union}
+use Rattle.span_core.specs.Filters.{FilterSet, union}
 use Rattle.span_core.specs.Span.{asked_parent, metadata_of, number_of}
 use Rattle.span_core.specs.declared.metadata.Metadata.{Metadata}
-use Rattle.span_core.specs.declared.span.Attributes.{Attributes}
-use Rattle.span_core.specs.declared.span.Id.{Id}
 use Rattle.span_core.specs.declared.span.Lane.{Lane}
-use Rattle.span_core.specs.declared.span.Parent.TheVariants.{Contextual, Explicit, Root}
 use Rattle.span_core.specs.declared.span.Parent.{Parent}
-use Rattle.span_registry.proofs.Agreeing.{added_agrees, entered_agrees, exited_agrees, new_agrees, parent_alike, passed_alike, taken_agrees, views_alike, without_agrees}
-use Rattle.span_dispatch.specs.Alone.{Alone, OpensAlone, StepsAlone, acting, given_in, learning, lone, passed, with_new}
-use Rattle.span_dispatch.specs.Isolation.{ActAlike, PathsActAlike}
-use Rattle.span_dispatch.specs.Outcome.{Change, GoneLeft, HandleAdded, HandleTaken, Noticed, Outcome, Quiet}
+use Rattle.span_core.specs.declared.span.Parent.TheVariants.{Contextual, Explicit, Root}
+use Rattle.span_dispatch.specs.Alone.{Alone, StepsAlone, acting, given_in, learning, lone, passed, with_new}
+use Rattle.span_dispatch.specs.Isolation.{ActAlike, PathsActAlike, SeeTheSame, Sight}
+use Rattle.span_dispatch.specs.Outcome.{GoneLeft, HandleAdded, HandleTaken, Noticed, Outcome, Quiet}
 use Rattle.span_layers.specs.Verdict.{in_verdict}
+use Rattle.span_registry.proofs.Agreeing.{closing_alike, held_alike, not_open_alike, open_alike, added_agrees, entered_agrees, exited_agrees, new_agrees, parent_alike, passed_alike, taken_agrees, views_alike, without_agrees}
 use Rattle.span_registry.specs.Agree.{AgreeAt, SpansAgree}
 use Rattle.span_registry.specs.Answers.{Answers, AreAlike, AreAlikeHistories, ArePlain, Conduct, History, IsPlain, Notice, OnClose, OnEnter, OnEvent, OnExit, OnFollows, OnIdChange, OnNewSpan, OnRecord}
 use Rattle.span_registry.specs.Closes.{without}
-use Rattle.span_registry.specs.Conducts.{ArePlainConducts, Conducts, behind, numbers_in, path_now}
+use Rattle.span_registry.specs.Conducts.{ArePlainConducts, Conducts, after_notice, numbers_in, path_now}
 use Rattle.span_registry.specs.Hooks.{no_filter}
 use Rattle.span_registry.specs.Path.{passes_path}
 use Rattle.span_registry.specs.Place.{Heard}
 use Rattle.span_registry.specs.Plan.{passes}
 use Rattle.span_registry.specs.Question.{single}
-use Rattle.span_registry.specs.Step.{IsContext, IsParentFor, begun, entered, entered_last, exited}
+use Rattle.span_registry.specs.Step.{IsContext, IsParentFor, begun, entered, exited}
 use Rattle.span_registry.specs.Store.{IsOpen, Span, Store, add_handle, take_handle}
 use Rattle.span_registry.specs.View.{View, view_of}
 
@@ -46,15 +42,15 @@ itself_alike b p = record { plain = p.answers; same = p.history }
 further_alike : (b c d : Conduct) → ActAlike b c → ActAlike c d → ActAlike b d
 further_alike b c d p q = record { plain = p.plain; same = λ h k a. p.same h k a ∙ q.same k k (history_itself k) }
 
-pub behind_alike : (e : Notice) (v w : View) (b c : Conduct) → AreAlike v w → ActAlike b c → ActAlike (behind e v b) (behind e w c)
-behind_alike (OnNewSpan attrs id) v w b c a p = record { plain = λ h. p.plain ((OnNewSpan attrs id, v) ∷ h); same = λ h k s. p.same ((OnNewSpan attrs id, v) ∷ h) ((OnNewSpan attrs id, w) ∷ k) (refl, a, s) }
-behind_alike (OnRecord id values) v w b c a p = record { plain = λ h. p.plain ((OnRecord id values, v) ∷ h); same = λ h k s. p.same ((OnRecord id values, v) ∷ h) ((OnRecord id values, w) ∷ k) (refl, a, s) }
-behind_alike (OnFollows id other) v w b c a p = p
-behind_alike (OnEvent e) v w b c a p = p
-behind_alike (OnEnter id) v w b c a p = record { plain = λ h. p.plain ((OnEnter id, v) ∷ h); same = λ h k s. p.same ((OnEnter id, v) ∷ h) ((OnEnter id, w) ∷ k) (refl, a, s) }
-behind_alike (OnExit id) v w b c a p = record { plain = λ h. p.plain ((OnExit id, v) ∷ h); same = λ h k s. p.same ((OnExit id, v) ∷ h) ((OnExit id, w) ∷ k) (refl, a, s) }
-behind_alike (OnIdChange id other) v w b c a p = p
-behind_alike (OnClose id) v w b c a p = record { plain = λ h. p.plain ((OnClose id, v) ∷ h); same = λ h k s. p.same ((OnClose id, v) ∷ h) ((OnClose id, w) ∷ k) (refl, a, s) }
+pub after_notice_alike : (e : Notice) (v w : View) (b c : Conduct) → AreAlike v w → ActAlike b c → ActAlike (after_notice e v b) (after_notice e w c)
+after_notice_alike (OnNewSpan attrs id) v w b c a p = record { plain = λ h. p.plain ((OnNewSpan attrs id, v) ∷ h); same = λ h k s. p.same ((OnNewSpan attrs id, v) ∷ h) ((OnNewSpan attrs id, w) ∷ k) (refl, a, s) }
+after_notice_alike (OnRecord id values) v w b c a p = record { plain = λ h. p.plain ((OnRecord id values, v) ∷ h); same = λ h k s. p.same ((OnRecord id values, v) ∷ h) ((OnRecord id values, w) ∷ k) (refl, a, s) }
+after_notice_alike (OnFollows id other) v w b c a p = p
+after_notice_alike (OnEvent e) v w b c a p = p
+after_notice_alike (OnEnter id) v w b c a p = record { plain = λ h. p.plain ((OnEnter id, v) ∷ h); same = λ h k s. p.same ((OnEnter id, v) ∷ h) ((OnEnter id, w) ∷ k) (refl, a, s) }
+after_notice_alike (OnExit id) v w b c a p = record { plain = λ h. p.plain ((OnExit id, v) ∷ h); same = λ h k s. p.same ((OnExit id, v) ∷ h) ((OnExit id, w) ∷ k) (refl, a, s) }
+after_notice_alike (OnIdChange id other) v w b c a p = p
+after_notice_alike (OnClose id) v w b c a p = record { plain = λ h. p.plain ((OnClose id, v) ∷ h); same = λ h k s. p.same ((OnClose id, v) ∷ h) ((OnClose id, w) ∷ k) (refl, a, s) }
 
 -- ---- paths of them
 
@@ -183,9 +179,9 @@ learnt_alike numbers ((Some n, b) ∷ cs) ((Some m, c) ∷ ds) e s t u v lane un
     let inside = one_more under numbers n within (own_number numbers n b cs all) in
     let set = union under (single n) in
     let own = now_alike numbers s t before lane b c e set p.1 inside in
-    let learnt = behind_alike e (view_of u lane set) (view_of v lane set) b c (views_alike numbers set u v lane given inside) p.1 in
+    let learnt = after_notice_alike e (view_of u lane set) (view_of v lane set) b c (views_alike numbers set u v lane given inside) p.1 in
     let rest = learnt_alike numbers cs ds e s t u v lane set before given p.2 (other_numbers numbers n b cs all) inside in
-    let here = by_test (passes (b []) e s lane set) (passes (c []) e t lane set) ((Some n, behind e (view_of u lane set) b) ∷ learning cs e s u lane set) ((Some n, b) ∷ cs) ((Some n, behind e (view_of v lane set) c) ∷ learning ds e t v lane set) ((Some n, c) ∷ ds)
+    let here = by_test (passes (b []) e s lane set) (passes (c []) e t lane set) ((Some n, after_notice e (view_of u lane set) b) ∷ learning cs e s u lane set) ((Some n, b) ∷ cs) ((Some n, after_notice e (view_of v lane set) c) ∷ learning ds e t v lane set) ((Some n, c) ∷ ds)
     own (refl, learnt, rest) (refl, p.1, p.2) in
     subst (λ (k : ℕ). PathsActAlike (learning ((Some n, b) ∷ cs) e s u lane under) (learning ((Some k, c) ∷ ds) e t v lane under)) (number_itself n m p.0) here
 
@@ -200,7 +196,7 @@ learning_numbers [] e s u lane under = refl
 learning_numbers ((None, b) ∷ cs) e s u lane under = refl
 learning_numbers ((Some n, b) ∷ cs) e s u lane under =
     let set = union under (single n) in
-    numbers_tested (passes (b []) e s lane set) ((Some n, behind e (view_of u lane set) b) ∷ learning cs e s u lane set) ((Some n, b) ∷ cs) (numbers_in ((Some n, b) ∷ cs)) (λ i. union (single n) (learning_numbers cs e s u lane set i)) refl
+    numbers_tested (passes (b []) e s lane set) ((Some n, after_notice e (view_of u lane set) b) ∷ learning cs e s u lane set) ((Some n, b) ∷ cs) (numbers_in ((Some n, b) ∷ cs)) (λ i. union (single n) (learning_numbers cs e s u lane set i)) refl
 
 pub acting_numbers : (cs : Conducts) (o : Outcome) (s t : Store) → numbers_in (acting cs o s t) ≡ numbers_in cs
 acting_numbers cs (Noticed lane e) s t = learning_numbers cs e s (given_in e s t) lane.0 no_filter
@@ -270,16 +266,16 @@ steps_agree cs ds (Noticed lane (OnNewSpan attrs id)) s t u v p agree h k =
       verdict = λ n m. h.refused n ∙ verdicts_alike numbers s t agree lane.0 cs ds (metadata_of attrs) no_filter n p (itself_within numbers) (none_within numbers) ∙ sym (k.refused n);
     } in
     changed numbers (with_new s (number_of id) first) (with_new t (number_of id) second) u v h.state k.state (new_agrees numbers s t (number_of id) first second agree both)
-steps_agree cs ds (Noticed lane (OnRecord id values)) s t u v p agree h k = changed (numbers_in cs) s t u v h k agree
-steps_agree cs ds (Noticed lane (OnFollows id other)) s t u v p agree h k = changed (numbers_in cs) s t u v h k agree
+steps_agree cs ds (Noticed lane (OnRecord id values)) s t u v p agree h k = changed (numbers_in cs) s t u v h.1 k.1 agree
+steps_agree cs ds (Noticed lane (OnFollows id other)) s t u v p agree h k = changed (numbers_in cs) s t u v h.1 k.1 agree
 steps_agree cs ds (Noticed lane (OnEvent e)) s t u v p agree h k = changed (numbers_in cs) s t u v h k agree
-steps_agree cs ds (Noticed lane (OnEnter id)) s t u v p agree h k = changed (numbers_in cs) _ _ u v h k (entered_agrees (numbers_in cs) s t lane.0 (number_of id) agree)
-steps_agree cs ds (Noticed lane (OnExit id)) s t u v p agree h k = changed (numbers_in cs) _ _ u v h k (exited_agrees (numbers_in cs) s t lane.0 (number_of id) agree)
-steps_agree cs ds (Noticed lane (OnIdChange id other)) s t u v p agree h k = changed (numbers_in cs) s t u v h k agree
-steps_agree cs ds (Noticed lane (OnClose id)) s t u v p agree h k = changed (numbers_in cs) _ _ u v h k (without_agrees (numbers_in cs) s t (number_of id ∷ []) agree)
-steps_agree cs ds (Quiet (HandleAdded id)) s t u v p agree h k = changed (numbers_in cs) _ _ u v h k (added_agrees (numbers_in cs) s t (number_of id) agree)
-steps_agree cs ds (Quiet (HandleTaken id)) s t u v p agree h k = changed (numbers_in cs) _ _ u v h k (taken_agrees (numbers_in cs) s t (number_of id) agree)
-steps_agree cs ds (Quiet (GoneLeft lane id)) s t u v p agree h k = changed (numbers_in cs) _ _ u v h k (exited_agrees (numbers_in cs) s t lane.0 (number_of id) agree)
+steps_agree cs ds (Noticed lane (OnEnter id)) s t u v p agree h k = changed (numbers_in cs) _ _ u v h.1 k.1 (entered_agrees (numbers_in cs) s t lane.0 (number_of id) agree)
+steps_agree cs ds (Noticed lane (OnExit id)) s t u v p agree h k = changed (numbers_in cs) _ _ u v h.1 k.1 (exited_agrees (numbers_in cs) s t lane.0 (number_of id) agree)
+steps_agree cs ds (Noticed lane (OnIdChange id other)) s t u v p agree h k = absurd h
+steps_agree cs ds (Noticed lane (OnClose id)) s t u v p agree h k = changed (numbers_in cs) _ _ u v h.1 k.1 (without_agrees (numbers_in cs) s t (number_of id ∷ []) agree)
+steps_agree cs ds (Quiet (HandleAdded id)) s t u v p agree h k = changed (numbers_in cs) _ _ u v h.1 k.1 (added_agrees (numbers_in cs) s t (number_of id) agree)
+steps_agree cs ds (Quiet (HandleTaken id)) s t u v p agree h k = changed (numbers_in cs) _ _ u v h.1 k.1 (taken_agrees (numbers_in cs) s t (number_of id) agree)
+steps_agree cs ds (Quiet (GoneLeft lane id)) s t u v p agree h k = changed (numbers_in cs) _ _ u v h.1 k.1 (exited_agrees (numbers_in cs) s t lane.0 (number_of id) agree)
 
 -- where the one takes a step, so does the other
 step_over : (cs ds : Conducts) (o : Outcome) (s t u : Store) → PathsActAlike cs ds → AgreeAt (numbers_in cs) s t → StepsAlone (path_now cs) o s u → (v : Store) × StepsAlone (path_now ds) o t v
@@ -295,16 +291,16 @@ step_over cs ds (Noticed lane (OnNewSpan attrs id)) s t u p agree h =
         state = refl;
       },
     )
-step_over cs ds (Noticed lane (OnRecord id values)) s t u p agree h = (t, refl)
-step_over cs ds (Noticed lane (OnFollows id other)) s t u p agree h = (t, refl)
+step_over cs ds (Noticed lane (OnRecord id values)) s t u p agree h = (t, (open_alike (numbers_in cs) s t (number_of id) agree h.0, refl))
+step_over cs ds (Noticed lane (OnFollows id other)) s t u p agree h = (t, (open_alike (numbers_in cs) s t (number_of id) agree h.0, refl))
 step_over cs ds (Noticed lane (OnEvent e)) s t u p agree h = (t, refl)
-step_over cs ds (Noticed lane (OnEnter id)) s t u p agree h = (entered t lane.0 (number_of id), refl)
-step_over cs ds (Noticed lane (OnExit id)) s t u p agree h = (exited t lane.0 (number_of id), refl)
-step_over cs ds (Noticed lane (OnIdChange id other)) s t u p agree h = (t, refl)
-step_over cs ds (Noticed lane (OnClose id)) s t u p agree h = (without t (number_of id ∷ []), refl)
-step_over cs ds (Quiet (HandleAdded id)) s t u p agree h = (record t { spans = add_handle t.spans (number_of id) }, refl)
-step_over cs ds (Quiet (HandleTaken id)) s t u p agree h = (record t { spans = take_handle t.spans (number_of id) }, refl)
-step_over cs ds (Quiet (GoneLeft lane id)) s t u p agree h = (exited t lane.0 (number_of id), refl)
+step_over cs ds (Noticed lane (OnEnter id)) s t u p agree h = (entered t lane.0 (number_of id), (open_alike (numbers_in cs) s t (number_of id) agree h.0, refl))
+step_over cs ds (Noticed lane (OnExit id)) s t u p agree h = (exited t lane.0 (number_of id), (open_alike (numbers_in cs) s t (number_of id) agree h.0, refl))
+step_over cs ds (Noticed lane (OnIdChange id other)) s t u p agree h = absurd h
+step_over cs ds (Noticed lane (OnClose id)) s t u p agree h = (without t (number_of id ∷ []), (closing_alike (numbers_in cs) s t (number_of id) agree h.0, refl))
+step_over cs ds (Quiet (HandleAdded id)) s t u p agree h = (record t { spans = add_handle t.spans (number_of id) }, (open_alike (numbers_in cs) s t (number_of id) agree h.0, refl))
+step_over cs ds (Quiet (HandleTaken id)) s t u p agree h = (record t { spans = take_handle t.spans (number_of id) }, (held_alike (numbers_in cs) s t (number_of id) agree h.0, refl))
+step_over cs ds (Quiet (GoneLeft lane id)) s t u p agree h = (exited t lane.0 (number_of id), (not_open_alike (numbers_in cs) s t (number_of id) agree h.0, refl))
 
 -- ---- what is seen alone
 
@@ -325,10 +321,15 @@ alone_over cs ds s t (o ∷ outcomes) h p agree a =
     )
 
 -- and nothing else is
-pub one_alone : (cs ds : Conducts) (s t : Store) (outcomes : List Outcome) (h k : Heard) → PathsActAlike cs ds → AgreeAt (numbers_in cs) s t → Alone cs s outcomes h → Alone ds t outcomes k → h ≡ k
-one_alone cs ds s t [] h k p agree a b = a ∙ sym b
-one_alone cs ds s t (o ∷ outcomes) h k p agree a b =
+pub one_alone : SeeTheSame Alone Alone
+one_alone cs ds s t [] h k a b p agree = a ∙ sym b
+one_alone cs ds s t (o ∷ outcomes) h k a b p agree =
     let after = steps_agree cs ds o s t a.0 b.0 p agree a.2 b.2 in
-    let rest = one_alone (acting cs o s a.0) (acting ds o t b.0) a.0 b.0 outcomes a.1 b.1 (acting_alike cs ds o s t a.0 b.0 p agree after) (after_agrees cs o s a.0 b.0 after) a.3 b.3 in
+    let rest = one_alone (acting cs o s a.0) (acting ds o t b.0) a.0 b.0 outcomes a.1 b.1 a.3 b.3 (acting_alike cs ds o s t a.0 b.0 p agree after) (after_agrees cs o s a.0 b.0 after) in
     let first = passed_both cs ds o s t p agree in
     a.4 ∙ (λ i. first i ++ rest i) ∙ sym b.4
+
+-- where each of two sees alone what it sees, both see the same
+pub both_alone : (Sees Other : Sight) → ((cs : Conducts) (s : Store) (outcomes : List Outcome) (h : Heard) → Sees cs s outcomes h → Alone cs s outcomes h) → ((cs : Conducts) (s : Store) (outcomes : List Outcome) (h : Heard) → Other cs s outcomes h → Alone cs s outcomes h)
+    → SeeTheSame Sees Other
+both_alone Sees Other first second cs ds s t outcomes h k a b p agree = one_alone cs ds s t outcomes h k (first cs s outcomes h a) (second ds t outcomes k b) p agree

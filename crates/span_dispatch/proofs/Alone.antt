@@ -3,32 +3,30 @@ use Rattle.std.proofs.Common.{◌≡◌, ℕ, Bool, true, false, ◌&&◌, ◌||
 use Rattle.std.proofs.lemmas.Bool.{both_ways, eqb-true, false≢true, false_from_ne_true, or_cases, or_from, or_left, or_parts, or_right, true≢false}
 use Rattle.std.specs.List.{FoldsTo}
 use Rattle.std.specs.Option.{option_map}
+use Rattle.span_core.proofs.FilterLemmas.{cut_verdict}
 use Rattle.span_core.specs.Event.{event_metadata}
 use Rattle.span_core.specs.Filters.{FilterSet, refuses, union}
 use Rattle.span_core.specs.Span.{asked_parent, metadata_of, number_of}
 use Rattle.span_core.specs.declared.filter.FilterMap.{FilterMap}
 use Rattle.span_core.specs.declared.metadata.Metadata.{Metadata}
-use Rattle.span_core.specs.declared.span.Attributes.{Attributes}
-use Rattle.span_core.specs.declared.span.Id.{Id}
 use Rattle.span_core.specs.declared.span.Lane.{Lane}
-use Rattle.span_dispatch.proofs.Acting.{Within, acting_numbers, alone_over, behind_alike, itself_within, learnt_alike, none_within, number_itself, paths_further, paths_itself, same_numbers}
-use Rattle.span_registry.proofs.Agreeing.{agree_aside, agree_refl, agree_sym, agree_trans, new_agrees_with, views_alike, without_agrees}
-use Rattle.span_core.proofs.FilterLemmas.{cut_verdict}
+use Rattle.span_dispatch.proofs.Acting.{acting_numbers, alone_over, after_notice_alike, itself_within, learnt_alike, none_within, paths_further, paths_itself, same_numbers}
 use Rattle.span_dispatch.proofs.Seen.{goes_through}
-use Rattle.span_dispatch.specs.Alone.{Alone, OpensAlone, StepsAlone, acting, given_in, learning, lone, passed, seen, with_new}
-use Rattle.span_dispatch.specs.Isolation.{ActAlike, PathsActAlike}
-use Rattle.span_dispatch.specs.Outcome.{Change, Changes, GoneLeft, GoesOn, HandleAdded, HandleTaken, Made, Makes, Noticed, Notices, Outcome, Quiet, Quiets, StepsAfter, StepsBefore}
-use Rattle.span_dispatch.specs.Serve.{EachSeesAlone, Sees, outcome_of}
+use Rattle.span_dispatch.specs.Alone.{Alone, StepsAlone, acting, given_in, learning, lone, passed, seen, with_new}
+use Rattle.span_dispatch.specs.Isolation.{ActAlike, PathsActAlike, SeesMade, SeesServed}
+use Rattle.span_dispatch.specs.Outcome.{Change, Changes, GoneLeft, GoesOn, HandleAdded, HandleTaken, Made, Makes, Noticed, Outcome, Quiet, StepsAfter, StepsBefore}
+use Rattle.span_dispatch.specs.Serve.{EachSeesAlone, Sees, outcome_of, stack_of}
 use Rattle.span_layers.specs.Verdict.{AreDistinct, in_verdict, numbers_of}
+use Rattle.span_registry.proofs.Agreeing.{agree_aside, agree_refl, agree_sym, agree_trans, new_agrees_with, views_alike, without_agrees}
 use Rattle.span_registry.specs.Agree.{AgreeAt, SpansAgree}
-use Rattle.span_registry.specs.Answers.{AnswerAlike, Answers, AreAlike, Conduct, IsPlain, Notice, OnClose, OnEnter, OnEvent, OnExit, OnFollows, OnIdChange, OnNewSpan, OnRecord}
+use Rattle.span_registry.specs.Answers.{AnswerAlike, Answers, Conduct, IsPlain, Notice, OnClose, OnEnter, OnEvent, OnExit, OnFollows, OnIdChange, OnNewSpan, OnRecord}
 use Rattle.span_registry.specs.Closes.{without}
-use Rattle.span_registry.specs.Conducts.{ActOn, ActsAt, ArePlainConducts, Conducts, Learns, PathsAnswerAlike, StackPathLaws, behind, numbers_in, path_now}
+use Rattle.span_registry.specs.Conducts.{ActOn, ActsAt, ArePlainConducts, Conducts, Learns, PathsAnswerAlike, StackPathLaws, after_notice, numbers_in, path_now}
 use Rattle.span_registry.specs.Form.{Bare, Filtered, Form, Leaf, Over}
 use Rattle.span_registry.specs.Hooks.{StackLaws, StackSteps, no_filter}
 use Rattle.span_registry.specs.Path.{Path, passes_path, path_at}
-use Rattle.span_registry.specs.Place.{HearSteps, Here, Inner, Outer, Place, Under}
-use Rattle.span_registry.specs.Plan.{Both, Itself, Nobody, Plan, Through, asked_afresh, passes}
+use Rattle.span_registry.specs.Place.{HearSteps, Heard, Here, Inner, Outer, Place, Under}
+use Rattle.span_registry.specs.Plan.{Itself, Nobody, Plan, Through, asked_afresh, passes}
 use Rattle.span_registry.specs.Question.{single}
 use Rattle.span_registry.specs.Step.{begun, entered, exited, with_span}
 use Rattle.span_registry.specs.Store.{RegistryState, Span, Store, add_handle, take_handle}
@@ -191,16 +189,16 @@ unlearnt : (cs ds : Conducts) → ArePlainConducts cs → ds ≡ cs → PathsAct
 unlearnt cs ds p e = subst (λ (es : Conducts). PathsActAlike es cs) (sym e) (paths_itself cs p)
 
 -- given in a registry that differs in extensions alone
-learnt_so : (e : Notice) (lane : ℕ) (under : FilterSet) (v : RegistryState) (b c : Conduct) → IsPlain b → Learns e lane under v b c → ActAlike c (behind e (view_of v.store lane under) b)
+learnt_so : (e : Notice) (lane : ℕ) (under : FilterSet) (v : RegistryState) (b c : Conduct) → IsPlain b → Learns e lane under v b c → ActAlike c (after_notice e (view_of v.store lane under) b)
 learnt_so e lane under v b c p l =
     let agree = agree_sym under v.store l.between.store (agree_aside under v l.between l.extensions) in
-    let alike = behind_alike e (view_of l.between.store lane under) (view_of v.store lane under) b b (views_alike under under l.between.store v.store lane agree (itself_within under)) (record { plain = p.answers; same = p.history }) in
-    subst (λ (d : Conduct). ActAlike d (behind e (view_of v.store lane under) b)) (sym l.learnt) alike
+    let alike = after_notice_alike e (view_of l.between.store lane under) (view_of v.store lane under) b b (views_alike under under l.between.store v.store lane agree (itself_within under)) (record { plain = p.answers; same = p.history }) in
+    subst (λ (d : Conduct). ActAlike d (after_notice e (view_of v.store lane under) b)) (sym l.learnt) alike
 
 module _ (e : Notice) (s : Store) (lane : ℕ) (v : RegistryState) where
   -- at a filter itself: where the plan goes through it, it learns
   learns_here : (p q : Bool) (under : FilterSet) (plan : Plan) (n : ℕ) (b : Conduct) (ds : Conducts) → p ≡ q → IsPlain b → ActOn Here (if p then Through plan else Nobody) e lane under v ((Some n, b) ∷ []) ds
-      → PathsActAlike ds (if q then (Some n, behind e (view_of v.store lane (union under (single n))) b) ∷ [] else (Some n, b) ∷ [])
+      → PathsActAlike ds (if q then (Some n, after_notice e (view_of v.store lane (union under (single n))) b) ∷ [] else (Some n, b) ∷ [])
   learns_here true false under plan n b ds same plain h = absurd (true≢false same)
   learns_here false true under plan n b ds same plain h = absurd (false≢true same)
   learns_here false false under plan n b ds same plain h = unlearnt ((Some n, b) ∷ []) ds (plain, tt) h
@@ -212,7 +210,7 @@ module _ (e : Notice) (s : Store) (lane : ℕ) (v : RegistryState) where
   learns_above : (p q : Bool) (under : FilterSet) (place : Place) (plan : Plan) (n : ℕ) (b : Conduct) (cs ds learnt : Conducts) → p ≡ q → IsPlain b → ArePlainConducts cs
       → ((es : Conducts) → ActOn place plan e lane (union under (single n)) v cs es → PathsActAlike es learnt)
       → ActOn (Under place) (if p then Through plan else Nobody) e lane under v ((Some n, b) ∷ cs) ds
-      → PathsActAlike ds (if q then (Some n, behind e (view_of v.store lane (union under (single n))) b) ∷ learnt else (Some n, b) ∷ cs)
+      → PathsActAlike ds (if q then (Some n, after_notice e (view_of v.store lane (union under (single n))) b) ∷ learnt else (Some n, b) ∷ cs)
   learns_above true false under place plan n b cs ds learnt same plain others rest h = absurd (true≢false same)
   learns_above false true under place plan n b cs ds learnt same plain others rest h = absurd (false≢true same)
   learns_above false false under place plan n b cs ds learnt same plain others rest h = unlearnt ((Some n, b) ∷ cs) ds (plain, others) h
@@ -222,14 +220,14 @@ module _ (e : Notice) (s : Store) (lane : ℕ) (v : RegistryState) where
   abbrev LearnsAlong : Form → Place → FilterSet → Conducts → Conducts → Type 0
   LearnsAlong f place under cs ds = ActOn place (asked_afresh f e s lane under) e lane under v cs ds → PathsActAlike ds (learning cs e s v.store lane under)
 
-  learns_nothing : (f : Form) (place : Place) (under : FilterSet) (cs ds : Conducts) → PathsAnswerAlike [] (path_now cs) → ActOn Here Itself e lane under v cs ds → PathsActAlike ds (learning cs e s v.store lane under)
-  learns_nothing f place under [] ds alike h = unlearnt [] ds tt h
-  learns_nothing f place under ((m, b) ∷ cs) ds alike h = absurd alike
+  learns_nothing : (under : FilterSet) (cs ds : Conducts) → PathsAnswerAlike [] (path_now cs) → ActOn Here Itself e lane under v cs ds → PathsActAlike ds (learning cs e s v.store lane under)
+  learns_nothing under [] ds alike h = unlearnt [] ds tt h
+  learns_nothing under ((m, b) ∷ cs) ds alike h = absurd alike
 
   -- each filter learns where all round it pass, and so does it
   learns_along : (f : Form) (place : Place) (path : Path) (under : FilterSet) (cs ds : Conducts) → path_at f place ≡ Some path → PathsAnswerAlike path (path_now cs) → ArePlainConducts cs → LearnsAlong f place under cs ds
   learns_along (Leaf still a) Here path under cs ds at alike plain h =
-      learns_nothing (Leaf still a) Here under cs ds (subst (λ (p : Path). PathsAnswerAlike p (path_now cs)) (sym (some_path [] path at)) alike) h
+      learns_nothing under cs ds (subst (λ (p : Path). PathsAnswerAlike p (path_now cs)) (sym (some_path [] path at)) alike) h
   learns_along (Leaf still a) (Under p) path under cs ds at alike plain h = absurd (cc)
   learns_along (Leaf still a) (Outer p) path under cs ds at alike plain h = absurd (cc)
   learns_along (Leaf still a) (Inner p) path under cs ds at alike plain h = absurd (cc)
@@ -295,8 +293,8 @@ module _ (f : Form) (place : Place) (path : Path) (cs : Conducts) (distinct : Ar
   onward left notified y t h hooks e =
       agrees_so (numbers_in cs) notified y t e (agree_trans (numbers_in cs) notified.store left.store t (agree_sym (numbers_in cs) left.store notified.store (agree_aside (numbers_in cs) left notified hooks)) h)
 
-  unchanged : (lane : Lane) (e : Notice) (s left notified y : RegistryState) → left ≡ s → SameButExtensions left notified → y ≡ notified → AgreeAt (numbers_in cs) left.store s.store × AgreeAt (numbers_in cs) y.store s.store
-  unchanged lane e s left notified y same hooks after =
+  unchanged : (s left notified y : RegistryState) → left ≡ s → SameButExtensions left notified → y ≡ notified → AgreeAt (numbers_in cs) left.store s.store × AgreeAt (numbers_in cs) y.store s.store
+  unchanged s left notified y same hooks after =
       let agree = agrees_so (numbers_in cs) s left s.store same (agree_refl (numbers_in cs) s.store) in
       (agree, onward left notified y s.store agree hooks after)
 
@@ -323,43 +321,47 @@ module _ (f : Form) (place : Place) (path : Path) (cs : Conducts) (distinct : Ar
         onward left notified y (with_new s.store x own) agree hooks after,
       )
   noticed_alone lane (OnRecord id values) s left notified y before hooks after =
-      let both = unchanged lane (OnRecord id values) s left notified y before.1 hooks after in (s.store, refl, both.0, both.1)
+      let both = unchanged s left notified y before.1 hooks after in (s.store, (before.0, refl), both.0, both.1)
   noticed_alone lane (OnFollows id other) s left notified y before hooks after =
-      let both = unchanged lane (OnFollows id other) s left notified y before.1 hooks after in (s.store, refl, both.0, both.1)
+      let both = unchanged s left notified y before.1 hooks after in (s.store, (before.0, refl), both.0, both.1)
   noticed_alone lane (OnEvent e) s left notified y before hooks after =
-      let both = unchanged lane (OnEvent e) s left notified y before hooks after in (s.store, refl, both.0, both.1)
+      let both = unchanged s left notified y before hooks after in (s.store, refl, both.0, both.1)
   noticed_alone lane (OnEnter id) s left notified y before hooks after =
       let t = entered s.store lane.0 (number_of id) in
       let agree = agrees_so (numbers_in cs) (record s { store = t }) left t before.state (agree_refl (numbers_in cs) t) in
-      (t, refl, agree, onward left notified y t agree hooks after)
+      (t, (before.is_open, refl), agree, onward left notified y t agree hooks after)
   noticed_alone lane (OnExit id) s left notified y before hooks after =
       let t = exited s.store lane.0 (number_of id) in
       let agree = agrees_so (numbers_in cs) (record s { store = t }) left t before.1 (agree_refl (numbers_in cs) t) in
-      (t, refl, agree, onward left notified y t agree hooks after)
+      (t, (before.0, refl), agree, onward left notified y t agree hooks after)
   noticed_alone lane (OnIdChange id other) s left notified y before hooks after = absurd before
   noticed_alone lane (OnClose id) s left notified y before hooks after =
       let numbers = numbers_in cs in
       let gone = number_of id ∷ [] in
       let agree = agrees_so numbers s left s.store before.1 (agree_refl numbers s.store) in
       let later = onward left notified notified s.store agree hooks refl in
-      (without s.store gone, refl, agree, subst (λ (u : Store). AgreeAt numbers u (without s.store gone)) (sym after.1.taken.store) (without_agrees numbers notified.store s.store gone later))
+      (without s.store gone, (before.0, refl), agree, subst (λ (u : Store). AgreeAt numbers u (without s.store gone)) (sym after.1.taken.store) (without_agrees numbers notified.store s.store gone later))
 
 -- ---- one outcome, and all that was made
 
 changed_alone : (cs : Conducts) (c : Change) (s t : RegistryState) → Changes c s t → (u : Store) × StepsAlone (path_now cs) (Quiet c) s.store u × AgreeAt (numbers_in cs) t.store u
 changed_alone cs (HandleAdded id) s t h =
     let u : Store = record s.store { spans = add_handle s.store.spans (number_of id) } in
-    (u, refl, agrees_so (numbers_in cs) (record s { store = u }) t u h.state (agree_refl (numbers_in cs) u))
+    (u, (h.is_open, refl), agrees_so (numbers_in cs) (record s { store = u }) t u h.state (agree_refl (numbers_in cs) u))
 changed_alone cs (HandleTaken id) s t h =
     let u : Store = record s.store { spans = take_handle s.store.spans (number_of id) } in
-    (u, refl, agrees_so (numbers_in cs) (record s { store = u }) t u h.1 (agree_refl (numbers_in cs) u))
+    (u, (h.0, refl), agrees_so (numbers_in cs) (record s { store = u }) t u h.1 (agree_refl (numbers_in cs) u))
 changed_alone cs (GoneLeft lane id) s t h =
     let u = exited s.store lane.0 (number_of id) in
-    (u, refl, agrees_so (numbers_in cs) (record s { store = u }) t u h.1 (agree_refl (numbers_in cs) u))
+    (u, (h.0, refl), agrees_so (numbers_in cs) (record s { store = u }) t u h.1 (agree_refl (numbers_in cs) u))
 
 passed_alone : (path : Path) (cs : Conducts) (o : Outcome) (s : Store) → PathsAnswerAlike path (path_now cs) → passed (Some path) o s ≡ passed (Some (path_now cs)) o s
 passed_alone path cs (Noticed lane e) s alike = ap (λ (b : Bool). if b then (lane.0, e) ∷ [] else []) (paths_pass_same path (path_now cs) e s lane.0 no_filter alike)
 passed_alone path cs (Quiet c) s alike = refl
+
+seen_so : (cs : Conducts) {s t : Store} {outcomes others : List Outcome} {h k : Heard} → s ≡ t → outcomes ≡ others → h ≡ k → Alone cs s outcomes h → Alone cs t others k
+seen_so cs {s} {t} {outcomes} {others} {h} {k} e f g a =
+    subst (λ (x : Store). Alone cs x others k) e (subst (λ (x : List Outcome). Alone cs s x k) f (subst (λ (x : Heard). Alone cs s outcomes x) g a))
 
 module _ {S : Type 0} (registry : S → RegistryState) {with_registry : S → RegistryState → S} {has_form : S → Form → Type 0} {stepped : StackSteps S} {registered : S → S → Type 0} {acts_at : ActsAt S}
     (paths : StackPathLaws with_registry has_form stepped registered acts_at) where
@@ -406,6 +408,13 @@ module _ {S : Type 0} (registry : S → RegistryState) {with_registry : S → Re
   -- what a leaf sees of what was made, it sees alone on any store that agrees
   pub sees_alone : (x : S) (made : List Made) (y : S) → FoldsTo (Makes registry with_registry has_form stepped) x made y → EachSeesAlone registry acts_at x made
   sees_alone x made y h place cs s acts agree = alone_over cs cs (registry x).store s (map outcome_of made) (seen place made) (paths_itself cs (paths.plain x place cs acts)) agree (sees_own x made y place cs h acts)
+
+  -- so whatever is seen in a stack is seen alone
+  pub seen_made : (cs : Conducts) (s : Store) (outcomes : List Outcome) (h : Heard) → SeesMade registry with_registry has_form stepped acts_at cs s outcomes h → Alone cs s outcomes h
+  seen_made cs s outcomes h m = seen_so cs m.at_store m.at_outcomes m.sees (sees_own m.old m.made m.new m.place cs m.goes m.acts)
+
+  pub seen_served : {hears : HearSteps S} (cs : Conducts) (s : Store) (outcomes : List Outcome) (h : Heard) → SeesServed registry with_registry has_form stepped hears acts_at cs s outcomes h → Alone cs s outcomes h
+  seen_served cs s outcomes h m = seen_so cs m.at_store m.at_outcomes m.sees (m.served.alone m.place cs (registry (stack_of m.old)).store m.acts (agree_refl (numbers_in cs) (registry (stack_of m.old)).store))
 
 module _ {S : Type 0} (registry : S → RegistryState) {with_registry : S → RegistryState → S} {usable : S → Type 0} {has_form : S → Form → Type 0} {stepped : StackSteps S} {hears : HearSteps S} {registered : S → S → Type 0} {acts_at : ActsAt S}
     (laws : StackLaws with_registry usable has_form stepped hears registered) (paths : StackPathLaws with_registry has_form stepped registered acts_at) where

@@ -10,9 +10,9 @@ use Rattle.span_core.specs.declared.span.Id.{Id}
 use Rattle.span_core.specs.declared.span.Lane.{Lane}
 use Rattle.span_dispatch.specs.Outcome.{GoneLeft, HandleAdded, HandleTaken, IsVerdict, Made, Noticed, Outcome, Quiet}
 use Rattle.span_layers.specs.Observe.{open_answers}
-use Rattle.span_registry.specs.Answers.{Notice, OnClose, OnEnter, OnExit, OnNewSpan}
+use Rattle.span_registry.specs.Answers.{Notice, OnClose, OnEnter, OnEvent, OnExit, OnFollows, OnIdChange, OnNewSpan, OnRecord}
 use Rattle.span_registry.specs.Closes.{without}
-use Rattle.span_registry.specs.Conducts.{Conducts, behind, path_now}
+use Rattle.span_registry.specs.Conducts.{Conducts, after_notice, path_now}
 use Rattle.span_registry.specs.Form.{Filtered, Form, Leaf}
 use Rattle.span_registry.specs.Hooks.{no_filter}
 use Rattle.span_registry.specs.Path.{Path, passes_path, path_at}
@@ -20,7 +20,7 @@ use Rattle.span_registry.specs.Place.{Heard, Place}
 use Rattle.span_registry.specs.Plan.{passes}
 use Rattle.span_registry.specs.Question.{single}
 use Rattle.span_registry.specs.Step.{IsParentFor, begun, entered, exited}
-use Rattle.span_registry.specs.Store.{Span, Store, add_handle, take_handle}
+use Rattle.span_registry.specs.Store.{IsClosing, IsHeld, IsOpen, Span, Store, add_handle, take_handle}
 use Rattle.span_registry.specs.View.{view_of}
 
 -- what passes the path of a leaf or a filter, of an outcome on this store: of a notice that passes all its filters, asked afresh, this with its lane; of all else nothing
@@ -28,7 +28,7 @@ abbrev pub passed : Option Path → Outcome → Store → Heard
 passed (Some path) (Noticed lane e) s = if passes_path path e s lane.0 no_filter then (lane.0, e) ∷ [] else []
 passed path o s = []
 
--- what the leaf at a place sees of what was made
+-- what passes the path of the leaf or the filter at a place, of what was made: a leaf there sees just that
 abbrev pub seen : Place → List Made → Heard
 seen place [] = []
 seen place (m ∷ ms) = passed (path_at m.form place) m.outcome m.store ++ seen place ms
@@ -55,34 +55,37 @@ pub record OpensAlone (path : Path) (lane : Lane) (attrs : Attributes) (id : Id)
 -- what an outcome makes of the store
 abbrev pub StepsAlone : Path → Outcome → Store → Store → Type 0
 StepsAlone path (Noticed lane (OnNewSpan attrs id)) s t = OpensAlone path lane attrs id s t
-StepsAlone path (Noticed lane (OnEnter id)) s t = t ≡ entered s lane.0 (number_of id)
-StepsAlone path (Noticed lane (OnExit id)) s t = t ≡ exited s lane.0 (number_of id)
-StepsAlone path (Noticed lane (OnClose id)) s t = t ≡ without s (number_of id ∷ [])
-StepsAlone path (Noticed lane e) s t = t ≡ s
-StepsAlone path (Quiet (HandleAdded id)) s t = t ≡ record s { spans = add_handle s.spans (number_of id) }
-StepsAlone path (Quiet (HandleTaken id)) s t = t ≡ record s { spans = take_handle s.spans (number_of id) }
-StepsAlone path (Quiet (GoneLeft lane id)) s t = t ≡ exited s lane.0 (number_of id)
+StepsAlone path (Noticed lane (OnRecord id values)) s t = IsOpen s.spans (number_of id) × (t ≡ s)
+StepsAlone path (Noticed lane (OnFollows id other)) s t = IsOpen s.spans (number_of id) × (t ≡ s)
+StepsAlone path (Noticed lane (OnEvent e)) s t = t ≡ s
+StepsAlone path (Noticed lane (OnEnter id)) s t = IsOpen s.spans (number_of id) × (t ≡ entered s lane.0 (number_of id))
+StepsAlone path (Noticed lane (OnExit id)) s t = IsOpen s.spans (number_of id) × (t ≡ exited s lane.0 (number_of id))
+StepsAlone path (Noticed lane (OnIdChange id other)) s t = ⊥
+StepsAlone path (Noticed lane (OnClose id)) s t = IsClosing s.spans (number_of id) × (t ≡ without s (number_of id ∷ []))
+StepsAlone path (Quiet (HandleAdded id)) s t = IsOpen s.spans (number_of id) × (t ≡ record s { spans = add_handle s.spans (number_of id) })
+StepsAlone path (Quiet (HandleTaken id)) s t = IsHeld s.spans (number_of id) × (t ≡ record s { spans = take_handle s.spans (number_of id) })
+StepsAlone path (Quiet (GoneLeft lane id)) s t = ¬ (IsOpen s.spans (number_of id)) × (t ≡ exited s lane.0 (number_of id))
 
 -- the store that a notice is given in: the one after its step, but a close is given while its span is still there
 abbrev pub given_in : Notice → Store → Store → Store
 given_in (OnClose id) s t = s
 given_in e s t = t
 
--- the filters' conducts behind a notice: a filter learns of what it passes itself, and all filters round it pass, asked in the store before it; u is the store that it is given in
+-- the filters' conducts after a notice: a filter learns of what it passes itself, and all filters round it pass, asked in the store before it; u is the store that it is given in
 abbrev pub learning : Conducts → Notice → Store → Store → ℕ → FilterSet → Conducts
 learning [] e s u lane under = []
 learning ((None, b) ∷ cs) e s u lane under = (None, b) ∷ cs
 learning ((Some n, b) ∷ cs) e s u lane under =
-    if passes (b []) e s lane (union under (single n)) then (Some n, behind e (view_of u lane (union under (single n))) b) ∷ learning cs e s u lane (union under (single n))
+    if passes (b []) e s lane (union under (single n)) then (Some n, after_notice e (view_of u lane (union under (single n))) b) ∷ learning cs e s u lane (union under (single n))
     else (Some n, b) ∷ cs
 
--- the filters' conducts behind an outcome
+-- the filters' conducts after an outcome
 abbrev pub acting : Conducts → Outcome → Store → Store → Conducts
 acting cs (Noticed lane e) s t = learning cs e s (given_in e s t) lane.0 no_filter
 acting cs (Quiet c) s t = cs
 
--- what a leaf sees of these outcomes as if it stood alone behind filters of these conducts, on this store: the notices, one by one, that its path passes, asked afresh
+-- what a leaf sees of these outcomes as if it stood alone under filters of these conducts, on this store: the notices, one by one, that its path passes, asked afresh
 abbrev pub Alone : Conducts → Store → List Outcome → Heard → Type 0
-Alone cs s [] seen = seen ≡ []
-Alone cs s (o ∷ outcomes) seen =
-    (t : Store) × (rest : Heard) × StepsAlone (path_now cs) o s t × Alone (acting cs o s t) t outcomes rest × (seen ≡ passed (Some (path_now cs)) o s ++ rest)
+Alone cs s [] heard = heard ≡ []
+Alone cs s (o ∷ outcomes) heard =
+    (t : Store) × (rest : Heard) × StepsAlone (path_now cs) o s t × Alone (acting cs o s t) t outcomes rest × (heard ≡ passed (Some (path_now cs)) o s ++ rest)

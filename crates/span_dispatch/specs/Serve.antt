@@ -1,5 +1,5 @@
 -- How a dispatcher serves a call, and a list of requests.
-use Rattle.std.specs.Prelude.{◌≡◌, ℕ, List, [], ◌∷◌, ◌++◌, map, Bool, Option, Some, None, Result, if◌then◌else◌, slice_get}
+use Rattle.std.specs.Prelude.{◌≡◌, ℕ, List, [], ◌∷◌, ◌++◌, map, Bool, Option, Some, None, Result, slice_get}
 use Rattle.std.specs.List.{FoldsTo}
 use Rattle.std.specs.Option.{option_and_then, option_map, option_map_or}
 use Rattle.span_core.specs.Event.{event_metadata, event_parent, event_values}

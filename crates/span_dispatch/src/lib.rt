@@ -5,9 +5,9 @@ mod cache;
 #[cfg(test)]
 mod cache_tests;
 mod dispatch;
-pub mod laws;
 #[cfg(test)]
 mod isolation_tests;
+pub mod laws;
 #[cfg(test)]
 mod layer_tests;
 mod notice;

@@ -5,7 +5,7 @@ use Rattle.span_core.specs.declared.filter.FilterId.{FilterId}
 use Rattle.span_layers.specs.Filtered.{IsNumber}
 use Rattle.span_layers.specs.Layer.{LayerSteps}
 use Rattle.span_registry.specs.Answers.{Conduct, Notice}
-use Rattle.span_registry.specs.Conducts.{ActsAt, ActsNow, ActsOn, ArePlainConducts, Conducts, no_path}
+use Rattle.span_registry.specs.Conducts.{ActsAt, ActsNow, ActsOn, ArePlainConducts, Conducts}
 use Rattle.span_registry.specs.Form.{Form}
 use Rattle.span_registry.specs.Place.{Here, Inner, Outer, Place, Under}
 use Rattle.span_registry.specs.Plan.{Plan}
@@ -45,12 +45,3 @@ ListActs acts_at xs place cs = ⊥
 abbrev pub OptionActs : {L : Type 0} → ActsAt L → ActsAt (Option L)
 OptionActs acts_at (Some x) place cs = acts_at x place cs
 OptionActs acts_at None place cs = ⊥
-
--- where no path has conducts, the law says nothing
-pub no_path_laws : {L : Type 0} {has_form : L → Form → Type 0} {stepped : LayerSteps L} {registered : L → L → Type 0} → PathLaws has_form stepped registered no_path
-no_path_laws = record {
-  plain = λ x place cs a. absurd a;
-  now = λ x place cs f a h. absurd a;
-  goes_on = λ x p e lane under v y w place cs s a. absurd a;
-  put_in_use = λ x y place cs s a. absurd a;
-}

@@ -16,7 +16,7 @@ use Rattle.span_layers.specs.Members.{ListForm, ListSteps}
 use Rattle.span_layers.specs.Optional.{OptionForm, OptionGoes, OptionSteps}
 use Rattle.span_registry.proofs.CallerLemmas.{same_further, same_itself}
 use Rattle.span_registry.specs.Answers.{Answers, Conduct, Notice, OnClose, OnEnter, OnEvent, OnExit, OnFollows, OnIdChange, OnNewSpan, OnRecord}
-use Rattle.span_registry.specs.Conducts.{ActOn, ActsAt, ActsNow, ActsOn, ArePlainConducts, Conducts, Learns, StackPathLaws, behind, filter_numbered}
+use Rattle.span_registry.specs.Conducts.{ActOn, ActsAt, ActsNow, ActsOn, ArePlainConducts, Conducts, Learns, StackPathLaws, after_notice, filter_numbered}
 use Rattle.span_registry.specs.Form.{Filtered, Form, InPair, Joint, Leaf, OnSubscriber, Over}
 use Rattle.span_registry.specs.Hooks.{StackSteps, no_filter}
 use Rattle.span_registry.specs.Place.{Here, Inner, Outer, Place, Under}
@@ -116,8 +116,8 @@ numbered_alone id None h = λ i k. has_none (λ numbers. has_number numbers k) i
 numbered_alone id (Some n) h = h.1
 
 -- what the filter of an id learns, the one of its number learns
-learns_numbered : (id : FilterId) (n : Option ℕ) (e : Notice) (lane : ℕ) (under : FilterSet) (v : RegistryState) (b : Conduct) → IsNumber id n → Learns e lane (union under (filter_numbered n)) v b (behind e (view_of v.store lane (union under (has_filter id))) b)
-learns_numbered id n e lane under v b h = record { between = v; extensions = same_itself v; learnt = ap (λ (s : FilterSet). behind e (view_of v.store lane (union under s)) b) (numbered_alone id n h) }
+learns_numbered : (id : FilterId) (n : Option ℕ) (e : Notice) (lane : ℕ) (under : FilterSet) (v : RegistryState) (b : Conduct) → IsNumber id n → Learns e lane (union under (filter_numbered n)) v b (after_notice e (view_of v.store lane (union under (has_filter id))) b)
+learns_numbered id n e lane under v b h = record { between = v; extensions = same_itself v; learnt = ap (λ (s : FilterSet). after_notice e (view_of v.store lane (union under s)) b) (numbered_alone id n h) }
 
 -- so does the path under it
 act_numbered : (id : FilterId) (n : Option ℕ) (place : Place) (p : Plan) (e : Notice) (lane : ℕ) (under : FilterSet) (v : RegistryState) (cs ds : Conducts) → IsNumber id n
@@ -126,7 +126,7 @@ act_numbered id n place p e lane under v cs ds h = subst (λ (s : FilterSet). Ac
 
 module _ {F L : Type 0} {has_answers : F → Answers → Type 0} {hooked : FilterSteps F} {acts : F → Conduct → Type 0} {has_form : L → Form → Type 0} {stepped : LayerSteps L} {registered : L → L → Type 0} {acts_at : ActsAt L} (own : FilterLaws has_answers hooked acts) (inside : PathLaws has_form stepped registered acts_at) where
   -- a filter that was notified acts as its conduct says behind the notice
-  hooks_act : (f : F) (e : Notice) (lane : ℕ) (under : FilterSet) (v : RegistryState) (g : F) (w : RegistryState) (b : Conduct) → Hooked hooked f e lane under v g w → acts f b → acts g (behind e (view_of v.store lane under) b)
+  hooks_act : (f : F) (e : Notice) (lane : ℕ) (under : FilterSet) (v : RegistryState) (g : F) (w : RegistryState) (b : Conduct) → Hooked hooked f e lane under v g w → acts f b → acts g (after_notice e (view_of v.store lane under) b)
   hooks_act f (OnNewSpan attrs id) lane under v g w b h a = own.goes_on f (OnNewSpan attrs id) lane under v g w b a h
   hooks_act f (OnRecord id values) lane under v g w b h a = own.goes_on f (OnRecord id values) lane under v g w b a h
   hooks_act f (OnFollows id other) lane under v g w b h a = subst (λ k. acts k b) (sym h.0) a
@@ -160,13 +160,13 @@ module _ {F L : Type 0} {has_answers : F → Answers → Type 0} {hooked : Filte
   filtered_goes_on i a x Itself e lane under v j b y w place cs same s h = absurd s
   filtered_goes_on i a x (Both p q) e lane under v j b y w place cs same s h = absurd s
   filtered_goes_on i a x (Through p) e lane under v j b y w Here ((n, c) ∷ []) same s h = (
-    (n, behind e (view_of v.store lane (union under (has_filter i))) c) ∷ [],
+    (n, after_notice e (view_of v.store lane (union under (has_filter i))) c) ∷ [],
     (subst (λ k. IsNumber k n) (sym same) h.0, hooks_act a e lane _ v b s.between c s.filter h.1),
     (refl, learns_numbered i n e lane under v c h.0),
   )
   filtered_goes_on i a x (Through p) e lane under v j b y w (Under place) ((n, c) ∷ cs) same s h =
       let rest = inside.goes_on x p e lane (union under (has_filter i)) s.between y w place cs s.layer h.2 in (
-        (n, behind e (view_of v.store lane (union under (has_filter i))) c) ∷ rest.0,
+        (n, after_notice e (view_of v.store lane (union under (has_filter i))) c) ∷ rest.0,
         (subst (λ k. IsNumber k n) (sym same) h.0, hooks_act a e lane _ v b s.between c s.filter h.1, rest.1),
         (refl, learns_numbered i n e lane under v c h.0, act_numbered i n place p e lane under v cs rest.0 h.0 (act_before place p e lane _ v s.between cs rest.0 s.extensions rest.2)),
       )

@@ -22,7 +22,7 @@ use Rattle.span_registry.specs.Closes.{remove_all, without}
 use Rattle.span_registry.specs.LaneStack.{leave}
 use Rattle.span_registry.specs.Plan.{is_passed}
 use Rattle.span_registry.specs.Step.{IsContext, IsParentFor, entered, entered_last, exited}
-use Rattle.span_registry.specs.Store.{HasChild, IsOpen, RegistryState, Span, Spans, Stacks, Store, add_handle, stack_of, take_handle, with_handles, with_stack}
+use Rattle.span_registry.specs.Store.{HasChild, IsClosing, IsHeld, IsOpen, RegistryState, Span, Spans, Stacks, Store, add_handle, stack_of, take_handle, with_handles, with_stack}
 use Rattle.span_registry.specs.Subscriber.{SameButExtensions}
 use Rattle.span_registry.specs.View.{see, view_of}
 use Rattle.span_registry.specs.declared.extensions.ExtensionMap.{ExtensionMap}
@@ -142,6 +142,25 @@ open_over numbers m n x f h =
         | inr c ↦ inr (child_over numbers m n x f c)
       ],
     )
+
+-- what is open in the one is open in the other, and so is what isn't
+pub open_alike : (numbers : FilterSet) (s t : Store) (x : ℕ) → AgreeAt numbers s t → IsOpen s.spans x → IsOpen t.spans x
+open_alike numbers s t x h o = open_over numbers s.spans t.spans x h.spans o
+
+pub not_open_alike : (numbers : FilterSet) (s t : Store) (x : ℕ) → AgreeAt numbers s t → ¬ (IsOpen s.spans x) → ¬ (IsOpen t.spans x)
+not_open_alike numbers s t x h k o = k (open_over numbers t.spans s.spans x (maps_back numbers s.spans t.spans h.spans) o)
+
+-- what is closing in the one is closing in the other
+pub closing_alike : (numbers : FilterSet) (s t : Store) (x : ℕ) → AgreeAt numbers s t → IsClosing s.spans x → IsClosing t.spans x
+closing_alike numbers s t x h k =
+    let u = found numbers (get s.spans x) (get t.spans x) k.0 (h.spans x) k.1 in
+    (u.0, u.1, sym u.2.handles ∙ k.2, λ c. k.3 (child_over numbers t.spans s.spans x (maps_back numbers s.spans t.spans h.spans) c))
+
+-- what is held in the one is held in the other
+pub held_alike : (numbers : FilterSet) (s t : Store) (x : ℕ) → AgreeAt numbers s t → IsHeld s.spans x → IsHeld t.spans x
+held_alike numbers s t x h k =
+    let u = found numbers (get s.spans x) (get t.spans x) k.0 (h.spans x) k.1 in
+    (u.0, u.1, subst (λ (n : ℕ). 0 < n) u.2.handles k.2)
 
 last_same : (s t : Store) (lane : ℕ) → s.stacks ≡ t.stacks → entered_last s lane ≡ entered_last t lane
 last_same s t lane e = ap (λ (m : Stacks). entered_last (record s { stacks = m }) lane) e

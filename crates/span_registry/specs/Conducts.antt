@@ -42,12 +42,12 @@ PathsAnswerAlike path other = ⊥
 abbrev pub ActsNow : Form → Place → Conducts → Type 0
 ActsNow f place cs = (path : Path) × (path_at f place ≡ Some path) × PathsAnswerAlike path (path_now cs)
 
--- the conduct of a filter behind a notice that it was given in this view: it is notified of new spans, records, enters, exits and closes alone
-abbrev pub behind : Notice → View → Conduct → Conduct
-behind (OnEvent e) v b = b
-behind (OnFollows id other) v b = b
-behind (OnIdChange id other) v b = b
-behind e v b = λ h. b ((e, v) ∷ h)
+-- the conduct of a filter after a notice that it was given in this view: it is notified of new spans, records, enters, exits and closes alone
+abbrev pub after_notice : Notice → View → Conduct → Conduct
+after_notice (OnEvent e) v b = b
+after_notice (OnFollows id other) v b = b
+after_notice (OnIdChange id other) v b = b
+after_notice e v b = λ h. b ((e, v) ∷ h)
 
 -- the filter of this number alone, or none
 abbrev pub filter_numbered : Option ℕ → FilterSet
@@ -58,7 +58,7 @@ filter_numbered (Some n) = single n
 pub record Learns (e : Notice) (lane : ℕ) (under : FilterSet) (v : RegistryState) (b c : Conduct) : Type 0 where
   pub between : RegistryState
   pub extensions : SameButExtensions v between
-  pub learnt : c ≡ behind e (view_of between.store lane under) b
+  pub learnt : c ≡ after_notice e (view_of between.store lane under) b
 
 -- where a plan notifies of this, the path at a place acts on so: each filter that the plan goes through learns of it
 abbrev pub ActOn : Place → Plan → Notice → ℕ → FilterSet → RegistryState → Conducts → Conducts → Type 0
@@ -85,12 +85,12 @@ pub record StackPathLaws {S : Type 0} (with_registry : S → RegistryState → S
   pub put_in_use : (x y : S) (place : Place) (cs : Conducts) → registered x y → acts_at x place cs → acts_at y place cs
   pub acts_with : (x : S) (w : RegistryState) (place : Place) (cs : Conducts) → acts_at x place cs → acts_at (with_registry x w) place cs
 
--- where no filter stands, nothing is said
-abbrev pub no_path : {T : Type 0} → ActsAt T
-no_path x place cs = ⊥
+-- no place has conducts
+abbrev pub no_conducts : {T : Type 0} → ActsAt T
+no_conducts x place cs = ⊥
 
 -- a registry keeps this law
-pub registry_path_laws : StackPathLaws (λ (s w : RegistryState). w) (λ s f. f ≡ Bare Base) (λ x p e lane v y w. w ≡ v) (λ x y. y ≡ x) no_path
+pub registry_path_laws : StackPathLaws (λ (s w : RegistryState). w) (λ s f. f ≡ Bare Base) (λ x p e lane v y w. w ≡ v) (λ x y. y ≡ x) no_conducts
 registry_path_laws = record {
   plain = λ x place cs a. absurd a;
   now = λ x place cs f a h. absurd a;

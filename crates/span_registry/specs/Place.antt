@@ -33,7 +33,7 @@ heard_by plan place lane e = if is_notified plan place then (lane, e) ∷ [] els
 abbrev pub HearSteps : Type 0 → Type 1
 HearSteps T = T → Place → Heard → T → Type 0
 
--- the law of what leaves hear: nothing leaves them as they are, and one list after another is both in a row
+-- the law of what leaves hear: to hear nothing, a leaf may stay as it is; and one list after another is both in a row
 pub record HearLaws {T : Type 0} (hears : HearSteps T) : Type 0 where
   pub nothing : (x : T) (place : Place) → hears x place [] x
   pub further : (x y z : T) (place : Place) (h k : Heard) → hears x place h y → hears y place k z → hears x place (h ++ k) z

@@ -6,7 +6,7 @@ ghost use Rattle.std.specs.Option.{option_copied, option_copied_mut, option_map,
 ghost use Rattle.std.specs.Prelude.{◌≡◌, ◌≤◌, ◌↔◌, ⊤, [], OnErr, OnOk, IfErr, IfOk, IsSome, IsTrue, MatchBool, None, false, refl, true};
 ghost use Rattle.span_core.specs.Pass.{interest_sum, refused_of};
 ghost use Rattle.span_core.specs.Span.{asked_parent, number_of};
-ghost use Rattle.span_registry.specs.Conducts.{no_path, registry_path_laws};
+ghost use Rattle.span_registry.specs.Conducts.{no_conducts, registry_path_laws};
 ghost use Rattle.span_registry.specs.Form.{Bare, Base};
 ghost use Rattle.span_registry.specs.Hooks.{registry_laws};
 ghost use Rattle.span_registry.specs.Kept.{IsChosen};
@@ -310,7 +310,7 @@ impl Subscriber for Registry {
 
     ghost hears = { λ x place h y. ⊤ };
 
-    ghost acts_at = { no_path };
+    ghost acts_at = { no_conducts };
 
     ghost registered = { λ x y. y ≡ x };
 

@@ -1,6 +1,25 @@
-use Rattle.span_dispatch.proofs.Alone.{sees_alone}
-use Rattle.span_dispatch.proofs.Acting.{one_alone}
+use Rattle.span_dispatch.proofs.Acting.{both_alone, one_alone, paths_itself}
+use Rattle.span_dispatch.proofs.Alone.{seen_made, seen_served}
+use Rattle.span_dispatch.specs.Alone.{Alone}
+use Rattle.span_dispatch.specs.Isolation.{SeesMade, SeesServed}
 use Rattle.span_dispatch.proofs.laws.other_layers_make_no_difference.Goals as goal
 
-pub returns : goal.returns
-returns g c = record { alone = one_alone }
+pub returns-clause-itself : goal.returns-clause-itself
+returns-clause-itself g c = paths_itself
+
+pub returns-clause-alone : goal.returns-clause-alone
+returns-clause-alone g c = one_alone
+
+pub returns-clause-made : goal.returns-clause-made
+returns-clause-made g c =
+    both_alone (SeesMade g.S.LookupSpan.registry g.S.LookupSpan.with_registry g.S.Subscriber.has_form g.S.Subscriber.stepped g.S.Subscriber.acts_at)
+    (SeesMade g.T.LookupSpan.registry g.T.LookupSpan.with_registry g.T.Subscriber.has_form g.T.Subscriber.stepped g.T.Subscriber.acts_at) (seen_made g.S.LookupSpan.registry g.met.S.Subscriber.paths) (seen_made g.T.LookupSpan.registry g.met.T.Subscriber.paths)
+
+pub returns-clause-made_alone : goal.returns-clause-made_alone
+returns-clause-made_alone g c =
+    both_alone (SeesMade g.S.LookupSpan.registry g.S.LookupSpan.with_registry g.S.Subscriber.has_form g.S.Subscriber.stepped g.S.Subscriber.acts_at) Alone (seen_made g.S.LookupSpan.registry g.met.S.Subscriber.paths) (λ cs s outcomes h a. a)
+
+pub returns-clause-served : goal.returns-clause-served
+returns-clause-served g c =
+    both_alone (SeesServed g.S.LookupSpan.registry g.S.LookupSpan.with_registry g.S.Subscriber.has_form g.S.Subscriber.stepped g.S.Subscriber.hears g.S.Subscriber.acts_at)
+    (SeesServed g.T.LookupSpan.registry g.T.LookupSpan.with_registry g.T.Subscriber.has_form g.T.Subscriber.stepped g.T.Subscriber.hears g.T.Subscriber.acts_at) (seen_served g.S.LookupSpan.registry g.met.S.Subscriber.paths) (seen_served g.T.LookupSpan.registry g.met.T.Subscriber.paths)
