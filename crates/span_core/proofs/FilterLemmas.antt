@@ -1,8 +1,8 @@
 -- Sets of filters: what two have in common, what a mask hides, that members tell sets apart, and verdicts cut down to a set.
-use Rattle.std.proofs.Common.{◌≡◌, ℕ, ◌+◌, zero, suc, ◌<◌, Bool, true, false, refl, sym, ap, ◌∙◌, IsTrue, List, [], ◌∷◌, length, slice_index_or, Option, None, Some, arith}
+use Rattle.std.proofs.Common.{◌≡◌, ℕ, ◌<◌, ◌≤◌, ◌^◌, Bool, true, false, refl, sym, ap, ◌∙◌, ⊎_elim, IsTrue, Option, None, Some}
 use Rattle.std.specs.Prelude.{◌&&◌, ◌||◌, ◌↔◌, is_some}
 use Rattle.std.specs.Option.{option_map_or}
-use Rattle.std.proofs.lemmas.Bool.{and_from, and_left, and_parts, and_right}
+use Rattle.std.proofs.lemmas.Bool.{and_from, and_left, and_parts, and_right, cases_lt, false≢true}
 use Rattle.span_core.specs.declared.filter.FilterId.{FilterId}
 use Rattle.span_core.specs.declared.filter.FilterMap.{FilterMap}
 use Rattle.span_core.specs.declared.number_set.NumberSet.{NumberSet}
@@ -11,6 +11,7 @@ use Rattle.span_core.specs.NumberSet.{has_number}
 use Rattle.span_core.specs.Filters.{FilterSet, HasFiltersOfBoth, HaveCommon, HidesAsEither, IsEmpty, SameFilters, SameMembers, has_filter, is_hidden, meets, refuses, union}
 use Rattle.span_core.proofs.SameNumberSet.{same_numbers}
 use Rattle.span_core.proofs.SomeBelow.{some_below-found, some_below-passes, some_below-same, some_below-or, some_below-none}
+use Rattle.span_core.proofs.Words.{cut_word, cut_word-bit, cut_word-fits, is_one, is_one-below, is_one-past}
 
 or_swapped : (x y : Bool) → (x || y) ≡ (y || x)
 or_swapped true true = refl
@@ -81,6 +82,18 @@ is_hidden-no_filter mask verdict h = meets-none (has_filter mask) (refuses verdi
 pub is_hidden-no_refusal : (mask : FilterId) (verdict : FilterMap) → IsEmpty (refuses verdict) → is_hidden mask verdict ≡ false
 is_hidden-no_refusal mask verdict h = some_below-none LIMIT (λ n. has_filter mask n && refuses verdict n) (λ n l. and_right _ _ (h n))
 
+option_below : (o : Option NumberSet) (n : ℕ) → IsTrue (option_map_or (λ s. has_number s n) o false) → n < LIMIT
+option_below None n h = absurd (false≢true h)
+option_below (Some s) n h = is_one-below s.bits n s.fits h
+
+-- the numbers of an id
+pub ids_below : (id : FilterId) (n : ℕ) → IsTrue (has_filter id n) → n < LIMIT
+ids_below id n h = option_below id.numbers n h
+
+-- the numbers of a map
+pub maps_below : (map : FilterMap) (n : ℕ) → IsTrue (refuses map n) → n < LIMIT
+maps_below map n h = is_one-below map.disabled_by.bits n map.disabled_by.fits h
+
 same_options : (a b : Option NumberSet) → is_some a ≡ is_some b → ((n : ℕ) → n < LIMIT → option_map_or (λ s. has_number s n) a false ≡ option_map_or (λ s. has_number s n) b false) → a ≡ b
 same_options None None e h = refl
 same_options None (Some y) e h = absurd (cc)
@@ -97,27 +110,20 @@ same_maps a b h = ap (λ (s : NumberSet). let map : FilterMap = record { disable
 
 -- ---- a verdict cut down to a set
 
--- the marks from the i-th on, those outside the set taken out
-abbrev cut_marks : FilterSet → ℕ → List Bool → List Bool
-cut_marks numbers i [] = []
-cut_marks numbers i (b ∷ bs) = (numbers i && b) ∷ cut_marks numbers (suc i) bs
-
-as_many : (numbers : FilterSet) (i : ℕ) (bs : List Bool) → length (cut_marks numbers i bs) ≡ length bs
-as_many numbers i [] = refl
-as_many numbers i (b ∷ bs) = ap suc (as_many numbers (suc i) bs)
-
-marks_at : (numbers : FilterSet) (i : ℕ) (bs : List Bool) (n : ℕ) → slice_index_or (cut_marks numbers i bs) n false ≡ (numbers (i + n) && slice_index_or bs n false)
-marks_at numbers i [] n = sym (and_right _ _ refl)
-marks_at numbers i (b ∷ bs) zero = let same : i ≡ i + 0 = omega arith in ap (λ (k : ℕ). numbers k && b) same
-marks_at numbers i (b ∷ bs) (suc n) =
-    let same : suc i + n ≡ i + suc n = omega arith in
-    marks_at numbers (suc i) bs n ∙ ap (λ (k : ℕ). numbers k && slice_index_or bs n false) same
+-- a number is left in the cut word exactly where it was in the word and in the set: none is from 64 on
+cut_at : (numbers : FilterSet) (word n : ℕ) → word < 2 ^ 64 → is_one (cut_word numbers 64 word) n ≡ (numbers n && is_one word n)
+cut_at numbers word n fits =
+    ⊎_elim
+    (λ (l : n < 64). cut_word-bit numbers 64 word n l)
+    (λ (l : 64 ≤ n).
+    is_one-past (cut_word numbers 64 word) n (cut_word-fits numbers 64 word) l
+    ∙ sym (and_right _ _ (is_one-past word n fits l)))
+    (cases_lt n 64)
 
 -- a verdict of which the refusals of these filters alone are left
 pub cut_verdict : (numbers : FilterSet) (v : FilterMap) → (w : FilterMap) × ((n : ℕ) → refuses w n ≡ (numbers n && refuses v n))
-cut_verdict numbers v = (
-  record { disabled_by = record { held = cut_marks numbers 0 v.disabled_by.held; full = as_many numbers 0 v.disabled_by.held ∙ v.disabled_by.full } },
-  λ n.
-      let same : 0 + n ≡ n = omega arith in
-      marks_at numbers 0 v.disabled_by.held n ∙ ap (λ (k : ℕ). numbers k && refuses v n) same,
-)
+cut_verdict numbers v =
+    let word = v.disabled_by.bits in (
+      record { disabled_by = record { bits = cut_word numbers 64 word; fits = cut_word-fits numbers 64 word } },
+      λ n. cut_at numbers word n v.disabled_by.fits,
+    )

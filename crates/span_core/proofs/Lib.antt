@@ -1,3 +1,4 @@
 pub mod FilterLemmas
 pub mod SameNumberSet
 pub mod SomeBelow
+pub mod Words

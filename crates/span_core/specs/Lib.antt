@@ -7,3 +7,4 @@ pub mod NumberSet
 pub mod Pass
 pub mod Span
 pub mod TraceError
+pub mod Word

@@ -1,10 +1,11 @@
 -- Sets of filter numbers, of a private type: no public clause names a word of this file.
-use Rattle.std.specs.Prelude.{◌≡◌, ℕ, Bool, false, ◌||◌, slice_index_or, zero, suc, if◌then◌else◌}
+use Rattle.std.specs.Prelude.{◌≡◌, ℕ, Bool, false, ◌||◌, ◌==◌, zero, suc, if◌then◌else◌}
+use Rattle.std.specs.Int.{bit_at}
 use Rattle.span_core.specs.declared.number_set.NumberSet.{NumberSet}
 
--- whether the number is in the set: none from 64 on
+-- whether the number is in the set, bit n of its word: none from 64 on, since the word is below 2 ^ 64
 abbrev pub has_number : NumberSet → ℕ → Bool
-has_number s n = slice_index_or s.held n false
+has_number s n = bit_at s.bits n == 1
 
 -- whether a number below the limit passes
 unfoldable pub some_below : ℕ → (ℕ → Bool) → Bool

@@ -2,6 +2,7 @@
 ghost use Rattle.std.specs.Prelude.{◌≡◌, ℕ, ◌<◌, ◌==◌, IsTrue, false, not};
 ghost use Rattle.span_core.specs.Filters.{HasFiltersOfBoth, IsEmpty, SetsFilters};
 ghost use Rattle.span_core.specs.Filters.{has_filter, is_attached, is_enabled, refuses};
+ghost use Rattle.span_core.specs.Word.{IsWord};
 ghost use Rattle.span_core.specs.declared.number_set.TheConstants.{LIMIT};
 
 use crate::number_set::{self, NumberSet};
@@ -108,6 +109,15 @@ impl FilterMap {
             Some(numbers) => !numbers.meets(&self.disabled_by),
             None => false,
         }
+    }
+
+    /// The filters that refused, as a word: its bit n is 1 exactly if filter n refuses.
+    ///
+    /// Own to this port.
+    pub fn word(&self) -> u64
+        ensures { IsWord self.now result }
+    {
+        self.disabled_by.word()
     }
 
     /// The filters of the id refuse where they aren't enabled, and no longer do where they are. An

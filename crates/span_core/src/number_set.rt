@@ -1,5 +1,5 @@
 //! Sets of filter numbers.
-ghost use Rattle.std.specs.Prelude.{◌≡◌, ℕ, ◌<◌, ◌&&◌, ◌==◌, false, length};
+ghost use Rattle.std.specs.Prelude.{◌≡◌, ◌↔◌, ℕ, ◌<◌, ◌^◌, ◌&&◌, ◌==◌, IsBitSet, IsTrue, false};
 ghost use Rattle.span_core.specs.declared.number_set.TheConstants.{LIMIT};
 
 use std::fmt;
@@ -7,11 +7,12 @@ use std::fmt;
 /// How many filters there are at most: their numbers are below this.
 pub const LIMIT: usize = 64;
 
-/// A set of numbers of filters.
+/// A set of numbers of filters, as a word.
 #[derive(Clone, Copy, PartialEq, Eq)]
 pub struct NumberSet {
-    held: [bool; LIMIT],
-    ghost full: { length held ≡ LIMIT },
+    /// Bit n is 1 where n is in the set.
+    bits: u64,
+    ghost fits: { bits < 2 ^ 64 },
 }
 
 impl NumberSet {
@@ -21,9 +22,7 @@ impl NumberSet {
     pub fn none() -> NumberSet
         ensures { (n : ℕ) → has_number result n ≡ false }
     {
-        NumberSet {
-            held: [false; LIMIT],
-        }
+        NumberSet { bits: 0 }
     }
 
     /// This number alone.
@@ -31,41 +30,40 @@ impl NumberSet {
         requires { number < LIMIT }
         ensures { (n : ℕ) → has_number result n ≡ (n == number) }
     {
-        let NumberSet { mut held } = NumberSet::none();
-        held[number as usize] = true;
-        NumberSet { held }
+        NumberSet { bits: 1 << number }
     }
 
     /// The number is in the set.
     pub fn contains(&self, number: u32) -> bool
         ensures { result ≡ has_number self.now number }
     {
-        (number as usize) < LIMIT && self.held[number as usize]
+        (number as usize) < LIMIT && (self.bits >> number) & 1 == 1
     }
 
     /// This set with all of these numbers put in, or with all of them taken out.
     pub fn with(self, numbers: NumberSet, held: bool) -> NumberSet
         ensures { SetsAll (has_number self) (has_number result) (has_number numbers) held }
     {
-        let mut after = self.held;
-        for n in 0..LIMIT {
-            if numbers.held[n] {
-                after[n] = held;
-            }
-        }
-        NumberSet { held: after }
+        let bits = if held {
+            self.bits | numbers.bits
+        } else {
+            self.bits & !numbers.bits
+        };
+        NumberSet { bits }
     }
 
     /// A number is in both.
     pub fn meets(&self, other: &NumberSet) -> bool
         ensures { result ≡ some_below LIMIT (λ n. has_number self.now n && has_number other.now n) }
     {
-        for n in 0..LIMIT {
-            if self.held[n] && other.held[n] {
-                return true;
-            }
-        }
-        false
+        self.bits & other.bits != 0
+    }
+
+    /// The word in which a 1 stands for each number of the set.
+    pub fn word(&self) -> u64
+        ensures { (n : ℕ) → IsBitSet result n ↔ IsTrue (has_number self.now n) }
+    {
+        self.bits
     }
 }
 
@@ -73,7 +71,7 @@ impl NumberSet {
 impl fmt::Debug for NumberSet {
     fn fmt<W: fmt::Write>(&self, f: &mut fmt::Formatter<W>) -> fmt::Result {
         f.debug_set()
-            .entries((0..LIMIT).filter(|n| self.held[*n]))
+            .entries((0..LIMIT as u32).filter(|n| self.contains(*n)))
             .finish()
     }
 }
@@ -81,12 +79,6 @@ impl fmt::Debug for NumberSet {
 /// The word in which a 1 stands for each number of the set, as `1001` for 0 and 3.
 impl fmt::Binary for NumberSet {
     fn fmt<W: fmt::Write>(&self, f: &mut fmt::Formatter<W>) -> fmt::Result {
-        let mut word = 0u64;
-        for n in 0..LIMIT {
-            if self.held[n] {
-                word |= 1 << n;
-            }
-        }
-        fmt::Binary::fmt(&word, f)
+        fmt::Binary::fmt(&self.bits, f)
     }
 }

@@ -130,6 +130,32 @@ fn filters_refuse(rt: HostRuntime) -> Result<(), Fail> {
 }
 
 #[test]
+fn words_of_filters_end_at_63(rt: HostRuntime) -> Result<(), Fail> {
+    let last = FilterId::of(63);
+    let both = FilterId::of(0).and(last);
+    assert_eq!(rt;
+        format!(in rt.alloc(); "{both:?}")?.as_str(),
+        "FilterId({0, 63})"
+    );
+    let mut pass = Pass::new();
+    assert_eq!(rt; pass.refused().word(), 0);
+    pass.set(last, false);
+    let map = pass.refused();
+    for n in 0..63 {
+        assert!(rt; map.is_enabled(FilterId::of(n)));
+    }
+    assert!(rt; !map.is_enabled(last));
+    assert_eq!(rt; map.word(), 1 << 63);
+    for n in 0..FilterId::LIMIT {
+        pass.set(FilterId::of(n), false);
+    }
+    let map = pass.refused();
+    assert!(rt; map.is_enabled(FilterId::none()) && !map.is_enabled(both));
+    assert_eq!(rt; map.word(), u64::MAX);
+    Ok(())
+}
+
+#[test]
 fn levels_pass(rt: HostRuntime) -> Result<(), Fail> {
     let levels = [
         Level::ERROR,
