@@ -11,7 +11,7 @@ use Rattle.span_core.specs.NumberSet.{has_number}
 use Rattle.span_core.specs.Filters.{FilterSet, HasFiltersOfBoth, HaveCommon, HidesAsEither, IsEmpty, SameFilters, SameMembers, has_filter, is_hidden, meets, refuses, union}
 use Rattle.span_core.proofs.SameNumberSet.{same_numbers}
 use Rattle.span_core.proofs.SomeBelow.{some_below-found, some_below-passes, some_below-same, some_below-or, some_below-none}
-use Rattle.span_core.proofs.Words.{cut_word, cut_word-bit, cut_word-fits, is_one, is_one-below, is_one-past}
+use Rattle.span_core.proofs.Words.{cut_word, cut_word-bit, cut_word-fits, is_one, is_one-below, none_past}
 
 or_swapped : (x y : Bool) → (x || y) ≡ (y || x)
 or_swapped true true = refl
@@ -116,8 +116,8 @@ cut_at numbers word n fits =
     ⊎_elim
     (λ (l : n < 64). cut_word-bit numbers 64 word n l)
     (λ (l : 64 ≤ n).
-    is_one-past (cut_word numbers 64 word) n (cut_word-fits numbers 64 word) l
-    ∙ sym (and_right _ _ (is_one-past word n fits l)))
+    none_past (cut_word numbers 64 word) n (cut_word-fits numbers 64 word) l
+    ∙ sym (and_right _ _ (none_past word n fits l)))
     (cases_lt n 64)
 
 -- a verdict of which the refusals of these filters alone are left

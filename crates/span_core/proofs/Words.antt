@@ -21,14 +21,14 @@ pub is_one-one : (word n : ℕ) → bit_at word n ≡ 1 → is_one word n ≡ tr
 is_one-one word n h = ap (λ d. d == 1) h
 
 -- no bit of a word is 1 from 64 on
-pub is_one-past : (word n : ℕ) → word < 2 ^ 64 → 64 ≤ n → is_one word n ≡ false
-is_one-past word n fits past = is_one-zero word n (bit_at_above word 64 n fits past)
+pub none_past : (word n : ℕ) → word < 2 ^ 64 → 64 ≤ n → is_one word n ≡ false
+none_past word n fits past = is_one-zero word n (bit_at_above word 64 n fits past)
 
 pub is_one-below : (word n : ℕ) → word < 2 ^ 64 → is_one word n ≡ true → n < 64
 is_one-below word n fits h =
     ⊎_elim
     (λ (l : n < 64). l)
-    (λ (l : 64 ≤ n). let no = is_one-past word n fits l in absurd (cc))
+    (λ (l : 64 ≤ n). let no = none_past word n fits l in absurd (cc))
     (cases_lt n 64)
 
 -- `1 << k`
@@ -80,8 +80,8 @@ is_one-without a b n p q =
     ap (λ d. d == 1) (bit_at_and a (2 ^ 64 - 1 - b) n ∙ ap (min (bit_at a n)) (bit_at_not w64 b n q l))
     ∙ first_one (bit_at a n) (bit_at b n) (bit_at-lt a n) (bit_at-lt b n))
     (λ (l : 64 ≤ n).
-    is_one-and a (2 ^ 64 - 1 - b) n ∙ and_left _ _ (is_one-past a n p l)
-    ∙ (λ i. if sym (is_one-past b n q l) i then false else sym (is_one-past a n p l) i))
+    is_one-and a (2 ^ 64 - 1 - b) n ∙ and_left _ _ (none_past a n p l)
+    ∙ (λ i. if sym (none_past b n q l) i then false else sym (none_past a n p l) i))
     (cases_lt n 64)
 
 -- a word that isn't 0 has a bit that is 1

@@ -34,6 +34,7 @@ impl NumberSet {
     }
 
     /// The number is in the set.
+    #[tactic(auto, using(crate::proofs::Words::none_past))]
     pub fn contains(&self, number: u32) -> bool
         ensures { result ≡ has_number self.now number }
     {
