@@ -80,51 +80,58 @@ fn made(answers: &[Answer], place: usize) -> Result<Id, Fail> {
     }
 }
 
+/// What A is notified of: what INFO passes.
+fn due_to_a(p: Id, r: Id) -> [Notice; 11] {
+    [
+        Notice::New(LANE, p),
+        Notice::New(LANE, r),
+        Notice::Enter(LANE, p),
+        Notice::Enter(LANE, r),
+        Notice::Event(LANE, 5),
+        Notice::Event(LANE, 6),
+        Notice::Event(LANE, 7),
+        Notice::Exit(LANE, r),
+        Notice::Exit(LANE, p),
+        Notice::Close(LANE, r),
+        Notice::Close(LANE, p),
+    ]
+}
+
+/// What B is notified of: everything.
+fn due_to_b(p: Id, q: Id, r: Id) -> [Notice; 17] {
+    [
+        Notice::New(LANE, p),
+        Notice::New(LANE, q),
+        Notice::New(LANE, r),
+        Notice::Enter(LANE, p),
+        Notice::Enter(LANE, q),
+        Notice::Enter(LANE, r),
+        Notice::Event(LANE, 5),
+        Notice::Event(LANE, 6),
+        Notice::Event(LANE, 7),
+        Notice::Event(LANE, 8),
+        Notice::Event(LANE, 9),
+        Notice::Exit(LANE, r),
+        Notice::Exit(LANE, q),
+        Notice::Exit(LANE, p),
+        Notice::Close(LANE, r),
+        Notice::Close(LANE, q),
+        Notice::Close(LANE, p),
+    ]
+}
+
 /// Serves the list and looks at what A and B were notified of.
 fn a_and_b_beside(rt: &impl Abort, alloc: Global, outermost: LevelFilter) -> Result<(), Fail> {
     let mut dispatch = three(alloc, outermost)?;
     let answers = dispatch.serve(alloc, &requests())?;
-    let [p, q, r] = [made(&answers, 0)?, made(&answers, 1)?, made(&answers, 2)?];
+    let p = made(&answers, 0)?;
+    let q = made(&answers, 1)?;
+    let r = made(&answers, 2)?;
     let inner = dispatch.stack().inner();
-    assert_eq!(rt;
-        inner.layer().inner().notices(),
-        [
-            Notice::New(LANE, p),
-            Notice::New(LANE, r),
-            Notice::Enter(LANE, p),
-            Notice::Enter(LANE, r),
-            Notice::Event(LANE, 5),
-            Notice::Event(LANE, 6),
-            Notice::Event(LANE, 7),
-            Notice::Exit(LANE, r),
-            Notice::Exit(LANE, p),
-            Notice::Close(LANE, r),
-            Notice::Close(LANE, p),
-        ]
-        .as_slice()
-    );
+    assert_eq!(rt; inner.layer().inner().notices(), due_to_a(p, r).as_slice());
     assert_eq!(rt;
         inner.inner().layer().notices(),
-        [
-            Notice::New(LANE, p),
-            Notice::New(LANE, q),
-            Notice::New(LANE, r),
-            Notice::Enter(LANE, p),
-            Notice::Enter(LANE, q),
-            Notice::Enter(LANE, r),
-            Notice::Event(LANE, 5),
-            Notice::Event(LANE, 6),
-            Notice::Event(LANE, 7),
-            Notice::Event(LANE, 8),
-            Notice::Event(LANE, 9),
-            Notice::Exit(LANE, r),
-            Notice::Exit(LANE, q),
-            Notice::Exit(LANE, p),
-            Notice::Close(LANE, r),
-            Notice::Close(LANE, q),
-            Notice::Close(LANE, p),
-        ]
-        .as_slice()
+        due_to_b(p, q, r).as_slice()
     );
     Ok(())
 }
