@@ -1,3 +1,4 @@
+mod Beside
 mod Counter
 mod Level
 mod Optional

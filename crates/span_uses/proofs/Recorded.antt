@@ -295,7 +295,7 @@ pub in_use : (level : LevelFilter) (x y : Recorded) → Starts level x → ((f :
 in_use level x y h ready same = record { ready = ready h.ready; under = stays_under level (outer_of x) (outer_of y) same.0 same.1 h.under; empty = same.2 ∙ h.empty }
 
 -- a new recorder that didn't fail keeps all that it was notified of
-keeps_all : (r : Kept) (due : List KeptNotice) → Records new_recorder r due → r.failed ≡ false → r.notices ≡ due
+pub keeps_all : (r : Kept) (due : List KeptNotice) → Records new_recorder r due → r.failed ≡ false → r.notices ≡ due
 keeps_all r due h f = h.kept ∙ sym (h.split ∙ ap (λ (us : List KeptNotice). h.more ++ us) (h.all f) ∙ append-nil h.more)
 
 -- two spans and an event were served by a new stack

@@ -1,5 +1,6 @@
 pub mod Dispatches
 pub mod Filters
+pub mod Isolation
 pub mod Layers
 pub mod Stacks
 pub mod Tests

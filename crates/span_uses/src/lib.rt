@@ -15,6 +15,7 @@ ghost use Rattle.span_uses.specs.Uses.{left, name_in, parent_name_in, stack_in, 
 pub mod boxed;
 pub mod dispatch;
 pub mod filter;
+pub mod isolation;
 pub mod layer;
 pub mod stack;
 #[cfg(test)]

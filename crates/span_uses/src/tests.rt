@@ -2,6 +2,7 @@
 ghost use Rattle.std.specs.Prelude.{⊤};
 ghost use Rattle.span_registry.specs.Context.{WritesExtensions};
 
+use crate::isolation::record_alone_and_beside;
 use span_boxed::{BoxedLayer, DynLayer};
 use span_core::{
     Event, FieldSet, Id, Interest, Kind, Lane, Level, LevelFilter, Metadata, Pass, TraceError,
@@ -236,5 +237,21 @@ fn a_pair_under_filters_has_the_wider_hint(rt: HostRuntime) -> Result<(), Fail> 
         return Err(Fail::from("there is no room"));
     };
     assert_eq!(rt; stack.max_level_hint(), Some(LevelFilter::TRACE));
+    Ok(())
+}
+
+#[test]
+fn a_recorder_keeps_the_same_alone_and_beside_another(rt: HostRuntime) -> Result<(), Fail> {
+    let requests = [
+        root_from(0, Level::INFO),
+        event_from(1, Level::DEBUG),
+        event_from(2, Level::WARN),
+    ];
+    let (level, other) = (LevelFilter::INFO, LevelFilter::TRACE);
+    let (alone, beside) = record_alone_and_beside(rt.alloc(), level, other, &requests)?;
+    let kept = alone.stack().layer().inner().notices();
+    assert_eq!(rt; kept.len(), 2);
+    assert_eq!(rt; beside.stack().inner().layer().inner().notices(), kept);
+    assert_eq!(rt; beside.stack().layer().inner().notices().len(), 3);
     Ok(())
 }

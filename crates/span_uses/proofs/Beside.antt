@@ -1,0 +1,312 @@
+-- A recorder under a level, on a registry alone and beside another: what it sees is the same.
+use Rattle.std.proofs.Common.{◌<◌, arith, nat_lt, ◌≡◌, ◌∙◌, ◌+◌, ◌≤◌, true, List, [], ◌∷◌, Some, ap, map, refl, subst, sym, ℕ}
+use Rattle.std.proofs.lemmas.Bool.{false≢true}
+use Rattle.std.specs.Prelude.{⊤}
+use Rattle.span_core.specs.declared.filter.TheConstants.FilterId.{LIMIT}
+use Rattle.span_core.specs.declared.level.LevelFilter.{LevelFilter}
+use Rattle.span_dispatch.specs.Alone.{Alone, seen}
+use Rattle.span_dispatch.specs.Isolation.{PathsActAlike}
+use Rattle.span_dispatch.specs.Outcome.{Outcome}
+use Rattle.span_dispatch.specs.Recorder.{Kept, Records, kept_notice, new_recorder, recorder_hears, recorder_steps}
+use Rattle.span_dispatch.specs.Serve.{IsReady, flat, stack_of}
+use Rattle.span_dispatch.specs.declared.dispatch.Dispatch.{Dispatch}
+use Rattle.span_dispatch.specs.declared.request.Request.{Request}
+use Rattle.span_filters.specs.Filter.{ActsSteadily, settled_answers, unmoved}
+use Rattle.span_filters.specs.Level.{level_answers, level_honest, level_plain}
+use Rattle.span_layers.specs.Acts.{FilteredActs, LayeredActs, LeafActs}
+use Rattle.span_layers.specs.Filtered.{FilteredForm, FilteredHears, FilteredSteps, IsNumber, IsUnnumbered, filter_of, id_of, layer_of}
+use Rattle.span_layers.specs.Honest.{IsHonestStack}
+use Rattle.span_layers.specs.Layer.{LayerSteps}
+use Rattle.span_layers.specs.Layered.{LayeredHears, LayeredSteps, OverForm, inner_of, outer_of, with_inner}
+use Rattle.span_layers.specs.Number.{TakesNumbers, filters_in}
+use Rattle.span_layers.specs.Observe.{open_answers}
+use Rattle.span_layers.specs.Verdict.{HasOwnNumbers, NumbersStayOwn}
+use Rattle.span_layers.specs.declared.filtered.Filtered.{Filtered as FilteredLayer}
+use Rattle.span_layers.specs.declared.layered.Layered.{Layered}
+use Rattle.span_registry.proofs.Agreeing.{agree_refl}
+use Rattle.span_registry.proofs.CallerLemmas.{settled_new}
+use Rattle.span_registry.specs.Agree.{AgreeAt}
+use Rattle.span_registry.specs.Answers.{AreHonest}
+use Rattle.span_registry.specs.Closes.{IsSettled}
+use Rattle.span_registry.specs.Conducts.{ActsAt, Conducts, no_path, numbers_in}
+use Rattle.span_registry.specs.Form.{Bare, Base, Filtered, Form, Leaf, OnSubscriber, Over}
+use Rattle.span_registry.specs.Hooks.{StackSteps}
+use Rattle.span_registry.specs.Place.{HearSteps, Heard, Here, Inner, Outer, Under}
+use Rattle.span_registry.specs.Store.{RegistryState, Store, empty_store, new_registry}
+use Rattle.span_registry.specs.declared.limits.Limits.{Limits}
+use Rattle.span_uses.proofs.Level.{has_room, leaf_under, took}
+use Rattle.span_uses.proofs.Recorded.{keeps_all}
+use Rattle.span_uses.specs.Dispatches.{Recorded, recorder_of}
+use Rattle.span_uses.specs.Isolation.{Beside, IsNewUnder, KeepTheSame, MakesOf, ServesFirst, WentThroughTheSame, inner_recorder_of}
+
+-- ---- what the types say
+
+-- a recorder under a level
+abbrev pub Levelled : Type 0
+Levelled = FilteredLayer Kept LevelFilter
+
+abbrev pub levelled_form : Levelled → Form → Type 0
+levelled_form x = FilteredForm (id_of x) (settled_answers level_answers (filter_of x)) (λ f. f ≡ Leaf true open_answers)
+
+abbrev levelled_steps : LayerSteps Levelled
+levelled_steps x p e lane under v y w = (id_of y ≡ id_of x) × FilteredSteps unmoved recorder_steps (id_of x) (filter_of x) (layer_of x) p e lane under v (filter_of y) (layer_of y) w
+
+abbrev levelled_hears : HearSteps Levelled
+levelled_hears x place h y = FilteredHears recorder_hears (layer_of x) place h (layer_of y)
+
+abbrev levelled_acts : ActsAt Levelled
+levelled_acts x = FilteredActs (id_of x) (ActsSteadily (settled_answers level_answers) (filter_of x)) LeafActs (layer_of x)
+
+-- a stack with one on it
+abbrev On : Type 0 → Type 0
+On I = Layered Levelled I
+
+abbrev on_form : {I : Type 0} → (I → Form → Type 0) → On I → Form → Type 0
+on_form form x = OverForm OnSubscriber (levelled_form (outer_of x)) (form (inner_of x))
+
+abbrev on_steps : {I : Type 0} → (I → RegistryState → I) → StackSteps I → StackSteps (On I)
+on_steps with_registry steps x p e lane v y w = LayeredSteps with_registry levelled_steps steps (outer_of x) (inner_of x) p e lane v (outer_of y) (inner_of y) w
+
+abbrev on_hears : {I : Type 0} → HearSteps I → HearSteps (On I)
+on_hears hears x place h y = LayeredHears levelled_hears hears (outer_of x) (inner_of x) place h (outer_of y) (inner_of y)
+
+abbrev on_acts : {I : Type 0} → ActsAt I → ActsAt (On I)
+on_acts acts x = LayeredActs levelled_acts acts (outer_of x) (inner_of x)
+
+abbrev itself : RegistryState → RegistryState
+itself s = s
+
+abbrev another : RegistryState → RegistryState → RegistryState
+another s w = w
+
+abbrev bare_form : RegistryState → Form → Type 0
+bare_form s f = f ≡ Bare Base
+
+abbrev bare_steps : StackSteps RegistryState
+bare_steps x p e lane v y w = w ≡ v
+
+abbrev bare_hears : HearSteps RegistryState
+bare_hears x place h y = ⊤
+
+-- the first stack
+abbrev form_1 : Recorded → Form → Type 0
+form_1 = on_form bare_form
+
+abbrev steps_1 : StackSteps Recorded
+steps_1 = on_steps another bare_steps
+
+abbrev hears_1 : HearSteps Recorded
+hears_1 = on_hears bare_hears
+
+abbrev acts_1 : ActsAt Recorded
+acts_1 = on_acts no_path
+
+-- the second
+abbrev registry_2 : Beside → RegistryState
+registry_2 x = inner_of (inner_of x)
+
+abbrev with_registry_2 : Beside → RegistryState → Beside
+with_registry_2 x w = with_inner x (with_inner (inner_of x) w)
+
+abbrev form_2 : Beside → Form → Type 0
+form_2 = on_form form_1
+
+abbrev steps_2 : StackSteps Beside
+steps_2 = on_steps with_inner steps_1
+
+abbrev hears_2 : HearSteps Beside
+hears_2 = on_hears hears_1
+
+abbrev acts_2 : ActsAt Beside
+acts_2 = on_acts acts_1
+
+-- ---- at first
+
+-- a stack of this form, honest, on a registry without spans that handed out this many filters
+pub record Stands {S : Type 0} (registry : S → RegistryState) (has_form : S → Form → Type 0) (f : Form) (n : ℕ) (x : S) : Type 0 where
+  pub has : has_form x f
+  pub rules : IsHonestStack f n
+  pub filters : (registry x).filters ≡ n
+  pub empty : (registry x).store ≡ empty_store
+
+-- a new recorder under this level, whose filter has this number
+pub record IsNumbered (level : LevelFilter) (n : ℕ) (x : Levelled) : Type 0 where
+  pub number : IsNumber (id_of x) (Some n)
+  pub new : IsNewUnder level x
+
+-- the form of a stack with a recorder under a level on it
+abbrev form_on : LevelFilter → ℕ → Form → Form
+form_on level n f = Over OnSubscriber (Filtered (Some n) (level_answers level) (Leaf true open_answers)) f
+
+open_honest : AreHonest open_answers
+open_honest = record { always = λ m v e. refl; never = λ m v e. absurd (cc); above = λ m v e. absurd (false≢true e); alike = λ m k e. refl }
+
+honest_on : (level : LevelFilter) (n : ℕ) (f : Form) → HasOwnNumbers (form_on level n f) (n + 1) → IsHonestStack f n → IsHonestStack (form_on level n f) (n + 1)
+honest_on level n f own h = record {
+  answers = ((level_honest level, open_honest), h.answers);
+  numbers = own;
+  orderly = (record { enabled = λ m v. refl; event = λ e v. refl }, h.orderly);
+  still = (refl, h.still);
+  stack = h.stack;
+}
+
+-- a new registry stands so
+pub bare_stands : (l : Limits) (s : RegistryState) → s ≡ new_registry l → Stands itself bare_form (Bare Base) 0 s
+bare_stands l s new = record {
+  has = refl;
+  rules = record { answers = tt; numbers = record { distinct = tt; handed_out = λ k e. absurd (false≢true e) }; orderly = tt; still = tt; stack = refl };
+  filters = ap (λ (t : RegistryState). t.filters) new;
+  empty = ap (λ (t : RegistryState). t.store) new;
+}
+
+module _ {I : Type 0} (registry : I → RegistryState) (with_registry : I → RegistryState → I) (has_form : I → Form → Type 0) (shows : (i : I) (w : RegistryState) → registry (with_registry i w) ≡ w) (keeps : (i : I) (w : RegistryState) (f : Form) → has_form i f → has_form (with_registry i w) f) where
+  -- what comes of a stack that a recorder under a level was put on
+  pub record PutOn (level : LevelFilter) (f : Form) (n : ℕ) (i : I) (x : On I) : Type 0 where
+    pub stands : Stands (λ y. registry (inner_of y)) (on_form has_form) (form_on level n f) (n + 1) x
+    pub outer : IsNumbered level n (outer_of x)
+    pub below : inner_of x ≡ with_registry i (record (registry i) { filters = (registry (inner_of x)).filters })
+
+  -- it took the next number
+  pub put_on : NumbersStayOwn → (level : LevelFilter) (f : Form) (n : ℕ) (i : I) (recorder : Kept) (u : Levelled) (x : On I) → Stands registry has_form f n i → recorder ≡ new_recorder → IsUnnumbered u recorder level
+      → TakesNumbers registry with_registry levelled_form u i (outer_of x) (inner_of x) → ((g : Form) → levelled_form u g → (registry i).filters + filters_in g ≤ LIMIT)
+      → (filter_of (outer_of x) ≡ filter_of u) × (layer_of (outer_of x) ≡ layer_of u) → PutOn level f n i x
+  put_on law level f n i recorder u x stands new unnumbered numbers room attached =
+      let a = level_answers level in
+      let g = leaf_under a in
+      let has : levelled_form u g = (unnumbered.id, ap level_answers (sym unnumbered.own), refl) in
+      let r : n + 1 ≤ LIMIT = subst (λ k. k + 1 ≤ LIMIT) stands.filters (room g has) in
+      let formed = subst (λ k. levelled_form (outer_of x) (took a k (nat_lt k LIMIT)).0) stands.filters (numbers.form g has) in
+      let form = subst (λ b. levelled_form (outer_of x) (took a n b).0) (has_room n r) formed in
+      let counted = subst (λ k. (registry (inner_of x)).filters ≡ (took a k (nat_lt k LIMIT)).1) stands.filters (numbers.next g has) in
+      let next = subst (λ b. (registry (inner_of x)).filters ≡ (took a n b).1) (has_room n r) counted in
+      let own = subst (λ b. HasOwnNumbers (Over OnSubscriber (took a n b).0 f) (took a n b).1) (has_room n r) ((law g n r).stack f stands.rules.numbers) in
+      record {
+        stands = record {
+          has = (refl, form, subst (λ j. has_form j f) (sym numbers.alone) (keeps i _ f stands.has));
+          rules = honest_on level n f own stands.rules;
+          filters = next;
+          empty = ap (λ j. (registry j).store) numbers.alone ∙ ap (λ (t : RegistryState). t.store) (shows i _) ∙ stands.empty;
+        };
+        outer = record { number = form.0; new = record { own = attached.0 ∙ unnumbered.own; inner = attached.1 ∙ unnumbered.inner ∙ new } };
+        below = numbers.alone;
+      }
+
+module _ {S : Type 0} (registry : S → RegistryState) (with_registry : S → RegistryState → S) (has_form : S → Form → Type 0) (stepped : StackSteps S) where
+  -- what stands so is ready
+  pub ready : (f : Form) (n : ℕ) (x : S) → Stands registry has_form f n x → (g : Form) × IsReady registry with_registry has_form stepped g x
+  ready f n x h = (
+    f,
+    record {
+      honest = record { has = h.has; rules = subst (λ k. IsHonestStack f k) (sym h.filters) h.rules };
+      settled = subst IsSettled (sym (ap (λ (s : Store). s.spans) h.empty)) (settled_new (registry x).limits);
+    },
+  )
+
+-- ---- both runs
+
+-- its filter acts so
+abbrev pub conducts_of : LevelFilter → Conducts
+conducts_of level = (Some 0, λ h. level_answers level) ∷ []
+
+pub alike : (level : LevelFilter) → PathsActAlike (conducts_of level) (conducts_of level)
+alike level = (refl, record { plain = λ h. record { enabled = λ m v w e. refl; event = λ e v w d. refl }; same = λ h k e. refl }, tt)
+
+acts_so : (level : LevelFilter) (x : Levelled) → IsNumbered level 0 x → levelled_acts x (Under Here) (conducts_of level)
+acts_so level x h = (h.number, subst (λ f. ActsSteadily (settled_answers level_answers) f (λ k. level_answers level)) (sym h.new.own) (level_plain level), refl)
+
+-- the same in use
+stays_numbered : (level : LevelFilter) (n : ℕ) (x y : Levelled) → (id_of y ≡ id_of x) × (filter_of y ≡ filter_of x) × (layer_of y ≡ layer_of x) → IsNumbered level n x → IsNumbered level n y
+stays_numbered level n x y same h = record { number = subst (λ i. IsNumber i (Some n)) (sym same.0) h.number; new = record { own = same.1 ∙ h.new.own; inner = same.2 ∙ h.new.inner } }
+
+-- of the same notices both recorders keep the same
+went_same : (r q : Kept) (h k : Heard) → h ≡ k → Records new_recorder r (map kept_notice h) → Records new_recorder q (map kept_notice k) → WentThroughTheSame r q
+went_same r q h k same first second =
+    let due = subst (λ g. Records new_recorder q (map kept_notice g)) (sym same) second in
+    record { notices = map kept_notice h; first = first; second = due; kept = λ a b. keeps_all r _ first a ∙ sym (keeps_all q _ due b) }
+
+abbrev pub Makes1 : List Request → Dispatch Recorded → List Outcome → Dispatch Recorded → Type 0
+Makes1 = MakesOf inner_of with_inner form_1 steps_1 hears_1 acts_1
+
+abbrev pub Makes2 : List Request → Dispatch Beside → List Outcome → Dispatch Beside → Type 0
+Makes2 = MakesOf registry_2 with_registry_2 form_2 steps_2 hears_2 acts_2
+
+-- what a leaf behind this filter sees from an empty store on follows from the outcomes
+abbrev pub SeesOnly : LevelFilter → Type 0
+SeesOnly level = (outcomes : List Outcome) (h k : Heard) → Alone (conducts_of level) empty_store outcomes h → Alone (conducts_of level) empty_store outcomes k → h ≡ k
+
+at_empty : (level : LevelFilter) (s : Store) → s ≡ empty_store → AgreeAt (numbers_in (conducts_of level)) s empty_store
+at_empty level s e = subst (λ t. AgreeAt (numbers_in (conducts_of level)) s t) e (agree_refl _ s)
+
+-- where both made the same, both recorders went through the same
+same_kept : (level : LevelFilter) → SeesOnly level → (requests : List Request) (alone last : Dispatch Recorded) (beside end : Dispatch Beside) (outcomes : List Outcome)
+    → IsNumbered level 0 (outer_of (stack_of alone)) → IsNumbered level 0 (outer_of (inner_of (stack_of beside))) → (inner_of (stack_of alone)).store ≡ empty_store → (registry_2 (stack_of beside)).store ≡ empty_store
+    → Makes1 requests alone outcomes last → Makes2 requests beside outcomes end → WentThroughTheSame (recorder_of last) (inner_recorder_of end)
+same_kept level law requests alone last beside end outcomes one two none nothing first second =
+    let a = Outer (Under Here) in
+    let b = Inner (Outer (Under Here)) in
+    let h = seen a (flat first.served.made) in
+    let k = seen b (flat second.served.made) in
+    let cs = conducts_of level in
+    let sees = subst (λ o. Alone cs empty_store o h) first.made (first.served.alone a cs empty_store (acts_so level _ one) (at_empty level _ none)) in
+    let sees_too = subst (λ o. Alone cs empty_store o k) second.made (second.served.alone b cs empty_store (acts_so level _ two) (at_empty level _ nothing)) in
+    let heard : Records (layer_of (outer_of (stack_of alone))) (recorder_of last) (map kept_notice h) = first.served.each a in
+    let heard_too : Records (layer_of (outer_of (inner_of (stack_of beside)))) (inner_recorder_of end) (map kept_notice k) = second.served.each b in
+    went_same (recorder_of last) (inner_recorder_of end) h k (law outcomes h k sees sees_too) (subst (λ r. Records r (recorder_of last) (map kept_notice h)) one.new.inner heard)
+    (subst (λ r. Records r (inner_recorder_of end) (map kept_notice k)) two.new.inner heard_too)
+
+abbrev SameLayer : Levelled → Levelled → Type 0
+SameLayer x y = (id_of y ≡ id_of x) × (filter_of y ≡ filter_of x) × (layer_of y ≡ layer_of x)
+
+abbrev Serves1 : List Request → Recorded → Dispatch Recorded → Type 0
+Serves1 = ServesFirst inner_of with_inner form_1 steps_1 hears_1 acts_1 (λ x y. SameLayer (outer_of x) (outer_of y) × (inner_of y ≡ inner_of x))
+
+abbrev Serves2 : List Request → Beside → Dispatch Beside → Type 0
+Serves2 = ServesFirst registry_2 with_registry_2 form_2 steps_2 hears_2 acts_2
+    (λ x y. SameLayer (outer_of x) (outer_of y) × (SameLayer (outer_of (inner_of x)) (outer_of (inner_of y)) × (inner_of (inner_of y) ≡ inner_of (inner_of x))))
+
+abbrev PutOn1 : LevelFilter → RegistryState → Recorded → Type 0
+PutOn1 level s x = PutOn itself another bare_form (λ i w. refl) (λ i w f h. h) level (Bare Base) 0 s x
+
+-- a recorder on a new registry
+pub alone_put : NumbersStayOwn → (level : LevelFilter) (l : Limits) (s : RegistryState) (recorder : Kept) (u : Levelled) (x : Recorded) → s ≡ new_registry l → recorder ≡ new_recorder → IsUnnumbered u recorder level
+    → TakesNumbers itself another levelled_form u s (outer_of x) (inner_of x) → ((g : Form) → levelled_form u g → s.filters + filters_in g ≤ LIMIT)
+    → (filter_of (outer_of x) ≡ filter_of u) × (layer_of (outer_of x) ≡ layer_of u) → PutOn1 level s x
+alone_put law level l s recorder u x new = put_on itself another bare_form (λ i w. refl) (λ i w f h. h) law level (Bare Base) 0 s recorder u x (bare_stands l s new)
+
+abbrev PutOn2 : LevelFilter → LevelFilter → Recorded → Beside → Type 0
+PutOn2 level other i x = PutOn inner_of with_inner form_1 (λ j w. refl) (λ j w f h. h) other (form_on level 0 (Bare Base)) 1 i x
+
+-- another on that
+pub beside_put : NumbersStayOwn → (level other : LevelFilter) (s : RegistryState) (i : Recorded) (recorder : Kept) (u : Levelled) (x : Beside) → PutOn1 level s i → recorder ≡ new_recorder → IsUnnumbered u recorder other
+    → TakesNumbers inner_of with_inner levelled_form u i (outer_of x) (inner_of x) → ((g : Form) → levelled_form u g → (inner_of i).filters + filters_in g ≤ LIMIT)
+    → (filter_of (outer_of x) ≡ filter_of u) × (layer_of (outer_of x) ≡ layer_of u) → PutOn2 level other i x
+beside_put law level other s i recorder u x put = put_on inner_of with_inner form_1 (λ j w. refl) (λ j w f h. h) law other (form_on level 0 (Bare Base)) 1 i recorder u x put.stands
+
+-- it is never refused: one filter stands there
+pub room_for_second : (level other : LevelFilter) (s : RegistryState) (i : Recorded) (recorder : Kept) (u : Levelled) → PutOn1 level s i → IsUnnumbered u recorder other → ((g : Form) → levelled_form u g → LIMIT < (inner_of i).filters + filters_in g) → ⊥
+room_for_second level other s i recorder u put unnumbered full =
+    let one : (inner_of i).filters ≡ 1 = put.stands.filters in
+    let more : LIMIT < (inner_of i).filters + 1 = full (leaf_under (level_answers (filter_of u))) (unnumbered.id, refl, refl) in
+    omega (arith, one, more)
+
+-- both were put in use and served
+pub keep_the_same : (level other : LevelFilter) → SeesOnly level → (requests : List Request) (s t : RegistryState) (x i : Recorded) (y : Beside) (last : Dispatch Recorded) (end : Dispatch Beside)
+    → PutOn1 level s x → PutOn1 level t i → PutOn2 level other i y → Serves1 requests x last → Serves2 requests y end → KeepTheSame level other (Makes1 requests) (Makes2 requests) (last, end)
+keep_the_same level other law requests s t x i y last end alone within beside one two =
+    let a = stays_numbered level 0 _ _ one.in_use.0 alone.outer in
+    let kept : IsNumbered level 0 (outer_of (inner_of y)) = subst (λ (j : Recorded). IsNumbered level 0 (outer_of j)) (sym beside.below) within.outer in
+    let b = stays_numbered level 0 _ _ two.in_use.1.0 kept in
+    let served = one.served (ready inner_of with_inner form_1 steps_1 _ _ x alone.stands) in
+    let served_too = two.served (ready registry_2 with_registry_2 form_2 steps_2 _ _ y beside.stands) in
+    record {
+      alone = one.first;
+      beside = two.first;
+      alone_new = a.new;
+      beside_new = b.new;
+      other_new = (stays_numbered other 1 _ _ two.in_use.0 beside.outer).new;
+      alone_served = (_, record { answers = served.0; served = served.1; made = refl });
+      beside_served = (_, record { answers = served_too.0; served = served_too.1; made = refl });
+      same = λ outcomes m n.
+          same_kept level law requests one.first last two.first end outcomes a b (ap (λ (r : RegistryState). r.store) one.same ∙ alone.stands.empty)
+          (ap (λ (r : RegistryState). r.store) two.same ∙ beside.stands.empty) m n;
+    }
