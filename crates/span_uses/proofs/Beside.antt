@@ -28,7 +28,7 @@ use Rattle.span_registry.proofs.CallerLemmas.{settled_new}
 use Rattle.span_registry.specs.Agree.{AgreeAt}
 use Rattle.span_registry.specs.Answers.{AreHonest}
 use Rattle.span_registry.specs.Closes.{IsSettled}
-use Rattle.span_registry.specs.Conducts.{ActsAt, Conducts, no_path, numbers_in}
+use Rattle.span_registry.specs.Conducts.{ActsAt, Conducts, no_conducts, numbers_in}
 use Rattle.span_registry.specs.Form.{Bare, Base, Filtered, Form, Leaf, OnSubscriber, Over}
 use Rattle.span_registry.specs.Hooks.{StackSteps}
 use Rattle.span_registry.specs.Place.{HearSteps, Heard, Here, Inner, Outer, Under}
@@ -99,7 +99,7 @@ abbrev hears_1 : HearSteps Recorded
 hears_1 = on_hears bare_hears
 
 abbrev acts_1 : ActsAt Recorded
-acts_1 = on_acts no_path
+acts_1 = on_acts no_conducts
 
 -- the second
 abbrev registry_2 : Beside → RegistryState
