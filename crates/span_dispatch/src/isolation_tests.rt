@@ -2,7 +2,7 @@
 ghost use Rattle.std.specs.Prelude.{⊤};
 
 use crate::{Answer, Dispatch, Notice, Recorder, Request, Which, WhichParent};
-use span_core::{FieldSet, Id, Kind, Lane, Level, LevelFilter, Metadata};
+use span_core::{Attributes, Event, FieldSet, Id, Kind, Lane, Level, LevelFilter, Metadata};
 use span_filters::dynamic_filter_fn;
 use span_layers::{Filtered, LayerExt, Layered, Observe, Observed, Observer, SubscriberExt};
 use span_registry::{Context, ContextMut, Registry, Subscriber, Tag};
@@ -158,8 +158,8 @@ impl<S: Subscriber> Observe<S> for Marker {
     }
 }
 
-/// How many notices a recorder gets of a span that is entered, an event in it, and its end: its filter passes spans, and events
-/// in a marked span. Another layer marks what this level passes.
+/// How many notices a recorder gets of a span that is entered and an event in it: its filter passes spans, and events in a marked
+/// span. Another layer marks what this level passes.
 fn notices_beside_a_marker(alloc: Global, level: LevelFilter) -> Result<usize, Fail> {
     let in_marked = dynamic_filter_fn(|meta: &Metadata, cx: &Context<'_, Registry>| {
         meta.is_span()
@@ -174,23 +174,20 @@ fn notices_beside_a_marker(alloc: Global, level: LevelFilter) -> Result<usize, F
     let Ok(stack) = stack.with(Observer::new(Marker).with_filter(level)) else {
         return no_room();
     };
-    let mut dispatch = Dispatch::new(alloc, stack);
+    let mut dispatch = Dispatch::fresh(alloc, stack);
     let span = metadata_of(2, Level::INFO, Kind::SPAN);
+    let id = dispatch
+        .new_span(LANE, &Attributes::new_root(span, &[]))?
+        .ok_or("a layer vetoes")?;
+    dispatch.enter(LANE, id)?;
     let event = metadata_of(7, Level::INFO, Kind::EVENT);
-    let requests = [
-        Request::NewSpan(LANE, span, WhichParent::Root, &[]),
-        Request::Enter(LANE, Which::Made(0)),
-        Request::Event(LANE, event, WhichParent::Contextual, &[]),
-        Request::Exit(LANE, Which::Made(0)),
-        Request::Drop(LANE, Which::Made(0)),
-    ];
-    let _ = dispatch.serve(alloc, &requests)?;
+    dispatch.event(LANE, &Event::new(event, &[]))?;
     Ok(dispatch.stack().inner().layer().inner().notices().len())
 }
 
 #[test]
 fn a_filter_that_reads_extensions_sees_other_layers_work(rt: HostRuntime) -> Result<(), Fail> {
-    assert_eq!(rt; notices_beside_a_marker(rt.alloc(), LevelFilter::TRACE)?, 5);
-    assert_eq!(rt; notices_beside_a_marker(rt.alloc(), LevelFilter::OFF)?, 4);
+    assert_eq!(rt; notices_beside_a_marker(rt.alloc(), LevelFilter::TRACE)?, 3);
+    assert_eq!(rt; notices_beside_a_marker(rt.alloc(), LevelFilter::OFF)?, 2);
     Ok(())
 }
