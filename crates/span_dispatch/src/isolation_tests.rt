@@ -1,11 +1,8 @@
-//! Tests of what other layers' filters make no difference to, and of what they may where a filter reads extensions.
-ghost use Rattle.std.specs.Prelude.{⊤};
-
+//! Tests of what other layers' filters make no difference to.
 use crate::{Answer, Dispatch, Notice, Recorder, Request, Which, WhichParent};
-use span_core::{Attributes, Event, FieldSet, Id, Kind, Lane, Level, LevelFilter, Metadata};
-use span_filters::dynamic_filter_fn;
-use span_layers::{Filtered, LayerExt, Layered, Observe, Observed, Observer, SubscriberExt};
-use span_registry::{Context, ContextMut, Registry, Subscriber, Tag};
+use span_core::{FieldSet, Id, Kind, Lane, Level, LevelFilter, Metadata};
+use span_layers::{Filtered, LayerExt, Layered, SubscriberExt};
+use span_registry::Registry;
 use std::alloc::Global;
 use std::process::Abort;
 use std::test::Fail;
@@ -140,54 +137,4 @@ fn a_and_b_beside(rt: &impl Abort, alloc: Global, outermost: LevelFilter) -> Res
 fn another_layers_filter_makes_no_difference(rt: HostRuntime) -> Result<(), Fail> {
     a_and_b_beside(&rt, rt.alloc(), LevelFilter::TRACE)?;
     a_and_b_beside(&rt, rt.alloc(), LevelFilter::OFF)
-}
-
-/// Marks each new span, as far as there is memory.
-#[derive(Drop)]
-struct Marker;
-
-impl<S: Subscriber> Observe<S> for Marker {
-    ghost observed = { λ x e lane under v y w. ⊤ };
-
-    fn observe(&mut self, notice: Observed<'_, '_>, ctx: &mut ContextMut<'_, S>) {
-        if let Observed::NewSpan(_, id) = notice {
-            if let Some(mut extensions) = ctx.extensions_mut(id) {
-                let _ = extensions.insert(Tag::<bool>::new(0), true);
-            }
-        }
-    }
-}
-
-/// How many notices a recorder gets of a span that is entered and an event in it: its filter passes spans, and events in a marked
-/// span. Another layer marks what this level passes.
-fn notices_beside_a_marker(alloc: Global, level: LevelFilter) -> Result<usize, Fail> {
-    let in_marked = dynamic_filter_fn(|meta: &Metadata, cx: &Context<'_, Registry>| {
-        meta.is_span()
-            || match cx.lookup_current() {
-                Some(span) => span.extensions().get(Tag::<bool>::new(0)).is_some(),
-                None => false,
-            }
-    });
-    let Ok(stack) = Registry::new(alloc).with(Recorder::new(alloc).with_filter(in_marked)) else {
-        return no_room();
-    };
-    let Ok(stack) = stack.with(Observer::new(Marker).with_filter(level)) else {
-        return no_room();
-    };
-    let mut dispatch = Dispatch::fresh(alloc, stack);
-    let span = metadata_of(2, Level::INFO, Kind::SPAN);
-    let id = dispatch
-        .new_span(LANE, &Attributes::new_root(span, &[]))?
-        .ok_or("a layer vetoes")?;
-    dispatch.enter(LANE, id)?;
-    let event = metadata_of(7, Level::INFO, Kind::EVENT);
-    dispatch.event(LANE, &Event::new(event, &[]))?;
-    Ok(dispatch.stack().inner().layer().inner().notices().len())
-}
-
-#[test]
-fn a_filter_that_reads_extensions_sees_other_layers_work(rt: HostRuntime) -> Result<(), Fail> {
-    assert_eq!(rt; notices_beside_a_marker(rt.alloc(), LevelFilter::TRACE)?, 3);
-    assert_eq!(rt; notices_beside_a_marker(rt.alloc(), LevelFilter::OFF)?, 2);
-    Ok(())
 }
