@@ -4,16 +4,17 @@ pub mod Agreeing
 mod Ancestry
 pub mod Chains
 mod Closing
+mod Entries
 mod Finds
 mod Counts
 pub mod Drops
-mod Found
 mod EnterExit
 mod FromRoot
 mod Itself
 mod Kept
 mod Lending
 mod LookupLaws
+mod Lost
 mod Marks
 mod Masks
 mod NumberMaps
@@ -21,5 +22,10 @@ mod Once
 mod Opened
 mod Removed
 mod States
+mod SlotChanges
+mod SlotCounts
+mod SlotSteps
+mod Slotting
+mod Stored
 mod StoreLaws
 mod View

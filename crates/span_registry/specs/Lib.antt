@@ -18,6 +18,8 @@ pub mod Place
 pub mod Plan
 pub mod Question
 pub mod References
+pub mod Slot
+pub mod State
 pub mod Step
 pub mod Store
 pub mod Subscriber

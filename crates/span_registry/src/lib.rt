@@ -16,8 +16,12 @@ mod lookup_tests;
 mod mask;
 mod registry;
 mod scope;
+mod slot;
+#[cfg(test)]
+mod slot_tests;
 mod span_data;
 mod span_record;
+mod span_store;
 mod stack;
 mod subscriber;
 #[cfg(test)]

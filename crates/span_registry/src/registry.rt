@@ -19,10 +19,8 @@ use crate::extensions::ExtensionsMut;
 use crate::limits::Limits;
 use crate::lookup::LookupSpan;
 use crate::span_data::Data;
-use crate::span_record::{
-    Counts, Records, SpanExtensions, SpanRecord, add_extensions, add_span, counts_of, full,
-    lose_child, remove_extensions, set_handles, take_out,
-};
+use crate::span_record::{Counts, SpanRecord};
+use crate::span_store::SpanStore;
 use crate::stack::{SpanStack, pop_from, push_on};
 use crate::subscriber::Subscriber;
 use span_core::{
@@ -49,10 +47,7 @@ pub enum Released {
 #[derive(Drop)]
 pub struct Registry {
     alloc: Global,
-    limits: Limits,
-    records: Records,
-    extensions: SpanExtensions,
-    issued: u64,
+    spans: SpanStore,
     stacks: BTreeMap<u32, SpanStack>,
     filters: u32,
 }
@@ -71,7 +66,7 @@ impl Model for Registry {
 
     ghost coded = { Prim.hlevel (codes, map_code, set_code, metadata.the_row.coded, verdict.the_row.coded, values.the_row.coded, bounds.the_row.coded) };
 
-    ghost use Rattle.span_registry.specs.Kept.{IsSound, state_of};
+    ghost use Rattle.span_registry.specs.State.{IsSound, state_of};
 
     ghost view = { state_of };
 
@@ -95,10 +90,7 @@ impl Registry {
     {
         Registry {
             alloc,
-            limits,
-            records: BTreeMap::new(alloc),
-            extensions: BTreeMap::new(alloc),
-            issued: 0,
+            spans: SpanStore::new(alloc, limits),
             stacks: BTreeMap::new(alloc),
             filters: 0,
         }
@@ -115,14 +107,14 @@ impl Registry {
     pub fn is_fresh(&self) -> bool
         ensures { IsTrue result ↔ (set.len self.now.store.issued ≡ 0) }
     {
-        self.issued == 0
+        self.spans.is_fresh()
     }
 
     /// The span has a handle or a child.
     pub fn is_open(&self, id: Id) -> bool
         ensures { IsTrue result ↔ IsOpen self.now.store.spans (number_of id) }
     {
-        match counts_of(&self.records, id) {
+        match self.spans.counts_of(id) {
             Some(counts) => counts.is_open(),
             None => false,
         }
@@ -135,14 +127,12 @@ impl Registry {
         self.filters
     }
 
-    /// How many places are retired: none, since the ordered map has no places.
+    /// How many places are retired: those that held their last span.
     pub fn retired(&self) -> u32
         ensures retired { result ≡ self.now.retired }
         ensures late { RetiresLate self.now }
     {
-        // A field's read shows the prover the registry's value.
-        let _ = &self.issued;
-        0
+        self.spans.retired()
     }
 
     /// Each chain of parents ends at a root, and every span in the store was issued.
@@ -150,8 +140,7 @@ impl Registry {
         ensures forest { IsForest self.now.store.spans }
         ensures issued { AreIssued self.now.store }
     {
-        // A field's read shows the prover the registry's value.
-        let _ = &self.filters;
+        self.spans.is_sound();
     }
 
     /// The extensions of a span that is in the store, closing or not, to be read and changed.
@@ -160,9 +149,8 @@ impl Registry {
         ensures value { option_copied_mut result ≡ get self.old.store.extensions (number_of id) }
         ensures there { IsSome result ↔ IsInStore self.old.store.spans (number_of id) }
     {
-        let number = id.into_u64();
-        match self.extensions.get_mut(&number) {
-            Some(found) => Some(found),
+        match self.spans.slots.key_of(id) {
+            Some(key) => Some(&mut self.spans.extensions[key]),
             None => None,
         }
     }
@@ -176,7 +164,7 @@ impl Registry {
         ensures unchanged { OnErr result (self.new ≡ self.old) }
         ensures forest { IsForest self.old.store.spans }
     {
-        let Some(counts) = counts_of(&self.records, id) else {
+        let Some(counts) = self.spans.counts_of(id) else {
             return Err(TraceError::UnknownSpan(id));
         };
         if !counts.is_open() {
@@ -189,7 +177,7 @@ impl Registry {
             handles: counts.handles - 1,
             ..counts
         };
-        set_handles(&mut self.records, id, left.handles);
+        self.spans.set_counts(id, left);
         Ok(left.state())
     }
 
@@ -198,9 +186,8 @@ impl Registry {
         requires { IsClosing self.old.store.spans (number_of id) }
         ensures { Removes id result self.old self.new }
     {
-        remove_extensions(&mut self.extensions, id);
-        match take_out(&mut self.records, id) {
-            Some(parent) => lose_child(&mut self.records, parent),
+        match self.spans.remove(self.alloc, id) {
+            Some(parent) => self.spans.lose_child(parent),
             None => None,
         }
     }
@@ -254,13 +241,6 @@ impl Registry {
             }
         }
     }
-
-    /// All places hold a span or are retired, or all ids were issued.
-    fn has_no_place(&self) -> bool
-        ensures { MatchBool result (HasNoPlace self.now) (HasPlace self.now) }
-    {
-        self.issued == u64::MAX || self.records.len() as u64 >= u64::from(self.limits.places)
-    }
 }
 
 impl LookupSpan for Registry {
@@ -283,9 +263,7 @@ impl LookupSpan for Registry {
     }
 
     fn span_data(&self, id: Id) -> Option<Data<'_>> {
-        let number = id.into_u64();
-        let record = self.records.get(&number)?;
-        let extensions = self.extensions.get(&number)?;
+        let (record, extensions) = self.spans.get_both(id)?;
         Some(Data {
             id,
             record,
@@ -370,14 +348,13 @@ impl Subscriber for Registry {
         ensures unchanged { OnErr result (self.new ≡ self.old) }
     {
         let parent = self.parent_for(lane, attrs.asked_parent())?;
-        if let Some(id) = full(&self.records, parent, self.limits.count) {
+        let count = self.spans.limits().count;
+        if let Some(id) = self.spans.full_parent(parent, count) {
             return Err(TraceError::CountFull(id));
         }
-        if self.has_no_place() {
+        if self.spans.is_full() {
             return Err(TraceError::TooManySpans);
         }
-        let number = self.issued + 1;
-        let id = Id::from_u64(number);
         let span = SpanRecord {
             metadata: attrs.metadata(),
             parent,
@@ -385,12 +362,10 @@ impl Subscriber for Registry {
             children: 0,
             verdict: pass.refused(),
         };
-        add_extensions(&mut self.extensions, id, self.alloc)?;
-        if let Err(error) = add_span(&mut self.records, id, span, self.limits.count) {
-            remove_extensions(&mut self.extensions, id);
-            return Err(error);
+        let id = self.spans.insert(self.alloc, span)?;
+        if let Some(above) = parent {
+            self.spans.gain_child(above, count);
         }
-        self.issued = number;
         Ok(id)
     }
 
@@ -430,16 +405,20 @@ impl Subscriber for Registry {
     }
 
     fn clone_span(&mut self, _lane: Lane, id: Id) -> Result<Id, TraceError> {
-        let Some(counts) = counts_of(&self.records, id) else {
+        let Some(counts) = self.spans.counts_of(id) else {
             return Err(TraceError::UnknownSpan(id));
         };
         if !counts.is_open() {
             return Err(TraceError::UnknownSpan(id));
         }
-        if counts.handles >= self.limits.count {
+        if counts.handles >= self.spans.limits().count {
             return Err(TraceError::CountFull(id));
         }
-        set_handles(&mut self.records, id, counts.handles + 1);
+        let more = Counts {
+            handles: counts.handles + 1,
+            ..counts
+        };
+        self.spans.set_counts(id, more);
         Ok(id)
     }
 
@@ -447,7 +426,7 @@ impl Subscriber for Registry {
         let Some(id) = self.entered_last(lane) else {
             return Current::none();
         };
-        match self.records.get(&id.into_u64()) {
+        match self.spans.get(id) {
             Some(found) => Current::new(id, found.metadata),
             None => Current::none(),
         }

@@ -1,5 +1,5 @@
 //! Values by their tags' numbers: one table for each type of value.
-ghost use Rattle.std.specs.Prelude.{◌≡◌, OnOk, OnErr, IfOk, IfErr, None};
+ghost use Rattle.std.specs.Prelude.{◌≡◌, OnOk, OnErr, IfOk, IfErr, IsTrue, None};
 ghost use Rattle.std.specs.Option.{option_copied, option_copied_mut};
 ghost use Rattle.std.specs.Borrow.{sem};
 ghost use Rattle.std.specs.FinMap as map;
@@ -43,6 +43,13 @@ impl<T> Table<T> {
         ensures { result ≡ map.len self.now }
     {
         self.entries.len()
+    }
+
+    /// There is no value.
+    pub(crate) fn is_empty(&self) -> bool
+        ensures { IsTrue result → self.now ≡ map.empty }
+    {
+        self.entries.is_empty()
     }
 
     /// The value under this number.

@@ -1,6 +1,7 @@
 use Rattle.std.proofs.Common.{sym, ap, ◌∙◌, List, ℕ, ◌∷◌}
 use Rattle.span_core.specs.Span.{number_of}
-use Rattle.span_registry.specs.Kept.{stacks_of, state_of}
+use Rattle.span_registry.specs.Kept.{stacks_of}
+use Rattle.span_registry.specs.State.{state_of}
 use Rattle.span_registry.specs.Step.{entered}
 use Rattle.span_registry.specs.Store.{RegistryState, Stacks, with_stack}
 use Rattle.span_registry.proofs.Kept.{stack_at, stacks_put}

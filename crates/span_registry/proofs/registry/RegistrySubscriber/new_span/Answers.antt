@@ -1,93 +1,90 @@
-use Rattle.std.proofs.Common.{◌≡◌, sym, subst, ap, refl, ◌∙◌, ℕ, ◌+◌, ◌≤◌, Option, Some, None, arith}
+use Rattle.std.proofs.Common.{◌<◌, ◌≤◌, ap, arith, subst, IfSome, Option, Some, refl}
 use Rattle.std.proofs.lemmas.Result.{err_from_is_err_and}
-use Rattle.std.specs.BTreeMap.{Updates}
-use Rattle.std.specs.FinSet.{len as set_len}
-use Rattle.std.specs.Ordering.{nat_cmp}
+use Rattle.std.specs.FinMap.{get}
 use Rattle.std.specs.Option.{option_map}
 use Rattle.span_core.specs.Span.{number_of}
-use Rattle.span_core.specs.declared.error.TraceError.TheVariants.{CountFull, TooManySpans, OutOfMemory}
+use Rattle.span_core.specs.declared.error.TraceError.TheVariants.{CountFull, OutOfMemory, TooManySpans}
 use Rattle.span_core.specs.declared.span.Id.{Id}
 use Rattle.span_core.specs.declared.span.Parent.{Parent}
-use Rattle.span_registry.specs.Extensions.{no_values}
-use Rattle.span_registry.specs.Kept.{spans_of, state_of}
+use Rattle.span_registry.specs.Kept.{CountsBelow}
+use Rattle.span_registry.specs.State.{state_of}
 use Rattle.span_registry.specs.Step.{AskedSpan, IsParentFor, Opens, RefusesNew}
 use Rattle.span_registry.specs.Store.{RegistryState, child_count}
-use Rattle.span_registry.proofs.Added.{chosen_there, parent_some}
-use Rattle.span_registry.proofs.Counts.{full_in, issued_len}
-use Rattle.span_registry.proofs.Opened.{finds, opened, opening}
-use Rattle.span_registry.proofs.States.{paired_added, taken_back}
+use Rattle.span_registry.specs.declared.limits.Limits.{Limits}
+use Rattle.span_registry.specs.declared.span_record.SpanRecord.{SpanRecord}
+use Rattle.span_registry.proofs.Counts.{full_in}
+use Rattle.span_registry.proofs.Opened.{above_there, finds, grows_child, grows_root, new_record, no_place, opened, place, recorded}
+use Rattle.span_registry.proofs.Removed.{some_and}
 use Rattle.span_registry.proofs.registry.RegistrySubscriber.new_span.Goals as goal
-
-pub returns-in_err-parent-clause-refused : goal.returns-in_err-parent-clause-refused
-returns-in_err-parent-clause-refused c =
-    let p = err_from_is_err_and c.from_residual.result c.from_residual.ensures.1 in
-    rw (p.1, p.2) (subst (λ (asked : Parent). RefusesNew c.args.self.now c.args.lane asked c.in_err-parent.field-0.0) c.asked_parent.ensures c.in_err-parent.ensures.refused)
 
 pub returns-in-Some-clause-refused : goal.returns-in-Some-clause-refused
 returns-in-Some-clause-refused c =
+    let limit = ap (λ (l : Limits). l.count) c.limits-count.ensures in
+    let full = full_in (c.self.inside.spans).records c.limits-count.result.count (number_of c.in-Some.id) c.self.invariant c.in-Some.ensures.full in
+    let spans : (c.self.inside.spans).limits.count ≤ child_count (state_of c.self.inside).store.spans (number_of c.in-Some.id) = omega (arith, limit, full) in
     subst (λ (asked : Parent). RefusesNew c.args.self.now c.args.lane asked (CountFull c.in-Some.id)) c.asked_parent.ensures (
       subst (λ (o : Option Id). IsParentFor c.args.self.now.store c.args.lane c.asked_parent.result (option_map number_of o)) c.in-Some.ensures.same c.in_ok-parent.ensures.chosen,
-      subst (λ (s : RegistryState). s.limits.count ≤ child_count s.store.spans (number_of c.in-Some.id)) c.self.view_is
-          (full_in c.self.inside.records.entries c.self.inside.issued c.self.inside.limits.count (number_of c.in-Some.id) c.self.invariant.kept c.in-Some.ensures.full),
+      subst (λ (s : RegistryState). s.limits.count ≤ child_count s.store.spans (number_of c.in-Some.id)) c.self.view_is spans,
     )
 
-pub returns-then-has_no_place-clause-refused : goal.returns-then-has_no_place-clause-refused
-returns-then-has_no_place-clause-refused c =
+pub returns-then-is_full-clause-refused : goal.returns-then-is_full-clause-refused
+returns-then-is_full-clause-refused c =
     let o = c.in_ok-parent.parent in
-    let found = finds c.self.inside c.args.self.now c.args.lane c.asked_parent.result o c.self.view_is c.self.invariant.kept c.in_ok-parent.ensures.chosen (c.in_default.ensures.room refl) in
-    subst (λ (asked : Parent). RefusesNew c.args.self.now c.args.lane asked TooManySpans) c.asked_parent.ensures ((option_map number_of o, found), c.if-has_no_place.ensures)
+    let below = subst (λ (l : Limits). CountsBelow l.count c.self.inside.spans o) c.limits-count.ensures (c.in_default.ensures.room refl) in
+    let found = finds c.self.inside c.args.self.now c.args.lane c.asked_parent.result o c.self.view_is c.self.invariant c.in_ok-parent.ensures.chosen below in
+    subst (λ (asked : Parent). RefusesNew c.args.self.now c.args.lane asked TooManySpans) c.asked_parent.ensures ((option_map number_of o, found), no_place c.self.inside c.args.self.now c.self.view_is c.if-is_full.ensures)
 
-pub overflow_add-number : goal.overflow_add-number
-overflow_add-number c =
-    let n = c.self.inside.issued in
-    let l = c.if-has_no_place.ensures.id in
-    let e : set_len c.args.self.now.store.issued ≡ n = ap (λ (s : RegistryState). set_len s.store.issued) (sym c.self.view_is) ∙ issued_len n in
-    omega (arith, l, e)
-
-pub add_span-requires-clause-parent : goal.add_span-requires-clause-parent
-add_span-requires-clause-parent c =
-    parent_some c.self.inside.records.entries c.in_ok-parent.parent
-    (chosen_there (state_of c.self.inside).store c.args.lane c.asked_parent.result (option_map number_of c.in_ok-parent.parent)
-    (subst (λ (s : RegistryState). IsParentFor s.store c.args.lane c.asked_parent.result (option_map number_of c.in_ok-parent.parent)) (sym c.self.view_is) c.in_ok-parent.ensures.chosen))
-
-pub returns-in_err-add_extensions-clause-refused : goal.returns-in_err-add_extensions-clause-refused
-returns-in_err-add_extensions-clause-refused c =
+pub returns-in_err-id-clause-refused : goal.returns-in_err-id-clause-refused
+returns-in_err-id-clause-refused c =
     let o = c.in_ok-parent.parent in
-    let found = finds c.self.inside c.args.self.now c.args.lane c.asked_parent.result o c.self.view_is c.self.invariant.kept c.in_ok-parent.ensures.chosen (c.in_default.ensures.room refl) in
-    let p = err_from_is_err_and c.from_residual-in_err-add_extensions.result c.from_residual-in_err-add_extensions.ensures.1 in
-    rw (p.1, p.2, c.in_err-add_extensions.ensures.memory) (subst (λ (asked : Parent). RefusesNew c.args.self.now c.args.lane asked OutOfMemory) c.asked_parent.ensures ((option_map number_of o, found), c.if-has_no_place.ensures))
+    let below = subst (λ (l : Limits). CountsBelow l.count c.self.inside.spans o) c.limits-count.ensures (c.in_default.ensures.room refl) in
+    let found = finds c.self.inside c.args.self.now c.args.lane c.asked_parent.result o c.self.view_is c.self.invariant c.in_ok-parent.ensures.chosen below in
+    let p = err_from_is_err_and c.from_residual-in_err-id.result c.from_residual-in_err-id.ensures.1 in
+    rw (p.1, p.2, c.in_err-id.ensures.memory)
+    (subst (λ (asked : Parent). RefusesNew c.args.self.now c.args.lane asked OutOfMemory) c.asked_parent.ensures ((option_map number_of o, found), place c.self.inside c.args.self.now c.self.view_is c.if-is_full.ensures))
 
-pub returns-in-Err-clause-refused : goal.returns-in-Err-clause-refused
-returns-in-Err-clause-refused c =
+pub gain_child-requires : goal.gain_child-requires
+gain_child-requires c =
+    let a = c.self.inside in
+    let p = c.in-Some-parent.above in
+    let chosen = subst (λ (o : Option Id). IsParentFor c.args.self.now.store c.args.lane c.asked_parent.result (option_map number_of o)) c.in-Some-parent.is c.in_ok-parent.ensures.chosen in
+    let below = subst (λ (o : Option Id). CountsBelow c.limits-count.result.count a.spans o) c.in-Some-parent.is (c.in_default.ensures.room refl) in
+    let u = recorded a c.args.self.now c.args.lane c.asked_parent.result (Some p) c.self.view_is chosen in
+    let there = above_there a c.in_ok-id.id p _ u.0 c.insert.new.self c.in_ok-id.ensures.inserted u.1 in
+    some_and (λ r. r.children < c.limits-count.result.count) (get (c.insert.new.self).records (number_of p)) u.0 there (subst (λ (w : Option SpanRecord). IfSome w (λ r. r.children < c.limits-count.result.count)) u.1 below)
+
+pub invariant_of-self-in-Some-parent : goal.invariant_of-self-in-Some-parent
+invariant_of-self-in-Some-parent c =
+    let a = c.self.inside in
+    let p = c.in-Some-parent.above in
+    let chosen = subst (λ (o : Option Id). IsParentFor c.args.self.now.store c.args.lane c.asked_parent.result (option_map number_of o)) c.in-Some-parent.is c.in_ok-parent.ensures.chosen in
+    let u = recorded a c.args.self.now c.args.lane c.asked_parent.result (Some p) c.self.view_is chosen in
+    ((grows_child a c.in_ok-id.id p _ u.0 c.insert.new.self c.gain_child.new.self c.self.invariant c.in_ok-id.ensures.inserted refl c.in-Some-parent.is u.1 c.gain_child.ensures).added).kept
+
+pub invariant_of-self-in_default-parent : goal.invariant_of-self-in_default-parent
+invariant_of-self-in_default-parent c = ((grows_root c.self.inside c.in_ok-id.id _ c.insert.new.self c.self.invariant c.in_ok-id.ensures.inserted refl c.in_default-parent.is).added).kept
+
+pub returns-in-Some-parent-clause-opened : goal.returns-in-Some-parent-clause-opened
+returns-in-Some-parent-clause-opened c =
+    let a = c.self.inside in
     let o = c.in_ok-parent.parent in
-    let found = finds c.self.inside c.args.self.now c.args.lane c.asked_parent.result o c.self.view_is c.self.invariant.kept c.in_ok-parent.ensures.chosen (c.in_default.ensures.room refl) in
-    rw c.in-Err.ensures.memory (subst (λ (asked : Parent). RefusesNew c.args.self.now c.args.lane asked OutOfMemory) c.asked_parent.ensures ((option_map number_of o, found), c.if-has_no_place.ensures))
-
-pub returns-in-Err-clause-unchanged : goal.returns-in-Err-clause-unchanged
-returns-in-Err-clause-unchanged c =
-    let before : RegistryState = state_of c.self.inside in
-    let n = c.self.inside.issued in
-    let put = subst (λ (i : ℕ). Updates nat_cmp c.self.inside.extensions c.add_extensions.new.extensions i (Some no_values)) c.from_u64-id.ensures c.in_ok-add_extensions.ensures.ok in
-    let taken = subst (λ (i : ℕ). Updates nat_cmp c.add_extensions.new.extensions c.remove_extensions.new.extensions i None) c.from_u64-id.ensures c.remove_extensions.ensures in
-    let records : spans_of c.add_span.new.records.entries ≡ before.store.spans = ap spans_of c.in-Err.ensures.err in
-    let extensions = taken_back c.self.inside.records.entries c.self.inside.extensions c.add_extensions.new.extensions c.remove_extensions.new.extensions n c.self.invariant.kept c.self.invariant.paired put taken in
-    (λ i. record before { store = record before.store { spans = records i; extensions = extensions i } }) ∙ c.self.view_is
-
-pub invariant_of-self-2 : goal.invariant_of-self-2
-invariant_of-self-2 c =
-    let n = c.self.inside.issued in
+    let p = c.in-Some-parent.above in
     let span : AskedSpan = record { metadata = c.metadata.result; parent = c.asked_parent.result; verdict = c.refused.result } in
-    let a = opening c.self.inside c.add_span.new.records c.args.self.now c.args.lane span c.in_ok-parent.parent (number_of c.from_u64-id.result) c.self.view_is c.self.invariant.kept c.in_ok-parent.ensures.chosen c.from_u64-id.ensures c.in_default-add_span.ensures.ok in
-    let put = subst (λ (i : ℕ). Updates nat_cmp c.self.inside.extensions c.add_extensions.new.extensions i (Some no_values)) c.from_u64-id.ensures c.in_ok-add_extensions.ensures.ok in
-    record { kept = a.kept; paired = paired_added c.self.inside.records.entries c.add_span.new.records.entries c.self.inside.extensions c.add_extensions.new.extensions (n + 1) no_values c.self.invariant.paired a.some a.keys put }
-
-pub returns-clause-opened : goal.returns-clause-opened
-returns-clause-opened c =
-    let n = c.self.inside.issued in
-    let span : AskedSpan = record { metadata = c.metadata.result; parent = c.asked_parent.result; verdict = c.refused.result } in
-    let put = subst (λ (i : ℕ). Updates nat_cmp c.self.inside.extensions c.add_extensions.new.extensions i (Some no_values)) c.from_u64-id.ensures c.in_ok-add_extensions.ensures.ok in
-    let after : RegistryState = state_of (record c.self.inside { records = c.add_span.new.records; extensions = c.add_extensions.new.extensions; issued = n + 1 }) in
-    subst (λ (asked : AskedSpan). Opens c.args.lane asked c.from_u64-id.result c.args.self.now after)
+    let below = subst (λ (l : Limits). CountsBelow l.count a.spans o) c.limits-count.ensures (c.in_default.ensures.room refl) in
+    let chosen = subst (λ (o : Option Id). IsParentFor c.args.self.now.store c.args.lane c.asked_parent.result (option_map number_of o)) c.in-Some-parent.is c.in_ok-parent.ensures.chosen in
+    let u = recorded a c.args.self.now c.args.lane c.asked_parent.result (Some p) c.self.view_is chosen in
+    let grows = grows_child a c.in_ok-id.id p (new_record span o) u.0 c.insert.new.self c.gain_child.new.self c.self.invariant c.in_ok-id.ensures.inserted refl c.in-Some-parent.is u.1 c.gain_child.ensures in
+    subst (λ (asked : AskedSpan). Opens c.args.lane asked c.in_ok-id.id c.args.self.now (state_of (record a { spans = c.gain_child.new.self })))
     (λ i. record { metadata = c.metadata.ensures i; parent = c.asked_parent.ensures i; verdict = c.refused.ensures i })
-    (opened c.self.inside c.add_span.new.records c.add_extensions.new.extensions c.args.self.now c.args.lane span c.in_ok-parent.parent c.from_u64-id.result c.self.view_is c.self.invariant.kept c.in_ok-parent.ensures.chosen
-    (c.in_default.ensures.room refl) c.if-has_no_place.ensures c.from_u64-id.ensures c.in_default-add_span.ensures.ok put)
+    (opened a c.insert.new.self c.gain_child.new.self c.args.self.now c.args.lane span o c.in_ok-id.id c.self.view_is c.self.invariant c.in_ok-parent.ensures.chosen below c.if-is_full.ensures c.in_ok-id.ensures.inserted grows)
+
+pub returns-in_default-parent-clause-opened : goal.returns-in_default-parent-clause-opened
+returns-in_default-parent-clause-opened c =
+    let a = c.self.inside in
+    let o = c.in_ok-parent.parent in
+    let span : AskedSpan = record { metadata = c.metadata.result; parent = c.asked_parent.result; verdict = c.refused.result } in
+    let below = subst (λ (l : Limits). CountsBelow l.count a.spans o) c.limits-count.ensures (c.in_default.ensures.room refl) in
+    let grows = grows_root a c.in_ok-id.id (new_record span o) c.insert.new.self c.self.invariant c.in_ok-id.ensures.inserted refl c.in_default-parent.is in
+    subst (λ (asked : AskedSpan). Opens c.args.lane asked c.in_ok-id.id c.args.self.now (state_of (record a { spans = c.insert.new.self })))
+    (λ i. record { metadata = c.metadata.ensures i; parent = c.asked_parent.ensures i; verdict = c.refused.ensures i })
+    (opened a c.insert.new.self c.insert.new.self c.args.self.now c.args.lane span o c.in_ok-id.id c.self.view_is c.self.invariant c.in_ok-parent.ensures.chosen below c.if-is_full.ensures c.in_ok-id.ensures.inserted grows)

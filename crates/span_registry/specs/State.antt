@@ -1,0 +1,17 @@
+-- How a registry's fields are seen as its state. No public contract cites this.
+use Rattle.std.specs.FinMap.{entries}
+use Rattle.span_registry.specs.Kept.{IsKept, spans_of, stacks_of}
+use Rattle.span_registry.specs.Store.{RegistryState, Store}
+use Rattle.span_registry.specs.declared.registry.Registry.TheInside.{Inside}
+
+-- the store that these fields keep
+abbrev pub store_of : Inside → Store
+store_of a = record { spans = spans_of (entries a.spans.records); extensions = a.spans.extensions; issued = a.spans.issued; stacks = stacks_of a.stacks.entries }
+
+-- the registry that these fields keep
+abbrev pub state_of : Inside → RegistryState
+state_of a = record { store = store_of a; limits = a.spans.limits; filters = a.filters; retired = a.spans.retired }
+
+-- what the registry keeps true of its fields
+abbrev pub IsSound : Inside → Type 0
+IsSound a = IsKept (entries a.spans.records)

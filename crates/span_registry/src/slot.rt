@@ -1,0 +1,195 @@
+//! The slots that spans take, one span after another.
+ghost use Rattle.std.specs.FinMap.{get};
+ghost use Rattle.std.specs.FinSet.{len as set_len};
+ghost use Rattle.std.specs.Prelude.{◌≡◌, ◌≤◌, ◌<◌, ◌↔◌, IfErr, IfOk, IfSome, IsSome, IsTrue, MatchBool, None, OnErr, length, vec_capacity, ◌++◌, ◌∷◌, [], OnOk};
+ghost use Rattle.span_core.specs.Span.{number_of};
+ghost use Rattle.span_registry.specs.Slot.{AreHeldIssued, GivesBack, HasNoSlot, HasSlot, IsOfNoSlot, RetiresInTime, TakesSlot, first_held, no_slots, number_at};
+
+use crate::limits::Limits;
+use span_core::{Id, TraceError};
+use std::alloc::Global;
+use std::marker::Model;
+
+/// How many numbers a generation has: an id is `generation * GENERATION + slot + 1`.
+const GENERATION: u64 = 4294967296;
+
+/// What holds one span after another.
+#[derive(Clone, Copy)]
+pub(crate) struct Slot {
+    /// How many spans it held before.
+    generation: u32,
+    /// Where the span that it holds is kept.
+    key: Option<usize>,
+}
+
+/// The slots, seen as the map from the numbers of the spans that they hold to the keys under which these are kept.
+#[derive(Drop)]
+pub(crate) struct Slots {
+    limits: Limits,
+    slots: Vec<Slot>,
+    /// The slots that may be used again, the one freed last at the end. It has room for all of them.
+    free: Vec<u32>,
+    /// How many slots held their last span.
+    retired: u32,
+}
+
+impl Model for Slots {
+    ghost use Rattle.std.specs.Coded.{codes};
+    ghost use Rattle.std.specs.FinMap.{code as map_code};
+    ghost use Rattle.std.specs.FinSet.{code as set_code};
+    ghost use Rattle.std.specs.Prelude.{vec_capacity};
+    ghost use Rattle.span_registry.specs.Slot.{IsSound, SlotState, slots_of};
+    ghost use Rattle.span_registry.specs.contracts.limits.Limits as bounds;
+
+    ghost Value = { SlotState };
+
+    ghost coded = { Prim.hlevel (codes, map_code, set_code, bounds.the_row.coded) };
+
+    ghost view = { slots_of };
+
+    ghost invariant = { λ a. IsSound a.slots.items a.free.items (vec_capacity a.free) a.retired a.limits };
+}
+
+/// Where the span with this id would stand, and in which generation.
+fn parts_of(id: Id) -> Option<(u32, u32)>
+    ensures at { IfSome result (λ p. number_of id ≡ number_at p.0 p.1) }
+    ensures slot { IfSome result (λ p. p.0 < 4294967295) }
+    ensures nowhere { result ≡ None → IsOfNoSlot (number_of id) }
+{
+    let number = id.into_u64();
+    let low = number % GENERATION;
+    if low == 0 {
+        return None;
+    }
+    Some(((low - 1) as u32, (number / GENERATION) as u32))
+}
+
+/// The id of the span that this slot holds in this generation.
+fn id_at(slot: u32, generation: u32) -> Id
+    requires { slot < 4294967295 }
+    ensures { number_of result ≡ number_at slot generation }
+{
+    Id::from_u64(u64::from(generation) * GENERATION + u64::from(slot) + 1)
+}
+
+/// Makes a slot that holds a span in its first generation, and room for it among the free ones.
+fn make(slots: &mut Vec<Slot>, free: &mut Vec<u32>, key: usize) -> Result<(), TraceError>
+    requires { length slots.old.items < 4294967295 }
+    ensures made { OnOk result (slots.new.items ≡ slots.old.items ++ first_held key ∷ []) }
+    ensures room { OnOk result (length slots.new.items ≤ vec_capacity free.new) }
+    ensures kept { vec_capacity free.old ≤ vec_capacity free.new }
+    ensures free { free.new.items ≡ free.old.items }
+    ensures unchanged { OnErr result (slots.new.items ≡ slots.old.items) }
+    ensures memory { IfErr result (λ e. e ≡ TraceError.OutOfMemory) }
+{
+    free.reserve(slots.len() + 1)?;
+    slots.push(Slot {
+        generation: 0,
+        key: Some(key),
+    })?;
+    Ok(())
+}
+
+impl Slots {
+    /// No slots. They take no memory.
+    pub(crate) fn new(alloc: Global, limits: Limits) -> Self
+        ensures { result ≡ no_slots limits }
+    {
+        Slots {
+            limits,
+            slots: Vec::new(alloc),
+            free: Vec::new(alloc),
+            retired: 0,
+        }
+    }
+
+    /// How much the slots take.
+    pub(crate) fn limits(&self) -> Limits
+        ensures { result ≡ self.now.limits }
+    {
+        self.limits
+    }
+
+    /// How many slots held their last span.
+    pub(crate) fn retired(&self) -> u32
+        ensures retired { result ≡ self.now.retired }
+        ensures late { RetiresInTime self.now }
+    {
+        self.retired
+    }
+
+    /// No slot was used.
+    pub(crate) fn is_fresh(&self) -> bool
+        ensures { IsTrue result ↔ (set_len self.now.issued ≡ 0) }
+    {
+        self.slots.is_empty()
+    }
+
+    /// Every number that is held was issued.
+    pub(crate) fn is_sound(&self)
+        ensures { AreHeldIssued self.now }
+    {
+        // A field's read shows the prover the slots' value.
+        let _ = &self.retired;
+    }
+
+    /// Where a span is kept.
+    pub(crate) fn key_of(&self, id: Id) -> Option<usize>
+        ensures { result ≡ get self.now.keys (number_of id) }
+    {
+        let slots = &self.slots;
+        let (slot, generation) = parts_of(id)?;
+        let found = slots.get(slot as usize)?;
+        if found.generation == generation {
+            return found.key;
+        }
+        None
+    }
+
+    /// Each slot holds a span or is retired, and no more may be made.
+    pub(crate) fn are_full(&self) -> bool
+        ensures { MatchBool result (HasNoSlot self.now) (HasSlot self.now) }
+    {
+        self.free.is_empty() && self.slots.len() as u64 >= u64::from(self.limits.places)
+    }
+
+    /// Gives a span that is kept under this key a slot: the one freed last, else a new one. Refused for want of memory alone.
+    pub(crate) fn take(&mut self, key: usize) -> Result<Id, TraceError>
+        requires { HasSlot self.old }
+        ensures taken { IfOk result (λ id. TakesSlot key id self.old self.new) }
+        ensures memory { IfErr result (λ e. e ≡ TraceError.OutOfMemory) }
+        ensures unchanged { OnErr result (self.new ≡ self.old) }
+    {
+        match self.free.pop() {
+            Some(slot) => {
+                let generation = self.slots[slot as usize].generation;
+                self.slots[slot as usize].key = Some(key);
+                Ok(id_at(slot, generation))
+            }
+            None => {
+                let slot = self.slots.len() as u32;
+                make(&mut self.slots, &mut self.free, key)?;
+                Ok(id_at(slot, 0))
+            }
+        }
+    }
+
+    /// Takes the slot of a span back, to be used again where it may hold a span more. It needs no memory.
+    pub(crate) fn give_back(&mut self, id: Id)
+        requires { IsSome (get self.old.keys (number_of id)) }
+        ensures { GivesBack id self.old self.new }
+    {
+        if let Some((slot, generation)) = parts_of(id) {
+            let next = generation + 1;
+            self.slots[slot as usize] = Slot {
+                generation: next,
+                key: None,
+            };
+            if next < self.limits.generations {
+                self.free.push_reserved(slot);
+            } else {
+                self.retired += 1;
+            }
+        }
+    }
+}

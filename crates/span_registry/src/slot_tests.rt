@@ -1,0 +1,82 @@
+//! Tests of places that hold one span after another, and of ids that are never issued again.
+ghost use Rattle.std.specs.Prelude.{◌≤◌};
+
+use crate::tests::{LANE, drop_handle, root};
+use crate::{Limits, LookupSpan, Registry, Subscriber};
+use span_core::{Id, Pass, TraceError};
+use std::alloc::Global;
+use std::process::Abort;
+use std::test::Fail;
+
+fn limited(alloc: Global, places: u32, generations: u32) -> Registry
+    requires places { 1 ≤ places }
+    requires generations { 1 ≤ generations }
+{
+    let limits = Limits {
+        places,
+        generations,
+        count: 9,
+    };
+    Registry::with_limits(alloc, limits)
+}
+
+/// Makes a root.
+fn new_root(registry: &mut Registry) -> Result<Id, TraceError> {
+    registry.new_span(LANE, &root(), &Pass::new())
+}
+
+/// Makes a root and drops it.
+fn come_and_gone(registry: &mut Registry, alloc: Global) -> Result<Id, Fail> {
+    let id = new_root(registry)?;
+    drop_handle(registry, id, alloc)?;
+    Ok(id)
+}
+
+#[test]
+fn a_place_is_retired_after_its_last_generation(rt: HostRuntime) -> Result<(), Fail> {
+    let mut registry = limited(rt.alloc(), 2, 3);
+    let a = new_root(&mut registry)?;
+    let b = new_root(&mut registry)?;
+    drop_handle(&mut registry, a, rt.alloc())?;
+    let c = come_and_gone(&mut registry, rt.alloc())?;
+    assert_eq!(rt; registry.retired(), 0);
+    let d = come_and_gone(&mut registry, rt.alloc())?;
+    assert_eq!(rt; registry.retired(), 1);
+    for id in [a, c, d] {
+        let entered = registry.enter(LANE, id);
+        assert_eq!(rt; entered, Err(TraceError::UnknownSpan(id)));
+        assert!(rt; registry.span_data(id).is_none());
+    }
+    assert_eq!(rt; new_root(&mut registry), Err(TraceError::TooManySpans));
+    drop_handle(&mut registry, b, rt.alloc())?;
+    assert!(rt; new_root(&mut registry).is_ok());
+    Ok(())
+}
+
+#[test]
+fn the_next_span_of_a_place_is_another(rt: HostRuntime) -> Result<(), Fail> {
+    let mut registry = Registry::new(rt.alloc());
+    let a = new_root(&mut registry)?;
+    registry.enter(LANE, a)?;
+    drop_handle(&mut registry, a, rt.alloc())?;
+    let c = new_root(&mut registry)?;
+    assert_ne!(rt; a, c);
+    assert_eq!(rt; registry.current_span(LANE).id(), None);
+    registry.exit(LANE, a);
+    registry.exit(LANE, a);
+    assert!(rt; registry.is_open(c));
+    Ok(())
+}
+
+#[test]
+fn one_place_for_two_spans(rt: HostRuntime) -> Result<(), Fail> {
+    let mut registry = limited(rt.alloc(), 1, 2);
+    let a = come_and_gone(&mut registry, rt.alloc())?;
+    let b = come_and_gone(&mut registry, rt.alloc())?;
+    assert_eq!(rt; new_root(&mut registry), Err(TraceError::TooManySpans));
+    for id in [a, b] {
+        let cloned = registry.clone_span(LANE, id);
+        assert_eq!(rt; cloned, Err(TraceError::UnknownSpan(id)));
+    }
+    Ok(())
+}

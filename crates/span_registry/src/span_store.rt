@@ -1,0 +1,239 @@
+//! The spans that are in the store, with their extensions, each found by its id.
+ghost use Rattle.std.specs.FinMap.{get};
+ghost use Rattle.std.specs.FinSet.{len as set_len};
+ghost use Rattle.std.specs.Option.{option_copied, option_map};
+ghost use Rattle.std.specs.Prelude.{◌≡◌, ◌≤◌, ◌↔◌, IfErr, IfOk, IfSome, None, IsSome, IsTrue, MatchBool, OnErr, OnOk, Some, is_some, length, slice_set, ◌<◌};
+ghost use Rattle.span_core.specs.Span.{number_of};
+ghost use Rattle.span_registry.specs.Kept.{AreKeptIssued, HasNoRoom, HasRoom, Inserts, RetiresKept, TakesOut, counts_in, with_counts, no_spans, CountsBelow, CountsOneChild, GrowsEmpty, HasRecord, Writes, fewer, more};
+ghost use Rattle.span_registry.specs.Extensions.{no_values};
+
+use crate::extensions::ExtensionMap;
+use crate::limits::Limits;
+use crate::registry::Released;
+use crate::slot::Slots;
+use crate::span_record::{Counts, SpanRecord};
+use slab::Slab;
+use span_core::{Id, TraceError};
+use std::alloc::Global;
+use std::marker::Model;
+
+/// The spans in the store, seen as the map from their numbers to their records, and that to their extensions.
+#[derive(Drop)]
+pub(crate) struct SpanStore {
+    pub(crate) slots: Slots,
+    records: Slab<SpanRecord>,
+    /// The extensions under the records' keys. Those of no record hold no value.
+    pub(crate) extensions: Vec<ExtensionMap>,
+}
+
+impl Model for SpanStore {
+    ghost use Rattle.std.specs.Coded.{codes};
+    ghost use Rattle.std.specs.FinMap.{code as map_code};
+    ghost use Rattle.std.specs.FinSet.{code as set_code};
+    ghost use Rattle.span_registry.specs.Kept.{KeepsSpans, KeptSpans, kept_of};
+    ghost use Rattle.span_registry.specs.contracts.extensions.ExtensionMap as values;
+    ghost use Rattle.span_registry.specs.contracts.limits.Limits as bounds;
+    ghost use Rattle.span_registry.specs.contracts.span_record.SpanRecord as kept;
+
+    ghost Value = { KeptSpans };
+
+    ghost coded = { Prim.hlevel (codes, map_code, set_code, kept.the_row.coded, values.the_row.coded, bounds.the_row.coded) };
+
+    ghost view = { kept_of };
+
+    ghost invariant = { KeepsSpans };
+}
+
+impl SpanStore {
+    /// No spans. They take no memory.
+    pub(crate) fn new(alloc: Global, limits: Limits) -> Self
+        ensures { result ≡ no_spans limits }
+    {
+        SpanStore {
+            slots: Slots::new(alloc, limits),
+            records: Slab::new(alloc),
+            extensions: Vec::new(alloc),
+        }
+    }
+
+    /// How much it takes.
+    pub(crate) fn limits(&self) -> Limits
+        ensures { result ≡ self.now.limits }
+    {
+        self.slots.limits()
+    }
+
+    /// How many slots held their last span.
+    pub(crate) fn retired(&self) -> u32
+        ensures retired { result ≡ self.now.retired }
+        ensures late { RetiresKept self.now }
+    {
+        self.slots.retired()
+    }
+
+    /// No id was issued.
+    pub(crate) fn is_fresh(&self) -> bool
+        ensures { IsTrue result ↔ (set_len self.now.issued ≡ 0) }
+    {
+        self.slots.is_fresh()
+    }
+
+    /// Every span was issued.
+    pub(crate) fn is_sound(&self)
+        ensures { AreKeptIssued self.now }
+    {
+        self.slots.is_sound();
+    }
+
+    /// There is no slot for a span more.
+    pub(crate) fn is_full(&self) -> bool
+        ensures { MatchBool result (HasNoRoom self.now) (HasRoom self.now) }
+    {
+        self.slots.are_full()
+    }
+
+    /// What is kept of a span.
+    pub(crate) fn get(&self, id: Id) -> Option<&SpanRecord>
+        ensures { option_copied result ≡ get self.now.records (number_of id) }
+    {
+        match self.slots.key_of(id) {
+            Some(key) => self.records.get(key),
+            None => None,
+        }
+    }
+
+    /// What is kept of a span, and its extensions.
+    pub(crate) fn get_both(&self, id: Id) -> Option<(&SpanRecord, &ExtensionMap)>
+        ensures record { option_map (λ b. b.0.now) result ≡ get self.now.records (number_of id) }
+        ensures extensions { option_map (λ b. b.1.now) result ≡ get self.now.extensions (number_of id) }
+    {
+        match self.slots.key_of(id) {
+            Some(key) => self.records.get(key).zip(self.extensions.get(key)),
+            None => None,
+        }
+    }
+
+    /// How many handles and children a span has.
+    pub(crate) fn counts_of(&self, id: Id) -> Option<Counts>
+        ensures { result ≡ option_map counts_in (get self.now.records (number_of id)) }
+    {
+        match self.get(id) {
+            Some(found) => Some(found.counts()),
+            None => None,
+        }
+    }
+
+    /// Writes how many handles and children a span has.
+    pub(crate) fn set_counts(&mut self, id: Id, counts: Counts)
+        requires { IsSome (get self.old.records (number_of id)) }
+        ensures { Writes id (with_counts counts) self.old self.new }
+    {
+        if let Some(key) = self.slots.key_of(id) {
+            if let Some(found) = self.records.get_mut(key) {
+                found.handles = counts.handles;
+                found.children = counts.children;
+            }
+        }
+    }
+
+    /// The parent of a new span, if it can count no further child.
+    pub(crate) fn full_parent(&self, parent: Option<Id>, count: u32) -> Option<Id>
+        ensures same { IfSome result (λ p. parent ≡ Some p) }
+        ensures full { IfSome result (λ p. HasRecord self.now p (λ r. count ≤ r.children)) }
+        ensures room { result ≡ None → CountsBelow count self.now parent }
+    {
+        let id = parent?;
+        match self.counts_of(id) {
+            Some(counts) => {
+                if counts.children >= count {
+                    return Some(id);
+                }
+                None
+            }
+            None => None,
+        }
+    }
+
+    /// Takes a child from a span. Answers it, if it is closing by this.
+    pub(crate) fn lose_child(&mut self, id: Id) -> Option<Id>
+        requires { HasRecord self.old id (λ r. 0 < r.children) }
+        ensures written { Writes id fewer self.old self.new }
+        ensures closing { IfSome result (λ p. (p ≡ id) × HasRecord self.old id CountsOneChild) }
+        ensures still_open { result ≡ None → HasRecord self.old id (λ r. ¬ (CountsOneChild r)) }
+    {
+        let counts = self.counts_of(id)?;
+        let left = Counts {
+            children: counts.children - 1,
+            ..counts
+        };
+        self.set_counts(id, left);
+        match left.state() {
+            Released::Closing => Some(id),
+            Released::StillOpen => None,
+        }
+    }
+
+    /// Gives a span a child.
+    pub(crate) fn gain_child(&mut self, id: Id, count: u32)
+        requires { HasRecord self.old id (λ r. r.children < count) }
+        ensures { Writes id more self.old self.new }
+    {
+        if let Some(counts) = self.counts_of(id) {
+            let grown = Counts {
+                children: counts.children + 1,
+                ..counts
+            };
+            self.set_counts(id, grown);
+        }
+    }
+
+    /// Puts a span in the store, under an id that was never issued. Refused for want of memory alone.
+    pub(crate) fn insert(&mut self, alloc: Global, span: SpanRecord) -> Result<Id, TraceError>
+        requires { HasRoom self.old }
+        ensures inserted { IfOk result (λ id. Inserts id span self.old self.new) }
+        ensures memory { IfErr result (λ e. e ≡ TraceError.OutOfMemory) }
+        ensures unchanged { OnErr result (self.new ≡ self.old) }
+    {
+        self.records.reserve(1)?;
+        let key = self.records.vacant_key();
+        reach(&mut self.extensions, alloc, key)?;
+        let id = self.slots.take(key)?;
+        self.records.insert_reserved(span);
+        Ok(id)
+    }
+
+    /// Takes a span out, with its extensions, and answers its parent. It needs no memory.
+    pub(crate) fn remove(&mut self, alloc: Global, id: Id) -> Option<Id>
+        requires { IsSome (get self.old.records (number_of id)) }
+        ensures parent { option_map (λ r. r.parent) (get self.old.records (number_of id)) ≡ Some result }
+        ensures taken { TakesOut id self.old self.new }
+    {
+        let key = self.slots.key_of(id)?;
+        self.slots.give_back(id);
+        forget(&mut self.extensions, alloc, key);
+        let span = self.records.remove(key);
+        span.parent
+    }
+}
+
+/// Makes extensions without a value, up to this key. Refused for want of memory alone.
+fn reach(extensions: &mut Vec<ExtensionMap>, alloc: Global, key: usize) -> Result<(), TraceError>
+    ensures reached { OnOk result (key < length extensions.new.items) }
+    ensures grown { GrowsEmpty extensions.old.items extensions.new.items }
+    ensures memory { IfErr result (λ e. e ≡ TraceError.OutOfMemory) }
+{
+    while extensions.len() <= key {
+        extensions.push(ExtensionMap::new(alloc))?;
+    }
+    Ok(())
+}
+
+/// Takes all values under this key out.
+fn forget(extensions: &mut Vec<ExtensionMap>, alloc: Global, key: usize)
+    requires { key < length extensions.old.items }
+    ensures { extensions.new.items ≡ slice_set extensions.old.items key no_values }
+{
+    if !extensions[key].is_empty() {
+        extensions[key] = ExtensionMap::new(alloc);
+    }
+}
