@@ -13,7 +13,7 @@ use Rattle.span_layers.specs.declared.filtered.Filtered.{Filtered as FilteredLay
 use Rattle.span_layers.specs.declared.layered.Layered.{Layered}
 use Rattle.span_registry.specs.Form.{Filtered, Form, InPair, Over}
 use Rattle.span_registry.specs.Store.{RegistryState, new_registry}
-use Rattle.span_registry.specs.declared.limits.TheConstants.Limits.{MAX}
+use Rattle.span_registry.specs.declared.limits.Limits.{Limits}
 use Rattle.span_run.specs.Mute.{mute_answers}
 use Rattle.span_run.specs.Stacks.{BeginsAbsent, BeginsNested, BeginsPair, BeginsPlain, BeginsUnder, BeginsVeto, BeginsWarned, leaf}
 use Rattle.span_run.specs.declared.mute.Mute.{Mute}
@@ -67,7 +67,7 @@ begins_under u x layer level n h begins attached number = record { number = numb
 
 -- ---- pair
 
-module _ (p : Layered Levelled Levelled) (a b : Kept) (s : RegistryState) (first : s ≡ new_registry MAX) (inner : IsUnnumbered (inner_of p) a TRACE) (outer : IsUnnumbered (outer_of p) b INFO) where
+module _ (limits : Limits) (p : Layered Levelled Levelled) (a b : Kept) (s : RegistryState) (first : s ≡ new_registry limits) (inner : IsUnnumbered (inner_of p) a TRACE) (outer : IsUnnumbered (outer_of p) b INFO) where
   pair_has : PairForm p pair_form
   pair_has = (refl, under_level (outer_of p) b INFO outer, under_level (inner_of p) a TRACE inner)
 
@@ -78,23 +78,23 @@ module _ (p : Layered Levelled Levelled) (a b : Kept) (s : RegistryState) (first
 
   pub begins_pair : (x : Layered (Layered Levelled Levelled) RegistryState) → a ≡ new_recorder → b ≡ new_recorder → inner_of x ≡ record s { filters = (inner_of x).filters }
       → ((f : Form) → PairForm p f → PairForm (outer_of x) (numbered f s.filters).0) → ((f : Form) → PairForm p f → (inner_of x).filters ≡ (numbered f s.filters).1)
-      → (filter_of (outer_of (outer_of x)) ≡ filter_of (outer_of p)) × (layer_of (outer_of (outer_of x)) ≡ layer_of (outer_of p)) → (filter_of (inner_of (outer_of x)) ≡ filter_of (inner_of p)) × (layer_of (inner_of (outer_of x)) ≡ layer_of (inner_of p)) → BeginsPair x
+      → (filter_of (outer_of (outer_of x)) ≡ filter_of (outer_of p)) × (layer_of (outer_of (outer_of x)) ≡ layer_of (outer_of p)) → (filter_of (inner_of (outer_of x)) ≡ filter_of (inner_of p)) × (layer_of (inner_of (outer_of x)) ≡ layer_of (inner_of p)) → BeginsPair limits x
   begins_pair x a_new b_new alone form next b_attached a_attached =
       let has : PairForm (outer_of x) (numbered pair_form 0).0 = subst (λ (r : RegistryState). PairForm (outer_of x) (numbered pair_form r.filters).0) first (form pair_form pair_has) in
       let two : (inner_of x).filters ≡ (numbered pair_form 0).1 = next pair_form pair_has ∙ ap (λ (r : RegistryState). (numbered pair_form r.filters).1) first in
       record {
         a = begins_under (inner_of p) (inner_of (outer_of x)) a TRACE 1 inner a_new a_attached has.2.0;
         b = begins_under (outer_of p) (outer_of (outer_of x)) b INFO 0 outer b_new b_attached has.1.0;
-        registry = registry_then s (new_registry MAX) (inner_of x) 2 first alone two;
+        registry = registry_then s (new_registry limits) (inner_of x) 2 first alone two;
       }
 
 -- the stack `plain` handed out no filter
-none_yet : (s : Layered Kept RegistryState) → BeginsPlain s → (inner_of s).filters ≡ 0
+none_yet : {limits : Limits} (s : Layered Kept RegistryState) → BeginsPlain limits s → (inner_of s).filters ≡ 0
 none_yet s begun = ap (λ (r : RegistryState). r.filters) begun.registry
 
 -- ---- nested
 
-module _ (u : FilteredLayer Levelled Mute) (l : Levelled) (deep : Kept) (mute : Mute) (s : Layered Kept RegistryState) (begun : BeginsPlain s) (inside : IsUnnumbered l deep INFO) (outside : IsUnnumbered u l mute) where
+module _ {limits : Limits} (u : FilteredLayer Levelled Mute) (l : Levelled) (deep : Kept) (mute : Mute) (s : Layered Kept RegistryState) (begun : BeginsPlain limits s) (inside : IsUnnumbered l deep INFO) (outside : IsUnnumbered u l mute) where
   inner_one : IsUnnumbered (layer_of u) deep INFO
   inner_one = subst (λ (k : Levelled). IsUnnumbered k deep INFO) (sym outside.inner) inside
 
@@ -108,7 +108,7 @@ module _ (u : FilteredLayer Levelled Mute) (l : Levelled) (deep : Kept) (mute : 
 
   pub begins_nested : (x : Layered (FilteredLayer Levelled Mute) (Layered Kept RegistryState)) → deep ≡ new_recorder → inner_of x ≡ record s { inner = record (inner_of s) { filters = (inner_of (inner_of x)).filters } }
       → ((f : Form) → UnderMute u f → UnderMute (outer_of x) (numbered f (inner_of s).filters).0) → ((f : Form) → UnderMute u f → (inner_of (inner_of x)).filters ≡ (numbered f (inner_of s).filters).1)
-      → (filter_of (layer_of (outer_of x)) ≡ filter_of (layer_of u)) × (layer_of (layer_of (outer_of x)) ≡ layer_of (layer_of u)) → BeginsNested x
+      → (filter_of (layer_of (outer_of x)) ≡ filter_of (layer_of u)) × (layer_of (layer_of (outer_of x)) ≡ layer_of (layer_of u)) → BeginsNested limits x
   begins_nested x deep_new alone form next attached =
       let has : UnderMute (outer_of x) (numbered mute_form 0).0 = subst (λ n. UnderMute (outer_of x) (numbered mute_form n).0) (none_yet s begun) (form mute_form mute_has) in
       let two : (inner_of (inner_of x)).filters ≡ (numbered mute_form 0).1 = next mute_form mute_has ∙ ap (λ n. (numbered mute_form n).1) (none_yet s begun) in
@@ -116,12 +116,12 @@ module _ (u : FilteredLayer Levelled Mute) (l : Levelled) (deep : Kept) (mute : 
         base = ap (λ (r : Layered Kept RegistryState). outer_of r) alone ∙ begun.base;
         number = has.0;
         deep = begins_under (layer_of u) (layer_of (outer_of x)) deep INFO 1 inner_one deep_new attached has.2.0;
-        registry = registry_then (inner_of s) (new_registry MAX) (inner_of (inner_of x)) 2 begun.registry (ap (λ (r : Layered Kept RegistryState). inner_of r) alone) two;
+        registry = registry_then (inner_of s) (new_registry limits) (inner_of (inner_of x)) 2 begun.registry (ap (λ (r : Layered Kept RegistryState). inner_of r) alone) two;
       }
 
 -- ---- veto
 
-module _ (l : Levelled) (warn : Kept) (s : Layered Kept RegistryState) (begun : BeginsPlain s) (outside : IsUnnumbered l warn WARN) where
+module _ {limits : Limits} (l : Levelled) (warn : Kept) (s : Layered Kept RegistryState) (begun : BeginsPlain limits s) (outside : IsUnnumbered l warn WARN) where
   pub warned_has_room : ((f : Form) → UnderLevel l f → LIMIT < (inner_of s).filters + filters_in f) → ⊥
   warned_has_room full =
       let many : LIMIT < 0 + 1 = subst (λ n. LIMIT < n + 1) (none_yet s begun) (full (level_form WARN) (under_level l warn WARN outside)) in
@@ -129,41 +129,41 @@ module _ (l : Levelled) (warn : Kept) (s : Layered Kept RegistryState) (begun : 
 
   pub begins_warned : (x : Warned) → warn ≡ new_recorder → inner_of x ≡ record s { inner = record (inner_of s) { filters = (inner_of (inner_of x)).filters } }
       → ((f : Form) → UnderLevel l f → UnderLevel (outer_of x) (numbered f (inner_of s).filters).0) → ((f : Form) → UnderLevel l f → (inner_of (inner_of x)).filters ≡ (numbered f (inner_of s).filters).1)
-      → (filter_of (outer_of x) ≡ filter_of l) × (layer_of (outer_of x) ≡ layer_of l) → BeginsWarned x
+      → (filter_of (outer_of x) ≡ filter_of l) × (layer_of (outer_of x) ≡ layer_of l) → BeginsWarned limits x
   begins_warned x warn_new alone form next attached =
       let has : UnderLevel (outer_of x) (numbered (level_form WARN) 0).0 = subst (λ n. UnderLevel (outer_of x) (numbered (level_form WARN) n).0) (none_yet s begun) (form (level_form WARN) (under_level l warn WARN outside)) in
       let one : (inner_of (inner_of x)).filters ≡ (numbered (level_form WARN) 0).1 = next (level_form WARN) (under_level l warn WARN outside) ∙ ap (λ n. (numbered (level_form WARN) n).1) (none_yet s begun) in
       record {
         base = ap (λ (r : Layered Kept RegistryState). outer_of r) alone ∙ begun.base;
         warn = begins_under l (outer_of x) warn WARN 0 outside warn_new attached has.0;
-        registry = registry_then (inner_of s) (new_registry MAX) (inner_of (inner_of x)) 1 begun.registry (ap (λ (r : Layered Kept RegistryState). inner_of r) alone) one;
+        registry = registry_then (inner_of s) (new_registry limits) (inner_of (inner_of x)) 1 begun.registry (ap (λ (r : Layered Kept RegistryState). inner_of r) alone) one;
       }
 
 -- one filter leaves room for a layer without filters
-pub warned_leaves_room : (w : Warned) → BeginsWarned w → LIMIT < (inner_of (inner_of w)).filters + 0 → ⊥
+pub warned_leaves_room : {limits : Limits} (w : Warned) → BeginsWarned limits w → LIMIT < (inner_of (inner_of w)).filters + 0 → ⊥
 warned_leaves_room w begun full =
     let one : (inner_of (inner_of w)).filters ≡ 1 = ap (λ (r : RegistryState). r.filters) begun.registry in
     omega (arith, one, full)
 
 -- the layer that vetoes muted events took no number
-pub begins_muted : (w : Warned) → BeginsWarned w → (x : Layered MuteVeto Warned) → inner_of x ≡ record w { inner = record (inner_of w) { inner = record (inner_of (inner_of w)) { filters = (inner_of (inner_of (inner_of x))).filters } } }
-    → (inner_of (inner_of (inner_of x))).filters ≡ (inner_of (inner_of w)).filters → BeginsWarned (inner_of x)
-begins_muted w begun x alone none =
+pub begins_muted : {limits : Limits} (w : Warned) → BeginsWarned limits w → (x : Layered MuteVeto Warned) → inner_of x ≡ record w { inner = record (inner_of w) { inner = record (inner_of (inner_of w)) { filters = (inner_of (inner_of (inner_of x))).filters } } }
+    → (inner_of (inner_of (inner_of x))).filters ≡ (inner_of (inner_of w)).filters → BeginsWarned limits (inner_of x)
+begins_muted {limits} w begun x alone none =
     let same = as_before (λ (z : Warned). inner_of (inner_of z)) (λ z r. with_inner z (with_inner (inner_of z) r)) (λ z. refl) w (inner_of x) alone none in
-    subst BeginsWarned (sym same) begun
+    subst (BeginsWarned limits) (sym same) begun
 
 -- nor did the level outside it
-pub begins_veto : (m : Layered MuteVeto Warned) → BeginsWarned (inner_of m) → (x : VetoStack) → outer_of x ≡ INFO
+pub begins_veto : {limits : Limits} (m : Layered MuteVeto Warned) → BeginsWarned limits (inner_of m) → (x : VetoStack) → outer_of x ≡ INFO
     → inner_of x ≡ record m { inner = record (inner_of m) { inner = record (inner_of (inner_of m)) { inner = record (inner_of (inner_of (inner_of m))) { filters = (inner_of (inner_of (inner_of (inner_of x)))).filters } } } }
-    → (inner_of (inner_of (inner_of (inner_of x)))).filters ≡ (inner_of (inner_of (inner_of m))).filters → BeginsVeto x
-begins_veto m begun x level alone none =
+    → (inner_of (inner_of (inner_of (inner_of x)))).filters ≡ (inner_of (inner_of (inner_of m))).filters → BeginsVeto limits x
+begins_veto {limits} m begun x level alone none =
     let same = as_before (λ (z : Layered MuteVeto Warned). inner_of (inner_of (inner_of z))) (λ z r. with_inner z (with_inner (inner_of z) (with_inner (inner_of (inner_of z)) r))) (λ z. refl) m (inner_of x) alone none in
-    record { level = level; below = subst (λ (z : Layered MuteVeto Warned). BeginsWarned (inner_of z)) (sym same) begun }
+    record { level = level; below = subst (λ (z : Layered MuteVeto Warned). BeginsWarned limits (inner_of z)) (sym same) begun }
 
 -- ---- absent
 
-pub begins_absent : (b : Layered (Option Kept) RegistryState) → outer_of b ≡ None → inner_of b ≡ new_registry MAX → (x : AbsentStack) → outer_of x ≡ new_recorder
-    → inner_of x ≡ record b { inner = record (inner_of b) { filters = (inner_of (inner_of x)).filters } } → (inner_of (inner_of x)).filters ≡ (inner_of b).filters → BeginsAbsent x
-begins_absent b missing first x base alone none =
+pub begins_absent : (limits : Limits) (b : Layered (Option Kept) RegistryState) → outer_of b ≡ None → inner_of b ≡ new_registry limits → (x : AbsentStack) → outer_of x ≡ new_recorder
+    → inner_of x ≡ record b { inner = record (inner_of b) { filters = (inner_of (inner_of x)).filters } } → (inner_of (inner_of x)).filters ≡ (inner_of b).filters → BeginsAbsent limits x
+begins_absent limits b missing first x base alone none =
     let same = as_before (λ (z : Layered (Option Kept) RegistryState). inner_of z) (λ z r. with_inner z r) (λ z. refl) b (inner_of x) alone none in
     record { base = base; absent = ap (λ (z : Layered (Option Kept) RegistryState). outer_of z) same ∙ missing; registry = ap (λ (z : Layered (Option Kept) RegistryState). inner_of z) same ∙ first }

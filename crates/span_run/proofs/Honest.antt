@@ -16,6 +16,7 @@ use Rattle.span_layers.specs.declared.layered.Layered.{Layered}
 use Rattle.span_registry.specs.Answers.{AreHonest}
 use Rattle.span_registry.specs.Follows.{RefusesNothing}
 use Rattle.span_registry.specs.Store.{RegistryState}
+use Rattle.span_registry.specs.declared.limits.Limits.{Limits}
 use Rattle.span_run.proofs.Begins.{AbsentStack, Levelled, VetoStack, Warned}
 use Rattle.span_run.proofs.Steady.{StayBoth, StaysUnder, still_absent}
 use Rattle.span_run.specs.Mute.{mute_answers, mute_honest}
@@ -138,13 +139,13 @@ stays_plain x = record { outer = tt; inner = tt }
 stays_levelled : (n : ℕ) (level : LevelFilter) (x : Levelled) → BeginsUnder n level x → StaysLevelled n level x
 stays_levelled n level x h = record { number = h.number; answered = ap level_answers h.level; inside = tt }
 
-pub stays_pair : (x : Layered (Layered Levelled Levelled) RegistryState) → BeginsPair x → StaysPair x
+pub stays_pair : {limits : Limits} (x : Layered (Layered Levelled Levelled) RegistryState) → BeginsPair limits x → StaysPair x
 stays_pair x h = record { outer = record { outer = stays_levelled 0 INFO (outer_of (outer_of x)) h.b; inner = stays_levelled 1 TRACE (inner_of (outer_of x)) h.a }; inner = tt }
 
-pub stays_nested : (x : Layered (FilteredLayer Levelled Mute) (Layered Kept RegistryState)) → BeginsNested x → StaysNested x
+pub stays_nested : {limits : Limits} (x : Layered (FilteredLayer Levelled Mute) (Layered Kept RegistryState)) → BeginsNested limits x → StaysNested x
 stays_nested x h = record { outer = record { number = h.number; answered = refl; inside = stays_levelled 1 INFO (layer_of (outer_of x)) h.deep }; inner = stays_plain (inner_of x) }
 
-pub stays_veto : (x : VetoStack) → BeginsVeto x → StaysVeto x
+pub stays_veto : {limits : Limits} (x : VetoStack) → BeginsVeto limits x → StaysVeto x
 stays_veto x h =
     let warned = inner_of (inner_of x) in
     record {
@@ -152,7 +153,7 @@ stays_veto x h =
       inner = record { outer = refl; inner = record { outer = stays_levelled 0 WARN (outer_of warned) h.below.warn; inner = stays_plain (inner_of warned) } };
     }
 
-pub stays_absent : (x : AbsentStack) → BeginsAbsent x → StaysAbsent x
+pub stays_absent : {limits : Limits} (x : AbsentStack) → BeginsAbsent limits x → StaysAbsent x
 stays_absent x h = record { outer = tt; inner = record { outer = h.absent; inner = tt } }
 
 -- ---- they begin as they were made, once they are in use
@@ -163,10 +164,10 @@ IsUsed x y = (id_of y ≡ id_of x) × (filter_of y ≡ filter_of x) × (layer_of
 used_levelled : (n : ℕ) (level : LevelFilter) (x y : Levelled) → IsUsed x y → BeginsUnder n level x → BeginsUnder n level y
 used_levelled n level x y u h = record { number = subst (λ i. IsNumber i (Some n)) (sym u.0) h.number; level = u.1 ∙ h.level; recorder = u.2 ∙ h.recorder }
 
-pub used_pair : (x y : Layered (Layered Levelled Levelled) RegistryState) → IsUsed (outer_of (outer_of x)) (outer_of (outer_of y)) → IsUsed (inner_of (outer_of x)) (inner_of (outer_of y)) → inner_of y ≡ inner_of x → BeginsPair x → BeginsPair y
+pub used_pair : {limits : Limits} (x y : Layered (Layered Levelled Levelled) RegistryState) → IsUsed (outer_of (outer_of x)) (outer_of (outer_of y)) → IsUsed (inner_of (outer_of x)) (inner_of (outer_of y)) → inner_of y ≡ inner_of x → BeginsPair limits x → BeginsPair limits y
 used_pair x y b a same h = record { a = used_levelled 1 TRACE (inner_of (outer_of x)) (inner_of (outer_of y)) a h.a; b = used_levelled 0 INFO (outer_of (outer_of x)) (outer_of (outer_of y)) b h.b; registry = same ∙ h.registry }
 
-pub used_nested : (x y : Layered (FilteredLayer Levelled Mute) (Layered Kept RegistryState)) → id_of (outer_of y) ≡ id_of (outer_of x) → IsUsed (layer_of (outer_of x)) (layer_of (outer_of y)) → outer_of (inner_of y) ≡ outer_of (inner_of x) → inner_of (inner_of y) ≡ inner_of (inner_of x) → BeginsNested x → BeginsNested y
+pub used_nested : {limits : Limits} (x y : Layered (FilteredLayer Levelled Mute) (Layered Kept RegistryState)) → id_of (outer_of y) ≡ id_of (outer_of x) → IsUsed (layer_of (outer_of x)) (layer_of (outer_of y)) → outer_of (inner_of y) ≡ outer_of (inner_of x) → inner_of (inner_of y) ≡ inner_of (inner_of x) → BeginsNested limits x → BeginsNested limits y
 used_nested x y id deep base same h = record {
   base = base ∙ h.base;
   number = subst (λ i. IsNumber i (Some 0)) (sym id) h.number;
@@ -174,12 +175,12 @@ used_nested x y id deep base same h = record {
   registry = same ∙ h.registry;
 }
 
-used_warned : (x y : Warned) → IsUsed (outer_of x) (outer_of y) → outer_of (inner_of y) ≡ outer_of (inner_of x) → inner_of (inner_of y) ≡ inner_of (inner_of x) → BeginsWarned x → BeginsWarned y
+used_warned : {limits : Limits} (x y : Warned) → IsUsed (outer_of x) (outer_of y) → outer_of (inner_of y) ≡ outer_of (inner_of x) → inner_of (inner_of y) ≡ inner_of (inner_of x) → BeginsWarned limits x → BeginsWarned limits y
 used_warned x y warn base same h = record { base = base ∙ h.base; warn = used_levelled 0 WARN (outer_of x) (outer_of y) warn h.warn; registry = same ∙ h.registry }
 
-pub used_veto : (x y : VetoStack) → outer_of y ≡ outer_of x → IsUsed (outer_of (inner_of (inner_of x))) (outer_of (inner_of (inner_of y)))
-    → outer_of (inner_of (inner_of (inner_of y))) ≡ outer_of (inner_of (inner_of (inner_of x))) → inner_of (inner_of (inner_of (inner_of y))) ≡ inner_of (inner_of (inner_of (inner_of x))) → BeginsVeto x → BeginsVeto y
+pub used_veto : {limits : Limits} (x y : VetoStack) → outer_of y ≡ outer_of x → IsUsed (outer_of (inner_of (inner_of x))) (outer_of (inner_of (inner_of y)))
+    → outer_of (inner_of (inner_of (inner_of y))) ≡ outer_of (inner_of (inner_of (inner_of x))) → inner_of (inner_of (inner_of (inner_of y))) ≡ inner_of (inner_of (inner_of (inner_of x))) → BeginsVeto limits x → BeginsVeto limits y
 used_veto x y level warn base same h = record { level = level ∙ h.level; below = used_warned (inner_of (inner_of x)) (inner_of (inner_of y)) warn base same h.below }
 
-pub used_absent : (x y : AbsentStack) → outer_of y ≡ outer_of x → OptionGoes (λ (a b : Kept). b ≡ a) (outer_of (inner_of x)) (outer_of (inner_of y)) → inner_of (inner_of y) ≡ inner_of (inner_of x) → BeginsAbsent x → BeginsAbsent y
+pub used_absent : {limits : Limits} (x y : AbsentStack) → outer_of y ≡ outer_of x → OptionGoes (λ (a b : Kept). b ≡ a) (outer_of (inner_of x)) (outer_of (inner_of y)) → inner_of (inner_of y) ≡ inner_of (inner_of x) → BeginsAbsent limits x → BeginsAbsent limits y
 used_absent x y base none same h = record { base = base ∙ h.base; absent = still_absent (λ (a b : Kept). b ≡ a) (outer_of (inner_of x)) (outer_of (inner_of y)) none h.absent; registry = same ∙ h.registry }

@@ -32,7 +32,7 @@ use Rattle.span_registry.specs.Hooks.{StackSteps, no_filter}
 use Rattle.span_registry.specs.Place.{HearSteps}
 use Rattle.span_registry.specs.Plan.{Both, Itself, Nobody, Plan, Through}
 use Rattle.span_registry.specs.Store.{RegistryState}
-use Rattle.span_registry.specs.declared.limits.TheConstants.Limits.{MAX}
+use Rattle.span_registry.specs.declared.limits.Limits.{Limits}
 use Rattle.span_run.specs.Stacks.{leaf, start_of}
 use Rattle.span_run.specs.declared.stack_name.StackName.{StackName}
 
@@ -196,12 +196,12 @@ module _ {L I : Type 0} {with_registry : I → RegistryState → I} {outer_form 
 
 module _ {S : Type 0} {with_registry : S → RegistryState → S} {has_form : S → Form → Type 0} {stepped : StackSteps S} {f : Form} {Stays : S → Type 0} (steady : IsSteadyStack with_registry has_form stepped f Stays) (registry : S → RegistryState) where
   -- it is ready on the first registry, if its form is honest there
-  pub ready_at_first : (stack : StackName) (x : S) → Stays x → registry x ≡ start_of stack → IsHonestStack f (start_of stack).filters → (g : Form) × IsReady registry with_registry has_form stepped g x
-  ready_at_first stack x stays first honest = (
+  pub ready_at_first : (limits : Limits) (stack : StackName) (x : S) → Stays x → registry x ≡ start_of limits stack → IsHonestStack f (start_of limits stack).filters → (g : Form) × IsReady registry with_registry has_form stepped g x
+  ready_at_first limits stack x stays first honest = (
     f,
     record {
       honest = record { has = steady.has x stays; rules = subst (λ (s : RegistryState). IsHonestStack f s.filters) (sym first) honest };
-      settled = subst (λ (s : RegistryState). IsSettled s.store.spans) (sym first) (settled_new MAX);
+      settled = subst (λ (s : RegistryState). IsSettled s.store.spans) (sym first) (settled_new limits);
     },
   )
 

@@ -15,6 +15,7 @@ use Rattle.span_dispatch.specs.declared.notice.Notice.TheVariants as notice
 use Rattle.span_dispatch.specs.declared.request.Answer.{Answer}
 use Rattle.span_dispatch.specs.declared.request.Answer.TheVariants.{Made, Dropped, Done, Yes, Current, Refused}
 use Rattle.span_dispatch.specs.declared.request.Request.{Request}
+use Rattle.span_registry.specs.declared.limits.Limits.{Limits}
 use Rattle.span_run.specs.declared.line.Line.{Line}
 use Rattle.span_run.specs.declared.line.Line.TheVariants.{Enabled}
 use Rattle.span_run.specs.declared.reply.Heard.{Heard}
@@ -131,9 +132,9 @@ pub record PrintsServed (Served : Serving) (stack : StackName) (lines : List Lin
   pub named : map (λ one. one.0) heard ≡ recorders_of stack
   pub printed : IsPrinted lines answers heard output
 
--- a script whose requests this stack serves gives this text
-abbrev pub Gives : StackName → Script → List ℕ → Type 0
-Gives stack script output = PrintsServed Serves stack (lines_of script) (requests_of script) output
+-- a script whose requests this stack serves, on a registry with these limits, gives this text
+abbrev pub Gives : Limits → StackName → Script → List ℕ → Type 0
+Gives limits stack script output = PrintsServed (Serves limits) stack (lines_of script) (requests_of script) output
 
 -- the text spells a stack and lines, these ask for requests, and what comes of serving them so is printed
 pub record PrintsBy (Served : Serving) (text output : List ℕ) : Type 0 where
@@ -144,9 +145,9 @@ pub record PrintsBy (Served : Serving) (text output : List ℕ) : Type 0 where
   pub asked : AskFor lines requests
   pub printed : PrintsServed Served stack lines requests output
 
--- the same, where the stacks serve them
-abbrev pub Prints : List ℕ → List ℕ → Type 0
-Prints text output = PrintsBy Serves text output
+-- the same, where the stacks serve them, on registries with these limits
+abbrev pub Prints : Limits → List ℕ → List ℕ → Type 0
+Prints limits text output = PrintsBy (Serves limits) text output
 
 -- a wrong line ends with 2, all else with 1
 abbrev pub status_of : RunFault → ℕ
@@ -158,19 +159,19 @@ abbrev pub IsWrongLine : RunFault → Type 0
 IsWrongLine (LineFault n) = ⊤
 IsWrongLine fault = ⊥
 
--- Below: the bytes that a reader gives, if they are known, and a writer before and after.
+-- Below: a registry's limits, the bytes that a reader gives, if they are known, and a writer before and after.
 
 -- what is printed for the bytes is written behind what was there
-abbrev pub Writes : {W : Type 0} → Option (List ℕ) → (W → Option (List ℕ)) → W → W → Type 0
-Writes given contents old new = IfSome given (λ bytes. (output : List ℕ) × (Prints (utf8_lossy bytes) output × Appends (contents old) (contents new) output))
+abbrev pub Writes : {W : Type 0} → Limits → Option (List ℕ) → (W → Option (List ℕ)) → W → W → Type 0
+Writes limits given contents old new = IfSome given (λ bytes. (output : List ℕ) × (Prints limits (utf8_lossy bytes) output × Appends (contents old) (contents new) output))
 
 -- a line that is said to be wrong is the first of the bytes that is
 abbrev pub BlamesFirstWrong : Option (List ℕ) → RunFault → Type 0
 BlamesFirstWrong given fault = IsWrongLine fault → IfSome given (λ bytes. IsScriptFault (utf8_lossy bytes) fault)
 
 -- nothing is written, unless it is writing that failed: then the bytes are a script
-abbrev pub IsUnwritten : {W : Type 0} → Option (List ℕ) → W → W → RunFault → Type 0
-IsUnwritten given old new fault = (new ≡ old) ⊎ ((fault ≡ Io) × IfSome given (λ bytes. (output : List ℕ) × Prints (utf8_lossy bytes) output))
+abbrev pub IsUnwritten : {W : Type 0} → Limits → Option (List ℕ) → W → W → RunFault → Type 0
+IsUnwritten limits given old new fault = (new ≡ old) ⊎ ((fault ≡ Io) × IfSome given (λ bytes. (output : List ℕ) × Prints limits (utf8_lossy bytes) output))
 
 -- more than 1048576 bytes are refused, with no line blamed and nothing written
 abbrev pub RefusesLong : {W : Type 0} → Option (List ℕ) → Result (Unit {0}) RunFault → W → W → Type 0

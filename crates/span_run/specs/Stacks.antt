@@ -1,5 +1,5 @@
 -- What serves the requests of a script: the stack that it names.
-use Rattle.std.specs.Prelude.{◌≡◌, ℕ, true, List, [], ◌∷◌, Option, None, Some, map}
+use Rattle.std.specs.Prelude.{◌≡◌, ◌≤◌, ℕ, true, List, [], ◌∷◌, Option, None, Some, map}
 use Rattle.span_core.specs.declared.level.LevelFilter.{LevelFilter}
 use Rattle.span_core.specs.declared.level.TheConstants.LevelFilter.{INFO, TRACE, WARN}
 use Rattle.span_dispatch.specs.Cache.{Memory, no_callsite}
@@ -22,7 +22,7 @@ use Rattle.span_registry.specs.Form.{Absent, Bare, Base, Filtered, Form, InPair,
 use Rattle.span_registry.specs.Hooks.{StackSteps}
 use Rattle.span_registry.specs.Place.{HearSteps, Here, Inner, Outer, Place, Under}
 use Rattle.span_registry.specs.Store.{RegistryState, new_registry}
-use Rattle.span_registry.specs.declared.limits.TheConstants.Limits.{MAX}
+use Rattle.span_registry.specs.declared.limits.Limits.{Limits}
 use Rattle.span_run.specs.Mute.{mute_answers}
 use Rattle.span_run.specs.declared.mute.Mute.{Mute}
 use Rattle.span_run.specs.declared.mute_veto.MuteVeto.{MuteVeto}
@@ -57,21 +57,27 @@ filters_of Nested = 2
 filters_of Veto = 1
 filters_of AbsentStack = 0
 
--- its registry before the first request: it is empty, and handed out the stack's filters
-abbrev pub start_of : StackName → RegistryState
-start_of stack = record (new_registry MAX) { filters = filters_of stack }
+-- a registry may have these limits: each is at least 1
+pub record ArePositive (limits : Limits) : Type 0 where
+  pub places : 1 ≤ limits.places
+  pub generations : 1 ≤ limits.generations
+  pub count : 1 ≤ limits.count
+
+-- its registry before the first request: it has these limits, is empty, and handed out the stack's filters
+abbrev pub start_of : Limits → StackName → RegistryState
+start_of limits stack = record (new_registry limits) { filters = filters_of stack }
 
 -- the stack answers these requests so, from its first registry on and with nothing kept at first, and its recorders, innermost first, keep these notices
-abbrev pub Serves : StackName → List Request → List Answer → List (List Notice) → Type 0
-Serves stack requests answers kept =
-    (made : List (List Made)) × (memory : Memory) × (after : RegistryState) × RunsBy (form_of stack) requests answers made (Some no_callsite) (start_of stack) memory after × (kept ≡ map (kept_at made) (places_of stack))
+abbrev pub Serves : Limits → StackName → List Request → List Answer → List (List Notice) → Type 0
+Serves limits stack requests answers kept =
+    (made : List (List Made)) × (memory : Memory) × (after : RegistryState) × RunsBy (form_of stack) requests answers made (Some no_callsite) (start_of limits stack) memory after × (kept ≡ map (kept_at made) (places_of stack))
 
--- Below: the stacks themselves, before the first request.
+-- Below: the stacks themselves, before the first request, on a registry with these limits.
 
 -- a new recorder on the first registry
-pub record BeginsPlain (x : Layered Kept RegistryState) : Type 0 where
+pub record BeginsPlain (limits : Limits) (x : Layered Kept RegistryState) : Type 0 where
   pub base : outer_of x ≡ new_recorder
-  pub registry : inner_of x ≡ start_of Plain
+  pub registry : inner_of x ≡ start_of limits Plain
 
 -- a new recorder under the filter of this number, which passes levels up to this one
 pub record BeginsUnder (n : ℕ) (most : LevelFilter) (x : FilteredLayer Kept LevelFilter) : Type 0 where
@@ -80,34 +86,34 @@ pub record BeginsUnder (n : ℕ) (most : LevelFilter) (x : FilteredLayer Kept Le
   pub recorder : layer_of x ≡ new_recorder
 
 -- two new recorders, each under its level, on the first registry
-pub record BeginsPair (x : Layered (Layered (FilteredLayer Kept LevelFilter) (FilteredLayer Kept LevelFilter)) RegistryState) : Type 0 where
+pub record BeginsPair (limits : Limits) (x : Layered (Layered (FilteredLayer Kept LevelFilter) (FilteredLayer Kept LevelFilter)) RegistryState) : Type 0 where
   pub a : BeginsUnder 1 TRACE (inner_of (outer_of x))
   pub b : BeginsUnder 0 INFO (outer_of (outer_of x))
-  pub registry : inner_of x ≡ start_of Pair
+  pub registry : inner_of x ≡ start_of limits Pair
 
 -- a new recorder on the first registry, and outside it one under a level, and that under the filter of muted events
-pub record BeginsNested (x : Layered (FilteredLayer (FilteredLayer Kept LevelFilter) Mute) (Layered Kept RegistryState)) : Type 0 where
+pub record BeginsNested (limits : Limits) (x : Layered (FilteredLayer (FilteredLayer Kept LevelFilter) Mute) (Layered Kept RegistryState)) : Type 0 where
   pub base : outer_of (inner_of x) ≡ new_recorder
   pub number : IsNumber (id_of (outer_of x)) (Some 0)
   pub deep : BeginsUnder 1 INFO (layer_of (outer_of x))
-  pub registry : inner_of (inner_of x) ≡ start_of Nested
+  pub registry : inner_of (inner_of x) ≡ start_of limits Nested
 
 -- a new recorder on the first registry, and outside it one under warnings
-pub record BeginsWarned (x : Layered (FilteredLayer Kept LevelFilter) (Layered Kept RegistryState)) : Type 0 where
+pub record BeginsWarned (limits : Limits) (x : Layered (FilteredLayer Kept LevelFilter) (Layered Kept RegistryState)) : Type 0 where
   pub base : outer_of (inner_of x) ≡ new_recorder
   pub warn : BeginsUnder 0 WARN (outer_of x)
-  pub registry : inner_of (inner_of x) ≡ start_of Veto
+  pub registry : inner_of (inner_of x) ≡ start_of limits Veto
 
 -- outside these a layer that vetoes muted events, and outside that one which vetoes what is more verbose than info
-pub record BeginsVeto (x : Layered LevelFilter (Layered MuteVeto (Layered (FilteredLayer Kept LevelFilter) (Layered Kept RegistryState)))) : Type 0 where
+pub record BeginsVeto (limits : Limits) (x : Layered LevelFilter (Layered MuteVeto (Layered (FilteredLayer Kept LevelFilter) (Layered Kept RegistryState)))) : Type 0 where
   pub level : outer_of x ≡ INFO
-  pub below : BeginsWarned (inner_of (inner_of x))
+  pub below : BeginsWarned limits (inner_of (inner_of x))
 
 -- an absent layer on the first registry, and outside it a new recorder
-pub record BeginsAbsent (x : Layered Kept (Layered (Option Kept) RegistryState)) : Type 0 where
+pub record BeginsAbsent (limits : Limits) (x : Layered Kept (Layered (Option Kept) RegistryState)) : Type 0 where
   pub base : outer_of x ≡ new_recorder
   pub absent : outer_of (inner_of x) ≡ None
-  pub registry : inner_of (inner_of x) ≡ start_of AbsentStack
+  pub registry : inner_of (inner_of x) ≡ start_of limits AbsentStack
 
 -- a stack was put in use, with nothing kept yet, and then, if it was ready, it served these requests so
 pub record ServesInUse {S : Type 0} (registry : S → RegistryState) (with_registry : S → RegistryState → S) (has_form : S → Form → Type 0) (stepped : StackSteps S) (hears : HearSteps S) (acts_at : ActsAt S) (registered : S → S → Type 0) (requests : List Request) (answers : List Answer) (x : S) (d : Dispatch S) : Type 0 where

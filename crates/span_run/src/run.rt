@@ -3,10 +3,12 @@ ghost use Rattle.std.specs.Prelude.{◌≡◌, ◌≤◌, vec_len, string_bytes,
 ghost use Rattle.std.specs.Io.KnownBytes.{Appends};
 ghost use Rattle.span_run.specs.Program.{BlamesFirstWrong, IsUnwritten, IsWrongLine, Prints, RefusesLong, Writes};
 ghost use Rattle.span_run.specs.Script.{IsScriptFault};
+ghost use Rattle.span_run.specs.Stacks.{ArePositive};
 
 use crate::fault::RunFault;
 use crate::script::Script;
 use crate::stacks::served_text;
+use span_registry::Limits;
 use std::alloc::Global;
 use std::io::{ErrorKind, Read, Write};
 
@@ -21,15 +23,35 @@ const CHUNK: usize = 8192;
 /// The whole script is read first. Where it can't be read, or a line is wrong, nothing is written.
 /// A fault of reading is `Io`, and so is one of writing: then a part of the output may be written.
 pub fn run<R: Read, W: Write>(alloc: Global, reader: &mut R, writer: &mut W) -> Result<(), RunFault>
-    ensures done { OnOk result (Writes (R.remaining reader.old) W.contents writer.old writer.new) }
+    ensures done { OnOk result
+        (Writes Limits.MAX (R.remaining reader.old) W.contents writer.old writer.new) }
     ensures wrong { IfErr result (BlamesFirstWrong (R.remaining reader.old)) }
-    ensures unwritten { IfErr result (IsUnwritten (R.remaining reader.old) writer.old writer.new) }
+    ensures unwritten { IfErr result
+        (IsUnwritten Limits.MAX (R.remaining reader.old) writer.old writer.new) }
+    ensures too_long { RefusesLong (R.remaining reader.old) result writer.old writer.new }
+{
+    run_with(alloc, Limits::MAX, reader, writer)
+}
+
+/// The same, on a registry with these limits.
+pub fn run_with<R: Read, W: Write>(
+    alloc: Global,
+    limits: Limits,
+    reader: &mut R,
+    writer: &mut W,
+) -> Result<(), RunFault>
+    requires { ArePositive limits }
+    ensures done { OnOk result
+        (Writes limits (R.remaining reader.old) W.contents writer.old writer.new) }
+    ensures wrong { IfErr result (BlamesFirstWrong (R.remaining reader.old)) }
+    ensures unwritten { IfErr result
+        (IsUnwritten limits (R.remaining reader.old) writer.old writer.new) }
     ensures too_long { RefusesLong (R.remaining reader.old) result writer.old writer.new }
 {
     let bytes = read_script(alloc, reader)?;
     // What isn't text becomes a character that no line has.
     let text = String::from_utf8_lossy(alloc, &bytes)?;
-    let output = output_of(alloc, text.as_str())?;
+    let output = output_of(alloc, limits, text.as_str())?;
     write_output(writer, output.as_str())
 }
 
@@ -61,12 +83,13 @@ fn read_script<R: Read>(alloc: Global, reader: &mut R) -> Result<Vec<u8>, RunFau
 }
 
 /// What a script prints.
-fn output_of(alloc: Global, text: &str) -> Result<String, RunFault>
-    ensures printed { IfOk result (λ output. Prints text.now (string_bytes output)) }
+fn output_of(alloc: Global, limits: Limits, text: &str) -> Result<String, RunFault>
+    requires { ArePositive limits }
+    ensures printed { IfOk result (λ output. Prints limits text.now (string_bytes output)) }
     ensures fault { IfErr result (IsScriptFault text.now) }
 {
     let script = Script::parse(alloc, text)?;
-    served_text(alloc, &script)
+    served_text(alloc, limits, &script)
 }
 
 /// Writes all of the output, or fails.

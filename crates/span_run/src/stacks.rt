@@ -2,7 +2,7 @@
 ghost use Rattle.std.specs.Prelude.{◌≡◌, ◌∷◌, [], codes, string_bytes, IfErr, IfOk, false};
 ghost use Rattle.span_run.specs.Program.{Gives, IsPrinted};
 ghost use Rattle.span_run.specs.Script.{lines_of, stack_of};
-ghost use Rattle.span_run.specs.Stacks.{BeginsAbsent, BeginsNested, BeginsPair, BeginsPlain, BeginsVeto, BeginsWarned, ServesInUse};
+ghost use Rattle.span_run.specs.Stacks.{ArePositive, BeginsAbsent, BeginsNested, BeginsPair, BeginsPlain, BeginsVeto, BeginsWarned, ServesInUse};
 
 use crate::fault::RunFault;
 use crate::mute::Mute;
@@ -13,7 +13,7 @@ use crate::stack_name::StackName;
 use span_core::LevelFilter;
 use span_dispatch::{Answer, Dispatch, Recorder, Request};
 use span_layers::{Filtered, LayerExt, Layered, SubscriberExt};
-use span_registry::{Registry, Subscriber};
+use span_registry::{Limits, Registry, Subscriber};
 use std::alloc::Global;
 
 /// A recorder under a level.
@@ -38,68 +38,75 @@ type Veto = Layered<LevelFilter, Layered<MuteVeto, Warned>>;
 type Absent = Layered<Recorder, Layered<Option<Recorder>, Registry>>;
 
 /// What a script prints, where the stack that it names serves its requests.
-pub fn served_text(alloc: Global, script: &Script<'_>) -> Result<String, RunFault>
-    ensures printed { IfOk result (λ s. Gives (stack_of script.now) script.now (string_bytes s)) }
+pub fn served_text(alloc: Global, limits: Limits, script: &Script<'_>) -> Result<String, RunFault>
+    requires { ArePositive limits }
+    ensures printed { IfOk result (λ s.
+        Gives limits (stack_of script.now) script.now (string_bytes s)) }
     ensures fault { IfErr result (λ fault. fault ≡ RunFault.Memory) }
 {
     match script.stack() {
-        StackName::Plain => plain_text(alloc, script),
-        StackName::Pair => pair_text(alloc, script),
-        StackName::Nested => nested_text(alloc, script),
-        StackName::Veto => veto_text(alloc, script),
-        StackName::Absent => absent_text(alloc, script),
+        StackName::Plain => plain_text(alloc, limits, script),
+        StackName::Pair => pair_text(alloc, limits, script),
+        StackName::Nested => nested_text(alloc, limits, script),
+        StackName::Veto => veto_text(alloc, limits, script),
+        StackName::Absent => absent_text(alloc, limits, script),
     }
 }
 
 /// The stack `plain`.
-fn plain(alloc: Global) -> Plain
-    ensures { BeginsPlain result }
+fn plain(alloc: Global, limits: Limits) -> Plain
+    requires { ArePositive limits }
+    ensures { BeginsPlain limits result }
 {
-    match Registry::new(alloc).with(Recorder::new(alloc)) {
+    match Registry::with_limits(alloc, limits).with(Recorder::new(alloc)) {
         Ok(stack) => stack,
         Err(_) => unreachable!(), // It has no filter.
     }
 }
 
 /// The stack `pair`.
-fn pair(alloc: Global) -> Pair
-    ensures { BeginsPair result }
+fn pair(alloc: Global, limits: Limits) -> Pair
+    requires { ArePositive limits }
+    ensures { BeginsPair limits result }
 {
     let a = Recorder::new(alloc).with_filter(LevelFilter::TRACE);
     let b = Recorder::new(alloc).with_filter(LevelFilter::INFO);
-    match Registry::new(alloc).with(a.and_then(b)) {
+    match Registry::with_limits(alloc, limits).with(a.and_then(b)) {
         Ok(stack) => stack,
         Err(_) => unreachable!(), // It has two filters, and there is room for 64.
     }
 }
 
 /// The stack `nested`.
-fn nested(alloc: Global) -> Nested
-    ensures { BeginsNested result }
+fn nested(alloc: Global, limits: Limits) -> Nested
+    requires { ArePositive limits }
+    ensures { BeginsNested limits result }
 {
     let deep = Recorder::new(alloc).with_filter(LevelFilter::INFO);
-    match plain(alloc).with(deep.with_filter(Mute)) {
+    match plain(alloc, limits).with(deep.with_filter(Mute)) {
         Ok(stack) => stack,
         Err(_) => unreachable!(), // It has two filters, and there is room for 64.
     }
 }
 
 /// The recorders of the stack `veto`.
-fn warned(alloc: Global) -> Warned
-    ensures { BeginsWarned result }
+fn warned(alloc: Global, limits: Limits) -> Warned
+    requires { ArePositive limits }
+    ensures { BeginsWarned limits result }
 {
     let warn = Recorder::new(alloc).with_filter(LevelFilter::WARN);
-    match plain(alloc).with(warn) {
+    match plain(alloc, limits).with(warn) {
         Ok(stack) => stack,
         Err(_) => unreachable!(), // It has one filter, and there is room for 64.
     }
 }
 
 /// The stack `veto`.
-fn veto(alloc: Global) -> Veto
-    ensures { BeginsVeto result }
+fn veto(alloc: Global, limits: Limits) -> Veto
+    requires { ArePositive limits }
+    ensures { BeginsVeto limits result }
 {
-    let Ok(muted) = warned(alloc).with(MuteVeto) else {
+    let Ok(muted) = warned(alloc, limits).with(MuteVeto) else {
         unreachable!() // It has no filter.
     };
     match muted.with(LevelFilter::INFO) {
@@ -109,11 +116,12 @@ fn veto(alloc: Global) -> Veto
 }
 
 /// The stack `absent`.
-fn absent(alloc: Global) -> Absent
-    ensures { BeginsAbsent result }
+fn absent(alloc: Global, limits: Limits) -> Absent
+    requires { ArePositive limits }
+    ensures { BeginsAbsent limits result }
 {
     let none: Option<Recorder> = None;
-    let Ok(below) = Registry::new(alloc).with(none) else {
+    let Ok(below) = Registry::with_limits(alloc, limits).with(none) else {
         unreachable!() // It has no filter.
     };
     match below.with(Recorder::new(alloc)) {
@@ -194,20 +202,22 @@ fn text_of_two(
 }
 
 /// What a script prints, where the stack `plain` serves its requests.
-fn plain_text(alloc: Global, script: &Script<'_>) -> Result<String, RunFault>
-    ensures printed { IfOk result (λ s. Gives StackName.Plain script.now (string_bytes s)) }
+fn plain_text(alloc: Global, limits: Limits, script: &Script<'_>) -> Result<String, RunFault>
+    requires { ArePositive limits }
+    ensures printed { IfOk result (λ s. Gives limits StackName.Plain script.now (string_bytes s)) }
     ensures fault { IfErr result (λ fault. fault ≡ RunFault.Memory) }
 {
-    let (answers, dispatch) = serve(alloc, plain(alloc), script.requests())?;
+    let (answers, dispatch) = serve(alloc, plain(alloc, limits), script.requests())?;
     text_of_one(alloc, script, &answers, dispatch.stack().layer())
 }
 
 /// What a script prints, where the stack `pair` serves its requests.
-fn pair_text(alloc: Global, script: &Script<'_>) -> Result<String, RunFault>
-    ensures printed { IfOk result (λ s. Gives StackName.Pair script.now (string_bytes s)) }
+fn pair_text(alloc: Global, limits: Limits, script: &Script<'_>) -> Result<String, RunFault>
+    requires { ArePositive limits }
+    ensures printed { IfOk result (λ s. Gives limits StackName.Pair script.now (string_bytes s)) }
     ensures fault { IfErr result (λ fault. fault ≡ RunFault.Memory) }
 {
-    let (answers, dispatch) = serve(alloc, pair(alloc), script.requests())?;
+    let (answers, dispatch) = serve(alloc, pair(alloc, limits), script.requests())?;
     let both = dispatch.stack().layer();
     let a = both.inner().inner();
     let b = both.layer().inner();
@@ -215,11 +225,12 @@ fn pair_text(alloc: Global, script: &Script<'_>) -> Result<String, RunFault>
 }
 
 /// What a script prints, where the stack `nested` serves its requests.
-fn nested_text(alloc: Global, script: &Script<'_>) -> Result<String, RunFault>
-    ensures printed { IfOk result (λ s. Gives StackName.Nested script.now (string_bytes s)) }
+fn nested_text(alloc: Global, limits: Limits, script: &Script<'_>) -> Result<String, RunFault>
+    requires { ArePositive limits }
+    ensures printed { IfOk result (λ s. Gives limits StackName.Nested script.now (string_bytes s)) }
     ensures fault { IfErr result (λ fault. fault ≡ RunFault.Memory) }
 {
-    let (answers, dispatch) = serve(alloc, nested(alloc), script.requests())?;
+    let (answers, dispatch) = serve(alloc, nested(alloc, limits), script.requests())?;
     let stack = dispatch.stack();
     let base = stack.inner().layer();
     let deep = stack.layer().inner().inner();
@@ -227,11 +238,12 @@ fn nested_text(alloc: Global, script: &Script<'_>) -> Result<String, RunFault>
 }
 
 /// What a script prints, where the stack `veto` serves its requests.
-fn veto_text(alloc: Global, script: &Script<'_>) -> Result<String, RunFault>
-    ensures printed { IfOk result (λ s. Gives StackName.Veto script.now (string_bytes s)) }
+fn veto_text(alloc: Global, limits: Limits, script: &Script<'_>) -> Result<String, RunFault>
+    requires { ArePositive limits }
+    ensures printed { IfOk result (λ s. Gives limits StackName.Veto script.now (string_bytes s)) }
     ensures fault { IfErr result (λ fault. fault ≡ RunFault.Memory) }
 {
-    let (answers, dispatch) = serve(alloc, veto(alloc), script.requests())?;
+    let (answers, dispatch) = serve(alloc, veto(alloc, limits), script.requests())?;
     let warned = dispatch.stack().inner().inner();
     let base = warned.inner().layer();
     let warn = warned.layer().inner();
@@ -239,10 +251,11 @@ fn veto_text(alloc: Global, script: &Script<'_>) -> Result<String, RunFault>
 }
 
 /// What a script prints, where the stack `absent` serves its requests.
-fn absent_text(alloc: Global, script: &Script<'_>) -> Result<String, RunFault>
-    ensures printed { IfOk result (λ s. Gives StackName.Absent script.now (string_bytes s)) }
+fn absent_text(alloc: Global, limits: Limits, script: &Script<'_>) -> Result<String, RunFault>
+    requires { ArePositive limits }
+    ensures printed { IfOk result (λ s. Gives limits StackName.Absent script.now (string_bytes s)) }
     ensures fault { IfErr result (λ fault. fault ≡ RunFault.Memory) }
 {
-    let (answers, dispatch) = serve(alloc, absent(alloc), script.requests())?;
+    let (answers, dispatch) = serve(alloc, absent(alloc, limits), script.requests())?;
     text_of_one(alloc, script, &answers, dispatch.stack().layer())
 }

@@ -1,10 +1,11 @@
 use crate::fault::RunFault;
 use crate::reply::{Heard, text_of};
-use crate::run::run;
+use crate::run::{run, run_with};
 use crate::script::Script;
 use crate::stack_name::StackName;
 use span_core::{FieldValue, Id, Lane, TraceError};
 use span_dispatch::{Answer, Notice, Request, Which};
+use span_registry::Limits;
 use std::alloc::{AllocError, Global};
 use std::io;
 use std::io::{ErrorKind, Read, Write};
@@ -102,6 +103,36 @@ fn rows(rt: HostRuntime) -> Result<(), Fail> {
         let wanted = lines(rt.alloc(), wanted)?;
         assert_eq!(rt; output.as_slice(), wanted.as_bytes(), "{script}");
     }
+    Ok(())
+}
+
+/// What a row prints on a registry with one place, which holds two spans, one after another.
+fn printed_with_one_place(alloc: Global, row: &str) -> Result<Vec<u8>, RunFault> {
+    let limits = Limits {
+        places: 1,
+        generations: 2,
+        count: u32::MAX,
+    };
+    let input = lines(alloc, row)?;
+    let mut output = Vec::new(alloc);
+    run_with(alloc, limits, &mut input.as_bytes(), &mut output)?;
+    Ok(output)
+}
+
+#[test]
+fn an_open_span_keeps_its_place(rt: HostRuntime) -> Result<(), Fail> {
+    let output = printed_with_one_place(rt.alloc(), "stack plain / new 0 2 a / new 0 2 b")?;
+    let wanted = lines(rt.alloc(), "a / refused 8 / == base / new a")?;
+    assert_eq!(rt; output.as_slice(), wanted.as_bytes());
+    Ok(())
+}
+
+#[test]
+fn a_place_retires(rt: HostRuntime) -> Result<(), Fail> {
+    let script = "stack plain / new 0 2 a / drop 0 a / new 0 2 b / drop 0 b / new 0 2 c";
+    let wanted = "a / ok / b / ok / refused 8 / == base / new a / close a / new b / close b";
+    let output = printed_with_one_place(rt.alloc(), script)?;
+    assert_eq!(rt; output.as_slice(), lines(rt.alloc(), wanted)?.as_bytes());
     Ok(())
 }
 

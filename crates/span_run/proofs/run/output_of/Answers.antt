@@ -11,8 +11,8 @@ if-ok (Err e) P Q p f = tt
 pub returns-clause-printed : goal.returns-clause-printed
 returns-clause-printed c =
     let script = c.in_ok-script.script in
-    if-ok c.served_text.result (λ s. Gives (stack_of script) script (string_bytes s))
-    (λ s. Prints c.args.text.now (string_bytes s)) c.served_text.ensures.printed
+    if-ok c.served_text.result (λ s. Gives c.args.limits (stack_of script) script (string_bytes s))
+    (λ s. Prints c.args.limits c.args.text.now (string_bytes s)) c.served_text.ensures.printed
     (λ s printed. record {
       stack = stack_of script;
       lines = lines_of script;

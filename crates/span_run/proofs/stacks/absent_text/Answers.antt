@@ -19,10 +19,10 @@ returns-clause-printed c =
     let u = c.in_ok-answers.ensures.served in
     let h = used_absent x (stack_of u.begun) u.in_use.0 u.in_use.1.0 u.in_use.1.1 c.absent.ensures in
     let base = c.layer.ensures ∙ ap outer_of c.stack.ensures in
-    let served = u.served (ready_at_first steady (λ z. inner_of (inner_of z)) Absent x (stays_absent x c.absent.ensures) c.absent.ensures.registry honest_absent) in
-    let run = run_of steady (λ z. inner_of (inner_of z)) u.begun c.in_ok-answers.dispatch (start_of Absent) (stays_absent (stack_of u.begun) h) h.registry u.kept served in
+    let served = u.served (ready_at_first steady (λ z. inner_of (inner_of z)) c.args.limits Absent x (stays_absent x c.absent.ensures) c.absent.ensures.registry honest_absent) in
+    let run = run_of steady (λ z. inner_of (inner_of z)) u.begun c.in_ok-answers.dispatch (start_of c.args.limits Absent) (stays_absent (stack_of u.begun) h) h.registry u.kept served in
     two_ok c.text_of_one.result _ _ _ c.text_of_one.ensures.printed c.text_of_one.ensures.whole
     (λ s printed whole.
     let notices = all_kept (outer_of (stack_of u.begun)) (outer_of y) _ (served.each (Outer Here)) h.base (subst (λ (r : Kept). r.failed ≡ false) base whole) in
-    gives Absent c.args.script.now c.requests.result.now c.in_ok-answers.answers.items c.deref.result.now ((codes "base", c.layer.result.now.notices) ∷ []) _ (string_bytes s)
+    gives c.args.limits Absent c.args.script.now c.requests.result.now c.in_ok-answers.answers.items c.deref.result.now ((codes "base", c.layer.result.now.notices) ∷ []) _ (string_bytes s)
     (served.made, kept_by c.in_ok-answers.dispatch, inner_of (inner_of y), run, refl) c.requests.ensures c.deref.ensures.value (ap (λ (ns : List Notice). ns ∷ []) (ap (λ (r : Kept). r.notices) base ∙ notices)) refl printed)

@@ -25,11 +25,11 @@ returns-clause-printed c =
     let stack = c.stack-stack.ensures in
     let base = c.layer-base.ensures ∙ ap outer_of (c.inner.ensures ∙ ap inner_of stack) in
     let deep = c.inner-deep.ensures ∙ ap layer_of (c.inner-2.ensures ∙ ap layer_of (c.layer.ensures ∙ ap outer_of stack)) in
-    let served = u.served (ready_at_first steady (λ z. inner_of (inner_of z)) Nested x (stays_nested x c.nested.ensures) c.nested.ensures.registry honest_nested) in
-    let run = run_of steady (λ z. inner_of (inner_of z)) u.begun c.in_ok-answers.dispatch (start_of Nested) (stays_nested (stack_of u.begun) h) h.registry u.kept served in
+    let served = u.served (ready_at_first steady (λ z. inner_of (inner_of z)) c.args.limits Nested x (stays_nested x c.nested.ensures) c.nested.ensures.registry honest_nested) in
+    let run = run_of steady (λ z. inner_of (inner_of z)) u.begun c.in_ok-answers.dispatch (start_of c.args.limits Nested) (stays_nested (stack_of u.begun) h) h.registry u.kept served in
     three_ok c.text_of_two.result _ _ _ _ c.text_of_two.ensures.printed c.text_of_two.ensures.inner c.text_of_two.ensures.outer
     (λ s printed whole also.
     let first = ap (λ (r : Kept). r.notices) base ∙ all_kept (outer_of (inner_of (stack_of u.begun))) (outer_of (inner_of y)) _ (served.each (Inner (Outer Here))) h.base (subst (λ (r : Kept). r.failed ≡ false) base whole) in
     let second = ap (λ (r : Kept). r.notices) deep ∙ all_kept (layer_of (layer_of (outer_of (stack_of u.begun)))) (layer_of (layer_of (outer_of y))) _ (served.each (Outer (Under (Under Here)))) h.deep.recorder (subst (λ (r : Kept). r.failed ≡ false) deep also) in
-    gives Nested c.args.script.now c.requests.result.now c.in_ok-answers.answers.items c.deref.result.now ((codes "base", c.layer-base.result.now.notices) ∷ (codes "deep", c.inner-deep.result.now.notices) ∷ []) _ (string_bytes s)
+    gives c.args.limits Nested c.args.script.now c.requests.result.now c.in_ok-answers.answers.items c.deref.result.now ((codes "base", c.layer-base.result.now.notices) ∷ (codes "deep", c.inner-deep.result.now.notices) ∷ []) _ (string_bytes s)
     (served.made, kept_by c.in_ok-answers.dispatch, inner_of (inner_of y), run, refl) c.requests.ensures c.deref.ensures.value (λ i. first i ∷ second i ∷ []) refl printed)

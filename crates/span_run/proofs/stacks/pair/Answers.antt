@@ -7,7 +7,7 @@ use Rattle.span_run.proofs.stacks.pair.Goals as goal
 pub unreachable-requires : goal.unreachable-requires
 unreachable-requires c =
     let p = c.and_then.ensures in
-    pair_has_room c.and_then.result c.new.result c.new-2.result c.new-3.result c.new-3.ensures
+    pair_has_room c.args.limits c.and_then.result c.new.result c.new-2.result c.with_limits.result c.with_limits.ensures
     (subst (λ (u : Levelled). IsUnnumbered u c.new.result TRACE) (sym p.below) c.with_filter-a.ensures)
     (subst (λ (u : Levelled). IsUnnumbered u c.new-2.result INFO) (sym p.layer) c.with_filter-b.ensures) c.in-Err.ensures.refused.full
 
@@ -15,7 +15,7 @@ pub returns : goal.returns
 returns c =
     let p = c.and_then.ensures in
     let h = c.in-Ok.ensures.attached in
-    begins_pair c.and_then.result c.new.result c.new-2.result c.new-3.result c.new-3.ensures
+    begins_pair c.args.limits c.and_then.result c.new.result c.new-2.result c.with_limits.result c.with_limits.ensures
     (subst (λ (u : Levelled). IsUnnumbered u c.new.result TRACE) (sym p.below) c.with_filter-a.ensures)
     (subst (λ (u : Levelled). IsUnnumbered u c.new-2.result INFO) (sym p.layer) c.with_filter-b.ensures)
     c.in-Ok.stack c.new.ensures c.new-2.ensures h.numbers.alone h.numbers.form h.numbers.next h.layer_as_it_was.0 h.layer_as_it_was.1

@@ -23,11 +23,11 @@ returns-clause-printed c =
     let both = c.layer-both.ensures ∙ ap outer_of c.stack.ensures in
     let a = c.inner-a.ensures ∙ ap layer_of (c.inner.ensures ∙ ap inner_of both) in
     let b = c.inner-b.ensures ∙ ap layer_of (c.layer.ensures ∙ ap outer_of both) in
-    let served = u.served (ready_at_first steady inner_of Pair x (stays_pair x c.pair.ensures) c.pair.ensures.registry honest_pair) in
-    let run = run_of steady inner_of u.begun c.in_ok-answers.dispatch (start_of Pair) (stays_pair (stack_of u.begun) h) h.registry u.kept served in
+    let served = u.served (ready_at_first steady inner_of c.args.limits Pair x (stays_pair x c.pair.ensures) c.pair.ensures.registry honest_pair) in
+    let run = run_of steady inner_of u.begun c.in_ok-answers.dispatch (start_of c.args.limits Pair) (stays_pair (stack_of u.begun) h) h.registry u.kept served in
     three_ok c.text_of_two.result _ _ _ _ c.text_of_two.ensures.printed c.text_of_two.ensures.inner c.text_of_two.ensures.outer
     (λ s printed whole also.
     let first = ap (λ (r : Kept). r.notices) a ∙ all_kept (layer_of (inner_of (outer_of (stack_of u.begun)))) (layer_of (inner_of (outer_of y))) _ (served.each (Outer (Inner (Under Here)))) h.a.recorder (subst (λ (r : Kept). r.failed ≡ false) a whole) in
     let second = ap (λ (r : Kept). r.notices) b ∙ all_kept (layer_of (outer_of (outer_of (stack_of u.begun)))) (layer_of (outer_of (outer_of y))) _ (served.each (Outer (Outer (Under Here)))) h.b.recorder (subst (λ (r : Kept). r.failed ≡ false) b also) in
-    gives Pair c.args.script.now c.requests.result.now c.in_ok-answers.answers.items c.deref.result.now ((codes "a", c.inner-a.result.now.notices) ∷ (codes "b", c.inner-b.result.now.notices) ∷ []) _ (string_bytes s)
+    gives c.args.limits Pair c.args.script.now c.requests.result.now c.in_ok-answers.answers.items c.deref.result.now ((codes "a", c.inner-a.result.now.notices) ∷ (codes "b", c.inner-b.result.now.notices) ∷ []) _ (string_bytes s)
     (served.made, kept_by c.in_ok-answers.dispatch, inner_of y, run, refl) c.requests.ensures c.deref.ensures.value (λ i. first i ∷ second i ∷ []) refl printed)

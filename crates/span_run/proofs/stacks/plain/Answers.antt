@@ -7,13 +7,13 @@ use Rattle.span_run.proofs.stacks.plain.Goals as goal
 
 pub unreachable-requires : goal.unreachable-requires
 unreachable-requires c =
-    let full : LIMIT < 0 + 0 = subst (λ (s : RegistryState). LIMIT < s.filters + 0) c.new.ensures (c.in-Err.ensures.refused.full leaf refl) in
+    let full : LIMIT < 0 + 0 = subst (λ (s : RegistryState). LIMIT < s.filters + 0) c.with_limits.ensures (c.in-Err.ensures.refused.full leaf refl) in
     omega (arith, full)
 
 pub returns : goal.returns
 returns c =
     let a = c.in-Ok.ensures.attached in
     record {
-      base = a.layer_as_it_was ∙ c.new-2.ensures;
-      registry = registry_then _ _ _ 0 c.new.ensures a.numbers.alone (a.numbers.next leaf refl ∙ ap (λ (s : RegistryState). s.filters) c.new.ensures);
+      base = a.layer_as_it_was ∙ c.new.ensures;
+      registry = registry_then _ _ _ 0 c.with_limits.ensures a.numbers.alone (a.numbers.next leaf refl ∙ ap (λ (s : RegistryState). s.filters) c.with_limits.ensures);
     }

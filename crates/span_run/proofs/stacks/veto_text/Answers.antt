@@ -26,13 +26,13 @@ returns-clause-printed c =
     let warned = c.inner-warned.ensures ∙ ap inner_of (c.inner.ensures ∙ ap inner_of c.stack.ensures) in
     let base = c.layer-base.ensures ∙ ap outer_of (c.inner-2.ensures ∙ ap inner_of warned) in
     let warn = c.inner-warn.ensures ∙ ap layer_of (c.layer.ensures ∙ ap outer_of warned) in
-    let served = u.served (ready_at_first steady (λ z. inner_of (inner_of (inner_of (inner_of z)))) Veto x (stays_veto x c.veto.ensures) c.veto.ensures.below.registry honest_veto) in
-    let run = run_of steady (λ z. inner_of (inner_of (inner_of (inner_of z)))) u.begun c.in_ok-answers.dispatch (start_of Veto) (stays_veto (stack_of u.begun) h) h.below.registry u.kept served in
+    let served = u.served (ready_at_first steady (λ z. inner_of (inner_of (inner_of (inner_of z)))) c.args.limits Veto x (stays_veto x c.veto.ensures) c.veto.ensures.below.registry honest_veto) in
+    let run = run_of steady (λ z. inner_of (inner_of (inner_of (inner_of z)))) u.begun c.in_ok-answers.dispatch (start_of c.args.limits Veto) (stays_veto (stack_of u.begun) h) h.below.registry u.kept served in
     let before = inner_of (inner_of (stack_of u.begun)) in
     let after = inner_of (inner_of y) in
     three_ok c.text_of_two.result _ _ _ _ c.text_of_two.ensures.printed c.text_of_two.ensures.inner c.text_of_two.ensures.outer
     (λ s printed whole also.
     let first = ap (λ (r : Kept). r.notices) base ∙ all_kept (outer_of (inner_of before)) (outer_of (inner_of after)) _ (served.each (Inner (Inner (Inner (Outer Here))))) h.below.base (subst (λ (r : Kept). r.failed ≡ false) base whole) in
     let second = ap (λ (r : Kept). r.notices) warn ∙ all_kept (layer_of (outer_of before)) (layer_of (outer_of after)) _ (served.each (Inner (Inner (Outer (Under Here))))) h.below.warn.recorder (subst (λ (r : Kept). r.failed ≡ false) warn also) in
-    gives Veto c.args.script.now c.requests.result.now c.in_ok-answers.answers.items c.deref.result.now ((codes "base", c.layer-base.result.now.notices) ∷ (codes "warn", c.inner-warn.result.now.notices) ∷ []) _ (string_bytes s)
+    gives c.args.limits Veto c.args.script.now c.requests.result.now c.in_ok-answers.answers.items c.deref.result.now ((codes "base", c.layer-base.result.now.notices) ∷ (codes "warn", c.inner-warn.result.now.notices) ∷ []) _ (string_bytes s)
     (served.made, kept_by c.in_ok-answers.dispatch, inner_of (inner_of after), run, refl) c.requests.ensures c.deref.ensures.value (λ i. first i ∷ second i ∷ []) refl printed)
