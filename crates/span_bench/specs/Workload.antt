@@ -1,0 +1,13 @@
+use Rattle.std.specs.Prelude.{codes, List, ℕ}
+use Rattle.span_bench.specs.declared.workload.Workload.{Workload}
+use Rattle.span_bench.specs.declared.workload.Workload.TheVariants.{NewAndDrop, EnterAndExit, Event, Cascade, Scope, FromRoot, Replace}
+
+-- the name of a workload
+abbrev pub name_of : Workload → List ℕ
+name_of NewAndDrop = codes "new_and_drop"
+name_of EnterAndExit = codes "enter_and_exit"
+name_of Event = codes "event"
+name_of Cascade = codes "cascade"
+name_of Scope = codes "scope"
+name_of FromRoot = codes "from_root"
+name_of Replace = codes "replace"

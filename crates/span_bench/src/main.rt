@@ -1,0 +1,25 @@
+//! Runs workloads on stacks of idle layers: `bench/run` counts the instructions of their rounds.
+#![tactic(auto)]
+
+mod fault;
+mod order;
+mod rounds;
+mod run;
+mod site;
+mod stacks;
+#[cfg(test)]
+mod tests;
+mod workload;
+
+use std::process::ExitCode;
+
+fn main(rt: HostRuntime) -> ExitCode {
+    match run::run(rt.alloc(), &mut rt.stdin(), &mut rt.stdout()) {
+        Ok(()) => ExitCode::SUCCESS,
+        Err(fault) => {
+            // Where standard error can't be written, the status alone tells.
+            let _ = eprintln!(rt; "{fault}");
+            ExitCode::from(fault.status())
+        }
+    }
+}

@@ -1,0 +1,36 @@
+//! The callsites.
+ghost use Rattle.std.specs.Prelude.{◌≡◌};
+ghost use Rattle.span_core.specs.Metadata.{callsite_of, kind_of, level_of};
+
+use span_core::{FieldSet, Kind, Level, Metadata};
+
+/// The callsite of all spans.
+pub fn span() -> Metadata
+    ensures kind { kind_of result ≡ Kind.SPAN }
+    ensures level { level_of result ≡ Level.INFO }
+{
+    made(0, "span", Kind::SPAN)
+}
+
+/// The callsite of all events.
+pub fn event() -> Metadata
+    ensures kind { kind_of result ≡ Kind.EVENT }
+    ensures level { level_of result ≡ Level.INFO }
+{
+    made(1, "event", Kind::EVENT)
+}
+
+fn made(callsite: u64, name: &'static str, kind: Kind) -> Metadata
+    ensures callsite { callsite_of result ≡ callsite }
+    ensures kind { kind_of result ≡ kind }
+    ensures level { level_of result ≡ Level.INFO }
+{
+    Metadata::new(
+        callsite,
+        name,
+        "bench",
+        Level::INFO,
+        kind,
+        FieldSet::new(&[]),
+    )
+}
