@@ -8,3 +8,4 @@ pub mod Outcome
 pub mod Recorder
 mod RecorderLaws
 pub mod Serve
+pub mod Tests

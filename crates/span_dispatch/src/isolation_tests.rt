@@ -1,16 +1,52 @@
-//! Tests of what other layers' filters make no difference to.
+//! Tests of what other layers' filters make no difference to, and of what they do where a filter reads extensions.
+ghost use Rattle.span_dispatch.specs.Serve.{stack_of};
+ghost use Rattle.span_dispatch.specs.Tests.{in_marked, is_marked};
+ghost use Rattle.span_registry.specs.Context.{view_in};
+ghost use Rattle.span_layers.specs.Layered.{inner_of, outer_of};
+ghost use Rattle.std.specs.Prelude.{◌≡◌, ⊤, IfOk};
+
 use crate::{Answer, Dispatch, Notice, Recorder, Request, Which, WhichParent};
-use span_core::{FieldSet, Id, Kind, Lane, Level, LevelFilter, Metadata};
-use span_layers::{Filtered, LayerExt, Layered, SubscriberExt};
-use span_registry::Registry;
+use span_core::{FieldSet, Id, Kind, Lane, Level, LevelFilter, Metadata, TraceError};
+use span_filters::{DynFilterFn, FunctionIn, NoCallsite, dynamic_filter_fn};
+use span_layers::{Filtered, Layer, LayerExt, Layered, Observe, Observed, Observer, SubscriberExt};
+use span_registry::{Context, ContextMut, ExtensionValue, LookupSpan, Registry, Subscriber, Tag};
 use std::alloc::Global;
 use std::process::Abort;
 use std::test::Fail;
 
 const LANE: Lane = Lane(0);
 
-fn no_room<T>() -> Result<T, Fail> {
-    Err(Fail::from("there is no room"))
+/// Puts a layer on a stack.
+fn put<S: Subscriber + Drop, L: Layer<S> + Drop>(stack: S, layer: L) -> Result<Layered<L, S>, Fail>
+    requires layer { L.usable layer }
+    requires stack { S.usable stack }
+    ensures layer { IfOk result (λ made. L.usable (outer_of made)) }
+    ensures stack { IfOk result (λ made. S.usable (inner_of made)) }
+{
+    match stack.with(layer) {
+        Ok(made) => Ok(made),
+        Err(_) => Err(Fail::from("there is no room")),
+    }
+}
+
+/// Puts a stack in use.
+fn in_use<S: Subscriber>(alloc: Global, stack: S) -> Dispatch<S>
+    requires { S.usable stack }
+    ensures { S.usable (stack_of result) }
+{
+    Dispatch::new(alloc, stack)
+}
+
+/// Serves a list.
+fn serve<S: Subscriber>(
+    alloc: Global,
+    dispatch: &mut Dispatch<S>,
+    requests: &[Request<'_>],
+) -> Result<Vec<Answer>, TraceError>
+    requires { S.usable (stack_of dispatch.old) }
+    ensures { S.usable (stack_of dispatch.new) }
+{
+    dispatch.serve(alloc, requests)
 }
 
 /// What a callsite with this number makes.
@@ -22,19 +58,31 @@ fn metadata_of(callsite: u64, level: Level, kind: Kind) -> Metadata {
 type Levelled = Filtered<Recorder, LevelFilter>;
 
 /// From the registry outwards: B without a filter, A under INFO, and C under another level.
-type Three = Layered<Levelled, Layered<Levelled, Layered<Recorder, Registry>>>;
+type Three = Layered<Levelled, Two>;
 
-fn three(alloc: Global, outermost: LevelFilter) -> Result<Dispatch<Three>, Fail> {
-    let Ok(stack) = Registry::new(alloc).with(Recorder::new(alloc)) else {
-        return no_room();
-    };
-    let Ok(stack) = stack.with(Recorder::new(alloc).with_filter(LevelFilter::INFO)) else {
-        return no_room();
-    };
-    let Ok(stack) = stack.with(Recorder::new(alloc).with_filter(outermost)) else {
-        return no_room();
-    };
-    Ok(Dispatch::new(alloc, stack))
+/// Of these, B and A.
+type Two = Layered<Levelled, Layered<Recorder, Registry>>;
+
+fn two(alloc: Global) -> Result<Two, Fail> {
+    let a = Recorder::new(alloc).with_filter(LevelFilter::INFO);
+    put(put(Registry::new(alloc), Recorder::new(alloc))?, a)
+}
+
+fn three(alloc: Global, outermost: LevelFilter) -> Result<Three, Fail> {
+    let c = Recorder::new(alloc).with_filter(outermost);
+    put(two(alloc)?, c)
+}
+
+fn three_in_use(alloc: Global, outermost: LevelFilter) -> Result<Dispatch<Three>, Fail> {
+    Ok(in_use(alloc, three(alloc, outermost)?))
+}
+
+fn kept_by_a(stack: &Two) -> &[Notice] {
+    stack.layer().inner().notices()
+}
+
+fn kept_by_b(stack: &Two) -> &[Notice] {
+    stack.inner().layer().notices()
 }
 
 /// Three spans at info, debug, info, each in the one before, all entered; an event of each level where the lane is; then all are
@@ -119,17 +167,14 @@ fn due_to_b(p: Id, q: Id, r: Id) -> [Notice; 17] {
 
 /// Serves the list and looks at what A and B were notified of.
 fn a_and_b_beside(rt: &impl Abort, alloc: Global, outermost: LevelFilter) -> Result<(), Fail> {
-    let mut dispatch = three(alloc, outermost)?;
-    let answers = dispatch.serve(alloc, &requests())?;
+    let mut dispatch = three_in_use(alloc, outermost)?;
+    let answers = serve(alloc, &mut dispatch, &requests())?;
     let p = made(&answers, 0)?;
     let q = made(&answers, 1)?;
     let r = made(&answers, 2)?;
     let inner = dispatch.stack().inner();
-    assert_eq!(rt; inner.layer().inner().notices(), due_to_a(p, r).as_slice());
-    assert_eq!(rt;
-        inner.inner().layer().notices(),
-        due_to_b(p, q, r).as_slice()
-    );
+    assert_eq!(rt; kept_by_a(inner), due_to_a(p, r).as_slice());
+    assert_eq!(rt; kept_by_b(inner), due_to_b(p, q, r).as_slice());
     Ok(())
 }
 
@@ -137,4 +182,125 @@ fn a_and_b_beside(rt: &impl Abort, alloc: Global, outermost: LevelFilter) -> Res
 fn another_layers_filter_makes_no_difference(rt: HostRuntime) -> Result<(), Fail> {
     a_and_b_beside(&rt, rt.alloc(), LevelFilter::TRACE)?;
     a_and_b_beside(&rt, rt.alloc(), LevelFilter::OFF)
+}
+
+/// The test of a filter: it passes spans, and of events those in a marked span, one with a value under this tag. It reads
+/// extensions, so the filter isn't plain.
+#[derive(Drop)]
+struct InMarked {
+    mark: Tag<bool>,
+}
+
+impl<S: LookupSpan> FunctionIn<Metadata, S, bool> for InMarked {
+    ghost callable_in = { λ f. ⊤ };
+
+    ghost gives_in = { λ f m c passes. passes ≡ in_marked ⟦<bool as ExtensionValue>⟧.place f.mark m (view_in S.registry c) };
+
+    fn apply_in(&self, meta: &Metadata, cx: &Context<'_, S>) -> bool {
+        meta.is_span() || is_marked(self.mark, cx)
+    }
+}
+
+/// The lane is in a span that has a value under this tag.
+fn is_marked<S: LookupSpan>(mark: Tag<bool>, cx: &Context<'_, S>) -> bool
+    ensures { result ≡ is_marked ⟦<bool as ExtensionValue>⟧.place mark (view_in S.registry cx.now) }
+{
+    match cx.lookup_current() {
+        Some(span) => span.extensions().get(mark).is_some(),
+        None => false,
+    }
+}
+
+/// Marks each new span, as far as there is memory.
+#[derive(Drop)]
+struct Marker {
+    mark: Tag<bool>,
+}
+
+impl<S: Subscriber> Observe<S> for Marker {
+    ghost observed = { λ x e lane under v y w. ⊤ };
+
+    fn observe(&mut self, notice: Observed<'_, '_>, ctx: &mut ContextMut<'_, S>) {
+        if let Observed::NewSpan(_, id) = notice {
+            if let Some(extensions) = ctx.extensions_mut(id) {
+                let _ = extensions.insert(self.mark, true);
+            }
+        }
+    }
+}
+
+/// From the registry outwards: A under a filter by marks, and C, which makes them, under a level.
+type BesideMarker = Layered<
+    Filtered<Observer<Marker>, LevelFilter>,
+    Layered<Filtered<Recorder, DynFilterFn<InMarked, NoCallsite>>, Registry>,
+>;
+
+fn beside_marker(alloc: Global, outermost: LevelFilter) -> Result<Dispatch<BesideMarker>, Fail> {
+    let mark = Tag::new(0);
+    let in_marked = dynamic_filter_fn(InMarked { mark });
+    let a = Recorder::new(alloc).with_filter(in_marked);
+    let c = Observer::new(Marker { mark }).with_filter(outermost);
+    let stack = put(Registry::new(alloc), a)?;
+    Ok(in_use(alloc, put(stack, c)?))
+}
+
+/// A span, entered, and an event where the lane is; then the span is left and dropped.
+fn one_span() -> [Request<'static>; 5] {
+    let span = metadata_of(0, Level::INFO, Kind::SPAN);
+    let event = metadata_of(5, Level::INFO, Kind::EVENT);
+    [
+        Request::NewSpan(LANE, span, WhichParent::Root, &[]),
+        Request::Enter(LANE, Which::Made(0)),
+        Request::Event(LANE, event, WhichParent::Contextual, &[]),
+        Request::Exit(LANE, Which::Made(0)),
+        Request::Drop(LANE, Which::Made(0)),
+    ]
+}
+
+/// Serves this list. Answers the span.
+fn serve_one_span<S: Subscriber>(alloc: Global, dispatch: &mut Dispatch<S>) -> Result<Id, Fail>
+    requires { S.usable (stack_of dispatch.old) }
+    ensures { S.usable (stack_of dispatch.new) }
+{
+    let answers = serve(alloc, dispatch, &one_span())?;
+    made(&answers, 0)
+}
+
+/// The span, and what A keeps of the list beside C.
+fn kept_beside_marker(alloc: Global, outermost: LevelFilter) -> Result<(Id, Vec<Notice>), Fail> {
+    let mut dispatch = beside_marker(alloc, outermost)?;
+    let p = serve_one_span(alloc, &mut dispatch)?;
+    Ok((p, kept_beside(dispatch.stack()).to_vec(alloc)?))
+}
+
+fn kept_beside(stack: &BesideMarker) -> &[Notice] {
+    stack.inner().layer().inner().notices()
+}
+
+#[test]
+fn another_layer_makes_a_difference_to_a_filter_by_marks(rt: HostRuntime) -> Result<(), Fail> {
+    let (p, kept) = kept_beside_marker(rt.alloc(), LevelFilter::TRACE)?;
+    assert_eq!(rt;
+        kept.as_slice(),
+        [
+            Notice::New(LANE, p),
+            Notice::Enter(LANE, p),
+            Notice::Event(LANE, 5),
+            Notice::Exit(LANE, p),
+            Notice::Close(LANE, p),
+        ]
+        .as_slice()
+    );
+    let (p, kept) = kept_beside_marker(rt.alloc(), LevelFilter::OFF)?;
+    assert_eq!(rt;
+        kept.as_slice(),
+        [
+            Notice::New(LANE, p),
+            Notice::Enter(LANE, p),
+            Notice::Exit(LANE, p),
+            Notice::Close(LANE, p),
+        ]
+        .as_slice()
+    );
+    Ok(())
 }

@@ -2,7 +2,7 @@
 ghost use Rattle.std.specs.Prelude.{◌≤◌};
 
 use crate::tests::{LANE, drop_handle, root};
-use crate::{Limits, LookupSpan, Registry, Subscriber};
+use crate::{Limits, LookupSpan, Registry, Subscriber, Tag};
 use span_core::{Id, Pass, TraceError};
 use std::alloc::Global;
 use std::process::Abort;
@@ -73,10 +73,49 @@ fn one_place_for_two_spans(rt: HostRuntime) -> Result<(), Fail> {
     let mut registry = limited(rt.alloc(), 1, 2);
     let a = come_and_gone(&mut registry, rt.alloc())?;
     let b = come_and_gone(&mut registry, rt.alloc())?;
+    assert_eq!(rt; registry.retired(), 1);
     assert_eq!(rt; new_root(&mut registry), Err(TraceError::TooManySpans));
     for id in [a, b] {
         let cloned = registry.clone_span(LANE, id);
         assert_eq!(rt; cloned, Err(TraceError::UnknownSpan(id)));
     }
+    Ok(())
+}
+
+#[test]
+fn the_place_freed_last_is_used_first(rt: HostRuntime) -> Result<(), Fail> {
+    let mut registry = limited(rt.alloc(), 4, 3);
+    let first = new_root(&mut registry)?;
+    let second = new_root(&mut registry)?;
+    let third = new_root(&mut registry)?;
+    assert_eq!(rt;
+        (first.into_u64(), second.into_u64(), third.into_u64()),
+        (1, 2, 3)
+    );
+    drop_handle(&mut registry, first, rt.alloc())?;
+    drop_handle(&mut registry, second, rt.alloc())?;
+    assert_eq!(rt; new_root(&mut registry), Ok(Id::from_u64(4_294_967_298)));
+    assert_eq!(rt; new_root(&mut registry), Ok(Id::from_u64(4_294_967_297)));
+    assert_eq!(rt; new_root(&mut registry), Ok(Id::from_u64(4)));
+    assert_eq!(rt; new_root(&mut registry), Err(TraceError::TooManySpans));
+    Ok(())
+}
+
+#[test]
+fn a_place_has_no_values_of_its_last_span(rt: HostRuntime) -> Result<(), Fail> {
+    let mut registry = limited(rt.alloc(), 3, 1);
+    let tag: Tag<u64> = Tag::new(0);
+    let a = new_root(&mut registry)?;
+    let Some(values) = registry.extensions_mut(a) else {
+        return Err(Fail::from("the span isn't there"));
+    };
+    values.replace(tag, 7)?;
+    drop_handle(&mut registry, a, rt.alloc())?;
+    let b = new_root(&mut registry)?;
+    assert_eq!(rt; b, Id::from_u64(2));
+    let Some(values) = registry.extensions_mut(b) else {
+        return Err(Fail::from("the span isn't there"));
+    };
+    assert_eq!(rt; values.get(tag), None);
     Ok(())
 }
