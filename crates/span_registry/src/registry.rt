@@ -3,7 +3,7 @@ ghost use Rattle.std.specs.Borrow.{sem};
 ghost use Rattle.std.specs.FinMap.{get};
 ghost use Rattle.std.specs.FinSet as set;
 ghost use Rattle.std.specs.Option.{option_copied, option_copied_mut, option_map, unwrap_or};
-ghost use Rattle.std.specs.Prelude.{◌≡◌, ◌≤◌, ◌↔◌, ⊤, [], OnErr, OnOk, IfErr, IfOk, IsSome, IsTrue, MatchBool, None, false, refl, true};
+ghost use Rattle.std.specs.Prelude.{◌≡◌, ◌≤◌, ◌↔◌, ⊤, [], OnErr, OnOk, IfErr, IfOk, IsSome, IsTrue, None, false, refl, true};
 ghost use Rattle.span_core.specs.Pass.{interest_sum, refused_of};
 ghost use Rattle.span_core.specs.Span.{asked_parent, number_of};
 ghost use Rattle.span_registry.specs.Conducts.{no_conducts, registry_path_laws};
@@ -11,7 +11,7 @@ ghost use Rattle.span_registry.specs.Form.{Bare, Base};
 ghost use Rattle.span_registry.specs.Hooks.{registry_laws};
 ghost use Rattle.span_registry.specs.Kept.{IsChosen};
 ghost use Rattle.span_registry.specs.Lends.{lends_extensions};
-ghost use Rattle.span_registry.specs.Step.{Enters, Exits, HasNoPlace, HasPlace, IsContext, Opens, RefusesEnter, RefusesNew, RefusesRelease, Releases, Removes, RetiresLate, asked, entered_last};
+ghost use Rattle.span_registry.specs.Step.{Enters, Exits, IsContext, Opens, RefusesEnter, RefusesNew, RefusesRelease, Releases, Removes, RetiresLate, asked, entered_last};
 ghost use Rattle.span_registry.specs.Store.{AreIssued, IsClosing, IsForest, IsInStore, IsOpen, new_registry, stack_of};
 ghost use Rattle.span_registry.specs.Subscriber.{registry_interest, sum_after};
 

@@ -1,4 +1,4 @@
-//! The slots that spans take, one span after another.
+//! The registry's places: each is kept as a slot, which holds one span after another.
 ghost use Rattle.std.specs.FinMap.{get};
 ghost use Rattle.std.specs.FinSet.{len as set_len};
 ghost use Rattle.std.specs.Prelude.{◌≡◌, ◌≤◌, ◌<◌, ◌↔◌, IfErr, IfOk, IfSome, IsSome, IsTrue, MatchBool, None, OnErr, length, vec_capacity, ◌++◌, ◌∷◌, [], OnOk};
@@ -10,7 +10,7 @@ use span_core::{Id, TraceError};
 use std::alloc::Global;
 use std::marker::Model;
 
-/// How many numbers a generation has: an id is `generation * GENERATION + slot + 1`.
+/// How far apart the ids of two generations of a slot are: an id is `generation * GENERATION + slot + 1`.
 const GENERATION: u64 = 4294967296;
 
 /// What holds one span after another.
@@ -103,7 +103,7 @@ impl Slots {
         }
     }
 
-    /// How much the slots take.
+    /// What limits the slots.
     pub(crate) fn limits(&self) -> Limits
         ensures { result ≡ self.now.limits }
     {

@@ -1,4 +1,4 @@
-//! What the registry keeps of a span, and how it is written.
+//! What the registry keeps of a span.
 ghost use Rattle.std.specs.Prelude.{◌≡◌, ◌↔◌, IsTrue};
 ghost use Rattle.span_registry.specs.Kept.{CountsAny, counts_in};
 

@@ -2,7 +2,7 @@
 ghost use Rattle.std.specs.FinMap.{get};
 ghost use Rattle.std.specs.FinSet.{len as set_len};
 ghost use Rattle.std.specs.Option.{option_copied, option_map};
-ghost use Rattle.std.specs.Prelude.{◌≡◌, ◌≤◌, ◌↔◌, IfErr, IfOk, IfSome, None, IsSome, IsTrue, MatchBool, OnErr, OnOk, Some, is_some, length, slice_set, ◌<◌};
+ghost use Rattle.std.specs.Prelude.{◌≡◌, ◌≤◌, ◌↔◌, IfErr, IfOk, IfSome, None, IsSome, IsTrue, MatchBool, OnErr, OnOk, Some, length, slice_set, ◌<◌};
 ghost use Rattle.span_core.specs.Span.{number_of};
 ghost use Rattle.span_registry.specs.Kept.{AreKeptIssued, HasNoRoom, HasRoom, Inserts, RetiresKept, TakesOut, counts_in, with_counts, no_spans, CountsBelow, CountsOneChild, GrowsEmpty, HasRecord, Writes, fewer, more};
 ghost use Rattle.span_registry.specs.Extensions.{no_values};
@@ -22,7 +22,8 @@ use std::marker::Model;
 pub(crate) struct SpanStore {
     pub(crate) slots: Slots,
     records: Slab<SpanRecord>,
-    /// The extensions under the records' keys. Those of no record hold no value.
+    /// The extensions under the records' keys. Those of no record hold no value. They and the slots are open to
+    /// `Registry::extensions_mut`: what a call lends of a value that holds a static text isn't followed back into it.
     pub(crate) extensions: Vec<ExtensionMap>,
 }
 
@@ -56,7 +57,7 @@ impl SpanStore {
         }
     }
 
-    /// How much it takes.
+    /// What limits it.
     pub(crate) fn limits(&self) -> Limits
         ensures { result ≡ self.now.limits }
     {
