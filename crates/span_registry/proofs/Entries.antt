@@ -72,7 +72,7 @@ put_is k v (e ∷ es) =
     ]
 
 -- the map with a key taken out and put back
-put_back : {X : Type 0} (m : FinMap nat_cmp X) (k : ℕ) (v : X) → get m k ≡ Some v → insert (remove m k) k v ≡ m
+pub put_back : {X : Type 0} (m : FinMap nat_cmp X) (k : ℕ) (v : X) → get m k ≡ Some v → insert (remove m k) k v ≡ m
 put_back m k v h = same_map nat_cmp_total nat_cmp-IsAntisymmetric _ _ (λ q. elim (cases_eq q k) [
   | inl e ↦ ap (get (insert (remove m k) k v)) e ∙ get_inserted (remove m k) k v ∙ sym h ∙ sym (ap (get m) e)
   | inr ne ↦ get_beside_inserted (remove m k) k q v (λ e. ne (sym e)) ∙ get_beside_removed m k q (λ e. ne (sym e))

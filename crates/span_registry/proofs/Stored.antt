@@ -1,14 +1,14 @@
 -- The spans that the store keeps: what is found under the keys of their numbers.
 use Rattle.std.specs.Prelude.{◌≡◌, ◌≢◌, ℕ, ◌+◌, ◌<◌, zero, suc, T, List, [], ◌∷◌, ◌++◌, Option, None, Some, Bool, true, false, cond, ◌&&◌, length, IsSome, is_some, slice_get, slice_index_or, slice_set}
 use Rattle.std.specs.Borrow.{Bor}
-use Rattle.std.specs.List.{ItemBy}
+use Rattle.std.specs.List.{ItemBy, count_by}
 use Rattle.std.specs.Option.{option_and_then, option_copied}
 use Rattle.std.specs.Ordering.{nat_cmp, eq_by_cmp, is_eq, is_lt}
 use Rattle.std.specs.Cmp.{nat_cmp_total, eq_by_cmp_equiv}
 use Rattle.std.specs.FinMap.Entries.{below_all}
 use Rattle.std.specs.FinSet.{insert as add}
 use Rattle.std.specs.FinMap.{FinMap, get, insert, remove, len, entries, entries_sorted, is_sorted, from_entries, find, get-entries, get-from_entries, len-insert, len-empty, len-entries, same_map, nat_cmp-IsAntisymmetric}
-use Rattle.slab.specs.Slab.{Slab, Updates, get as under, with_value}
+use Rattle.slab.specs.Slab.{Slab, Updates, get as under, slab_len, with_value}
 use Rattle.slab.proofs.SlabLemmas.{Updates-with_value}
 use Rattle.std.specs.declared.cmp.Ordering.{Ordering}
 use Rattle.std.specs.declared.cmp.Ordering.TheVariants.{Less, Equal, Greater}
@@ -23,6 +23,7 @@ use Rattle.span_registry.specs.Kept.{GrowsEmpty, Inserts, KeepsSpans, KeptSpans,
 use Rattle.span_registry.specs.declared.extensions.ExtensionMap.{ExtensionMap}
 use Rattle.span_registry.specs.declared.span_record.SpanRecord.{SpanRecord}
 use Rattle.span_registry.specs.declared.span_store.SpanStore.TheInside.{Inside}
+use Rattle.span_registry.proofs.Entries.{put_back}
 use Rattle.span_registry.proofs.NumberMaps.{get_inserted, get_removed, get_beside_inserted, get_beside_removed}
 
 first : (a b : Bool) → T (a && b) → T a
@@ -223,6 +224,7 @@ keeps_values a e x key w keeps has is =
       recorded = keeps.recorded;
       extended = λ y k at. ap (λ (l : List ExtensionMap). is_some (slice_get l k)) is ∙ set_there a.extensions.items key k w (keeps.extended y k at);
       apart = keeps.apart;
+      all = keeps.all;
       idle = λ k v none at.
           let beside : k ≢ key = λ same. true≢false (sym (keeps.recorded x key has) ∙ ap (λ (j : ℕ). is_some (under a.records j)) (sym same) ∙ ap (λ (o : Option SpanRecord). is_some o) none) in
           keeps.idle k v none (sym (get-set_beside a.extensions.items key k w beside) ∙ ap (λ (l : List ExtensionMap). slice_get l k) (sym is) ∙ at);
@@ -234,6 +236,13 @@ values_written a s e x key w keeps view_is has is =
     let new = found_written (slice_get a.extensions.items) (slice_get e.items) a.slots.keys x key w has here (λ q k differs at. ap (λ (l : List ExtensionMap). slice_get l k) is ∙ get-set_beside a.extensions.items key k w (other_key a x q key k keeps has differs at)) in
     (λ i. record (kept_of a) { extensions = new i }) ∙ ap (λ (s : KeptSpans). with_values s x w) view_is
 
+-- as many numbers are held as are put in and not taken out
+pub len_put : (m : FinMap nat_cmp ℕ) (x k : ℕ) → get m x ≡ None → len (insert m x k) ≡ len m + 1
+len_put m x k none = len-insert nat_cmp_total m x k ∙ ap (λ (o : Option ℕ). cond (is_some o) (len m) (len m + 1)) none
+
+pub len_gone : (m : FinMap nat_cmp ℕ) (x k : ℕ) → get m x ≡ Some k → len (remove m x) + 1 ≡ len m
+len_gone m x k is = sym (len_put (remove m x) x k (get_removed m x)) ∙ ap len (put_back m x k is)
+
 -- room for a span more changes nothing that is seen
 pub keeps_grown : (a : Inside) (r : Slab SpanRecord) (e : Vec ExtensionMap Global) → KeepsSpans a → r.slots ≡ a.records.slots → GrowsEmpty a.extensions.items e.items → KeepsSpans (record a { records = r; extensions = e })
 keeps_grown a r e keeps same grown =
@@ -242,6 +251,7 @@ keeps_grown a r e keeps same grown =
       recorded = λ y k at. ap (λ (o : Option SpanRecord). is_some o) (read k) ∙ keeps.recorded y k at;
       extended = λ y k at. ap (λ (o : Option ExtensionMap). is_some o) (grown_kept a.extensions.items e.items k grown (keeps.extended y k at)) ∙ keeps.extended y k at;
       apart = keeps.apart;
+      all = ap (count_by is_some) same ∙ keeps.all;
       idle = λ k v none at. grown_idle a.extensions.items e.items k v grown (λ was. keeps.idle k v (sym (read k) ∙ none) was) at;
     }
 
@@ -267,7 +277,7 @@ taken_out m x y k is =
       | inr differs ↦ (differs, sym (get_beside_removed m x y differs) ∙ is)
     ]
 
-module _ (a : Inside) (keeps : KeepsSpans a) (x key : ℕ) (span : SpanRecord) (r : Slab SpanRecord) (updates : Updates a.records r key (Some span)) (vacant : under a.records key ≡ None) (room : key < length a.extensions.items) where
+module _ (a : Inside) (keeps : KeepsSpans a) (x key : ℕ) (span : SpanRecord) (r : Slab SpanRecord) (updates : Updates a.records r key (Some span)) (vacant : under a.records key ≡ None) (room : key < length a.extensions.items) (unused : get a.slots.keys x ≡ None) (longer : slab_len r ≡ slab_len a.records + 1) where
   fresh_key : (y k : ℕ) → get a.slots.keys y ≡ Some k → k ≢ key
   fresh_key y k at same = true≢false (sym (keeps.recorded y k at) ∙ ap (λ (j : ℕ). is_some (under a.records j)) same ∙ ap (λ (o : Option SpanRecord). is_some o) vacant)
 
@@ -295,6 +305,7 @@ module _ (a : Inside) (keeps : KeepsSpans a) (x key : ℕ) (span : SpanRecord) (
             | inr too ↦ keeps.apart y z k old.1 too.1
           ]
         ];
+        all = longer ∙ ap (λ (n : ℕ). n + 1) keeps.all ∙ sym (len_put a.slots.keys x key unused);
         idle = λ k v none at.
             let beside : k ≢ key = λ same. true≢false (sym (ap (λ (o : Option SpanRecord). is_some o) updates.changed) ∙ ap (λ (j : ℕ). is_some (under r j)) (sym same) ∙ ap (λ (o : Option SpanRecord). is_some o) none) in
             keeps.idle k v (sym (updates.others k beside) ∙ none) at;
@@ -311,25 +322,25 @@ module _ (a : Inside) (keeps : KeepsSpans a) (x key : ℕ) (span : SpanRecord) (
       λ i. record { records = records i; extensions = extensions i; issued = add a.slots.issued x; retired = a.slots.retired; limits = a.slots.limits }
 
 -- a span that is put in under a vacant key, once there is room for its record and its extensions
-pub puts_in : (a : Inside) (s : KeptSpans) (id : Id) (key : ℕ) (span : SpanRecord) (slots : SlotState) (b r : Slab SpanRecord) (e : Vec ExtensionMap Global) → KeepsSpans a → kept_of a ≡ s → b.slots ≡ a.records.slots → GrowsEmpty a.extensions.items e.items → key < length e.items → under b key ≡ None → Updates b r key (Some span) → TakesSlot key id a.slots slots
+pub puts_in : (a : Inside) (s : KeptSpans) (id : Id) (key : ℕ) (span : SpanRecord) (slots : SlotState) (b r : Slab SpanRecord) (e : Vec ExtensionMap Global) → KeepsSpans a → kept_of a ≡ s → b.slots ≡ a.records.slots → GrowsEmpty a.extensions.items e.items → key < length e.items → under b key ≡ None → Updates b r key (Some span) → slab_len r ≡ slab_len b + 1 → TakesSlot key id a.slots slots
     → KeepsSpans (record { slots = slots; records = r; extensions = e }) × Inserts id span s (kept_of (record { slots = slots; records = r; extensions = e }))
-puts_in a s id key span slots b r e keeps view_is same grown room vacant updates taken =
+puts_in a s id key span slots b r e keeps view_is same grown room vacant updates longer taken =
     let roomy : Inside = record a { records = b; extensions = e } in
     let kept : KeepsSpans roomy = keeps_grown a b e keeps same grown in
     let x = number_of id in
     let before : kept_of roomy ≡ s = kept_grown a b e keeps same grown ∙ view_is in
-    let new : Inside = with_span roomy kept x key span r updates vacant room in
+    let new : Inside = with_span roomy kept x key span r updates vacant room taken.unused longer in
     let inserts : Inserts id span (kept_of roomy) (kept_of new) = record {
       fresh = taken.fresh;
       other = taken.other;
       unused = get-found (under b) a.slots.keys x ∙ ap (option_and_then (under b)) taken.unused;
-      state = kept_span roomy kept x key span r updates vacant room;
+      state = kept_span roomy kept x key span r updates vacant room taken.unused longer;
     } in (
-      subst (λ (t : SlotState). KeepsSpans (record { slots = t; records = r; extensions = e })) (sym taken.state) (keeps_span roomy kept x key span r updates vacant room),
+      subst (λ (t : SlotState). KeepsSpans (record { slots = t; records = r; extensions = e })) (sym taken.state) (keeps_span roomy kept x key span r updates vacant room taken.unused longer),
       subst (λ (t : SlotState). Inserts id span s (kept_of (record { slots = t; records = r; extensions = e }))) (sym taken.state) (subst (λ (o : KeptSpans). Inserts id span o (kept_of new)) before inserts),
     )
 
-module _ (a : Inside) (keeps : KeepsSpans a) (x key : ℕ) (has : get a.slots.keys x ≡ Some key) (s : SlotState) (given : s.keys ≡ remove a.slots.keys x) (r : Slab SpanRecord) (updates : Updates a.records r key None) (e : Vec ExtensionMap Global) (is : e.items ≡ slice_set a.extensions.items key no_values) where
+module _ (a : Inside) (keeps : KeepsSpans a) (x key : ℕ) (has : get a.slots.keys x ≡ Some key) (s : SlotState) (given : s.keys ≡ remove a.slots.keys x) (r : Slab SpanRecord) (updates : Updates a.records r key None) (e : Vec ExtensionMap Global) (is : e.items ≡ slice_set a.extensions.items key no_values) (shorter : slab_len r + 1 ≡ slab_len a.records) where
   abbrev pub without_span : Inside
   without_span = record { slots = s; records = r; extensions = e }
 
@@ -345,6 +356,7 @@ module _ (a : Inside) (keeps : KeepsSpans a) (x key : ℕ) (has : get a.slots.ke
         recorded = λ y k at. ap (λ (o : Option SpanRecord). is_some o) (updates.others k (beside_key y k at)) ∙ keeps.recorded y k (was_there y k at).1;
         extended = λ y k at. ap (λ (l : List ExtensionMap). is_some (slice_get l k)) is ∙ set_there a.extensions.items key k no_values (keeps.extended y k (was_there y k at).1);
         apart = λ y z k at also. keeps.apart y z k (was_there y k at).1 (was_there z k also).1;
+        all = (let kept = keeps.all in let gone = len_gone a.slots.keys x key has in let same : len s.keys ≡ len (remove a.slots.keys x) = ap len given in omega arith);
         idle = λ k v none at.
             let read = ap (λ (l : List ExtensionMap). slice_get l k) (sym is) ∙ at in
             elim (cases_eq k key) [

@@ -42,7 +42,7 @@ puts : (c : goal.After-insert_reserved) → KeepsSpans (record { slots = c.take.
 puts c =
     let key = c.vacant_key-key.result in
     let updates = subst (λ (k : ℕ). Updates c.reserve.new.self c.insert_reserved.new.self k (Some c.args.span)) (c.insert_reserved.ensures.key ∙ sym c.vacant_key-key.ensures.value) c.insert_reserved.ensures.updates in
-    puts_in c.self.inside c.args.self.now c.in_ok-id.id key c.args.span c.take.new.self c.reserve.new.self c.insert_reserved.new.self c.reach.new.extensions c.self.invariant c.self.view_is (ap (λ (r : Slab SpanRecord). r.slots) c.reserve.ensures.rest_kept) c.reach.ensures.grown c.in_ok-reach.ensures.reached c.vacant_key-key.ensures.vacant updates c.in_ok-id.ensures.taken
+    puts_in c.self.inside c.args.self.now c.in_ok-id.id key c.args.span c.take.new.self c.reserve.new.self c.insert_reserved.new.self c.reach.new.extensions c.self.invariant c.self.view_is (ap (λ (r : Slab SpanRecord). r.slots) c.reserve.ensures.rest_kept) c.reach.ensures.grown c.in_ok-reach.ensures.reached c.vacant_key-key.ensures.vacant updates c.insert_reserved.ensures.len c.in_ok-id.ensures.taken
 
 pub invariant_of-self-2 : goal.invariant_of-self-2
 invariant_of-self-2 c = (puts c).0

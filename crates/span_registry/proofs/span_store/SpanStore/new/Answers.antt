@@ -1,7 +1,8 @@
 use Rattle.std.proofs.Common.{◌≡◌, ℕ, List, [], sym, ap, ◌∙◌, Some, is_some, slice_get, Option, true≢false}
 use Rattle.std.specs.Ordering.{nat_cmp}
-use Rattle.std.specs.FinMap.{FinMap, get, empty, get-empty, same_map, nat_cmp-IsAntisymmetric}
+use Rattle.std.specs.FinMap.{FinMap, get, empty, get-empty, len, len-empty, same_map, nat_cmp-IsAntisymmetric}
 use Rattle.std.specs.Cmp.{nat_cmp_total}
+use Rattle.std.specs.List.{count_by}
 use Rattle.std.specs.Option.{option_and_then}
 use Rattle.slab.specs.Slab.{get as under}
 use Rattle.span_registry.specs.Slot.{SlotState}
@@ -25,6 +26,7 @@ invariant_of-result c =
       recorded = λ x k is. absurd (no_key c.new.result.keys x k none is);
       extended = λ x k is. absurd (no_key c.new.result.keys x k none is);
       apart = λ x y k is _. absurd (no_key c.new.result.keys x k none is);
+      all = ap (count_by is_some) c.new-2.ensures.empty ∙ sym (ap len none ∙ len-empty nat_cmp ℕ);
       idle = λ k e _ is. absurd (no_extensions c.new-3.result.items k e c.new-3.ensures.items is);
     }
 
