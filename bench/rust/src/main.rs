@@ -2,6 +2,7 @@
 //!
 //! Input, output and the steps of each round are those of `span_bench`, in modules of the same names.
 
+mod counter;
 mod fault;
 mod order;
 mod rounds;

@@ -107,6 +107,7 @@ fn contextual<S: Stack>(stack: &S) -> Result<Id, Fault> {
 }
 
 /// Opens a span, unless nobody wants it.
+#[inline(always)]
 fn opened<S: Stack>(stack: &S, attrs: &Attributes<'_>) -> Result<Id, Fault> {
     if !admits(stack, &site::SPAN, &site::SPAN_METADATA) {
         return Err(Fault::Undone);
@@ -129,6 +130,7 @@ fn sent<S: Stack>(stack: &S) -> bool {
 }
 
 /// Drops the last handle of a span that has no child.
+#[inline(always)]
 fn close<S: Stack>(stack: &S, id: Id) -> Result<(), Fault> {
     if stack.try_close(id) {
         return Ok(());

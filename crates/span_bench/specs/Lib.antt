@@ -1,3 +1,4 @@
+pub mod Counter
 pub mod Fault
 pub mod Rounds
 pub mod Workload

@@ -1,6 +1,7 @@
 //! Runs workloads on stacks of idle layers: `bench/run` counts the instructions of their rounds.
 #![tactic(auto)]
 
+mod counter;
 mod fault;
 mod order;
 mod rounds;

@@ -140,6 +140,7 @@ pub fn replace<S: Subscriber>(dispatch: &mut Dispatch<S>, rounds: u32) -> Result
 }
 
 /// Opens a span.
+#[inline(always)]
 fn opened<S: Subscriber>(dispatch: &mut Dispatch<S>, attrs: &Attributes<'_>) -> Result<Id, Fault>
     requires { S.usable (stack_of dispatch.old) }
     ensures { S.usable (stack_of dispatch.new) }
@@ -151,6 +152,7 @@ fn opened<S: Subscriber>(dispatch: &mut Dispatch<S>, attrs: &Attributes<'_>) -> 
 }
 
 /// Drops the last handle of a span that has no child.
+#[inline(always)]
 fn close<S: Subscriber>(dispatch: &mut Dispatch<S>, id: Id) -> Result<(), Fault>
     requires { S.usable (stack_of dispatch.old) }
     ensures { S.usable (stack_of dispatch.new) }

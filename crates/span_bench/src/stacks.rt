@@ -3,17 +3,18 @@ ghost use Rattle.std.specs.Prelude.{◌≡◌, IfOk, vec_len};
 ghost use Rattle.span_layers.specs.Idle.{identity};
 ghost use Rattle.span_layers.specs.Layered.{outer_of};
 
+use crate::counter::Counter;
 use crate::fault::Fault;
 use span_core::LevelFilter;
-use span_layers::{Filtered, Identity, LayerExt, Layered, SubscriberExt};
+use span_layers::{Filtered, Identity, LayerExt, Layered, Observer, SubscriberExt};
 use span_registry::Registry;
 use std::alloc::Global;
 
 /// A layer that does nothing, on a registry.
 pub type Plain = Layered<Identity, Registry>;
 
-/// A list of layers that do nothing, each under a level, on a registry.
-pub type Under = Layered<Vec<Filtered<Identity, LevelFilter>>, Registry>;
+/// A list of layers that count, each under a level, on a registry.
+pub type Under = Layered<Vec<Filtered<Observer<Counter>, LevelFilter>>, Registry>;
 
 /// A stack without a filter.
 pub fn plain(alloc: Global) -> Result<Plain, Fault>
@@ -31,7 +32,7 @@ pub fn under(alloc: Global, filters: u32) -> Result<Under, Fault>
 {
     let mut layers = Vec::new(alloc);
     for _ in 0..filters {
-        layers.push(Identity::new().with_filter(LevelFilter::INFO))?;
+        layers.push(Observer::new(Counter::new()).with_filter(LevelFilter::INFO))?;
     }
     match Registry::new(alloc).with(layers) {
         Ok(stack) => Ok(stack),

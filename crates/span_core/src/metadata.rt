@@ -125,6 +125,7 @@ impl Metadata {
     /// Both show the same: callsite, name, target, level, kind and the fields' names. `==` answers so, too.
     ///
     /// Own to this port: the crate knows metadata by their address.
+    #[inline(always)]
     pub fn shows_same(&self, other: &Metadata) -> bool
         ensures { IsTrue result ↔ ShowSame self.now other.now }
     {

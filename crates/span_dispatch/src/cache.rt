@@ -49,6 +49,7 @@ impl Cache {
     /// else the stack's.
     ///
     /// Refused where the callsite is kept with other metadata (`CallsiteMismatch`), else for want of memory.
+    #[inline(always)]
     pub(crate) fn interest<S: Subscriber>(
         &mut self,
         alloc: Global,
@@ -83,6 +84,7 @@ impl Known {
     }
 
     /// The interest in a callsite: never above the hint, else as it is kept, else it is asked for and kept.
+    #[inline(always)]
     fn interest<S: Subscriber>(
         &mut self,
         stack: &S,

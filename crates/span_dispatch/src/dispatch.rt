@@ -104,6 +104,7 @@ impl<S: Subscriber> Dispatch<S> {
 
     /// Whether a span or an event with this metadata is wanted, as far as metadata decide. The filters' answers go into the
     /// pass, which is a new one.
+    #[inline(always)]
     fn admits(&mut self, lane: Lane, meta: &Metadata, pass: &mut Pass) -> Result<bool, TraceError>
         requires usable { S.usable (stack_of self.old) }
         requires fresh { IsEmpty (refusals pass.old) }
@@ -145,6 +146,7 @@ impl<S: Subscriber> Dispatch<S> {
     /// none, and the stack stays as it is.
     ///
     /// Refused as `enabled` is, else as `Subscriber::new_span` is.
+    #[inline(always)]
     pub fn new_span(&mut self, lane: Lane, attrs: &Attributes<'_>) -> Result<Option<Id>, TraceError>
         requires { S.usable (stack_of self.old) }
         ensures usable { S.usable (stack_of self.new) }

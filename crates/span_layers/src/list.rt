@@ -88,6 +88,7 @@ fn notify<S: Subscriber, L: Layer<S>>(
 }
 
 /// Notifies all members, by index.
+#[inline(always)]
 fn notify_all<S: Subscriber, L: Layer<S>>(
     members: &mut [L],
     notice: Observed<'_, '_>,

@@ -87,6 +87,7 @@ impl<'a, R: LookupSpan> SpanRef<'a, R> {
     ghost use Rattle.span_registry.specs.References.{FindsNearest, parent_of_reference, reference_of, scope_of_reference, to_give};
 
     /// The span nearest to `from`, itself or above it, that the mask doesn't hide.
+    #[inline(always)]
     fn nearest_shown(subscriber: &'a R, from: Option<Id>, mask: Mask) -> Option<SpanRef<'a, R>>
         ensures { FindsNearest R.registry subscriber.now (filters_of mask) from result }
     {
@@ -140,6 +141,7 @@ impl<'a, R: LookupSpan> Iterator for Scope<'a, R> {
 
     ghost remaining = { item_count (to_give R.registry) };
 
+    #[inline(always)]
     fn next(&mut self) -> Option<SpanRef<'a, R>> {
         match SpanRef::nearest_shown(self.subscriber, self.next, self.mask) {
             Some(found) => {

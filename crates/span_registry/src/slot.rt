@@ -51,6 +51,7 @@ impl Model for Slots {
 }
 
 /// Where the span with this id would stand, and in which generation.
+#[inline(always)]
 fn parts_of(id: Id) -> Option<(u32, u32)>
     ensures at { IfSome result (λ p. number_of id ≡ number_at p.0 p.1) }
     ensures slot { IfSome result (λ p. p.0 < 4294967295) }
@@ -134,6 +135,7 @@ impl Slots {
     }
 
     /// Where a span is kept.
+    #[inline(always)]
     pub(crate) fn key_of(&self, id: Id) -> Option<usize>
         ensures { result ≡ get self.now.keys (number_of id) }
     {

@@ -94,6 +94,7 @@ impl SpanStore {
     }
 
     /// What is kept of a span.
+    #[inline(always)]
     pub(crate) fn get(&self, id: Id) -> Option<&SpanRecord>
         ensures { option_copied result ≡ get self.now.records (number_of id) }
     {
@@ -104,6 +105,7 @@ impl SpanStore {
     }
 
     /// What is kept of a span, and its extensions.
+    #[inline(always)]
     pub(crate) fn get_both(&self, id: Id) -> Option<(&SpanRecord, &ExtensionMap)>
         ensures record { option_map (λ b. b.0.now) result ≡ get self.now.records (number_of id) }
         ensures extensions { option_map (λ b. b.1.now) result ≡ get self.now.extensions (number_of id) }
@@ -115,6 +117,7 @@ impl SpanStore {
     }
 
     /// How many handles and children a span has.
+    #[inline(always)]
     pub(crate) fn counts_of(&self, id: Id) -> Option<Counts>
         ensures { result ≡ option_map counts_in (get self.now.records (number_of id)) }
     {
