@@ -64,6 +64,7 @@ fn number<S: Subscriber, L: Layer<S>>(members: &mut [L], subscriber: &mut S)
 }
 
 /// Calls the hook that this notice is for.
+#[inline(always)]
 fn notify<S: Subscriber, L: Layer<S>>(
     member: &mut L,
     notice: Observed<'_, '_>,
