@@ -1,4 +1,4 @@
-//! Runs workloads on stacks of idle layers: `bench/run` counts the instructions of their rounds.
+//! Runs workloads on stacks of layers: `bench/run` counts the instructions of their rounds.
 #![tactic(auto)]
 
 mod counter;
