@@ -35,7 +35,7 @@ pub enum TraceError {
     /// The count of the span's handles, or of its children, is at the limit.
     #[error("the span's count is full")]
     CountFull(Id),
-    /// All places are taken, or all ids were issued.
+    /// Each place holds a span or is retired, or all ids were issued.
     #[error("there are too many spans")]
     TooManySpans,
     /// Memory was refused.
