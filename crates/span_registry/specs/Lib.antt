@@ -1,5 +1,6 @@
 pub mod Agree
 pub mod Answers
+pub mod Bloom
 pub mod Closes
 pub mod Conducts
 pub mod Context

@@ -1,6 +1,7 @@
 //! The store of spans: what is kept of each, the lanes' stacks, and the calls that change them.
 #![tactic(auto)]
 
+mod bloom;
 mod context;
 #[cfg(test)]
 mod context_tests;

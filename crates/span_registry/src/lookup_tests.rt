@@ -147,10 +147,9 @@ fn first_filter<R: LookupSpan>(subscriber: &mut R) -> Result<(FilterId, u32), Tr
 }
 
 #[test]
-fn what_is_found_of_a_span(rt: HostRuntime) -> Result<(), Fail> {
+fn what_a_reference_shows_of_a_span(rt: HostRuntime) -> Result<(), Fail> {
     let mut registry = Registry::new(rt.alloc());
-    assert_eq!(rt; first_filter(&mut registry)?, (FilterId::of(0), 1));
-    let id = leaf_in_child_in_root(registry.root_mut())?;
+    let id = leaf_in_child_in_root(&mut registry)?;
     let size = Tag::<u64>::new(3);
     let extensions = registry.extensions_mut(id).ok_or("no extensions")?;
     extensions.insert(size, 42)?;
@@ -161,17 +160,22 @@ fn what_is_found_of_a_span(rt: HostRuntime) -> Result<(), Fail> {
     assert_eq!(rt; leaf.name(), "leaf");
     assert_eq!(rt; leaf.fields(), FieldSet::new(&["size"]));
     assert_eq!(rt; leaf.extensions().get(size), Some(&42));
-    let child = registry
-        .root()
-        .span_data(id)
-        .ok_or("no leaf")?
-        .parent()
-        .ok_or("no child")?;
+    let child = leaf.parent().ok_or("no child")?;
+    assert_eq!(rt; child.extensions().get(size), None);
+    Ok(())
+}
+
+#[test]
+fn what_is_found_of_a_span(rt: HostRuntime) -> Result<(), Fail> {
+    let mut registry = Registry::new(rt.alloc());
+    assert_eq!(rt; first_filter(&mut registry)?, (FilterId::of(0), 1));
+    let id = leaf_in_child_in_root(registry.root_mut())?;
+    let leaf = registry.root().span_data(id).ok_or("no leaf")?;
+    let child = leaf.parent().ok_or("no child")?;
     let found = registry.span_data(child).ok_or("no child")?;
     assert_eq!(rt; found.id(), child);
     assert_eq!(rt; found.metadata().name(), "child");
     assert!(rt; found.parent().is_some());
-    assert_eq!(rt; found.extensions().get(size), None);
     assert!(rt; !found.is_enabled_for(FilterId::of(0)));
     assert!(rt; found.is_enabled_for(FilterId::of(1)));
     assert!(rt; !found.is_enabled_for(FilterId::unattached()));

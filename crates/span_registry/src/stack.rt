@@ -5,8 +5,9 @@ ghost use Rattle.std.specs.Option.{option_map};
 ghost use Rattle.span_core.specs.Span.{number_of};
 ghost use Rattle.span_registry.specs.LaneStack.{leave, leaves_for_good, newest, without_duplicates};
 ghost use Rattle.span_registry.specs.Kept.{PutsOn, TakesOff};
-ghost use Rattle.span_registry.specs.Marks.{IsAtLast, spans_to_give};
+ghost use Rattle.span_registry.specs.Marks.{HoldsAll, IsAtLast, ids, spans_to_give};
 
+use crate::bloom::Bloom;
 use span_core::{Id, Lane, TraceError};
 use std::alloc::Global;
 use std::collections::BTreeMap;
@@ -24,6 +25,8 @@ pub(crate) struct Entry {
 #[derive(Drop)]
 pub struct SpanStack {
     entries: Vec<Entry>,
+    /// What may stand on the stack: of an id that isn't in it no entry is looked at.
+    held: Bloom,
 }
 
 impl Model for SpanStack {
@@ -31,11 +34,11 @@ impl Model for SpanStack {
 
     ghost Value = { List ℕ };
 
-    ghost use Rattle.span_registry.specs.Marks.{AreMarked, ids_down};
+    ghost use Rattle.span_registry.specs.Marks.{KeepsStack, ids_down};
 
     ghost view = { λ a. ids_down a.entries.items };
 
-    ghost invariant = { λ a. AreMarked a.entries.items };
+    ghost invariant = { λ a. KeepsStack a.entries.items a.held };
 }
 
 impl SpanStack {
@@ -45,6 +48,7 @@ impl SpanStack {
     {
         SpanStack {
             entries: Vec::new(alloc),
+            held: Bloom::new(),
         }
     }
 
@@ -54,8 +58,9 @@ impl SpanStack {
         ensures memory { IfErr result (λ e. e ≡ TraceError.OutOfMemory) }
         ensures unchanged { OnErr result (self.new ≡ self.old) }
     {
-        let duplicate = last_place(&self.entries, id).is_some();
+        let duplicate = last_place(&self.entries, self.held, id).is_some();
         self.entries.push(Entry { id, duplicate })?;
+        self.held.insert(id);
         Ok(())
     }
 
@@ -64,10 +69,13 @@ impl SpanStack {
         ensures left { self.new ≡ leave (number_of id) self.old }
         ensures for_good { result ≡ leaves_for_good (number_of id) self.old }
     {
-        match last_place(&self.entries, id) {
+        match last_place(&self.entries, self.held, id) {
             None => false,
             Some(place) => {
                 let entry = self.entries.remove(place);
+                if self.entries.is_empty() {
+                    self.held = Bloom::new();
+                }
                 !entry.duplicate
             }
         }
@@ -88,9 +96,14 @@ impl SpanStack {
     }
 }
 
-fn last_place(entries: &[Entry], id: Id) -> Option<usize>
+/// Where the last entry of a span stands. All entries are held.
+fn last_place(entries: &[Entry], held: Bloom, id: Id) -> Option<usize>
+    requires { HoldsAll held (ids entries.now) }
     ensures { IsAtLast entries.now (number_of id) result }
 {
+    if !held.may_hold(id) {
+        return None;
+    }
     for i in (0..entries.len()).rev() {
         if entries[i].id == id {
             return Some(i);
