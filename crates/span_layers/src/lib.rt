@@ -4,22 +4,22 @@
 mod attach;
 mod boxed;
 mod filtered;
+#[cfg(test)]
+mod hook_tests;
 mod identity;
 pub mod laws;
 mod layer;
 mod layered;
 mod list;
+#[cfg(test)]
+mod list_tests;
 mod observe;
 mod optional;
+#[cfg(test)]
+mod optional_tests;
 mod stack;
 #[cfg(test)]
 mod tests;
-#[cfg(test)]
-mod tests_hooks;
-#[cfg(test)]
-mod tests_list;
-#[cfg(test)]
-mod tests_optional;
 mod veto;
 
 pub use attach::{LayerExt, SubscriberExt, Unattached};

@@ -12,6 +12,8 @@ ghost use Rattle.span_registry.specs.Subscriber.{SameButExtensions};
 ghost use Rattle.span_uses.specs.Uses.{Begins, DropsAndLists, IsChainOf, Lists, RemovesAndLists};
 ghost use Rattle.span_uses.specs.Uses.{left, name_in, parent_name_in, stack_in, value_in};
 
+#[cfg(test)]
+mod asked_tests;
 pub mod boxed;
 pub mod dispatch;
 pub mod filter;
@@ -20,8 +22,6 @@ pub mod layer;
 pub mod stack;
 #[cfg(test)]
 mod tests;
-#[cfg(test)]
-mod tests_asked;
 
 use span_core::{Attributes, Id, Lane, Pass, Record, TraceError};
 use span_registry::{

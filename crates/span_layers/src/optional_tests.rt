@@ -111,7 +111,7 @@ fn metadata_of(level: Level) -> Metadata {
     Metadata::new(
         1,
         "made",
-        "tests_optional",
+        "optional_tests",
         level,
         Kind::EVENT,
         FieldSet::new(&[]),
