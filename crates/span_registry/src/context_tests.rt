@@ -6,13 +6,12 @@ use crate::scope::{Scope, SpanRef};
 use crate::span_data::SpanData;
 use crate::subscriber::Subscriber;
 use crate::tag::Tag;
+use crate::tests::{LANE, value_of};
 use span_core::{
-    Attributes, Event, FieldSet, FilterId, Id, Kind, Lane, Level, Metadata, Pass, TraceError,
+    Attributes, Event, FieldSet, FilterId, Id, Kind, Level, Metadata, Pass, TraceError,
 };
 use std::alloc::{AllocError, Global};
 use std::test::Fail;
-
-const LANE: Lane = Lane(0);
 
 fn metadata_of(name: &'static str, level: Level, kind: Kind) -> Metadata {
     Metadata::new(1, name, "tests", level, kind, FieldSet::new(&[]))
@@ -89,28 +88,70 @@ fn names_from_root<S: LookupSpan>(
     Ok(text)
 }
 
+/// The names of a span and of those round it, leaf first, as a context shows them.
+fn up<S: LookupSpan>(alloc: Global, ctx: &Context<'_, S>, id: Id) -> Result<String, Fail> {
+    let scope = ctx.span_scope(id).ok_or("no span")?;
+    Ok(names(alloc, scope)?)
+}
+
+/// The same, root first.
+fn down<S: LookupSpan>(alloc: Global, ctx: &Context<'_, S>, id: Id) -> Result<String, Fail> {
+    let scope = ctx.span_scope(id).ok_or("no span")?;
+    Ok(names_from_root(alloc, scope)?)
+}
+
+/// The names of an event's span and of those round it, leaf first, if a context shows that span.
+fn up_of_event<S: LookupSpan>(
+    alloc: Global,
+    ctx: &Context<'_, S>,
+    event: &Event<'_>,
+) -> Result<Option<String>, Fail> {
+    match ctx.event_scope(event) {
+        Some(scope) => Ok(Some(names(alloc, scope)?)),
+        None => Ok(None),
+    }
+}
+
+/// The name of an event's span, if a context shows one.
+fn span_of<S: LookupSpan>(ctx: &Context<'_, S>, event: &Event<'_>) -> Option<&'static str> {
+    name_of(ctx.event_span(event))
+}
+
+/// The newest span that the lane is in, of those that a context shows.
+fn current_of<S: LookupSpan>(ctx: &Context<'_, S>) -> Option<Id> {
+    let span = ctx.lookup_current()?;
+    Some(span.id())
+}
+
+/// The name of a span's parent, if a context shows one.
+fn parent_of<S: LookupSpan>(ctx: &Context<'_, S>, id: Id) -> Option<&'static str> {
+    let span = ctx.span(id)?;
+    name_of(span.parent())
+}
+
 #[test]
 fn one_filter_hides_from_its_own_alone(rt: HostRuntime) -> Result<(), Fail> {
     let mut registry = Registry::new(rt.alloc());
     let info = registry.register_filter()?;
-    let Family { child, leaf, .. } = family_in(&mut registry, info)?;
+    let Family { leaf, .. } = family_in(&mut registry, info)?;
     let all = Context::new(&registry, LANE);
     let filtered = all.with_filter(info);
+    assert_eq!(rt; up(rt.alloc(), &all, leaf)?.as_str(), "leaf child root ");
+    assert_eq!(rt; up(rt.alloc(), &filtered, leaf)?.as_str(), "leaf root ");
+    assert_eq!(rt; down(rt.alloc(), &all, leaf)?.as_str(), "root child leaf ");
+    assert_eq!(rt; down(rt.alloc(), &filtered, leaf)?.as_str(), "root leaf ");
+    Ok(())
+}
 
-    let scope = all.span_scope(leaf).ok_or("no leaf")?;
-    assert_eq!(rt; names(rt.alloc(), scope)?.as_str(), "leaf child root ");
-    let scope = filtered.span_scope(leaf).ok_or("no leaf")?;
-    assert_eq!(rt; names(rt.alloc(), scope)?.as_str(), "leaf root ");
-    let scope = all.span_scope(leaf).ok_or("no leaf")?;
-    assert_eq!(rt;
-        names_from_root(rt.alloc(), scope)?.as_str(),
-        "root child leaf "
-    );
-    let scope = filtered.span_scope(leaf).ok_or("no leaf")?;
-    assert_eq!(rt; names_from_root(rt.alloc(), scope)?.as_str(), "root leaf ");
-    let scope = filtered.event_scope(&event_in(leaf)).ok_or("no leaf")?;
-    assert_eq!(rt; names(rt.alloc(), scope)?.as_str(), "leaf root ");
-    assert!(rt; filtered.event_scope(&event_in(child)).is_none());
+#[test]
+fn an_event_in_a_hidden_span_has_no_scope(rt: HostRuntime) -> Result<(), Fail> {
+    let mut registry = Registry::new(rt.alloc());
+    let info = registry.register_filter()?;
+    let Family { child, leaf, .. } = family_in(&mut registry, info)?;
+    let filtered = Context::new(&registry, LANE).with_filter(info);
+    let scope = up_of_event(rt.alloc(), &filtered, &event_in(leaf))?.ok_or("no leaf")?;
+    assert_eq!(rt; scope.as_str(), "leaf root ");
+    assert!(rt; up_of_event(rt.alloc(), &filtered, &event_in(child))?.is_none());
     Ok(())
 }
 
@@ -121,21 +162,23 @@ fn what_is_hidden_is_found_by_nobody_under_the_mask(rt: HostRuntime) -> Result<(
     let Family { child, leaf, .. } = family_in(&mut registry, info)?;
     let all = Context::new(&registry, LANE);
     let filtered = all.with_filter(info);
-
-    assert_eq!(rt; name_of(all.event_span(&event_in(child))), Some("child"));
-    assert_eq!(rt; name_of(filtered.event_span(&event_in(child))), None);
-    assert_eq!(rt;
-        name_of(filtered.span(leaf).ok_or("no leaf")?.parent()),
-        Some("root")
-    );
-    assert_eq!(rt;
-        name_of(all.span(leaf).ok_or("no leaf")?.parent()),
-        Some("child")
-    );
-
+    assert_eq!(rt; span_of(&all, &event_in(child)), Some("child"));
+    assert_eq!(rt; span_of(&filtered, &event_in(child)), None);
+    assert_eq!(rt; parent_of(&all, leaf), Some("child"));
+    assert_eq!(rt; parent_of(&filtered, leaf), Some("root"));
     assert!(rt; all.metadata(child).is_some());
     assert!(rt; filtered.metadata(child).is_none());
     assert!(rt; filtered.exists(child));
+    Ok(())
+}
+
+#[test]
+fn what_a_filter_refused_is_not_enabled_for_it(rt: HostRuntime) -> Result<(), Fail> {
+    let mut registry = Registry::new(rt.alloc());
+    let info = registry.register_filter()?;
+    let Family { child, leaf, .. } = family_in(&mut registry, info)?;
+    let all = Context::new(&registry, LANE);
+    let filtered = all.with_filter(info);
     assert!(rt; filtered.is_enabled_for(leaf, info));
     assert!(rt; !filtered.is_enabled_for(child, info));
     assert!(rt; !all.is_enabled_for(child, info));
@@ -153,22 +196,13 @@ fn an_event_is_in_the_span_that_is_shown(rt: HostRuntime) -> Result<(), Fail> {
     let all = Context::new(&registry, LANE);
     let filtered = all.with_filter(info);
 
-    assert_eq!(rt;
-        name_of(all.event_span(&Event::new(metadata, &[]))),
-        Some("child")
-    );
-    assert_eq!(rt;
-        name_of(filtered.event_span(&Event::new(metadata, &[]))),
-        Some("root")
-    );
-    assert_eq!(rt;
-        name_of(all.event_span(&Event::new_root(metadata, &[]))),
-        None
-    );
+    let event = Event::new(metadata, &[]);
+    assert_eq!(rt; span_of(&all, &event), Some("child"));
+    assert_eq!(rt; span_of(&filtered, &event), Some("root"));
+    assert_eq!(rt; span_of(&all, &Event::new_root(metadata, &[])), None);
     assert_eq!(rt; filtered.current_span().id(), Some(child));
-    let current = filtered.lookup_current().ok_or("no root")?;
-    assert_eq!(rt; current.id(), root);
-    assert_eq!(rt; name_of(filtered.to_root().lookup_current()), Some("root"));
+    assert_eq!(rt; current_of(&filtered), Some(root));
+    assert_eq!(rt; current_of(&filtered.to_root()), Some(root));
     assert!(rt; filtered.enabled(&metadata));
     Ok(())
 }
@@ -188,40 +222,66 @@ fn without_a_subscriber_no_span_is_there(rt: HostRuntime) -> Result<(), Fail> {
     Ok(())
 }
 
+/// Gives a span a value under a tag, if a hook sees it.
+fn write<S: LookupSpan>(
+    hook: &mut ContextMut<'_, S>,
+    id: Id,
+    tag: Tag<u64>,
+    value: u64,
+) -> Result<(), Fail> {
+    let extensions = hook.extensions_mut(id).ok_or("no span")?;
+    extensions.insert(tag, value)?;
+    Ok(())
+}
+
 #[test]
 fn a_hook_writes_what_it_sees(rt: HostRuntime) -> Result<(), Fail> {
     let mut registry = Registry::new(rt.alloc());
     let info = registry.register_filter()?;
     let Family { child, leaf, .. } = family_in(&mut registry, info)?;
     let size = Tag::<u64>::new(0);
+    let pass = Pass::new();
+    let mut hook = ContextMut::new(&mut registry, LANE, &pass);
+    write(&mut hook, child, size, 3)?;
+    assert_eq!(rt; name_of(hook.lend().ctx().span(child)), Some("child"));
+    let mut filtered = hook.with_filter(info);
+    assert!(rt; filtered.extensions_mut(child).is_none());
+    write(&mut filtered, leaf, size, 4)?;
+    assert_eq!(rt; value_of(&registry, child, size), Some(3));
+    assert_eq!(rt; value_of(&registry, leaf, size), Some(4));
+    Ok(())
+}
+
+#[test]
+fn a_hook_knows_what_its_filter_refused(rt: HostRuntime) -> Result<(), Fail> {
+    let mut registry = Registry::new(rt.alloc());
+    let info = registry.register_filter()?;
+    let Family { child, leaf, .. } = family_in(&mut registry, info)?;
     let mut pass = Pass::new();
     pass.set(info, false);
-
-    let mut hook = ContextMut::new(&mut registry, LANE, &pass);
+    let hook = ContextMut::new(&mut registry, LANE, &pass);
     assert!(rt; hook.refuses(info));
     assert!(rt; !hook.refuses(FilterId::of(1)));
     assert!(rt; hook.refuses(FilterId::unattached()));
-    let extensions = hook.extensions_mut(child).ok_or("no child")?;
-    extensions.insert(size, 3)?;
-    assert_eq!(rt; name_of(hook.lend().ctx().span(child)), Some("child"));
-
-    let mut filtered = hook.with_filter(info);
+    let filtered = hook.with_filter(info);
     assert_eq!(rt; filtered.lane(), LANE);
-    assert!(rt; filtered.extensions_mut(child).is_none());
-    let extensions = filtered.extensions_mut(leaf).ok_or("no leaf")?;
-    extensions.insert(size, 4)?;
     assert!(rt; filtered.is_enabled_for(leaf, info));
     assert!(rt; !filtered.is_enabled_for(child, info));
-    filtered.event(&event_in(leaf));
-    let mut root = filtered.take_root();
-    assert!(rt; !filtered.ctx().exists(leaf));
-    assert!(rt; filtered.over(&mut root).extensions_mut(leaf).is_some());
-    filtered.put_root(root);
-    assert_eq!(rt; name_of(filtered.ctx().lookup_current()), Some("leaf"));
+    Ok(())
+}
 
-    let found = registry.span(child).ok_or("no child")?;
-    assert_eq!(rt; found.extensions().get(size), Some(&3));
-    let found = registry.span(leaf).ok_or("no leaf")?;
-    assert_eq!(rt; found.extensions().get(size), Some(&4));
+#[test]
+fn a_hook_may_be_without_its_registry(rt: HostRuntime) -> Result<(), Fail> {
+    let mut registry = Registry::new(rt.alloc());
+    let info = registry.register_filter()?;
+    let Family { leaf, .. } = family_in(&mut registry, info)?;
+    let pass = Pass::new();
+    let mut hook = ContextMut::new(&mut registry, LANE, &pass);
+    hook.event(&event_in(leaf));
+    let mut root = hook.take_root();
+    assert!(rt; !hook.ctx().exists(leaf));
+    assert!(rt; hook.over(&mut root).extensions_mut(leaf).is_some());
+    hook.put_root(root);
+    assert_eq!(rt; current_of(&hook.ctx()), Some(leaf));
     Ok(())
 }

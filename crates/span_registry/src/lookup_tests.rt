@@ -6,6 +6,7 @@ use crate::scope::{Scope, SpanRef};
 use crate::span_data::SpanData;
 use crate::subscriber::Subscriber;
 use crate::tag::Tag;
+use crate::tests::{insert, value_of};
 use span_core::{
     Attributes, FieldSet, FilterId, Id, Kind, Lane, Level, Metadata, Pass, TraceError,
 };
@@ -75,6 +76,40 @@ fn names_from_root<R: LookupSpan>(
     Ok(found)
 }
 
+/// The names of a span and of those round it, leaf first, as a mask lets them be seen.
+fn up_under<R: LookupSpan>(
+    alloc: Global,
+    subscriber: &R,
+    id: Id,
+    mask: Mask,
+) -> Result<Vec<&'static str>, Fail> {
+    let span = under(subscriber, id, mask).ok_or("no span")?;
+    Ok(names(alloc, span.scope())?)
+}
+
+/// The same, root first.
+fn down_under<R: LookupSpan>(
+    alloc: Global,
+    subscriber: &R,
+    id: Id,
+    mask: Mask,
+) -> Result<Vec<&'static str>, Fail> {
+    let span = under(subscriber, id, mask).ok_or("no span")?;
+    Ok(names_from_root(alloc, span.scope())?)
+}
+
+/// The parent of a span.
+fn parent_of<R: LookupSpan>(subscriber: &R, id: Id) -> Option<Id> {
+    let parent = subscriber.span(id)?.parent()?;
+    Some(parent.id())
+}
+
+/// The name of a span's parent, as a mask lets it be seen.
+fn parent_under<R: LookupSpan>(subscriber: &R, id: Id, mask: Mask) -> Option<&'static str> {
+    let parent = under(subscriber, id, mask)?.parent()?;
+    Some(parent.name())
+}
+
 #[test]
 fn scopes_under_masks(rt: HostRuntime) -> Result<(), Fail> {
     let mut registry = Registry::new(rt.alloc());
@@ -104,14 +139,12 @@ fn scopes_under_masks(rt: HostRuntime) -> Result<(), Fail> {
         (both_hidden, &["leaf"], &["leaf"], None),
     ];
     for (mask, up, down, parent) in rows {
-        let leaf = under(&registry, id, mask).ok_or("no leaf")?;
-        assert_eq!(rt; names(rt.alloc(), leaf.scope())?.as_slice(), up);
-        assert_eq!(rt; names_from_root(rt.alloc(), leaf.scope())?.as_slice(), down);
-        let found = match leaf.parent() {
-            Some(span) => Some(span.name()),
-            None => None,
-        };
-        assert_eq!(rt; found, parent);
+        assert_eq!(rt; up_under(rt.alloc(), &registry, id, mask)?.as_slice(), up);
+        assert_eq!(rt;
+            down_under(rt.alloc(), &registry, id, mask)?.as_slice(),
+            down
+        );
+        assert_eq!(rt; parent_under(&registry, id, mask), parent);
     }
     Ok(())
 }
@@ -120,23 +153,18 @@ fn scopes_under_masks(rt: HostRuntime) -> Result<(), Fail> {
 fn scopes_of_ancestors(rt: HostRuntime) -> Result<(), Fail> {
     let mut registry = Registry::new(rt.alloc());
     let id = leaf_in_child_in_root(&mut registry)?;
-    let leaf = registry.span(id).ok_or("no leaf")?;
-    let child = leaf.parent().ok_or("no child")?;
-    assert_eq!(rt;
-        names(rt.alloc(), child.scope())?.as_slice(),
-        ["child", "root"].as_slice()
-    );
-    let root = child.parent().ok_or("no root")?;
-    assert_eq!(rt;
-        names(rt.alloc(), root.scope())?.as_slice(),
-        ["root"].as_slice()
-    );
-    assert!(rt; root.parent().is_none());
-    let hidden = under(&registry, child.id(), Mask::none().and(FilterId::of(0))).ok_or("no child")?;
-    assert_eq!(rt;
-        names(rt.alloc(), hidden.scope())?.as_slice(),
-        ["root"].as_slice()
-    );
+    let child = parent_of(&registry, id).ok_or("no child")?;
+    let root = parent_of(&registry, child).ok_or("no root")?;
+    assert_eq!(rt; parent_of(&registry, root), None);
+    let (none, child_hidden) = (Mask::none(), Mask::none().and(FilterId::of(0)));
+    let rows: [(Id, Mask, &[&str]); 3] = [
+        (child, none, &["child", "root"]),
+        (root, none, &["root"]),
+        (child, child_hidden, &["root"]),
+    ];
+    for (span, mask, up) in rows {
+        assert_eq!(rt; up_under(rt.alloc(), &registry, span, mask)?.as_slice(), up);
+    }
     Ok(())
 }
 
@@ -151,17 +179,16 @@ fn what_a_reference_shows_of_a_span(rt: HostRuntime) -> Result<(), Fail> {
     let mut registry = Registry::new(rt.alloc());
     let id = leaf_in_child_in_root(&mut registry)?;
     let size = Tag::<u64>::new(3);
-    let extensions = registry.extensions_mut(id).ok_or("no extensions")?;
-    extensions.insert(size, 42)?;
+    insert(&mut registry, id, size, 42)?;
     assert!(rt; registry.span(Id::from_u64(0)).is_none());
     let leaf = registry.span(id).ok_or("no leaf")?;
     assert_eq!(rt; leaf.id(), id);
     assert_eq!(rt; leaf.metadata(), span_named("leaf"));
     assert_eq!(rt; leaf.name(), "leaf");
     assert_eq!(rt; leaf.fields(), FieldSet::new(&["size"]));
-    assert_eq!(rt; leaf.extensions().get(size), Some(&42));
-    let child = leaf.parent().ok_or("no child")?;
-    assert_eq!(rt; child.extensions().get(size), None);
+    let child = leaf.parent().ok_or("no child")?.id();
+    assert_eq!(rt; value_of(&registry, id, size), Some(42));
+    assert_eq!(rt; value_of(&registry, child, size), None);
     Ok(())
 }
 

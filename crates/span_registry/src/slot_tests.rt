@@ -1,9 +1,9 @@
 //! Tests of places that hold one span after another, and of ids that are never issued again.
 ghost use Rattle.std.specs.Prelude.{◌≤◌};
 
-use crate::tests::{LANE, drop_handle, root};
+use crate::tests::{LANE, clone_of, current, drop_handle, enter, insert, open, root, value_of};
 use crate::{Limits, LookupSpan, Registry, Subscriber, Tag};
-use span_core::{Id, Pass, TraceError};
+use span_core::{Id, TraceError};
 use std::alloc::Global;
 use std::process::Abort;
 use std::test::Fail;
@@ -22,7 +22,7 @@ fn limited(alloc: Global, places: u32, generations: u32) -> Registry
 
 /// Makes a root.
 fn new_root(registry: &mut Registry) -> Result<Id, TraceError> {
-    registry.new_span(LANE, &root(), &Pass::new())
+    open(registry, &root())
 }
 
 /// Makes a root and drops it.
@@ -43,7 +43,7 @@ fn a_place_is_retired_after_its_last_generation(rt: HostRuntime) -> Result<(), F
     let d = come_and_gone(&mut registry, rt.alloc())?;
     assert_eq!(rt; registry.retired(), 1);
     for id in [a, c, d] {
-        let entered = registry.enter(LANE, id);
+        let entered = enter(&mut registry, id);
         assert_eq!(rt; entered, Err(TraceError::UnknownSpan(id)));
         assert!(rt; registry.span_data(id).is_none());
     }
@@ -57,11 +57,11 @@ fn a_place_is_retired_after_its_last_generation(rt: HostRuntime) -> Result<(), F
 fn the_next_span_of_a_place_is_another(rt: HostRuntime) -> Result<(), Fail> {
     let mut registry = Registry::new(rt.alloc());
     let a = new_root(&mut registry)?;
-    registry.enter(LANE, a)?;
+    enter(&mut registry, a)?;
     drop_handle(&mut registry, a, rt.alloc())?;
     let c = new_root(&mut registry)?;
     assert_ne!(rt; a, c);
-    assert_eq!(rt; registry.current_span(LANE).id(), None);
+    assert_eq!(rt; current(&registry), None);
     registry.exit(LANE, a);
     registry.exit(LANE, a);
     assert!(rt; registry.is_open(c));
@@ -76,7 +76,7 @@ fn one_place_for_two_spans(rt: HostRuntime) -> Result<(), Fail> {
     assert_eq!(rt; registry.retired(), 1);
     assert_eq!(rt; new_root(&mut registry), Err(TraceError::TooManySpans));
     for id in [a, b] {
-        let cloned = registry.clone_span(LANE, id);
+        let cloned = clone_of(&mut registry, id);
         assert_eq!(rt; cloned, Err(TraceError::UnknownSpan(id)));
     }
     Ok(())
@@ -106,16 +106,10 @@ fn a_place_has_no_values_of_its_last_span(rt: HostRuntime) -> Result<(), Fail> {
     let mut registry = limited(rt.alloc(), 3, 1);
     let tag: Tag<u64> = Tag::new(0);
     let a = new_root(&mut registry)?;
-    let Some(values) = registry.extensions_mut(a) else {
-        return Err(Fail::from("the span isn't there"));
-    };
-    values.replace(tag, 7)?;
+    insert(&mut registry, a, tag, 7)?;
     drop_handle(&mut registry, a, rt.alloc())?;
     let b = new_root(&mut registry)?;
     assert_eq!(rt; b, Id::from_u64(2));
-    let Some(values) = registry.extensions_mut(b) else {
-        return Err(Fail::from("the span isn't there"));
-    };
-    assert_eq!(rt; values.get(tag), None);
+    assert_eq!(rt; value_of(&registry, b, tag), None);
     Ok(())
 }

@@ -76,25 +76,28 @@ fn notify<S: Subscriber>(rt: &impl Abort, stack: &mut S) -> Result<(), Fail>
     stack.exit(lane, id);
     assert!(rt; stack.current_span(lane).is_none());
     enter_and_exit(stack, lane, id)?;
-    assert!(rt; stack.current_span(lane).is_none());
     stack.close_hooks(lane, id);
-    let unknown = Id::from_u64(u64::MAX);
-    assert_eq!(rt;
-        stack.enter(lane, unknown),
-        Err(TraceError::UnknownSpan(unknown))
-    );
-    assert_eq!(rt;
-        stack.clone_span(lane, unknown),
-        Err(TraceError::UnknownSpan(unknown))
-    );
     Ok(())
+}
+
+/// Enters and clones a span that isn't there.
+fn refuses_unknown<S: Subscriber>(rt: &impl Abort, stack: &mut S)
+    requires { S.usable stack.old }
+{
+    let lane = Lane(0);
+    let id = Id::from_u64(u64::MAX);
+    let unknown = TraceError::UnknownSpan(id);
+    assert_eq!(rt; stack.enter(lane, id), Err(unknown));
+    assert_eq!(rt; stack.clone_span(lane, id), Err(unknown));
 }
 
 #[test]
 fn a_registry_is_a_subscriber(rt: HostRuntime) -> Result<(), Fail> {
     let mut registry = Registry::new(rt.alloc());
     ask(&rt, &registry)?;
-    notify(&rt, &mut registry)
+    notify(&rt, &mut registry)?;
+    refuses_unknown(&rt, &mut registry);
+    Ok(())
 }
 
 #[test]
