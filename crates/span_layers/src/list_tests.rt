@@ -8,17 +8,13 @@ ghost use Rattle.span_registry.specs.Follows.{kept_form};
 ghost use Rattle.span_registry.specs.Form.{Leaf};
 ghost use Rattle.span_registry.specs.Place.{no_leaf_laws};
 
-use crate::{Layer, LayerExt, SubscriberExt};
-use span_core::{
-    Attributes, Event, FieldSet, Id, Interest, Kind, Lane, Level, LevelFilter, Metadata, Pass,
-    Record,
-};
+use crate::tests::{LANE, hint_of, interest_in, marks, open, put, shown};
+use crate::{Layer, LayerExt};
+use span_core::{Attributes, Event, Id, Interest, Level, LevelFilter, Metadata, Pass, Record};
 use span_filters::{dynamic_filter_fn, filter_fn};
 use span_registry::{Context, ContextMut, LookupSpan, Registry, Subscriber, Tag};
 use std::alloc::Global;
 use std::test::Fail;
-
-const LANE: Lane = Lane(0);
 
 /// Writes its digit behind those in the extensions of a span that is new, or entered.
 #[derive(Drop)]
@@ -133,84 +129,65 @@ fn three_members(alloc: Global) -> Result<Vec<Member>, Fail> {
     Ok(vec![in alloc; new_member(1), new_member(2), new_member(3)]?)
 }
 
-fn metadata_of(level: Level, kind: Kind) -> Metadata {
-    Metadata::new(1, "made", "tests", level, kind, FieldSet::new(&[]))
-}
-
-fn hint_of<S: Subscriber>(stack: &S) -> Option<LevelFilter>
-    requires { S.usable stack.now }
-{
-    stack.max_level_hint()
-}
-
-/// The interest of a stack in events of this level, asked with a new pass.
-fn interest_in<S: Subscriber>(stack: &S, level: Level) -> Interest
-    requires { S.usable stack.now }
-{
-    stack.register_callsite(&metadata_of(level, Kind::EVENT), &mut Pass::new())
-}
-
-/// Whether a stack wants the metadata of an event of this level, asked with a new pass.
-fn wants<S: Subscriber>(stack: &S, level: Level) -> bool
-    requires { S.usable stack.now }
-{
-    stack.enabled(LANE, &metadata_of(level, Kind::EVENT), &mut Pass::new())
-}
-
-/// Whether it wants an event of this level, once its metadata were let by.
-fn wants_event<S: Subscriber>(stack: &S, level: Level) -> bool
-    requires { S.usable stack.now }
-{
-    let event = Event::new(metadata_of(level, Kind::EVENT), &[]);
-    stack.event_enabled(LANE, &event, &mut Pass::new())
-}
-
 #[test]
 fn a_level_as_a_layer_vetoes(rt: HostRuntime) -> Result<(), Fail> {
-    let Ok(stack) = Registry::new(rt.alloc()).with(LevelFilter::INFO) else {
-        return Err(Fail::from("there is no room"));
-    };
-    assert!(rt; wants(&stack, Level::INFO));
-    assert!(rt; !wants(&stack, Level::DEBUG));
-    assert!(rt; wants_event(&stack, Level::DEBUG));
-    assert_eq!(rt; interest_in(&stack, Level::INFO), Interest::Always);
-    assert_eq!(rt; interest_in(&stack, Level::DEBUG), Interest::Never);
-    assert_eq!(rt; hint_of(&stack), Some(LevelFilter::INFO));
+    let stack = put(Registry::new(rt.alloc()), LevelFilter::INFO)?;
+    let hint = Some(LevelFilter::INFO);
+    assert_eq!(rt;
+        shown(&stack, Level::INFO),
+        (Interest::Always, true, true, hint)
+    );
+    assert_eq!(rt;
+        shown(&stack, Level::DEBUG),
+        (Interest::Never, false, true, hint)
+    );
     Ok(())
 }
 
 #[test]
 fn closures_as_layers_veto(rt: HostRuntime) -> Result<(), Fail> {
     let test = filter_fn(|meta: &Metadata| meta.level() == Level::INFO);
-    let Ok(stack) = Registry::new(rt.alloc()).with(test) else {
-        return Err(Fail::from("there is no room"));
-    };
-    assert!(rt; wants(&stack, Level::INFO));
-    assert!(rt; !wants(&stack, Level::WARN));
+    let stack = put(Registry::new(rt.alloc()), test)?;
+    assert_eq!(rt;
+        shown(&stack, Level::INFO),
+        (Interest::Always, true, true, None)
+    );
+    assert_eq!(rt;
+        shown(&stack, Level::WARN),
+        (Interest::Never, false, true, None)
+    );
+    Ok(())
+}
+
+#[test]
+fn closures_with_a_context_as_layers_veto(rt: HostRuntime) -> Result<(), Fail> {
     let outside = dynamic_filter_fn(|_meta: &Metadata, cx: &Context<'_, Registry>| {
         cx.current_span().is_none()
     });
-    let Ok(stack) = Registry::new(rt.alloc()).with(outside) else {
-        return Err(Fail::from("there is no room"));
-    };
-    assert!(rt; wants(&stack, Level::TRACE));
-    assert_eq!(rt; interest_in(&stack, Level::TRACE), Interest::Sometimes);
+    let stack = put(Registry::new(rt.alloc()), outside)?;
+    assert_eq!(rt;
+        shown(&stack, Level::TRACE),
+        (Interest::Sometimes, true, true, None)
+    );
     Ok(())
 }
 
 #[test]
 fn an_empty_list_wants_nothing(rt: HostRuntime) -> Result<(), Fail> {
-    let Ok(stack) = Registry::new(rt.alloc()).with(Vec::<Member>::new(rt.alloc())) else {
-        return Err(Fail::from("there is no room"));
-    };
-    assert_eq!(rt; hint_of(&stack), Some(LevelFilter::OFF));
-    assert_eq!(rt; interest_in(&stack, Level::ERROR), Interest::Never);
-    let Ok(stack) = Registry::new(rt.alloc()).with(LevelFilter::INFO) else {
-        return Err(Fail::from("there is no room"));
-    };
-    let Ok(stack) = stack.with(Vec::<Member>::new(rt.alloc())) else {
-        return Err(Fail::from("there is no room"));
-    };
+    let nothing = Vec::<Member>::new(rt.alloc());
+    let stack = put(Registry::new(rt.alloc()), nothing)?;
+    let hint = Some(LevelFilter::OFF);
+    assert_eq!(rt;
+        shown(&stack, Level::ERROR),
+        (Interest::Never, true, true, hint)
+    );
+    Ok(())
+}
+
+#[test]
+fn an_empty_list_leaves_the_hint_to_what_is_below(rt: HostRuntime) -> Result<(), Fail> {
+    let stack = put(Registry::new(rt.alloc()), LevelFilter::INFO)?;
+    let stack = put(stack, Vec::<Member>::new(rt.alloc()))?;
     assert_eq!(rt; hint_of(&stack), Some(LevelFilter::INFO));
     Ok(())
 }
@@ -218,37 +195,46 @@ fn an_empty_list_wants_nothing(rt: HostRuntime) -> Result<(), Fail> {
 #[test]
 fn a_list_wants_what_a_member_wants(rt: HostRuntime) -> Result<(), Fail> {
     let levels = vec![in rt.alloc(); LevelFilter::WARN, LevelFilter::DEBUG]?;
-    let Ok(stack) = Registry::new(rt.alloc()).with(levels) else {
-        return Err(Fail::from("there is no room"));
-    };
-    assert_eq!(rt; interest_in(&stack, Level::INFO), Interest::Always);
-    assert!(rt; !wants(&stack, Level::INFO));
-    assert!(rt; wants(&stack, Level::WARN));
-    assert_eq!(rt; hint_of(&stack), Some(LevelFilter::DEBUG));
+    let stack = put(Registry::new(rt.alloc()), levels)?;
+    let hint = Some(LevelFilter::DEBUG);
+    assert_eq!(rt;
+        shown(&stack, Level::INFO),
+        (Interest::Always, false, true, hint)
+    );
+    assert_eq!(rt;
+        shown(&stack, Level::WARN),
+        (Interest::Always, true, true, hint)
+    );
+    Ok(())
+}
+
+#[test]
+fn a_list_wants_what_a_filtered_member_wants(rt: HostRuntime) -> Result<(), Fail> {
     let all = new_member(1).with_filter(LevelFilter::TRACE);
     let none = new_member(2).with_filter(LevelFilter::OFF);
-    let Ok(stack) = Registry::new(rt.alloc()).with(vec![in rt.alloc(); all, none]?) else {
-        return Err(Fail::from("there is no room"));
-    };
+    let members = vec![in rt.alloc(); all, none]?;
+    let stack = put(Registry::new(rt.alloc()), members)?;
     assert_eq!(rt; stack.root().filters(), 2);
     assert_eq!(rt; interest_in(&stack, Level::ERROR), Interest::Sometimes);
     Ok(())
 }
 
+/// Puts a stack in use, and notifies it of a new span that the lane enters.
+fn open_and_enter<S: Subscriber>(stack: &mut S) -> Result<Id, Fail>
+    requires { S.usable stack.old }
+    ensures { S.usable stack.new }
+{
+    stack.on_register_dispatch();
+    let id = open(stack, Level::INFO, None)?;
+    stack.enter(LANE, id)?;
+    Ok(id)
+}
+
 #[test]
 fn members_go_by_index(rt: HostRuntime) -> Result<(), Fail> {
-    let Ok(mut stack) = Registry::new(rt.alloc()).with(three_members(rt.alloc())?) else {
-        return Err(Fail::from("there is no room"));
-    };
-    stack.on_register_dispatch();
-    let metadata = metadata_of(Level::INFO, Kind::SPAN);
-    let attributes = Attributes::new_root(metadata, &[]);
-    let id = stack.new_span(LANE, &attributes, &Pass::new())?;
-    stack.enter(LANE, id)?;
-    let Some(span) = stack.span(id) else {
-        return Err(Fail::from("the span is gone"));
-    };
-    assert_eq!(rt; span.extensions().get(signed()).copied(), Some(123123));
+    let mut stack = put(Registry::new(rt.alloc()), three_members(rt.alloc())?)?;
+    let id = open_and_enter(&mut stack)?;
+    assert_eq!(rt; marks(&stack, signed(), id), Some(123123));
     for member in stack.layer().iter() {
         assert!(rt; member.in_use);
     }

@@ -7,15 +7,14 @@ ghost use Rattle.span_registry.specs.Follows.{kept_form};
 ghost use Rattle.span_registry.specs.Form.{Leaf};
 ghost use Rattle.span_registry.specs.Place.{no_leaf_laws};
 
-use crate::{Identity, Layer, LayerExt, SubscriberExt};
+use crate::tests::{LANE, metadata_of, put, shown};
+use crate::{Identity, Layer, LayerExt};
 use span_core::{
-    Attributes, Event, FieldSet, Id, Interest, Kind, Lane, Level, LevelFilter, Metadata, Pass,
-    Record,
+    Attributes, Event, Id, Interest, Kind, Level, LevelFilter, Metadata, Pass, Record,
 };
 use span_registry::{Context, ContextMut, LookupSpan, Registry, Subscriber};
+use std::process::Abort;
 use std::test::Fail;
-
-const LANE: Lane = Lane(0);
 
 /// Counts how often it is put in use, and some of what it is notified of.
 #[derive(Drop)]
@@ -107,66 +106,66 @@ impl<S: Subscriber> Layer<S> for Counter {
     fn on_close(&mut self, _id: Id, _ctx: &mut ContextMut<'_, S>) {}
 }
 
-fn metadata_of(level: Level) -> Metadata {
-    Metadata::new(
-        1,
-        "made",
-        "optional_tests",
-        level,
-        Kind::EVENT,
-        FieldSet::new(&[]),
-    )
-}
-
 /// Asks a stack of an event outside every span, and sends it.
 fn send<S: Subscriber>(stack: &mut S, level: Level)
     requires { S.usable stack.old }
     ensures { S.usable stack.new }
 {
-    let metadata = metadata_of(level);
+    let metadata = metadata_of(level, Kind::EVENT);
     let mut pass = Pass::new();
     if stack.enabled(LANE, &metadata, &mut pass) {
         stack.event(LANE, &Event::new(metadata, &[]), &pass);
     }
 }
 
+fn is_absent<S: Subscriber>(stack: &S) -> bool
+    requires { S.usable stack.now }
+{
+    stack.is_absent()
+}
+
+/// Whether a layer of a stack is absent once it stands under a layer that does nothing, and the hint that it then has: where the
+/// stack's own layer is absent, the hint is what it would be without that.
+fn under_identity<S: Subscriber + Drop>(stack: S) -> Result<(bool, Option<LevelFilter>), Fail>
+    requires { S.usable stack }
+{
+    let stack = put(stack, Identity)?;
+    Ok((stack.is_absent(), stack.max_level_hint()))
+}
+
+/// Puts a stack with a layer under INFO in use, and sends an event that INFO passes and one that it doesn't.
+fn use_under_info<S: Subscriber>(rt: &impl Abort, stack: &mut S)
+    requires { S.usable stack.old }
+    ensures { S.usable stack.new }
+{
+    stack.on_register_dispatch();
+    send(stack, Level::INFO);
+    send(stack, Level::DEBUG);
+    assert_eq!(rt; stack.root().filters(), 1);
+    assert!(rt; stack.is_filtered());
+    assert!(rt; !stack.is_absent());
+    assert_eq!(rt; stack.max_level_hint(), Some(LevelFilter::INFO));
+}
+
 #[test]
 fn an_absent_layer_wants_no_level(rt: HostRuntime) -> Result<(), Fail> {
     let absent: Option<Counter> = None;
-    let Ok(stack) = Registry::new(rt.alloc()).with(absent) else {
-        return Err(Fail::from("there is no room"));
-    };
-    let metadata = metadata_of(Level::ERROR);
-    let mut pass = Pass::new();
-    assert!(rt; stack.is_absent());
-    assert!(rt; stack.enabled(LANE, &metadata, &mut pass));
+    let stack = put(Registry::new(rt.alloc()), absent)?;
+    assert!(rt; is_absent(&stack));
+    let hint = Some(LevelFilter::OFF);
     assert_eq!(rt;
-        stack.register_callsite(&metadata, &mut pass),
-        Interest::Always
+        shown(&stack, Level::ERROR),
+        (Interest::Always, true, true, hint)
     );
-    assert_eq!(rt; stack.max_level_hint(), Some(LevelFilter::OFF));
-    // A layer on an absent one has the hint that it has without that.
-    let Ok(stack) = stack.with(Identity) else {
-        return Err(Fail::from("there is no room"));
-    };
-    assert!(rt; stack.is_absent());
-    assert_eq!(rt; stack.max_level_hint(), None);
+    assert_eq!(rt; under_identity(stack)?, (true, None));
     Ok(())
 }
 
 #[test]
 fn a_layer_that_is_there_is_what_it_is(rt: HostRuntime) -> Result<(), Fail> {
     let layer = Some(Counter::new().with_filter(LevelFilter::INFO));
-    let Ok(mut stack) = Registry::new(rt.alloc()).with(layer) else {
-        return Err(Fail::from("there is no room"));
-    };
-    stack.on_register_dispatch();
-    send(&mut stack, Level::INFO);
-    send(&mut stack, Level::DEBUG);
-    assert_eq!(rt; stack.root().filters(), 1);
-    assert!(rt; stack.is_filtered());
-    assert!(rt; !stack.is_absent());
-    assert_eq!(rt; stack.max_level_hint(), Some(LevelFilter::INFO));
+    let mut stack = put(Registry::new(rt.alloc()), layer)?;
+    use_under_info(&rt, &mut stack);
     let Some(layer) = stack.layer() else {
         return Err(Fail::from("the layer is absent"));
     };
@@ -178,15 +177,8 @@ fn a_layer_that_is_there_is_what_it_is(rt: HostRuntime) -> Result<(), Fail> {
 #[test]
 fn a_boxed_layer_is_what_it_holds(rt: HostRuntime) -> Result<(), Fail> {
     let layer = Box::new(rt.alloc(), Counter::new().with_filter(LevelFilter::INFO))?;
-    let Ok(mut stack) = Registry::new(rt.alloc()).with(layer) else {
-        return Err(Fail::from("there is no room"));
-    };
-    stack.on_register_dispatch();
-    send(&mut stack, Level::INFO);
-    send(&mut stack, Level::DEBUG);
-    assert_eq!(rt; stack.root().filters(), 1);
-    assert!(rt; stack.is_filtered());
-    assert_eq!(rt; stack.max_level_hint(), Some(LevelFilter::INFO));
+    let mut stack = put(Registry::new(rt.alloc()), layer)?;
+    use_under_info(&rt, &mut stack);
     assert_eq!(rt; stack.layer().inner().registered, 1);
     assert_eq!(rt; stack.layer().inner().events, 1);
     Ok(())
@@ -207,16 +199,12 @@ fn a_changed_id_reaches_what_is_held(rt: HostRuntime) -> Result<(), Fail> {
 
 #[test]
 fn a_layer_may_do_nothing(rt: HostRuntime) -> Result<(), Fail> {
-    let Ok(stack) = Registry::new(rt.alloc()).with(Identity::default()) else {
-        return Err(Fail::from("there is no room"));
-    };
-    let mut pass = Pass::new();
-    assert!(rt; !stack.is_absent());
+    let stack = put(Registry::new(rt.alloc()), Identity::default())?;
+    assert!(rt; !is_absent(&stack));
     assert_eq!(rt;
-        stack.register_callsite(&metadata_of(Level::TRACE), &mut pass),
-        Interest::Always
+        shown(&stack, Level::TRACE),
+        (Interest::Always, true, true, None)
     );
-    assert_eq!(rt; stack.max_level_hint(), None);
     let text = format!(in rt.alloc(); "{:?}", stack.layer())?;
     assert_eq!(rt; text.as_str(), "Identity");
     Ok(())

@@ -1,7 +1,8 @@
 //! Tests of stacks, as a program drives them, with layers that keep what they are notified of.
-ghost use Rattle.std.specs.Prelude.{◌≡◌, ⊤, false};
+ghost use Rattle.std.specs.Prelude.{◌≡◌, ⊤, IfOk, false};
 ghost use Rattle.span_layers.specs.Acts.{LeafActs};
 ghost use Rattle.span_layers.specs.ActsKept.{is_leaf, leaf_path_laws};
+ghost use Rattle.span_layers.specs.Layered.{inner_of, outer_of};
 ghost use Rattle.span_layers.specs.Observe.{fixed_laws, open_answers};
 ghost use Rattle.span_registry.specs.Form.{Leaf};
 ghost use Rattle.span_registry.specs.Context.{WritesExtensions};
@@ -16,7 +17,39 @@ use span_registry::{Context, ContextMut, LookupSpan, Registry, Subscriber, Tag};
 use std::alloc::Global;
 use std::test::Fail;
 
-const LANE: Lane = Lane(0);
+pub(crate) const LANE: Lane = Lane(0);
+
+/// Puts a layer on a stack.
+pub(crate) fn put<S: Subscriber + Drop, L: Layer<S> + Drop>(
+    stack: S,
+    layer: L,
+) -> Result<Layered<L, S>, Fail>
+    requires layer { L.usable layer }
+    requires stack { S.usable stack }
+    ensures layer { IfOk result (λ made. L.usable (outer_of made)) }
+    ensures stack { IfOk result (λ made. S.usable (inner_of made)) }
+{
+    match stack.with(layer) {
+        Ok(made) => Ok(made),
+        Err(_) => Err(Fail::from("there is no room")),
+    }
+}
+
+/// Puts a stack under a layer.
+fn put_under<S: Subscriber + Drop, L: Layer<S> + Drop>(
+    layer: L,
+    stack: S,
+) -> Result<Layered<L, S>, Fail>
+    requires layer { L.usable layer }
+    requires stack { S.usable stack }
+    ensures layer { IfOk result (λ made. L.usable (outer_of made)) }
+    ensures stack { IfOk result (λ made. S.usable (inner_of made)) }
+{
+    match layer.with_subscriber(stack) {
+        Ok(made) => Ok(made),
+        Err(_) => Err(Fail::from("there is no room")),
+    }
+}
 
 /// What a watcher saw.
 #[derive(Clone, Copy, Debug, PartialEq, Eq)]
@@ -138,7 +171,7 @@ fn mark<S: Subscriber>(tag: Tag<u64>, id: Id, ctx: &mut ContextMut<'_, S>)
 }
 
 /// The number under this tag of a span's extensions.
-fn marks<S: LookupSpan>(stack: &S, tag: Tag<u64>, id: Id) -> Option<u64> {
+pub(crate) fn marks<S: LookupSpan>(stack: &S, tag: Tag<u64>, id: Id) -> Option<u64> {
     let span = stack.span(id)?;
     span.extensions().get(tag).copied()
 }
@@ -224,21 +257,51 @@ type TwoWatchers = Layered<
 
 fn two_watchers(alloc: Global) -> Result<TwoWatchers, Fail> {
     let under_info = new_watcher(alloc).with_filter(LevelFilter::INFO);
-    let Ok(stack) = Registry::new(alloc).with(new_watcher(alloc)) else {
-        return Err(Fail::from("there is no room"));
-    };
-    match stack.with(under_info) {
-        Ok(stack) => Ok(stack),
-        Err(_) => Err(Fail::from("there is no room")),
-    }
+    put(put(Registry::new(alloc), new_watcher(alloc))?, under_info)
 }
 
-fn metadata_of(level: Level, kind: Kind) -> Metadata {
+pub(crate) fn metadata_of(level: Level, kind: Kind) -> Metadata {
     Metadata::new(1, "made", "tests", level, kind, FieldSet::new(&[]))
 }
 
+/// The hint of a stack.
+pub(crate) fn hint_of<S: Subscriber>(stack: &S) -> Option<LevelFilter>
+    requires { S.usable stack.now }
+{
+    stack.max_level_hint()
+}
+
+/// The interest of a stack in events of this level, asked with a new pass.
+pub(crate) fn interest_in<S: Subscriber>(stack: &S, level: Level) -> Interest
+    requires { S.usable stack.now }
+{
+    stack.register_callsite(&metadata_of(level, Kind::EVENT), &mut Pass::new())
+}
+
+/// What a stack answers of an event of this level, each time with a new pass: its interest, whether it wants the metadata, and
+/// whether it wants the event once these were let by; and its hint.
+pub(crate) fn shown<S: Subscriber>(
+    stack: &S,
+    level: Level,
+) -> (Interest, bool, bool, Option<LevelFilter>)
+    requires { S.usable stack.now }
+{
+    let metadata = metadata_of(level, Kind::EVENT);
+    let event = Event::new(metadata, &[]);
+    (
+        interest_in(stack, level),
+        stack.enabled(LANE, &metadata, &mut Pass::new()),
+        stack.event_enabled(LANE, &event, &mut Pass::new()),
+        hint_of(stack),
+    )
+}
+
 /// Opens a span, as a dispatcher that keeps nothing does: in a parent, or a root. Fails where a layer vetoes.
-fn open<S: Subscriber>(stack: &mut S, level: Level, parent: Option<Id>) -> Result<Id, Fail>
+pub(crate) fn open<S: Subscriber>(
+    stack: &mut S,
+    level: Level,
+    parent: Option<Id>,
+) -> Result<Id, Fail>
     requires { S.usable stack.old }
     ensures { S.usable stack.new }
 {
@@ -255,7 +318,7 @@ fn open<S: Subscriber>(stack: &mut S, level: Level, parent: Option<Id>) -> Resul
 }
 
 /// Sends an event in a span. True where no layer vetoes.
-fn send<S: Subscriber>(stack: &mut S, level: Level, span: Id) -> bool
+pub(crate) fn send<S: Subscriber>(stack: &mut S, level: Level, span: Id) -> bool
     requires { S.usable stack.old }
     ensures { S.usable stack.new }
 {
@@ -315,7 +378,7 @@ fn one_layers_filter_hides_nothing_from_another(rt: HostRuntime) -> Result<(), F
 }
 
 /// Notifies a stack of the first span, and that the second follows from it, and from itself.
-fn notify<S: Subscriber>(stack: &mut S, span: Id, other: Id) -> Result<(), TraceError>
+pub(crate) fn notify<S: Subscriber>(stack: &mut S, span: Id, other: Id) -> Result<(), TraceError>
     requires { S.usable stack.old }
     ensures { S.usable stack.new }
 {
@@ -367,18 +430,23 @@ fn a_hidden_span_is_hidden_from_its_layer_alone(rt: HostRuntime) -> Result<(), F
     Ok(())
 }
 
+/// Puts a stack in use, and notifies it of a new span and of its close.
+fn open_and_close<S: Subscriber>(stack: &mut S) -> Result<Id, Fail>
+    requires { S.usable stack.old }
+    ensures { S.usable stack.new }
+{
+    stack.on_register_dispatch();
+    let id = open(stack, Level::TRACE, None)?;
+    stack.close_hooks(LANE, id);
+    Ok(id)
+}
+
 #[test]
 fn every_layer_sees_a_closing_span(rt: HostRuntime) -> Result<(), Fail> {
     let pair = new_watcher(rt.alloc()).and_then(new_watcher(rt.alloc()));
-    let Ok(stack) = Registry::new(rt.alloc()).with(pair) else {
-        return Err(Fail::from("there is no room"));
-    };
-    let Ok(mut stack) = new_watcher(rt.alloc()).with_subscriber(stack) else {
-        return Err(Fail::from("there is no room"));
-    };
-    stack.on_register_dispatch();
-    let id = open(&mut stack, Level::TRACE, None)?;
-    stack.close_hooks(LANE, id);
+    let pair = put(Registry::new(rt.alloc()), pair)?;
+    let mut stack = put_under(new_watcher(rt.alloc()), pair)?;
+    let id = open_and_close(&mut stack)?;
     let closed = Some(Seen::Close(id));
     assert_eq!(rt; stack.layer().observer().seen.last().copied(), closed);
     let pair = stack.inner().layer();
@@ -400,9 +468,8 @@ fn a_registry_has_room_for_64_filters(rt: HostRuntime) -> Result<(), Fail> {
     assert_eq!(rt; back.error, TraceError::TooManyFilters);
     assert_eq!(rt; back.subscriber.filters(), 64);
     assert_eq!(rt; *back.layer.filter(), LevelFilter::INFO);
-    let Ok(stack) = back.subscriber.with(new_watcher(rt.alloc())) else {
-        return Err(Fail::from("a layer without filters needs no number"));
-    };
+    // A layer without filters needs no number.
+    let stack = put(back.subscriber, new_watcher(rt.alloc()))?;
     assert_eq!(rt; stack.inner().filters(), 64);
     Ok(())
 }
@@ -427,9 +494,7 @@ fn nested_filters_must_all_pass(rt: HostRuntime) -> Result<(), Fail> {
         .with_filter(LevelFilter::TRACE)
         .with_filter(LevelFilter::INFO)
         .with_filter(LevelFilter::DEBUG);
-    let Ok(mut stack) = Registry::new(rt.alloc()).with(layer) else {
-        return Err(Fail::from("there is no room"));
-    };
+    let mut stack = put(Registry::new(rt.alloc()), layer)?;
     assert_eq!(rt; stack.root().filters(), 3);
     let id = open(&mut stack, Level::INFO, None)?;
     assert!(rt; send(&mut stack, Level::TRACE, id));
@@ -455,9 +520,7 @@ fn hooks_write_extensions_under_their_filters(rt: HostRuntime) -> Result<(), Fai
     let pair = Observer::new(Marker { tag: few })
         .with_filter(LevelFilter::INFO)
         .and_then(Observer::new(Marker { tag: all }).with_filter(LevelFilter::DEBUG));
-    let Ok(mut stack) = Registry::new(rt.alloc()).with(pair) else {
-        return Err(Fail::from("there is no room"));
-    };
+    let mut stack = put(Registry::new(rt.alloc()), pair)?;
     let id = open(&mut stack, Level::INFO, None)?;
     assert!(rt; send(&mut stack, Level::INFO, id));
     assert!(rt; send(&mut stack, Level::DEBUG, id));
@@ -469,12 +532,8 @@ fn hooks_write_extensions_under_their_filters(rt: HostRuntime) -> Result<(), Fai
 
 #[test]
 fn a_hook_may_send_an_event(rt: HostRuntime) -> Result<(), Fail> {
-    let Ok(stack) = Registry::new(rt.alloc()).with(new_watcher(rt.alloc())) else {
-        return Err(Fail::from("there is no room"));
-    };
-    let Ok(mut stack) = stack.with(Echo) else {
-        return Err(Fail::from("there is no room"));
-    };
+    let stack = put(Registry::new(rt.alloc()), new_watcher(rt.alloc()))?;
+    let mut stack = put(stack, Echo)?;
     let id = open(&mut stack, Level::INFO, None)?;
     assert_eq!(rt;
         stack.inner().layer().observer().seen.as_slice(),
