@@ -9,6 +9,7 @@ use span_registry::Limits;
 use std::alloc::{AllocError, Global};
 use std::io;
 use std::io::{ErrorKind, Read, Write};
+use std::process::Abort;
 use std::test::Fail;
 
 /// The text of a row, in which ` / ` stands for a line end.
@@ -94,12 +95,24 @@ const ROWS: [(&str, &str); 19] = [
     ("stack absent / event 0 9", "ok / == base / event 9"),
 ];
 
+/// What becomes of a script.
+fn ends<R: Read, W: Write>(alloc: Global, reader: &mut R, writer: &mut W) -> Result<(), RunFault> {
+    run(alloc, reader, writer)
+}
+
+/// What a script prints.
+fn printed(alloc: Global, script: &[u8]) -> Result<Vec<u8>, RunFault> {
+    let mut input = script;
+    let mut output = Vec::new(alloc);
+    run(alloc, &mut input, &mut output)?;
+    Ok(output)
+}
+
 #[test]
 fn rows(rt: HostRuntime) -> Result<(), Fail> {
     for (script, wanted) in ROWS {
         let input = lines(rt.alloc(), script)?;
-        let mut output = Vec::new(rt.alloc());
-        run(rt.alloc(), &mut input.as_bytes(), &mut output)?;
+        let output = printed(rt.alloc(), input.as_bytes())?;
         let wanted = lines(rt.alloc(), wanted)?;
         assert_eq!(rt; output.as_slice(), wanted.as_bytes(), "{script}");
     }
@@ -222,7 +235,7 @@ fn wrong_lines(rt: HostRuntime) {
     for (script, line) in WRONG {
         let mut input = script;
         let mut output = Vec::new(rt.alloc());
-        let ended = run(rt.alloc(), &mut input, &mut output);
+        let ended = ends(rt.alloc(), &mut input, &mut output);
         assert_eq!(rt; ended, Err(RunFault::Line(line)), "{script:?}");
         assert!(rt; output.is_empty());
     }
@@ -232,15 +245,10 @@ fn wrong_lines(rt: HostRuntime) {
 const EVERY_LINE: &str =
     "stack nested / new 0 0 a / new 1 4 b root / new 2 1 c in a / new 9 3 d in ? / enter 0 a / exit 0 ? / record 3 b / follows 4 a ? / clone b / drop 5 b / event 0 5 / event 0 6 mute / event 0 7 root / event 0 8 root mute / event 0 9 in c / event 0 5 in ? mute / enabled 0 0 / enabled 0 9 / current 0";
 
-#[test]
-fn every_line(rt: HostRuntime) -> Result<(), Fail> {
-    let text = lines(rt.alloc(), EVERY_LINE)?;
-    let script = Script::parse(rt.alloc(), text.as_str())?;
-    assert_eq!(rt; script.stack(), StackName::Nested);
-    assert_eq!(rt; script.lines().len(), 19);
-    assert_eq!(rt; script.requests().len(), 19);
+/// How many events of these are muted. Their one clone is of the second span.
+fn muted_events(rt: &impl Abort, requests: &[Request<'_>]) -> usize {
     let mut muted = 0usize;
-    for request in script.requests() {
+    for request in requests {
         match request {
             Request::Clone(lane, which) => {
                 assert_eq!(rt; *lane, Lane(0));
@@ -254,7 +262,17 @@ fn every_line(rt: HostRuntime) -> Result<(), Fail> {
             _ => {}
         }
     }
-    assert_eq!(rt; muted, 3);
+    muted
+}
+
+#[test]
+fn every_line(rt: HostRuntime) -> Result<(), Fail> {
+    let text = lines(rt.alloc(), EVERY_LINE)?;
+    let script = Script::parse(rt.alloc(), text.as_str())?;
+    assert_eq!(rt; script.stack(), StackName::Nested);
+    assert_eq!(rt; script.lines().len(), 19);
+    assert_eq!(rt; script.requests().len(), 19);
+    assert_eq!(rt; muted_events(&rt, script.requests()), 3);
     Ok(())
 }
 
@@ -266,12 +284,9 @@ const ANSWERED: &str =
 const REPLIED: &str =
     "p / none / ok / none / true / false / ok / none / ? / ok / ok / refused 1 / == a / new p / event 5 / follows p ? / id ? p / close p / == b";
 
-#[test]
-fn replies_by_lines(rt: HostRuntime) -> Result<(), Fail> {
-    let text = lines(rt.alloc(), ANSWERED)?;
-    let script = Script::parse(rt.alloc(), text.as_str())?;
-    let (lane, made, other) = (Lane(0), Id::from_u64(3), Id::from_u64(7));
-    let answers = [
+/// The answers to it.
+fn answers(made: Id, other: Id) -> [Answer; 12] {
+    [
         Answer::Made(made),
         Answer::Dropped,
         Answer::Done,
@@ -284,25 +299,38 @@ fn replies_by_lines(rt: HostRuntime) -> Result<(), Fail> {
         Answer::Yes(false),
         Answer::Yes(true),
         Answer::Refused(TraceError::UnknownSpan(made)),
-    ];
-    let notices = [
+    ]
+}
+
+/// What one recorder kept.
+fn notices(made: Id, other: Id) -> [Notice; 5] {
+    let lane = Lane(0);
+    [
         Notice::New(lane, made),
         Notice::Event(lane, 5),
         Notice::Follows(lane, made, other),
         Notice::IdChange(lane, Id::from_u64(0), made),
         Notice::Close(lane, made),
-    ];
+    ]
+}
+
+#[test]
+fn replies_by_lines(rt: HostRuntime) -> Result<(), Fail> {
+    let text = lines(rt.alloc(), ANSWERED)?;
+    let script = Script::parse(rt.alloc(), text.as_str())?;
+    let (made, other) = (Id::from_u64(3), Id::from_u64(7));
+    let kept = notices(made, other);
     let heard = [
         Heard {
             name: "a",
-            notices: &notices,
+            notices: &kept,
         },
         Heard {
             name: "b",
             notices: &[],
         },
     ];
-    let printed = text_of(rt.alloc(), script.lines(), &answers, &heard)?;
+    let printed = text_of(rt.alloc(), script.lines(), &answers(made, other), &heard)?;
     assert_eq!(rt; printed.as_str(), lines(rt.alloc(), REPLIED)?.as_str());
     Ok(())
 }
@@ -327,11 +355,10 @@ fn size_limit(rt: HostRuntime) -> Result<(), Fail> {
     for _ in script.len()..1_048_576 {
         script.push(b'\n')?;
     }
-    let mut output = Vec::new(rt.alloc());
-    run(rt.alloc(), &mut script.as_slice(), &mut output)?;
+    let output = printed(rt.alloc(), script.as_slice())?;
     assert_eq!(rt; output.as_slice(), b"== base\n".as_slice());
     script.push(b'\n')?;
-    let ended = run(rt.alloc(), &mut script.as_slice(), &mut output);
+    let ended = printed(rt.alloc(), script.as_slice());
     assert_eq!(rt; ended, Err(RunFault::Io));
     Ok(())
 }
@@ -372,39 +399,44 @@ impl Read for Endless {
     }
 }
 
-#[test]
-fn readers(rt: HostRuntime) -> Result<(), Fail> {
-    let mut output = Vec::new(rt.alloc());
-    let mut broken = Broken {
-        parts: [b"stack pl", b"ain\nnew 0 2 p"],
+/// A reader that fails once it gave this text, or ends.
+fn reader_of(parts: [&[u8]; 2], fails: bool) -> Broken<'_> {
+    Broken {
+        parts,
         reads: 0,
-        fails: false,
-    };
-    run(rt.alloc(), &mut broken, &mut output)?;
+        fails,
+    }
+}
+
+#[test]
+fn an_interrupted_reader_is_read_on(rt: HostRuntime) -> Result<(), Fail> {
+    let mut output = Vec::new(rt.alloc());
+    let mut reader = reader_of([b"stack pl", b"ain\nnew 0 2 p"], false);
+    ends(rt.alloc(), &mut reader, &mut output)?;
     assert_eq!(rt; output.as_slice(), b"p\n== base\nnew p\n".as_slice());
-
-    // A wrong line is not named, as the reader fails after it.
-    broken.parts = [b"stack", b"plain\n"];
-    broken.reads = 0;
-    broken.fails = true;
-    assert_eq!(rt;
-        run(rt.alloc(), &mut broken, &mut output),
-        Err(RunFault::Io)
-    );
-    broken.reads = 4;
-    assert_eq!(rt;
-        run(rt.alloc(), &mut broken, &mut output),
-        Err(RunFault::Io)
-    );
-    assert_eq!(rt; broken.reads, 5);
-
-    let mut endless = Endless { given: 0 };
-    assert_eq!(rt;
-        run(rt.alloc(), &mut endless, &mut output),
-        Err(RunFault::Io)
-    );
-    assert!(rt; endless.given < 1_048_576 + 65_536);
     Ok(())
+}
+
+#[test]
+fn a_failing_reader_is_a_fault(rt: HostRuntime) {
+    let mut output = Vec::new(rt.alloc());
+    // A wrong line is not named, as the reader fails after it.
+    let mut reader = reader_of([b"stack", b"plain\n"], true);
+    let ended = ends(rt.alloc(), &mut reader, &mut output);
+    assert_eq!(rt; ended, Err(RunFault::Io));
+    reader.reads = 4;
+    let ended = ends(rt.alloc(), &mut reader, &mut output);
+    assert_eq!(rt; ended, Err(RunFault::Io));
+    assert_eq!(rt; reader.reads, 5);
+}
+
+#[test]
+fn an_endless_reader_is_a_fault(rt: HostRuntime) {
+    let mut output = Vec::new(rt.alloc());
+    let mut endless = Endless { given: 0 };
+    let ended = ends(rt.alloc(), &mut endless, &mut output);
+    assert_eq!(rt; ended, Err(RunFault::Io));
+    assert!(rt; endless.given < 1_048_576 + 65_536);
 }
 
 /// Takes a byte at a time, so many of them, and then fails.
@@ -441,13 +473,13 @@ fn writers(rt: HostRuntime) {
             room,
             flushes: true,
         };
-        let ended = run(rt.alloc(), &mut input, &mut full);
+        let ended = ends(rt.alloc(), &mut input, &mut full);
         assert_eq!(rt; ended, Err(RunFault::Io));
     }
     for flushes in [true, false] {
         let mut input = script;
         let mut full = Full { room: 16, flushes };
-        let ended = run(rt.alloc(), &mut input, &mut full);
+        let ended = ends(rt.alloc(), &mut input, &mut full);
         assert_eq!(rt; ended.is_ok(), flushes);
     }
 }
@@ -455,26 +487,42 @@ fn writers(rt: HostRuntime) {
 /// The spans of a chain.
 const CHAIN: u32 = 10_000;
 
-#[test]
-fn a_chain_closes_by_one_drop(rt: HostRuntime) -> Result<(), Fail> {
-    let mut script = String::from_str(rt.alloc(), "stack plain\nnew 0 2 s0\n")?;
-    let mut replies = String::from_str(rt.alloc(), "s0\n")?;
-    let mut notices = String::from_str(rt.alloc(), "== base\nnew s0\n")?;
+/// Spans each in the one before; then the handle of each is dropped, from the root on.
+fn chain_script(alloc: Global) -> Result<String, AllocError> {
+    let mut script = String::from_str(alloc, "stack plain\nnew 0 2 s0\n")?;
     for span in 1..CHAIN {
         writeln!(script, "new 0 2 s{span} in s{}", span - 1)?;
-        writeln!(replies, "s{span}")?;
-        writeln!(notices, "new s{span}")?;
     }
     for span in 0..CHAIN {
         writeln!(script, "drop 0 s{span}")?;
+    }
+    Ok(script)
+}
+
+/// What it prints: all close by the last drop, the leaf first.
+fn chain_replies(alloc: Global) -> Result<String, AllocError> {
+    let mut replies = String::new(alloc);
+    for span in 0..CHAIN {
+        writeln!(replies, "s{span}")?;
+    }
+    for _ in 0..CHAIN {
         replies.push_str("ok\n")?;
     }
-    for span in (0..CHAIN).rev() {
-        writeln!(notices, "close s{span}")?;
+    replies.push_str("== base\n")?;
+    for span in 0..CHAIN {
+        writeln!(replies, "new s{span}")?;
     }
-    replies.push_str(notices.as_str())?;
-    let mut output = Vec::new(rt.alloc());
-    run(rt.alloc(), &mut script.as_bytes(), &mut output)?;
+    for span in (0..CHAIN).rev() {
+        writeln!(replies, "close s{span}")?;
+    }
+    Ok(replies)
+}
+
+#[test]
+fn a_chain_closes_by_one_drop(rt: HostRuntime) -> Result<(), Fail> {
+    let script = chain_script(rt.alloc())?;
+    let replies = chain_replies(rt.alloc())?;
+    let output = printed(rt.alloc(), script.as_bytes())?;
     assert!(rt; output.as_slice() == replies.as_bytes());
     Ok(())
 }
