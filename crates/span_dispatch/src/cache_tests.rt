@@ -1,16 +1,16 @@
 //! Tests of a dispatcher that keeps its stack's hint and interests: what it asks of filters once, and what each time.
 ghost use Rattle.span_dispatch.specs.Serve.{stack_of};
 
-use crate::{Dispatch, Notice, Recorder};
-use span_core::{Event, FieldSet, Kind, Lane, Level, LevelFilter, Metadata, TraceError};
+use crate::tests::{LANE, in_use, put, serve_by};
+use crate::{Answer, Dispatch, Notice, Recorder, Request, WhichParent};
+use span_core::{Event, FieldSet, Kind, Level, LevelFilter, Metadata, TraceError};
 use span_filters::filter_fn;
-use span_layers::{LayerExt, SubscriberExt};
+use span_layers::LayerExt;
 use span_registry::{Registry, Subscriber};
+use std::alloc::Global;
 use std::cell::Cell;
 use std::rc::Rc;
 use std::test::Fail;
-
-const LANE: Lane = Lane(0);
 
 /// The metadata of an event.
 fn event_of(callsite: u64, level: Level) -> Metadata {
@@ -32,6 +32,36 @@ fn send<S: Subscriber>(dispatch: &mut Dispatch<S>, metadata: Metadata) -> Result
     dispatch.event(LANE, &Event::new(metadata, &[]))
 }
 
+/// An event where the lane is.
+fn event(callsite: u64, level: Level) -> Request<'static> {
+    Request::Event(
+        LANE,
+        event_of(callsite, level),
+        WhichParent::Contextual,
+        &[],
+    )
+}
+
+/// So many events of level info, from one callsite.
+fn events(alloc: Global, count: usize) -> Result<Vec<Request<'static>>, Fail> {
+    let mut requests = Vec::new(alloc);
+    for _ in 0..count {
+        requests.push(event(5, Level::INFO))?;
+    }
+    Ok(requests)
+}
+
+/// Sends an event of level info. Answers whether it was made, and the hint that the dispatcher then has.
+fn sent_under<S: Subscriber>(
+    dispatch: &mut Dispatch<S>,
+) -> (Result<bool, TraceError>, Option<LevelFilter>)
+    requires { S.usable (stack_of dispatch.old) }
+    ensures { S.usable (stack_of dispatch.new) }
+{
+    let is_made = send(dispatch, event_of(5, Level::INFO));
+    (is_made, dispatch.max_level_hint())
+}
+
 /// Counts that a filter is asked.
 fn count(asked: &Cell<u32>) {
     asked.set(asked.get().saturating_add(1));
@@ -46,30 +76,16 @@ fn filters_that_want_a_callsite_are_asked_of_it_once(rt: HostRuntime) -> Result<
         true
     });
     let absent: Option<LevelFilter> = None;
-    let Ok(stack) = Registry::new(rt.alloc()).with(Recorder::new(rt.alloc()).with_filter(absent))
-    else {
-        return Err(Fail::from("there is no room"));
-    };
-    let Ok(stack) = stack.with(Recorder::new(rt.alloc()).with_filter(counted)) else {
-        return Err(Fail::from("there is no room"));
-    };
-    let mut dispatch = Dispatch::new(rt.alloc(), stack);
-    assert_eq!(rt; send(&mut dispatch, event_of(5, Level::INFO)), Ok(true));
-    assert_eq!(rt; send(&mut dispatch, event_of(5, Level::INFO)), Ok(true));
-    let twice = [Notice::Event(LANE, 5), Notice::Event(LANE, 5)];
-    assert_eq!(rt;
-        dispatch.stack().layer().inner().notices(),
-        twice.as_slice()
-    );
-    assert_eq!(rt;
-        dispatch.stack().inner().layer().inner().notices(),
-        twice.as_slice()
-    );
-    assert_eq!(rt; asked.get(), 1);
-    for _ in 0..9_998 {
-        let _ = send(&mut dispatch, event_of(5, Level::INFO));
-    }
+    let under_none = Recorder::new(rt.alloc()).with_filter(absent);
+    let under_counted = Recorder::new(rt.alloc()).with_filter(counted);
+    let stack = put(put(Registry::new(rt.alloc()), under_none)?, under_counted)?;
+    let requests = events(rt.alloc(), 10_000)?;
+    let (dispatch, _) = serve_by(rt.alloc(), stack, &requests)?;
     assert_eq!(rt; dispatch.stack().layer().inner().notices().len(), 10_000);
+    assert_eq!(rt;
+        dispatch.stack().inner().layer().inner().notices().len(),
+        10_000
+    );
     assert_eq!(rt; asked.get(), 1);
     Ok(())
 }
@@ -83,16 +99,10 @@ fn filters_that_differ_on_a_callsite_are_asked_each_time(rt: HostRuntime) -> Res
         meta.level() <= Level::WARN
     });
     let under_info = Recorder::new(rt.alloc()).with_filter(LevelFilter::INFO);
-    let Ok(stack) = Registry::new(rt.alloc()).with(under_info) else {
-        return Err(Fail::from("there is no room"));
-    };
-    let Ok(stack) = stack.with(Recorder::new(rt.alloc()).with_filter(counted)) else {
-        return Err(Fail::from("there is no room"));
-    };
-    let mut dispatch = Dispatch::new(rt.alloc(), stack);
-    assert_eq!(rt; send(&mut dispatch, event_of(5, Level::INFO)), Ok(true));
-    assert_eq!(rt; send(&mut dispatch, event_of(5, Level::INFO)), Ok(true));
-    assert_eq!(rt; send(&mut dispatch, event_of(5, Level::INFO)), Ok(true));
+    let under_counted = Recorder::new(rt.alloc()).with_filter(counted);
+    let stack = put(put(Registry::new(rt.alloc()), under_info)?, under_counted)?;
+    let requests = events(rt.alloc(), 3)?;
+    let (dispatch, _) = serve_by(rt.alloc(), stack, &requests)?;
     let told = Notice::Event(LANE, 5);
     assert_eq!(rt; dispatch.stack().layer().inner().notices(), [].as_slice());
     assert_eq!(rt;
@@ -107,21 +117,55 @@ fn filters_that_differ_on_a_callsite_are_asked_each_time(rt: HostRuntime) -> Res
 #[test]
 fn a_changed_stack_is_asked_again(rt: HostRuntime) -> Result<(), Fail> {
     let under_warn = Recorder::new(rt.alloc()).with_filter(LevelFilter::WARN);
-    let Ok(stack) = Registry::new(rt.alloc()).with(under_warn) else {
-        return Err(Fail::from("there is no room"));
-    };
-    let mut dispatch = Dispatch::new(rt.alloc(), stack);
-    assert_eq!(rt; send(&mut dispatch, event_of(5, Level::INFO)), Ok(false));
-    assert_eq!(rt; dispatch.max_level_hint(), Some(LevelFilter::WARN));
+    let stack = put(Registry::new(rt.alloc()), under_warn)?;
+    let mut dispatch = in_use(rt.alloc(), stack);
+    assert_eq!(rt;
+        sent_under(&mut dispatch),
+        (Ok(false), Some(LevelFilter::WARN))
+    );
     *dispatch.stack_mut().layer_mut().filter_mut() = LevelFilter::INFO;
-    assert_eq!(rt; dispatch.max_level_hint(), Some(LevelFilter::INFO));
-    assert_eq!(rt; send(&mut dispatch, event_of(5, Level::INFO)), Ok(true));
+    assert_eq!(rt;
+        sent_under(&mut dispatch),
+        (Ok(true), Some(LevelFilter::INFO))
+    );
     assert_eq!(rt;
         dispatch.stack().layer().inner().notices(),
         [Notice::Event(LANE, 5)].as_slice()
     );
     Ok(())
 }
+
+/// An event of each level, from a callsite of its own, each of them again, and one from a callsite that has another level.
+fn events_of_each_level() -> [Request<'static>; 11] {
+    [
+        event(3, Level::ERROR),
+        event(4, Level::WARN),
+        event(5, Level::INFO),
+        event(6, Level::DEBUG),
+        event(7, Level::TRACE),
+        event(3, Level::ERROR),
+        event(4, Level::WARN),
+        event(5, Level::INFO),
+        event(6, Level::DEBUG),
+        event(7, Level::TRACE),
+        event(5, Level::DEBUG),
+    ]
+}
+
+/// The answers to these where info alone is wanted.
+const ONLY_INFO: [Answer; 11] = [
+    Answer::Dropped,
+    Answer::Dropped,
+    Answer::Done,
+    Answer::Dropped,
+    Answer::Dropped,
+    Answer::Dropped,
+    Answer::Dropped,
+    Answer::Done,
+    Answer::Dropped,
+    Answer::Dropped,
+    Answer::Refused(TraceError::CallsiteMismatch),
+];
 
 #[test]
 fn each_callsite_is_asked_of_once(rt: HostRuntime) -> Result<(), Fail> {
@@ -131,30 +175,11 @@ fn each_callsite_is_asked_of_once(rt: HostRuntime) -> Result<(), Fail> {
         count(&counter);
         meta.level() == Level::INFO
     });
-    let Ok(stack) = Registry::new(rt.alloc()).with(Recorder::new(rt.alloc()).with_filter(counted))
-    else {
-        return Err(Fail::from("there is no room"));
-    };
-    let mut dispatch = Dispatch::new(rt.alloc(), stack);
-    for _ in 0..2 {
-        for (callsite, level) in [
-            (3, Level::ERROR),
-            (4, Level::WARN),
-            (5, Level::INFO),
-            (6, Level::DEBUG),
-            (7, Level::TRACE),
-        ] {
-            let is_made = send(&mut dispatch, event_of(callsite, level));
-            assert_eq!(rt; is_made, Ok(level == Level::INFO));
-        }
-        assert_eq!(rt; asked.get(), 5);
-    }
-    assert_eq!(rt; dispatch.max_level_hint(), None);
-    // A callsite has one level.
-    assert_eq!(rt;
-        send(&mut dispatch, event_of(5, Level::DEBUG)),
-        Err(TraceError::CallsiteMismatch)
-    );
+    let under_counted = Recorder::new(rt.alloc()).with_filter(counted);
+    let stack = put(Registry::new(rt.alloc()), under_counted)?;
+    let (dispatch, answers) = serve_by(rt.alloc(), stack, &events_of_each_level())?;
+    assert_eq!(rt; answers.as_slice(), ONLY_INFO.as_slice());
+    assert_eq!(rt; asked.get(), 5);
     let twice = [Notice::Event(LANE, 5), Notice::Event(LANE, 5)];
     assert_eq!(rt;
         dispatch.stack().layer().inner().notices(),
@@ -166,11 +191,11 @@ fn each_callsite_is_asked_of_once(rt: HostRuntime) -> Result<(), Fail> {
 #[test]
 fn an_absent_layer_alone_wants_nothing(rt: HostRuntime) -> Result<(), Fail> {
     let absent: Option<Recorder> = None;
-    let Ok(stack) = Registry::new(rt.alloc()).with(absent) else {
-        return Err(Fail::from("there is no room"));
-    };
-    let mut dispatch = Dispatch::new(rt.alloc(), stack);
-    assert_eq!(rt; dispatch.max_level_hint(), Some(LevelFilter::OFF));
-    assert_eq!(rt; send(&mut dispatch, event_of(5, Level::ERROR)), Ok(false));
+    let stack = put(Registry::new(rt.alloc()), absent)?;
+    let mut dispatch = in_use(rt.alloc(), stack);
+    assert_eq!(rt;
+        sent_under(&mut dispatch),
+        (Ok(false), Some(LevelFilter::OFF))
+    );
     Ok(())
 }

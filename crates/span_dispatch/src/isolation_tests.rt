@@ -1,80 +1,29 @@
 //! Tests of what other layers' filters make no difference to, and of what they do where a filter reads extensions.
-ghost use Rattle.span_dispatch.specs.Serve.{stack_of};
 ghost use Rattle.span_dispatch.specs.Tests.{in_marked, is_marked};
 ghost use Rattle.span_registry.specs.Context.{view_in};
-ghost use Rattle.span_layers.specs.Layered.{inner_of, outer_of};
-ghost use Rattle.std.specs.Prelude.{◌≡◌, ⊤, IfOk};
+ghost use Rattle.std.specs.Prelude.{◌≡◌, ⊤};
 
-use crate::{Answer, Dispatch, Notice, Recorder, Request, Which, WhichParent};
-use span_core::{FieldSet, Id, Kind, Lane, Level, LevelFilter, Metadata, TraceError};
-use span_filters::{DynFilterFn, FunctionIn, NoCallsite, dynamic_filter_fn};
-use span_layers::{Filtered, Layer, LayerExt, Layered, Observe, Observed, Observer, SubscriberExt};
+use crate::tests::{LANE, made, put, serve_by};
+use crate::{Answer, Notice, Recorder, Request, Which, WhichParent};
+use span_core::{FieldSet, Id, Kind, Level, LevelFilter, Metadata};
+use span_filters::{FunctionIn, dynamic_filter_fn};
+use span_layers::{Filtered, LayerExt, Layered, Observe, Observed, Observer};
 use span_registry::{Context, ContextMut, ExtensionValue, LookupSpan, Registry, Subscriber, Tag};
 use std::alloc::Global;
 use std::process::Abort;
 use std::test::Fail;
-
-const LANE: Lane = Lane(0);
-
-/// Puts a layer on a stack.
-fn put<S: Subscriber + Drop, L: Layer<S> + Drop>(stack: S, layer: L) -> Result<Layered<L, S>, Fail>
-    requires layer { L.usable layer }
-    requires stack { S.usable stack }
-    ensures layer { IfOk result (λ made. L.usable (outer_of made)) }
-    ensures stack { IfOk result (λ made. S.usable (inner_of made)) }
-{
-    match stack.with(layer) {
-        Ok(made) => Ok(made),
-        Err(_) => Err(Fail::from("there is no room")),
-    }
-}
-
-/// Puts a stack in use.
-fn in_use<S: Subscriber>(alloc: Global, stack: S) -> Dispatch<S>
-    requires { S.usable stack }
-    ensures { S.usable (stack_of result) }
-{
-    Dispatch::new(alloc, stack)
-}
-
-/// Serves a list.
-fn serve<S: Subscriber>(
-    alloc: Global,
-    dispatch: &mut Dispatch<S>,
-    requests: &[Request<'_>],
-) -> Result<Vec<Answer>, TraceError>
-    requires { S.usable (stack_of dispatch.old) }
-    ensures { S.usable (stack_of dispatch.new) }
-{
-    dispatch.serve(alloc, requests)
-}
 
 /// What a callsite with this number makes.
 fn metadata_of(callsite: u64, level: Level, kind: Kind) -> Metadata {
     Metadata::new(callsite, "made", "tests", level, kind, FieldSet::new(&[]))
 }
 
-/// A recorder under a level.
-type Levelled = Filtered<Recorder, LevelFilter>;
-
-/// From the registry outwards: B without a filter, A under INFO, and C under another level.
-type Three = Layered<Levelled, Two>;
-
-/// Of these, B and A.
-type Two = Layered<Levelled, Layered<Recorder, Registry>>;
+/// From the registry outwards: B without a filter, and A under INFO.
+type Two = Layered<Filtered<Recorder, LevelFilter>, Layered<Recorder, Registry>>;
 
 fn two(alloc: Global) -> Result<Two, Fail> {
     let a = Recorder::new(alloc).with_filter(LevelFilter::INFO);
     put(put(Registry::new(alloc), Recorder::new(alloc))?, a)
-}
-
-fn three(alloc: Global, outermost: LevelFilter) -> Result<Three, Fail> {
-    let c = Recorder::new(alloc).with_filter(outermost);
-    put(two(alloc)?, c)
-}
-
-fn three_in_use(alloc: Global, outermost: LevelFilter) -> Result<Dispatch<Three>, Fail> {
-    Ok(in_use(alloc, three(alloc, outermost)?))
 }
 
 fn kept_by_a(stack: &Two) -> &[Notice] {
@@ -117,14 +66,6 @@ fn requests() -> [Request<'static>; 17] {
     ]
 }
 
-/// The span that the request at this place made.
-fn made(answers: &[Answer], place: usize) -> Result<Id, Fail> {
-    match answers.get(place) {
-        Some(Answer::Made(id)) => Ok(*id),
-        _ => Err(Fail::from("no span was made")),
-    }
-}
-
 /// What A is notified of: what INFO passes.
 fn due_to_a(p: Id, r: Id) -> [Notice; 11] {
     [
@@ -165,16 +106,19 @@ fn due_to_b(p: Id, q: Id, r: Id) -> [Notice; 17] {
     ]
 }
 
-/// Serves the list and looks at what A and B were notified of.
+/// Serves the list with C, under this level, outside A and B, and looks at what these were notified of.
 fn a_and_b_beside(rt: &impl Abort, alloc: Global, outermost: LevelFilter) -> Result<(), Fail> {
-    let mut dispatch = three_in_use(alloc, outermost)?;
-    let answers = serve(alloc, &mut dispatch, &requests())?;
-    let p = made(&answers, 0)?;
-    let q = made(&answers, 1)?;
-    let r = made(&answers, 2)?;
-    let inner = dispatch.stack().inner();
-    assert_eq!(rt; kept_by_a(inner), due_to_a(p, r).as_slice());
-    assert_eq!(rt; kept_by_b(inner), due_to_b(p, q, r).as_slice());
+    let c = Recorder::new(alloc).with_filter(outermost);
+    let (dispatch, answers) = serve_by(alloc, put(two(alloc)?, c)?, &requests())?;
+    a_and_b_kept(rt, dispatch.stack().inner(), &answers)
+}
+
+fn a_and_b_kept(rt: &impl Abort, stack: &Two, answers: &[Answer]) -> Result<(), Fail> {
+    let p = made(answers, 0)?;
+    let q = made(answers, 1)?;
+    let r = made(answers, 2)?;
+    assert_eq!(rt; kept_by_a(stack), due_to_a(p, r).as_slice());
+    assert_eq!(rt; kept_by_b(stack), due_to_b(p, q, r).as_slice());
     Ok(())
 }
 
@@ -229,21 +173,6 @@ impl<S: Subscriber> Observe<S> for Marker {
     }
 }
 
-/// From the registry outwards: A under a filter by marks, and C, which makes them, under a level.
-type BesideMarker = Layered<
-    Filtered<Observer<Marker>, LevelFilter>,
-    Layered<Filtered<Recorder, DynFilterFn<InMarked, NoCallsite>>, Registry>,
->;
-
-fn beside_marker(alloc: Global, outermost: LevelFilter) -> Result<Dispatch<BesideMarker>, Fail> {
-    let mark = Tag::new(0);
-    let in_marked = dynamic_filter_fn(InMarked { mark });
-    let a = Recorder::new(alloc).with_filter(in_marked);
-    let c = Observer::new(Marker { mark }).with_filter(outermost);
-    let stack = put(Registry::new(alloc), a)?;
-    Ok(in_use(alloc, put(stack, c)?))
-}
-
 /// A span, entered, and an event where the lane is; then the span is left and dropped.
 fn one_span() -> [Request<'static>; 5] {
     let span = metadata_of(0, Level::INFO, Kind::SPAN);
@@ -257,24 +186,16 @@ fn one_span() -> [Request<'static>; 5] {
     ]
 }
 
-/// Serves this list. Answers the span.
-fn serve_one_span<S: Subscriber>(alloc: Global, dispatch: &mut Dispatch<S>) -> Result<Id, Fail>
-    requires { S.usable (stack_of dispatch.old) }
-    ensures { S.usable (stack_of dispatch.new) }
-{
-    let answers = serve(alloc, dispatch, &one_span())?;
-    made(&answers, 0)
-}
-
-/// The span, and what A keeps of the list beside C.
+/// From the registry outwards: A under a filter by marks, and C, which makes them, under a level. Answers the span, and what A
+/// keeps of the list.
 fn kept_beside_marker(alloc: Global, outermost: LevelFilter) -> Result<(Id, Vec<Notice>), Fail> {
-    let mut dispatch = beside_marker(alloc, outermost)?;
-    let p = serve_one_span(alloc, &mut dispatch)?;
-    Ok((p, kept_beside(dispatch.stack()).to_vec(alloc)?))
-}
-
-fn kept_beside(stack: &BesideMarker) -> &[Notice] {
-    stack.inner().layer().inner().notices()
+    let mark = Tag::new(0);
+    let a = Recorder::new(alloc).with_filter(dynamic_filter_fn(InMarked { mark }));
+    let c = Observer::new(Marker { mark }).with_filter(outermost);
+    let stack = put(put(Registry::new(alloc), a)?, c)?;
+    let (dispatch, answers) = serve_by(alloc, stack, &one_span())?;
+    let kept = dispatch.stack().inner().layer().inner().notices();
+    Ok((made(&answers, 0)?, kept.to_vec(alloc)?))
 }
 
 #[test]

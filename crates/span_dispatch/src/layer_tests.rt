@@ -1,39 +1,37 @@
 //! Tests of layers under a dispatcher: what one layer's filter hides, and what layers can read.
-ghost use Rattle.span_dispatch.specs.Serve.{stack_of};
 ghost use Rattle.std.specs.Prelude.{⊤};
 
-use crate::{Dispatch, Notice, Recorder};
-use span_core::{Attributes, Event, FieldSet, Id, Kind, Lane, Level, LevelFilter, Metadata};
+use crate::tests::{LANE, made, put, serve_by};
+use crate::{Notice, Recorder, Request, Which, WhichParent};
+use span_core::{FieldSet, Id, Kind, Level, LevelFilter, Metadata};
 use span_filters::dynamic_filter_fn;
-use span_layers::{Filtered, LayerExt, Layered, Observe, Observed, Observer, SubscriberExt};
+use span_layers::{LayerExt, Layered, Observe, Observed, Observer};
 use span_registry::{Context, ContextMut, Registry, Scope, Subscriber};
 use std::alloc::Global;
 use std::test::Fail;
 
-const LANE: Lane = Lane(0);
-
-fn metadata_of(level: Level, kind: Kind) -> Metadata {
-    Metadata::new(7, "made", "tests", level, kind, FieldSet::new(&[]))
+fn metadata_of(callsite: u64, level: Level, kind: Kind) -> Metadata {
+    Metadata::new(callsite, "made", "tests", level, kind, FieldSet::new(&[]))
 }
 
-/// Opens a span in a parent, or a root. Fails where a layer vetoes.
-fn open<S: Subscriber>(
-    dispatch: &mut Dispatch<S>,
-    level: Level,
-    parent: Option<Id>,
-) -> Result<Id, Fail>
-    requires { S.usable (stack_of dispatch.old) }
-    ensures { S.usable (stack_of dispatch.new) }
-{
-    let metadata = metadata_of(level, Kind::SPAN);
-    let attributes = match parent {
-        Some(id) => Attributes::child_of(id, metadata, &[]),
-        None => Attributes::new_root(metadata, &[]),
-    };
-    match dispatch.new_span(LANE, &attributes)? {
-        Some(id) => Ok(id),
-        None => Err(Fail::from("a layer vetoes")),
-    }
+fn new_span(callsite: u64, level: Level, parent: WhichParent) -> Request<'static> {
+    Request::NewSpan(LANE, metadata_of(callsite, level, Kind::SPAN), parent, &[])
+}
+
+fn event(parent: WhichParent) -> Request<'static> {
+    Request::Event(LANE, metadata_of(7, Level::INFO, Kind::EVENT), parent, &[])
+}
+
+/// A span, and another one while the lane is in it; both are dropped.
+fn one_in_another() -> [Request<'static>; 6] {
+    [
+        new_span(0, Level::INFO, WhichParent::Root),
+        Request::Enter(LANE, Which::Made(0)),
+        new_span(0, Level::INFO, WhichParent::Root),
+        Request::Drop(LANE, Which::Made(2)),
+        Request::Exit(LANE, Which::Made(0)),
+        Request::Drop(LANE, Which::Made(0)),
+    ]
 }
 
 /// A recorder on a registry.
@@ -44,19 +42,11 @@ fn a_filter_may_ask_for_the_current_span(rt: HostRuntime) -> Result<(), Fail> {
     let outside = dynamic_filter_fn(|_meta: &Metadata, cx: &Context<'_, Recorded>| {
         cx.lookup_current().is_none()
     });
-    let Ok(stack) = Registry::new(rt.alloc()).with(Recorder::new(rt.alloc())) else {
-        return Err(Fail::from("there is no room"));
-    };
-    let Ok(stack) = stack.with(Recorder::new(rt.alloc()).with_filter(outside)) else {
-        return Err(Fail::from("there is no room"));
-    };
-    let mut dispatch = Dispatch::fresh(rt.alloc(), stack);
-    let p = open(&mut dispatch, Level::INFO, None)?;
-    dispatch.enter(LANE, p)?;
-    let q = open(&mut dispatch, Level::INFO, None)?;
-    assert_eq!(rt; dispatch.drop_span(LANE, q), Ok(true));
-    dispatch.exit(LANE, p);
-    assert_eq!(rt; dispatch.drop_span(LANE, p), Ok(true));
+    let under_outside = Recorder::new(rt.alloc()).with_filter(outside);
+    let stack = put(Registry::new(rt.alloc()), Recorder::new(rt.alloc()))?;
+    let stack = put(stack, under_outside)?;
+    let (dispatch, answers) = serve_by(rt.alloc(), stack, &one_in_another())?;
+    let (p, q) = (made(&answers, 0)?, made(&answers, 2)?);
     assert_eq!(rt;
         dispatch.stack().layer().inner().notices(),
         [
@@ -133,49 +123,28 @@ fn new_reader(alloc: Global) -> Observer<Reader> {
     })
 }
 
-/// A reader, and outside it one under INFO.
-type TwoReaders = Layered<
-    Filtered<Observer<Reader>, LevelFilter>,
-    Layered<Observer<Reader>, Registry>,
->;
-
-fn two_readers(alloc: Global) -> Result<Dispatch<TwoReaders>, Fail> {
-    let under_info = new_reader(alloc).with_filter(LevelFilter::INFO);
-    let Ok(stack) = Registry::new(alloc).with(new_reader(alloc)) else {
-        return Err(Fail::from("there is no room"));
-    };
-    match stack.with(under_info) {
-        Ok(stack) => Ok(Dispatch::fresh(alloc, stack)),
-        Err(_) => Err(Fail::from("there is no room")),
-    }
-}
-
-/// Spans each in the one before. INFO refused the child alone.
-#[derive(Clone, Copy, Drop)]
-struct Family {
-    root: Id,
-    child: Id,
-    leaf: Id,
-}
-
-/// Opens them, is in the child, and sends an event in the leaf, one in the child, and one where the lane is.
-fn family_in(dispatch: &mut Dispatch<TwoReaders>) -> Result<Family, Fail> {
-    let root = open(dispatch, Level::INFO, None)?;
-    let child = open(dispatch, Level::DEBUG, Some(root))?;
-    let leaf = open(dispatch, Level::INFO, Some(child))?;
-    dispatch.enter(LANE, root)?;
-    dispatch.enter(LANE, child)?;
-    let event = metadata_of(Level::INFO, Kind::EVENT);
-    dispatch.event(LANE, &Event::new_child_of(leaf, event, &[]))?;
-    dispatch.event(LANE, &Event::new_child_of(child, event, &[]))?;
-    dispatch.event(LANE, &Event::new(event, &[]))?;
-    Ok(Family { root, child, leaf })
+/// Spans each in the one before, of which INFO passes all but the second. The lane is in the second; an event in the third, one in
+/// the second, and one where the lane is.
+fn family() -> [Request<'static>; 8] {
+    let within = |place| WhichParent::Explicit(Which::Made(place));
+    [
+        new_span(0, Level::INFO, WhichParent::Root),
+        new_span(1, Level::DEBUG, within(0)),
+        new_span(0, Level::INFO, within(1)),
+        Request::Enter(LANE, Which::Made(0)),
+        Request::Enter(LANE, Which::Made(1)),
+        event(within(2)),
+        event(within(1)),
+        event(WhichParent::Contextual),
+    ]
 }
 
 #[test]
 fn scopes_leave_out_what_a_layers_own_filter_refused(rt: HostRuntime) -> Result<(), Fail> {
-    let mut dispatch = two_readers(rt.alloc())?;
-    let Family { root, child, leaf } = family_in(&mut dispatch)?;
+    let under_info = new_reader(rt.alloc()).with_filter(LevelFilter::INFO);
+    let stack = put(Registry::new(rt.alloc()), new_reader(rt.alloc()))?;
+    let (dispatch, answers) = serve_by(rt.alloc(), put(stack, under_info)?, &family())?;
+    let (root, child, leaf) = (made(&answers, 0)?, made(&answers, 1)?, made(&answers, 2)?);
     let filtered = dispatch.stack().layer().inner().observer();
     assert_eq!(rt;
         filtered.up.as_slice(),
@@ -228,18 +197,11 @@ fn new_mourner() -> Observer<Mourner> {
 #[test]
 fn every_layer_finds_a_closing_span(rt: HostRuntime) -> Result<(), Fail> {
     let pair = new_mourner().and_then(new_mourner());
-    let Ok(stack) = Registry::new(rt.alloc()).with(pair) else {
-        return Err(Fail::from("there is no room"));
-    };
-    let Ok(stack) = stack.with(new_mourner()) else {
-        return Err(Fail::from("there is no room"));
-    };
-    let mut dispatch = Dispatch::fresh(rt.alloc(), stack);
-    let id = open(&mut dispatch, Level::INFO, None)?;
-    assert_eq!(rt; dispatch.drop_span(LANE, id), Ok(true));
-    assert_eq!(rt; dispatch.stack().layer().observer().found, 1);
+    let stack = put(put(Registry::new(rt.alloc()), pair)?, new_mourner())?;
+    let (dispatch, _) = serve_by(rt.alloc(), stack, &one_in_another())?;
+    assert_eq!(rt; dispatch.stack().layer().observer().found, 2);
     let pair = dispatch.stack().inner().layer();
-    assert_eq!(rt; pair.layer().observer().found, 1);
-    assert_eq!(rt; pair.inner().observer().found, 1);
+    assert_eq!(rt; pair.layer().observer().found, 2);
+    assert_eq!(rt; pair.inner().observer().found, 2);
     Ok(())
 }

@@ -1,30 +1,124 @@
 //! Tests of a dispatcher, as a program drives it: calls and lists of requests, and what a recorder keeps of them.
+ghost use Rattle.span_dispatch.specs.Serve.{stack_of};
+ghost use Rattle.span_layers.specs.Layered.{inner_of, outer_of};
+ghost use Rattle.std.specs.Prelude.{IfOk};
+
 use crate::{Answer, Dispatch, Notice, Recorder, Request, Which, WhichParent};
 use span_core::{Attributes, Event, FieldSet, Id, Kind, Lane, Level, Metadata, Record, TraceError};
-use span_layers::{Layered, SubscriberExt};
-use span_registry::{Context, LookupSpan, Registry};
+use span_layers::{Layer, Layered, SubscriberExt};
+use span_registry::{Context, LookupSpan, Registry, Subscriber};
 use std::alloc::Global;
 use std::process::Abort;
 use std::test::Fail;
 
-const LANE: Lane = Lane(0);
+pub(crate) const LANE: Lane = Lane(0);
+
+/// Puts a layer on a stack.
+pub(crate) fn put<S: Subscriber + Drop, L: Layer<S> + Drop>(
+    stack: S,
+    layer: L,
+) -> Result<Layered<L, S>, Fail>
+    requires layer { L.usable layer }
+    requires stack { S.usable stack }
+    ensures layer { IfOk result (λ made. L.usable (outer_of made)) }
+    ensures stack { IfOk result (λ made. S.usable (inner_of made)) }
+{
+    match stack.with(layer) {
+        Ok(made) => Ok(made),
+        Err(_) => Err(Fail::from("there is no room")),
+    }
+}
+
+/// Puts a stack in use.
+pub(crate) fn in_use<S: Subscriber>(alloc: Global, stack: S) -> Dispatch<S>
+    requires { S.usable stack }
+    ensures { S.usable (stack_of result) }
+{
+    Dispatch::new(alloc, stack)
+}
+
+/// Puts a stack in use by a dispatcher that keeps nothing.
+pub(crate) fn fresh<S: Subscriber>(alloc: Global, stack: S) -> Dispatch<S>
+    requires { S.usable stack }
+    ensures { S.usable (stack_of result) }
+{
+    Dispatch::fresh(alloc, stack)
+}
+
+/// Serves a list.
+pub(crate) fn serve<S: Subscriber>(
+    alloc: Global,
+    dispatch: &mut Dispatch<S>,
+    requests: &[Request<'_>],
+) -> Result<Vec<Answer>, TraceError>
+    requires { S.usable (stack_of dispatch.old) }
+    ensures { S.usable (stack_of dispatch.new) }
+{
+    dispatch.serve(alloc, requests)
+}
+
+/// Puts a stack in use, and serves a list.
+pub(crate) fn serve_by<S: Subscriber + Drop>(
+    alloc: Global,
+    stack: S,
+    requests: &[Request<'_>],
+) -> Result<(Dispatch<S>, Vec<Answer>), Fail>
+    requires { S.usable stack }
+{
+    let mut dispatch = in_use(alloc, stack);
+    let answers = serve(alloc, &mut dispatch, requests)?;
+    Ok((dispatch, answers))
+}
 
 /// A recorder on a registry.
 type Plain = Layered<Recorder, Registry>;
 
 fn plain(alloc: Global) -> Result<Dispatch<Plain>, Fail> {
-    match Registry::new(alloc).with(Recorder::new(alloc)) {
-        Ok(stack) => Ok(Dispatch::fresh(alloc, stack)),
-        Err(_) => Err(Fail::from("there is no room")),
-    }
+    let stack = put(Registry::new(alloc), Recorder::new(alloc))?;
+    Ok(fresh(alloc, stack))
 }
 
 fn metadata_of(kind: Kind) -> Metadata {
     Metadata::new(7, "made", "tests", Level::INFO, kind, FieldSet::new(&[]))
 }
 
+/// Opens a root, where no layer vetoes.
+fn open<S: Subscriber>(dispatch: &mut Dispatch<S>) -> Result<Option<Id>, TraceError>
+    requires { S.usable (stack_of dispatch.old) }
+    ensures { S.usable (stack_of dispatch.new) }
+{
+    dispatch.new_span(LANE, &Attributes::new_root(metadata_of(Kind::SPAN), &[]))
+}
+
+/// The same. Fails where a layer vetoes.
+fn open_root<S: Subscriber>(dispatch: &mut Dispatch<S>) -> Result<Id, Fail>
+    requires { S.usable (stack_of dispatch.old) }
+    ensures { S.usable (stack_of dispatch.new) }
+{
+    Ok(open(dispatch)?.ok_or("a layer vetoes")?)
+}
+
+/// Sends an event where the lane is.
+fn send<S: Subscriber>(dispatch: &mut Dispatch<S>) -> Result<bool, TraceError>
+    requires { S.usable (stack_of dispatch.old) }
+    ensures { S.usable (stack_of dispatch.new) }
+{
+    dispatch.event(LANE, &Event::new(metadata_of(Kind::EVENT), &[]))
+}
+
+/// Drops a handle.
+pub(crate) fn drop_handle<S: Subscriber>(
+    dispatch: &mut Dispatch<S>,
+    id: Id,
+) -> Result<bool, TraceError>
+    requires { S.usable (stack_of dispatch.old) }
+    ensures { S.usable (stack_of dispatch.new) }
+{
+    dispatch.drop_span(LANE, id)
+}
+
 /// The span that the request at this place made.
-fn made(answers: &[Answer], place: usize) -> Result<Id, Fail> {
+pub(crate) fn made(answers: &[Answer], place: usize) -> Result<Id, Fail> {
     match answers.get(place) {
         Some(Answer::Made(id)) => Ok(*id),
         _ => Err(Fail::from("no span was made")),
@@ -40,15 +134,12 @@ fn parent_of(dispatch: &Dispatch<Plain>, id: Id) -> Option<Id> {
 #[test]
 fn a_span_closes_with_its_last_handle(rt: HostRuntime) -> Result<(), Fail> {
     let mut dispatch = plain(rt.alloc())?;
-    let attributes = Attributes::new_root(metadata_of(Kind::SPAN), &[]);
-    let id = dispatch
-        .new_span(LANE, &attributes)?
-        .ok_or("a layer vetoes")?;
+    let id = open_root(&mut dispatch)?;
     assert_eq!(rt; dispatch.clone_span(LANE, id), Ok(id));
-    assert_eq!(rt; dispatch.drop_span(LANE, id), Ok(false));
-    assert_eq!(rt; dispatch.drop_span(LANE, id), Ok(true));
+    assert_eq!(rt; drop_handle(&mut dispatch, id), Ok(false));
+    assert_eq!(rt; drop_handle(&mut dispatch, id), Ok(true));
     assert_eq!(rt;
-        dispatch.drop_span(LANE, id),
+        drop_handle(&mut dispatch, id),
         Err(TraceError::UnknownSpan(id))
     );
     assert_eq!(rt;
@@ -81,7 +172,7 @@ fn a_list_names_spans_by_their_places(rt: HostRuntime) -> Result<(), Fail> {
     let mut dispatch = plain(rt.alloc())?;
     let never = Id::from_u64(0);
     let requests = requests_by_places(never);
-    let answers = dispatch.serve(rt.alloc(), &requests)?;
+    let answers = serve(rt.alloc(), &mut dispatch, &requests)?;
     let root = made(&answers, 0)?;
     let child = made(&answers, 1)?;
     let other = made(&answers, 4)?;
@@ -140,7 +231,7 @@ fn a_list_is_answered_in_its_order(rt: HostRuntime) -> Result<(), Fail> {
     let mut dispatch = plain(rt.alloc())?;
     let never = Id::from_u64(0);
     let requests = requests_of_one_span(never);
-    let answers = dispatch.serve(rt.alloc(), &requests)?;
+    let answers = serve(rt.alloc(), &mut dispatch, &requests)?;
     let id = made(&answers, 0)?;
     assert_eq!(rt;
         answers.as_slice(),
@@ -177,7 +268,14 @@ fn a_list_is_answered_in_its_order(rt: HostRuntime) -> Result<(), Fail> {
 }
 
 /// Makes each call with a span that isn't open.
-fn refuses_unknown(rt: &impl Abort, dispatch: &mut Dispatch<Plain>, id: Id) -> Result<(), Fail> {
+fn refuses_unknown<S: Subscriber>(
+    rt: &impl Abort,
+    dispatch: &mut Dispatch<S>,
+    id: Id,
+) -> Result<(), Fail>
+    requires { S.usable (stack_of dispatch.old) }
+    ensures { S.usable (stack_of dispatch.new) }
+{
     let unknown = TraceError::UnknownSpan(id);
     let child = Attributes::child_of(id, metadata_of(Kind::SPAN), &[]);
     let event = Event::new_child_of(id, metadata_of(Kind::EVENT), &[]);
@@ -201,11 +299,8 @@ fn refuses_unknown(rt: &impl Abort, dispatch: &mut Dispatch<Plain>, id: Id) -> R
 #[test]
 fn spans_may_be_unknown(rt: HostRuntime) -> Result<(), Fail> {
     let mut dispatch = plain(rt.alloc())?;
-    let attributes = Attributes::new_root(metadata_of(Kind::SPAN), &[]);
-    let closed = dispatch
-        .new_span(LANE, &attributes)?
-        .ok_or("a layer vetoes")?;
-    assert_eq!(rt; dispatch.drop_span(LANE, closed), Ok(true));
+    let closed = open_root(&mut dispatch)?;
+    assert_eq!(rt; drop_handle(&mut dispatch, closed), Ok(true));
     for id in [Id::from_u64(0), Id::from_u64(u64::MAX), closed] {
         refuses_unknown(&rt, &mut dispatch, id)?;
     }
@@ -223,11 +318,24 @@ fn spans_may_be_unknown(rt: HostRuntime) -> Result<(), Fail> {
     Ok(())
 }
 
+/// The span that the lane is in.
+fn current<S: Subscriber>(dispatch: &Dispatch<S>) -> Option<Id> {
+    dispatch.current_span(LANE).id()
+}
+
+/// Enters a span.
+pub(crate) fn enter<S: Subscriber>(dispatch: &mut Dispatch<S>, id: Id) -> Result<(), TraceError>
+    requires { S.usable (stack_of dispatch.old) }
+    ensures { S.usable (stack_of dispatch.new) }
+{
+    dispatch.enter(LANE, id)
+}
+
 /// What a program sees of a dispatcher: the span that the lane is in, and how many notices its recorder keeps.
 fn seen(dispatch: &Dispatch<Plain>) -> (Option<Id>, usize, bool) {
     let recorder = dispatch.stack().layer();
     (
-        dispatch.current_span(LANE).id(),
+        current(dispatch),
         recorder.notices().len(),
         recorder.failed(),
     )
@@ -235,26 +343,22 @@ fn seen(dispatch: &Dispatch<Plain>) -> (Option<Id>, usize, bool) {
 
 /// Opens a span, and once more where memory is refused: that changes nothing.
 fn open_at_last(rt: &impl Abort, dispatch: &mut Dispatch<Plain>) -> Result<Id, Fail> {
-    let attributes = Attributes::new_root(metadata_of(Kind::SPAN), &[]);
     let before = seen(dispatch);
-    let opened = match dispatch.new_span(LANE, &attributes) {
-        Err(error) => {
-            assert_eq!(rt; error, TraceError::OutOfMemory);
-            assert_eq!(rt; seen(dispatch), before);
-            dispatch.new_span(LANE, &attributes)?
-        }
-        Ok(opened) => opened,
-    };
-    Ok(opened.ok_or("a layer vetoes")?)
+    let opened = open(dispatch);
+    if opened == Err(TraceError::OutOfMemory) {
+        assert_eq!(rt; seen(dispatch), before);
+        return open_root(dispatch);
+    }
+    Ok(opened?.ok_or("a layer vetoes")?)
 }
 
 /// Enters a span, and once more where memory is refused: that changes nothing.
 fn enter_at_last(rt: &impl Abort, dispatch: &mut Dispatch<Plain>, id: Id) -> Result<(), Fail> {
     let before = seen(dispatch);
-    if let Err(error) = dispatch.enter(LANE, id) {
+    if let Err(error) = enter(dispatch, id) {
         assert_eq!(rt; error, TraceError::OutOfMemory);
         assert_eq!(rt; seen(dispatch), before);
-        dispatch.enter(LANE, id)?;
+        enter(dispatch, id)?;
     }
     Ok(())
 }
@@ -267,11 +371,11 @@ fn serve_at_last(
     requests: &[Request<'_>],
 ) -> Result<Vec<Answer>, Fail> {
     let before = seen(dispatch);
-    match dispatch.serve(alloc, requests) {
+    match serve(alloc, dispatch, requests) {
         Err(error) => {
             assert_eq!(rt; error, TraceError::OutOfMemory);
             assert_eq!(rt; seen(dispatch), before);
-            Ok(dispatch.serve(alloc, requests)?)
+            Ok(serve(alloc, dispatch, requests)?)
         }
         Ok(answers) => Ok(answers),
     }
@@ -283,9 +387,8 @@ fn a_refusal_of_memory_changes_nothing(rt: HostRuntime) -> Result<(), Fail> {
     let mut dispatch = plain(rt.alloc())?;
     let id = open_at_last(&rt, &mut dispatch)?;
     enter_at_last(&rt, &mut dispatch, id)?;
-    assert_eq!(rt; dispatch.current_span(LANE).id(), Some(id));
-    let event = Event::new(metadata_of(Kind::EVENT), &[]);
-    assert_eq!(rt; dispatch.event(LANE, &event), Ok(true));
+    assert_eq!(rt; current(&dispatch), Some(id));
+    assert_eq!(rt; send(&mut dispatch), Ok(true));
     let requests = [Request::Drop(LANE, Which::Known(id))];
     let answers = serve_at_last(&rt, rt.alloc(), &mut dispatch, &requests)?;
     assert_eq!(rt; answers.as_slice(), [Answer::Yes(true)].as_slice());
@@ -304,16 +407,13 @@ fn a_refusal_of_memory_changes_nothing(rt: HostRuntime) -> Result<(), Fail> {
 /// It passes too where any one allocation is refused.
 #[test]
 fn a_refused_interest_changes_nothing(rt: HostRuntime) -> Result<(), Fail> {
-    let Ok(stack) = Registry::new(rt.alloc()).with(Recorder::new(rt.alloc())) else {
-        return Err(Fail::from("there is no room"));
-    };
-    let mut dispatch = Dispatch::new(rt.alloc(), stack);
-    let event = Event::new(metadata_of(Kind::EVENT), &[]);
+    let stack = put(Registry::new(rt.alloc()), Recorder::new(rt.alloc()))?;
+    let mut dispatch = in_use(rt.alloc(), stack);
     let before = seen(&dispatch);
-    if let Err(error) = dispatch.event(LANE, &event) {
+    if let Err(error) = send(&mut dispatch) {
         assert_eq!(rt; error, TraceError::OutOfMemory);
         assert_eq!(rt; seen(&dispatch), before);
-        assert_eq!(rt; dispatch.event(LANE, &event), Ok(true));
+        assert_eq!(rt; send(&mut dispatch), Ok(true));
     }
     let recorder = dispatch.stack().layer();
     assert_eq!(rt; recorder.failed(), recorder.notices().is_empty());

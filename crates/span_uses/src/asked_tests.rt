@@ -5,18 +5,13 @@ ghost use Rattle.span_layers.specs.ActsKept.{is_leaf, leaf_path_laws};
 ghost use Rattle.span_registry.specs.Form.{Leaf};
 ghost use Rattle.span_uses.specs.Tests.{fixed_answers, fixed_answers_laws};
 
-use span_core::{
-    Attributes, Event, FieldSet, Id, Interest, Kind, Lane, Level, LevelFilter, Metadata, Pass,
-    Record,
-};
-use span_dispatch::Dispatch;
-use span_layers::{Layer, Layered, SubscriberExt};
+use crate::tests::{put, sent_to};
+use span_core::{Attributes, Event, Id, Interest, LevelFilter, Metadata, Pass, Record};
+use span_layers::Layer;
 use span_registry::{Context, ContextMut, Registry, Subscriber};
 use std::alloc::Global;
 use std::cell::Cell;
 use std::test::Fail;
-
-const LANE: Lane = Lane(0);
 
 /// Answers what it is told to, and counts how often it is asked, and notified of an event.
 #[derive(Drop)]
@@ -112,19 +107,7 @@ fn asked_of_an_error(
         of_events: Cell::new(0),
         notified: 0,
     };
-    let Ok(stack) = Registry::new(alloc).with(layer) else {
-        return Err(Fail::from("there is no room"));
-    };
-    let mut dispatch = Dispatch::fresh(alloc, stack);
-    let metadata = Metadata::new(
-        1,
-        "made",
-        "tests",
-        Level::ERROR,
-        Kind::EVENT,
-        FieldSet::new(&[]),
-    );
-    dispatch.event(LANE, &Event::new(metadata, &[]))?;
+    let dispatch = sent_to(alloc, put(Registry::new(alloc), layer)?)?;
     let layer = dispatch.stack().layer();
     Ok((
         layer.of_metadata.get(),

@@ -1,5 +1,6 @@
 //! Tests over all crates: layers of many kinds in one receiver, a registry full of filters, and what a stack says of itself.
-ghost use Rattle.std.specs.Prelude.{⊤};
+ghost use Rattle.std.specs.Prelude.{⊤, IfOk};
+ghost use Rattle.span_layers.specs.Layered.{inner_of, outer_of};
 ghost use Rattle.span_registry.specs.Context.{WritesExtensions};
 
 use crate::isolation::record_alone_and_beside;
@@ -8,13 +9,52 @@ use span_core::{
     Event, FieldSet, Id, Interest, Kind, Lane, Level, LevelFilter, Metadata, Pass, TraceError,
 };
 use span_dispatch::{Answer, Dispatch, Notice, Recorder, Request, Which, WhichParent};
-use span_layers::{Filtered, LayerExt, Layered, Observe, Observed, Observer, SubscriberExt};
+use span_layers::{Filtered, Layer, LayerExt, Layered, Observe, Observed, Observer, SubscriberExt};
 use span_registry::{ContextMut, LookupSpan, Registry, Subscriber, Tag};
 use std::alloc::Global;
 use std::process::Abort;
 use std::test::Fail;
 
-const LANE: Lane = Lane(0);
+pub(crate) const LANE: Lane = Lane(0);
+
+/// Puts a layer on a stack.
+pub(crate) fn put<S: Subscriber + Drop, L: Layer<S> + Drop>(
+    stack: S,
+    layer: L,
+) -> Result<Layered<L, S>, Fail>
+    requires layer { L.usable layer }
+    requires stack { S.usable stack }
+    ensures layer { IfOk result (λ made. L.usable (outer_of made)) }
+    ensures stack { IfOk result (λ made. S.usable (inner_of made)) }
+{
+    match stack.with(layer) {
+        Ok(made) => Ok(made),
+        Err(_) => Err(Fail::from("there is no room")),
+    }
+}
+
+/// Puts a stack in use, and sends it an event of level error.
+pub(crate) fn sent_to<S: Subscriber + Drop>(alloc: Global, stack: S) -> Result<Dispatch<S>, Fail>
+    requires { S.usable stack }
+{
+    let mut dispatch = Dispatch::fresh(alloc, stack);
+    let event = Event::new_root(metadata_of(7, Level::ERROR, Kind::EVENT), &[]);
+    dispatch.event(LANE, &event)?;
+    Ok(dispatch)
+}
+
+/// Puts a stack in use, and serves a list.
+fn serve_by<S: Subscriber + Drop>(
+    alloc: Global,
+    stack: S,
+    requests: &[Request<'_>],
+) -> Result<(Dispatch<S>, Vec<Answer>), Fail>
+    requires { S.usable stack }
+{
+    let mut dispatch = Dispatch::new(alloc, stack);
+    let answers = dispatch.serve(alloc, requests)?;
+    Ok((dispatch, answers))
+}
 
 fn metadata_of(callsite: u64, level: Level, kind: Kind) -> Metadata {
     Metadata::new(callsite, "made", "tests", level, kind, FieldSet::new(&[]))
@@ -118,10 +158,6 @@ fn a_receiver_of_five(rt: HostRuntime) -> Result<(), Fail> {
         .and_then(Some(recording(alloc, LevelFilter::WARN)))
         .and_then(BoxedLayer::new(object))
         .and_then(LevelFilter::DEBUG);
-    let Ok(stack) = Registry::new(alloc).with(layers) else {
-        return Err(Fail::from("there is no room"));
-    };
-    let mut dispatch = Dispatch::new(alloc, stack);
     let requests = [
         root_from(0, Level::INFO),
         event_from(1, Level::TRACE),
@@ -129,7 +165,8 @@ fn a_receiver_of_five(rt: HostRuntime) -> Result<(), Fail> {
         event_from(3, Level::INFO),
         event_from(4, Level::WARN),
     ];
-    let answers = dispatch.serve(alloc, &requests)?;
+    let stack = put(Registry::new(alloc), layers)?;
+    let (dispatch, answers) = serve_by(alloc, stack, &requests)?;
     let id = first_made(&answers)?;
     assert_eq!(rt; answers.get(1).copied(), Some(Answer::Dropped));
     assert_eq!(rt; counted(dispatch.stack(), id), Some(3));
@@ -168,21 +205,15 @@ fn silent_recorders(alloc: Global) -> Result<Vec<Recording>, Fail> {
 
 #[test]
 fn a_registry_full_of_filters(rt: HostRuntime) -> Result<(), Fail> {
-    let Ok(stack) = Registry::new(rt.alloc()).with(Recorder::new(rt.alloc())) else {
-        return Err(Fail::from("there is no room"));
-    };
-    let Ok(stack) = stack.with(silent_recorders(rt.alloc())?) else {
-        return Err(Fail::from("there is no room"));
-    };
+    let stack = put(Registry::new(rt.alloc()), Recorder::new(rt.alloc()))?;
+    let stack = put(stack, silent_recorders(rt.alloc())?)?;
     let Err(back) = stack.with(recording(rt.alloc(), LevelFilter::WARN)) else {
         return Err(Fail::from("a 65th filter got a number"));
     };
     assert_eq!(rt; back.error, TraceError::TooManyFilters);
     assert_eq!(rt; *back.layer.filter(), LevelFilter::WARN);
     assert_eq!(rt; back.subscriber.root().filters(), 64);
-    let mut dispatch = Dispatch::fresh(rt.alloc(), back.subscriber);
-    let event = Event::new_root(metadata_of(7, Level::ERROR, Kind::EVENT), &[]);
-    assert_eq!(rt; dispatch.event(LANE, &event), Ok(true));
+    let dispatch = sent_to(rt.alloc(), back.subscriber)?;
     let stack = dispatch.stack();
     assert_eq!(rt;
         stack.inner().layer().notices(),
@@ -202,29 +233,28 @@ fn interest_of<S: Subscriber>(stack: &S) -> Interest
     stack.register_callsite(&metadata, &mut Pass::new())
 }
 
+/// The hint of a stack.
+fn hint_of<S: Subscriber>(stack: &S) -> Option<LevelFilter>
+    requires { S.usable stack.now }
+{
+    stack.max_level_hint()
+}
+
 #[test]
 fn what_one_filter_wants_is_of_interest(rt: HostRuntime) -> Result<(), Fail> {
     let all = recording(rt.alloc(), LevelFilter::TRACE);
     let nothing = recording(rt.alloc(), LevelFilter::OFF);
-    let Ok(stack) = Registry::new(rt.alloc()).with(all) else {
-        return Err(Fail::from("there is no room"));
-    };
+    let stack = put(Registry::new(rt.alloc()), all)?;
     assert_eq!(rt; interest_of(&stack), Interest::Always);
-    let Ok(stack) = stack.with(nothing) else {
-        return Err(Fail::from("there is no room"));
-    };
+    let stack = put(stack, nothing)?;
     assert_eq!(rt; interest_of(&stack), Interest::Sometimes);
     Ok(())
 }
 
 #[test]
 fn what_a_layer_without_a_filter_may_want_is_of_interest(rt: HostRuntime) -> Result<(), Fail> {
-    let Ok(stack) = Registry::new(rt.alloc()).with(Recorder::new(rt.alloc())) else {
-        return Err(Fail::from("there is no room"));
-    };
-    let Ok(stack) = stack.with(recording(rt.alloc(), LevelFilter::OFF)) else {
-        return Err(Fail::from("there is no room"));
-    };
+    let stack = put(Registry::new(rt.alloc()), Recorder::new(rt.alloc()))?;
+    let stack = put(stack, recording(rt.alloc(), LevelFilter::OFF))?;
     assert_eq!(rt; interest_of(&stack), Interest::Sometimes);
     Ok(())
 }
@@ -233,10 +263,8 @@ fn what_a_layer_without_a_filter_may_want_is_of_interest(rt: HostRuntime) -> Res
 fn a_pair_under_filters_has_the_wider_hint(rt: HostRuntime) -> Result<(), Fail> {
     let all = recording(rt.alloc(), LevelFilter::TRACE);
     let few = recording(rt.alloc(), LevelFilter::INFO);
-    let Ok(stack) = Registry::new(rt.alloc()).with(all.and_then(few)) else {
-        return Err(Fail::from("there is no room"));
-    };
-    assert_eq!(rt; stack.max_level_hint(), Some(LevelFilter::TRACE));
+    let stack = put(Registry::new(rt.alloc()), all.and_then(few))?;
+    assert_eq!(rt; hint_of(&stack), Some(LevelFilter::TRACE));
     Ok(())
 }
 
