@@ -103,11 +103,11 @@ fn filters_that_differ_on_a_callsite_are_asked_each_time(rt: HostRuntime) -> Res
     let stack = put(put(Registry::new(rt.alloc()), under_info)?, under_counted)?;
     let requests = events(rt.alloc(), 3)?;
     let (dispatch, _) = serve_by(rt.alloc(), stack, &requests)?;
-    let told = Notice::Event(LANE, 5);
+    let notice = Notice::Event(LANE, 5);
     assert_eq!(rt; dispatch.stack().layer().inner().notices(), [].as_slice());
     assert_eq!(rt;
         dispatch.stack().inner().layer().inner().notices(),
-        [told, told, told].as_slice()
+        [notice, notice, notice].as_slice()
     );
     // Once for the interest, and once for each event.
     assert_eq!(rt; asked.get(), 4);

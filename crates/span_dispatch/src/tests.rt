@@ -38,7 +38,7 @@ pub(crate) fn in_use<S: Subscriber>(alloc: Global, stack: S) -> Dispatch<S>
 }
 
 /// Puts a stack in use by a dispatcher that keeps nothing.
-pub(crate) fn fresh<S: Subscriber>(alloc: Global, stack: S) -> Dispatch<S>
+fn fresh<S: Subscriber>(alloc: Global, stack: S) -> Dispatch<S>
     requires { S.usable stack }
     ensures { S.usable (stack_of result) }
 {
@@ -46,7 +46,7 @@ pub(crate) fn fresh<S: Subscriber>(alloc: Global, stack: S) -> Dispatch<S>
 }
 
 /// Serves a list.
-pub(crate) fn serve<S: Subscriber>(
+fn serve<S: Subscriber>(
     alloc: Global,
     dispatch: &mut Dispatch<S>,
     requests: &[Request<'_>],
@@ -107,10 +107,7 @@ fn send<S: Subscriber>(dispatch: &mut Dispatch<S>) -> Result<bool, TraceError>
 }
 
 /// Drops a handle.
-pub(crate) fn drop_handle<S: Subscriber>(
-    dispatch: &mut Dispatch<S>,
-    id: Id,
-) -> Result<bool, TraceError>
+fn drop_handle<S: Subscriber>(dispatch: &mut Dispatch<S>, id: Id) -> Result<bool, TraceError>
     requires { S.usable (stack_of dispatch.old) }
     ensures { S.usable (stack_of dispatch.new) }
 {
@@ -324,7 +321,7 @@ fn current<S: Subscriber>(dispatch: &Dispatch<S>) -> Option<Id> {
 }
 
 /// Enters a span.
-pub(crate) fn enter<S: Subscriber>(dispatch: &mut Dispatch<S>, id: Id) -> Result<(), TraceError>
+fn enter<S: Subscriber>(dispatch: &mut Dispatch<S>, id: Id) -> Result<(), TraceError>
     requires { S.usable (stack_of dispatch.old) }
     ensures { S.usable (stack_of dispatch.new) }
 {

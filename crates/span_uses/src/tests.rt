@@ -15,7 +15,7 @@ use std::alloc::Global;
 use std::process::Abort;
 use std::test::Fail;
 
-pub(crate) const LANE: Lane = Lane(0);
+const LANE: Lane = Lane(0);
 
 /// Puts a layer on a stack.
 pub(crate) fn put<S: Subscriber + Drop, L: Layer<S> + Drop>(
