@@ -3,6 +3,7 @@ mod Admits
 pub mod Alone
 mod Calls
 pub mod CallerLemmas
+mod Dropped
 pub mod Fixed
 mod Goes
 mod Once

@@ -15,6 +15,7 @@ use Rattle.span_registry.specs.Conducts.{ActsAt, StackPathLaws}
 use Rattle.span_registry.specs.Form.{Form}
 use Rattle.span_registry.specs.Hooks.{StackLaws, StackSteps}
 use Rattle.span_registry.specs.Place.{HearSteps}
+use Rattle.span_dispatch.proofs.Dropped.{lost_nothing, readable_closes}
 use Rattle.span_dispatch.proofs.Once.{closed_once}
 use Rattle.span_dispatch.proofs.Alone.{sees_what_is_made}
 use Rattle.span_dispatch.proofs.Seen.{run_folds}
@@ -88,10 +89,13 @@ module _ {S : Type 0} {registry : S → RegistryState} {with_registry : S → Re
   all_served f first now all done answers issued same h =
       let folds = run_folds registry with_registry has_form stepped [] done answers h.made (kept_by first) (stack_of first) (kept_by now) (stack_of now) h.run in
       let seen = sees_what_is_made registry laws paths (flat h.made) folds in
+      let run = subst (λ rs. Run registry with_registry has_form stepped [] rs answers h.made (kept_by first) (stack_of first) (kept_by now) (stack_of now)) same h.run in
       record {
         made = h.made;
-        run = subst (λ rs. Run registry with_registry has_form stepped [] rs answers h.made (kept_by first) (stack_of first) (kept_by now) (stack_of now)) same h.run;
-        once = closed_once registry with_registry has_form stepped (stack_of first) (flat h.made) (stack_of now) issued folds;
+        run = run;
         each = seen.each;
         alone = seen.alone;
+        dropped = lost_nothing registry with_registry has_form stepped [] all answers h.made (kept_by first) (stack_of first) (kept_by now) (stack_of now) run;
+        once = closed_once registry with_registry has_form stepped (stack_of first) (flat h.made) (stack_of now) issued folds;
+        readable = readable_closes registry with_registry has_form stepped (stack_of first) (flat h.made) (stack_of now) folds;
       }

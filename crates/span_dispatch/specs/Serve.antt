@@ -1,5 +1,5 @@
 -- How a dispatcher serves a call, and a list of requests.
-use Rattle.std.specs.Prelude.{◌≡◌, ℕ, List, [], ◌∷◌, ◌++◌, map, Bool, Option, Some, None, Result, slice_get}
+use Rattle.std.specs.Prelude.{◌≡◌, ◌⊎◌, ⊤, ℕ, List, [], ◌∷◌, ◌++◌, map, take, Bool, true, Option, Some, None, IfSome, Result, slice_get}
 use Rattle.std.specs.List.{FoldsTo}
 use Rattle.std.specs.Option.{option_and_then, option_map, option_map_or}
 use Rattle.span_core.specs.Event.{event_metadata, event_parent, event_values}
@@ -24,6 +24,8 @@ use Rattle.span_dispatch.specs.declared.request.Which.TheVariants as which
 use Rattle.span_dispatch.specs.declared.request.Which.{Which}
 use Rattle.span_dispatch.specs.declared.request.WhichParent.TheVariants as asked
 use Rattle.span_dispatch.specs.declared.request.WhichParent.{WhichParent}
+use Rattle.span_layers.specs.Verdict.{vetoes_event}
+use Rattle.span_layers.specs.Wanted.{IsUnwanted}
 use Rattle.span_registry.specs.Answers.{OnClose}
 use Rattle.span_registry.specs.Closes.{IsSettled, Member}
 use Rattle.span_registry.specs.Follows.{Keeps}
@@ -35,7 +37,7 @@ use Rattle.span_registry.specs.Hooks.{StackSteps}
 use Rattle.span_registry.specs.Place.{HearSteps, Place}
 use Rattle.span_registry.specs.Step.{Removal}
 use Rattle.span_registry.specs.Subscriber.{AndHooks, SameButExtensions}
-use Rattle.span_registry.specs.Store.{RegistryState, Store}
+use Rattle.span_registry.specs.Store.{IsClosing, RegistryState, Store}
 
 -- the stack of a dispatcher
 abbrev pub stack_of : {S : Type 0} → Dispatch S → S
@@ -109,6 +111,22 @@ closed_by other = []
 abbrev pub closed_in : List Made → List ℕ
 closed_in [] = []
 closed_in (m ∷ ms) = closed_by m.outcome ++ closed_in ms
+
+-- if this is a close, it is given while its span is in the store, with neither a handle nor a child left there
+abbrev pub IsReadableClose : Store → Outcome → Type 0
+IsReadableClose s (Noticed lane (OnClose id)) = IsClosing s.spans (number_of id)
+IsReadableClose s other = ⊤
+
+-- each close is: so a child closes before its parent, and what closes can still be read
+abbrev pub AreReadableCloses : List Made → Type 0
+AreReadableCloses [] = ⊤
+AreReadableCloses (m ∷ ms) = IsReadableClose m.store m.outcome × AreReadableCloses ms
+
+-- nobody would have been notified of the new span, or the event, that a call asks for: a leaf vetoes it, or no path passes it
+abbrev pub IsUnwantedCall : Call → Form → Store → Type 0
+IsUnwantedCall (OpenSpan lane a) f s = IsUnwanted f (metadata_of a) s lane.0
+IsUnwantedCall (SendEvent lane e) f s = IsUnwanted f (event_metadata e) s lane.0 ⊎ (vetoes_event f e s lane.0 ≡ true)
+IsUnwantedCall call f s = ⊥
 
 -- none of them stands twice
 abbrev pub StandOnce : List ℕ → Type 0
@@ -198,13 +216,35 @@ module _ {S : Type 0} (registry : S → RegistryState) (with_registry : S → Re
   Run past (r ∷ rs) (a ∷ answers) (ms ∷ made) kept x after y = (k : Memory) × (z : S) × ServesRequest past r kept x a ms k z × Run (past ++ (a ∷ [])) rs answers made k z after y
   Run past rs answers made kept x after y = ⊥
 
-  -- the requests are served so: there is one list of what was made of each; over all of it no span closes twice; and the leaf at each place sees of it what its path passes, as if it stood alone
+  -- behind these answers a request asked for something of which nobody would have been notified, on the stack as it was when all this had been made; or it named no span
+  pub record LosesNothing (past : List Answer) (r : Request) (x : S) (made : List Made) : Type 0 where
+    pub call : Option Call
+    pub asks : AsksFor past r call
+    pub stack : S
+    pub reached : FoldsTo (Makes registry with_registry has_form stepped) x made stack
+    pub unwanted : IfSome call (λ c. (f : Form) × has_form stack f × IsUnwantedCall c f (registry stack).store)
+
+  -- so it is of each request that was dropped
+  abbrev pub DropsLoseNothing : List Request → List Answer → S → List (List Made) → Type 0
+  DropsLoseNothing requests answers x made =
+      (n : ℕ) (r : Request) → slice_get requests n ≡ Some r → slice_get answers n ≡ Some answer.Dropped → LosesNothing (take n answers) r x (flat (take n made))
+
+  -- a list of requests is served so
   pub record Served (hears : HearSteps S) (acts_at : ActsAt S) (requests : List Request) (answers : List Answer) (old new : Dispatch S) : Type 0 where
+    -- there is one list of what was made of each request, on any lanes
     pub made : List (List Made)
+    -- each request is answered in turn, dropped or refused exactly where it should be, and the stack goes through what was made of it
     pub run : Run [] requests answers made (kept_by old) (stack_of old) (kept_by new) (stack_of new)
-    pub once : StandOnce (closed_in (flat made))
+    -- each layer is notified, in order, of exactly the made requests that its own path's filters pass when asked afresh
     pub each : EachSees hears (stack_of old) (flat made) (stack_of new)
+    -- as if it stood alone
     pub alone : EachSeesAlone registry acts_at (stack_of old) (flat made)
+    -- of a request that hint or kept interest dropped no layer would have been notified
+    pub dropped : DropsLoseNothing requests answers (stack_of old) made
+    -- each closed span is notified of once
+    pub once : StandOnce (closed_in (flat made))
+    -- child before parent, while still readable
+    pub readable : AreReadableCloses (flat made)
 
   -- whatever was made between the two, each leaf sees of it what its path passes, as if it stood alone
   abbrev pub SeesWhatIsMade : HearSteps S → ActsAt S → Dispatch S → Dispatch S → Type 0

@@ -56,7 +56,7 @@ pub enum Request<'a> {
 pub enum Answer {
     /// The new span's id.
     Made(Id),
-    /// A layer vetoed the new span or the event; or the request names no span, and nothing was asked.
+    /// Hint or interest ruled the new span or the event out, or a layer vetoed it; or the request names no span, and nothing was asked.
     Dropped,
     /// It is done.
     Done,
