@@ -60,10 +60,11 @@ fn the_next_span_of_a_place_is_another(rt: HostRuntime) -> Result<(), Fail> {
     enter(&mut registry, a)?;
     drop_handle(&mut registry, a, rt.alloc())?;
     let c = new_root(&mut registry)?;
-    assert_ne!(rt; a, c);
+    assert_eq!(rt; (a.into_u64(), c.into_u64()), (1, 4_294_967_297));
     assert_eq!(rt; current(&registry), None);
     registry.exit(LANE, a);
     registry.exit(LANE, a);
+    assert_eq!(rt; current(&registry), None);
     assert!(rt; registry.is_open(c));
     Ok(())
 }

@@ -17,6 +17,8 @@ use std::marker::Model;
 pub(crate) struct Entry {
     id: Id,
     duplicate: bool,
+    /// What may stand before it.
+    before: Bloom,
 }
 
 /// The stack of a lane, seen as the list of its spans, newest first.
@@ -59,7 +61,12 @@ impl SpanStack {
         ensures unchanged { OnErr result (self.new ≡ self.old) }
     {
         let duplicate = last_place(&self.entries, self.held, id).is_some();
-        self.entries.push(Entry { id, duplicate })?;
+        let before = self.held;
+        self.entries.push(Entry {
+            id,
+            duplicate,
+            before,
+        })?;
         self.held.insert(id);
         Ok(())
     }
@@ -73,8 +80,10 @@ impl SpanStack {
             None => false,
             Some(place) => {
                 let entry = self.entries.remove(place);
-                if self.entries.is_empty() {
-                    self.held = Bloom::new();
+                if place < self.entries.len() {
+                    self.entries[place].before = entry.before;
+                } else {
+                    self.held = entry.before;
                 }
                 !entry.duplicate
             }

@@ -1,35 +1,30 @@
-use Rattle.std.proofs.Common.{◌∙◌, ap, sym, subst, List, ◌≡◌, false, arith}
-use Rattle.std.proofs.lemmas.Bool.{eqb-true}
-use Rattle.std.specs.Prelude.{vec_len}
+use Rattle.std.proofs.Common.{◌∙◌, ap, sym, subst, List, length, slice_set, get_or, ◌≡◌, false, arith}
 use Rattle.span_core.specs.Span.{number_of}
 use Rattle.span_registry.specs.declared.stack.Entry.{Entry}
 use Rattle.span_registry.specs.LaneStack.{stands, leave, leaves_for_good}
-use Rattle.span_registry.specs.Marks.{AreMarked, HoldsAll, ids, IsLastOf, ids_down}
-use Rattle.span_registry.proofs.Marks.{holds_left, holds_none, popped, none_left}
+use Rattle.span_registry.specs.Marks.{HoldsAll, ids, IsLastOf, ids_down, KeepsStack}
+use Rattle.span_registry.proofs.Marks.{for_good, none_left, taken_last, taken_within}
 use Rattle.span_registry.proofs.stack.SpanStack.pop.Goals as goal
-use Rattle.span_registry.proofs.stack.SpanStack.pop.Goals.{then-is_empty, else-is_empty}
+use Rattle.span_registry.proofs.stack.SpanStack.pop.Goals.{then-place-len, else-place-len}
 
 pub last_place-requires : goal.last_place-requires
 last_place-requires c = subst (λ (us : List Entry). HoldsAll c.self.inside.held (ids us)) (sym c.deref.ensures.value) c.self.invariant.held
 
 pub invariant_of-self : goal.invariant_of-self
 invariant_of-self c =
-    let h = subst (λ (es : List Entry). IsLastOf es (number_of c.args.id) c.in-Some.place) c.deref.ensures.value c.in-Some.ensures in
-    let p = popped _ _ _ c.remove-entry.result c.self.invariant.marked h c.remove-entry.ensures.value in
-    let z = eqb-true (vec_len c.remove-entry.new.self) 0 (sym c.if-is_empty.ensures) in
-    record {
-      marked = subst AreMarked (sym c.remove-entry.ensures.by_index.2) p.marked;
-      held = holds_none _ c.remove-entry.new.self.items (omega arith);
-    }
+    let i = c.in-Some.place in
+    let a = c.index_mut.result.now in
+    let left = c.remove-entry.ensures.by_index.2 in
+    let h = subst (λ (es : List Entry). IsLastOf es (number_of c.args.id) i) c.deref.ensures.value c.in-Some.ensures in
+    let t = taken_within _ _ _ i c.remove-entry.result a c.self.invariant h c.remove-entry.ensures.value (c.index_mut.ensures.value ∙ ap (λ (us : List Entry). get_or us i a) left) (let e = ap length left in let n = c.len.ensures in let b = c.if-place-len.true in omega arith) in
+    subst (λ (us : List Entry). KeepsStack (slice_set us i (record a { before = c.remove-entry.result.before })) c.self.inside.held) (sym left) t.keeps
 
-pub invariant_of-self-else-is_empty : goal.invariant_of-self-else-is_empty
-invariant_of-self-else-is_empty c =
+pub invariant_of-self-else-place-len : goal.invariant_of-self-else-place-len
+invariant_of-self-else-place-len c =
+    let left = c.remove-entry.ensures.by_index.2 in
     let h = subst (λ (es : List Entry). IsLastOf es (number_of c.args.id) c.in-Some.place) c.deref.ensures.value c.in-Some.ensures in
-    let p = popped _ _ _ c.remove-entry.result c.self.invariant.marked h c.remove-entry.ensures.value in
-    record {
-      marked = subst AreMarked (sym c.remove-entry.ensures.by_index.2) p.marked;
-      held = subst (λ (us : List Entry). HoldsAll c.self.inside.held (ids us)) (sym c.remove-entry.ensures.by_index.2) (holds_left c.self.inside.held _ c.in-Some.place c.self.invariant.held h.within);
-    }
+    let t = taken_last _ _ _ c.in-Some.place c.remove-entry.result c.self.invariant h c.remove-entry.ensures.value (let e = ap length left in let n = c.len.ensures in let b = c.if-place-len.false in omega arith) in
+    subst (λ (us : List Entry). KeepsStack us c.remove-entry.result.before) (sym left) t.keeps
 
 pub returns-in-None-clause-left : goal.returns-in-None-clause-left
 returns-in-None-clause-left c =
@@ -41,18 +36,23 @@ returns-in-None-clause-for_good c =
     let h = none_left _ (number_of c.args.id) (subst (λ (es : List Entry). stands (number_of c.args.id) (ids es) ≡ false) c.deref.ensures.value c.in-None.ensures) in
     sym h.1 ∙ ap (leaves_for_good (number_of c.args.id)) c.self.view_is
 
-pub returns-after-is_empty-clause-left : goal.returns-after-is_empty-clause-left
-returns-after-is_empty-clause-left c =
-    let h = subst (λ (es : List Entry). IsLastOf es (number_of c.args.id) c.in-Some.place) c.deref.ensures.value c.in-Some.ensures in
-    let p = popped _ _ _ c.remove-entry.result c.self.invariant.marked h c.remove-entry.ensures.value in
-    let rest = ap ids_down c.remove-entry.ensures.by_index.2 ∙ p.left ∙ ap (leave (number_of c.args.id)) c.self.view_is in
-    elim c.if-is_empty.branch [
-      | then-is_empty w ↦ w.self-is ∙ rest
-      | else-is_empty w ↦ w.self-is ∙ rest
+pub returns-after-place-len-clause-left : goal.returns-after-place-len-clause-left
+returns-after-place-len-clause-left c =
+    let i = c.in-Some.place in
+    let left = c.remove-entry.ensures.by_index.2 in
+    let h = subst (λ (es : List Entry). IsLastOf es (number_of c.args.id) i) c.deref.ensures.value c.in-Some.ensures in
+    let seen = ap (leave (number_of c.args.id)) c.self.view_is in
+    elim c.if-place-len.branch [
+      | then-place-len w ↦
+          let a = w.index_mut.result.now in
+          let t = taken_within _ _ _ i c.remove-entry.result a c.self.invariant h c.remove-entry.ensures.value (w.index_mut.ensures.value ∙ ap (λ (us : List Entry). get_or us i a) left) (let e = ap length left in let n = c.len.ensures in let b = w.if-place-len.true in omega arith) in
+          w.self-is ∙ ap (λ (us : List Entry). ids_down (slice_set us i (record a { before = c.remove-entry.result.before }))) left ∙ t.left ∙ seen
+      | else-place-len w ↦
+          let t = taken_last _ _ _ i c.remove-entry.result c.self.invariant h c.remove-entry.ensures.value (let e = ap length left in let n = c.len.ensures in let b = w.if-place-len.false in omega arith) in
+          w.self-is ∙ ap ids_down left ∙ t.left ∙ seen
     ]
 
-pub returns-after-is_empty-clause-for_good : goal.returns-after-is_empty-clause-for_good
-returns-after-is_empty-clause-for_good c =
+pub returns-after-place-len-clause-for_good : goal.returns-after-place-len-clause-for_good
+returns-after-place-len-clause-for_good c =
     let h = subst (λ (es : List Entry). IsLastOf es (number_of c.args.id) c.in-Some.place) c.deref.ensures.value c.in-Some.ensures in
-    let p = popped _ _ _ c.remove-entry.result c.self.invariant.marked h c.remove-entry.ensures.value in
-    p.told ∙ ap (leaves_for_good (number_of c.args.id)) c.self.view_is
+    for_good _ _ _ c.remove-entry.result c.self.invariant.marked h c.remove-entry.ensures.value ∙ ap (leaves_for_good (number_of c.args.id)) c.self.view_is
