@@ -107,6 +107,7 @@ pub record IsAnd {A B : Type 0} (f : And A B) (a : A) (b : B) : Type 0 where
   pub first : f.a ≡ a
   pub second : f.b ≡ b
 
+-- the same of a filter that passes what either part does
 pub record IsOr {A B : Type 0} (f : Or A B) (a : A) (b : B) : Type 0 where
   pub first : f.a ≡ a
   pub second : f.b ≡ b
@@ -136,19 +137,23 @@ abbrev pub ActsPart : {F : Type 0} → (F → Conduct → Type 0) → Option F �
 ActsPart acts (Some f) b = acts f b
 ActsPart acts None b = b ≡ (λ h. all_answers)
 
--- the parts of filters of two, and the part of one
+-- the first part of a filter that passes what both parts do
 abbrev pub first_of_and : {A B : Type 0} → And A B → A
 first_of_and f = f.a
 
+-- its second part
 abbrev pub second_of_and : {A B : Type 0} → And A B → B
 second_of_and f = f.b
 
+-- the first part of a filter that passes what either part does
 abbrev pub first_of_or : {A B : Type 0} → Or A B → A
 first_of_or f = f.a
 
+-- its second part
 abbrev pub second_of_or : {A B : Type 0} → Or A B → B
 second_of_or f = f.b
 
+-- the part of a filter that passes what its part doesn't
 abbrev pub part_of_not : {A : Type 0} → Not A → A
 part_of_not f = f.a
 
@@ -156,5 +161,6 @@ part_of_not f = f.a
 abbrev pub AndPartsAre : {A B : Type 0} → (A → Type 0) → (B → Type 0) → And A B → Type 0
 AndPartsAre first second f = first (first_of_and f) × second (second_of_and f)
 
+-- the same of the parts of a filter that passes what either does
 abbrev pub OrPartsAre : {A B : Type 0} → (A → Type 0) → (B → Type 0) → Or A B → Type 0
 OrPartsAre first second f = first (first_of_or f) × second (second_of_or f)

@@ -11,7 +11,8 @@ use span_core::{Attributes, Event, Id, Interest, LevelFilter, Metadata, Record, 
 use span_registry::{Context, ContextMut, LookupSpan};
 use std::fmt;
 
-/// Wants what both of its parts want. It asks the first part first, and the second only where the first doesn't decide.
+/// Wants what both of its parts want. Of metadata and of events it asks the first part first,
+/// and the second only where the first doesn't decide.
 ///
 /// Stands for `tracing_subscriber::filter::combinator::And`.
 #[derive(Debug, Drop)]
@@ -20,7 +21,8 @@ pub struct And<A, B> {
     b: B,
 }
 
-/// Wants what either of its parts wants. It asks the first part first, and the second only where the first doesn't decide.
+/// Wants what either of its parts wants. Of metadata and of events it asks the first part first,
+/// and the second only where the first doesn't decide.
 ///
 /// Stands for `tracing_subscriber::filter::combinator::Or`.
 #[derive(Debug, Drop)]

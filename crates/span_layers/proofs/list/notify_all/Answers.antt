@@ -26,21 +26,21 @@ loop-member-preserved g c =
     let i = c.loop-member.member-index in
     let x = get_or c.loop-member.members c.loop-member.member-index c.member-item.result in
     let y = c.notify.new.member in
-    let told = c.notify.ensures in
+    let notified = c.notify.ensures in
     let goes = GoesOn g.S.LookupSpan.registry g.S.LookupSpan.with_registry g.L.Layer.has_form g.L.Layer.stepped (notice_of c.args.notice) c.args.ctx.now c.args.members.now in
     let within : c.loop-member.member-index < length c.loop-member.members = omega (arith, c.loop-member.auto.members, c.loop-member-test.true) in
     let in_all : c.loop-member.member-index < length c.args.members.now = omega (arith, c.loop-member.auto.members, c.loop-member-test.true) in
     let is = same_here all xs i h.left within c.member-item.result x in_all in
     record {
-      usable = All-set g.L.Layer.usable xs i y told.usable.0 h.usable;
-      subscriber = told.usable.1;
+      usable = All-set g.L.Layer.usable xs i y notified.usable.0 h.usable;
+      subscriber = notified.usable.1;
       left = same_rest all xs i h.left within y;
-      rest = handed_further g.S.LookupSpan.registry c.args.ctx.now c.loop-member.ctx c.notify.new.ctx h.rest told.rest;
+      rest = handed_further g.S.LookupSpan.registry c.args.ctx.now c.loop-member.ctx c.notify.new.ctx h.rest notified.rest;
       goes =
           less_left g.L.Layer.has_form all (goes c.loop-member.ctx (take i xs) (drop i all)) all i x in_all is (goes c.notify.new.ctx (take (i + 1) (set xs i y)) (drop (i + 1) all))
           (λ f o r form before.
           subst (λ done. goes c.notify.new.ctx done (drop (i + 1) all) f r) (sym (take_more_set xs i y within))
-          (one_notified g.S.LookupSpan.registry g.S.LookupSpan.with_registry g.L.Layer.has_form g.L.Layer.stepped (notice_of c.args.notice) c.args.ctx.now all g.met.S.LookupSpan.with_twice c.loop-member.ctx c.notify.new.ctx (take i xs) (drop (i + 1) all) x y f o r form h.rest told.rest told.alone told.hook
+          (one_notified g.S.LookupSpan.registry g.S.LookupSpan.with_registry g.L.Layer.has_form g.L.Layer.stepped (notice_of c.args.notice) c.args.ctx.now all g.met.S.LookupSpan.with_twice c.loop-member.ctx c.notify.new.ctx (take i xs) (drop (i + 1) all) x y f o r form h.rest notified.rest notified.alone notified.hook
           (subst (λ left. goes c.loop-member.ctx (take i xs) left f (Over InList o r)) (here all i x in_all is) before))) h.goes;
     }
 
