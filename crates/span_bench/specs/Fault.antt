@@ -1,3 +1,4 @@
+-- How a run of the workloads ends.
 use Rattle.std.specs.Prelude.{ℕ}
 use Rattle.span_bench.specs.declared.fault.Fault.{Fault}
 use Rattle.span_bench.specs.declared.fault.Fault.TheVariants.{Line, Refused, Undone, Io, Memory}

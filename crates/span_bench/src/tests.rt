@@ -1,3 +1,4 @@
+//! Lines, and a few rounds of each workload.
 use crate::fault::Fault;
 use crate::order::Order;
 use crate::run::{done, run};

@@ -55,7 +55,7 @@ steady_veto answers a = record {
   goes = λ x p e lane under v y w h s. ap answers h.1 ∙ s;
 }
 
--- an absent layer stays absent, whatever it is told
+-- an absent layer stays absent, whatever it is notified of
 module _ {L : Type 0} (goes : L → L → Type 0) where
   pub still_absent : (x y : Option L) → OptionGoes goes x y → x ≡ None → y ≡ None
   still_absent None None h s = refl

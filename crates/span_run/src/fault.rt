@@ -15,7 +15,7 @@ pub enum RunFault {
     /// The reader failed or gave too much, or the writer failed.
     #[error("input or output failed")]
     Io,
-    /// Memory was refused outside a request, or to the recorder.
+    /// Memory was refused outside a request, or to a recorder.
     #[error("out of memory")]
     Memory,
 }

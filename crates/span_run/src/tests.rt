@@ -1,3 +1,4 @@
+//! Tests of scripts: what they print, and which lines are wrong.
 use crate::fault::RunFault;
 use crate::reply::{Heard, text_of};
 use crate::run::{run, run_with};

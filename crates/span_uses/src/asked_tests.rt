@@ -13,7 +13,7 @@ use std::alloc::Global;
 use std::cell::Cell;
 use std::test::Fail;
 
-/// Answers what it is told to, and counts how often it is asked, and notified of an event.
+/// Answers what it was made to, and counts how often it is asked, and notified of an event.
 #[derive(Drop)]
 struct Asked {
     metadata_pass: bool,
