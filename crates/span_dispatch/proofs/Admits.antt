@@ -1,7 +1,7 @@
 -- Which interest a cache gives, and what comes of it.
 use Rattle.std.proofs.Common.{◌≡◌, ℕ, Bool, true, false, not, ◌==◌, if◌then◌else◌, Option, Some, None, Result, Ok, Err, inl, inr, refl, sym, ap, subst, arith, ◌∙◌}
 use Rattle.std.proofs.lemmas.Bool.Decides.{nat_tests}
-use Rattle.std.proofs.lemmas.Bool.{eq-eqb, eqb-true, false≢true, true≢false}
+use Rattle.std.proofs.lemmas.Bool.{eqb-true, false≢true, true≢false}
 use Rattle.std.specs.BTreeMap as tree
 use Rattle.std.specs.Option.{option_map, unwrap_or}
 use Rattle.std.specs.Ordering.{is_eq, nat_cmp}
@@ -17,7 +17,7 @@ use Rattle.span_core.specs.declared.metadata.Metadata.{Metadata}
 use Rattle.span_core.specs.declared.pass.Pass.{Pass}
 use Rattle.span_core.specs.declared.span.Lane.{Lane}
 use Rattle.span_dispatch.specs.Admission.{GivesInterest, HasInterestBy, IsAdmitted, IsInterestBy, IsLetBy, MayLearn, interests_nobody, is_above_hint, learned, learned_if}
-use Rattle.span_dispatch.specs.Cache.{Callsites, IsCurrent, IsUpToDate, Memory, RefusesInterest, callsites_of, kept_in, no_callsite, with_callsite}
+use Rattle.span_dispatch.specs.Cache.{Callsites, IsCurrent, Memory, RefusesInterest, callsites_of, kept_in, no_callsite, with_callsite}
 use Rattle.span_dispatch.specs.declared.cache.Cache.TheVariants.{Empty, Filled, Off}
 use Rattle.span_dispatch.specs.declared.cache.Cache.{Cache}
 use Rattle.span_dispatch.specs.declared.cache.Callsite.{Callsite}
@@ -26,13 +26,12 @@ use Rattle.span_layers.proofs.Hint.{above_is_unwanted}
 use Rattle.span_layers.proofs.HonestKept.{alike_interest}
 use Rattle.span_layers.proofs.Interest.{always_is_wanted, never_is_unwanted}
 use Rattle.span_layers.proofs.Pass.{asked_unless_vetoed}
-use Rattle.span_layers.specs.Honest.{HasHonestAnswers, IsHonestStack}
-use Rattle.span_layers.specs.Verdict.{vetoes}
+use Rattle.span_layers.specs.Honest.{IsHonestStack}
 use Rattle.span_layers.specs.Wanted.{IsUnwanted}
 use Rattle.span_registry.specs.Form.{Form}
 use Rattle.span_registry.specs.Hooks.{AnswersEnabled, AnswersInterest, no_filter}
 use Rattle.span_registry.specs.Question.{asked, hint_of, interest_of, is_never, refusals}
-use Rattle.span_registry.specs.Store.{RegistryState, Store}
+use Rattle.span_registry.specs.Store.{RegistryState}
 
 -- ---- what hint and interest say
 

@@ -1,23 +1,19 @@
 -- Of what is dropped nobody would have been notified; and each close is given while its span can be read.
-use Rattle.std.proofs.Common.{◌≡◌, ◌⊎◌, inl, inr, Bool, true, false, true≢false, ◌||◌, ℕ, zero, suc, List, [], ◌∷◌, ◌++◌, map, take, Option, Some, None, IfSome, is_some, slice_get, refl, sym, ap, subst, append_assoc, ◌∙◌, ⊎_elim}
+use Rattle.std.proofs.Common.{◌≡◌, inl, inr, Bool, true, false, ◌||◌, List, [], ◌∷◌, ◌++◌, map, Option, Some, None, sym, ap, subst, ◌∙◌, ⊎_elim}
 use Rattle.std.proofs.lemmas.Bool.{cases_Bool}
-use Rattle.std.proofs.lemmas.List.{append-nil}
 use Rattle.std.specs.List.{FoldsTo}
-use Rattle.std.specs.Option.{unwrap_or}
 use Rattle.span_core.specs.Event.{event_metadata}
 use Rattle.span_core.specs.Span.{number_of}
 use Rattle.span_core.specs.declared.event.Event.{Event}
-use Rattle.span_core.specs.declared.metadata.Metadata.{Metadata}
 use Rattle.span_core.specs.declared.span.Lane.{Lane}
 use Rattle.span_dispatch.specs.Admission.{IsDropped}
 use Rattle.span_dispatch.specs.Cache.{Memory}
 use Rattle.span_dispatch.specs.Call.{AddHandle, AskCurrent, Call, Comes, DropHandle, Enter, Exit, Follow, OpenSpan, Probe, RecordValues, SendEvent}
 use Rattle.span_dispatch.specs.Outcome.{GoesOn, Made, Makes, Noticed, Outcome, Quiet}
-use Rattle.span_dispatch.specs.Serve.{AreReadableCloses, AsksFor, IsReadableClose, IsUnwantedCall, LosesNothing, Run, ServesAsked, flat, outcome_of}
+use Rattle.span_dispatch.specs.Serve.{AreReadableCloses, DropsLoseNothing, IsReadableClose, IsUnwantedCall, LosesNothing, Run, ServesAsked, outcome_of}
 use Rattle.span_dispatch.specs.declared.request.Answer.TheVariants as answer
 use Rattle.span_dispatch.specs.declared.request.Answer.{Answer}
 use Rattle.span_dispatch.specs.declared.request.Request.{Request}
-use Rattle.span_dispatch.proofs.Seen.{asked_folds, folds_append}
 use Rattle.span_layers.specs.Verdict.{vetoes, vetoes_event}
 use Rattle.span_registry.specs.Answers.{OnClose, OnEnter, OnEvent, OnExit, OnFollows, OnIdChange, OnNewSpan, OnRecord}
 use Rattle.span_registry.specs.Form.{Form}
@@ -49,41 +45,23 @@ unwanted_call (DropHandle lane id) memory f s os h = h
 unwanted_call (Probe lane m) memory f s os h = h
 unwanted_call (AskCurrent lane) memory f s os h = h
 
-some_there : {A : Type 0} (x y : A) → Some x ≡ Some y → x ≡ y
-some_there {A} x y e = ap (λ (o : Option A). unwrap_or o x) e
-
 module _ {S : Type 0} (registry : S → RegistryState) (with_registry : S → RegistryState → S) (has_form : S → Form → Type 0) (stepped : StackSteps S) where
   unwanted_asked : (o : Option Call) (memory : Memory) (x : S) (a : Answer) (ms : List Made) (after : Memory) (y : S) → a ≡ answer.Dropped → ServesAsked registry with_registry has_form stepped o memory x a ms after y
-      → IfSome o (λ c. (f : Form) × has_form x f × IsUnwantedCall c f (registry x).store)
+      → LosesNothing registry with_registry has_form stepped o x
   unwanted_asked None memory x a ms after y e h = tt
   unwanted_asked (Some call) memory x a ms after y e h =
       (h.0, h.1.honest.has, unwanted_call call memory h.0 (registry x) (map outcome_of ms) (subst (λ b. Comes call memory h.0 (registry x) b (map outcome_of ms)) e h.2.comes))
 
   -- what a run drops nobody would have been notified of
-  pub lost_nothing : (past : List Answer) (rs : List Request) (answers : List Answer) (made : List (List Made)) (memory : Memory) (x : S) (after : Memory) (y : S) → Run registry with_registry has_form stepped past rs answers made memory x after y
-      → (n : ℕ) (r : Request) → slice_get rs n ≡ Some r → slice_get answers n ≡ Some answer.Dropped → LosesNothing registry with_registry has_form stepped (past ++ take n answers) r x (flat (take n made))
-  lost_nothing past [] [] [] memory x after y h n r e d = absurd (true≢false (sym (ap (λ (o : Option Request). is_some o) e)))
-  lost_nothing past [] [] (m ∷ made) memory x after y h n r e d = absurd h
-  lost_nothing past [] (b ∷ answers) made memory x after y h n r e d = absurd h
-  lost_nothing past (q ∷ rs) [] made memory x after y h n r e d = absurd h
-  lost_nothing past (q ∷ rs) (b ∷ answers) [] memory x after y h n r e d = absurd h
-  lost_nothing past (q ∷ rs) (b ∷ answers) (ms ∷ made) memory x after y h zero r e d =
-      record {
-        call = h.2.call;
-        asks = subst (λ p. AsksFor p r h.2.call) (sym (append-nil past)) (subst (λ (t : Request). AsksFor past t h.2.call) (some_there q r e) h.2.asks);
-        stack = x;
-        reached = refl;
-        unwanted = unwanted_asked h.2.call memory x b ms h.0 h.1 (some_there b answer.Dropped d) h.2.served;
-      }
-  lost_nothing past (q ∷ rs) (b ∷ answers) (ms ∷ made) memory x after y h (suc n) r e d =
-      let later = lost_nothing (past ++ (b ∷ [])) rs answers made h.0 h.1 after y h.3 n r e d in
-      record {
-        call = later.call;
-        asks = subst (λ p. AsksFor p r later.call) (append_assoc past (b ∷ []) (take n answers)) later.asks;
-        stack = later.stack;
-        reached = folds_append registry with_registry has_form stepped x ms (flat (take n made)) h.1 later.stack (asked_folds registry with_registry has_form stepped h.2.call memory x b ms h.0 h.1 h.2.served) later.reached;
-        unwanted = later.unwanted;
-      }
+  pub lost_nothing : (past : List Answer) (rs : List Request) (answers : List Answer) (made : List (List Made)) (memory : Memory) (x : S) (after : Memory) (y : S) (h : Run registry with_registry has_form stepped past rs answers made memory x after y)
+      → DropsLoseNothing registry with_registry has_form stepped past rs answers made memory x after y h
+  lost_nothing past [] [] [] memory x after y h = tt
+  lost_nothing past [] [] (m ∷ made) memory x after y h = tt
+  lost_nothing past [] (b ∷ answers) made memory x after y h = tt
+  lost_nothing past (q ∷ rs) [] made memory x after y h = tt
+  lost_nothing past (q ∷ rs) (b ∷ answers) [] memory x after y h = tt
+  lost_nothing past (q ∷ rs) (b ∷ answers) (ms ∷ made) memory x after y h =
+      (λ e. unwanted_asked h.2.call memory x b ms h.0 h.1 e h.2.served, lost_nothing (past ++ (b ∷ [])) rs answers made h.0 h.1 after y h.3)
 
   readable_one : (o : Outcome) (f : Form) (s : Store) (x y : S) → s ≡ (registry x).store → GoesOn registry with_registry has_form stepped f o x y → IsReadableClose s o
   readable_one (Quiet c) f s x y same h = tt

@@ -1,5 +1,5 @@
 -- How an honest stack goes on: through a notice or a quiet change, after which it is honest; and how a call is served by one of these.
-use Rattle.std.proofs.Common.{◌≡◌, ℕ, List, [], ◌∷◌, Option, None, refl, sym, ap, subst, ◌∙◌}
+use Rattle.std.proofs.Common.{◌≡◌, ℕ, List, [], ◌∷◌, Option, refl, sym, ap, subst, ◌∙◌}
 use Rattle.span_core.specs.Filters.{FilterSet}
 use Rattle.span_core.specs.declared.interest.Interest.{Interest}
 use Rattle.span_core.specs.declared.span.Lane.{Lane}

@@ -89,11 +89,11 @@ module _ {S : Type 0} (registry : S → RegistryState) {with_registry : S → Re
       laws.heard.further x h.0 y place _ _ (by_outcome m.form m.outcome m.store x h.0 place h.1.store h.1.goes) (goes_through h.0 ms y place h.2)
 
 module _ {S : Type 0} (registry : S → RegistryState) (with_registry : S → RegistryState → S) (has_form : S → Form → Type 0) (stepped : StackSteps S) where
-  pub folds_append : (x : S) (ms ns : List Made) (y z : S) → FoldsTo (Makes registry with_registry has_form stepped) x ms y → FoldsTo (Makes registry with_registry has_form stepped) y ns z → FoldsTo (Makes registry with_registry has_form stepped) x (ms ++ ns) z
+  folds_append : (x : S) (ms ns : List Made) (y z : S) → FoldsTo (Makes registry with_registry has_form stepped) x ms y → FoldsTo (Makes registry with_registry has_form stepped) y ns z → FoldsTo (Makes registry with_registry has_form stepped) x (ms ++ ns) z
   folds_append x [] ns y z h k = subst (λ w. FoldsTo (Makes registry with_registry has_form stepped) w ns z) (sym h) k
   folds_append x (m ∷ ms) ns y z h k = (h.0, h.1, folds_append h.0 ms ns y z h.2 k)
 
-  pub asked_folds : (o : Option Call) (memory : Memory) (x : S) (a : Answer) (ms : List Made) (after : Memory) (y : S) → ServesAsked registry with_registry has_form stepped o memory x a ms after y → FoldsTo (Makes registry with_registry has_form stepped) x ms y
+  asked_folds : (o : Option Call) (memory : Memory) (x : S) (a : Answer) (ms : List Made) (after : Memory) (y : S) → ServesAsked registry with_registry has_form stepped o memory x a ms after y → FoldsTo (Makes registry with_registry has_form stepped) x ms y
   asked_folds None memory x a ms after y h = subst (λ ns. FoldsTo (Makes registry with_registry has_form stepped) x ns y) (sym h.1) (sym h.3)
   asked_folds (Some call) memory x a ms after y h = h.2.goes
 

@@ -1,5 +1,5 @@
 -- What each call does to the store, whatever the stack answers.
-use Rattle.std.proofs.Common.{◌≡◌, Bool, true, false, ◌&&◌, [], Option, Some, None, Result, Ok, Err, IfOk, OnOk, refl, sym, ap, subst, ◌∙◌}
+use Rattle.std.proofs.Common.{◌≡◌, Bool, true, false, ◌&&◌, [], Some, None, Result, Ok, Err, IfOk, OnOk, refl, sym, ap, subst, ◌∙◌}
 use Rattle.std.proofs.lemmas.Bool.{true≢false}
 use Rattle.span_core.specs.Span.{number_of}
 use Rattle.span_core.specs.declared.error.TraceError.{TraceError}
@@ -8,9 +8,10 @@ use Rattle.span_core.specs.declared.span.Attributes.{Attributes}
 use Rattle.span_core.specs.declared.span.Id.{Id}
 use Rattle.span_core.specs.declared.span.Lane.{Lane}
 use Rattle.span_dispatch.specs.Cache.{Memory, RefusesInterest}
-use Rattle.span_dispatch.specs.Call.{DropsSpan, FindsOpen, OpensFor, TakesHandle, WantsEvent, WantsMetadata}
-use Rattle.span_dispatch.specs.Serve.{ClosesEach}
-use Rattle.span_registry.proofs.CallerLemmas.{begins_with, closes_itself, closes_with_hooks, drops_open, nothing_taken, same_itself, taken_out, settled_closed, settled_still}
+use Rattle.span_dispatch.specs.Call.{DropsSpan, FindsOpen, OpensFor, WantsEvent, WantsMetadata}
+use Rattle.span_dispatch.specs.Serve.{ClosesEach, TakesHandle, TakesStepAlone, stack_of}
+use Rattle.span_dispatch.specs.declared.dispatch.Dispatch.{Dispatch}
+use Rattle.span_registry.proofs.CallerLemmas.{closes_itself, closes_with_hooks, drops_open, same_itself, settled_closed, settled_still}
 use Rattle.span_registry.specs.Closes.{IsSettled}
 use Rattle.span_registry.specs.Form.{Form}
 use Rattle.span_registry.specs.Hooks.{AnswersEnabled, AnswersEvent, OpensAndNotifies, StackSteps, Stays, no_filter}
@@ -22,7 +23,7 @@ use Rattle.span_core.specs.declared.event.Event.{Event}
 use Rattle.span_core.specs.declared.metadata.Metadata.{Metadata}
 use Rattle.span_core.specs.declared.pass.Pass.{Pass}
 use Rattle.span_registry.specs.Laws.{ClosesAll}
-use Rattle.span_registry.specs.Step.{Clones, Exits, Releases, TakesOut}
+use Rattle.span_registry.specs.Step.{Clones, Exits, Releases}
 use Rattle.span_registry.specs.Store.{IsForest, IsOpen, RegistryState}
 use Rattle.span_registry.specs.Subscriber.{AndHooks, SameButExtensions}
 use Rattle.span_registry.specs.declared.registry.Released.TheVariants.{Closing, StillOpen}
@@ -99,19 +100,23 @@ module _ {S : Type 0} (registry : S → RegistryState) where
   pub found_store : (id : Id) (x y : S) → IsOpen (registry x).store.spans (number_of id) → AndHooks registry Stays x y → AndHooks registry (FindsOpen id) x y
   found_store id x y there h = record { stepped = h.stepped; taken = (there, h.taken); hooks = h.hooks }
 
-  pub cloned_store : (id : Id) (r : Result Id TraceError) (x y : S) → OnOk r (Clones id (registry x) (registry y)) → OnOk r (AndHooks registry (Clones id) x y)
-  cloned_store id (Ok other) x y h = record { stepped = registry y; taken = h; hooks = same_itself (registry y) }
-  cloned_store id (Err e) x y h = tt
-
   module _ (with_registry : S → RegistryState → S) where
+    pub cloned_store : (id : Id) (r : Result Id TraceError) (old new : Dispatch S) → OnOk r (Clones id (registry (stack_of old)) (registry (stack_of new)))
+        → stack_of new ≡ with_registry (stack_of old) (registry (stack_of new)) → OnOk r (TakesStepAlone registry with_registry (Clones id) old new)
+    cloned_store id (Ok other) old new taken alone = (taken, alone)
+    cloned_store id (Err e) old new taken alone = tt
+
     module _ (registry_with : (s : S) (w : RegistryState) → registry (with_registry s w) ≡ w) where
       pub gone_store : (lane : Lane) (id : Id) (x : S) (w : RegistryState) → Exits lane id (registry x) w → AndHooks registry (Exits lane id) x (with_registry x w)
       gone_store lane id x w e = record { stepped = registry (with_registry x w); taken = registry_with x w ∙ e; hooks = same_itself (registry (with_registry x w)) }
 
-      pub still_open_taken : (id : Id) (a : Released) (x : S) (w : RegistryState) → Releases id a (registry x) w → AndHooks registry (TakesHandle id false) x (with_registry x w)
-      still_open_taken id a x w r =
-          let step : TakesHandle id false (registry x) w = (r.held, ([], subst (λ t. TakesOut t [] w) r.state (nothing_taken w), (λ t. absurd (true≢false (sym t)), λ n. absurd n))) in
-          record { stepped = registry (with_registry x w); taken = subst (λ t. TakesHandle id false (registry x) t) (sym (registry_with x w)) step; hooks = same_itself (registry (with_registry x w)) }
+      -- the registry alone took a step
+      pub alone : (step : RegistryState → RegistryState → Type 0) (x : S) (w : RegistryState) → step (registry x) w → step (registry x) (registry (with_registry x w)) × (with_registry x w ≡ with_registry x (registry (with_registry x w)))
+      alone step x w taken = (subst (λ t. step (registry x) t) (sym (registry_with x w)) taken, ap (λ t. with_registry x t) (sym (registry_with x w)))
+
+      pub still_open_taken : (id : Id) (a : Released) (old new : Dispatch S) (w : RegistryState) → stack_of new ≡ with_registry (stack_of old) w → Releases id a (registry (stack_of old)) w → a ≡ StillOpen → TakesHandle registry with_registry id false old new
+      still_open_taken id a old new w by r same =
+          subst (λ y. Releases id StillOpen (registry (stack_of old)) (registry y) × (y ≡ with_registry (stack_of old) (registry y))) (sym by) (alone (Releases id StillOpen) (stack_of old) w (subst (λ b. Releases id b (registry (stack_of old)) w) same r))
 
       pub still_open_store : (id : Id) (a : Released) (x : S) (w : RegistryState) → Releases id a (registry x) w → a ≡ StillOpen → IsForest (registry x).store.spans → IsSettled (registry x).store.spans
           → AndHooks registry (DropsSpan id false) x (with_registry x w) × IsSettled (registry (with_registry x w)).store.spans
@@ -122,13 +127,12 @@ module _ {S : Type 0} (registry : S → RegistryState) where
             subst (λ (t : RegistryState). IsSettled t.store.spans) (sym (registry_with x w)) (settled_still h r same),
           )
 
-    pub closed_taken : (has_form : S → Form → Type 0) (stepped : StackSteps S) → ((s : S) (w : RegistryState) → registry (with_registry s w) ≡ w) → (lane : Lane) (id : Id) (a : Released) (x y : S) (w : RegistryState) → Releases id a (registry x) w
-        → ClosesEach registry with_registry has_form stepped lane id (with_registry x w) y → AndHooks registry (TakesHandle id true) x y
-    closed_taken has_form stepped registry_with lane id a x y w r k =
-        let z = with_registry x w in
-        let out = taken_out (registry z) id k.closed None (registry y) k.removal in
-        let there = begins_with SameButExtensions (registry z) id k.closed (registry y) k.removal in
-        record { stepped = out.0; taken = (r.held, (k.closed, subst (λ t. TakesOut t k.closed out.0) (registry_with x w ∙ r.state) out.1, (λ _. there, λ _. refl))); hooks = out.2 }
+    -- and then each was taken out that closed by that
+    pub closed_taken : (has_form : S → Form → Type 0) (stepped : StackSteps S) → ((s : S) (w : RegistryState) → registry (with_registry s w) ≡ w) → (lane : Lane) (id : Id) (a : Released) (old new : Dispatch S) (w : RegistryState) → Releases id a (registry (stack_of old)) w → a ≡ Closing
+        → ClosesEach registry with_registry has_form stepped lane id (with_registry (stack_of old) w) (stack_of new) → TakesHandle registry with_registry id true old new
+    closed_taken has_form stepped registry_with lane id a old new w r same k =
+        let z = with_registry (stack_of old) w in
+        (registry z, subst (λ t. Releases id Closing (registry (stack_of old)) t) (sym (registry_with (stack_of old) w)) (subst (λ b. Releases id b (registry (stack_of old)) w) same r), (k.closed, k.removal))
 
     pub closed_store : (has_form : S → Form → Type 0) (stepped : StackSteps S) → ((s : S) (w : RegistryState) → registry (with_registry s w) ≡ w) → (lane : Lane) (id : Id) (a : Released) (x y : S) (w : RegistryState) → Releases id a (registry x) w → a ≡ Closing
         → IsForest (registry x).store.spans → ClosesEach registry with_registry has_form stepped lane id (with_registry x w) y → IsSettled (registry x).store.spans → AndHooks registry (DropsSpan id true) x y × IsSettled (registry y).store.spans

@@ -24,8 +24,8 @@ use Rattle.span_registry.specs.Closes.{Closes, Member}
 use Rattle.span_registry.specs.Form.{Form}
 use Rattle.span_registry.specs.Hooks.{no_filter}
 use Rattle.span_registry.specs.Question.{asked, event_asked}
-use Rattle.span_registry.specs.Step.{Drops, IsCurrent, Opens, TakesOut, RefusesClone, RefusesEnter, RefusesNew, RefusesRelease}
-use Rattle.span_registry.specs.Store.{IsHeld, IsOpen, RegistryState, Store, take_handle, with_spans}
+use Rattle.span_registry.specs.Step.{Drops, IsCurrent, Opens, RefusesClone, RefusesEnter, RefusesNew, RefusesRelease}
+use Rattle.span_registry.specs.Store.{IsHeld, IsOpen, RegistryState, Store}
 
 -- what a dispatcher is asked, from a lane
 pub data Call : Type 0 where
@@ -130,11 +130,6 @@ RefusesSpan memory s lane attrs e = RefusesInterest memory (metadata_of attrs) e
 -- the span is open, and nothing changes
 abbrev pub FindsOpen : Id → RegistryState → RegistryState → Type 0
 FindsOpen id s t = IsOpen s.store.spans (number_of id) × (t ≡ s)
-
--- a handle is taken from a span that has one, and some spans are taken out; the answer is whether the span is among them
-abbrev pub TakesHandle : Id → Bool → RegistryState → RegistryState → Type 0
-TakesHandle id closes s t =
-    IsHeld s.store.spans (number_of id) × ((closed : List ℕ) × TakesOut (with_spans s (take_handle s.store.spans (number_of id))) closed t × (IsTrue closes ↔ Member (number_of id) closed))
 
 -- a handle is taken, and what closes by that is taken out; the answer is whether the span is among it
 abbrev pub DropsSpan : Id → Bool → RegistryState → RegistryState → Type 0

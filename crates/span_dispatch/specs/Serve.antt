@@ -1,5 +1,5 @@
 -- How a dispatcher serves a call, and a list of requests.
-use Rattle.std.specs.Prelude.{◌≡◌, ◌⊎◌, ⊤, ℕ, List, [], ◌∷◌, ◌++◌, map, take, Bool, true, Option, Some, None, IfSome, Result, slice_get}
+use Rattle.std.specs.Prelude.{◌≡◌, ◌⊎◌, ⊤, ℕ, List, [], ◌∷◌, ◌++◌, map, Bool, false, true, Option, Some, None, IfSome, Result, slice_get}
 use Rattle.std.specs.List.{FoldsTo}
 use Rattle.std.specs.Option.{option_and_then, option_map, option_map_or}
 use Rattle.span_core.specs.Event.{event_metadata, event_parent, event_values}
@@ -35,9 +35,10 @@ use Rattle.span_registry.specs.Agree.{AgreeAt}
 use Rattle.span_registry.specs.Conducts.{ActsAt, Conducts, numbers_in}
 use Rattle.span_registry.specs.Hooks.{StackSteps}
 use Rattle.span_registry.specs.Place.{HearSteps, Place}
-use Rattle.span_registry.specs.Step.{Removal}
+use Rattle.span_registry.specs.Step.{Releases, Removal}
 use Rattle.span_registry.specs.Subscriber.{AndHooks, SameButExtensions}
 use Rattle.span_registry.specs.Store.{IsClosing, RegistryState, Store}
+use Rattle.span_registry.specs.declared.registry.Released.TheVariants.{Closing, StillOpen}
 
 -- the stack of a dispatcher
 abbrev pub stack_of : {S : Type 0} → Dispatch S → S
@@ -63,9 +64,20 @@ forgetful d = record d { cache = forgotten d.cache }
 abbrev pub TakesStep : {S : Type 0} → (S → RegistryState) → (RegistryState → RegistryState → Type 0) → Dispatch S → Dispatch S → Type 0
 TakesStep registry step old new = AndHooks registry step (stack_of old) (stack_of new)
 
--- the registry alone changes: no layer is notified
-abbrev pub ChangesAlone : {S : Type 0} → (S → RegistryState) → (S → RegistryState → S) → Dispatch S → Dispatch S → Type 0
-ChangesAlone registry with_registry old new = stack_of new ≡ with_registry (stack_of old) (registry (stack_of new))
+-- the registry alone takes a step: no layer is notified
+abbrev pub TakesStepAlone : {S : Type 0} → (S → RegistryState) → (S → RegistryState → S) → (RegistryState → RegistryState → Type 0) → Dispatch S → Dispatch S → Type 0
+TakesStepAlone registry with_registry step old new = step (registry (stack_of old)) (registry (stack_of new)) × (stack_of new ≡ with_registry (stack_of old) (registry (stack_of new)))
+
+-- a handle is taken, whatever the stack. Where the span closes by that, it is taken out, and then each parent that closes by that; extensions may be written in between. Else no layer is notified
+abbrev pub TakesHandle : {S : Type 0} → (S → RegistryState) → (S → RegistryState → S) → Id → Bool → Dispatch S → Dispatch S → Type 0
+TakesHandle registry with_registry id false old new = TakesStepAlone registry with_registry (Releases id StillOpen) old new
+TakesHandle registry with_registry id true old new =
+    (released : RegistryState) × Releases id Closing (registry (stack_of old)) released × ((closed : List ℕ) × Removal SameButExtensions released id closed None (registry (stack_of new)))
+
+-- where what was kept is what the stack would answer, by a form that it has, so is what is kept now
+abbrev pub StaysUpToDate : {S : Type 0} → (S → RegistryState) → (S → Form → Type 0) → Dispatch S → Dispatch S → Type 0
+StaysUpToDate registry has_form old new =
+    (f : Form) → has_form (stack_of old) f → KeepsUpToDate f (registry (stack_of old)).filters old → KeepsUpToDate f (registry (stack_of old)).filters new
 
 -- the span that an answer gave
 abbrev pub made_by : Option Answer → Option Id
@@ -216,18 +228,14 @@ module _ {S : Type 0} (registry : S → RegistryState) (with_registry : S → Re
   Run past (r ∷ rs) (a ∷ answers) (ms ∷ made) kept x after y = (k : Memory) × (z : S) × ServesRequest past r kept x a ms k z × Run (past ++ (a ∷ [])) rs answers made k z after y
   Run past rs answers made kept x after y = ⊥
 
-  -- behind these answers a request asked for something of which nobody would have been notified, on the stack as it was when all this had been made; or it named no span
-  pub record LosesNothing (past : List Answer) (r : Request) (x : S) (made : List Made) : Type 0 where
-    pub call : Option Call
-    pub asks : AsksFor past r call
-    pub stack : S
-    pub reached : FoldsTo (Makes registry with_registry has_form stepped) x made stack
-    pub unwanted : IfSome call (λ c. (f : Form) × has_form stack f × IsUnwantedCall c f (registry stack).store)
+  -- nobody would have been notified of what was asked of this stack; or nothing was asked
+  abbrev pub LosesNothing : Option Call → S → Type 0
+  LosesNothing asked x = IfSome asked (λ call. (f : Form) × has_form x f × IsUnwantedCall call f (registry x).store)
 
-  -- so it is of each request that was dropped
-  abbrev pub DropsLoseNothing : List Request → List Answer → S → List (List Made) → Type 0
-  DropsLoseNothing requests answers x made =
-      (n : ℕ) (r : Request) → slice_get requests n ≡ Some r → slice_get answers n ≡ Some answer.Dropped → LosesNothing (take n answers) r x (flat (take n made))
+  -- so it is of each request of a run that was dropped, by the stack that it was asked of
+  abbrev pub DropsLoseNothing : (past : List Answer) (requests : List Request) (answers : List Answer) (made : List (List Made)) (kept : Memory) (x : S) (after : Memory) (y : S) → Run past requests answers made kept x after y → Type 0
+  DropsLoseNothing past (r ∷ rs) (a ∷ answers) (ms ∷ made) kept x after y run = (a ≡ answer.Dropped → LosesNothing run.2.call x) × DropsLoseNothing (past ++ (a ∷ [])) rs answers made run.0 run.1 after y run.3
+  DropsLoseNothing past rs answers made kept x after y run = ⊤
 
   -- a list of requests is served so
   pub record Served (hears : HearSteps S) (acts_at : ActsAt S) (requests : List Request) (answers : List Answer) (old new : Dispatch S) : Type 0 where
@@ -240,7 +248,7 @@ module _ {S : Type 0} (registry : S → RegistryState) (with_registry : S → Re
     -- as if it stood alone
     pub alone : EachSeesAlone registry acts_at (stack_of old) (flat made)
     -- of a request that hint or kept interest dropped no layer would have been notified
-    pub dropped : DropsLoseNothing requests answers (stack_of old) made
+    pub dropped : DropsLoseNothing [] requests answers made (kept_by old) (stack_of old) (kept_by new) (stack_of new) run
     -- each closed span is notified of once
     pub once : StandOnce (closed_in (flat made))
     -- child before parent, while still readable

@@ -6,10 +6,10 @@ ghost use Rattle.span_core.specs.Filters.{IsEmpty};
 ghost use Rattle.span_core.specs.Span.{metadata_of, number_of};
 ghost use Rattle.span_dispatch.specs.Admission.{MayLearn, hint_kept};
 ghost use Rattle.span_dispatch.specs.Cache.{RefusesInterest, no_callsite};
-ghost use Rattle.span_dispatch.specs.Call.{AddHandle, AskCurrent, DropHandle, DropsSpan, Enter, Exit, FindsOpen, Follow, OpensFor, OpenSpan, Probe, RecordValues, RefusesSpan, RefusesUnlessOpen, SendEvent, TakesHandle, WantsEvent, WantsMetadata, current_answer, done_answer, event_answer, span_answer, yes_answer};
+ghost use Rattle.span_dispatch.specs.Call.{AddHandle, AskCurrent, DropHandle, DropsSpan, Enter, Exit, FindsOpen, Follow, OpensFor, OpenSpan, Probe, RecordValues, RefusesSpan, RefusesUnlessOpen, SendEvent, WantsEvent, WantsMetadata, current_answer, done_answer, event_answer, span_answer, yes_answer};
 ghost use Rattle.span_dispatch.specs.contracts.dispatch.Dispatch.{the_row};
 ghost use Rattle.span_dispatch.specs.declared.request.Answer.TheVariants.{Done};
-ghost use Rattle.span_dispatch.specs.Serve.{Admits, AnswersCall, AnswersDrop, ChangesAlone, ClosesEach, IsReady, IsReadyAfter, KeepsUpToDate, SeesWhatIsMade, StaysReady, TakesStep, forgetful, kept_by, stack_of, with_stack};
+ghost use Rattle.span_dispatch.specs.Serve.{Admits, AnswersCall, AnswersDrop, ClosesEach, IsReady, IsReadyAfter, KeepsUpToDate, SeesWhatIsMade, StaysReady, StaysUpToDate, TakesHandle, TakesStep, TakesStepAlone, forgetful, kept_by, stack_of, with_stack};
 ghost use Rattle.span_registry.specs.Step.{Clones, Enters, Exits, RefusesClone, RefusesEnter, RefusesRelease, ShowsCurrent};
 ghost use Rattle.span_registry.specs.Closes.{IsSettled};
 ghost use Rattle.span_registry.specs.Form.{Form};
@@ -110,7 +110,7 @@ impl<S: Subscriber> Dispatch<S> {
         requires fresh { IsEmpty (refusals pass.old) }
         ensures stack { stack_of self.new ≡ stack_of self.old }
         ensures admitted { Admits S.registry S.with_registry S.has_form S.stepped lane meta.now self.old pass.new result self.new }
-        ensures kept { (f : Form) → S.has_form (stack_of self.old) f → KeepsUpToDate f (S.registry (stack_of self.old)).filters self.old → KeepsUpToDate f (S.registry (stack_of self.old)).filters self.new }
+        ensures kept { StaysUpToDate S.registry S.has_form self.old self.new }
         ensures learned { MayLearn (kept_by self.old) meta.now (kept_by self.new) }
         ensures nothing_kept { kept_by self.old ≡ None → IfOk result (λ said. AnswersEnabled S.registry S.has_form (stack_of self.old) lane meta.now pass.old said pass.new) }
         ensures refused { IfErr result (RefusesInterest (kept_by self.old) meta.now) }
@@ -132,6 +132,7 @@ impl<S: Subscriber> Dispatch<S> {
         requires { S.usable (stack_of self.old) }
         ensures stack { stack_of self.new ≡ stack_of self.old }
         ensures kept { MayLearn (kept_by self.old) meta.now (kept_by self.new) }
+        ensures up_to_date { StaysUpToDate S.registry S.has_form self.old self.new }
         ensures ready { StaysReady S.registry S.with_registry S.has_form S.stepped self.old self.new }
         ensures asked { IfOk result (WantsMetadata S.registry S.has_form lane meta.now (kept_by self.old) (stack_of self.old)) }
         ensures served { AnswersCall S.registry S.with_registry S.has_form S.stepped (Probe lane meta.now) (yes_answer result) self.old self.new }
@@ -151,6 +152,7 @@ impl<S: Subscriber> Dispatch<S> {
         requires { S.usable (stack_of self.old) }
         ensures usable { S.usable (stack_of self.new) }
         ensures kept { MayLearn (kept_by self.old) (metadata_of attrs.now) (kept_by self.new) }
+        ensures up_to_date { StaysUpToDate S.registry S.has_form self.old self.new }
         ensures ready { StaysReady S.registry S.with_registry S.has_form S.stepped self.old self.new }
         ensures served { AnswersCall S.registry S.with_registry S.has_form S.stepped (OpenSpan lane attrs.now) (span_answer result) self.old self.new }
         ensures seen { SeesWhatIsMade S.registry S.with_registry S.has_form S.stepped S.hears S.acts_at self.old self.new }
@@ -177,6 +179,7 @@ impl<S: Subscriber> Dispatch<S> {
         requires { S.usable (stack_of self.old) }
         ensures usable { S.usable (stack_of self.new) }
         ensures kept { MayLearn (kept_by self.old) (event_metadata event.now) (kept_by self.new) }
+        ensures up_to_date { StaysUpToDate S.registry S.has_form self.old self.new }
         ensures ready { StaysReady S.registry S.with_registry S.has_form S.stepped self.old self.new }
         ensures served { AnswersCall S.registry S.with_registry S.has_form S.stepped (SendEvent lane event.now) (event_answer result) self.old self.new }
         ensures seen { SeesWhatIsMade S.registry S.with_registry S.has_form S.stepped S.hears S.acts_at self.old self.new }
@@ -224,7 +227,7 @@ impl<S: Subscriber> Dispatch<S> {
         ensures served { AnswersCall S.registry S.with_registry S.has_form S.stepped (Exit lane id) (Done) self.old self.new }
         ensures seen { SeesWhatIsMade S.registry S.with_registry S.has_form S.stepped S.hears S.acts_at self.old self.new }
         ensures store { TakesStep S.registry (Exits lane id) self.old self.new }
-        ensures gone { ¬ (IsOpen (S.registry (stack_of self.old)).store.spans (number_of id)) → ChangesAlone S.registry S.with_registry self.old self.new }
+        ensures gone { ¬ (IsOpen (S.registry (stack_of self.old)).store.spans (number_of id)) → TakesStepAlone S.registry S.with_registry (Exits lane id) self.old self.new }
     {
         if self.stack.root().is_open(id) {
             self.stack.exit(lane, id);
@@ -281,8 +284,7 @@ impl<S: Subscriber> Dispatch<S> {
         ensures same { IfOk result (λ cloned. cloned ≡ id) }
         ensures served { AnswersCall S.registry S.with_registry S.has_form S.stepped (AddHandle lane id) (done_answer result) self.old self.new }
         ensures seen { SeesWhatIsMade S.registry S.with_registry S.has_form S.stepped S.hears S.acts_at self.old self.new }
-        ensures store { OnOk result (TakesStep S.registry (Clones id) self.old self.new) }
-        ensures alone { ChangesAlone S.registry S.with_registry self.old self.new }
+        ensures store { OnOk result (TakesStepAlone S.registry S.with_registry (Clones id) self.old self.new) }
         ensures refused { IfErr result (RefusesClone (S.registry (stack_of self.old)) id) }
         ensures unchanged { OnErr result (self.new ≡ self.old) }
     {
@@ -300,7 +302,7 @@ impl<S: Subscriber> Dispatch<S> {
         ensures ready { StaysReady S.registry S.with_registry S.has_form S.stepped self.old self.new }
         ensures served { AnswersDrop S.registry S.with_registry S.has_form S.stepped (DropHandle lane id) (yes_answer result) self.old self.new }
         ensures seen { SeesWhatIsMade S.registry S.with_registry S.has_form S.stepped S.hears S.acts_at self.old self.new }
-        ensures taken { IfOk result (λ closes. TakesStep S.registry (TakesHandle id closes) self.old self.new) }
+        ensures taken { IfOk result (λ closes. TakesHandle S.registry S.with_registry id closes self.old self.new) }
         ensures store { IfOk result (λ closes. IsSettled (S.registry (stack_of self.old)).store.spans → TakesStep S.registry (DropsSpan id closes) self.old self.new) }
         ensures settled { IsSettled (S.registry (stack_of self.old)).store.spans → IsSettled (S.registry (stack_of self.new)).store.spans }
         ensures refused { IfErr result (RefusesRelease (S.registry (stack_of self.old)) id) }

@@ -14,7 +14,7 @@ pub returns-clause-served : goal.returns-clause-served
 returns-clause-served g c = λ f h u. (cloned_so g.met.S.Subscriber.laws g.met.S.LookupSpan.with_own (kept_by c.args.self.now) c.args.lane c.args.id c.clone_span.result f c.args.self.now.stack c.clone_span.new.self c.clone_span.ensures.cloned c.clone_span.ensures.alone c.clone_span.ensures.refused c.clone_span.ensures.unchanged h).0
 
 pub returns-clause-store : goal.returns-clause-store
-returns-clause-store g c = cloned_store g.S.LookupSpan.registry c.args.id c.clone_span.result c.args.self.now.stack c.clone_span.new.self c.clone_span.ensures.cloned
+returns-clause-store g c = cloned_store g.S.LookupSpan.registry g.S.LookupSpan.with_registry c.args.id c.clone_span.result c.args.self.now (with_stack c.args.self.now c.clone_span.new.self) c.clone_span.ensures.cloned c.clone_span.ensures.alone
 
 pub returns-clause-seen : goal.returns-clause-seen
 returns-clause-seen g c = sees_what_is_made g.S.LookupSpan.registry g.met.S.Subscriber.laws g.met.S.Subscriber.paths

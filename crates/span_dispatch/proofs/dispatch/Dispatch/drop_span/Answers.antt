@@ -3,7 +3,7 @@ use Rattle.span_dispatch.specs.Serve.{kept_by, with_stack}
 use Rattle.span_dispatch.proofs.Goes.{ready_again, stays_so}
 use Rattle.span_dispatch.proofs.Stores.{closed_taken, still_open_taken}
 use Rattle.span_dispatch.proofs.Stores.{closed_store, still_open_store}
-use Rattle.std.proofs.Common.{ap, subst, sym, ◌∙◌}
+use Rattle.std.proofs.Common.{ap, refl, subst, sym, ◌∙◌}
 use Rattle.span_core.specs.Span.{number_of}
 use Rattle.span_registry.specs.Closes.{IsSettled}
 use Rattle.span_registry.specs.Step.{Releases}
@@ -48,10 +48,10 @@ pub returns-in-Ok-Closing-clause-settled : goal.returns-in-Ok-Closing-clause-set
 returns-in-Ok-Closing-clause-settled g c = λ h. (closed_store g.S.LookupSpan.registry g.S.LookupSpan.with_registry g.S.Subscriber.has_form g.S.Subscriber.stepped g.met.S.LookupSpan.registry_with c.args.lane c.args.id c.in-Ok-Closing.field-0 c.args.self.now.stack c.close_all.new.stack c.release.new.self (subst (λ (s : RegistryState). Releases c.args.id c.in-Ok-Closing.field-0 s c.release.new.self) c.root_mut.ensures.value c.in-Ok-Closing.ensures.released) c.in-Ok-Closing.field-0-is (subst (λ (s : RegistryState). IsForest s.store.spans) c.root_mut.ensures.value c.in-Ok-Closing.ensures.forest) c.close_all.ensures.closes h).1
 
 pub returns-in-Ok-StillOpen-clause-taken : goal.returns-in-Ok-StillOpen-clause-taken
-returns-in-Ok-StillOpen-clause-taken g c = still_open_taken g.S.LookupSpan.registry g.S.LookupSpan.with_registry g.met.S.LookupSpan.registry_with c.args.id c.in-Ok-StillOpen.field-0 c.args.self.now.stack c.release.new.self (subst (λ (s : RegistryState). Releases c.args.id c.in-Ok-StillOpen.field-0 s c.release.new.self) c.root_mut.ensures.value c.in-Ok-StillOpen.ensures.released)
+returns-in-Ok-StillOpen-clause-taken g c = still_open_taken g.S.LookupSpan.registry g.S.LookupSpan.with_registry g.met.S.LookupSpan.registry_with c.args.id c.in-Ok-StillOpen.field-0 c.args.self.now (with_stack c.args.self.now (g.S.LookupSpan.with_registry c.args.self.now.stack c.release.new.self)) c.release.new.self refl (subst (λ (s : RegistryState). Releases c.args.id c.in-Ok-StillOpen.field-0 s c.release.new.self) c.root_mut.ensures.value c.in-Ok-StillOpen.ensures.released) c.in-Ok-StillOpen.field-0-is
 
 pub returns-in-Ok-Closing-clause-taken : goal.returns-in-Ok-Closing-clause-taken
-returns-in-Ok-Closing-clause-taken g c = closed_taken g.S.LookupSpan.registry g.S.LookupSpan.with_registry g.S.Subscriber.has_form g.S.Subscriber.stepped g.met.S.LookupSpan.registry_with c.args.lane c.args.id c.in-Ok-Closing.field-0 c.args.self.now.stack c.close_all.new.stack c.release.new.self (subst (λ (s : RegistryState). Releases c.args.id c.in-Ok-Closing.field-0 s c.release.new.self) c.root_mut.ensures.value c.in-Ok-Closing.ensures.released) c.close_all.ensures.closes
+returns-in-Ok-Closing-clause-taken g c = closed_taken g.S.LookupSpan.registry g.S.LookupSpan.with_registry g.S.Subscriber.has_form g.S.Subscriber.stepped g.met.S.LookupSpan.registry_with c.args.lane c.args.id c.in-Ok-Closing.field-0 c.args.self.now (with_stack c.args.self.now c.close_all.new.stack) c.release.new.self (subst (λ (s : RegistryState). Releases c.args.id c.in-Ok-Closing.field-0 s c.release.new.self) c.root_mut.ensures.value c.in-Ok-Closing.ensures.released) c.in-Ok-Closing.field-0-is c.close_all.ensures.closes
 
 pub returns-in-Err-clause-ready : goal.returns-in-Err-clause-ready
 returns-in-Err-clause-ready g c = λ f k.

@@ -1,8 +1,8 @@
 use Rattle.span_dispatch.proofs.Alone.{sees_what_is_made}
 use Rattle.span_dispatch.specs.Serve.{kept_by, stack_of, with_stack}
 use Rattle.span_dispatch.proofs.Goes.{ready_again}
-use Rattle.span_dispatch.proofs.Stores.{gone_store}
-use Rattle.std.proofs.Common.{ap, subst, sym, ◌∙◌}
+use Rattle.span_dispatch.proofs.Stores.{alone, gone_store}
+use Rattle.std.proofs.Common.{subst, sym, ◌∙◌}
 use Rattle.std.proofs.lemmas.Bool.{true≢false}
 use Rattle.span_core.specs.Span.{number_of}
 use Rattle.span_registry.specs.Step.{Exits}
@@ -33,7 +33,8 @@ pub returns-then-is_open-clause-gone : goal.returns-then-is_open-clause-gone
 returns-then-is_open-clause-gone g c = λ shut. absurd (shut (subst (λ (s : RegistryState). IsOpen s.store.spans (number_of c.args.id)) c.root.ensures (c.is_open.ensures.0 c.if-is_open.true)))
 
 pub returns-clause-gone : goal.returns-clause-gone
-returns-clause-gone g c = λ shut. ap (λ w. g.S.LookupSpan.with_registry (stack_of c.args.self.now) w) (sym (g.met.S.LookupSpan.registry_with (stack_of c.args.self.now) c.exit-2.new.self))
+returns-clause-gone g c = λ shut.
+    alone g.S.LookupSpan.registry g.S.LookupSpan.with_registry g.met.S.LookupSpan.registry_with (Exits c.args.lane c.args.id) (stack_of c.args.self.now) c.exit-2.new.self (subst (λ (s : RegistryState). Exits c.args.lane c.args.id s c.exit-2.new.self) c.root_mut.ensures.value c.exit-2.ensures)
 
 pub returns-then-is_open-clause-seen : goal.returns-then-is_open-clause-seen
 returns-then-is_open-clause-seen g c = sees_what_is_made g.S.LookupSpan.registry g.met.S.Subscriber.laws g.met.S.Subscriber.paths

@@ -1,7 +1,6 @@
 use Rattle.span_dispatch.proofs.Goes.{stays_so}
 use Rattle.std.proofs.Common.{refl, ◌+◌, ap, arith, sym, subst, take, [], ◌∙◌}
 use Rattle.std.proofs.lemmas.List.{take_all, take_more}
-use Rattle.span_dispatch.specs.Serve.{stack_of}
 use Rattle.span_registry.specs.Store.{AreIssued, RegistryState}
 use Rattle.span_dispatch.proofs.Served.{SoFar, all_served, nothing_yet, one_more}
 use Rattle.span_dispatch.proofs.dispatch.Dispatch.serve.Goals as goal

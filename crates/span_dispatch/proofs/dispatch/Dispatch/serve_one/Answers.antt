@@ -2,7 +2,7 @@ use Rattle.span_dispatch.proofs.Goes.{stays_so}
 use Rattle.std.proofs.Common.{ap, refl, sym, ◌∙◌}
 use Rattle.std.specs.Option.{option_and_then, option_map}
 use Rattle.span_dispatch.specs.Call.{AddHandle, AskCurrent, DropHandle, Enter, Exit, Follow, OpenSpan, Probe, RecordValues, SendEvent, current_answer, done_answer, event_answer, span_answer, yes_answer}
-use Rattle.span_dispatch.specs.Serve.{resolved, stack_of}
+use Rattle.span_dispatch.specs.Serve.{resolved}
 use Rattle.span_dispatch.specs.declared.request.Request.TheVariants as request
 use Rattle.span_dispatch.proofs.Served.{named, served_by, served_by_call}
 use Rattle.span_dispatch.proofs.dispatch.Dispatch.serve_one.Goals as goal
