@@ -122,30 +122,30 @@ fn marks_under<L: Layer<Registry> + Drop, F: Filter<Registry> + Drop>(
     }
 }
 
+/// The same of a boxed layer, under a filter that passes spans, events, both or neither.
+fn marks_of_a_box(alloc: Global, spans: bool, events: bool) -> Result<Option<u64>, Fail> {
+    let object: Box<dyn DynLayer + Send> = Box::new(alloc, Observer::new(Marker))?;
+    let passes = dynamic_filter_fn(move |meta: &Metadata, _cx: &Context<'_, Registry>| {
+        if meta.is_span() { spans } else { events }
+    });
+    marks_under(alloc, BoxedLayer::new(object), passes)
+}
+
 #[test]
 fn a_boxed_layer_under_a_filter_that_refuses_events(rt: HostRuntime) -> Result<(), Fail> {
-    let object: Box<dyn DynLayer + Send> = Box::new(rt.alloc(), Observer::new(Marker))?;
-    let layer = BoxedLayer::new(object);
-    let filter = dynamic_filter_fn(|meta: &Metadata, _cx: &Context<'_, Registry>| meta.is_span());
-    assert_eq!(rt; marks_under(rt.alloc(), layer, filter)?, None);
+    assert_eq!(rt; marks_of_a_box(rt.alloc(), true, false)?, None);
     Ok(())
 }
 
 #[test]
 fn a_boxed_layer_under_a_filter_that_refuses_spans(rt: HostRuntime) -> Result<(), Fail> {
-    let object: Box<dyn DynLayer + Send> = Box::new(rt.alloc(), Observer::new(Marker))?;
-    let layer = BoxedLayer::new(object);
-    let filter = dynamic_filter_fn(|meta: &Metadata, _cx: &Context<'_, Registry>| !meta.is_span());
-    assert_eq!(rt; marks_under(rt.alloc(), layer, filter)?, None);
+    assert_eq!(rt; marks_of_a_box(rt.alloc(), false, true)?, None);
     Ok(())
 }
 
 #[test]
 fn a_boxed_layer_under_a_filter_that_passes_all(rt: HostRuntime) -> Result<(), Fail> {
-    let object: Box<dyn DynLayer + Send> = Box::new(rt.alloc(), Observer::new(Marker))?;
-    let layer = BoxedLayer::new(object);
-    let filter = dynamic_filter_fn(|_meta: &Metadata, _cx: &Context<'_, Registry>| true);
-    assert_eq!(rt; marks_under(rt.alloc(), layer, filter)?, Some(2));
+    assert_eq!(rt; marks_of_a_box(rt.alloc(), true, true)?, Some(2));
     Ok(())
 }
 
@@ -158,24 +158,49 @@ fn a_box_answers_as_the_layer_in_it(rt: HostRuntime) -> Result<(), Fail> {
         format!(in rt.alloc(); "{layer:?}")?.as_str(),
         "BoxedLayer { .. }"
     );
-    let Ok(stack) = Registry::new(rt.alloc()).with(layer) else {
+    let said = said_by(rt.alloc(), layer)?;
+    assert_eq!(rt;
+        said,
+        Said {
+            filters: 1,
+            is_filtered: true,
+            is_absent: false,
+            hint: Some(LevelFilter::INFO),
+            of_info: Interest::Always,
+            of_debug: Interest::Never,
+        }
+    );
+    Ok(())
+}
+
+/// What a stack says of itself, and its interest in events of two levels.
+#[derive(Drop, PartialEq, Debug)]
+struct Said {
+    filters: u32,
+    is_filtered: bool,
+    is_absent: bool,
+    hint: Option<LevelFilter>,
+    of_info: Interest,
+    of_debug: Interest,
+}
+
+/// The same of a layer on a registry.
+fn said_by<L: Layer<Registry> + Drop>(alloc: Global, layer: L) -> Result<Said, Fail>
+    requires { L.usable layer }
+{
+    let Ok(stack) = Registry::new(alloc).with(layer) else {
         return Err(Fail::from("there is no room"));
     };
-    assert_eq!(rt; stack.root().filters(), 1);
-    assert!(rt; stack.is_filtered());
-    assert!(rt; !stack.is_absent());
-    assert_eq!(rt; stack.max_level_hint(), Some(LevelFilter::INFO));
-    for (level, wanted) in [
-        (Level::INFO, Interest::Always),
-        (Level::DEBUG, Interest::Never),
-    ] {
-        let metadata = metadata_of(level, Kind::EVENT);
-        assert_eq!(rt;
-            stack.register_callsite(&metadata, &mut Pass::new()),
-            wanted
-        );
-    }
-    Ok(())
+    let info = metadata_of(Level::INFO, Kind::EVENT);
+    let debug = metadata_of(Level::DEBUG, Kind::EVENT);
+    Ok(Said {
+        filters: stack.root().filters(),
+        is_filtered: stack.is_filtered(),
+        is_absent: stack.is_absent(),
+        hint: stack.max_level_hint(),
+        of_info: stack.register_callsite(&info, &mut Pass::new()),
+        of_debug: stack.register_callsite(&debug, &mut Pass::new()),
+    })
 }
 
 /// Adds one to the number of each span whose handle was cloned under another id, once it is in use.

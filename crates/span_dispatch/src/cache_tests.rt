@@ -1,7 +1,7 @@
 //! Tests of a dispatcher that keeps its stack's hint and interests: what it asks of filters once, and what each time.
 ghost use Rattle.span_dispatch.specs.Serve.{stack_of};
 
-use crate::tests::{LANE, in_use, put, serve_by};
+use crate::tests::{LANE, in_use, put, serve_by_layer, serve_by_layers};
 use crate::{Answer, Dispatch, Notice, Recorder, Request, WhichParent};
 use span_core::{Event, FieldSet, Kind, Level, LevelFilter, Metadata, TraceError};
 use span_filters::filter_fn;
@@ -78,15 +78,19 @@ fn filters_that_want_a_callsite_are_asked_of_it_once(rt: HostRuntime) -> Result<
     let absent: Option<LevelFilter> = None;
     let under_none = Recorder::new(rt.alloc()).with_filter(absent);
     let under_counted = Recorder::new(rt.alloc()).with_filter(counted);
-    let stack = put(put(Registry::new(rt.alloc()), under_none)?, under_counted)?;
     let requests = events(rt.alloc(), 10_000)?;
-    let (dispatch, _) = serve_by(rt.alloc(), stack, &requests)?;
-    assert_eq!(rt; dispatch.stack().layer().inner().notices().len(), 10_000);
-    assert_eq!(rt;
-        dispatch.stack().inner().layer().inner().notices().len(),
-        10_000
-    );
-    assert_eq!(rt; asked.get(), 1);
+    let registry = Registry::new(rt.alloc());
+    let (dispatch, _) = serve_by_layers(
+        rt.alloc(),
+        registry,
+        under_none,
+        under_counted,
+        &requests,
+    )?;
+    let stack = dispatch.stack();
+    let counted = stack.layer().inner().notices().len();
+    let other = stack.inner().layer().inner().notices().len();
+    assert_eq!(rt; (counted, other, asked.get()), (10_000, 10_000, 1));
     Ok(())
 }
 
@@ -100,17 +104,24 @@ fn filters_that_differ_on_a_callsite_are_asked_each_time(rt: HostRuntime) -> Res
     });
     let under_info = Recorder::new(rt.alloc()).with_filter(LevelFilter::INFO);
     let under_counted = Recorder::new(rt.alloc()).with_filter(counted);
-    let stack = put(put(Registry::new(rt.alloc()), under_info)?, under_counted)?;
     let requests = events(rt.alloc(), 3)?;
-    let (dispatch, _) = serve_by(rt.alloc(), stack, &requests)?;
+    let registry = Registry::new(rt.alloc());
+    let (dispatch, _) = serve_by_layers(
+        rt.alloc(),
+        registry,
+        under_info,
+        under_counted,
+        &requests,
+    )?;
+    let stack = dispatch.stack();
+    let counted = stack.layer().inner().notices();
+    let other = stack.inner().layer().inner().notices();
     let notice = Notice::Event(LANE, 5);
-    assert_eq!(rt; dispatch.stack().layer().inner().notices(), [].as_slice());
+    // It is asked once for the interest, and once for each event.
     assert_eq!(rt;
-        dispatch.stack().inner().layer().inner().notices(),
-        [notice, notice, notice].as_slice()
+        (counted, other, asked.get()),
+        ([].as_slice(), [notice, notice, notice].as_slice(), 4)
     );
-    // Once for the interest, and once for each event.
-    assert_eq!(rt; asked.get(), 4);
     Ok(())
 }
 
@@ -176,14 +187,14 @@ fn each_callsite_is_asked_of_once(rt: HostRuntime) -> Result<(), Fail> {
         meta.level() == Level::INFO
     });
     let under_counted = Recorder::new(rt.alloc()).with_filter(counted);
-    let stack = put(Registry::new(rt.alloc()), under_counted)?;
-    let (dispatch, answers) = serve_by(rt.alloc(), stack, &events_of_each_level())?;
-    assert_eq!(rt; answers.as_slice(), ONLY_INFO.as_slice());
-    assert_eq!(rt; asked.get(), 5);
+    let registry = Registry::new(rt.alloc());
+    let requests = events_of_each_level();
+    let (dispatch, answers) = serve_by_layer(rt.alloc(), registry, under_counted, &requests)?;
     let twice = [Notice::Event(LANE, 5), Notice::Event(LANE, 5)];
+    let kept = dispatch.stack().layer().inner().notices();
     assert_eq!(rt;
-        dispatch.stack().layer().inner().notices(),
-        twice.as_slice()
+        (answers.as_slice(), asked.get(), kept),
+        (ONLY_INFO.as_slice(), 5, twice.as_slice())
     );
     Ok(())
 }

@@ -3,7 +3,7 @@ ghost use Rattle.span_dispatch.specs.Tests.{in_marked, is_marked};
 ghost use Rattle.span_registry.specs.Context.{view_in};
 ghost use Rattle.std.specs.Prelude.{◌≡◌, ⊤};
 
-use crate::tests::{LANE, made, put, serve_by};
+use crate::tests::{LANE, made, put, serve_by_layers};
 use crate::{Answer, Notice, Recorder, Request, Which, WhichParent};
 use span_core::{FieldSet, Id, Kind, Level, LevelFilter, Metadata};
 use span_filters::{FunctionIn, dynamic_filter_fn};
@@ -20,11 +20,6 @@ fn metadata_of(callsite: u64, level: Level, kind: Kind) -> Metadata {
 
 /// From the registry outwards: B without a filter, and A under INFO.
 type Two = Layered<Filtered<Recorder, LevelFilter>, Layered<Recorder, Registry>>;
-
-fn two(alloc: Global) -> Result<Two, Fail> {
-    let a = Recorder::new(alloc).with_filter(LevelFilter::INFO);
-    put(put(Registry::new(alloc), Recorder::new(alloc))?, a)
-}
 
 fn kept_by_a(stack: &Two) -> &[Notice] {
     stack.layer().inner().notices()
@@ -108,8 +103,10 @@ fn due_to_b(p: Id, q: Id, r: Id) -> [Notice; 17] {
 
 /// Serves the list with C, under this level, outside A and B, and looks at what these were notified of.
 fn a_and_b_beside(rt: &impl Abort, alloc: Global, outermost: LevelFilter) -> Result<(), Fail> {
+    let b = put(Registry::new(alloc), Recorder::new(alloc))?;
+    let a = Recorder::new(alloc).with_filter(LevelFilter::INFO);
     let c = Recorder::new(alloc).with_filter(outermost);
-    let (dispatch, answers) = serve_by(alloc, put(two(alloc)?, c)?, &requests())?;
+    let (dispatch, answers) = serve_by_layers(alloc, b, a, c, &requests())?;
     a_and_b_kept(rt, dispatch.stack().inner(), &answers)
 }
 
@@ -192,10 +189,17 @@ fn kept_beside_marker(alloc: Global, outermost: LevelFilter) -> Result<(Id, Vec<
     let mark = Tag::new(0);
     let a = Recorder::new(alloc).with_filter(dynamic_filter_fn(InMarked { mark }));
     let c = Observer::new(Marker { mark }).with_filter(outermost);
-    let stack = put(put(Registry::new(alloc), a)?, c)?;
-    let (dispatch, answers) = serve_by(alloc, stack, &one_span())?;
-    let kept = dispatch.stack().inner().layer().inner().notices();
-    Ok((made(&answers, 0)?, kept.to_vec(alloc)?))
+    let (dispatch, answers) = serve_by_layers(alloc, Registry::new(alloc), a, c, &one_span())?;
+    first_and_kept(alloc, &answers, dispatch.stack().inner().layer().inner())
+}
+
+/// The span that the first request made, and what a recorder keeps.
+fn first_and_kept(
+    alloc: Global,
+    answers: &[Answer],
+    recorder: &Recorder,
+) -> Result<(Id, Vec<Notice>), Fail> {
+    Ok((made(answers, 0)?, recorder.notices().to_vec(alloc)?))
 }
 
 #[test]

@@ -1,13 +1,14 @@
 //! Tests of layers under a dispatcher: what one layer's filter hides, and what layers can read.
 ghost use Rattle.std.specs.Prelude.{⊤};
 
-use crate::tests::{LANE, made, put, serve_by};
-use crate::{Notice, Recorder, Request, Which, WhichParent};
+use crate::tests::{LANE, made, serve_by_layers};
+use crate::{Answer, Notice, Recorder, Request, Which, WhichParent};
 use span_core::{FieldSet, Id, Kind, Level, LevelFilter, Metadata};
 use span_filters::dynamic_filter_fn;
 use span_layers::{LayerExt, Layered, Observe, Observed, Observer};
 use span_registry::{Context, ContextMut, Registry, Scope, Subscriber};
 use std::alloc::Global;
+use std::process::Abort;
 use std::test::Fail;
 
 fn metadata_of(callsite: u64, level: Level, kind: Kind) -> Metadata {
@@ -43,12 +44,28 @@ fn a_filter_may_ask_for_the_current_span(rt: HostRuntime) -> Result<(), Fail> {
         cx.lookup_current().is_none()
     });
     let under_outside = Recorder::new(rt.alloc()).with_filter(outside);
-    let stack = put(Registry::new(rt.alloc()), Recorder::new(rt.alloc()))?;
-    let stack = put(stack, under_outside)?;
-    let (dispatch, answers) = serve_by(rt.alloc(), stack, &one_in_another())?;
-    let (p, q) = (made(&answers, 0)?, made(&answers, 2)?);
+    let base = Recorder::new(rt.alloc());
+    let registry = Registry::new(rt.alloc());
+    let (dispatch, answers) = serve_by_layers(
+        rt.alloc(),
+        registry,
+        base,
+        under_outside,
+        &one_in_another(),
+    )?;
+    let stack = dispatch.stack();
+    the_outer_span_alone(&rt, stack.layer().inner(), &answers)?;
+    both_spans(&rt, stack.inner().layer(), &answers)
+}
+
+fn the_outer_span_alone(
+    rt: &impl Abort,
+    recorder: &Recorder,
+    answers: &[Answer],
+) -> Result<(), Fail> {
+    let p = made(answers, 0)?;
     assert_eq!(rt;
-        dispatch.stack().layer().inner().notices(),
+        recorder.notices(),
         [
             Notice::New(LANE, p),
             Notice::Enter(LANE, p),
@@ -57,8 +74,13 @@ fn a_filter_may_ask_for_the_current_span(rt: HostRuntime) -> Result<(), Fail> {
         ]
         .as_slice()
     );
+    Ok(())
+}
+
+fn both_spans(rt: &impl Abort, recorder: &Recorder, answers: &[Answer]) -> Result<(), Fail> {
+    let (p, q) = (made(answers, 0)?, made(answers, 2)?);
     assert_eq!(rt;
-        dispatch.stack().inner().layer().notices(),
+        recorder.notices(),
         [
             Notice::New(LANE, p),
             Notice::Enter(LANE, p),
@@ -142,18 +164,32 @@ fn family() -> [Request<'static>; 8] {
 #[test]
 fn scopes_leave_out_what_a_layers_own_filter_refused(rt: HostRuntime) -> Result<(), Fail> {
     let under_info = new_reader(rt.alloc()).with_filter(LevelFilter::INFO);
-    let stack = put(Registry::new(rt.alloc()), new_reader(rt.alloc()))?;
-    let (dispatch, answers) = serve_by(rt.alloc(), put(stack, under_info)?, &family())?;
-    let (root, child, leaf) = (made(&answers, 0)?, made(&answers, 1)?, made(&answers, 2)?);
-    let filtered = dispatch.stack().layer().inner().observer();
+    let open = new_reader(rt.alloc());
+    let registry = Registry::new(rt.alloc());
+    let (dispatch, answers) = serve_by_layers(rt.alloc(), registry, open, under_info, &family())?;
+    let stack = dispatch.stack();
+    reads_what_info_passes(&rt, stack.layer().inner().observer(), &answers)?;
+    reads_all(&rt, stack.inner().layer().observer(), &answers)
+}
+
+fn reads_what_info_passes(
+    rt: &impl Abort,
+    reader: &Reader,
+    answers: &[Answer],
+) -> Result<(), Fail> {
+    let (root, leaf) = (made(answers, 0)?, made(answers, 2)?);
     assert_eq!(rt;
-        filtered.up.as_slice(),
+        reader.up.as_slice(),
         [Some(leaf), Some(root), None, Some(root)].as_slice()
     );
-    assert_eq!(rt; filtered.down.as_slice(), [root, leaf, root].as_slice());
-    let open = dispatch.stack().inner().layer().observer();
+    assert_eq!(rt; reader.down.as_slice(), [root, leaf, root].as_slice());
+    Ok(())
+}
+
+fn reads_all(rt: &impl Abort, reader: &Reader, answers: &[Answer]) -> Result<(), Fail> {
+    let (root, child, leaf) = (made(answers, 0)?, made(answers, 1)?, made(answers, 2)?);
     assert_eq!(rt;
-        open.up.as_slice(),
+        reader.up.as_slice(),
         [
             Some(leaf),
             Some(child),
@@ -166,7 +202,7 @@ fn scopes_leave_out_what_a_layers_own_filter_refused(rt: HostRuntime) -> Result<
         .as_slice()
     );
     assert_eq!(rt;
-        open.down.as_slice(),
+        reader.down.as_slice(),
         [root, child, leaf, root, child, root, child].as_slice()
     );
     Ok(())
@@ -197,11 +233,23 @@ fn new_mourner() -> Observer<Mourner> {
 #[test]
 fn every_layer_finds_a_closing_span(rt: HostRuntime) -> Result<(), Fail> {
     let pair = new_mourner().and_then(new_mourner());
-    let stack = put(put(Registry::new(rt.alloc()), pair)?, new_mourner())?;
-    let (dispatch, _) = serve_by(rt.alloc(), stack, &one_in_another())?;
-    assert_eq!(rt; dispatch.stack().layer().observer().found, 2);
-    let pair = dispatch.stack().inner().layer();
-    assert_eq!(rt; pair.layer().observer().found, 2);
-    assert_eq!(rt; pair.inner().observer().found, 2);
+    let registry = Registry::new(rt.alloc());
+    let (dispatch, _) = serve_by_layers(
+        rt.alloc(),
+        registry,
+        pair,
+        new_mourner(),
+        &one_in_another(),
+    )?;
+    let stack = dispatch.stack();
+    let pair = stack.inner().layer();
+    assert_eq!(rt;
+        [
+            stack.layer().observer().found,
+            pair.layer().observer().found,
+            pair.inner().observer().found,
+        ],
+        [2, 2, 2]
+    );
     Ok(())
 }

@@ -17,7 +17,7 @@ pub(crate) const LANE: Lane = Lane(0);
 pub(crate) fn put<S: Subscriber + Drop, L: Layer<S> + Drop>(
     stack: S,
     layer: L,
-) -> Result<Layered<L, S>, Fail>
+) -> Result<Layered<L, S>, TraceError>
     requires layer { L.usable layer }
     requires stack { S.usable stack }
     ensures layer { IfOk result (λ made. L.usable (outer_of made)) }
@@ -25,7 +25,7 @@ pub(crate) fn put<S: Subscriber + Drop, L: Layer<S> + Drop>(
 {
     match stack.with(layer) {
         Ok(made) => Ok(made),
-        Err(_) => Err(Fail::from("there is no room")),
+        Err(back) => Err(back.error),
     }
 }
 
@@ -62,12 +62,48 @@ pub(crate) fn serve_by<S: Subscriber + Drop>(
     alloc: Global,
     stack: S,
     requests: &[Request<'_>],
-) -> Result<(Dispatch<S>, Vec<Answer>), Fail>
+) -> Result<(Dispatch<S>, Vec<Answer>), TraceError>
     requires { S.usable stack }
 {
     let mut dispatch = in_use(alloc, stack);
     let answers = serve(alloc, &mut dispatch, requests)?;
     Ok((dispatch, answers))
+}
+
+/// The same of a layer on a stack.
+pub(crate) fn serve_by_layer<S: Subscriber + Drop, L: Layer<S> + Drop>(
+    alloc: Global,
+    stack: S,
+    layer: L,
+    requests: &[Request<'_>],
+) -> Result<(Dispatch<Layered<L, S>>, Vec<Answer>), TraceError>
+    requires stack { S.usable stack }
+    requires layer { L.usable layer }
+{
+    serve_by(alloc, put(stack, layer)?, requests)
+}
+
+/// Two layers on a stack.
+type TwoOn<S, I, O> = Layered<O, Layered<I, S>>;
+
+/// The same of two layers on a stack.
+pub(crate) fn serve_by_layers<S, I, O>(
+    alloc: Global,
+    stack: S,
+    inner: I,
+    outer: O,
+    requests: &[Request<'_>],
+) -> Result<(Dispatch<TwoOn<S, I, O>>, Vec<Answer>), TraceError>
+where
+    S: Subscriber + Drop,
+    I: Layer<S> + Drop,
+    O: Layer<Layered<I, S>> + Drop,
+    requires stack { S.usable stack }
+    requires inner { I.usable inner }
+    requires outer { O.usable outer }
+{
+    let below = put(stack, inner)?;
+    serve_by(alloc, put(below, outer)?, requests)
 }
 
 /// A recorder on a registry.

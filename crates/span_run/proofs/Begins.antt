@@ -1,5 +1,5 @@
 -- Stacks as they begin: their filters took the first numbers, and there was room for them.
-use Rattle.std.proofs.Common.{◌≡◌, ℕ, ◌+◌, ◌<◌, Option, Some, None, arith, refl, sym, ap, subst, ◌∙◌}
+use Rattle.std.proofs.Common.{◌≡◌, ℕ, ◌+◌, ◌≤◌, Option, Some, None, arith, refl, sym, ap, subst, ◌∙◌}
 use Rattle.span_core.specs.declared.filter.TheConstants.FilterId.{LIMIT}
 use Rattle.span_core.specs.declared.level.LevelFilter.{LevelFilter}
 use Rattle.span_core.specs.declared.level.TheConstants.LevelFilter.{INFO, TRACE, WARN}
@@ -15,7 +15,7 @@ use Rattle.span_registry.specs.Form.{Filtered, Form, InPair, Over}
 use Rattle.span_registry.specs.Store.{RegistryState, new_registry}
 use Rattle.span_registry.specs.declared.limits.Limits.{Limits}
 use Rattle.span_run.specs.Mute.{mute_answers}
-use Rattle.span_run.specs.Stacks.{BeginsAbsent, BeginsNested, BeginsPair, BeginsPlain, BeginsUnder, BeginsVeto, BeginsWarned, leaf}
+use Rattle.span_run.specs.Stacks.{BeginsAbsent, BeginsNested, BeginsPair, BeginsPlain, BeginsUnder, BeginsVeto, BeginsWarned, HasRoom, leaf}
 use Rattle.span_run.specs.declared.mute.Mute.{Mute}
 use Rattle.span_run.specs.declared.mute_veto.MuteVeto.{MuteVeto}
 
@@ -65,16 +65,18 @@ under_level u layer level h = (h.id, ap level_answers (sym h.own), refl)
 begins_under : (u x : Levelled) (layer : Kept) (level : LevelFilter) (n : ℕ) → IsUnnumbered u layer level → layer ≡ new_recorder → (filter_of x ≡ filter_of u) × (layer_of x ≡ layer_of u) → IsNumber (id_of x) (Some n) → BeginsUnder n level x
 begins_under u x layer level n h begins attached number = record { number = number; level = attached.0 ∙ h.own; recorder = attached.1 ∙ h.inner ∙ begins }
 
+-- so many filters were handed out, and these leave room for so many more
+pub room_after : {n taken more : ℕ} → n ≡ taken → taken + more ≤ LIMIT → n + more ≤ LIMIT
+room_after {more = more} same room = subst (λ k. k + more ≤ LIMIT) (sym same) room
+
 -- ---- pair
 
 module _ (limits : Limits) (p : Layered Levelled Levelled) (a b : Kept) (s : RegistryState) (first : s ≡ new_registry limits) (inner : IsUnnumbered (inner_of p) a TRACE) (outer : IsUnnumbered (outer_of p) b INFO) where
   pair_has : PairForm p pair_form
   pair_has = (refl, under_level (outer_of p) b INFO outer, under_level (inner_of p) a TRACE inner)
 
-  pub pair_has_room : ((f : Form) → PairForm p f → LIMIT < s.filters + filters_in f) → ⊥
-  pair_has_room full =
-      let many : LIMIT < 0 + 2 = subst (λ (r : RegistryState). LIMIT < r.filters + 2) first (full pair_form pair_has) in
-      omega (arith, many)
+  pub pair_has_room : HasRoom (λ (r : RegistryState). r) PairForm p s
+  pair_has_room = record { form = pair_form; has = pair_has; room = room_after (ap (λ (r : RegistryState). r.filters) first) (omega (arith)) }
 
   pub begins_pair : (x : Layered (Layered Levelled Levelled) RegistryState) → a ≡ new_recorder → b ≡ new_recorder → inner_of x ≡ record s { filters = (inner_of x).filters }
       → ((f : Form) → PairForm p f → PairForm (outer_of x) (numbered f s.filters).0) → ((f : Form) → PairForm p f → (inner_of x).filters ≡ (numbered f s.filters).1)
@@ -101,10 +103,8 @@ module _ {limits : Limits} (u : FilteredLayer Levelled Mute) (l : Levelled) (dee
   mute_has : UnderMute u mute_form
   mute_has = (outside.id, refl, under_level (layer_of u) deep INFO inner_one)
 
-  pub nested_has_room : ((f : Form) → UnderMute u f → LIMIT < (inner_of s).filters + filters_in f) → ⊥
-  nested_has_room full =
-      let many : LIMIT < 0 + 2 = subst (λ n. LIMIT < n + 2) (none_yet s begun) (full mute_form mute_has) in
-      omega (arith, many)
+  pub nested_has_room : HasRoom (λ (r : Layered Kept RegistryState). inner_of r) UnderMute u s
+  nested_has_room = record { form = mute_form; has = mute_has; room = room_after (none_yet s begun) (omega (arith)) }
 
   pub begins_nested : (x : Layered (FilteredLayer Levelled Mute) (Layered Kept RegistryState)) → deep ≡ new_recorder → inner_of x ≡ record s { inner = record (inner_of s) { filters = (inner_of (inner_of x)).filters } }
       → ((f : Form) → UnderMute u f → UnderMute (outer_of x) (numbered f (inner_of s).filters).0) → ((f : Form) → UnderMute u f → (inner_of (inner_of x)).filters ≡ (numbered f (inner_of s).filters).1)
@@ -122,10 +122,8 @@ module _ {limits : Limits} (u : FilteredLayer Levelled Mute) (l : Levelled) (dee
 -- ---- veto
 
 module _ {limits : Limits} (l : Levelled) (warn : Kept) (s : Layered Kept RegistryState) (begun : BeginsPlain limits s) (outside : IsUnnumbered l warn WARN) where
-  pub warned_has_room : ((f : Form) → UnderLevel l f → LIMIT < (inner_of s).filters + filters_in f) → ⊥
-  warned_has_room full =
-      let many : LIMIT < 0 + 1 = subst (λ n. LIMIT < n + 1) (none_yet s begun) (full (level_form WARN) (under_level l warn WARN outside)) in
-      omega (arith, many)
+  pub warned_has_room : HasRoom (λ (r : Layered Kept RegistryState). inner_of r) UnderLevel l s
+  warned_has_room = record { form = level_form WARN; has = under_level l warn WARN outside; room = room_after (none_yet s begun) (omega (arith)) }
 
   pub begins_warned : (x : Warned) → warn ≡ new_recorder → inner_of x ≡ record s { inner = record (inner_of s) { filters = (inner_of (inner_of x)).filters } }
       → ((f : Form) → UnderLevel l f → UnderLevel (outer_of x) (numbered f (inner_of s).filters).0) → ((f : Form) → UnderLevel l f → (inner_of (inner_of x)).filters ≡ (numbered f (inner_of s).filters).1)
@@ -139,11 +137,9 @@ module _ {limits : Limits} (l : Levelled) (warn : Kept) (s : Layered Kept Regist
         registry = registry_then (inner_of s) (new_registry limits) (inner_of (inner_of x)) 1 begun.registry (ap (λ (r : Layered Kept RegistryState). inner_of r) alone) one;
       }
 
--- one filter leaves room for a layer without filters
-pub warned_leaves_room : {limits : Limits} (w : Warned) → BeginsWarned limits w → LIMIT < (inner_of (inner_of w)).filters + 0 → ⊥
-warned_leaves_room w begun full =
-    let one : (inner_of (inner_of w)).filters ≡ 1 = ap (λ (r : RegistryState). r.filters) begun.registry in
-    omega (arith, one, full)
+-- the recorders of the stack `veto` took one number
+pub one_number : {limits : Limits} (w : Warned) → BeginsWarned limits w → (inner_of (inner_of w)).filters ≡ 1
+one_number w begun = ap (λ (r : RegistryState). r.filters) begun.registry
 
 -- the layer that vetoes muted events took no number
 pub begins_muted : {limits : Limits} (w : Warned) → BeginsWarned limits w → (x : Layered MuteVeto Warned) → inner_of x ≡ record w { inner = record (inner_of w) { inner = record (inner_of (inner_of w)) { filters = (inner_of (inner_of (inner_of x))).filters } } }

@@ -1,5 +1,6 @@
 -- What serves the requests of a script: the stack that it names.
-use Rattle.std.specs.Prelude.{◌≡◌, ◌≤◌, ℕ, true, List, [], ◌∷◌, Option, None, Some, map}
+use Rattle.std.specs.Prelude.{◌≡◌, ◌≤◌, ◌+◌, ℕ, true, List, [], ◌∷◌, Option, None, Some, map}
+use Rattle.span_core.specs.declared.filter.TheConstants.FilterId.{LIMIT}
 use Rattle.span_core.specs.declared.level.LevelFilter.{LevelFilter}
 use Rattle.span_core.specs.declared.level.TheConstants.LevelFilter.{INFO, TRACE, WARN}
 use Rattle.span_dispatch.specs.Cache.{Memory, no_callsite}
@@ -14,6 +15,7 @@ use Rattle.span_dispatch.specs.declared.request.Request.{Request}
 use Rattle.span_filters.specs.Level.{level_answers}
 use Rattle.span_layers.specs.Filtered.{IsNumber, filter_of, id_of, layer_of}
 use Rattle.span_layers.specs.Layered.{inner_of, outer_of}
+use Rattle.span_layers.specs.Number.{filters_in}
 use Rattle.span_layers.specs.Observe.{open_answers}
 use Rattle.span_layers.specs.declared.filtered.Filtered.{Filtered as FilteredLayer}
 use Rattle.span_layers.specs.declared.layered.Layered.{Layered}
@@ -71,6 +73,12 @@ start_of limits stack = record (new_registry limits) { filters = filters_of stac
 abbrev pub Serves : Limits → StackName → List Request → List Answer → List (List Notice) → Type 0
 Serves limits stack requests answers kept =
     (made : List (List Made)) × (memory : Memory) × (after : RegistryState) × RunsBy (form_of stack) requests answers made (Some no_callsite) (start_of limits stack) memory after × (kept ≡ map (kept_at made) (places_of stack))
+
+-- there is room on the stack for all of the layer's filters
+pub record HasRoom {L S : Type 0} (registry : S → RegistryState) (has_form : L → Form → Type 0) (layer : L) (stack : S) : Type 0 where
+  pub form : Form
+  pub has : has_form layer form
+  pub room : (registry stack).filters + filters_in form ≤ LIMIT
 
 -- Below: the stacks themselves, before the first request, on a registry with these limits.
 

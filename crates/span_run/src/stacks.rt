@@ -2,7 +2,8 @@
 ghost use Rattle.std.specs.Prelude.{◌≡◌, ◌∷◌, [], codes, string_bytes, IfErr, IfOk, false};
 ghost use Rattle.span_run.specs.Program.{Gives, IsPrinted};
 ghost use Rattle.span_run.specs.Script.{lines_of, stack_of};
-ghost use Rattle.span_run.specs.Stacks.{ArePositive, BeginsAbsent, BeginsNested, BeginsPair, BeginsPlain, BeginsVeto, BeginsWarned, ServesInUse};
+ghost use Rattle.span_run.specs.Stacks.{ArePositive, BeginsAbsent, BeginsNested, BeginsPair, BeginsPlain, BeginsVeto, BeginsWarned, HasRoom, ServesInUse};
+ghost use Rattle.span_layers.specs.Attach.{Attaches};
 
 use crate::fault::RunFault;
 use crate::mute::Mute;
@@ -12,7 +13,7 @@ use crate::script::Script;
 use crate::stack_name::StackName;
 use span_core::LevelFilter;
 use span_dispatch::{Answer, Dispatch, Recorder, Request};
-use span_layers::{Filtered, LayerExt, Layered, SubscriberExt};
+use span_layers::{Filtered, Layer, LayerExt, Layered, SubscriberExt};
 use span_registry::{Limits, Registry, Subscriber};
 use std::alloc::Global;
 
@@ -53,15 +54,25 @@ pub fn served_text(alloc: Global, limits: Limits, script: &Script<'_>) -> Result
     }
 }
 
+/// Puts a layer on a stack that has room for its filters.
+fn put<S: Subscriber + Drop, L: Layer<S> + Drop>(stack: S, layer: L) -> Layered<L, S>
+    requires layer { L.usable layer }
+    requires stack { S.usable stack }
+    requires room { HasRoom S.registry L.has_form layer stack }
+    ensures { Attaches S.registry S.with_registry S.usable L.usable L.has_form L.attached layer stack result }
+{
+    match stack.with(layer) {
+        Ok(made) => made,
+        Err(_) => unreachable!(), // There is room.
+    }
+}
+
 /// The stack `plain`.
 fn plain(alloc: Global, limits: Limits) -> Plain
     requires { ArePositive limits }
     ensures { BeginsPlain limits result }
 {
-    match Registry::with_limits(alloc, limits).with(Recorder::new(alloc)) {
-        Ok(stack) => stack,
-        Err(_) => unreachable!(), // It has no filter.
-    }
+    put(Registry::with_limits(alloc, limits), Recorder::new(alloc))
 }
 
 /// The stack `pair`.
@@ -71,10 +82,7 @@ fn pair(alloc: Global, limits: Limits) -> Pair
 {
     let a = Recorder::new(alloc).with_filter(LevelFilter::TRACE);
     let b = Recorder::new(alloc).with_filter(LevelFilter::INFO);
-    match Registry::with_limits(alloc, limits).with(a.and_then(b)) {
-        Ok(stack) => stack,
-        Err(_) => unreachable!(), // It has two filters, and there is room for 64.
-    }
+    put(Registry::with_limits(alloc, limits), a.and_then(b))
 }
 
 /// The stack `nested`.
@@ -83,10 +91,7 @@ fn nested(alloc: Global, limits: Limits) -> Nested
     ensures { BeginsNested limits result }
 {
     let deep = Recorder::new(alloc).with_filter(LevelFilter::INFO);
-    match plain(alloc, limits).with(deep.with_filter(Mute)) {
-        Ok(stack) => stack,
-        Err(_) => unreachable!(), // It has two filters, and there is room for 64.
-    }
+    put(plain(alloc, limits), deep.with_filter(Mute))
 }
 
 /// The recorders of the stack `veto`.
@@ -95,10 +100,7 @@ fn warned(alloc: Global, limits: Limits) -> Warned
     ensures { BeginsWarned limits result }
 {
     let warn = Recorder::new(alloc).with_filter(LevelFilter::WARN);
-    match plain(alloc, limits).with(warn) {
-        Ok(stack) => stack,
-        Err(_) => unreachable!(), // It has one filter, and there is room for 64.
-    }
+    put(plain(alloc, limits), warn)
 }
 
 /// The stack `veto`.
@@ -106,13 +108,8 @@ fn veto(alloc: Global, limits: Limits) -> Veto
     requires { ArePositive limits }
     ensures { BeginsVeto limits result }
 {
-    let Ok(muted) = warned(alloc, limits).with(MuteVeto) else {
-        unreachable!() // It has no filter.
-    };
-    match muted.with(LevelFilter::INFO) {
-        Ok(stack) => stack,
-        Err(_) => unreachable!(), // It has no filter either.
-    }
+    let muted = put(warned(alloc, limits), MuteVeto);
+    put(muted, LevelFilter::INFO)
 }
 
 /// The stack `absent`.
@@ -121,13 +118,8 @@ fn absent(alloc: Global, limits: Limits) -> Absent
     ensures { BeginsAbsent limits result }
 {
     let none: Option<Recorder> = None;
-    let Ok(below) = Registry::with_limits(alloc, limits).with(none) else {
-        unreachable!() // It has no filter.
-    };
-    match below.with(Recorder::new(alloc)) {
-        Ok(stack) => stack,
-        Err(_) => unreachable!(), // It has no filter either.
-    }
+    let below = put(Registry::with_limits(alloc, limits), none);
+    put(below, Recorder::new(alloc))
 }
 
 /// Puts a stack in use, and serves requests with it.

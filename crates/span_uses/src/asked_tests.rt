@@ -5,7 +5,7 @@ ghost use Rattle.span_layers.specs.ActsKept.{is_leaf, leaf_path_laws};
 ghost use Rattle.span_registry.specs.Form.{Leaf};
 ghost use Rattle.span_uses.specs.Tests.{fixed_answers, fixed_answers_laws};
 
-use crate::tests::{put, sent_to};
+use crate::tests::sent_to_layer;
 use span_core::{Attributes, Event, Id, Interest, LevelFilter, Metadata, Pass, Record};
 use span_layers::Layer;
 use span_registry::{Context, ContextMut, Registry, Subscriber};
@@ -107,7 +107,7 @@ fn asked_of_an_error(
         of_events: Cell::new(0),
         notified: 0,
     };
-    let dispatch = sent_to(alloc, put(Registry::new(alloc), layer)?)?;
+    let dispatch = sent_to_layer(alloc, Registry::new(alloc), layer)?;
     let layer = dispatch.stack().layer();
     Ok((
         layer.of_metadata.get(),

@@ -18,10 +18,10 @@ use std::test::Fail;
 const LANE: Lane = Lane(0);
 
 /// Puts a layer on a stack.
-pub(crate) fn put<S: Subscriber + Drop, L: Layer<S> + Drop>(
+fn put<S: Subscriber + Drop, L: Layer<S> + Drop>(
     stack: S,
     layer: L,
-) -> Result<Layered<L, S>, Fail>
+) -> Result<Layered<L, S>, TraceError>
     requires layer { L.usable layer }
     requires stack { S.usable stack }
     ensures layer { IfOk result (λ made. L.usable (outer_of made)) }
@@ -29,12 +29,12 @@ pub(crate) fn put<S: Subscriber + Drop, L: Layer<S> + Drop>(
 {
     match stack.with(layer) {
         Ok(made) => Ok(made),
-        Err(_) => Err(Fail::from("there is no room")),
+        Err(back) => Err(back.error),
     }
 }
 
 /// Puts a stack in use, and sends it an event of level error.
-pub(crate) fn sent_to<S: Subscriber + Drop>(alloc: Global, stack: S) -> Result<Dispatch<S>, Fail>
+fn sent_to<S: Subscriber + Drop>(alloc: Global, stack: S) -> Result<Dispatch<S>, TraceError>
     requires { S.usable stack }
 {
     let mut dispatch = Dispatch::fresh(alloc, stack);
@@ -43,15 +43,29 @@ pub(crate) fn sent_to<S: Subscriber + Drop>(alloc: Global, stack: S) -> Result<D
     Ok(dispatch)
 }
 
-/// Puts a stack in use, and serves a list.
-fn serve_by<S: Subscriber + Drop>(
+/// The same of a layer on a stack.
+pub(crate) fn sent_to_layer<S: Subscriber + Drop, L: Layer<S> + Drop>(
     alloc: Global,
     stack: S,
-    requests: &[Request<'_>],
-) -> Result<(Dispatch<S>, Vec<Answer>), Fail>
-    requires { S.usable stack }
+    layer: L,
+) -> Result<Dispatch<Layered<L, S>>, TraceError>
+    requires stack { S.usable stack }
+    requires layer { L.usable layer }
 {
-    let mut dispatch = Dispatch::new(alloc, stack);
+    sent_to(alloc, put(stack, layer)?)
+}
+
+/// Puts a layer on a stack, puts that in use, and serves a list.
+fn serve_by<S: Subscriber + Drop, L: Layer<S> + Drop>(
+    alloc: Global,
+    stack: S,
+    layer: L,
+    requests: &[Request<'_>],
+) -> Result<(Dispatch<Layered<L, S>>, Vec<Answer>), TraceError>
+    requires stack { S.usable stack }
+    requires layer { L.usable layer }
+{
+    let mut dispatch = Dispatch::new(alloc, put(stack, layer)?);
     let answers = dispatch.serve(alloc, requests)?;
     Ok((dispatch, answers))
 }
@@ -165,8 +179,7 @@ fn a_receiver_of_five(rt: HostRuntime) -> Result<(), Fail> {
         event_from(3, Level::INFO),
         event_from(4, Level::WARN),
     ];
-    let stack = put(Registry::new(alloc), layers)?;
-    let (dispatch, answers) = serve_by(alloc, stack, &requests)?;
+    let (dispatch, answers) = serve_by(alloc, Registry::new(alloc), layers, &requests)?;
     let id = first_made(&answers)?;
     assert_eq!(rt; answers.get(1).copied(), Some(Answer::Dropped));
     assert_eq!(rt; counted(dispatch.stack(), id), Some(3));
@@ -203,22 +216,56 @@ fn silent_recorders(alloc: Global) -> Result<Vec<Recording>, Fail> {
     Ok(members)
 }
 
+/// A layer that a stack has no room for: what comes back, and the number of filters that were handed out before.
+#[derive(Drop)]
+struct NoRoom<S, O> {
+    layer: O,
+    error: TraceError,
+    filters: u32,
+    dispatch: Dispatch<S>,
+}
+
+/// Puts a layer on a stack, and then another one that there is no room for. An error event is sent to the rest.
+fn no_room_for<S, L, O>(
+    alloc: Global,
+    stack: S,
+    layer: L,
+    more: O,
+) -> Result<Option<NoRoom<Layered<L, S>, O>>, TraceError>
+where
+    S: Subscriber + Drop,
+    L: Layer<S> + Drop,
+    O: Layer<Layered<L, S>> + Drop,
+    requires stack { S.usable stack }
+    requires layer { L.usable layer }
+    requires more { O.usable more }
+{
+    let Err(back) = put(stack, layer)?.with(more) else {
+        return Ok(None);
+    };
+    let filters = back.subscriber.root().filters();
+    Ok(Some(NoRoom {
+        layer: back.layer,
+        error: back.error,
+        filters,
+        dispatch: sent_to(alloc, back.subscriber)?,
+    }))
+}
+
 #[test]
 fn a_registry_full_of_filters(rt: HostRuntime) -> Result<(), Fail> {
+    let warn = recording(rt.alloc(), LevelFilter::WARN);
     let stack = put(Registry::new(rt.alloc()), Recorder::new(rt.alloc()))?;
-    let stack = put(stack, silent_recorders(rt.alloc())?)?;
-    let Err(back) = stack.with(recording(rt.alloc(), LevelFilter::WARN)) else {
+    let silent = silent_recorders(rt.alloc())?;
+    let Some(back) = no_room_for(rt.alloc(), stack, silent, warn)? else {
         return Err(Fail::from("a 65th filter got a number"));
     };
     assert_eq!(rt; back.error, TraceError::TooManyFilters);
     assert_eq!(rt; *back.layer.filter(), LevelFilter::WARN);
-    assert_eq!(rt; back.subscriber.root().filters(), 64);
-    let dispatch = sent_to(rt.alloc(), back.subscriber)?;
-    let stack = dispatch.stack();
-    assert_eq!(rt;
-        stack.inner().layer().notices(),
-        [Notice::Event(LANE, 7)].as_slice()
-    );
+    assert_eq!(rt; back.filters, 64);
+    let stack = back.dispatch.stack();
+    let kept = stack.inner().layer().notices();
+    assert_eq!(rt; kept, [Notice::Event(LANE, 7)].as_slice());
     for member in stack.layer().iter() {
         assert!(rt; member.inner().notices().is_empty());
     }
@@ -233,29 +280,54 @@ fn interest_of<S: Subscriber>(stack: &S) -> Interest
     stack.register_callsite(&metadata, &mut Pass::new())
 }
 
-/// The hint of a stack.
-fn hint_of<S: Subscriber>(stack: &S) -> Option<LevelFilter>
-    requires { S.usable stack.now }
+/// The interest of a layer on a stack, and of both layers.
+fn interests_of<S, I, O>(stack: S, inner: I, outer: O) -> Result<(Interest, Interest), TraceError>
+where
+    S: Subscriber + Drop,
+    I: Layer<S> + Drop,
+    O: Layer<Layered<I, S>> + Drop,
+    requires stack { S.usable stack }
+    requires inner { I.usable inner }
+    requires outer { O.usable outer }
 {
-    stack.max_level_hint()
+    let one = put(stack, inner)?;
+    let interest = interest_of(&one);
+    Ok((interest, interest_of(&put(one, outer)?)))
+}
+
+/// The hint of a layer on a stack.
+fn hint_of<S: Subscriber + Drop, L: Layer<S> + Drop>(
+    stack: S,
+    layer: L,
+) -> Result<Option<LevelFilter>, TraceError>
+    requires stack { S.usable stack }
+    requires layer { L.usable layer }
+{
+    Ok(put(stack, layer)?.max_level_hint())
 }
 
 #[test]
 fn what_one_filter_wants_is_of_interest(rt: HostRuntime) -> Result<(), Fail> {
     let all = recording(rt.alloc(), LevelFilter::TRACE);
     let nothing = recording(rt.alloc(), LevelFilter::OFF);
-    let stack = put(Registry::new(rt.alloc()), all)?;
-    assert_eq!(rt; interest_of(&stack), Interest::Always);
-    let stack = put(stack, nothing)?;
-    assert_eq!(rt; interest_of(&stack), Interest::Sometimes);
+    assert_eq!(rt;
+        interests_of(Registry::new(rt.alloc()), all, nothing)?,
+        (Interest::Always, Interest::Sometimes)
+    );
     Ok(())
 }
 
 #[test]
 fn what_a_layer_without_a_filter_may_want_is_of_interest(rt: HostRuntime) -> Result<(), Fail> {
-    let stack = put(Registry::new(rt.alloc()), Recorder::new(rt.alloc()))?;
-    let stack = put(stack, recording(rt.alloc(), LevelFilter::OFF))?;
-    assert_eq!(rt; interest_of(&stack), Interest::Sometimes);
+    let nothing = recording(rt.alloc(), LevelFilter::OFF);
+    assert_eq!(rt;
+        interests_of(
+            Registry::new(rt.alloc()),
+            Recorder::new(rt.alloc()),
+            nothing
+        )?,
+        (Interest::Always, Interest::Sometimes)
+    );
     Ok(())
 }
 
@@ -263,8 +335,10 @@ fn what_a_layer_without_a_filter_may_want_is_of_interest(rt: HostRuntime) -> Res
 fn a_pair_under_filters_has_the_wider_hint(rt: HostRuntime) -> Result<(), Fail> {
     let all = recording(rt.alloc(), LevelFilter::TRACE);
     let few = recording(rt.alloc(), LevelFilter::INFO);
-    let stack = put(Registry::new(rt.alloc()), all.and_then(few))?;
-    assert_eq!(rt; hint_of(&stack), Some(LevelFilter::TRACE));
+    assert_eq!(rt;
+        hint_of(Registry::new(rt.alloc()), all.and_then(few))?,
+        Some(LevelFilter::TRACE)
+    );
     Ok(())
 }
 

@@ -1,24 +1,24 @@
-use Rattle.std.proofs.Common.{refl}
+use Rattle.std.proofs.Common.{arith, refl, ◌∙◌}
 use Rattle.span_core.specs.declared.level.TheConstants.LevelFilter.{INFO}
 use Rattle.span_filters.specs.Level.{level_answers}
 use Rattle.span_registry.specs.Form.{Leaf}
 use Rattle.std.specs.Prelude.{true}
 use Rattle.span_run.specs.Mute.{mute_answers}
-use Rattle.span_run.proofs.Begins.{begins_muted, begins_veto, warned_leaves_room}
+use Rattle.span_run.proofs.Begins.{begins_muted, begins_veto, one_number, room_after}
 use Rattle.span_run.proofs.stacks.veto.Goals as goal
 
-pub unreachable-requires : goal.unreachable-requires
-unreachable-requires c = warned_leaves_room c.warned.result c.warned.ensures (c.in_default.ensures.refused.full (Leaf true mute_answers) (mute_answers, refl, refl))
+pub put-requires-room : goal.put-requires-room
+put-requires-room c = record { form = Leaf true mute_answers; has = (mute_answers, refl, refl); room = room_after (one_number c.warned.result c.warned.ensures) (omega (arith)) }
 
-pub unreachable-requires-in-Err : goal.unreachable-requires-in-Err
-unreachable-requires-in-Err c =
-    let m = c.in-Ok.ensures.attached in
-    let begun = begins_muted c.warned.result c.warned.ensures c.in-Ok.muted m.numbers.alone (m.numbers.next (Leaf true mute_answers) (mute_answers, refl, refl)) in
-    warned_leaves_room _ begun (c.in-Err.ensures.refused.full (Leaf true (level_answers INFO)) (level_answers INFO, refl, refl))
+pub put-2-requires-room : goal.put-2-requires-room
+put-2-requires-room c =
+    let m = c.put-muted.ensures in
+    let none = m.numbers.next (Leaf true mute_answers) (mute_answers, refl, refl) in
+    record { form = Leaf true (level_answers INFO); has = (level_answers INFO, refl, refl); room = room_after (none ∙ one_number c.warned.result c.warned.ensures) (omega (arith)) }
 
 pub returns : goal.returns
 returns c =
-    let m = c.in-Ok.ensures.attached in
-    let begun = begins_muted c.warned.result c.warned.ensures c.in-Ok.muted m.numbers.alone (m.numbers.next (Leaf true mute_answers) (mute_answers, refl, refl)) in
-    let h = c.in-Ok-with.ensures.attached in
-    begins_veto c.in-Ok.muted begun c.in-Ok-with.stack h.layer_as_it_was h.numbers.alone (h.numbers.next (Leaf true (level_answers INFO)) (level_answers INFO, refl, refl))
+    let m = c.put-muted.ensures in
+    let begun = begins_muted c.warned.result c.warned.ensures c.put-muted.result m.numbers.alone (m.numbers.next (Leaf true mute_answers) (mute_answers, refl, refl)) in
+    let h = c.put-2.ensures in
+    begins_veto c.put-muted.result begun c.put-2.result h.layer_as_it_was h.numbers.alone (h.numbers.next (Leaf true (level_answers INFO)) (level_answers INFO, refl, refl))

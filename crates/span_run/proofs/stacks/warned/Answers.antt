@@ -1,11 +1,11 @@
 use Rattle.span_run.proofs.Begins.{begins_warned, warned_has_room}
 use Rattle.span_run.proofs.stacks.warned.Goals as goal
 
-pub unreachable-requires : goal.unreachable-requires
-unreachable-requires c = warned_has_room c.with_filter-warn.result c.new.result c.plain.result c.plain.ensures c.with_filter-warn.ensures c.in-Err.ensures.refused.full
+pub put-requires-room : goal.put-requires-room
+put-requires-room c = warned_has_room c.with_filter-warn.result c.new.result c.plain.result c.plain.ensures c.with_filter-warn.ensures
 
 pub returns : goal.returns
 returns c =
-    let h = c.in-Ok.ensures.attached in
+    let h = c.put.ensures in
     begins_warned c.with_filter-warn.result c.new.result c.plain.result c.plain.ensures c.with_filter-warn.ensures
-    c.in-Ok.stack c.new.ensures h.numbers.alone h.numbers.form h.numbers.next h.layer_as_it_was
+    c.put.result c.new.ensures h.numbers.alone h.numbers.form h.numbers.next h.layer_as_it_was
