@@ -8,7 +8,7 @@ use Rattle.span_filters.specs.Filter.{settled_answers}
 use Rattle.span_filters.specs.Level.{level_answers}
 use Rattle.span_layers.specs.Filtered.{FilteredForm, IsNumber, IsUnnumbered, filter_of, id_of, layer_of}
 use Rattle.span_layers.specs.Layered.{OverForm, inner_of, outer_of, with_inner}
-use Rattle.span_layers.specs.Number.{filters_in, numbered}
+use Rattle.span_layers.specs.Number.{numbered}
 use Rattle.span_layers.specs.declared.filtered.Filtered.{Filtered as FilteredLayer}
 use Rattle.span_layers.specs.declared.layered.Layered.{Layered}
 use Rattle.span_registry.specs.Form.{Filtered, Form, InPair, Over}
@@ -66,8 +66,8 @@ begins_under : (u x : Levelled) (layer : Kept) (level : LevelFilter) (n : ℕ) �
 begins_under u x layer level n h begins attached number = record { number = number; level = attached.0 ∙ h.own; recorder = attached.1 ∙ h.inner ∙ begins }
 
 -- so many filters were handed out, and these leave room for so many more
-pub room_after : {n taken more : ℕ} → n ≡ taken → taken + more ≤ LIMIT → n + more ≤ LIMIT
-room_after {more = more} same room = subst (λ k. k + more ≤ LIMIT) (sym same) room
+pub room_after : {n taken : ℕ} (more : ℕ) → n ≡ taken → taken + more ≤ LIMIT → n + more ≤ LIMIT
+room_after more same room = subst (λ k. k + more ≤ LIMIT) (sym same) room
 
 -- ---- pair
 
@@ -76,7 +76,7 @@ module _ (limits : Limits) (p : Layered Levelled Levelled) (a b : Kept) (s : Reg
   pair_has = (refl, under_level (outer_of p) b INFO outer, under_level (inner_of p) a TRACE inner)
 
   pub pair_has_room : HasRoom (λ (r : RegistryState). r) PairForm p s
-  pair_has_room = record { form = pair_form; has = pair_has; room = room_after (ap (λ (r : RegistryState). r.filters) first) (omega (arith)) }
+  pair_has_room = record { form = pair_form; has = pair_has; room = room_after 2 (ap (λ (r : RegistryState). r.filters) first) (omega (arith)) }
 
   pub begins_pair : (x : Layered (Layered Levelled Levelled) RegistryState) → a ≡ new_recorder → b ≡ new_recorder → inner_of x ≡ record s { filters = (inner_of x).filters }
       → ((f : Form) → PairForm p f → PairForm (outer_of x) (numbered f s.filters).0) → ((f : Form) → PairForm p f → (inner_of x).filters ≡ (numbered f s.filters).1)
@@ -104,7 +104,7 @@ module _ {limits : Limits} (u : FilteredLayer Levelled Mute) (l : Levelled) (dee
   mute_has = (outside.id, refl, under_level (layer_of u) deep INFO inner_one)
 
   pub nested_has_room : HasRoom (λ (r : Layered Kept RegistryState). inner_of r) UnderMute u s
-  nested_has_room = record { form = mute_form; has = mute_has; room = room_after (none_yet s begun) (omega (arith)) }
+  nested_has_room = record { form = mute_form; has = mute_has; room = room_after 2 (none_yet s begun) (omega (arith)) }
 
   pub begins_nested : (x : Layered (FilteredLayer Levelled Mute) (Layered Kept RegistryState)) → deep ≡ new_recorder → inner_of x ≡ record s { inner = record (inner_of s) { filters = (inner_of (inner_of x)).filters } }
       → ((f : Form) → UnderMute u f → UnderMute (outer_of x) (numbered f (inner_of s).filters).0) → ((f : Form) → UnderMute u f → (inner_of (inner_of x)).filters ≡ (numbered f (inner_of s).filters).1)
@@ -123,7 +123,7 @@ module _ {limits : Limits} (u : FilteredLayer Levelled Mute) (l : Levelled) (dee
 
 module _ {limits : Limits} (l : Levelled) (warn : Kept) (s : Layered Kept RegistryState) (begun : BeginsPlain limits s) (outside : IsUnnumbered l warn WARN) where
   pub warned_has_room : HasRoom (λ (r : Layered Kept RegistryState). inner_of r) UnderLevel l s
-  warned_has_room = record { form = level_form WARN; has = under_level l warn WARN outside; room = room_after (none_yet s begun) (omega (arith)) }
+  warned_has_room = record { form = level_form WARN; has = under_level l warn WARN outside; room = room_after 1 (none_yet s begun) (omega (arith)) }
 
   pub begins_warned : (x : Warned) → warn ≡ new_recorder → inner_of x ≡ record s { inner = record (inner_of s) { filters = (inner_of (inner_of x)).filters } }
       → ((f : Form) → UnderLevel l f → UnderLevel (outer_of x) (numbered f (inner_of s).filters).0) → ((f : Form) → UnderLevel l f → (inner_of (inner_of x)).filters ≡ (numbered f (inner_of s).filters).1)

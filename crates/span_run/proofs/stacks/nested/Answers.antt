@@ -1,8 +1,8 @@
 use Rattle.span_run.proofs.Begins.{begins_nested, nested_has_room}
 use Rattle.span_run.proofs.stacks.nested.Goals as goal
 
-pub put-requires-room : goal.put-requires-room
-put-requires-room c =
+pub put-requires-clause-room : goal.put-requires-clause-room
+put-requires-clause-room c =
     nested_has_room c.with_filter.result c.with_filter-deep.result c.new.result _ c.plain.result c.plain.ensures c.with_filter-deep.ensures c.with_filter.ensures
 
 pub returns : goal.returns

@@ -4,8 +4,8 @@ use Rattle.span_layers.specs.Filtered.{IsUnnumbered}
 use Rattle.span_run.proofs.Begins.{Levelled, begins_pair, pair_has_room}
 use Rattle.span_run.proofs.stacks.pair.Goals as goal
 
-pub put-requires-room : goal.put-requires-room
-put-requires-room c =
+pub put-requires-clause-room : goal.put-requires-clause-room
+put-requires-clause-room c =
     let p = c.and_then.ensures in
     pair_has_room c.args.limits c.and_then.result c.new.result c.new-2.result c.with_limits.result c.with_limits.ensures
     (subst (λ (u : Levelled). IsUnnumbered u c.new.result TRACE) (sym p.below) c.with_filter-a.ensures)

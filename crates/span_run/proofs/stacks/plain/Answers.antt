@@ -4,8 +4,8 @@ use Rattle.span_run.specs.Stacks.{leaf}
 use Rattle.span_run.proofs.Begins.{registry_then, room_after}
 use Rattle.span_run.proofs.stacks.plain.Goals as goal
 
-pub put-requires-room : goal.put-requires-room
-put-requires-room c = record { form = leaf; has = refl; room = room_after (ap (λ (s : RegistryState). s.filters) c.with_limits.ensures) (omega (arith)) }
+pub put-requires-clause-room : goal.put-requires-clause-room
+put-requires-clause-room c = record { form = leaf; has = refl; room = room_after 0 (ap (λ (s : RegistryState). s.filters) c.with_limits.ensures) (omega (arith)) }
 
 pub returns : goal.returns
 returns c =

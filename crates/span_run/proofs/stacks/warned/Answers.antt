@@ -1,8 +1,8 @@
 use Rattle.span_run.proofs.Begins.{begins_warned, warned_has_room}
 use Rattle.span_run.proofs.stacks.warned.Goals as goal
 
-pub put-requires-room : goal.put-requires-room
-put-requires-room c = warned_has_room c.with_filter-warn.result c.new.result c.plain.result c.plain.ensures c.with_filter-warn.ensures
+pub put-requires-clause-room : goal.put-requires-clause-room
+put-requires-clause-room c = warned_has_room c.with_filter-warn.result c.new.result c.plain.result c.plain.ensures c.with_filter-warn.ensures
 
 pub returns : goal.returns
 returns c =
