@@ -125,10 +125,11 @@ fn marks_under<L: Layer<Registry> + Drop, F: Filter<Registry> + Drop>(
 /// The same of a boxed layer, under a filter that passes spans, events, both or neither.
 fn marks_of_a_box(alloc: Global, spans: bool, events: bool) -> Result<Option<u64>, Fail> {
     let object: Box<dyn DynLayer + Send> = Box::new(alloc, Observer::new(Marker))?;
+    let layer = BoxedLayer::new(object);
     let passes = dynamic_filter_fn(move |meta: &Metadata, _cx: &Context<'_, Registry>| {
         if meta.is_span() { spans } else { events }
     });
-    marks_under(alloc, BoxedLayer::new(object), passes)
+    marks_under(alloc, layer, passes)
 }
 
 #[test]
