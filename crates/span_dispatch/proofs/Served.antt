@@ -4,8 +4,8 @@ use Rattle.std.proofs.lemmas.List.{append-nil}
 use Rattle.span_core.specs.declared.span.Id.{Id}
 use Rattle.span_dispatch.specs.Cache.{Memory}
 use Rattle.span_dispatch.specs.Call.{Call}
-use Rattle.span_dispatch.specs.Outcome.{Made}
-use Rattle.span_dispatch.specs.Serve.{AnswersCall, AnswersDrop, AsksFor, IsReadyAfter, IsReadyBy, Run, Served, Serves, ServesNext, ServesRequest, StaysReady, flat, kept_by, stack_of}
+use Rattle.span_dispatch.specs.Outcome.{IsHonest, Made}
+use Rattle.span_dispatch.specs.Serve.{AsksFor, IsReadyAfter, IsReadyBy, IsReadySomehow, KeepsUpToDate, Run, Served, Serves, ServesCall, ServesRequest, flat, kept_by, stack_of}
 use Rattle.span_dispatch.specs.declared.dispatch.Dispatch.{Dispatch}
 use Rattle.span_dispatch.specs.declared.request.Answer.{Answer}
 use Rattle.span_dispatch.specs.declared.request.Request.{Request}
@@ -26,9 +26,25 @@ pub named : {o p : Option Id} {id : Id} → o ≡ p → o ≡ Some id → p ≡ 
 named e i = sym e ∙ i
 
 module _ {S : Type 0} (registry : S → RegistryState) (with_registry : S → RegistryState → S) (has_form : S → Form → Type 0) (stepped : StackSteps S) where
+  -- what `AnswersDrop`, `AnswersCall`, `ServesNext` and `StaysReady` say
+  abbrev DropAnswered : Call → Answer → Dispatch S → Dispatch S → Type 0
+  DropAnswered call a old new = (f : Form) → IsReadyBy registry with_registry has_form stepped f old → ServesCall registry with_registry has_form stepped call f a old new
+
+  abbrev CallAnswered : Call → Answer → Dispatch S → Dispatch S → Type 0
+  CallAnswered call a old new =
+      (f : Form) → IsHonest registry with_registry has_form stepped f (stack_of old) → KeepsUpToDate f (registry (stack_of old)).filters old → ServesCall registry with_registry has_form stepped call f a old new
+
+  abbrev NextServed : List Answer → Request → Answer → Dispatch S → Dispatch S → Type 0
+  NextServed past r a old new =
+      IsReadySomehow registry with_registry has_form stepped old
+      → (made : List Made) × ServesRequest registry with_registry has_form stepped past r (kept_by old) (stack_of old) a made (kept_by new) (stack_of new)
+
+  abbrev ReadyAgain : Dispatch S → Dispatch S → Type 0
+  ReadyAgain old new = (f : Form) → IsReadyBy registry with_registry has_form stepped f old → IsReadyAfter registry with_registry has_form stepped f new
+
   -- what a request asks for was served
-  pub served_by : (past : List Answer) (r other : Request) (call : Call) (a b : Answer) (old new : Dispatch S) → r ≡ other → AsksFor past other (Some call) → b ≡ a → AnswersDrop registry with_registry has_form stepped call a old new
-      → ServesNext registry with_registry has_form stepped past r b old new
+  pub served_by : (past : List Answer) (r other : Request) (call : Call) (a b : Answer) (old new : Dispatch S) → r ≡ other → AsksFor past other (Some call) → b ≡ a → DropAnswered call a old new
+      → NextServed past r b old new
   served_by past r other call a b old new same asks answer served k =
       let done = served k.0 k.1 in (
         done.0,
@@ -40,8 +56,8 @@ module _ {S : Type 0} (registry : S → RegistryState) (with_registry : S → Re
       )
 
   -- the same of a call that is answered by every honest stack
-  pub served_by_call : (past : List Answer) (r other : Request) (call : Call) (a b : Answer) (old new : Dispatch S) → r ≡ other → AsksFor past other (Some call) → b ≡ a → AnswersCall registry with_registry has_form stepped call a old new
-      → ServesNext registry with_registry has_form stepped past r b old new
+  pub served_by_call : (past : List Answer) (r other : Request) (call : Call) (a b : Answer) (old new : Dispatch S) → r ≡ other → AsksFor past other (Some call) → b ≡ a → CallAnswered call a old new
+      → NextServed past r b old new
   served_by_call past r other call a b old new same asks answer served = served_by past r other call a b old new same asks answer (λ f h. served f h.stack.honest h.kept)
 
   -- a run, and then one request more
@@ -69,7 +85,7 @@ module _ {S : Type 0} (registry : S → RegistryState) (with_registry : S → Re
   nothing_yet f first ready = record { ready = (f, ready, kept_form f); made = []; run = (refl, refl) }
 
   pub one_more : (f : Form) (first now next : Dispatch S) (done all : List Request) (past answers after : List Answer) (a : Answer) (r : Request) → SoFar f first now done answers → past ≡ answers → after ≡ answers ++ (a ∷ []) → all ≡ done ++ (r ∷ [])
-      → StaysReady registry with_registry has_form stepped now next → ServesNext registry with_registry has_form stepped past r a now next → SoFar f first next all after
+      → ReadyAgain now next → NextServed past r a now next → SoFar f first next all after
   one_more f first now next done all past answers after a r h same longer one ready served =
       let s = served (h.ready.0, h.ready.1) in
       let after_it = ready h.ready.0 h.ready.1 in

@@ -1,5 +1,5 @@
 -- What each call does to the store, whatever the stack answers.
-use Rattle.std.proofs.Common.{◌≡◌, Bool, true, false, ◌&&◌, [], Some, None, Result, Ok, Err, IfOk, OnOk, refl, sym, ap, subst, ◌∙◌}
+use Rattle.std.proofs.Common.{◌≡◌, ℕ, Bool, true, false, ◌&&◌, List, [], None, Result, Ok, Err, IfOk, OnOk, refl, sym, ap, subst, ◌∙◌}
 use Rattle.std.proofs.lemmas.Bool.{true≢false}
 use Rattle.span_core.specs.Span.{number_of}
 use Rattle.span_core.specs.declared.error.TraceError.{TraceError}
@@ -8,8 +8,8 @@ use Rattle.span_core.specs.declared.span.Attributes.{Attributes}
 use Rattle.span_core.specs.declared.span.Id.{Id}
 use Rattle.span_core.specs.declared.span.Lane.{Lane}
 use Rattle.span_dispatch.specs.Cache.{Memory, RefusesInterest}
-use Rattle.span_dispatch.specs.Call.{DropsSpan, FindsOpen, OpensFor, WantsEvent, WantsMetadata}
-use Rattle.span_dispatch.specs.Serve.{ClosesEach, TakesHandle, TakesStepAlone, stack_of}
+use Rattle.span_dispatch.specs.Call.{DropsSpan, FindsOpen, OpensFor}
+use Rattle.span_dispatch.specs.Serve.{ClosesEach, stack_of}
 use Rattle.span_dispatch.specs.declared.dispatch.Dispatch.{Dispatch}
 use Rattle.span_registry.proofs.CallerLemmas.{closes_itself, closes_with_hooks, drops_open, same_itself, settled_closed, settled_still}
 use Rattle.span_registry.specs.Closes.{IsSettled}
@@ -23,7 +23,7 @@ use Rattle.span_core.specs.declared.event.Event.{Event}
 use Rattle.span_core.specs.declared.metadata.Metadata.{Metadata}
 use Rattle.span_core.specs.declared.pass.Pass.{Pass}
 use Rattle.span_registry.specs.Laws.{ClosesAll}
-use Rattle.span_registry.specs.Step.{Clones, Exits, Releases}
+use Rattle.span_registry.specs.Step.{Clones, Exits, Releases, Removal}
 use Rattle.span_registry.specs.Store.{IsForest, IsOpen, RegistryState}
 use Rattle.span_registry.specs.Subscriber.{AndHooks, SameButExtensions}
 use Rattle.span_registry.specs.declared.registry.Released.TheVariants.{Closing, StillOpen}
@@ -48,28 +48,34 @@ second_false false q a = refl
 -- ---- what is wanted, where nothing is kept
 
 module _ {S : Type 0} (registry : S → RegistryState) (has_form : S → Form → Type 0) (lane : Lane) (x : S) where
+  -- what `WantsMetadata` and `WantsEvent` say of a dispatcher that keeps this and has this stack
+  abbrev pub Wanted : Memory → Metadata → Bool → Type 0
+  Wanted memory m wanted = memory ≡ None → (f : Form) → has_form x f → wanted ≡ (asked f m (registry x).store lane.0 no_filter no_filter).0
+
+  abbrev pub WantedEvent : Memory → Event → Bool → Type 0
+  WantedEvent memory e wanted =
+      memory ≡ None → (f : Form) → has_form x f
+      → let first = asked f (event_metadata e) (registry x).store lane.0 no_filter no_filter in wanted ≡ first.0 && (event_asked f e (registry x).store lane.0 no_filter first.1).0
+
   -- asking with an empty pass is asking with none
   asked_same : (f : Form) (m meta : Metadata) (fresh : Pass) → m ≡ meta → IsEmpty (refusals fresh) → (asked f m (registry x).store lane.0 no_filter (refusals fresh)).0 ≡ (asked f meta (registry x).store lane.0 no_filter no_filter).0
   asked_same f m meta fresh same empty = λ k. (asked f (same k) (registry x).store lane.0 no_filter (λ n. empty n k)).0
 
-  pub metadata_wanted : (memory : Memory) (m meta : Metadata) (fresh pass : Pass) (said : Bool) → m ≡ meta → IsEmpty (refusals fresh) → (memory ≡ None → AnswersEnabled registry has_form x lane m fresh said pass) → WantsMetadata registry has_form lane meta memory x said
-  metadata_wanted None m meta fresh pass said same empty a = λ f d. (a refl f d).answer ∙ asked_same f m meta fresh same empty
-  metadata_wanted (Some callsites) m meta fresh pass said same empty a = tt
+  pub metadata_wanted : (memory : Memory) (m meta : Metadata) (fresh pass : Pass) (said : Bool) → m ≡ meta → IsEmpty (refusals fresh) → (memory ≡ None → AnswersEnabled registry has_form x lane m fresh said pass) → Wanted memory meta said
+  metadata_wanted memory m meta fresh pass said same empty a = λ none f d. (a none f d).answer ∙ asked_same f m meta fresh same empty
 
   -- where nothing is kept no interest is wanting
-  pub unrefused : (memory : Memory) (m meta : Metadata) (e : TraceError) → RefusesInterest memory m e → WantsMetadata registry has_form lane meta memory x true
-  unrefused None m meta e h = absurd h
-  unrefused (Some callsites) m meta e h = tt
+  pub unrefused : (memory : Memory) (m meta : Metadata) (e : TraceError) → RefusesInterest memory m e → Wanted memory meta true
+  unrefused memory m meta e h = λ none. absurd (subst (λ kept. RefusesInterest kept m e) none h)
 
-  pub asked_of : (memory : Memory) (m meta : Metadata) (fresh pass : Pass) (said : Result Bool TraceError) → m ≡ meta → IsEmpty (refusals fresh) → (memory ≡ None → IfOk said (λ b. AnswersEnabled registry has_form x lane m fresh b pass)) → IfOk said (WantsMetadata registry has_form lane meta memory x)
+  pub asked_of : (memory : Memory) (m meta : Metadata) (fresh pass : Pass) (said : Result Bool TraceError) → m ≡ meta → IsEmpty (refusals fresh) → (memory ≡ None → IfOk said (λ b. AnswersEnabled registry has_form x lane m fresh b pass)) → IfOk said (Wanted memory meta)
   asked_of memory m meta fresh pass (Ok said) same empty a = metadata_wanted memory m meta fresh pass said same empty a
   asked_of memory m meta fresh pass (Err e) same empty a = tt
 
   -- an event whose metadata aren't wanted isn't
   pub event_unwanted : (memory : Memory) (e : Event) (m : Metadata) (fresh pass : Pass) (said : Bool) → m ≡ event_metadata e → IsEmpty (refusals fresh) → said ≡ false → (memory ≡ None → AnswersEnabled registry has_form x lane m fresh said pass)
-      → WantsEvent registry has_form lane e memory x false
-  event_unwanted None e m fresh pass said same empty no_one a = λ f d. first_false _ _ (sym (asked_same f m (event_metadata e) fresh same empty) ∙ sym (a refl f d).answer ∙ no_one)
-  event_unwanted (Some callsites) e m fresh pass said same empty no_one a = tt
+      → WantedEvent memory e false
+  event_unwanted memory e m fresh pass said same empty no_one a = λ none f d. first_false _ _ (sym (asked_same f m (event_metadata e) fresh same empty) ∙ sym (a none f d).answer ∙ no_one)
 
   -- of one whose metadata are wanted, the second question says
   asked_second : (f : Form) (e : Event) (m : Metadata) (fresh first second : Pass) (said wanted : Bool) → has_form x f → m ≡ event_metadata e → IsEmpty (refusals fresh) → AnswersEnabled registry has_form x lane m fresh said first
@@ -79,15 +85,13 @@ module _ {S : Type 0} (registry : S → RegistryState) (has_form : S → Form �
       sym (ap (λ (r : FilterSet). (event_asked f e (registry x).store lane.0 no_filter r).0) before) ∙ sym (b f d).answer
 
   pub event_refused : (memory : Memory) (e : Event) (m : Metadata) (fresh first second : Pass) (said wanted : Bool) → m ≡ event_metadata e → IsEmpty (refusals fresh) → wanted ≡ false → (memory ≡ None → AnswersEnabled registry has_form x lane m fresh said first)
-      → AnswersEvent registry has_form x lane e first wanted second → WantsEvent registry has_form lane e memory x false
-  event_refused None e m fresh first second said wanted same empty no_one a b = λ f d. second_false _ _ (asked_second f e m fresh first second said wanted d same empty (a refl) b ∙ no_one)
-  event_refused (Some callsites) e m fresh first second said wanted same empty no_one a b = tt
+      → AnswersEvent registry has_form x lane e first wanted second → WantedEvent memory e false
+  event_refused memory e m fresh first second said wanted same empty no_one a b = λ none f d. second_false _ _ (asked_second f e m fresh first second said wanted d same empty (a none) b ∙ no_one)
 
   pub event_wanted : (memory : Memory) (e : Event) (m : Metadata) (fresh first second : Pass) (said wanted : Bool) → m ≡ event_metadata e → IsEmpty (refusals fresh) → said ≡ true → wanted ≡ true
-      → (memory ≡ None → AnswersEnabled registry has_form x lane m fresh said first) → AnswersEvent registry has_form x lane e first wanted second → WantsEvent registry has_form lane e memory x true
-  event_wanted None e m fresh first second said wanted same empty agreed more a b = λ f d.
-      both_true _ _ (sym (asked_same f m (event_metadata e) fresh same empty) ∙ sym (a refl f d).answer ∙ agreed) (asked_second f e m fresh first second said wanted d same empty (a refl) b ∙ more)
-  event_wanted (Some callsites) e m fresh first second said wanted same empty agreed more a b = tt
+      → (memory ≡ None → AnswersEnabled registry has_form x lane m fresh said first) → AnswersEvent registry has_form x lane e first wanted second → WantedEvent memory e true
+  event_wanted memory e m fresh first second said wanted same empty agreed more a b = λ none f d.
+      both_true _ _ (sym (asked_same f m (event_metadata e) fresh same empty) ∙ sym (a none f d).answer ∙ agreed) (asked_second f e m fresh first second said wanted d same empty (a none) b ∙ more)
 
 module _ {S : Type 0} (registry : S → RegistryState) where
   -- a span is opened with the pass's refusals for its verdict
@@ -101,8 +105,15 @@ module _ {S : Type 0} (registry : S → RegistryState) where
   found_store id x y there h = record { stepped = h.stepped; taken = (there, h.taken); hooks = h.hooks }
 
   module _ (with_registry : S → RegistryState → S) where
+    -- what `TakesStepAlone` and `TakesHandle` say
+    abbrev StepAlone : (RegistryState → RegistryState → Type 0) → Dispatch S → Dispatch S → Type 0
+    StepAlone step old new = step (registry (stack_of old)) (registry (stack_of new)) × (stack_of new ≡ with_registry (stack_of old) (registry (stack_of new)))
+
+    abbrev TakenAndClosed : Id → Dispatch S → Dispatch S → Type 0
+    TakenAndClosed id old new = (released : RegistryState) × Releases id Closing (registry (stack_of old)) released × ((closed : List ℕ) × Removal SameButExtensions released id closed None (registry (stack_of new)))
+
     pub cloned_store : (id : Id) (r : Result Id TraceError) (old new : Dispatch S) → OnOk r (Clones id (registry (stack_of old)) (registry (stack_of new)))
-        → stack_of new ≡ with_registry (stack_of old) (registry (stack_of new)) → OnOk r (TakesStepAlone registry with_registry (Clones id) old new)
+        → stack_of new ≡ with_registry (stack_of old) (registry (stack_of new)) → OnOk r (StepAlone (Clones id) old new)
     cloned_store id (Ok other) old new taken alone = (taken, alone)
     cloned_store id (Err e) old new taken alone = tt
 
@@ -114,7 +125,7 @@ module _ {S : Type 0} (registry : S → RegistryState) where
       pub alone : (step : RegistryState → RegistryState → Type 0) (x : S) (w : RegistryState) → step (registry x) w → step (registry x) (registry (with_registry x w)) × (with_registry x w ≡ with_registry x (registry (with_registry x w)))
       alone step x w taken = (subst (λ t. step (registry x) t) (sym (registry_with x w)) taken, ap (λ t. with_registry x t) (sym (registry_with x w)))
 
-      pub still_open_taken : (id : Id) (a : Released) (old new : Dispatch S) (w : RegistryState) → stack_of new ≡ with_registry (stack_of old) w → Releases id a (registry (stack_of old)) w → a ≡ StillOpen → TakesHandle registry with_registry id false old new
+      pub still_open_taken : (id : Id) (a : Released) (old new : Dispatch S) (w : RegistryState) → stack_of new ≡ with_registry (stack_of old) w → Releases id a (registry (stack_of old)) w → a ≡ StillOpen → StepAlone (Releases id StillOpen) old new
       still_open_taken id a old new w by r same =
           subst (λ y. Releases id StillOpen (registry (stack_of old)) (registry y) × (y ≡ with_registry (stack_of old) (registry y))) (sym by) (alone (Releases id StillOpen) (stack_of old) w (subst (λ b. Releases id b (registry (stack_of old)) w) same r))
 
@@ -129,7 +140,7 @@ module _ {S : Type 0} (registry : S → RegistryState) where
 
     -- and then each was taken out that closed by that
     pub closed_taken : (has_form : S → Form → Type 0) (stepped : StackSteps S) → ((s : S) (w : RegistryState) → registry (with_registry s w) ≡ w) → (lane : Lane) (id : Id) (a : Released) (old new : Dispatch S) (w : RegistryState) → Releases id a (registry (stack_of old)) w → a ≡ Closing
-        → ClosesEach registry with_registry has_form stepped lane id (with_registry (stack_of old) w) (stack_of new) → TakesHandle registry with_registry id true old new
+        → ClosesEach registry with_registry has_form stepped lane id (with_registry (stack_of old) w) (stack_of new) → TakenAndClosed id old new
     closed_taken has_form stepped registry_with lane id a old new w r same k =
         let z = with_registry (stack_of old) w in
         (registry z, subst (λ t. Releases id Closing (registry (stack_of old)) t) (sym (registry_with (stack_of old) w)) (subst (λ b. Releases id b (registry (stack_of old)) w) same r), (k.closed, k.removal))

@@ -1,5 +1,5 @@
 -- What a dispatcher is asked, and how it answers: which outcomes come of a call, and when it is refused.
-use Rattle.std.specs.Prelude.{◌≡◌, ◌↔◌, ◌⊎◌, ⊤, ℕ, Bool, true, false, ◌&&◌, ◌||◌, IsTrue, List, [], ◌∷◌, map, Option, Some, None, Result, Ok, Err}
+use Rattle.std.specs.Prelude.{◌≡◌, ◌↔◌, ◌⊎◌, ⊤, ℕ, Bool, true, false, ◌||◌, IsTrue, List, [], ◌∷◌, map, Option, Some, None, Result, Ok, Err}
 use Rattle.std.specs.Option.{option_map}
 use Rattle.span_core.specs.Event.{event_metadata}
 use Rattle.span_core.specs.Span.{asked_parent, current_span, id_of, metadata_of, number_of}
@@ -14,7 +14,7 @@ use Rattle.span_core.specs.declared.span.Id.{Id}
 use Rattle.span_core.specs.declared.span.Lane.{Lane}
 use Rattle.span_core.specs.declared.span.Record.{Record}
 use Rattle.span_dispatch.specs.Admission.{IsDropped, IsMade, IsUnknown, Learns, LearnsOfSpan}
-use Rattle.span_dispatch.specs.Cache.{Memory, RefusesInterest}
+use Rattle.span_dispatch.specs.Cache.{Memory}
 use Rattle.span_dispatch.specs.Outcome.{HandleAdded, HandleTaken, GoneLeft, Noticed, Outcome, Quiet}
 use Rattle.span_dispatch.specs.declared.request.Answer.TheVariants as answer
 use Rattle.span_dispatch.specs.declared.request.Answer.{Answer}
@@ -22,8 +22,6 @@ use Rattle.span_layers.specs.Verdict.{vetoes, vetoes_event}
 use Rattle.span_registry.specs.Answers.{OnClose, OnEnter, OnEvent, OnExit, OnFollows, OnNewSpan, OnRecord}
 use Rattle.span_registry.specs.Closes.{Closes, Member}
 use Rattle.span_registry.specs.Form.{Form}
-use Rattle.span_registry.specs.Hooks.{no_filter}
-use Rattle.span_registry.specs.Question.{asked, event_asked}
 use Rattle.span_registry.specs.Step.{Drops, IsCurrent, Opens, RefusesClone, RefusesEnter, RefusesNew, RefusesRelease}
 use Rattle.span_registry.specs.Store.{IsHeld, IsOpen, RegistryState, Store}
 
@@ -106,26 +104,11 @@ KeepsAfter (SendEvent lane e) memory f a after = Learns memory f (event_metadata
 KeepsAfter (Probe lane m) memory f a after = Learns memory f m a after
 KeepsAfter call memory f a after = after ≡ memory
 
--- whether a stack wants these metadata, whatever form it has, where nothing is ever kept and it is asked with a new pass
-abbrev pub WantsMetadata : {S : Type 0} → (S → RegistryState) → (S → Form → Type 0) → Lane → Metadata → Memory → S → Bool → Type 0
-WantsMetadata registry has_form lane m (Some callsites) x wanted = ⊤
-WantsMetadata registry has_form lane m None x wanted = (f : Form) → has_form x f → wanted ≡ (asked f m (registry x).store lane.0 no_filter no_filter).0
-
--- whether it wants this event: its metadata, and then itself
-abbrev pub WantsEvent : {S : Type 0} → (S → RegistryState) → (S → Form → Type 0) → Lane → Event → Memory → S → Bool → Type 0
-WantsEvent registry has_form lane e (Some callsites) x wanted = ⊤
-WantsEvent registry has_form lane e None x wanted =
-    (f : Form) → has_form x f → let first = asked f (event_metadata e) (registry x).store lane.0 no_filter no_filter in wanted ≡ first.0 && (event_asked f e (registry x).store lane.0 no_filter first.1).0
-
 -- Below: what a call does to a registry where it isn't refused, whatever the stack answers. Hooks may write extensions after it.
 
 -- a span is opened that these attributes ask for, with some verdict
 abbrev pub OpensFor : Lane → Attributes → Id → RegistryState → RegistryState → Type 0
 OpensFor lane attrs id s t = (v : FilterMap) × Opens lane (record { metadata = metadata_of attrs; parent = asked_parent attrs; verdict = v }) id s t
-
--- why a new span is refused: its interest isn't to be had, or the registry has no room or no such parent
-abbrev pub RefusesSpan : Memory → RegistryState → Lane → Attributes → TraceError → Type 0
-RefusesSpan memory s lane attrs e = RefusesInterest memory (metadata_of attrs) e ⊎ RefusesNew s lane (asked_parent attrs) e
 
 -- the span is open, and nothing changes
 abbrev pub FindsOpen : Id → RegistryState → RegistryState → Type 0

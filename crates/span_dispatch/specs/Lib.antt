@@ -2,6 +2,7 @@ pub mod Admission
 pub mod Alone
 pub mod Cache
 pub mod Call
+pub mod Contract
 pub mod Fixed
 pub mod Isolation
 pub mod Outcome

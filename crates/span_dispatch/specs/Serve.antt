@@ -1,16 +1,12 @@
 -- How a dispatcher serves a call, and a list of requests.
-use Rattle.std.specs.Prelude.{◌≡◌, ◌⊎◌, ⊤, ℕ, List, [], ◌∷◌, ◌++◌, map, Bool, false, true, Option, Some, None, IfSome, Result, slice_get}
+use Rattle.std.specs.Prelude.{◌≡◌, ◌⊎◌, ⊤, ℕ, List, [], ◌∷◌, ◌++◌, map, true, Option, Some, None, IfSome, slice_get}
 use Rattle.std.specs.List.{FoldsTo}
 use Rattle.std.specs.Option.{option_and_then, option_map, option_map_or}
 use Rattle.span_core.specs.Event.{event_metadata, event_parent, event_values}
 use Rattle.span_core.specs.Span.{asked_parent, metadata_of, number_of, recorded_values, values_of}
-use Rattle.span_core.specs.declared.error.TraceError.{TraceError}
-use Rattle.span_core.specs.declared.metadata.Metadata.{Metadata}
-use Rattle.span_core.specs.declared.pass.Pass.{Pass}
 use Rattle.span_core.specs.declared.span.Id.{Id}
 use Rattle.span_core.specs.declared.span.Parent.TheVariants as parent
 use Rattle.span_core.specs.declared.span.Parent.{Parent}
-use Rattle.span_dispatch.specs.Admission.{IsAdmitted}
 use Rattle.span_dispatch.specs.Alone.{Alone, seen}
 use Rattle.span_dispatch.specs.Cache.{IsUpToDate, Memory, forgotten, kept_in}
 use Rattle.span_dispatch.specs.Call.{AddHandle, AskCurrent, Call, Comes, DropHandle, KeepsAfter, Enter, Exit, Follow, OpenSpan, Probe, RecordValues, SendEvent, closes_of}
@@ -35,10 +31,9 @@ use Rattle.span_registry.specs.Agree.{AgreeAt}
 use Rattle.span_registry.specs.Conducts.{ActsAt, Conducts, numbers_in}
 use Rattle.span_registry.specs.Hooks.{StackSteps}
 use Rattle.span_registry.specs.Place.{HearSteps, Place}
-use Rattle.span_registry.specs.Step.{Releases, Removal}
-use Rattle.span_registry.specs.Subscriber.{AndHooks, SameButExtensions}
+use Rattle.span_registry.specs.Step.{Removal}
+use Rattle.span_registry.specs.Subscriber.{SameButExtensions}
 use Rattle.span_registry.specs.Store.{IsClosing, RegistryState, Store}
-use Rattle.span_registry.specs.declared.registry.Released.TheVariants.{Closing, StillOpen}
 
 -- the stack of a dispatcher
 abbrev pub stack_of : {S : Type 0} → Dispatch S → S
@@ -59,25 +54,6 @@ KeepsUpToDate f filters d = IsUpToDate f filters d.cache
 -- the same dispatcher with nothing kept any more
 abbrev pub forgetful : {S : Type 0} → Dispatch S → Dispatch S
 forgetful d = record d { cache = forgotten d.cache }
-
--- the registry takes a step, whatever the stack, and then hooks may write extensions
-abbrev pub TakesStep : {S : Type 0} → (S → RegistryState) → (RegistryState → RegistryState → Type 0) → Dispatch S → Dispatch S → Type 0
-TakesStep registry step old new = AndHooks registry step (stack_of old) (stack_of new)
-
--- the registry alone takes a step: no layer is notified
-abbrev pub TakesStepAlone : {S : Type 0} → (S → RegistryState) → (S → RegistryState → S) → (RegistryState → RegistryState → Type 0) → Dispatch S → Dispatch S → Type 0
-TakesStepAlone registry with_registry step old new = step (registry (stack_of old)) (registry (stack_of new)) × (stack_of new ≡ with_registry (stack_of old) (registry (stack_of new)))
-
--- a handle is taken, whatever the stack. Where the span closes by that, it is taken out, and then each parent that closes by that; extensions may be written in between. Else no layer is notified
-abbrev pub TakesHandle : {S : Type 0} → (S → RegistryState) → (S → RegistryState → S) → Id → Bool → Dispatch S → Dispatch S → Type 0
-TakesHandle registry with_registry id false old new = TakesStepAlone registry with_registry (Releases id StillOpen) old new
-TakesHandle registry with_registry id true old new =
-    (released : RegistryState) × Releases id Closing (registry (stack_of old)) released × ((closed : List ℕ) × Removal SameButExtensions released id closed None (registry (stack_of new)))
-
--- where what was kept is what the stack would answer, by a form that it has, so is what is kept now
-abbrev pub StaysUpToDate : {S : Type 0} → (S → RegistryState) → (S → Form → Type 0) → Dispatch S → Dispatch S → Type 0
-StaysUpToDate registry has_form old new =
-    (f : Form) → has_form (stack_of old) f → KeepsUpToDate f (registry (stack_of old)).filters old → KeepsUpToDate f (registry (stack_of old)).filters new
 
 -- the span that an answer gave
 abbrev pub made_by : Option Answer → Option Id
@@ -185,20 +161,6 @@ module _ {S : Type 0} (registry : S → RegistryState) (with_registry : S → Re
   abbrev pub ServesCall : Call → Form → Answer → Dispatch S → Dispatch S → Type 0
   ServesCall call f a old new = (made : List Made) × Serves call f (kept_by old) (stack_of old) a made (kept_by new) (stack_of new)
 
-  -- what comes of asking an honest stack whether metadata are wanted, where what is kept is what it would answer now
-  abbrev pub Admits : Lane → Metadata → Dispatch S → Pass → Result Bool TraceError → Dispatch S → Type 0
-  Admits lane m old pass said new =
-      (f : Form) → IsHonest registry with_registry has_form stepped f (stack_of old) → KeepsUpToDate f (registry (stack_of old)).filters old
-      → IsAdmitted (kept_by old) f (registry (stack_of old)) lane m pass (kept_by new) said
-
-  -- an honest stack answers a call so, where what is kept is what it would answer now
-  abbrev pub AnswersCall : Call → Answer → Dispatch S → Dispatch S → Type 0
-  AnswersCall call a old new = (f : Form) → IsHonest registry with_registry has_form stepped f (stack_of old) → KeepsUpToDate f (registry (stack_of old)).filters old → ServesCall call f a old new
-
-  -- and so does a dispatcher that is ready answer a drop
-  abbrev pub AnswersDrop : Call → Answer → Dispatch S → Dispatch S → Type 0
-  AnswersDrop call a old new = (f : Form) → IsReadyBy f old → ServesCall call f a old new
-
   -- ready by a form that keeps what this one had
   abbrev pub IsReadyAfter : Form → Dispatch S → Type 0
   IsReadyAfter f d = (g : Form) × IsReadyBy g d × Keeps f g
@@ -206,10 +168,6 @@ module _ {S : Type 0} (registry : S → RegistryState) (with_registry : S → Re
   -- ready by some form
   abbrev pub IsReadySomehow : Dispatch S → Type 0
   IsReadySomehow d = (f : Form) × IsReadyBy f d
-
-  -- a dispatcher that was ready is ready again, by a form that keeps what the old one had
-  abbrev pub StaysReady : Dispatch S → Dispatch S → Type 0
-  StaysReady old new = (f : Form) → IsReadyBy f old → IsReadyAfter f new
 
   -- one request: what it asks for is served, or, where it names no span, nothing is asked and nothing changes
   abbrev pub ServesAsked : Option Call → Memory → S → Answer → List Made → Memory → S → Type 0
@@ -253,18 +211,6 @@ module _ {S : Type 0} (registry : S → RegistryState) (with_registry : S → Re
     pub once : StandOnce (closed_in (flat made))
     -- child before parent, while still readable
     pub readable : AreReadableCloses (flat made)
-
-  -- whatever was made between the two, each leaf sees of it what its path passes, as if it stood alone
-  abbrev pub SeesWhatIsMade : HearSteps S → ActsAt S → Dispatch S → Dispatch S → Type 0
-  SeesWhatIsMade hears acts_at old new = (made : List Made) → FoldsTo (Makes registry with_registry has_form stepped) (stack_of old) made (stack_of new) → Sees registry hears acts_at (stack_of old) made (stack_of new)
-
-  -- a dispatcher that is ready serves the next request so
-  abbrev pub ServesNext : List Answer → Request → Answer → Dispatch S → Dispatch S → Type 0
-  ServesNext past r a old new = IsReadySomehow old → (made : List Made) × ServesRequest past r (kept_by old) (stack_of old) a made (kept_by new) (stack_of new)
-
-  -- a dispatcher that is ready serves a list so
-  abbrev pub ServesList : HearSteps S → ActsAt S → List Request → List Answer → Dispatch S → Dispatch S → Type 0
-  ServesList hears acts_at requests answers old new = IsReadySomehow old → Served hears acts_at requests answers old new
 
   -- from a stack in which a span is closing: it is taken out, and so is each parent that closes by that; before each is, a notice of its close is given
   pub record ClosesEach (lane : Lane) (id : Id) (x y : S) : Type 0 where

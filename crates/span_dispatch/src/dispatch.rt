@@ -1,21 +1,20 @@
 //! A dispatcher: it takes requests, asks the layers of a stack, and notifies them.
 ghost use Rattle.std.specs.Borrow.{Lends, sem};
-ghost use Rattle.std.specs.Prelude.{◌≡◌, ℕ, None, Ok, Some, false, true, IfErr, IfOk, MatchOption, OnErr, OnOk, is_some};
+ghost use Rattle.std.specs.Prelude.{◌≡◌, ℕ, None, Ok, Some, false, IfErr, IfOk, OnErr, OnOk};
 ghost use Rattle.span_core.specs.Event.{event_metadata};
 ghost use Rattle.span_core.specs.Filters.{IsEmpty};
 ghost use Rattle.span_core.specs.Span.{metadata_of, number_of};
-ghost use Rattle.span_dispatch.specs.Admission.{MayLearn, hint_kept};
+ghost use Rattle.span_dispatch.specs.Admission.{MayLearn};
 ghost use Rattle.span_dispatch.specs.Cache.{RefusesInterest, no_callsite};
-ghost use Rattle.span_dispatch.specs.Call.{AddHandle, AskCurrent, DropHandle, DropsSpan, Enter, Exit, FindsOpen, Follow, OpensFor, OpenSpan, Probe, RecordValues, RefusesSpan, RefusesUnlessOpen, SendEvent, WantsEvent, WantsMetadata, current_answer, done_answer, event_answer, span_answer, yes_answer};
+ghost use Rattle.span_dispatch.specs.Call.{FindsOpen, RefusesUnlessOpen};
+ghost use Rattle.span_dispatch.specs.Contract.{Admits, AsksStack, BecomesReady, DropsSettled, LeavesGone, OpensIfMade, RefusesEvent, RefusesSpan, SeesWhatIsMade, ServesClone, ServesCurrent, ServesDrop, ServesEnabled, ServesEnter, ServesEvent, ServesExit, ServesFollows, ServesNewSpan, ServesRecord, ShowsHint, StaysReady, StaysSettled, StaysUpToDate, TakesHandle, TakesStep, TakesStepAlone, WantsEvent, WantsMetadata, WantsSpan};
 ghost use Rattle.span_dispatch.specs.contracts.dispatch.Dispatch.{the_row};
-ghost use Rattle.span_dispatch.specs.declared.request.Answer.TheVariants.{Done};
-ghost use Rattle.span_dispatch.specs.Serve.{Admits, AnswersCall, AnswersDrop, ClosesEach, IsReady, IsReadyAfter, KeepsUpToDate, SeesWhatIsMade, StaysReady, StaysUpToDate, TakesHandle, TakesStep, TakesStepAlone, forgetful, kept_by, stack_of, with_stack};
+ghost use Rattle.span_dispatch.specs.Serve.{ClosesEach, KeepsUpToDate, forgetful, kept_by, stack_of, with_stack};
 ghost use Rattle.span_registry.specs.Step.{Clones, Enters, Exits, RefusesClone, RefusesEnter, RefusesRelease, ShowsCurrent};
-ghost use Rattle.span_registry.specs.Closes.{IsSettled};
 ghost use Rattle.span_registry.specs.Form.{Form};
-ghost use Rattle.span_registry.specs.Hooks.{AnswersEnabled, Stays};
+ghost use Rattle.span_registry.specs.Hooks.{Stays};
 ghost use Rattle.span_registry.specs.Question.{refusals};
-ghost use Rattle.span_registry.specs.Store.{IsClosing, IsOpen};
+ghost use Rattle.span_registry.specs.Store.{IsClosing};
 
 use crate::cache::Cache;
 use span_core::{
@@ -45,7 +44,7 @@ impl<S: Subscriber> Dispatch<S> {
         ensures registry { S.registry (stack_of result) ≡ S.registry stack }
         ensures kept { kept_by result ≡ Some no_callsite }
         ensures current { (f : Form) (n : ℕ) → KeepsUpToDate f n result }
-        ensures ready { (f : Form) → IsReady S.registry S.with_registry S.has_form S.stepped f stack → IsReadyAfter S.registry S.with_registry S.has_form S.stepped f result }
+        ensures ready { BecomesReady S.Subscriber stack result }
     {
         Dispatch {
             stack: put_in_use(stack),
@@ -64,7 +63,7 @@ impl<S: Subscriber> Dispatch<S> {
         ensures registry { S.registry (stack_of result) ≡ S.registry stack }
         ensures kept { kept_by result ≡ None }
         ensures current { (f : Form) (n : ℕ) → KeepsUpToDate f n result }
-        ensures ready { (f : Form) → IsReady S.registry S.with_registry S.has_form S.stepped f stack → IsReadyAfter S.registry S.with_registry S.has_form S.stepped f result }
+        ensures ready { BecomesReady S.Subscriber stack result }
     {
         Dispatch {
             stack: put_in_use(stack),
@@ -93,7 +92,7 @@ impl<S: Subscriber> Dispatch<S> {
     pub fn max_level_hint(&self) -> Option<LevelFilter>
         requires { S.usable (stack_of self.now) }
         ensures none { kept_by self.now ≡ None → result ≡ None }
-        ensures hint { (f : Form) (n : ℕ) → S.has_form (stack_of self.now) f → KeepsUpToDate f n self.now → result ≡ hint_kept (kept_by self.now) f }
+        ensures hint { ShowsHint S.Subscriber self.now result }
     {
         match &self.cache {
             Cache::Off => None,
@@ -109,10 +108,10 @@ impl<S: Subscriber> Dispatch<S> {
         requires usable { S.usable (stack_of self.old) }
         requires fresh { IsEmpty (refusals pass.old) }
         ensures stack { stack_of self.new ≡ stack_of self.old }
-        ensures admitted { Admits S.registry S.with_registry S.has_form S.stepped lane meta.now self.old pass.new result self.new }
-        ensures kept { StaysUpToDate S.registry S.has_form self.old self.new }
+        ensures admitted { Admits S.Subscriber lane meta.now self.old pass.new result self.new }
+        ensures kept { StaysUpToDate S.Subscriber self.old self.new }
         ensures learned { MayLearn (kept_by self.old) meta.now (kept_by self.new) }
-        ensures nothing_kept { kept_by self.old ≡ None → IfOk result (λ said. AnswersEnabled S.registry S.has_form (stack_of self.old) lane meta.now pass.old said pass.new) }
+        ensures afresh { AsksStack S.Subscriber lane meta.now self.old pass.old result pass.new }
         ensures refused { IfErr result (RefusesInterest (kept_by self.old) meta.now) }
     {
         match self.cache.interest(self.alloc, &self.stack, meta) {
@@ -132,11 +131,11 @@ impl<S: Subscriber> Dispatch<S> {
         requires { S.usable (stack_of self.old) }
         ensures stack { stack_of self.new ≡ stack_of self.old }
         ensures kept { MayLearn (kept_by self.old) meta.now (kept_by self.new) }
-        ensures up_to_date { StaysUpToDate S.registry S.has_form self.old self.new }
-        ensures ready { StaysReady S.registry S.with_registry S.has_form S.stepped self.old self.new }
-        ensures asked { IfOk result (WantsMetadata S.registry S.has_form lane meta.now (kept_by self.old) (stack_of self.old)) }
-        ensures served { AnswersCall S.registry S.with_registry S.has_form S.stepped (Probe lane meta.now) (yes_answer result) self.old self.new }
-        ensures seen { SeesWhatIsMade S.registry S.with_registry S.has_form S.stepped S.hears S.acts_at self.old self.new }
+        ensures up_to_date { StaysUpToDate S.Subscriber self.old self.new }
+        ensures ready { StaysReady S.Subscriber self.old self.new }
+        ensures asked { IfOk result (WantsMetadata S.Subscriber lane meta.now self.old) }
+        ensures served { ServesEnabled S.Subscriber lane meta.now result self.old self.new }
+        ensures seen { SeesWhatIsMade S.Subscriber self.old self.new }
         ensures refused { IfErr result (RefusesInterest (kept_by self.old) meta.now) }
     {
         let mut pass = Pass::new();
@@ -152,14 +151,13 @@ impl<S: Subscriber> Dispatch<S> {
         requires { S.usable (stack_of self.old) }
         ensures usable { S.usable (stack_of self.new) }
         ensures kept { MayLearn (kept_by self.old) (metadata_of attrs.now) (kept_by self.new) }
-        ensures up_to_date { StaysUpToDate S.registry S.has_form self.old self.new }
-        ensures ready { StaysReady S.registry S.with_registry S.has_form S.stepped self.old self.new }
-        ensures served { AnswersCall S.registry S.with_registry S.has_form S.stepped (OpenSpan lane attrs.now) (span_answer result) self.old self.new }
-        ensures seen { SeesWhatIsMade S.registry S.with_registry S.has_form S.stepped S.hears S.acts_at self.old self.new }
-        ensures asked { IfOk result (λ o. WantsMetadata S.registry S.has_form lane (metadata_of attrs.now) (kept_by self.old) (stack_of self.old) (is_some o)) }
-        ensures store { IfOk result (λ o. MatchOption o (stack_of self.new ≡ stack_of self.old) (λ id. TakesStep S.registry (OpensFor lane attrs.now id) self.old self.new)) }
-        ensures wanted { IfErr result (λ e. WantsMetadata S.registry S.has_form lane (metadata_of attrs.now) (kept_by self.old) (stack_of self.old) true) }
-        ensures refused { IfErr result (RefusesSpan (kept_by self.old) (S.registry (stack_of self.old)) lane attrs.now) }
+        ensures up_to_date { StaysUpToDate S.Subscriber self.old self.new }
+        ensures ready { StaysReady S.Subscriber self.old self.new }
+        ensures served { ServesNewSpan S.Subscriber lane attrs.now result self.old self.new }
+        ensures seen { SeesWhatIsMade S.Subscriber self.old self.new }
+        ensures asked { WantsSpan S.Subscriber lane attrs.now self.old result }
+        ensures store { IfOk result (OpensIfMade S.Subscriber lane attrs.now self.old self.new) }
+        ensures refused { IfErr result (RefusesSpan S.Subscriber lane attrs.now self.old) }
         ensures unchanged { OnErr result (stack_of self.new ≡ stack_of self.old) }
     {
         let mut pass = Pass::new();
@@ -179,14 +177,14 @@ impl<S: Subscriber> Dispatch<S> {
         requires { S.usable (stack_of self.old) }
         ensures usable { S.usable (stack_of self.new) }
         ensures kept { MayLearn (kept_by self.old) (event_metadata event.now) (kept_by self.new) }
-        ensures up_to_date { StaysUpToDate S.registry S.has_form self.old self.new }
-        ensures ready { StaysReady S.registry S.with_registry S.has_form S.stepped self.old self.new }
-        ensures served { AnswersCall S.registry S.with_registry S.has_form S.stepped (SendEvent lane event.now) (event_answer result) self.old self.new }
-        ensures seen { SeesWhatIsMade S.registry S.with_registry S.has_form S.stepped S.hears S.acts_at self.old self.new }
-        ensures store { TakesStep S.registry Stays self.old self.new }
+        ensures up_to_date { StaysUpToDate S.Subscriber self.old self.new }
+        ensures ready { StaysReady S.Subscriber self.old self.new }
+        ensures served { ServesEvent S.Subscriber lane event.now result self.old self.new }
+        ensures seen { SeesWhatIsMade S.Subscriber self.old self.new }
+        ensures store { TakesStep S.Subscriber Stays self.old self.new }
         ensures dropped { result ≡ Ok false → stack_of self.new ≡ stack_of self.old }
-        ensures asked { IfOk result (WantsEvent S.registry S.has_form lane event.now (kept_by self.old) (stack_of self.old)) }
-        ensures refused { IfErr result (RefusesInterest (kept_by self.old) (event_metadata event.now)) }
+        ensures asked { IfOk result (WantsEvent S.Subscriber lane event.now self.old) }
+        ensures refused { IfErr result (RefusesEvent event.now self.old) }
         ensures unchanged { OnErr result (stack_of self.new ≡ stack_of self.old) }
     {
         let mut pass = Pass::new();
@@ -208,10 +206,10 @@ impl<S: Subscriber> Dispatch<S> {
         requires { S.usable (stack_of self.old) }
         ensures usable { S.usable (stack_of self.new) }
         ensures rest { self.new ≡ with_stack self.old (stack_of self.new) }
-        ensures ready { StaysReady S.registry S.with_registry S.has_form S.stepped self.old self.new }
-        ensures served { AnswersCall S.registry S.with_registry S.has_form S.stepped (Enter lane id) (done_answer result) self.old self.new }
-        ensures seen { SeesWhatIsMade S.registry S.with_registry S.has_form S.stepped S.hears S.acts_at self.old self.new }
-        ensures store { OnOk result (TakesStep S.registry (Enters lane id) self.old self.new) }
+        ensures ready { StaysReady S.Subscriber self.old self.new }
+        ensures served { ServesEnter S.Subscriber lane id result self.old self.new }
+        ensures seen { SeesWhatIsMade S.Subscriber self.old self.new }
+        ensures store { OnOk result (TakesStep S.Subscriber (Enters lane id) self.old self.new) }
         ensures refused { IfErr result (RefusesEnter (S.registry (stack_of self.old)) id) }
         ensures unchanged { OnErr result (self.new ≡ self.old) }
     {
@@ -223,11 +221,11 @@ impl<S: Subscriber> Dispatch<S> {
         requires { S.usable (stack_of self.old) }
         ensures usable { S.usable (stack_of self.new) }
         ensures rest { self.new ≡ with_stack self.old (stack_of self.new) }
-        ensures ready { StaysReady S.registry S.with_registry S.has_form S.stepped self.old self.new }
-        ensures served { AnswersCall S.registry S.with_registry S.has_form S.stepped (Exit lane id) (Done) self.old self.new }
-        ensures seen { SeesWhatIsMade S.registry S.with_registry S.has_form S.stepped S.hears S.acts_at self.old self.new }
-        ensures store { TakesStep S.registry (Exits lane id) self.old self.new }
-        ensures gone { ¬ (IsOpen (S.registry (stack_of self.old)).store.spans (number_of id)) → TakesStepAlone S.registry S.with_registry (Exits lane id) self.old self.new }
+        ensures ready { StaysReady S.Subscriber self.old self.new }
+        ensures served { ServesExit S.Subscriber lane id self.old self.new }
+        ensures seen { SeesWhatIsMade S.Subscriber self.old self.new }
+        ensures store { TakesStep S.Subscriber (Exits lane id) self.old self.new }
+        ensures gone { LeavesGone S.Subscriber lane id self.old self.new }
     {
         if self.stack.root().is_open(id) {
             self.stack.exit(lane, id);
@@ -241,10 +239,10 @@ impl<S: Subscriber> Dispatch<S> {
         requires { S.usable (stack_of self.old) }
         ensures usable { S.usable (stack_of self.new) }
         ensures rest { self.new ≡ with_stack self.old (stack_of self.new) }
-        ensures ready { StaysReady S.registry S.with_registry S.has_form S.stepped self.old self.new }
-        ensures served { AnswersCall S.registry S.with_registry S.has_form S.stepped (RecordValues lane id values.now) (done_answer result) self.old self.new }
-        ensures seen { SeesWhatIsMade S.registry S.with_registry S.has_form S.stepped S.hears S.acts_at self.old self.new }
-        ensures store { OnOk result (TakesStep S.registry (FindsOpen id) self.old self.new) }
+        ensures ready { StaysReady S.Subscriber self.old self.new }
+        ensures served { ServesRecord S.Subscriber lane id values.now result self.old self.new }
+        ensures seen { SeesWhatIsMade S.Subscriber self.old self.new }
+        ensures store { OnOk result (TakesStep S.Subscriber (FindsOpen id) self.old self.new) }
         ensures refused { IfErr result (RefusesUnlessOpen (S.registry (stack_of self.old)) id) }
         ensures unchanged { OnErr result (self.new ≡ self.old) }
     {
@@ -260,10 +258,10 @@ impl<S: Subscriber> Dispatch<S> {
         requires { S.usable (stack_of self.old) }
         ensures usable { S.usable (stack_of self.new) }
         ensures rest { self.new ≡ with_stack self.old (stack_of self.new) }
-        ensures ready { StaysReady S.registry S.with_registry S.has_form S.stepped self.old self.new }
-        ensures served { AnswersCall S.registry S.with_registry S.has_form S.stepped (Follow lane id follows) (done_answer result) self.old self.new }
-        ensures seen { SeesWhatIsMade S.registry S.with_registry S.has_form S.stepped S.hears S.acts_at self.old self.new }
-        ensures store { OnOk result (TakesStep S.registry (FindsOpen id) self.old self.new) }
+        ensures ready { StaysReady S.Subscriber self.old self.new }
+        ensures served { ServesFollows S.Subscriber lane id follows result self.old self.new }
+        ensures seen { SeesWhatIsMade S.Subscriber self.old self.new }
+        ensures store { OnOk result (TakesStep S.Subscriber (FindsOpen id) self.old self.new) }
         ensures refused { IfErr result (RefusesUnlessOpen (S.registry (stack_of self.old)) id) }
         ensures unchanged { OnErr result (self.new ≡ self.old) }
     {
@@ -280,11 +278,11 @@ impl<S: Subscriber> Dispatch<S> {
         requires { S.usable (stack_of self.old) }
         ensures usable { S.usable (stack_of self.new) }
         ensures rest { self.new ≡ with_stack self.old (stack_of self.new) }
-        ensures ready { StaysReady S.registry S.with_registry S.has_form S.stepped self.old self.new }
+        ensures ready { StaysReady S.Subscriber self.old self.new }
         ensures same { IfOk result (λ cloned. cloned ≡ id) }
-        ensures served { AnswersCall S.registry S.with_registry S.has_form S.stepped (AddHandle lane id) (done_answer result) self.old self.new }
-        ensures seen { SeesWhatIsMade S.registry S.with_registry S.has_form S.stepped S.hears S.acts_at self.old self.new }
-        ensures store { OnOk result (TakesStepAlone S.registry S.with_registry (Clones id) self.old self.new) }
+        ensures served { ServesClone S.Subscriber lane id result self.old self.new }
+        ensures seen { SeesWhatIsMade S.Subscriber self.old self.new }
+        ensures store { OnOk result (TakesStepAlone S.Subscriber (Clones id) self.old self.new) }
         ensures refused { IfErr result (RefusesClone (S.registry (stack_of self.old)) id) }
         ensures unchanged { OnErr result (self.new ≡ self.old) }
     {
@@ -299,12 +297,12 @@ impl<S: Subscriber> Dispatch<S> {
         requires { S.usable (stack_of self.old) }
         ensures usable { S.usable (stack_of self.new) }
         ensures rest { self.new ≡ with_stack self.old (stack_of self.new) }
-        ensures ready { StaysReady S.registry S.with_registry S.has_form S.stepped self.old self.new }
-        ensures served { AnswersDrop S.registry S.with_registry S.has_form S.stepped (DropHandle lane id) (yes_answer result) self.old self.new }
-        ensures seen { SeesWhatIsMade S.registry S.with_registry S.has_form S.stepped S.hears S.acts_at self.old self.new }
-        ensures taken { IfOk result (λ closes. TakesHandle S.registry S.with_registry id closes self.old self.new) }
-        ensures store { IfOk result (λ closes. IsSettled (S.registry (stack_of self.old)).store.spans → TakesStep S.registry (DropsSpan id closes) self.old self.new) }
-        ensures settled { IsSettled (S.registry (stack_of self.old)).store.spans → IsSettled (S.registry (stack_of self.new)).store.spans }
+        ensures ready { StaysReady S.Subscriber self.old self.new }
+        ensures served { ServesDrop S.Subscriber lane id result self.old self.new }
+        ensures seen { SeesWhatIsMade S.Subscriber self.old self.new }
+        ensures taken { IfOk result (TakesHandle S.Subscriber id self.old self.new) }
+        ensures store { IfOk result (DropsSettled S.Subscriber id self.old self.new) }
+        ensures settled { StaysSettled S.Subscriber self.old self.new }
         ensures refused { IfErr result (RefusesRelease (S.registry (stack_of self.old)) id) }
         ensures unchanged { OnErr result (self.new ≡ self.old) }
     {
@@ -321,8 +319,8 @@ impl<S: Subscriber> Dispatch<S> {
     /// The span that a lane is in.
     pub fn current_span(&self, lane: Lane) -> Current
         ensures shown { ShowsCurrent (S.registry (stack_of self.now)).store lane result }
-        ensures served { AnswersCall S.registry S.with_registry S.has_form S.stepped (AskCurrent lane) (current_answer result) self.now self.now }
-        ensures seen { SeesWhatIsMade S.registry S.with_registry S.has_form S.stepped S.hears S.acts_at self.now self.now }
+        ensures served { ServesCurrent S.Subscriber lane result self.now }
+        ensures seen { SeesWhatIsMade S.Subscriber self.now self.now }
     {
         self.stack.current_span(lane)
     }

@@ -3,7 +3,8 @@ ghost use Rattle.std.specs.Prelude.{◌≡◌, ◌∷◌, [], ◌++◌, OnErr, I
 ghost use Rattle.span_core.specs.Event.{event_metadata, event_parent, event_values};
 ghost use Rattle.span_core.specs.Span.{asked_parent, metadata_of, values_of};
 ghost use Rattle.span_dispatch.specs.Call.{Exit, current_answer, done_answer, event_answer, span_answer, yes_answer};
-ghost use Rattle.span_dispatch.specs.Serve.{AnswersCall, ServesList, ServesNext, StaysReady, resolved, resolved_parent, stack_of};
+ghost use Rattle.span_dispatch.specs.Contract.{AnswersCall, ServesList, ServesNext, StaysReady};
+ghost use Rattle.span_dispatch.specs.Serve.{resolved, resolved_parent, stack_of};
 
 use crate::dispatch::Dispatch;
 use crate::request::{Answer, Request, Which, WhichParent};
@@ -24,8 +25,8 @@ impl<S: Subscriber> Dispatch<S> {
     ) -> Result<Vec<Answer>, TraceError>
         requires { S.usable (stack_of self.old) }
         ensures usable { S.usable (stack_of self.new) }
-        ensures ready { StaysReady S.registry S.with_registry S.has_form S.stepped self.old self.new }
-        ensures served { IfOk result (λ a. ServesList S.registry S.with_registry S.has_form S.stepped S.hears S.acts_at requests.now a.items self.old self.new) }
+        ensures ready { StaysReady S.Subscriber self.old self.new }
+        ensures served { IfOk result (ServesList S.Subscriber requests.now self.old self.new) }
         ensures length { IfOk result (λ a. length a.items ≡ length requests.now) }
         ensures memory { IfErr result (λ e. e ≡ TraceError.OutOfMemory) }
         ensures unchanged { OnErr result (self.new ≡ self.old) }
@@ -43,8 +44,8 @@ impl<S: Subscriber> Dispatch<S> {
     fn serve_one(&mut self, past: &[Answer], request: &Request<'_>) -> Answer
         requires { S.usable (stack_of self.old) }
         ensures usable { S.usable (stack_of self.new) }
-        ensures ready { StaysReady S.registry S.with_registry S.has_form S.stepped self.old self.new }
-        ensures served { ServesNext S.registry S.with_registry S.has_form S.stepped past.now request.now result self.old self.new }
+        ensures ready { StaysReady S.Subscriber self.old self.new }
+        ensures served { ServesNext S.Subscriber past.now request.now result self.old self.new }
     {
         match request {
             Request::NewSpan(lane, metadata, parent, values) => {
@@ -90,8 +91,8 @@ impl<S: Subscriber> Dispatch<S> {
     fn leave(&mut self, lane: Lane, id: Id) -> Answer
         requires { S.usable (stack_of self.old) }
         ensures usable { S.usable (stack_of self.new) }
-        ensures ready { StaysReady S.registry S.with_registry S.has_form S.stepped self.old self.new }
-        ensures served { AnswersCall S.registry S.with_registry S.has_form S.stepped (Exit lane id) result self.old self.new }
+        ensures ready { StaysReady S.Subscriber self.old self.new }
+        ensures served { AnswersCall S.Subscriber (Exit lane id) result self.old self.new }
     {
         self.exit(lane, id);
         Answer::Done

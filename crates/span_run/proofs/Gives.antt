@@ -10,13 +10,13 @@ use Rattle.span_run.specs.Stacks.{Serves}
 use Rattle.span_run.specs.declared.script.Script.{Script}
 use Rattle.span_run.specs.declared.stack_name.StackName.{StackName}
 
-pub gives : (limits : Limits) (stack : StackName) (script : Script) (asked : List Request) (given answers : List Answer) (heard : List (List ℕ × List Notice)) (kept : List (List Notice)) (text : List ℕ) → Serves limits stack asked given kept → asked ≡ requests_of script → answers ≡ given
-    → map (λ one. one.1) heard ≡ kept → map (λ one. one.0) heard ≡ recorders_of stack → IsPrinted (lines_of script) answers heard text → Gives limits stack script text
-gives limits stack script asked given answers heard kept text served same_requests same_answers same_kept named printed = record {
+pub gives : (limits : Limits) (stack : StackName) (script : Script) (asked : List Request) (given answers : List Answer) (sections : List (List ℕ × List Notice)) (kept : List (List Notice)) (text : List ℕ) → Serves limits stack asked given kept → asked ≡ requests_of script → answers ≡ given
+    → map (λ one. one.1) sections ≡ kept → map (λ one. one.0) sections ≡ recorders_of stack → IsPrinted (lines_of script) answers sections text → Gives limits stack script text
+gives limits stack script asked given answers sections kept text served same_requests same_answers same_kept named printed = record {
   answers = answers;
-  heard = heard;
-  served = subst (λ rs. Serves limits stack rs answers (map (λ one. one.1) heard)) same_requests
-      (subst (λ xs. Serves limits stack asked xs (map (λ one. one.1) heard)) (sym same_answers)
+  sections = sections;
+  served = subst (λ rs. Serves limits stack rs answers (map (λ one. one.1) sections)) same_requests
+      (subst (λ xs. Serves limits stack asked xs (map (λ one. one.1) sections)) (sym same_answers)
       (subst (λ ns. Serves limits stack asked given ns) (sym same_kept) served));
   named = named;
   printed = printed;

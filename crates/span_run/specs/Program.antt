@@ -18,7 +18,7 @@ use Rattle.span_dispatch.specs.declared.request.Request.{Request}
 use Rattle.span_registry.specs.declared.limits.Limits.{Limits}
 use Rattle.span_run.specs.declared.line.Line.{Line}
 use Rattle.span_run.specs.declared.line.Line.TheVariants.{Enabled}
-use Rattle.span_run.specs.declared.reply.Heard.{Heard}
+use Rattle.span_run.specs.declared.reply.Section.{Section}
 use Rattle.span_run.specs.declared.reply.Names.{Names}
 use Rattle.span_run.specs.Script.{declared_label, lines_of, recorders_of, requests_of, AskFor, IsScriptFault, IsSpelled}
 use Rattle.span_run.specs.Stacks.{Serves}
@@ -97,16 +97,16 @@ notice_text name (notice.IdChange lane id other) = codes "id " ++ line_of (pair_
 notice_text name (notice.Close lane id) = codes "close " ++ line_of (name id)
 
 -- a recorder's name, as its bytes, and the notices that it kept
-abbrev pub heard_in : Heard → List ℕ × List Notice
-heard_in heard = (heard.name.now, heard.notices.now)
+abbrev pub section_in : Section → List ℕ × List Notice
+section_in section = (section.name.now, section.notices.now)
 
 -- the same of each recorder
-abbrev pub all_heard : List Heard → List (List ℕ × List Notice)
-all_heard heard = map heard_in heard
+abbrev pub all_sections : List Section → List (List ℕ × List Notice)
+all_sections sections = map section_in sections
 
 -- a recorder's head, and a line for each notice that it kept
-abbrev pub heard_text : (Id → List ℕ) → List ℕ × List Notice → List ℕ
-heard_text name heard = codes "== " ++ line_of heard.0 ++ flat_map (notice_text name) heard.1
+abbrev pub section_text : (Id → List ℕ) → List ℕ × List Notice → List ℕ
+section_text name section = codes "== " ++ line_of section.0 ++ flat_map (notice_text name) section.1
 
 -- a line for each line of a script and its answer
 abbrev pub replies : (Id → List ℕ) → List Line → List Answer → List ℕ
@@ -114,11 +114,11 @@ replies name lines answers = flat_map (λ both. reply_text name both.0 both.1) (
 
 -- all that is printed: the replies, and then what each recorder kept
 abbrev pub printed : (Id → List ℕ) → List Line → List Answer → List (List ℕ × List Notice) → List ℕ
-printed name lines answers heard = replies name lines answers ++ flat_map (heard_text name) heard
+printed name lines answers sections = replies name lines answers ++ flat_map (section_text name) sections
 
 -- the text is what is printed for these lines, answers and recorders
 abbrev pub IsPrinted : List Line → List Answer → List (List ℕ × List Notice) → List ℕ → Type 0
-IsPrinted lines answers heard text = (labels : ℕ → Option (List ℕ)) × (AreLabels lines answers labels × (text ≡ printed (name_by labels) lines answers heard))
+IsPrinted lines answers sections text = (labels : ℕ → Option (List ℕ)) × (AreLabels lines answers labels × (text ≡ printed (name_by labels) lines answers sections))
 
 -- what serves a stack's requests: with which answers, and with which notices that each of its recorders keeps, innermost first
 abbrev pub Serving : Type 1
@@ -127,10 +127,10 @@ Serving = StackName → List Request → List Answer → List (List Notice) → 
 -- these requests of these lines are served so, and that is printed, each recorder by its name
 pub record PrintsServed (Served : Serving) (stack : StackName) (lines : List Line) (requests : List Request) (output : List ℕ) : Type 0 where
   pub answers : List Answer
-  pub heard : List (List ℕ × List Notice)
-  pub served : Served stack requests answers (map (λ one. one.1) heard)
-  pub named : map (λ one. one.0) heard ≡ recorders_of stack
-  pub printed : IsPrinted lines answers heard output
+  pub sections : List (List ℕ × List Notice)
+  pub served : Served stack requests answers (map (λ one. one.1) sections)
+  pub named : map (λ one. one.0) sections ≡ recorders_of stack
+  pub printed : IsPrinted lines answers sections output
 
 -- a script whose requests this stack serves, on a registry with these limits, gives this text
 abbrev pub Gives : Limits → StackName → Script → List ℕ → Type 0

@@ -21,8 +21,8 @@ use Rattle.span_run.specs.declared.line.Name.{Name}
 use Rattle.span_run.specs.declared.line.Name.TheVariants.{Nobody, Label}
 use Rattle.span_run.specs.declared.line.ParentName.{ParentName}
 use Rattle.span_run.specs.declared.line.ParentName.TheVariants.{Contextual, Root, In}
-use Rattle.span_run.specs.declared.line.Mute.{Mute}
-use Rattle.span_run.specs.declared.line.Mute.TheVariants.{Absent, Given}
+use Rattle.span_run.specs.declared.line.MuteField.{MuteField}
+use Rattle.span_run.specs.declared.line.MuteField.TheVariants.{Absent, Given}
 use Rattle.span_run.specs.declared.line.Line.{Line}
 use Rattle.span_run.specs.declared.line.Line.TheVariants.{New, Event, Enter, Exit, Record, Follows, Clone, Drop, Enabled, Current}
 use Rattle.span_run.specs.declared.fault.RunFault.{RunFault}
@@ -101,12 +101,12 @@ parent_words Root = codes "root" ∷ []
 parent_words (In name) = codes "in" ∷ word_of name ∷ []
 
 -- the words of the value that an event is given
-abbrev pub mute_words : Mute → List (List ℕ)
+abbrev pub mute_words : MuteField → List (List ℕ)
 mute_words Absent = []
 mute_words Given = codes "mute" ∷ []
 
 -- the words of a parent and a value
-abbrev pub tail_words : ParentName × Mute → List (List ℕ)
+abbrev pub tail_words : ParentName × MuteField → List (List ℕ)
 tail_words tail = parent_words tail.0 ++ mute_words tail.1
 
 -- the words of a line
@@ -146,12 +146,12 @@ IsParentName (In name) = IsName name
 IsParentName parent = ⊤
 
 -- the same of a parent and a value
-abbrev pub IsTail : ParentName × Mute → Type 0
+abbrev pub IsTail : ParentName × MuteField → Type 0
 IsTail tail = IsParentName tail.0
 
 -- the words are no parent and value
 abbrev pub IsNoTail : List (List ℕ) → Type 0
-IsNoTail words = (parent : ParentName) (mute : Mute) → IsParentName parent → words ≢ parent_words parent ++ mute_words mute
+IsNoTail words = (parent : ParentName) (mute : MuteField) → IsParentName parent → words ≢ parent_words parent ++ mute_words mute
 
 -- the lane is a digit, the site one of spans, of events, or any, and the names are names
 abbrev pub IsLine : Line → Type 0
@@ -212,7 +212,7 @@ abbrev pub values_in : Bor (List (Bor (List ℕ) × FieldValue)) → List (List 
 values_in values = map (λ field. (field.0.now, field.1)) values.now
 
 -- the values that an event is given
-abbrev pub mute_values : Mute → List (List ℕ × FieldValue)
+abbrev pub mute_values : MuteField → List (List ℕ × FieldValue)
 mute_values Absent = []
 mute_values Given = (codes "mute", value.Bool true) ∷ []
 

@@ -1,9 +1,12 @@
 -- What serves the requests of a script: the stack that it names.
 use Rattle.std.specs.Prelude.{◌≡◌, ◌≤◌, ◌+◌, ℕ, true, List, [], ◌∷◌, Option, None, Some, map}
+use Rattle.std.specs.declared.alloc.Global.{Global}
+use Rattle.std.specs.declared.vec.Vec.{Vec}
 use Rattle.span_core.specs.declared.filter.TheConstants.FilterId.{LIMIT}
 use Rattle.span_core.specs.declared.level.LevelFilter.{LevelFilter}
 use Rattle.span_core.specs.declared.level.TheConstants.LevelFilter.{INFO, TRACE, WARN}
 use Rattle.span_dispatch.specs.Cache.{Memory, no_callsite}
+use Rattle.span_dispatch.specs.Contract.{SubscriberOf}
 use Rattle.span_dispatch.specs.Fixed.{RunsBy, kept_at}
 use Rattle.span_dispatch.specs.Outcome.{Made}
 use Rattle.span_dispatch.specs.Recorder.{Kept, new_recorder}
@@ -19,10 +22,8 @@ use Rattle.span_layers.specs.Number.{filters_in}
 use Rattle.span_layers.specs.Observe.{open_answers}
 use Rattle.span_layers.specs.declared.filtered.Filtered.{Filtered as FilteredLayer}
 use Rattle.span_layers.specs.declared.layered.Layered.{Layered}
-use Rattle.span_registry.specs.Conducts.{ActsAt}
 use Rattle.span_registry.specs.Form.{Absent, Bare, Base, Filtered, Form, InPair, Leaf, OnSubscriber, Over}
-use Rattle.span_registry.specs.Hooks.{StackSteps}
-use Rattle.span_registry.specs.Place.{HearSteps, Here, Inner, Outer, Place, Under}
+use Rattle.span_registry.specs.Place.{Here, Inner, Outer, Place, Under}
 use Rattle.span_registry.specs.Store.{RegistryState, new_registry}
 use Rattle.span_registry.specs.declared.limits.Limits.{Limits}
 use Rattle.span_run.specs.Mute.{mute_answers}
@@ -124,9 +125,9 @@ pub record BeginsAbsent (limits : Limits) (x : Layered Kept (Layered (Option Kep
   pub registry : inner_of (inner_of x) ≡ start_of limits AbsentStack
 
 -- a stack was put in use, with nothing kept yet, and then, if it was ready, it served these requests so
-pub record ServesInUse {S : Type 0} (registry : S → RegistryState) (with_registry : S → RegistryState → S) (has_form : S → Form → Type 0) (stepped : StackSteps S) (hears : HearSteps S) (acts_at : ActsAt S) (registered : S → S → Type 0) (requests : List Request) (answers : List Answer) (x : S) (d : Dispatch S) : Type 0 where
+pub record ServesInUse {S : Type 0} (s : SubscriberOf S) (requests : List Request) (x : S) (given : Vec Answer Global × Dispatch S) : Type 0 where
   pub begun : Dispatch S
-  pub in_use : registered x (stack_of begun)
-  pub same : registry (stack_of begun) ≡ registry x
+  pub in_use : s.registered x (stack_of begun)
+  pub same : s.registry (stack_of begun) ≡ s.registry x
   pub kept : kept_by begun ≡ Some no_callsite
-  pub served : (f : Form) × IsReady registry with_registry has_form stepped f x → Served registry with_registry has_form stepped hears acts_at requests answers begun d
+  pub served : (f : Form) × IsReady s.registry s.with_registry s.has_form s.stepped f x → Served s.registry s.with_registry s.has_form s.stepped s.hears s.acts_at requests given.0.items begun given.1

@@ -32,7 +32,7 @@ pub enum ParentName<'a> {
 
 /// The value that a line gives to an event's field `mute`.
 #[derive(Clone, Copy, Debug, PartialEq, Eq)]
-pub enum Mute {
+pub enum MuteField {
     /// None, by nothing.
     Absent,
     /// True, by `mute`.
@@ -45,7 +45,7 @@ pub enum Line<'a> {
     /// `new L SITE LABEL`, and then `root`, `in X` or nothing.
     New(Lane, Metadata, &'a str, ParentName<'a>),
     /// `event L SITE`, then `root`, `in X` or nothing, and then `mute` or nothing.
-    Event(Lane, Metadata, ParentName<'a>, Mute),
+    Event(Lane, Metadata, ParentName<'a>, MuteField),
     /// `enter L X`
     Enter(Lane, Name<'a>),
     /// `exit L X`
@@ -173,16 +173,16 @@ fn event_of<'a>(words: &[&'a str]) -> Option<Line<'a>>
 }
 
 /// The parent and the value that the last words of an event's line are, if they are both.
-fn tail_of<'a>(words: &[&'a str]) -> Option<(ParentName<'a>, Mute)>
+fn tail_of<'a>(words: &[&'a str]) -> Option<(ParentName<'a>, MuteField)>
     ensures spelled { IfSome result (λ tail. texts_in words.now ≡ tail_words tail) }
     ensures tail { IfSome result IsTail }
     ensures none { IfNone result (IsNoTail (texts_in words.now)) }
 {
     match words {
-        ["mute"] => Some((ParentName::Contextual, Mute::Given)),
-        ["root", "mute"] => Some((ParentName::Root, Mute::Given)),
-        ["in", name, "mute"] => Some((ParentName::In(Name::of(name)?), Mute::Given)),
-        _ => Some((ParentName::of(words)?, Mute::Absent)),
+        ["mute"] => Some((ParentName::Contextual, MuteField::Given)),
+        ["root", "mute"] => Some((ParentName::Root, MuteField::Given)),
+        ["in", name, "mute"] => Some((ParentName::In(Name::of(name)?), MuteField::Given)),
+        _ => Some((ParentName::of(words)?, MuteField::Absent)),
     }
 }
 

@@ -1,6 +1,6 @@
 //! What a script prints.
 ghost use Rattle.std.specs.Prelude.{◌≡◌, OnOk, IfOk, slice_get, string_bytes};
-ghost use Rattle.span_run.specs.Program.{all_heard, heard_in, heard_text, labels_in, name_in, notice_text, reply_text, yes_text, AreLabels, IsContinued, IsNaming, IsPrinted};
+ghost use Rattle.span_run.specs.Program.{all_sections, labels_in, name_in, notice_text, replies, reply_text, section_in, section_text, yes_text, AreLabels, IsContinued, IsNaming, IsPrinted};
 
 use crate::line::Line;
 use span_core::Id;
@@ -8,9 +8,9 @@ use span_dispatch::{Answer, Notice};
 use std::alloc::{AllocError, Global};
 use std::collections::BTreeMap;
 
-/// A recorder's name, and the notices that it kept.
+/// What is printed of one recorder: its name, and the notices that it kept.
 #[derive(Clone, Copy, Debug)]
-pub struct Heard<'a> {
+pub struct Section<'a> {
     /// The name.
     pub name: &'a str,
     /// The notices, in their order.
@@ -64,20 +64,33 @@ pub fn text_of(
     alloc: Global,
     lines: &[Line<'_>],
     answers: &[Answer],
-    heard: &[Heard<'_>],
+    sections: &[Section<'_>],
 ) -> Result<String, AllocError>
     ensures { IfOk result (λ s.
-        IsPrinted lines.now answers.now (all_heard heard.now) (string_bytes s)) }
+        IsPrinted lines.now answers.now (all_sections sections.now) (string_bytes s)) }
 {
     let names = Names::new(alloc, lines, answers)?;
     let mut text = String::new(alloc);
-    for (line, answer) in lines.iter().zip(answers) {
-        write_answer(&mut text, &names, line, *answer)?;
-    }
-    for one in heard {
-        write_heard(&mut text, &names, one)?;
+    write_replies(&mut text, &names, lines, answers)?;
+    for section in sections {
+        write_section(&mut text, &names, section)?;
     }
     Ok(text)
+}
+
+fn write_replies(
+    text: &mut String,
+    names: &Names<'_>,
+    lines: &[Line<'_>],
+    answers: &[Answer],
+) -> Result<(), AllocError>
+    ensures { OnOk result
+        (IsContinued text.old text.new (replies (name_in names.now) lines.now answers.now)) }
+{
+    for (line, answer) in lines.iter().zip(answers) {
+        write_answer(text, names, line, *answer)?;
+    }
+    Ok(())
 }
 
 fn write_answer(
@@ -109,12 +122,16 @@ fn write_yes(text: &mut String, line: &Line<'_>, yes: bool) -> Result<(), AllocE
     }
 }
 
-fn write_heard(text: &mut String, names: &Names<'_>, heard: &Heard<'_>) -> Result<(), AllocError>
+fn write_section(
+    text: &mut String,
+    names: &Names<'_>,
+    section: &Section<'_>,
+) -> Result<(), AllocError>
     ensures { OnOk result
-        (IsContinued text.old text.new (heard_text (name_in names.now) (heard_in heard.now))) }
+        (IsContinued text.old text.new (section_text (name_in names.now) (section_in section.now))) }
 {
-    writeln!(text, "== {}", heard.name)?;
-    for notice in heard.notices {
+    writeln!(text, "== {}", section.name)?;
+    for notice in section.notices {
         write_notice(text, names, *notice)?;
     }
     Ok(())

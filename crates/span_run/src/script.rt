@@ -3,7 +3,7 @@ ghost use Rattle.std.specs.Prelude.{◌≡◌, ◌∷◌, [], ◌++◌, ◌<◌,
 ghost use Rattle.span_run.specs.Script.{cut, lines_of, mute_values, read_in, requests_of, stack_of, texts_in, values_in, Asks, Blames, CanFollow, Declares, HoldsOfNone, IsLine, IsNewIn, IsScript, IsScriptFault, IsSpelled, IsWrongAfter, Means, MeansParent, ReadsText};
 
 use crate::fault::RunFault;
-use crate::line::{Line, Mute, Name, ParentName};
+use crate::line::{Line, MuteField, Name, ParentName};
 use crate::stack_name::StackName;
 use span_core::{FieldValue, Id, Lane};
 use span_dispatch::{Request, Which, WhichParent};
@@ -194,12 +194,12 @@ fn next<'a>(
 }
 
 /// The values that an event is given.
-fn values_of(mute: Mute) -> &'static [(&'static str, FieldValue<'static>)]
+fn values_of(mute: MuteField) -> &'static [(&'static str, FieldValue<'static>)]
     ensures { values_in result ≡ mute_values mute }
 {
     match mute {
-        Mute::Absent => &[],
-        Mute::Given => MUTED,
+        MuteField::Absent => &[],
+        MuteField::Given => MUTED,
     }
 }
 

@@ -8,7 +8,7 @@ ghost use Rattle.span_layers.specs.Attach.{Attaches};
 use crate::fault::RunFault;
 use crate::mute::Mute;
 use crate::mute_veto::MuteVeto;
-use crate::reply::{Heard, text_of};
+use crate::reply::{Section, text_of};
 use crate::script::Script;
 use crate::stack_name::StackName;
 use span_core::LevelFilter;
@@ -129,7 +129,7 @@ fn serve<S: Subscriber + Drop>(
     requests: &[Request<'_>],
 ) -> Result<(Vec<Answer>, Dispatch<S>), RunFault>
     requires { S.usable stack }
-    ensures served { IfOk result (λ both. ServesInUse S.registry S.with_registry S.has_form S.stepped S.hears S.acts_at S.registered requests.now both.0.items stack both.1) }
+    ensures served { IfOk result (ServesInUse S.Subscriber requests.now stack) }
     ensures fault { IfErr result (λ fault. fault ≡ RunFault.Memory) }
 {
     let mut dispatch = Dispatch::new(alloc, stack);
@@ -153,11 +153,11 @@ fn text_of_one(
     if base.failed() {
         return Err(RunFault::Memory);
     }
-    let heard = [Heard {
+    let sections = [Section {
         name: "base",
         notices: base.notices(),
     }];
-    Ok(text_of(alloc, script.lines(), answers, &heard)?)
+    Ok(text_of(alloc, script.lines(), answers, &sections)?)
 }
 
 /// What is printed of these answers and of two recorders by their names, unless memory was refused to one.
@@ -180,17 +180,17 @@ fn text_of_two(
     if outer.failed() {
         return Err(RunFault::Memory);
     }
-    let heard = [
-        Heard {
+    let sections = [
+        Section {
             name: names.0,
             notices: inner.notices(),
         },
-        Heard {
+        Section {
             name: names.1,
             notices: outer.notices(),
         },
     ];
-    Ok(text_of(alloc, script.lines(), answers, &heard)?)
+    Ok(text_of(alloc, script.lines(), answers, &sections)?)
 }
 
 /// What a script prints, where the stack `plain` serves its requests.

@@ -1,6 +1,6 @@
 //! Tests of scripts: what they print, and which lines are wrong.
 use crate::fault::RunFault;
-use crate::reply::{Heard, text_of};
+use crate::reply::{Section, text_of};
 use crate::run::{run, run_with};
 use crate::script::Script;
 use crate::stack_name::StackName;
@@ -321,17 +321,17 @@ fn replies_by_lines(rt: HostRuntime) -> Result<(), Fail> {
     let script = Script::parse(rt.alloc(), text.as_str())?;
     let (made, other) = (Id::from_u64(3), Id::from_u64(7));
     let kept = notices(made, other);
-    let heard = [
-        Heard {
+    let sections = [
+        Section {
             name: "a",
             notices: &kept,
         },
-        Heard {
+        Section {
             name: "b",
             notices: &[],
         },
     ];
-    let printed = text_of(rt.alloc(), script.lines(), &answers(made, other), &heard)?;
+    let printed = text_of(rt.alloc(), script.lines(), &answers(made, other), &sections)?;
     assert_eq!(rt; printed.as_str(), lines(rt.alloc(), REPLIED)?.as_str());
     Ok(())
 }

@@ -13,7 +13,7 @@ returns-clause-ready g c = λ f k.
 
 pub returns-clause-asked : goal.returns-clause-asked
 returns-clause-asked g c =
-    asked_of g.S.LookupSpan.registry g.S.Subscriber.has_form c.args.lane (stack_of c.args.self.now) (kept_by c.args.self.now) c.args.meta.now c.args.meta.now c.new-pass.result c.admits.new.pass c.admits.result refl c.new-pass.ensures.refused c.admits.ensures.nothing_kept
+    asked_of g.S.LookupSpan.registry g.S.Subscriber.has_form c.args.lane (stack_of c.args.self.now) (kept_by c.args.self.now) c.args.meta.now c.args.meta.now c.new-pass.result c.admits.new.pass c.admits.result refl c.new-pass.ensures.refused c.admits.ensures.afresh
 
 pub returns-clause-served : goal.returns-clause-served
 returns-clause-served g c = λ f h u.

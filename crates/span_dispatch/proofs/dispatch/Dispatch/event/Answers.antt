@@ -28,7 +28,7 @@ returns-in-Ok-false-clause-store g c = subst (λ y. AndHooks g.S.LookupSpan.regi
 
 pub returns-in-Ok-false-clause-asked : goal.returns-in-Ok-false-clause-asked
 returns-in-Ok-false-clause-asked g c =
-    event_unwanted g.S.LookupSpan.registry g.S.Subscriber.has_form c.args.lane (stack_of c.args.self.now) (kept_by c.args.self.now) c.args.event.now c.metadata.result c.new-pass.result c.admits.new.pass _ c.metadata.ensures c.new-pass.ensures.refused refl (λ e. subst (λ b. AnswersEnabled g.S.LookupSpan.registry g.S.Subscriber.has_form (stack_of c.args.self.now) c.args.lane c.metadata.result c.new-pass.result b c.admits.new.pass) c.in-Ok-false.field-0-test (c.in-Ok-false.ensures.nothing_kept e))
+    event_unwanted g.S.LookupSpan.registry g.S.Subscriber.has_form c.args.lane (stack_of c.args.self.now) (kept_by c.args.self.now) c.args.event.now c.metadata.result c.new-pass.result c.admits.new.pass _ c.metadata.ensures c.new-pass.ensures.refused refl (λ e. subst (λ b. AnswersEnabled g.S.LookupSpan.registry g.S.Subscriber.has_form (stack_of c.args.self.now) c.args.lane c.metadata.result c.new-pass.result b c.admits.new.pass) c.in-Ok-false.field-0-test (c.in-Ok-false.ensures.afresh e))
 
 pub returns-then-not-event_enabled-clause-ready : goal.returns-then-not-event_enabled-clause-ready
 returns-then-not-event_enabled-clause-ready g c = λ f k. stays_so g.S.LookupSpan.registry g.S.LookupSpan.with_registry g.S.Subscriber.has_form g.S.Subscriber.stepped f c.args.self.now c.admits.new.self c.admits.ensures.stack (c.admits.ensures.kept f k.stack.honest.has k.kept) k
@@ -67,12 +67,12 @@ returns-else-not-event_enabled-clause-store g c = and_hooks
 
 pub returns-else-not-event_enabled-clause-asked : goal.returns-else-not-event_enabled-clause-asked
 returns-else-not-event_enabled-clause-asked g c =
-    event_wanted g.S.LookupSpan.registry g.S.Subscriber.has_form c.args.lane (stack_of c.args.self.now) (kept_by c.args.self.now) c.args.event.now c.metadata.result c.new-pass.result c.admits.new.pass c.event_enabled.new.pass _ c.event_enabled.result c.metadata.ensures c.new-pass.ensures.refused refl c.if-not-event_enabled.false (λ e. subst (λ b. AnswersEnabled g.S.LookupSpan.registry g.S.Subscriber.has_form (stack_of c.args.self.now) c.args.lane c.metadata.result c.new-pass.result b c.admits.new.pass) c.in-Ok-true.field-0-test (c.in-Ok-true.ensures.nothing_kept e))
+    event_wanted g.S.LookupSpan.registry g.S.Subscriber.has_form c.args.lane (stack_of c.args.self.now) (kept_by c.args.self.now) c.args.event.now c.metadata.result c.new-pass.result c.admits.new.pass c.event_enabled.new.pass _ c.event_enabled.result c.metadata.ensures c.new-pass.ensures.refused refl c.if-not-event_enabled.false (λ e. subst (λ b. AnswersEnabled g.S.LookupSpan.registry g.S.Subscriber.has_form (stack_of c.args.self.now) c.args.lane c.metadata.result c.new-pass.result b c.admits.new.pass) c.in-Ok-true.field-0-test (c.in-Ok-true.ensures.afresh e))
     (subst (λ x. AnswersEvent g.S.LookupSpan.registry g.S.Subscriber.has_form x c.args.lane c.args.event.now c.admits.new.pass c.event_enabled.result c.event_enabled.new.pass) c.admits.ensures.stack c.event_enabled.ensures)
 
 pub returns-then-not-event_enabled-clause-asked : goal.returns-then-not-event_enabled-clause-asked
 returns-then-not-event_enabled-clause-asked g c =
-    event_refused g.S.LookupSpan.registry g.S.Subscriber.has_form c.args.lane (stack_of c.args.self.now) (kept_by c.args.self.now) c.args.event.now c.metadata.result c.new-pass.result c.admits.new.pass c.event_enabled.new.pass _ c.event_enabled.result c.metadata.ensures c.new-pass.ensures.refused c.if-not-event_enabled.true (λ e. subst (λ b. AnswersEnabled g.S.LookupSpan.registry g.S.Subscriber.has_form (stack_of c.args.self.now) c.args.lane c.metadata.result c.new-pass.result b c.admits.new.pass) c.in-Ok-true.field-0-test (c.in-Ok-true.ensures.nothing_kept e))
+    event_refused g.S.LookupSpan.registry g.S.Subscriber.has_form c.args.lane (stack_of c.args.self.now) (kept_by c.args.self.now) c.args.event.now c.metadata.result c.new-pass.result c.admits.new.pass c.event_enabled.new.pass _ c.event_enabled.result c.metadata.ensures c.new-pass.ensures.refused c.if-not-event_enabled.true (λ e. subst (λ b. AnswersEnabled g.S.LookupSpan.registry g.S.Subscriber.has_form (stack_of c.args.self.now) c.args.lane c.metadata.result c.new-pass.result b c.admits.new.pass) c.in-Ok-true.field-0-test (c.in-Ok-true.ensures.afresh e))
     (subst (λ x. AnswersEvent g.S.LookupSpan.registry g.S.Subscriber.has_form x c.args.lane c.args.event.now c.admits.new.pass c.event_enabled.result c.event_enabled.new.pass) c.admits.ensures.stack c.event_enabled.ensures)
 
 pub returns-in-Err-clause-seen : goal.returns-in-Err-clause-seen

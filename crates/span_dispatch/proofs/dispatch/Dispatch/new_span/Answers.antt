@@ -3,9 +3,8 @@ use Rattle.std.proofs.Common.{Ok, inr, subst, ◌∙◌}
 use Rattle.span_core.specs.Span.{asked_parent, metadata_of}
 use Rattle.span_dispatch.proofs.Calls.{span_made, span_refused}
 use Rattle.span_dispatch.proofs.Goes.{ready_again, stays_so}
-use Rattle.span_dispatch.proofs.Stores.{metadata_wanted, opened_store, unrefused}
+use Rattle.span_dispatch.proofs.Stores.{Wanted, metadata_wanted, opened_store, unrefused}
 use Rattle.span_dispatch.specs.Admission.{IsAdmitted}
-use Rattle.span_dispatch.specs.Call.{WantsMetadata}
 use Rattle.span_dispatch.specs.Serve.{kept_by, stack_of, with_stack}
 use Rattle.span_registry.specs.Hooks.{OpensAndNotifies}
 use Rattle.span_registry.specs.Step.{RefusesNew}
@@ -19,8 +18,8 @@ returns-in-Ok-false-clause-ready g c = λ f k. stays_so g.S.LookupSpan.registry 
 
 pub returns-in-Ok-false-clause-asked : goal.returns-in-Ok-false-clause-asked
 returns-in-Ok-false-clause-asked g c =
-    subst (λ b. WantsMetadata g.S.LookupSpan.registry g.S.Subscriber.has_form c.args.lane (metadata_of c.args.attrs.now) (kept_by c.args.self.now) (stack_of c.args.self.now) b) c.in-Ok-false.field-0-test
-    (metadata_wanted g.S.LookupSpan.registry g.S.Subscriber.has_form c.args.lane (stack_of c.args.self.now) (kept_by c.args.self.now) c.metadata.result (metadata_of c.args.attrs.now) c.new-pass.result c.admits.new.pass c.in-Ok-false.field-0 c.metadata.ensures c.new-pass.ensures.refused c.in-Ok-false.ensures.nothing_kept)
+    subst (λ b. Wanted g.S.LookupSpan.registry g.S.Subscriber.has_form c.args.lane (stack_of c.args.self.now) (kept_by c.args.self.now) (metadata_of c.args.attrs.now) b) c.in-Ok-false.field-0-test
+    (metadata_wanted g.S.LookupSpan.registry g.S.Subscriber.has_form c.args.lane (stack_of c.args.self.now) (kept_by c.args.self.now) c.metadata.result (metadata_of c.args.attrs.now) c.new-pass.result c.admits.new.pass c.in-Ok-false.field-0 c.metadata.ensures c.new-pass.ensures.refused c.in-Ok-false.ensures.afresh)
 
 pub returns-in-Ok-clause-ready : goal.returns-in-Ok-clause-ready
 returns-in-Ok-clause-ready g c = λ f k.
@@ -52,18 +51,18 @@ returns-in-Err-new_span-clause-served g c = λ f h u.
 pub returns-in-Err-new_span-clause-refused : goal.returns-in-Err-new_span-clause-refused
 returns-in-Err-new_span-clause-refused g c = inr (subst (λ x. RefusesNew (g.S.LookupSpan.registry x) c.args.lane (asked_parent c.args.attrs.now) c.in-Err-new_span.error) c.admits.ensures.stack c.in-Err-new_span.ensures.refused)
 
-pub returns-in-Err-clause-wanted : goal.returns-in-Err-clause-wanted
-returns-in-Err-clause-wanted g c = unrefused g.S.LookupSpan.registry g.S.Subscriber.has_form c.args.lane (stack_of c.args.self.now) (kept_by c.args.self.now) c.metadata.result (metadata_of c.args.attrs.now) c.in-Err.error c.in-Err.ensures.refused
+pub returns-in-Err-clause-asked : goal.returns-in-Err-clause-asked
+returns-in-Err-clause-asked g c = unrefused g.S.LookupSpan.registry g.S.Subscriber.has_form c.args.lane (stack_of c.args.self.now) (kept_by c.args.self.now) c.metadata.result (metadata_of c.args.attrs.now) c.in-Err.error c.in-Err.ensures.refused
 
-pub returns-in-Err-new_span-clause-wanted : goal.returns-in-Err-new_span-clause-wanted
-returns-in-Err-new_span-clause-wanted g c =
-    subst (λ b. WantsMetadata g.S.LookupSpan.registry g.S.Subscriber.has_form c.args.lane (metadata_of c.args.attrs.now) (kept_by c.args.self.now) (stack_of c.args.self.now) b) c.in-Ok-true.field-0-test
-    (metadata_wanted g.S.LookupSpan.registry g.S.Subscriber.has_form c.args.lane (stack_of c.args.self.now) (kept_by c.args.self.now) c.metadata.result (metadata_of c.args.attrs.now) c.new-pass.result c.admits.new.pass c.in-Ok-true.field-0 c.metadata.ensures c.new-pass.ensures.refused c.in-Ok-true.ensures.nothing_kept)
+pub returns-in-Err-new_span-clause-asked : goal.returns-in-Err-new_span-clause-asked
+returns-in-Err-new_span-clause-asked g c =
+    subst (λ b. Wanted g.S.LookupSpan.registry g.S.Subscriber.has_form c.args.lane (stack_of c.args.self.now) (kept_by c.args.self.now) (metadata_of c.args.attrs.now) b) c.in-Ok-true.field-0-test
+    (metadata_wanted g.S.LookupSpan.registry g.S.Subscriber.has_form c.args.lane (stack_of c.args.self.now) (kept_by c.args.self.now) c.metadata.result (metadata_of c.args.attrs.now) c.new-pass.result c.admits.new.pass c.in-Ok-true.field-0 c.metadata.ensures c.new-pass.ensures.refused c.in-Ok-true.ensures.afresh)
 
 pub returns-in-Ok-clause-asked : goal.returns-in-Ok-clause-asked
 returns-in-Ok-clause-asked g c =
-    subst (λ b. WantsMetadata g.S.LookupSpan.registry g.S.Subscriber.has_form c.args.lane (metadata_of c.args.attrs.now) (kept_by c.args.self.now) (stack_of c.args.self.now) b) c.in-Ok-true.field-0-test
-    (metadata_wanted g.S.LookupSpan.registry g.S.Subscriber.has_form c.args.lane (stack_of c.args.self.now) (kept_by c.args.self.now) c.metadata.result (metadata_of c.args.attrs.now) c.new-pass.result c.admits.new.pass c.in-Ok-true.field-0 c.metadata.ensures c.new-pass.ensures.refused c.in-Ok-true.ensures.nothing_kept)
+    subst (λ b. Wanted g.S.LookupSpan.registry g.S.Subscriber.has_form c.args.lane (stack_of c.args.self.now) (kept_by c.args.self.now) (metadata_of c.args.attrs.now) b) c.in-Ok-true.field-0-test
+    (metadata_wanted g.S.LookupSpan.registry g.S.Subscriber.has_form c.args.lane (stack_of c.args.self.now) (kept_by c.args.self.now) c.metadata.result (metadata_of c.args.attrs.now) c.new-pass.result c.admits.new.pass c.in-Ok-true.field-0 c.metadata.ensures c.new-pass.ensures.refused c.in-Ok-true.ensures.afresh)
 
 pub returns-in-Err-clause-seen : goal.returns-in-Err-clause-seen
 returns-in-Err-clause-seen g c = sees_what_is_made g.S.LookupSpan.registry g.met.S.Subscriber.laws g.met.S.Subscriber.paths

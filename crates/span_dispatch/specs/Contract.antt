@@ -1,0 +1,222 @@
+-- What the contract of each call of a dispatcher says. A word takes what the type of a stack says of it as one value, and dispatchers whole.
+use Rattle.std.specs.Prelude.{◌≡◌, ◌⊎◌, ◌&&◌, ℕ, Bool, true, false, List, Option, None, Result, Ok, Err, IfOk, MatchOption, is_some}
+use Rattle.std.specs.List.{FoldsTo}
+use Rattle.std.specs.declared.alloc.Global.{Global}
+use Rattle.std.specs.declared.vec.Vec.{Vec}
+use Rattle.span_core.specs.Event.{event_metadata}
+use Rattle.span_core.specs.Span.{asked_parent, metadata_of, number_of}
+use Rattle.span_core.specs.declared.error.TraceError.{TraceError}
+use Rattle.span_core.specs.declared.event.Event.{Event}
+use Rattle.span_core.specs.declared.level.LevelFilter.{LevelFilter}
+use Rattle.span_core.specs.declared.metadata.Metadata.{Metadata}
+use Rattle.span_core.specs.declared.pass.Pass.{Pass}
+use Rattle.span_core.specs.declared.span.Attributes.{Attributes}
+use Rattle.span_core.specs.declared.span.Current.{Current}
+use Rattle.span_core.specs.declared.span.Id.{Id}
+use Rattle.span_core.specs.declared.span.Lane.{Lane}
+use Rattle.span_core.specs.declared.span.Record.{Record}
+use Rattle.span_dispatch.specs.Admission.{IsAdmitted, hint_kept}
+use Rattle.span_dispatch.specs.Cache.{RefusesInterest}
+use Rattle.span_dispatch.specs.Call.{AddHandle, AskCurrent, Call, DropHandle, DropsSpan, Enter, Exit, Follow, OpenSpan, OpensFor, Probe, RecordValues, SendEvent, current_answer, done_answer, event_answer, span_answer, yes_answer}
+use Rattle.span_dispatch.specs.Outcome.{IsHonest, Made, Makes}
+use Rattle.span_dispatch.specs.Serve.{IsReady, IsReadyAfter, IsReadyBy, IsReadySomehow, KeepsUpToDate, Sees, Served, ServesCall, ServesRequest, kept_by, stack_of}
+use Rattle.span_dispatch.specs.declared.dispatch.Dispatch.{Dispatch}
+use Rattle.span_dispatch.specs.declared.request.Answer.TheVariants.{Done}
+use Rattle.span_dispatch.specs.declared.request.Answer.{Answer}
+use Rattle.span_dispatch.specs.declared.request.Request.{Request}
+use Rattle.span_registry.specs.Closes.{IsSettled}
+use Rattle.span_registry.specs.Conducts.{ActsAt}
+use Rattle.span_registry.specs.Form.{Form}
+use Rattle.span_registry.specs.Hooks.{AnswersEnabled, StackSteps, no_filter}
+use Rattle.span_registry.specs.Place.{HearSteps}
+use Rattle.span_registry.specs.Question.{asked, event_asked}
+use Rattle.span_registry.specs.Step.{Exits, RefusesNew, Releases, Removal}
+use Rattle.span_registry.specs.Store.{IsOpen, RegistryState}
+use Rattle.span_registry.specs.Subscriber.{AndHooks, SameButExtensions}
+use Rattle.span_registry.specs.declared.registry.Released.TheVariants.{Closing, StillOpen}
+
+-- what the type of a stack says of it: where its registry is, whether it may be called, which form it has, how its layers go on when they are notified, what leaves hear, how filters act, and how its layers are put in use
+abbrev pub SubscriberOf : Type 0 → Type 1
+SubscriberOf S = record {
+  registry : S → RegistryState;
+  with_registry : S → RegistryState → S;
+  usable : S → Type 0;
+  has_form : S → Form → Type 0;
+  stepped : StackSteps S;
+  hears : HearSteps S;
+  acts_at : ActsAt S;
+  registered : S → S → Type 0;
+}
+
+-- why an event is refused: its interest isn't to be had
+abbrev pub RefusesEvent : {S : Type 0} → Event → Dispatch S → TraceError → Type 0
+RefusesEvent e d error = RefusesInterest (kept_by d) (event_metadata e) error
+
+module _ {S : Type 0} (s : SubscriberOf S) where
+  -- the registry of a dispatcher's stack
+  abbrev pub registry_of : Dispatch S → RegistryState
+  registry_of d = s.registry (stack_of d)
+
+  -- its stack is honest by this form
+  abbrev pub HonestBy : Form → Dispatch S → Type 0
+  HonestBy f d = IsHonest s.registry s.with_registry s.has_form s.stepped f (stack_of d)
+
+  -- what it keeps is what its stack would answer now, by this form
+  abbrev pub CurrentBy : Form → Dispatch S → Type 0
+  CurrentBy f d = KeepsUpToDate f (registry_of d).filters d
+
+  -- it is ready by this form
+  abbrev pub ReadyBy : Form → Dispatch S → Type 0
+  ReadyBy f d = IsReadyBy s.registry s.with_registry s.has_form s.stepped f d
+
+  -- it is ready by a form that keeps what this one had
+  abbrev pub ReadyAfter : Form → Dispatch S → Type 0
+  ReadyAfter f d = IsReadyAfter s.registry s.with_registry s.has_form s.stepped f d
+
+  -- a call is answered so by a stack of this form
+  abbrev pub ServesBy : Call → Form → Answer → Dispatch S → Dispatch S → Type 0
+  ServesBy call f a old new = ServesCall s.registry s.with_registry s.has_form s.stepped call f a old new
+
+  -- ---- what is promised of an honest stack
+
+  -- a stack that was ready is ready in its dispatcher, by a form that keeps what the old one had
+  abbrev pub BecomesReady : S → Dispatch S → Type 0
+  BecomesReady x d = (f : Form) → IsReady s.registry s.with_registry s.has_form s.stepped f x → ReadyAfter f d
+
+  -- a dispatcher that was ready is ready again, by a form that keeps what the old one had
+  abbrev pub StaysReady : Dispatch S → Dispatch S → Type 0
+  StaysReady old new = (f : Form) → ReadyBy f old → ReadyAfter f new
+
+  -- an honest stack answers a call so, where what is kept is what it would answer now
+  abbrev pub AnswersCall : Call → Answer → Dispatch S → Dispatch S → Type 0
+  AnswersCall call a old new = (f : Form) → HonestBy f old → CurrentBy f old → ServesBy call f a old new
+
+  -- and so does a dispatcher that is ready answer a drop
+  abbrev pub AnswersDrop : Call → Answer → Dispatch S → Dispatch S → Type 0
+  AnswersDrop call a old new = (f : Form) → ReadyBy f old → ServesBy call f a old new
+
+  -- so is `enabled` answered, with what it gives for an answer
+  abbrev pub ServesEnabled : Lane → Metadata → Result Bool TraceError → Dispatch S → Dispatch S → Type 0
+  ServesEnabled lane m given old new = AnswersCall (Probe lane m) (yes_answer given) old new
+
+  -- so is `new_span`
+  abbrev pub ServesNewSpan : Lane → Attributes → Result (Option Id) TraceError → Dispatch S → Dispatch S → Type 0
+  ServesNewSpan lane attrs given old new = AnswersCall (OpenSpan lane attrs) (span_answer given) old new
+
+  -- so is `event`
+  abbrev pub ServesEvent : Lane → Event → Result Bool TraceError → Dispatch S → Dispatch S → Type 0
+  ServesEvent lane e given old new = AnswersCall (SendEvent lane e) (event_answer given) old new
+
+  -- so is `enter`
+  abbrev pub ServesEnter : {A : Type 0} → Lane → Id → Result A TraceError → Dispatch S → Dispatch S → Type 0
+  ServesEnter lane id given old new = AnswersCall (Enter lane id) (done_answer given) old new
+
+  -- so is `exit`, which is always done
+  abbrev pub ServesExit : Lane → Id → Dispatch S → Dispatch S → Type 0
+  ServesExit lane id old new = AnswersCall (Exit lane id) Done old new
+
+  -- so is `record`
+  abbrev pub ServesRecord : {A : Type 0} → Lane → Id → Record → Result A TraceError → Dispatch S → Dispatch S → Type 0
+  ServesRecord lane id values given old new = AnswersCall (RecordValues lane id values) (done_answer given) old new
+
+  -- so is `follows_from`
+  abbrev pub ServesFollows : {A : Type 0} → Lane → Id → Id → Result A TraceError → Dispatch S → Dispatch S → Type 0
+  ServesFollows lane id follows given old new = AnswersCall (Follow lane id follows) (done_answer given) old new
+
+  -- so is `clone_span`
+  abbrev pub ServesClone : Lane → Id → Result Id TraceError → Dispatch S → Dispatch S → Type 0
+  ServesClone lane id given old new = AnswersCall (AddHandle lane id) (done_answer given) old new
+
+  -- so is `drop_span`, of a dispatcher that is ready
+  abbrev pub ServesDrop : Lane → Id → Result Bool TraceError → Dispatch S → Dispatch S → Type 0
+  ServesDrop lane id given old new = AnswersDrop (DropHandle lane id) (yes_answer given) old new
+
+  -- so is `current_span`, and nothing changes
+  abbrev pub ServesCurrent : Lane → Current → Dispatch S → Type 0
+  ServesCurrent lane given d = AnswersCall (AskCurrent lane) (current_answer given) d d
+
+  -- what comes of asking an honest stack whether metadata are wanted, where what is kept is what it would answer now
+  abbrev pub Admits : Lane → Metadata → Dispatch S → Pass → Result Bool TraceError → Dispatch S → Type 0
+  Admits lane m old pass said new = (f : Form) → HonestBy f old → CurrentBy f old → IsAdmitted (kept_by old) f (registry_of old) lane m pass (kept_by new) said
+
+  -- a dispatcher that is ready serves the next request so
+  abbrev pub ServesNext : List Answer → Request → Answer → Dispatch S → Dispatch S → Type 0
+  ServesNext past r a old new =
+      IsReadySomehow s.registry s.with_registry s.has_form s.stepped old
+      → (made : List Made) × ServesRequest s.registry s.with_registry s.has_form s.stepped past r (kept_by old) (stack_of old) a made (kept_by new) (stack_of new)
+
+  -- a dispatcher that is ready serves a list so
+  abbrev pub ServesList : List Request → Dispatch S → Dispatch S → Vec Answer Global → Type 0
+  ServesList requests old new answers =
+      IsReadySomehow s.registry s.with_registry s.has_form s.stepped old
+      → Served s.registry s.with_registry s.has_form s.stepped s.hears s.acts_at requests answers.items old new
+
+  -- whatever was made between the two, each leaf sees of it what its path passes, as if it stood alone
+  abbrev pub SeesWhatIsMade : Dispatch S → Dispatch S → Type 0
+  SeesWhatIsMade old new =
+      (made : List Made) → FoldsTo (Makes s.registry s.with_registry s.has_form s.stepped) (stack_of old) made (stack_of new) → Sees s.registry s.hears s.acts_at (stack_of old) made (stack_of new)
+
+  -- ---- what is promised of any stack that has a form
+
+  -- where what was kept is what the stack would answer, by a form that it has, so is what is kept now
+  abbrev pub StaysUpToDate : Dispatch S → Dispatch S → Type 0
+  StaysUpToDate old new = (f : Form) → s.has_form (stack_of old) f → CurrentBy f old → KeepsUpToDate f (registry_of old).filters new
+
+  -- the hint is the stack's, by a form that it has, where what is kept is what it would answer
+  abbrev pub ShowsHint : Dispatch S → Option LevelFilter → Type 0
+  ShowsHint d hint = (f : Form) (n : ℕ) → s.has_form (stack_of d) f → KeepsUpToDate f n d → hint ≡ hint_kept (kept_by d) f
+
+  -- where nothing is ever kept: whether metadata are wanted is what the stack says, by a form that it has, asked with a new pass
+  abbrev pub WantsMetadata : Lane → Metadata → Dispatch S → Bool → Type 0
+  WantsMetadata lane m d wanted = kept_by d ≡ None → (f : Form) → s.has_form (stack_of d) f → wanted ≡ (asked f m (registry_of d).store lane.0 no_filter no_filter).0
+
+  -- the same of a new span: it is dropped where it isn't wanted, and refused only where it is
+  abbrev pub WantsSpan : Lane → Attributes → Dispatch S → Result (Option Id) TraceError → Type 0
+  WantsSpan lane attrs d (Ok made) = WantsMetadata lane (metadata_of attrs) d (is_some made)
+  WantsSpan lane attrs d (Err e) = WantsMetadata lane (metadata_of attrs) d true
+
+  -- the same of an event: its metadata, and then itself
+  abbrev pub WantsEvent : Lane → Event → Dispatch S → Bool → Type 0
+  WantsEvent lane e d wanted =
+      kept_by d ≡ None → (f : Form) → s.has_form (stack_of d) f
+      → let first = asked f (event_metadata e) (registry_of d).store lane.0 no_filter no_filter in wanted ≡ first.0 && (event_asked f e (registry_of d).store lane.0 no_filter first.1).0
+
+  -- where nothing is ever kept, it is the stack that is asked
+  abbrev pub AsksStack : Lane → Metadata → Dispatch S → Pass → Result Bool TraceError → Pass → Type 0
+  AsksStack lane m d before said after = kept_by d ≡ None → IfOk said (λ wanted. AnswersEnabled s.registry s.has_form (stack_of d) lane m before wanted after)
+
+  -- ---- what is promised of any stack at all
+
+  -- the registry takes a step, and then hooks may write extensions
+  abbrev pub TakesStep : (RegistryState → RegistryState → Type 0) → Dispatch S → Dispatch S → Type 0
+  TakesStep step old new = AndHooks s.registry step (stack_of old) (stack_of new)
+
+  -- the registry alone takes a step: no layer is notified
+  abbrev pub TakesStepAlone : (RegistryState → RegistryState → Type 0) → Dispatch S → Dispatch S → Type 0
+  TakesStepAlone step old new = step (registry_of old) (registry_of new) × (stack_of new ≡ s.with_registry (stack_of old) (registry_of new))
+
+  -- a new span is opened where there is one; else the stack stays as it is
+  abbrev pub OpensIfMade : Lane → Attributes → Dispatch S → Dispatch S → Option Id → Type 0
+  OpensIfMade lane attrs old new made = MatchOption made (stack_of new ≡ stack_of old) (λ id. TakesStep (OpensFor lane attrs id) old new)
+
+  -- why a new span is refused: its interest isn't to be had, or the registry has no room or no such parent
+  abbrev pub RefusesSpan : Lane → Attributes → Dispatch S → TraceError → Type 0
+  RefusesSpan lane attrs d e = RefusesInterest (kept_by d) (metadata_of attrs) e ⊎ RefusesNew (registry_of d) lane (asked_parent attrs) e
+
+  -- where a span isn't open, only the lane leaves it
+  abbrev pub LeavesGone : Lane → Id → Dispatch S → Dispatch S → Type 0
+  LeavesGone lane id old new = ¬ (IsOpen (registry_of old).store.spans (number_of id)) → TakesStepAlone (Exits lane id) old new
+
+  -- a handle is taken. Where the span closes by that, it is taken out, and then each parent that closes by that; extensions may be written in between. Else no layer is notified
+  abbrev pub TakesHandle : Id → Dispatch S → Dispatch S → Bool → Type 0
+  TakesHandle id old new false = TakesStepAlone (Releases id StillOpen) old new
+  TakesHandle id old new true =
+      (released : RegistryState) × Releases id Closing (registry_of old) released × ((closed : List ℕ) × Removal SameButExtensions released id closed None (registry_of new))
+
+  -- where no span was closing before, what closes by a drop is all that should
+  abbrev pub DropsSettled : Id → Dispatch S → Dispatch S → Bool → Type 0
+  DropsSettled id old new closes = IsSettled (registry_of old).store.spans → TakesStep (DropsSpan id closes) old new
+
+  -- where no span was closing, none is
+  abbrev pub StaysSettled : Dispatch S → Dispatch S → Type 0
+  StaysSettled old new = IsSettled (registry_of old).store.spans → IsSettled (registry_of new).store.spans
