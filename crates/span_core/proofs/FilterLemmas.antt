@@ -110,20 +110,20 @@ same_maps a b h = ap (λ (s : NumberSet). let map : FilterMap = record { disable
 
 -- ---- a verdict cut down to a set
 
--- a number is left in the cut word exactly where it was in the word and in the set: none is from 64 on
-cut_at : (numbers : FilterSet) (word n : ℕ) → word < 2 ^ 64 → is_one (cut_word numbers 64 word) n ≡ (numbers n && is_one word n)
+-- a number is left in the cut word exactly where it was in the word and in the set: none is from 128 on
+cut_at : (numbers : FilterSet) (word n : ℕ) → word < 2 ^ 128 → is_one (cut_word numbers 128 word) n ≡ (numbers n && is_one word n)
 cut_at numbers word n fits =
     ⊎_elim
-    (λ (l : n < 64). cut_word-bit numbers 64 word n l)
-    (λ (l : 64 ≤ n).
-    none_past (cut_word numbers 64 word) n (cut_word-fits numbers 64 word) l
+    (λ (l : n < 128). cut_word-bit numbers 128 word n l)
+    (λ (l : 128 ≤ n).
+    none_past (cut_word numbers 128 word) n (cut_word-fits numbers 128 word) l
     ∙ sym (and_right _ _ (none_past word n fits l)))
-    (cases_lt n 64)
+    (cases_lt n 128)
 
 -- a verdict of which the refusals of these filters alone are left
 pub cut_verdict : (numbers : FilterSet) (v : FilterMap) → (w : FilterMap) × ((n : ℕ) → refuses w n ≡ (numbers n && refuses v n))
 cut_verdict numbers v =
     let word = v.disabled_by.bits in (
-      record { disabled_by = record { bits = cut_word numbers 64 word; fits = cut_word-fits numbers 64 word } },
+      record { disabled_by = record { bits = cut_word numbers 128 word; fits = cut_word-fits numbers 128 word } },
       λ n. cut_at numbers word n v.disabled_by.fits,
     )

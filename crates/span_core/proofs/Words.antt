@@ -1,7 +1,7 @@
 -- A word as a set of numbers: number n is in it where bit n is 1.
-use Rattle.std.proofs.Common.{◌≡◌, ℕ, ◌+◌, ◌-◌, ◌*◌, ◌%◌, ◌^◌, ◌<◌, ◌≤◌, zero, suc, min, max, Bool, true, false, cond, refl, sym, ap, ◌∙◌, ⊎_elim, ◌==◌, not, ◌&&◌, ◌↔◌, IsTrue, IsBitSet, bit_and, bit_or, w64, subst, pow-suc, arith}
+use Rattle.std.proofs.Common.{◌≡◌, ℕ, ◌+◌, ◌-◌, ◌*◌, ◌%◌, ◌^◌, ◌<◌, ◌≤◌, zero, suc, min, max, Bool, true, false, cond, refl, sym, ap, ◌∙◌, ⊎_elim, ◌==◌, not, ◌&&◌, ◌↔◌, IsTrue, IsBitSet, bit_and, bit_or, subst, pow-suc, arith}
 use Rattle.std.specs.Prelude.{if◌then◌else◌}
-use Rattle.std.specs.Int.{bit_at, trailing_zeros}
+use Rattle.std.specs.Int.{bit_at, trailing_zeros, w128}
 use Rattle.std.proofs.lemmas.Bool.{and_left, cases_Bool, cases_eq, cases_lt, eq-eqb, eqb-true, eqb-false, ne_eqb, not_from_false, not_from_true}
 use Rattle.std.proofs.lemmas.Nat.{and_le_l, bit_set_by_shift, one_shl}
 use Rattle.std.proofs.lemmas.Nat.Bits.{bit_at-lt, bit_at-pow_other, bit_at-pow_same, bit_at-trailing_zeros, bit_at-zero, bit_at_above, bit_at_and, bit_at_cat_high, bit_at_cat_low, bit_at_not, bit_at_or, same_from_bits_below, shr_and_one}
@@ -20,21 +20,21 @@ is_one-zero word n h = ap (λ d. d == 1) h
 pub is_one-one : (word n : ℕ) → bit_at word n ≡ 1 → is_one word n ≡ true
 is_one-one word n h = ap (λ d. d == 1) h
 
--- no bit of a word is 1 from 64 on
-pub none_past : (word n : ℕ) → word < 2 ^ 64 → 64 ≤ n → is_one word n ≡ false
-none_past word n fits past = is_one-zero word n (bit_at_above word 64 n fits past)
+-- no bit of a word is 1 from 128 on
+pub none_past : (word n : ℕ) → word < 2 ^ 128 → 128 ≤ n → is_one word n ≡ false
+none_past word n fits past = is_one-zero word n (bit_at_above word 128 n fits past)
 
-pub is_one-below : (word n : ℕ) → word < 2 ^ 64 → is_one word n ≡ true → n < 64
+pub is_one-below : (word n : ℕ) → word < 2 ^ 128 → is_one word n ≡ true → n < 128
 is_one-below word n fits h =
     ⊎_elim
-    (λ (l : n < 64). l)
-    (λ (l : 64 ≤ n). let no = none_past word n fits l in absurd (cc))
-    (cases_lt n 64)
+    (λ (l : n < 128). l)
+    (λ (l : 128 ≤ n). let no = none_past word n fits l in absurd (cc))
+    (cases_lt n 128)
 
 -- `1 << k`
-pub is_one-shifted : (k n : ℕ) → k < 64 → is_one (1 * 2 ^ k % 2 ^ 64) n ≡ (n == k)
+pub is_one-shifted : (k n : ℕ) → k < 128 → is_one (1 * 2 ^ k % 2 ^ 128) n ≡ (n == k)
 is_one-shifted k n h =
-    ap (λ word. is_one word n) (one_shl k 64 h)
+    ap (λ word. is_one word n) (one_shl k 128 h)
     ∙ ⊎_elim
     (λ (e : n ≡ k). is_one-one (2 ^ k) n (ap (bit_at (2 ^ k)) e ∙ bit_at-pow_same k) ∙ sym (eq-eqb n k e))
     (λ (e : n ≡ k → ⊥). is_one-zero (2 ^ k) n (bit_at-pow_other k n e) ∙ sym (ne_eqb n k e))
@@ -73,37 +73,37 @@ first_one (suc (suc x)) y p q = absurd (omega arith)
 first_one x (suc (suc y)) p q = absurd (omega arith)
 
 -- `a & !b`
-pub is_one-without : (a b n : ℕ) → a < 2 ^ 64 → b < 2 ^ 64 → is_one (bit_and a (2 ^ 64 - 1 - b)) n ≡ (if is_one b n then false else is_one a n)
+pub is_one-without : (a b n : ℕ) → a < 2 ^ 128 → b < 2 ^ 128 → is_one (bit_and a (2 ^ 128 - 1 - b)) n ≡ (if is_one b n then false else is_one a n)
 is_one-without a b n p q =
     ⊎_elim
-    (λ (l : n < 64).
-    ap (λ d. d == 1) (bit_at_and a (2 ^ 64 - 1 - b) n ∙ ap (min (bit_at a n)) (bit_at_not w64 b n q l))
+    (λ (l : n < 128).
+    ap (λ d. d == 1) (bit_at_and a (2 ^ 128 - 1 - b) n ∙ ap (min (bit_at a n)) (bit_at_not w128 b n q l))
     ∙ first_one (bit_at a n) (bit_at b n) (bit_at-lt a n) (bit_at-lt b n))
-    (λ (l : 64 ≤ n).
-    is_one-and a (2 ^ 64 - 1 - b) n ∙ and_left _ _ (none_past a n p l)
+    (λ (l : 128 ≤ n).
+    is_one-and a (2 ^ 128 - 1 - b) n ∙ and_left _ _ (none_past a n p l)
     ∙ (λ i. if sym (none_past b n q l) i then false else sym (none_past a n p l) i))
-    (cases_lt n 64)
+    (cases_lt n 128)
 
 -- a word that isn't 0 has a bit that is 1
-lowest_one : (word : ℕ) → word < 2 ^ 64 → (word == 0) ≡ false → (n : ℕ) × ((n < 64) × (is_one word n ≡ true))
+lowest_one : (word : ℕ) → word < 2 ^ 128 → (word == 0) ≡ false → (n : ℕ) × ((n < 128) × (is_one word n ≡ true))
 lowest_one word fits h =
     let apart = eqb-false word 0 h in
-    let lowest = bit_at-trailing_zeros w64 word (omega (arith, apart)) fits in
-    (trailing_zeros w64 word, (lowest.0, is_one-one word (trailing_zeros w64 word) lowest.1))
+    let lowest = bit_at-trailing_zeros w128 word (omega (arith, apart)) fits in
+    (trailing_zeros w128 word, (lowest.0, is_one-one word (trailing_zeros w128 word) lowest.1))
 
 -- `a & b != 0`
-pub meets-some : (a b : ℕ) → a < 2 ^ 64 → not (bit_and a b == 0) ≡ some_below 64 (λ n. is_one a n && is_one b n)
+pub meets-some : (a b : ℕ) → a < 2 ^ 128 → not (bit_and a b == 0) ≡ some_below 128 (λ n. is_one a n && is_one b n)
 meets-some a b fits =
     ⊎_elim
     (λ (h : (bit_and a b == 0) ≡ true).
     let none : bit_and a b ≡ 0 = eqb-true (bit_and a b) 0 h in
     not_from_true _ h
-    ∙ sym (some_below-none 64 (λ n. is_one a n && is_one b n) (λ n l. sym (is_one-and a b n) ∙ ap (λ word. is_one word n) none ∙ is_one-zero 0 n (bit_at-zero n))))
+    ∙ sym (some_below-none 128 (λ n. is_one a n && is_one b n) (λ n l. sym (is_one-and a b n) ∙ ap (λ word. is_one word n) none ∙ is_one-zero 0 n (bit_at-zero n))))
     (λ (h : (bit_and a b == 0) ≡ false).
     let within = and_le_l a b in
     let found = lowest_one (bit_and a b) (omega (arith, within)) h in
     not_from_false _ h
-    ∙ sym (some_below-found 64 (λ n. is_one a n && is_one b n) found.0 found.1.0 (sym (is_one-and a b found.0) ∙ found.1.1)))
+    ∙ sym (some_below-found 128 (λ n. is_one a n && is_one b n) found.0 found.1.0 (sym (is_one-and a b found.0) ∙ found.1.1)))
     (cases_Bool (bit_and a b == 0))
 
 -- the bit as std has it
@@ -121,8 +121,8 @@ same_bit (suc (suc x)) y p q h = absurd (omega arith)
 same_bit x (suc (suc y)) p q h = absurd (omega arith)
 
 -- words with the same bits
-pub same_words : (a b : ℕ) → a < 2 ^ 64 → b < 2 ^ 64 → ((n : ℕ) → n < 64 → is_one a n ≡ is_one b n) → a ≡ b
-same_words a b p q h = same_from_bits_below 64 a b p q (λ n l. same_bit (bit_at a n) (bit_at b n) (bit_at-lt a n) (bit_at-lt b n) (h n l))
+pub same_words : (a b : ℕ) → a < 2 ^ 128 → b < 2 ^ 128 → ((n : ℕ) → n < 128 → is_one a n ≡ is_one b n) → a ≡ b
+same_words a b p q h = same_from_bits_below 128 a b p q (λ n l. same_bit (bit_at a n) (bit_at b n) (bit_at-lt a n) (bit_at-lt b n) (h n l))
 
 -- ---- a word cut down to a set
 

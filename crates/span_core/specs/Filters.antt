@@ -18,15 +18,15 @@ IsEmpty a = (n : ℕ) → a n ≡ false
 abbrev pub union : FilterSet → FilterSet → FilterSet
 union a b n = a n || b n
 
--- the sets have the same filters, among the numbers below 64
+-- the sets have the same filters, among the numbers below 128
 abbrev pub SameMembers : FilterSet → FilterSet → Type 0
 SameMembers a b = (n : ℕ) → n < LIMIT → a n ≡ b n
 
--- a filter is in both sets, among the numbers below 64
+-- a filter is in both sets, among the numbers below 128
 abbrev pub HaveCommon : FilterSet → FilterSet → Type 0
 HaveCommon a b = (n : ℕ) × ((n < LIMIT) × IsTrue (a n) × IsTrue (b n))
 
--- whether a filter is in both sets, among the numbers below 64
+-- whether a filter is in both sets, among the numbers below 128
 abbrev pub meets : FilterSet → FilterSet → Bool
 meets a b = some_below LIMIT (λ n. a n && b n)
 

@@ -23,7 +23,7 @@ pub enum TraceError {
     /// The span is open, but only by its children.
     #[error("the span has no handle left")]
     NoHandle(Id),
-    /// The registered filters and the new ones together are more than 64.
+    /// The registered filters and the new ones together are more than 128.
     #[error("there are too many filters")]
     TooManyFilters,
     /// There is a value under the tag.
@@ -41,10 +41,13 @@ pub enum TraceError {
     /// Memory was refused.
     #[error("out of memory")]
     OutOfMemory,
+    /// No attached filter has this number, or the one that has it takes no level.
+    #[error("the filter takes no level")]
+    NotSettable(u32),
 }
 
 impl TraceError {
-    /// The number of this refusal, from 1 to 9.
+    /// The number of this refusal, from 1 to 10.
     pub fn number(&self) -> u8
         ensures { result ≡ refusal_number self.now }
     {
@@ -58,6 +61,7 @@ impl TraceError {
             TraceError::CountFull(_) => 7,
             TraceError::TooManySpans => 8,
             TraceError::OutOfMemory => 9,
+            TraceError::NotSettable(_) => 10,
         }
     }
 }

@@ -8,7 +8,7 @@ ghost use Rattle.span_core.specs.declared.number_set.TheConstants.{LIMIT};
 use crate::number_set::{self, NumberSet};
 use std::fmt;
 
-/// The filters that a layer stands under: a set of numbers below 64, or unattached where a filter
+/// The filters that a layer stands under: a set of numbers below 128, or unattached where a filter
 /// has no number yet.
 ///
 /// Stands for `tracing_subscriber::filter::FilterId`, where unattached is the set of all numbers.
@@ -32,7 +32,7 @@ impl FilterId {
         }
     }
 
-    /// The filter with this number, which is below 64.
+    /// The filter with this number, which is below 128.
     pub fn of(number: u32) -> FilterId
         requires { number < LIMIT }
         ensures attached { IsTrue (is_attached result) }
@@ -114,7 +114,7 @@ impl FilterMap {
     /// The filters that refused, as a word: its bit n is 1 exactly if filter n refuses.
     ///
     /// Own to this port.
-    pub fn word(&self) -> u64
+    pub fn word(&self) -> u128
         ensures { IsWord self.now result }
     {
         self.disabled_by.word()

@@ -88,7 +88,7 @@ pub fn unions()
     ensures none { (a b : FilterSet) (n : ℕ) → IsEmpty a → union a b n ≡ b n }
 {}
 
-/// Two sets have a filter in common if there is one below 64 in both.
+/// Two sets have a filter in common if there is one below 128 in both.
 pub fn filters_in_common()
     ensures exactly { (a b : FilterSet) → IsTrue (meets a b) ↔ HaveCommon a b }
     ensures commutes { (a b : FilterSet) → meets a b ≡ meets b a }
@@ -105,7 +105,7 @@ pub fn hiding()
     ensures allowed { (m : FilterId) (v : FilterMap) → IsEmpty (refuses v) → is_hidden m v ≡ false }
 {}
 
-/// An id and a map are known by their members, which are below 64.
+/// An id and a map are known by their members, which are below 128.
 pub fn members()
     ensures ids_below { (id : FilterId) (n : ℕ) → IsTrue (has_filter id n) → n < LIMIT }
     ensures maps_below { (map : FilterMap) (n : ℕ) → IsTrue (refuses map n) → n < LIMIT }
@@ -114,8 +114,8 @@ pub fn members()
     ensures maps { (a b : FilterMap) → SameMembers (refuses a) (refuses b) → a ≡ b }
 {}
 
-/// There are 64 filters, numbered from 0.
-pub fn filters_are_64()
-    ensures ids { FilterId.LIMIT ≡ 64 }
-    ensures numbers { LIMIT ≡ 64 }
+/// There are 128 filters, numbered from 0.
+pub fn filters_are_128()
+    ensures ids { FilterId.LIMIT ≡ 128 }
+    ensures numbers { LIMIT ≡ 128 }
 {}

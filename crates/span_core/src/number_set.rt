@@ -5,14 +5,14 @@ ghost use Rattle.span_core.specs.declared.number_set.TheConstants.{LIMIT};
 use std::fmt;
 
 /// How many filters there are at most: their numbers are below this.
-pub const LIMIT: usize = 64;
+pub const LIMIT: usize = 128;
 
 /// A set of numbers of filters, as a word.
 #[derive(Clone, Copy, PartialEq, Eq)]
 pub struct NumberSet {
     /// Bit n is 1 where n is in the set.
-    bits: u64,
-    ghost fits: { bits < 2 ^ 64 },
+    bits: u128,
+    ghost fits: { bits < 2 ^ 128 },
 }
 
 impl NumberSet {
@@ -61,7 +61,7 @@ impl NumberSet {
     }
 
     /// The word in which a 1 stands for each number of the set.
-    pub fn word(&self) -> u64
+    pub fn word(&self) -> u128
         ensures { (n : ℕ) → IsBitSet result n ↔ IsTrue (has_number self.now n) }
     {
         self.bits

@@ -112,10 +112,10 @@ fn maps_of_filters_are_written(rt: HostRuntime) -> Result<(), Fail> {
 #[test]
 fn filters_refuse(rt: HostRuntime) -> Result<(), Fail> {
     let first = FilterId::of(0);
-    let last = FilterId::of(63);
+    let last = FilterId::of(127);
     let both = first.and(last);
-    assert!(rt; both.contains(0) && both.contains(63));
-    assert!(rt; !both.contains(1) && !both.contains(64));
+    assert!(rt; both.contains(0) && both.contains(127));
+    assert!(rt; !both.contains(1) && !both.contains(128));
     assert!(rt; !both.is_unattached() && both.and(FilterId::unattached()).is_unattached());
     assert_eq!(rt; FilterId::unattached().and(last), last);
     let mut pass = Pass::new();
@@ -130,28 +130,28 @@ fn filters_refuse(rt: HostRuntime) -> Result<(), Fail> {
 }
 
 #[test]
-fn words_of_filters_end_at_63(rt: HostRuntime) -> Result<(), Fail> {
-    let last = FilterId::of(63);
+fn words_of_filters_end_at_127(rt: HostRuntime) -> Result<(), Fail> {
+    let last = FilterId::of(127);
     let both = FilterId::of(0).and(last);
     assert_eq!(rt;
         format!(in rt.alloc(); "{both:?}")?.as_str(),
-        "FilterId({0, 63})"
+        "FilterId({0, 127})"
     );
     let mut pass = Pass::new();
     assert_eq!(rt; pass.refused().word(), 0);
     pass.set(last, false);
     let map = pass.refused();
-    for n in 0..63 {
+    for n in 0..127 {
         assert!(rt; map.is_enabled(FilterId::of(n)));
     }
     assert!(rt; !map.is_enabled(last));
-    assert_eq!(rt; map.word(), 1 << 63);
+    assert_eq!(rt; map.word(), 1 << 127);
     for n in 0..FilterId::LIMIT {
         pass.set(FilterId::of(n), false);
     }
     let map = pass.refused();
     assert!(rt; map.is_enabled(FilterId::none()) && !map.is_enabled(both));
-    assert_eq!(rt; map.word(), u64::MAX);
+    assert_eq!(rt; map.word(), u128::MAX);
     Ok(())
 }
 
@@ -299,5 +299,5 @@ fn laws_can_be_called() {
     laws::filters_in_common();
     laws::hiding();
     laws::members();
-    laws::filters_are_64();
+    laws::filters_are_128();
 }

@@ -1,4 +1,4 @@
-use Rattle.std.proofs.Common.{List, ℕ, nat_eq, sym, ◌∙◌, map}
+use Rattle.std.proofs.Common.{List, ℕ, sym, ◌∙◌, map}
 use Rattle.std.proofs.lemmas.Slice.Eq.{bytes_eq-Decides, slice_eq-Decides}
 use Rattle.std.specs.Borrow.{Bor}
 use Rattle.std.specs.Cmp.Derive.Mapped.{pointwise-map}

@@ -12,8 +12,8 @@ invariant_of-result c =
     let b = c.args.numbers in
     record {
       fits = elim c.if-held.branch [
-        | then-held w ↦ let most = or_lt 64 a.bits b.bits a.fits b.fits in omega (arith, w.bits-is, most)
-        | else-held w ↦ let most = and_le_l a.bits (2 ^ 64 - 1 - b.bits) in omega (arith, w.bits-is, most, a.fits)
+        | then-held w ↦ let most = or_lt 128 a.bits b.bits a.fits b.fits in omega (arith, w.bits-is, most)
+        | else-held w ↦ let most = and_le_l a.bits (2 ^ 128 - 1 - b.bits) in omega (arith, w.bits-is, most, a.fits)
       ];
     }
 
