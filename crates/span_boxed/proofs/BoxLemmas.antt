@@ -6,8 +6,9 @@ use Rattle.std.specs.Option.{option_copied, option_map, option_map_or}
 use Rattle.std.specs.Prelude.{◌≡◌, ℕ, Bool, ◌++◌, None, Option, Some, refl}
 use Rattle.std.proofs.Common.{ap, subst, sym, ◌∙◌}
 use Rattle.std.proofs.Math.Path.{transport}
-use Rattle.span_boxed.specs.Boxed.{ActsPlainlyAt, RegistersLawfully, StepsLawfully}
+use Rattle.span_boxed.specs.Boxed.{ActsPlainlyAt, LevelsLawfully, RegistersLawfully, StepsLawfully}
 use Rattle.span_core.specs.Filters.{FilterSet, has_filter, refuses}
+use Rattle.span_core.specs.declared.level.LevelFilter.{LevelFilter}
 use Rattle.span_core.specs.declared.pass.Pass.{Pass}
 use Rattle.span_filters.specs.Boxed.{itself, replaced}
 use Rattle.span_layers.specs.Acts.{PathLaws}
@@ -17,6 +18,7 @@ use Rattle.span_registry.specs.Answers.{Notice}
 use Rattle.span_registry.specs.Conducts.{ActsAt, Conducts}
 use Rattle.span_registry.specs.Context.{Exchanges, LendsOver, LooksAtRoot, filters_in, lane_in, lane_lent, mask_lent, refused_lent, store_at, store_in, subscriber_lent}
 use Rattle.span_registry.specs.Form.{Form}
+use Rattle.span_registry.specs.Levels.{LevelLaws, LevelSteps}
 use Rattle.span_registry.specs.Place.{HearSteps, Place}
 use Rattle.span_registry.specs.Plan.{Plan, by_pass}
 use Rattle.span_registry.specs.Question.{AnswersBy, AnswersSo, refusals}
@@ -33,6 +35,10 @@ asked_of_object x call lives P p = (refl, λ i. (tt, ((λ a m. i a (mem-append_r
 -- the object that was called is the one in the box: what holds between it and what it became, holds between the two boxes
 pub in_its_box : {I : Type 0} {V : I → Type 0} {B : Type 0} (boxed : (i : I) → V i → B) (P : B → B → Type 0) (x y : (i : I) × V i) → x ≡ y → (z : V x.0) → P (boxed x.0 x.1) (boxed x.0 z) → P (boxed y.0 y.1) (boxed x.0 z)
 in_its_box {I} {V} boxed P x y same z = subst (λ (p : (i : I) × V i). P (boxed p.0 p.1) (boxed x.0 z)) same
+
+-- where the object stays as it is, so does the box
+pub boxed_same : {I : Type 0} {V : I → Type 0} {B : Type 0} (boxed : (i : I) → V i → B) (x y : (i : I) × V i) → x ≡ y → (z : V x.0) → z ≡ x.1 → boxed x.0 z ≡ boxed y.0 y.1
+boxed_same {I} {V} boxed x y same z e = ap (boxed x.0) e ∙ ap (λ (p : (i : I) × V i). boxed p.0 p.1) same
 
 -- ---- in a layer
 
@@ -54,6 +60,16 @@ module _ {L : Type 0} {form : L → Form → Type 0} {steps : LayerSteps L} {hea
   -- and is put in use so
   pub registers_lawfully : (x y : L) → registered x y → RegistersLawfully form registered acts_at x y
   registers_lawfully x y s = record { taken = s; follows = λ f h. laws.put_in_use x y f s h; acts_still = λ place cs a. acts_plainly paths y place cs (paths.put_in_use x y place cs s a) }
+
+-- and takes levels so
+pub levels_lawfully : {L : Type 0} {form : L → Form → Type 0} {steps : LayerSteps L} {registered : L → L → Type 0} {levelled : LevelSteps L} {hears : HearSteps L} {acts_at : ActsAt L} → PathLaws form steps registered acts_at → LevelLaws form levelled hears acts_at
+    → (x : L) (n : ℕ) (l : LevelFilter) (y : L) → levelled x n l y → LevelsLawfully form levelled hears acts_at x n l y
+levels_lawfully paths levels x n l y s = record {
+  taken = s;
+  follows = λ f h. levels.keeps x n l y f s h;
+  heard = λ place. levels.heard x n l y place s;
+  acts_on = λ place cs a. acts_plainly paths y place _ (levels.acts x n l y place cs s a);
+}
 
 -- ---- over the registry that a subscriber stands on
 

@@ -4,12 +4,14 @@ use Rattle.std.proofs.Common.{append_assoc, subst, sym}
 use Rattle.std.proofs.lemmas.List.{append-nil}
 use Rattle.span_boxed.specs.declared.boxed.BoxedLayer.{BoxedLayer}
 use Rattle.span_core.specs.Filters.{FilterSet}
+use Rattle.span_core.specs.declared.level.LevelFilter.{LevelFilter}
 use Rattle.span_layers.specs.Acts.{PathLaws}
 use Rattle.span_layers.specs.Layer.{LayerLaws, LayerSteps}
 use Rattle.span_registry.specs.Answers.{Notice}
-use Rattle.span_registry.specs.Conducts.{ActsAt, ActsNow, ActsOn, ArePlainConducts, Conducts}
+use Rattle.span_registry.specs.Conducts.{ActsAt, ActsNow, ActsOn, ArePlainConducts, Conducts, setting}
 use Rattle.span_registry.specs.Follows.{Follows}
 use Rattle.span_registry.specs.Form.{Form}
+use Rattle.span_registry.specs.Levels.{FollowsLevel, LevelLaws, LevelSteps}
 use Rattle.span_registry.specs.Place.{Heard, HearLaws, HearSteps, Place, heard_by}
 use Rattle.span_registry.specs.Plan.{Plan}
 use Rattle.span_registry.specs.Store.{RegistryState}
@@ -62,6 +64,25 @@ module _ {L : Type 0} (hears : HearSteps L) where
   -- what is heard in turn keeps the law
   pub in_turn_laws : HearLaws (HearsInTurn hears)
   in_turn_laws = record { nothing = λ x place. Nothing; further = λ x y z place h k a b. then_heard x y place h a b }
+
+-- it goes on so where a level is set, and then keeps the laws: a form in which that filter alone answers otherwise, no leaf heard of it, and each path goes on by the level
+pub record LevelsLawfully {L : Type 0} (form : L → Form → Type 0) (levelled : LevelSteps L) (hears : HearSteps L) (acts_at : ActsAt L) (x : L) (n : ℕ) (l : LevelFilter) (y : L) : Type 0 where
+  pub taken : levelled x n l y
+  pub follows : (f : Form) → form x f → FollowsLevel (form y) n f
+  pub heard : (place : Place) → hears x place [] y
+  pub acts_on : (place : Place) (cs : Conducts) → acts_at x place cs → ActsPlainlyAt form acts_at y place (setting n l cs)
+
+-- the object in the box goes on so
+abbrev pub LevelsInside : {I : Type 0} {V : I → Type 0} → ((x : BoxedLayer I V) → LevelSteps (V x.object.vtable)) → LevelSteps (BoxedLayer I V)
+LevelsInside levelled x n l y = ChangesInside (λ b o z. levelled b o n l z) x y
+
+-- so it keeps the law of levels
+pub object_levels : {L : Type 0} {form : L → Form → Type 0} {levelled : LevelSteps L} {hears : HearSteps L} {acts_at : ActsAt L} → LevelLaws form (LevelsLawfully form levelled hears acts_at) (HearsInTurn hears) (ActsPlainlyAt form acts_at)
+object_levels = record {
+  keeps = λ x n l y f s h. s.follows f h;
+  heard = λ x n l y place s. Further Nothing (s.heard place);
+  acts = λ x n l y place cs s a. s.acts_on place cs a.acted;
+}
 
 -- what goes on lawfully keeps the law of layers
 pub object_laws : {L : Type 0} {form : L → Form → Type 0} {steps : LayerSteps L} {hears : HearSteps L} {registered : L → L → Type 0} {acts_at : ActsAt L}

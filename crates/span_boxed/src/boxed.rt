@@ -1,6 +1,6 @@
 //! Boxed layers: layers whose type is picked while the program runs.
 ghost use Rattle.std.specs.Prelude.{◌≡◌};
-ghost use Rattle.span_boxed.specs.Boxed.{ActsPlainlyAt, ChangesInside, HearsInTurn, HearsInside, RegistersLawfully, StepsInside, StepsLawfully, object_laws, object_path_laws};
+ghost use Rattle.span_boxed.specs.Boxed.{ActsPlainlyAt, ChangesInside, HearsInTurn, HearsInside, LevelsInside, LevelsLawfully, RegistersLawfully, StepsInside, StepsLawfully, object_laws, object_levels, object_path_laws};
 
 use crate::object::DynLayer;
 use span_core::{Attributes, Event, Id, Interest, LevelFilter, Metadata, Pass, Record};
@@ -40,6 +40,8 @@ impl<S: Subscriber> Layer<S> for BoxedLayer {
 
     ghost acts_at = { ActsPlainlyAt (λ x. (DynLayer-box x.object).dyn_form x.object.value) (λ x. (DynLayer-box x.object).dyn_acts_at x.object.value) };
 
+    ghost levelled = { LevelsLawfully (λ x. (DynLayer-box x.object).dyn_form x.object.value) (LevelsInside (λ x. (DynLayer-box x.object).dyn_levelled)) (HearsInside (λ x. (DynLayer-box x.object).dyn_hears)) (λ x. (DynLayer-box x.object).dyn_acts_at x.object.value) };
+
     ghost registered = { RegistersLawfully (λ x. (DynLayer-box x.object).dyn_form x.object.value) (ChangesInside (λ x. (DynLayer-box x.object).dyn_registered)) (λ x. (DynLayer-box x.object).dyn_acts_at x.object.value) };
 
     ghost attached = { ChangesInside (λ x. (DynLayer-box x.object).dyn_attached) };
@@ -48,8 +50,14 @@ impl<S: Subscriber> Layer<S> for BoxedLayer {
 
     ghost paths = { object_path_laws };
 
+    ghost levels = { object_levels };
+
     fn on_register_dispatch(&mut self) {
         self.object.dyn_on_register_dispatch();
+    }
+
+    fn set_level(&mut self, number: u32, level: LevelFilter) -> bool {
+        self.object.dyn_set_level(number, level)
     }
 
     fn on_layer(&mut self, subscriber: &mut S) {

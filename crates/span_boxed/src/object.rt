@@ -1,6 +1,6 @@
 //! Layers over the registry as objects: what a box may hold.
-ghost use Rattle.std.specs.Prelude.{min};
-ghost use Rattle.span_boxed.specs.Boxed.{RegistersLawfully, StepsLawfully};
+ghost use Rattle.std.specs.Prelude.{◌≡◌, false, min};
+ghost use Rattle.span_boxed.specs.Boxed.{LevelsLawfully, RegistersLawfully, StepsLawfully};
 ghost use Rattle.span_filters.specs.Boxed.{itself, replaced};
 ghost use Rattle.span_layers.specs.Layer.{LayerEnabled, LayerEvent, LayerInterest, LayerSteps, Notified};
 ghost use Rattle.span_layers.specs.Number.{TakesNumbers, filters_in};
@@ -8,6 +8,7 @@ ghost use Rattle.span_registry.specs.Answers.{OnClose, OnEnter, OnEvent, OnExit,
 ghost use Rattle.span_registry.specs.Conducts.{ActsAt};
 ghost use Rattle.span_registry.specs.Context.{HandsOn};
 ghost use Rattle.span_registry.specs.Form.{Form, is_absent, is_marked};
+ghost use Rattle.span_registry.specs.Levels.{LevelSteps, takes_level};
 ghost use Rattle.span_registry.specs.Place.{HearSteps};
 ghost use Rattle.span_registry.specs.Question.{ShowsBy, hint_of};
 
@@ -35,6 +36,9 @@ pub trait DynLayer: Drop {
     /// Which conducts the filters have on the path at a place.
     ghost dyn_acts_at: { ActsAt Self };
 
+    /// How it goes on when a filter's level is set.
+    ghost dyn_levelled: { LevelSteps Self };
+
     /// How it goes on when it is put in use.
     ghost dyn_registered: { Self → Self → Type 0 };
 
@@ -46,6 +50,14 @@ pub trait DynLayer: Drop {
         requires { dyn_usable self.old }
         ensures usable { dyn_usable self.new }
         ensures registered { RegistersLawfully dyn_form dyn_registered dyn_acts_at self.old self.new };
+
+    /// Sets the level of the filter with this number in it, and answers whether there is one that takes it. Else nothing changes.
+    fn dyn_set_level(&mut self, number: u32, level: LevelFilter) -> bool
+        requires { dyn_usable self.old }
+        ensures usable { dyn_usable self.new }
+        ensures taken { ShowsBy (dyn_form self.old) (λ f. takes_level f number level) result }
+        ensures level { LevelsLawfully dyn_form dyn_levelled dyn_hears dyn_acts_at self.old number level self.new }
+        ensures unchanged { result ≡ false → self.new ≡ self.old };
 
     /// Gives its filters the next numbers of the registry.
     fn dyn_on_layer(&mut self, root: &mut Registry)
@@ -164,12 +176,18 @@ impl<L: Layer<Registry> + Drop> DynLayer for L {
 
     ghost dyn_acts_at = { L.acts_at };
 
+    ghost dyn_levelled = { L.levelled };
+
     ghost dyn_registered = { L.registered };
 
     ghost dyn_attached = { L.attached };
 
     fn dyn_on_register_dispatch(&mut self) {
         self.on_register_dispatch();
+    }
+
+    fn dyn_set_level(&mut self, number: u32, level: LevelFilter) -> bool {
+        self.set_level(number, level)
     }
 
     fn dyn_on_layer(&mut self, root: &mut Registry) {

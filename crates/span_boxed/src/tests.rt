@@ -3,9 +3,11 @@ ghost use Rattle.std.specs.Prelude.{◌≡◌, ⊤, true};
 ghost use Rattle.span_boxed.specs.Tests.{late_laws};
 ghost use Rattle.span_layers.specs.Acts.{LeafActs};
 ghost use Rattle.span_layers.specs.ActsKept.{is_leaf, leaf_path_laws};
+ghost use Rattle.span_layers.specs.Levels.{leaf_levels};
 ghost use Rattle.span_layers.specs.Observe.{open_answers};
 ghost use Rattle.span_registry.specs.Context.{WritesExtensions};
 ghost use Rattle.span_registry.specs.Form.{Leaf};
+ghost use Rattle.span_registry.specs.Levels.{unlevelled};
 
 use crate::{BoxedLayer, DynLayer};
 use span_core::{
@@ -219,6 +221,8 @@ impl<S: Subscriber> Layer<S> for Late {
 
     ghost acts_at = { LeafActs };
 
+    ghost levelled = { unlevelled };
+
     ghost registered = { λ x y. ⊤ };
 
     ghost attached = { λ x y. y ≡ x };
@@ -226,6 +230,8 @@ impl<S: Subscriber> Layer<S> for Late {
     ghost laws = { late_laws };
 
     ghost paths = { leaf_path_laws (λ x f h. is_leaf h) };
+
+    ghost levels = { leaf_levels late_laws };
 
     fn on_register_dispatch(&mut self) {
         self.in_use = true;
@@ -280,6 +286,10 @@ impl<S: Subscriber> Layer<S> for Late {
     }
 
     fn on_close(&mut self, _id: Id, _ctx: &mut ContextMut<'_, S>) {}
+
+    fn set_level(&mut self, _number: u32, _level: LevelFilter) -> bool {
+        false // No filter is in it.
+    }
 }
 
 /// Notifies a layer that a span's handle was cloned: how often was the span marked?
@@ -315,5 +325,32 @@ fn a_box_hands_everything_on(rt: HostRuntime) -> Result<(), Fail> {
     assert_eq!(rt; marks_of_a_clone(&mut layer, &mut registry, id), None);
     assert_eq!(rt; count_and_use(&mut layer), 0);
     assert_eq!(rt; marks_of_a_clone(&mut layer, &mut registry, id), Some(1));
+    Ok(())
+}
+
+/// Gives a layer's filters the numbers from 0 on, and sets the level of the filter with number 1 to debug, and then that of the
+/// filter with number 0: is it taken, and which hint has the layer then?
+fn hints_by_level<L: Layer<Registry>>(
+    alloc: Global,
+    layer: &mut L,
+) -> [(bool, Option<LevelFilter>); 2]
+    requires { L.usable layer.old }
+    ensures { L.usable layer.new }
+{
+    layer.on_layer(&mut Registry::new(alloc));
+    let other = layer.set_level(1, LevelFilter::DEBUG);
+    let before = layer.max_level_hint();
+    let own = layer.set_level(0, LevelFilter::DEBUG);
+    [(other, before), (own, layer.max_level_hint())]
+}
+
+#[test]
+fn a_box_passes_a_level_on(rt: HostRuntime) -> Result<(), Fail> {
+    let inside = Observer::new(Marker).with_filter(LevelFilter::INFO);
+    let object: Box<dyn DynLayer + Send> = Box::new(rt.alloc(), inside)?;
+    let mut layer = BoxedLayer::new(object);
+    let [other, own] = hints_by_level(rt.alloc(), &mut layer);
+    assert_eq!(rt; other, (false, Some(LevelFilter::INFO)));
+    assert_eq!(rt; own, (true, Some(LevelFilter::DEBUG)));
     Ok(())
 }

@@ -2,10 +2,11 @@
 use mathlib.Core.List.{mem-append_right}
 use base.Fml.{Incl, Lft}
 use Rattle.std.specs.Prelude.{◌≡◌, ℕ, ◌++◌, refl}
-use Rattle.std.proofs.Common.{subst}
+use Rattle.std.proofs.Common.{ap, subst, ◌∙◌}
 use Rattle.span_core.specs.Filters.{FilterSet}
-use Rattle.span_filters.specs.Boxed.{KeepsLaw, StepsLawfully}
-use Rattle.span_filters.specs.Filter.{FilterLaws, FilterSteps}
+use Rattle.span_core.specs.declared.level.LevelFilter.{LevelFilter}
+use Rattle.span_filters.specs.Boxed.{KeepsLaw, KeepsLevelLaw, LevelsLawfully, StepsLawfully}
+use Rattle.span_filters.specs.Filter.{FilterLaws, FilterLevelLaws, FilterLevelSteps, FilterSteps}
 use Rattle.span_registry.specs.Answers.{Answers, Conduct, Notice}
 use Rattle.span_registry.specs.Store.{RegistryState}
 use Rattle.span_registry.specs.View.{view_of}
@@ -22,6 +23,17 @@ law_kept laws f e lane under v g w s = record {
       record { acted = n; plain = laws.plain g _ n; now = record { answered = c; honest = laws.honest g _ c }; only = λ a d. laws.only g a _ d n };
 }
 
+-- the same of levels
+pub level_law_kept : {F : Type 0} {has : F → Answers → Type 0} {steps : FilterSteps F} {levelled : FilterLevelSteps F} {acts : F → Conduct → Type 0} → FilterLaws has steps acts → FilterLevelLaws has levelled acts
+    → (f : F) (l : LevelFilter) (g : F) → levelled f l g → KeepsLevelLaw has acts l f g
+level_law_kept laws levels f l g s = record {
+  answers = λ a h. let x = levels.answers f l g a s h in (x.0, record { answered = x.1; honest = laws.honest g x.0 x.1 });
+  conduct = λ b h.
+      let n = levels.goes_on f l g b s h in
+      let c = laws.now g _ n in
+      record { acted = n; plain = laws.plain g _ n; now = record { answered = c; honest = laws.honest g _ c }; only = λ a d. laws.only g a _ d n };
+}
+
 -- what a call of an object asks: that its type outlives the call, and what the call requires
 pub asked_of_object : {A : Type 0} (x : A) (call lives : Lft) (P : Type 0) → P → (x ≡ x) × (Incl call (call ++ lives) → Unit {0} × (Incl call lives × P))
 asked_of_object x call lives P p = (refl, λ i. (tt, ((λ a m. i a (mem-append_right call m)), p)))
@@ -33,3 +45,15 @@ pub boxed_lawfully : {I : Type 0} {V : I → Type 0} {B : Type 0} (boxed : (i : 
 boxed_lawfully {I} {V} boxed has inside acts x y same e lane under v z w taken law =
     subst (λ (p : (i : I) × V i). StepsLawfully has inside acts (boxed p.0 p.1) e lane under v (boxed x.0 z) w) same
     (record { taken = taken; law = record { answers = law.answers; conduct = law.conduct } })
+
+-- the same where a level is set
+pub boxed_level : {I : Type 0} {V : I → Type 0} {B : Type 0} (boxed : (i : I) → V i → B) (has : B → Answers → Type 0) (inside : FilterLevelSteps B) (acts : B → Conduct → Type 0)
+    (x y : (i : I) × V i) → x ≡ y → (l : LevelFilter) (z : V x.0) → inside (boxed x.0 x.1) l (boxed x.0 z)
+    → KeepsLevelLaw (λ k. has (boxed x.0 k)) (λ k. acts (boxed x.0 k)) l x.1 z → LevelsLawfully has inside acts (boxed y.0 y.1) l (boxed x.0 z)
+boxed_level {I} {V} boxed has inside acts x y same l z taken law =
+    subst (λ (p : (i : I) × V i). LevelsLawfully has inside acts (boxed p.0 p.1) l (boxed x.0 z)) same
+    (record { taken = taken; law = record { answers = law.answers; conduct = law.conduct } })
+
+-- where the object stays as it is, so does the box
+pub boxed_same : {I : Type 0} {V : I → Type 0} {B : Type 0} (boxed : (i : I) → V i → B) (x y : (i : I) × V i) → x ≡ y → (z : V x.0) → z ≡ x.1 → boxed x.0 z ≡ boxed y.0 y.1
+boxed_same {I} {V} boxed x y same z e = ap (boxed x.0) e ∙ ap (λ (p : (i : I) × V i). boxed p.0 p.1) same

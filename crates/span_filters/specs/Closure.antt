@@ -28,7 +28,7 @@ ComputesIn {S = S} {R = R} registry gives f p = (m : Metadata) (c : Context S) (
 
 -- what a test of metadata answers: its interest is settled, every event passes, and the hint is as set
 abbrev pub test_answers : (Metadata → Bool) → Option LevelFilter → Answers
-test_answers p hint = record { enabled = λ m v. p m; event = λ e v. true; interest = λ m. interest_by (p m); hint = hint }
+test_answers p hint = record { enabled = λ m v. p m; event = λ e v. true; interest = λ m. interest_by (p m); hint = hint; takes = λ l. false }
 
 -- the test refuses every level above the hint
 abbrev pub RefusesAbove : (Metadata → Bool) → Option LevelFilter → Type 0
@@ -78,7 +78,7 @@ HasInterest gives None hint i = i ≡ interest_under hint
 
 -- what a test of metadata and view answers, with this interest and this hint: every event passes
 abbrev pub view_answers : (Metadata → View → Bool) → (Metadata → Interest) → Option LevelFilter → Answers
-view_answers p i hint = record { enabled = p; event = λ e v. true; interest = i; hint = hint }
+view_answers p i hint = record { enabled = p; event = λ e v. true; interest = i; hint = hint; takes = λ l. false }
 
 -- a filter by a test of metadata and context: its closures compute such a test and an interest, and these and its hint are honest
 pub record HasViewAnswers {S F R : Type 0} (registry : S → RegistryState) (gives : F → Metadata → Context S → Bool → Type 0) (registered : R → Metadata → Interest → Type 0) (f : DynFilterFn F R) (a : Answers) : Type 0 where

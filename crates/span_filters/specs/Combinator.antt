@@ -1,15 +1,15 @@
 -- What filters made of other filters answer, each as the table of its parts' answers.
-use Rattle.std.specs.Prelude.{◌≡◌, ℕ, true, not, ◌&&◌, ◌||◌, Option, Some, None}
+use Rattle.std.specs.Prelude.{◌≡◌, ⊤, ℕ, true, false, not, ◌&&◌, ◌||◌, Option, Some, None}
 use Rattle.span_core.specs.Filters.{FilterSet}
 use Rattle.span_core.specs.Level.{lesser, wider_hint}
 use Rattle.span_core.specs.declared.interest.Interest.TheVariants.{Always, Never, Sometimes}
 use Rattle.span_core.specs.declared.interest.Interest.{Interest}
 use Rattle.span_core.specs.declared.level.LevelFilter.{LevelFilter}
-use Rattle.span_filters.specs.Filter.{FilterSteps}
+use Rattle.span_filters.specs.Filter.{FilterLevelSteps, FilterSteps}
 use Rattle.span_filters.specs.declared.combinator.And.{And}
 use Rattle.span_filters.specs.declared.combinator.Not.{Not}
 use Rattle.span_filters.specs.declared.combinator.Or.{Or}
-use Rattle.span_registry.specs.Answers.{Answers, Conduct, Notice}
+use Rattle.span_registry.specs.Answers.{Answers, Conduct, Notice, notices_of}
 use Rattle.span_registry.specs.Store.{RegistryState}
 use Rattle.span_registry.specs.Subscriber.{SameButExtensions}
 
@@ -52,6 +52,7 @@ and_answers a b = record {
   event = λ e v. a.event e v && b.event e v;
   interest = λ m. and_interest (a.interest m) (b.interest m);
   hint = and_hint a.hint b.hint;
+  takes = λ l. false;
 }
 
 -- what either lets by
@@ -61,11 +62,12 @@ or_answers a b = record {
   event = λ e v. a.event e v || b.event e v;
   interest = λ m. or_interest (a.interest m) (b.interest m);
   hint = or_hint a.hint b.hint;
+  takes = λ l. false;
 }
 
 -- the metadata that it refuses; every event; no hint
 abbrev pub not_answers : Answers → Answers
-not_answers a = record { enabled = λ m v. not (a.enabled m v); event = λ e v. true; interest = λ m. not_interest (a.interest m); hint = None }
+not_answers a = record { enabled = λ m v. not (a.enabled m v); event = λ e v. true; interest = λ m. not_interest (a.interest m); hint = None; takes = λ l. false }
 
 -- the answers of a filter of two parts
 pub record HasBoth {A B : Type 0} (join : Answers → Answers → Answers) (first : A → Answers → Type 0) (second : B → Answers → Type 0) (a : A) (b : B) (c : Answers) : Type 0 where
@@ -82,13 +84,13 @@ pub record StepsBoth {A B : Type 0} (first : FilterSteps A) (second : FilterStep
   pub extensions : SameButExtensions v between
   pub right : second b e lane under between d w
 
--- it has the conduct of its parts
+-- it has the conduct of its parts, which are notified, and take no level
 pub record ActsBoth {A B : Type 0} (join : Answers → Answers → Answers) (first : A → Conduct → Type 0) (second : B → Conduct → Type 0) (a : A) (b : B) (c : Conduct) : Type 0 where
   pub left : Conduct
   pub right : Conduct
   pub acts_left : first a left
   pub acts_right : second b right
-  pub joined : c ≡ (λ h. join (left h) (right h))
+  pub joined : c ≡ (λ h. join (left (notices_of h)) (right (notices_of h)))
 
 -- the answers of a filter of one part
 pub record HasOne {A : Type 0} (turn : Answers → Answers) (part : A → Answers → Type 0) (a : A) (c : Answers) : Type 0 where
@@ -100,7 +102,7 @@ pub record HasOne {A : Type 0} (turn : Answers → Answers) (part : A → Answer
 pub record ActsOne {A : Type 0} (turn : Answers → Answers) (part : A → Conduct → Type 0) (a : A) (c : Conduct) : Type 0 where
   pub inside : Conduct
   pub acts_inside : part a inside
-  pub turned : c ≡ (λ h. turn (inside h))
+  pub turned : c ≡ (λ h. turn (inside (notices_of h)))
 
 -- the filter has these parts, the first one first
 pub record IsAnd {A B : Type 0} (f : And A B) (a : A) (b : B) : Type 0 where
@@ -118,7 +120,7 @@ IsNot f a = f.a ≡ a
 
 -- everything
 abbrev pub all_answers : Answers
-all_answers = record { enabled = λ m v. true; event = λ e v. true; interest = λ m. Always; hint = None }
+all_answers = record { enabled = λ m v. true; event = λ e v. true; interest = λ m. Always; hint = None; takes = λ l. false }
 
 -- the answers of an optional filter: those of the filter that it holds, and everything where it holds none
 abbrev pub HasPart : {F : Type 0} → (F → Answers → Type 0) → Option F → Answers → Type 0
@@ -131,6 +133,12 @@ StepsPart steps (Some f) e lane under v (Some g) w = steps f e lane under v g w
 StepsPart steps (Some f) e lane under v None w = ⊥
 StepsPart steps None e lane under v (Some g) w = ⊥
 StepsPart steps None e lane under v None w = w ≡ v
+
+-- its level is set: that of the filter that it holds
+abbrev pub LevelsPart : {F : Type 0} → FilterLevelSteps F → FilterLevelSteps (Option F)
+LevelsPart levelled (Some f) l (Some g) = levelled f l g
+LevelsPart levelled None l None = ⊤
+LevelsPart levelled f l g = ⊥
 
 -- and its conduct
 abbrev pub ActsPart : {F : Type 0} → (F → Conduct → Type 0) → Option F → Conduct → Type 0

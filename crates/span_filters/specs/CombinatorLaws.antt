@@ -9,16 +9,17 @@ use Rattle.span_core.specs.declared.interest.Interest.TheVariants.{Always, Never
 use Rattle.span_core.specs.declared.interest.Interest.{Interest}
 use Rattle.span_core.specs.declared.level.Level.{Level}
 use Rattle.span_core.specs.declared.level.LevelFilter.{LevelFilter}
-use Rattle.span_filters.specs.Combinator.{ActsBoth, ActsOne, ActsPart, HasBoth, HasOne, HasPart, StepsBoth, StepsPart, all_answers, and_answers, and_hint, and_interest, not_answers, not_interest, or_answers, or_hint, or_interest}
-use Rattle.span_filters.specs.Filter.{FilterLaws, FilterSteps, KeepsInterestAndHint, equal_alike}
-use Rattle.span_registry.specs.Answers.{AnswerAlike, Answers, AreHonest, ArePlain, Conduct, IsPlain, Notice, SameInterestAndHint}
+use Rattle.span_filters.specs.Combinator.{ActsBoth, ActsOne, ActsPart, HasBoth, HasOne, HasPart, LevelsPart, StepsBoth, StepsPart, all_answers, and_answers, and_hint, and_interest, not_answers, not_interest, or_answers, or_hint, or_interest}
+use Rattle.span_filters.specs.Filter.{FilterLaws, FilterLevelLaws, FilterLevelSteps, FilterSteps, KeepsInterestAndHint, equal_alike, unlevelled, unlevelled_laws}
+use Rattle.span_registry.specs.Answers.{AnswerAlike, Answers, AreHonest, ArePlain, Conduct, IsPlain, Notice, SameInterestAndHint, OfNotice, notices_of}
+use Rattle.span_registry.specs.Conducts.{after_level}
 use Rattle.span_registry.specs.Store.{RegistryState}
 use Rattle.span_registry.specs.View.{View, view_of}
-use Rattle.span_registry.proofs.CallerLemmas.{histories_alike, views_alike}
+use Rattle.span_registry.proofs.CallerLemmas.{histories_alike, notices_alike, views_alike}
 
 -- a conduct, once it was notified
 abbrev after : Notice → View → Conduct → Conduct
-after e v c = λ k. c ((e, v) ∷ k)
+after e v c = λ k. c (OfNotice e v ∷ k)
 
 module _ {A C : Type 0} (turn : Answers → Answers) (part : C → A) {has : A → Answers → Type 0} {steps : FilterSteps A} {acts : A → Conduct → Type 0}
     (laws : FilterLaws has steps acts)
@@ -35,13 +36,13 @@ module _ {A C : Type 0} (turn : Answers → Answers) (part : C → A) {has : A �
         (turn x.0, record { inside = x.0; has_inside = x.1; turned = refl }, subst (λ c. SameInterestAndHint c (turn x.0)) (sym h.turned) (same h.inside x.0 x.2));
     plain = λ f b h.
         let p = laws.plain (part f) h.inside h.acts_inside in
-        subst IsPlain (sym h.turned) (record { answers = λ k. plain (h.inside k) (p.answers k); history = λ k n e. ap turn (p.history k n e) });
+        subst IsPlain (sym h.turned) (record { answers = λ k. plain (h.inside (notices_of k)) (p.answers (notices_of k)); history = λ k n e. ap turn (p.history (notices_of k) (notices_of n) (notices_alike k n e)) });
     now = λ f b h. record { inside = h.inside []; has_inside = laws.now (part f) h.inside h.acts_inside; turned = ap (λ (c : Conduct). c []) h.turned };
     only = λ f a b d h.
         let x = alike d.inside (h.inside []) (laws.only (part f) d.inside h.inside d.has_inside h.acts_inside) in
         subst (λ c. AnswerAlike c (b [])) (sym d.turned) (subst (λ c. AnswerAlike (turn d.inside) (c [])) (sym h.turned) x);
     goes_on = λ f e lane under v g w b h s. record {
-      inside = λ k. h.inside ((e, view_of v.store lane under) ∷ k);
+      inside = λ k. h.inside (OfNotice e (view_of v.store lane under) ∷ k);
       acts_inside = laws.goes_on (part f) e lane under v (part g) w h.inside h.acts_inside s;
       turned = ap (after e (view_of v.store lane under)) h.turned;
     };
@@ -72,8 +73,8 @@ module _ {A B C : Type 0} (join : Answers → Answers → Answers) (first : C �
         let p = laws.plain (first f) h.left h.acts_left in
         let q = others.plain (second f) h.right h.acts_right in
         subst IsPlain (sym h.joined) (record {
-          answers = λ k. plain (h.left k) (h.right k) (p.answers k) (q.answers k);
-          history = λ k n e i. join (p.history k n e i) (q.history k n e i);
+          answers = λ k. plain (h.left (notices_of k)) (h.right (notices_of k)) (p.answers (notices_of k)) (q.answers (notices_of k));
+          history = λ k n e i. let d = notices_alike k n e in join (p.history (notices_of k) (notices_of n) d i) (q.history (notices_of k) (notices_of n) d i);
         });
     now = λ f b h. record {
       left = h.left [];
@@ -89,16 +90,24 @@ module _ {A B C : Type 0} (join : Answers → Answers → Answers) (first : C �
     goes_on = λ f e lane under v g w b h s.
         let q = others.plain (second f) h.right h.acts_right in
         record {
-          left = λ k. h.left ((e, view_of v.store lane under) ∷ k);
-          right = λ k. h.right ((e, view_of s.between.store lane under) ∷ k);
+          left = λ k. h.left (OfNotice e (view_of v.store lane under) ∷ k);
+          right = λ k. h.right (OfNotice e (view_of s.between.store lane under) ∷ k);
           acts_left = laws.goes_on (first f) e lane under v (first g) s.between h.left h.acts_left s.left;
           acts_right = others.goes_on (second f) e lane under s.between (second g) w h.right h.acts_right s.right;
           joined =
               ap (after e (view_of v.store lane under)) h.joined
-              ∙ (λ i k. join (h.left ((e, view_of v.store lane under) ∷ k))
-              (q.history ((e, view_of v.store lane under) ∷ k) ((e, view_of s.between.store lane under) ∷ k) (refl, views_alike v s.between lane under s.extensions, histories_alike k) i));
+              ∙ (λ i k. join (h.left (OfNotice e (view_of v.store lane under) ∷ notices_of k))
+              (q.history (OfNotice e (view_of v.store lane under) ∷ notices_of k) (OfNotice e (view_of s.between.store lane under) ∷ notices_of k) (refl, views_alike v s.between lane under s.extensions, histories_alike (notices_of k)) i));
         };
   }
+
+-- filters made of filters take no level
+pub one_levels : {A C : Type 0} {turn : Answers → Answers} {has : C → Answers → Type 0} {acts : A → Conduct → Type 0} (part : C → A) → FilterLevelLaws has unlevelled (λ f b. ActsOne turn acts (part f) b)
+one_levels part = unlevelled_laws (λ f l b h. record { inside = h.inside; acts_inside = h.acts_inside; turned = ap (after_level l) h.turned })
+
+pub both_levels : {A B C : Type 0} {join : Answers → Answers → Answers} {has : C → Answers → Type 0} {acts : A → Conduct → Type 0} {other_acts : B → Conduct → Type 0} (first : C → A) (second : C → B)
+    → FilterLevelLaws has unlevelled (λ f b. ActsBoth join acts other_acts (first f) (second f) b)
+both_levels first second = unlevelled_laws (λ f l b h. record { left = h.left; right = h.right; acts_left = h.acts_left; acts_right = h.acts_right; joined = ap (after_level l) h.joined })
 
 not_true : (b : Bool) → b ≡ false → not b ≡ true
 not_true true e = sym e
@@ -286,7 +295,7 @@ module _ {F : Type 0} {has : F → Answers → Type 0} {steps : FilterSteps F} {
   part_only (Some f) a b d h = laws.only f a b d h
   part_only None a b d h = equal_alike a (b []) (d ∙ sym (ap (λ (c : Conduct). c []) h))
 
-  part_goes_on : (f : Option F) (e : Notice) (lane : ℕ) (under : FilterSet) (v : RegistryState) (g : Option F) (w : RegistryState) (b : Conduct) → ActsPart acts f b → StepsPart steps f e lane under v g w → ActsPart acts g (λ h. b ((e, view_of v.store lane under) ∷ h))
+  part_goes_on : (f : Option F) (e : Notice) (lane : ℕ) (under : FilterSet) (v : RegistryState) (g : Option F) (w : RegistryState) (b : Conduct) → ActsPart acts f b → StepsPart steps f e lane under v g w → ActsPart acts g (λ h. b (OfNotice e (view_of v.store lane under) ∷ h))
   part_goes_on (Some f) e lane under v (Some g) w b h s = laws.goes_on f e lane under v g w b h s
   part_goes_on (Some f) e lane under v None w b h s = absurd s
   part_goes_on None e lane under v (Some g) w b h s = absurd s
@@ -295,3 +304,20 @@ module _ {F : Type 0} {has : F → Answers → Type 0} {steps : FilterSteps F} {
   -- an optional filter
   pub part_laws : FilterLaws (HasPart has) (StepsPart steps) (ActsPart acts)
   part_laws = record { honest = part_honest; keeps = part_keeps; plain = part_plain; now = part_now; only = part_only; goes_on = part_goes_on }
+
+module _ {F : Type 0} {has : F → Answers → Type 0} {levelled : FilterLevelSteps F} {acts : F → Conduct → Type 0} (laws : FilterLevelLaws has levelled acts) where
+  part_levels_answer : (f : Option F) (l : LevelFilter) (g : Option F) (a : Answers) → LevelsPart levelled f l g → HasPart has f a → (b : Answers) × HasPart has g b
+  part_levels_answer (Some f) l (Some g) a s h = laws.answers f l g a s h
+  part_levels_answer None l None a s h = (a, h)
+  part_levels_answer (Some f) l None a s h = absurd s
+  part_levels_answer None l (Some g) a s h = absurd s
+
+  part_levels_act : (f : Option F) (l : LevelFilter) (g : Option F) (b : Conduct) → LevelsPart levelled f l g → ActsPart acts f b → ActsPart acts g (after_level l b)
+  part_levels_act (Some f) l (Some g) b s h = laws.goes_on f l g b s h
+  part_levels_act None l None b s h = ap (after_level l) h
+  part_levels_act (Some f) l None b s h = absurd s
+  part_levels_act None l (Some g) b s h = absurd s
+
+  -- an optional filter takes the level of the filter that it holds
+  pub part_levels : FilterLevelLaws (HasPart has) (LevelsPart levelled) (ActsPart acts)
+  part_levels = record { answers = part_levels_answer; goes_on = part_levels_act }

@@ -3,8 +3,10 @@ use Rattle.std.specs.Prelude.{◌≡◌, ℕ, Bool, [], ◌∷◌, refl}
 use Rattle.std.proofs.Common.{ap, sym, subst}
 use Rattle.span_core.specs.Filters.{FilterSet}
 use Rattle.span_core.specs.declared.event.Event.{Event}
+use Rattle.span_core.specs.declared.level.LevelFilter.{LevelFilter}
 use Rattle.span_core.specs.declared.metadata.Metadata.{Metadata}
-use Rattle.span_registry.specs.Answers.{AnswerAlike, Answers, AreHonest, ArePlain, Conduct, IsPlain, Notice, SameInterestAndHint}
+use Rattle.span_registry.specs.Answers.{AnswerAlike, Answers, AreHonest, ArePlain, Conduct, IsPlain, Notice, SameInterestAndHint, OfNotice}
+use Rattle.span_registry.specs.Conducts.{after_level}
 use Rattle.span_registry.specs.Context.{filters_lent, lane_lent, subscriber_lent}
 use Rattle.span_registry.specs.Store.{RegistryState}
 use Rattle.span_registry.specs.View.{View, view_of}
@@ -47,7 +49,27 @@ pub record FilterLaws {F : Type 0} (has_answers : F → Answers → Type 0) (hoo
   pub plain : (f : F) (b : Conduct) → acts f b → IsPlain b
   pub now : (f : F) (b : Conduct) → acts f b → has_answers f (b [])
   pub only : (f : F) (a : Answers) (b : Conduct) → has_answers f a → acts f b → AnswerAlike a (b [])
-  pub goes_on : (f : F) (e : Notice) (lane : ℕ) (under : FilterSet) (v : RegistryState) (g : F) (w : RegistryState) (b : Conduct) → acts f b → hooked f e lane under v g w → acts g (λ h. b ((e, view_of v.store lane under) ∷ h))
+  pub goes_on : (f : F) (e : Notice) (lane : ℕ) (under : FilterSet) (v : RegistryState) (g : F) (w : RegistryState) (b : Conduct) → acts f b → hooked f e lane under v g w → acts g (λ h. b (OfNotice e (view_of v.store lane under) ∷ h))
+
+-- how a filter goes on when its level is set: which filter becomes which by this level; where it takes none, it stays as it is
+abbrev pub FilterLevelSteps : Type 0 → Type 1
+FilterLevelSteps F = F → LevelFilter → F → Type 0
+
+-- it takes no level
+abbrev pub unlevelled : {F : Type 0} → FilterLevelSteps F
+unlevelled f l g = g ≡ f
+
+-- the law of levels of every filter: it has answers afterwards, which are honest as all are that it has; and its conduct goes on with the level, so that it is plain where it was
+pub record FilterLevelLaws {F : Type 0} (has_answers : F → Answers → Type 0) (levelled : FilterLevelSteps F) (acts : F → Conduct → Type 0) : Type 0 where
+  pub answers : (f : F) (l : LevelFilter) (g : F) (a : Answers) → levelled f l g → has_answers f a → (b : Answers) × has_answers g b
+  pub goes_on : (f : F) (l : LevelFilter) (g : F) (b : Conduct) → levelled f l g → acts f b → acts g (after_level l b)
+
+-- a filter that takes no level keeps it, if its conduct doesn't go by levels
+pub unlevelled_laws : {F : Type 0} {has : F → Answers → Type 0} {acts : F → Conduct → Type 0} → ((f : F) (l : LevelFilter) (b : Conduct) → acts f b → acts f (after_level l b)) → FilterLevelLaws has unlevelled acts
+unlevelled_laws {has = has} {acts = acts} same = record {
+  answers = λ f l g a s h. (a, subst (λ k. has k a) (sym s) h);
+  goes_on = λ f l g b s h. subst (λ k. acts k (after_level l b)) (sym s) (same f l b h);
+}
 
 -- it always answers so, and extensions make no difference to that
 pub record ActsSteadily {F : Type 0} (has : F → Answers → Type 0) (f : F) (conduct : Conduct) : Type 0 where
@@ -77,9 +99,13 @@ still_laws has honest = record {
     answered = subst (λ k. has k h.always) (sym s.0) h.answered;
     only = λ a d. h.only a (subst (λ k. has k a) s.0 d);
     plain = h.plain;
-    steady = ap (λ c k. c ((e, view_of v.store lane under) ∷ k)) h.steady;
+    steady = ap (λ c k. c (OfNotice e (view_of v.store lane under) ∷ k)) h.steady;
   };
 }
+
+-- and keeps the law of levels, as it takes none
+pub steady_levels : {F : Type 0} {has : F → Answers → Type 0} → FilterLevelLaws has unlevelled (ActsSteadily has)
+steady_levels = unlevelled_laws (λ f l b h. record { always = h.always; answered = h.answered; only = h.only; plain = h.plain; steady = ap (after_level l) h.steady })
 
 -- a filter whose state settles its answers
 abbrev pub settled_answers : {F : Type 0} → (F → Answers) → F → Answers → Type 0

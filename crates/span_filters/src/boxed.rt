@@ -1,9 +1,9 @@
 //! Boxed filters: filters whose type is picked while the program runs.
-ghost use Rattle.span_filters.specs.Boxed.{ActsPlainly, AnswersHonestly, KeepsLaw, StepsInside, StepsLawfully, itself, object_laws, replaced};
-ghost use Rattle.span_filters.specs.Filter.{FilterSteps, Notified, Says, SaysEnabled, SaysEvent};
+ghost use Rattle.span_filters.specs.Boxed.{ActsPlainly, AnswersHonestly, KeepsLaw, KeepsLevelLaw, LevelsInside, LevelsLawfully, StepsInside, StepsLawfully, itself, object_laws, object_levels, replaced};
+ghost use Rattle.span_filters.specs.Filter.{FilterLevelSteps, FilterSteps, Notified, Says, SaysEnabled, SaysEvent};
 ghost use Rattle.span_registry.specs.Answers.{Answers, Conduct, OnClose, OnEnter, OnExit, OnNewSpan, OnRecord};
 ghost use Rattle.span_registry.specs.Context.{WritesExtensions, view_in, view_lent};
-ghost use Rattle.std.specs.Prelude.{◌≡◌};
+ghost use Rattle.std.specs.Prelude.{◌≡◌, false};
 
 use crate::filter::Filter;
 use span_core::{Attributes, Event, Id, Interest, LevelFilter, Metadata, Record};
@@ -23,7 +23,10 @@ pub trait DynFilter: Drop {
     /// How it goes on when it is notified.
     ghost dyn_hooked: { FilterSteps Self };
 
-    /// How it will answer after each list of notices.
+    /// How it goes on when its level is set.
+    ghost dyn_levelled: { FilterLevelSteps Self };
+
+    /// How it will answer after each list of notices and levels.
     ghost dyn_acts: { Self → Conduct → Type 0 };
 
     /// Whether it wants a span or an event with this metadata.
@@ -90,6 +93,15 @@ pub trait DynFilter: Drop {
         ensures hook { Notified dyn_hooked itself (OnClose id) self.old ctx.old self.new ctx.new }
         ensures keeps { KeepsLaw dyn_answers dyn_acts (OnClose id) (view_lent itself ctx.old) self.old self.new }
         ensures written { WritesExtensions itself replaced ctx.old ctx.new };
+
+    /// Sets its level, and answers whether it takes one. Else nothing changes.
+    fn dyn_set_level(&mut self, level: LevelFilter) -> bool
+        requires { dyn_usable self.old }
+        ensures usable { dyn_usable self.new }
+        ensures taken { Says (dyn_answers self.old) (λ a. a.takes level) result }
+        ensures level { dyn_levelled self.old level self.new }
+        ensures keeps { KeepsLevelLaw dyn_answers dyn_acts level self.old self.new }
+        ensures unchanged { result ≡ false → self.new ≡ self.old };
 }
 
 impl<F: Filter<Registry> + Drop> DynFilter for F {
@@ -98,6 +110,8 @@ impl<F: Filter<Registry> + Drop> DynFilter for F {
     ghost dyn_answers = { F.has_answers };
 
     ghost dyn_hooked = { F.hooked };
+
+    ghost dyn_levelled = { F.levelled };
 
     ghost dyn_acts = { F.acts };
 
@@ -141,6 +155,10 @@ impl<F: Filter<Registry> + Drop> DynFilter for F {
     fn dyn_on_close(&mut self, id: Id, ctx: &mut ContextMut<'_, Registry>) {
         self.on_close(id, ctx);
     }
+
+    fn dyn_set_level(&mut self, level: LevelFilter) -> bool {
+        self.set_level(level)
+    }
 }
 
 /// A filter in a box, which adds nothing to it. It is a filter over each subscriber: what it is asked and notified of, the
@@ -170,9 +188,13 @@ impl<S: LookupSpan> Filter<S> for BoxedFilter {
 
     ghost hooked = { StepsLawfully (λ f. (DynFilter-box f.object).dyn_answers f.object.value) (StepsInside (λ f. (DynFilter-box f.object).dyn_hooked)) (λ f. (DynFilter-box f.object).dyn_acts f.object.value) };
 
+    ghost levelled = { LevelsLawfully (λ f. (DynFilter-box f.object).dyn_answers f.object.value) (LevelsInside (λ f. (DynFilter-box f.object).dyn_levelled)) (λ f. (DynFilter-box f.object).dyn_acts f.object.value) };
+
     ghost acts = { λ f. ActsPlainly ((DynFilter-box f.object).dyn_answers f.object.value) ((DynFilter-box f.object).dyn_acts f.object.value) };
 
     ghost laws = { object_laws };
+
+    ghost levels = { object_levels };
 
     fn enabled(&self, meta: &Metadata, cx: &Context<'_, S>) -> bool {
         self.object.dyn_enabled(meta, &cx.to_root())
@@ -220,6 +242,10 @@ impl<S: LookupSpan> Filter<S> for BoxedFilter {
         let mut root = ctx.take_root();
         self.object.dyn_on_close(id, &mut ctx.over(&mut root));
         ctx.put_root(root);
+    }
+
+    fn set_level(&mut self, level: LevelFilter) -> bool {
+        self.object.dyn_set_level(level)
     }
 }
 

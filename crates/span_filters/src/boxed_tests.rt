@@ -1,6 +1,6 @@
 //! Tests of boxed filters: a box adds nothing to the filter in it.
-ghost use Rattle.span_filters.specs.Filter.{ActsSteadily, settled_answers, settled_laws};
-ghost use Rattle.span_filters.specs.Tests.{if_answers, in_span_answers, in_span_honest, since_entered, since_laws, wanted_after};
+ghost use Rattle.span_filters.specs.Filter.{ActsSteadily, settled_answers, settled_laws, steady_levels};
+ghost use Rattle.span_filters.specs.Tests.{if_answers, in_span_answers, in_span_honest, since_entered, since_laws, since_levels, wanted_after};
 ghost use Rattle.std.specs.Prelude.{◌≡◌};
 
 use crate::boxed::{BoxedFilter, DynFilter};
@@ -103,6 +103,8 @@ impl<S: LookupSpan> Filter<S> for InSpan {
 
     ghost laws = { settled_laws (λ f. in_span_answers) (λ f. in_span_honest) };
 
+    ghost levels = { steady_levels };
+
     fn enabled(&self, _meta: &Metadata, cx: &Context<'_, S>) -> bool {
         cx.lookup_current().is_some()
     }
@@ -128,6 +130,10 @@ impl<S: LookupSpan> Filter<S> for InSpan {
     fn on_exit(&mut self, _id: Id, _ctx: &mut ContextMut<'_, S>) {}
 
     fn on_close(&mut self, _id: Id, _ctx: &mut ContextMut<'_, S>) {}
+
+    fn set_level(&mut self, _level: LevelFilter) -> bool {
+        false // It goes by no level.
+    }
 }
 
 #[test]
@@ -164,6 +170,8 @@ impl<S: LookupSpan> Filter<S> for SinceEntered {
 
     ghost laws = { since_laws (λ f. f.entered) };
 
+    ghost levels = { since_levels (λ f. f.entered) };
+
     fn enabled(&self, _meta: &Metadata, _cx: &Context<'_, S>) -> bool {
         self.entered
     }
@@ -191,6 +199,10 @@ impl<S: LookupSpan> Filter<S> for SinceEntered {
     fn on_exit(&mut self, _id: Id, _ctx: &mut ContextMut<'_, S>) {}
 
     fn on_close(&mut self, _id: Id, _ctx: &mut ContextMut<'_, S>) {}
+
+    fn set_level(&mut self, _level: LevelFilter) -> bool {
+        false // It goes by no level.
+    }
 }
 
 /// Notifies a filter that a span is entered.

@@ -1,7 +1,7 @@
 //! Filters made of closures.
 ghost use Rattle.std.specs.Prelude.{◌≡◌, None, Some, IfErr, IfOk, IfSome, IsOk};
 ghost use Rattle.span_core.specs.declared.error.TraceError.TheVariants.{OutOfMemory};
-ghost use Rattle.span_filters.specs.Filter.{ActsSteadily, CopiesAlike};
+ghost use Rattle.span_filters.specs.Filter.{ActsSteadily, CopiesAlike, steady_levels};
 ghost use Rattle.span_filters.specs.Closure.{ClosuresAre, HasTestAnswers, HasViewAnswers, TestsBy, TestsInBy, callsite_in, test_in, test_laws, view_hint_in, view_laws, view_test_in};
 
 use crate::filter::Filter;
@@ -83,6 +83,8 @@ impl<S: LookupSpan, F: Function<Metadata, bool>> Filter<S> for FilterFn<F> {
 
     ghost laws = { test_laws F.gives };
 
+    ghost levels = { steady_levels };
+
     fn enabled(&self, meta: &Metadata, _cx: &Context<'_, S>) -> bool {
         self.enabled.apply(meta)
     }
@@ -112,6 +114,10 @@ impl<S: LookupSpan, F: Function<Metadata, bool>> Filter<S> for FilterFn<F> {
     fn on_exit(&mut self, _id: Id, _ctx: &mut ContextMut<'_, S>) {}
 
     fn on_close(&mut self, _id: Id, _ctx: &mut ContextMut<'_, S>) {}
+
+    fn set_level(&mut self, _level: LevelFilter) -> bool {
+        false // Its closure goes by no level.
+    }
 }
 
 impl<F> fmt::Debug for FilterFn<F> {
@@ -238,6 +244,8 @@ impl<S: LookupSpan, F: FunctionIn<Metadata, S, bool>, R: Function<Metadata, Inte
 
     ghost laws = { view_laws S.registry F.gives_in R.gives };
 
+    ghost levels = { steady_levels };
+
     fn enabled(&self, meta: &Metadata, cx: &Context<'_, S>) -> bool {
         self.enabled.apply_in(meta, cx)
     }
@@ -269,6 +277,10 @@ impl<S: LookupSpan, F: FunctionIn<Metadata, S, bool>, R: Function<Metadata, Inte
     fn on_exit(&mut self, _id: Id, _ctx: &mut ContextMut<'_, S>) {}
 
     fn on_close(&mut self, _id: Id, _ctx: &mut ContextMut<'_, S>) {}
+
+    fn set_level(&mut self, _level: LevelFilter) -> bool {
+        false // Its closure goes by no level.
+    }
 }
 
 impl<F, R> fmt::Debug for DynFilterFn<F, R> {

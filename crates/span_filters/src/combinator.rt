@@ -1,7 +1,7 @@
 //! Filters made of filters.
-ghost use Rattle.span_filters.specs.Combinator.{ActsBoth, ActsOne, ActsPart, AndPartsAre, HasBoth, HasOne, HasPart, IsAnd, IsNot, IsOr, OrPartsAre, StepsBoth, StepsPart, and_answers, first_of_and, first_of_or, not_answers, or_answers, part_of_not, second_of_and, second_of_or};
+ghost use Rattle.span_filters.specs.Combinator.{ActsBoth, ActsOne, ActsPart, AndPartsAre, HasBoth, HasOne, HasPart, IsAnd, IsNot, IsOr, LevelsPart, OrPartsAre, StepsBoth, StepsPart, and_answers, first_of_and, first_of_or, not_answers, or_answers, part_of_not, second_of_and, second_of_or};
 ghost use Rattle.span_core.specs.Level.{greater, lesser};
-ghost use Rattle.span_filters.specs.CombinatorLaws.{and_alike, not_alike, or_alike, and_honest, and_plain, and_same, both_laws, not_honest, not_plain, not_same, one_laws, part_laws, or_honest, or_plain, or_same};
+ghost use Rattle.span_filters.specs.CombinatorLaws.{and_alike, not_alike, or_alike, and_honest, and_plain, and_same, both_laws, both_levels, not_honest, not_plain, not_same, one_laws, one_levels, part_laws, part_levels, or_honest, or_plain, or_same};
 ghost use Rattle.span_core.specs.declared.error.TraceError.TheVariants.{OutOfMemory};
 ghost use Rattle.span_filters.specs.Filter.{CopiesAlike};
 ghost use Rattle.std.specs.Prelude.{◌≡◌, IfErr, IfOk, IfSome, IsOk};
@@ -107,6 +107,8 @@ impl<S: LookupSpan, A: Filter<S>> Filter<S> for Not<A> {
 
     ghost laws = { one_laws not_answers (λ f. f.a) A.laws not_honest not_same not_plain not_alike };
 
+    ghost levels = { one_levels (λ f. f.a) };
+
     fn enabled(&self, meta: &Metadata, cx: &Context<'_, S>) -> bool {
         !self.a.enabled(meta, cx)
     }
@@ -146,6 +148,10 @@ impl<S: LookupSpan, A: Filter<S>> Filter<S> for Not<A> {
     fn on_close(&mut self, id: Id, ctx: &mut ContextMut<'_, S>) {
         self.a.on_close(id, ctx);
     }
+
+    fn set_level(&mut self, _level: LevelFilter) -> bool {
+        false // Its part has no number of its own.
+    }
 }
 
 impl<S: LookupSpan, A: Filter<S>, B: Filter<S>> Filter<S> for And<A, B> {
@@ -158,6 +164,8 @@ impl<S: LookupSpan, A: Filter<S>, B: Filter<S>> Filter<S> for And<A, B> {
     ghost acts = { λ f b. ActsBoth and_answers A.acts B.acts f.a f.b b };
 
     ghost laws = { both_laws and_answers (λ f. f.a) (λ f. f.b) A.laws B.laws and_honest and_same and_plain and_alike };
+
+    ghost levels = { both_levels (λ f. f.a) (λ f. f.b) };
 
     fn enabled(&self, meta: &Metadata, cx: &Context<'_, S>) -> bool {
         if !self.a.enabled(meta, cx) {
@@ -221,6 +229,10 @@ impl<S: LookupSpan, A: Filter<S>, B: Filter<S>> Filter<S> for And<A, B> {
         self.a.on_close(id, ctx);
         self.b.on_close(id, ctx);
     }
+
+    fn set_level(&mut self, _level: LevelFilter) -> bool {
+        false // Its parts have no numbers of their own.
+    }
 }
 
 impl<S: LookupSpan, A: Filter<S>, B: Filter<S>> Filter<S> for Or<A, B> {
@@ -233,6 +245,8 @@ impl<S: LookupSpan, A: Filter<S>, B: Filter<S>> Filter<S> for Or<A, B> {
     ghost acts = { λ f b. ActsBoth or_answers A.acts B.acts f.a f.b b };
 
     ghost laws = { both_laws or_answers (λ f. f.a) (λ f. f.b) A.laws B.laws or_honest or_same or_plain or_alike };
+
+    ghost levels = { both_levels (λ f. f.a) (λ f. f.b) };
 
     fn enabled(&self, meta: &Metadata, cx: &Context<'_, S>) -> bool {
         if self.a.enabled(meta, cx) {
@@ -298,6 +312,10 @@ impl<S: LookupSpan, A: Filter<S>, B: Filter<S>> Filter<S> for Or<A, B> {
         self.a.on_close(id, ctx);
         self.b.on_close(id, ctx);
     }
+
+    fn set_level(&mut self, _level: LevelFilter) -> bool {
+        false // Its parts have no numbers of their own.
+    }
 }
 
 impl<A: fmt::Debug> fmt::Debug for Not<A> {
@@ -341,9 +359,13 @@ impl<S: LookupSpan, F: Filter<S>> Filter<S> for Option<F> {
 
     ghost hooked = { StepsPart F.hooked };
 
+    ghost levelled = { LevelsPart F.levelled };
+
     ghost acts = { ActsPart F.acts };
 
     ghost laws = { part_laws F.laws };
+
+    ghost levels = { part_levels F.levels };
 
     fn enabled(&self, meta: &Metadata, cx: &Context<'_, S>) -> bool {
         match self {
@@ -400,6 +422,13 @@ impl<S: LookupSpan, F: Filter<S>> Filter<S> for Option<F> {
     fn on_close(&mut self, id: Id, ctx: &mut ContextMut<'_, S>) {
         if let Some(filter) = self {
             filter.on_close(id, ctx);
+        }
+    }
+
+    fn set_level(&mut self, level: LevelFilter) -> bool {
+        match self {
+            Some(filter) => filter.set_level(level),
+            None => false,
         }
     }
 }

@@ -1,5 +1,5 @@
 //! Tests of filters made of filters: rows of their tables.
-ghost use Rattle.span_filters.specs.Filter.{ActsSteadily, settled_answers, settled_laws};
+ghost use Rattle.span_filters.specs.Filter.{ActsSteadily, settled_answers, settled_laws, steady_levels};
 ghost use Rattle.span_filters.specs.Tests.{mute_answers, mute_honest};
 
 use crate::closure::{dynamic_filter_fn, filter_fn};
@@ -48,6 +48,8 @@ impl<S: LookupSpan> Filter<S> for Mute {
 
     ghost laws = { settled_laws (λ f. mute_answers) (λ f. mute_honest) };
 
+    ghost levels = { steady_levels };
+
     fn enabled(&self, _meta: &Metadata, _cx: &Context<'_, S>) -> bool {
         true
     }
@@ -73,6 +75,10 @@ impl<S: LookupSpan> Filter<S> for Mute {
     fn on_exit(&mut self, _id: Id, _ctx: &mut ContextMut<'_, S>) {}
 
     fn on_close(&mut self, _id: Id, _ctx: &mut ContextMut<'_, S>) {}
+
+    fn set_level(&mut self, _level: LevelFilter) -> bool {
+        false // It goes by no level.
+    }
 }
 
 /// Whether a filter wants an event at this level.

@@ -1,6 +1,6 @@
 //! What every filter answers, and what it is notified of.
-ghost use Rattle.std.specs.Prelude.{⊤};
-ghost use Rattle.span_filters.specs.Filter.{FilterLaws, FilterSteps, Notified, Says, SaysEnabled, SaysEvent, unmoved};
+ghost use Rattle.std.specs.Prelude.{◌≡◌, ⊤, false};
+ghost use Rattle.span_filters.specs.Filter.{FilterLaws, FilterLevelLaws, FilterLevelSteps, FilterSteps, Notified, Says, SaysEnabled, SaysEvent, unlevelled, unmoved};
 ghost use Rattle.span_registry.specs.Answers.{Answers, Conduct, OnClose, OnEnter, OnExit, OnNewSpan, OnRecord};
 ghost use Rattle.span_registry.specs.Context.{WritesExtensions, view_in};
 
@@ -25,7 +25,10 @@ pub trait Filter<S: LookupSpan> {
     /// How it goes on when it is notified. By default it stays as it is, and writes nothing.
     ghost hooked: { FilterSteps Self } = { unmoved };
 
-    /// How it will answer after each list of notices. Only a filter to which extensions make no difference has such a conduct:
+    /// How it goes on when its level is set. By default it takes none, and stays as it is.
+    ghost levelled: { FilterLevelSteps Self } = { unlevelled };
+
+    /// How it will answer after each list of notices and levels. Only a filter to which extensions make no difference has such a conduct:
     /// it is plain.
     ghost acts: { Self → Conduct → Type 0 };
 
@@ -84,6 +87,19 @@ pub trait Filter<S: LookupSpan> {
         ensures hook { Notified hooked S.registry (OnClose id) self.old ctx.old self.new ctx.new }
         ensures written { WritesExtensions S.registry S.with_registry ctx.old ctx.new };
 
+    /// Sets its level, and answers whether it takes one. Else nothing changes.
+    ///
+    /// Own to this port.
+    fn set_level(&mut self, level: LevelFilter) -> bool
+        requires { usable self.old }
+        ensures usable { usable self.new }
+        ensures taken { Says (has_answers self.old) (λ a. a.takes level) result }
+        ensures level { levelled self.old level self.new }
+        ensures unchanged { result ≡ false → self.new ≡ self.old };
+
     /// Its answers are honest, hooks keep interest and hint, and it is plain where it says so.
     ghost laws: { FilterLaws has_answers hooked acts };
+
+    /// It has honest answers after a level too, and is plain where it was.
+    ghost levels: { FilterLevelLaws has_answers levelled acts };
 }

@@ -1,7 +1,7 @@
 //! Filters that are plain. The functions make no call: what they ensure is the law.
 ghost use Rattle.span_filters.specs.Closure.{AnswersAllIn, test_plain, view_plain, view_test_in};
 ghost use Rattle.span_filters.specs.Filter.{IsSteady, MayBeSteady};
-ghost use Rattle.span_filters.specs.Level.{level_answers, level_plain};
+ghost use Rattle.span_filters.specs.Level.{level_conduct};
 
 use crate::closure::{DynFilterFn, FilterFn};
 use crate::filter::Filter;
@@ -9,9 +9,9 @@ use crate::function::{Function, FunctionIn};
 use span_core::{Interest, LevelFilter, Metadata};
 use span_registry::LookupSpan;
 
-/// A filter by level always answers as it does, whatever the extensions.
+/// A filter by level answers by the last level that it took, whatever the extensions.
 pub fn levels_are_plain<S: LookupSpan>(filter: &LevelFilter)
-    ensures { ⟦<LevelFilter as Filter<S>>⟧.acts filter.now (λ h. level_answers filter.now) }
+    ensures { ⟦<LevelFilter as Filter<S>>⟧.acts filter.now (level_conduct filter.now) }
 {}
 
 /// A filter by a test of metadata always answers as it does, whatever the extensions.

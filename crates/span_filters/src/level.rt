@@ -1,6 +1,6 @@
 //! A filter by level.
-ghost use Rattle.span_filters.specs.Filter.{ActsSteadily, settled_answers, settled_laws};
-ghost use Rattle.span_filters.specs.Level.{level_answers, level_honest};
+ghost use Rattle.span_filters.specs.Filter.{settled_answers};
+ghost use Rattle.span_filters.specs.Level.{ActsByLevel, level_answers, level_laws, level_levels, level_taken};
 
 use crate::filter::Filter;
 use span_core::{Attributes, Event, Id, Interest, LevelFilter, Metadata, Record};
@@ -9,9 +9,13 @@ use span_registry::{Context, ContextMut, LookupSpan};
 impl<S: LookupSpan> Filter<S> for LevelFilter {
     ghost has_answers = { settled_answers level_answers };
 
-    ghost acts = { ActsSteadily (settled_answers level_answers) };
+    ghost levelled = { level_taken };
 
-    ghost laws = { settled_laws level_answers level_honest };
+    ghost acts = { ActsByLevel };
+
+    ghost laws = { level_laws };
+
+    ghost levels = { level_levels };
 
     fn enabled(&self, meta: &Metadata, _cx: &Context<'_, S>) -> bool {
         self.passes(meta.level())
@@ -42,4 +46,9 @@ impl<S: LookupSpan> Filter<S> for LevelFilter {
     fn on_exit(&mut self, _id: Id, _ctx: &mut ContextMut<'_, S>) {}
 
     fn on_close(&mut self, _id: Id, _ctx: &mut ContextMut<'_, S>) {}
+
+    fn set_level(&mut self, level: LevelFilter) -> bool {
+        *self = level;
+        true
+    }
 }

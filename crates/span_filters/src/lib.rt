@@ -13,6 +13,8 @@ mod function;
 pub mod laws;
 mod level;
 #[cfg(test)]
+mod level_tests;
+#[cfg(test)]
 mod tests;
 
 pub use boxed::{BoxedFilter, DynFilter};

@@ -7,13 +7,19 @@ use Rattle.std.specs.Option.{option_map_or}
 use Rattle.std.specs.Ordering.{eq_by_cmp, nat_cmp}
 use Rattle.span_core.proofs.FilterLemmas.{meets-union}
 use Rattle.span_core.proofs.SomeBelow.{some_below-found, some_below-none}
-use Rattle.span_core.specs.Filters.{FilterSet, is_enabled, meets, refuses, union}
+use Rattle.span_core.specs.Filters.{FilterSet, has_filter, is_enabled, meets, refuses, union}
 use Rattle.span_core.specs.Span.{number_of}
 use Rattle.span_core.specs.declared.filter.FilterId.{FilterId}
 use Rattle.span_core.specs.declared.filter.FilterMap.{FilterMap}
 use Rattle.span_core.specs.declared.number_set.TheConstants.{LIMIT}
 use Rattle.span_core.specs.declared.span.Id.{Id}
-use Rattle.span_layers.specs.Filtered.{IsNumber}
+use Rattle.span_layers.specs.ActsKept.{numbered_alone}
+use Rattle.span_layers.specs.Filtered.{FilteredForm, IsNumber}
+use Rattle.span_registry.specs.Answers.{Answers}
+use Rattle.span_registry.specs.Form.{Filtered, Form}
+use Rattle.span_registry.specs.Levels.{takes_level}
+use Rattle.span_core.specs.declared.level.LevelFilter.{LevelFilter}
+use Rattle.std.specs.Prelude.{if◌then◌else◌}
 use Rattle.span_registry.specs.Context.{is_enabled_in}
 use Rattle.span_registry.specs.Plan.{is_passed}
 use Rattle.span_registry.specs.Question.{single}
@@ -99,3 +105,16 @@ pub passed_where_enabled : (id : FilterId) (s : Store) (lane : ℕ) (set : Filte
 passed_where_enabled id s lane set x n h =
     clear_of_both id set n (get s.spans (number_of x)) h
     ∙ ap (λ (b : Bool). b && is_open_to id (get s.spans (number_of x))) (sym (shown_where_passed s set x))
+
+-- ---- which filter takes a level
+
+module _ (id : FilterId) (answers : Answers → Type 0) (layer : Form → Type 0) (n : ℕ) (l : LevelFilter) (said : Bool) where
+  -- the filter itself, where it has the number
+  pub takes_itself : has_filter id n ≡ true → ((a : Answers) → answers a → said ≡ a.takes l) → (f : Form) → FilteredForm id answers layer f → said ≡ takes_level f n l
+  takes_itself own says (Filtered m a f) h = says a h.1 ∙ ap (λ (t : Bool). if t then a.takes l else takes_level f n l) (sym own ∙ ap (λ (k : FilterSet). k n) (numbered_alone id m h.0))
+  takes_itself own says f h = absurd h
+
+  -- else what stands under it
+  pub takes_under : has_filter id n ≡ false → ((f : Form) → layer f → said ≡ takes_level f n l) → (f : Form) → FilteredForm id answers layer f → said ≡ takes_level f n l
+  takes_under none says (Filtered m a f) h = says f h.2 ∙ ap (λ (t : Bool). if t then a.takes l else takes_level f n l) (sym none ∙ ap (λ (k : FilterSet). k n) (numbered_alone id m h.0))
+  takes_under none says f h = absurd h

@@ -1,10 +1,11 @@
 -- What a layer under a filter answers: the filter first, and then the layer under the filter too, where the filter passes what is asked.
 use Rattle.std.proofs.Common.{◌≡◌, ℕ, Bool, true, false, not, ◌↔◌, IsTrue, Option, Some, None, refl, sym, ap, subst, ◌∙◌}
-use Rattle.std.proofs.lemmas.Bool.{false≢true}
+use Rattle.std.proofs.lemmas.Bool.{false≢true, true≢false}
 use Rattle.std.specs.Borrow.{Bor}
 use Rattle.std.specs.Option.{option_copied, option_map_or}
-use Rattle.std.specs.Prelude.{if◌then◌else◌}
-use Rattle.span_core.specs.Filters.{FilterSet, SetsFilters, has_filter, is_attached, is_enabled, union}
+use Rattle.std.specs.Prelude.{if◌then◌else◌, ◌&&◌}
+use Rattle.span_core.proofs.FilterLemmas.{ids_below, meets-member}
+use Rattle.span_core.specs.Filters.{FilterSet, SetsFilters, has_filter, is_attached, is_enabled, is_hidden, refuses, union}
 use Rattle.span_core.specs.Interest.{sum_with}
 use Rattle.span_core.specs.Pass.{interest_sum, refused_of}
 use Rattle.span_core.specs.declared.event.Event.{Event}
@@ -106,6 +107,26 @@ module _ (id : FilterId) (e : Event) (s : Store) (lane : ℕ) (under : FilterSet
   pub passed_before : {map : FilterMap} → map ≡ refused_of old → true ≡ is_enabled map id → (n : ℕ) → IsNumber id (Some n) → (a : Answers) (f : Form)
       → event_asked (Filtered (Some n) a f) e s lane under (refusals old) ≡ asked_now n a f
   passed_before same out n h a f = ap (λ (b : Bool). if b then (true, refusals old) else asked_now n a f) (refuses_at id n true h same out)
+
+-- a filter that is enabled is none of those that refused: that it passes what is asked changes nothing
+attached_and_clear : (attached hidden : Bool) → true ≡ (attached && not hidden) → hidden ≡ false
+attached_and_clear true true e = absurd (true≢false e)
+attached_and_clear true false e = refl
+attached_and_clear false hidden e = absurd (true≢false e)
+
+is_not_true : (b : Bool) → (b ≡ true → ⊥) → b ≡ false
+is_not_true true h = absurd (h refl)
+is_not_true false h = refl
+
+taken_out : (b r : Bool) → (b ≡ true → r ≡ false) → r ≡ (if b then false else r)
+taken_out true r h = h refl
+taken_out false r h = refl
+
+pub none_refused : (id : FilterId) (old : Pass) {map : FilterMap} → map ≡ refused_of old → true ≡ is_enabled map id → SetsFilters (refused_of old) (refused_of old) id true
+none_refused id old same enabled n =
+    let clear : is_hidden id (refused_of old) ≡ false = attached_and_clear (is_attached id) (is_hidden id (refused_of old)) (enabled ∙ ap (λ (m : FilterMap). is_enabled m id) same) in
+    let common = meets-member (has_filter id) (refuses (refused_of old)) in
+    taken_out (has_filter id n) (refuses (refused_of old) n) (λ t. is_not_true (refuses (refused_of old) n) (λ r. false≢true (sym clear ∙ common.1 (n, (ids_below id n t, t, r)))))
 
 -- ---- interests
 

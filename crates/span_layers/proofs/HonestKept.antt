@@ -1,18 +1,15 @@
--- A stack that keeps what it has of its form stays honest, and keeps its interest and its hint. Metadata that show the same are of the same interest.
-use Rattle.std.proofs.Common.{◌≡◌, ℕ, Bool, ◌||◌, ◌==◌, Option, Some, None, if◌then◌else◌, refl, sym, ap, subst, ◌∙◌}
-use Rattle.std.specs.Prelude.{IsTrue}
-use Rattle.span_core.specs.Filters.{FilterSet}
+-- A stack that keeps what it has of its form keeps its interest and its hint. Metadata that show the same are of the same interest.
+use Rattle.std.proofs.Common.{◌≡◌, ℕ, Bool, ◌||◌, Option, Some, None, if◌then◌else◌, refl, sym, subst}
 use Rattle.span_core.specs.Level.{wider_hint}
 use Rattle.span_core.specs.Metadata.{ShowSame}
 use Rattle.span_core.specs.declared.interest.Interest.TheVariants.{Always}
 use Rattle.span_core.specs.declared.interest.Interest.{Interest}
 use Rattle.span_core.specs.declared.metadata.Metadata.{Metadata}
 use Rattle.span_core.specs.Interest.{sum_with}
-use Rattle.span_layers.specs.Honest.{HasHonestAnswers, HonestyIsKept, both_full, is_full, is_missing, is_stack, makes_stack}
-use Rattle.span_layers.specs.Verdict.{AreDistinct, IsOrderly, IsQuiet, numbers_of}
+use Rattle.span_layers.specs.Honest.{HasHonestAnswers}
 use Rattle.span_registry.specs.Answers.{Answers, AreHonest, SameInterestAndHint}
 use Rattle.span_registry.specs.Follows.{AnswersKeep, Keeps}
-use Rattle.span_registry.specs.Form.{Absent, Bare, Base, End, Filtered, Form, InList, InPair, IsStill, Joint, Leaf, OnSubscriber, Over, Void, both_marked, is_absent, is_base, is_end, is_marked}
+use Rattle.span_registry.specs.Form.{Absent, Bare, Base, End, Filtered, Form, InList, InPair, Joint, Leaf, OnSubscriber, Over, Void, both_marked, is_absent, is_base, is_end, is_marked}
 use Rattle.span_registry.specs.Question.{hint_by, hint_of, interest_of, is_calm, is_never, joint_interest}
 
 -- what a form keeps, part by part
@@ -40,84 +37,11 @@ kept (Bare v) (Leaf quiet b) h = absurd h
 kept (Bare v) (Filtered m b g) h = absurd h
 kept (Bare v) (Over l p j) h = absurd h
 
-answers_kept : {f g : Form} → Kept f g → HasHonestAnswers f → HasHonestAnswers g
-answers_kept (KeptLeaf k) h = k.honest h
-answers_kept (KeptFiltered same own k) h = (own h.0, answers_kept k h.1)
-answers_kept (KeptOver k l) h = (answers_kept k h.0, answers_kept l h.1)
-answers_kept KeptBare h = tt
-
-numbers_kept : {f g : Form} → Kept f g → numbers_of g ≡ numbers_of f
-numbers_kept (KeptLeaf k) = refl
-numbers_kept (KeptFiltered {n = None} same own k) = numbers_kept k
-numbers_kept (KeptFiltered {n = Some n} same own k) = λ i j. (j == n) || numbers_kept k i j
-numbers_kept (KeptOver k l) = λ i j. numbers_kept k i j || numbers_kept l i j
-numbers_kept KeptBare = refl
-
-distinct_kept : {f g : Form} → Kept f g → AreDistinct f → AreDistinct g
-distinct_kept (KeptLeaf k) h = tt
-distinct_kept (KeptFiltered {n = None} same own k) h = distinct_kept k h
-distinct_kept (KeptFiltered {n = Some n} same own k) h = (ap (λ (s : FilterSet). s n) (numbers_kept k) ∙ h.0, distinct_kept k h.1)
-distinct_kept (KeptOver k l) h =
-    (distinct_kept k h.0, distinct_kept l h.1, λ n e. ap (λ (s : FilterSet). s n) (numbers_kept l) ∙ h.2 n (sym (ap (λ (s : FilterSet). s n) (numbers_kept k)) ∙ e))
-distinct_kept KeptBare h = tt
-
-quiet_kept : {f g : Form} → Kept f g → IsQuiet f → IsQuiet g
-quiet_kept (KeptLeaf k) h = k.quiet h
-quiet_kept (KeptFiltered same own k) h = quiet_kept k h
-quiet_kept (KeptOver k l) h = (quiet_kept k h.0, quiet_kept l h.1)
-quiet_kept KeptBare h = tt
-
-orderly_kept : {f g : Form} → Kept f g → IsOrderly f → IsOrderly g
-orderly_kept (KeptLeaf k) h = tt
-orderly_kept (KeptFiltered same own k) h = quiet_kept k h
-orderly_kept (KeptOver {k = OnSubscriber} k l) h = (orderly_kept k h.0, orderly_kept l h.1)
-orderly_kept (KeptOver {k = InPair} k l) h = (orderly_kept k h.0, orderly_kept l h.1)
-orderly_kept (KeptOver {k = InList} k l) h = (quiet_kept k h.0, quiet_kept l h.1)
-orderly_kept KeptBare h = tt
-
-still_kept : {f g : Form} → Kept f g → IsStill f → IsStill g
-still_kept (KeptLeaf k) h = h
-still_kept (KeptFiltered same own k) h = still_kept k h
-still_kept (KeptOver k l) h = (still_kept k h.0, still_kept l h.1)
-still_kept KeptBare h = tt
-
 end_kept : {f g : Form} → Kept f g → is_end g ≡ is_end f
 end_kept (KeptLeaf k) = refl
 end_kept (KeptFiltered same own k) = refl
 end_kept (KeptOver k l) = refl
 end_kept KeptBare = refl
-
-missing_kept : {f g : Form} → Kept f g → is_missing g ≡ is_missing f
-missing_kept (KeptLeaf k) = refl
-missing_kept (KeptFiltered same own k) = refl
-missing_kept (KeptOver k l) = refl
-missing_kept KeptBare = refl
-
-full_kept : {f g : Form} → Kept f g → is_full g ≡ is_full f
-full_kept (KeptLeaf k) = refl
-full_kept (KeptFiltered same own k) = full_kept k
-full_kept (KeptOver {k = joint} k l) = λ i. both_full joint (full_kept k i) (end_kept l i) (full_kept l i)
-full_kept KeptBare = refl
-
-stack_kept : {f g : Form} → Kept f g → is_stack g ≡ is_stack f
-stack_kept (KeptLeaf k) = refl
-stack_kept (KeptFiltered same own k) = refl
-stack_kept (KeptOver {k = joint} k l) = λ i. makes_stack joint (missing_kept k i || full_kept k i) (stack_kept l i)
-stack_kept KeptBare = refl
-
-pub honesty_is_kept : HonestyIsKept
-honesty_is_kept f g filters h honest =
-    let k : Kept f g = kept f g h in
-    record {
-      answers = answers_kept k honest.answers;
-      numbers = record {
-        distinct = distinct_kept k honest.numbers.distinct;
-        handed_out = λ n e. honest.numbers.handed_out n (sym (ap (λ (s : FilterSet). s n) (numbers_kept k)) ∙ e);
-      };
-      orderly = orderly_kept k honest.orderly;
-      still = still_kept k honest.still;
-      stack = subst (λ b. IsTrue b) (sym (stack_kept k)) honest.stack;
-    }
 
 -- ---- interest and hint
 

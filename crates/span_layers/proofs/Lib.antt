@@ -4,6 +4,7 @@ mod FilterNumber
 mod FilteredHooks
 mod FilteredQuestions
 pub mod HonestKept
+pub mod RulesKept
 pub mod Hint
 pub mod Interest
 mod MemberLoops
@@ -11,6 +12,8 @@ mod MembersAsked
 mod MembersNotified
 mod MembersNumbered
 mod Number
+mod SameVec
 mod Parts
 pub mod Pass
+mod Takes
 mod VetoHint

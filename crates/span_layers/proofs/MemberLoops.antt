@@ -1,5 +1,5 @@
 -- Loops over the members of a list: what is left of it, and how its form stands to the whole one's.
-use Rattle.std.proofs.Common.{◌≡◌, ℕ, ◌+◌, ◌<◌, ◌≤◌, List, [], ◌∷◌, ◌++◌, length, get_or, set, take, drop, arith, sym, ap, subst, ◌∙◌}
+use Rattle.std.proofs.Common.{◌≡◌, ℕ, Bool, true, false, refl, ◌||◌, ◌+◌, ◌<◌, ◌≤◌, List, [], ◌∷◌, ◌++◌, length, get_or, set, take, drop, arith, sym, ap, subst, ◌∙◌}
 use Rattle.std.proofs.lemmas.List.Elements.{AllZip-push}
 use Rattle.std.proofs.lemmas.List.{drop-drop, drop-set-lt, drop_all, drop_more, take_all, take_more, take_more_set}
 use Rattle.std.specs.List.{AllZip}
@@ -69,3 +69,22 @@ module _ {L : Type 0} (all xs : List L) (i : ℕ) (same : drop i xs ≡ drop i a
 -- all members have
 pub zip_all : {L : Type 0} (R : L → L → Type 0) (all xs : List L) (i : ℕ) → length all ≤ i → length xs ≤ i → AllZip R (take i all) (take i xs) → AllZip R all xs
 zip_all R all xs i a b h = subst (λ l. AllZip R l xs) (take_all i all a) (subst (λ l. AllZip R (take i all) l) (take_all i xs b) h)
+
+-- ---- whether a member says yes
+
+-- one member more is asked: f is what the whole says, t what those before said, o what this one says, r what the rest says
+pub one_more : (t o r one both f : Bool) → one ≡ o → both ≡ (one || t) → f ≡ (t || (o || r)) → f ≡ (both || r)
+one_more true true r one both f a b e = e ∙ ap (λ k. k || r) (sym (b ∙ ap (λ k. k || true) a))
+one_more true false r one both f a b e = e ∙ ap (λ k. k || r) (sym (b ∙ ap (λ k. k || true) a))
+one_more false true r one both f a b e = e ∙ ap (λ k. k || r) (sym (b ∙ ap (λ k. k || false) a))
+one_more false false r one both f a b e = e ∙ ap (λ k. k || r) (sym (b ∙ ap (λ k. k || false) a))
+
+-- none is left
+pub none_more : (t f : Bool) → f ≡ (t || false) → t ≡ f
+none_more true f e = sym e
+none_more false f e = sym e
+
+-- neither of two says yes
+pub neither : (a b : Bool) → (a || b) ≡ false → (a ≡ false) × (b ≡ false)
+neither true b e = absurd (cc)
+neither false b e = (refl, e)

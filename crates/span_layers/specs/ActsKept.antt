@@ -111,7 +111,7 @@ has_none has None h = refl
 has_none has (Some a) h = absurd (cc)
 
 -- an id has the filter of its number, and none without a number
-numbered_alone : (id : FilterId) (n : Option ℕ) → IsNumber id n → has_filter id ≡ filter_numbered n
+pub numbered_alone : (id : FilterId) (n : Option ℕ) → IsNumber id n → has_filter id ≡ filter_numbered n
 numbered_alone id None h = λ i k. has_none (λ numbers. has_number numbers k) id.numbers h i
 numbered_alone id (Some n) h = h.1
 

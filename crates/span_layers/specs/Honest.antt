@@ -2,8 +2,8 @@
 use Rattle.std.specs.Prelude.{⊤, ℕ, Bool, true, false, ◌&&◌, ◌||◌, IsTrue}
 use Rattle.span_layers.specs.Verdict.{HasOwnNumbers, IsOrderly}
 use Rattle.span_registry.specs.Answers.{AreHonest}
-use Rattle.span_registry.specs.Follows.{Keeps}
 use Rattle.span_registry.specs.Form.{Absent, Bare, Filtered, Form, InList, InPair, IsStill, Joint, Leaf, OnSubscriber, Over, is_base, is_end}
+use Rattle.span_registry.specs.Levels.{KeepsRules}
 
 -- the answers of each filter and each leaf are honest
 abbrev pub HasHonestAnswers : Form → Type 0
@@ -50,6 +50,6 @@ pub record IsHonestStack (f : Form) (filters : ℕ) : Type 0 where
   pub still : IsStill f
   pub stack : IsTrue (is_stack f)
 
--- a stack that keeps what it has of its form stays honest
+-- a stack that keeps the rules of its form stays honest
 abbrev pub HonestyIsKept : Type 0
-HonestyIsKept = (f g : Form) (filters : ℕ) → Keeps f g → IsHonestStack f filters → IsHonestStack g filters
+HonestyIsKept = (f g : Form) (filters : ℕ) → KeepsRules f g → IsHonestStack f filters → IsHonestStack g filters

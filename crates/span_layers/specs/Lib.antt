@@ -8,10 +8,12 @@ pub mod Idle
 pub mod Kept
 pub mod Layer
 pub mod Layered
+pub mod Levels
 pub mod Members
 pub mod Number
 pub mod Observe
 pub mod Optional
+pub mod Takes
 pub mod Verdict
 pub mod Veto
 pub mod Wanted

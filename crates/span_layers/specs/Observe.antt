@@ -1,5 +1,5 @@
 -- A leaf that refuses nothing, and is notified through one method.
-use Rattle.std.specs.Prelude.{◌≡◌, ℕ, true, None}
+use Rattle.std.specs.Prelude.{◌≡◌, ℕ, true, false, None}
 use Rattle.std.proofs.Common.{subst, sym}
 use Rattle.span_core.specs.Filters.{FilterSet}
 use Rattle.span_core.specs.declared.interest.Interest.TheVariants.{Always}
@@ -42,7 +42,7 @@ observer_of x = x.observer
 
 -- it refuses nothing, and is interested in everything
 abbrev pub open_answers : Answers
-open_answers = record { enabled = λ m v. true; event = λ e v. true; interest = λ m. Always; hint = None }
+open_answers = record { enabled = λ m v. true; event = λ e v. true; interest = λ m. Always; hint = None; takes = λ l. false }
 
 -- an observer is notified of one thing on a lane, under some filters, in some registry
 abbrev pub HearsOne : {T : Type 0} → ObserverSteps T → T → Notice → ℕ → T → Type 0

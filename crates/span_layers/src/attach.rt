@@ -26,7 +26,7 @@ pub struct Unattached<L, S> {
 pub trait SubscriberExt: Subscriber + Sized {
     /// Puts a layer on this subscriber, and gives the layer's filters the next numbers of its registry.
     ///
-    /// Refused where the registry's filters and the layer's are more than 64 (`TooManyFilters`): then both come back as they
+    /// Refused where the registry's filters and the layer's are more than 128 (`TooManyFilters`): then both come back as they
     /// were.
     final fn with<L: Layer<Self>>(self, layer: L) -> Result<Layered<L, Self>, Unattached<L, Self>>
         requires layer { L.usable layer }

@@ -1,6 +1,7 @@
 //! A layer in a box.
 ghost use Rattle.span_layers.specs.ActsKept.{held_path_laws};
 ghost use Rattle.span_layers.specs.Boxed.{held_laws};
+ghost use Rattle.span_layers.specs.Levels.{held_levels};
 
 use crate::layer::Layer;
 use span_core::{Attributes, Event, Id, Interest, LevelFilter, Metadata, Pass, Record};
@@ -18,6 +19,8 @@ impl<S: Subscriber, L: Layer<S>> Layer<S> for Box<L> {
 
     ghost acts_at = { λ x. L.acts_at x.value };
 
+    ghost levelled = { λ x n l y. L.levelled x.value n l y.value };
+
     ghost registered = { λ x y. L.registered x.value y.value };
 
     ghost attached = { λ x y. L.attached x.value y.value };
@@ -25,6 +28,8 @@ impl<S: Subscriber, L: Layer<S>> Layer<S> for Box<L> {
     ghost laws = { held_laws L.laws (λ x. x.value) };
 
     ghost paths = { held_path_laws L.paths (λ x. x.value) };
+
+    ghost levels = { held_levels L.levels (λ x. x.value) };
 
     fn on_register_dispatch(&mut self) {
         (**self).on_register_dispatch();
@@ -92,5 +97,9 @@ impl<S: Subscriber, L: Layer<S>> Layer<S> for Box<L> {
 
     fn on_close(&mut self, id: Id, ctx: &mut ContextMut<'_, S>) {
         (**self).on_close(id, ctx);
+    }
+
+    fn set_level(&mut self, number: u32, level: LevelFilter) -> bool {
+        (**self).set_level(number, level)
     }
 }

@@ -3,6 +3,7 @@ ghost use Rattle.std.specs.Borrow.{Lends, sem};
 ghost use Rattle.std.specs.Prelude.{◌≡◌};
 ghost use Rattle.span_layers.specs.Acts.{FilteredActs};
 ghost use Rattle.span_layers.specs.ActsKept.{filtered_path_laws};
+ghost use Rattle.span_layers.specs.Levels.{FilteredLevels, filtered_levels};
 ghost use Rattle.span_layers.specs.contracts.filtered.Filtered.{the_row};
 ghost use Rattle.span_layers.specs.Filtered.{FilteredForm, FilteredHears, FilteredSteps, IsUnnumbered, filter_of, layer_of, with_filter, with_layer};
 ghost use Rattle.span_layers.specs.Kept.{filtered_laws};
@@ -76,6 +77,8 @@ impl<S: Subscriber, L: Layer<S>, F: Filter<S>> Layer<S> for Filtered<L, F> {
 
     ghost acts_at = { λ x. FilteredActs x.id (F.acts x.filter) L.acts_at x.layer };
 
+    ghost levelled = { λ x n l y. (y.id ≡ x.id) × FilteredLevels F.levelled L.levelled x.id x.filter x.layer n l y.filter y.layer };
+
     ghost registered = { λ x y. (y.id ≡ x.id) × (y.filter ≡ x.filter) × L.registered x.layer y.layer };
 
     ghost attached = { λ x y. (y.filter ≡ x.filter) × L.attached x.layer y.layer };
@@ -83,6 +86,8 @@ impl<S: Subscriber, L: Layer<S>, F: Filter<S>> Layer<S> for Filtered<L, F> {
     ghost laws = { filtered_laws F.laws L.laws (λ x. x.id) (λ x. x.filter) (λ x. x.layer) };
 
     ghost paths = { filtered_path_laws F.laws L.paths (λ x. x.id) (λ x. x.filter) (λ x. x.layer) };
+
+    ghost levels = { filtered_levels F.laws F.levels L.laws.heard L.levels (λ x. x.id) (λ x. x.filter) (λ x. x.layer) };
 
     fn on_register_dispatch(&mut self) {
         self.layer.on_register_dispatch();
@@ -132,7 +137,7 @@ impl<S: Subscriber, L: Layer<S>, F: Filter<S>> Layer<S> for Filtered<L, F> {
             pass.set(self.id, false);
             return true;
         }
-        pass.set(self.id, true);
+        // The pass holds no refusal of its own, so there is none to take back.
         self.layer.event_enabled(event, &inner, pass)
     }
 
@@ -230,5 +235,12 @@ impl<S: Subscriber, L: Layer<S>, F: Filter<S>> Layer<S> for Filtered<L, F> {
         self.filter.on_close(id, ctx);
         self.layer.on_close(id, ctx);
         ctx.widen(before);
+    }
+
+    fn set_level(&mut self, number: u32, level: LevelFilter) -> bool {
+        if self.id.contains(number) {
+            return self.filter.set_level(level);
+        }
+        self.layer.set_level(number, level)
     }
 }

@@ -3,8 +3,10 @@ ghost use Rattle.std.specs.Prelude.{◌≡◌, true};
 ghost use Rattle.span_layers.specs.Acts.{LeafActs};
 ghost use Rattle.span_layers.specs.ActsKept.{is_leaf, leaf_path_laws};
 ghost use Rattle.span_layers.specs.Idle.{IdleHears, IdleSteps, identity, idle_laws};
+ghost use Rattle.span_layers.specs.Levels.{leaf_levels};
 ghost use Rattle.span_layers.specs.Observe.{open_answers};
 ghost use Rattle.span_registry.specs.Form.{Leaf};
+ghost use Rattle.span_registry.specs.Levels.{unlevelled};
 
 use crate::layer::Layer;
 use span_core::{Attributes, Event, Id, Interest, LevelFilter, Metadata, Pass, Record};
@@ -42,6 +44,8 @@ impl<S: Subscriber> Layer<S> for Identity {
 
     ghost acts_at = { LeafActs };
 
+    ghost levelled = { unlevelled };
+
     ghost registered = { λ x y. y ≡ x };
 
     ghost attached = { λ x y. y ≡ x };
@@ -49,6 +53,8 @@ impl<S: Subscriber> Layer<S> for Identity {
     ghost laws = { idle_laws (λ x f. f ≡ Leaf true open_answers) };
 
     ghost paths = { leaf_path_laws (λ x f h. is_leaf h) };
+
+    ghost levels = { leaf_levels (idle_laws (λ x f. f ≡ Leaf true open_answers)) };
 
     fn on_register_dispatch(&mut self) {
         // It has nothing to do.
@@ -101,4 +107,8 @@ impl<S: Subscriber> Layer<S> for Identity {
     fn on_id_change(&mut self, _id: Id, _new: Id, _ctx: &mut ContextMut<'_, S>) {}
 
     fn on_close(&mut self, _id: Id, _ctx: &mut ContextMut<'_, S>) {}
+
+    fn set_level(&mut self, _number: u32, _level: LevelFilter) -> bool {
+        false // No filter is in it.
+    }
 }

@@ -1,5 +1,6 @@
 //! Who is notified: laws over forms, which name no type of layer. The functions make no call: what they ensure is the law.
 ghost use Rattle.span_layers.specs.Honest.{HonestyIsKept};
+ghost use Rattle.span_layers.specs.Takes.{OneFilterTakesALevel};
 ghost use Rattle.span_layers.specs.Verdict.{EventsAreFresh, NewSpansAreFresh, NotifiesByPaths, NumbersStayOwn, OthersStayFresh, VetoesAloneRefuse, VetoesAloneRefuseEvents};
 ghost use Rattle.span_layers.specs.Wanted.{AboveIsUnwanted, AlwaysIsWanted, NeverIsUnwanted};
 
@@ -28,6 +29,12 @@ pub fn vetoes_alone_refuse()
 /// out by it; and so have the filters of the whole stack.
 pub fn numbers_are_own()
     ensures { NumbersStayOwn }
+{}
+
+/// Where filters have numbers of their own, of two parts that stand together not both have a filter that takes a level under a
+/// number. So a pair, a list or a stack, which asks all its parts, answers and changes as the first that takes the level does.
+pub fn one_filter_takes_a_level()
+    ensures { OneFilterTakesALevel }
 {}
 
 /// An honest stack that was notified, or put in use, is honest.

@@ -1,5 +1,5 @@
 //! What a layer is asked and notified of.
-ghost use Rattle.std.specs.Prelude.{⊤, min};
+ghost use Rattle.std.specs.Prelude.{◌≡◌, ⊤, false, min};
 ghost use Rattle.span_layers.specs.Acts.{PathLaws};
 ghost use Rattle.span_layers.specs.Layer.{LayerEnabled, LayerEvent, LayerInterest, LayerLaws, LayerSteps, LeavesAlone, MayAsk, MayNotify, Notified};
 ghost use Rattle.span_layers.specs.Number.{TakesNumbers, filters_in};
@@ -7,6 +7,7 @@ ghost use Rattle.span_registry.specs.Answers.{OnClose, OnEnter, OnEvent, OnExit,
 ghost use Rattle.span_registry.specs.Conducts.{ActsAt};
 ghost use Rattle.span_registry.specs.Context.{HandsOn};
 ghost use Rattle.span_registry.specs.Form.{Form, is_absent, is_marked};
+ghost use Rattle.span_registry.specs.Levels.{LevelLaws, LevelSteps, takes_level};
 ghost use Rattle.span_registry.specs.Place.{HearSteps};
 ghost use Rattle.span_registry.specs.Question.{ShowsBy, hint_of};
 
@@ -35,6 +36,9 @@ pub trait Layer<S: Subscriber> {
 
     /// Which conducts the filters have on the path at a place. Only a path of plain filters has any.
     ghost acts_at: { ActsAt Self };
+
+    /// How it goes on when a filter's level is set.
+    ghost levelled: { LevelSteps Self };
 
     /// How it goes on when it is put in use.
     ghost registered: { Self → Self → Type 0 };
@@ -76,6 +80,16 @@ pub trait Layer<S: Subscriber> {
     fn max_level_hint(&self) -> Option<LevelFilter>
         requires { usable self.now }
         ensures { ShowsBy (has_form self.now) hint_of result };
+
+    /// Sets the level of the filter with this number in it, and answers whether there is one that takes it. Else nothing changes.
+    ///
+    /// Own to this port.
+    fn set_level(&mut self, number: u32, level: LevelFilter) -> bool
+        requires { usable self.old }
+        ensures usable { usable self.new }
+        ensures taken { ShowsBy (has_form self.old) (λ f. takes_level f number level) result }
+        ensures level { levelled self.old number level self.new }
+        ensures unchanged { result ≡ false → self.new ≡ self.old };
 
     /// How many filters it has, 4,294,967,295 at most.
     fn filter_count(&self) -> u32
@@ -158,4 +172,7 @@ pub trait Layer<S: Subscriber> {
 
     /// The paths of plain filters act as their conducts say.
     ghost paths: { PathLaws has_form stepped registered acts_at };
+
+    /// Where a level is set the form's rules are kept, no leaf hears of it, and the paths that hold the filter act by it.
+    ghost levels: { LevelLaws has_form levelled hears acts_at };
 }

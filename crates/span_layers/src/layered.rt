@@ -3,6 +3,7 @@ ghost use Rattle.std.specs.Borrow.{Lends, sem};
 ghost use Rattle.std.specs.Prelude.{◌≡◌, ◌&&◌, if◌then◌else◌};
 ghost use Rattle.span_layers.specs.Acts.{LayeredActs};
 ghost use Rattle.span_layers.specs.ActsKept.{pair_path_laws};
+ghost use Rattle.span_layers.specs.Levels.{LayeredLevels, layered_levels};
 ghost use Rattle.span_layers.specs.contracts.layered.Layered.{the_row};
 ghost use Rattle.span_core.specs.Level.{greater_hint};
 ghost use Rattle.span_core.specs.declared.interest.Interest.TheVariants.{Sometimes};
@@ -122,6 +123,8 @@ impl<S: Subscriber, L: Layer<S>, I: Layer<S>> Layer<S> for Layered<L, I> {
 
     ghost acts_at = { λ x. LayeredActs L.acts_at I.acts_at x.layer x.inner };
 
+    ghost levelled = { λ x n l y. LayeredLevels L.levelled I.levelled x.layer x.inner n l y.layer y.inner };
+
     ghost registered = { λ x y. L.registered x.layer y.layer × I.registered x.inner y.inner };
 
     ghost attached = { λ x y. L.attached x.layer y.layer × I.attached x.inner y.inner };
@@ -129,6 +132,8 @@ impl<S: Subscriber, L: Layer<S>, I: Layer<S>> Layer<S> for Layered<L, I> {
     ghost laws = { pair_laws L.laws I.laws (λ x. x.layer) (λ x. x.inner) };
 
     ghost paths = { pair_path_laws L.paths I.paths (λ x. x.layer) (λ x. x.inner) };
+
+    ghost levels = { layered_levels L.levels I.levels InPair (λ x. x.layer) (λ x. x.inner) };
 
     fn on_register_dispatch(&mut self) {
         self.layer.on_register_dispatch();
@@ -239,5 +244,11 @@ impl<S: Subscriber, L: Layer<S>, I: Layer<S>> Layer<S> for Layered<L, I> {
     fn on_close(&mut self, id: Id, ctx: &mut ContextMut<'_, S>) {
         self.inner.on_close(id, ctx);
         self.layer.on_close(id, ctx);
+    }
+
+    fn set_level(&mut self, number: u32, level: LevelFilter) -> bool {
+        let outer = self.layer.set_level(number, level);
+        let inner = self.inner.set_level(number, level);
+        outer || inner
     }
 }

@@ -10,6 +10,8 @@ mod identity;
 pub mod laws;
 mod layer;
 mod layered;
+#[cfg(test)]
+mod level_tests;
 mod list;
 #[cfg(test)]
 mod list_tests;

@@ -1,15 +1,17 @@
 //! A list of layers. Questions and hooks go by index: the first member is asked first, and notified first.
 ghost use Rattle.std.specs.List.{All, AllZip};
-ghost use Rattle.std.specs.Prelude.{◌≡◌};
+ghost use Rattle.std.specs.Prelude.{◌≡◌, ◌||◌, false};
 ghost use Rattle.span_core.specs.Level.{wider_hint};
 ghost use Rattle.span_layers.specs.Acts.{ListActs};
 ghost use Rattle.span_layers.specs.ActsKept.{list_path_laws};
 ghost use Rattle.span_layers.specs.Layer.{LeavesAlone, MayNotify, Notified};
+ghost use Rattle.span_layers.specs.Levels.{ListLevels, list_levels};
 ghost use Rattle.span_layers.specs.Members.{ListForm, ListHears, ListSteps, list_laws};
 ghost use Rattle.span_layers.specs.Number.{TakesNumbers};
 ghost use Rattle.span_layers.specs.Observe.{notice_of};
 ghost use Rattle.span_registry.specs.Context.{HandsOn};
-ghost use Rattle.span_registry.specs.Question.{higher};
+ghost use Rattle.span_registry.specs.Levels.{takes_level};
+ghost use Rattle.span_registry.specs.Question.{ShowsBy, higher};
 
 use crate::layer::Layer;
 use crate::observe::Observed;
@@ -61,6 +63,33 @@ fn number<S: Subscriber, L: Layer<S>>(members: &mut [L], subscriber: &mut S)
     for member in members.iter_mut() {
         member.on_layer(subscriber);
     }
+}
+
+/// Whether one of the two is true.
+fn either(one: bool, other: bool) -> bool
+    ensures { result ≡ one || other }
+{
+    one || other
+}
+
+/// Asks all members to set the level of the filter with this number, and answers whether there is one that takes it.
+fn set_levels<S: Subscriber, L: Layer<S>>(
+    members: &mut [L],
+    number: u32,
+    level: LevelFilter,
+) -> bool
+    requires { All L.usable members.old }
+    ensures usable { All L.usable members.new }
+    ensures taken { ShowsBy (ListForm L.has_form members.old) (λ f. takes_level f number level) result }
+    ensures level { ListLevels L.levelled members.old number level members.new }
+    ensures unchanged { result ≡ false → members.new ≡ members.old }
+{
+    let mut taken = false;
+    for member in members.iter_mut() {
+        let one = member.set_level(number, level);
+        taken = either(one, taken);
+    }
+    taken
 }
 
 /// Calls the hook that this notice is for.
@@ -117,6 +146,8 @@ impl<S: Subscriber, L: Layer<S>> Layer<S> for Vec<L> {
 
     ghost acts_at = { λ x. ListActs L.acts_at x.items };
 
+    ghost levelled = { λ x n l y. ListLevels L.levelled x.items n l y.items };
+
     ghost registered = { λ x y. AllZip L.registered x.items y.items };
 
     ghost attached = { λ x y. AllZip L.attached x.items y.items };
@@ -124,6 +155,8 @@ impl<S: Subscriber, L: Layer<S>> Layer<S> for Vec<L> {
     ghost laws = { list_laws L.laws (λ x. x.items) };
 
     ghost paths = { list_path_laws L.paths (λ x. x.items) };
+
+    ghost levels = { list_levels L.levels (λ x. x.items) };
 
     fn on_register_dispatch(&mut self) {
         put_in_use(self.as_mut_slice());
@@ -223,5 +256,9 @@ impl<S: Subscriber, L: Layer<S>> Layer<S> for Vec<L> {
 
     fn on_close(&mut self, id: Id, ctx: &mut ContextMut<'_, S>) {
         notify_all(self.as_mut_slice(), Observed::Close(id), ctx);
+    }
+
+    fn set_level(&mut self, number: u32, level: LevelFilter) -> bool {
+        set_levels(self.as_mut_slice(), number, level)
     }
 }

@@ -2,9 +2,11 @@
 ghost use Rattle.std.specs.Prelude.{◌≡◌, ⊤, true};
 ghost use Rattle.span_layers.specs.Acts.{LeafActs};
 ghost use Rattle.span_layers.specs.ActsKept.{is_leaf, leaf_path_laws};
+ghost use Rattle.span_layers.specs.Levels.{leaf_levels};
 ghost use Rattle.span_layers.specs.Observe.{HearsOne, ObserverStep, ObserverSteps, Observes, observer_laws, observer_of, open_answers};
 ghost use Rattle.span_registry.specs.Context.{WritesExtensions, subscriber_lent};
 ghost use Rattle.span_registry.specs.Form.{Leaf};
+ghost use Rattle.span_registry.specs.Levels.{unlevelled};
 ghost use Rattle.span_registry.specs.Place.{LeafHears};
 
 use crate::layer::Layer;
@@ -82,6 +84,8 @@ impl<S: Subscriber, T: Observe<S>> Layer<S> for Observer<T> {
 
     ghost acts_at = { LeafActs };
 
+    ghost levelled = { unlevelled };
+
     ghost registered = { λ x y. y ≡ x };
 
     ghost attached = { λ x y. y ≡ x };
@@ -89,6 +93,8 @@ impl<S: Subscriber, T: Observe<S>> Layer<S> for Observer<T> {
     ghost laws = { observer_laws T.observed (λ x. x.observer) };
 
     ghost paths = { leaf_path_laws (λ x f h. is_leaf h) };
+
+    ghost levels = { leaf_levels (observer_laws T.observed (λ x. x.observer)) };
 
     fn on_register_dispatch(&mut self) {
         // It has nothing to do.
@@ -157,5 +163,9 @@ impl<S: Subscriber, T: Observe<S>> Layer<S> for Observer<T> {
 
     fn on_close(&mut self, id: Id, ctx: &mut ContextMut<'_, S>) {
         self.observer.observe(Observed::Close(id), ctx);
+    }
+
+    fn set_level(&mut self, _number: u32, _level: LevelFilter) -> bool {
+        false // No filter is in it.
     }
 }

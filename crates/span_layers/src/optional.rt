@@ -2,6 +2,7 @@
 ghost use Rattle.std.specs.Prelude.{IfSome};
 ghost use Rattle.span_layers.specs.Acts.{OptionActs};
 ghost use Rattle.span_layers.specs.ActsKept.{option_path_laws};
+ghost use Rattle.span_layers.specs.Levels.{OptionLevels, option_levels};
 ghost use Rattle.span_layers.specs.Optional.{OptionForm, OptionGoes, OptionHears, OptionSteps, option_laws};
 
 use crate::layer::Layer;
@@ -20,6 +21,8 @@ impl<S: Subscriber, L: Layer<S>> Layer<S> for Option<L> {
 
     ghost acts_at = { OptionActs L.acts_at };
 
+    ghost levelled = { OptionLevels L.levelled };
+
     ghost registered = { OptionGoes L.registered };
 
     ghost attached = { OptionGoes L.attached };
@@ -27,6 +30,8 @@ impl<S: Subscriber, L: Layer<S>> Layer<S> for Option<L> {
     ghost laws = { option_laws L.laws };
 
     ghost paths = { option_path_laws L.paths };
+
+    ghost levels = { option_levels L.levels };
 
     fn on_register_dispatch(&mut self) {
         if let Some(layer) = self {
@@ -134,6 +139,13 @@ impl<S: Subscriber, L: Layer<S>> Layer<S> for Option<L> {
     fn on_close(&mut self, id: Id, ctx: &mut ContextMut<'_, S>) {
         if let Some(layer) = self {
             layer.on_close(id, ctx);
+        }
+    }
+
+    fn set_level(&mut self, number: u32, level: LevelFilter) -> bool {
+        match self {
+            Some(layer) => layer.set_level(number, level),
+            None => false,
         }
     }
 }

@@ -2,9 +2,11 @@
 ghost use Rattle.std.specs.Prelude.{◌≡◌, ⊤, true};
 ghost use Rattle.span_layers.specs.Acts.{LeafActs};
 ghost use Rattle.span_layers.specs.ActsKept.{is_leaf, leaf_path_laws};
-ghost use Rattle.span_layers.specs.Observe.{open_answers};
+ghost use Rattle.span_layers.specs.Levels.{leaf_levels};
+ghost use Rattle.span_layers.specs.Observe.{fixed_laws, open_answers};
 ghost use Rattle.span_registry.specs.Follows.{kept_form};
 ghost use Rattle.span_registry.specs.Form.{Leaf};
+ghost use Rattle.span_registry.specs.Levels.{unlevelled};
 ghost use Rattle.span_registry.specs.Place.{no_leaf_laws};
 
 use crate::tests::{LANE, metadata_of, put, shown};
@@ -43,6 +45,8 @@ impl<S: Subscriber> Layer<S> for Counter {
 
     ghost acts_at = { LeafActs };
 
+    ghost levelled = { unlevelled };
+
     ghost registered = { λ x y. ⊤ };
 
     ghost attached = { λ x y. y ≡ x };
@@ -50,6 +54,8 @@ impl<S: Subscriber> Layer<S> for Counter {
     ghost laws = { record { keeps = λ x p e lane under v y w f s h. (f, h, kept_form f); put_in_use = λ x y f s h. (f, h, kept_form f); heard = no_leaf_laws; notified = λ x p e lane under v y w place s. tt } };
 
     ghost paths = { leaf_path_laws (λ x f h. is_leaf h) };
+
+    ghost levels = { leaf_levels (fixed_laws (Leaf true open_answers) (λ x p e lane under v y w. ⊤) no_leaf_laws (λ x p e lane under v y w place s. tt)) };
 
     fn on_register_dispatch(&mut self) {
         self.registered = self.registered.saturating_add(1);
@@ -104,6 +110,10 @@ impl<S: Subscriber> Layer<S> for Counter {
     }
 
     fn on_close(&mut self, _id: Id, _ctx: &mut ContextMut<'_, S>) {}
+
+    fn set_level(&mut self, _number: u32, _level: LevelFilter) -> bool {
+        false // No filter is in it.
+    }
 }
 
 /// Asks a stack of an event outside every span, and sends it.

@@ -5,6 +5,7 @@ ghost use Rattle.span_layers.specs.Acts.{LayeredActs};
 ghost use Rattle.span_layers.specs.ActsKept.{stack_path_laws};
 ghost use Rattle.span_layers.specs.Kept.{stack_laws};
 ghost use Rattle.span_layers.specs.Layered.{LayeredHears, LayeredSteps, OverForm};
+ghost use Rattle.span_layers.specs.Levels.{LayeredLevels, layered_levels};
 ghost use Rattle.span_registry.specs.Form.{OnSubscriber};
 
 use crate::layer::Layer;
@@ -54,11 +55,15 @@ impl<I: Subscriber, L: Layer<I>> Subscriber for Layered<L, I> {
 
     ghost acts_at = { λ x. LayeredActs L.acts_at I.acts_at x.layer x.inner };
 
+    ghost levelled = { λ x n l y. LayeredLevels L.levelled I.levelled x.layer x.inner n l y.layer y.inner };
+
     ghost registered = { λ x y. L.registered x.layer y.layer × I.registered x.inner y.inner };
 
     ghost laws = { stack_laws L.laws I.laws L.usable (λ x. x.layer) (λ x. x.inner) (λ x i. record x { inner = i }) (λ x i. refl) (λ x i. refl) };
 
     ghost paths = { stack_path_laws L.paths I.paths (λ x. x.layer) (λ x. x.inner) (λ x i. record x { inner = i }) (λ x i. refl) (λ x i. refl) };
+
+    ghost levels = { layered_levels L.levels I.levels OnSubscriber (λ x. x.layer) (λ x. x.inner) };
 
     fn on_register_dispatch(&mut self) {
         self.inner.on_register_dispatch();
@@ -193,5 +198,11 @@ impl<I: Subscriber, L: Layer<I>> Subscriber for Layered<L, I> {
 
     fn is_registry(&self) -> bool {
         false // A layer stands on it.
+    }
+
+    fn set_level(&mut self, number: u32, level: LevelFilter) -> bool {
+        let outer = self.layer.set_level(number, level);
+        let inner = self.inner.set_level(number, level);
+        outer || inner
     }
 }

@@ -3,9 +3,11 @@ ghost use Rattle.std.specs.Prelude.{◌≡◌, ⊤, IfOk, false};
 ghost use Rattle.span_layers.specs.Acts.{LeafActs};
 ghost use Rattle.span_layers.specs.ActsKept.{is_leaf, leaf_path_laws};
 ghost use Rattle.span_layers.specs.Layered.{inner_of, outer_of};
+ghost use Rattle.span_layers.specs.Levels.{leaf_levels};
 ghost use Rattle.span_layers.specs.Observe.{fixed_laws, open_answers};
 ghost use Rattle.span_registry.specs.Form.{Leaf};
 ghost use Rattle.span_registry.specs.Context.{WritesExtensions};
+ghost use Rattle.span_registry.specs.Levels.{unlevelled};
 ghost use Rattle.span_registry.specs.Place.{no_leaf_laws};
 
 use crate::{Filtered, Layer, LayerExt, Layered, Observe, Observed, Observer, SubscriberExt};
@@ -189,6 +191,8 @@ impl<S: Subscriber> Layer<S> for Echo {
 
     ghost acts_at = { LeafActs };
 
+    ghost levelled = { unlevelled };
+
     ghost registered = { λ x y. y ≡ x };
 
     ghost attached = { λ x y. y ≡ x };
@@ -196,6 +200,8 @@ impl<S: Subscriber> Layer<S> for Echo {
     ghost laws = { fixed_laws (Leaf false open_answers) (λ x p e lane under v y w. ⊤) no_leaf_laws (λ x p e lane under v y w place s. tt) };
 
     ghost paths = { leaf_path_laws (λ x f h. is_leaf h) };
+
+    ghost levels = { leaf_levels (fixed_laws (Leaf false open_answers) (λ x p e lane under v y w. ⊤) no_leaf_laws (λ x p e lane under v y w place s. tt)) };
 
     fn on_register_dispatch(&mut self) {}
 
@@ -247,6 +253,10 @@ impl<S: Subscriber> Layer<S> for Echo {
     fn on_id_change(&mut self, _id: Id, _new: Id, _ctx: &mut ContextMut<'_, S>) {}
 
     fn on_close(&mut self, _id: Id, _ctx: &mut ContextMut<'_, S>) {}
+
+    fn set_level(&mut self, _number: u32, _level: LevelFilter) -> bool {
+        false // No filter is in it.
+    }
 }
 
 /// An open watcher, and outside it one under INFO.
@@ -456,21 +466,21 @@ fn every_layer_sees_a_closing_span(rt: HostRuntime) -> Result<(), Fail> {
 }
 
 #[test]
-fn a_registry_has_room_for_64_filters(rt: HostRuntime) -> Result<(), Fail> {
+fn a_registry_has_room_for_128_filters(rt: HostRuntime) -> Result<(), Fail> {
     let mut registry = Registry::new(rt.alloc());
-    for _ in 0..64 {
+    for _ in 0..128 {
         registry.register_filter()?;
     }
     let layer = new_watcher(rt.alloc()).with_filter(LevelFilter::INFO);
     let Err(back) = registry.with(layer) else {
-        return Err(Fail::from("a 65th filter got a number"));
+        return Err(Fail::from("a 129th filter got a number"));
     };
     assert_eq!(rt; back.error, TraceError::TooManyFilters);
-    assert_eq!(rt; back.subscriber.filters(), 64);
+    assert_eq!(rt; back.subscriber.filters(), 128);
     assert_eq!(rt; *back.layer.filter(), LevelFilter::INFO);
     // A layer without filters needs no number.
     let stack = put(back.subscriber, new_watcher(rt.alloc()))?;
-    assert_eq!(rt; stack.inner().filters(), 64);
+    assert_eq!(rt; stack.inner().filters(), 128);
     Ok(())
 }
 

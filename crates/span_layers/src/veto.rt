@@ -5,7 +5,9 @@ ghost use Rattle.span_filters.specs.Filter.{settled_answers};
 ghost use Rattle.span_filters.specs.Level.{level_answers};
 ghost use Rattle.span_layers.specs.Acts.{LeafActs};
 ghost use Rattle.span_layers.specs.ActsKept.{is_leaf, leaf_path_laws};
+ghost use Rattle.span_layers.specs.Levels.{leaf_levels};
 ghost use Rattle.span_layers.specs.Veto.{HearsUnmoved, LeafStays, VetoForm, veto_laws};
+ghost use Rattle.span_registry.specs.Levels.{unlevelled};
 
 use crate::layer::Layer;
 use span_core::{Attributes, Event, Id, Interest, LevelFilter, Metadata, Pass, Record};
@@ -21,6 +23,8 @@ impl<S: Subscriber> Layer<S> for LevelFilter {
 
     ghost acts_at = { LeafActs };
 
+    ghost levelled = { unlevelled };
+
     ghost registered = { λ x y. y ≡ x };
 
     ghost attached = { λ x y. y ≡ x };
@@ -28,6 +32,8 @@ impl<S: Subscriber> Layer<S> for LevelFilter {
     ghost laws = { veto_laws (settled_answers level_answers) };
 
     ghost paths = { leaf_path_laws (λ x f h. is_leaf h.2) };
+
+    ghost levels = { leaf_levels (veto_laws (settled_answers level_answers)) };
 
     fn on_register_dispatch(&mut self) {
         // It has nothing to do.
@@ -80,6 +86,10 @@ impl<S: Subscriber> Layer<S> for LevelFilter {
     fn on_id_change(&mut self, _id: Id, _new: Id, _ctx: &mut ContextMut<'_, S>) {}
 
     fn on_close(&mut self, _id: Id, _ctx: &mut ContextMut<'_, S>) {}
+
+    fn set_level(&mut self, _number: u32, _level: LevelFilter) -> bool {
+        false // It has no number: what it refuses is refused for all.
+    }
 }
 
 impl<S: Subscriber, F: Function<Metadata, bool>> Layer<S> for FilterFn<F> {
@@ -93,6 +103,8 @@ impl<S: Subscriber, F: Function<Metadata, bool>> Layer<S> for FilterFn<F> {
 
     ghost acts_at = { LeafActs };
 
+    ghost levelled = { unlevelled };
+
     ghost registered = { λ x y. y ≡ x };
 
     ghost attached = { λ x y. y ≡ x };
@@ -100,6 +112,8 @@ impl<S: Subscriber, F: Function<Metadata, bool>> Layer<S> for FilterFn<F> {
     ghost laws = { veto_laws (HasTestAnswers F.gives) };
 
     ghost paths = { leaf_path_laws (λ x f h. is_leaf h.2) };
+
+    ghost levels = { leaf_levels (veto_laws (HasTestAnswers F.gives)) };
 
     fn on_register_dispatch(&mut self) {
         // It has nothing to do.
@@ -152,6 +166,10 @@ impl<S: Subscriber, F: Function<Metadata, bool>> Layer<S> for FilterFn<F> {
     fn on_id_change(&mut self, _id: Id, _new: Id, _ctx: &mut ContextMut<'_, S>) {}
 
     fn on_close(&mut self, _id: Id, _ctx: &mut ContextMut<'_, S>) {}
+
+    fn set_level(&mut self, _number: u32, _level: LevelFilter) -> bool {
+        false // It has no number: what it refuses is refused for all.
+    }
 }
 
 impl<S: Subscriber, F: FunctionIn<Metadata, S, bool>, R: Function<Metadata, Interest>> Layer<S>
@@ -166,6 +184,8 @@ impl<S: Subscriber, F: FunctionIn<Metadata, S, bool>, R: Function<Metadata, Inte
 
     ghost acts_at = { LeafActs };
 
+    ghost levelled = { unlevelled };
+
     ghost registered = { λ x y. y ≡ x };
 
     ghost attached = { λ x y. y ≡ x };
@@ -173,6 +193,8 @@ impl<S: Subscriber, F: FunctionIn<Metadata, S, bool>, R: Function<Metadata, Inte
     ghost laws = { veto_laws (HasViewAnswers S.registry F.gives_in R.gives) };
 
     ghost paths = { leaf_path_laws (λ x f h. is_leaf h.2) };
+
+    ghost levels = { leaf_levels (veto_laws (HasViewAnswers S.registry F.gives_in R.gives)) };
 
     fn on_register_dispatch(&mut self) {
         // It has nothing to do.
@@ -225,4 +247,8 @@ impl<S: Subscriber, F: FunctionIn<Metadata, S, bool>, R: Function<Metadata, Inte
     fn on_id_change(&mut self, _id: Id, _new: Id, _ctx: &mut ContextMut<'_, S>) {}
 
     fn on_close(&mut self, _id: Id, _ctx: &mut ContextMut<'_, S>) {}
+
+    fn set_level(&mut self, _number: u32, _level: LevelFilter) -> bool {
+        false // It has no number: what it refuses is refused for all.
+    }
 }

@@ -23,7 +23,7 @@ use Rattle.span_registry.specs.declared.extensions.ExtensionMap.{ExtensionMap}
 use Rattle.span_registry.specs.declared.tag.Tag.{Tag}
 use Rattle.span_registry.specs.Context.{LooksAt, LooksAtLent, LooksAtRoot, RefersTo, filters_in, lane_in, store_at, store_in, view_in, view_lent}
 use Rattle.span_registry.specs.LaneStack.{leave, without_duplicates}
-use Rattle.span_registry.specs.Answers.{AreAlike, AreAlikeHistories, History, Notice, unextended}
+use Rattle.span_registry.specs.Answers.{AreAlike, AreAlikeHistories, History, OfLevel, Notice, OfNotice, notices_of, unextended}
 use Rattle.span_registry.specs.View.{SeenSpans, View, current_among, current_shown, extensions_shown, is_shown, see, shown, view_of}
 use Rattle.span_registry.specs.declared.context.Context.{Context}
 use Rattle.span_registry.specs.declared.context.ContextMut.{ContextMut}
@@ -359,7 +359,15 @@ views_alike v w lane under h = record {
 -- every history is like itself
 pub histories_alike : (h : History) → AreAlikeHistories h h
 histories_alike [] = tt
-histories_alike ((e, v) ∷ h) = (refl, record { lane = refl; stack = refl; spans = λ x. refl }, histories_alike h)
+histories_alike (OfNotice e v ∷ h) = (refl, record { lane = refl; stack = refl; spans = λ x. refl }, histories_alike h)
+histories_alike (OfLevel l ∷ h) = (refl, histories_alike h)
+
+-- histories that are alike have notices that are
+pub notices_alike : (h k : History) → AreAlikeHistories h k → AreAlikeHistories (notices_of h) (notices_of k)
+notices_alike [] [] a = tt
+notices_alike (OfNotice e v ∷ h) (OfNotice d w ∷ k) a = (a.0, a.1, notices_alike h k a.2)
+notices_alike (OfLevel l ∷ h) (OfLevel m ∷ k) a = notices_alike h k a.1
+notices_alike h k a = absurd a
 
 -- a span has the extensions that were written last
 pub extensions_written : (s : RegistryState) (x : ℕ) (e : ExtensionMap) → get (with_extensions s x e).store.extensions x ≡ Some e

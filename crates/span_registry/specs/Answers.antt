@@ -16,12 +16,13 @@ use Rattle.span_core.specs.declared.span.Record.{Record}
 use Rattle.span_registry.specs.Store.{Store}
 use Rattle.span_registry.specs.View.{SeenSpan, View, view_of}
 
--- whether metadata pass; whether an event passes, where its metadata do; the interest in a callsite; the hint
+-- whether metadata pass; whether an event passes, where its metadata do; the interest in a callsite; the hint; which levels it takes
 pub record Answers : Type 0 where
   pub enabled : Metadata → View → Bool
   pub event : Event → View → Bool
   pub interest : Metadata → Interest
   pub hint : Option LevelFilter
+  pub takes : LevelFilter → Bool
 
 -- an interest of always: passes in every view; of never, or a level above the hint: in none; and metadata that show the same are of the same interest
 pub record AreHonest (a : Answers) : Type 0 where
@@ -66,19 +67,31 @@ pub data Notice : Type 0 where
   OnIdChange : Id → Id → Notice
   OnClose : Id → Notice
 
--- what a filter will be notified of, first things first, each with the view that it is then given
+-- what a filter is given: a notice, with the view that it is then given, or a level to take
+pub data Input : Type 0 where
+  OfNotice : Notice → View → Input
+  OfLevel : LevelFilter → Input
+
+-- what a filter will be given, first things first
 abbrev pub History : Type 0
-History = List (Notice × View)
+History = List Input
 
 -- how a filter will answer after each history
 abbrev pub Conduct : Type 0
 Conduct = History → Answers
 
--- the same notices, in views that differ in extensions alone
+-- the same notices, in views that differ in extensions alone, and the same levels
 abbrev pub AreAlikeHistories : History → History → Type 0
 AreAlikeHistories [] [] = ⊤
-AreAlikeHistories ((e, v) ∷ h) ((d, w) ∷ k) = (e ≡ d) × AreAlike v w × AreAlikeHistories h k
+AreAlikeHistories (OfNotice e v ∷ h) (OfNotice d w ∷ k) = (e ≡ d) × AreAlike v w × AreAlikeHistories h k
+AreAlikeHistories (OfLevel l ∷ h) (OfLevel m ∷ k) = (l ≡ m) × AreAlikeHistories h k
 AreAlikeHistories h k = ⊥
+
+-- the notices of a history, without the levels: what a filter goes by that takes none
+abbrev pub notices_of : History → History
+notices_of [] = []
+notices_of (OfNotice e v ∷ h) = OfNotice e v ∷ notices_of h
+notices_of (OfLevel l ∷ h) = notices_of h
 
 -- extensions make no difference: neither to the answers nor to what the filter learns from a notice
 pub record IsPlain (conduct : Conduct) : Type 0 where

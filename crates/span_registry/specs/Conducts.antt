@@ -1,7 +1,8 @@
 -- How the filters of a path act: what each answers now, and what it will answer after each notice.
-use Rattle.std.specs.Prelude.{◌≡◌, ⊤, ℕ, List, [], ◌∷◌, Option, Some, None}
+use Rattle.std.specs.Prelude.{◌≡◌, ⊤, ℕ, if◌then◌else◌, List, [], ◌∷◌, Option, Some, None}
 use Rattle.span_core.specs.Filters.{FilterSet, union}
-use Rattle.span_registry.specs.Answers.{AnswerAlike, Conduct, IsPlain, Notice, OnEvent, OnFollows, OnIdChange}
+use Rattle.span_core.specs.declared.level.LevelFilter.{LevelFilter}
+use Rattle.span_registry.specs.Answers.{AnswerAlike, Conduct, IsPlain, OfLevel, Notice, OnEvent, OnFollows, OnIdChange, OfNotice}
 use Rattle.span_registry.specs.Form.{Bare, Base, Form}
 use Rattle.span_registry.specs.Hooks.{StackSteps, no_filter}
 use Rattle.span_registry.specs.Path.{Path, path_at}
@@ -47,12 +48,21 @@ abbrev pub after_notice : Notice → View → Conduct → Conduct
 after_notice (OnEvent e) v b = b
 after_notice (OnFollows id other) v b = b
 after_notice (OnIdChange id other) v b = b
-after_notice e v b = λ h. b ((e, v) ∷ h)
+after_notice e v b = λ h. b (OfNotice e v ∷ h)
+
+-- the conduct of a filter that took a level
+abbrev pub after_level : LevelFilter → Conduct → Conduct
+after_level l b = λ h. b (OfLevel l ∷ h)
 
 -- the filter of this number alone, or none
 abbrev pub filter_numbered : Option ℕ → FilterSet
 filter_numbered None = no_filter
 filter_numbered (Some n) = single n
+
+-- the conducts of the filters of a path, once the one with this number took a level
+abbrev pub setting : ℕ → LevelFilter → Conducts → Conducts
+setting n l [] = []
+setting n l ((m, b) ∷ cs) = if filter_numbered m n then (m, after_level l b) ∷ cs else (m, b) ∷ setting n l cs
 
 -- a filter learns of a notice, under these filters, in a registry that differs from this one in extensions alone
 pub record Learns (e : Notice) (lane : ℕ) (under : FilterSet) (v : RegistryState) (b c : Conduct) : Type 0 where

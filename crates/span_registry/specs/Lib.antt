@@ -12,6 +12,7 @@ pub mod Kept
 pub mod LaneStack
 pub mod Laws
 pub mod Lends
+pub mod Levels
 pub mod Marks
 pub mod Mask
 pub mod Path

@@ -36,7 +36,7 @@ pub trait LookupSpan {
         ensures found { FindsData (registry self.now).store id result }
         ensures forest { IsForest (registry self.now).store.spans };
 
-    /// Hands out the next filter: 0, 1, and so on. Refused past the limit of 64 (`TooManyFilters`).
+    /// Hands out the next filter: 0, 1, and so on. Refused past the limit of 128 (`TooManyFilters`).
     ///
     /// Stands for the crate's `register_filter`, which panics there.
     fn register_filter(&mut self) -> Result<FilterId, TraceError>

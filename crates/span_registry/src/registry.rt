@@ -9,6 +9,7 @@ ghost use Rattle.span_core.specs.Span.{asked_parent, number_of};
 ghost use Rattle.span_registry.specs.Conducts.{no_conducts, registry_path_laws};
 ghost use Rattle.span_registry.specs.Form.{Bare, Base};
 ghost use Rattle.span_registry.specs.Hooks.{registry_laws};
+ghost use Rattle.span_registry.specs.Levels.{registry_levels, unlevelled};
 ghost use Rattle.span_registry.specs.Kept.{IsChosen};
 ghost use Rattle.span_registry.specs.Lends.{lends_extensions};
 ghost use Rattle.span_registry.specs.Step.{Enters, Exits, IsContext, Opens, RefusesEnter, RefusesNew, RefusesRelease, Releases, Removes, RetiresLate, asked, entered_last};
@@ -294,7 +295,11 @@ impl Subscriber for Registry {
 
     ghost laws = { registry_laws };
 
+    ghost levelled = { unlevelled };
+
     ghost paths = { registry_path_laws };
+
+    ghost levels = { registry_levels };
 
     fn on_register_dispatch(&mut self)
         ensures { self.new ≡ self.old }
@@ -402,6 +407,10 @@ impl Subscriber for Registry {
         ensures { Exits lane id self.old self.new }
     {
         pop_from(&mut self.stacks, lane, id);
+    }
+
+    fn set_level(&mut self, _number: u32, _level: LevelFilter) -> bool {
+        false // No filter is in it.
     }
 
     fn clone_span(&mut self, _lane: Lane, id: Id) -> Result<Id, TraceError> {

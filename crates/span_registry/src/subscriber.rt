@@ -1,10 +1,11 @@
 //! What a stack is asked and notified of.
-ghost use Rattle.std.specs.Prelude.{◌≡◌, ⊤, IfErr, IfOk, OnErr, OnOk};
+ghost use Rattle.std.specs.Prelude.{◌≡◌, ⊤, false, IfErr, IfOk, OnErr, OnOk};
 ghost use Rattle.span_core.specs.Span.{asked_parent};
 ghost use Rattle.span_registry.specs.Answers.{OnClose, OnEnter, OnEvent, OnExit, OnFollows, OnRecord};
 ghost use Rattle.span_registry.specs.Conducts.{ActsAt, StackPathLaws};
 ghost use Rattle.span_registry.specs.Form.{Form, is_absent, is_base, is_marked};
 ghost use Rattle.span_registry.specs.Hooks.{Notifies, AnswersEnabled, AnswersEvent, AnswersInterest, OpensAndNotifies, StackLaws, StackSteps, Stays, no_filter};
+ghost use Rattle.span_registry.specs.Levels.{LevelLaws, LevelSteps, takes_level};
 ghost use Rattle.span_registry.specs.Place.{HearSteps};
 ghost use Rattle.span_registry.specs.Question.{ShowsBy, hint_of, refusals};
 ghost use Rattle.span_registry.specs.Step.{Clones, Enters, Exits, RefusesClone, RefusesEnter, RefusesNew, ShowsCurrent};
@@ -38,6 +39,9 @@ pub trait Subscriber: LookupSpan {
 
     /// Which conducts the filters have on the path at a place. Only a path of plain filters has any.
     ghost acts_at: { ActsAt Self };
+
+    /// How it goes on when a filter's level is set.
+    ghost levelled: { LevelSteps Self };
 
     /// How its layers go on when they are put in use.
     ghost registered: { Self → Self → Type 0 };
@@ -142,6 +146,17 @@ pub trait Subscriber: LookupSpan {
         ensures usable { usable self.new }
         ensures hooks { Notifies Self.registry has_form stepped lane no_filter (OnClose id) Stays self.old self.new };
 
+    /// Sets the level of the filter with this number, and answers whether there is one that takes it. Else nothing changes.
+    ///
+    /// Own to this port.
+    fn set_level(&mut self, number: u32, level: LevelFilter) -> bool
+        requires { usable self.old }
+        ensures usable { usable self.new }
+        ensures registry { Self.registry self.new ≡ Self.registry self.old }
+        ensures taken { ShowsBy (has_form self.old) (λ f. takes_level f number level) result }
+        ensures level { levelled self.old number level self.new }
+        ensures unchanged { result ≡ false → self.new ≡ self.old };
+
     /// A layer of the stack is marked: it stands under a filter of its own.
     fn is_filtered(&self) -> bool
         ensures { ShowsBy (has_form self.now) is_marked result };
@@ -160,4 +175,7 @@ pub trait Subscriber: LookupSpan {
 
     /// The paths of plain filters act as their conducts say.
     ghost paths: { StackPathLaws Self.with_registry has_form stepped registered acts_at };
+
+    /// Where a level is set the form's rules are kept, no leaf hears of it, and the paths that hold the filter act by it.
+    ghost levels: { LevelLaws has_form levelled hears acts_at };
 }

@@ -5,8 +5,8 @@ ghost use Rattle.span_registry.specs.Store.{SameStacks, handles_of};
 
 use crate::{LookupSpan, Registry, Subscriber};
 use span_core::{
-    Attributes, Event, FieldSet, Id, Interest, Kind, Lane, Level, Metadata, Pass, Record,
-    TraceError,
+    Attributes, Event, FieldSet, Id, Interest, Kind, Lane, Level, LevelFilter, Metadata, Pass,
+    Record, TraceError,
 };
 use std::process::Abort;
 use std::test::Fail;
@@ -77,6 +77,7 @@ fn notify<S: Subscriber>(rt: &impl Abort, stack: &mut S) -> Result<(), Fail>
     assert!(rt; stack.current_span(lane).is_none());
     enter_and_exit(stack, lane, id)?;
     stack.close_hooks(lane, id);
+    assert!(rt; !stack.set_level(0, LevelFilter::INFO));
     Ok(())
 }
 

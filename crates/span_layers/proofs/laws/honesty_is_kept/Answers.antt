@@ -1,4 +1,4 @@
-use Rattle.span_layers.proofs.HonestKept.{honesty_is_kept}
+use Rattle.span_layers.proofs.RulesKept.{honesty_is_kept}
 use Rattle.span_layers.proofs.laws.honesty_is_kept.Goals as goal
 
 pub returns : goal.returns

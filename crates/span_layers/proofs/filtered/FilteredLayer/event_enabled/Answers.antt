@@ -1,4 +1,5 @@
-use Rattle.span_layers.proofs.FilteredQuestions.{filter_passes, filter_refuses, passed_before, refused_before}
+use Rattle.std.proofs.Common.{refl}
+use Rattle.span_layers.proofs.FilteredQuestions.{filter_passes, filter_refuses, none_refused, passed_before, refused_before}
 use Rattle.span_layers.proofs.filtered.FilteredLayer.event_enabled.Goals as goal
 use Rattle.span_registry.specs.Question.{event_asked}
 use Rattle.span_registry.specs.Context.{filters_in, lane_in, store_in}
@@ -23,4 +24,4 @@ returns g c =
     (λ f s lane set refused. event_asked f c.args.event.now s lane set refused) (λ a v. a.event c.args.event.now v) c.args.ctx.now c.with_filter-inner.result
     c.with_filter-inner.ensures c.if-is_unattached.ensures c.args.pass.now
     (passed_before c.args.self.now.id c.args.event.now _ _ _ c.args.pass.now c.refused.ensures c.if-not-is_enabled.ensures)
-    c.set-2.new.self _ _ c.if-not-event_enabled.ensures c.set-2.ensures.members c.set-2.ensures.interest c.event_enabled-2.ensures
+    c.args.pass.now _ _ c.if-not-event_enabled.ensures (none_refused c.args.self.now.id c.args.pass.now c.refused.ensures c.if-not-is_enabled.ensures) refl c.event_enabled-2.ensures

@@ -1,9 +1,7 @@
-use Rattle.std.proofs.Common.{◌≡◌, ℕ, ◌%◌, ◌*◌, ◌^◌, sym, ap, ◌∙◌, ⊎_elim, bit_or, w64, arith}
+use Rattle.std.proofs.Common.{◌≡◌, ◌%◌, ◌*◌, ◌^◌, sym, ap, ◌∙◌, ⊎_elim, bit_or, w64}
 use Rattle.std.proofs.lemmas.Bool.{cases_eq}
 use Rattle.std.proofs.lemmas.Nat.Bits.{bit_at_set_same, bit_at_set_other}
 use Rattle.std.specs.Int.{bit_at}
-use Rattle.span_core.specs.Span.{number_of}
-use Rattle.span_registry.specs.Bloom.{MayHold}
 use Rattle.span_registry.proofs.bloom.Bloom.insert.Goals as goal
 
 pub returns-clause-put : goal.returns-clause-put

@@ -1,0 +1,14 @@
+use Rattle.std.proofs.Common.{◌≡◌, ◌||◌, false, take, drop}
+use Rattle.std.specs.List.{All, AllZip}
+use Rattle.span_layers.proofs.MemberLoops.{Left}
+use Rattle.span_layers.proofs.list.set_levels.Given as goal
+use Rattle.span_registry.specs.Levels.{takes_level}
+
+abbrev pub invariant-loop-member : goal.invariant-loop-member
+invariant-loop-member g l = record {
+  usable : All g.L.Layer.usable l.members;
+  level : AllZip (λ x y. g.L.Layer.levelled x l.fn.number l.fn.level y) (take l.member-index l.fn.members) (take l.member-index l.members);
+  left : drop l.member-index l.members ≡ drop l.member-index l.fn.members;
+  taken : Left g.L.Layer.has_form l.fn.members (drop l.member-index l.fn.members) (λ f r. takes_level f l.fn.number l.fn.level ≡ l.taken || takes_level r l.fn.number l.fn.level);
+  unchanged : l.taken ≡ false → l.members ≡ l.fn.members;
+}
