@@ -4,19 +4,20 @@ use Rattle.std.proofs.lemmas.Bool.{eq-eqb, eqb-true, false≢true, true≢false,
 use Rattle.span_core.specs.Event.{event_metadata}
 use Rattle.span_core.specs.Filters.{FilterSet, union}
 use Rattle.span_core.specs.Span.{asked_parent, metadata_of, number_of}
+use Rattle.span_core.specs.declared.level.LevelFilter.{LevelFilter}
 use Rattle.span_core.specs.declared.metadata.Metadata.{Metadata}
 use Rattle.span_core.specs.declared.span.Lane.{Lane}
 use Rattle.span_core.specs.declared.span.Parent.{Parent}
 use Rattle.span_core.specs.declared.span.Parent.TheVariants.{Contextual, Explicit, Root}
 use Rattle.span_dispatch.specs.Alone.{Alone, StepsAlone, acting, given_in, learning, lone, passed, with_new}
 use Rattle.span_dispatch.specs.Isolation.{ActAlike, PathsActAlike, SeeTheSame, Sight}
-use Rattle.span_dispatch.specs.Outcome.{GoneLeft, HandleAdded, HandleTaken, Noticed, Outcome, Quiet}
+use Rattle.span_dispatch.specs.Outcome.{GoneLeft, HandleAdded, HandleTaken, LevelSet, Noticed, Outcome, Quiet}
 use Rattle.span_layers.specs.Verdict.{in_verdict}
 use Rattle.span_registry.proofs.Agreeing.{closing_alike, held_alike, not_open_alike, open_alike, added_agrees, entered_agrees, exited_agrees, new_agrees, parent_alike, passed_alike, taken_agrees, views_alike, without_agrees}
 use Rattle.span_registry.specs.Agree.{AgreeAt, SpansAgree}
-use Rattle.span_registry.specs.Answers.{Answers, AreAlike, AreAlikeHistories, ArePlain, Conduct, History, IsPlain, Notice, OnClose, OnEnter, OnEvent, OnExit, OnFollows, OnIdChange, OnNewSpan, OnRecord}
+use Rattle.span_registry.specs.Answers.{Answers, AreAlike, AreAlikeHistories, ArePlain, Conduct, History, IsPlain, OfLevel, Notice, OnClose, OnEnter, OnEvent, OnExit, OnFollows, OnIdChange, OnNewSpan, OnRecord, OfNotice}
 use Rattle.span_registry.specs.Closes.{without}
-use Rattle.span_registry.specs.Conducts.{ArePlainConducts, Conducts, after_notice, numbers_in, path_now}
+use Rattle.span_registry.specs.Conducts.{ArePlainConducts, Conducts, after_level, after_notice, filter_numbered, numbers_in, path_now, setting}
 use Rattle.span_registry.specs.Hooks.{no_filter}
 use Rattle.span_registry.specs.Path.{passes_path}
 use Rattle.span_registry.specs.Place.{Heard}
@@ -33,7 +34,8 @@ view_itself v = record { lane = refl; stack = refl; spans = λ x. refl }
 
 history_itself : (h : History) → AreAlikeHistories h h
 history_itself [] = tt
-history_itself ((e, v) ∷ h) = (refl, view_itself v, history_itself h)
+history_itself (OfNotice e v ∷ h) = (refl, view_itself v, history_itself h)
+history_itself (OfLevel l ∷ h) = (refl, history_itself h)
 
 -- extensions make no difference to it
 itself_alike : (b : Conduct) → IsPlain b → ActAlike b b
@@ -43,14 +45,18 @@ further_alike : (b c d : Conduct) → ActAlike b c → ActAlike c d → ActAlike
 further_alike b c d p q = record { plain = p.plain; same = λ h k a. p.same h k a ∙ q.same k k (history_itself k) }
 
 pub after_notice_alike : (e : Notice) (v w : View) (b c : Conduct) → AreAlike v w → ActAlike b c → ActAlike (after_notice e v b) (after_notice e w c)
-after_notice_alike (OnNewSpan attrs id) v w b c a p = record { plain = λ h. p.plain ((OnNewSpan attrs id, v) ∷ h); same = λ h k s. p.same ((OnNewSpan attrs id, v) ∷ h) ((OnNewSpan attrs id, w) ∷ k) (refl, a, s) }
-after_notice_alike (OnRecord id values) v w b c a p = record { plain = λ h. p.plain ((OnRecord id values, v) ∷ h); same = λ h k s. p.same ((OnRecord id values, v) ∷ h) ((OnRecord id values, w) ∷ k) (refl, a, s) }
+after_notice_alike (OnNewSpan attrs id) v w b c a p = record { plain = λ h. p.plain (OfNotice (OnNewSpan attrs id) v ∷ h); same = λ h k s. p.same (OfNotice (OnNewSpan attrs id) v ∷ h) (OfNotice (OnNewSpan attrs id) w ∷ k) (refl, a, s) }
+after_notice_alike (OnRecord id values) v w b c a p = record { plain = λ h. p.plain (OfNotice (OnRecord id values) v ∷ h); same = λ h k s. p.same (OfNotice (OnRecord id values) v ∷ h) (OfNotice (OnRecord id values) w ∷ k) (refl, a, s) }
 after_notice_alike (OnFollows id other) v w b c a p = p
 after_notice_alike (OnEvent e) v w b c a p = p
-after_notice_alike (OnEnter id) v w b c a p = record { plain = λ h. p.plain ((OnEnter id, v) ∷ h); same = λ h k s. p.same ((OnEnter id, v) ∷ h) ((OnEnter id, w) ∷ k) (refl, a, s) }
-after_notice_alike (OnExit id) v w b c a p = record { plain = λ h. p.plain ((OnExit id, v) ∷ h); same = λ h k s. p.same ((OnExit id, v) ∷ h) ((OnExit id, w) ∷ k) (refl, a, s) }
+after_notice_alike (OnEnter id) v w b c a p = record { plain = λ h. p.plain (OfNotice (OnEnter id) v ∷ h); same = λ h k s. p.same (OfNotice (OnEnter id) v ∷ h) (OfNotice (OnEnter id) w ∷ k) (refl, a, s) }
+after_notice_alike (OnExit id) v w b c a p = record { plain = λ h. p.plain (OfNotice (OnExit id) v ∷ h); same = λ h k s. p.same (OfNotice (OnExit id) v ∷ h) (OfNotice (OnExit id) w ∷ k) (refl, a, s) }
 after_notice_alike (OnIdChange id other) v w b c a p = p
-after_notice_alike (OnClose id) v w b c a p = record { plain = λ h. p.plain ((OnClose id, v) ∷ h); same = λ h k s. p.same ((OnClose id, v) ∷ h) ((OnClose id, w) ∷ k) (refl, a, s) }
+after_notice_alike (OnClose id) v w b c a p = record { plain = λ h. p.plain (OfNotice (OnClose id) v ∷ h); same = λ h k s. p.same (OfNotice (OnClose id) v ∷ h) (OfNotice (OnClose id) w ∷ k) (refl, a, s) }
+
+-- so do they once they took a level
+level_alike : (l : LevelFilter) (b c : Conduct) → ActAlike b c → ActAlike (after_level l b) (after_level l c)
+level_alike l b c p = record { plain = λ h. p.plain (OfLevel l ∷ h); same = λ h k s. p.same (OfLevel l ∷ h) (OfLevel l ∷ k) (refl, s) }
 
 -- ---- paths of them
 
@@ -166,6 +172,15 @@ by_test true false cs ds es fs e a b = absurd (true≢false e)
 by_test false true cs ds es fs e a b = absurd (false≢true e)
 by_test false false cs ds es fs e a b = b
 
+-- what such paths are once a level was set
+pub setting_alike : (n : ℕ) (l : LevelFilter) (cs ds : Conducts) → PathsActAlike cs ds → PathsActAlike (setting n l cs) (setting n l ds)
+setting_alike n l [] [] p = p
+setting_alike n l [] ((m, c) ∷ ds) p = absurd p
+setting_alike n l ((k, b) ∷ cs) [] p = absurd p
+setting_alike n l ((k, b) ∷ cs) ((m, c) ∷ ds) p =
+    by_test (filter_numbered k n) (filter_numbered m n) ((k, after_level l b) ∷ cs) ((k, b) ∷ setting n l cs) ((m, after_level l c) ∷ ds) ((m, c) ∷ setting n l ds)
+    (ap (λ (o : Option ℕ). filter_numbered o n) p.0) (p.0, level_alike l b c p.1, p.2) (p.0, p.1, setting_alike n l cs ds p.2)
+
 -- what such paths learn from a notice: asked in the stores before it, given in these
 pub learnt_alike : (numbers : FilterSet) (cs ds : Conducts) (e : Notice) (s t u v : Store) (lane : ℕ) (under : FilterSet) → AgreeAt numbers s t → AgreeAt numbers u v → PathsActAlike cs ds → Within (numbers_in cs) numbers → Within under numbers
     → PathsActAlike (learning cs e s u lane under) (learning ds e t v lane under)
@@ -198,9 +213,16 @@ learning_numbers ((Some n, b) ∷ cs) e s u lane under =
     let set = union under (single n) in
     numbers_tested (passes (b []) e s lane set) ((Some n, after_notice e (view_of u lane set) b) ∷ learning cs e s u lane set) ((Some n, b) ∷ cs) (numbers_in ((Some n, b) ∷ cs)) (λ i. union (single n) (learning_numbers cs e s u lane set i)) refl
 
+-- to set a level makes no difference to the numbers
+setting_numbers : (n : ℕ) (l : LevelFilter) (cs : Conducts) → numbers_in (setting n l cs) ≡ numbers_in cs
+setting_numbers n l [] = refl
+setting_numbers n l ((None, b) ∷ cs) = setting_numbers n l cs
+setting_numbers n l ((Some m, b) ∷ cs) = numbers_tested (filter_numbered (Some m) n) ((Some m, after_level l b) ∷ cs) ((Some m, b) ∷ setting n l cs) (numbers_in ((Some m, b) ∷ cs)) refl (λ i. union (single m) (setting_numbers n l cs i))
+
 pub acting_numbers : (cs : Conducts) (o : Outcome) (s t : Store) → numbers_in (acting cs o s t) ≡ numbers_in cs
 acting_numbers cs (Noticed lane e) s t = learning_numbers cs e s (given_in e s t) lane.0 no_filter
 acting_numbers cs (Quiet c) s t = refl
+acting_numbers cs (LevelSet n l) s t = setting_numbers n l cs
 
 pub itself_within : (a : FilterSet) → Within a a
 itself_within a n t = t
@@ -223,12 +245,14 @@ acting_alike cs ds (Noticed lane e) s t u v p before after =
     let numbers = numbers_in cs in
     learnt_alike numbers cs ds e s t (given_in e s u) (given_in e t v) lane.0 no_filter before (given_alike numbers e s t u v before after) p (itself_within numbers) (none_within numbers)
 acting_alike cs ds (Quiet c) s t u v p before after = p
+acting_alike cs ds (LevelSet n l) s t u v p before after = setting_alike n l cs ds p
 
 passed_both : (cs ds : Conducts) (o : Outcome) (s t : Store) → PathsActAlike cs ds → AgreeAt (numbers_in cs) s t → passed (Some (path_now cs)) o s ≡ passed (Some (path_now ds)) o t
 passed_both cs ds (Noticed lane e) s t p agree =
     let numbers = numbers_in cs in
     ap (λ (b : Bool). if b then (lane.0, e) ∷ [] else []) (paths_pass_alike numbers s t agree lane.0 cs ds e no_filter p (itself_within numbers) (none_within numbers))
 passed_both cs ds (Quiet c) s t p agree = refl
+passed_both cs ds (LevelSet n l) s t p agree = refl
 
 -- ---- steps of stores that agree
 
@@ -275,6 +299,7 @@ steps_agree cs ds (Noticed lane (OnIdChange id other)) s t u v p agree h k = abs
 steps_agree cs ds (Noticed lane (OnClose id)) s t u v p agree h k = changed (numbers_in cs) _ _ u v h.1 k.1 (without_agrees (numbers_in cs) s t (number_of id ∷ []) agree)
 steps_agree cs ds (Quiet (HandleAdded id)) s t u v p agree h k = changed (numbers_in cs) _ _ u v h.1 k.1 (added_agrees (numbers_in cs) s t (number_of id) agree)
 steps_agree cs ds (Quiet (HandleTaken id)) s t u v p agree h k = changed (numbers_in cs) _ _ u v h.1 k.1 (taken_agrees (numbers_in cs) s t (number_of id) agree)
+steps_agree cs ds (LevelSet n l) s t u v p agree h k = changed (numbers_in cs) s t u v h k agree
 steps_agree cs ds (Quiet (GoneLeft lane id)) s t u v p agree h k = changed (numbers_in cs) _ _ u v h.1 k.1 (exited_agrees (numbers_in cs) s t lane.0 (number_of id) agree)
 
 -- where the one takes a step, so does the other
@@ -300,6 +325,7 @@ step_over cs ds (Noticed lane (OnIdChange id other)) s t u p agree h = absurd h
 step_over cs ds (Noticed lane (OnClose id)) s t u p agree h = (without t (number_of id ∷ []), (closing_alike (numbers_in cs) s t (number_of id) agree h.0, refl))
 step_over cs ds (Quiet (HandleAdded id)) s t u p agree h = (record t { spans = add_handle t.spans (number_of id) }, (open_alike (numbers_in cs) s t (number_of id) agree h.0, refl))
 step_over cs ds (Quiet (HandleTaken id)) s t u p agree h = (record t { spans = take_handle t.spans (number_of id) }, (held_alike (numbers_in cs) s t (number_of id) agree h.0, refl))
+step_over cs ds (LevelSet n l) s t u p agree h = (t, refl)
 step_over cs ds (Quiet (GoneLeft lane id)) s t u p agree h = (exited t lane.0 (number_of id), (not_open_alike (numbers_in cs) s t (number_of id) agree h.0, refl))
 
 -- ---- what is seen alone

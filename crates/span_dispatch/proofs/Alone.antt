@@ -14,16 +14,17 @@ use Rattle.span_dispatch.proofs.Acting.{acting_numbers, alone_over, after_notice
 use Rattle.span_dispatch.proofs.Seen.{goes_through}
 use Rattle.span_dispatch.specs.Alone.{Alone, StepsAlone, acting, given_in, learning, lone, passed, seen, with_new}
 use Rattle.span_dispatch.specs.Isolation.{ActAlike, PathsActAlike, SeesMade, SeesServed}
-use Rattle.span_dispatch.specs.Outcome.{Change, Changes, GoneLeft, GoesOn, HandleAdded, HandleTaken, Made, Makes, Noticed, Outcome, Quiet, StepsAfter, StepsBefore}
+use Rattle.span_dispatch.specs.Outcome.{Change, Changes, GoneLeft, GoesOn, HandleAdded, HandleTaken, LevelSet, Made, Makes, Noticed, Outcome, Quiet, StepsAfter, StepsBefore}
 use Rattle.span_dispatch.specs.Serve.{EachSeesAlone, Sees, outcome_of, stack_of}
 use Rattle.span_layers.specs.Verdict.{AreDistinct, in_verdict, numbers_of}
 use Rattle.span_registry.proofs.Agreeing.{agree_aside, agree_refl, agree_sym, agree_trans, new_agrees_with, views_alike, without_agrees}
 use Rattle.span_registry.specs.Agree.{AgreeAt, SpansAgree}
 use Rattle.span_registry.specs.Answers.{AnswerAlike, Answers, Conduct, IsPlain, Notice, OnClose, OnEnter, OnEvent, OnExit, OnFollows, OnIdChange, OnNewSpan, OnRecord}
 use Rattle.span_registry.specs.Closes.{without}
-use Rattle.span_registry.specs.Conducts.{ActOn, ActsAt, ArePlainConducts, Conducts, Learns, PathsAnswerAlike, StackPathLaws, after_notice, numbers_in, path_now}
+use Rattle.span_registry.specs.Conducts.{ActOn, ActsAt, ArePlainConducts, Conducts, Learns, PathsAnswerAlike, StackPathLaws, after_notice, numbers_in, path_now, setting}
 use Rattle.span_registry.specs.Form.{Bare, Filtered, Form, Leaf, Over}
 use Rattle.span_registry.specs.Hooks.{StackLaws, StackSteps, no_filter}
+use Rattle.span_registry.specs.Levels.{LevelLaws, LevelSteps}
 use Rattle.span_registry.specs.Path.{Path, passes_path, path_at}
 use Rattle.span_registry.specs.Place.{HearSteps, Heard, Here, Inner, Outer, Place, Under}
 use Rattle.span_registry.specs.Plan.{Itself, Nobody, Plan, Through, asked_afresh, passes}
@@ -358,19 +359,20 @@ changed_alone cs (GoneLeft lane id) s t h =
 passed_alone : (path : Path) (cs : Conducts) (o : Outcome) (s : Store) → PathsAnswerAlike path (path_now cs) → passed (Some path) o s ≡ passed (Some (path_now cs)) o s
 passed_alone path cs (Noticed lane e) s alike = ap (λ (b : Bool). if b then (lane.0, e) ∷ [] else []) (paths_pass_same path (path_now cs) e s lane.0 no_filter alike)
 passed_alone path cs (Quiet c) s alike = refl
+passed_alone path cs (LevelSet n l) s alike = refl
 
 seen_so : (cs : Conducts) {s t : Store} {outcomes others : List Outcome} {h k : Heard} → s ≡ t → outcomes ≡ others → h ≡ k → Alone cs s outcomes h → Alone cs t others k
 seen_so cs {s} {t} {outcomes} {others} {h} {k} e f g a =
     subst (λ (x : Store). Alone cs x others k) e (subst (λ (x : List Outcome). Alone cs s x k) f (subst (λ (x : Heard). Alone cs s outcomes x) g a))
 
-module _ {S : Type 0} (registry : S → RegistryState) {with_registry : S → RegistryState → S} {has_form : S → Form → Type 0} {stepped : StackSteps S} {registered : S → S → Type 0} {acts_at : ActsAt S}
-    (paths : StackPathLaws with_registry has_form stepped registered acts_at) where
+module _ {S : Type 0} (registry : S → RegistryState) {with_registry : S → RegistryState → S} {has_form : S → Form → Type 0} {stepped : StackSteps S} {levelled : LevelSteps S} {registered : S → S → Type 0} {hears : HearSteps S} {acts_at : ActsAt S}
+    (paths : StackPathLaws with_registry has_form stepped registered acts_at) (levels : LevelLaws has_form levelled hears acts_at) where
   -- what an outcome leaves, alone: a store that agrees, and conducts as they are learnt from it
   abbrev LeavesAlone : Place → Conducts → Outcome → S → S → Type 0
   LeavesAlone place cs o x y =
       (t : Store) × StepsAlone (path_now cs) o (registry x).store t × AgreeAt (numbers_in cs) (registry y).store t × (ds : Conducts) × acts_at y place ds × PathsActAlike ds (acting cs o (registry x).store t)
 
-  leaves_alone : (f : Form) (o : Outcome) (x y : S) (place : Place) (cs : Conducts) → has_form x f → AreDistinct f → acts_at x place cs → GoesOn registry with_registry has_form stepped f o x y → LeavesAlone place cs o x y
+  leaves_alone : (f : Form) (o : Outcome) (x y : S) (place : Place) (cs : Conducts) → has_form x f → AreDistinct f → acts_at x place cs → GoesOn registry with_registry has_form stepped levelled f o x y → LeavesAlone place cs o x y
   leaves_alone f (Noticed lane e) x y place cs has distinct acts g =
       let numbers = numbers_in cs in
       let s = (registry x).store in
@@ -385,9 +387,12 @@ module _ {S : Type 0} (registry : S → RegistryState) {with_registry : S → Re
   leaves_alone f (Quiet c) x y place cs has distinct acts g =
       let step = changed_alone cs c (registry x) (registry y) g.changes in
       (step.0, step.1, step.2, cs, subst (λ (z : S). acts_at z place cs) (sym g.rest) (paths.acts_with x (registry y) place cs acts), paths_itself cs (paths.plain x place cs acts))
+  leaves_alone f (LevelSet n l) x y place cs has distinct acts g =
+      let later = levels.acts x n l y place cs g.goes acts in
+      ((registry x).store, refl, agrees_so (numbers_in cs) (registry x) (registry y) (registry x).store g.same (agree_refl (numbers_in cs) (registry x).store), setting n l cs, later, paths_itself (setting n l cs) (paths.plain y place (setting n l cs) later))
 
   -- on the stack's own store
-  sees_own : (x : S) (ms : List Made) (y : S) (place : Place) (cs : Conducts) → FoldsTo (Makes registry with_registry has_form stepped) x ms y → acts_at x place cs → Alone cs (registry x).store (map outcome_of ms) (seen place ms)
+  sees_own : (x : S) (ms : List Made) (y : S) (place : Place) (cs : Conducts) → FoldsTo (Makes registry with_registry has_form stepped levelled) x ms y → acts_at x place cs → Alone cs (registry x).store (map outcome_of ms) (seen place ms)
   sees_own x [] y place cs h acts = refl
   sees_own x (m ∷ ms) y place cs h acts =
       let made = h.1 in
@@ -406,18 +411,18 @@ module _ {S : Type 0} (registry : S → RegistryState) {with_registry : S → Re
       )
 
   -- what a leaf sees of what was made, it sees alone on any store that agrees
-  pub sees_alone : (x : S) (made : List Made) (y : S) → FoldsTo (Makes registry with_registry has_form stepped) x made y → EachSeesAlone registry acts_at x made
+  pub sees_alone : (x : S) (made : List Made) (y : S) → FoldsTo (Makes registry with_registry has_form stepped levelled) x made y → EachSeesAlone registry acts_at x made
   sees_alone x made y h place cs s acts agree = alone_over cs cs (registry x).store s (map outcome_of made) (seen place made) (paths_itself cs (paths.plain x place cs acts)) agree (sees_own x made y place cs h acts)
 
   -- so whatever is seen in a stack is seen alone
-  pub seen_made : (cs : Conducts) (s : Store) (outcomes : List Outcome) (h : Heard) → SeesMade registry with_registry has_form stepped acts_at cs s outcomes h → Alone cs s outcomes h
+  pub seen_made : (cs : Conducts) (s : Store) (outcomes : List Outcome) (h : Heard) → SeesMade registry with_registry has_form stepped levelled acts_at cs s outcomes h → Alone cs s outcomes h
   seen_made cs s outcomes h m = seen_so cs m.at_store m.at_outcomes m.sees (sees_own m.old m.made m.new m.place cs m.goes m.acts)
 
-  pub seen_served : {hears : HearSteps S} (cs : Conducts) (s : Store) (outcomes : List Outcome) (h : Heard) → SeesServed registry with_registry has_form stepped hears acts_at cs s outcomes h → Alone cs s outcomes h
+  pub seen_served : (cs : Conducts) (s : Store) (outcomes : List Outcome) (h : Heard) → SeesServed registry with_registry has_form stepped levelled hears acts_at cs s outcomes h → Alone cs s outcomes h
   seen_served cs s outcomes h m = seen_so cs m.at_store m.at_outcomes m.sees (m.served.alone m.place cs (registry (stack_of m.old)).store m.acts (agree_refl (numbers_in cs) (registry (stack_of m.old)).store))
 
-module _ {S : Type 0} (registry : S → RegistryState) {with_registry : S → RegistryState → S} {usable : S → Type 0} {has_form : S → Form → Type 0} {stepped : StackSteps S} {hears : HearSteps S} {registered : S → S → Type 0} {acts_at : ActsAt S}
-    (laws : StackLaws with_registry usable has_form stepped hears registered) (paths : StackPathLaws with_registry has_form stepped registered acts_at) where
+module _ {S : Type 0} (registry : S → RegistryState) {with_registry : S → RegistryState → S} {usable : S → Type 0} {has_form : S → Form → Type 0} {stepped : StackSteps S} {levelled : LevelSteps S} {hears : HearSteps S} {registered : S → S → Type 0} {acts_at : ActsAt S}
+    (laws : StackLaws with_registry usable has_form stepped hears registered) (paths : StackPathLaws with_registry has_form stepped registered acts_at) (levels : LevelLaws has_form levelled hears acts_at) where
   -- each leaf goes through what it sees of what was made, and sees it alone
-  pub sees_what_is_made : {x y : S} (made : List Made) → FoldsTo (Makes registry with_registry has_form stepped) x made y → Sees registry hears acts_at x made y
-  sees_what_is_made {x} {y} made folds = record { each = λ place. goes_through registry laws x made y place folds; alone = sees_alone registry paths x made y folds }
+  pub sees_what_is_made : {x y : S} (made : List Made) → FoldsTo (Makes registry with_registry has_form stepped levelled) x made y → Sees registry hears acts_at x made y
+  sees_what_is_made {x} {y} made folds = record { each = λ place. goes_through registry laws levels x made y place folds; alone = sees_alone registry paths levels x made y folds }

@@ -11,7 +11,7 @@ use Rattle.span_core.specs.declared.span.Id.{Id}
 use Rattle.span_core.specs.declared.span.Lane.{Lane}
 use Rattle.span_dispatch.specs.Admission.{IsDropped, IsUnknown, LearnsOfSpan, learned}
 use Rattle.span_dispatch.specs.Cache.{IsUpToDate, Memory, forgotten}
-use Rattle.span_dispatch.specs.Call.{AddHandle, AskCurrent, Call, DropHandle, Enter, Exit, Follow, OpenSpan, Probe, RecordValues, SendEvent, vetoes_whole}
+use Rattle.span_dispatch.specs.Call.{AddHandle, AskCurrent, Call, DropHandle, Enter, Exit, Follow, OpenSpan, Probe, RecordValues, SendEvent, SetLevel, vetoes_whole}
 use Rattle.span_dispatch.specs.Outcome.{Made, Makes, Noticed}
 use Rattle.span_dispatch.specs.Alone.{passed, seen}
 use Rattle.span_dispatch.specs.Serve.{AsksFor, IsReady, KeepsUpToDate, Run, Serves, ServesAsked, ServesRequest, forgetful, with_stack}
@@ -28,6 +28,7 @@ use Rattle.span_layers.specs.Verdict.{vetoes}
 use Rattle.span_registry.specs.Answers.{OnEvent, OnNewSpan}
 use Rattle.span_registry.specs.Form.{Form}
 use Rattle.span_registry.specs.Hooks.{StackSteps}
+use Rattle.span_registry.specs.Levels.{LevelSteps}
 use Rattle.span_registry.specs.Place.{Place}
 use Rattle.span_registry.specs.Step.{RefusesNew}
 use Rattle.span_registry.specs.Store.{RegistryState}
@@ -37,18 +38,18 @@ pub seen_append : (place : Place) (ms ns : List Made) → seen place (ms ++ ns) 
 seen_append place [] ns = refl
 seen_append place (m ∷ ms) ns = ap (λ h. passed (path_at m.form place) m.outcome m.store ++ h) (seen_append place ms ns) ∙ sym (append_assoc (passed (path_at m.form place) m.outcome m.store) (seen place ms) (seen place ns))
 
-module _ {S : Type 0} (registry : S → RegistryState) (with_registry : S → RegistryState → S) (has_form : S → Form → Type 0) (stepped : StackSteps S) where
+module _ {S : Type 0} (registry : S → RegistryState) (with_registry : S → RegistryState → S) (has_form : S → Form → Type 0) (stepped : StackSteps S) (levelled : LevelSteps S) where
   -- a list that begins with a request: it has an answer, and the rest was served behind that
   pub next_served : (past : List Answer) (r : Request) (rs : List Request) (answers : List Answer) (made : List (List Made)) (memory : Memory) (x : S) (after : Memory) (y : S) (G : List Answer → List (List Made) → Type 0)
-      → ((a : Answer) (rest : List Answer) (ms : List Made) (more : List (List Made)) (between : Memory) (z : S) → ServesRequest registry with_registry has_form stepped past r memory x a ms between z
-      → Run registry with_registry has_form stepped (past ++ (a ∷ [])) rs rest more between z after y → G (a ∷ rest) (ms ∷ more))
-      → Run registry with_registry has_form stepped past (r ∷ rs) answers made memory x after y → G answers made
+      → ((a : Answer) (rest : List Answer) (ms : List Made) (more : List (List Made)) (between : Memory) (z : S) → ServesRequest registry with_registry has_form stepped levelled past r memory x a ms between z
+      → Run registry with_registry has_form stepped levelled (past ++ (a ∷ [])) rs rest more between z after y → G (a ∷ rest) (ms ∷ more))
+      → Run registry with_registry has_form stepped levelled past (r ∷ rs) answers made memory x after y → G answers made
   next_served past r rs [] made memory x after y G k h = absurd h
   next_served past r rs (a ∷ rest) [] memory x after y G k h = absurd h
   next_served past r rs (a ∷ rest) (ms ∷ more) memory x after y G k h = k a rest ms more h.0 h.1 h.2 h.3
 
   -- an empty list has no answer, and nothing was made of it
-  pub none_served : (past : List Answer) (answers : List Answer) (made : List (List Made)) (memory : Memory) (x : S) (after : Memory) (y : S) (G : List Answer → List (List Made) → Type 0) → G [] [] → Run registry with_registry has_form stepped past [] answers made memory x after y → G answers made
+  pub none_served : (past : List Answer) (answers : List Answer) (made : List (List Made)) (memory : Memory) (x : S) (after : Memory) (y : S) (G : List Answer → List (List Made) → Type 0) → G [] [] → Run registry with_registry has_form stepped levelled past [] answers made memory x after y → G answers made
   none_served past [] [] memory x after y G k h = k
   none_served past [] (m ∷ made) memory x after y G k h = absurd h
   none_served past (a ∷ answers) made memory x after y G k h = absurd h
@@ -61,10 +62,10 @@ module _ {S : Type 0} (registry : S → RegistryState) (with_registry : S → Re
 
   abbrev pub MadeSpan : List Answer → Request → Lane → Memory → S → Goal → Type 0
   MadeSpan past r lane memory x G = (id : Id) (attrs : Attributes) (f : Form) (one : Made) (after : Memory) (z : S) → AsksFor past r (Some (OpenSpan lane attrs)) → after ≡ learned memory f (metadata_of attrs)
-      → one.outcome ≡ Noticed lane (OnNewSpan attrs id) → Makes registry with_registry has_form stepped x one z → G (answer.Made id) (one ∷ []) after z
+      → one.outcome ≡ Noticed lane (OnNewSpan attrs id) → Makes registry with_registry has_form stepped levelled x one z → G (answer.Made id) (one ∷ []) after z
 
   abbrev pub DroppedSpan : List Answer → Request → Lane → Memory → S → Goal → Type 0
-  DroppedSpan past r lane memory x G = (attrs : Attributes) (f : Form) (after : Memory) → AsksFor past r (Some (OpenSpan lane attrs)) → IsReady registry with_registry has_form stepped f x
+  DroppedSpan past r lane memory x G = (attrs : Attributes) (f : Form) (after : Memory) → AsksFor past r (Some (OpenSpan lane attrs)) → IsReady registry with_registry has_form stepped levelled f x
       → IsDropped memory f (registry x) lane (metadata_of attrs) (vetoes f (metadata_of attrs) (registry x).store lane.0) → after ≡ learned memory f (metadata_of attrs) → G answer.Dropped [] after x
 
   abbrev pub RefusedSpan : List Answer → Request → Lane → Memory → S → Goal → Type 0
@@ -72,7 +73,7 @@ module _ {S : Type 0} (registry : S → RegistryState) (with_registry : S → Re
       → LearnsOfSpan memory f (metadata_of attrs) (answer.Refused e) after → G (answer.Refused e) [] after x
 
   opened : (past : List Answer) (r : Request) (lane : Lane) (attrs : Attributes) (f : Form) (memory : Memory) (x : S) (a : Answer) (made : List Made) (after : Memory) (y : S) (G : Goal) → MadeSpan past r lane memory x G → DroppedSpan past r lane memory x G
-      → RefusedSpan past r lane memory x G → AsksFor past r (Some (OpenSpan lane attrs)) → IsReady registry with_registry has_form stepped f x → Serves registry with_registry has_form stepped (OpenSpan lane attrs) f memory x a made after y → G a made after y
+      → RefusedSpan past r lane memory x G → AsksFor past r (Some (OpenSpan lane attrs)) → IsReady registry with_registry has_form stepped levelled f x → Serves registry with_registry has_form stepped levelled (OpenSpan lane attrs) f memory x a made after y → G a made after y
   opened past r lane attrs f memory x (answer.Made id) [] after y G new dropped refused asks ready s = let e = s.comes.1 in absurd (cc)
   opened past r lane attrs f memory x (answer.Made id) (one ∷ []) after y G new dropped refused asks ready s =
       let e = s.comes.1 in
@@ -94,12 +95,12 @@ module _ {S : Type 0} (registry : S → RegistryState) (with_registry : S → Re
 
   pub span_served : (past : List Answer) (lane : Lane) (m : Metadata) (p : WhichParent) (values : _) (memory : Memory) (x : S) (a : Answer) (made : List Made) (after : Memory) (y : S) (G : Goal)
       → MadeSpan past (request.NewSpan lane m p values) lane memory x G → DroppedSpan past (request.NewSpan lane m p values) lane memory x G → RefusedSpan past (request.NewSpan lane m p values) lane memory x G
-      → ServesRequest registry with_registry has_form stepped past (request.NewSpan lane m p values) memory x a made after y → G a made after y
+      → ServesRequest registry with_registry has_form stepped levelled past (request.NewSpan lane m p values) memory x a made after y → G a made after y
   span_served past lane m p values memory x a made after y G new dropped refused h = by_call h.call h.asks h.served
     where
-      by_call : (o : Option Call) → AsksFor past (request.NewSpan lane m p values) o → ServesAsked registry with_registry has_form stepped o memory x a made after y → G a made after y
+      by_call : (o : Option Call) → AsksFor past (request.NewSpan lane m p values) o → ServesAsked registry with_registry has_form stepped levelled o memory x a made after y → G a made after y
       by_call (Some (OpenSpan l attrs)) asks s =
-          opened past (request.NewSpan lane m p values) lane attrs s.0 memory x a made after y G new dropped refused (refl, asks.1, asks.2, asks.3) s.1 (subst (λ k. Serves registry with_registry has_form stepped (OpenSpan k attrs) s.0 memory x a made after y) asks.0 s.2)
+          opened past (request.NewSpan lane m p values) lane attrs s.0 memory x a made after y G new dropped refused (refl, asks.1, asks.2, asks.3) s.1 (subst (λ k. Serves registry with_registry has_form stepped levelled (OpenSpan k attrs) s.0 memory x a made after y) asks.0 s.2)
       by_call (Some (SendEvent l e)) asks s = absurd asks
       by_call (Some (Enter l id)) asks s = absurd asks
       by_call (Some (Exit l id)) asks s = absurd asks
@@ -109,16 +110,17 @@ module _ {S : Type 0} (registry : S → RegistryState) (with_registry : S → Re
       by_call (Some (DropHandle l id)) asks s = absurd asks
       by_call (Some (Probe l k)) asks s = absurd asks
       by_call (Some (AskCurrent l)) asks s = absurd asks
+      by_call (Some (SetLevel n k)) asks s = absurd asks
       by_call None asks s = absurd asks
 
   -- ---- a request for an event: its notice alone came of it; or it was dropped, or refused, and nothing came of it
 
   abbrev pub MadeEvent : List Answer → Request → Lane → Memory → S → Goal → Type 0
   MadeEvent past r lane memory x G = (e : Event) (f : Form) (one : Made) (after : Memory) (z : S) → AsksFor past r (Some (SendEvent lane e)) → after ≡ learned memory f (event_metadata e) → one.outcome ≡ Noticed lane (OnEvent e)
-      → Makes registry with_registry has_form stepped x one z → G answer.Done (one ∷ []) after z
+      → Makes registry with_registry has_form stepped levelled x one z → G answer.Done (one ∷ []) after z
 
   abbrev pub DroppedEvent : List Answer → Request → Lane → Memory → S → Goal → Type 0
-  DroppedEvent past r lane memory x G = (e : Event) (f : Form) (after : Memory) → AsksFor past r (Some (SendEvent lane e)) → IsReady registry with_registry has_form stepped f x
+  DroppedEvent past r lane memory x G = (e : Event) (f : Form) (after : Memory) → AsksFor past r (Some (SendEvent lane e)) → IsReady registry with_registry has_form stepped levelled f x
       → IsDropped memory f (registry x) lane (event_metadata e) (vetoes_whole f e (registry x).store lane) → after ≡ learned memory f (event_metadata e) → G answer.Dropped [] after x
 
   abbrev pub RefusedEvent : List Answer → Request → Lane → Memory → S → Goal → Type 0
@@ -126,7 +128,7 @@ module _ {S : Type 0} (registry : S → RegistryState) (with_registry : S → Re
       → G (answer.Refused error) [] after x
 
   sent : (past : List Answer) (r : Request) (lane : Lane) (event : Event) (f : Form) (memory : Memory) (x : S) (a : Answer) (made : List Made) (after : Memory) (y : S) (G : Goal) → MadeEvent past r lane memory x G → DroppedEvent past r lane memory x G
-      → RefusedEvent past r lane memory x G → AsksFor past r (Some (SendEvent lane event)) → IsReady registry with_registry has_form stepped f x → Serves registry with_registry has_form stepped (SendEvent lane event) f memory x a made after y → G a made after y
+      → RefusedEvent past r lane memory x G → AsksFor past r (Some (SendEvent lane event)) → IsReady registry with_registry has_form stepped levelled f x → Serves registry with_registry has_form stepped levelled (SendEvent lane event) f memory x a made after y → G a made after y
   sent past r lane event f memory x answer.Done [] after y G new dropped refused asks ready s = let e = s.comes.1 in absurd (cc)
   sent past r lane event f memory x answer.Done (one ∷ []) after y G new dropped refused asks ready s =
       let e = s.comes.1 in
@@ -144,12 +146,12 @@ module _ {S : Type 0} (registry : S → RegistryState) (with_registry : S → Re
 
   pub event_served : (past : List Answer) (lane : Lane) (m : Metadata) (p : WhichParent) (values : _) (memory : Memory) (x : S) (a : Answer) (made : List Made) (after : Memory) (y : S) (G : Goal)
       → MadeEvent past (request.Event lane m p values) lane memory x G → DroppedEvent past (request.Event lane m p values) lane memory x G → RefusedEvent past (request.Event lane m p values) lane memory x G
-      → ServesRequest registry with_registry has_form stepped past (request.Event lane m p values) memory x a made after y → G a made after y
+      → ServesRequest registry with_registry has_form stepped levelled past (request.Event lane m p values) memory x a made after y → G a made after y
   event_served past lane m p values memory x a made after y G new dropped refused h = by_call h.call h.asks h.served
     where
-      by_call : (o : Option Call) → AsksFor past (request.Event lane m p values) o → ServesAsked registry with_registry has_form stepped o memory x a made after y → G a made after y
+      by_call : (o : Option Call) → AsksFor past (request.Event lane m p values) o → ServesAsked registry with_registry has_form stepped levelled o memory x a made after y → G a made after y
       by_call (Some (SendEvent l e)) asks s =
-          sent past (request.Event lane m p values) lane e s.0 memory x a made after y G new dropped refused (refl, asks.1, asks.2, asks.3) s.1 (subst (λ k. Serves registry with_registry has_form stepped (SendEvent k e) s.0 memory x a made after y) asks.0 s.2)
+          sent past (request.Event lane m p values) lane e s.0 memory x a made after y G new dropped refused (refl, asks.1, asks.2, asks.3) s.1 (subst (λ k. Serves registry with_registry has_form stepped levelled (SendEvent k e) s.0 memory x a made after y) asks.0 s.2)
       by_call (Some (OpenSpan l attrs)) asks s = absurd asks
       by_call (Some (Enter l id)) asks s = absurd asks
       by_call (Some (Exit l id)) asks s = absurd asks
@@ -159,6 +161,7 @@ module _ {S : Type 0} (registry : S → RegistryState) (with_registry : S → Re
       by_call (Some (DropHandle l id)) asks s = absurd asks
       by_call (Some (Probe l k)) asks s = absurd asks
       by_call (Some (AskCurrent l)) asks s = absurd asks
+      by_call (Some (SetLevel n k)) asks s = absurd asks
       by_call None asks s = absurd asks
 
 -- where nothing is kept, what is dropped is vetoed, and no interest is wanting

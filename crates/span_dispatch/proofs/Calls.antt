@@ -23,7 +23,7 @@ use Rattle.span_dispatch.specs.Outcome.{GoneLeft, HandleAdded, HandleTaken, IsHo
 use Rattle.span_dispatch.specs.Serve.{ClosesEach, IsReady, outcome_of}
 use Rattle.span_dispatch.specs.declared.request.Answer.TheVariants as answer
 use Rattle.span_dispatch.specs.declared.request.Answer.{Answer}
-use Rattle.span_layers.proofs.HonestKept.{honesty_is_kept}
+use Rattle.span_layers.proofs.RulesKept.{honesty_is_kept}
 use Rattle.span_layers.specs.Honest.{IsHonestStack}
 use Rattle.span_layers.proofs.Pass.{asked_unless_vetoed, event_fresh, event_unless_vetoed, new_span_fresh, others_afresh}
 use Rattle.span_layers.specs.Verdict.{IsOrderly, vetoes, vetoes_event}
@@ -32,6 +32,7 @@ use Rattle.span_registry.specs.Closes.{IsSettled}
 use Rattle.span_registry.specs.Follows.{Keeps, kept_form}
 use Rattle.span_registry.specs.Form.{Form}
 use Rattle.span_registry.specs.Hooks.{AnswersEvent, Notifies, OpensAndNotifies, StackLaws, StackSteps, Stays, no_filter}
+use Rattle.span_registry.specs.Levels.{LevelSteps, kept_rules}
 use Rattle.span_registry.specs.Place.{HearSteps}
 use Rattle.span_registry.specs.Plan.{asked_afresh, by_pass}
 use Rattle.span_registry.specs.Question.{asked, event_asked, refusals}
@@ -65,16 +66,16 @@ or_both_false true b h k = h
 or_both_false false b h k = k
 
 module _ {S : Type 0} {registry : S → RegistryState} {with_registry : S → RegistryState → S} {usable : S → Type 0} {has_form : S → Form → Type 0} {stepped : StackSteps S} {hears : HearSteps S} {registered : S → S → Type 0}
-    (laws : StackLaws with_registry usable has_form stepped hears registered) (with_own : (s : S) → with_registry s (registry s) ≡ s) (memory : Memory) where
+    (laws : StackLaws with_registry usable has_form stepped hears registered) (with_own : (s : S) → with_registry s (registry s) ≡ s) (levelled : LevelSteps S) (memory : Memory) where
   abbrev pub Ready : Form → S → Type 0
-  Ready f x = IsReady registry with_registry has_form stepped f x
+  Ready f x = IsReady registry with_registry has_form stepped levelled f x
 
   abbrev pub Honest : Form → S → Type 0
-  Honest f x = IsHonest registry with_registry has_form stepped f x
+  Honest f x = IsHonest registry with_registry has_form stepped levelled f x
 
   -- a call is served that leaves what is kept as it is
   abbrev pub Ends : Call → Answer → Form → S → S → Type 0
-  Ends call a f x y = Done laws with_own call a f memory x memory y
+  Ends call a f x y = Done laws with_own levelled call a f memory x memory y
 
   -- ---- questions
 
@@ -83,16 +84,16 @@ module _ {S : Type 0} {registry : S → RegistryState} {with_registry : S → Re
   current_number s lane (Some p) h = h
 
   pub current_so : (lane : Lane) (c : Current) (f : Form) (x : S) → ShowsCurrent (registry x).store lane c → Honest f x → Ends (AskCurrent lane) (current_answer c) f x x
-  current_so lane c f x shown h = by_none laws with_own (AskCurrent lane) (current_answer c) f memory x memory x h refl (current_number (registry x).store lane.0 (current_span c) shown.span, refl) refl
+  current_so lane c f x shown h = by_none laws with_own levelled (AskCurrent lane) (current_answer c) f memory x memory x h refl (current_number (registry x).store lane.0 (current_span c) shown.span, refl) refl
 
   -- where all were asked and answered true, no leaf vetoes
   unvetoed : (f : Form) (m : Metadata) (s : Store) (lane : Lane) (pass : Pass) → IsOrderly f → asked f m s lane.0 no_filter no_filter ≡ (true, refusals pass) → vetoes f m s lane.0 ≡ false
   unvetoed f m s lane pass orderly e = not_true _ (sym (asked_unless_vetoed f m s lane.0 no_filter orderly) ∙ ap (λ (p : Bool × FilterSet). p.0) e)
 
-  pub probed : (lane : Lane) (m : Metadata) (pass : Pass) (said : Result Bool TraceError) (after : Memory) (f : Form) (x : S) → IsAdmitted memory f (registry x) lane m pass after said → Honest f x → Done laws with_own (Probe lane m) (yes_answer said) f memory x after x
-  probed lane m pass (Ok true) after f x a h = by_none laws with_own (Probe lane m) (answer.Yes true) f memory x after x h refl ((a.0, unvetoed f m (registry x).store lane pass h.rules.orderly a.1), refl) a.2
-  probed lane m pass (Ok false) after f x a h = by_none laws with_own (Probe lane m) (answer.Yes false) f memory x after x h refl (a.0, refl) a.1
-  probed lane m pass (Err e) after f x a h = by_none laws with_own (Probe lane m) (answer.Refused e) f memory x after x h refl (a.0, refl) a.1
+  pub probed : (lane : Lane) (m : Metadata) (pass : Pass) (said : Result Bool TraceError) (after : Memory) (f : Form) (x : S) → IsAdmitted memory f (registry x) lane m pass after said → Honest f x → Done laws with_own levelled (Probe lane m) (yes_answer said) f memory x after x
+  probed lane m pass (Ok true) after f x a h = by_none laws with_own levelled (Probe lane m) (answer.Yes true) f memory x after x h refl ((a.0, unvetoed f m (registry x).store lane pass h.rules.orderly a.1), refl) a.2
+  probed lane m pass (Ok false) after f x a h = by_none laws with_own levelled (Probe lane m) (answer.Yes false) f memory x after x h refl (a.0, refl) a.1
+  probed lane m pass (Err e) after f x a h = by_none laws with_own levelled (Probe lane m) (answer.Refused e) f memory x after x h refl (a.0, refl) a.1
 
   -- ---- new spans
 
@@ -103,32 +104,32 @@ module _ {S : Type 0} {registry : S → RegistryState} {with_registry : S → Re
   by_metadata : (f : Form) (x : S) (lane : Lane) (m meta : Metadata) (pass : Pass) (after : Memory) (said : Result Bool TraceError) → m ≡ meta → Admitted f x lane m pass after said → Admitted f x lane meta pass after said
   by_metadata f x lane m meta pass after said same a = subst (λ n. Admitted f x lane n pass after said) same a
 
-  pub span_dropped : (lane : Lane) (attrs : Attributes) (m : Metadata) (pass : Pass) (after : Memory) (f : Form) (x : S) → m ≡ metadata_of attrs → Admitted f x lane m pass after (Ok false) → Honest f x → Done laws with_own (OpenSpan lane attrs) answer.Dropped f memory x after x
+  pub span_dropped : (lane : Lane) (attrs : Attributes) (m : Metadata) (pass : Pass) (after : Memory) (f : Form) (x : S) → m ≡ metadata_of attrs → Admitted f x lane m pass after (Ok false) → Honest f x → Done laws with_own levelled (OpenSpan lane attrs) answer.Dropped f memory x after x
   span_dropped lane attrs m pass after f x same a h =
       let d = by_metadata f x lane m (metadata_of attrs) pass after (Ok false) same a in
-      by_none laws with_own (OpenSpan lane attrs) answer.Dropped f memory x after x h refl (d.0, refl) d.1
+      by_none laws with_own levelled (OpenSpan lane attrs) answer.Dropped f memory x after x h refl (d.0, refl) d.1
 
-  pub span_unknown : (lane : Lane) (attrs : Attributes) (m : Metadata) (pass : Pass) (e : TraceError) (after : Memory) (f : Form) (x : S) → m ≡ metadata_of attrs → Admitted f x lane m pass after (Err e) → Honest f x → Done laws with_own (OpenSpan lane attrs) (answer.Refused e) f memory x after x
+  pub span_unknown : (lane : Lane) (attrs : Attributes) (m : Metadata) (pass : Pass) (e : TraceError) (after : Memory) (f : Form) (x : S) → m ≡ metadata_of attrs → Admitted f x lane m pass after (Err e) → Honest f x → Done laws with_own levelled (OpenSpan lane attrs) (answer.Refused e) f memory x after x
   span_unknown lane attrs m pass e after f x same a h =
       let d = by_metadata f x lane m (metadata_of attrs) pass after (Err e) same a in
-      by_none laws with_own (OpenSpan lane attrs) (answer.Refused e) f memory x after x h refl (inl d.0, refl) (inl (d.0.refused, d.1))
+      by_none laws with_own levelled (OpenSpan lane attrs) (answer.Refused e) f memory x after x h refl (inl d.0, refl) (inl (d.0.refused, d.1))
 
   pub span_made : (lane : Lane) (attrs : Attributes) (m : Metadata) (pass : Pass) (id : Id) (after : Memory) (f : Form) (x y : S) → m ≡ metadata_of attrs → Admitted f x lane m pass after (Ok true)
-      → OpensAndNotifies registry has_form stepped lane attrs pass x y id → Honest f x → Done laws with_own (OpenSpan lane attrs) (answer.Made id) f memory x after y
+      → OpensAndNotifies registry has_form stepped lane attrs pass x y id → Honest f x → Done laws with_own levelled (OpenSpan lane attrs) (answer.Made id) f memory x after y
   span_made lane attrs m pass id after f x y same a n h =
       let s = (registry x).store in
       let d = by_metadata f x lane m (metadata_of attrs) pass after (Ok true) same a in
       let refused = ap (λ (p : Bool × FilterSet). p.1) d.1 in
       let law = new_span_fresh f attrs id s lane.0 h.rules.numbers.distinct (ap (λ (p : Bool × FilterSet). p.0) d.1) in
       let plan = subst (λ r. by_pass f (OnNewSpan attrs id) n.left.store.spans no_filter r ≡ asked_afresh f (OnNewSpan attrs id) s lane.0 no_filter) refused (law.plan n.left.store.spans) in
-      by_call laws with_own (OpenSpan lane attrs) (answer.Made id) f lane (OnNewSpan attrs id) (refusals pass) _ memory x after y h ((d.0, unvetoed f (metadata_of attrs) s lane pass h.rules.orderly d.1), refl) d.2
+      by_call laws with_own levelled (OpenSpan lane attrs) (answer.Made id) f lane (OnNewSpan attrs id) (refusals pass) _ memory x after y h ((d.0, unvetoed f (metadata_of attrs) s lane pass h.rules.orderly d.1), refl) d.2
       n plan (refused_of pass, (λ k. ap (λ (r : FilterSet). r k) (sym refused) ∙ law.verdict k), n.taken) refl
 
   pub span_refused : (lane : Lane) (attrs : Attributes) (m : Metadata) (pass : Pass) (e : TraceError) (after : Memory) (f : Form) (x y : S) → m ≡ metadata_of attrs → Admitted f x lane m pass after (Ok true)
-      → RefusesNew (registry x) lane (asked_parent attrs) e → y ≡ x → Honest f x → Done laws with_own (OpenSpan lane attrs) (answer.Refused e) f memory x after y
+      → RefusesNew (registry x) lane (asked_parent attrs) e → y ≡ x → Honest f x → Done laws with_own levelled (OpenSpan lane attrs) (answer.Refused e) f memory x after y
   span_refused lane attrs m pass e after f x y same a r u h =
       let d = by_metadata f x lane m (metadata_of attrs) pass after (Ok true) same a in
-      by_none laws with_own (OpenSpan lane attrs) (answer.Refused e) f memory x after y h u (inr ((d.0, unvetoed f (metadata_of attrs) (registry x).store lane pass h.rules.orderly d.1), r), refl) (inr d.2)
+      by_none laws with_own levelled (OpenSpan lane attrs) (answer.Refused e) f memory x after y h u (inr ((d.0, unvetoed f (metadata_of attrs) (registry x).store lane pass h.rules.orderly d.1), r), refl) (inr d.2)
 
   -- ---- events
 
@@ -137,28 +138,28 @@ module _ {S : Type 0} {registry : S → RegistryState} {with_registry : S → Re
   dropped_whole f s lane e (inl d) = inl d
   dropped_whole f s lane e (inr d) = inr (d.0, or_left_true _ _ d.1)
 
-  pub event_dropped : (lane : Lane) (e : Event) (m : Metadata) (pass : Pass) (after : Memory) (f : Form) (x : S) → m ≡ event_metadata e → Admitted f x lane m pass after (Ok false) → Honest f x → Done laws with_own (SendEvent lane e) answer.Dropped f memory x after x
+  pub event_dropped : (lane : Lane) (e : Event) (m : Metadata) (pass : Pass) (after : Memory) (f : Form) (x : S) → m ≡ event_metadata e → Admitted f x lane m pass after (Ok false) → Honest f x → Done laws with_own levelled (SendEvent lane e) answer.Dropped f memory x after x
   event_dropped lane e m pass after f x same a h =
       let d = by_metadata f x lane m (event_metadata e) pass after (Ok false) same a in
-      by_none laws with_own (SendEvent lane e) answer.Dropped f memory x after x h refl (dropped_whole f (registry x) lane e d.0, refl) d.1
+      by_none laws with_own levelled (SendEvent lane e) answer.Dropped f memory x after x h refl (dropped_whole f (registry x) lane e d.0, refl) d.1
 
-  pub event_unknown : (lane : Lane) (e : Event) (m : Metadata) (pass : Pass) (error : TraceError) (after : Memory) (f : Form) (x : S) → m ≡ event_metadata e → Admitted f x lane m pass after (Err error) → Honest f x → Done laws with_own (SendEvent lane e) (answer.Refused error) f memory x after x
+  pub event_unknown : (lane : Lane) (e : Event) (m : Metadata) (pass : Pass) (error : TraceError) (after : Memory) (f : Form) (x : S) → m ≡ event_metadata e → Admitted f x lane m pass after (Err error) → Honest f x → Done laws with_own levelled (SendEvent lane e) (answer.Refused error) f memory x after x
   event_unknown lane e m pass error after f x same a h =
       let d = by_metadata f x lane m (event_metadata e) pass after (Err error) same a in
-      by_none laws with_own (SendEvent lane e) (answer.Refused error) f memory x after x h refl (d.0, refl) d.1
+      by_none laws with_own levelled (SendEvent lane e) (answer.Refused error) f memory x after x h refl (d.0, refl) d.1
 
   wanted_or_vetoed : (f : Form) (x : S) (lane : Lane) (e : Event) (before pass : Pass) (said : Bool) → Honest f x → AnswersEvent registry has_form x lane e before said pass → said ≡ not (vetoes_event f e (registry x).store lane.0)
   wanted_or_vetoed f x lane e before pass said h a = (a f h.has).answer ∙ event_unless_vetoed f e (registry x).store lane.0 (refusals before) h.rules.orderly
 
   pub event_vetoed : (lane : Lane) (e : Event) (m : Metadata) (first second : Pass) (wanted : Bool) (after : Memory) (f : Form) (x : S) → m ≡ event_metadata e → Admitted f x lane m first after (Ok true) → wanted ≡ false
-      → AnswersEvent registry has_form x lane e first wanted second → Honest f x → Done laws with_own (SendEvent lane e) answer.Dropped f memory x after x
+      → AnswersEvent registry has_form x lane e first wanted second → Honest f x → Done laws with_own levelled (SendEvent lane e) answer.Dropped f memory x after x
   event_vetoed lane e m first second wanted after f x same a no_one b h =
       let d = by_metadata f x lane m (event_metadata e) first after (Ok true) same a in
       let vetoed = not_false _ (sym (wanted_or_vetoed f x lane e first second wanted h b) ∙ no_one) in
-      by_none laws with_own (SendEvent lane e) answer.Dropped f memory x after x h refl (inr (d.0, or_right_true _ _ vetoed), refl) d.2
+      by_none laws with_own levelled (SendEvent lane e) answer.Dropped f memory x after x h refl (inr (d.0, or_right_true _ _ vetoed), refl) d.2
 
   pub event_made : (lane : Lane) (e : Event) (m : Metadata) (first second : Pass) (wanted : Bool) (after : Memory) (f : Form) (x y : S) → m ≡ event_metadata e → Admitted f x lane m first after (Ok true) → wanted ≡ true
-      → AnswersEvent registry has_form x lane e first wanted second → Notifies registry has_form stepped lane (refusals second) (OnEvent e) Stays x y → Honest f x → Done laws with_own (SendEvent lane e) answer.Done f memory x after y
+      → AnswersEvent registry has_form x lane e first wanted second → Notifies registry has_form stepped lane (refusals second) (OnEvent e) Stays x y → Honest f x → Done laws with_own levelled (SendEvent lane e) answer.Done f memory x after y
   event_made lane e m first second wanted after f x y same a agreed b n h =
       let s = (registry x).store in
       let d = by_metadata f x lane m (event_metadata e) first after (Ok true) same a in
@@ -169,7 +170,7 @@ module _ {S : Type 0} {registry : S → RegistryState} {with_registry : S → Re
       let refused : refusals second ≡ (event_asked f e s lane.0 no_filter asked_first).1 =
       (b f h.has).refused ∙ ap (λ r. (event_asked f e s lane.0 no_filter r).1) (sym (ap (λ (p : Bool × FilterSet). p.1) d.1)) in
       let plan = subst (λ r. by_pass f (OnEvent e) n.left.store.spans no_filter r ≡ asked_afresh f (OnEvent e) s lane.0 no_filter) (sym refused) (law n.left.store.spans) in
-      by_call laws with_own (SendEvent lane e) answer.Done f lane (OnEvent e) (refusals second) _ memory x after y h
+      by_call laws with_own levelled (SendEvent lane e) answer.Done f lane (OnEvent e) (refusals second) _ memory x after y h
       ((d.0, or_both_false _ _ (unvetoed f (event_metadata e) s lane first h.rules.orderly d.1) unvetoed_now), refl) d.2 n plan n.taken refl
 
   -- ---- enters, exits, and what else is said of a span
@@ -182,31 +183,31 @@ module _ {S : Type 0} {registry : S → RegistryState} {with_registry : S → Re
   pub entered_so : (lane : Lane) (id : Id) (r : Result (Unit {0}) TraceError) (f : Form) (x y : S) → OnOk r (Notifies registry has_form stepped lane no_filter (OnEnter id) (Enters lane id) x y) → IfErr r (RefusesEnter (registry x) id) → OnErr r (y ≡ x)
       → Honest f x → Ends (Enter lane id) (done_answer r) f x y
   entered_so lane id (Ok u) f x y n r e h =
-      by_call laws with_own (Enter lane id) answer.Done f lane (OnEnter id) no_filter _ memory x memory y h (tt, refl) refl
+      by_call laws with_own levelled (Enter lane id) answer.Done f lane (OnEnter id) no_filter _ memory x memory y h (tt, refl) refl
       n (kept_plan f (OnEnter id) x lane _ (ap (λ (t : RegistryState). t.store.spans) n.taken.state) (others_afresh f (OnEnter id) (registry x).store lane.0 no_filter no_filter)) n.taken refl
-  entered_so lane id (Err error) f x y n r e h = by_none laws with_own (Enter lane id) (answer.Refused error) f memory x memory y h e (r, refl) refl
+  entered_so lane id (Err error) f x y n r e h = by_none laws with_own levelled (Enter lane id) (answer.Refused error) f memory x memory y h e (r, refl) refl
 
   pub left_so : (lane : Lane) (id : Id) (f : Form) (x y : S) → IsOpen (registry x).store.spans (number_of id) → Notifies registry has_form stepped lane no_filter (OnExit id) (Exits lane id) x y → Honest f x → Ends (Exit lane id) answer.Done f x y
   left_so lane id f x y there n h =
-      by_call laws with_own (Exit lane id) answer.Done f lane (OnExit id) no_filter _ memory x memory y h (record { there = λ o. refl; gone = λ shut. absurd (shut there) }) refl
+      by_call laws with_own levelled (Exit lane id) answer.Done f lane (OnExit id) no_filter _ memory x memory y h (record { there = λ o. refl; gone = λ shut. absurd (shut there) }) refl
       n (kept_plan f (OnExit id) x lane _ (ap (λ (t : RegistryState). t.store.spans) n.taken) (others_afresh f (OnExit id) (registry x).store lane.0 no_filter no_filter)) (there, n.taken) refl
 
   pub gone_so : ((s : S) (w : RegistryState) → registry (with_registry s w) ≡ w) → (lane : Lane) (id : Id) (f : Form) (x : S) (w : RegistryState) → ¬ (IsOpen (registry x).store.spans (number_of id)) → Exits lane id (registry x) w → Honest f x
       → Ends (Exit lane id) answer.Done f x (with_registry x w)
   gone_so registry_with lane id f x w shut e h =
-      by_change laws with_own (Exit lane id) answer.Done f (GoneLeft lane id) memory x memory (with_registry x w) h (record { there = λ o. absurd (shut o); gone = λ s. refl }) refl
-      (quietly laws with_own registry_with (GoneLeft lane id) x w (shut, e)) (λ s. subst (λ (t : RegistryState). IsSettled t.store.spans) (sym (registry_with x w)) (subst IsSettled (sym (ap (λ (t : RegistryState). t.store.spans) e)) s))
+      by_change laws with_own levelled (Exit lane id) answer.Done f (GoneLeft lane id) memory x memory (with_registry x w) h (record { there = λ o. absurd (shut o); gone = λ s. refl }) refl
+      (quietly laws with_own levelled registry_with (GoneLeft lane id) x w (shut, e)) (λ s. subst (λ (t : RegistryState). IsSettled t.store.spans) (sym (registry_with x w)) (subst IsSettled (sym (ap (λ (t : RegistryState). t.store.spans) e)) s))
 
   pub recorded_so : (lane : Lane) (id : Id) (values : Record) (f : Form) (x y : S) → IsOpen (registry x).store.spans (number_of id) → Notifies registry has_form stepped lane no_filter (OnRecord id values) Stays x y → Honest f x
       → Ends (RecordValues lane id values) answer.Done f x y
   recorded_so lane id values f x y there n h =
-      by_call laws with_own (RecordValues lane id values) answer.Done f lane (OnRecord id values) no_filter _ memory x memory y h (tt, refl) refl
+      by_call laws with_own levelled (RecordValues lane id values) answer.Done f lane (OnRecord id values) no_filter _ memory x memory y h (tt, refl) refl
       n (kept_plan f (OnRecord id values) x lane _ (ap (λ (t : RegistryState). t.store.spans) n.taken) (others_afresh f (OnRecord id values) (registry x).store lane.0 no_filter no_filter)) (there, n.taken) refl
 
   pub followed_so : (lane : Lane) (id other : Id) (f : Form) (x y : S) → IsOpen (registry x).store.spans (number_of id) → Notifies registry has_form stepped lane no_filter (OnFollows id other) Stays x y → Honest f x
       → Ends (Follow lane id other) answer.Done f x y
   followed_so lane id other f x y there n h =
-      by_call laws with_own (Follow lane id other) answer.Done f lane (OnFollows id other) no_filter _ memory x memory y h (tt, refl) refl
+      by_call laws with_own levelled (Follow lane id other) answer.Done f lane (OnFollows id other) no_filter _ memory x memory y h (tt, refl) refl
       n (kept_plan f (OnFollows id other) x lane _ (ap (λ (t : RegistryState). t.store.spans) n.taken) (others_afresh f (OnFollows id other) (registry x).store lane.0 no_filter no_filter)) (there, n.taken) refl
 
   -- ---- handles
@@ -214,27 +215,27 @@ module _ {S : Type 0} {registry : S → RegistryState} {with_registry : S → Re
   pub cloned_so : (lane : Lane) (id : Id) (r : Result Id TraceError) (f : Form) (x y : S) → OnOk r (Clones id (registry x) (registry y)) → y ≡ with_registry x (registry y) → IfErr r (RefusesClone (registry x) id) → OnErr r (y ≡ x)
       → Honest f x → Ends (AddHandle lane id) (done_answer r) f x y
   cloned_so lane id (Ok other) f x y n rest r e h =
-      by_change laws with_own (AddHandle lane id) answer.Done f (HandleAdded id) memory x memory y h (tt, refl) refl (record { changes = n; rest = rest }) (settled_cloned id (registry x) (registry y) n)
-  cloned_so lane id (Err error) f x y n rest r e h = by_none laws with_own (AddHandle lane id) (answer.Refused error) f memory x memory y h e (r, refl) refl
+      by_change laws with_own levelled (AddHandle lane id) answer.Done f (HandleAdded id) memory x memory y h (tt, refl) refl (record { changes = n; rest = rest }) (settled_cloned id (registry x) (registry y) n)
+  cloned_so lane id (Err error) f x y n rest r e h = by_none laws with_own levelled (AddHandle lane id) (answer.Refused error) f memory x memory y h e (r, refl) refl
 
   pub still_open_so : ((s : S) (w : RegistryState) → registry (with_registry s w) ≡ w) → (lane : Lane) (id : Id) (a : Released) (f : Form) (x : S) (w : RegistryState) → Releases id a (registry x) w → a ≡ StillOpen → IsForest (registry x).store.spans → Ready f x
       → Ends (DropHandle lane id) (answer.Yes false) f x (with_registry x w)
   still_open_so registry_with lane id a f x w r same forest h =
       let drops = drops_open forest h.settled r same in
-      by_change laws with_own (DropHandle lane id) (answer.Yes false) f (HandleTaken id) memory x memory (with_registry x w) h.honest
+      by_change laws with_own levelled (DropHandle lane id) (answer.Yes false) f (HandleTaken id) memory x memory (with_registry x w) h.honest
       (record { closed = []; exact = drops.closes; outcomes = refl; itself = (λ t. absurd (true≢false (sym t)), λ n. absurd n) }) refl
-      (quietly laws with_own registry_with (HandleTaken id) x w (r.held, r.state)) (λ s. subst (λ (t : RegistryState). IsSettled t.store.spans) (sym (registry_with x w)) (settled_still s r same))
+      (quietly laws with_own levelled registry_with (HandleTaken id) x w (r.held, r.state)) (λ s. subst (λ (t : RegistryState). IsSettled t.store.spans) (sym (registry_with x w)) (settled_still s r same))
 
   -- ---- closes
 
   -- all that closes by a drop closes
   pub closed_so : ((s : S) (w : RegistryState) → registry (with_registry s w) ≡ w) → (lane : Lane) (id : Id) (a : Released) (f : Form) (x y : S) (w : RegistryState) → Releases id a (registry x) w → a ≡ Closing → IsForest (registry x).store.spans
-      → ClosesEach registry with_registry has_form stepped lane id (with_registry x w) y → Ready f x → Ends (DropHandle lane id) (answer.Yes true) f x y
+      → ClosesEach registry with_registry has_form stepped levelled lane id (with_registry x w) y → Ready f x → Ends (DropHandle lane id) (answer.Yes true) f x y
   closed_so registry_with lane id a f x y w r same forest k h =
       let m : Made = record { form = f; store = (registry x).store; outcome = Quiet (HandleTaken id) } in
       let z = with_registry x w in
-      let q = quietly laws with_own registry_with (HandleTaken id) x w (r.held, r.state) in
-      let after = honest_quietly laws with_own f (HandleTaken id) x z h.honest q in
+      let q = quietly laws with_own levelled registry_with (HandleTaken id) x w (r.held, r.state) in
+      let after = honest_quietly laws with_own levelled f (HandleTaken id) x z h.honest q in
       let notices = k.notices after.0 after.1 in
       let release : Releases id Closing (registry x) (registry z) = subst (λ t. Releases id Closing (registry x) t) (sym (registry_with x w)) (subst (λ b. Releases id b (registry x) w) same r) in
       let all : ClosesAll SameButExtensions (registry x) id k.closed (registry y) = record { released = registry z; is_forest = forest; settled = h.settled; release = release; removal = k.removal } in
@@ -254,7 +255,7 @@ module _ {S : Type 0} {registry : S → RegistryState} {with_registry : S → Re
   -- so far these spans have closed, and this one is closing now
   pub record SoFar (lane : Lane) (id : Id) (x : S) (xs : List ℕ) (next : Option Id) (y : S) : Type 0 where
     pub removal : Removal SameButExtensions (registry x) id xs next (registry y)
-    pub notices : (f : Form) → IsHonest registry with_registry has_form stepped f x → (made : List Made) × FoldsTo (Makes registry with_registry has_form stepped) x made y × (map outcome_of made ≡ closes_of lane xs) × ((g : Form) × IsHonest registry with_registry has_form stepped g y × Keeps f g × ((registry y).filters ≡ (registry x).filters))
+    pub notices : (f : Form) → IsHonest registry with_registry has_form stepped levelled f x → (made : List Made) × FoldsTo (Makes registry with_registry has_form stepped levelled) x made y × (map outcome_of made ≡ closes_of lane xs) × ((g : Form) × IsHonest registry with_registry has_form stepped levelled g y × Keeps f g × ((registry y).filters ≡ (registry x).filters))
 
   pub nothing_yet : (lane : Lane) (id : Id) (x : S) → SoFar lane id x [] (Some id) x
   nothing_yet lane id x = record { removal = Begun; notices = λ f h. ([], refl, refl, (f, h, kept_form f, refl)) }
@@ -267,8 +268,8 @@ module _ {S : Type 0} {registry : S → RegistryState} {with_registry : S → Re
   outcomes_more [] m = refl
   outcomes_more (n ∷ ms) m = ap (λ (os : List Outcome). n.outcome ∷ os) (outcomes_more ms m)
 
-  folds_more : (x : S) (ms : List Made) (y : S) (m : Made) (z : S) → FoldsTo (Makes registry with_registry has_form stepped) x ms y → Makes registry with_registry has_form stepped y m z → FoldsTo (Makes registry with_registry has_form stepped) x (ms ++ (m ∷ [])) z
-  folds_more x [] y m z p q = (z, subst (λ w. Makes registry with_registry has_form stepped w m z) (sym p) q, refl)
+  folds_more : (x : S) (ms : List Made) (y : S) (m : Made) (z : S) → FoldsTo (Makes registry with_registry has_form stepped levelled) x ms y → Makes registry with_registry has_form stepped levelled y m z → FoldsTo (Makes registry with_registry has_form stepped levelled) x (ms ++ (m ∷ [])) z
+  folds_more x [] y m z p q = (z, subst (λ w. Makes registry with_registry has_form stepped levelled w m z) (sym p) q, refl)
   folds_more x (n ∷ ms) y m z p q = (p.0, p.1, folds_more p.0 ms y m z p.2 q)
 
   -- the span that is next is closing
@@ -290,7 +291,7 @@ module _ {S : Type 0} {registry : S → RegistryState} {with_registry : S → Re
             let before = c.notices f h in
             let g = before.3.0 in
             let plan = ap (λ v. by_pass g (OnClose span) v no_filter no_filter) (ap (λ (t : RegistryState). t.store.spans) n.taken) ∙ others_afresh g (OnClose span) (registry y).store lane.0 no_filter no_filter in
-            let notice : Notices registry with_registry has_form stepped g lane (OnClose span) y u = record {
+            let notice : Notices registry with_registry has_form stepped levelled g lane (OnClose span) y u = record {
               left = n.left;
               before = (closing, n.taken);
               notified = z;
@@ -299,7 +300,7 @@ module _ {S : Type 0} {registry : S → RegistryState} {with_registry : S → Re
               after = (next, removes);
               rest = ap (λ t. with_registry z t) (sym (registry_with z w));
             } in
-            let last = honest_after laws with_own g lane (OnClose span) y u before.3.1 notice in
+            let last = honest_after laws with_own levelled g lane (OnClose span) y u before.3.1 notice in
             let m : Made = record { form = g; store = (registry y).store; outcome = Noticed lane (OnClose span) } in (
               before.0 ++ (m ∷ []),
               folds_more x before.0 y m u before.1 (record { honest = before.3.1; store = refl; goes = notice }),
@@ -308,17 +309,17 @@ module _ {S : Type 0} {registry : S → RegistryState} {with_registry : S → Re
             );
       }
 
-  pub all_closed : (lane : Lane) (id : Id) (x : S) (xs : List ℕ) (o : Option Id) (y : S) → SoFar lane id x xs o y → o ≡ None → ClosesEach registry with_registry has_form stepped lane id x y
+  pub all_closed : (lane : Lane) (id : Id) (x : S) (xs : List ℕ) (o : Option Id) (y : S) → SoFar lane id x xs o y → o ≡ None → ClosesEach registry with_registry has_form stepped levelled lane id x y
   all_closed lane id x xs o y c same = record { closed = xs; removal = subst (λ (p : Option Id). Removal SameButExtensions (registry x) id xs p (registry y)) same c.removal; notices = c.notices }
 
   -- ---- a stack that is put in use
 
-  pub used_so : (f : Form) (x y : S) → registered x y → registry y ≡ registry x → Ready f x → StillReady laws with_own f x y
+  pub used_so : (f : Form) (x y : S) → registered x y → registry y ≡ registry x → Ready f x → StillReady laws with_own levelled f x y
   used_so f x y used same h =
       let next = laws.put_in_use x y f used h.honest.has in (
         next.0,
         record {
-          honest = record { has = next.1; rules = subst (λ n. IsHonestStack next.0 n) (sym (ap (λ (s : RegistryState). s.filters) same)) (honesty_is_kept f next.0 (registry x).filters next.2 h.honest.rules) };
+          honest = record { has = next.1; rules = subst (λ n. IsHonestStack next.0 n) (sym (ap (λ (s : RegistryState). s.filters) same)) (honesty_is_kept f next.0 (registry x).filters (kept_rules f next.0 next.2) h.honest.rules) };
           settled = subst (λ (s : RegistryState). IsSettled s.store.spans) (sym same) h.settled;
         },
         next.2,

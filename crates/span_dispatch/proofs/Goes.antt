@@ -1,18 +1,23 @@
 -- How an honest stack goes on: through a notice or a quiet change, after which it is honest; and how a call is served by one of these.
-use Rattle.std.proofs.Common.{◌≡◌, ℕ, List, [], ◌∷◌, Option, refl, sym, ap, subst, ◌∙◌}
+use Rattle.std.proofs.Common.{◌≡◌, ℕ, true, false, List, [], ◌∷◌, Option, refl, sym, ap, subst, ◌∙◌}
+use Rattle.std.specs.Option.{option_map}
+use Rattle.span_core.specs.declared.error.TraceError.TheVariants.{NotSettable}
+use Rattle.span_core.specs.declared.level.LevelFilter.{LevelFilter}
 use Rattle.span_core.specs.Filters.{FilterSet}
 use Rattle.span_core.specs.declared.interest.Interest.{Interest}
 use Rattle.span_core.specs.declared.span.Lane.{Lane}
-use Rattle.span_dispatch.specs.Cache.{IsCurrent, IsUpToDate, Memory}
-use Rattle.span_dispatch.specs.Call.{Call, Comes, KeepsAfter}
-use Rattle.span_dispatch.specs.Outcome.{Change, Changes, GoneLeft, HandleAdded, HandleTaken, IsHonest, Made, Noticed, Notices, Quiet, Quiets, StepsAfter, StepsBefore}
+use Rattle.span_dispatch.specs.Cache.{IsCurrent, IsUpToDate, Memory, forgotten, kept_in, no_callsite}
+use Rattle.span_dispatch.specs.Call.{Call, Comes, KeepsAfter, SetLevel}
+use Rattle.span_dispatch.specs.Outcome.{Change, Changes, GoneLeft, HandleAdded, HandleTaken, IsHonest, LevelSet, Made, Noticed, Notices, Quiet, Quiets, StepsAfter, StepsBefore}
 use Rattle.span_dispatch.specs.Serve.{IsReady, IsReadyAfter, IsReadyBy, KeepsUpToDate, Serves, ServesCall, kept_by, stack_of}
 use Rattle.span_dispatch.specs.declared.cache.Cache.TheVariants as cache
 use Rattle.span_dispatch.specs.declared.cache.Cache.{Cache}
 use Rattle.span_dispatch.specs.declared.cache.Known.{Known}
 use Rattle.span_dispatch.specs.declared.dispatch.Dispatch.{Dispatch}
+use Rattle.span_dispatch.specs.declared.request.Answer.TheVariants as answer
 use Rattle.span_dispatch.specs.declared.request.Answer.{Answer}
-use Rattle.span_layers.proofs.HonestKept.{hint_is_kept, honesty_is_kept, interest_is_kept}
+use Rattle.span_layers.proofs.HonestKept.{hint_is_kept, interest_is_kept}
+use Rattle.span_layers.proofs.RulesKept.{honesty_is_kept}
 use Rattle.span_layers.specs.Honest.{IsHonestStack}
 use Rattle.span_registry.proofs.CallerLemmas.{settled_opened}
 use Rattle.span_registry.specs.Answers.{Answers, Notice, OnClose, OnEnter, OnEvent, OnExit, OnFollows, OnIdChange, OnNewSpan, OnRecord}
@@ -20,6 +25,8 @@ use Rattle.span_registry.specs.Closes.{IsSettled}
 use Rattle.span_registry.specs.Follows.{AnswersKeep, Follows, Keeps, kept_form}
 use Rattle.span_registry.specs.Form.{Bare, Filtered, Form, Leaf, Over}
 use Rattle.span_registry.specs.Hooks.{Notifies, StackLaws, StackSteps, no_filter}
+use Rattle.span_registry.specs.Levels.{KeepsRules, LevelLaws, LevelSteps, LevelsForm, kept_rules, level_rules, same_levels, takes_level}
+use Rattle.span_registry.specs.Conducts.{ActsAt}
 use Rattle.span_registry.specs.Place.{HearSteps}
 use Rattle.span_registry.specs.Plan.{asked_afresh, by_pass}
 use Rattle.span_registry.specs.Store.{RegistryState}
@@ -112,34 +119,34 @@ settled_before f lane (OnIdChange id other) s t b h = absurd b
 settled_before f lane (OnClose id) s t b h = settled_same s t (spans_same b.1) h
 
 module _ {S : Type 0} {registry : S → RegistryState} {with_registry : S → RegistryState → S} {usable : S → Type 0} {has_form : S → Form → Type 0} {stepped : StackSteps S} {hears : HearSteps S} {registered : S → S → Type 0}
-    (laws : StackLaws with_registry usable has_form stepped hears registered) (with_own : (s : S) → with_registry s (registry s) ≡ s) where
+    (laws : StackLaws with_registry usable has_form stepped hears registered) (with_own : (s : S) → with_registry s (registry s) ≡ s) (levelled : LevelSteps S) where
   abbrev pub Honest : Form → S → Type 0
-  Honest f x = IsHonest registry with_registry has_form stepped f x
+  Honest f x = IsHonest registry with_registry has_form stepped levelled f x
 
   -- a form that follows, on as many filters, is honest
   abbrev pub StillHonest : Form → S → S → Type 0
   StillHonest f x y = (g : Form) × Honest g y × Keeps f g × ((registry y).filters ≡ (registry x).filters)
 
   followed : (f : Form) (x y : S) → Honest f x → Follows (has_form y) f → (registry y).filters ≡ (registry x).filters → StillHonest f x y
-  followed f x y h k e = (k.0, record { has = k.1; rules = subst (λ n. IsHonestStack k.0 n) (sym e) (honesty_is_kept f k.0 (registry x).filters k.2 h.rules) }, k.2, e)
+  followed f x y h k e = (k.0, record { has = k.1; rules = subst (λ n. IsHonestStack k.0 n) (sym e) (honesty_is_kept f k.0 (registry x).filters (kept_rules f k.0 k.2) h.rules) }, k.2, e)
 
   elsewhere : (f : Form) (x y : S) (w : RegistryState) → y ≡ with_registry x w → Follows (has_form x) f → Follows (has_form y) f
   elsewhere f x y w e k = (k.0, subst (λ z. has_form z k.0) (sym e) (laws.form_with x w k.0 k.1), k.2)
 
   -- after a notice an honest stack is honest
-  pub honest_after : (f : Form) (lane : Lane) (e : Notice) (x y : S) → Honest f x → Notices registry with_registry has_form stepped f lane e x y → StillHonest f x y
+  pub honest_after : (f : Form) (lane : Lane) (e : Notice) (x y : S) → Honest f x → Notices registry with_registry has_form stepped levelled f lane e x y → StillHonest f x y
   honest_after f lane e x y h n =
       let next = laws.keeps x _ e lane.0 n.left n.notified (registry n.notified) f n.layers h.has in
       followed f x y h (elsewhere f n.notified y (registry y) n.rest next) (filters_after e (registry n.notified) (registry y) n.after ∙ n.extensions.filters ∙ filters_before f lane e (registry x) n.left n.before)
 
   -- after a quiet change it is
-  pub honest_quietly : (f : Form) (c : Change) (x y : S) → Honest f x → Quiets registry with_registry has_form stepped c x y → StillHonest f x y
+  pub honest_quietly : (f : Form) (c : Change) (x y : S) → Honest f x → Quiets registry with_registry has_form stepped levelled c x y → StillHonest f x y
   honest_quietly f c x y h q = followed f x y h (elsewhere f x y (registry y) q.rest (f, h.has, kept_form f)) (filters_changed c (registry x) (registry y) q.changes)
 
   -- ---- a call that is served by one outcome, or by none
 
   abbrev pub Ready : Form → S → Type 0
-  Ready f x = IsReady registry with_registry has_form stepped f x
+  Ready f x = IsReady registry with_registry has_form stepped levelled f x
 
   -- it is ready again, by a form that keeps what the old one had, on as many filters
   abbrev pub StillReady : Form → S → S → Type 0
@@ -147,14 +154,14 @@ module _ {S : Type 0} {registry : S → RegistryState} {with_registry : S → Re
 
   -- it is served, and the stack is ready again where no span was closing
   abbrev pub Done : Call → Answer → Form → Memory → S → Memory → S → Type 0
-  Done call a f memory x after y = ((made : List Made) × Serves registry with_registry has_form stepped call f memory x a made after y) × (IsSettled (registry x).store.spans → StillReady f x y)
+  Done call a f memory x after y = ((made : List Made) × Serves registry with_registry has_form stepped levelled call f memory x a made after y) × (IsSettled (registry x).store.spans → StillReady f x y)
 
   pub by_none : (call : Call) (a : Answer) (f : Form) (memory : Memory) (x : S) (after : Memory) (y : S) → Honest f x → y ≡ x → Comes call memory f (registry x) a [] → KeepsAfter call memory f a after → Done call a f memory x after y
   by_none call a f memory x after y h e c k =
       (([], record { comes = c; goes = sym e; keeps = k }), λ s. (f, subst (Ready f) (sym e) (record { honest = h; settled = s }), kept_form f, ap (λ z. (registry z).filters) e))
 
   pub by_notice : (call : Call) (a : Answer) (f : Form) (lane : Lane) (e : Notice) (memory : Memory) (x : S) (after : Memory) (y : S) → Honest f x → Comes call memory f (registry x) a (Noticed lane e ∷ []) → KeepsAfter call memory f a after
-      → (n : Notices registry with_registry has_form stepped f lane e x y) → (registry y).store.spans ≡ n.left.store.spans → Done call a f memory x after y
+      → (n : Notices registry with_registry has_form stepped levelled f lane e x y) → (registry y).store.spans ≡ n.left.store.spans → Done call a f memory x after y
   by_notice call a f lane e memory x after y h c k n same =
       let m : Made = record { form = f; store = (registry x).store; outcome = Noticed lane e } in
       let next = honest_after f lane e x y h n in (
@@ -178,7 +185,7 @@ module _ {S : Type 0} {registry : S → RegistryState} {with_registry : S → Re
       }) n.extensions.spans
 
   pub by_change : (call : Call) (a : Answer) (f : Form) (c : Change) (memory : Memory) (x : S) (after : Memory) (y : S) → Honest f x → Comes call memory f (registry x) a (Quiet c ∷ []) → KeepsAfter call memory f a after
-      → (q : Quiets registry with_registry has_form stepped c x y) → (IsSettled (registry x).store.spans → IsSettled (registry y).store.spans) → Done call a f memory x after y
+      → (q : Quiets registry with_registry has_form stepped levelled c x y) → (IsSettled (registry x).store.spans → IsSettled (registry y).store.spans) → Done call a f memory x after y
   by_change call a f c memory x after y h comes k q s =
       let m : Made = record { form = f; store = (registry x).store; outcome = Quiet c } in
       let next = honest_quietly f c x y h q in (
@@ -187,8 +194,48 @@ module _ {S : Type 0} {registry : S → RegistryState} {with_registry : S → Re
       )
 
   -- a stack with another registry
-  pub quietly : ((s : S) (w : RegistryState) → registry (with_registry s w) ≡ w) → (c : Change) (x : S) (w : RegistryState) → Changes c (registry x) w → Quiets registry with_registry has_form stepped c x (with_registry x w)
+  pub quietly : ((s : S) (w : RegistryState) → registry (with_registry s w) ≡ w) → (c : Change) (x : S) (w : RegistryState) → Changes c (registry x) w → Quiets registry with_registry has_form stepped levelled c x (with_registry x w)
   quietly registry_with c x w h = record { changes = subst (λ r. Changes c (registry x) r) (sym (registry_with x w)) h; rest = ap (λ r. with_registry x r) (sym (registry_with x w)) }
+
+-- ---- a level that is set
+
+module _ {S : Type 0} (registry : S → RegistryState) (with_registry : S → RegistryState → S) {has_form : S → Form → Type 0} (stepped : StackSteps S) {levelled : LevelSteps S} {hears : HearSteps S} {acts_at : ActsAt S} (levels : LevelLaws has_form levelled hears acts_at) where
+  -- a stack in which a filter took a level is honest, by a form in which that filter alone answers otherwise
+  pub honest_levelled : (f : Form) (n : ℕ) (l : LevelFilter) (x y : S) → IsHonest registry with_registry has_form stepped levelled f x → levelled x n l y → registry y ≡ registry x
+      → (g : Form) × IsHonest registry with_registry has_form stepped levelled g y × LevelsForm n f g
+  honest_levelled f n l x y h goes same =
+      let k = levels.keeps x n l y f goes h.has in
+      (k.0, record { has = k.1; rules = subst (λ (s : RegistryState). IsHonestStack k.0 s.filters) (sym same) (honesty_is_kept f k.0 (registry x).filters (level_rules n f k.0 k.2) h.rules) }, k.2)
+
+  -- and so ready, where nothing is kept any more
+  pub ready_levelled : (f : Form) (n : ℕ) (l : LevelFilter) (old new : Dispatch S) → IsReadyBy registry with_registry has_form stepped levelled f old → levelled (stack_of old) n l (stack_of new) → registry (stack_of new) ≡ registry (stack_of old)
+      → ((g : Form) (m : ℕ) → KeepsUpToDate g m new) → IsReadyAfter registry with_registry has_form stepped levelled (LevelsForm n) f new
+  ready_levelled f n l old new h goes same kept =
+      let k = honest_levelled f n l (stack_of old) (stack_of new) h.stack.honest goes same in
+      (k.0, record { stack = record { honest = k.1; settled = subst (λ (s : RegistryState). IsSettled s.store.spans) (sym same) h.stack.settled }; kept = kept k.0 (registry (stack_of new)).filters }, k.2)
+
+  -- a level was set
+  pub level_served : (f : Form) (n : ℕ) (l : LevelFilter) (memory : Memory) (x : S) (after : Memory) (y : S) → IsHonest registry with_registry has_form stepped levelled f x → takes_level f n l ≡ true → levelled x n l y → registry y ≡ registry x → after ≡ option_map (λ callsites. no_callsite) memory
+      → (made : List Made) × Serves registry with_registry has_form stepped levelled (SetLevel n l) f memory x answer.Done made after y
+  level_served f n l memory x after y h taken goes same kept =
+      let m : Made = record { form = f; store = (registry x).store; outcome = LevelSet n l } in
+      (m ∷ [], record { comes = (taken, refl); goes = (y, record { honest = h; store = refl; goes = record { taken = taken; goes = goes; same = same } }, refl); keeps = kept })
+
+  -- or it wasn't, and nothing changed
+  pub level_refused : (f : Form) (n : ℕ) (l : LevelFilter) (memory : Memory) (x y : S) → takes_level f n l ≡ false → y ≡ x
+      → (made : List Made) × Serves registry with_registry has_form stepped levelled (SetLevel n l) f memory x (answer.Refused (NotSettable n)) made memory y
+  level_refused f n l memory x y none same = ([], record { comes = ((refl, none), refl); goes = sym same; keeps = refl })
+
+-- a cache that forgot is up to date, and keeps no callsite
+pub forgotten_current : (f : Form) (n : ℕ) (c : Cache) → IsUpToDate f n (forgotten c)
+forgotten_current f n cache.Off = tt
+forgotten_current f n cache.Empty = tt
+forgotten_current f n (cache.Filled k) = tt
+
+pub forgotten_kept : (c : Cache) → kept_in (forgotten c) ≡ option_map (λ callsites. no_callsite) (kept_in c)
+forgotten_kept cache.Off = refl
+forgotten_kept cache.Empty = refl
+forgotten_kept (cache.Filled k) = refl
 
 -- ---- a dispatcher that is ready
 
@@ -205,25 +252,36 @@ up_to_date_again f g n cache.Off e h = h
 up_to_date_again f g n cache.Empty e h = h
 up_to_date_again f g n (cache.Filled k) e h = current_again f g n k e h
 
-module _ {S : Type 0} (registry : S → RegistryState) (with_registry : S → RegistryState → S) (has_form : S → Form → Type 0) (stepped : StackSteps S) where
+module _ {S : Type 0} (registry : S → RegistryState) (with_registry : S → RegistryState → S) (has_form : S → Form → Type 0) (stepped : StackSteps S) (levelled : LevelSteps S) where
   -- whose stack is ready again, and which keeps what the old stack would answer
   pub ready_again : (f : Form) (old new : Dispatch S)
-      → (g : Form) × IsReady registry with_registry has_form stepped g (stack_of new) × Keeps f g × ((registry (stack_of new)).filters ≡ (registry (stack_of old)).filters) → KeepsUpToDate f (registry (stack_of old)).filters new
-      → IsReadyAfter registry with_registry has_form stepped f new
+      → (g : Form) × IsReady registry with_registry has_form stepped levelled g (stack_of new) × Keeps f g × ((registry (stack_of new)).filters ≡ (registry (stack_of old)).filters) → KeepsUpToDate f (registry (stack_of old)).filters new
+      → IsReadyAfter registry with_registry has_form stepped levelled Keeps f new
   ready_again f old new h k = (h.0, record { stack = h.1; kept = subst (λ n. IsUpToDate h.0 n new.cache) (sym h.3) (up_to_date_again f h.0 (registry (stack_of old)).filters new.cache h.2 k) }, h.2)
 
   -- a stack that stays as it is, or is the same, is ready by the form that it had
-  pub stays_so : (f : Form) (old new : Dispatch S) → stack_of new ≡ stack_of old → KeepsUpToDate f (registry (stack_of old)).filters new → IsReadyBy registry with_registry has_form stepped f old → IsReadyAfter registry with_registry has_form stepped f new
+  pub stays_so : (f : Form) (old new : Dispatch S) → stack_of new ≡ stack_of old → KeepsUpToDate f (registry (stack_of old)).filters new → IsReadyBy registry with_registry has_form stepped levelled f old → IsReadyAfter registry with_registry has_form stepped levelled Keeps f new
   stays_so f old new e k h =
-      ready_again f old new (f, subst (λ x. IsReady registry with_registry has_form stepped f x) (sym e) h.stack, kept_form f, ap (λ x. (registry x).filters) e) k
+      ready_again f old new (f, subst (λ x. IsReady registry with_registry has_form stepped levelled f x) (sym e) h.stack, kept_form f, ap (λ x. (registry x).filters) e) k
+
+  -- also where a level was to be set
+  pub stays_but : (f : Form) (n : ℕ) (old new : Dispatch S) → stack_of new ≡ stack_of old → KeepsUpToDate f (registry (stack_of old)).filters new → IsReadyBy registry with_registry has_form stepped levelled f old → IsReadyAfter registry with_registry has_form stepped levelled (LevelsForm n) f new
+  stays_but f n old new e k h = (f, record { stack = subst (λ x. IsReady registry with_registry has_form stepped levelled f x) (sym e) h.stack; kept = subst (λ x. KeepsUpToDate f (registry x).filters new) (sym e) k }, same_levels n f)
+
+  -- whatever it keeps, it keeps the rules
+  pub by_keeping : (f : Form) (d : Dispatch S) → IsReadyAfter registry with_registry has_form stepped levelled Keeps f d → IsReadyAfter registry with_registry has_form stepped levelled KeepsRules f d
+  by_keeping f d h = (h.0, h.1, kept_rules f h.0 h.2)
+
+  pub by_level : (n : ℕ) (f : Form) (d : Dispatch S) → IsReadyAfter registry with_registry has_form stepped levelled (LevelsForm n) f d → IsReadyAfter registry with_registry has_form stepped levelled KeepsRules f d
+  by_level n f d h = (h.0, h.1, level_rules n f h.0 h.2)
 
   -- one that is new, and keeps nothing yet
   pub first_ready : (f : Form) (x : S) (d : Dispatch S)
-      → (g : Form) × IsReady registry with_registry has_form stepped g (stack_of d) × Keeps f g × ((registry (stack_of d)).filters ≡ (registry x).filters) → ((g : Form) (n : ℕ) → KeepsUpToDate g n d)
-      → IsReadyAfter registry with_registry has_form stepped f d
+      → (g : Form) × IsReady registry with_registry has_form stepped levelled g (stack_of d) × Keeps f g × ((registry (stack_of d)).filters ≡ (registry x).filters) → ((g : Form) (n : ℕ) → KeepsUpToDate g n d)
+      → IsReadyAfter registry with_registry has_form stepped levelled Keeps f d
   first_ready f x d h k = (h.0, record { stack = h.1; kept = k h.0 (registry (stack_of d)).filters }, h.2)
 
   -- a call that leaves the stack as it is
-  pub same_stack : (call : Call) (f : Form) (a : Answer) (old new : Dispatch S) → stack_of new ≡ stack_of old → (made : List Made) × Serves registry with_registry has_form stepped call f (kept_by old) (stack_of old) a made (kept_by new) (stack_of old)
-      → ServesCall registry with_registry has_form stepped call f a old new
-  same_stack call f a old new e h = (h.0, subst (λ y. Serves registry with_registry has_form stepped call f (kept_by old) (stack_of old) a h.0 (kept_by new) y) (sym e) h.1)
+  pub same_stack : (call : Call) (f : Form) (a : Answer) (old new : Dispatch S) → stack_of new ≡ stack_of old → (made : List Made) × Serves registry with_registry has_form stepped levelled call f (kept_by old) (stack_of old) a made (kept_by new) (stack_of old)
+      → ServesCall registry with_registry has_form stepped levelled call f a old new
+  same_stack call f a old new e h = (h.0, subst (λ y. Serves registry with_registry has_form stepped levelled call f (kept_by old) (stack_of old) a h.0 (kept_by new) y) (sym e) h.1)

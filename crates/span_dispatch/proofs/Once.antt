@@ -9,13 +9,14 @@ use Rattle.std.specs.Ordering.{eq_by_cmp, nat_cmp}
 use Rattle.span_core.specs.Span.{number_of}
 use Rattle.span_core.specs.declared.span.Id.{Id}
 use Rattle.span_core.specs.declared.span.Lane.{Lane}
-use Rattle.span_dispatch.specs.Outcome.{Change, Changes, GoesOn, GoneLeft, HandleAdded, HandleTaken, Made, Makes, Noticed, Notices, Outcome, Quiet, StepsAfter, StepsBefore}
+use Rattle.span_dispatch.specs.Outcome.{Change, Changes, GoesOn, GoneLeft, HandleAdded, HandleTaken, LevelSet, Made, Makes, Noticed, Notices, Outcome, Quiet, StepsAfter, StepsBefore}
 use Rattle.span_dispatch.specs.Serve.{StandOnce, closed_by, closed_in}
 use Rattle.span_registry.proofs.Chains.{get_beside, get_kept, get_removed, same_test, test_same}
 use Rattle.span_registry.specs.Answers.{Notice, OnClose, OnEnter, OnEvent, OnExit, OnFollows, OnIdChange, OnNewSpan, OnRecord}
 use Rattle.span_registry.specs.Closes.{Member}
 use Rattle.span_registry.specs.Form.{Form}
 use Rattle.span_registry.specs.Hooks.{StackSteps}
+use Rattle.span_registry.specs.Levels.{LevelSteps}
 use Rattle.span_registry.specs.Step.{Opens, Removes}
 use Rattle.span_registry.specs.Store.{AreIssued, IsInStore, RegistryState, Span, Spans, Store, with_handles}
 
@@ -137,19 +138,21 @@ closes_join (Noticed lane (OnExit id)) ys h k = h
 closes_join (Noticed lane (OnIdChange id other)) ys h k = h
 closes_join (Noticed lane (OnClose id)) ys h k = (k (number_of id) (inl refl), h)
 closes_join (Quiet c) ys h k = h
+closes_join (LevelSet n l) ys h k = h
 
-module _ {S : Type 0} (registry : S → RegistryState) (with_registry : S → RegistryState → S) (has_form : S → Form → Type 0) (stepped : StackSteps S) where
-  onward_notice : (f : Form) (lane : Lane) (e : Notice) (x y : S) → Notices registry with_registry has_form stepped f lane e x y → Onward (registry x).store (registry y).store
+module _ {S : Type 0} (registry : S → RegistryState) (with_registry : S → RegistryState → S) (has_form : S → Form → Type 0) (stepped : StackSteps S) (levelled : LevelSteps S) where
+  onward_notice : (f : Form) (lane : Lane) (e : Notice) (x y : S) → Notices registry with_registry has_form stepped levelled f lane e x y → Onward (registry x).store (registry y).store
   onward_notice f lane e x y n =
       onward_further (registry x).store n.left.store (registry y).store (onward_before f lane e (registry x) n.left n.before)
       (onward_further n.left.store (registry n.notified).store (registry y).store (onward_same n.left.store (registry n.notified).store n.extensions.issued n.extensions.spans) (onward_after e (registry n.notified) (registry y) n.after))
 
-  onward_on : (f : Form) (o : Outcome) (x y : S) → GoesOn registry with_registry has_form stepped f o x y → Onward (registry x).store (registry y).store
+  onward_on : (f : Form) (o : Outcome) (x y : S) → GoesOn registry with_registry has_form stepped levelled f o x y → Onward (registry x).store (registry y).store
   onward_on f (Noticed lane e) x y g = onward_notice f lane e x y g
   onward_on f (Quiet c) x y g = onward_changed c (registry x) (registry y) g.changes
+  onward_on f (LevelSet n l) x y g = store_same (registry x) (registry y) g.same
 
   -- what closes by an outcome was in the store, and isn't any more
-  closing_on : (f : Form) (o : Outcome) (x y : S) (c : ℕ) → GoesOn registry with_registry has_form stepped f o x y → Member c (closed_by o) → IsInStore (registry x).store.spans c × (IsInStore (registry y).store.spans c → ⊥)
+  closing_on : (f : Form) (o : Outcome) (x y : S) (c : ℕ) → GoesOn registry with_registry has_form stepped levelled f o x y → Member c (closed_by o) → IsInStore (registry x).store.spans c × (IsInStore (registry y).store.spans c → ⊥)
   closing_on f (Noticed lane (OnNewSpan attrs id)) x y c g h = absurd h
   closing_on f (Noticed lane (OnRecord id values)) x y c g h = absurd h
   closing_on f (Noticed lane (OnFollows id other)) x y c g h = absurd h
@@ -158,6 +161,7 @@ module _ {S : Type 0} (registry : S → RegistryState) (with_registry : S → Re
   closing_on f (Noticed lane (OnExit id)) x y c g h = absurd h
   closing_on f (Noticed lane (OnIdChange id other)) x y c g h = absurd h
   closing_on f (Quiet k) x y c g h = absurd h
+  closing_on f (LevelSet n l) x y c g h = absurd h
   closing_on f (Noticed lane (OnClose id)) x y c g (inr h) = absurd h
   closing_on f (Noticed lane (OnClose id)) x y c g (inl e) =
       let gone : get (registry y).store.spans (number_of id) ≡ None = ap (λ (u : Store). get u.spans (number_of id)) g.after.1.taken.store ∙ get_removed (registry g.notified).store.spans (number_of id) in (
@@ -166,7 +170,7 @@ module _ {S : Type 0} (registry : S → RegistryState) (with_registry : S → Re
       )
 
   -- an issued id that isn't in the store closes no more
-  never_again : (x : S) (ms : List Made) (y : S) (c : ℕ) → FoldsTo (Makes registry with_registry has_form stepped) x ms y → contains (registry x).store.issued c ≡ true → (IsInStore (registry x).store.spans c → ⊥) → Member c (closed_in ms) → ⊥
+  never_again : (x : S) (ms : List Made) (y : S) (c : ℕ) → FoldsTo (Makes registry with_registry has_form stepped levelled) x ms y → contains (registry x).store.issued c ≡ true → (IsInStore (registry x).store.spans c → ⊥) → Member c (closed_in ms) → ⊥
   never_again x [] y c h issued out k = k
   never_again x (m ∷ ms) y c h issued out k =
       let on = onward_on m.form m.outcome x h.0 h.1.goes in
@@ -176,7 +180,7 @@ module _ {S : Type 0} (registry : S → RegistryState) (with_registry : S → Re
       ]
 
   -- over a whole run no span closes twice
-  pub closed_once : (x : S) (ms : List Made) (y : S) → AreIssued (registry x).store → FoldsTo (Makes registry with_registry has_form stepped) x ms y → StandOnce (closed_in ms)
+  pub closed_once : (x : S) (ms : List Made) (y : S) → AreIssued (registry x).store → FoldsTo (Makes registry with_registry has_form stepped levelled) x ms y → StandOnce (closed_in ms)
   closed_once x [] y sound h = tt
   closed_once x (m ∷ ms) y sound h =
       let on = onward_on m.form m.outcome x h.0 h.1.goes in

@@ -4,10 +4,11 @@ use Rattle.std.proofs.lemmas.List.{append-nil}
 use Rattle.std.specs.List.{FoldsTo}
 use Rattle.std.specs.Option.{option_map}
 use Rattle.span_core.specs.Filters.{FilterSet, union}
+use Rattle.span_core.specs.declared.level.LevelFilter.{LevelFilter}
 use Rattle.span_core.specs.declared.span.Lane.{Lane}
 use Rattle.span_dispatch.specs.Cache.{Memory}
 use Rattle.span_dispatch.specs.Call.{Call}
-use Rattle.span_dispatch.specs.Outcome.{Change, GoesOn, Made, Makes, Noticed, Outcome, Quiet}
+use Rattle.span_dispatch.specs.Outcome.{Change, GoesOn, LevelSet, Made, Makes, Noticed, Outcome, Quiet}
 use Rattle.span_dispatch.specs.Alone.{passed, seen}
 use Rattle.span_dispatch.specs.Serve.{Run, ServesAsked, flat}
 use Rattle.span_dispatch.specs.declared.request.Answer.{Answer}
@@ -17,6 +18,8 @@ use Rattle.span_registry.specs.Path.{Path, path_at}
 use Rattle.span_registry.specs.Answers.{Notice}
 use Rattle.span_registry.specs.Form.{Bare, Filtered, Form, Leaf, Over}
 use Rattle.span_registry.specs.Hooks.{StackLaws, StackSteps, no_filter}
+use Rattle.span_registry.specs.Levels.{LevelLaws, LevelSteps}
+use Rattle.span_registry.specs.Conducts.{ActsAt}
 use Rattle.span_registry.specs.Place.{HearSteps, Heard, Here, Inner, Outer, Place, Under, heard_by, is_notified}
 use Rattle.span_registry.specs.Plan.{Nobody, Through, asked_afresh, passes}
 use Rattle.span_registry.specs.Question.{single}
@@ -67,39 +70,44 @@ nothing_passed : (o : Option Path) (c : Change) (s : Store) → passed o (Quiet 
 nothing_passed None c s = refl
 nothing_passed (Some path) c s = refl
 
-module _ {S : Type 0} (registry : S → RegistryState) {with_registry : S → RegistryState → S} {usable : S → Type 0} {has_form : S → Form → Type 0} {stepped : StackSteps S} {hears : HearSteps S} {registered : S → S → Type 0}
-    (laws : StackLaws with_registry usable has_form stepped hears registered) where
+no_level_passed : (o : Option Path) (n : ℕ) (l : LevelFilter) (s : Store) → passed o (LevelSet n l) s ≡ []
+no_level_passed None n l s = refl
+no_level_passed (Some path) n l s = refl
+
+module _ {S : Type 0} (registry : S → RegistryState) {with_registry : S → RegistryState → S} {usable : S → Type 0} {has_form : S → Form → Type 0} {stepped : StackSteps S} {levelled : LevelSteps S} {hears : HearSteps S} {registered : S → S → Type 0} {acts_at : ActsAt S}
+    (laws : StackLaws with_registry usable has_form stepped hears registered) (levels : LevelLaws has_form levelled hears acts_at) where
   -- another registry makes no difference to a leaf
   aside : (x y z : S) (place : Place) (h : Heard) → hears x place h y → z ≡ with_registry y (registry z) → hears x place h z
   aside x y z place h a e =
       let more = subst (λ w. hears y place [] w) (sym e) (laws.hears_with y (registry z) place) in
       subst (λ k. hears x place k z) (append-nil h) (laws.heard.further x y z place h [] a more)
 
-  by_outcome : (f : Form) (o : Outcome) (s : Store) (x y : S) (place : Place) → s ≡ (registry x).store → GoesOn registry with_registry has_form stepped f o x y → hears x place (passed (path_at f place) o s) y
+  by_outcome : (f : Form) (o : Outcome) (s : Store) (x y : S) (place : Place) → s ≡ (registry x).store → GoesOn registry with_registry has_form stepped levelled f o x y → hears x place (passed (path_at f place) o s) y
   by_outcome f (Noticed lane e) s x y place same g =
       let plan = asked_afresh f e (registry x).store lane.0 no_filter in
       let now = aside x g.notified y place (heard_by plan place lane.0 e) (laws.notified x plan e lane.0 g.left g.notified (registry g.notified) place g.layers) g.rest in
       subst (λ t. hears x place (passed (path_at f place) (Noticed lane e) t) y) (sym same) (subst (λ h. hears x place h y) (sees_passed f place lane e (registry x).store) now)
   by_outcome f (Quiet c) s x y place same g = subst (λ h. hears x place h y) (sym (nothing_passed (path_at f place) c s)) (aside x x y place [] (laws.heard.nothing x place) g.rest)
+  by_outcome f (LevelSet n l) s x y place same g = subst (λ h. hears x place h y) (sym (no_level_passed (path_at f place) n l s)) (levels.heard x n l y place g.goes)
 
   -- each leaf went through what it sees of what was made
-  pub goes_through : (x : S) (ms : List Made) (y : S) (place : Place) → FoldsTo (Makes registry with_registry has_form stepped) x ms y → hears x place (seen place ms) y
+  pub goes_through : (x : S) (ms : List Made) (y : S) (place : Place) → FoldsTo (Makes registry with_registry has_form stepped levelled) x ms y → hears x place (seen place ms) y
   goes_through x [] y place h = subst (λ z. hears x place [] z) h (laws.heard.nothing x place)
   goes_through x (m ∷ ms) y place h =
       laws.heard.further x h.0 y place _ _ (by_outcome m.form m.outcome m.store x h.0 place h.1.store h.1.goes) (goes_through h.0 ms y place h.2)
 
-module _ {S : Type 0} (registry : S → RegistryState) (with_registry : S → RegistryState → S) (has_form : S → Form → Type 0) (stepped : StackSteps S) where
-  folds_append : (x : S) (ms ns : List Made) (y z : S) → FoldsTo (Makes registry with_registry has_form stepped) x ms y → FoldsTo (Makes registry with_registry has_form stepped) y ns z → FoldsTo (Makes registry with_registry has_form stepped) x (ms ++ ns) z
-  folds_append x [] ns y z h k = subst (λ w. FoldsTo (Makes registry with_registry has_form stepped) w ns z) (sym h) k
+module _ {S : Type 0} (registry : S → RegistryState) (with_registry : S → RegistryState → S) (has_form : S → Form → Type 0) (stepped : StackSteps S) (levelled : LevelSteps S) where
+  folds_append : (x : S) (ms ns : List Made) (y z : S) → FoldsTo (Makes registry with_registry has_form stepped levelled) x ms y → FoldsTo (Makes registry with_registry has_form stepped levelled) y ns z → FoldsTo (Makes registry with_registry has_form stepped levelled) x (ms ++ ns) z
+  folds_append x [] ns y z h k = subst (λ w. FoldsTo (Makes registry with_registry has_form stepped levelled) w ns z) (sym h) k
   folds_append x (m ∷ ms) ns y z h k = (h.0, h.1, folds_append h.0 ms ns y z h.2 k)
 
-  asked_folds : (o : Option Call) (memory : Memory) (x : S) (a : Answer) (ms : List Made) (after : Memory) (y : S) → ServesAsked registry with_registry has_form stepped o memory x a ms after y → FoldsTo (Makes registry with_registry has_form stepped) x ms y
-  asked_folds None memory x a ms after y h = subst (λ ns. FoldsTo (Makes registry with_registry has_form stepped) x ns y) (sym h.1) (sym h.3)
+  asked_folds : (o : Option Call) (memory : Memory) (x : S) (a : Answer) (ms : List Made) (after : Memory) (y : S) → ServesAsked registry with_registry has_form stepped levelled o memory x a ms after y → FoldsTo (Makes registry with_registry has_form stepped levelled) x ms y
+  asked_folds None memory x a ms after y h = subst (λ ns. FoldsTo (Makes registry with_registry has_form stepped levelled) x ns y) (sym h.1) (sym h.3)
   asked_folds (Some call) memory x a ms after y h = h.2.goes
 
   -- a run goes through all that was made, one after another
-  pub run_folds : (past : List Answer) (rs : List Request) (answers : List Answer) (made : List (List Made)) (memory : Memory) (x : S) (after : Memory) (y : S) → Run registry with_registry has_form stepped past rs answers made memory x after y
-      → FoldsTo (Makes registry with_registry has_form stepped) x (flat made) y
+  pub run_folds : (past : List Answer) (rs : List Request) (answers : List Answer) (made : List (List Made)) (memory : Memory) (x : S) (after : Memory) (y : S) → Run registry with_registry has_form stepped levelled past rs answers made memory x after y
+      → FoldsTo (Makes registry with_registry has_form stepped levelled) x (flat made) y
   run_folds past [] [] [] memory x after y h = sym h.1
   run_folds past [] [] (m ∷ made) memory x after y h = absurd h
   run_folds past [] (b ∷ answers) made memory x after y h = absurd h

@@ -9,11 +9,10 @@ use Rattle.span_dispatch.specs.Serve.{AsksFor, IsReadyAfter, IsReadyBy, IsReadyS
 use Rattle.span_dispatch.specs.declared.dispatch.Dispatch.{Dispatch}
 use Rattle.span_dispatch.specs.declared.request.Answer.{Answer}
 use Rattle.span_dispatch.specs.declared.request.Request.{Request}
-use Rattle.span_registry.specs.Follows.{kept_form}
-use Rattle.span_dispatch.proofs.Goes.{keeps_again}
 use Rattle.span_registry.specs.Conducts.{ActsAt, StackPathLaws}
 use Rattle.span_registry.specs.Form.{Form}
 use Rattle.span_registry.specs.Hooks.{StackLaws, StackSteps}
+use Rattle.span_registry.specs.Levels.{KeepsRules, LevelLaws, LevelSteps, own_rules, rules_again}
 use Rattle.span_registry.specs.Place.{HearSteps}
 use Rattle.span_dispatch.proofs.Dropped.{lost_nothing, readable_closes}
 use Rattle.span_dispatch.proofs.Once.{closed_once}
@@ -25,22 +24,22 @@ use Rattle.span_registry.specs.Store.{AreIssued, RegistryState}
 pub named : {o p : Option Id} {id : Id} → o ≡ p → o ≡ Some id → p ≡ Some id
 named e i = sym e ∙ i
 
-module _ {S : Type 0} (registry : S → RegistryState) (with_registry : S → RegistryState → S) (has_form : S → Form → Type 0) (stepped : StackSteps S) where
+module _ {S : Type 0} (registry : S → RegistryState) (with_registry : S → RegistryState → S) (has_form : S → Form → Type 0) (stepped : StackSteps S) (levelled : LevelSteps S) where
   -- what `AnswersDrop`, `AnswersCall`, `ServesNext` and `StaysReady` say
   abbrev DropAnswered : Call → Answer → Dispatch S → Dispatch S → Type 0
-  DropAnswered call a old new = (f : Form) → IsReadyBy registry with_registry has_form stepped f old → ServesCall registry with_registry has_form stepped call f a old new
+  DropAnswered call a old new = (f : Form) → IsReadyBy registry with_registry has_form stepped levelled f old → ServesCall registry with_registry has_form stepped levelled call f a old new
 
   abbrev CallAnswered : Call → Answer → Dispatch S → Dispatch S → Type 0
   CallAnswered call a old new =
-      (f : Form) → IsHonest registry with_registry has_form stepped f (stack_of old) → KeepsUpToDate f (registry (stack_of old)).filters old → ServesCall registry with_registry has_form stepped call f a old new
+      (f : Form) → IsHonest registry with_registry has_form stepped levelled f (stack_of old) → KeepsUpToDate f (registry (stack_of old)).filters old → ServesCall registry with_registry has_form stepped levelled call f a old new
 
   abbrev NextServed : List Answer → Request → Answer → Dispatch S → Dispatch S → Type 0
   NextServed past r a old new =
-      IsReadySomehow registry with_registry has_form stepped old
-      → (made : List Made) × ServesRequest registry with_registry has_form stepped past r (kept_by old) (stack_of old) a made (kept_by new) (stack_of new)
+      IsReadySomehow registry with_registry has_form stepped levelled old
+      → (made : List Made) × ServesRequest registry with_registry has_form stepped levelled past r (kept_by old) (stack_of old) a made (kept_by new) (stack_of new)
 
   abbrev ReadyAgain : Dispatch S → Dispatch S → Type 0
-  ReadyAgain old new = (f : Form) → IsReadyBy registry with_registry has_form stepped f old → IsReadyAfter registry with_registry has_form stepped f new
+  ReadyAgain old new = (f : Form) → IsReadyBy registry with_registry has_form stepped levelled f old → IsReadyAfter registry with_registry has_form stepped levelled KeepsRules f new
 
   -- what a request asks for was served
   pub served_by : (past : List Answer) (r other : Request) (call : Call) (a b : Answer) (old new : Dispatch S) → r ≡ other → AsksFor past other (Some call) → b ≡ a → DropAnswered call a old new
@@ -51,7 +50,7 @@ module _ {S : Type 0} (registry : S → RegistryState) (with_registry : S → Re
         record {
           call = Some call;
           asks = subst (λ q. AsksFor past q (Some call)) (sym same) asks;
-          served = (k.0, k.1.stack, subst (λ z. Serves registry with_registry has_form stepped call k.0 (kept_by old) (stack_of old) z done.0 (kept_by new) (stack_of new)) (sym answer) done.1);
+          served = (k.0, k.1.stack, subst (λ z. Serves registry with_registry has_form stepped levelled call k.0 (kept_by old) (stack_of old) z done.0 (kept_by new) (stack_of new)) (sym answer) done.1);
         },
       )
 
@@ -62,56 +61,56 @@ module _ {S : Type 0} (registry : S → RegistryState) (with_registry : S → Re
 
   -- a run, and then one request more
   run_more : (past : List Answer) (rs : List Request) (answers : List Answer) (made : List (List Made)) (memory : Memory) (x : S) (between : Memory) (y : S) (r : Request) (a : Answer) (ms : List Made) (after : Memory) (z : S)
-      → Run registry with_registry has_form stepped past rs answers made memory x between y → ServesRequest registry with_registry has_form stepped (past ++ answers) r between y a ms after z
-      → Run registry with_registry has_form stepped past (rs ++ (r ∷ [])) (answers ++ (a ∷ [])) (made ++ (ms ∷ [])) memory x after z
+      → Run registry with_registry has_form stepped levelled past rs answers made memory x between y → ServesRequest registry with_registry has_form stepped levelled (past ++ answers) r between y a ms after z
+      → Run registry with_registry has_form stepped levelled past (rs ++ (r ∷ [])) (answers ++ (a ∷ [])) (made ++ (ms ∷ [])) memory x after z
   run_more past [] [] [] memory x between y r a ms after z h s =
-      let here = subst (λ p. ServesRequest registry with_registry has_form stepped p r between y a ms after z) (append-nil past) s in
-      (after, z, subst (λ k. ServesRequest registry with_registry has_form stepped past r k x a ms after z) h.0 (subst (λ v. ServesRequest registry with_registry has_form stepped past r between v a ms after z) h.1 here), (refl, refl))
+      let here = subst (λ p. ServesRequest registry with_registry has_form stepped levelled p r between y a ms after z) (append-nil past) s in
+      (after, z, subst (λ k. ServesRequest registry with_registry has_form stepped levelled past r k x a ms after z) h.0 (subst (λ v. ServesRequest registry with_registry has_form stepped levelled past r between v a ms after z) h.1 here), (refl, refl))
   run_more past [] [] (m ∷ made) memory x between y r a ms after z h s = absurd h
   run_more past [] (b ∷ answers) made memory x between y r a ms after z h s = absurd h
   run_more past (q ∷ rs) [] made memory x between y r a ms after z h s = absurd h
   run_more past (q ∷ rs) (b ∷ answers) [] memory x between y r a ms after z h s = absurd h
   run_more past (q ∷ rs) (b ∷ answers) (m ∷ made) memory x between y r a ms after z h s =
-      let rest = subst (λ p. ServesRequest registry with_registry has_form stepped p r between y a ms after z) (sym (append_assoc past (b ∷ []) answers)) s in
+      let rest = subst (λ p. ServesRequest registry with_registry has_form stepped levelled p r between y a ms after z) (sym (append_assoc past (b ∷ []) answers)) s in
       (h.0, h.1, h.2, run_more (past ++ (b ∷ [])) rs answers made h.0 h.1 between y r a ms after z h.3 rest)
 
   -- these requests were served so far
   pub record SoFar (f : Form) (first now : Dispatch S) (done : List Request) (answers : List Answer) : Type 0 where
-    pub ready : IsReadyAfter registry with_registry has_form stepped f now
+    pub ready : IsReadyAfter registry with_registry has_form stepped levelled KeepsRules f now
     pub made : List (List Made)
-    pub run : Run registry with_registry has_form stepped [] done answers made (kept_by first) (stack_of first) (kept_by now) (stack_of now)
+    pub run : Run registry with_registry has_form stepped levelled [] done answers made (kept_by first) (stack_of first) (kept_by now) (stack_of now)
 
-  pub nothing_yet : (f : Form) (first : Dispatch S) → IsReadyBy registry with_registry has_form stepped f first → SoFar f first first [] []
-  nothing_yet f first ready = record { ready = (f, ready, kept_form f); made = []; run = (refl, refl) }
+  pub nothing_yet : (f : Form) (first : Dispatch S) → IsReadyBy registry with_registry has_form stepped levelled f first → SoFar f first first [] []
+  nothing_yet f first ready = record { ready = (f, ready, own_rules f); made = []; run = (refl, refl) }
 
   pub one_more : (f : Form) (first now next : Dispatch S) (done all : List Request) (past answers after : List Answer) (a : Answer) (r : Request) → SoFar f first now done answers → past ≡ answers → after ≡ answers ++ (a ∷ []) → all ≡ done ++ (r ∷ [])
       → ReadyAgain now next → NextServed past r a now next → SoFar f first next all after
   one_more f first now next done all past answers after a r h same longer one ready served =
       let s = served (h.ready.0, h.ready.1) in
       let after_it = ready h.ready.0 h.ready.1 in
-      let step = subst (λ p. ServesRequest registry with_registry has_form stepped p r (kept_by now) (stack_of now) a s.0 (kept_by next) (stack_of next)) same s.1 in
+      let step = subst (λ p. ServesRequest registry with_registry has_form stepped levelled p r (kept_by now) (stack_of now) a s.0 (kept_by next) (stack_of next)) same s.1 in
       subst (λ us. SoFar f first next all us) (sym longer) (subst (λ rs. SoFar f first next rs (answers ++ (a ∷ []))) (sym one)
       (record {
-        ready = (after_it.0, after_it.1, keeps_again f h.ready.0 after_it.0 h.ready.2 after_it.2);
+        ready = (after_it.0, after_it.1, rules_again f h.ready.0 after_it.0 h.ready.2 after_it.2);
         made = h.made ++ (s.0 ∷ []);
         run = run_more [] done answers h.made (kept_by first) (stack_of first) (kept_by now) (stack_of now) r a s.0 (kept_by next) (stack_of next) h.run step;
       }))
 
-module _ {S : Type 0} {registry : S → RegistryState} {with_registry : S → RegistryState → S} {usable : S → Type 0} {has_form : S → Form → Type 0} {stepped : StackSteps S} {hears : HearSteps S} {registered : S → S → Type 0} {acts_at : ActsAt S}
-    (laws : StackLaws with_registry usable has_form stepped hears registered) (paths : StackPathLaws with_registry has_form stepped registered acts_at) where
+module _ {S : Type 0} {registry : S → RegistryState} {with_registry : S → RegistryState → S} {usable : S → Type 0} {has_form : S → Form → Type 0} {stepped : StackSteps S} {levelled : LevelSteps S} {hears : HearSteps S} {registered : S → S → Type 0} {acts_at : ActsAt S}
+    (laws : StackLaws with_registry usable has_form stepped hears registered) (paths : StackPathLaws with_registry has_form stepped registered acts_at) (levels : LevelLaws has_form levelled hears acts_at) where
   -- all were served
-  pub all_served : (f : Form) (first now : Dispatch S) (all done : List Request) (answers : List Answer) → AreIssued (registry (stack_of first)).store → done ≡ all → SoFar registry with_registry has_form stepped f first now done answers
-      → Served registry with_registry has_form stepped hears acts_at all answers first now
+  pub all_served : (f : Form) (first now : Dispatch S) (all done : List Request) (answers : List Answer) → AreIssued (registry (stack_of first)).store → done ≡ all → SoFar registry with_registry has_form stepped levelled f first now done answers
+      → Served registry with_registry has_form stepped levelled hears acts_at all answers first now
   all_served f first now all done answers issued same h =
-      let folds = run_folds registry with_registry has_form stepped [] done answers h.made (kept_by first) (stack_of first) (kept_by now) (stack_of now) h.run in
-      let seen = sees_what_is_made registry laws paths (flat h.made) folds in
-      let run = subst (λ rs. Run registry with_registry has_form stepped [] rs answers h.made (kept_by first) (stack_of first) (kept_by now) (stack_of now)) same h.run in
+      let folds = run_folds registry with_registry has_form stepped levelled [] done answers h.made (kept_by first) (stack_of first) (kept_by now) (stack_of now) h.run in
+      let seen = sees_what_is_made registry laws paths levels (flat h.made) folds in
+      let run = subst (λ rs. Run registry with_registry has_form stepped levelled [] rs answers h.made (kept_by first) (stack_of first) (kept_by now) (stack_of now)) same h.run in
       record {
         made = h.made;
         run = run;
         each = seen.each;
         alone = seen.alone;
-        dropped = lost_nothing registry with_registry has_form stepped [] all answers h.made (kept_by first) (stack_of first) (kept_by now) (stack_of now) run;
-        once = closed_once registry with_registry has_form stepped (stack_of first) (flat h.made) (stack_of now) issued folds;
-        readable = readable_closes registry with_registry has_form stepped (stack_of first) (flat h.made) (stack_of now) folds;
+        dropped = lost_nothing registry with_registry has_form stepped levelled [] all answers h.made (kept_by first) (stack_of first) (kept_by now) (stack_of now) run;
+        once = closed_once registry with_registry has_form stepped levelled (stack_of first) (flat h.made) (stack_of now) issued folds;
+        readable = readable_closes registry with_registry has_form stepped levelled (stack_of first) (flat h.made) (stack_of now) folds;
       }

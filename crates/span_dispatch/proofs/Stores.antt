@@ -15,6 +15,7 @@ use Rattle.span_registry.proofs.CallerLemmas.{closes_itself, closes_with_hooks, 
 use Rattle.span_registry.specs.Closes.{IsSettled}
 use Rattle.span_registry.specs.Form.{Form}
 use Rattle.span_registry.specs.Hooks.{AnswersEnabled, AnswersEvent, OpensAndNotifies, StackSteps, Stays, no_filter}
+use Rattle.span_registry.specs.Levels.{LevelSteps}
 use Rattle.span_registry.specs.Question.{asked, event_asked, refusals}
 use Rattle.span_layers.proofs.CallerLemmas.{asked_by_nobody}
 use Rattle.span_core.specs.Event.{event_metadata}
@@ -139,15 +140,15 @@ module _ {S : Type 0} (registry : S → RegistryState) where
           )
 
     -- and then each was taken out that closed by that
-    pub closed_taken : (has_form : S → Form → Type 0) (stepped : StackSteps S) → ((s : S) (w : RegistryState) → registry (with_registry s w) ≡ w) → (lane : Lane) (id : Id) (a : Released) (old new : Dispatch S) (w : RegistryState) → Releases id a (registry (stack_of old)) w → a ≡ Closing
-        → ClosesEach registry with_registry has_form stepped lane id (with_registry (stack_of old) w) (stack_of new) → TakenAndClosed id old new
-    closed_taken has_form stepped registry_with lane id a old new w r same k =
+    pub closed_taken : (has_form : S → Form → Type 0) (stepped : StackSteps S) (levelled : LevelSteps S) → ((s : S) (w : RegistryState) → registry (with_registry s w) ≡ w) → (lane : Lane) (id : Id) (a : Released) (old new : Dispatch S) (w : RegistryState) → Releases id a (registry (stack_of old)) w → a ≡ Closing
+        → ClosesEach registry with_registry has_form stepped levelled lane id (with_registry (stack_of old) w) (stack_of new) → TakenAndClosed id old new
+    closed_taken has_form stepped levelled registry_with lane id a old new w r same k =
         let z = with_registry (stack_of old) w in
         (registry z, subst (λ t. Releases id Closing (registry (stack_of old)) t) (sym (registry_with (stack_of old) w)) (subst (λ b. Releases id b (registry (stack_of old)) w) same r), (k.closed, k.removal))
 
-    pub closed_store : (has_form : S → Form → Type 0) (stepped : StackSteps S) → ((s : S) (w : RegistryState) → registry (with_registry s w) ≡ w) → (lane : Lane) (id : Id) (a : Released) (x y : S) (w : RegistryState) → Releases id a (registry x) w → a ≡ Closing
-        → IsForest (registry x).store.spans → ClosesEach registry with_registry has_form stepped lane id (with_registry x w) y → IsSettled (registry x).store.spans → AndHooks registry (DropsSpan id true) x y × IsSettled (registry y).store.spans
-    closed_store has_form stepped registry_with lane id a x y w r same forest k h =
+    pub closed_store : (has_form : S → Form → Type 0) (stepped : StackSteps S) (levelled : LevelSteps S) → ((s : S) (w : RegistryState) → registry (with_registry s w) ≡ w) → (lane : Lane) (id : Id) (a : Released) (x y : S) (w : RegistryState) → Releases id a (registry x) w → a ≡ Closing
+        → IsForest (registry x).store.spans → ClosesEach registry with_registry has_form stepped levelled lane id (with_registry x w) y → IsSettled (registry x).store.spans → AndHooks registry (DropsSpan id true) x y × IsSettled (registry y).store.spans
+    closed_store has_form stepped levelled registry_with lane id a x y w r same forest k h =
         let z = with_registry x w in
         let release : Releases id Closing (registry x) (registry z) = subst (λ t. Releases id Closing (registry x) t) (sym (registry_with x w)) (subst (λ b. Releases id b (registry x) w) same r) in
         let all : ClosesAll SameButExtensions (registry x) id k.closed (registry y) = record { released = registry z; is_forest = forest; settled = h; release = release; removal = k.removal } in

@@ -8,11 +8,11 @@ use Rattle.span_core.specs.declared.filter.FilterMap.{FilterMap}
 use Rattle.span_core.specs.declared.span.Attributes.{Attributes}
 use Rattle.span_core.specs.declared.span.Id.{Id}
 use Rattle.span_core.specs.declared.span.Lane.{Lane}
-use Rattle.span_dispatch.specs.Outcome.{GoneLeft, HandleAdded, HandleTaken, IsVerdict, Made, Noticed, Outcome, Quiet}
+use Rattle.span_dispatch.specs.Outcome.{GoneLeft, HandleAdded, HandleTaken, IsVerdict, LevelSet, Made, Noticed, Outcome, Quiet}
 use Rattle.span_layers.specs.Observe.{open_answers}
 use Rattle.span_registry.specs.Answers.{Notice, OnClose, OnEnter, OnEvent, OnExit, OnFollows, OnIdChange, OnNewSpan, OnRecord}
 use Rattle.span_registry.specs.Closes.{without}
-use Rattle.span_registry.specs.Conducts.{Conducts, after_notice, path_now}
+use Rattle.span_registry.specs.Conducts.{Conducts, after_notice, path_now, setting}
 use Rattle.span_registry.specs.Form.{Filtered, Form, Leaf}
 use Rattle.span_registry.specs.Hooks.{no_filter}
 use Rattle.span_registry.specs.Path.{Path, passes_path, path_at}
@@ -64,6 +64,7 @@ StepsAlone path (Noticed lane (OnIdChange id other)) s t = ⊥
 StepsAlone path (Noticed lane (OnClose id)) s t = IsClosing s.spans (number_of id) × (t ≡ without s (number_of id ∷ []))
 StepsAlone path (Quiet (HandleAdded id)) s t = IsOpen s.spans (number_of id) × (t ≡ record s { spans = add_handle s.spans (number_of id) })
 StepsAlone path (Quiet (HandleTaken id)) s t = IsHeld s.spans (number_of id) × (t ≡ record s { spans = take_handle s.spans (number_of id) })
+StepsAlone path (LevelSet n l) s t = t ≡ s
 StepsAlone path (Quiet (GoneLeft lane id)) s t = ¬ (IsOpen s.spans (number_of id)) × (t ≡ exited s lane.0 (number_of id))
 
 -- the store that a notice is given in: the one after its step, but a close is given while its span is still there
@@ -79,10 +80,11 @@ learning ((Some n, b) ∷ cs) e s u lane under =
     if passes (b []) e s lane (union under (single n)) then (Some n, after_notice e (view_of u lane (union under (single n))) b) ∷ learning cs e s u lane (union under (single n))
     else (Some n, b) ∷ cs
 
--- the filters' conducts after an outcome
+-- the filters' conducts after an outcome: where a level was set, the filter with that number, if it is on the path, goes on by that
 abbrev pub acting : Conducts → Outcome → Store → Store → Conducts
 acting cs (Noticed lane e) s t = learning cs e s (given_in e s t) lane.0 no_filter
 acting cs (Quiet c) s t = cs
+acting cs (LevelSet n l) s t = setting n l cs
 
 -- what a leaf sees of these outcomes as if it stood alone under filters of these conducts, on this store: the notices, one by one, that its path passes, asked afresh
 abbrev pub Alone : Conducts → Store → List Outcome → Heard → Type 0

@@ -3,10 +3,11 @@ use Rattle.std.specs.Prelude.{◌≡◌, ◌↔◌, ◌⊎◌, ⊤, ℕ, Bool, t
 use Rattle.std.specs.Option.{option_map}
 use Rattle.span_core.specs.Event.{event_metadata}
 use Rattle.span_core.specs.Span.{asked_parent, current_span, id_of, metadata_of, number_of}
-use Rattle.span_core.specs.declared.error.TraceError.TheVariants.{UnknownSpan}
+use Rattle.span_core.specs.declared.error.TraceError.TheVariants.{NotSettable, UnknownSpan}
 use Rattle.span_core.specs.declared.error.TraceError.{TraceError}
 use Rattle.span_core.specs.declared.event.Event.{Event}
 use Rattle.span_core.specs.declared.filter.FilterMap.{FilterMap}
+use Rattle.span_core.specs.declared.level.LevelFilter.{LevelFilter}
 use Rattle.span_core.specs.declared.metadata.Metadata.{Metadata}
 use Rattle.span_core.specs.declared.span.Attributes.{Attributes}
 use Rattle.span_core.specs.declared.span.Current.{Current}
@@ -14,14 +15,15 @@ use Rattle.span_core.specs.declared.span.Id.{Id}
 use Rattle.span_core.specs.declared.span.Lane.{Lane}
 use Rattle.span_core.specs.declared.span.Record.{Record}
 use Rattle.span_dispatch.specs.Admission.{IsDropped, IsMade, IsUnknown, Learns, LearnsOfSpan}
-use Rattle.span_dispatch.specs.Cache.{Memory}
-use Rattle.span_dispatch.specs.Outcome.{HandleAdded, HandleTaken, GoneLeft, Noticed, Outcome, Quiet}
+use Rattle.span_dispatch.specs.Cache.{Memory, no_callsite}
+use Rattle.span_dispatch.specs.Outcome.{HandleAdded, HandleTaken, GoneLeft, LevelSet, Noticed, Outcome, Quiet}
 use Rattle.span_dispatch.specs.declared.request.Answer.TheVariants as answer
 use Rattle.span_dispatch.specs.declared.request.Answer.{Answer}
 use Rattle.span_layers.specs.Verdict.{vetoes, vetoes_event}
 use Rattle.span_registry.specs.Answers.{OnClose, OnEnter, OnEvent, OnExit, OnFollows, OnNewSpan, OnRecord}
 use Rattle.span_registry.specs.Closes.{Closes, Member}
 use Rattle.span_registry.specs.Form.{Form}
+use Rattle.span_registry.specs.Levels.{takes_level}
 use Rattle.span_registry.specs.Step.{Drops, IsCurrent, Opens, RefusesClone, RefusesEnter, RefusesNew, RefusesRelease}
 use Rattle.span_registry.specs.Store.{IsHeld, IsOpen, RegistryState, Store}
 
@@ -37,6 +39,7 @@ pub data Call : Type 0 where
   DropHandle : Lane → Id → Call
   Probe : Lane → Metadata → Call
   AskCurrent : Lane → Call
+  SetLevel : ℕ → LevelFilter → Call
 
 -- whether a leaf with no filter round it refuses an event, by its metadata or itself
 abbrev pub vetoes_whole : Form → Event → Store → Lane → Bool
@@ -46,6 +49,11 @@ vetoes_whole f e s lane = vetoes f (event_metadata e) s lane.0 || vetoes_event f
 abbrev pub RefusesUnlessOpen : RegistryState → Id → TraceError → Type 0
 RefusesUnlessOpen s x (UnknownSpan y) = (y ≡ x) × ¬ (IsOpen s.store.spans (number_of x))
 RefusesUnlessOpen s x other = ⊥
+
+-- why a level isn't set: no filter with this number takes it
+abbrev pub RefusesLevel : Form → ℕ → LevelFilter → TraceError → Type 0
+RefusesLevel f n l (NotSettable m) = (m ≡ n) × (takes_level f n l ≡ false)
+RefusesLevel f n l other = ⊥
 
 -- a lane leaves a span: a notice comes of it where the span is open, else a quiet change
 pub record Leaves (lane : Lane) (id : Id) (s : RegistryState) (os : List Outcome) : Type 0 where
@@ -95,13 +103,16 @@ Comes (Probe lane m) memory f s (answer.Yes true) os = AndNothing (IsMade memory
 Comes (Probe lane m) memory f s (answer.Yes false) os = AndNothing (IsDropped memory f s lane m (vetoes f m s.store lane.0)) os
 Comes (Probe lane m) memory f s (answer.Refused e) os = AndNothing (IsUnknown memory f m e) os
 Comes (AskCurrent lane) memory f s (answer.Current o) os = AndNothing (IsCurrent s.store lane.0 (option_map number_of o)) os
+Comes (SetLevel n l) memory f s answer.Done os = AndOne (takes_level f n l ≡ true) (LevelSet n l) os
+Comes (SetLevel n l) memory f s (answer.Refused e) os = AndNothing (RefusesLevel f n l e) os
 Comes call memory f s a os = ⊥
 
--- which callsites are kept after a call was answered so: of what is asked by metadata that callsite, too
+-- which callsites are kept after a call was answered so: of what is asked by metadata that callsite, too; none once a level was set
 abbrev pub KeepsAfter : Call → Memory → Form → Answer → Memory → Type 0
 KeepsAfter (OpenSpan lane attrs) memory f a after = LearnsOfSpan memory f (metadata_of attrs) a after
 KeepsAfter (SendEvent lane e) memory f a after = Learns memory f (event_metadata e) a after
 KeepsAfter (Probe lane m) memory f a after = Learns memory f m a after
+KeepsAfter (SetLevel n l) memory f answer.Done after = after ≡ option_map (λ callsites. no_callsite) memory
 KeepsAfter call memory f a after = after ≡ memory
 
 -- Below: what a call does to a registry where it isn't refused, whatever the stack answers. Hooks may write extensions after it.

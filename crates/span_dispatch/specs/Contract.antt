@@ -17,7 +17,7 @@ use Rattle.span_core.specs.declared.span.Lane.{Lane}
 use Rattle.span_core.specs.declared.span.Record.{Record}
 use Rattle.span_dispatch.specs.Admission.{IsAdmitted, hint_kept}
 use Rattle.span_dispatch.specs.Cache.{RefusesInterest}
-use Rattle.span_dispatch.specs.Call.{AddHandle, AskCurrent, Call, DropHandle, DropsSpan, Enter, Exit, Follow, OpenSpan, OpensFor, Probe, RecordValues, SendEvent, current_answer, done_answer, event_answer, span_answer, yes_answer}
+use Rattle.span_dispatch.specs.Call.{AddHandle, AskCurrent, Call, DropHandle, DropsSpan, Enter, Exit, Follow, OpenSpan, OpensFor, Probe, RecordValues, SendEvent, SetLevel, current_answer, done_answer, event_answer, span_answer, yes_answer}
 use Rattle.span_dispatch.specs.Outcome.{IsHonest, Made, Makes}
 use Rattle.span_dispatch.specs.Serve.{IsReady, IsReadyAfter, IsReadyBy, IsReadySomehow, KeepsUpToDate, Sees, Served, ServesCall, ServesRequest, kept_by, stack_of}
 use Rattle.span_dispatch.specs.declared.dispatch.Dispatch.{Dispatch}
@@ -28,14 +28,16 @@ use Rattle.span_registry.specs.Closes.{IsSettled}
 use Rattle.span_registry.specs.Conducts.{ActsAt}
 use Rattle.span_registry.specs.Form.{Form}
 use Rattle.span_registry.specs.Hooks.{AnswersEnabled, StackSteps, no_filter}
+use Rattle.span_registry.specs.Follows.{Keeps}
+use Rattle.span_registry.specs.Levels.{FollowsLevel, KeepsRules, LevelSteps, LevelsForm, takes_level}
 use Rattle.span_registry.specs.Place.{HearSteps}
-use Rattle.span_registry.specs.Question.{asked, event_asked}
+use Rattle.span_registry.specs.Question.{ShowsBy, asked, event_asked}
 use Rattle.span_registry.specs.Step.{Exits, RefusesNew, Releases, Removal}
 use Rattle.span_registry.specs.Store.{IsOpen, RegistryState}
 use Rattle.span_registry.specs.Subscriber.{AndHooks, SameButExtensions}
 use Rattle.span_registry.specs.declared.registry.Released.TheVariants.{Closing, StillOpen}
 
--- what the type of a stack says of it: where its registry is, whether it may be called, which form it has, how its layers go on when they are notified, what leaves hear, how filters act, and how its layers are put in use
+-- what the type of a stack says of it: where its registry is, whether it may be called, which form it has, how its layers go on when they are notified, what leaves hear, how filters act, how they take levels, and how its layers are put in use
 abbrev pub SubscriberOf : Type 0 → Type 1
 SubscriberOf S = record {
   registry : S → RegistryState;
@@ -45,6 +47,7 @@ SubscriberOf S = record {
   stepped : StackSteps S;
   hears : HearSteps S;
   acts_at : ActsAt S;
+  levelled : LevelSteps S;
   registered : S → S → Type 0;
 }
 
@@ -59,7 +62,7 @@ module _ {S : Type 0} (s : SubscriberOf S) where
 
   -- its stack is honest by this form
   abbrev pub HonestBy : Form → Dispatch S → Type 0
-  HonestBy f d = IsHonest s.registry s.with_registry s.has_form s.stepped f (stack_of d)
+  HonestBy f d = IsHonest s.registry s.with_registry s.has_form s.stepped s.levelled f (stack_of d)
 
   -- what it keeps is what its stack would answer now, by this form
   abbrev pub CurrentBy : Form → Dispatch S → Type 0
@@ -67,25 +70,37 @@ module _ {S : Type 0} (s : SubscriberOf S) where
 
   -- it is ready by this form
   abbrev pub ReadyBy : Form → Dispatch S → Type 0
-  ReadyBy f d = IsReadyBy s.registry s.with_registry s.has_form s.stepped f d
+  ReadyBy f d = IsReadyBy s.registry s.with_registry s.has_form s.stepped s.levelled f d
 
-  -- it is ready by a form that keeps what this one had
-  abbrev pub ReadyAfter : Form → Dispatch S → Type 0
-  ReadyAfter f d = IsReadyAfter s.registry s.with_registry s.has_form s.stepped f d
+  -- it is ready by a form that keeps this of the old one
+  abbrev pub ReadyAfter : (Form → Form → Type 0) → Form → Dispatch S → Type 0
+  ReadyAfter keeps f d = IsReadyAfter s.registry s.with_registry s.has_form s.stepped s.levelled keeps f d
 
   -- a call is answered so by a stack of this form
   abbrev pub ServesBy : Call → Form → Answer → Dispatch S → Dispatch S → Type 0
-  ServesBy call f a old new = ServesCall s.registry s.with_registry s.has_form s.stepped call f a old new
+  ServesBy call f a old new = ServesCall s.registry s.with_registry s.has_form s.stepped s.levelled call f a old new
 
   -- ---- what is promised of an honest stack
 
   -- a stack that was ready is ready in its dispatcher, by a form that keeps what the old one had
   abbrev pub BecomesReady : S → Dispatch S → Type 0
-  BecomesReady x d = (f : Form) → IsReady s.registry s.with_registry s.has_form s.stepped f x → ReadyAfter f d
+  BecomesReady x d = (f : Form) → IsReady s.registry s.with_registry s.has_form s.stepped s.levelled f x → ReadyAfter Keeps f d
 
-  -- a dispatcher that was ready is ready again, by a form that keeps what the old one had
+  -- a dispatcher that was ready is ready again, by a form that keeps this of the old one
+  abbrev pub StaysReadyWith : (Form → Form → Type 0) → Dispatch S → Dispatch S → Type 0
+  StaysReadyWith keeps old new = (f : Form) → ReadyBy f old → ReadyAfter keeps f new
+
+  -- by one that keeps what the old one had: interest and hint of each filter too
   abbrev pub StaysReady : Dispatch S → Dispatch S → Type 0
-  StaysReady old new = (f : Form) → ReadyBy f old → ReadyAfter f new
+  StaysReady old new = StaysReadyWith Keeps old new
+
+  -- by one in which the filter with this number alone answers otherwise
+  abbrev pub StaysReadyBut : ℕ → Dispatch S → Dispatch S → Type 0
+  StaysReadyBut n old new = StaysReadyWith (LevelsForm n) old new
+
+  -- by one that keeps the old one's rules, whatever levels were set
+  abbrev pub StaysReadyByRules : Dispatch S → Dispatch S → Type 0
+  StaysReadyByRules old new = StaysReadyWith KeepsRules old new
 
   -- an honest stack answers a call so, where what is kept is what it would answer now
   abbrev pub AnswersCall : Call → Answer → Dispatch S → Dispatch S → Type 0
@@ -131,6 +146,10 @@ module _ {S : Type 0} (s : SubscriberOf S) where
   abbrev pub ServesDrop : Lane → Id → Result Bool TraceError → Dispatch S → Dispatch S → Type 0
   ServesDrop lane id given old new = AnswersDrop (DropHandle lane id) (yes_answer given) old new
 
+  -- so is `set_level`
+  abbrev pub ServesLevel : {A : Type 0} → ℕ → LevelFilter → Result A TraceError → Dispatch S → Dispatch S → Type 0
+  ServesLevel n l given old new = AnswersCall (SetLevel n l) (done_answer given) old new
+
   -- so is `current_span`, and nothing changes
   abbrev pub ServesCurrent : Lane → Current → Dispatch S → Type 0
   ServesCurrent lane given d = AnswersCall (AskCurrent lane) (current_answer given) d d
@@ -142,25 +161,33 @@ module _ {S : Type 0} (s : SubscriberOf S) where
   -- a dispatcher that is ready serves the next request so
   abbrev pub ServesNext : List Answer → Request → Answer → Dispatch S → Dispatch S → Type 0
   ServesNext past r a old new =
-      IsReadySomehow s.registry s.with_registry s.has_form s.stepped old
-      → (made : List Made) × ServesRequest s.registry s.with_registry s.has_form s.stepped past r (kept_by old) (stack_of old) a made (kept_by new) (stack_of new)
+      IsReadySomehow s.registry s.with_registry s.has_form s.stepped s.levelled old
+      → (made : List Made) × ServesRequest s.registry s.with_registry s.has_form s.stepped s.levelled past r (kept_by old) (stack_of old) a made (kept_by new) (stack_of new)
 
   -- a dispatcher that is ready serves a list so
   abbrev pub ServesList : List Request → Dispatch S → Dispatch S → Vec Answer Global → Type 0
   ServesList requests old new answers =
-      IsReadySomehow s.registry s.with_registry s.has_form s.stepped old
-      → Served s.registry s.with_registry s.has_form s.stepped s.hears s.acts_at requests answers.items old new
+      IsReadySomehow s.registry s.with_registry s.has_form s.stepped s.levelled old
+      → Served s.registry s.with_registry s.has_form s.stepped s.levelled s.hears s.acts_at requests answers.items old new
 
   -- whatever was made between the two, each leaf sees of it what its path passes, as if it stood alone
   abbrev pub SeesWhatIsMade : Dispatch S → Dispatch S → Type 0
   SeesWhatIsMade old new =
-      (made : List Made) → FoldsTo (Makes s.registry s.with_registry s.has_form s.stepped) (stack_of old) made (stack_of new) → Sees s.registry s.hears s.acts_at (stack_of old) made (stack_of new)
+      (made : List Made) → FoldsTo (Makes s.registry s.with_registry s.has_form s.stepped s.levelled) (stack_of old) made (stack_of new) → Sees s.registry s.hears s.acts_at (stack_of old) made (stack_of new)
 
   -- ---- what is promised of any stack that has a form
 
   -- where what was kept is what the stack would answer, by a form that it has, so is what is kept now
   abbrev pub StaysUpToDate : Dispatch S → Dispatch S → Type 0
   StaysUpToDate old new = (f : Form) → s.has_form (stack_of old) f → CurrentBy f old → KeepsUpToDate f (registry_of old).filters new
+
+  -- whether a filter with this number takes this level, by each form that the stack has
+  abbrev pub TakesLevel : ℕ → LevelFilter → Dispatch S → Bool → Type 0
+  TakesLevel n l d taken = ShowsBy (s.has_form (stack_of d)) (λ f. takes_level f n l) taken
+
+  -- of each form that the stack had it has one in which the filter with this number alone answers otherwise
+  abbrev pub ChangesLevel : ℕ → Dispatch S → Dispatch S → Type 0
+  ChangesLevel n old new = (f : Form) → s.has_form (stack_of old) f → FollowsLevel (s.has_form (stack_of new)) n f
 
   -- the hint is the stack's, by a form that it has, where what is kept is what it would answer
   abbrev pub ShowsHint : Dispatch S → Option LevelFilter → Type 0

@@ -1,5 +1,5 @@
--- Stacks whose form never changes: what is made of a list of requests, said of the form and the registry alone.
-use Rattle.std.specs.Prelude.{◌≡◌, ⊤, List, [], map}
+-- Stacks whose form only levels change: what is made of a list of requests, said of the form and the registry alone.
+use Rattle.std.specs.Prelude.{◌≡◌, ℕ, if◌then◌else◌, List, [], map}
 use Rattle.span_dispatch.specs.Cache.{Memory}
 use Rattle.span_dispatch.specs.Outcome.{Made}
 use Rattle.span_dispatch.specs.Recorder.{kept_notice}
@@ -8,13 +8,28 @@ use Rattle.span_dispatch.specs.Serve.{Run, flat}
 use Rattle.span_dispatch.specs.declared.notice.Notice.{Notice}
 use Rattle.span_dispatch.specs.declared.request.Answer.{Answer}
 use Rattle.span_dispatch.specs.declared.request.Request.{Request}
-use Rattle.span_registry.specs.Form.{Form}
+use Rattle.span_core.specs.declared.level.LevelFilter.{LevelFilter}
+use Rattle.span_filters.specs.Level.{level_answers}
+use Rattle.span_registry.specs.Conducts.{filter_numbered}
+use Rattle.span_registry.specs.Form.{Bare, Filtered, Form, Leaf, Over}
 use Rattle.span_registry.specs.Place.{Place}
 use Rattle.span_registry.specs.Store.{RegistryState}
 
--- from one registry to another, under a stack that always has this form, and from callsites that are kept to others, the requests are answered so, and this is made of each
+-- the form, once the filter with this number took this level, where each filter that takes one is by level
+abbrev pub set_at : ℕ → LevelFilter → Form → Form
+set_at n l (Leaf still a) = Leaf still a
+set_at n l (Filtered m a f) = if filter_numbered m n then Filtered m (if a.takes l then level_answers l else a) f else Filtered m a (set_at n l f)
+set_at n l (Over k o i) = Over k (set_at n l o) (set_at n l i)
+set_at n l (Bare v) = Bare v
+
+-- a registry, and the form of the layers on it
+abbrev pub Formed : Type 0
+Formed = RegistryState × Form
+
+-- from one registry to another, under a stack that has this form at first, and then what levels make of it, and from callsites that are kept to others, the requests are answered so, and this is made of each
 abbrev pub RunsBy : Form → List Request → List Answer → List (List Made) → Memory → RegistryState → Memory → RegistryState → Type 0
-RunsBy f requests answers made kept s after t = Run (λ r. r) (λ r w. w) (λ r g. g ≡ f) (λ r p e lane v q w. ⊤) [] requests answers made kept s after t
+RunsBy f requests answers made kept s after t =
+    (g : Form) × Run (λ (r : Formed). r.0) (λ r w. (w, r.1)) (λ r h. h ≡ r.1) (λ r p e lane v q w. q.1 ≡ r.1) (λ r n l q. q.1 ≡ set_at n l r.1) [] requests answers made kept (s, f) after (t, g)
 
 -- what a recorder at a place, of which all fitted into memory, keeps of what was made
 abbrev pub kept_at : List (List Made) → Place → List Notice

@@ -12,6 +12,7 @@ use Rattle.span_registry.specs.Answers.{AreAlikeHistories, ArePlain, Conduct, Hi
 use Rattle.span_registry.specs.Conducts.{ActsAt, Conducts, numbers_in}
 use Rattle.span_registry.specs.Form.{Form}
 use Rattle.span_registry.specs.Hooks.{StackSteps}
+use Rattle.span_registry.specs.Levels.{LevelSteps}
 use Rattle.span_registry.specs.Place.{HearSteps, Heard, Place}
 use Rattle.span_registry.specs.Store.{RegistryState, Store}
 
@@ -36,11 +37,11 @@ SeeTheSame Sees Other =
     (cs ds : Conducts) (s t : Store) (outcomes : List Outcome) (h k : Heard) → Sees cs s outcomes h → Other ds t outcomes k → PathsActAlike cs ds → AgreeAt (numbers_in cs) s t → h ≡ k
 
 -- what the leaf at some place of a stack sees of what was made
-pub record SeesMade {S : Type 0} (registry : S → RegistryState) (with_registry : S → RegistryState → S) (has_form : S → Form → Type 0) (stepped : StackSteps S) (acts_at : ActsAt S) (cs : Conducts) (s : Store) (outcomes : List Outcome) (h : Heard) : Type 0 where
+pub record SeesMade {S : Type 0} (registry : S → RegistryState) (with_registry : S → RegistryState → S) (has_form : S → Form → Type 0) (stepped : StackSteps S) (levelled : LevelSteps S) (acts_at : ActsAt S) (cs : Conducts) (s : Store) (outcomes : List Outcome) (h : Heard) : Type 0 where
   pub old : S
   pub new : S
   pub made : List Made
-  pub goes : FoldsTo (Makes registry with_registry has_form stepped) old made new
+  pub goes : FoldsTo (Makes registry with_registry has_form stepped levelled) old made new
   pub place : Place
   pub acts : acts_at old place cs
   pub at_store : (registry old).store ≡ s
@@ -48,12 +49,12 @@ pub record SeesMade {S : Type 0} (registry : S → RegistryState) (with_registry
   pub sees : seen place made ≡ h
 
 -- what the leaf at some place of a dispatcher's stack sees of all that was made of a list of requests
-pub record SeesServed {S : Type 0} (registry : S → RegistryState) (with_registry : S → RegistryState → S) (has_form : S → Form → Type 0) (stepped : StackSteps S) (hears : HearSteps S) (acts_at : ActsAt S) (cs : Conducts) (s : Store) (outcomes : List Outcome) (h : Heard) : Type 0 where
+pub record SeesServed {S : Type 0} (registry : S → RegistryState) (with_registry : S → RegistryState → S) (has_form : S → Form → Type 0) (stepped : StackSteps S) (levelled : LevelSteps S) (hears : HearSteps S) (acts_at : ActsAt S) (cs : Conducts) (s : Store) (outcomes : List Outcome) (h : Heard) : Type 0 where
   pub old : Dispatch S
   pub new : Dispatch S
   pub requests : List Request
   pub answers : List Answer
-  pub served : Served registry with_registry has_form stepped hears acts_at requests answers old new
+  pub served : Served registry with_registry has_form stepped levelled hears acts_at requests answers old new
   pub place : Place
   pub acts : acts_at (stack_of old) place cs
   pub at_store : (registry (stack_of old)).store ≡ s

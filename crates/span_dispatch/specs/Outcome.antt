@@ -1,8 +1,9 @@
 -- What comes of a request: notices, and changes of the store that nobody is notified of; and how a stack goes through them.
-use Rattle.std.specs.Prelude.{◌≡◌, ℕ, Option}
+use Rattle.std.specs.Prelude.{◌≡◌, ℕ, true, Option}
 use Rattle.span_core.specs.Filters.{refuses}
 use Rattle.span_core.specs.Span.{asked_parent, metadata_of, number_of}
 use Rattle.span_core.specs.declared.filter.FilterMap.{FilterMap}
+use Rattle.span_core.specs.declared.level.LevelFilter.{LevelFilter}
 use Rattle.span_core.specs.declared.metadata.Metadata.{Metadata}
 use Rattle.span_core.specs.declared.span.Id.{Id}
 use Rattle.span_core.specs.declared.span.Lane.{Lane}
@@ -11,6 +12,7 @@ use Rattle.span_layers.specs.Verdict.{in_verdict}
 use Rattle.span_registry.specs.Answers.{Notice, OnClose, OnEnter, OnEvent, OnExit, OnFollows, OnIdChange, OnNewSpan, OnRecord}
 use Rattle.span_registry.specs.Form.{Form}
 use Rattle.span_registry.specs.Hooks.{StackSteps, no_filter}
+use Rattle.span_registry.specs.Levels.{LevelSteps, takes_level}
 use Rattle.span_registry.specs.Plan.{asked_afresh}
 use Rattle.span_registry.specs.Step.{Clones, Enters, Exits, Opens, Removes}
 use Rattle.span_registry.specs.Store.{IsClosing, IsHeld, IsOpen, RegistryState, Store, take_handle, with_spans}
@@ -22,10 +24,11 @@ pub data Change : Type 0 where
   HandleTaken : Id → Change
   GoneLeft : Lane → Id → Change
 
--- one thing that comes of a request: a notice from a lane, or a quiet change
+-- one thing that comes of a request: a notice from a lane, a quiet change, or a level that the filter with a number took, of which nobody is notified either
 pub data Outcome : Type 0 where
   Noticed : Lane → Notice → Outcome
   Quiet : Change → Outcome
+  LevelSet : ℕ → LevelFilter → Outcome
 
 -- what was made: an outcome, of a stack that had this form, and the store before it
 pub record Made : Type 0 where
@@ -61,7 +64,7 @@ Changes (HandleAdded id) s t = Clones id s t
 Changes (HandleTaken id) s t = IsHeld s.store.spans (number_of id) × (t ≡ with_spans s (take_handle s.store.spans (number_of id)))
 Changes (GoneLeft lane id) s t = ¬ (IsOpen s.store.spans (number_of id)) × Exits lane id s t
 
-module _ {S : Type 0} (registry : S → RegistryState) (with_registry : S → RegistryState → S) (has_form : S → Form → Type 0) (stepped : StackSteps S) where
+module _ {S : Type 0} (registry : S → RegistryState) (with_registry : S → RegistryState → S) (has_form : S → Form → Type 0) (stepped : StackSteps S) (levelled : LevelSteps S) where
   -- a notice is given: the registry takes its step before; then each filter and leaf whose path passes the notice, asked afresh on the store as it was, goes on by its own step, and may write extensions; then the registry takes its step after
   pub record Notices (f : Form) (lane : Lane) (e : Notice) (x y : S) : Type 0 where
     pub left : RegistryState
@@ -77,10 +80,17 @@ module _ {S : Type 0} (registry : S → RegistryState) (with_registry : S → Re
     pub changes : Changes c (registry x) (registry y)
     pub rest : y ≡ with_registry x (registry y)
 
+  -- the filter with this number takes this level: it alone goes on, and the registry stays as it is
+  pub record SetsLevel (f : Form) (n : ℕ) (l : LevelFilter) (x y : S) : Type 0 where
+    pub taken : takes_level f n l ≡ true
+    pub goes : levelled x n l y
+    pub same : registry y ≡ registry x
+
   -- an outcome of a stack of this form
   abbrev pub GoesOn : Form → Outcome → S → S → Type 0
   GoesOn f (Noticed lane e) x y = Notices f lane e x y
   GoesOn f (Quiet c) x y = Quiets c x y
+  GoesOn f (LevelSet n l) x y = SetsLevel f n l x y
 
   -- a stack has this form, and is honest
   pub record IsHonest (f : Form) (x : S) : Type 0 where

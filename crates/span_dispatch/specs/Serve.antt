@@ -9,7 +9,7 @@ use Rattle.span_core.specs.declared.span.Parent.TheVariants as parent
 use Rattle.span_core.specs.declared.span.Parent.{Parent}
 use Rattle.span_dispatch.specs.Alone.{Alone, seen}
 use Rattle.span_dispatch.specs.Cache.{IsUpToDate, Memory, forgotten, kept_in}
-use Rattle.span_dispatch.specs.Call.{AddHandle, AskCurrent, Call, Comes, DropHandle, KeepsAfter, Enter, Exit, Follow, OpenSpan, Probe, RecordValues, SendEvent, closes_of}
+use Rattle.span_dispatch.specs.Call.{AddHandle, AskCurrent, Call, Comes, DropHandle, KeepsAfter, Enter, Exit, Follow, OpenSpan, Probe, RecordValues, SendEvent, SetLevel, closes_of}
 use Rattle.span_dispatch.specs.Outcome.{IsHonest, Made, Makes, Noticed, Outcome}
 use Rattle.span_dispatch.specs.declared.dispatch.Dispatch.{Dispatch}
 use Rattle.span_dispatch.specs.declared.request.Answer.TheVariants as answer
@@ -30,6 +30,7 @@ use Rattle.span_core.specs.declared.span.Lane.{Lane}
 use Rattle.span_registry.specs.Agree.{AgreeAt}
 use Rattle.span_registry.specs.Conducts.{ActsAt, Conducts, numbers_in}
 use Rattle.span_registry.specs.Hooks.{StackSteps}
+use Rattle.span_registry.specs.Levels.{LevelSteps}
 use Rattle.span_registry.specs.Place.{HearSteps, Place}
 use Rattle.span_registry.specs.Step.{Removal}
 use Rattle.span_registry.specs.Subscriber.{SameButExtensions}
@@ -84,6 +85,7 @@ AsksFor past (request.Clone lane w) o = o ≡ option_map (λ x. AddHandle lane x
 AsksFor past (request.Drop lane w) o = o ≡ option_map (λ x. DropHandle lane x) (resolved past w)
 AsksFor past (request.Enabled lane m) o = o ≡ Some (Probe lane m)
 AsksFor past (request.Current lane) o = o ≡ Some (AskCurrent lane)
+AsksFor past (request.SetLevel number level) o = o ≡ Some (SetLevel number level)
 AsksFor past r o = ⊥
 
 -- the outcome that was made
@@ -140,10 +142,10 @@ pub record Sees {S : Type 0} (registry : S → RegistryState) (hears : HearSteps
   pub each : EachSees hears x made y
   pub alone : EachSeesAlone registry acts_at x made
 
-module _ {S : Type 0} (registry : S → RegistryState) (with_registry : S → RegistryState → S) (has_form : S → Form → Type 0) (stepped : StackSteps S) where
+module _ {S : Type 0} (registry : S → RegistryState) (with_registry : S → RegistryState → S) (has_form : S → Form → Type 0) (stepped : StackSteps S) (levelled : LevelSteps S) where
   -- between two requests: no span is closing, and the stack is honest by this form
   pub record IsReady (f : Form) (x : S) : Type 0 where
-    pub honest : IsHonest registry with_registry has_form stepped f x
+    pub honest : IsHonest registry with_registry has_form stepped levelled f x
     pub settled : IsSettled (registry x).store.spans
 
   -- the same of a dispatcher, which keeps what its stack would answer now
@@ -154,16 +156,16 @@ module _ {S : Type 0} (registry : S → RegistryState) (with_registry : S → Re
   -- a call is answered so by a stack of this form, where these callsites are kept; this was made of it, and then these are kept
   pub record Serves (call : Call) (f : Form) (kept : Memory) (x : S) (a : Answer) (made : List Made) (after : Memory) (y : S) : Type 0 where
     pub comes : Comes call kept f (registry x) a (map outcome_of made)
-    pub goes : FoldsTo (Makes registry with_registry has_form stepped) x made y
+    pub goes : FoldsTo (Makes registry with_registry has_form stepped levelled) x made y
     pub keeps : KeepsAfter call kept f a after
 
   -- a dispatcher's call is answered so
   abbrev pub ServesCall : Call → Form → Answer → Dispatch S → Dispatch S → Type 0
   ServesCall call f a old new = (made : List Made) × Serves call f (kept_by old) (stack_of old) a made (kept_by new) (stack_of new)
 
-  -- ready by a form that keeps what this one had
-  abbrev pub IsReadyAfter : Form → Dispatch S → Type 0
-  IsReadyAfter f d = (g : Form) × IsReadyBy g d × Keeps f g
+  -- ready by a form that keeps this of the old one
+  abbrev pub IsReadyAfter : (Form → Form → Type 0) → Form → Dispatch S → Type 0
+  IsReadyAfter keeps f d = (g : Form) × IsReadyBy g d × keeps f g
 
   -- ready by some form
   abbrev pub IsReadySomehow : Dispatch S → Type 0
@@ -216,4 +218,4 @@ module _ {S : Type 0} (registry : S → RegistryState) (with_registry : S → Re
   pub record ClosesEach (lane : Lane) (id : Id) (x y : S) : Type 0 where
     pub closed : List ℕ
     pub removal : Removal SameButExtensions (registry x) id closed None (registry y)
-    pub notices : (f : Form) → IsHonest registry with_registry has_form stepped f x → (made : List Made) × FoldsTo (Makes registry with_registry has_form stepped) x made y × (map outcome_of made ≡ closes_of lane closed) × ((g : Form) × IsHonest registry with_registry has_form stepped g y × Keeps f g × ((registry y).filters ≡ (registry x).filters))
+    pub notices : (f : Form) → IsHonest registry with_registry has_form stepped levelled f x → (made : List Made) × FoldsTo (Makes registry with_registry has_form stepped levelled) x made y × (map outcome_of made ≡ closes_of lane closed) × ((g : Form) × IsHonest registry with_registry has_form stepped levelled g y × Keeps f g × ((registry y).filters ≡ (registry x).filters))

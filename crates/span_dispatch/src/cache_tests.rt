@@ -33,7 +33,7 @@ fn send<S: Subscriber>(dispatch: &mut Dispatch<S>, metadata: Metadata) -> Result
 }
 
 /// An event where the lane is.
-fn event(callsite: u64, level: Level) -> Request<'static> {
+pub(crate) fn event(callsite: u64, level: Level) -> Request<'static> {
     Request::Event(
         LANE,
         event_of(callsite, level),
@@ -52,7 +52,7 @@ fn events(alloc: Global, count: usize) -> Result<Vec<Request<'static>>, Fail> {
 }
 
 /// Sends an event of level info. Answers whether it was made, and the hint that the dispatcher then has.
-fn sent_under<S: Subscriber>(
+pub(crate) fn sent_under<S: Subscriber>(
     dispatch: &mut Dispatch<S>,
 ) -> (Result<bool, TraceError>, Option<LevelFilter>)
     requires { S.usable (stack_of dispatch.old) }
@@ -63,7 +63,7 @@ fn sent_under<S: Subscriber>(
 }
 
 /// Counts that a filter is asked.
-fn count(asked: &Cell<u32>) {
+pub(crate) fn count(asked: &Cell<u32>) {
     asked.set(asked.get().saturating_add(1));
 }
 

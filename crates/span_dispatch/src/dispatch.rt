@@ -1,13 +1,13 @@
 //! A dispatcher: it takes requests, asks the layers of a stack, and notifies them.
 ghost use Rattle.std.specs.Borrow.{Lends, sem};
-ghost use Rattle.std.specs.Prelude.{◌≡◌, ℕ, None, Ok, Some, false, IfErr, IfOk, OnErr, OnOk};
+ghost use Rattle.std.specs.Prelude.{◌≡◌, ℕ, None, Ok, Some, true, false, IfErr, IfOk, OnErr, OnOk};
 ghost use Rattle.span_core.specs.Event.{event_metadata};
 ghost use Rattle.span_core.specs.Filters.{IsEmpty};
 ghost use Rattle.span_core.specs.Span.{metadata_of, number_of};
 ghost use Rattle.span_dispatch.specs.Admission.{MayLearn};
 ghost use Rattle.span_dispatch.specs.Cache.{RefusesInterest, no_callsite};
 ghost use Rattle.span_dispatch.specs.Call.{FindsOpen, RefusesUnlessOpen};
-ghost use Rattle.span_dispatch.specs.Contract.{Admits, AsksStack, BecomesReady, DropsSettled, LeavesGone, OpensIfMade, RefusesEvent, RefusesSpan, SeesWhatIsMade, ServesClone, ServesCurrent, ServesDrop, ServesEnabled, ServesEnter, ServesEvent, ServesExit, ServesFollows, ServesNewSpan, ServesRecord, ShowsHint, StaysReady, StaysSettled, StaysUpToDate, TakesHandle, TakesStep, TakesStepAlone, WantsEvent, WantsMetadata, WantsSpan};
+ghost use Rattle.span_dispatch.specs.Contract.{Admits, AsksStack, BecomesReady, ChangesLevel, DropsSettled, LeavesGone, OpensIfMade, RefusesEvent, RefusesSpan, SeesWhatIsMade, ServesClone, ServesCurrent, ServesDrop, ServesEnabled, ServesEnter, ServesEvent, ServesExit, ServesFollows, ServesLevel, ServesNewSpan, ServesRecord, ShowsHint, StaysReady, StaysReadyBut, StaysSettled, StaysUpToDate, TakesHandle, TakesLevel, TakesStep, TakesStepAlone, WantsEvent, WantsMetadata, WantsSpan};
 ghost use Rattle.span_dispatch.specs.contracts.dispatch.Dispatch.{the_row};
 ghost use Rattle.span_dispatch.specs.Serve.{ClosesEach, KeepsUpToDate, forgetful, kept_by, stack_of, with_stack};
 ghost use Rattle.span_registry.specs.Step.{Clones, Enters, Exits, RefusesClone, RefusesEnter, RefusesRelease, ShowsCurrent};
@@ -316,6 +316,34 @@ impl<S: Subscriber> Dispatch<S> {
         }
     }
 
+    /// Sets the level of the filter with this number. Its kept hint and interests are forgotten; open spans keep their verdicts, and
+    /// no layer is notified.
+    ///
+    /// Refused where no attached filter has the number, or the one that has it takes no level (`NotSettable`).
+    ///
+    /// Own to this port.
+    pub fn set_level(&mut self, number: u32, level: LevelFilter) -> Result<(), TraceError>
+        requires { S.usable (stack_of self.old) }
+        ensures usable { S.usable (stack_of self.new) }
+        ensures registry { S.registry (stack_of self.new) ≡ S.registry (stack_of self.old) }
+        ensures ready { StaysReadyBut S.Subscriber number self.old self.new }
+        ensures served { ServesLevel S.Subscriber number level result self.old self.new }
+        ensures seen { SeesWhatIsMade S.Subscriber self.old self.new }
+        ensures level { OnOk result (S.levelled (stack_of self.old) number level (stack_of self.new)) }
+        ensures taken { OnOk result (TakesLevel S.Subscriber number level self.old true) }
+        ensures none { OnErr result (TakesLevel S.Subscriber number level self.old false) }
+        ensures rest { ChangesLevel S.Subscriber number self.old self.new }
+        ensures forgets { OnOk result (self.new ≡ forgetful (with_stack self.old (stack_of self.new))) }
+        ensures refused { IfErr result (λ e. e ≡ TraceError.NotSettable number) }
+        ensures unchanged { OnErr result (self.new ≡ self.old) }
+    {
+        if !self.stack.set_level(number, level) {
+            return Err(TraceError::NotSettable(number));
+        }
+        Cache::forget(&mut self.cache);
+        Ok(())
+    }
+
     /// The span that a lane is in.
     pub fn current_span(&self, lane: Lane) -> Current
         ensures shown { ShowsCurrent (S.registry (stack_of self.now)).store lane result }
@@ -331,7 +359,7 @@ fn close_all<S: Subscriber>(stack: &mut S, lane: Lane, id: Id)
     requires usable { S.usable stack.old }
     requires closing { IsClosing (S.registry stack.old).store.spans (number_of id) }
     ensures usable { S.usable stack.new }
-    ensures closes { ClosesEach S.registry S.with_registry S.has_form S.stepped lane id stack.old stack.new }
+    ensures closes { ClosesEach S.registry S.with_registry S.has_form S.stepped S.levelled lane id stack.old stack.new }
 {
     let mut next = Some(id);
     while let Some(span) = next {

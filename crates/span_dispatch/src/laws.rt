@@ -14,11 +14,11 @@ pub fn other_layers_make_no_difference<S: Subscriber, T: Subscriber>()
     ensures itself { (cs : Conducts) → ArePlainConducts cs → PathsActAlike cs cs }
     ensures alone { SeeTheSame Alone Alone }
     ensures made { SeeTheSame
-        (SeesMade S.registry S.with_registry S.has_form S.stepped S.acts_at)
-        (SeesMade T.registry T.with_registry T.has_form T.stepped T.acts_at) }
+        (SeesMade S.registry S.with_registry S.has_form S.stepped S.levelled S.acts_at)
+        (SeesMade T.registry T.with_registry T.has_form T.stepped T.levelled T.acts_at) }
     ensures made_alone { SeeTheSame
-        (SeesMade S.registry S.with_registry S.has_form S.stepped S.acts_at) Alone }
+        (SeesMade S.registry S.with_registry S.has_form S.stepped S.levelled S.acts_at) Alone }
     ensures served { SeeTheSame
-        (SeesServed S.registry S.with_registry S.has_form S.stepped S.hears S.acts_at)
-        (SeesServed T.registry T.with_registry T.has_form T.stepped T.hears T.acts_at) }
+        (SeesServed S.registry S.with_registry S.has_form S.stepped S.levelled S.hears S.acts_at)
+        (SeesServed T.registry T.with_registry T.has_form T.stepped T.levelled T.hears T.acts_at) }
 {}

@@ -10,6 +10,8 @@ mod isolation_tests;
 pub mod laws;
 #[cfg(test)]
 mod layer_tests;
+#[cfg(test)]
+mod level_tests;
 mod notice;
 mod recorder;
 mod request;

@@ -4,8 +4,10 @@ ghost use Rattle.span_dispatch.specs.Recorder.{Records, new_recorder, recorder_h
 ghost use Rattle.span_dispatch.specs.RecorderLaws.{recorder_laws};
 ghost use Rattle.span_layers.specs.Acts.{LeafActs};
 ghost use Rattle.span_layers.specs.ActsKept.{is_leaf, leaf_path_laws};
+ghost use Rattle.span_layers.specs.Levels.{leaf_levels};
 ghost use Rattle.span_layers.specs.Observe.{open_answers};
 ghost use Rattle.span_registry.specs.Form.{Leaf};
+ghost use Rattle.span_registry.specs.Levels.{unlevelled};
 
 use crate::notice::Notice;
 use span_core::{Attributes, Event, Id, Interest, LevelFilter, Metadata, Pass, Record};
@@ -84,6 +86,8 @@ impl<S: Subscriber> Layer<S> for Recorder {
 
     ghost acts_at = { LeafActs };
 
+    ghost levelled = { unlevelled };
+
     ghost registered = { λ x y. y ≡ x };
 
     ghost attached = { λ x y. y ≡ x };
@@ -91,6 +95,8 @@ impl<S: Subscriber> Layer<S> for Recorder {
     ghost laws = { recorder_laws };
 
     ghost paths = { leaf_path_laws (λ x f h. is_leaf h) };
+
+    ghost levels = { leaf_levels recorder_laws };
 
     fn on_register_dispatch(&mut self) {
         // It has nothing to do.
@@ -114,6 +120,10 @@ impl<S: Subscriber> Layer<S> for Recorder {
 
     fn max_level_hint(&self) -> Option<LevelFilter> {
         None // It wants all levels.
+    }
+
+    fn set_level(&mut self, _number: u32, _level: LevelFilter) -> bool {
+        false // No filter is in it.
     }
 
     fn filter_count(&self) -> u32 {

@@ -1,6 +1,6 @@
 //! What is asked of a dispatcher, in a list, and what it answers.
 
-use span_core::{FieldValue, Id, Lane, Metadata, TraceError};
+use span_core::{FieldValue, Id, Lane, LevelFilter, Metadata, TraceError};
 
 /// A span that a request names.
 ///
@@ -49,6 +49,8 @@ pub enum Request<'a> {
     Enabled(Lane, Metadata),
     /// Which span the lane is in.
     Current(Lane),
+    /// The level of the filter with this number is set.
+    SetLevel(u32, LevelFilter),
 }
 
 /// What a request is answered.

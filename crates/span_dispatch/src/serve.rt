@@ -3,7 +3,7 @@ ghost use Rattle.std.specs.Prelude.{◌≡◌, ◌∷◌, [], ◌++◌, OnErr, I
 ghost use Rattle.span_core.specs.Event.{event_metadata, event_parent, event_values};
 ghost use Rattle.span_core.specs.Span.{asked_parent, metadata_of, values_of};
 ghost use Rattle.span_dispatch.specs.Call.{Exit, current_answer, done_answer, event_answer, span_answer, yes_answer};
-ghost use Rattle.span_dispatch.specs.Contract.{AnswersCall, ServesList, ServesNext, StaysReady};
+ghost use Rattle.span_dispatch.specs.Contract.{AnswersCall, ServesList, ServesNext, StaysReady, StaysReadyByRules};
 ghost use Rattle.span_dispatch.specs.Serve.{resolved, resolved_parent, stack_of};
 
 use crate::dispatch::Dispatch;
@@ -25,7 +25,7 @@ impl<S: Subscriber> Dispatch<S> {
     ) -> Result<Vec<Answer>, TraceError>
         requires { S.usable (stack_of self.old) }
         ensures usable { S.usable (stack_of self.new) }
-        ensures ready { StaysReady S.Subscriber self.old self.new }
+        ensures ready { StaysReadyByRules S.Subscriber self.old self.new }
         ensures served { IfOk result (ServesList S.Subscriber requests.now self.old self.new) }
         ensures length { IfOk result (λ a. length a.items ≡ length requests.now) }
         ensures memory { IfErr result (λ e. e ≡ TraceError.OutOfMemory) }
@@ -44,17 +44,15 @@ impl<S: Subscriber> Dispatch<S> {
     fn serve_one(&mut self, past: &[Answer], request: &Request<'_>) -> Answer
         requires { S.usable (stack_of self.old) }
         ensures usable { S.usable (stack_of self.new) }
-        ensures ready { StaysReady S.Subscriber self.old self.new }
+        ensures ready { StaysReadyByRules S.Subscriber self.old self.new }
         ensures served { ServesNext S.Subscriber past.now request.now result self.old self.new }
     {
         match request {
             Request::NewSpan(lane, metadata, parent, values) => {
-                let attrs = attributes_of(*metadata, parent_of(past, *parent), values);
-                of_span(self.new_span(*lane, &attrs))
+                of_span(self.new_span(*lane, &attributes_of(past, *metadata, *parent, values)))
             }
             Request::Event(lane, metadata, parent, values) => {
-                let event = event_of(*metadata, parent_of(past, *parent), values);
-                of_event(self.event(*lane, &event))
+                of_event(self.event(*lane, &event_of(past, *metadata, *parent, values)))
             }
             Request::Enter(lane, which) => match span_of(past, *which) {
                 None => Answer::Dropped,
@@ -85,6 +83,7 @@ impl<S: Subscriber> Dispatch<S> {
             },
             Request::Enabled(lane, metadata) => of_yes(self.enabled(*lane, metadata)),
             Request::Current(lane) => of_current(self.current_span(*lane)),
+            Request::SetLevel(number, level) => of_done(self.set_level(*number, *level)),
         }
     }
 
@@ -168,34 +167,36 @@ fn append(answers: &mut Vec<Answer>, answer: Answer)
     let _ = answers.push(answer);
 }
 
-/// What a new span is made of.
+/// What a new span is made of, where these are the answers so far.
 fn attributes_of<'a>(
+    past: &[Answer],
     metadata: Metadata,
-    parent: Parent,
+    parent: WhichParent,
     values: &'a [(&'static str, FieldValue<'a>)],
 ) -> Attributes<'a>
     ensures metadata { metadata_of result ≡ metadata }
-    ensures parent { asked_parent result ≡ parent }
+    ensures parent { asked_parent result ≡ resolved_parent past.now parent }
     ensures values { values_of result ≡ values.now }
 {
-    match parent {
+    match parent_of(past, parent) {
         Parent::Root => Attributes::new_root(metadata, values),
         Parent::Contextual => Attributes::new(metadata, values),
         Parent::Explicit(id) => Attributes::child_of(id, metadata, values),
     }
 }
 
-/// What an event is made of.
+/// What an event is made of, where these are the answers so far.
 fn event_of<'a>(
+    past: &[Answer],
     metadata: Metadata,
-    parent: Parent,
+    parent: WhichParent,
     values: &'a [(&'static str, FieldValue<'a>)],
 ) -> Event<'a>
     ensures metadata { event_metadata result ≡ metadata }
-    ensures parent { event_parent result ≡ parent }
+    ensures parent { event_parent result ≡ resolved_parent past.now parent }
     ensures values { event_values result ≡ values.now }
 {
-    match parent {
+    match parent_of(past, parent) {
         Parent::Root => Event::new_root(metadata, values),
         Parent::Contextual => Event::new(metadata, values),
         Parent::Explicit(id) => Event::new_child_of(id, metadata, values),

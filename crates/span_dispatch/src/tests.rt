@@ -38,7 +38,7 @@ pub(crate) fn in_use<S: Subscriber>(alloc: Global, stack: S) -> Dispatch<S>
 }
 
 /// Puts a stack in use by a dispatcher that keeps nothing.
-fn fresh<S: Subscriber>(alloc: Global, stack: S) -> Dispatch<S>
+pub(crate) fn fresh<S: Subscriber>(alloc: Global, stack: S) -> Dispatch<S>
     requires { S.usable stack }
     ensures { S.usable (stack_of result) }
 {
@@ -46,7 +46,7 @@ fn fresh<S: Subscriber>(alloc: Global, stack: S) -> Dispatch<S>
 }
 
 /// Serves a list.
-fn serve<S: Subscriber>(
+pub(crate) fn serve<S: Subscriber>(
     alloc: Global,
     dispatch: &mut Dispatch<S>,
     requests: &[Request<'_>],

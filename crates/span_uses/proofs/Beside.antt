@@ -11,8 +11,10 @@ use Rattle.span_dispatch.specs.Recorder.{Kept, Records, kept_notice, new_recorde
 use Rattle.span_dispatch.specs.Serve.{IsReady, flat, stack_of}
 use Rattle.span_dispatch.specs.declared.dispatch.Dispatch.{Dispatch}
 use Rattle.span_dispatch.specs.declared.request.Request.{Request}
-use Rattle.span_filters.specs.Filter.{ActsSteadily, settled_answers, unmoved}
-use Rattle.span_filters.specs.Level.{level_answers, level_honest, level_plain}
+use Rattle.span_filters.specs.Filter.{settled_answers, unmoved}
+use Rattle.span_filters.specs.Level.{ActsByLevel, level_answers, level_conduct, level_honest, level_plain, level_taken}
+use Rattle.span_layers.specs.Levels.{FilteredLevels, LayeredLevels}
+use Rattle.span_registry.specs.Levels.{LevelSteps, unlevelled}
 use Rattle.span_layers.specs.Acts.{FilteredActs, LayeredActs, LeafActs}
 use Rattle.span_layers.specs.Filtered.{FilteredForm, FilteredHears, FilteredSteps, IsNumber, IsUnnumbered, filter_of, id_of, layer_of}
 use Rattle.span_layers.specs.Honest.{IsHonestStack}
@@ -55,7 +57,10 @@ abbrev levelled_hears : HearSteps Levelled
 levelled_hears x place h y = FilteredHears recorder_hears (layer_of x) place h (layer_of y)
 
 abbrev levelled_acts : ActsAt Levelled
-levelled_acts x = FilteredActs (id_of x) (ActsSteadily (settled_answers level_answers) (filter_of x)) LeafActs (layer_of x)
+levelled_acts x = FilteredActs (id_of x) (ActsByLevel (filter_of x)) LeafActs (layer_of x)
+
+abbrev levelled_levels : LevelSteps Levelled
+levelled_levels x n l y = (id_of y ≡ id_of x) × FilteredLevels level_taken unlevelled (id_of x) (filter_of x) (layer_of x) n l (filter_of y) (layer_of y)
 
 -- a stack with one on it
 abbrev On : Type 0 → Type 0
@@ -69,6 +74,9 @@ on_steps with_registry steps x p e lane v y w = LayeredSteps with_registry level
 
 abbrev on_hears : {I : Type 0} → HearSteps I → HearSteps (On I)
 on_hears hears x place h y = LayeredHears levelled_hears hears (outer_of x) (inner_of x) place h (outer_of y) (inner_of y)
+
+abbrev on_levels : {I : Type 0} → LevelSteps I → LevelSteps (On I)
+on_levels levels x n l y = LayeredLevels levelled_levels levels (outer_of x) (inner_of x) n l (outer_of y) (inner_of y)
 
 abbrev on_acts : {I : Type 0} → ActsAt I → ActsAt (On I)
 on_acts acts x = LayeredActs levelled_acts acts (outer_of x) (inner_of x)
@@ -95,6 +103,9 @@ form_1 = on_form bare_form
 abbrev steps_1 : StackSteps Recorded
 steps_1 = on_steps another bare_steps
 
+abbrev levels_1 : LevelSteps Recorded
+levels_1 = on_levels unlevelled
+
 abbrev hears_1 : HearSteps Recorded
 hears_1 = on_hears bare_hears
 
@@ -113,6 +124,9 @@ form_2 = on_form form_1
 
 abbrev steps_2 : StackSteps Beside
 steps_2 = on_steps with_inner steps_1
+
+abbrev levels_2 : LevelSteps Beside
+levels_2 = on_levels levels_1
 
 abbrev hears_2 : HearSteps Beside
 hears_2 = on_hears hears_1
@@ -191,9 +205,9 @@ module _ {I : Type 0} (registry : I → RegistryState) (with_registry : I → Re
         below = numbers.alone;
       }
 
-module _ {S : Type 0} (registry : S → RegistryState) (with_registry : S → RegistryState → S) (has_form : S → Form → Type 0) (stepped : StackSteps S) where
+module _ {S : Type 0} (registry : S → RegistryState) (with_registry : S → RegistryState → S) (has_form : S → Form → Type 0) (stepped : StackSteps S) (levelled : LevelSteps S) where
   -- what stands so is ready
-  pub ready : (f : Form) (n : ℕ) (x : S) → Stands registry has_form f n x → (g : Form) × IsReady registry with_registry has_form stepped g x
+  pub ready : (f : Form) (n : ℕ) (x : S) → Stands registry has_form f n x → (g : Form) × IsReady registry with_registry has_form stepped levelled g x
   ready f n x h = (
     f,
     record {
@@ -206,13 +220,13 @@ module _ {S : Type 0} (registry : S → RegistryState) (with_registry : S → Re
 
 -- its filter acts so
 abbrev pub conducts_of : LevelFilter → Conducts
-conducts_of level = (Some 0, λ h. level_answers level) ∷ []
+conducts_of level = (Some 0, level_conduct level) ∷ []
 
 pub alike : (level : LevelFilter) → PathsActAlike (conducts_of level) (conducts_of level)
-alike level = (refl, record { plain = λ h. record { enabled = λ m v w e. refl; event = λ e v w d. refl }; same = λ h k e. refl }, tt)
+alike level = (refl, record { plain = (level_plain level).answers; same = (level_plain level).history }, tt)
 
 acts_so : (level : LevelFilter) (x : Levelled) → IsNumbered level 0 x → levelled_acts x (Under Here) (conducts_of level)
-acts_so level x h = (h.number, subst (λ f. ActsSteadily (settled_answers level_answers) f (λ k. level_answers level)) (sym h.new.own) (level_plain level), refl)
+acts_so level x h = (h.number, ap level_conduct (sym h.new.own), refl)
 
 -- the same in use
 stays_numbered : (level : LevelFilter) (n : ℕ) (x y : Levelled) → (id_of y ≡ id_of x) × (filter_of y ≡ filter_of x) × (layer_of y ≡ layer_of x) → IsNumbered level n x → IsNumbered level n y
@@ -225,10 +239,10 @@ went_same r q h k same first second =
     record { notices = map kept_notice h; first = first; second = due; kept = λ a b. keeps_all r _ first a ∙ sym (keeps_all q _ due b) }
 
 abbrev pub Makes1 : List Request → Dispatch Recorded → List Outcome → Dispatch Recorded → Type 0
-Makes1 = MakesOf inner_of with_inner form_1 steps_1 hears_1 acts_1
+Makes1 = MakesOf inner_of with_inner form_1 steps_1 levels_1 hears_1 acts_1
 
 abbrev pub Makes2 : List Request → Dispatch Beside → List Outcome → Dispatch Beside → Type 0
-Makes2 = MakesOf registry_2 with_registry_2 form_2 steps_2 hears_2 acts_2
+Makes2 = MakesOf registry_2 with_registry_2 form_2 steps_2 levels_2 hears_2 acts_2
 
 -- what a leaf behind this filter sees from an empty store on follows from the outcomes
 abbrev pub SeesOnly : LevelFilter → Type 0
@@ -258,10 +272,10 @@ abbrev SameLayer : Levelled → Levelled → Type 0
 SameLayer x y = (id_of y ≡ id_of x) × (filter_of y ≡ filter_of x) × (layer_of y ≡ layer_of x)
 
 abbrev Serves1 : List Request → Recorded → Dispatch Recorded → Type 0
-Serves1 = ServesFirst inner_of with_inner form_1 steps_1 hears_1 acts_1 (λ x y. SameLayer (outer_of x) (outer_of y) × (inner_of y ≡ inner_of x))
+Serves1 = ServesFirst inner_of with_inner form_1 steps_1 levels_1 hears_1 acts_1 (λ x y. SameLayer (outer_of x) (outer_of y) × (inner_of y ≡ inner_of x))
 
 abbrev Serves2 : List Request → Beside → Dispatch Beside → Type 0
-Serves2 = ServesFirst registry_2 with_registry_2 form_2 steps_2 hears_2 acts_2
+Serves2 = ServesFirst registry_2 with_registry_2 form_2 steps_2 levels_2 hears_2 acts_2
     (λ x y. SameLayer (outer_of x) (outer_of y) × (SameLayer (outer_of (inner_of x)) (outer_of (inner_of y)) × (inner_of (inner_of y) ≡ inner_of (inner_of x))))
 
 abbrev PutOn1 : LevelFilter → RegistryState → Recorded → Type 0
@@ -296,8 +310,8 @@ keep_the_same level other law requests s t x i y last end alone within beside on
     let a = stays_numbered level 0 _ _ one.in_use.0 alone.outer in
     let kept : IsNumbered level 0 (outer_of (inner_of y)) = subst (λ (j : Recorded). IsNumbered level 0 (outer_of j)) (sym beside.below) within.outer in
     let b = stays_numbered level 0 _ _ two.in_use.1.0 kept in
-    let served = one.served (ready inner_of with_inner form_1 steps_1 _ _ x alone.stands) in
-    let served_too = two.served (ready registry_2 with_registry_2 form_2 steps_2 _ _ y beside.stands) in
+    let served = one.served (ready inner_of with_inner form_1 steps_1 levels_1 _ _ x alone.stands) in
+    let served_too = two.served (ready registry_2 with_registry_2 form_2 steps_2 levels_2 _ _ y beside.stands) in
     record {
       alone = one.first;
       beside = two.first;

@@ -3,3 +3,4 @@ mod Counter
 mod Level
 mod Optional
 mod Recorded
+mod Settable

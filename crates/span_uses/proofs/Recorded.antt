@@ -19,7 +19,7 @@ use Rattle.span_core.specs.declared.span.Id.{Id}
 use Rattle.span_core.specs.declared.span.Lane.{Lane}
 use Rattle.span_dispatch.proofs.CallerLemmas.{event_served, known_unkept, next_served, none_served, seen_append, span_served, unkept_still, vetoed_unkept}
 use Rattle.span_dispatch.specs.Call.{vetoes_whole}
-use Rattle.span_dispatch.specs.Outcome.{GoesOn, Made, Makes, Noticed, Outcome, Quiet}
+use Rattle.span_dispatch.specs.Outcome.{GoesOn, Made, Makes, Noticed, Outcome, Quiet, LevelSet}
 use Rattle.span_dispatch.specs.Recorder.{Kept, Records, kept_notice, new_recorder, recorder_hears, recorder_steps}
 use Rattle.span_dispatch.specs.Cache.{Memory}
 use Rattle.span_dispatch.specs.Alone.{passed, seen}
@@ -32,7 +32,9 @@ use Rattle.span_dispatch.specs.declared.request.Request.TheVariants as request
 use Rattle.span_dispatch.specs.declared.request.Request.{Request}
 use Rattle.span_dispatch.specs.declared.request.WhichParent.{WhichParent}
 use Rattle.span_filters.specs.Filter.{settled_answers, unmoved}
-use Rattle.span_filters.specs.Level.{level_answers, level_honest}
+use Rattle.span_filters.specs.Level.{level_answers, level_honest, level_taken}
+use Rattle.span_layers.specs.Levels.{FilteredLevels, LayeredLevels}
+use Rattle.span_registry.specs.Levels.{LevelSteps, unlevelled}
 use Rattle.span_layers.specs.Filtered.{FilteredForm, FilteredHears, FilteredSteps, Hooked, IsNumber, IsUnnumbered, filter_of, id_of, layer_of}
 use Rattle.span_layers.specs.Honest.{IsHonestStack}
 use Rattle.span_layers.specs.Layer.{LayerSteps}
@@ -58,7 +60,7 @@ use Rattle.span_uses.specs.Dispatches.{IsMadeOrRefused, KeepsWhatPasses, Recorde
 -- ---- this form
 
 -- the form of the stack
-abbrev form_of : LevelFilter → ℕ → Form
+abbrev pub form_of : LevelFilter → ℕ → Form
 form_of level n = Over OnSubscriber (Filtered (Some n) (level_answers level) (Leaf true open_answers)) (Bare Base)
 
 abbrev UnderLevel : FilteredLayer Kept LevelFilter → Form → Type 0
@@ -73,6 +75,10 @@ under_level x p e lane under v y w = (id_of y ≡ id_of x) × FilteredSteps unmo
 
 abbrev pub stack_steps : StackSteps Recorded
 stack_steps x p e lane v y w = LayeredSteps (λ (s t : RegistryState). t) under_level (λ x p e lane v y w. w ≡ v) (outer_of x) (inner_of x) p e lane v (outer_of y) (inner_of y) w
+
+-- and where a level is set
+abbrev pub stack_levels : LevelSteps Recorded
+stack_levels x n l y = LayeredLevels (λ a m k b. (id_of b ≡ id_of a) × FilteredLevels level_taken unlevelled (id_of a) (filter_of a) (layer_of a) m k (filter_of b) (layer_of b)) unlevelled (outer_of x) (inner_of x) n l (outer_of y) (inner_of y)
 
 -- what its leaf hears
 abbrev pub stack_hears : HearSteps Recorded
@@ -118,15 +124,21 @@ filter_stays : (passes : Bool) (e : Notice) (x y : FilteredLayer Kept LevelFilte
 filter_stays true e x y lane under v w h = stays e _ _ _ _ _ _ h.filter
 filter_stays false e x y lane under v w h = h.0
 
--- whatever is made of the stack, its filter stays
-goes_under : (level : LevelFilter) (f : Form) (o : Outcome) (x y : Recorded) → IsUnder level (outer_of x) → HasForm x f → GoesOn inner_of with_inner HasForm stack_steps f o x y → IsUnder level (outer_of y)
-goes_under level f (Noticed lane e) x y u has n =
+-- no level was set
+abbrev IsNoLevel : Outcome → Type 0
+IsNoLevel (LevelSet n l) = ⊥
+IsNoLevel o = ⊤
+
+-- whatever is made of the stack, unless its level is set, its filter stays
+goes_under : (level : LevelFilter) (f : Form) (o : Outcome) (x y : Recorded) → IsNoLevel o → IsUnder level (outer_of x) → HasForm x f → GoesOn inner_of with_inner HasForm stack_steps stack_levels f o x y → IsUnder level (outer_of y)
+goes_under level f (Noticed lane e) x y none u has n =
     let form = formed level x f u has in
-    let goes = subst (λ g. GoesOn inner_of with_inner HasForm stack_steps g (Noticed lane e) x y) form.1 n in
+    let goes = subst (λ g. GoesOn inner_of with_inner HasForm stack_steps stack_levels g (Noticed lane e) x y) form.1 n in
     let outer = goes.layers.second in
     stays_under level (outer_of x) (outer_of y) (ap (λ (z : Recorded). id_of (outer_of z)) goes.rest ∙ outer.0)
     (ap (λ (z : Recorded). filter_of (outer_of z)) goes.rest ∙ filter_stays _ e (outer_of x) (outer_of goes.notified) lane.0 _ _ _ outer.1) u
-goes_under level f (Quiet c) x y u has q = stays_under level (outer_of x) (outer_of y) (ap (λ (z : Recorded). id_of (outer_of z)) q.rest) (ap (λ (z : Recorded). filter_of (outer_of z)) q.rest) u
+goes_under level f (LevelSet n l) x y none u has q = absurd none
+goes_under level f (Quiet c) x y none u has q = stays_under level (outer_of x) (outer_of y) (ap (λ (z : Recorded). id_of (outer_of z)) q.rest) (ap (λ (z : Recorded). filter_of (outer_of z)) q.rest) u
 
 -- ---- what the recorder keeps
 
@@ -152,7 +164,7 @@ pub record Keeps (level : LevelFilter) (due : List KeptNotice) (made : List Made
   pub under : IsUnder level (outer_of y)
 
 abbrev MakesOne : Recorded → Made → Recorded → Type 0
-MakesOne = Makes inner_of with_inner HasForm stack_steps
+MakesOne = Makes inner_of with_inner HasForm stack_steps stack_levels
 
 kept_new : (level : LevelFilter) (lane : Lane) (m : Metadata) (x : Recorded) → IsUnder level (outer_of x) → (id : Id) (attrs : Attributes) (one : Made) (z : Recorded) → metadata_of attrs ≡ m → one.outcome ≡ Noticed lane (OnNewSpan attrs id) → MakesOne x one z
     → Keeps level (kept_span level lane m (answer.Made id)) (one ∷ []) z
@@ -161,7 +173,7 @@ kept_new level lane m x u id attrs one z same is made =
     let seen_so : kept_from (one ∷ []) ≡ map kept_notice (passed (path_at (form_of level form.0) place) (Noticed lane (OnNewSpan attrs id)) one.store ++ []) = λ j. map kept_notice (passed (path_at (form.1 j) place) (is j) one.store ++ []) in
     record {
       keeps = seen_so ∙ by_level (passes_level level (level_of (metadata_of attrs))) (lane.0, OnNewSpan attrs id) ∙ ap (λ k. kept_span level lane k (answer.Made id)) same;
-      under = goes_under level one.form one.outcome x z u made.honest.has made.goes;
+      under = goes_under level one.form one.outcome x z (subst IsNoLevel (sym is) tt) u made.honest.has made.goes;
     }
 
 kept_sent : (level : LevelFilter) (lane : Lane) (m : Metadata) (x : Recorded) → IsUnder level (outer_of x) → (e : Event) (one : Made) (z : Recorded) → event_metadata e ≡ m → one.outcome ≡ Noticed lane (OnEvent e) → MakesOne x one z
@@ -171,11 +183,11 @@ kept_sent level lane m x u e one z same is made =
     let seen_so : kept_from (one ∷ []) ≡ map kept_notice (passed (path_at (form_of level form.0) place) (Noticed lane (OnEvent e)) one.store ++ []) = λ j. map kept_notice (passed (path_at (form.1 j) place) (is j) one.store ++ []) in
     record {
       keeps = seen_so ∙ by_level_twice (passes_level level (level_of (event_metadata e))) (lane.0, OnEvent e) ∙ ap (λ k. kept_event level lane k) same;
-      under = goes_under level one.form one.outcome x z u made.honest.has made.goes;
+      under = goes_under level one.form one.outcome x z (subst IsNoLevel (sym is) tt) u made.honest.has made.goes;
     }
 
 abbrev ServesOne : List Answer → Request → Recorded → Answer → List Made → Memory → Recorded → Type 0
-ServesOne past r x a made after y = ServesRequest inner_of with_inner HasForm stack_steps past r None x a made after y
+ServesOne past r x a made after y = ServesRequest inner_of with_inner HasForm stack_steps stack_levels past r None x a made after y
 
 -- nobody in this stack vetoes
 never_vetoed : (level : LevelFilter) (x : Recorded) (f : Form) (m : Metadata) (lane : Lane) → IsUnder level (outer_of x) → HasForm x f → vetoes f m (inner_of x).store lane.0 ≡ true → ⊥
@@ -191,7 +203,7 @@ never_vetoed_whole level x f e lane u has h =
 keeps_span : (level : LevelFilter) (past : List Answer) (lane : Lane) (m : Metadata) (p : WhichParent) (values : _) (x : Recorded) (a : Answer) (made : List Made) (after : Memory) (y : Recorded) → IsUnder level (outer_of x)
     → ServesOne past (request.NewSpan lane m p values) x a made after y → IsMadeOrRefused a × Keeps level (kept_span level lane m a) made y × (after ≡ None)
 keeps_span level past lane m p values x a made after y u h =
-    span_served inner_of with_inner HasForm stack_steps past lane m p values None x a made after y (λ b ms k z. IsMadeOrRefused b × Keeps level (kept_span level lane m b) ms z × (k ≡ None))
+    span_served inner_of with_inner HasForm stack_steps stack_levels past lane m p values None x a made after y (λ b ms k z. IsMadeOrRefused b × Keeps level (kept_span level lane m b) ms z × (k ≡ None))
     (λ id attrs f one k z asks keeps is made. (tt, kept_new level lane m x u id attrs one z asks.1 is made, keeps))
     (λ attrs f k asks ready dropped keeps. absurd (never_vetoed level x f (metadata_of attrs) lane u ready.honest.has (vetoed_unkept f (inner_of x) lane (metadata_of attrs) _ dropped)))
     (λ attrs e f k asks refused keeps. (tt, record { keeps = refl; under = u }, unkept_still f (metadata_of attrs) e k keeps)) h
@@ -199,7 +211,7 @@ keeps_span level past lane m p values x a made after y u h =
 keeps_event : (level : LevelFilter) (past : List Answer) (lane : Lane) (m : Metadata) (p : WhichParent) (values : _) (x : Recorded) (a : Answer) (made : List Made) (after : Memory) (y : Recorded) → IsUnder level (outer_of x)
     → ServesOne past (request.Event lane m p values) x a made after y → (a ≡ answer.Done) × Keeps level (kept_event level lane m) made y × (after ≡ None)
 keeps_event level past lane m p values x a made after y u h =
-    event_served inner_of with_inner HasForm stack_steps past lane m p values None x a made after y (λ b ms k z. (b ≡ answer.Done) × Keeps level (kept_event level lane m) ms z × (k ≡ None))
+    event_served inner_of with_inner HasForm stack_steps stack_levels past lane m p values None x a made after y (λ b ms k z. (b ≡ answer.Done) × Keeps level (kept_event level lane m) ms z × (k ≡ None))
     (λ e f one k z asks keeps is made. (refl, kept_sent level lane m x u e one z asks.1 is made, keeps))
     (λ e f k asks ready dropped keeps. absurd (never_vetoed_whole level x f e lane u ready.honest.has (vetoed_unkept f (inner_of x) lane (event_metadata e) _ dropped)))
     (λ e error f k asks unknown keeps. absurd (known_unkept f (event_metadata e) error unknown)) h
@@ -217,27 +229,27 @@ three_kept ms ns os a b c f g h =
     kept_append ms (ns ++ (os ++ [])) ∙ (λ j. f j ++ (kept_append ns (os ++ []) ∙ (λ i. g i ++ (ap kept_from (append-nil os) ∙ h) i)) j)
 
 pub keeps_three : (level : LevelFilter) (lane : Lane) (outer inner event : Metadata) (p q r : WhichParent) (us vs ws : _) (x : Recorded) (after : Memory) (y : Recorded) (answers : List Answer) (made : List (List Made)) → IsUnder level (outer_of x)
-    → Run inner_of with_inner HasForm stack_steps [] (request.NewSpan lane outer p us ∷ request.NewSpan lane inner q vs ∷ request.Event lane event r ws ∷ []) answers made None x after y → KeepsThree level lane outer inner event answers made
+    → Run inner_of with_inner HasForm stack_steps stack_levels [] (request.NewSpan lane outer p us ∷ request.NewSpan lane inner q vs ∷ request.Event lane event r ws ∷ []) answers made None x after y → KeepsThree level lane outer inner event answers made
 keeps_three level lane outer inner event p q r us vs ws x after y answers made u =
     let second = request.NewSpan lane inner q vs in
     let third = request.Event lane event r ws in
-    next_served inner_of with_inner HasForm stack_steps [] (request.NewSpan lane outer p us) (second ∷ third ∷ []) answers made None x after y (KeepsThree level lane outer inner event)
+    next_served inner_of with_inner HasForm stack_steps stack_levels [] (request.NewSpan lane outer p us) (second ∷ third ∷ []) answers made None x after y (KeepsThree level lane outer inner event)
     (λ a others ms rest i z s.
     let one = keeps_span level [] lane outer p us x a ms i z u s in
-    next_served inner_of with_inner HasForm stack_steps (a ∷ []) second (third ∷ []) others rest i z after y (λ bs nss. KeepsThree level lane outer inner event (a ∷ bs) (ms ∷ nss))
+    next_served inner_of with_inner HasForm stack_steps stack_levels (a ∷ []) second (third ∷ []) others rest i z after y (λ bs nss. KeepsThree level lane outer inner event (a ∷ bs) (ms ∷ nss))
     (λ b more ns last j w t.
-    let two = keeps_span level (a ∷ []) lane inner q vs z b ns j w one.1.under (subst (λ k. ServesRequest inner_of with_inner HasForm stack_steps (a ∷ []) second k z b ns j w) one.2 t) in
-    next_served inner_of with_inner HasForm stack_steps (a ∷ b ∷ []) third [] more last j w after y (λ cs oss. KeepsThree level lane outer inner event (a ∷ b ∷ cs) (ms ∷ ns ∷ oss))
+    let two = keeps_span level (a ∷ []) lane inner q vs z b ns j w one.1.under (subst (λ k. ServesRequest inner_of with_inner HasForm stack_steps stack_levels (a ∷ []) second k z b ns j w) one.2 t) in
+    next_served inner_of with_inner HasForm stack_steps stack_levels (a ∷ b ∷ []) third [] more last j w after y (λ cs oss. KeepsThree level lane outer inner event (a ∷ b ∷ cs) (ms ∷ ns ∷ oss))
     (λ c none os end l v k.
-    let three = keeps_event level (a ∷ b ∷ []) lane event r ws w c os l v two.1.under (subst (λ n. ServesRequest inner_of with_inner HasForm stack_steps (a ∷ b ∷ []) third n w c os l v) two.2 k) in
-    none_served inner_of with_inner HasForm stack_steps (a ∷ b ∷ c ∷ []) none end l v after y (λ ds pss. KeepsThree level lane outer inner event (a ∷ b ∷ c ∷ ds) (ms ∷ ns ∷ os ∷ pss))
+    let three = keeps_event level (a ∷ b ∷ []) lane event r ws w c os l v two.1.under (subst (λ n. ServesRequest inner_of with_inner HasForm stack_steps stack_levels (a ∷ b ∷ []) third n w c os l v) two.2 k) in
+    none_served inner_of with_inner HasForm stack_steps stack_levels (a ∷ b ∷ c ∷ []) none end l v after y (λ ds pss. KeepsThree level lane outer inner event (a ∷ b ∷ c ∷ ds) (ms ∷ ns ∷ os ∷ pss))
     (record { first = a; second = b; answered = (λ n. a ∷ b ∷ three.0 n ∷ []); spans = (one.0, two.0); keeps = three_kept ms ns os _ _ _ one.1.keeps two.1.keeps three.1.keeps }))))
 
 -- ---- at first
 
 -- a new recorder under a level, on an empty registry
 pub record Starts (level : LevelFilter) (x : Recorded) : Type 0 where
-  pub ready : (f : Form) × IsReady inner_of with_inner HasForm stack_steps f x
+  pub ready : (f : Form) × IsReady inner_of with_inner HasForm stack_steps stack_levels f x
   pub under : IsUnder level (outer_of x)
   pub empty : layer_of (outer_of x) ≡ new_recorder
 
@@ -282,6 +294,15 @@ starts law level l s recorder u x new empty unnumbered numbers room attached =
       empty = attached.1 ∙ unnumbered.inner ∙ empty;
     }
 
+-- on an empty registry its filter took the number 0
+pub starts_first : (law : NumbersStayOwn) → (level : LevelFilter) (l : Limits) (s : RegistryState) (recorder : Kept) (u : FilteredLayer Kept LevelFilter) (x : Recorded) → s ≡ new_registry l → recorder ≡ new_recorder → IsUnnumbered u recorder level
+    → TakesNumbers (λ (t : RegistryState). t) (λ (t w : RegistryState). w) UnderLevel u s (outer_of x) (inner_of x) → ((f : Form) → UnderLevel u f → s.filters + filters_in f ≤ LIMIT) → (filter_of (outer_of x) ≡ filter_of u) × (layer_of (outer_of x) ≡ layer_of u)
+    → IsReady inner_of with_inner HasForm stack_steps stack_levels (form_of (filter_of u) 0) x
+unfolding starts
+starts_first law level l s recorder u x new empty unnumbered numbers room attached =
+    let none : s.filters ≡ 0 = ap (λ (t : RegistryState). t.filters) new in
+    subst (λ n. IsReady inner_of with_inner HasForm stack_steps stack_levels (form_of (filter_of u) n) x) none (starts law level l s recorder u x new empty unnumbered numbers room attached).ready.1
+
 -- an empty registry has room for it
 pub has_room_at_first : (l : Limits) (s : RegistryState) (level : LevelFilter) (recorder : Kept) (u : FilteredLayer Kept LevelFilter) → s ≡ new_registry l → IsUnnumbered u recorder level → ((f : Form) → UnderLevel u f → LIMIT < s.filters + filters_in f) → ⊥
 has_room_at_first l s level recorder u new unnumbered full =
@@ -290,7 +311,7 @@ has_room_at_first l s level recorder u new unnumbered full =
     omega (arith, none, more)
 
 -- a dispatcher puts it in use
-pub in_use : (level : LevelFilter) (x y : Recorded) → Starts level x → ((f : Form) × IsReady inner_of with_inner HasForm stack_steps f x → (f : Form) × IsReady inner_of with_inner HasForm stack_steps f y)
+pub in_use : (level : LevelFilter) (x y : Recorded) → Starts level x → ((f : Form) × IsReady inner_of with_inner HasForm stack_steps stack_levels f x → (f : Form) × IsReady inner_of with_inner HasForm stack_steps stack_levels f y)
     → (id_of (outer_of y) ≡ id_of (outer_of x)) × (filter_of (outer_of y) ≡ filter_of (outer_of x)) × (layer_of (outer_of y) ≡ layer_of (outer_of x)) → Starts level y
 in_use level x y h ready same = record { ready = ready h.ready; under = stays_under level (outer_of x) (outer_of y) same.0 same.1 h.under; empty = same.2 ∙ h.empty }
 
@@ -300,11 +321,11 @@ keeps_all r due h f = h.kept ∙ sym (h.split ∙ ap (λ (us : List KeptNotice).
 
 -- two spans and an event were served by a new stack
 pub served_three : {acts_at : ActsAt Recorded} (level : LevelFilter) (lane : Lane) (outer inner event : Metadata) (p q r : WhichParent) (us vs ws : _) (old : Dispatch Recorded) (done : Dispatch Recorded × Vec Answer Global) → Starts level (stack_of old) → kept_by old ≡ None
-    → Served inner_of with_inner HasForm stack_steps stack_hears acts_at (request.NewSpan lane outer p us ∷ request.NewSpan lane inner q vs ∷ request.Event lane event r ws ∷ []) done.1.items old done.0 → KeepsWhatPasses level lane outer inner event done
+    → Served inner_of with_inner HasForm stack_steps stack_levels stack_hears acts_at (request.NewSpan lane outer p us ∷ request.NewSpan lane inner q vs ∷ request.Event lane event r ws ∷ []) done.1.items old done.0 → KeepsWhatPasses level lane outer inner event done
 served_three level lane outer inner event p q r us vs ws old done new kept served =
     let x = stack_of old in
     let requests = request.NewSpan lane outer p us ∷ request.NewSpan lane inner q vs ∷ request.Event lane event r ws ∷ [] in
-    let run = subst (λ k. Run inner_of with_inner HasForm stack_steps [] requests done.1.items served.made k x (kept_by done.0) (stack_of done.0)) kept served.run in
+    let run = subst (λ k. Run inner_of with_inner HasForm stack_steps stack_levels [] requests done.1.items served.made k x (kept_by done.0) (stack_of done.0)) kept served.run in
     let three = keeps_three level lane outer inner event p q r us vs ws x (kept_by done.0) (stack_of done.0) done.1.items served.made new.under run in
     let heard : Records (layer_of (outer_of x)) (recorder_of done.0) (kept_from (flat served.made)) = served.each place in
     let due = subst (λ h. Records new_recorder (recorder_of done.0) h) three.keeps (subst (λ k. Records k (recorder_of done.0) (kept_from (flat served.made))) new.empty heard) in

@@ -15,6 +15,7 @@ use Rattle.span_layers.specs.declared.layered.Layered.{Layered}
 use Rattle.span_registry.specs.Conducts.{ActsAt}
 use Rattle.span_registry.specs.Form.{Form}
 use Rattle.span_registry.specs.Hooks.{StackSteps}
+use Rattle.span_registry.specs.Levels.{LevelSteps}
 use Rattle.span_registry.specs.Place.{HearSteps}
 use Rattle.span_registry.specs.Store.{RegistryState}
 use Rattle.span_uses.specs.Dispatches.{Recorded, recorder_of}
@@ -33,17 +34,17 @@ pub record IsNewUnder (level : LevelFilter) (x : Filtered Kept LevelFilter) : Ty
   pub inner : layer_of x ≡ new_recorder
 
 -- a dispatcher served these requests and became the second, and these outcomes were made of its stack, one after another
-pub record MakesOf {S : Type 0} (registry : S → RegistryState) (with_registry : S → RegistryState → S) (has_form : S → Form → Type 0) (stepped : StackSteps S) (hears : HearSteps S) (acts_at : ActsAt S) (requests : List Request) (old : Dispatch S) (outcomes : List Outcome) (new : Dispatch S) : Type 0 where
+pub record MakesOf {S : Type 0} (registry : S → RegistryState) (with_registry : S → RegistryState → S) (has_form : S → Form → Type 0) (stepped : StackSteps S) (levelled : LevelSteps S) (hears : HearSteps S) (acts_at : ActsAt S) (requests : List Request) (old : Dispatch S) (outcomes : List Outcome) (new : Dispatch S) : Type 0 where
   pub answers : List Answer
-  pub served : Served registry with_registry has_form stepped hears acts_at requests answers old new
+  pub served : Served registry with_registry has_form stepped levelled hears acts_at requests answers old new
   pub made : map outcome_of (flat served.made) ≡ outcomes
 
 -- a stack was put in use, and nothing else about its registry changed; if it was ready, it served these requests from then on
-pub record ServesFirst {S : Type 0} (registry : S → RegistryState) (with_registry : S → RegistryState → S) (has_form : S → Form → Type 0) (stepped : StackSteps S) (hears : HearSteps S) (acts_at : ActsAt S) (registered : S → S → Type 0) (requests : List Request) (x : S) (d : Dispatch S) : Type 0 where
+pub record ServesFirst {S : Type 0} (registry : S → RegistryState) (with_registry : S → RegistryState → S) (has_form : S → Form → Type 0) (stepped : StackSteps S) (levelled : LevelSteps S) (hears : HearSteps S) (acts_at : ActsAt S) (registered : S → S → Type 0) (requests : List Request) (x : S) (d : Dispatch S) : Type 0 where
   pub first : Dispatch S
   pub in_use : registered x (stack_of first)
   pub same : registry (stack_of first) ≡ registry x
-  pub served : (f : Form) × IsReady registry with_registry has_form stepped f x → (answers : List Answer) × Served registry with_registry has_form stepped hears acts_at requests answers first d
+  pub served : (f : Form) × IsReady registry with_registry has_form stepped levelled f x → (answers : List Answer) × Served registry with_registry has_form stepped levelled hears acts_at requests answers first d
 
 -- both new recorders were notified of the same, in the same order; where neither failed for want of memory, they keep the same
 pub record WentThroughTheSame (r q : Kept) : Type 0 where

@@ -1,5 +1,5 @@
 -- What a layer of the tests answers. No public clause cites it.
-use Rattle.std.specs.Prelude.{◌≡◌, ⊤, Bool, true, None, refl}
+use Rattle.std.specs.Prelude.{◌≡◌, ⊤, Bool, true, false, None, refl}
 use Rattle.std.proofs.Common.{subst, sym}
 use Rattle.span_core.specs.declared.interest.Interest.TheVariants.{Sometimes}
 use Rattle.span_layers.specs.Layer.{LayerLaws}
@@ -10,7 +10,7 @@ use Rattle.span_registry.specs.Place.{no_leaf_laws}
 
 -- whether metadata pass, and whether events do, whatever they are
 abbrev pub fixed_answers : Bool → Bool → Answers
-fixed_answers metadata events = record { enabled = λ m v. metadata; event = λ e v. events; interest = λ m. Sometimes; hint = None }
+fixed_answers metadata events = record { enabled = λ m v. metadata; event = λ e v. events; interest = λ m. Sometimes; hint = None; takes = λ l. false }
 
 -- a leaf of such answers keeps them, where it stays with them whatever it is notified of
 pub fixed_answers_laws : {L : Type 0} (metadata events : L → Bool) → LayerLaws {L = L} (λ x f. f ≡ Leaf true (fixed_answers (metadata x) (events x))) (λ x p e lane under v y w. (metadata y ≡ metadata x) × (events y ≡ events x)) (λ x place h y. ⊤) (λ x y. y ≡ x)

@@ -2,7 +2,9 @@
 ghost use Rattle.std.specs.Prelude.{◌≡◌, ⊤, true};
 ghost use Rattle.span_layers.specs.Acts.{LeafActs};
 ghost use Rattle.span_layers.specs.ActsKept.{is_leaf, leaf_path_laws};
+ghost use Rattle.span_layers.specs.Levels.{leaf_levels};
 ghost use Rattle.span_registry.specs.Form.{Leaf};
+ghost use Rattle.span_registry.specs.Levels.{unlevelled};
 ghost use Rattle.span_uses.specs.Tests.{fixed_answers, fixed_answers_laws};
 
 use crate::tests::sent_to_layer;
@@ -32,6 +34,8 @@ impl<S: Subscriber> Layer<S> for Asked {
 
     ghost acts_at = { LeafActs };
 
+    ghost levelled = { unlevelled };
+
     ghost registered = { λ x y. y ≡ x };
 
     ghost attached = { λ x y. y ≡ x };
@@ -39,6 +43,8 @@ impl<S: Subscriber> Layer<S> for Asked {
     ghost laws = { fixed_answers_laws (λ x. x.metadata_pass) (λ x. x.events_pass) };
 
     ghost paths = { leaf_path_laws (λ x f h. is_leaf h) };
+
+    ghost levels = { leaf_levels (fixed_answers_laws (λ x. x.metadata_pass) (λ x. x.events_pass)) };
 
     fn on_register_dispatch(&mut self) {}
 
@@ -61,6 +67,10 @@ impl<S: Subscriber> Layer<S> for Asked {
 
     fn max_level_hint(&self) -> Option<LevelFilter> {
         None
+    }
+
+    fn set_level(&mut self, _number: u32, _level: LevelFilter) -> bool {
+        false // No filter is in it.
     }
 
     fn filter_count(&self) -> u32 {

@@ -3,7 +3,7 @@ ghost use Rattle.std.specs.Prelude.{◌≡◌, IfOk};
 ghost use Rattle.span_core.specs.Level.{passes_level};
 ghost use Rattle.span_core.specs.Metadata.{level_of};
 ghost use Rattle.span_filters.specs.Closure.{unhinted_honest};
-ghost use Rattle.span_filters.specs.Filter.{ActsSteadily, settled_answers, settled_laws};
+ghost use Rattle.span_filters.specs.Filter.{ActsSteadily, settled_answers, settled_laws, steady_levels};
 ghost use Rattle.span_registry.specs.Context.{view_in};
 ghost use Rattle.span_uses.specs.Filters.{is_marked, view_on};
 ghost use Rattle.span_uses.specs.Filters.{goes_by_target, target_answers, wanted_by, wants_target};
@@ -42,6 +42,12 @@ impl<S: LookupSpan> Filter<S> for Targets {
     ghost acts = { ActsSteadily (settled_answers target_answers) };
 
     ghost laws = { settled_laws target_answers (λ f. unhinted_honest (wants_target f) (goes_by_target f)) };
+
+    ghost levels = { steady_levels };
+
+    fn set_level(&mut self, _level: LevelFilter) -> bool {
+        false // It goes by the target.
+    }
 
     fn enabled(&self, meta: &Metadata, _cx: &Context<'_, S>) -> bool {
         self.wants(meta)

@@ -21,8 +21,8 @@ pub fn record_alone_and_beside(
 ) -> Result<(Dispatch<Recorded>, Dispatch<Beside>), TraceError>
     ensures same { let one = ⟦<Recorded as Subscriber>⟧ in let two = ⟦<Beside as Subscriber>⟧ in
         IfOk result (KeepTheSame level other
-        (MakesOf one.registry one.with_registry one.has_form one.stepped one.hears one.acts_at requests.now)
-        (MakesOf two.registry two.with_registry two.has_form two.stepped two.hears two.acts_at requests.now)) }
+        (MakesOf one.registry one.with_registry one.has_form one.stepped one.levelled one.hears one.acts_at requests.now)
+        (MakesOf two.registry two.with_registry two.has_form two.stepped two.levelled two.hears two.acts_at requests.now)) }
     ensures memory { IfErr result (λ e. e ≡ TraceError.OutOfMemory) }
 {
     span_layers::laws::numbers_are_own();
@@ -55,7 +55,7 @@ fn serve_first<S: Subscriber + Drop>(
     requests: &[Request<'_>],
 ) -> Result<Dispatch<S>, TraceError>
     requires { S.usable stack }
-    ensures served { IfOk result (ServesFirst S.registry S.with_registry S.has_form S.stepped S.hears S.acts_at S.registered requests.now stack) }
+    ensures served { IfOk result (ServesFirst S.registry S.with_registry S.has_form S.stepped S.levelled S.hears S.acts_at S.registered requests.now stack) }
     ensures memory { IfErr result (λ e. e ≡ TraceError.OutOfMemory) }
 {
     let mut dispatch = Dispatch::fresh(alloc, stack);

@@ -19,6 +19,7 @@ pub mod dispatch;
 pub mod filter;
 pub mod isolation;
 pub mod layer;
+pub mod reload;
 pub mod stack;
 #[cfg(test)]
 mod tests;

@@ -4,6 +4,7 @@ ghost use Rattle.span_layers.specs.Layered.{inner_of, outer_of};
 ghost use Rattle.span_registry.specs.Context.{WritesExtensions};
 
 use crate::isolation::record_alone_and_beside;
+use crate::reload::reload;
 use span_boxed::{BoxedLayer, DynLayer};
 use span_core::{
     Event, FieldSet, Id, Interest, Kind, Lane, Level, LevelFilter, Metadata, Pass, TraceError,
@@ -210,7 +211,7 @@ fn each_heard_what_passes(rt: &impl Abort, layers: &Recordings, id: Id) -> Resul
 /// As many recorders under OFF as a registry has room for.
 fn silent_recorders(alloc: Global) -> Result<Vec<Recording>, Fail> {
     let mut members = Vec::new(alloc);
-    for _ in 0..64 {
+    for _ in 0..128 {
         members.push(recording(alloc, LevelFilter::OFF))?;
     }
     Ok(members)
@@ -258,11 +259,11 @@ fn a_registry_full_of_filters(rt: HostRuntime) -> Result<(), Fail> {
     let stack = put(Registry::new(rt.alloc()), Recorder::new(rt.alloc()))?;
     let silent = silent_recorders(rt.alloc())?;
     let Some(back) = no_room_for(rt.alloc(), stack, silent, warn)? else {
-        return Err(Fail::from("a 65th filter got a number"));
+        return Err(Fail::from("a 129th filter got a number"));
     };
     assert_eq!(rt; back.error, TraceError::TooManyFilters);
     assert_eq!(rt; *back.layer.filter(), LevelFilter::WARN);
-    assert_eq!(rt; back.filters, 64);
+    assert_eq!(rt; back.filters, 128);
     let stack = back.dispatch.stack();
     let kept = stack.inner().layer().notices();
     assert_eq!(rt; kept, [Notice::Event(LANE, 7)].as_slice());
@@ -355,5 +356,23 @@ fn a_recorder_keeps_the_same_alone_and_beside_another(rt: HostRuntime) -> Result
     assert_eq!(rt; kept.len(), 2);
     assert_eq!(rt; beside.stack().inner().layer().inner().notices(), kept);
     assert_eq!(rt; beside.stack().layer().inner().notices().len(), 3);
+    Ok(())
+}
+
+#[test]
+fn a_level_is_set_between_requests(rt: HostRuntime) -> Result<(), Fail> {
+    let requests = [
+        root_from(0, Level::INFO),
+        event_from(1, Level::WARN),
+        event_from(2, Level::DEBUG),
+        event_from(3, Level::TRACE),
+    ];
+    let dispatch = reload(rt.alloc(), &requests, &requests)?;
+    let kept = dispatch.stack().layer().inner().notices();
+    assert_eq!(rt; kept.len(), 4);
+    assert_eq!(rt; kept.first().copied(), Some(Notice::Event(LANE, 1)));
+    assert!(rt; matches!(kept.get(1), Some(Notice::New(_, _))));
+    assert_eq!(rt; kept.get(2).copied(), Some(Notice::Event(LANE, 1)));
+    assert_eq!(rt; kept.get(3).copied(), Some(Notice::Event(LANE, 2)));
     Ok(())
 }

@@ -12,14 +12,14 @@ returns-clause-alone g c = one_alone
 
 pub returns-clause-made : goal.returns-clause-made
 returns-clause-made g c =
-    both_alone (SeesMade g.S.LookupSpan.registry g.S.LookupSpan.with_registry g.S.Subscriber.has_form g.S.Subscriber.stepped g.S.Subscriber.acts_at)
-    (SeesMade g.T.LookupSpan.registry g.T.LookupSpan.with_registry g.T.Subscriber.has_form g.T.Subscriber.stepped g.T.Subscriber.acts_at) (seen_made g.S.LookupSpan.registry g.met.S.Subscriber.paths) (seen_made g.T.LookupSpan.registry g.met.T.Subscriber.paths)
+    both_alone (SeesMade g.S.LookupSpan.registry g.S.LookupSpan.with_registry g.S.Subscriber.has_form g.S.Subscriber.stepped g.S.Subscriber.levelled g.S.Subscriber.acts_at)
+    (SeesMade g.T.LookupSpan.registry g.T.LookupSpan.with_registry g.T.Subscriber.has_form g.T.Subscriber.stepped g.T.Subscriber.levelled g.T.Subscriber.acts_at) (seen_made g.S.LookupSpan.registry g.met.S.Subscriber.paths g.met.S.Subscriber.levels) (seen_made g.T.LookupSpan.registry g.met.T.Subscriber.paths g.met.T.Subscriber.levels)
 
 pub returns-clause-made_alone : goal.returns-clause-made_alone
 returns-clause-made_alone g c =
-    both_alone (SeesMade g.S.LookupSpan.registry g.S.LookupSpan.with_registry g.S.Subscriber.has_form g.S.Subscriber.stepped g.S.Subscriber.acts_at) Alone (seen_made g.S.LookupSpan.registry g.met.S.Subscriber.paths) (λ cs s outcomes h a. a)
+    both_alone (SeesMade g.S.LookupSpan.registry g.S.LookupSpan.with_registry g.S.Subscriber.has_form g.S.Subscriber.stepped g.S.Subscriber.levelled g.S.Subscriber.acts_at) Alone (seen_made g.S.LookupSpan.registry g.met.S.Subscriber.paths g.met.S.Subscriber.levels) (λ cs s outcomes h a. a)
 
 pub returns-clause-served : goal.returns-clause-served
 returns-clause-served g c =
-    both_alone (SeesServed g.S.LookupSpan.registry g.S.LookupSpan.with_registry g.S.Subscriber.has_form g.S.Subscriber.stepped g.S.Subscriber.hears g.S.Subscriber.acts_at)
-    (SeesServed g.T.LookupSpan.registry g.T.LookupSpan.with_registry g.T.Subscriber.has_form g.T.Subscriber.stepped g.T.Subscriber.hears g.T.Subscriber.acts_at) (seen_served g.S.LookupSpan.registry g.met.S.Subscriber.paths) (seen_served g.T.LookupSpan.registry g.met.T.Subscriber.paths)
+    both_alone (SeesServed g.S.LookupSpan.registry g.S.LookupSpan.with_registry g.S.Subscriber.has_form g.S.Subscriber.stepped g.S.Subscriber.levelled g.S.Subscriber.hears g.S.Subscriber.acts_at)
+    (SeesServed g.T.LookupSpan.registry g.T.LookupSpan.with_registry g.T.Subscriber.has_form g.T.Subscriber.stepped g.T.Subscriber.levelled g.T.Subscriber.hears g.T.Subscriber.acts_at) (seen_served g.S.LookupSpan.registry g.met.S.Subscriber.paths g.met.S.Subscriber.levels) (seen_served g.T.LookupSpan.registry g.met.T.Subscriber.paths g.met.T.Subscriber.levels)

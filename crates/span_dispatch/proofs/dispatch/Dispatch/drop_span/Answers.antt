@@ -17,19 +17,19 @@ close_all-requires-clause-closing g c = subst (λ (s : RegistryState). IsClosing
 
 pub returns-in-Ok-StillOpen-clause-ready : goal.returns-in-Ok-StillOpen-clause-ready
 returns-in-Ok-StillOpen-clause-ready g c = λ f k.
-    ready_again g.S.LookupSpan.registry g.S.LookupSpan.with_registry g.S.Subscriber.has_form g.S.Subscriber.stepped f c.args.self.now (with_stack c.args.self.now (g.S.LookupSpan.with_registry c.args.self.now.stack c.release.new.self))
-    ((still_open_so g.met.S.Subscriber.laws g.met.S.LookupSpan.with_own (kept_by c.args.self.now) g.met.S.LookupSpan.registry_with c.args.lane c.args.id c.in-Ok-StillOpen.field-0 f c.args.self.now.stack c.release.new.self (subst (λ (s : RegistryState). Releases c.args.id c.in-Ok-StillOpen.field-0 s c.release.new.self) c.root_mut.ensures.value c.in-Ok-StillOpen.ensures.released) c.in-Ok-StillOpen.field-0-is (subst (λ (s : RegistryState). IsForest s.store.spans) c.root_mut.ensures.value c.in-Ok-StillOpen.ensures.forest) k.stack).1 k.stack.settled) k.kept
+    ready_again g.S.LookupSpan.registry g.S.LookupSpan.with_registry g.S.Subscriber.has_form g.S.Subscriber.stepped g.S.Subscriber.levelled f c.args.self.now (with_stack c.args.self.now (g.S.LookupSpan.with_registry c.args.self.now.stack c.release.new.self))
+    ((still_open_so g.met.S.Subscriber.laws g.met.S.LookupSpan.with_own g.S.Subscriber.levelled (kept_by c.args.self.now) g.met.S.LookupSpan.registry_with c.args.lane c.args.id c.in-Ok-StillOpen.field-0 f c.args.self.now.stack c.release.new.self (subst (λ (s : RegistryState). Releases c.args.id c.in-Ok-StillOpen.field-0 s c.release.new.self) c.root_mut.ensures.value c.in-Ok-StillOpen.ensures.released) c.in-Ok-StillOpen.field-0-is (subst (λ (s : RegistryState). IsForest s.store.spans) c.root_mut.ensures.value c.in-Ok-StillOpen.ensures.forest) k.stack).1 k.stack.settled) k.kept
 
 pub returns-in-Ok-StillOpen-clause-served : goal.returns-in-Ok-StillOpen-clause-served
-returns-in-Ok-StillOpen-clause-served g c = λ f h. (still_open_so g.met.S.Subscriber.laws g.met.S.LookupSpan.with_own (kept_by c.args.self.now) g.met.S.LookupSpan.registry_with c.args.lane c.args.id c.in-Ok-StillOpen.field-0 f c.args.self.now.stack c.release.new.self (subst (λ (s : RegistryState). Releases c.args.id c.in-Ok-StillOpen.field-0 s c.release.new.self) c.root_mut.ensures.value c.in-Ok-StillOpen.ensures.released) c.in-Ok-StillOpen.field-0-is (subst (λ (s : RegistryState). IsForest s.store.spans) c.root_mut.ensures.value c.in-Ok-StillOpen.ensures.forest) h.stack).0
+returns-in-Ok-StillOpen-clause-served g c = λ f h. (still_open_so g.met.S.Subscriber.laws g.met.S.LookupSpan.with_own g.S.Subscriber.levelled (kept_by c.args.self.now) g.met.S.LookupSpan.registry_with c.args.lane c.args.id c.in-Ok-StillOpen.field-0 f c.args.self.now.stack c.release.new.self (subst (λ (s : RegistryState). Releases c.args.id c.in-Ok-StillOpen.field-0 s c.release.new.self) c.root_mut.ensures.value c.in-Ok-StillOpen.ensures.released) c.in-Ok-StillOpen.field-0-is (subst (λ (s : RegistryState). IsForest s.store.spans) c.root_mut.ensures.value c.in-Ok-StillOpen.ensures.forest) h.stack).0
 
 pub returns-in-Ok-Closing-clause-ready : goal.returns-in-Ok-Closing-clause-ready
 returns-in-Ok-Closing-clause-ready g c = λ f k.
-    ready_again g.S.LookupSpan.registry g.S.LookupSpan.with_registry g.S.Subscriber.has_form g.S.Subscriber.stepped f c.args.self.now (with_stack c.args.self.now c.close_all.new.stack)
-    ((closed_so g.met.S.Subscriber.laws g.met.S.LookupSpan.with_own (kept_by c.args.self.now) g.met.S.LookupSpan.registry_with c.args.lane c.args.id c.in-Ok-Closing.field-0 f c.args.self.now.stack c.close_all.new.stack c.release.new.self (subst (λ (s : RegistryState). Releases c.args.id c.in-Ok-Closing.field-0 s c.release.new.self) c.root_mut.ensures.value c.in-Ok-Closing.ensures.released) c.in-Ok-Closing.field-0-is (subst (λ (s : RegistryState). IsForest s.store.spans) c.root_mut.ensures.value c.in-Ok-Closing.ensures.forest) c.close_all.ensures.closes k.stack).1 k.stack.settled) k.kept
+    ready_again g.S.LookupSpan.registry g.S.LookupSpan.with_registry g.S.Subscriber.has_form g.S.Subscriber.stepped g.S.Subscriber.levelled f c.args.self.now (with_stack c.args.self.now c.close_all.new.stack)
+    ((closed_so g.met.S.Subscriber.laws g.met.S.LookupSpan.with_own g.S.Subscriber.levelled (kept_by c.args.self.now) g.met.S.LookupSpan.registry_with c.args.lane c.args.id c.in-Ok-Closing.field-0 f c.args.self.now.stack c.close_all.new.stack c.release.new.self (subst (λ (s : RegistryState). Releases c.args.id c.in-Ok-Closing.field-0 s c.release.new.self) c.root_mut.ensures.value c.in-Ok-Closing.ensures.released) c.in-Ok-Closing.field-0-is (subst (λ (s : RegistryState). IsForest s.store.spans) c.root_mut.ensures.value c.in-Ok-Closing.ensures.forest) c.close_all.ensures.closes k.stack).1 k.stack.settled) k.kept
 
 pub returns-in-Ok-Closing-clause-served : goal.returns-in-Ok-Closing-clause-served
-returns-in-Ok-Closing-clause-served g c = λ f h. (closed_so g.met.S.Subscriber.laws g.met.S.LookupSpan.with_own (kept_by c.args.self.now) g.met.S.LookupSpan.registry_with c.args.lane c.args.id c.in-Ok-Closing.field-0 f c.args.self.now.stack c.close_all.new.stack c.release.new.self (subst (λ (s : RegistryState). Releases c.args.id c.in-Ok-Closing.field-0 s c.release.new.self) c.root_mut.ensures.value c.in-Ok-Closing.ensures.released) c.in-Ok-Closing.field-0-is (subst (λ (s : RegistryState). IsForest s.store.spans) c.root_mut.ensures.value c.in-Ok-Closing.ensures.forest) c.close_all.ensures.closes h.stack).0
+returns-in-Ok-Closing-clause-served g c = λ f h. (closed_so g.met.S.Subscriber.laws g.met.S.LookupSpan.with_own g.S.Subscriber.levelled (kept_by c.args.self.now) g.met.S.LookupSpan.registry_with c.args.lane c.args.id c.in-Ok-Closing.field-0 f c.args.self.now.stack c.close_all.new.stack c.release.new.self (subst (λ (s : RegistryState). Releases c.args.id c.in-Ok-Closing.field-0 s c.release.new.self) c.root_mut.ensures.value c.in-Ok-Closing.ensures.released) c.in-Ok-Closing.field-0-is (subst (λ (s : RegistryState). IsForest s.store.spans) c.root_mut.ensures.value c.in-Ok-Closing.ensures.forest) c.close_all.ensures.closes h.stack).0
 
 pub returns-in-Err-clause-settled : goal.returns-in-Err-clause-settled
 returns-in-Err-clause-settled g c = λ h.
@@ -42,26 +42,26 @@ pub returns-in-Ok-StillOpen-clause-settled : goal.returns-in-Ok-StillOpen-clause
 returns-in-Ok-StillOpen-clause-settled g c = λ h. (still_open_store g.S.LookupSpan.registry g.S.LookupSpan.with_registry g.met.S.LookupSpan.registry_with c.args.id c.in-Ok-StillOpen.field-0 c.args.self.now.stack c.release.new.self (subst (λ (s : RegistryState). Releases c.args.id c.in-Ok-StillOpen.field-0 s c.release.new.self) c.root_mut.ensures.value c.in-Ok-StillOpen.ensures.released) c.in-Ok-StillOpen.field-0-is (subst (λ (s : RegistryState). IsForest s.store.spans) c.root_mut.ensures.value c.in-Ok-StillOpen.ensures.forest) h).1
 
 pub returns-in-Ok-Closing-clause-store : goal.returns-in-Ok-Closing-clause-store
-returns-in-Ok-Closing-clause-store g c = λ h. (closed_store g.S.LookupSpan.registry g.S.LookupSpan.with_registry g.S.Subscriber.has_form g.S.Subscriber.stepped g.met.S.LookupSpan.registry_with c.args.lane c.args.id c.in-Ok-Closing.field-0 c.args.self.now.stack c.close_all.new.stack c.release.new.self (subst (λ (s : RegistryState). Releases c.args.id c.in-Ok-Closing.field-0 s c.release.new.self) c.root_mut.ensures.value c.in-Ok-Closing.ensures.released) c.in-Ok-Closing.field-0-is (subst (λ (s : RegistryState). IsForest s.store.spans) c.root_mut.ensures.value c.in-Ok-Closing.ensures.forest) c.close_all.ensures.closes h).0
+returns-in-Ok-Closing-clause-store g c = λ h. (closed_store g.S.LookupSpan.registry g.S.LookupSpan.with_registry g.S.Subscriber.has_form g.S.Subscriber.stepped g.S.Subscriber.levelled g.met.S.LookupSpan.registry_with c.args.lane c.args.id c.in-Ok-Closing.field-0 c.args.self.now.stack c.close_all.new.stack c.release.new.self (subst (λ (s : RegistryState). Releases c.args.id c.in-Ok-Closing.field-0 s c.release.new.self) c.root_mut.ensures.value c.in-Ok-Closing.ensures.released) c.in-Ok-Closing.field-0-is (subst (λ (s : RegistryState). IsForest s.store.spans) c.root_mut.ensures.value c.in-Ok-Closing.ensures.forest) c.close_all.ensures.closes h).0
 
 pub returns-in-Ok-Closing-clause-settled : goal.returns-in-Ok-Closing-clause-settled
-returns-in-Ok-Closing-clause-settled g c = λ h. (closed_store g.S.LookupSpan.registry g.S.LookupSpan.with_registry g.S.Subscriber.has_form g.S.Subscriber.stepped g.met.S.LookupSpan.registry_with c.args.lane c.args.id c.in-Ok-Closing.field-0 c.args.self.now.stack c.close_all.new.stack c.release.new.self (subst (λ (s : RegistryState). Releases c.args.id c.in-Ok-Closing.field-0 s c.release.new.self) c.root_mut.ensures.value c.in-Ok-Closing.ensures.released) c.in-Ok-Closing.field-0-is (subst (λ (s : RegistryState). IsForest s.store.spans) c.root_mut.ensures.value c.in-Ok-Closing.ensures.forest) c.close_all.ensures.closes h).1
+returns-in-Ok-Closing-clause-settled g c = λ h. (closed_store g.S.LookupSpan.registry g.S.LookupSpan.with_registry g.S.Subscriber.has_form g.S.Subscriber.stepped g.S.Subscriber.levelled g.met.S.LookupSpan.registry_with c.args.lane c.args.id c.in-Ok-Closing.field-0 c.args.self.now.stack c.close_all.new.stack c.release.new.self (subst (λ (s : RegistryState). Releases c.args.id c.in-Ok-Closing.field-0 s c.release.new.self) c.root_mut.ensures.value c.in-Ok-Closing.ensures.released) c.in-Ok-Closing.field-0-is (subst (λ (s : RegistryState). IsForest s.store.spans) c.root_mut.ensures.value c.in-Ok-Closing.ensures.forest) c.close_all.ensures.closes h).1
 
 pub returns-in-Ok-StillOpen-clause-taken : goal.returns-in-Ok-StillOpen-clause-taken
 returns-in-Ok-StillOpen-clause-taken g c = still_open_taken g.S.LookupSpan.registry g.S.LookupSpan.with_registry g.met.S.LookupSpan.registry_with c.args.id c.in-Ok-StillOpen.field-0 c.args.self.now (with_stack c.args.self.now (g.S.LookupSpan.with_registry c.args.self.now.stack c.release.new.self)) c.release.new.self refl (subst (λ (s : RegistryState). Releases c.args.id c.in-Ok-StillOpen.field-0 s c.release.new.self) c.root_mut.ensures.value c.in-Ok-StillOpen.ensures.released) c.in-Ok-StillOpen.field-0-is
 
 pub returns-in-Ok-Closing-clause-taken : goal.returns-in-Ok-Closing-clause-taken
-returns-in-Ok-Closing-clause-taken g c = closed_taken g.S.LookupSpan.registry g.S.LookupSpan.with_registry g.S.Subscriber.has_form g.S.Subscriber.stepped g.met.S.LookupSpan.registry_with c.args.lane c.args.id c.in-Ok-Closing.field-0 c.args.self.now (with_stack c.args.self.now c.close_all.new.stack) c.release.new.self (subst (λ (s : RegistryState). Releases c.args.id c.in-Ok-Closing.field-0 s c.release.new.self) c.root_mut.ensures.value c.in-Ok-Closing.ensures.released) c.in-Ok-Closing.field-0-is c.close_all.ensures.closes
+returns-in-Ok-Closing-clause-taken g c = closed_taken g.S.LookupSpan.registry g.S.LookupSpan.with_registry g.S.Subscriber.has_form g.S.Subscriber.stepped g.S.Subscriber.levelled g.met.S.LookupSpan.registry_with c.args.lane c.args.id c.in-Ok-Closing.field-0 c.args.self.now (with_stack c.args.self.now c.close_all.new.stack) c.release.new.self (subst (λ (s : RegistryState). Releases c.args.id c.in-Ok-Closing.field-0 s c.release.new.self) c.root_mut.ensures.value c.in-Ok-Closing.ensures.released) c.in-Ok-Closing.field-0-is c.close_all.ensures.closes
 
 pub returns-in-Err-clause-ready : goal.returns-in-Err-clause-ready
 returns-in-Err-clause-ready g c = λ f k.
-    stays_so g.S.LookupSpan.registry g.S.LookupSpan.with_registry g.S.Subscriber.has_form g.S.Subscriber.stepped f c.args.self.now (with_stack c.args.self.now (g.S.LookupSpan.with_registry c.args.self.now.stack c.release.new.self)) (ap (λ w. g.S.LookupSpan.with_registry c.args.self.now.stack w) (c.in-Err.ensures.unchanged ∙ c.root_mut.ensures.value) ∙ g.met.S.LookupSpan.with_own c.args.self.now.stack) k.kept k
+    stays_so g.S.LookupSpan.registry g.S.LookupSpan.with_registry g.S.Subscriber.has_form g.S.Subscriber.stepped g.S.Subscriber.levelled f c.args.self.now (with_stack c.args.self.now (g.S.LookupSpan.with_registry c.args.self.now.stack c.release.new.self)) (ap (λ w. g.S.LookupSpan.with_registry c.args.self.now.stack w) (c.in-Err.ensures.unchanged ∙ c.root_mut.ensures.value) ∙ g.met.S.LookupSpan.with_own c.args.self.now.stack) k.kept k
 
 pub returns-in-Err-clause-seen : goal.returns-in-Err-clause-seen
-returns-in-Err-clause-seen g c = sees_what_is_made g.S.LookupSpan.registry g.met.S.Subscriber.laws g.met.S.Subscriber.paths
+returns-in-Err-clause-seen g c = sees_what_is_made g.S.LookupSpan.registry g.met.S.Subscriber.laws g.met.S.Subscriber.paths g.met.S.Subscriber.levels
 
 pub returns-in-Ok-StillOpen-clause-seen : goal.returns-in-Ok-StillOpen-clause-seen
-returns-in-Ok-StillOpen-clause-seen g c = sees_what_is_made g.S.LookupSpan.registry g.met.S.Subscriber.laws g.met.S.Subscriber.paths
+returns-in-Ok-StillOpen-clause-seen g c = sees_what_is_made g.S.LookupSpan.registry g.met.S.Subscriber.laws g.met.S.Subscriber.paths g.met.S.Subscriber.levels
 
 pub returns-in-Ok-Closing-clause-seen : goal.returns-in-Ok-Closing-clause-seen
-returns-in-Ok-Closing-clause-seen g c = sees_what_is_made g.S.LookupSpan.registry g.met.S.Subscriber.laws g.met.S.Subscriber.paths
+returns-in-Ok-Closing-clause-seen g c = sees_what_is_made g.S.LookupSpan.registry g.met.S.Subscriber.laws g.met.S.Subscriber.paths g.met.S.Subscriber.levels

@@ -9,7 +9,7 @@ use Rattle.span_dispatch.proofs.dispatch.Dispatch.enabled.Goals as goal
 
 pub returns-clause-ready : goal.returns-clause-ready
 returns-clause-ready g c = λ f k.
-    stays_so g.S.LookupSpan.registry g.S.LookupSpan.with_registry g.S.Subscriber.has_form g.S.Subscriber.stepped f c.args.self.now c.admits.new.self c.admits.ensures.stack (c.admits.ensures.kept f k.stack.honest.has k.kept) k
+    stays_so g.S.LookupSpan.registry g.S.LookupSpan.with_registry g.S.Subscriber.has_form g.S.Subscriber.stepped g.S.Subscriber.levelled f c.args.self.now c.admits.new.self c.admits.ensures.stack (c.admits.ensures.kept f k.stack.honest.has k.kept) k
 
 pub returns-clause-asked : goal.returns-clause-asked
 returns-clause-asked g c =
@@ -17,8 +17,8 @@ returns-clause-asked g c =
 
 pub returns-clause-served : goal.returns-clause-served
 returns-clause-served g c = λ f h u.
-    same_stack g.S.LookupSpan.registry g.S.LookupSpan.with_registry g.S.Subscriber.has_form g.S.Subscriber.stepped (Probe c.args.lane c.args.meta.now) f (yes_answer c.admits.result) c.args.self.now c.admits.new.self c.admits.ensures.stack
-    ((probed g.met.S.Subscriber.laws g.met.S.LookupSpan.with_own (kept_by c.args.self.now) c.args.lane c.args.meta.now c.admits.new.pass c.admits.result (kept_by c.admits.new.self) f (stack_of c.args.self.now) (c.admits.ensures.admitted f h u) h).0)
+    same_stack g.S.LookupSpan.registry g.S.LookupSpan.with_registry g.S.Subscriber.has_form g.S.Subscriber.stepped g.S.Subscriber.levelled (Probe c.args.lane c.args.meta.now) f (yes_answer c.admits.result) c.args.self.now c.admits.new.self c.admits.ensures.stack
+    ((probed g.met.S.Subscriber.laws g.met.S.LookupSpan.with_own g.S.Subscriber.levelled (kept_by c.args.self.now) c.args.lane c.args.meta.now c.admits.new.pass c.admits.result (kept_by c.admits.new.self) f (stack_of c.args.self.now) (c.admits.ensures.admitted f h u) h).0)
 
 pub returns-clause-seen : goal.returns-clause-seen
-returns-clause-seen g c = sees_what_is_made g.S.LookupSpan.registry g.met.S.Subscriber.laws g.met.S.Subscriber.paths
+returns-clause-seen g c = sees_what_is_made g.S.LookupSpan.registry g.met.S.Subscriber.laws g.met.S.Subscriber.paths g.met.S.Subscriber.levels

@@ -8,14 +8,14 @@ use Rattle.span_dispatch.proofs.dispatch.Dispatch.enter.Goals as goal
 
 pub returns-clause-ready : goal.returns-clause-ready
 returns-clause-ready g c = λ f k.
-    ready_again g.S.LookupSpan.registry g.S.LookupSpan.with_registry g.S.Subscriber.has_form g.S.Subscriber.stepped f c.args.self.now (with_stack c.args.self.now c.enter.new.self)
-    ((entered_so g.met.S.Subscriber.laws g.met.S.LookupSpan.with_own (kept_by c.args.self.now) c.args.lane c.args.id c.enter.result f c.args.self.now.stack c.enter.new.self c.enter.ensures.entered c.enter.ensures.refused c.enter.ensures.unchanged k.stack.honest).1 k.stack.settled) k.kept
+    ready_again g.S.LookupSpan.registry g.S.LookupSpan.with_registry g.S.Subscriber.has_form g.S.Subscriber.stepped g.S.Subscriber.levelled f c.args.self.now (with_stack c.args.self.now c.enter.new.self)
+    ((entered_so g.met.S.Subscriber.laws g.met.S.LookupSpan.with_own g.S.Subscriber.levelled (kept_by c.args.self.now) c.args.lane c.args.id c.enter.result f c.args.self.now.stack c.enter.new.self c.enter.ensures.entered c.enter.ensures.refused c.enter.ensures.unchanged k.stack.honest).1 k.stack.settled) k.kept
 
 pub returns-clause-served : goal.returns-clause-served
-returns-clause-served g c = λ f h u. (entered_so g.met.S.Subscriber.laws g.met.S.LookupSpan.with_own (kept_by c.args.self.now) c.args.lane c.args.id c.enter.result f c.args.self.now.stack c.enter.new.self c.enter.ensures.entered c.enter.ensures.refused c.enter.ensures.unchanged h).0
+returns-clause-served g c = λ f h u. (entered_so g.met.S.Subscriber.laws g.met.S.LookupSpan.with_own g.S.Subscriber.levelled (kept_by c.args.self.now) c.args.lane c.args.id c.enter.result f c.args.self.now.stack c.enter.new.self c.enter.ensures.entered c.enter.ensures.refused c.enter.ensures.unchanged h).0
 
 pub returns-clause-store : goal.returns-clause-store
 returns-clause-store g c = on_ok c.enter.result (λ u. and_hooks) c.enter.ensures.entered
 
 pub returns-clause-seen : goal.returns-clause-seen
-returns-clause-seen g c = sees_what_is_made g.S.LookupSpan.registry g.met.S.Subscriber.laws g.met.S.Subscriber.paths
+returns-clause-seen g c = sees_what_is_made g.S.LookupSpan.registry g.met.S.Subscriber.laws g.met.S.Subscriber.paths g.met.S.Subscriber.levels

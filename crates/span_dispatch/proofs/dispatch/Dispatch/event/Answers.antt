@@ -15,13 +15,13 @@ use Rattle.span_registry.specs.Subscriber.{AndHooks}
 use Rattle.span_dispatch.proofs.dispatch.Dispatch.event.Goals as goal
 
 pub returns-in-Err-clause-ready : goal.returns-in-Err-clause-ready
-returns-in-Err-clause-ready g c = λ f k. stays_so g.S.LookupSpan.registry g.S.LookupSpan.with_registry g.S.Subscriber.has_form g.S.Subscriber.stepped f c.args.self.now c.admits.new.self c.admits.ensures.stack (c.admits.ensures.kept f k.stack.honest.has k.kept) k
+returns-in-Err-clause-ready g c = λ f k. stays_so g.S.LookupSpan.registry g.S.LookupSpan.with_registry g.S.Subscriber.has_form g.S.Subscriber.stepped g.S.Subscriber.levelled f c.args.self.now c.admits.new.self c.admits.ensures.stack (c.admits.ensures.kept f k.stack.honest.has k.kept) k
 
 pub returns-in-Err-clause-store : goal.returns-in-Err-clause-store
 returns-in-Err-clause-store g c = subst (λ y. AndHooks g.S.LookupSpan.registry Stays (stack_of c.args.self.now) y) (sym c.admits.ensures.stack) (no_step g.S.LookupSpan.registry (stack_of c.args.self.now))
 
 pub returns-in-Ok-false-clause-ready : goal.returns-in-Ok-false-clause-ready
-returns-in-Ok-false-clause-ready g c = λ f k. stays_so g.S.LookupSpan.registry g.S.LookupSpan.with_registry g.S.Subscriber.has_form g.S.Subscriber.stepped f c.args.self.now c.admits.new.self c.admits.ensures.stack (c.admits.ensures.kept f k.stack.honest.has k.kept) k
+returns-in-Ok-false-clause-ready g c = λ f k. stays_so g.S.LookupSpan.registry g.S.LookupSpan.with_registry g.S.Subscriber.has_form g.S.Subscriber.stepped g.S.Subscriber.levelled f c.args.self.now c.admits.new.self c.admits.ensures.stack (c.admits.ensures.kept f k.stack.honest.has k.kept) k
 
 pub returns-in-Ok-false-clause-store : goal.returns-in-Ok-false-clause-store
 returns-in-Ok-false-clause-store g c = subst (λ y. AndHooks g.S.LookupSpan.registry Stays (stack_of c.args.self.now) y) (sym c.admits.ensures.stack) (no_step g.S.LookupSpan.registry (stack_of c.args.self.now))
@@ -31,23 +31,23 @@ returns-in-Ok-false-clause-asked g c =
     event_unwanted g.S.LookupSpan.registry g.S.Subscriber.has_form c.args.lane (stack_of c.args.self.now) (kept_by c.args.self.now) c.args.event.now c.metadata.result c.new-pass.result c.admits.new.pass _ c.metadata.ensures c.new-pass.ensures.refused refl (λ e. subst (λ b. AnswersEnabled g.S.LookupSpan.registry g.S.Subscriber.has_form (stack_of c.args.self.now) c.args.lane c.metadata.result c.new-pass.result b c.admits.new.pass) c.in-Ok-false.field-0-test (c.in-Ok-false.ensures.afresh e))
 
 pub returns-then-not-event_enabled-clause-ready : goal.returns-then-not-event_enabled-clause-ready
-returns-then-not-event_enabled-clause-ready g c = λ f k. stays_so g.S.LookupSpan.registry g.S.LookupSpan.with_registry g.S.Subscriber.has_form g.S.Subscriber.stepped f c.args.self.now c.admits.new.self c.admits.ensures.stack (c.admits.ensures.kept f k.stack.honest.has k.kept) k
+returns-then-not-event_enabled-clause-ready g c = λ f k. stays_so g.S.LookupSpan.registry g.S.LookupSpan.with_registry g.S.Subscriber.has_form g.S.Subscriber.stepped g.S.Subscriber.levelled f c.args.self.now c.admits.new.self c.admits.ensures.stack (c.admits.ensures.kept f k.stack.honest.has k.kept) k
 
 pub returns-then-not-event_enabled-clause-store : goal.returns-then-not-event_enabled-clause-store
 returns-then-not-event_enabled-clause-store g c = subst (λ y. AndHooks g.S.LookupSpan.registry Stays (stack_of c.args.self.now) y) (sym c.admits.ensures.stack) (no_step g.S.LookupSpan.registry (stack_of c.args.self.now))
 
 pub returns-then-not-event_enabled-clause-served : goal.returns-then-not-event_enabled-clause-served
 returns-then-not-event_enabled-clause-served g c = λ f h u.
-    same_stack g.S.LookupSpan.registry g.S.LookupSpan.with_registry g.S.Subscriber.has_form g.S.Subscriber.stepped (SendEvent c.args.lane c.args.event.now) f answer.Dropped c.args.self.now c.admits.new.self c.admits.ensures.stack
-    ((event_vetoed g.met.S.Subscriber.laws g.met.S.LookupSpan.with_own (kept_by c.args.self.now) c.args.lane c.args.event.now c.metadata.result c.admits.new.pass c.event_enabled.new.pass c.event_enabled.result (kept_by c.admits.new.self) f (stack_of c.args.self.now) c.metadata.ensures
+    same_stack g.S.LookupSpan.registry g.S.LookupSpan.with_registry g.S.Subscriber.has_form g.S.Subscriber.stepped g.S.Subscriber.levelled (SendEvent c.args.lane c.args.event.now) f answer.Dropped c.args.self.now c.admits.new.self c.admits.ensures.stack
+    ((event_vetoed g.met.S.Subscriber.laws g.met.S.LookupSpan.with_own g.S.Subscriber.levelled (kept_by c.args.self.now) c.args.lane c.args.event.now c.metadata.result c.admits.new.pass c.event_enabled.new.pass c.event_enabled.result (kept_by c.admits.new.self) f (stack_of c.args.self.now) c.metadata.ensures
     (subst (λ b. IsAdmitted (kept_by c.args.self.now) f (g.S.LookupSpan.registry (stack_of c.args.self.now)) c.args.lane c.metadata.result c.admits.new.pass (kept_by c.admits.new.self) (Ok b)) c.in-Ok-true.field-0-test (c.in-Ok-true.ensures.admitted f h u))
     c.if-not-event_enabled.true
     (subst (λ x. AnswersEvent g.S.LookupSpan.registry g.S.Subscriber.has_form x c.args.lane c.args.event.now c.admits.new.pass c.event_enabled.result c.event_enabled.new.pass) c.admits.ensures.stack c.event_enabled.ensures) h).0)
 
 pub returns-else-not-event_enabled-clause-ready : goal.returns-else-not-event_enabled-clause-ready
 returns-else-not-event_enabled-clause-ready g c = λ f k.
-    ready_again g.S.LookupSpan.registry g.S.LookupSpan.with_registry g.S.Subscriber.has_form g.S.Subscriber.stepped f c.args.self.now (with_stack c.admits.new.self c.event.new.self)
-    ((event_made g.met.S.Subscriber.laws g.met.S.LookupSpan.with_own (kept_by c.args.self.now) c.args.lane c.args.event.now c.metadata.result c.admits.new.pass c.event_enabled.new.pass c.event_enabled.result (kept_by c.admits.new.self) f (stack_of c.args.self.now) c.event.new.self c.metadata.ensures
+    ready_again g.S.LookupSpan.registry g.S.LookupSpan.with_registry g.S.Subscriber.has_form g.S.Subscriber.stepped g.S.Subscriber.levelled f c.args.self.now (with_stack c.admits.new.self c.event.new.self)
+    ((event_made g.met.S.Subscriber.laws g.met.S.LookupSpan.with_own g.S.Subscriber.levelled (kept_by c.args.self.now) c.args.lane c.args.event.now c.metadata.result c.admits.new.pass c.event_enabled.new.pass c.event_enabled.result (kept_by c.admits.new.self) f (stack_of c.args.self.now) c.event.new.self c.metadata.ensures
     (subst (λ b. IsAdmitted (kept_by c.args.self.now) f (g.S.LookupSpan.registry (stack_of c.args.self.now)) c.args.lane c.metadata.result c.admits.new.pass (kept_by c.admits.new.self) (Ok b)) c.in-Ok-true.field-0-test (c.in-Ok-true.ensures.admitted f k.stack.honest k.kept))
     c.if-not-event_enabled.false
     (subst (λ x. AnswersEvent g.S.LookupSpan.registry g.S.Subscriber.has_form x c.args.lane c.args.event.now c.admits.new.pass c.event_enabled.result c.event_enabled.new.pass) c.admits.ensures.stack c.event_enabled.ensures)
@@ -55,7 +55,7 @@ returns-else-not-event_enabled-clause-ready g c = λ f k.
 
 pub returns-else-not-event_enabled-clause-served : goal.returns-else-not-event_enabled-clause-served
 returns-else-not-event_enabled-clause-served g c = λ f h u.
-    (event_made g.met.S.Subscriber.laws g.met.S.LookupSpan.with_own (kept_by c.args.self.now) c.args.lane c.args.event.now c.metadata.result c.admits.new.pass c.event_enabled.new.pass c.event_enabled.result (kept_by c.admits.new.self) f (stack_of c.args.self.now) c.event.new.self c.metadata.ensures
+    (event_made g.met.S.Subscriber.laws g.met.S.LookupSpan.with_own g.S.Subscriber.levelled (kept_by c.args.self.now) c.args.lane c.args.event.now c.metadata.result c.admits.new.pass c.event_enabled.new.pass c.event_enabled.result (kept_by c.admits.new.self) f (stack_of c.args.self.now) c.event.new.self c.metadata.ensures
     (subst (λ b. IsAdmitted (kept_by c.args.self.now) f (g.S.LookupSpan.registry (stack_of c.args.self.now)) c.args.lane c.metadata.result c.admits.new.pass (kept_by c.admits.new.self) (Ok b)) c.in-Ok-true.field-0-test (c.in-Ok-true.ensures.admitted f h u))
     c.if-not-event_enabled.false
     (subst (λ x. AnswersEvent g.S.LookupSpan.registry g.S.Subscriber.has_form x c.args.lane c.args.event.now c.admits.new.pass c.event_enabled.result c.event_enabled.new.pass) c.admits.ensures.stack c.event_enabled.ensures)
@@ -76,13 +76,13 @@ returns-then-not-event_enabled-clause-asked g c =
     (subst (λ x. AnswersEvent g.S.LookupSpan.registry g.S.Subscriber.has_form x c.args.lane c.args.event.now c.admits.new.pass c.event_enabled.result c.event_enabled.new.pass) c.admits.ensures.stack c.event_enabled.ensures)
 
 pub returns-in-Err-clause-seen : goal.returns-in-Err-clause-seen
-returns-in-Err-clause-seen g c = sees_what_is_made g.S.LookupSpan.registry g.met.S.Subscriber.laws g.met.S.Subscriber.paths
+returns-in-Err-clause-seen g c = sees_what_is_made g.S.LookupSpan.registry g.met.S.Subscriber.laws g.met.S.Subscriber.paths g.met.S.Subscriber.levels
 
 pub returns-in-Ok-false-clause-seen : goal.returns-in-Ok-false-clause-seen
-returns-in-Ok-false-clause-seen g c = sees_what_is_made g.S.LookupSpan.registry g.met.S.Subscriber.laws g.met.S.Subscriber.paths
+returns-in-Ok-false-clause-seen g c = sees_what_is_made g.S.LookupSpan.registry g.met.S.Subscriber.laws g.met.S.Subscriber.paths g.met.S.Subscriber.levels
 
 pub returns-then-not-event_enabled-clause-seen : goal.returns-then-not-event_enabled-clause-seen
-returns-then-not-event_enabled-clause-seen g c = sees_what_is_made g.S.LookupSpan.registry g.met.S.Subscriber.laws g.met.S.Subscriber.paths
+returns-then-not-event_enabled-clause-seen g c = sees_what_is_made g.S.LookupSpan.registry g.met.S.Subscriber.laws g.met.S.Subscriber.paths g.met.S.Subscriber.levels
 
 pub returns-else-not-event_enabled-clause-seen : goal.returns-else-not-event_enabled-clause-seen
-returns-else-not-event_enabled-clause-seen g c = sees_what_is_made g.S.LookupSpan.registry g.met.S.Subscriber.laws g.met.S.Subscriber.paths
+returns-else-not-event_enabled-clause-seen g c = sees_what_is_made g.S.LookupSpan.registry g.met.S.Subscriber.laws g.met.S.Subscriber.paths g.met.S.Subscriber.levels

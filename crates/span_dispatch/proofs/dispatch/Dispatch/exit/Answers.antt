@@ -12,19 +12,19 @@ use Rattle.span_dispatch.proofs.dispatch.Dispatch.exit.Goals as goal
 
 pub returns-then-is_open-clause-ready : goal.returns-then-is_open-clause-ready
 returns-then-is_open-clause-ready g c = λ f k.
-    ready_again g.S.LookupSpan.registry g.S.LookupSpan.with_registry g.S.Subscriber.has_form g.S.Subscriber.stepped f c.args.self.now (with_stack c.args.self.now c.exit.new.self)
-    ((left_so g.met.S.Subscriber.laws g.met.S.LookupSpan.with_own (kept_by c.args.self.now) c.args.lane c.args.id f c.args.self.now.stack c.exit.new.self (subst (λ (s : RegistryState). IsOpen s.store.spans (number_of c.args.id)) c.root.ensures (c.is_open.ensures.0 c.if-is_open.true)) c.exit.ensures.hooks k.stack.honest).1 k.stack.settled) k.kept
+    ready_again g.S.LookupSpan.registry g.S.LookupSpan.with_registry g.S.Subscriber.has_form g.S.Subscriber.stepped g.S.Subscriber.levelled f c.args.self.now (with_stack c.args.self.now c.exit.new.self)
+    ((left_so g.met.S.Subscriber.laws g.met.S.LookupSpan.with_own g.S.Subscriber.levelled (kept_by c.args.self.now) c.args.lane c.args.id f c.args.self.now.stack c.exit.new.self (subst (λ (s : RegistryState). IsOpen s.store.spans (number_of c.args.id)) c.root.ensures (c.is_open.ensures.0 c.if-is_open.true)) c.exit.ensures.hooks k.stack.honest).1 k.stack.settled) k.kept
 
 pub returns-then-is_open-clause-served : goal.returns-then-is_open-clause-served
-returns-then-is_open-clause-served g c = λ f h u. (left_so g.met.S.Subscriber.laws g.met.S.LookupSpan.with_own (kept_by c.args.self.now) c.args.lane c.args.id f c.args.self.now.stack c.exit.new.self (subst (λ (s : RegistryState). IsOpen s.store.spans (number_of c.args.id)) c.root.ensures (c.is_open.ensures.0 c.if-is_open.true)) c.exit.ensures.hooks h).0
+returns-then-is_open-clause-served g c = λ f h u. (left_so g.met.S.Subscriber.laws g.met.S.LookupSpan.with_own g.S.Subscriber.levelled (kept_by c.args.self.now) c.args.lane c.args.id f c.args.self.now.stack c.exit.new.self (subst (λ (s : RegistryState). IsOpen s.store.spans (number_of c.args.id)) c.root.ensures (c.is_open.ensures.0 c.if-is_open.true)) c.exit.ensures.hooks h).0
 
 pub returns-clause-ready : goal.returns-clause-ready
 returns-clause-ready g c = λ f k.
-    ready_again g.S.LookupSpan.registry g.S.LookupSpan.with_registry g.S.Subscriber.has_form g.S.Subscriber.stepped f c.args.self.now (with_stack c.args.self.now (g.S.LookupSpan.with_registry c.args.self.now.stack c.exit-2.new.self))
-    ((gone_so g.met.S.Subscriber.laws g.met.S.LookupSpan.with_own (kept_by c.args.self.now) g.met.S.LookupSpan.registry_with c.args.lane c.args.id f c.args.self.now.stack c.exit-2.new.self (λ o. true≢false (sym (c.is_open.ensures.1 (subst (λ (s : RegistryState). IsOpen s.store.spans (number_of c.args.id)) (sym c.root.ensures) o)) ∙ c.if-is_open.false)) (subst (λ (s : RegistryState). Exits c.args.lane c.args.id s c.exit-2.new.self) c.root_mut.ensures.value c.exit-2.ensures) k.stack.honest).1 k.stack.settled) k.kept
+    ready_again g.S.LookupSpan.registry g.S.LookupSpan.with_registry g.S.Subscriber.has_form g.S.Subscriber.stepped g.S.Subscriber.levelled f c.args.self.now (with_stack c.args.self.now (g.S.LookupSpan.with_registry c.args.self.now.stack c.exit-2.new.self))
+    ((gone_so g.met.S.Subscriber.laws g.met.S.LookupSpan.with_own g.S.Subscriber.levelled (kept_by c.args.self.now) g.met.S.LookupSpan.registry_with c.args.lane c.args.id f c.args.self.now.stack c.exit-2.new.self (λ o. true≢false (sym (c.is_open.ensures.1 (subst (λ (s : RegistryState). IsOpen s.store.spans (number_of c.args.id)) (sym c.root.ensures) o)) ∙ c.if-is_open.false)) (subst (λ (s : RegistryState). Exits c.args.lane c.args.id s c.exit-2.new.self) c.root_mut.ensures.value c.exit-2.ensures) k.stack.honest).1 k.stack.settled) k.kept
 
 pub returns-clause-served : goal.returns-clause-served
-returns-clause-served g c = λ f h u. (gone_so g.met.S.Subscriber.laws g.met.S.LookupSpan.with_own (kept_by c.args.self.now) g.met.S.LookupSpan.registry_with c.args.lane c.args.id f c.args.self.now.stack c.exit-2.new.self (λ o. true≢false (sym (c.is_open.ensures.1 (subst (λ (s : RegistryState). IsOpen s.store.spans (number_of c.args.id)) (sym c.root.ensures) o)) ∙ c.if-is_open.false)) (subst (λ (s : RegistryState). Exits c.args.lane c.args.id s c.exit-2.new.self) c.root_mut.ensures.value c.exit-2.ensures) h).0
+returns-clause-served g c = λ f h u. (gone_so g.met.S.Subscriber.laws g.met.S.LookupSpan.with_own g.S.Subscriber.levelled (kept_by c.args.self.now) g.met.S.LookupSpan.registry_with c.args.lane c.args.id f c.args.self.now.stack c.exit-2.new.self (λ o. true≢false (sym (c.is_open.ensures.1 (subst (λ (s : RegistryState). IsOpen s.store.spans (number_of c.args.id)) (sym c.root.ensures) o)) ∙ c.if-is_open.false)) (subst (λ (s : RegistryState). Exits c.args.lane c.args.id s c.exit-2.new.self) c.root_mut.ensures.value c.exit-2.ensures) h).0
 
 pub returns-clause-store : goal.returns-clause-store
 returns-clause-store g c = gone_store g.S.LookupSpan.registry g.S.LookupSpan.with_registry g.met.S.LookupSpan.registry_with c.args.lane c.args.id c.args.self.now.stack c.exit-2.new.self (subst (λ (s : RegistryState). Exits c.args.lane c.args.id s c.exit-2.new.self) c.root_mut.ensures.value c.exit-2.ensures)
@@ -37,7 +37,7 @@ returns-clause-gone g c = λ shut.
     alone g.S.LookupSpan.registry g.S.LookupSpan.with_registry g.met.S.LookupSpan.registry_with (Exits c.args.lane c.args.id) (stack_of c.args.self.now) c.exit-2.new.self (subst (λ (s : RegistryState). Exits c.args.lane c.args.id s c.exit-2.new.self) c.root_mut.ensures.value c.exit-2.ensures)
 
 pub returns-then-is_open-clause-seen : goal.returns-then-is_open-clause-seen
-returns-then-is_open-clause-seen g c = sees_what_is_made g.S.LookupSpan.registry g.met.S.Subscriber.laws g.met.S.Subscriber.paths
+returns-then-is_open-clause-seen g c = sees_what_is_made g.S.LookupSpan.registry g.met.S.Subscriber.laws g.met.S.Subscriber.paths g.met.S.Subscriber.levels
 
 pub returns-clause-seen : goal.returns-clause-seen
-returns-clause-seen g c = sees_what_is_made g.S.LookupSpan.registry g.met.S.Subscriber.laws g.met.S.Subscriber.paths
+returns-clause-seen g c = sees_what_is_made g.S.LookupSpan.registry g.met.S.Subscriber.laws g.met.S.Subscriber.paths g.met.S.Subscriber.levels

@@ -18,20 +18,20 @@ returns-then-not-is_open-clause-served g c = λ f h u. ([], record { comes = ((r
 
 pub returns-clause-ready : goal.returns-clause-ready
 returns-clause-ready g c = λ f k.
-    ready_again g.S.LookupSpan.registry g.S.LookupSpan.with_registry g.S.Subscriber.has_form g.S.Subscriber.stepped f c.args.self.now (with_stack c.args.self.now c.record_follows_from.new.self)
-    ((followed_so g.met.S.Subscriber.laws g.met.S.LookupSpan.with_own (kept_by c.args.self.now) c.args.lane c.args.id c.args.follows f c.args.self.now.stack c.record_follows_from.new.self (subst (λ (s : RegistryState). IsOpen s.store.spans (number_of c.args.id)) c.root-registry.ensures (c.is_open.ensures.0 c.if-not-is_open.false)) c.record_follows_from.ensures.hooks k.stack.honest).1 k.stack.settled) k.kept
+    ready_again g.S.LookupSpan.registry g.S.LookupSpan.with_registry g.S.Subscriber.has_form g.S.Subscriber.stepped g.S.Subscriber.levelled f c.args.self.now (with_stack c.args.self.now c.record_follows_from.new.self)
+    ((followed_so g.met.S.Subscriber.laws g.met.S.LookupSpan.with_own g.S.Subscriber.levelled (kept_by c.args.self.now) c.args.lane c.args.id c.args.follows f c.args.self.now.stack c.record_follows_from.new.self (subst (λ (s : RegistryState). IsOpen s.store.spans (number_of c.args.id)) c.root-registry.ensures (c.is_open.ensures.0 c.if-not-is_open.false)) c.record_follows_from.ensures.hooks k.stack.honest).1 k.stack.settled) k.kept
 
 pub returns-clause-served : goal.returns-clause-served
-returns-clause-served g c = λ f h u. (followed_so g.met.S.Subscriber.laws g.met.S.LookupSpan.with_own (kept_by c.args.self.now) c.args.lane c.args.id c.args.follows f c.args.self.now.stack c.record_follows_from.new.self (subst (λ (s : RegistryState). IsOpen s.store.spans (number_of c.args.id)) c.root-registry.ensures (c.is_open.ensures.0 c.if-not-is_open.false)) c.record_follows_from.ensures.hooks h).0
+returns-clause-served g c = λ f h u. (followed_so g.met.S.Subscriber.laws g.met.S.LookupSpan.with_own g.S.Subscriber.levelled (kept_by c.args.self.now) c.args.lane c.args.id c.args.follows f c.args.self.now.stack c.record_follows_from.new.self (subst (λ (s : RegistryState). IsOpen s.store.spans (number_of c.args.id)) c.root-registry.ensures (c.is_open.ensures.0 c.if-not-is_open.false)) c.record_follows_from.ensures.hooks h).0
 
 pub returns-clause-store : goal.returns-clause-store
 returns-clause-store g c = found_store g.S.LookupSpan.registry c.args.id c.args.self.now.stack c.record_follows_from.new.self (subst (λ (s : RegistryState). IsOpen s.store.spans (number_of c.args.id)) c.root-registry.ensures (c.is_open.ensures.0 c.if-not-is_open.false)) (and_hooks c.record_follows_from.ensures.hooks)
 
 pub returns-then-not-is_open-clause-ready : goal.returns-then-not-is_open-clause-ready
-returns-then-not-is_open-clause-ready g c = λ f k. stays_so g.S.LookupSpan.registry g.S.LookupSpan.with_registry g.S.Subscriber.has_form g.S.Subscriber.stepped f c.args.self.now c.args.self.now refl k.kept k
+returns-then-not-is_open-clause-ready g c = λ f k. stays_so g.S.LookupSpan.registry g.S.LookupSpan.with_registry g.S.Subscriber.has_form g.S.Subscriber.stepped g.S.Subscriber.levelled f c.args.self.now c.args.self.now refl k.kept k
 
 pub returns-then-not-is_open-clause-seen : goal.returns-then-not-is_open-clause-seen
-returns-then-not-is_open-clause-seen g c = sees_what_is_made g.S.LookupSpan.registry g.met.S.Subscriber.laws g.met.S.Subscriber.paths
+returns-then-not-is_open-clause-seen g c = sees_what_is_made g.S.LookupSpan.registry g.met.S.Subscriber.laws g.met.S.Subscriber.paths g.met.S.Subscriber.levels
 
 pub returns-clause-seen : goal.returns-clause-seen
-returns-clause-seen g c = sees_what_is_made g.S.LookupSpan.registry g.met.S.Subscriber.laws g.met.S.Subscriber.paths
+returns-clause-seen g c = sees_what_is_made g.S.LookupSpan.registry g.met.S.Subscriber.laws g.met.S.Subscriber.paths g.met.S.Subscriber.levels

@@ -11,10 +11,10 @@ use Rattle.span_registry.specs.Step.{RefusesNew}
 use Rattle.span_dispatch.proofs.dispatch.Dispatch.new_span.Goals as goal
 
 pub returns-in-Err-clause-ready : goal.returns-in-Err-clause-ready
-returns-in-Err-clause-ready g c = λ f k. stays_so g.S.LookupSpan.registry g.S.LookupSpan.with_registry g.S.Subscriber.has_form g.S.Subscriber.stepped f c.args.self.now c.admits.new.self c.admits.ensures.stack (c.admits.ensures.kept f k.stack.honest.has k.kept) k
+returns-in-Err-clause-ready g c = λ f k. stays_so g.S.LookupSpan.registry g.S.LookupSpan.with_registry g.S.Subscriber.has_form g.S.Subscriber.stepped g.S.Subscriber.levelled f c.args.self.now c.admits.new.self c.admits.ensures.stack (c.admits.ensures.kept f k.stack.honest.has k.kept) k
 
 pub returns-in-Ok-false-clause-ready : goal.returns-in-Ok-false-clause-ready
-returns-in-Ok-false-clause-ready g c = λ f k. stays_so g.S.LookupSpan.registry g.S.LookupSpan.with_registry g.S.Subscriber.has_form g.S.Subscriber.stepped f c.args.self.now c.admits.new.self c.admits.ensures.stack (c.admits.ensures.kept f k.stack.honest.has k.kept) k
+returns-in-Ok-false-clause-ready g c = λ f k. stays_so g.S.LookupSpan.registry g.S.LookupSpan.with_registry g.S.Subscriber.has_form g.S.Subscriber.stepped g.S.Subscriber.levelled f c.args.self.now c.admits.new.self c.admits.ensures.stack (c.admits.ensures.kept f k.stack.honest.has k.kept) k
 
 pub returns-in-Ok-false-clause-asked : goal.returns-in-Ok-false-clause-asked
 returns-in-Ok-false-clause-asked g c =
@@ -23,14 +23,14 @@ returns-in-Ok-false-clause-asked g c =
 
 pub returns-in-Ok-clause-ready : goal.returns-in-Ok-clause-ready
 returns-in-Ok-clause-ready g c = λ f k.
-    ready_again g.S.LookupSpan.registry g.S.LookupSpan.with_registry g.S.Subscriber.has_form g.S.Subscriber.stepped f c.args.self.now (with_stack c.admits.new.self c.new_span.new.self)
-    ((span_made g.met.S.Subscriber.laws g.met.S.LookupSpan.with_own (kept_by c.args.self.now) c.args.lane c.args.attrs.now c.metadata.result c.admits.new.pass c.in-Ok.id (kept_by c.admits.new.self) f (stack_of c.args.self.now) c.new_span.new.self c.metadata.ensures
+    ready_again g.S.LookupSpan.registry g.S.LookupSpan.with_registry g.S.Subscriber.has_form g.S.Subscriber.stepped g.S.Subscriber.levelled f c.args.self.now (with_stack c.admits.new.self c.new_span.new.self)
+    ((span_made g.met.S.Subscriber.laws g.met.S.LookupSpan.with_own g.S.Subscriber.levelled (kept_by c.args.self.now) c.args.lane c.args.attrs.now c.metadata.result c.admits.new.pass c.in-Ok.id (kept_by c.admits.new.self) f (stack_of c.args.self.now) c.new_span.new.self c.metadata.ensures
     (subst (λ b. IsAdmitted (kept_by c.args.self.now) f (g.S.LookupSpan.registry (stack_of c.args.self.now)) c.args.lane c.metadata.result c.admits.new.pass (kept_by c.admits.new.self) (Ok b)) c.in-Ok-true.field-0-test (c.in-Ok-true.ensures.admitted f k.stack.honest k.kept))
     (subst (λ x. OpensAndNotifies g.S.LookupSpan.registry g.S.Subscriber.has_form g.S.Subscriber.stepped c.args.lane c.args.attrs.now c.admits.new.pass x c.new_span.new.self c.in-Ok.id) c.admits.ensures.stack c.in-Ok.ensures.opened) k.stack.honest).1 k.stack.settled) (c.admits.ensures.kept f k.stack.honest.has k.kept)
 
 pub returns-in-Ok-clause-served : goal.returns-in-Ok-clause-served
 returns-in-Ok-clause-served g c = λ f h u.
-    (span_made g.met.S.Subscriber.laws g.met.S.LookupSpan.with_own (kept_by c.args.self.now) c.args.lane c.args.attrs.now c.metadata.result c.admits.new.pass c.in-Ok.id (kept_by c.admits.new.self) f (stack_of c.args.self.now) c.new_span.new.self c.metadata.ensures
+    (span_made g.met.S.Subscriber.laws g.met.S.LookupSpan.with_own g.S.Subscriber.levelled (kept_by c.args.self.now) c.args.lane c.args.attrs.now c.metadata.result c.admits.new.pass c.in-Ok.id (kept_by c.admits.new.self) f (stack_of c.args.self.now) c.new_span.new.self c.metadata.ensures
     (subst (λ b. IsAdmitted (kept_by c.args.self.now) f (g.S.LookupSpan.registry (stack_of c.args.self.now)) c.args.lane c.metadata.result c.admits.new.pass (kept_by c.admits.new.self) (Ok b)) c.in-Ok-true.field-0-test (c.in-Ok-true.ensures.admitted f h u))
     (subst (λ x. OpensAndNotifies g.S.LookupSpan.registry g.S.Subscriber.has_form g.S.Subscriber.stepped c.args.lane c.args.attrs.now c.admits.new.pass x c.new_span.new.self c.in-Ok.id) c.admits.ensures.stack c.in-Ok.ensures.opened) h).0
 
@@ -40,11 +40,11 @@ returns-in-Ok-clause-store g c = opened_store g.S.LookupSpan.registry c.args.lan
 
 pub returns-in-Err-new_span-clause-ready : goal.returns-in-Err-new_span-clause-ready
 returns-in-Err-new_span-clause-ready g c = λ f k.
-    stays_so g.S.LookupSpan.registry g.S.LookupSpan.with_registry g.S.Subscriber.has_form g.S.Subscriber.stepped f c.args.self.now (with_stack c.admits.new.self c.new_span.new.self) (c.in-Err-new_span.ensures.unchanged ∙ c.admits.ensures.stack) (c.admits.ensures.kept f k.stack.honest.has k.kept) k
+    stays_so g.S.LookupSpan.registry g.S.LookupSpan.with_registry g.S.Subscriber.has_form g.S.Subscriber.stepped g.S.Subscriber.levelled f c.args.self.now (with_stack c.admits.new.self c.new_span.new.self) (c.in-Err-new_span.ensures.unchanged ∙ c.admits.ensures.stack) (c.admits.ensures.kept f k.stack.honest.has k.kept) k
 
 pub returns-in-Err-new_span-clause-served : goal.returns-in-Err-new_span-clause-served
 returns-in-Err-new_span-clause-served g c = λ f h u.
-    (span_refused g.met.S.Subscriber.laws g.met.S.LookupSpan.with_own (kept_by c.args.self.now) c.args.lane c.args.attrs.now c.metadata.result c.admits.new.pass c.in-Err-new_span.error (kept_by c.admits.new.self) f (stack_of c.args.self.now) c.new_span.new.self c.metadata.ensures
+    (span_refused g.met.S.Subscriber.laws g.met.S.LookupSpan.with_own g.S.Subscriber.levelled (kept_by c.args.self.now) c.args.lane c.args.attrs.now c.metadata.result c.admits.new.pass c.in-Err-new_span.error (kept_by c.admits.new.self) f (stack_of c.args.self.now) c.new_span.new.self c.metadata.ensures
     (subst (λ b. IsAdmitted (kept_by c.args.self.now) f (g.S.LookupSpan.registry (stack_of c.args.self.now)) c.args.lane c.metadata.result c.admits.new.pass (kept_by c.admits.new.self) (Ok b)) c.in-Ok-true.field-0-test (c.in-Ok-true.ensures.admitted f h u))
     (subst (λ x. RefusesNew (g.S.LookupSpan.registry x) c.args.lane (asked_parent c.args.attrs.now) c.in-Err-new_span.error) c.admits.ensures.stack c.in-Err-new_span.ensures.refused) (c.in-Err-new_span.ensures.unchanged ∙ c.admits.ensures.stack) h).0
 
@@ -65,13 +65,13 @@ returns-in-Ok-clause-asked g c =
     (metadata_wanted g.S.LookupSpan.registry g.S.Subscriber.has_form c.args.lane (stack_of c.args.self.now) (kept_by c.args.self.now) c.metadata.result (metadata_of c.args.attrs.now) c.new-pass.result c.admits.new.pass c.in-Ok-true.field-0 c.metadata.ensures c.new-pass.ensures.refused c.in-Ok-true.ensures.afresh)
 
 pub returns-in-Err-clause-seen : goal.returns-in-Err-clause-seen
-returns-in-Err-clause-seen g c = sees_what_is_made g.S.LookupSpan.registry g.met.S.Subscriber.laws g.met.S.Subscriber.paths
+returns-in-Err-clause-seen g c = sees_what_is_made g.S.LookupSpan.registry g.met.S.Subscriber.laws g.met.S.Subscriber.paths g.met.S.Subscriber.levels
 
 pub returns-in-Ok-false-clause-seen : goal.returns-in-Ok-false-clause-seen
-returns-in-Ok-false-clause-seen g c = sees_what_is_made g.S.LookupSpan.registry g.met.S.Subscriber.laws g.met.S.Subscriber.paths
+returns-in-Ok-false-clause-seen g c = sees_what_is_made g.S.LookupSpan.registry g.met.S.Subscriber.laws g.met.S.Subscriber.paths g.met.S.Subscriber.levels
 
 pub returns-in-Ok-clause-seen : goal.returns-in-Ok-clause-seen
-returns-in-Ok-clause-seen g c = sees_what_is_made g.S.LookupSpan.registry g.met.S.Subscriber.laws g.met.S.Subscriber.paths
+returns-in-Ok-clause-seen g c = sees_what_is_made g.S.LookupSpan.registry g.met.S.Subscriber.laws g.met.S.Subscriber.paths g.met.S.Subscriber.levels
 
 pub returns-in-Err-new_span-clause-seen : goal.returns-in-Err-new_span-clause-seen
-returns-in-Err-new_span-clause-seen g c = sees_what_is_made g.S.LookupSpan.registry g.met.S.Subscriber.laws g.met.S.Subscriber.paths
+returns-in-Err-new_span-clause-seen g c = sees_what_is_made g.S.LookupSpan.registry g.met.S.Subscriber.laws g.met.S.Subscriber.paths g.met.S.Subscriber.levels

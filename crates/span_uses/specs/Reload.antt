@@ -1,0 +1,34 @@
+-- A recorder whose level is set between two lists of requests.
+use Rattle.std.specs.Prelude.{◌≡◌, List}
+use Rattle.span_core.specs.declared.level.TheConstants.LevelFilter.{DEBUG, WARN}
+use Rattle.span_core.specs.declared.level.LevelFilter.{LevelFilter}
+use Rattle.span_dispatch.specs.Contract.{SubscriberOf}
+use Rattle.span_dispatch.specs.Outcome.{Outcome}
+use Rattle.span_dispatch.specs.Serve.{stack_of}
+use Rattle.span_dispatch.specs.declared.dispatch.Dispatch.{Dispatch}
+use Rattle.span_dispatch.specs.declared.request.Request.{Request}
+use Rattle.span_layers.specs.Filtered.{filter_of}
+use Rattle.span_layers.specs.Layered.{inner_of, outer_of}
+use Rattle.span_uses.specs.Dispatches.{Recorded, recorder_of}
+use Rattle.span_uses.specs.Isolation.{IsNewUnder, MakesFrom, MakesOf}
+
+-- its recorder stands under this level now, and keeps what it kept; all spans are as they were
+pub record IsSetTo (level : LevelFilter) (old new : Dispatch Recorded) : Type 0 where
+  pub now : filter_of (outer_of (stack_of new)) ≡ level
+  pub kept : recorder_of new ≡ recorder_of old
+  pub spans : inner_of (stack_of new) ≡ inner_of (stack_of old)
+
+module _ (s : SubscriberOf Recorded) where
+  -- a list was served, and these outcomes were made of it
+  abbrev pub ServesAll : List Request → MakesFrom Recorded
+  ServesAll requests = MakesOf s.registry s.with_registry s.has_form s.stepped s.levelled s.hears s.acts_at requests
+
+  -- the first list was served with a new recorder under WARN, then its level was set to DEBUG, and then the other list was served
+  pub record Reloads (requests others : List Request) (new : Dispatch Recorded) : Type 0 where
+    pub start : Dispatch Recorded
+    pub before : Dispatch Recorded
+    pub after : Dispatch Recorded
+    pub recorder : IsNewUnder WARN (outer_of (stack_of start))
+    pub first : (outcomes : List Outcome) × ServesAll requests start outcomes before
+    pub set : IsSetTo DEBUG before after
+    pub rest : (outcomes : List Outcome) × ServesAll others after outcomes new
