@@ -5,10 +5,10 @@ use Rattle.span_dispatch.specs.declared.request.Answer.{Answer}
 use Rattle.span_dispatch.specs.declared.request.Request.{Request}
 use Rattle.span_registry.specs.declared.limits.Limits.{Limits}
 use Rattle.span_run.specs.Program.{Gives, IsPrinted}
-use Rattle.span_run.specs.Script.{lines_of, recorders_of, requests_of}
+use Rattle.span_script.specs.Script.{lines_of, recorders_of, requests_of}
 use Rattle.span_run.specs.Stacks.{Serves}
-use Rattle.span_run.specs.declared.script.Script.{Script}
-use Rattle.span_run.specs.declared.stack_name.StackName.{StackName}
+use Rattle.span_script.specs.declared.script.Script.{Script}
+use Rattle.span_script.specs.declared.stack_name.StackName.{StackName}
 
 pub gives : (limits : Limits) (stack : StackName) (script : Script) (asked : List Request) (given answers : List Answer) (sections : List (List ℕ × List Notice)) (kept : List (List Notice)) (text : List ℕ) → Serves limits stack asked given kept → asked ≡ requests_of script → answers ≡ given
     → map (λ one. one.1) sections ≡ kept → map (λ one. one.0) sections ≡ recorders_of stack → IsPrinted (lines_of script) answers sections text → Gives limits stack script text

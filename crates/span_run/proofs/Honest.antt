@@ -1,11 +1,11 @@
 -- The stacks are honest, and stay so.
 use Rattle.std.proofs.Common.{◌≡◌, ℕ, ◌<◌, ◌||◌, ◌==◌, Bool, true, false, Option, None, Some, arith, refl, sym, ap, subst, ◌∙◌}
 use Rattle.std.proofs.lemmas.Bool.{eqb-true, false_from_ne_true, false≢true}
-use Rattle.std.specs.Prelude.{⊤}
 use Rattle.span_core.specs.declared.level.LevelFilter.{LevelFilter}
 use Rattle.span_core.specs.declared.level.TheConstants.LevelFilter.{INFO, TRACE, WARN}
 use Rattle.span_dispatch.specs.Recorder.{Kept}
-use Rattle.span_filters.specs.Level.{level_answers, level_honest}
+use Rattle.span_filters.specs.Filter.{unlevelled}
+use Rattle.span_filters.specs.Level.{level_answers, level_honest, level_taken}
 use Rattle.span_layers.specs.Filtered.{IsNumber, filter_of, id_of, layer_of}
 use Rattle.span_layers.specs.Honest.{IsHonestStack}
 use Rattle.span_layers.specs.Layered.{inner_of, outer_of}
@@ -15,15 +15,16 @@ use Rattle.span_layers.specs.declared.filtered.Filtered.{Filtered as FilteredLay
 use Rattle.span_layers.specs.declared.layered.Layered.{Layered}
 use Rattle.span_registry.specs.Answers.{AreHonest}
 use Rattle.span_registry.specs.Follows.{RefusesNothing}
+use Rattle.span_registry.specs.Form.{Bare, Base, Filtered, Form, InPair, Leaf, OnSubscriber}
 use Rattle.span_registry.specs.Store.{RegistryState}
 use Rattle.span_registry.specs.declared.limits.Limits.{Limits}
 use Rattle.span_run.proofs.Begins.{AbsentStack, Levelled, VetoStack, Warned}
-use Rattle.span_run.proofs.Steady.{StayBoth, StaysUnder, still_absent}
+use Rattle.span_run.proofs.Steady.{IsByLevel, StayBoth, StaysAbsent, StaysBase, StaysLeaf, StaysUnder, StaysVeto, still_absent}
 use Rattle.span_run.specs.Mute.{mute_answers, mute_honest}
-use Rattle.span_run.specs.Stacks.{BeginsAbsent, BeginsNested, BeginsPair, BeginsUnder, BeginsVeto, BeginsWarned, form_of}
+use Rattle.span_run.specs.Stacks.{BeginsAbsent, BeginsNested, BeginsPair, BeginsUnder, BeginsVeto, BeginsWarned, form_of, leaf}
 use Rattle.span_run.specs.declared.mute.Mute.{Mute}
 use Rattle.span_run.specs.declared.mute_veto.MuteVeto.{MuteVeto}
-use Rattle.span_run.specs.declared.stack_name.StackName.TheVariants.{Absent, Nested, Pair, Plain, Veto}
+use Rattle.span_script.specs.declared.stack_name.StackName.TheVariants.{Absent, Nested, Pair, Plain, Veto}
 
 open_honest : AreHonest open_answers
 open_honest = record { always = λ m v e. refl; never = λ m v e. absurd (cc); above = λ m v e. absurd (cc); alike = λ m k e. refl }
@@ -112,49 +113,66 @@ honest_absent = record {
 
 -- ---- what settles their forms
 
-abbrev pub StaysLevelled : ℕ → LevelFilter → Levelled → Type 0
-StaysLevelled n level = StaysUnder n level_answers (level_answers level) (λ (r : Kept). ⊤)
+-- a level is set: the filter is by that level
+pub level_set : IsByLevel level_answers level_taken
+level_set a l b h = ap level_answers h
 
-abbrev pub StaysPlain : Layered Kept RegistryState → Type 0
-StaysPlain = StayBoth (λ r. ⊤) (λ s. ⊤)
+-- none is set
+pub mute_kept : IsByLevel (λ (f : Mute). mute_answers) unlevelled
+mute_kept a l b h = refl
 
-abbrev pub StaysPair : Layered (Layered Levelled Levelled) RegistryState → Type 0
-StaysPair = StayBoth (StayBoth (StaysLevelled 0 INFO) (StaysLevelled 1 TRACE)) (λ s. ⊤)
+abbrev pub StaysLevelled : ℕ → Levelled → Form → Type 0
+StaysLevelled n = StaysUnder n level_answers StaysLeaf
 
-abbrev pub StaysNested : Layered (FilteredLayer Levelled Mute) (Layered Kept RegistryState) → Type 0
-StaysNested = StayBoth (StaysUnder 0 (λ (f : Mute). mute_answers) mute_answers (StaysLevelled 1 INFO)) StaysPlain
+abbrev pub StaysPlain : Layered Kept RegistryState → Form → Type 0
+StaysPlain = StayBoth OnSubscriber StaysLeaf StaysBase
 
-abbrev pub StaysWarned : Warned → Type 0
-StaysWarned = StayBoth (StaysLevelled 0 WARN) StaysPlain
+abbrev pub StaysPair : Layered (Layered Levelled Levelled) RegistryState → Form → Type 0
+StaysPair = StayBoth OnSubscriber (StayBoth InPair (StaysLevelled 0) (StaysLevelled 1)) StaysBase
 
-abbrev pub StaysVeto : VetoStack → Type 0
-StaysVeto = StayBoth (λ f. level_answers f ≡ level_answers INFO) (StayBoth (λ (m : MuteVeto). mute_answers ≡ mute_answers) StaysWarned)
+abbrev pub StaysNested : Layered (FilteredLayer Levelled Mute) (Layered Kept RegistryState) → Form → Type 0
+StaysNested = StayBoth OnSubscriber (StaysUnder 0 (λ (f : Mute). mute_answers) (StaysLevelled 1)) StaysPlain
 
-abbrev pub StaysAbsent : AbsentStack → Type 0
-StaysAbsent = StayBoth (λ r. ⊤) (StayBoth (λ (o : Option Kept). o ≡ None) (λ s. ⊤))
+abbrev pub StaysWarned : Warned → Form → Type 0
+StaysWarned = StayBoth OnSubscriber (StaysLevelled 0) StaysPlain
 
-pub stays_plain : (x : Layered Kept RegistryState) → StaysPlain x
-stays_plain x = record { outer = tt; inner = tt }
+abbrev pub StaysVetoed : VetoStack → Form → Type 0
+StaysVetoed = StayBoth OnSubscriber (StaysVeto level_answers) (StayBoth OnSubscriber (StaysVeto (λ (m : MuteVeto). mute_answers)) StaysWarned)
 
-stays_levelled : (n : ℕ) (level : LevelFilter) (x : Levelled) → BeginsUnder n level x → StaysLevelled n level x
-stays_levelled n level x h = record { number = h.number; answered = ap level_answers h.level; inside = tt }
+abbrev pub StaysBeside : AbsentStack → Form → Type 0
+StaysBeside = StayBoth OnSubscriber StaysLeaf (StayBoth OnSubscriber StaysAbsent StaysBase)
 
-pub stays_pair : {limits : Limits} (x : Layered (Layered Levelled Levelled) RegistryState) → BeginsPair limits x → StaysPair x
-stays_pair x h = record { outer = record { outer = stays_levelled 0 INFO (outer_of (outer_of x)) h.b; inner = stays_levelled 1 TRACE (inner_of (outer_of x)) h.a }; inner = tt }
+pub stays_plain : (x : Layered Kept RegistryState) → StaysPlain x (form_of Plain)
+stays_plain x = record { over = leaf; below = Bare Base; outer = refl; inner = refl; form = refl }
 
-pub stays_nested : {limits : Limits} (x : Layered (FilteredLayer Levelled Mute) (Layered Kept RegistryState)) → BeginsNested limits x → StaysNested x
-stays_nested x h = record { outer = record { number = h.number; answered = refl; inside = stays_levelled 1 INFO (layer_of (outer_of x)) h.deep }; inner = stays_plain (inner_of x) }
+stays_levelled : (n : ℕ) (level : LevelFilter) (x : Levelled) → BeginsUnder n level x → StaysLevelled n x (Filtered (Some n) (level_answers level) leaf)
+stays_levelled n level x h = record { number = h.number; below = leaf; inside = refl; form = ap (λ k. Filtered (Some n) (level_answers k) leaf) (sym h.level) }
 
-pub stays_veto : {limits : Limits} (x : VetoStack) → BeginsVeto limits x → StaysVeto x
+pub stays_pair : {limits : Limits} (x : Layered (Layered Levelled Levelled) RegistryState) → BeginsPair limits x → StaysPair x (form_of Pair)
+stays_pair x h =
+    let b = stays_levelled 0 INFO (outer_of (outer_of x)) h.b in
+    let a = stays_levelled 1 TRACE (inner_of (outer_of x)) h.a in
+    record { over = _; below = Bare Base; outer = record { over = _; below = _; outer = b; inner = a; form = refl }; inner = refl; form = refl }
+
+pub stays_nested : {limits : Limits} (x : Layered (FilteredLayer Levelled Mute) (Layered Kept RegistryState)) → BeginsNested limits x → StaysNested x (form_of Nested)
+stays_nested x h =
+    let deep = stays_levelled 1 INFO (layer_of (outer_of x)) h.deep in
+    record { over = _; below = _; outer = record { number = h.number; below = _; inside = deep; form = refl }; inner = stays_plain (inner_of x); form = refl }
+
+pub stays_veto : {limits : Limits} (x : VetoStack) → BeginsVeto limits x → StaysVetoed x (form_of Veto)
 stays_veto x h =
     let warned = inner_of (inner_of x) in
+    let warn = stays_levelled 0 WARN (outer_of warned) h.below.warn in
     record {
-      outer = ap level_answers h.level;
-      inner = record { outer = refl; inner = record { outer = stays_levelled 0 WARN (outer_of warned) h.below.warn; inner = stays_plain (inner_of warned) } };
+      over = _;
+      below = _;
+      outer = ap (λ k. Leaf true (level_answers k)) (sym h.level);
+      inner = record { over = _; below = _; outer = refl; inner = record { over = _; below = _; outer = warn; inner = stays_plain (inner_of warned); form = refl }; form = refl };
+      form = refl;
     }
 
-pub stays_absent : {limits : Limits} (x : AbsentStack) → BeginsAbsent limits x → StaysAbsent x
-stays_absent x h = record { outer = tt; inner = record { outer = h.absent; inner = tt } }
+pub stays_absent : {limits : Limits} (x : AbsentStack) → BeginsAbsent limits x → StaysBeside x (form_of Absent)
+stays_absent x h = record { over = leaf; below = _; outer = refl; inner = record { over = _; below = Bare Base; outer = (h.absent, refl); inner = refl; form = refl }; form = refl }
 
 -- ---- they begin as they were made, once they are in use
 

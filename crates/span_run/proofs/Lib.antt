@@ -1,7 +1,5 @@
 mod Begins
 mod Gives
-mod Growing
 mod Honest
 mod Naming
 mod Steady
-mod Wrong

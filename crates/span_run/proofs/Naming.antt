@@ -11,7 +11,7 @@ use Rattle.std.proofs.lemmas.Bool.{true≢false}
 use Rattle.std.proofs.lemmas.Bool.Decides.{nat_tests}
 use Rattle.span_core.specs.Span.{number_of}
 use Rattle.span_run.specs.Program.{AreLabels, IsNamed, IsNamedAt}
-use Rattle.span_run.specs.declared.line.Line.{Line}
+use Rattle.span_script.specs.declared.line.Line.{Line}
 use Rattle.span_dispatch.specs.declared.request.Answer.{Answer}
 use Rattle.span_dispatch.specs.declared.request.Answer.TheVariants.{Made}
 

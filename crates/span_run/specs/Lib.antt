@@ -1,4 +1,3 @@
 pub mod Mute
 pub mod Program
-pub mod Script
 pub mod Stacks

@@ -23,7 +23,7 @@ is_muted values = list_any is_mute values
 
 -- all metadata; the events that aren't muted; it is interested in everything
 abbrev pub mute_answers : Answers
-mute_answers = record { enabled = λ m v. true; event = λ e v. not (is_muted (event_values e)); interest = λ m. Always; hint = None }
+mute_answers = record { enabled = λ m v. true; event = λ e v. not (is_muted (event_values e)); interest = λ m. Always; hint = None; takes = λ l. false }
 
 -- these are honest
 pub mute_honest : AreHonest mute_answers

@@ -16,16 +16,22 @@ use Rattle.span_dispatch.specs.declared.request.Answer.{Answer}
 use Rattle.span_dispatch.specs.declared.request.Answer.TheVariants.{Made, Dropped, Done, Yes, Current, Refused}
 use Rattle.span_dispatch.specs.declared.request.Request.{Request}
 use Rattle.span_registry.specs.declared.limits.Limits.{Limits}
-use Rattle.span_run.specs.declared.line.Line.{Line}
-use Rattle.span_run.specs.declared.line.Line.TheVariants.{Enabled}
+use Rattle.span_script.specs.declared.line.Line.{Line}
+use Rattle.span_script.specs.declared.line.Line.TheVariants.{Enabled}
 use Rattle.span_run.specs.declared.reply.Section.{Section}
 use Rattle.span_run.specs.declared.reply.Names.{Names}
-use Rattle.span_run.specs.Script.{declared_label, lines_of, recorders_of, requests_of, AskFor, IsScriptFault, IsSpelled}
+use Rattle.span_script.specs.Script.{declared_label, lines_of, recorders_of, requests_of, AskFor, IsSpelled}
+use Rattle.span_script.specs.Fault.{IsWrongLine as IsFirstWrongLine}
 use Rattle.span_run.specs.Stacks.{Serves}
 use Rattle.span_run.specs.declared.fault.RunFault.{RunFault}
-use Rattle.span_run.specs.declared.fault.RunFault.TheVariants.{Line as LineFault, Io}
-use Rattle.span_run.specs.declared.script.Script.{Script}
-use Rattle.span_run.specs.declared.stack_name.StackName.{StackName}
+use Rattle.span_run.specs.declared.fault.RunFault.TheVariants.{Line as LineFault, Io, Memory}
+use Rattle.span_script.specs.declared.fault.ReadFault.{ReadFault}
+use Rattle.span_script.specs.declared.fault.ReadFault.TheVariants as read
+use Rattle.span_script.specs.declared.fault.ScriptFault.{ScriptFault}
+use Rattle.span_script.specs.declared.fault.ScriptFault.TheVariants as script
+use Rattle.span_script.specs.declared.fault.WrongLine.{WrongLine}
+use Rattle.span_script.specs.declared.script.Script.{Script}
+use Rattle.span_script.specs.declared.stack_name.StackName.{StackName}
 
 -- a line declares this label, and the answer to its request made the span with this number
 abbrev pub IsNamed : Line → Option Answer → ℕ → List ℕ → Type 0
@@ -154,6 +160,22 @@ abbrev pub status_of : RunFault → ℕ
 status_of (LineFault n) = 2
 status_of fault = 1
 
+-- the fault of a run whose script can't be read
+abbrev pub read_fault : ReadFault → RunFault
+read_fault read.Io = Io
+read_fault read.Memory = Memory
+
+-- the fault of a run whose script is wrong
+abbrev pub script_fault : ScriptFault → RunFault
+script_fault (script.Wrong w) = LineFault w.line
+script_fault script.Memory = Memory
+
+-- a fault of a run that has this text: its first line that is wrong, or want of memory
+abbrev pub IsRunFault : List ℕ → RunFault → Type 0
+IsRunFault text (LineFault n) = (w : WrongLine) × ((w.line ≡ n) × IsFirstWrongLine text w)
+IsRunFault text Io = ⊥
+IsRunFault text Memory = ⊤
+
 -- the fault is a line that is wrong
 abbrev pub IsWrongLine : RunFault → Type 0
 IsWrongLine (LineFault n) = ⊤
@@ -167,7 +189,7 @@ Writes limits given contents old new = IfSome given (λ bytes. (output : List �
 
 -- a line that is said to be wrong is the first of the bytes that is
 abbrev pub BlamesFirstWrong : Option (List ℕ) → RunFault → Type 0
-BlamesFirstWrong given fault = IsWrongLine fault → IfSome given (λ bytes. IsScriptFault (utf8_lossy bytes) fault)
+BlamesFirstWrong given fault = IsWrongLine fault → IfSome given (λ bytes. IsRunFault (utf8_lossy bytes) fault)
 
 -- nothing is written, unless it is writing that failed: then the bytes are a script
 abbrev pub IsUnwritten : {W : Type 0} → Limits → Option (List ℕ) → W → W → RunFault → Type 0

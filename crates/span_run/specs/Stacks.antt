@@ -29,8 +29,8 @@ use Rattle.span_registry.specs.declared.limits.Limits.{Limits}
 use Rattle.span_run.specs.Mute.{mute_answers}
 use Rattle.span_run.specs.declared.mute.Mute.{Mute}
 use Rattle.span_run.specs.declared.mute_veto.MuteVeto.{MuteVeto}
-use Rattle.span_run.specs.declared.stack_name.StackName.{StackName}
-use Rattle.span_run.specs.declared.stack_name.StackName.TheVariants.{Absent as AbsentStack, Nested, Pair, Plain, Veto}
+use Rattle.span_script.specs.declared.stack_name.StackName.{StackName}
+use Rattle.span_script.specs.declared.stack_name.StackName.TheVariants.{Absent as AbsentStack, Nested, Pair, Plain, Veto}
 
 -- the form of a recorder
 abbrev pub leaf : Form
@@ -130,4 +130,4 @@ pub record ServesInUse {S : Type 0} (s : SubscriberOf S) (requests : List Reques
   pub in_use : s.registered x (stack_of begun)
   pub same : s.registry (stack_of begun) ≡ s.registry x
   pub kept : kept_by begun ≡ Some no_callsite
-  pub served : (f : Form) × IsReady s.registry s.with_registry s.has_form s.stepped f x → Served s.registry s.with_registry s.has_form s.stepped s.hears s.acts_at requests given.0.items begun given.1
+  pub served : (f : Form) × IsReady s.registry s.with_registry s.has_form s.stepped s.levelled f x → Served s.registry s.with_registry s.has_form s.stepped s.levelled s.hears s.acts_at requests given.0.items begun given.1

@@ -1,8 +1,9 @@
 //! Why a run ends early.
 ghost use Rattle.std.specs.Prelude.{◌≡◌};
-ghost use Rattle.span_run.specs.Program.{status_of};
+ghost use Rattle.span_run.specs.Program.{read_fault, script_fault, status_of};
 ghost use Rattle.span_run.specs.declared.fault.RunFault.TheVariants.{Memory};
 
+use span_script::{ReadFault, ScriptFault};
 use std::alloc::{AllocError, AllocFailed};
 use thiserror::Error;
 
@@ -28,6 +29,28 @@ impl RunFault {
         match self {
             RunFault::Line(_) => 2,
             RunFault::Io | RunFault::Memory => 1,
+        }
+    }
+}
+
+impl From<ReadFault> for RunFault {
+    ghost from_gives = { λ read fault. fault ≡ read_fault read };
+
+    fn from(fault: ReadFault) -> RunFault {
+        match fault {
+            ReadFault::Io => RunFault::Io,
+            ReadFault::Memory => RunFault::Memory,
+        }
+    }
+}
+
+impl From<ScriptFault> for RunFault {
+    ghost from_gives = { λ script fault. fault ≡ script_fault script };
+
+    fn from(fault: ScriptFault) -> RunFault {
+        match fault {
+            ScriptFault::Wrong(wrong) => RunFault::Line(wrong.line),
+            ScriptFault::Memory => RunFault::Memory,
         }
     }
 }

@@ -2,14 +2,10 @@
 #![tactic(auto)]
 
 mod fault;
-mod line;
 mod mute;
 mod mute_veto;
 mod reply;
 mod run;
-mod script;
-mod site;
-mod stack_name;
 mod stacks;
 #[cfg(test)]
 mod tests;

@@ -1,6 +1,6 @@
 //! A filter of events by their values.
 ghost use Rattle.std.specs.Prelude.{◌≡◌};
-ghost use Rattle.span_filters.specs.Filter.{ActsSteadily, settled_answers, settled_laws};
+ghost use Rattle.span_filters.specs.Filter.{ActsSteadily, settled_answers, settled_laws, steady_levels};
 ghost use Rattle.span_run.specs.Mute.{is_muted, is_true, mute_answers, mute_honest};
 
 use span_core::{Attributes, Event, FieldValue, Id, Interest, LevelFilter, Metadata, Record};
@@ -36,6 +36,8 @@ impl<S: LookupSpan> Filter<S> for Mute {
 
     ghost laws = { settled_laws (λ f. mute_answers) (λ f. mute_honest) };
 
+    ghost levels = { steady_levels };
+
     fn enabled(&self, _meta: &Metadata, _cx: &Context<'_, S>) -> bool {
         true
     }
@@ -61,4 +63,8 @@ impl<S: LookupSpan> Filter<S> for Mute {
     fn on_exit(&mut self, _id: Id, _ctx: &mut ContextMut<'_, S>) {}
 
     fn on_close(&mut self, _id: Id, _ctx: &mut ContextMut<'_, S>) {}
+
+    fn set_level(&mut self, _level: LevelFilter) -> bool {
+        false // It goes by the values.
+    }
 }

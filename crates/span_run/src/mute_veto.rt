@@ -3,7 +3,9 @@ ghost use Rattle.std.specs.Prelude.{◌≡◌};
 ghost use Rattle.span_filters.specs.Filter.{settled_answers};
 ghost use Rattle.span_layers.specs.Acts.{LeafActs};
 ghost use Rattle.span_layers.specs.ActsKept.{is_leaf, leaf_path_laws};
+ghost use Rattle.span_layers.specs.Levels.{leaf_levels};
 ghost use Rattle.span_layers.specs.Veto.{HearsUnmoved, LeafStays, VetoForm, veto_laws};
+ghost use Rattle.span_registry.specs.Levels.{unlevelled};
 ghost use Rattle.span_run.specs.Mute.{mute_answers};
 
 use crate::mute::is_muted;
@@ -24,6 +26,8 @@ impl<S: Subscriber> Layer<S> for MuteVeto {
 
     ghost acts_at = { LeafActs };
 
+    ghost levelled = { unlevelled };
+
     ghost registered = { λ x y. y ≡ x };
 
     ghost attached = { λ x y. y ≡ x };
@@ -31,6 +35,8 @@ impl<S: Subscriber> Layer<S> for MuteVeto {
     ghost laws = { veto_laws (settled_answers (λ v. mute_answers)) };
 
     ghost paths = { leaf_path_laws (λ x f h. is_leaf h.2) };
+
+    ghost levels = { leaf_levels (veto_laws (settled_answers (λ v. mute_answers))) };
 
     fn on_register_dispatch(&mut self) {
         // It has nothing to do.
@@ -83,4 +89,8 @@ impl<S: Subscriber> Layer<S> for MuteVeto {
     fn on_id_change(&mut self, _id: Id, _new: Id, _ctx: &mut ContextMut<'_, S>) {}
 
     fn on_close(&mut self, _id: Id, _ctx: &mut ContextMut<'_, S>) {}
+
+    fn set_level(&mut self, _number: u32, _level: LevelFilter) -> bool {
+        false // No filter is in it.
+    }
 }

@@ -1,22 +1,15 @@
 //! From a script to what it prints.
-ghost use Rattle.std.specs.Prelude.{◌≡◌, ◌≤◌, vec_len, string_bytes, IfOk, IfErr, IfSome, OnOk};
+ghost use Rattle.std.specs.Prelude.{◌≡◌, string_bytes, IfOk, IfErr, OnOk};
 ghost use Rattle.std.specs.Io.KnownBytes.{Appends};
-ghost use Rattle.span_run.specs.Program.{BlamesFirstWrong, IsUnwritten, IsWrongLine, Prints, RefusesLong, Writes};
-ghost use Rattle.span_run.specs.Script.{IsScriptFault};
+ghost use Rattle.span_run.specs.Program.{BlamesFirstWrong, IsRunFault, IsUnwritten, Prints, RefusesLong, Writes};
 ghost use Rattle.span_run.specs.Stacks.{ArePositive};
 
 use crate::fault::RunFault;
-use crate::script::Script;
 use crate::stacks::served_text;
 use span_registry::Limits;
+use span_script::{Script, read_script};
 use std::alloc::Global;
-use std::io::{ErrorKind, Read, Write};
-
-/// The most bytes that a script has.
-pub const SCRIPT_LIMIT: usize = 1_048_576;
-
-/// How many bytes are asked of the reader at once.
-const CHUNK: usize = 8192;
+use std::io::{Read, Write};
 
 /// Reads a script, serves it, and writes its replies and notices.
 ///
@@ -55,38 +48,11 @@ pub fn run_with<R: Read, W: Write>(
     write_output(writer, output.as_str())
 }
 
-/// All that the reader gives, which is at most `SCRIPT_LIMIT` bytes.
-fn read_script<R: Read>(alloc: Global, reader: &mut R) -> Result<Vec<u8>, RunFault>
-    ensures all { IfOk result (λ b. IfSome (R.remaining reader.old) (λ given. b.items ≡ given)) }
-    ensures limit { IfOk result (λ bytes. vec_len bytes ≤ SCRIPT_LIMIT) }
-    ensures fault { IfErr result (λ fault. ¬ (IsWrongLine fault)) }
-{
-    let mut bytes = Vec::new(alloc);
-    let mut chunk = [0u8; CHUNK];
-    for _ in 0..u64::MAX {
-        match reader.read(&mut chunk) {
-            Ok(0) => return Ok(bytes),
-            Ok(count) => {
-                if count > SCRIPT_LIMIT - bytes.len() {
-                    return Err(RunFault::Io);
-                }
-                bytes.extend_from_slice(&chunk[..count])?;
-            }
-            Err(error) => {
-                if error.kind() != ErrorKind::Interrupted {
-                    return Err(RunFault::Io);
-                }
-            }
-        }
-    }
-    Err(RunFault::Io)
-}
-
 /// What a script prints.
 fn output_of(alloc: Global, limits: Limits, text: &str) -> Result<String, RunFault>
     requires { ArePositive limits }
     ensures printed { IfOk result (λ output. Prints limits text.now (string_bytes output)) }
-    ensures fault { IfErr result (IsScriptFault text.now) }
+    ensures fault { IfErr result (IsRunFault text.now) }
 {
     let script = Script::parse(alloc, text)?;
     served_text(alloc, limits, &script)

@@ -1,7 +1,7 @@
 //! The stacks that scripts are served by.
 ghost use Rattle.std.specs.Prelude.{◌≡◌, ◌∷◌, [], codes, string_bytes, IfErr, IfOk, false};
 ghost use Rattle.span_run.specs.Program.{Gives, IsPrinted};
-ghost use Rattle.span_run.specs.Script.{lines_of, stack_of};
+ghost use Rattle.span_script.specs.Script.{lines_of, stack_of};
 ghost use Rattle.span_run.specs.Stacks.{ArePositive, BeginsAbsent, BeginsNested, BeginsPair, BeginsPlain, BeginsVeto, BeginsWarned, HasRoom, ServesInUse};
 ghost use Rattle.span_layers.specs.Attach.{Attaches};
 
@@ -9,12 +9,11 @@ use crate::fault::RunFault;
 use crate::mute::Mute;
 use crate::mute_veto::MuteVeto;
 use crate::reply::{Section, text_of};
-use crate::script::Script;
-use crate::stack_name::StackName;
 use span_core::LevelFilter;
 use span_dispatch::{Answer, Dispatch, Recorder, Request};
 use span_layers::{Filtered, Layer, LayerExt, Layered, SubscriberExt};
 use span_registry::{Limits, Registry, Subscriber};
+use span_script::{Script, StackName};
 use std::alloc::Global;
 
 /// A recorder under a level.

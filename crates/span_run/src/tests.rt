@@ -1,12 +1,11 @@
-//! Tests of scripts: what they print, and which lines are wrong.
+//! Tests of scripts: what they print.
 use crate::fault::RunFault;
 use crate::reply::{Section, text_of};
 use crate::run::{run, run_with};
-use crate::script::Script;
-use crate::stack_name::StackName;
-use span_core::{FieldValue, Id, Lane, TraceError};
-use span_dispatch::{Answer, Notice, Request, Which};
+use span_core::{Id, Lane, TraceError};
+use span_dispatch::{Answer, Notice};
 use span_registry::Limits;
+use span_script::Script;
 use std::alloc::{AllocError, Global};
 use std::io;
 use std::io::{ErrorKind, Read, Write};
@@ -23,7 +22,7 @@ fn lines(alloc: Global, row: &str) -> Result<String, AllocError> {
 }
 
 /// Scripts and what they print.
-const ROWS: [(&str, &str); 19] = [
+const ROWS: [(&str, &str); 23] = [
     ("stack plain", "== base"),
     (
         "stack plain / new 0 2 p / new 0 3 c in p / drop 0 p / drop 0 c",
@@ -94,6 +93,22 @@ const ROWS: [(&str, &str); 19] = [
         "none / none / q / none / none / ok / none / ok / == base / new q / event 6 / close q / == warn / new q / event 6 / close q",
     ),
     ("stack absent / event 0 9", "ok / == base / event 9"),
+    (
+        "stack pair / event 0 8 / level 0 debug / event 0 8 / level 1 off / event 0 7 / level 2 info",
+        "ok / ok / ok / ok / ok / refused 10 / == a / event 8 / event 8 / == b / event 8 / event 7",
+    ),
+    (
+        "stack pair / new 0 3 p / level 0 debug / enter 0 p / new 0 3 q / drop 0 p / drop 0 q",
+        "p / ok / ok / q / ok / ok / == a / new p / enter p / new q / close q / close p / == b / new q / close q",
+    ),
+    (
+        "stack nested / level 0 info / event 0 8 / level 1 trace / event 0 8",
+        "refused 10 / ok / ok / ok / == base / event 8 / event 8 / == deep / event 8",
+    ),
+    (
+        "stack veto / event 0 7 / level 0 info / event 0 7 / level 1 off / event 0 6",
+        "ok / ok / ok / refused 10 / ok / == base / event 7 / event 7 / event 6 / == warn / event 7 / event 6",
+    ),
 ];
 
 /// What becomes of a script.
@@ -147,133 +162,6 @@ fn a_place_retires(rt: HostRuntime) -> Result<(), Fail> {
     let wanted = "a / ok / b / ok / refused 8 / == base / new a / close a / new b / close b";
     let output = printed_with_one_place(rt.alloc(), script)?;
     assert_eq!(rt; output.as_slice(), lines(rt.alloc(), wanted)?.as_bytes());
-    Ok(())
-}
-
-/// Scripts that are no scripts, and the first of their lines that is wrong.
-const WRONG: [(&[u8], u64); 70] = [
-    // What stands first.
-    (b"", 1),
-    (b"\n\n\n", 1),
-    (b"new 0 2 p", 1),
-    (b"\n\nstack pairs", 3),
-    (b"stack Pair", 1),
-    (b"stack none", 1),
-    (b"stack", 1),
-    (b"stack plain base", 1),
-    (b"stack plain\nstack plain", 2),
-    (b"stack nested\ncurrent 0\nstack pair", 3),
-    // What parts lines and words.
-    (b" stack plain", 1),
-    (b"stack  plain", 1),
-    (b"stack plain ", 1),
-    (b"stack plain\r\n", 1),
-    (b"stack plain\n\n \n", 3),
-    (b"stack plain\n\r\n", 2),
-    (b"stack plain\nnew\t0 2 p", 2),
-    (b"stack plain\ncurrent 0\0", 2),
-    // What isn't text.
-    (b"stack plain\n\xff\nsummary", 2),
-    (b"stack plain\n\nsummary\n\xff", 3),
-    (b"stack plain\ncurrent 0\ncurrent \xc3", 3),
-    (b"stack plain\ncurrent \xe2\x82\ncurrent 0", 2),
-    (b"stack plain\nnew 0 2 p\nenter 0 \xc3\xa9", 3),
-    // The word for what is asked.
-    (b"stack plain\nnews 0 2 p", 2),
-    (b"stack plain\nNew 0 2 p", 2),
-    (b"stack plain\nevents 0 7", 2),
-    (b"stack plain\nid 0", 2),
-    // Lanes and sites.
-    (b"stack plain\ncurrent", 2),
-    (b"stack plain\ncurrent 10", 2),
-    (b"stack plain\ncurrent x", 2),
-    (b"stack plain\ncurrent +", 2),
-    (b"stack plain\ncurrent ", 2),
-    (b"stack plain\nnew 0 5 p", 2),
-    (b"stack plain\nnew 0 02 p", 2),
-    (b"stack plain\nevent 0", 2),
-    (b"stack plain\nevent 0 4", 2),
-    (b"stack plain\nevent 0 10", 2),
-    (b"stack plain\nenabled 0", 2),
-    (b"stack plain\nenabled 0 10", 2),
-    (b"stack plain\nenabled 0 x", 2),
-    // Labels.
-    (b"stack plain\nnew 0 2", 2),
-    (b"stack plain\nnew 0 2 ", 2),
-    (b"stack plain\nnew 0 2 ?", 2),
-    (b"stack plain\nnew 0 2 1p", 2),
-    (b"stack plain\nnew 0 2 pQ", 2),
-    (b"stack plain\nnew 0 2 a1b2c3d4e5f6g7h8i", 2),
-    (b"stack plain\nnew 0 2 mute", 2),
-    (b"stack plain\nnew 0 2 p\n\nnew 0 2 p", 4),
-    (b"stack plain\ncurrent 0\nenter 0 p\nnew 0 2 p", 3),
-    (b"stack plain\nnew 0 2 p in p", 2),
-    (b"stack plain\nclone p", 2),
-    (b"stack plain\nnew 0 2 p\nfollows 0 p q", 3),
-    (b"stack plain\nnew 0 2 p\nfollows 0 q p", 3),
-    (b"stack plain\nevent 0 7 in p", 2),
-    // What stands last.
-    (b"stack plain\nnew 0 2 p of ?", 2),
-    (b"stack plain\nnew 0 2 p in", 2),
-    (b"stack plain\nnew 0 2 p in root", 2),
-    (b"stack plain\nnew 0 2 p root root", 2),
-    (b"stack plain\nnew 0 2 p\ndrop 0 p p", 3),
-    (b"stack plain\nnew 0 2 p mute", 2),
-    (b"stack plain\nnew 0 2 p\nclone 0 p", 3),
-    (b"stack plain\nclone", 2),
-    (b"stack plain\nfollows 0 ?", 2),
-    (b"stack plain\nfollows 0 ? ? ?", 2),
-    (b"stack plain\nenabled 0 2 root", 2),
-    (b"stack plain\nevent 0 7 in", 2),
-    (b"stack plain\nevent 0 7 in mute", 2),
-    (b"stack plain\nevent 0 7 mute mute", 2),
-    (b"stack plain\nevent 0 7 mute root", 2),
-    (b"stack plain\nevent 0 7 in ? root", 2),
-];
-
-#[test]
-fn wrong_lines(rt: HostRuntime) {
-    for (script, line) in WRONG {
-        let mut input = script;
-        let mut output = Vec::new(rt.alloc());
-        let ended = ends(rt.alloc(), &mut input, &mut output);
-        assert_eq!(rt; ended, Err(RunFault::Line(line)), "{script:?}");
-        assert!(rt; output.is_empty());
-    }
-}
-
-/// Every line of scripts, in every form.
-const EVERY_LINE: &str =
-    "stack nested / new 0 0 a / new 1 4 b root / new 2 1 c in a / new 9 3 d in ? / enter 0 a / exit 0 ? / record 3 b / follows 4 a ? / clone b / drop 5 b / event 0 5 / event 0 6 mute / event 0 7 root / event 0 8 root mute / event 0 9 in c / event 0 5 in ? mute / enabled 0 0 / enabled 0 9 / current 0";
-
-/// How many events of these are muted. Their one clone is of the second span.
-fn muted_events(rt: &impl Abort, requests: &[Request<'_>]) -> usize {
-    let mut muted = 0usize;
-    for request in requests {
-        match request {
-            Request::Clone(lane, which) => {
-                assert_eq!(rt; *lane, Lane(0));
-                assert_eq!(rt; *which, Which::Made(1));
-            }
-            Request::Event(_, _, _, [(name, value)]) => {
-                assert_eq!(rt; *name, "mute");
-                assert_eq!(rt; *value, FieldValue::Bool(true));
-                muted = muted.saturating_add(1);
-            }
-            _ => {}
-        }
-    }
-    muted
-}
-
-#[test]
-fn every_line(rt: HostRuntime) -> Result<(), Fail> {
-    let text = lines(rt.alloc(), EVERY_LINE)?;
-    let script = Script::parse(rt.alloc(), text.as_str())?;
-    assert_eq!(rt; script.stack(), StackName::Nested);
-    assert_eq!(rt; script.lines().len(), 19);
-    assert_eq!(rt; script.requests().len(), 19);
-    assert_eq!(rt; muted_events(&rt, script.requests()), 3);
     Ok(())
 }
 

@@ -1,6 +1,6 @@
 use Rattle.std.proofs.Common.{Result, Ok, Err, IfOk, string_bytes}
 use Rattle.span_run.specs.Program.{Prints, Gives}
-use Rattle.span_run.specs.Script.{lines_of, requests_of, stack_of}
+use Rattle.span_script.specs.Script.{lines_of, requests_of, stack_of}
 use Rattle.span_run.proofs.run.output_of.Goals as goal
 
 -- what follows of each value

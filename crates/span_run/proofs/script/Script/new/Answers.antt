@@ -1,5 +1,0 @@
-use Rattle.span_run.proofs.Growing.{IsScript-empty}
-use Rattle.span_run.proofs.script.Script.new.Goals as goal
-
-pub returns-clause-script : goal.returns-clause-script
-returns-clause-script c = IsScript-empty _ c.new.ensures.items c.new-2.ensures.items c.new-3.ensures.empty

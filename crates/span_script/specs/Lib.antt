@@ -1,0 +1,4 @@
+pub mod Fault
+pub mod Form
+pub mod Reason
+pub mod Script
