@@ -26,7 +26,7 @@ pub fn plain(alloc: Global) -> Result<Plain, Fault>
     }
 }
 
-/// A stack with so many filters, up to 64. Each passes what the workloads make.
+/// A stack with so many filters, up to 128. Each passes what the workloads make.
 pub fn under(alloc: Global, filters: u32) -> Result<Under, Fault>
     ensures { IfOk result (λ stack. vec_len (outer_of stack) ≡ filters) }
 {

@@ -32,10 +32,10 @@ fn each_workload_does_all_rounds(rt: HostRuntime) {
 }
 
 #[test]
-fn there_is_no_65th_filter(rt: HostRuntime) {
+fn there_is_no_129th_filter(rt: HostRuntime) {
     let order = Order {
         workload: Workload::Event,
-        filters: 65,
+        filters: 129,
         rounds: 1,
     };
     let refused = Err(Fault::Refused(TraceError::TooManyFilters));
