@@ -6,6 +6,8 @@ pub mod CallerLemmas
 mod Dropped
 pub mod Fixed
 mod Goes
+mod Journalled
+mod Legal
 mod Once
 pub mod Seen
 mod Served

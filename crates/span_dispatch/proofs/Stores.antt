@@ -1,5 +1,5 @@
 -- What each call does to the store, whatever the stack answers.
-use Rattle.std.proofs.Common.{◌≡◌, ℕ, Bool, true, false, ◌&&◌, List, [], None, Result, Ok, Err, IfOk, OnOk, refl, sym, ap, subst, ◌∙◌}
+use Rattle.std.proofs.Common.{◌≡◌, ℕ, Bool, true, false, ◌&&◌, List, [], Option, Some, None, MatchOption, Result, Ok, Err, IfOk, OnOk, refl, sym, ap, subst, ◌∙◌}
 use Rattle.std.proofs.lemmas.Bool.{true≢false}
 use Rattle.span_core.specs.Span.{number_of}
 use Rattle.span_core.specs.declared.error.TraceError.{TraceError}
@@ -24,7 +24,8 @@ use Rattle.span_core.specs.declared.event.Event.{Event}
 use Rattle.span_core.specs.declared.metadata.Metadata.{Metadata}
 use Rattle.span_core.specs.declared.pass.Pass.{Pass}
 use Rattle.span_registry.specs.Laws.{ClosesAll}
-use Rattle.span_registry.specs.Step.{Clones, Exits, Releases, Removal}
+use Rattle.span_registry.specs.Step.{Clones, Exits, Opens, Releases, Removal}
+use Rattle.span_registry.specs.Step as step
 use Rattle.span_registry.specs.Store.{IsForest, IsOpen, RegistryState}
 use Rattle.span_registry.specs.Subscriber.{AndHooks, SameButExtensions}
 use Rattle.span_registry.specs.declared.registry.Released.TheVariants.{Closing, StillOpen}
@@ -98,6 +99,20 @@ module _ {S : Type 0} (registry : S → RegistryState) where
   -- a span is opened with the pass's refusals for its verdict
   pub opened_store : {has_form : S → Form → Type 0} {stepped : StackSteps S} (lane : Lane) (attrs : Attributes) (pass : Pass) (x y : S) (id : Id) → OpensAndNotifies registry has_form stepped lane attrs pass x y id → AndHooks registry (OpensFor lane attrs id) x y
   opened_store lane attrs pass x y id n = record { stepped = n.left; taken = (refused_of pass, n.taken); hooks = n.extensions }
+
+  -- the same, with the verdict named
+  pub opened_by : {has_form : S → Form → Type 0} {stepped : StackSteps S} (lane : Lane) (attrs : Attributes) (pass : Pass) (x y : S) (id : Id) → OpensAndNotifies registry has_form stepped lane attrs pass x y id → AndHooks registry (Opens lane (step.asked attrs pass) id) x y
+  opened_by lane attrs pass x y id n = record { stepped = n.left; taken = n.taken; hooks = n.extensions }
+
+  pub opened_for : (lane : Lane) (attrs : Attributes) (pass : Pass) (x y : S) (id : Id) → AndHooks registry (Opens lane (step.asked attrs pass) id) x y → AndHooks registry (OpensFor lane attrs id) x y
+  opened_for lane attrs pass x y id h = record { stepped = h.stepped; taken = (refused_of pass, h.taken); hooks = h.hooks }
+
+  pub opened_by_pass : (lane : Lane) (attrs : Attributes) (pass : Pass) (old new : Dispatch S) (r : Result (Option Id) TraceError)
+      → IfOk r (λ made. MatchOption made (stack_of new ≡ stack_of old) (λ id. AndHooks registry (Opens lane (step.asked attrs pass) id) (stack_of old) (stack_of new)))
+      → IfOk r (λ made. MatchOption made (stack_of new ≡ stack_of old) (λ id. AndHooks registry (OpensFor lane attrs id) (stack_of old) (stack_of new)))
+  opened_by_pass lane attrs pass old new (Ok None) h = h
+  opened_by_pass lane attrs pass old new (Ok (Some id)) h = record { stepped = h.stepped; taken = (refused_of pass, h.taken); hooks = h.hooks }
+  opened_by_pass lane attrs pass old new (Err e) h = tt
 
   pub no_step : (x : S) → AndHooks registry Stays x x
   no_step x = record { stepped = registry x; taken = refl; hooks = same_itself (registry x) }

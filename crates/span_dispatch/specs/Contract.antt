@@ -32,7 +32,8 @@ use Rattle.span_registry.specs.Follows.{Keeps}
 use Rattle.span_registry.specs.Levels.{FollowsLevel, KeepsRules, LevelSteps, LevelsForm, takes_level}
 use Rattle.span_registry.specs.Place.{HearSteps}
 use Rattle.span_registry.specs.Question.{ShowsBy, asked, event_asked}
-use Rattle.span_registry.specs.Step.{Exits, RefusesNew, Releases, Removal}
+use Rattle.span_registry.specs.Step as step
+use Rattle.span_registry.specs.Step.{Exits, Opens, RefusesNew, Releases, Removal}
 use Rattle.span_registry.specs.Store.{IsOpen, RegistryState}
 use Rattle.span_registry.specs.Subscriber.{AndHooks, SameButExtensions}
 use Rattle.span_registry.specs.declared.registry.Released.TheVariants.{Closing, StillOpen}
@@ -225,6 +226,10 @@ module _ {S : Type 0} (s : SubscriberOf S) where
   -- a new span is opened where there is one; else the stack stays as it is
   abbrev pub OpensIfMade : Lane → Attributes → Dispatch S → Dispatch S → Option Id → Type 0
   OpensIfMade lane attrs old new made = MatchOption made (stack_of new ≡ stack_of old) (λ id. TakesStep (OpensFor lane attrs id) old new)
+
+  -- the same, with this pass's refusing filters for its verdict
+  abbrev pub OpensByPass : Lane → Attributes → Pass → Dispatch S → Dispatch S → Option Id → Type 0
+  OpensByPass lane attrs pass old new made = MatchOption made (stack_of new ≡ stack_of old) (λ id. TakesStep (Opens lane (step.asked attrs pass) id) old new)
 
   -- why a new span is refused: its interest isn't to be had, or the registry has no room or no such parent
   abbrev pub RefusesSpan : Lane → Attributes → Dispatch S → TraceError → Type 0

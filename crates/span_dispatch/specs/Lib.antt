@@ -5,6 +5,7 @@ pub mod Call
 pub mod Contract
 pub mod Fixed
 pub mod Isolation
+pub mod Journal
 pub mod Outcome
 pub mod Recorder
 mod RecorderLaws

@@ -7,7 +7,7 @@ ghost use Rattle.span_core.specs.Span.{metadata_of, number_of};
 ghost use Rattle.span_dispatch.specs.Admission.{MayLearn};
 ghost use Rattle.span_dispatch.specs.Cache.{RefusesInterest, no_callsite};
 ghost use Rattle.span_dispatch.specs.Call.{FindsOpen, RefusesUnlessOpen};
-ghost use Rattle.span_dispatch.specs.Contract.{Admits, AsksStack, BecomesReady, ChangesLevel, DropsSettled, LeavesGone, OpensIfMade, RefusesEvent, RefusesSpan, SeesWhatIsMade, ServesClone, ServesCurrent, ServesDrop, ServesEnabled, ServesEnter, ServesEvent, ServesExit, ServesFollows, ServesLevel, ServesNewSpan, ServesRecord, ShowsHint, StaysReady, StaysReadyBut, StaysSettled, StaysUpToDate, TakesHandle, TakesLevel, TakesStep, TakesStepAlone, WantsEvent, WantsMetadata, WantsSpan};
+ghost use Rattle.span_dispatch.specs.Contract.{Admits, AsksStack, BecomesReady, ChangesLevel, DropsSettled, LeavesGone, OpensByPass, OpensIfMade, RefusesEvent, RefusesSpan, SeesWhatIsMade, ServesClone, ServesCurrent, ServesDrop, ServesEnabled, ServesEnter, ServesEvent, ServesExit, ServesFollows, ServesLevel, ServesNewSpan, ServesRecord, ShowsHint, StaysReady, StaysReadyBut, StaysSettled, StaysUpToDate, TakesHandle, TakesLevel, TakesStep, TakesStepAlone, WantsEvent, WantsMetadata, WantsSpan};
 ghost use Rattle.span_dispatch.specs.contracts.dispatch.Dispatch.{the_row};
 ghost use Rattle.span_dispatch.specs.Serve.{ClosesEach, KeepsUpToDate, forgetful, kept_by, stack_of, with_stack};
 ghost use Rattle.span_registry.specs.Step.{Clones, Enters, Exits, RefusesClone, RefusesEnter, RefusesRelease, ShowsCurrent};
@@ -161,10 +161,34 @@ impl<S: Subscriber> Dispatch<S> {
         ensures unchanged { OnErr result (stack_of self.new ≡ stack_of self.old) }
     {
         let mut pass = Pass::new();
-        match self.admits(lane, &attrs.metadata(), &mut pass) {
+        self.open(lane, attrs, &mut pass)
+    }
+
+    /// The same with a new pass of the caller's, whose refusing filters are then the verdict of the span.
+    #[inline(always)]
+    pub(crate) fn open(
+        &mut self,
+        lane: Lane,
+        attrs: &Attributes<'_>,
+        pass: &mut Pass,
+    ) -> Result<Option<Id>, TraceError>
+        requires usable { S.usable (stack_of self.old) }
+        requires fresh { IsEmpty (refusals pass.old) }
+        ensures usable { S.usable (stack_of self.new) }
+        ensures kept { MayLearn (kept_by self.old) (metadata_of attrs.now) (kept_by self.new) }
+        ensures up_to_date { StaysUpToDate S.Subscriber self.old self.new }
+        ensures ready { StaysReady S.Subscriber self.old self.new }
+        ensures served { ServesNewSpan S.Subscriber lane attrs.now result self.old self.new }
+        ensures seen { SeesWhatIsMade S.Subscriber self.old self.new }
+        ensures asked { WantsSpan S.Subscriber lane attrs.now self.old result }
+        ensures store { IfOk result (OpensByPass S.Subscriber lane attrs.now pass.new self.old self.new) }
+        ensures refused { IfErr result (RefusesSpan S.Subscriber lane attrs.now self.old) }
+        ensures unchanged { OnErr result (stack_of self.new ≡ stack_of self.old) }
+    {
+        match self.admits(lane, &attrs.metadata(), pass) {
             Err(error) => Err(error),
             Ok(false) => Ok(None),
-            Ok(true) => match self.stack.new_span(lane, attrs, &pass) {
+            Ok(true) => match self.stack.new_span(lane, attrs, pass) {
                 Ok(id) => Ok(Some(id)),
                 Err(error) => Err(error),
             },

@@ -1,7 +1,10 @@
 //! Laws, for proofs above: no call does anything.
 ghost use Rattle.span_dispatch.specs.Alone.{Alone};
 ghost use Rattle.span_dispatch.specs.Isolation.{PathsActAlike, SeeTheSame, SeesMade, SeesServed};
+ghost use Rattle.span_dispatch.specs.Journal.{Entry, Leaves, bare};
 ghost use Rattle.span_registry.specs.Conducts.{ArePlainConducts, Conducts};
+ghost use Rattle.span_registry.specs.Store.{Store};
+ghost use Rattle.std.specs.Prelude.{◌≡◌, List};
 
 use span_registry::Subscriber;
 
@@ -22,3 +25,10 @@ pub fn other_layers_make_no_difference<S: Subscriber, T: Subscriber>()
         (SeesServed S.registry S.with_registry S.has_form S.stepped S.levelled S.hears S.acts_at)
         (SeesServed T.registry T.with_registry T.has_form T.stepped T.levelled T.hears T.acts_at) }
 {}
+
+/// One journal leaves one store, extensions aside.
+pub fn one_journal_leaves_one_store()
+    ensures { (journal : List Entry) (s t : Store) → Leaves journal s → Leaves journal t → bare s ≡ bare t }
+{
+    span_registry::laws::closes_once();
+}

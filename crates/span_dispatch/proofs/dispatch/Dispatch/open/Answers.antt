@@ -1,0 +1,77 @@
+use Rattle.span_dispatch.proofs.Alone.{sees_what_is_made}
+use Rattle.std.proofs.Common.{Ok, inr, subst, ◌∙◌}
+use Rattle.span_core.specs.Span.{asked_parent, metadata_of}
+use Rattle.span_dispatch.proofs.Calls.{span_made, span_refused}
+use Rattle.span_dispatch.proofs.Goes.{ready_again, stays_so}
+use Rattle.span_dispatch.proofs.Stores.{Wanted, metadata_wanted, opened_by, unrefused}
+use Rattle.span_dispatch.specs.Admission.{IsAdmitted}
+use Rattle.span_dispatch.specs.Serve.{kept_by, stack_of, with_stack}
+use Rattle.span_registry.specs.Hooks.{OpensAndNotifies}
+use Rattle.span_registry.specs.Step.{RefusesNew}
+use Rattle.span_dispatch.proofs.dispatch.Dispatch.open.Goals as goal
+
+pub returns-in-Err-clause-ready : goal.returns-in-Err-clause-ready
+returns-in-Err-clause-ready g c = λ f k. stays_so g.S.LookupSpan.registry g.S.LookupSpan.with_registry g.S.Subscriber.has_form g.S.Subscriber.stepped g.S.Subscriber.levelled f c.args.self.now c.admits.new.self c.admits.ensures.stack (c.admits.ensures.kept f k.stack.honest.has k.kept) k
+
+pub returns-in-Ok-false-clause-ready : goal.returns-in-Ok-false-clause-ready
+returns-in-Ok-false-clause-ready g c = λ f k. stays_so g.S.LookupSpan.registry g.S.LookupSpan.with_registry g.S.Subscriber.has_form g.S.Subscriber.stepped g.S.Subscriber.levelled f c.args.self.now c.admits.new.self c.admits.ensures.stack (c.admits.ensures.kept f k.stack.honest.has k.kept) k
+
+pub returns-in-Ok-false-clause-asked : goal.returns-in-Ok-false-clause-asked
+returns-in-Ok-false-clause-asked g c =
+    subst (λ b. Wanted g.S.LookupSpan.registry g.S.Subscriber.has_form c.args.lane (stack_of c.args.self.now) (kept_by c.args.self.now) (metadata_of c.args.attrs.now) b) c.in-Ok-false.field-0-test
+    (metadata_wanted g.S.LookupSpan.registry g.S.Subscriber.has_form c.args.lane (stack_of c.args.self.now) (kept_by c.args.self.now) c.metadata.result (metadata_of c.args.attrs.now) c.args.pass.now c.admits.new.pass c.in-Ok-false.field-0 c.metadata.ensures c.requires.fresh c.in-Ok-false.ensures.afresh)
+
+pub returns-in-Ok-clause-ready : goal.returns-in-Ok-clause-ready
+returns-in-Ok-clause-ready g c = λ f k.
+    ready_again g.S.LookupSpan.registry g.S.LookupSpan.with_registry g.S.Subscriber.has_form g.S.Subscriber.stepped g.S.Subscriber.levelled f c.args.self.now (with_stack c.admits.new.self c.new_span.new.self)
+    ((span_made g.met.S.Subscriber.laws g.met.S.LookupSpan.with_own g.S.Subscriber.levelled (kept_by c.args.self.now) c.args.lane c.args.attrs.now c.metadata.result c.admits.new.pass c.in-Ok.id (kept_by c.admits.new.self) f (stack_of c.args.self.now) c.new_span.new.self c.metadata.ensures
+    (subst (λ b. IsAdmitted (kept_by c.args.self.now) f (g.S.LookupSpan.registry (stack_of c.args.self.now)) c.args.lane c.metadata.result c.admits.new.pass (kept_by c.admits.new.self) (Ok b)) c.in-Ok-true.field-0-test (c.in-Ok-true.ensures.admitted f k.stack.honest k.kept))
+    (subst (λ x. OpensAndNotifies g.S.LookupSpan.registry g.S.Subscriber.has_form g.S.Subscriber.stepped c.args.lane c.args.attrs.now c.admits.new.pass x c.new_span.new.self c.in-Ok.id) c.admits.ensures.stack c.in-Ok.ensures.opened) k.stack.honest).1 k.stack.settled) (c.admits.ensures.kept f k.stack.honest.has k.kept)
+
+pub returns-in-Ok-clause-served : goal.returns-in-Ok-clause-served
+returns-in-Ok-clause-served g c = λ f h u.
+    (span_made g.met.S.Subscriber.laws g.met.S.LookupSpan.with_own g.S.Subscriber.levelled (kept_by c.args.self.now) c.args.lane c.args.attrs.now c.metadata.result c.admits.new.pass c.in-Ok.id (kept_by c.admits.new.self) f (stack_of c.args.self.now) c.new_span.new.self c.metadata.ensures
+    (subst (λ b. IsAdmitted (kept_by c.args.self.now) f (g.S.LookupSpan.registry (stack_of c.args.self.now)) c.args.lane c.metadata.result c.admits.new.pass (kept_by c.admits.new.self) (Ok b)) c.in-Ok-true.field-0-test (c.in-Ok-true.ensures.admitted f h u))
+    (subst (λ x. OpensAndNotifies g.S.LookupSpan.registry g.S.Subscriber.has_form g.S.Subscriber.stepped c.args.lane c.args.attrs.now c.admits.new.pass x c.new_span.new.self c.in-Ok.id) c.admits.ensures.stack c.in-Ok.ensures.opened) h).0
+
+pub returns-in-Ok-clause-store : goal.returns-in-Ok-clause-store
+returns-in-Ok-clause-store g c = opened_by g.S.LookupSpan.registry c.args.lane c.args.attrs.now c.admits.new.pass (stack_of c.args.self.now) c.new_span.new.self c.in-Ok.id
+    (subst (λ x. OpensAndNotifies g.S.LookupSpan.registry g.S.Subscriber.has_form g.S.Subscriber.stepped c.args.lane c.args.attrs.now c.admits.new.pass x c.new_span.new.self c.in-Ok.id) c.admits.ensures.stack c.in-Ok.ensures.opened)
+
+pub returns-in-Err-new_span-clause-ready : goal.returns-in-Err-new_span-clause-ready
+returns-in-Err-new_span-clause-ready g c = λ f k.
+    stays_so g.S.LookupSpan.registry g.S.LookupSpan.with_registry g.S.Subscriber.has_form g.S.Subscriber.stepped g.S.Subscriber.levelled f c.args.self.now (with_stack c.admits.new.self c.new_span.new.self) (c.in-Err-new_span.ensures.unchanged ∙ c.admits.ensures.stack) (c.admits.ensures.kept f k.stack.honest.has k.kept) k
+
+pub returns-in-Err-new_span-clause-served : goal.returns-in-Err-new_span-clause-served
+returns-in-Err-new_span-clause-served g c = λ f h u.
+    (span_refused g.met.S.Subscriber.laws g.met.S.LookupSpan.with_own g.S.Subscriber.levelled (kept_by c.args.self.now) c.args.lane c.args.attrs.now c.metadata.result c.admits.new.pass c.in-Err-new_span.error (kept_by c.admits.new.self) f (stack_of c.args.self.now) c.new_span.new.self c.metadata.ensures
+    (subst (λ b. IsAdmitted (kept_by c.args.self.now) f (g.S.LookupSpan.registry (stack_of c.args.self.now)) c.args.lane c.metadata.result c.admits.new.pass (kept_by c.admits.new.self) (Ok b)) c.in-Ok-true.field-0-test (c.in-Ok-true.ensures.admitted f h u))
+    (subst (λ x. RefusesNew (g.S.LookupSpan.registry x) c.args.lane (asked_parent c.args.attrs.now) c.in-Err-new_span.error) c.admits.ensures.stack c.in-Err-new_span.ensures.refused) (c.in-Err-new_span.ensures.unchanged ∙ c.admits.ensures.stack) h).0
+
+pub returns-in-Err-new_span-clause-refused : goal.returns-in-Err-new_span-clause-refused
+returns-in-Err-new_span-clause-refused g c = inr (subst (λ x. RefusesNew (g.S.LookupSpan.registry x) c.args.lane (asked_parent c.args.attrs.now) c.in-Err-new_span.error) c.admits.ensures.stack c.in-Err-new_span.ensures.refused)
+
+pub returns-in-Err-clause-asked : goal.returns-in-Err-clause-asked
+returns-in-Err-clause-asked g c = unrefused g.S.LookupSpan.registry g.S.Subscriber.has_form c.args.lane (stack_of c.args.self.now) (kept_by c.args.self.now) c.metadata.result (metadata_of c.args.attrs.now) c.in-Err.error c.in-Err.ensures.refused
+
+pub returns-in-Err-new_span-clause-asked : goal.returns-in-Err-new_span-clause-asked
+returns-in-Err-new_span-clause-asked g c =
+    subst (λ b. Wanted g.S.LookupSpan.registry g.S.Subscriber.has_form c.args.lane (stack_of c.args.self.now) (kept_by c.args.self.now) (metadata_of c.args.attrs.now) b) c.in-Ok-true.field-0-test
+    (metadata_wanted g.S.LookupSpan.registry g.S.Subscriber.has_form c.args.lane (stack_of c.args.self.now) (kept_by c.args.self.now) c.metadata.result (metadata_of c.args.attrs.now) c.args.pass.now c.admits.new.pass c.in-Ok-true.field-0 c.metadata.ensures c.requires.fresh c.in-Ok-true.ensures.afresh)
+
+pub returns-in-Ok-clause-asked : goal.returns-in-Ok-clause-asked
+returns-in-Ok-clause-asked g c =
+    subst (λ b. Wanted g.S.LookupSpan.registry g.S.Subscriber.has_form c.args.lane (stack_of c.args.self.now) (kept_by c.args.self.now) (metadata_of c.args.attrs.now) b) c.in-Ok-true.field-0-test
+    (metadata_wanted g.S.LookupSpan.registry g.S.Subscriber.has_form c.args.lane (stack_of c.args.self.now) (kept_by c.args.self.now) c.metadata.result (metadata_of c.args.attrs.now) c.args.pass.now c.admits.new.pass c.in-Ok-true.field-0 c.metadata.ensures c.requires.fresh c.in-Ok-true.ensures.afresh)
+
+pub returns-in-Err-clause-seen : goal.returns-in-Err-clause-seen
+returns-in-Err-clause-seen g c = sees_what_is_made g.S.LookupSpan.registry g.met.S.Subscriber.laws g.met.S.Subscriber.paths g.met.S.Subscriber.levels
+
+pub returns-in-Ok-false-clause-seen : goal.returns-in-Ok-false-clause-seen
+returns-in-Ok-false-clause-seen g c = sees_what_is_made g.S.LookupSpan.registry g.met.S.Subscriber.laws g.met.S.Subscriber.paths g.met.S.Subscriber.levels
+
+pub returns-in-Ok-clause-seen : goal.returns-in-Ok-clause-seen
+returns-in-Ok-clause-seen g c = sees_what_is_made g.S.LookupSpan.registry g.met.S.Subscriber.laws g.met.S.Subscriber.paths g.met.S.Subscriber.levels
+
+pub returns-in-Err-new_span-clause-seen : goal.returns-in-Err-new_span-clause-seen
+returns-in-Err-new_span-clause-seen g c = sees_what_is_made g.S.LookupSpan.registry g.met.S.Subscriber.laws g.met.S.Subscriber.paths g.met.S.Subscriber.levels

@@ -1,0 +1,18 @@
+use Rattle.std.proofs.Common.{◌∙◌}
+use Rattle.span_dispatch.proofs.Journalled.{goes_on, grown, kept_same, stays}
+use Rattle.span_dispatch.specs.Journal.{Entry}
+use Rattle.span_dispatch.specs.Serve.{stack_of}
+use Rattle.span_dispatch.specs.declared.entry.EntryWith.TheVariants as entry
+use Rattle.span_registry.specs.Hooks.{Stays}
+use Rattle.span_dispatch.proofs.logged.Logged.event.Goals as goal
+
+pub invariant_of-self-in_err-made : goal.invariant_of-self-in_err-made
+invariant_of-self-in_err-made g c =
+    kept_same g.S.LookupSpan.registry g.S.Subscriber.usable c.self.inside.dispatch c.event.new.self c.self.inside.journal c.reserve.new.self.items c.self.invariant (c.reserve.ensures.items ∙ c.journal.view_is) c.in_err-made.ensures.unchanged
+
+pub invariant_of-self-2 : goal.invariant_of-self-2
+invariant_of-self-2 g c =
+    let old = c.self.inside in
+    let e : Entry = entry.Event c.args.lane c.metadata.result c.asked_parent.result c.in_ok-made.made in
+    grown g.S.LookupSpan.registry g.S.Subscriber.usable old.dispatch c.event.new.self old.journal c.reserve.new.self.items c.noted-receipt.new.entries.items e c.self.invariant c.noted-receipt.ensures.journal (c.reserve.ensures.items ∙ c.journal.view_is) c.event.ensures.usable
+    (goes_on g.S.LookupSpan.registry Stays (stack_of old.dispatch) (stack_of c.event.new.self) e c.event.ensures.store stays)

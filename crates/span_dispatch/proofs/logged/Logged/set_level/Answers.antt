@@ -1,0 +1,13 @@
+use Rattle.std.proofs.Common.{◌∙◌}
+use Rattle.span_dispatch.proofs.Journalled.{grown, stays}
+use Rattle.span_dispatch.specs.Journal.{Entry}
+use Rattle.span_dispatch.specs.Serve.{stack_of}
+use Rattle.span_dispatch.specs.declared.entry.EntryWith.TheVariants as entry
+use Rattle.span_dispatch.proofs.logged.Logged.set_level.Goals as goal
+
+pub invariant_of-self-2 : goal.invariant_of-self-2
+invariant_of-self-2 g c =
+    let old = c.self.inside in
+    let e : Entry = entry.Level c.args.lane c.args.number c.args.level in
+    grown g.S.LookupSpan.registry g.S.Subscriber.usable old.dispatch c.set_level.new.self old.journal c.reserve.new.self.items c.noted-receipt.new.entries.items e c.self.invariant c.noted-receipt.ensures.journal (c.reserve.ensures.items ∙ c.journal.view_is) c.set_level.ensures.usable
+    (stays (g.S.LookupSpan.registry (stack_of old.dispatch)) (g.S.LookupSpan.registry (stack_of c.set_level.new.self)) c.set_level.ensures.registry)

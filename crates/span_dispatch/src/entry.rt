@@ -1,0 +1,38 @@
+//! One accepted request, as a journal keeps it.
+
+use span_core::{FilterMap, Id, Lane, LevelFilter, Metadata, Parent};
+
+/// One accepted request, with its lane and its answer.
+///
+/// Own to this port.
+pub type Entry = EntryWith<Metadata, FilterMap>;
+
+/// An entry by the types of its metadata and its verdict.
+// No proof follows an enum that holds both itself: metadata hold references, and a verdict has a ghost field.
+#[derive(Clone, Copy, Debug, PartialEq, Eq)]
+pub enum EntryWith<M, V> {
+    /// A span was made: its metadata, the parent that it asked for, its verdict and its id.
+    New(Lane, M, Parent, V, Id),
+    /// A new span was dropped.
+    Unmade(Lane, M),
+    /// An event, the parent that it asked for, and whether it was made.
+    Event(Lane, M, Parent, bool),
+    /// A probe, and its answer.
+    Probe(Lane, M, bool),
+    /// The lane entered the span.
+    Enter(Lane, Id),
+    /// The lane left the span.
+    Exit(Lane, Id),
+    /// Values were recorded of the span.
+    Record(Lane, Id),
+    /// The first span follows from the second.
+    Follows(Lane, Id, Id),
+    /// The span has one handle more.
+    Clone(Lane, Id),
+    /// One handle of the span was dropped, and whether it closed.
+    Drop(Lane, Id, bool),
+    /// The level of the filter with this number was set.
+    Level(Lane, u32, LevelFilter),
+    /// The span that the lane was in.
+    Current(Lane, Option<Id>),
+}

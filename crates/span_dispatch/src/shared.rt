@@ -1,0 +1,474 @@
+//! A dispatcher that workers share behind one lock.
+ghost use Rattle.std.specs.Option.{option_map};
+ghost use Rattle.std.specs.Prelude.{◌≡◌, ℕ, ◌+◌, ◌-◌, ◌<◌, ◌^◌, ◌↔◌, IfErr, IfOk, IfSome, IsNone, IsOk, OnErr, OnOk, Option, Some, length, not, slice_get, sum_by, vec_len};
+ghost use Rattle.span_core.specs.Event.{event_metadata, event_parent};
+ghost use Rattle.span_core.specs.Level.{is_above};
+ghost use Rattle.span_core.specs.Span.{current_span};
+ghost use Rattle.span_core.specs.declared.error.TraceError.TheVariants.{OutOfMemory};
+ghost use Rattle.span_core.specs.declared.level.LevelFilter.{LevelFilter};
+ghost use Rattle.span_dispatch.specs.Contract.{ShowsHint};
+ghost use Rattle.span_dispatch.specs.Journal.{IsReceiptOf, IsSpanReceipt, Leaves, OrNoMemory, called, new_worker};
+ghost use Rattle.span_dispatch.specs.Recorder.{lane_of};
+ghost use Rattle.span_dispatch.specs.Serve.{stack_of};
+ghost use Rattle.span_registry.specs.Store.{empty_store};
+
+use crate::dispatch::Dispatch;
+use crate::entry::{Entry, EntryWith};
+use crate::logged::{Journal, Logged, Receipt};
+use span_core::{
+    Attributes, Current, Event, Id, Lane, Level, LevelFilter, Metadata, Record, Rejected,
+    TraceError,
+};
+use span_registry::Subscriber;
+use std::alloc::Global;
+use std::marker::{Brand, Model, PhantomData};
+use std::sync::ledger::{Book, Ledger, Share};
+use std::sync::{Mutex, Wait};
+
+/// A ledger that names the number of workers.
+pub trait Crew: Ledger {
+    ghost workers: { ℕ };
+}
+
+impl Crew for Brand {
+    ghost workers = { 1 };
+}
+
+/// One worker of a crew, with the share that belongs to it.
+#[derive(Drop)]
+pub struct Worker<L: Crew> {
+    lane: Lane,
+    hint: Option<LevelFilter>,
+    calls: u64,
+    share: Share<L>,
+}
+
+impl<L: Crew> Model for Worker<L> {
+    ghost use Rattle.std.specs.Prelude.{◌≡◌};
+    ghost use Rattle.span_dispatch.specs.Journal.{WorkerState};
+
+    ghost Value = { WorkerState };
+
+    ghost view = { λ w. record { lane = w.lane; hint = w.hint; calls = w.calls } };
+
+    ghost invariant = { λ w. (w.share.parts ≡ 1) × (w.share.amount ≡ w.calls) };
+}
+
+impl<L: Crew> Worker<L> {
+    fn new(lane: Lane, hint: Option<LevelFilter>, share: Share<L>) -> Worker<L>
+        requires { (share.parts ≡ 1) × (share.amount ≡ 0) }
+        ensures { result ≡ new_worker lane hint }
+    {
+        Worker {
+            lane,
+            hint,
+            calls: 0,
+            share,
+        }
+    }
+
+    /// The lane on which its calls are.
+    pub fn lane(&self) -> Lane
+        ensures { result ≡ self.now.lane }
+    {
+        self.lane
+    }
+
+    /// How many of its calls were accepted.
+    pub fn calls(&self) -> u64
+        ensures { result ≡ self.now.calls }
+    {
+        self.calls
+    }
+
+    /// Whether the level passes the hint that the worker was made with. It waits for nobody.
+    pub fn passes_hint(&self, level: Level) -> bool
+        ensures { result ≡ not (is_above level self.now.hint) }
+    {
+        match self.hint {
+            Some(most) => most.passes(level),
+            None => true,
+        }
+    }
+
+    // Counts one call in the book.
+    fn count(&mut self, book: &mut Book<L>)
+        requires { self.old.calls < 2 ^ 64 - 1 }
+        ensures worker { self.new ≡ called self.old }
+        ensures book { book.new.total ≡ book.old.total + 1 }
+    {
+        book.add(&mut self.share, 1);
+        self.calls += 1;
+    }
+
+    fn into_share(self) -> Share<L>
+        ensures { (result.parts ≡ 1) × (result.amount ≡ self.calls) }
+    {
+        let Worker {
+            lane: _,
+            hint: _,
+            calls: _,
+            share,
+        } = self;
+        share
+    }
+}
+
+/// What lies under the lock: the journal's length stands in a book beside it.
+#[derive(Drop)]
+struct Locked<S: Subscriber, L: Crew> {
+    logged: Logged<S>,
+    calls: Book<L>,
+    ghost counted: { calls.total ≡ length logged.journal },
+}
+
+// That the ledger has a part for each worker. No field beside a token can say so.
+#[derive(Drop)]
+struct Whole<L: Crew> {
+    of: PhantomData<L>,
+    ghost one_part_each: { L.workers ≡ L.parts },
+}
+
+/// A dispatcher that workers share.
+#[derive(Drop)]
+pub struct Shared<S: Subscriber, L: Crew> {
+    lock: Mutex<Locked<S, L>>,
+    workers: u32,
+    whole: Whole<L>,
+    ghost crew: { workers ≡ L.workers },
+    ghost some: { 0 < workers },
+}
+
+/// A `Shared` of which a worker is missing, and the workers that are not.
+#[derive(Drop)]
+pub struct Unfinished<S: Subscriber, L: Crew> {
+    pub shared: Shared<S, L>,
+    pub workers: Vec<Worker<L>>,
+}
+
+// A worker for each part of the share, or the share where memory is refused.
+fn make_crew<L: Crew>(
+    alloc: Global,
+    all: Share<L>,
+    workers: u32,
+    hint: Option<LevelFilter>,
+) -> Result<Vec<Worker<L>>, Share<L>>
+    requires { (all.parts ≡ workers) × (all.amount ≡ 0) }
+    ensures all { IfOk result (λ v. vec_len v ≡ workers) }
+    ensures each { IfOk result (λ v. (i : ℕ) (w : _) → slice_get v.items i ≡ Some w → w ≡ new_worker (lane_of i) hint) }
+    ensures back { IfErr result (λ s. s ≡ all) }
+{
+    let Ok(mut made) = Vec::with_capacity(alloc, workers as usize) else {
+        return Err(all);
+    };
+    let mut rest = all;
+    for lane in 0..workers {
+        made.push_reserved(Worker::new(Lane(lane), hint, rest.split_off(1, 0)));
+    }
+    Ok(made)
+}
+
+// The shares of all workers in one.
+fn merged<L: Crew>(workers: Vec<Worker<L>>) -> Option<Share<L>>
+    ensures all { IfSome result (λ s. (s.parts ≡ vec_len workers) × (s.amount ≡ sum_by (λ w. w.calls) workers.items)) }
+    ensures none { IsNone result ↔ (vec_len workers ≡ 0) }
+{
+    let mut left = workers;
+    let mut all = left.pop()?.into_share();
+    while let Some(worker) = left.pop() {
+        all.merge(worker.into_share());
+    }
+    Some(all)
+}
+
+impl<S: Subscriber, L: Crew> Shared<S, L> {
+    /// A dispatcher whose registry is fresh, and a worker for each part of the share, on the lanes 0, 1, and so on.
+    pub fn new(
+        alloc: Global,
+        book: Book<L>,
+        all: Share<L>,
+        dispatch: Dispatch<S>,
+        workers: u32,
+    ) -> Result<(Shared<S, L>, Vec<Worker<L>>), Rejected<(Dispatch<S>, Book<L>, Share<L>)>>
+        requires usable { S.usable (stack_of dispatch) }
+        requires fresh { (S.registry (stack_of dispatch)).store ≡ empty_store }
+        requires unused { (book.total ≡ 0) × (all.amount ≡ 0) }
+        requires whole { all.parts ≡ L.parts }
+        requires workers { (0 < workers) × (workers ≡ L.workers) × (L.workers ≡ L.parts) }
+        ensures all { IfOk result (λ r. vec_len r.1 ≡ workers) }
+        ensures each { IfOk result (λ r. (h : Option LevelFilter) × ShowsHint S.Subscriber dispatch h × ((i : ℕ) (w : _) → slice_get r.1.items i ≡ Some w → w ≡ new_worker (lane_of i) h)) }
+        ensures back { IfErr result (λ e. (e.value.0 ≡ dispatch) × (e.value.1 ≡ book) × (e.value.2 ≡ all) × (e.error ≡ OutOfMemory)) }
+    {
+        let hint = dispatch.max_level_hint();
+        match make_crew(alloc, all, workers, hint) {
+            Ok(made) => {
+                let logged = Logged::new(alloc, dispatch);
+                let shared = Shared {
+                    lock: Mutex::new(Locked {
+                        logged,
+                        calls: book,
+                    }),
+                    workers,
+                    whole: Whole { of: PhantomData },
+                };
+                Ok((shared, made))
+            }
+            Err(all) => Err(Rejected {
+                value: (dispatch, book, all),
+                error: TraceError::OutOfMemory,
+            }),
+        }
+    }
+
+    /// Asks as `Dispatch::enabled` does.
+    pub fn enabled(
+        &self,
+        rt: &impl Wait,
+        worker: &mut Worker<L>,
+        meta: &Metadata,
+    ) -> Result<(bool, Receipt), TraceError>
+        requires { worker.old.calls < 2 ^ 64 - 1 }
+        ensures worker { OnOk result (worker.new ≡ called worker.old) }
+        ensures receipt { IfOk result (IsReceiptOf (EntryWith.Probe worker.old.lane meta.now)) }
+        ensures unchanged { OnErr result (worker.new ≡ worker.old) }
+    {
+        let mut guard = self.lock.lock(rt);
+        let Locked { logged, calls } = &mut *guard;
+        let given = logged.enabled(worker.lane, meta)?;
+        worker.count(calls);
+        Ok(given)
+    }
+
+    /// Opens a span as `Dispatch::new_span` does.
+    pub fn new_span(
+        &self,
+        rt: &impl Wait,
+        worker: &mut Worker<L>,
+        attrs: &Attributes<'_>,
+    ) -> Result<(Option<Id>, Receipt), TraceError>
+        requires { worker.old.calls < 2 ^ 64 - 1 }
+        ensures worker { OnOk result (worker.new ≡ called worker.old) }
+        ensures receipt { IfOk result (IsSpanReceipt worker.old.lane attrs.now) }
+        ensures unchanged { OnErr result (worker.new ≡ worker.old) }
+    {
+        let mut guard = self.lock.lock(rt);
+        let Locked { logged, calls } = &mut *guard;
+        let given = logged.new_span(worker.lane, attrs)?;
+        worker.count(calls);
+        Ok(given)
+    }
+
+    /// Notifies of an event as `Dispatch::event` does.
+    pub fn event(
+        &self,
+        rt: &impl Wait,
+        worker: &mut Worker<L>,
+        event: &Event<'_>,
+    ) -> Result<(bool, Receipt), TraceError>
+        requires { worker.old.calls < 2 ^ 64 - 1 }
+        ensures worker { OnOk result (worker.new ≡ called worker.old) }
+        ensures receipt { IfOk result (IsReceiptOf (EntryWith.Event worker.old.lane (event_metadata event.now) (event_parent event.now))) }
+        ensures unchanged { OnErr result (worker.new ≡ worker.old) }
+    {
+        let mut guard = self.lock.lock(rt);
+        let Locked { logged, calls } = &mut *guard;
+        let given = logged.event(worker.lane, event)?;
+        worker.count(calls);
+        Ok(given)
+    }
+
+    /// Enters a span as `Dispatch::enter` does.
+    pub fn enter(
+        &self,
+        rt: &impl Wait,
+        worker: &mut Worker<L>,
+        id: Id,
+    ) -> Result<((), Receipt), TraceError>
+        requires { worker.old.calls < 2 ^ 64 - 1 }
+        ensures worker { OnOk result (worker.new ≡ called worker.old) }
+        ensures receipt { IfOk result (IsReceiptOf (λ done. EntryWith.Enter worker.old.lane id)) }
+        ensures unchanged { OnErr result (worker.new ≡ worker.old) }
+    {
+        let mut guard = self.lock.lock(rt);
+        let Locked { logged, calls } = &mut *guard;
+        let given = logged.enter(worker.lane, id)?;
+        worker.count(calls);
+        Ok(given)
+    }
+
+    /// Leaves a span as `Dispatch::exit` does.
+    pub fn exit(
+        &self,
+        rt: &impl Wait,
+        worker: &mut Worker<L>,
+        id: Id,
+    ) -> Result<((), Receipt), TraceError>
+        requires { worker.old.calls < 2 ^ 64 - 1 }
+        ensures worker { OnOk result (worker.new ≡ called worker.old) }
+        ensures receipt { IfOk result (IsReceiptOf (λ done. EntryWith.Exit worker.old.lane id)) }
+        ensures refused { IfErr result (λ e. e ≡ TraceError.OutOfMemory) }
+        ensures unchanged { OnErr result (worker.new ≡ worker.old) }
+    {
+        let mut guard = self.lock.lock(rt);
+        let Locked { logged, calls } = &mut *guard;
+        let given = logged.exit(worker.lane, id)?;
+        worker.count(calls);
+        Ok(given)
+    }
+
+    /// Notifies of values as `Dispatch::record` does.
+    pub fn record(
+        &self,
+        rt: &impl Wait,
+        worker: &mut Worker<L>,
+        id: Id,
+        values: &Record<'_>,
+    ) -> Result<((), Receipt), TraceError>
+        requires { worker.old.calls < 2 ^ 64 - 1 }
+        ensures worker { OnOk result (worker.new ≡ called worker.old) }
+        ensures receipt { IfOk result (IsReceiptOf (λ done. EntryWith.Record worker.old.lane id)) }
+        ensures unchanged { OnErr result (worker.new ≡ worker.old) }
+    {
+        let mut guard = self.lock.lock(rt);
+        let Locked { logged, calls } = &mut *guard;
+        let given = logged.record(worker.lane, id, values)?;
+        worker.count(calls);
+        Ok(given)
+    }
+
+    /// Notifies that a span follows from another as `Dispatch::follows_from` does.
+    pub fn follows_from(
+        &self,
+        rt: &impl Wait,
+        worker: &mut Worker<L>,
+        id: Id,
+        follows: Id,
+    ) -> Result<((), Receipt), TraceError>
+        requires { worker.old.calls < 2 ^ 64 - 1 }
+        ensures worker { OnOk result (worker.new ≡ called worker.old) }
+        ensures receipt { IfOk result (IsReceiptOf (λ done. EntryWith.Follows worker.old.lane id follows)) }
+        ensures unchanged { OnErr result (worker.new ≡ worker.old) }
+    {
+        let mut guard = self.lock.lock(rt);
+        let Locked { logged, calls } = &mut *guard;
+        let given = logged.follows_from(worker.lane, id, follows)?;
+        worker.count(calls);
+        Ok(given)
+    }
+
+    /// Adds a handle as `Dispatch::clone_span` does.
+    pub fn clone_span(
+        &self,
+        rt: &impl Wait,
+        worker: &mut Worker<L>,
+        id: Id,
+    ) -> Result<(Id, Receipt), TraceError>
+        requires { worker.old.calls < 2 ^ 64 - 1 }
+        ensures worker { OnOk result (worker.new ≡ called worker.old) }
+        ensures same { IfOk result (λ r. r.0 ≡ id) }
+        ensures receipt { IfOk result (IsReceiptOf (λ cloned. EntryWith.Clone worker.old.lane id)) }
+        ensures unchanged { OnErr result (worker.new ≡ worker.old) }
+    {
+        let mut guard = self.lock.lock(rt);
+        let Locked { logged, calls } = &mut *guard;
+        let given = logged.clone_span(worker.lane, id)?;
+        worker.count(calls);
+        Ok(given)
+    }
+
+    /// Takes a handle away as `Dispatch::drop_span` does.
+    pub fn drop_span(
+        &self,
+        rt: &impl Wait,
+        worker: &mut Worker<L>,
+        id: Id,
+    ) -> Result<(bool, Receipt), TraceError>
+        requires { worker.old.calls < 2 ^ 64 - 1 }
+        ensures worker { OnOk result (worker.new ≡ called worker.old) }
+        ensures receipt { IfOk result (IsReceiptOf (EntryWith.Drop worker.old.lane id)) }
+        ensures unchanged { OnErr result (worker.new ≡ worker.old) }
+    {
+        let mut guard = self.lock.lock(rt);
+        let Locked { logged, calls } = &mut *guard;
+        let given = logged.drop_span(worker.lane, id)?;
+        worker.count(calls);
+        Ok(given)
+    }
+
+    /// Sets a level as `Dispatch::set_level` does. What `passes_hint` says stays as it is.
+    pub fn set_level(
+        &self,
+        rt: &impl Wait,
+        worker: &mut Worker<L>,
+        number: u32,
+        level: LevelFilter,
+    ) -> Result<((), Receipt), TraceError>
+        requires { worker.old.calls < 2 ^ 64 - 1 }
+        ensures worker { OnOk result (worker.new ≡ called worker.old) }
+        ensures receipt { IfOk result (IsReceiptOf (λ done. EntryWith.Level worker.old.lane number level)) }
+        ensures refused { IfErr result (OrNoMemory (λ e. e ≡ TraceError.NotSettable number)) }
+        ensures unchanged { OnErr result (worker.new ≡ worker.old) }
+    {
+        let mut guard = self.lock.lock(rt);
+        let Locked { logged, calls } = &mut *guard;
+        let given = logged.set_level(worker.lane, number, level)?;
+        worker.count(calls);
+        Ok(given)
+    }
+
+    /// The span that the lane is in, as `Dispatch::current_span` shows it.
+    pub fn current_span(
+        &self,
+        rt: &impl Wait,
+        worker: &mut Worker<L>,
+    ) -> Result<(Current, Receipt), TraceError>
+        requires { worker.old.calls < 2 ^ 64 - 1 }
+        ensures worker { OnOk result (worker.new ≡ called worker.old) }
+        ensures receipt { IfOk result (IsReceiptOf (λ shown. EntryWith.Current worker.old.lane (option_map (λ o. o.0) (current_span shown)))) }
+        ensures refused { IfErr result (λ e. e ≡ TraceError.OutOfMemory) }
+        ensures unchanged { OnErr result (worker.new ≡ worker.old) }
+    {
+        let mut guard = self.lock.lock(rt);
+        let Locked { logged, calls } = &mut *guard;
+        let given = logged.current_span(worker.lane)?;
+        worker.count(calls);
+        Ok(given)
+    }
+
+    /// How long the journal is now.
+    pub fn len(&self, rt: &impl Wait) -> u64 {
+        self.lock.lock(rt).logged.journal().len()
+    }
+
+    /// The entry that stands at a place now.
+    pub fn entry(&self, rt: &impl Wait, place: u64) -> Option<Entry> {
+        self.lock.lock(rt).logged.journal().get(place)
+    }
+
+    /// The dispatcher and the journal, where all workers are there; else everything back.
+    pub fn finish(self, workers: Vec<Worker<L>>) -> Result<(Dispatch<S>, Journal), Unfinished<S, L>>
+        ensures complete { IsOk result ↔ (vec_len workers ≡ L.workers) }
+        ensures sum { IfOk result (λ r. length r.1 ≡ sum_by (λ w. w.calls) workers.items) }
+        ensures usable { IfOk result (λ r. S.usable (stack_of r.0)) }
+        ensures leaves { IfOk result (λ r. Leaves r.1 (S.registry (stack_of r.0)).store) }
+        ensures back { IfErr result (λ u. (u.shared ≡ self) × (u.workers ≡ workers)) }
+    {
+        if workers.len() != self.workers as usize {
+            return Err(Unfinished {
+                shared: self,
+                workers,
+            });
+        }
+        let Some(mut all) = merged(workers) else {
+            unreachable!()
+        };
+        let Shared {
+            lock,
+            workers: _,
+            whole: _,
+        } = self;
+        let Locked { logged, mut calls } = lock.into_inner();
+        calls.audit(&mut all);
+        Ok(logged.into_parts())
+    }
+}
