@@ -1,0 +1,359 @@
+//! Tests of workers: two lanes that meet, the entry of each request, and the values that a layer is handed.
+ghost use Rattle.span_dispatch.specs.Serve.{stack_of};
+ghost use Rattle.span_layers.specs.Layered.{inner_of, outer_of};
+ghost use Rattle.span_registry.specs.Store.{empty_store};
+ghost use Rattle.std.specs.Prelude.{◌≡◌, ◌-◌, ◌<◌, ◌^◌, ⊤, IfOk};
+
+use crate::work::span_metadata;
+use span_core::{
+    Attributes, Event, FieldSet, FieldValue, Id, Kind, Lane, Level, LevelFilter, Metadata, Parent,
+    Pass, Record, TraceError,
+};
+use span_dispatch::{
+    Crew, Dispatch, Entry, Journal, Logged, Receipt, Recorder, Shared, Unfinished, Worker,
+};
+use span_layers::{Layer, LayerExt, Layered, Observe, Observed, Observer, SubscriberExt};
+use span_registry::{ContextMut, Registry, Subscriber};
+use std::alloc::Global;
+use std::marker::Brand;
+use std::process::Abort;
+use std::sync::Wait;
+use std::sync::ledger::Blank;
+use std::test::Fail;
+use std::thread;
+use std::thread::Threads;
+
+/// How often a lane looks for the other's entry.
+const TURNS: u32 = 1_000_000;
+
+const LANE: Lane = Lane(0);
+
+/// What a lane brings back: its worker, its receipt, whether its own entry stood at the receipt's place, and whether it saw the
+/// other lane's.
+#[derive(Drop)]
+struct Met<L: Crew> {
+    worker: Worker<L>,
+    receipt: Option<Receipt>,
+    own: bool,
+    seen: bool,
+}
+
+/// The receipt's entry stands at its place, and the journal is longer than that.
+fn stands<S: Subscriber, L: Crew>(
+    rt: &impl Wait,
+    shared: &Shared<S, L>,
+    receipt: &Receipt,
+) -> bool {
+    let found = shared.entry(rt, receipt.place());
+    found == Some(receipt.entry()) && receipt.place() < shared.len(rt)
+}
+
+/// Reads entries until another lane's is seen.
+fn sees_another<S: Subscriber, L: Crew>(rt: &impl Wait, shared: &Shared<S, L>, mine: Lane) -> bool {
+    let mut place = 0u64;
+    for _ in 0..TURNS {
+        match shared.entry(rt, place) {
+            Some(Entry::New(lane, _, _, _, _)) if lane != mine => return true,
+            Some(_) => place = place.wrapping_add(1),
+            None => thread::yield_now(),
+        }
+    }
+    false
+}
+
+/// Makes a span, and waits to see the other lane's.
+fn meet<S: Subscriber, L: Crew>(
+    rt: &impl Wait,
+    shared: &Shared<S, L>,
+    worker: Worker<L>,
+) -> Met<L> {
+    let mut worker = worker;
+    let mut receipt = None;
+    if worker.calls() < u64::MAX {
+        let attrs = Attributes::new(span_metadata(), &[]);
+        if let Ok((_, given)) = shared.new_span(rt, &mut worker, &attrs) {
+            receipt = Some(given);
+        }
+    }
+    let own = match &receipt {
+        Some(given) => stands(rt, shared, given),
+        None => false,
+    };
+    let seen = sees_another(rt, shared, worker.lane());
+    Met {
+        worker,
+        receipt,
+        own,
+        seen,
+    }
+}
+
+/// Two lanes in two threads.
+fn in_two_threads<S: Subscriber + Send, L: Crew + Send + Sync, R: Threads + Wait + Sync>(
+    rt: &R,
+    shared: &Shared<S, L>,
+    first: Worker<L>,
+    second: Worker<L>,
+) -> Result<(Met<L>, Met<L>), Fail> {
+    thread::scope(
+        thread::scope_env(),
+        rt,
+        move |scope| -> Result<(Met<L>, Met<L>), Fail> {
+            let one = scope.spawn(move || meet(rt, shared, first))?;
+            let other = scope.spawn(move || meet(rt, shared, second))?;
+            Ok((one.join(rt), other.join(rt)))
+        },
+    )
+}
+
+/// With one worker missing everything comes back, and then with both the receiver is taken apart.
+fn finished<S: Subscriber + Drop, L: Crew>(
+    shared: Shared<S, L>,
+    first: Worker<L>,
+    second: Worker<L>,
+    alloc: Global,
+) -> Result<Journal, Fail> {
+    let mut workers = Vec::with_capacity(alloc, 2)?;
+    workers.push(first)?;
+    let Err(unfinished) = shared.finish(workers) else {
+        return Err("a worker is missing".into());
+    };
+    let Unfinished {
+        shared,
+        mut workers,
+    } = unfinished;
+    workers.push(second)?;
+    let Ok((_, journal)) = shared.finish(workers) else {
+        return Err("no worker is missing".into());
+    };
+    Ok(journal)
+}
+
+/// Two workers meet, and their receipts are held.
+fn two_meet<S, L, R>(rt: &R, alloc: Global, blank: Blank, dispatch: Dispatch<S>) -> Result<(), Fail>
+where
+    S: Subscriber + Send + Drop,
+    L: Crew + Send + Sync,
+    R: Threads + Wait + Abort + Sync,
+    requires name { blank.name ≡ L.name }
+    requires parts { (blank.parts ≡ L.parts) × (L.parts ≡ 2) × (L.workers ≡ 2) }
+    requires usable { S.usable (stack_of dispatch) }
+    requires fresh { (S.registry (stack_of dispatch)).store ≡ empty_store }
+{
+    let (book, all) = blank.open::<L>();
+    let Ok((shared, mut workers)) = Shared::new(alloc, book, all, dispatch, 2) else {
+        return Err("no memory".into());
+    };
+    let (Some(second), Some(first)) = (workers.pop(), workers.pop()) else {
+        return Err("two workers".into());
+    };
+    let (one, other) = in_two_threads(rt, &shared, first, second)?;
+    assert!(rt; one.own && one.seen);
+    assert!(rt; other.own && other.seen);
+    assert_eq!(rt;
+        (one.worker.lane(), other.worker.lane()),
+        (Lane(0), Lane(1))
+    );
+    let calls = one.worker.calls().wrapping_add(other.worker.calls());
+    let journal = finished(shared, one.worker, other.worker, alloc)?;
+    assert_eq!(rt; (calls, journal.len()), (2, 2));
+    for receipt in [one.receipt, other.receipt] {
+        let receipt = receipt.ok_or("a receipt")?;
+        assert!(rt; journal.holds(&receipt));
+    }
+    Ok(())
+}
+
+#[test]
+fn both_lanes_meet(rt: HostRuntime) -> Result<(), Fail> {
+    let dispatch = Dispatch::new(rt.alloc(), Registry::new(rt.alloc()));
+    two_meet::<Registry, Brand, HostRuntime>(&rt, rt.alloc(), Blank::new(2), dispatch)
+}
+
+fn event_metadata() -> Metadata {
+    Metadata::new(
+        1,
+        "e1",
+        "tests",
+        Level::INFO,
+        Kind::EVENT,
+        FieldSet::new(&[]),
+    )
+}
+
+/// Opens a root span.
+fn open<S: Subscriber>(logged: &mut Logged<S>) -> Result<Id, Fail> {
+    match logged.new_span(LANE, &Attributes::new_root(span_metadata(), &[]))? {
+        (Some(id), _) => Ok(id),
+        (None, _) => Err("no span".into()),
+    }
+}
+
+/// Each request once. A level is set that rules out the last span, and one span is left after it was closed.
+fn make_each<S: Subscriber>(logged: &mut Logged<S>) -> Result<(Id, Id), Fail> {
+    logged.enabled(LANE, &event_metadata())?;
+    let (p, q) = (open(logged)?, open(logged)?);
+    logged.enter(LANE, p)?;
+    logged.enter(LANE, q)?;
+    logged.record(LANE, p, &Record::new(&[]))?;
+    logged.follows_from(LANE, p, q)?;
+    logged.clone_span(LANE, p)?;
+    logged.drop_span(LANE, p)?;
+    logged.event(LANE, &Event::new(event_metadata(), &[]))?;
+    logged.drop_span(LANE, q)?;
+    logged.current_span(LANE)?;
+    logged.exit(LANE, q)?;
+    logged.current_span(LANE)?;
+    logged.set_level(LANE, 0, LevelFilter::WARN)?;
+    logged.new_span(LANE, &Attributes::new(span_metadata(), &[]))?;
+    Ok((p, q))
+}
+
+/// The entries that these requests leave.
+fn entries_of(p: Id, q: Id) -> [Entry; 16] {
+    let (span, event) = (span_metadata(), event_metadata());
+    let passed = Pass::new().refused();
+    [
+        Entry::Probe(LANE, event, true),
+        Entry::New(LANE, span, Parent::Root, passed, p),
+        Entry::New(LANE, span, Parent::Root, passed, q),
+        Entry::Enter(LANE, p),
+        Entry::Enter(LANE, q),
+        Entry::Record(LANE, p),
+        Entry::Follows(LANE, p, q),
+        Entry::Clone(LANE, p),
+        Entry::Drop(LANE, p, false),
+        Entry::Event(LANE, event, Parent::Contextual, true),
+        Entry::Drop(LANE, q, true),
+        Entry::Current(LANE, None),
+        Entry::Exit(LANE, q),
+        Entry::Current(LANE, Some(p)),
+        Entry::Level(LANE, 0, LevelFilter::WARN),
+        Entry::Unmade(LANE, span),
+    ]
+}
+
+/// A receiver's journal, once each request was made of it.
+fn journal_of<S: Subscriber + Drop>(rt: &impl Abort, alloc: Global, stack: S) -> Result<(), Fail>
+    requires usable { S.usable stack }
+    requires fresh { (S.registry stack).store ≡ empty_store }
+{
+    let mut logged = Logged::new(alloc, Dispatch::new(alloc, stack));
+    assert!(rt; logged.journal().is_empty());
+    let (p, q) = make_each(&mut logged)?;
+    let (_, journal) = logged.into_parts();
+    let entries = entries_of(p, q);
+    assert_eq!(rt; journal.len(), entries.len() as u64);
+    for (place, entry) in entries.iter().enumerate() {
+        assert_eq!(rt; journal.get(place as u64), Some(*entry));
+    }
+    Ok(())
+}
+
+/// A layer on a fresh registry.
+fn put<L: Layer<Registry> + Drop>(alloc: Global, layer: L) -> Result<Layered<L, Registry>, Fail>
+    requires { L.usable layer }
+    ensures fresh { IfOk result (λ made. (inner_of made).store ≡ empty_store) }
+    ensures layer { IfOk result (λ made. L.usable (outer_of made)) }
+{
+    match Registry::new(alloc).with(layer) {
+        Ok(made) => Ok(made),
+        Err(_) => Err("no room for a filter".into()),
+    }
+}
+
+#[test]
+fn each_request_adds_its_entry(rt: HostRuntime) -> Result<(), Fail> {
+    let layer = Recorder::new(rt.alloc()).with_filter(LevelFilter::INFO);
+    journal_of(&rt, rt.alloc(), put(rt.alloc(), layer)?)
+}
+
+/// A layer that keeps the first number that a new span was given, and the first that was recorded of it.
+#[derive(Drop)]
+struct Numbers {
+    made: Option<u64>,
+    recorded: Option<u64>,
+}
+
+impl<S: Subscriber> Observe<S> for Numbers {
+    ghost observed = { λ x e lane under v y w. ⊤ };
+
+    fn observe(&mut self, notice: Observed<'_, '_>, _ctx: &mut ContextMut<'_, S>) {
+        match notice {
+            Observed::NewSpan(attrs, _) => self.made = number_in(attrs.values()),
+            Observed::Record(_, record) => self.recorded = number_in(record.values()),
+            _ => {}
+        }
+    }
+}
+
+/// The first number among these values.
+fn number_in(values: &[(&'static str, FieldValue<'_>)]) -> Option<u64> {
+    match values.first() {
+        Some((_, FieldValue::U64(number))) => Some(*number),
+        _ => None,
+    }
+}
+
+/// Opens a span with a value, and records another of it.
+fn hand_in<S: Subscriber, L: Crew>(
+    rt: &impl Wait,
+    shared: &Shared<S, L>,
+    worker: &mut Worker<L>,
+) -> Result<(), Fail>
+    requires { worker.old.calls < 2 ^ 64 - 2 }
+{
+    let seven = [("number", FieldValue::U64(7))];
+    let nine = [("number", FieldValue::U64(9))];
+    let (made, _) = shared.new_span(rt, worker, &Attributes::new(span_metadata(), &seven))?;
+    let id = made.ok_or("a span")?;
+    shared.record(rt, worker, id, &Record::new(&nine))?;
+    Ok(())
+}
+
+/// One worker hands values in. Answers the dispatcher.
+fn handed_in<S: Subscriber + Drop, L: Crew>(
+    rt: &impl Wait,
+    alloc: Global,
+    blank: Blank,
+    stack: S,
+) -> Result<Dispatch<S>, Fail>
+    requires name { blank.name ≡ L.name }
+    requires parts { (blank.parts ≡ L.parts) × (L.parts ≡ 1) × (L.workers ≡ 1) }
+    requires usable { S.usable stack }
+    requires fresh { (S.registry stack).store ≡ empty_store }
+{
+    let dispatch = Dispatch::new(alloc, stack);
+    let (book, all) = blank.open::<L>();
+    let Ok((shared, mut workers)) = Shared::new(alloc, book, all, dispatch, 1) else {
+        return Err("no memory".into());
+    };
+    let mut worker = workers.pop().ok_or("a worker")?;
+    if worker.calls() > 0 {
+        return Err("a new worker".into());
+    }
+    hand_in(rt, &shared, &mut worker)?;
+    workers.push(worker)?;
+    match shared.finish(workers) {
+        Ok((dispatch, _)) => Ok(dispatch),
+        Err(_) => Err("no worker is missing".into()),
+    }
+}
+
+#[test]
+fn a_layer_is_handed_the_values(rt: HostRuntime) -> Result<(), Fail> {
+    let layer = Observer::new(Numbers {
+        made: None,
+        recorded: None,
+    });
+    let stack = put(rt.alloc(), layer)?;
+    let dispatch = handed_in::<Layered<Observer<Numbers>, Registry>, Brand>(
+        &rt,
+        rt.alloc(),
+        Blank::new(1),
+        stack,
+    )?;
+    let numbers = dispatch.stack().layer().observer();
+    assert_eq!(rt; (numbers.made, numbers.recorded), (Some(7), Some(9)));
+    Ok(())
+}
