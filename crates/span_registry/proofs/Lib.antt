@@ -4,6 +4,7 @@ pub mod Agreeing
 mod Ancestry
 pub mod Chains
 mod Closing
+mod Begins
 mod Entries
 mod Finds
 mod Counts

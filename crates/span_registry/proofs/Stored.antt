@@ -7,7 +7,7 @@ use Rattle.std.specs.Ordering.{nat_cmp, eq_by_cmp, is_eq, is_lt}
 use Rattle.std.specs.Cmp.{nat_cmp_total, eq_by_cmp_equiv}
 use Rattle.std.specs.FinMap.Entries.{below_all}
 use Rattle.std.specs.FinSet.{insert as add}
-use Rattle.std.specs.FinMap.{FinMap, get, insert, remove, len, entries, entries_sorted, is_sorted, from_entries, find, get-entries, get-from_entries, len-insert, len-empty, len-entries, same_map, nat_cmp-IsAntisymmetric}
+use Rattle.std.specs.FinMap.{FinMap, empty, get, get-empty, insert, remove, len, entries, entries_sorted, is_sorted, from_entries, find, get-entries, get-from_entries, len-insert, len-empty, len-entries, same_map, nat_cmp-IsAntisymmetric}
 use Rattle.slab.specs.Slab.{Slab, Updates, get as under, slab_len, with_value}
 use Rattle.slab.proofs.SlabLemmas.{Updates-with_value}
 use Rattle.std.specs.declared.cmp.Ordering.{Ordering}
@@ -97,6 +97,10 @@ module _ {A : Type 0} where
 
   pub get-found : (f : ℕ → Option A) (m : FinMap nat_cmp ℕ) (q : ℕ) → get (found f m) q ≡ option_and_then f (get m q)
   get-found f m q = get-from_entries nat_cmp_total (found_in f (entries m)) q ∙ find-found_in f q (entries m) (entries_sorted m) ∙ ap (option_and_then f) (sym (get-entries m q))
+
+  -- where no number has a key, nothing is found
+  pub found_none : (f : ℕ → Option A) (m : FinMap nat_cmp ℕ) → m ≡ empty → found f m ≡ empty
+  found_none f m e = same_map nat_cmp_total nat_cmp-IsAntisymmetric _ _ (λ q. get-found f m q ∙ ap (λ (m : FinMap nat_cmp ℕ). option_and_then f (get m q)) e ∙ ap (option_and_then f) (get-empty nat_cmp q) ∙ sym (get-empty nat_cmp q))
 
   pub len-found : (f : ℕ → Option A) (m : FinMap nat_cmp ℕ) → ((x k : ℕ) → get m x ≡ Some k → IsSome (f k)) → len (found f m) ≡ len m
   len-found f m all = len-found_in f (entries m) (entries_sorted m) (λ x k is. all x k (get-entries m x ∙ is)) ∙ sym (len-entries m)

@@ -22,6 +22,11 @@ pub record SlotState : Type 0 where
 abbrev pub no_slots : Limits → SlotState
 no_slots l = record { keys = empty; issued = no_items; retired = 0; limits = l }
 
+-- no number is held, and none was issued
+pub record AreUnused (s : SlotState) : Type 0 where
+  pub keys : s.keys ≡ empty
+  pub issued : s.issued ≡ no_items
+
 -- a slot is left, and an id
 pub record HasSlot (s : SlotState) : Type 0 where
   pub place : len s.keys + s.retired < s.limits.places

@@ -1,5 +1,7 @@
 -- How a registry's fields are seen as its state. No public contract cites this.
-use Rattle.std.specs.FinMap.{entries}
+use Rattle.std.specs.Prelude.{◌≡◌}
+use Rattle.std.specs.FinMap.{empty, entries}
+use Rattle.std.specs.FinSet.{len as set_len}
 use Rattle.span_registry.specs.Kept.{IsKept, spans_of, stacks_of}
 use Rattle.span_registry.specs.Store.{RegistryState, Store}
 use Rattle.span_registry.specs.declared.registry.Registry.TheInside.{Inside}
@@ -12,6 +14,7 @@ store_of a = record { spans = spans_of (entries a.spans.records); extensions = a
 abbrev pub state_of : Inside → RegistryState
 state_of a = record { store = store_of a; limits = a.spans.limits; filters = a.filters; retired = a.spans.retired }
 
--- what the registry keeps true of its fields
-abbrev pub IsSound : Inside → Type 0
-IsSound a = IsKept (entries a.spans.records)
+-- what the registry keeps true of its fields: that of its spans, and no lane has a stack before an id is issued
+pub record IsSound (a : Inside) : Type 0 where
+  pub kept : IsKept (entries a.spans.records)
+  pub begins : set_len a.spans.issued ≡ 0 → stacks_of a.stacks.entries ≡ empty

@@ -13,7 +13,7 @@ ghost use Rattle.span_registry.specs.Levels.{registry_levels, unlevelled};
 ghost use Rattle.span_registry.specs.Kept.{IsChosen};
 ghost use Rattle.span_registry.specs.Lends.{lends_extensions};
 ghost use Rattle.span_registry.specs.Step.{Enters, Exits, IsContext, Opens, RefusesEnter, RefusesNew, RefusesRelease, Releases, Removes, RetiresLate, asked, entered_last};
-ghost use Rattle.span_registry.specs.Store.{AreIssued, IsClosing, IsForest, IsInStore, IsOpen, new_registry, stack_of};
+ghost use Rattle.span_registry.specs.Store.{AreIssued, IsClosing, IsForest, IsFresh, IsInStore, IsOpen, new_registry, stack_of};
 ghost use Rattle.span_registry.specs.Subscriber.{registry_interest, sum_after};
 
 use crate::extensions::ExtensionsMut;
@@ -104,9 +104,10 @@ impl Registry {
         Registry::new(self.alloc)
     }
 
-    /// No id was issued.
+    /// No id was issued, and so there is nothing in the store.
     pub fn is_fresh(&self) -> bool
-        ensures { IsTrue result ↔ (set.len self.now.store.issued ≡ 0) }
+        ensures issued { IsTrue result ↔ (set.len self.now.store.issued ≡ 0) }
+        ensures fresh { IsTrue result ↔ IsFresh self.now }
     {
         self.spans.is_fresh()
     }
@@ -400,6 +401,7 @@ impl Subscriber for Registry {
         if !self.is_open(id) {
             return Err(TraceError::UnknownSpan(id));
         }
+        self.is_sound(); // What is open was issued.
         push_on(self.alloc, &mut self.stacks, lane, id)
     }
 

@@ -3,7 +3,7 @@ ghost use Rattle.std.specs.FinMap.{get};
 ghost use Rattle.std.specs.FinSet.{len as set_len};
 ghost use Rattle.std.specs.Prelude.{◌≡◌, ◌≤◌, ◌<◌, ◌↔◌, IfErr, IfOk, IfSome, IsSome, IsTrue, MatchBool, None, OnErr, length, vec_capacity, ◌++◌, ◌∷◌, [], OnOk};
 ghost use Rattle.span_core.specs.Span.{number_of};
-ghost use Rattle.span_registry.specs.Slot.{AreHeldIssued, GivesBack, HasNoSlot, HasSlot, IsOfNoSlot, RetiresInTime, TakesSlot, first_held, no_slots, number_at};
+ghost use Rattle.span_registry.specs.Slot.{AreHeldIssued, AreUnused, GivesBack, HasNoSlot, HasSlot, IsOfNoSlot, RetiresInTime, TakesSlot, first_held, no_slots, number_at};
 
 use crate::limits::Limits;
 use span_core::{Id, TraceError};
@@ -121,7 +121,8 @@ impl Slots {
 
     /// No slot was used.
     pub(crate) fn is_fresh(&self) -> bool
-        ensures { IsTrue result ↔ (set_len self.now.issued ≡ 0) }
+        ensures issued { IsTrue result ↔ (set_len self.now.issued ≡ 0) }
+        ensures unused { IsTrue result → AreUnused self.now }
     {
         self.slots.is_empty()
     }

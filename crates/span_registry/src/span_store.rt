@@ -4,7 +4,7 @@ ghost use Rattle.std.specs.FinSet.{len as set_len};
 ghost use Rattle.std.specs.Option.{option_copied, option_map};
 ghost use Rattle.std.specs.Prelude.{◌≡◌, ◌≤◌, ◌↔◌, IfErr, IfOk, IfSome, None, IsSome, IsTrue, MatchBool, OnErr, OnOk, Some, length, slice_set, ◌<◌};
 ghost use Rattle.span_core.specs.Span.{number_of};
-ghost use Rattle.span_registry.specs.Kept.{AreKeptIssued, HasNoRoom, HasRoom, Inserts, RetiresKept, TakesOut, counts_in, with_counts, no_spans, CountsBelow, CountsOneChild, GrowsEmpty, HasRecord, Writes, fewer, more};
+ghost use Rattle.span_registry.specs.Kept.{AreKeptIssued, HasNoRoom, HasRoom, Inserts, KeepsNothing, RetiresKept, TakesOut, counts_in, with_counts, no_spans, CountsBelow, CountsOneChild, GrowsEmpty, HasRecord, Writes, fewer, more};
 ghost use Rattle.span_registry.specs.Extensions.{no_values};
 
 use crate::extensions::ExtensionMap;
@@ -74,7 +74,8 @@ impl SpanStore {
 
     /// No id was issued.
     pub(crate) fn is_fresh(&self) -> bool
-        ensures { IsTrue result ↔ (set_len self.now.issued ≡ 0) }
+        ensures issued { IsTrue result ↔ (set_len self.now.issued ≡ 0) }
+        ensures nothing { IsTrue result → KeepsNothing self.now }
     {
         self.slots.is_fresh()
     }

@@ -1,12 +1,22 @@
 use Rattle.std.proofs.Common.{sym, ap, ◌∙◌, List, ℕ, ◌∷◌}
+use Rattle.std.specs.FinSet.{len as set_len}
 use Rattle.span_core.specs.Span.{number_of}
 use Rattle.span_registry.specs.Kept.{stacks_of}
 use Rattle.span_registry.specs.State.{state_of}
 use Rattle.span_registry.specs.Step.{entered}
 use Rattle.span_registry.specs.Store.{RegistryState, Stacks, with_stack}
+use Rattle.span_registry.proofs.Begins.{has_some}
 use Rattle.span_registry.proofs.Kept.{stack_at, stacks_put}
 use Rattle.span_registry.proofs.States.{on_ok_map}
 use Rattle.span_registry.proofs.registry.RegistrySubscriber.enter.Goals as goal
+
+pub invariant_of-self : goal.invariant_of-self
+invariant_of-self c =
+    let u = c.is_open.ensures.0 c.if-not-is_open.false in
+    record {
+      kept = c.self.invariant.kept;
+      begins = λ none. absurd (has_some _ _ (c.is_sound.ensures.issued (number_of c.args.id) (u.0, u.1)) (ap (λ (s : RegistryState). set_len s.store.issued) (sym c.self.view_is) ∙ none));
+    }
 
 pub returns-clause-entered : goal.returns-clause-entered
 returns-clause-entered c =

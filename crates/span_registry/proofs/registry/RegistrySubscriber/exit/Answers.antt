@@ -9,6 +9,7 @@ use Rattle.span_registry.specs.Step.{exited}
 use Rattle.span_registry.specs.Store.{RegistryState, Stacks, with_stack, stack_of}
 use Rattle.span_registry.specs.Kept.{stacks_of}
 use Rattle.span_registry.specs.State.{state_of}
+use Rattle.span_registry.proofs.Begins.{leaves_none}
 use Rattle.span_registry.proofs.Kept.{stack_at, stacks_put, stacks_none, get_stacks, some_stack}
 use Rattle.span_registry.proofs.registry.RegistrySubscriber.exit.Goals as goal
 
@@ -18,6 +19,13 @@ popped m n k x None e none some =
     ap stacks_of (none refl) ∙ stacks_none (stacks_of m.entries) k x (get_stacks m.entries k ∙ ap some_stack e)
 popped m n k x (Some xs) e none some =
     stacks_put m n k (leave x xs) some ∙ ap (λ (ys : List ℕ). with_stack (stacks_of m.entries) k (leave x ys)) (sym (stack_at m.entries k ∙ ap (λ (o : Option (List ℕ)). unwrap_or o []) e))
+
+pub invariant_of-self : goal.invariant_of-self
+invariant_of-self c = record {
+  kept = c.self.invariant.kept;
+  begins = λ none. popped c.self.inside.stacks c.pop_from.new.stacks c.args.lane.0 (number_of c.args.id) _ refl c.pop_from.ensures.none c.pop_from.ensures.some
+      ∙ leaves_none (stacks_of c.self.inside.stacks.entries) c.args.lane.0 (number_of c.args.id) (c.self.invariant.begins none);
+}
 
 pub returns : goal.returns
 returns c =

@@ -1,20 +1,15 @@
-use Rattle.std.proofs.Common.{◌≡◌, ℕ, List, [], sym, ap, ◌∙◌, Some, is_some, slice_get, Option, true≢false}
+use Rattle.std.proofs.Common.{◌≡◌, ℕ, List, [], sym, ap, ◌∙◌, Some, is_some, slice_get, true≢false}
 use Rattle.std.specs.Ordering.{nat_cmp}
-use Rattle.std.specs.FinMap.{FinMap, get, empty, get-empty, len, len-empty, same_map, nat_cmp-IsAntisymmetric}
-use Rattle.std.specs.Cmp.{nat_cmp_total}
+use Rattle.std.specs.FinMap.{FinMap, get, empty, get-empty, len, len-empty}
 use Rattle.std.specs.List.{count_by}
-use Rattle.std.specs.Option.{option_and_then}
 use Rattle.slab.specs.Slab.{get as under}
 use Rattle.span_registry.specs.Slot.{SlotState}
 use Rattle.span_registry.specs.declared.extensions.ExtensionMap.{ExtensionMap}
-use Rattle.span_registry.proofs.Stored.{found, get-found}
+use Rattle.span_registry.proofs.Stored.{found_none}
 use Rattle.span_registry.proofs.span_store.SpanStore.new.Goals as goal
 
 no_key : (m : FinMap nat_cmp ℕ) (x k : ℕ) → m ≡ empty → get m x ≡ Some k → ⊥
 no_key m x k e is = true≢false (sym (ap is_some is) ∙ ap (λ (m : FinMap nat_cmp ℕ). is_some (get m x)) e ∙ ap is_some (get-empty nat_cmp x))
-
-found_none : {A : Type 0} (f : ℕ → Option A) (m : FinMap nat_cmp ℕ) → m ≡ empty → found f m ≡ empty
-found_none f m e = same_map nat_cmp_total nat_cmp-IsAntisymmetric _ _ (λ q. get-found f m q ∙ ap (λ (m : FinMap nat_cmp ℕ). option_and_then f (get m q)) e ∙ ap (option_and_then f) (get-empty nat_cmp q) ∙ sym (get-empty nat_cmp q))
 
 no_extensions : (es : List ExtensionMap) (k : ℕ) (e : ExtensionMap) → es ≡ [] → slice_get es k ≡ Some e → ⊥
 no_extensions es k e none is = true≢false (sym (ap is_some is) ∙ ap (λ (l : List ExtensionMap). is_some (slice_get l k)) none)
