@@ -264,6 +264,13 @@ module _ {S : Type 0} (registry : S → RegistryState) (with_registry : S → Re
   stays_so f old new e k h =
       ready_again f old new (f, subst (λ x. IsReady registry with_registry has_form stepped levelled f x) (sym e) h.stack, kept_form f, ap (λ x. (registry x).filters) e) k
 
+  -- one that is as it was
+  pub stays_same : (f : Form) (old new : Dispatch S) → new ≡ old → IsReadyBy registry with_registry has_form stepped levelled f old → IsReadyAfter registry with_registry has_form stepped levelled Keeps f new
+  stays_same f old new e h = (f, subst (λ d. IsReadyBy registry with_registry has_form stepped levelled f d) (sym e) h, kept_form f)
+
+  pub same_but : (f : Form) (n : ℕ) (old new : Dispatch S) → new ≡ old → IsReadyBy registry with_registry has_form stepped levelled f old → IsReadyAfter registry with_registry has_form stepped levelled (LevelsForm n) f new
+  same_but f n old new e h = (f, subst (λ d. IsReadyBy registry with_registry has_form stepped levelled f d) (sym e) h, same_levels n f)
+
   -- also where a level was to be set
   pub stays_but : (f : Form) (n : ℕ) (old new : Dispatch S) → stack_of new ≡ stack_of old → KeepsUpToDate f (registry (stack_of old)).filters new → IsReadyBy registry with_registry has_form stepped levelled f old → IsReadyAfter registry with_registry has_form stepped levelled (LevelsForm n) f new
   stays_but f n old new e k h = (f, record { stack = subst (λ x. IsReady registry with_registry has_form stepped levelled f x) (sym e) h.stack; kept = subst (λ x. KeepsUpToDate f (registry x).filters new) (sym e) k }, same_levels n f)

@@ -1,5 +1,5 @@
 -- A journal that is one entry longer.
-use Rattle.std.proofs.Common.{◌≡◌, ℕ, Bool, List, [], ◌∷◌, ◌++◌, Option, Some, None, MatchOption, Result, Ok, Err, IfErr, IsErrAnd, inr, refl, ap, sym, ◌∙◌, subst}
+use Rattle.std.proofs.Common.{◌≡◌, ℕ, Bool, List, [], ◌∷◌, ◌++◌, Option, Some, None, MatchOption, Result, Ok, Err, IfErr, IsErrAnd, inl, inr, refl, ap, sym, ◌∙◌, subst}
 use Rattle.std.proofs.lemmas.Fn.{FoldsTo-push}
 use Rattle.std.specs.Cmp.{eq_by_cmp_equiv, nat_cmp_total}
 use Rattle.std.specs.FinMap.{FinMap, empty, get, get-insert, insert}
@@ -14,7 +14,9 @@ use Rattle.span_core.specs.declared.span.Current.{Current}
 use Rattle.span_core.specs.declared.span.Id.{Id}
 use Rattle.span_core.specs.declared.span.Lane.{Lane}
 use Rattle.span_dispatch.specs.Call.{DropsSpan, FindsOpen}
-use Rattle.span_dispatch.specs.Journal.{AddsSpan, Entry, Happens, IsSpanReceipt, KeepsJournal, Leaves, OrNoMemory, Placed, bare}
+use Rattle.span_dispatch.specs.Journal.{Entry, Happens, KeepsJournal, Leaves, LoggedState, Placed, bare}
+use Rattle.span_dispatch.specs.Logged.{AddsSpan, Answered, Logs, OrNoMemory}
+use Rattle.span_dispatch.specs.Worker.{IsOfSpan}
 use Rattle.span_dispatch.specs.Serve.{stack_of}
 use Rattle.span_dispatch.specs.declared.dispatch.Dispatch.{Dispatch}
 use Rattle.span_dispatch.specs.declared.entry.EntryWith.TheVariants as entry
@@ -28,6 +30,17 @@ use Rattle.span_registry.specs.Subscriber.{AndHooks, SameButExtensions}
 pub refused_too : {T : Type 0} (P : TraceError → Type 0) (e : TraceError) (r : Result T TraceError) → IsErrAnd r (λ y. y ≡ e) → P e → IfErr r (OrNoMemory P)
 refused_too P e (Ok x) h k = tt
 refused_too P e (Err y) h k = inr (subst P (sym h) k)
+
+-- what a logged dispatcher refuses, some dispatcher refuses
+pub some_refuses : {T D : Type 0} (refuses : D → TraceError → Type 0) (d : D) (e : TraceError) (r : Result T TraceError) → IsErrAnd r (λ y. y ≡ e) → OrNoMemory (refuses d) e → IfErr r (OrNoMemory (λ y. (c : D) × refuses c y))
+some_refuses refuses d e (Ok x) h k = tt
+some_refuses refuses d e (Err y) h (inl k) = inl (h ∙ k)
+some_refuses refuses d e (Err y) h (inr k) = inr (d, subst (refuses d) (sym h) k)
+
+-- so is a call served that the dispatcher refuses
+pub logs_refused : {D A : Type 0} (serves : Result A TraceError → D → D → Type 0) (old new : LoggedState D) (e : TraceError) (r : Answered A) → IsErrAnd r (λ y. y ≡ e) → serves (Err e) old.dispatch new.dispatch → Logs serves r old new
+logs_refused serves old new e (Ok x) h k = absurd h
+logs_refused serves old new e (Err y) h k = inr (subst (λ z. serves (Err z) old.dispatch new.dispatch) (sym h) k)
 
 -- where extensions alone differ, the two are the same, extensions aside
 pub bare_same : (s t : RegistryState) → SameButExtensions s t → bare t.store ≡ bare s.store
@@ -101,7 +114,7 @@ pub some_of : (o : Option Id) (A : Type 0) (B : Id → Type 0) (id : Id) → o �
 some_of o A B id e h = subst (λ p. MatchOption p A B) e h
 
 -- the receipt of a new span is of its entry, on its lane
-pub span_receipt : (lane lane' : Lane) (attrs : Attributes) (spans : Spans) (old new : List Entry) (given : Option Id × Placed) → lane ≡ lane' → AddsSpan {D = Unit {0}} lane attrs spans (record { dispatch = tt; journal = old }) (record { dispatch = tt; journal = new }) given → IsSpanReceipt lane' attrs given
+pub span_receipt : (lane lane' : Lane) (attrs : Attributes) (spans : Spans) (old new : List Entry) (given : Option Id × Placed) → lane ≡ lane' → AddsSpan {D = Unit {0}} lane attrs spans (record { dispatch = tt; journal = old }) (record { dispatch = tt; journal = new }) given → IsOfSpan lane' attrs given
 span_receipt lane lane' attrs spans old new (Some id, r) e h = (h.0.verdict, ap (λ (q : Placed). q.entry) h.2.shown ∙ ap (λ l. entry.New l (metadata_of attrs) (asked_parent attrs) h.0.verdict id) e)
 span_receipt lane lane' attrs spans old new (None, r) e h = ap (λ (q : Placed). q.entry) h.shown ∙ ap (λ l. entry.Unmade l (metadata_of attrs)) e
 

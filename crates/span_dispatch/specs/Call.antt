@@ -56,7 +56,7 @@ RefusesLevel f n l (NotSettable m) = (m ≡ n) × (takes_level f n l ≡ false)
 RefusesLevel f n l other = ⊥
 
 -- a lane leaves a span: a notice comes of it where the span is open, else a quiet change
-pub record Leaves (lane : Lane) (id : Id) (s : RegistryState) (os : List Outcome) : Type 0 where
+pub record LeavesSpan (lane : Lane) (id : Id) (s : RegistryState) (os : List Outcome) : Type 0 where
   pub there : IsOpen s.store.spans (number_of id) → os ≡ Noticed lane (OnExit id) ∷ []
   pub gone : ¬ (IsOpen s.store.spans (number_of id)) → os ≡ Quiet (GoneLeft lane id) ∷ []
 
@@ -90,7 +90,7 @@ Comes (SendEvent lane e) memory f s answer.Dropped os = AndNothing (IsDropped me
 Comes (SendEvent lane e) memory f s (answer.Refused error) os = AndNothing (IsUnknown memory f (event_metadata e) error) os
 Comes (Enter lane id) memory f s answer.Done os = AndOne ⊤ (Noticed lane (OnEnter id)) os
 Comes (Enter lane id) memory f s (answer.Refused e) os = AndNothing (RefusesEnter s id e) os
-Comes (Exit lane id) memory f s answer.Done os = Leaves lane id s os
+Comes (Exit lane id) memory f s answer.Done os = LeavesSpan lane id s os
 Comes (RecordValues lane id values) memory f s answer.Done os = AndOne ⊤ (Noticed lane (OnRecord id values)) os
 Comes (RecordValues lane id values) memory f s (answer.Refused e) os = AndNothing (RefusesUnlessOpen s id e) os
 Comes (Follow lane id other) memory f s answer.Done os = AndOne ⊤ (Noticed lane (OnFollows id other)) os

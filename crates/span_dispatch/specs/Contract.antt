@@ -15,11 +15,11 @@ use Rattle.span_core.specs.declared.span.Current.{Current}
 use Rattle.span_core.specs.declared.span.Id.{Id}
 use Rattle.span_core.specs.declared.span.Lane.{Lane}
 use Rattle.span_core.specs.declared.span.Record.{Record}
-use Rattle.span_dispatch.specs.Admission.{IsAdmitted, hint_kept}
+use Rattle.span_dispatch.specs.Admission.{IsAdmitted, MayLearn, hint_kept}
 use Rattle.span_dispatch.specs.Cache.{RefusesInterest}
 use Rattle.span_dispatch.specs.Call.{AddHandle, AskCurrent, Call, DropHandle, DropsSpan, Enter, Exit, Follow, OpenSpan, OpensFor, Probe, RecordValues, SendEvent, SetLevel, current_answer, done_answer, event_answer, span_answer, yes_answer}
 use Rattle.span_dispatch.specs.Outcome.{IsHonest, Made, Makes}
-use Rattle.span_dispatch.specs.Serve.{IsReady, IsReadyAfter, IsReadyBy, IsReadySomehow, KeepsUpToDate, Sees, Served, ServesCall, ServesRequest, kept_by, stack_of}
+use Rattle.span_dispatch.specs.Serve.{IsReady, IsReadyAfter, IsReadyBy, IsReadySomehow, KeepsUpToDate, Sees, Served, ServesCall, ServesRequest, forgetful, kept_by, stack_of, with_stack}
 use Rattle.span_dispatch.specs.declared.dispatch.Dispatch.{Dispatch}
 use Rattle.span_dispatch.specs.declared.request.Answer.TheVariants.{Done}
 use Rattle.span_dispatch.specs.declared.request.Answer.{Answer}
@@ -52,14 +52,50 @@ SubscriberOf S = record {
   registered : S → S → Type 0;
 }
 
+-- why metadata are refused: their interest isn't to be had
+abbrev pub RefusesMetadata : {S : Type 0} → Metadata → Dispatch S → TraceError → Type 0
+RefusesMetadata m d error = RefusesInterest (kept_by d) m error
+
 -- why an event is refused: its interest isn't to be had
 abbrev pub RefusesEvent : {S : Type 0} → Event → Dispatch S → TraceError → Type 0
-RefusesEvent e d error = RefusesInterest (kept_by d) (event_metadata e) error
+RefusesEvent e d error = RefusesMetadata (event_metadata e) d error
+
+-- of callsites, none but that of these metadata may be kept that wasn't
+abbrev pub LearnsOnly : {S : Type 0} → Metadata → Dispatch S → Dispatch S → Type 0
+LearnsOnly m old new = MayLearn (kept_by old) m (kept_by new)
+
+-- the stack is the same
+abbrev pub SameStack : {S : Type 0} → Dispatch S → Dispatch S → Type 0
+SameStack old new = stack_of new ≡ stack_of old
+
+-- nothing changes but the stack
+abbrev pub ChangesStack : {S : Type 0} → Dispatch S → Dispatch S → Type 0
+ChangesStack old new = new ≡ with_stack old (stack_of new)
+
+-- nothing changes but the stack, and all that was kept of callsites is forgotten
+abbrev pub Forgets : {S : Type 0} → Dispatch S → Dispatch S → Type 0
+Forgets old new = new ≡ forgetful (with_stack old (stack_of new))
 
 module _ {S : Type 0} (s : SubscriberOf S) where
   -- the registry of a dispatcher's stack
   abbrev pub registry_of : Dispatch S → RegistryState
   registry_of d = s.registry (stack_of d)
+
+  -- the registry is the same
+  abbrev pub SameRegistry : Dispatch S → Dispatch S → Type 0
+  SameRegistry old new = registry_of new ≡ registry_of old
+
+  -- why the registry refuses what is asked of a span
+  abbrev pub Refuses : (RegistryState → Id → TraceError → Type 0) → Id → Dispatch S → TraceError → Type 0
+  Refuses refuses id d e = refuses (registry_of d) id e
+
+  -- the current span of a lane is this one
+  abbrev pub Shows : Lane → Dispatch S → Current → Type 0
+  Shows lane d current = step.ShowsCurrent (registry_of d).store lane current
+
+  -- the stack goes on as one does whose filter with this number is given this level
+  abbrev pub GivesLevel : ℕ → LevelFilter → Dispatch S → Dispatch S → Type 0
+  GivesLevel n l old new = s.levelled (stack_of old) n l (stack_of new)
 
   -- its stack is honest by this form
   abbrev pub HonestBy : Form → Dispatch S → Type 0
@@ -245,9 +281,13 @@ module _ {S : Type 0} (s : SubscriberOf S) where
   TakesHandle id old new true =
       (released : RegistryState) × Releases id Closing (registry_of old) released × ((closed : List ℕ) × Removal SameButExtensions released id closed None (registry_of new))
 
-  -- where no span was closing before, what closes by a drop is all that should
+  -- what closes by a drop is all that should
+  abbrev pub DropsAll : Id → Dispatch S → Dispatch S → Bool → Type 0
+  DropsAll id old new closes = TakesStep (DropsSpan id closes) old new
+
+  -- so it is where no span was closing before
   abbrev pub DropsSettled : Id → Dispatch S → Dispatch S → Bool → Type 0
-  DropsSettled id old new closes = IsSettled (registry_of old).store.spans → TakesStep (DropsSpan id closes) old new
+  DropsSettled id old new closes = IsSettled (registry_of old).store.spans → DropsAll id old new closes
 
   -- where no span was closing, none is
   abbrev pub StaysSettled : Dispatch S → Dispatch S → Type 0

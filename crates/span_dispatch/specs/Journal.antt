@@ -1,16 +1,12 @@
 -- A journal of requests: when an entry may happen in a store, and which store it leaves.
-use Rattle.std.specs.Prelude.{◌≡◌, ◌↔◌, ◌⊎◌, ℕ, ◌+◌, Bool, false, IsTrue, List, [], ◌∷◌, ◌++◌, Option, Some, None, length}
-use Rattle.std.specs.FinMap.{empty, get, insert}
+use Rattle.std.specs.Prelude.{◌≡◌, ◌↔◌, ℕ, Bool, false, IsTrue, List, [], ◌∷◌, ◌++◌, Option, Some, length, slice_get}
+use Rattle.std.specs.FinMap.{empty, insert}
 use Rattle.std.specs.FinSet.{contains, insert as add}
 use Rattle.std.specs.List.{FoldsTo}
 use Rattle.std.specs.Option.{option_map}
-use Rattle.span_core.specs.Span.{asked_parent, metadata_of, number_of}
-use Rattle.span_core.specs.declared.error.TraceError.TheVariants.{OutOfMemory}
-use Rattle.span_core.specs.declared.error.TraceError.{TraceError}
+use Rattle.span_core.specs.Span.{number_of}
 use Rattle.span_core.specs.declared.filter.FilterMap.{FilterMap}
-use Rattle.span_core.specs.declared.level.LevelFilter.{LevelFilter}
 use Rattle.span_core.specs.declared.metadata.Metadata.{Metadata}
-use Rattle.span_core.specs.declared.span.Attributes.{Attributes}
 use Rattle.span_core.specs.declared.span.Id.{Id}
 use Rattle.span_core.specs.declared.span.Lane.{Lane}
 use Rattle.span_dispatch.specs.Serve.{stack_of}
@@ -19,7 +15,7 @@ use Rattle.span_dispatch.specs.declared.entry.EntryWith.TheVariants.{New, Unmade
 use Rattle.span_dispatch.specs.declared.entry.EntryWith.{EntryWith}
 use Rattle.span_registry.specs.Closes.{Closes, IsSettled, Member, remove_all}
 use Rattle.span_registry.specs.Step.{AskedSpan, IsCurrent, IsParentFor, begun, entered, exited}
-use Rattle.span_registry.specs.Store.{IsHeld, IsOpen, RegistryState, Span, Spans, Store, add_handle, empty_store, take_handle}
+use Rattle.span_registry.specs.Store.{IsHeld, IsOpen, RegistryState, Store, add_handle, empty_store, take_handle}
 
 -- an entry of a journal: an accepted request, with its lane and its answer
 abbrev pub Entry : Type 0
@@ -64,16 +60,32 @@ Happens s (Current lane o) t = IsCurrent s lane.0 (option_map number_of o) × (t
 abbrev pub Leaves : List Entry → Store → Type 0
 Leaves journal s = FoldsTo Happens empty_store journal (bare s)
 
+-- no two stores are left by them, extensions aside
+abbrev pub LeavesOne : List Entry → Type 0
+LeavesOne journal = (s t : Store) → Leaves journal s → Leaves journal t → bare s ≡ bare t
+
+-- one thread could have made them: they leave some store
+abbrev pub IsLegal : List Entry → Type 0
+IsLegal journal = (s : Store) × Leaves journal s
+
 -- what is kept between the calls of a logged dispatcher: it may be called, its journal leaves its store, and no span is closing
 pub record KeepsJournal {S : Type 0} (registry : S → RegistryState) (usable : S → Type 0) (d : Dispatch S) (journal : List Entry) : Type 0 where
   pub may : usable (stack_of d)
   pub leaves : Leaves journal (registry (stack_of d)).store
   pub settled : IsSettled (registry (stack_of d)).store.spans
 
--- a place of a journal, and the entry that stands there
+-- a place, and an entry
 pub record Placed : Type 0 where
   pub place : ℕ
   pub entry : Entry
+
+-- the entry stands at its place in the journal
+abbrev pub Stands : List Entry → Placed → Type 0
+Stands journal p = slice_get journal p.place ≡ Some p.entry
+
+-- the same, but for where the texts of metadata lie: by an equality that is decided
+abbrev pub holds_by : (Option Entry → Option Entry → Bool) → List Entry → Placed → Bool
+holds_by eq journal p = eq (slice_get journal p.place) (Some p.entry)
 
 -- a dispatcher with its journal
 pub record LoggedState (D : Type 0) : Type 0 where
@@ -85,44 +97,7 @@ pub record Adds (e : Entry) (old : List Entry) (receipt : Placed) (new : List En
   pub shown : receipt ≡ record { place = length old; entry = e }
   pub journal : new ≡ old ++ e ∷ []
 
--- an answer and a receipt: the entry of that answer was put behind the journal
-abbrev pub AddsEntry : {D A : Type 0} → (A → Entry) → LoggedState D → LoggedState D → A × Placed → Type 0
-AddsEntry entry old new given = Adds (entry given.0) old.journal given.1 new.journal
-
--- whether a new span was made, and a receipt: its entry was put behind the journal, with the verdict that these spans keep of it
-abbrev pub AddsSpan : {D : Type 0} → Lane → Attributes → Spans → LoggedState D → LoggedState D → Option Id × Placed → Type 0
-AddsSpan lane attrs spans old new (None, receipt) = Adds (Unmade lane (metadata_of attrs)) old.journal receipt new.journal
-AddsSpan lane attrs spans old new (Some id, receipt) =
-    (kept : Span) × (get spans (number_of id) ≡ Some kept) × Adds (New lane (metadata_of attrs) (asked_parent attrs) kept.verdict id) old.journal receipt new.journal
-
--- nothing changed but what is kept of callsites
+-- the stack and the journal are the same
 pub record KeepsStack {S : Type 0} (old new : LoggedState (Dispatch S)) : Type 0 where
   pub stack : stack_of new.dispatch ≡ stack_of old.dispatch
   pub journal : new.journal ≡ old.journal
-
--- refused for want of memory for the journal, else as the dispatcher refuses
-abbrev pub OrNoMemory : (TraceError → Type 0) → TraceError → Type 0
-OrNoMemory refuses e = (e ≡ OutOfMemory) ⊎ refuses e
-
--- a worker's lane, the hint that it was made with, and how many of its calls were accepted
-pub record WorkerState : Type 0 where
-  pub lane : Lane
-  pub hint : Option LevelFilter
-  pub calls : ℕ
-
--- a worker as it begins
-abbrev pub new_worker : Lane → Option LevelFilter → WorkerState
-new_worker lane hint = record { lane = lane; hint = hint; calls = 0 }
-
--- the worker, one call later
-abbrev pub called : WorkerState → WorkerState
-called w = record w { calls = w.calls + 1 }
-
--- an answer and a receipt, which is of the entry of that answer
-abbrev pub IsReceiptOf : {A : Type 0} → (A → Entry) → A × Placed → Type 0
-IsReceiptOf entry given = given.1.entry ≡ entry given.0
-
--- whether a new span was made, and a receipt, which is of its entry
-abbrev pub IsSpanReceipt : Lane → Attributes → Option Id × Placed → Type 0
-IsSpanReceipt lane attrs (None, receipt) = receipt.entry ≡ Unmade lane (metadata_of attrs)
-IsSpanReceipt lane attrs (Some id, receipt) = (verdict : FilterMap) × (receipt.entry ≡ New lane (metadata_of attrs) (asked_parent attrs) verdict id)

@@ -4,13 +4,12 @@ ghost use Rattle.std.specs.Prelude.{◌≡◌, ℕ, None, Ok, Some, true, false,
 ghost use Rattle.span_core.specs.Event.{event_metadata};
 ghost use Rattle.span_core.specs.Filters.{IsEmpty};
 ghost use Rattle.span_core.specs.Span.{metadata_of, number_of};
-ghost use Rattle.span_dispatch.specs.Admission.{MayLearn};
-ghost use Rattle.span_dispatch.specs.Cache.{RefusesInterest, no_callsite};
+ghost use Rattle.span_dispatch.specs.Cache.{no_callsite};
 ghost use Rattle.span_dispatch.specs.Call.{FindsOpen, RefusesUnlessOpen};
-ghost use Rattle.span_dispatch.specs.Contract.{Admits, AsksStack, BecomesReady, ChangesLevel, DropsSettled, LeavesGone, OpensByPass, OpensIfMade, RefusesEvent, RefusesSpan, SeesWhatIsMade, ServesClone, ServesCurrent, ServesDrop, ServesEnabled, ServesEnter, ServesEvent, ServesExit, ServesFollows, ServesLevel, ServesNewSpan, ServesRecord, ShowsHint, StaysReady, StaysReadyBut, StaysSettled, StaysUpToDate, TakesHandle, TakesLevel, TakesStep, TakesStepAlone, WantsEvent, WantsMetadata, WantsSpan};
+ghost use Rattle.span_dispatch.specs.Contract.{Admits, AsksStack, BecomesReady, ChangesLevel, ChangesStack, DropsSettled, Forgets, GivesLevel, LearnsOnly, LeavesGone, OpensByPass, OpensIfMade, Refuses, RefusesEvent, RefusesMetadata, RefusesSpan, SameRegistry, SameStack, SeesWhatIsMade, ServesClone, ServesCurrent, ServesDrop, ServesEnabled, ServesEnter, ServesEvent, ServesExit, ServesFollows, ServesLevel, ServesNewSpan, ServesRecord, Shows, ShowsHint, StaysReady, StaysReadyBut, StaysSettled, StaysUpToDate, TakesHandle, TakesLevel, TakesStep, TakesStepAlone, WantsEvent, WantsMetadata, WantsSpan};
 ghost use Rattle.span_dispatch.specs.contracts.dispatch.Dispatch.{the_row};
 ghost use Rattle.span_dispatch.specs.Serve.{ClosesEach, KeepsUpToDate, forgetful, kept_by, stack_of, with_stack};
-ghost use Rattle.span_registry.specs.Step.{Clones, Enters, Exits, RefusesClone, RefusesEnter, RefusesRelease, ShowsCurrent};
+ghost use Rattle.span_registry.specs.Step.{Clones, Enters, Exits, RefusesClone, RefusesEnter, RefusesRelease};
 ghost use Rattle.span_registry.specs.Form.{Form};
 ghost use Rattle.span_registry.specs.Hooks.{Stays};
 ghost use Rattle.span_registry.specs.Question.{refusals};
@@ -107,12 +106,12 @@ impl<S: Subscriber> Dispatch<S> {
     fn admits(&mut self, lane: Lane, meta: &Metadata, pass: &mut Pass) -> Result<bool, TraceError>
         requires usable { S.usable (stack_of self.old) }
         requires fresh { IsEmpty (refusals pass.old) }
-        ensures stack { stack_of self.new ≡ stack_of self.old }
+        ensures stack { SameStack self.old self.new }
         ensures admitted { Admits S.Subscriber lane meta.now self.old pass.new result self.new }
         ensures kept { StaysUpToDate S.Subscriber self.old self.new }
-        ensures learned { MayLearn (kept_by self.old) meta.now (kept_by self.new) }
+        ensures learned { LearnsOnly meta.now self.old self.new }
         ensures afresh { AsksStack S.Subscriber lane meta.now self.old pass.old result pass.new }
-        ensures refused { IfErr result (RefusesInterest (kept_by self.old) meta.now) }
+        ensures refused { IfErr result (RefusesMetadata meta.now self.old) }
     {
         match self.cache.interest(self.alloc, &self.stack, meta) {
             Err(error) => Err(error),
@@ -129,14 +128,14 @@ impl<S: Subscriber> Dispatch<S> {
     /// of memory where it isn't kept; never under `fresh`.
     pub fn enabled(&mut self, lane: Lane, meta: &Metadata) -> Result<bool, TraceError>
         requires { S.usable (stack_of self.old) }
-        ensures stack { stack_of self.new ≡ stack_of self.old }
-        ensures kept { MayLearn (kept_by self.old) meta.now (kept_by self.new) }
+        ensures stack { SameStack self.old self.new }
+        ensures kept { LearnsOnly meta.now self.old self.new }
         ensures up_to_date { StaysUpToDate S.Subscriber self.old self.new }
         ensures ready { StaysReady S.Subscriber self.old self.new }
         ensures asked { IfOk result (WantsMetadata S.Subscriber lane meta.now self.old) }
         ensures served { ServesEnabled S.Subscriber lane meta.now result self.old self.new }
         ensures seen { SeesWhatIsMade S.Subscriber self.old self.new }
-        ensures refused { IfErr result (RefusesInterest (kept_by self.old) meta.now) }
+        ensures refused { IfErr result (RefusesMetadata meta.now self.old) }
     {
         let mut pass = Pass::new();
         self.admits(lane, meta, &mut pass)
@@ -150,7 +149,7 @@ impl<S: Subscriber> Dispatch<S> {
     pub fn new_span(&mut self, lane: Lane, attrs: &Attributes<'_>) -> Result<Option<Id>, TraceError>
         requires { S.usable (stack_of self.old) }
         ensures usable { S.usable (stack_of self.new) }
-        ensures kept { MayLearn (kept_by self.old) (metadata_of attrs.now) (kept_by self.new) }
+        ensures kept { LearnsOnly (metadata_of attrs.now) self.old self.new }
         ensures up_to_date { StaysUpToDate S.Subscriber self.old self.new }
         ensures ready { StaysReady S.Subscriber self.old self.new }
         ensures served { ServesNewSpan S.Subscriber lane attrs.now result self.old self.new }
@@ -158,7 +157,7 @@ impl<S: Subscriber> Dispatch<S> {
         ensures asked { WantsSpan S.Subscriber lane attrs.now self.old result }
         ensures store { IfOk result (OpensIfMade S.Subscriber lane attrs.now self.old self.new) }
         ensures refused { IfErr result (RefusesSpan S.Subscriber lane attrs.now self.old) }
-        ensures unchanged { OnErr result (stack_of self.new ≡ stack_of self.old) }
+        ensures unchanged { OnErr result (SameStack self.old self.new) }
     {
         let mut pass = Pass::new();
         self.open(lane, attrs, &mut pass)
@@ -175,7 +174,7 @@ impl<S: Subscriber> Dispatch<S> {
         requires usable { S.usable (stack_of self.old) }
         requires fresh { IsEmpty (refusals pass.old) }
         ensures usable { S.usable (stack_of self.new) }
-        ensures kept { MayLearn (kept_by self.old) (metadata_of attrs.now) (kept_by self.new) }
+        ensures kept { LearnsOnly (metadata_of attrs.now) self.old self.new }
         ensures up_to_date { StaysUpToDate S.Subscriber self.old self.new }
         ensures ready { StaysReady S.Subscriber self.old self.new }
         ensures served { ServesNewSpan S.Subscriber lane attrs.now result self.old self.new }
@@ -183,7 +182,7 @@ impl<S: Subscriber> Dispatch<S> {
         ensures asked { WantsSpan S.Subscriber lane attrs.now self.old result }
         ensures store { IfOk result (OpensByPass S.Subscriber lane attrs.now pass.new self.old self.new) }
         ensures refused { IfErr result (RefusesSpan S.Subscriber lane attrs.now self.old) }
-        ensures unchanged { OnErr result (stack_of self.new ≡ stack_of self.old) }
+        ensures unchanged { OnErr result (SameStack self.old self.new) }
     {
         match self.admits(lane, &attrs.metadata(), pass) {
             Err(error) => Err(error),
@@ -200,16 +199,16 @@ impl<S: Subscriber> Dispatch<S> {
     pub fn event(&mut self, lane: Lane, event: &Event<'_>) -> Result<bool, TraceError>
         requires { S.usable (stack_of self.old) }
         ensures usable { S.usable (stack_of self.new) }
-        ensures kept { MayLearn (kept_by self.old) (event_metadata event.now) (kept_by self.new) }
+        ensures kept { LearnsOnly (event_metadata event.now) self.old self.new }
         ensures up_to_date { StaysUpToDate S.Subscriber self.old self.new }
         ensures ready { StaysReady S.Subscriber self.old self.new }
         ensures served { ServesEvent S.Subscriber lane event.now result self.old self.new }
         ensures seen { SeesWhatIsMade S.Subscriber self.old self.new }
         ensures store { TakesStep S.Subscriber Stays self.old self.new }
-        ensures dropped { result ≡ Ok false → stack_of self.new ≡ stack_of self.old }
+        ensures dropped { result ≡ Ok false → SameStack self.old self.new }
         ensures asked { IfOk result (WantsEvent S.Subscriber lane event.now self.old) }
         ensures refused { IfErr result (RefusesEvent event.now self.old) }
-        ensures unchanged { OnErr result (stack_of self.new ≡ stack_of self.old) }
+        ensures unchanged { OnErr result (SameStack self.old self.new) }
     {
         let mut pass = Pass::new();
         match self.admits(lane, &event.metadata(), &mut pass) {
@@ -229,12 +228,12 @@ impl<S: Subscriber> Dispatch<S> {
     pub fn enter(&mut self, lane: Lane, id: Id) -> Result<(), TraceError>
         requires { S.usable (stack_of self.old) }
         ensures usable { S.usable (stack_of self.new) }
-        ensures rest { self.new ≡ with_stack self.old (stack_of self.new) }
+        ensures rest { ChangesStack self.old self.new }
         ensures ready { StaysReady S.Subscriber self.old self.new }
         ensures served { ServesEnter S.Subscriber lane id result self.old self.new }
         ensures seen { SeesWhatIsMade S.Subscriber self.old self.new }
         ensures store { OnOk result (TakesStep S.Subscriber (Enters lane id) self.old self.new) }
-        ensures refused { IfErr result (RefusesEnter (S.registry (stack_of self.old)) id) }
+        ensures refused { IfErr result (Refuses S.Subscriber RefusesEnter id self.old) }
         ensures unchanged { OnErr result (self.new ≡ self.old) }
     {
         self.stack.enter(lane, id)
@@ -244,7 +243,7 @@ impl<S: Subscriber> Dispatch<S> {
     pub fn exit(&mut self, lane: Lane, id: Id)
         requires { S.usable (stack_of self.old) }
         ensures usable { S.usable (stack_of self.new) }
-        ensures rest { self.new ≡ with_stack self.old (stack_of self.new) }
+        ensures rest { ChangesStack self.old self.new }
         ensures ready { StaysReady S.Subscriber self.old self.new }
         ensures served { ServesExit S.Subscriber lane id self.old self.new }
         ensures seen { SeesWhatIsMade S.Subscriber self.old self.new }
@@ -262,12 +261,12 @@ impl<S: Subscriber> Dispatch<S> {
     pub fn record(&mut self, lane: Lane, id: Id, values: &Record<'_>) -> Result<(), TraceError>
         requires { S.usable (stack_of self.old) }
         ensures usable { S.usable (stack_of self.new) }
-        ensures rest { self.new ≡ with_stack self.old (stack_of self.new) }
+        ensures rest { ChangesStack self.old self.new }
         ensures ready { StaysReady S.Subscriber self.old self.new }
         ensures served { ServesRecord S.Subscriber lane id values.now result self.old self.new }
         ensures seen { SeesWhatIsMade S.Subscriber self.old self.new }
         ensures store { OnOk result (TakesStep S.Subscriber (FindsOpen id) self.old self.new) }
-        ensures refused { IfErr result (RefusesUnlessOpen (S.registry (stack_of self.old)) id) }
+        ensures refused { IfErr result (Refuses S.Subscriber RefusesUnlessOpen id self.old) }
         ensures unchanged { OnErr result (self.new ≡ self.old) }
     {
         if !self.stack.root().is_open(id) {
@@ -281,12 +280,12 @@ impl<S: Subscriber> Dispatch<S> {
     pub fn follows_from(&mut self, lane: Lane, id: Id, follows: Id) -> Result<(), TraceError>
         requires { S.usable (stack_of self.old) }
         ensures usable { S.usable (stack_of self.new) }
-        ensures rest { self.new ≡ with_stack self.old (stack_of self.new) }
+        ensures rest { ChangesStack self.old self.new }
         ensures ready { StaysReady S.Subscriber self.old self.new }
         ensures served { ServesFollows S.Subscriber lane id follows result self.old self.new }
         ensures seen { SeesWhatIsMade S.Subscriber self.old self.new }
         ensures store { OnOk result (TakesStep S.Subscriber (FindsOpen id) self.old self.new) }
-        ensures refused { IfErr result (RefusesUnlessOpen (S.registry (stack_of self.old)) id) }
+        ensures refused { IfErr result (Refuses S.Subscriber RefusesUnlessOpen id self.old) }
         ensures unchanged { OnErr result (self.new ≡ self.old) }
     {
         let registry = self.stack.root();
@@ -301,13 +300,13 @@ impl<S: Subscriber> Dispatch<S> {
     pub fn clone_span(&mut self, lane: Lane, id: Id) -> Result<Id, TraceError>
         requires { S.usable (stack_of self.old) }
         ensures usable { S.usable (stack_of self.new) }
-        ensures rest { self.new ≡ with_stack self.old (stack_of self.new) }
+        ensures rest { ChangesStack self.old self.new }
         ensures ready { StaysReady S.Subscriber self.old self.new }
         ensures same { IfOk result (λ cloned. cloned ≡ id) }
         ensures served { ServesClone S.Subscriber lane id result self.old self.new }
         ensures seen { SeesWhatIsMade S.Subscriber self.old self.new }
         ensures store { OnOk result (TakesStepAlone S.Subscriber (Clones id) self.old self.new) }
-        ensures refused { IfErr result (RefusesClone (S.registry (stack_of self.old)) id) }
+        ensures refused { IfErr result (Refuses S.Subscriber RefusesClone id self.old) }
         ensures unchanged { OnErr result (self.new ≡ self.old) }
     {
         self.stack.clone_span(lane, id)
@@ -320,14 +319,14 @@ impl<S: Subscriber> Dispatch<S> {
     pub fn drop_span(&mut self, lane: Lane, id: Id) -> Result<bool, TraceError>
         requires { S.usable (stack_of self.old) }
         ensures usable { S.usable (stack_of self.new) }
-        ensures rest { self.new ≡ with_stack self.old (stack_of self.new) }
+        ensures rest { ChangesStack self.old self.new }
         ensures ready { StaysReady S.Subscriber self.old self.new }
         ensures served { ServesDrop S.Subscriber lane id result self.old self.new }
         ensures seen { SeesWhatIsMade S.Subscriber self.old self.new }
         ensures taken { IfOk result (TakesHandle S.Subscriber id self.old self.new) }
         ensures store { IfOk result (DropsSettled S.Subscriber id self.old self.new) }
         ensures settled { StaysSettled S.Subscriber self.old self.new }
-        ensures refused { IfErr result (RefusesRelease (S.registry (stack_of self.old)) id) }
+        ensures refused { IfErr result (Refuses S.Subscriber RefusesRelease id self.old) }
         ensures unchanged { OnErr result (self.new ≡ self.old) }
     {
         match self.stack.root_mut().release(id) {
@@ -349,15 +348,15 @@ impl<S: Subscriber> Dispatch<S> {
     pub fn set_level(&mut self, number: u32, level: LevelFilter) -> Result<(), TraceError>
         requires { S.usable (stack_of self.old) }
         ensures usable { S.usable (stack_of self.new) }
-        ensures registry { S.registry (stack_of self.new) ≡ S.registry (stack_of self.old) }
+        ensures registry { SameRegistry S.Subscriber self.old self.new }
         ensures ready { StaysReadyBut S.Subscriber number self.old self.new }
         ensures served { ServesLevel S.Subscriber number level result self.old self.new }
         ensures seen { SeesWhatIsMade S.Subscriber self.old self.new }
-        ensures level { OnOk result (S.levelled (stack_of self.old) number level (stack_of self.new)) }
+        ensures level { OnOk result (GivesLevel S.Subscriber number level self.old self.new) }
         ensures taken { OnOk result (TakesLevel S.Subscriber number level self.old true) }
         ensures none { OnErr result (TakesLevel S.Subscriber number level self.old false) }
         ensures rest { ChangesLevel S.Subscriber number self.old self.new }
-        ensures forgets { OnOk result (self.new ≡ forgetful (with_stack self.old (stack_of self.new))) }
+        ensures forgets { OnOk result (Forgets self.old self.new) }
         ensures refused { IfErr result (λ e. e ≡ TraceError.NotSettable number) }
         ensures unchanged { OnErr result (self.new ≡ self.old) }
     {
@@ -370,7 +369,7 @@ impl<S: Subscriber> Dispatch<S> {
 
     /// The span that a lane is in.
     pub fn current_span(&self, lane: Lane) -> Current
-        ensures shown { ShowsCurrent (S.registry (stack_of self.now)).store lane result }
+        ensures shown { Shows S.Subscriber lane self.now result }
         ensures served { ServesCurrent S.Subscriber lane result self.now }
         ensures seen { SeesWhatIsMade S.Subscriber self.now self.now }
     {

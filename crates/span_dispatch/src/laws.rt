@@ -1,9 +1,8 @@
 //! Laws, for proofs above: no call does anything.
 ghost use Rattle.span_dispatch.specs.Alone.{Alone};
 ghost use Rattle.span_dispatch.specs.Isolation.{PathsActAlike, SeeTheSame, SeesMade, SeesServed};
-ghost use Rattle.span_dispatch.specs.Journal.{Entry, Leaves, bare};
+ghost use Rattle.span_dispatch.specs.Journal.{Entry, LeavesOne};
 ghost use Rattle.span_registry.specs.Conducts.{ArePlainConducts, Conducts};
-ghost use Rattle.span_registry.specs.Store.{Store};
 ghost use Rattle.std.specs.Prelude.{◌≡◌, List};
 
 use span_registry::Subscriber;
@@ -28,7 +27,7 @@ pub fn other_layers_make_no_difference<S: Subscriber, T: Subscriber>()
 
 /// One journal leaves one store, extensions aside.
 pub fn one_journal_leaves_one_store()
-    ensures { (journal : List Entry) (s t : Store) → Leaves journal s → Leaves journal t → bare s ≡ bare t }
+    ensures { (journal : List Entry) → LeavesOne journal }
 {
     span_registry::laws::closes_once();
 }

@@ -1,17 +1,16 @@
 //! The accepted requests of a dispatcher, in order, and a dispatcher that keeps them.
-ghost use Rattle.std.specs.Option.{option_map};
-ghost use Rattle.std.specs.Prelude.{◌≡◌, ◌<◌, ◌↔◌, [], IsTrue, Ok, OnErr, OnOk, IfErr, IfOk, Some, false, true, length, slice_get, vec_capacity, vec_len};
-ghost use Rattle.span_core.specs.Event.{event_metadata, event_parent};
-ghost use Rattle.span_core.specs.Span.{asked_parent, current_span, metadata_of};
-ghost use Rattle.span_dispatch.specs.Admission.{MayLearn};
-ghost use Rattle.span_dispatch.specs.Cache.{RefusesInterest};
-ghost use Rattle.span_dispatch.specs.Call.{DropsSpan, FindsOpen, RefusesUnlessOpen};
-ghost use Rattle.span_dispatch.specs.Contract.{ChangesLevel, LeavesGone, OpensIfMade, RefusesEvent, RefusesSpan, SeesWhatIsMade, ServesClone, ServesCurrent, ServesDrop, ServesEnabled, ServesEnter, ServesEvent, ServesExit, ServesFollows, ServesLevel, ServesNewSpan, ServesRecord, StaysReady, StaysReadyBut, StaysSettled, StaysUpToDate, TakesHandle, TakesLevel, TakesStep, TakesStepAlone, WantsEvent, WantsMetadata, WantsSpan, registry_of};
-ghost use Rattle.span_dispatch.specs.Journal.{Adds, AddsEntry, AddsSpan, KeepsStack, Leaves, OrNoMemory};
-ghost use Rattle.span_dispatch.specs.Serve.{forgetful, kept_by, stack_of, with_stack};
+ghost use Rattle.std.specs.Prelude.{◌≡◌, ◌<◌, ◌↔◌, [], IsTrue, OnErr, OnOk, IfErr, IfOk, Some, false, true, length, slice_get, vec_capacity, vec_len};
+ghost use Rattle.span_core.specs.Event.{event_metadata};
+ghost use Rattle.span_core.specs.Span.{metadata_of};
+ghost use Rattle.span_dispatch.specs.Call.{FindsOpen, RefusesUnlessOpen};
+ghost use Rattle.span_dispatch.specs.Contract.{ChangesLevel, ChangesStack, DropsAll, Forgets, GivesLevel, LearnsOnly, LeavesGone, OpensIfMade, Refuses, RefusesEvent, RefusesMetadata, RefusesSpan, SameRegistry, SameStack, SeesWhatIsMade, Shows, StaysReady, StaysReadyBut, StaysUpToDate, TakesHandle, TakesLevel, TakesStep, TakesStepAlone, WantsEvent, WantsMetadata};
+ghost use Rattle.span_dispatch.specs.Journal.{Adds, KeepsStack, Leaves, Stands, holds_by};
+ghost use Rattle.span_dispatch.specs.Logged.{AddsDone, AddsEntry, AddsNewSpan, IfDone, IfGiven, IfRefused, IfTold, LogsClone, LogsCurrent, LogsDrop, LogsEnabled, LogsEnter, LogsEvent, LogsExit, LogsFollows, LogsLevel, LogsNewSpan, LogsRecord, LogsWanted, NoneTakes, On, OrNoMemory, current_entry, event_entry};
+ghost use Rattle.span_dispatch.specs.Serve.{stack_of};
+ghost use Rattle.span_registry.specs.Closes.{IsSettled};
 ghost use Rattle.span_registry.specs.Hooks.{Stays};
-ghost use Rattle.span_registry.specs.Step.{Clones, Enters, Exits, RefusesClone, RefusesEnter, RefusesRelease, ShowsCurrent};
-ghost use Rattle.span_registry.specs.Store.{empty_store};
+ghost use Rattle.span_registry.specs.Step.{Clones, Enters, Exits, RefusesClone, RefusesEnter, RefusesRelease};
+ghost use Rattle.span_registry.specs.Store.{IsFresh};
 
 use crate::dispatch::Dispatch;
 use crate::entry::{Entry, EntryWith};
@@ -72,8 +71,8 @@ impl Journal {
 
     /// Whether the receipt's entry stands at its place.
     pub fn holds(&self, receipt: &Receipt) -> bool
-        ensures same { result ≡ ⟦<Option<Entry> as PartialEq>⟧.eq (slice_get self.now receipt.now.place) (Some receipt.now.entry) }
-        ensures held { slice_get self.now receipt.now.place ≡ Some receipt.now.entry → IsTrue result }
+        ensures same { result ≡ holds_by ⟦<Option<Entry> as PartialEq>⟧.eq self.now receipt.now }
+        ensures held { Stands self.now receipt.now → IsTrue result }
     {
         is_same(&self.get(receipt.place), &Some(receipt.entry))
     }
@@ -152,7 +151,7 @@ impl<S: Subscriber> Logged<S> {
     /// A dispatcher whose registry is fresh, with no entry.
     pub fn new(alloc: Global, dispatch: Dispatch<S>) -> Logged<S>
         requires usable { S.usable (stack_of dispatch) }
-        requires fresh { (S.registry (stack_of dispatch)).store ≡ empty_store }
+        requires fresh { IsFresh (S.registry (stack_of dispatch)) }
         ensures dispatch { result.dispatch ≡ dispatch }
         ensures journal { result.journal ≡ [] }
     {
@@ -166,6 +165,7 @@ impl<S: Subscriber> Logged<S> {
     pub fn dispatch(&self) -> &Dispatch<S>
         ensures dispatch { result.now ≡ self.now.dispatch }
         ensures usable { S.usable (stack_of result.now) }
+        ensures settled { IsSettled (S.registry (stack_of result.now)).store.spans }
     {
         &self.dispatch
     }
@@ -184,6 +184,7 @@ impl<S: Subscriber> Logged<S> {
         ensures journal { result.1 ≡ self.journal }
         ensures usable { S.usable (stack_of result.0) }
         ensures leaves { Leaves result.1 (S.registry (stack_of result.0)).store }
+        ensures settled { IsSettled (S.registry (stack_of result.0)).store.spans }
     {
         let Logged { dispatch, journal } = self;
         (dispatch, journal)
@@ -191,16 +192,16 @@ impl<S: Subscriber> Logged<S> {
 
     /// Asks as `Dispatch::enabled` does.
     pub fn enabled(&mut self, lane: Lane, meta: &Metadata) -> Result<(bool, Receipt), TraceError>
-        ensures stack { stack_of self.new.dispatch ≡ stack_of self.old.dispatch }
-        ensures kept { MayLearn (kept_by self.old.dispatch) meta.now (kept_by self.new.dispatch) }
-        ensures up_to_date { StaysUpToDate S.Subscriber self.old.dispatch self.new.dispatch }
-        ensures ready { OnOk result (StaysReady S.Subscriber self.old.dispatch self.new.dispatch) }
-        ensures asked { IfOk result (λ r. WantsMetadata S.Subscriber lane meta.now self.old.dispatch r.0) }
-        ensures served { IfOk result (λ r. ServesEnabled S.Subscriber lane meta.now (Ok r.0) self.old.dispatch self.new.dispatch) }
-        ensures seen { OnOk result (SeesWhatIsMade S.Subscriber self.old.dispatch self.new.dispatch) }
-        ensures refused { IfErr result (OrNoMemory (RefusesInterest (kept_by self.old.dispatch) meta.now)) }
+        ensures stack { On SameStack self.old self.new }
+        ensures kept { On (LearnsOnly meta.now) self.old self.new }
+        ensures up_to_date { On (StaysUpToDate S.Subscriber) self.old self.new }
+        ensures ready { On (StaysReady S.Subscriber) self.old self.new }
+        ensures asked { IfTold (WantsMetadata S.Subscriber lane meta.now) result self.old }
+        ensures served { LogsEnabled S.Subscriber lane meta.now result self.old self.new }
+        ensures seen { IfDone (SeesWhatIsMade S.Subscriber) result self.old self.new }
+        ensures refused { IfRefused (RefusesMetadata meta.now) result self.old }
         ensures unchanged { OnErr result (KeepsStack self.old self.new) }
-        ensures added { IfOk result (AddsEntry (EntryWith.Probe lane meta.now) self.old self.new) }
+        ensures added { AddsEntry (EntryWith.Probe lane meta.now) result self.old self.new }
     {
         let Logged { dispatch, journal } = self;
         let Journal { entries } = journal;
@@ -216,16 +217,16 @@ impl<S: Subscriber> Logged<S> {
         lane: Lane,
         attrs: &Attributes<'_>,
     ) -> Result<(Option<Id>, Receipt), TraceError>
-        ensures kept { MayLearn (kept_by self.old.dispatch) (metadata_of attrs.now) (kept_by self.new.dispatch) }
-        ensures up_to_date { StaysUpToDate S.Subscriber self.old.dispatch self.new.dispatch }
-        ensures ready { OnOk result (StaysReady S.Subscriber self.old.dispatch self.new.dispatch) }
-        ensures served { IfOk result (λ r. ServesNewSpan S.Subscriber lane attrs.now (Ok r.0) self.old.dispatch self.new.dispatch) }
-        ensures seen { OnOk result (SeesWhatIsMade S.Subscriber self.old.dispatch self.new.dispatch) }
-        ensures asked { IfOk result (λ r. WantsSpan S.Subscriber lane attrs.now self.old.dispatch (Ok r.0)) }
-        ensures store { IfOk result (λ r. OpensIfMade S.Subscriber lane attrs.now self.old.dispatch self.new.dispatch r.0) }
-        ensures refused { IfErr result (OrNoMemory (RefusesSpan S.Subscriber lane attrs.now self.old.dispatch)) }
+        ensures kept { On (LearnsOnly (metadata_of attrs.now)) self.old self.new }
+        ensures up_to_date { On (StaysUpToDate S.Subscriber) self.old self.new }
+        ensures ready { On (StaysReady S.Subscriber) self.old self.new }
+        ensures served { LogsNewSpan S.Subscriber lane attrs.now result self.old self.new }
+        ensures seen { IfDone (SeesWhatIsMade S.Subscriber) result self.old self.new }
+        ensures asked { LogsWanted S.Subscriber lane attrs.now result self.old self.new }
+        ensures store { IfGiven (OpensIfMade S.Subscriber lane attrs.now) result self.old self.new }
+        ensures refused { IfRefused (RefusesSpan S.Subscriber lane attrs.now) result self.old }
         ensures unchanged { OnErr result (KeepsStack self.old self.new) }
-        ensures added { IfOk result (AddsSpan lane attrs.now (registry_of S.Subscriber self.new.dispatch).store.spans self.old self.new) }
+        ensures added { AddsNewSpan S.Subscriber lane attrs.now result self.old self.new }
     {
         let Logged { dispatch, journal } = self;
         let Journal { entries } = journal;
@@ -248,17 +249,17 @@ impl<S: Subscriber> Logged<S> {
 
     /// Notifies of an event as `Dispatch::event` does.
     pub fn event(&mut self, lane: Lane, event: &Event<'_>) -> Result<(bool, Receipt), TraceError>
-        ensures kept { MayLearn (kept_by self.old.dispatch) (event_metadata event.now) (kept_by self.new.dispatch) }
-        ensures up_to_date { StaysUpToDate S.Subscriber self.old.dispatch self.new.dispatch }
-        ensures ready { OnOk result (StaysReady S.Subscriber self.old.dispatch self.new.dispatch) }
-        ensures served { IfOk result (λ r. ServesEvent S.Subscriber lane event.now (Ok r.0) self.old.dispatch self.new.dispatch) }
-        ensures seen { OnOk result (SeesWhatIsMade S.Subscriber self.old.dispatch self.new.dispatch) }
-        ensures store { OnOk result (TakesStep S.Subscriber Stays self.old.dispatch self.new.dispatch) }
-        ensures dropped { IfOk result (λ r. r.0 ≡ false → stack_of self.new.dispatch ≡ stack_of self.old.dispatch) }
-        ensures asked { IfOk result (λ r. WantsEvent S.Subscriber lane event.now self.old.dispatch r.0) }
-        ensures refused { IfErr result (OrNoMemory (RefusesEvent event.now self.old.dispatch)) }
+        ensures kept { On (LearnsOnly (event_metadata event.now)) self.old self.new }
+        ensures up_to_date { On (StaysUpToDate S.Subscriber) self.old self.new }
+        ensures ready { On (StaysReady S.Subscriber) self.old self.new }
+        ensures served { LogsEvent S.Subscriber lane event.now result self.old self.new }
+        ensures seen { IfDone (SeesWhatIsMade S.Subscriber) result self.old self.new }
+        ensures store { IfDone (TakesStep S.Subscriber Stays) result self.old self.new }
+        ensures dropped { IfOk result (λ r. r.0 ≡ false → On SameStack self.old self.new) }
+        ensures asked { IfTold (WantsEvent S.Subscriber lane event.now) result self.old }
+        ensures refused { IfRefused (RefusesEvent event.now) result self.old }
         ensures unchanged { OnErr result (KeepsStack self.old self.new) }
-        ensures added { IfOk result (AddsEntry (EntryWith.Event lane (event_metadata event.now) (event_parent event.now)) self.old self.new) }
+        ensures added { AddsEntry (event_entry lane event.now) result self.old self.new }
     {
         let Logged { dispatch, journal } = self;
         let Journal { entries } = journal;
@@ -271,14 +272,14 @@ impl<S: Subscriber> Logged<S> {
 
     /// Enters a span as `Dispatch::enter` does.
     pub fn enter(&mut self, lane: Lane, id: Id) -> Result<((), Receipt), TraceError>
-        ensures rest { self.new.dispatch ≡ with_stack self.old.dispatch (stack_of self.new.dispatch) }
-        ensures ready { OnOk result (StaysReady S.Subscriber self.old.dispatch self.new.dispatch) }
-        ensures served { IfOk result (λ r. ServesEnter S.Subscriber lane id (Ok r.0) self.old.dispatch self.new.dispatch) }
-        ensures seen { OnOk result (SeesWhatIsMade S.Subscriber self.old.dispatch self.new.dispatch) }
-        ensures store { OnOk result (TakesStep S.Subscriber (Enters lane id) self.old.dispatch self.new.dispatch) }
-        ensures refused { IfErr result (OrNoMemory (RefusesEnter (registry_of S.Subscriber self.old.dispatch) id)) }
+        ensures rest { On ChangesStack self.old self.new }
+        ensures ready { On (StaysReady S.Subscriber) self.old self.new }
+        ensures served { LogsEnter S.Subscriber lane id result self.old self.new }
+        ensures seen { IfDone (SeesWhatIsMade S.Subscriber) result self.old self.new }
+        ensures store { IfDone (TakesStep S.Subscriber (Enters lane id)) result self.old self.new }
+        ensures refused { IfRefused (Refuses S.Subscriber RefusesEnter id) result self.old }
         ensures unchanged { OnErr result (self.new ≡ self.old) }
-        ensures added { IfOk result (AddsEntry (λ done. EntryWith.Enter lane id) self.old self.new) }
+        ensures added { AddsDone (EntryWith.Enter lane id) result self.old self.new }
     {
         let Logged { dispatch, journal } = self;
         let Journal { entries } = journal;
@@ -290,15 +291,15 @@ impl<S: Subscriber> Logged<S> {
 
     /// Leaves a span as `Dispatch::exit` does.
     pub fn exit(&mut self, lane: Lane, id: Id) -> Result<((), Receipt), TraceError>
-        ensures rest { self.new.dispatch ≡ with_stack self.old.dispatch (stack_of self.new.dispatch) }
-        ensures ready { OnOk result (StaysReady S.Subscriber self.old.dispatch self.new.dispatch) }
-        ensures served { OnOk result (ServesExit S.Subscriber lane id self.old.dispatch self.new.dispatch) }
-        ensures seen { OnOk result (SeesWhatIsMade S.Subscriber self.old.dispatch self.new.dispatch) }
-        ensures store { OnOk result (TakesStep S.Subscriber (Exits lane id) self.old.dispatch self.new.dispatch) }
-        ensures gone { OnOk result (LeavesGone S.Subscriber lane id self.old.dispatch self.new.dispatch) }
+        ensures rest { On ChangesStack self.old self.new }
+        ensures ready { On (StaysReady S.Subscriber) self.old self.new }
+        ensures served { LogsExit S.Subscriber lane id result self.old self.new }
+        ensures seen { IfDone (SeesWhatIsMade S.Subscriber) result self.old self.new }
+        ensures store { IfDone (TakesStep S.Subscriber (Exits lane id)) result self.old self.new }
+        ensures gone { IfDone (LeavesGone S.Subscriber lane id) result self.old self.new }
         ensures refused { IfErr result (λ e. e ≡ TraceError.OutOfMemory) }
         ensures unchanged { OnErr result (self.new ≡ self.old) }
-        ensures added { IfOk result (AddsEntry (λ done. EntryWith.Exit lane id) self.old self.new) }
+        ensures added { AddsDone (EntryWith.Exit lane id) result self.old self.new }
     {
         let Logged { dispatch, journal } = self;
         let Journal { entries } = journal;
@@ -315,14 +316,14 @@ impl<S: Subscriber> Logged<S> {
         id: Id,
         values: &Record<'_>,
     ) -> Result<((), Receipt), TraceError>
-        ensures rest { self.new.dispatch ≡ with_stack self.old.dispatch (stack_of self.new.dispatch) }
-        ensures ready { OnOk result (StaysReady S.Subscriber self.old.dispatch self.new.dispatch) }
-        ensures served { IfOk result (λ r. ServesRecord S.Subscriber lane id values.now (Ok r.0) self.old.dispatch self.new.dispatch) }
-        ensures seen { OnOk result (SeesWhatIsMade S.Subscriber self.old.dispatch self.new.dispatch) }
-        ensures store { OnOk result (TakesStep S.Subscriber (FindsOpen id) self.old.dispatch self.new.dispatch) }
-        ensures refused { IfErr result (OrNoMemory (RefusesUnlessOpen (registry_of S.Subscriber self.old.dispatch) id)) }
+        ensures rest { On ChangesStack self.old self.new }
+        ensures ready { On (StaysReady S.Subscriber) self.old self.new }
+        ensures served { LogsRecord S.Subscriber lane id values.now result self.old self.new }
+        ensures seen { IfDone (SeesWhatIsMade S.Subscriber) result self.old self.new }
+        ensures store { IfDone (TakesStep S.Subscriber (FindsOpen id)) result self.old self.new }
+        ensures refused { IfRefused (Refuses S.Subscriber RefusesUnlessOpen id) result self.old }
         ensures unchanged { OnErr result (self.new ≡ self.old) }
-        ensures added { IfOk result (AddsEntry (λ done. EntryWith.Record lane id) self.old self.new) }
+        ensures added { AddsDone (EntryWith.Record lane id) result self.old self.new }
     {
         let Logged { dispatch, journal } = self;
         let Journal { entries } = journal;
@@ -339,14 +340,14 @@ impl<S: Subscriber> Logged<S> {
         id: Id,
         follows: Id,
     ) -> Result<((), Receipt), TraceError>
-        ensures rest { self.new.dispatch ≡ with_stack self.old.dispatch (stack_of self.new.dispatch) }
-        ensures ready { OnOk result (StaysReady S.Subscriber self.old.dispatch self.new.dispatch) }
-        ensures served { IfOk result (λ r. ServesFollows S.Subscriber lane id follows (Ok r.0) self.old.dispatch self.new.dispatch) }
-        ensures seen { OnOk result (SeesWhatIsMade S.Subscriber self.old.dispatch self.new.dispatch) }
-        ensures store { OnOk result (TakesStep S.Subscriber (FindsOpen id) self.old.dispatch self.new.dispatch) }
-        ensures refused { IfErr result (OrNoMemory (RefusesUnlessOpen (registry_of S.Subscriber self.old.dispatch) id)) }
+        ensures rest { On ChangesStack self.old self.new }
+        ensures ready { On (StaysReady S.Subscriber) self.old self.new }
+        ensures served { LogsFollows S.Subscriber lane id follows result self.old self.new }
+        ensures seen { IfDone (SeesWhatIsMade S.Subscriber) result self.old self.new }
+        ensures store { IfDone (TakesStep S.Subscriber (FindsOpen id)) result self.old self.new }
+        ensures refused { IfRefused (Refuses S.Subscriber RefusesUnlessOpen id) result self.old }
         ensures unchanged { OnErr result (self.new ≡ self.old) }
-        ensures added { IfOk result (AddsEntry (λ done. EntryWith.Follows lane id follows) self.old self.new) }
+        ensures added { AddsDone (EntryWith.Follows lane id follows) result self.old self.new }
     {
         let Logged { dispatch, journal } = self;
         let Journal { entries } = journal;
@@ -358,15 +359,15 @@ impl<S: Subscriber> Logged<S> {
 
     /// Adds a handle as `Dispatch::clone_span` does.
     pub fn clone_span(&mut self, lane: Lane, id: Id) -> Result<(Id, Receipt), TraceError>
-        ensures rest { self.new.dispatch ≡ with_stack self.old.dispatch (stack_of self.new.dispatch) }
-        ensures ready { OnOk result (StaysReady S.Subscriber self.old.dispatch self.new.dispatch) }
+        ensures rest { On ChangesStack self.old self.new }
+        ensures ready { On (StaysReady S.Subscriber) self.old self.new }
         ensures same { IfOk result (λ r. r.0 ≡ id) }
-        ensures served { IfOk result (λ r. ServesClone S.Subscriber lane id (Ok r.0) self.old.dispatch self.new.dispatch) }
-        ensures seen { OnOk result (SeesWhatIsMade S.Subscriber self.old.dispatch self.new.dispatch) }
-        ensures store { OnOk result (TakesStepAlone S.Subscriber (Clones id) self.old.dispatch self.new.dispatch) }
-        ensures refused { IfErr result (OrNoMemory (RefusesClone (registry_of S.Subscriber self.old.dispatch) id)) }
+        ensures served { LogsClone S.Subscriber lane id result self.old self.new }
+        ensures seen { IfDone (SeesWhatIsMade S.Subscriber) result self.old self.new }
+        ensures store { IfDone (TakesStepAlone S.Subscriber (Clones id)) result self.old self.new }
+        ensures refused { IfRefused (Refuses S.Subscriber RefusesClone id) result self.old }
         ensures unchanged { OnErr result (self.new ≡ self.old) }
-        ensures added { IfOk result (AddsEntry (λ cloned. EntryWith.Clone lane id) self.old self.new) }
+        ensures added { AddsDone (EntryWith.Clone lane id) result self.old self.new }
     {
         let Logged { dispatch, journal } = self;
         let Journal { entries } = journal;
@@ -378,15 +379,15 @@ impl<S: Subscriber> Logged<S> {
 
     /// Takes a handle away as `Dispatch::drop_span` does.
     pub fn drop_span(&mut self, lane: Lane, id: Id) -> Result<(bool, Receipt), TraceError>
-        ensures rest { self.new.dispatch ≡ with_stack self.old.dispatch (stack_of self.new.dispatch) }
-        ensures ready { OnOk result (StaysReady S.Subscriber self.old.dispatch self.new.dispatch) }
-        ensures served { IfOk result (λ r. ServesDrop S.Subscriber lane id (Ok r.0) self.old.dispatch self.new.dispatch) }
-        ensures seen { OnOk result (SeesWhatIsMade S.Subscriber self.old.dispatch self.new.dispatch) }
-        ensures taken { IfOk result (λ r. TakesHandle S.Subscriber id self.old.dispatch self.new.dispatch r.0) }
-        ensures store { IfOk result (λ r. TakesStep S.Subscriber (DropsSpan id r.0) self.old.dispatch self.new.dispatch) }
-        ensures refused { IfErr result (OrNoMemory (RefusesRelease (registry_of S.Subscriber self.old.dispatch) id)) }
+        ensures rest { On ChangesStack self.old self.new }
+        ensures ready { On (StaysReady S.Subscriber) self.old self.new }
+        ensures served { LogsDrop S.Subscriber lane id result self.old self.new }
+        ensures seen { IfDone (SeesWhatIsMade S.Subscriber) result self.old self.new }
+        ensures taken { IfGiven (TakesHandle S.Subscriber id) result self.old self.new }
+        ensures store { IfGiven (DropsAll S.Subscriber id) result self.old self.new }
+        ensures refused { IfRefused (Refuses S.Subscriber RefusesRelease id) result self.old }
         ensures unchanged { OnErr result (self.new ≡ self.old) }
-        ensures added { IfOk result (AddsEntry (EntryWith.Drop lane id) self.old self.new) }
+        ensures added { AddsEntry (EntryWith.Drop lane id) result self.old self.new }
     {
         let Logged { dispatch, journal } = self;
         let Journal { entries } = journal;
@@ -403,18 +404,18 @@ impl<S: Subscriber> Logged<S> {
         number: u32,
         level: LevelFilter,
     ) -> Result<((), Receipt), TraceError>
-        ensures registry { registry_of S.Subscriber self.new.dispatch ≡ registry_of S.Subscriber self.old.dispatch }
-        ensures ready { OnOk result (StaysReadyBut S.Subscriber number self.old.dispatch self.new.dispatch) }
-        ensures served { IfOk result (λ r. ServesLevel S.Subscriber number level (Ok r.0) self.old.dispatch self.new.dispatch) }
-        ensures seen { OnOk result (SeesWhatIsMade S.Subscriber self.old.dispatch self.new.dispatch) }
-        ensures level { OnOk result (S.levelled (stack_of self.old.dispatch) number level (stack_of self.new.dispatch)) }
+        ensures registry { On (SameRegistry S.Subscriber) self.old self.new }
+        ensures ready { On (StaysReadyBut S.Subscriber number) self.old self.new }
+        ensures served { LogsLevel S.Subscriber number level result self.old self.new }
+        ensures seen { IfDone (SeesWhatIsMade S.Subscriber) result self.old self.new }
+        ensures level { IfDone (GivesLevel S.Subscriber number level) result self.old self.new }
         ensures taken { OnOk result (TakesLevel S.Subscriber number level self.old.dispatch true) }
-        ensures none { IfErr result (λ e. e ≡ TraceError.NotSettable number → TakesLevel S.Subscriber number level self.old.dispatch false) }
-        ensures rest { OnOk result (ChangesLevel S.Subscriber number self.old.dispatch self.new.dispatch) }
-        ensures forgets { OnOk result (self.new.dispatch ≡ forgetful (with_stack self.old.dispatch (stack_of self.new.dispatch))) }
+        ensures none { IfErr result (NoneTakes S.Subscriber number level self.old) }
+        ensures rest { IfDone (ChangesLevel S.Subscriber number) result self.old self.new }
+        ensures forgets { IfDone Forgets result self.old self.new }
         ensures refused { IfErr result (OrNoMemory (λ e. e ≡ TraceError.NotSettable number)) }
         ensures unchanged { OnErr result (self.new ≡ self.old) }
-        ensures added { IfOk result (AddsEntry (λ done. EntryWith.Level lane number level) self.old self.new) }
+        ensures added { AddsDone (EntryWith.Level lane number level) result self.old self.new }
     {
         let Logged { dispatch, journal } = self;
         let Journal { entries } = journal;
@@ -426,12 +427,12 @@ impl<S: Subscriber> Logged<S> {
 
     /// The span that a lane is in, as `Dispatch::current_span` shows it.
     pub fn current_span(&mut self, lane: Lane) -> Result<(Current, Receipt), TraceError>
-        ensures shown { IfOk result (λ r. ShowsCurrent (registry_of S.Subscriber self.old.dispatch).store lane r.0) }
-        ensures served { IfOk result (λ r. ServesCurrent S.Subscriber lane r.0 self.old.dispatch) }
+        ensures shown { IfTold (Shows S.Subscriber lane) result self.old }
+        ensures served { LogsCurrent S.Subscriber lane result self.old }
         ensures dispatch { self.new.dispatch ≡ self.old.dispatch }
         ensures refused { IfErr result (λ e. e ≡ TraceError.OutOfMemory) }
         ensures unchanged { OnErr result (self.new ≡ self.old) }
-        ensures added { IfOk result (AddsEntry (λ shown. EntryWith.Current lane (option_map (λ o. o.0) (current_span shown))) self.old self.new) }
+        ensures added { AddsEntry (current_entry lane) result self.old self.new }
     {
         let Logged { dispatch, journal } = self;
         let Journal { entries } = journal;

@@ -1,6 +1,14 @@
 //! What is asked of a dispatcher, in a list, and what it answers.
 
-use span_core::{FieldValue, Id, Lane, LevelFilter, Metadata, TraceError};
+ghost use Rattle.std.specs.Prelude.{◌≡◌};
+ghost use Rattle.span_core.specs.Event.{event_metadata, event_parent, event_values};
+ghost use Rattle.span_core.specs.Span.{asked_parent, metadata_of, values_of};
+ghost use Rattle.span_dispatch.specs.Call.{current_answer, done_answer, event_answer, span_answer, yes_answer};
+ghost use Rattle.span_dispatch.specs.Serve.{resolved, resolved_parent};
+
+use span_core::{
+    Attributes, Current, Event, FieldValue, Id, Lane, LevelFilter, Metadata, Parent, TraceError,
+};
 
 /// A span that a request names.
 ///
@@ -15,6 +23,21 @@ pub enum Which {
     Made(usize),
 }
 
+impl Which {
+    /// The span that it names, where these are the answers so far.
+    pub fn span_of(self, past: &[Answer]) -> Option<Id>
+        ensures { result ≡ resolved past.now self }
+    {
+        match self {
+            Which::Known(id) => Some(id),
+            Which::Made(place) => match past.get(place) {
+                Some(Answer::Made(id)) => Some(*id),
+                _ => None,
+            },
+        }
+    }
+}
+
 /// The parent that a request for a new span or an event names.
 #[derive(Clone, Copy, Debug, PartialEq, Eq)]
 pub enum WhichParent {
@@ -24,6 +47,58 @@ pub enum WhichParent {
     Contextual,
     /// This span.
     Explicit(Which),
+}
+
+impl WhichParent {
+    /// The parent that it asks for, where these are the answers so far.
+    pub fn parent_of(self, past: &[Answer]) -> Parent
+        ensures { result ≡ resolved_parent past.now self }
+    {
+        match self {
+            WhichParent::Root => Parent::Root,
+            WhichParent::Contextual => Parent::Contextual,
+            WhichParent::Explicit(which) => match which.span_of(past) {
+                Some(id) => Parent::Explicit(id),
+                None => Parent::Root,
+            },
+        }
+    }
+
+    /// What a new span with this parent is made of, where these are the answers so far.
+    pub fn attributes<'a>(
+        self,
+        past: &[Answer],
+        metadata: Metadata,
+        values: &'a [(&'static str, FieldValue<'a>)],
+    ) -> Attributes<'a>
+        ensures metadata { metadata_of result ≡ metadata }
+        ensures parent { asked_parent result ≡ resolved_parent past.now self }
+        ensures values { values_of result ≡ values.now }
+    {
+        match self.parent_of(past) {
+            Parent::Root => Attributes::new_root(metadata, values),
+            Parent::Contextual => Attributes::new(metadata, values),
+            Parent::Explicit(id) => Attributes::child_of(id, metadata, values),
+        }
+    }
+
+    /// What an event with this parent is made of, where these are the answers so far.
+    pub fn event<'a>(
+        self,
+        past: &[Answer],
+        metadata: Metadata,
+        values: &'a [(&'static str, FieldValue<'a>)],
+    ) -> Event<'a>
+        ensures metadata { event_metadata result ≡ metadata }
+        ensures parent { event_parent result ≡ resolved_parent past.now self }
+        ensures values { event_values result ≡ values.now }
+    {
+        match self.parent_of(past) {
+            Parent::Root => Event::new_root(metadata, values),
+            Parent::Contextual => Event::new(metadata, values),
+            Parent::Explicit(id) => Event::new_child_of(id, metadata, values),
+        }
+    }
 }
 
 /// One request of a list. Values stand by the names of their fields, and are handed on to hooks as they are.
@@ -68,4 +143,65 @@ pub enum Answer {
     Current(Option<Id>),
     /// It is refused, and changed nothing.
     Refused(TraceError),
+}
+
+impl Answer {
+    /// The answer to a new span.
+    pub fn of_span(made: Result<Option<Id>, TraceError>) -> Answer
+        ensures { result ≡ span_answer made }
+    {
+        match made {
+            Ok(Some(id)) => Answer::Made(id),
+            Ok(None) => Answer::Dropped,
+            Err(error) => Answer::Refused(error),
+        }
+    }
+
+    /// The answer to an event.
+    pub fn of_event(made: Result<bool, TraceError>) -> Answer
+        ensures { result ≡ event_answer made }
+    {
+        match made {
+            Ok(true) => Answer::Done,
+            Ok(false) => Answer::Dropped,
+            Err(error) => Answer::Refused(error),
+        }
+    }
+
+    /// The answer to what gives nothing but a refusal.
+    pub fn of_done(done: Result<(), TraceError>) -> Answer
+        ensures { result ≡ done_answer done }
+    {
+        match done {
+            Ok(()) => Answer::Done,
+            Err(error) => Answer::Refused(error),
+        }
+    }
+
+    /// The answer to a clone.
+    pub fn of_clone(cloned: Result<Id, TraceError>) -> Answer
+        ensures { result ≡ done_answer cloned }
+    {
+        match cloned {
+            Ok(_) => Answer::Done,
+            Err(error) => Answer::Refused(error),
+        }
+    }
+
+    /// The answer to what gives a truth value.
+    pub fn of_yes(said: Result<bool, TraceError>) -> Answer
+        ensures { result ≡ yes_answer said }
+    {
+        match said {
+            Ok(yes) => Answer::Yes(yes),
+            Err(error) => Answer::Refused(error),
+        }
+    }
+
+    /// The answer to a look at the span that a lane is in.
+    pub fn of_current(current: Current) -> Answer
+        ensures { result ≡ current_answer current }
+    {
+        Answer::Current(current.id())
+    }
 }

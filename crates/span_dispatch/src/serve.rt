@@ -1,16 +1,12 @@
 //! Lists of requests, served in order.
 ghost use Rattle.std.specs.Prelude.{◌≡◌, ◌∷◌, [], ◌++◌, OnErr, IfOk, IfErr, ◌<◌, ◌≤◌, ◌+◌, length, vec_len, vec_capacity};
-ghost use Rattle.span_core.specs.Event.{event_metadata, event_parent, event_values};
-ghost use Rattle.span_core.specs.Span.{asked_parent, metadata_of, values_of};
-ghost use Rattle.span_dispatch.specs.Call.{Exit, current_answer, done_answer, event_answer, span_answer, yes_answer};
+ghost use Rattle.span_dispatch.specs.Call.{Exit};
 ghost use Rattle.span_dispatch.specs.Contract.{AnswersCall, ServesList, ServesNext, StaysReady, StaysReadyByRules};
-ghost use Rattle.span_dispatch.specs.Serve.{resolved, resolved_parent, stack_of};
+ghost use Rattle.span_dispatch.specs.Serve.{stack_of};
 
 use crate::dispatch::Dispatch;
-use crate::request::{Answer, Request, Which, WhichParent};
-use span_core::{
-    Attributes, Current, Event, FieldValue, Id, Lane, Metadata, Parent, Record, TraceError,
-};
+use crate::request::{Answer, Request};
+use span_core::{Id, Lane, Record, TraceError};
 use span_registry::{LookupSpan, Subscriber, laws};
 use std::alloc::Global;
 
@@ -49,41 +45,41 @@ impl<S: Subscriber> Dispatch<S> {
     {
         match request {
             Request::NewSpan(lane, metadata, parent, values) => {
-                of_span(self.new_span(*lane, &attributes_of(past, *metadata, *parent, values)))
+                Answer::of_span(self.new_span(*lane, &parent.attributes(past, *metadata, values)))
             }
             Request::Event(lane, metadata, parent, values) => {
-                of_event(self.event(*lane, &event_of(past, *metadata, *parent, values)))
+                Answer::of_event(self.event(*lane, &parent.event(past, *metadata, values)))
             }
-            Request::Enter(lane, which) => match span_of(past, *which) {
+            Request::Enter(lane, which) => match which.span_of(past) {
                 None => Answer::Dropped,
-                Some(id) => of_done(self.enter(*lane, id)),
+                Some(id) => Answer::of_done(self.enter(*lane, id)),
             },
-            Request::Exit(lane, which) => match span_of(past, *which) {
+            Request::Exit(lane, which) => match which.span_of(past) {
                 None => Answer::Dropped,
                 Some(id) => self.leave(*lane, id),
             },
-            Request::Record(lane, which, values) => match span_of(past, *which) {
+            Request::Record(lane, which, values) => match which.span_of(past) {
                 None => Answer::Dropped,
-                Some(id) => of_done(self.record(*lane, id, &Record::new(values))),
+                Some(id) => Answer::of_done(self.record(*lane, id, &Record::new(values))),
             },
-            Request::Follows(lane, which, other) => match span_of(past, *which) {
+            Request::Follows(lane, which, other) => match which.span_of(past) {
                 None => Answer::Dropped,
-                Some(id) => match span_of(past, *other) {
+                Some(id) => match other.span_of(past) {
                     None => Answer::Dropped,
-                    Some(follows) => of_done(self.follows_from(*lane, id, follows)),
+                    Some(follows) => Answer::of_done(self.follows_from(*lane, id, follows)),
                 },
             },
-            Request::Clone(lane, which) => match span_of(past, *which) {
+            Request::Clone(lane, which) => match which.span_of(past) {
                 None => Answer::Dropped,
-                Some(id) => of_clone(self.clone_span(*lane, id)),
+                Some(id) => Answer::of_clone(self.clone_span(*lane, id)),
             },
-            Request::Drop(lane, which) => match span_of(past, *which) {
+            Request::Drop(lane, which) => match which.span_of(past) {
                 None => Answer::Dropped,
-                Some(id) => of_yes(self.drop_span(*lane, id)),
+                Some(id) => Answer::of_yes(self.drop_span(*lane, id)),
             },
-            Request::Enabled(lane, metadata) => of_yes(self.enabled(*lane, metadata)),
-            Request::Current(lane) => of_current(self.current_span(*lane)),
-            Request::SetLevel(number, level) => of_done(self.set_level(*number, *level)),
+            Request::Enabled(lane, metadata) => Answer::of_yes(self.enabled(*lane, metadata)),
+            Request::Current(lane) => Answer::of_current(self.current_span(*lane)),
+            Request::SetLevel(number, level) => Answer::of_done(self.set_level(*number, *level)),
         }
     }
 
@@ -98,65 +94,6 @@ impl<S: Subscriber> Dispatch<S> {
     }
 }
 
-/// The answer to a new span.
-fn of_span(made: Result<Option<Id>, TraceError>) -> Answer
-    ensures { result ≡ span_answer made }
-{
-    match made {
-        Ok(Some(id)) => Answer::Made(id),
-        Ok(None) => Answer::Dropped,
-        Err(error) => Answer::Refused(error),
-    }
-}
-
-/// The answer to an event.
-fn of_event(made: Result<bool, TraceError>) -> Answer
-    ensures { result ≡ event_answer made }
-{
-    match made {
-        Ok(true) => Answer::Done,
-        Ok(false) => Answer::Dropped,
-        Err(error) => Answer::Refused(error),
-    }
-}
-
-/// The answer to what gives nothing but a refusal.
-fn of_done(done: Result<(), TraceError>) -> Answer
-    ensures { result ≡ done_answer done }
-{
-    match done {
-        Ok(()) => Answer::Done,
-        Err(error) => Answer::Refused(error),
-    }
-}
-
-/// The answer to a clone.
-fn of_clone(cloned: Result<Id, TraceError>) -> Answer
-    ensures { result ≡ done_answer cloned }
-{
-    match cloned {
-        Ok(_) => Answer::Done,
-        Err(error) => Answer::Refused(error),
-    }
-}
-
-/// The answer to what gives a truth value.
-fn of_yes(said: Result<bool, TraceError>) -> Answer
-    ensures { result ≡ yes_answer said }
-{
-    match said {
-        Ok(yes) => Answer::Yes(yes),
-        Err(error) => Answer::Refused(error),
-    }
-}
-
-/// The answer to a look at the span that a lane is in.
-fn of_current(current: Current) -> Answer
-    ensures { result ≡ current_answer current }
-{
-    Answer::Current(current.id())
-}
-
 /// Appends an answer where there is room.
 fn append(answers: &mut Vec<Answer>, answer: Answer)
     requires { vec_len answers.old < vec_capacity answers.old }
@@ -165,67 +102,4 @@ fn append(answers: &mut Vec<Answer>, answer: Answer)
     ensures capacity { vec_capacity answers.old ≤ vec_capacity answers.new }
 {
     let _ = answers.push(answer);
-}
-
-/// What a new span is made of, where these are the answers so far.
-fn attributes_of<'a>(
-    past: &[Answer],
-    metadata: Metadata,
-    parent: WhichParent,
-    values: &'a [(&'static str, FieldValue<'a>)],
-) -> Attributes<'a>
-    ensures metadata { metadata_of result ≡ metadata }
-    ensures parent { asked_parent result ≡ resolved_parent past.now parent }
-    ensures values { values_of result ≡ values.now }
-{
-    match parent_of(past, parent) {
-        Parent::Root => Attributes::new_root(metadata, values),
-        Parent::Contextual => Attributes::new(metadata, values),
-        Parent::Explicit(id) => Attributes::child_of(id, metadata, values),
-    }
-}
-
-/// What an event is made of, where these are the answers so far.
-fn event_of<'a>(
-    past: &[Answer],
-    metadata: Metadata,
-    parent: WhichParent,
-    values: &'a [(&'static str, FieldValue<'a>)],
-) -> Event<'a>
-    ensures metadata { event_metadata result ≡ metadata }
-    ensures parent { event_parent result ≡ resolved_parent past.now parent }
-    ensures values { event_values result ≡ values.now }
-{
-    match parent_of(past, parent) {
-        Parent::Root => Event::new_root(metadata, values),
-        Parent::Contextual => Event::new(metadata, values),
-        Parent::Explicit(id) => Event::new_child_of(id, metadata, values),
-    }
-}
-
-/// The span that a request names, where these are the answers so far.
-fn span_of(past: &[Answer], which: Which) -> Option<Id>
-    ensures { result ≡ resolved past.now which }
-{
-    match which {
-        Which::Known(id) => Some(id),
-        Which::Made(place) => match past.get(place) {
-            Some(Answer::Made(id)) => Some(*id),
-            _ => None,
-        },
-    }
-}
-
-/// The parent that a request asks for, where these are the answers so far.
-fn parent_of(past: &[Answer], parent: WhichParent) -> Parent
-    ensures { result ≡ resolved_parent past.now parent }
-{
-    match parent {
-        WhichParent::Root => Parent::Root,
-        WhichParent::Contextual => Parent::Contextual,
-        WhichParent::Explicit(which) => match span_of(past, which) {
-            Some(id) => Parent::Explicit(id),
-            None => Parent::Root,
-        },
-    }
 }

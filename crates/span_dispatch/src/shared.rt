@@ -1,16 +1,15 @@
 //! A dispatcher that workers share behind one lock.
-ghost use Rattle.std.specs.Option.{option_map};
-ghost use Rattle.std.specs.Prelude.{◌≡◌, ℕ, ◌+◌, ◌-◌, ◌<◌, ◌^◌, ◌↔◌, IfErr, IfOk, IfSome, IsNone, IsOk, OnErr, OnOk, Option, Some, length, not, slice_get, sum_by, vec_len};
-ghost use Rattle.span_core.specs.Event.{event_metadata, event_parent};
+ghost use Rattle.std.specs.Prelude.{◌≡◌, ℕ, ◌+◌, ◌-◌, ◌<◌, ◌^◌, ◌↔◌, IfErr, IfOk, IfSome, IsNone, IsOk, OnErr, OnOk, length, not, vec_len};
 ghost use Rattle.span_core.specs.Level.{is_above};
-ghost use Rattle.span_core.specs.Span.{current_span};
-ghost use Rattle.span_core.specs.declared.error.TraceError.TheVariants.{OutOfMemory};
-ghost use Rattle.span_core.specs.declared.level.LevelFilter.{LevelFilter};
-ghost use Rattle.span_dispatch.specs.Contract.{ShowsHint};
-ghost use Rattle.span_dispatch.specs.Journal.{IsReceiptOf, IsSpanReceipt, Leaves, OrNoMemory, called, new_worker};
-ghost use Rattle.span_dispatch.specs.Recorder.{lane_of};
+ghost use Rattle.span_dispatch.specs.Call.{RefusesUnlessOpen};
+ghost use Rattle.span_dispatch.specs.Contract.{Refuses, RefusesEvent, RefusesMetadata, RefusesSpan};
+ghost use Rattle.span_dispatch.specs.Journal.{Leaves};
+ghost use Rattle.span_dispatch.specs.Logged.{OrNoMemory, current_entry, event_entry};
 ghost use Rattle.span_dispatch.specs.Serve.{stack_of};
-ghost use Rattle.span_registry.specs.Store.{empty_store};
+ghost use Rattle.span_dispatch.specs.Worker.{AreCrew, AreCrewOf, SomeRefuses, IsReceipt, IsReceiptOf, IsSpanReceipt, called, calls_of, new_worker};
+ghost use Rattle.span_registry.specs.Closes.{IsSettled};
+ghost use Rattle.span_registry.specs.Step.{RefusesClone, RefusesEnter, RefusesRelease};
+ghost use Rattle.span_registry.specs.Store.{IsFresh};
 
 use crate::dispatch::Dispatch;
 use crate::entry::{Entry, EntryWith};
@@ -45,7 +44,7 @@ pub struct Worker<L: Crew> {
 
 impl<L: Crew> Model for Worker<L> {
     ghost use Rattle.std.specs.Prelude.{◌≡◌};
-    ghost use Rattle.span_dispatch.specs.Journal.{WorkerState};
+    ghost use Rattle.span_dispatch.specs.Worker.{WorkerState};
 
     ghost Value = { WorkerState };
 
@@ -155,7 +154,7 @@ fn make_crew<L: Crew>(
 ) -> Result<Vec<Worker<L>>, Share<L>>
     requires { (all.parts ≡ workers) × (all.amount ≡ 0) }
     ensures all { IfOk result (λ v. vec_len v ≡ workers) }
-    ensures each { IfOk result (λ v. (i : ℕ) (w : _) → slice_get v.items i ≡ Some w → w ≡ new_worker (lane_of i) hint) }
+    ensures each { IfOk result (λ v. AreCrew hint v.items) }
     ensures back { IfErr result (λ s. s ≡ all) }
 {
     let Ok(mut made) = Vec::with_capacity(alloc, workers as usize) else {
@@ -170,7 +169,8 @@ fn make_crew<L: Crew>(
 
 // The shares of all workers in one.
 fn merged<L: Crew>(workers: Vec<Worker<L>>) -> Option<Share<L>>
-    ensures all { IfSome result (λ s. (s.parts ≡ vec_len workers) × (s.amount ≡ sum_by (λ w. w.calls) workers.items)) }
+    ensures parts { IfSome result (λ s. s.parts ≡ vec_len workers) }
+    ensures calls { IfSome result (λ s. s.amount ≡ calls_of workers.items) }
     ensures none { IsNone result ↔ (vec_len workers ≡ 0) }
 {
     let mut left = workers;
@@ -191,13 +191,14 @@ impl<S: Subscriber, L: Crew> Shared<S, L> {
         workers: u32,
     ) -> Result<(Shared<S, L>, Vec<Worker<L>>), Rejected<(Dispatch<S>, Book<L>, Share<L>)>>
         requires usable { S.usable (stack_of dispatch) }
-        requires fresh { (S.registry (stack_of dispatch)).store ≡ empty_store }
+        requires fresh { IsFresh (S.registry (stack_of dispatch)) }
         requires unused { (book.total ≡ 0) × (all.amount ≡ 0) }
         requires whole { all.parts ≡ L.parts }
         requires workers { (0 < workers) × (workers ≡ L.workers) × (L.workers ≡ L.parts) }
         ensures all { IfOk result (λ r. vec_len r.1 ≡ workers) }
-        ensures each { IfOk result (λ r. (h : Option LevelFilter) × ShowsHint S.Subscriber dispatch h × ((i : ℕ) (w : _) → slice_get r.1.items i ≡ Some w → w ≡ new_worker (lane_of i) h)) }
-        ensures back { IfErr result (λ e. (e.value.0 ≡ dispatch) × (e.value.1 ≡ book) × (e.value.2 ≡ all) × (e.error ≡ OutOfMemory)) }
+        ensures each { IfOk result (λ r. AreCrewOf S.Subscriber dispatch r.1.items) }
+        ensures back { IfErr result (λ e. e.value ≡ (dispatch, book, all)) }
+        ensures memory { IfErr result (λ e. e.error ≡ TraceError.OutOfMemory) }
     {
         let hint = dispatch.max_level_hint();
         match make_crew(alloc, all, workers, hint) {
@@ -229,7 +230,8 @@ impl<S: Subscriber, L: Crew> Shared<S, L> {
     ) -> Result<(bool, Receipt), TraceError>
         requires { worker.old.calls < 2 ^ 64 - 1 }
         ensures worker { OnOk result (worker.new ≡ called worker.old) }
-        ensures receipt { IfOk result (IsReceiptOf (EntryWith.Probe worker.old.lane meta.now)) }
+        ensures receipt { IsReceiptOf (EntryWith.Probe worker.old.lane meta.now) result }
+        ensures refused { SomeRefuses (RefusesMetadata {S = S} meta.now) result }
         ensures unchanged { OnErr result (worker.new ≡ worker.old) }
     {
         let mut guard = self.lock.lock(rt);
@@ -248,7 +250,8 @@ impl<S: Subscriber, L: Crew> Shared<S, L> {
     ) -> Result<(Option<Id>, Receipt), TraceError>
         requires { worker.old.calls < 2 ^ 64 - 1 }
         ensures worker { OnOk result (worker.new ≡ called worker.old) }
-        ensures receipt { IfOk result (IsSpanReceipt worker.old.lane attrs.now) }
+        ensures receipt { IsSpanReceipt worker.old.lane attrs.now result }
+        ensures refused { SomeRefuses (RefusesSpan S.Subscriber worker.old.lane attrs.now) result }
         ensures unchanged { OnErr result (worker.new ≡ worker.old) }
     {
         let mut guard = self.lock.lock(rt);
@@ -267,7 +270,8 @@ impl<S: Subscriber, L: Crew> Shared<S, L> {
     ) -> Result<(bool, Receipt), TraceError>
         requires { worker.old.calls < 2 ^ 64 - 1 }
         ensures worker { OnOk result (worker.new ≡ called worker.old) }
-        ensures receipt { IfOk result (IsReceiptOf (EntryWith.Event worker.old.lane (event_metadata event.now) (event_parent event.now))) }
+        ensures receipt { IsReceiptOf (event_entry worker.old.lane event.now) result }
+        ensures refused { SomeRefuses (RefusesEvent {S = S} event.now) result }
         ensures unchanged { OnErr result (worker.new ≡ worker.old) }
     {
         let mut guard = self.lock.lock(rt);
@@ -286,7 +290,8 @@ impl<S: Subscriber, L: Crew> Shared<S, L> {
     ) -> Result<((), Receipt), TraceError>
         requires { worker.old.calls < 2 ^ 64 - 1 }
         ensures worker { OnOk result (worker.new ≡ called worker.old) }
-        ensures receipt { IfOk result (IsReceiptOf (λ done. EntryWith.Enter worker.old.lane id)) }
+        ensures receipt { IsReceipt (EntryWith.Enter worker.old.lane id) result }
+        ensures refused { SomeRefuses (Refuses S.Subscriber RefusesEnter id) result }
         ensures unchanged { OnErr result (worker.new ≡ worker.old) }
     {
         let mut guard = self.lock.lock(rt);
@@ -305,7 +310,7 @@ impl<S: Subscriber, L: Crew> Shared<S, L> {
     ) -> Result<((), Receipt), TraceError>
         requires { worker.old.calls < 2 ^ 64 - 1 }
         ensures worker { OnOk result (worker.new ≡ called worker.old) }
-        ensures receipt { IfOk result (IsReceiptOf (λ done. EntryWith.Exit worker.old.lane id)) }
+        ensures receipt { IsReceipt (EntryWith.Exit worker.old.lane id) result }
         ensures refused { IfErr result (λ e. e ≡ TraceError.OutOfMemory) }
         ensures unchanged { OnErr result (worker.new ≡ worker.old) }
     {
@@ -326,7 +331,8 @@ impl<S: Subscriber, L: Crew> Shared<S, L> {
     ) -> Result<((), Receipt), TraceError>
         requires { worker.old.calls < 2 ^ 64 - 1 }
         ensures worker { OnOk result (worker.new ≡ called worker.old) }
-        ensures receipt { IfOk result (IsReceiptOf (λ done. EntryWith.Record worker.old.lane id)) }
+        ensures receipt { IsReceipt (EntryWith.Record worker.old.lane id) result }
+        ensures refused { SomeRefuses (Refuses S.Subscriber RefusesUnlessOpen id) result }
         ensures unchanged { OnErr result (worker.new ≡ worker.old) }
     {
         let mut guard = self.lock.lock(rt);
@@ -346,7 +352,8 @@ impl<S: Subscriber, L: Crew> Shared<S, L> {
     ) -> Result<((), Receipt), TraceError>
         requires { worker.old.calls < 2 ^ 64 - 1 }
         ensures worker { OnOk result (worker.new ≡ called worker.old) }
-        ensures receipt { IfOk result (IsReceiptOf (λ done. EntryWith.Follows worker.old.lane id follows)) }
+        ensures receipt { IsReceipt (EntryWith.Follows worker.old.lane id follows) result }
+        ensures refused { SomeRefuses (Refuses S.Subscriber RefusesUnlessOpen id) result }
         ensures unchanged { OnErr result (worker.new ≡ worker.old) }
     {
         let mut guard = self.lock.lock(rt);
@@ -366,7 +373,8 @@ impl<S: Subscriber, L: Crew> Shared<S, L> {
         requires { worker.old.calls < 2 ^ 64 - 1 }
         ensures worker { OnOk result (worker.new ≡ called worker.old) }
         ensures same { IfOk result (λ r. r.0 ≡ id) }
-        ensures receipt { IfOk result (IsReceiptOf (λ cloned. EntryWith.Clone worker.old.lane id)) }
+        ensures receipt { IsReceipt (EntryWith.Clone worker.old.lane id) result }
+        ensures refused { SomeRefuses (Refuses S.Subscriber RefusesClone id) result }
         ensures unchanged { OnErr result (worker.new ≡ worker.old) }
     {
         let mut guard = self.lock.lock(rt);
@@ -385,7 +393,8 @@ impl<S: Subscriber, L: Crew> Shared<S, L> {
     ) -> Result<(bool, Receipt), TraceError>
         requires { worker.old.calls < 2 ^ 64 - 1 }
         ensures worker { OnOk result (worker.new ≡ called worker.old) }
-        ensures receipt { IfOk result (IsReceiptOf (EntryWith.Drop worker.old.lane id)) }
+        ensures receipt { IsReceiptOf (EntryWith.Drop worker.old.lane id) result }
+        ensures refused { SomeRefuses (Refuses S.Subscriber RefusesRelease id) result }
         ensures unchanged { OnErr result (worker.new ≡ worker.old) }
     {
         let mut guard = self.lock.lock(rt);
@@ -405,7 +414,7 @@ impl<S: Subscriber, L: Crew> Shared<S, L> {
     ) -> Result<((), Receipt), TraceError>
         requires { worker.old.calls < 2 ^ 64 - 1 }
         ensures worker { OnOk result (worker.new ≡ called worker.old) }
-        ensures receipt { IfOk result (IsReceiptOf (λ done. EntryWith.Level worker.old.lane number level)) }
+        ensures receipt { IsReceipt (EntryWith.Level worker.old.lane number level) result }
         ensures refused { IfErr result (OrNoMemory (λ e. e ≡ TraceError.NotSettable number)) }
         ensures unchanged { OnErr result (worker.new ≡ worker.old) }
     {
@@ -424,7 +433,7 @@ impl<S: Subscriber, L: Crew> Shared<S, L> {
     ) -> Result<(Current, Receipt), TraceError>
         requires { worker.old.calls < 2 ^ 64 - 1 }
         ensures worker { OnOk result (worker.new ≡ called worker.old) }
-        ensures receipt { IfOk result (IsReceiptOf (λ shown. EntryWith.Current worker.old.lane (option_map (λ o. o.0) (current_span shown)))) }
+        ensures receipt { IsReceiptOf (current_entry worker.old.lane) result }
         ensures refused { IfErr result (λ e. e ≡ TraceError.OutOfMemory) }
         ensures unchanged { OnErr result (worker.new ≡ worker.old) }
     {
@@ -448,9 +457,10 @@ impl<S: Subscriber, L: Crew> Shared<S, L> {
     /// The dispatcher and the journal, where all workers are there; else everything back.
     pub fn finish(self, workers: Vec<Worker<L>>) -> Result<(Dispatch<S>, Journal), Unfinished<S, L>>
         ensures complete { IsOk result ↔ (vec_len workers ≡ L.workers) }
-        ensures sum { IfOk result (λ r. length r.1 ≡ sum_by (λ w. w.calls) workers.items) }
+        ensures sum { IfOk result (λ r. length r.1 ≡ calls_of workers.items) }
         ensures usable { IfOk result (λ r. S.usable (stack_of r.0)) }
         ensures leaves { IfOk result (λ r. Leaves r.1 (S.registry (stack_of r.0)).store) }
+        ensures settled { IfOk result (λ r. IsSettled (S.registry (stack_of r.0)).store.spans) }
         ensures back { IfErr result (λ u. (u.shared ≡ self) × (u.workers ≡ workers)) }
     {
         if workers.len() != self.workers as usize {

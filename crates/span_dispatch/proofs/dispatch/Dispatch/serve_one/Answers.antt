@@ -8,10 +8,10 @@ use Rattle.span_dispatch.proofs.Served.{named, served_by, served_by_call}
 use Rattle.span_dispatch.proofs.dispatch.Dispatch.serve_one.Goals as goal
 
 pub returns-in-NewSpan-clause-served : goal.returns-in-NewSpan-clause-served
-returns-in-NewSpan-clause-served g c = served_by_call g.S.LookupSpan.registry g.S.LookupSpan.with_registry g.S.Subscriber.has_form g.S.Subscriber.stepped g.S.Subscriber.levelled c.args.past.now c.args.request.now (request.NewSpan c.in-NewSpan.lane c.in-NewSpan.metadata c.in-NewSpan.parent c.in-NewSpan.values) (OpenSpan c.in-NewSpan.lane c.attributes_of.result) (span_answer c.new_span.result) c.of_span.result c.args.self.now c.new_span.new.self c.in-NewSpan.is (refl, c.attributes_of.ensures.metadata, c.attributes_of.ensures.parent, c.attributes_of.ensures.values) c.of_span.ensures c.new_span.ensures.served
+returns-in-NewSpan-clause-served g c = served_by_call g.S.LookupSpan.registry g.S.LookupSpan.with_registry g.S.Subscriber.has_form g.S.Subscriber.stepped g.S.Subscriber.levelled c.args.past.now c.args.request.now (request.NewSpan c.in-NewSpan.lane c.in-NewSpan.metadata c.in-NewSpan.parent c.in-NewSpan.values) (OpenSpan c.in-NewSpan.lane c.attributes.result) (span_answer c.new_span.result) c.of_span.result c.args.self.now c.new_span.new.self c.in-NewSpan.is (refl, c.attributes.ensures.metadata, c.attributes.ensures.parent, c.attributes.ensures.values) c.of_span.ensures c.new_span.ensures.served
 
 pub returns-in-Event-clause-served : goal.returns-in-Event-clause-served
-returns-in-Event-clause-served g c = served_by_call g.S.LookupSpan.registry g.S.LookupSpan.with_registry g.S.Subscriber.has_form g.S.Subscriber.stepped g.S.Subscriber.levelled c.args.past.now c.args.request.now (request.Event c.in-Event.lane c.in-Event.metadata c.in-Event.parent c.in-Event.values) (SendEvent c.in-Event.lane c.event_of.result) (event_answer c.event.result) c.of_event.result c.args.self.now c.event.new.self c.in-Event.is (refl, c.event_of.ensures.metadata, c.event_of.ensures.parent, c.event_of.ensures.values) c.of_event.ensures c.event.ensures.served
+returns-in-Event-clause-served g c = served_by_call g.S.LookupSpan.registry g.S.LookupSpan.with_registry g.S.Subscriber.has_form g.S.Subscriber.stepped g.S.Subscriber.levelled c.args.past.now c.args.request.now (request.Event c.in-Event.lane c.in-Event.metadata c.in-Event.parent c.in-Event.values) (SendEvent c.in-Event.lane c.event.result) (event_answer c.event-in-Event.result) c.of_event.result c.args.self.now c.event-in-Event.new.self c.in-Event.is (refl, c.event.ensures.metadata, c.event.ensures.parent, c.event.ensures.values) c.of_event.ensures c.event-in-Event.ensures.served
 
 pub returns-in-Some-clause-served : goal.returns-in-Some-clause-served
 returns-in-Some-clause-served g c = served_by_call g.S.LookupSpan.registry g.S.LookupSpan.with_registry g.S.Subscriber.has_form g.S.Subscriber.stepped g.S.Subscriber.levelled c.args.past.now c.args.request.now (request.Enter c.in-Enter.lane c.in-Enter.which) (Enter c.in-Enter.lane c.in-Some.id) (done_answer c.enter.result) c.of_done.result c.args.self.now c.enter.new.self c.in-Enter.is (ap (option_map (λ x. Enter c.in-Enter.lane x)) (sym (named c.span_of.ensures c.in-Some.is))) c.of_done.ensures c.enter.ensures.served
@@ -69,7 +69,7 @@ pub returns-in-NewSpan-clause-ready : goal.returns-in-NewSpan-clause-ready
 returns-in-NewSpan-clause-ready g c = λ f k. by_keeping g.S.LookupSpan.registry g.S.LookupSpan.with_registry g.S.Subscriber.has_form g.S.Subscriber.stepped g.S.Subscriber.levelled f c.new_span.new.self (c.new_span.ensures.ready f k)
 
 pub returns-in-Event-clause-ready : goal.returns-in-Event-clause-ready
-returns-in-Event-clause-ready g c = λ f k. by_keeping g.S.LookupSpan.registry g.S.LookupSpan.with_registry g.S.Subscriber.has_form g.S.Subscriber.stepped g.S.Subscriber.levelled f c.event.new.self (c.event.ensures.ready f k)
+returns-in-Event-clause-ready g c = λ f k. by_keeping g.S.LookupSpan.registry g.S.LookupSpan.with_registry g.S.Subscriber.has_form g.S.Subscriber.stepped g.S.Subscriber.levelled f c.event-in-Event.new.self (c.event-in-Event.ensures.ready f k)
 
 pub returns-in-Some-clause-ready : goal.returns-in-Some-clause-ready
 returns-in-Some-clause-ready g c = λ f k. by_keeping g.S.LookupSpan.registry g.S.LookupSpan.with_registry g.S.Subscriber.has_form g.S.Subscriber.stepped g.S.Subscriber.levelled f c.enter.new.self (c.enter.ensures.ready f k)

@@ -1,4 +1,5 @@
-use Rattle.std.proofs.Common.{sym, subst, ◌∙◌}
+use Rattle.std.proofs.Common.{sym, subst, ◌∙◌, ap}
+use Rattle.span_dispatch.proofs.Goes.{stays_same}
 use Rattle.span_dispatch.proofs.Journalled.{drops_on, grown, refused_too}
 use Rattle.span_dispatch.specs.Journal.{Entry}
 use Rattle.span_dispatch.specs.Serve.{stack_of}
@@ -25,3 +26,6 @@ returns-clause-store g c = subst (λ l. AndHooks g.S.LookupSpan.registry (DropsS
 
 pub returns-clause-taken : goal.returns-clause-taken
 returns-clause-taken g c = rw (sym c.self.view_is) c.in_ok-given.ensures.taken
+
+pub returns-in_err-reserve-clause-ready : goal.returns-in_err-reserve-clause-ready
+returns-in_err-reserve-clause-ready g c = λ f k. stays_same g.S.LookupSpan.registry g.S.LookupSpan.with_registry g.S.Subscriber.has_form g.S.Subscriber.stepped g.S.Subscriber.levelled f c.args.self.now.dispatch c.self.inside.dispatch (ap (λ l. l.dispatch) c.self.view_is) k

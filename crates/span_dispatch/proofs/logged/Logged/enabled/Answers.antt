@@ -1,4 +1,5 @@
 use Rattle.std.proofs.Common.{ap, sym, subst, ◌∙◌}
+use Rattle.span_dispatch.proofs.Goes.{stays_same}
 use Rattle.span_dispatch.proofs.Journalled.{grown, kept_same, stays}
 use Rattle.span_dispatch.specs.Journal.{Entry}
 use Rattle.span_dispatch.specs.Serve.{stack_of}
@@ -15,3 +16,6 @@ invariant_of-self-2 g c =
     let e : Entry = entry.Probe c.args.lane c.args.meta.now c.in_ok-given.given in
     grown g.S.LookupSpan.registry g.S.Subscriber.usable old.dispatch c.enabled.new.self old.journal c.reserve.new.self.items c.noted-receipt.new.entries.items e c.self.invariant c.noted-receipt.ensures.journal (c.reserve.ensures.items ∙ c.journal.view_is) (subst g.S.Subscriber.usable (sym c.enabled.ensures.stack) c.self.invariant.may)
     (stays (g.S.LookupSpan.registry (stack_of old.dispatch)) (g.S.LookupSpan.registry (stack_of c.enabled.new.self)) (ap g.S.LookupSpan.registry c.enabled.ensures.stack))
+
+pub returns-in_err-reserve-clause-ready : goal.returns-in_err-reserve-clause-ready
+returns-in_err-reserve-clause-ready g c = λ f k. stays_same g.S.LookupSpan.registry g.S.LookupSpan.with_registry g.S.Subscriber.has_form g.S.Subscriber.stepped g.S.Subscriber.levelled f c.args.self.now.dispatch c.self.inside.dispatch (ap (λ l. l.dispatch) c.self.view_is) k

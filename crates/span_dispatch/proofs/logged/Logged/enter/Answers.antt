@@ -1,4 +1,5 @@
-use Rattle.std.proofs.Common.{subst, ◌∙◌}
+use Rattle.std.proofs.Common.{subst, ◌∙◌, ap}
+use Rattle.span_dispatch.proofs.Goes.{stays_same}
 use Rattle.span_dispatch.proofs.Journalled.{enters, goes_on, grown, refused_too}
 use Rattle.span_dispatch.specs.Journal.{Entry}
 use Rattle.span_dispatch.specs.Serve.{stack_of}
@@ -17,3 +18,6 @@ invariant_of-self-2 g c =
     let e : Entry = entry.Enter c.args.lane c.args.id in
     grown g.S.LookupSpan.registry g.S.Subscriber.usable old.dispatch c.enter.new.self old.journal c.reserve.new.self.items c.noted-receipt.new.entries.items e c.self.invariant c.noted-receipt.ensures.journal (c.reserve.ensures.items ∙ c.journal.view_is) c.enter.ensures.usable
     (goes_on g.S.LookupSpan.registry (Enters c.args.lane c.args.id) (stack_of old.dispatch) (stack_of c.enter.new.self) e c.in_ok-enter.ensures.store (enters c.args.lane c.args.id))
+
+pub returns-in_err-reserve-clause-ready : goal.returns-in_err-reserve-clause-ready
+returns-in_err-reserve-clause-ready g c = λ f k. stays_same g.S.LookupSpan.registry g.S.LookupSpan.with_registry g.S.Subscriber.has_form g.S.Subscriber.stepped g.S.Subscriber.levelled f c.args.self.now.dispatch c.self.inside.dispatch (ap (λ l. l.dispatch) c.self.view_is) k

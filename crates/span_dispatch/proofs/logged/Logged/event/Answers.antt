@@ -1,4 +1,5 @@
-use Rattle.std.proofs.Common.{◌∙◌}
+use Rattle.std.proofs.Common.{◌∙◌, ap}
+use Rattle.span_dispatch.proofs.Goes.{stays_same}
 use Rattle.span_dispatch.proofs.Journalled.{goes_on, grown, kept_same, stays}
 use Rattle.span_dispatch.specs.Journal.{Entry}
 use Rattle.span_dispatch.specs.Serve.{stack_of}
@@ -16,3 +17,6 @@ invariant_of-self-2 g c =
     let e : Entry = entry.Event c.args.lane c.metadata.result c.asked_parent.result c.in_ok-made.made in
     grown g.S.LookupSpan.registry g.S.Subscriber.usable old.dispatch c.event.new.self old.journal c.reserve.new.self.items c.noted-receipt.new.entries.items e c.self.invariant c.noted-receipt.ensures.journal (c.reserve.ensures.items ∙ c.journal.view_is) c.event.ensures.usable
     (goes_on g.S.LookupSpan.registry Stays (stack_of old.dispatch) (stack_of c.event.new.self) e c.event.ensures.store stays)
+
+pub returns-in_err-reserve-clause-ready : goal.returns-in_err-reserve-clause-ready
+returns-in_err-reserve-clause-ready g c = λ f k. stays_same g.S.LookupSpan.registry g.S.LookupSpan.with_registry g.S.Subscriber.has_form g.S.Subscriber.stepped g.S.Subscriber.levelled f c.args.self.now.dispatch c.self.inside.dispatch (ap (λ l. l.dispatch) c.self.view_is) k

@@ -1,6 +1,8 @@
-use Rattle.std.proofs.Common.{◌≡◌, List, ◌⊎◌, ap, sym, subst, ◌∙◌}
-use Rattle.span_dispatch.proofs.Journalled.{goes_on, grown, kept_same, kept_verdict, opens, refused_too, some_of, none_of, stays}
+use Rattle.std.proofs.Common.{◌≡◌, Err, List, ◌⊎◌, ap, sym, subst, ◌∙◌}
+use Rattle.span_dispatch.proofs.Goes.{stays_same}
+use Rattle.span_dispatch.proofs.Journalled.{goes_on, logs_refused, grown, kept_same, kept_verdict, opens, refused_too, some_of, none_of, stays}
 use Rattle.span_dispatch.proofs.Stores.{opened_for}
+use Rattle.span_dispatch.specs.Contract.{ServesNewSpan, SubscriberOf}
 use Rattle.span_dispatch.specs.Journal.{Adds, Entry}
 use Rattle.span_dispatch.specs.Serve.{kept_by, stack_of}
 use Rattle.span_dispatch.specs.declared.entry.EntryWith.TheVariants as entry
@@ -60,3 +62,13 @@ returns-clause-added g c =
     let old : c.reserve.new.self.items ≡ c.args.self.now.journal = (c.reserve.ensures.items ∙ c.journal.view_is) ∙ ap (λ l. l.journal) c.self.view_is in
     let entries : Entry × List Entry → Type 0 = λ p. Adds p.0 p.1 c.noted-receipt-2.result c.noted-receipt-2.new.entries.items in
     (kept.0, kept.1, subst entries (λ i. (entry.New c.args.lane (c.metadata-2.ensures i) (c.asked_parent.ensures i) ((c.refused.ensures ∙ sym kept.2) i) c.in-Some.id, old i)) c.noted-receipt-2.ensures)
+
+pub returns-in_err-reserve-clause-ready : goal.returns-in_err-reserve-clause-ready
+returns-in_err-reserve-clause-ready g c = λ f k. stays_same g.S.LookupSpan.registry g.S.LookupSpan.with_registry g.S.Subscriber.has_form g.S.Subscriber.stepped g.S.Subscriber.levelled f c.args.self.now.dispatch c.self.inside.dispatch (ap (λ l. l.dispatch) c.self.view_is) k
+
+pub returns-in_err-id-clause-served : goal.returns-in_err-id-clause-served
+returns-in_err-id-clause-served g c =
+    let s : SubscriberOf g.row.S.Denot =
+    record { registry = g.S.LookupSpan.registry; with_registry = g.S.LookupSpan.with_registry; usable = g.S.Subscriber.usable; has_form = g.S.Subscriber.has_form; stepped = g.S.Subscriber.stepped; hears = g.S.Subscriber.hears; acts_at = g.S.Subscriber.acts_at; levelled = g.S.Subscriber.levelled; registered = g.S.Subscriber.registered } in
+    logs_refused (ServesNewSpan s c.args.lane c.args.attrs.now) c.args.self.now (record { dispatch = c.open.new.self; journal = c.reserve.new.self.items }) c.in_err-id.field-0.0 c.from_residual-in_err-id.result c.from_residual-in_err-id.ensures.1
+    (subst (λ l. ServesNewSpan s c.args.lane c.args.attrs.now (Err c.in_err-id.field-0.0) l.dispatch c.open.new.self) c.self.view_is c.in_err-id.ensures.served)

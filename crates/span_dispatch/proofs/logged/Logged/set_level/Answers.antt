@@ -1,4 +1,5 @@
-use Rattle.std.proofs.Common.{◌∙◌}
+use Rattle.std.proofs.Common.{◌∙◌, ap}
+use Rattle.span_dispatch.proofs.Goes.{same_but}
 use Rattle.span_dispatch.proofs.Journalled.{grown, stays}
 use Rattle.span_dispatch.specs.Journal.{Entry}
 use Rattle.span_dispatch.specs.Serve.{stack_of}
@@ -11,3 +12,6 @@ invariant_of-self-2 g c =
     let e : Entry = entry.Level c.args.lane c.args.number c.args.level in
     grown g.S.LookupSpan.registry g.S.Subscriber.usable old.dispatch c.set_level.new.self old.journal c.reserve.new.self.items c.noted-receipt.new.entries.items e c.self.invariant c.noted-receipt.ensures.journal (c.reserve.ensures.items ∙ c.journal.view_is) c.set_level.ensures.usable
     (stays (g.S.LookupSpan.registry (stack_of old.dispatch)) (g.S.LookupSpan.registry (stack_of c.set_level.new.self)) c.set_level.ensures.registry)
+
+pub returns-in_err-reserve-clause-ready : goal.returns-in_err-reserve-clause-ready
+returns-in_err-reserve-clause-ready g c = λ f k. same_but g.S.LookupSpan.registry g.S.LookupSpan.with_registry g.S.Subscriber.has_form g.S.Subscriber.stepped g.S.Subscriber.levelled f c.args.number c.args.self.now.dispatch c.self.inside.dispatch (ap (λ l. l.dispatch) c.self.view_is) k
