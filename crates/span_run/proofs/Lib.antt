@@ -3,3 +3,4 @@ mod Gives
 mod Honest
 mod Naming
 mod Steady
+mod Written

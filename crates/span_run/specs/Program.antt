@@ -155,6 +155,18 @@ pub record PrintsBy (Served : Serving) (text output : List ℕ) : Type 0 where
 abbrev pub Prints : Limits → List ℕ → List ℕ → Type 0
 Prints limits text output = PrintsBy (Serves limits) text output
 
+-- some answers, one for each request, and any notices
+abbrev pub AnyAnswers : Serving
+AnyAnswers stack requests answers kept = length answers ≡ length requests
+
+-- a script whose requests workers ask of this stack gives this text: replies of some answers, and what its recorders kept
+abbrev pub GivesShared : StackName → Script → List ℕ → Type 0
+GivesShared stack script output = PrintsServed AnyAnswers stack (lines_of script) (requests_of script) output
+
+-- so it is of a text that is a script
+abbrev pub PrintsShared : List ℕ → List ℕ → Type 0
+PrintsShared text output = PrintsBy AnyAnswers text output
+
 -- a wrong line ends with 2, all else with 1
 abbrev pub status_of : RunFault → ℕ
 status_of (LineFault n) = 2
@@ -181,20 +193,20 @@ abbrev pub IsWrongLine : RunFault → Type 0
 IsWrongLine (LineFault n) = ⊤
 IsWrongLine fault = ⊥
 
--- Below: a registry's limits, the bytes that a reader gives, if they are known, and a writer before and after.
+-- Below: what is printed for a text, the bytes that a reader gives, if they are known, and a writer before and after.
 
 -- what is printed for the bytes is written behind what was there
-abbrev pub Writes : {W : Type 0} → Limits → Option (List ℕ) → (W → Option (List ℕ)) → W → W → Type 0
-Writes limits given contents old new = IfSome given (λ bytes. (output : List ℕ) × (Prints limits (utf8_lossy bytes) output × Appends (contents old) (contents new) output))
+abbrev pub Writes : {W : Type 0} → (List ℕ → List ℕ → Type 0) → Option (List ℕ) → (W → Option (List ℕ)) → W → W → Type 0
+Writes prints given contents old new = IfSome given (λ bytes. (output : List ℕ) × (prints (utf8_lossy bytes) output × Appends (contents old) (contents new) output))
 
 -- a line that is said to be wrong is the first of the bytes that is
 abbrev pub BlamesFirstWrong : Option (List ℕ) → RunFault → Type 0
 BlamesFirstWrong given fault = IsWrongLine fault → IfSome given (λ bytes. IsRunFault (utf8_lossy bytes) fault)
 
 -- nothing is written, unless it is writing that failed: then the bytes are a script
-abbrev pub IsUnwritten : {W : Type 0} → Limits → Option (List ℕ) → W → W → RunFault → Type 0
-IsUnwritten limits given old new fault = (new ≡ old) ⊎ ((fault ≡ Io) × IfSome given (λ bytes. (output : List ℕ) × Prints limits (utf8_lossy bytes) output))
+abbrev pub IsUnwritten : {W : Type 0} → (List ℕ → List ℕ → Type 0) → Option (List ℕ) → W → W → RunFault → Type 0
+IsUnwritten prints given old new fault = (new ≡ old) ⊎ ((fault ≡ Io) × IfSome given (λ bytes. (output : List ℕ) × prints (utf8_lossy bytes) output))
 
 -- more than 1048576 bytes are refused, with no line blamed and nothing written
-abbrev pub RefusesLong : {W : Type 0} → Option (List ℕ) → Result (Unit {0}) RunFault → W → W → Type 0
+abbrev pub RefusesLong : {A W : Type 0} → Option (List ℕ) → Result A RunFault → W → W → Type 0
 RefusesLong given result old new = IfSome given (λ bytes. 1048576 < length bytes → IsErrAnd result (λ fault. ¬ (IsWrongLine fault)) × (new ≡ old))

@@ -1,5 +1,5 @@
 -- What serves the requests of a script: the stack that it names.
-use Rattle.std.specs.Prelude.{◌≡◌, ◌≤◌, ◌+◌, ℕ, true, List, [], ◌∷◌, Option, None, Some, map}
+use Rattle.std.specs.Prelude.{◌≡◌, ◌≤◌, ◌+◌, ℕ, true, List, [], ◌∷◌, Option, None, Some, map, slice_get}
 use Rattle.std.specs.declared.alloc.Global.{Global}
 use Rattle.std.specs.declared.vec.Vec.{Vec}
 use Rattle.span_core.specs.declared.filter.TheConstants.FilterId.{LIMIT}
@@ -11,6 +11,7 @@ use Rattle.span_dispatch.specs.Fixed.{RunsBy, kept_at}
 use Rattle.span_dispatch.specs.Outcome.{Made}
 use Rattle.span_dispatch.specs.Recorder.{Kept, new_recorder}
 use Rattle.span_dispatch.specs.Serve.{IsReady, Served, kept_by, stack_of}
+use Rattle.span_dispatch.specs.Worker.{WorkerState}
 use Rattle.span_dispatch.specs.declared.dispatch.Dispatch.{Dispatch}
 use Rattle.span_dispatch.specs.declared.notice.Notice.{Notice}
 use Rattle.span_dispatch.specs.declared.request.Answer.{Answer}
@@ -131,3 +132,7 @@ pub record ServesInUse {S : Type 0} (s : SubscriberOf S) (requests : List Reques
   pub same : s.registry (stack_of begun) ≡ s.registry x
   pub kept : kept_by begun ≡ Some no_callsite
   pub served : (f : Form) × IsReady s.registry s.with_registry s.has_form s.stepped s.levelled f x → Served s.registry s.with_registry s.has_form s.stepped s.levelled s.hears s.acts_at requests given.0.items begun given.1
+
+-- each of these workers was called so often at most
+abbrev pub AreCalled : ℕ → List WorkerState → Type 0
+AreCalled most workers = (i : ℕ) (w : WorkerState) → slice_get workers i ≡ Some w → w.calls ≤ most

@@ -1,6 +1,9 @@
 //! Runs a script of spans: standard input says what is asked, standard output what comes of it.
 #![tactic(auto)]
 
+mod crew;
+#[cfg(test)]
+mod crew_tests;
 mod fault;
 mod mute;
 mod mute_veto;

@@ -20,22 +20,22 @@ use std::alloc::Global;
 type Levelled = Filtered<Recorder, LevelFilter>;
 
 /// The stack `plain`: a recorder on a registry.
-type Plain = Layered<Recorder, Registry>;
+pub(crate) type Plain = Layered<Recorder, Registry>;
 
 /// The stack `pair`: two recorders, each under a level of its own.
-type Pair = Layered<Layered<Levelled, Levelled>, Registry>;
+pub(crate) type Pair = Layered<Layered<Levelled, Levelled>, Registry>;
 
 /// The stack `nested`: a recorder, and outside it one under two filters.
-type Nested = Layered<Filtered<Levelled, Mute>, Plain>;
+pub(crate) type Nested = Layered<Filtered<Levelled, Mute>, Plain>;
 
 /// A recorder, and outside it one under a level.
 type Warned = Layered<Levelled, Plain>;
 
 /// The stack `veto`: two recorders, and outside them two layers that veto.
-type Veto = Layered<LevelFilter, Layered<MuteVeto, Warned>>;
+pub(crate) type Veto = Layered<LevelFilter, Layered<MuteVeto, Warned>>;
 
 /// The stack `absent`: a layer that is absent, and outside it a recorder.
-type Absent = Layered<Recorder, Layered<Option<Recorder>, Registry>>;
+pub(crate) type Absent = Layered<Recorder, Layered<Option<Recorder>, Registry>>;
 
 /// What a script prints, where the stack that it names serves its requests.
 pub fn served_text(alloc: Global, limits: Limits, script: &Script<'_>) -> Result<String, RunFault>
@@ -67,7 +67,7 @@ fn put<S: Subscriber + Drop, L: Layer<S> + Drop>(stack: S, layer: L) -> Layered<
 }
 
 /// The stack `plain`.
-fn plain(alloc: Global, limits: Limits) -> Plain
+pub(crate) fn plain(alloc: Global, limits: Limits) -> Plain
     requires { ArePositive limits }
     ensures { BeginsPlain limits result }
 {
@@ -75,7 +75,7 @@ fn plain(alloc: Global, limits: Limits) -> Plain
 }
 
 /// The stack `pair`.
-fn pair(alloc: Global, limits: Limits) -> Pair
+pub(crate) fn pair(alloc: Global, limits: Limits) -> Pair
     requires { ArePositive limits }
     ensures { BeginsPair limits result }
 {
@@ -85,7 +85,7 @@ fn pair(alloc: Global, limits: Limits) -> Pair
 }
 
 /// The stack `nested`.
-fn nested(alloc: Global, limits: Limits) -> Nested
+pub(crate) fn nested(alloc: Global, limits: Limits) -> Nested
     requires { ArePositive limits }
     ensures { BeginsNested limits result }
 {
@@ -103,7 +103,7 @@ fn warned(alloc: Global, limits: Limits) -> Warned
 }
 
 /// The stack `veto`.
-fn veto(alloc: Global, limits: Limits) -> Veto
+pub(crate) fn veto(alloc: Global, limits: Limits) -> Veto
     requires { ArePositive limits }
     ensures { BeginsVeto limits result }
 {
@@ -112,7 +112,7 @@ fn veto(alloc: Global, limits: Limits) -> Veto
 }
 
 /// The stack `absent`.
-fn absent(alloc: Global, limits: Limits) -> Absent
+pub(crate) fn absent(alloc: Global, limits: Limits) -> Absent
     requires { ArePositive limits }
     ensures { BeginsAbsent limits result }
 {
@@ -139,7 +139,7 @@ fn serve<S: Subscriber + Drop>(
 }
 
 /// What is printed of these answers and of the recorder `base`, unless memory was refused to it.
-fn text_of_one(
+pub(crate) fn text_of_one(
     alloc: Global,
     script: &Script<'_>,
     answers: &[Answer],
@@ -160,7 +160,7 @@ fn text_of_one(
 }
 
 /// What is printed of these answers and of two recorders by their names, unless memory was refused to one.
-fn text_of_two(
+pub(crate) fn text_of_two(
     alloc: Global,
     script: &Script<'_>,
     answers: &[Answer],

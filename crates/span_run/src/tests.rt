@@ -13,7 +13,7 @@ use std::process::Abort;
 use std::test::Fail;
 
 /// The text of a row, in which ` / ` stands for a line end.
-fn lines(alloc: Global, row: &str) -> Result<String, AllocError> {
+pub(crate) fn lines(alloc: Global, row: &str) -> Result<String, AllocError> {
     let mut text = String::new(alloc);
     for line in row.split(" / ") {
         writeln!(text, "{line}")?;
@@ -22,7 +22,7 @@ fn lines(alloc: Global, row: &str) -> Result<String, AllocError> {
 }
 
 /// Scripts and what they print.
-const ROWS: [(&str, &str); 23] = [
+pub(crate) const ROWS: [(&str, &str); 23] = [
     ("stack plain", "== base"),
     (
         "stack plain / new 0 2 p / new 0 3 c in p / drop 0 p / drop 0 c",

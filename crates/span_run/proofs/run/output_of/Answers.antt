@@ -1,17 +1,13 @@
-use Rattle.std.proofs.Common.{Result, Ok, Err, IfOk, string_bytes}
+use Rattle.std.proofs.Common.{string_bytes}
+use Rattle.span_run.proofs.Gives.{one_ok}
 use Rattle.span_run.specs.Program.{Prints, Gives}
 use Rattle.span_script.specs.Script.{lines_of, requests_of, stack_of}
 use Rattle.span_run.proofs.run.output_of.Goals as goal
 
--- what follows of each value
-if-ok : {X Y : Type 0} (r : Result X Y) (P Q : X → Type 0) → IfOk r P → ((x : X) → P x → Q x) → IfOk r Q
-if-ok (Ok x) P Q p f = f x p
-if-ok (Err e) P Q p f = tt
-
 pub returns-clause-printed : goal.returns-clause-printed
 returns-clause-printed c =
     let script = c.in_ok-script.script in
-    if-ok c.served_text.result (λ s. Gives c.args.limits (stack_of script) script (string_bytes s))
+    one_ok c.served_text.result (λ s. Gives c.args.limits (stack_of script) script (string_bytes s))
     (λ s. Prints c.args.limits c.args.text.now (string_bytes s)) c.served_text.ensures.printed
     (λ s printed. record {
       stack = stack_of script;
