@@ -1,6 +1,6 @@
 //! Two workers in two threads, and the receiver that they share.
 ghost use Rattle.span_dispatch.specs.Serve.{stack_of};
-ghost use Rattle.span_registry.specs.Store.{empty_store};
+ghost use Rattle.span_registry.specs.Store.{IsFresh};
 ghost use Rattle.std.specs.Prelude.{◌≡◌, ◌+◌, IfOk};
 
 use crate::work::{Worked, work};
@@ -50,7 +50,7 @@ pub enum Fault {
 
 /// A recorder on a fresh registry, behind a dispatcher.
 fn receiver(alloc: Global) -> Result<Dispatch<Layered<Recorder, Registry>>, Fault>
-    ensures fresh { IfOk result (λ d. (stack_of d).inner.store ≡ empty_store) }
+    ensures fresh { IfOk result (λ d. IsFresh (stack_of d).inner) }
 {
     match Registry::new(alloc).with(Recorder::new(alloc)) {
         Ok(stack) => Ok(Dispatch::new(alloc, stack)),
@@ -90,7 +90,7 @@ fn share<S: Subscriber + Send + Drop, L: Crew + Send + Sync, R: Threads + Wait +
     requires name { blank.name ≡ L.name }
     requires parts { (blank.parts ≡ L.parts) × (L.parts ≡ 2) × (L.workers ≡ 2) }
     requires usable { S.usable (stack_of dispatch) }
-    requires fresh { (S.registry (stack_of dispatch)).store ≡ empty_store }
+    requires fresh { IsFresh (S.registry (stack_of dispatch)) }
     ensures { IfOk result (λ t. t.requests ≡ t.first + t.second) }
 {
     let (book, all) = blank.open::<L>();

@@ -1,7 +1,7 @@
 //! Tests of workers: two lanes that meet, the entry of each request, and the values that a layer is handed.
 ghost use Rattle.span_dispatch.specs.Serve.{stack_of};
 ghost use Rattle.span_layers.specs.Layered.{inner_of, outer_of};
-ghost use Rattle.span_registry.specs.Store.{empty_store};
+ghost use Rattle.span_registry.specs.Store.{IsFresh};
 ghost use Rattle.std.specs.Prelude.{◌≡◌, ◌-◌, ◌<◌, ◌^◌, ⊤, IfOk};
 
 use crate::work::span_metadata;
@@ -138,7 +138,7 @@ where
     requires name { blank.name ≡ L.name }
     requires parts { (blank.parts ≡ L.parts) × (L.parts ≡ 2) × (L.workers ≡ 2) }
     requires usable { S.usable (stack_of dispatch) }
-    requires fresh { (S.registry (stack_of dispatch)).store ≡ empty_store }
+    requires fresh { IsFresh (S.registry (stack_of dispatch)) }
 {
     let (book, all) = blank.open::<L>();
     let Ok((shared, mut workers)) = Shared::new(alloc, book, all, dispatch, 2) else {
@@ -236,7 +236,7 @@ fn entries_of(p: Id, q: Id) -> [Entry; 16] {
 /// A receiver's journal, once each request was made of it.
 fn journal_of<S: Subscriber + Drop>(rt: &impl Abort, alloc: Global, stack: S) -> Result<(), Fail>
     requires usable { S.usable stack }
-    requires fresh { (S.registry stack).store ≡ empty_store }
+    requires fresh { IsFresh (S.registry stack) }
 {
     let mut logged = Logged::new(alloc, Dispatch::new(alloc, stack));
     assert!(rt; logged.journal().is_empty());
@@ -253,7 +253,7 @@ fn journal_of<S: Subscriber + Drop>(rt: &impl Abort, alloc: Global, stack: S) ->
 /// A layer on a fresh registry.
 fn put<L: Layer<Registry> + Drop>(alloc: Global, layer: L) -> Result<Layered<L, Registry>, Fail>
     requires { L.usable layer }
-    ensures fresh { IfOk result (λ made. (inner_of made).store ≡ empty_store) }
+    ensures fresh { IfOk result (λ made. IsFresh (inner_of made)) }
     ensures layer { IfOk result (λ made. L.usable (outer_of made)) }
 {
     match Registry::new(alloc).with(layer) {
@@ -295,19 +295,24 @@ fn number_in(values: &[(&'static str, FieldValue<'_>)]) -> Option<u64> {
     }
 }
 
-/// Opens a span with a value, and records another of it.
+/// Opens a span with a value, records another of it, and enters it: then it is the current one.
 fn hand_in<S: Subscriber, L: Crew>(
     rt: &impl Wait,
     shared: &Shared<S, L>,
     worker: &mut Worker<L>,
 ) -> Result<(), Fail>
-    requires { worker.old.calls < 2 ^ 64 - 2 }
+    requires { worker.old.calls < 2 ^ 64 - 4 }
 {
     let seven = [("number", FieldValue::U64(7))];
     let nine = [("number", FieldValue::U64(9))];
     let (made, _) = shared.new_span(rt, worker, &Attributes::new(span_metadata(), &seven))?;
     let id = made.ok_or("a span")?;
     shared.record(rt, worker, id, &Record::new(&nine))?;
+    shared.enter(rt, worker, id)?;
+    let (current, _) = shared.current_span(rt, worker)?;
+    if current.metadata() != Some(span_metadata()) {
+        return Err("the span that the lane is in".into());
+    }
     Ok(())
 }
 
@@ -321,7 +326,7 @@ fn handed_in<S: Subscriber + Drop, L: Crew>(
     requires name { blank.name ≡ L.name }
     requires parts { (blank.parts ≡ L.parts) × (L.parts ≡ 1) × (L.workers ≡ 1) }
     requires usable { S.usable stack }
-    requires fresh { (S.registry stack).store ≡ empty_store }
+    requires fresh { IsFresh (S.registry stack) }
 {
     let dispatch = Dispatch::new(alloc, stack);
     let (book, all) = blank.open::<L>();
