@@ -1,0 +1,4 @@
+pub mod Counter
+pub mod Fault
+pub mod Order
+pub mod Workload
