@@ -2,5 +2,6 @@ mod Beside
 mod Counter
 mod Level
 mod Optional
+mod Parents
 mod Recorded
 mod Settable

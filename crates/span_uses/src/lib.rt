@@ -18,6 +18,9 @@ pub mod boxed;
 pub mod dispatch;
 pub mod filter;
 pub mod isolation;
+pub mod law;
+#[cfg(test)]
+mod law_tests;
 pub mod layer;
 pub mod reload;
 pub mod stack;
