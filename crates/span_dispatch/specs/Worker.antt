@@ -62,6 +62,6 @@ IsOfSpan lane attrs (Some id, receipt) = (verdict : FilterMap) × (receipt.entry
 abbrev pub IsSpanReceipt : Lane → Attributes → Answered (Option Id) → Type 0
 IsSpanReceipt lane attrs result = IfOk result (IsOfSpan lane attrs)
 
--- a call is refused for want of memory for the journal, else as some dispatcher refuses it
+-- a call is refused for want of memory, or as some dispatcher refuses it
 abbrev pub SomeRefuses : {D A : Type 0} → (D → TraceError → Type 0) → Answered A → Type 0
 SomeRefuses refuses result = IfErr result (OrNoMemory (λ e. (d : _) × refuses d e))
