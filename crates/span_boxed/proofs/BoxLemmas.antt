@@ -3,7 +3,7 @@ use mathlib.Core.List.{mem-append_right}
 use base.Fml.{Incl, Lft}
 use Rattle.std.specs.Borrow.{Bor}
 use Rattle.std.specs.Option.{option_copied, option_map, option_map_or}
-use Rattle.std.specs.Prelude.{◌≡◌, ℕ, Bool, ◌++◌, None, Option, Some, refl}
+use Rattle.std.specs.Prelude.{◌≡◌, ℕ, Bool, [], ◌++◌, None, Option, Some, refl}
 use Rattle.std.proofs.Common.{ap, subst, sym, ◌∙◌}
 use Rattle.std.proofs.Math.Path.{transport}
 use Rattle.span_boxed.specs.Boxed.{ActsPlainlyAt, LevelsLawfully, RegistersLawfully, StepsLawfully}
@@ -19,7 +19,7 @@ use Rattle.span_registry.specs.Conducts.{ActsAt, Conducts}
 use Rattle.span_registry.specs.Context.{Exchanges, LendsOver, LooksAtRoot, filters_in, lane_in, lane_lent, mask_lent, refused_lent, store_at, store_in, subscriber_lent}
 use Rattle.span_registry.specs.Form.{Form}
 use Rattle.span_registry.specs.Levels.{LevelLaws, LevelSteps}
-use Rattle.span_registry.specs.Place.{HearSteps, Place}
+use Rattle.span_registry.specs.Place.{HearSteps, Here, Place}
 use Rattle.span_registry.specs.Plan.{Plan, by_pass}
 use Rattle.span_registry.specs.Question.{AnswersBy, AnswersSo, refusals}
 use Rattle.span_registry.specs.Store.{RegistryState, Store, empty_store}
@@ -53,8 +53,10 @@ module _ {L : Type 0} {form : L → Form → Type 0} {steps : LayerSteps L} {hea
   steps_lawfully x p e lane under v y w s = record {
     taken = s;
     follows = λ f h. laws.keeps x p e lane under v y w f s h;
-    heard = λ place. laws.notified x p e lane under v y w place s;
+    heard = λ place f h. laws.notified x p e lane under v y w place f s h;
     acts_on = λ place cs a. let n = paths.goes_on x p e lane under v y w place cs s a in (n.0, acts_plainly paths y place n.0 n.1, n.2);
+    alone = λ f h l. laws.leaf.alone x f p e lane under v y w h l s;
+    kind = λ f g h l k. laws.leaf.kind x f p e lane under v y w g h l s k;
   }
 
   -- and is put in use so
@@ -62,13 +64,14 @@ module _ {L : Type 0} {form : L → Form → Type 0} {steps : LayerSteps L} {hea
   registers_lawfully x y s = record { taken = s; follows = λ f h. laws.put_in_use x y f s h; acts_still = λ place cs a. acts_plainly paths y place cs (paths.put_in_use x y place cs s a) }
 
 -- and takes levels so
-pub levels_lawfully : {L : Type 0} {form : L → Form → Type 0} {steps : LayerSteps L} {registered : L → L → Type 0} {levelled : LevelSteps L} {hears : HearSteps L} {acts_at : ActsAt L} → PathLaws form steps registered acts_at → LevelLaws form levelled hears acts_at
+pub levels_lawfully : {L : Type 0} {form : L → Form → Type 0} {steps : LayerSteps L} {registered : L → L → Type 0} {levelled : LevelSteps L} {hears : HearSteps L} {acts_at : ActsAt L} → LayerLaws form steps hears registered → PathLaws form steps registered acts_at → LevelLaws form levelled hears acts_at
     → (x : L) (n : ℕ) (l : LevelFilter) (y : L) → levelled x n l y → LevelsLawfully form levelled hears acts_at x n l y
-levels_lawfully paths levels x n l y s = record {
+levels_lawfully laws paths levels x n l y s = record {
   taken = s;
   follows = λ f h. levels.keeps x n l y f s h;
   heard = λ place. levels.heard x n l y place s;
   acts_on = λ place cs a. acts_plainly paths y place _ (levels.acts x n l y place cs s a);
+  leaf = λ f h k. sym (laws.leaf.goes x f [] y h k (levels.heard x n l y Here s));
 }
 
 -- ---- over the registry that a subscriber stands on

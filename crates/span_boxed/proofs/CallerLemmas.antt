@@ -1,10 +1,11 @@
 -- What a caller's proof may need of a boxed layer: a box adds nothing to the layer in it.
-use Rattle.std.specs.Prelude.{◌≡◌, ℕ, refl}
+use Rattle.std.specs.Prelude.{◌≡◌, ℕ, [], refl}
 use Rattle.std.proofs.Common.{Global, subst, sym}
+use Rattle.std.proofs.lemmas.List.{append-nil}
 use Rattle.std.specs.declared.dyn_box.DynBox.{DynBox}
 use denote.Param.Table.{Entry, Table}
 use Rattle.span_boxed.proofs.BoxLemmas.{acts_plainly}
-use Rattle.span_boxed.specs.Boxed.{ActsPlainlyAt, ChangesInside, Further, HearsInside, HearsInTurn, Nothing, StepsInside}
+use Rattle.span_boxed.specs.Boxed.{ActsPlainlyAt, ChangesInside, Further, HearsInside, HearsLawfully, Levelled, LevelsInside, Nothing, StepsInside}
 use Rattle.span_boxed.specs.declared.boxed.BoxedLayer.{BoxedLayer}
 use Rattle.span_core.specs.Filters.{FilterSet}
 use Rattle.span_filters.proofs.CallerLemmas.{IsBoxOf, in_a_box}
@@ -13,7 +14,9 @@ use Rattle.span_layers.specs.Layer.{LayerSteps}
 use Rattle.span_registry.specs.Answers.{Notice}
 use Rattle.span_registry.specs.Conducts.{ActsAt, Conducts}
 use Rattle.span_registry.specs.Form.{Form}
-use Rattle.span_registry.specs.Place.{Heard, HearLaws, HearSteps, Place}
+use Rattle.span_registry.specs.Levels.{LevelSteps}
+use Rattle.span_registry.specs.Path.{mask_at}
+use Rattle.span_registry.specs.Place.{Heard, HearLaws, HearSteps, Place, heard_by, told_in}
 use Rattle.span_registry.specs.Plan.{Plan}
 use Rattle.span_registry.specs.Store.{RegistryState}
 
@@ -57,11 +60,22 @@ module _ {G : Type 0 → Type 1} {C : Type 0} (T : Table G C) (at : T.I) where
       → Holds b x → StepsInside (λ k. steps (T.entry k.object.vtable)) b p e lane under v c w → ChangesTo (λ j y z. steps j y p e lane under v z w) x c.object.vtable c.object.value
   steps_in_a_box steps x b p e lane under v c w made s = changes_in_a_box (λ j y z. steps j y p e lane under v z w) x b c made s
 
-  module _ (hears : (j : Entry G C) → HearSteps j.0.Denot) (laws : HearLaws (hears (T.entry at))) (x : (T.entry at).0.Denot) (b : Boxed) (made : Holds b x) (place : Place) where
+  module _ (form : (j : Entry G C) → j.0.Denot → Form → Type 0) (steps : (j : Entry G C) → LayerSteps j.0.Denot) (levelled : (j : Entry G C) → LevelSteps j.0.Denot) (hears : (j : Entry G C) → HearSteps j.0.Denot) (acts_at : (j : Entry G C) → ActsAt j.0.Denot)
+      (laws : HearLaws (hears (T.entry at))) (x : (T.entry at).0.Denot) (b : Boxed) (made : Holds b x) (place : Place) where
+    -- what a box hears, lawfully
+    abbrev pub BoxHearsLawfully : HearSteps Boxed
+    BoxHearsLawfully = HearsLawfully (λ k. form (T.entry k.object.vtable) k.object.value) (StepsInside (λ k. steps (T.entry k.object.vtable))) (LevelsInside (λ k. levelled (T.entry k.object.vtable))) (HearsInside (λ k. hears (T.entry k.object.vtable)))
+        (λ k. acts_at (T.entry k.object.vtable) k.object.value)
+
     -- and hears as the layer does
-    pub hears_in_a_box : {h : Heard} {c : Boxed} → HearsInTurn (HearsInside (λ k. hears (T.entry k.object.vtable))) b place h c → ChangesTo (λ j y z. hears j y place h z) x c.object.vtable c.object.value
+    pub hears_in_a_box : {h : Heard} {c : Boxed} → BoxHearsLawfully b place h c → ChangesTo (λ j y z. hears j y place h z) x c.object.vtable c.object.value
     hears_in_a_box Nothing = (x, made, laws.nothing x place)
-    hears_in_a_box (Further {h} {k} {y} {z} before one) =
+    hears_in_a_box (Further {h} {y} {z} before p e lane under v w f s has) =
         let u = hears_in_a_box before in
-        let s = changes_in_a_box (λ j a o. hears j a place k o) u.0 y z u.1 one in
-        (s.0, s.1, laws.further x u.0 s.0 place h k u.2 s.2)
+        let k = heard_by p place (told_in e v.store lane (mask_at f place under)) in
+        let t = changes_in_a_box (λ j a o. hears j a place k o) u.0 y z u.1 (s.heard place f has) in
+        (t.0, t.1, laws.further x u.0 t.0 place h k u.2 t.2)
+    hears_in_a_box (Levelled {h} {y} {z} before n l s) =
+        let u = hears_in_a_box before in
+        let t = changes_in_a_box (λ j a o. hears j a place [] o) u.0 y z u.1 (s.heard place) in
+        (t.0, t.1, subst (λ k. hears (T.entry at) x place k t.0) (append-nil h) (laws.further x u.0 t.0 place h [] u.2 t.2))

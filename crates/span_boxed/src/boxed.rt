@@ -1,6 +1,6 @@
 //! Boxed layers: layers whose type is picked while the program runs.
 ghost use Rattle.std.specs.Prelude.{◌≡◌};
-ghost use Rattle.span_boxed.specs.Boxed.{ActsPlainlyAt, ChangesInside, HearsInTurn, HearsInside, LevelsInside, LevelsLawfully, RegistersLawfully, StepsInside, StepsLawfully, object_laws, object_levels, object_path_laws};
+ghost use Rattle.span_boxed.specs.Boxed.{ActsPlainlyAt, ChangesInside, HearsInside, HearsLawfully, LevelsInside, LevelsLawfully, RegistersLawfully, StepsInside, StepsLawfully, object_laws, object_levels, object_path_laws};
 
 use crate::object::DynLayer;
 use span_core::{Attributes, Event, Id, Interest, LevelFilter, Metadata, Pass, Record};
@@ -36,7 +36,7 @@ impl<S: Subscriber> Layer<S> for BoxedLayer {
 
     ghost stepped = { StepsLawfully (λ x. (DynLayer-box x.object).dyn_form x.object.value) (StepsInside (λ x. (DynLayer-box x.object).dyn_stepped)) (HearsInside (λ x. (DynLayer-box x.object).dyn_hears)) (λ x. (DynLayer-box x.object).dyn_acts_at x.object.value) };
 
-    ghost hears = { HearsInTurn (HearsInside (λ x. (DynLayer-box x.object).dyn_hears)) };
+    ghost hears = { HearsLawfully (λ x. (DynLayer-box x.object).dyn_form x.object.value) (StepsInside (λ x. (DynLayer-box x.object).dyn_stepped)) (LevelsInside (λ x. (DynLayer-box x.object).dyn_levelled)) (HearsInside (λ x. (DynLayer-box x.object).dyn_hears)) (λ x. (DynLayer-box x.object).dyn_acts_at x.object.value) };
 
     ghost acts_at = { ActsPlainlyAt (λ x. (DynLayer-box x.object).dyn_form x.object.value) (λ x. (DynLayer-box x.object).dyn_acts_at x.object.value) };
 

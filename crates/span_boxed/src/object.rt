@@ -6,7 +6,7 @@ ghost use Rattle.span_layers.specs.Layer.{LayerEnabled, LayerEvent, LayerInteres
 ghost use Rattle.span_layers.specs.Number.{TakesNumbers, filters_in};
 ghost use Rattle.span_registry.specs.Answers.{OnClose, OnEnter, OnEvent, OnExit, OnFollows, OnIdChange, OnNewSpan, OnRecord};
 ghost use Rattle.span_registry.specs.Conducts.{ActsAt};
-ghost use Rattle.span_registry.specs.Context.{HandsOn};
+ghost use Rattle.span_registry.specs.Context.{HandsOn, HasNoRefusals};
 ghost use Rattle.span_registry.specs.Form.{Form, is_absent, is_marked};
 ghost use Rattle.span_registry.specs.Levels.{LevelSteps, takes_level};
 ghost use Rattle.span_registry.specs.Place.{HearSteps};
@@ -117,14 +117,16 @@ pub trait DynLayer: Drop {
 
     /// Notifies of values that a span was given later.
     fn dyn_on_record(&mut self, id: Id, values: &Record<'_>, ctx: &mut ContextMut<'_, Registry>)
-        requires { dyn_usable self.old }
+        requires usable { dyn_usable self.old }
+        requires refusals { HasNoRefusals ctx.old }
         ensures usable { dyn_usable self.new }
         ensures rest { HandsOn itself ctx.old ctx.new }
         ensures hook { Notified itself dyn_form (StepsLawfully dyn_form dyn_stepped dyn_hears dyn_acts_at) (OnRecord id values.now) self.old ctx.old self.new ctx.new };
 
     /// Notifies that a span follows from another one.
     fn dyn_on_follows_from(&mut self, id: Id, follows: Id, ctx: &mut ContextMut<'_, Registry>)
-        requires { dyn_usable self.old }
+        requires usable { dyn_usable self.old }
+        requires refusals { HasNoRefusals ctx.old }
         ensures usable { dyn_usable self.new }
         ensures rest { HandsOn itself ctx.old ctx.new }
         ensures hook { Notified itself dyn_form (StepsLawfully dyn_form dyn_stepped dyn_hears dyn_acts_at) (OnFollows id follows) self.old ctx.old self.new ctx.new };
@@ -138,28 +140,32 @@ pub trait DynLayer: Drop {
 
     /// Notifies that a span is entered.
     fn dyn_on_enter(&mut self, id: Id, ctx: &mut ContextMut<'_, Registry>)
-        requires { dyn_usable self.old }
+        requires usable { dyn_usable self.old }
+        requires refusals { HasNoRefusals ctx.old }
         ensures usable { dyn_usable self.new }
         ensures rest { HandsOn itself ctx.old ctx.new }
         ensures hook { Notified itself dyn_form (StepsLawfully dyn_form dyn_stepped dyn_hears dyn_acts_at) (OnEnter id) self.old ctx.old self.new ctx.new };
 
     /// Notifies that a span is left.
     fn dyn_on_exit(&mut self, id: Id, ctx: &mut ContextMut<'_, Registry>)
-        requires { dyn_usable self.old }
+        requires usable { dyn_usable self.old }
+        requires refusals { HasNoRefusals ctx.old }
         ensures usable { dyn_usable self.new }
         ensures rest { HandsOn itself ctx.old ctx.new }
         ensures hook { Notified itself dyn_form (StepsLawfully dyn_form dyn_stepped dyn_hears dyn_acts_at) (OnExit id) self.old ctx.old self.new ctx.new };
 
     /// Notifies that a span's handle was cloned under another id.
     fn dyn_on_id_change(&mut self, id: Id, new: Id, ctx: &mut ContextMut<'_, Registry>)
-        requires { dyn_usable self.old }
+        requires usable { dyn_usable self.old }
+        requires refusals { HasNoRefusals ctx.old }
         ensures usable { dyn_usable self.new }
         ensures rest { HandsOn itself ctx.old ctx.new }
         ensures hook { Notified itself dyn_form (StepsLawfully dyn_form dyn_stepped dyn_hears dyn_acts_at) (OnIdChange id new) self.old ctx.old self.new ctx.new };
 
     /// Notifies that a span is closing, while it can still be read.
     fn dyn_on_close(&mut self, id: Id, ctx: &mut ContextMut<'_, Registry>)
-        requires { dyn_usable self.old }
+        requires usable { dyn_usable self.old }
+        requires refusals { HasNoRefusals ctx.old }
         ensures usable { dyn_usable self.new }
         ensures rest { HandsOn itself ctx.old ctx.new }
         ensures hook { Notified itself dyn_form (StepsLawfully dyn_form dyn_stepped dyn_hears dyn_acts_at) (OnClose id) self.old ctx.old self.new ctx.new };

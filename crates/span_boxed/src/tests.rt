@@ -1,8 +1,9 @@
 //! Tests of boxed layers: a box adds nothing to the layer in it.
 ghost use Rattle.std.specs.Prelude.{◌≡◌, ⊤, true};
-ghost use Rattle.span_boxed.specs.Tests.{late_laws};
 ghost use Rattle.span_layers.specs.Acts.{LeafActs};
 ghost use Rattle.span_layers.specs.ActsKept.{is_leaf, leaf_path_laws};
+ghost use Rattle.span_layers.specs.Layer.{HearsBy};
+ghost use Rattle.span_layers.specs.Leaf.{AnySteps, any_laws};
 ghost use Rattle.span_layers.specs.Levels.{leaf_levels};
 ghost use Rattle.span_layers.specs.Observe.{open_answers};
 ghost use Rattle.span_registry.specs.Context.{WritesExtensions};
@@ -215,9 +216,9 @@ struct Late {
 impl<S: Subscriber> Layer<S> for Late {
     ghost has_form = { λ x f. f ≡ Leaf true open_answers };
 
-    ghost stepped = { λ x p e lane under v y w. ⊤ };
+    ghost stepped = { AnySteps };
 
-    ghost hears = { λ x place h y. ⊤ };
+    ghost hears = { HearsBy AnySteps };
 
     ghost acts_at = { LeafActs };
 
@@ -227,11 +228,11 @@ impl<S: Subscriber> Layer<S> for Late {
 
     ghost attached = { λ x y. y ≡ x };
 
-    ghost laws = { late_laws };
+    ghost laws = { any_laws (Leaf true open_answers) (λ x y. ⊤) tt };
 
     ghost paths = { leaf_path_laws (λ x f h. is_leaf h) };
 
-    ghost levels = { leaf_levels late_laws };
+    ghost levels = { leaf_levels (any_laws (Leaf true open_answers) (λ x y. ⊤) tt) };
 
     fn on_register_dispatch(&mut self) {
         self.in_use = true;

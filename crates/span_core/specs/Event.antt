@@ -6,6 +6,10 @@ use Rattle.span_core.specs.declared.event.Event.{Event}
 use Rattle.span_core.specs.declared.field.FieldValue.{FieldValue}
 use Rattle.span_core.specs.declared.span.Parent.{Parent}
 
+-- an event of these parts
+abbrev pub event_of : Metadata → Bor (List (Bor (List ℕ) × FieldValue)) → Parent → Event
+event_of m values p = record { metadata = m; values = values; parent = p }
+
 -- the metadata of an event
 abbrev pub event_metadata : Event → Metadata
 event_metadata e = e.metadata

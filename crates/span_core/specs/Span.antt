@@ -18,6 +18,10 @@ number_of id = id.number
 abbrev pub id_of : ℕ → Id
 id_of n = record { number = n }
 
+-- a new span of these parts
+abbrev pub attributes_of : Metadata → Bor (List (Bor (List ℕ) × FieldValue)) → Parent → Attributes
+attributes_of m values p = record { metadata = m; values = values; parent = p }
+
 -- the metadata of a new span
 abbrev pub metadata_of : Attributes → Metadata
 metadata_of a = a.metadata
@@ -35,6 +39,10 @@ abbrev pub explicit_parent : Parent → Option Id
 explicit_parent Root = None
 explicit_parent Contextual = None
 explicit_parent (Explicit id) = Some id
+
+-- a record of these values
+abbrev pub record_of : Bor (List (Bor (List ℕ) × FieldValue)) → Record
+record_of values = record { recorded = values }
 
 -- the values that are recorded
 abbrev pub recorded_values : Record → List (Bor (List ℕ) × FieldValue)

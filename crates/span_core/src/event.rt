@@ -1,7 +1,7 @@
 //! What an event is made of.
 ghost use Rattle.std.specs.Prelude.{◌≡◌, ◌↔◌, IsTrue};
 ghost use Rattle.span_core.specs.Span.{explicit_parent};
-ghost use Rattle.span_core.specs.Event.{event_metadata, event_parent, event_values};
+ghost use Rattle.span_core.specs.Event.{event_metadata, event_of, event_parent, event_values};
 
 use crate::field::FieldValue;
 use crate::metadata::Metadata;
@@ -23,6 +23,7 @@ impl<'a> Event<'a> {
         ensures metadata { event_metadata result ≡ metadata }
         ensures values { event_values result ≡ values.now }
         ensures parent { event_parent result ≡ Parent.Contextual }
+        ensures whole { result ≡ event_of metadata values.entry Parent.Contextual }
     {
         Event {
             metadata,
@@ -36,6 +37,7 @@ impl<'a> Event<'a> {
         ensures metadata { event_metadata result ≡ metadata }
         ensures values { event_values result ≡ values.now }
         ensures parent { event_parent result ≡ Parent.Root }
+        ensures whole { result ≡ event_of metadata values.entry Parent.Root }
     {
         Event {
             metadata,
@@ -53,6 +55,7 @@ impl<'a> Event<'a> {
         ensures metadata { event_metadata result ≡ metadata }
         ensures values { event_values result ≡ values.now }
         ensures parent { event_parent result ≡ Parent.Explicit parent }
+        ensures whole { result ≡ event_of metadata values.entry (Parent.Explicit parent) }
     {
         Event {
             metadata,

@@ -1,8 +1,8 @@
 //! What names a span, what a new one is made of, and the span that a lane is in.
 ghost use Rattle.std.specs.Prelude.{◌≡◌, ◌↔◌, IsTrue, Some, None};
 ghost use Rattle.std.specs.Option.{option_map};
-ghost use Rattle.span_core.specs.Span.{asked_parent, current_span, explicit_parent, metadata_of};
-ghost use Rattle.span_core.specs.Span.{number_of, recorded_values, values_of};
+ghost use Rattle.span_core.specs.Span.{asked_parent, attributes_of, current_span, explicit_parent};
+ghost use Rattle.span_core.specs.Span.{metadata_of, number_of, record_of, recorded_values, values_of};
 
 use crate::field::FieldValue;
 use crate::metadata::Metadata;
@@ -120,6 +120,7 @@ impl<'a> Attributes<'a> {
         ensures metadata { metadata_of result ≡ metadata }
         ensures values { values_of result ≡ values.now }
         ensures parent { asked_parent result ≡ Parent.Contextual }
+        ensures whole { result ≡ attributes_of metadata values.entry Parent.Contextual }
     {
         Attributes {
             metadata,
@@ -136,6 +137,7 @@ impl<'a> Attributes<'a> {
         ensures metadata { metadata_of result ≡ metadata }
         ensures values { values_of result ≡ values.now }
         ensures parent { asked_parent result ≡ Parent.Root }
+        ensures whole { result ≡ attributes_of metadata values.entry Parent.Root }
     {
         Attributes {
             metadata,
@@ -153,6 +155,7 @@ impl<'a> Attributes<'a> {
         ensures metadata { metadata_of result ≡ metadata }
         ensures values { values_of result ≡ values.now }
         ensures parent { asked_parent result ≡ Parent.Explicit parent }
+        ensures whole { result ≡ attributes_of metadata values.entry (Parent.Explicit parent) }
     {
         Attributes {
             metadata,
@@ -220,7 +223,8 @@ pub struct Record<'a> {
 impl<'a> Record<'a> {
     /// These values.
     pub fn new(values: &'a [(&'static str, FieldValue<'a>)]) -> Record<'a>
-        ensures { recorded_values result ≡ values.now }
+        ensures values { recorded_values result ≡ values.now }
+        ensures whole { result ≡ record_of values.entry }
     {
         Record { recorded: values }
     }

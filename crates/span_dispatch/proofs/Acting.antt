@@ -9,7 +9,7 @@ use Rattle.span_core.specs.declared.metadata.Metadata.{Metadata}
 use Rattle.span_core.specs.declared.span.Lane.{Lane}
 use Rattle.span_core.specs.declared.span.Parent.{Parent}
 use Rattle.span_core.specs.declared.span.Parent.TheVariants.{Contextual, Explicit, Root}
-use Rattle.span_dispatch.specs.Alone.{Alone, StepsAlone, acting, given_in, learning, lone, passed, with_new}
+use Rattle.span_dispatch.specs.Alone.{Alone, StepsAlone, acting, given_in, given_of, learning, lone, passed, with_new}
 use Rattle.span_dispatch.specs.Isolation.{ActAlike, PathsActAlike, SeeTheSame, Sight}
 use Rattle.span_dispatch.specs.Outcome.{GoneLeft, HandleAdded, HandleTaken, LevelSet, Noticed, Outcome, Quiet}
 use Rattle.span_layers.specs.Verdict.{in_verdict}
@@ -19,8 +19,9 @@ use Rattle.span_registry.specs.Answers.{Answers, AreAlike, AreAlikeHistories, Ar
 use Rattle.span_registry.specs.Closes.{without}
 use Rattle.span_registry.specs.Conducts.{ArePlainConducts, Conducts, after_level, after_notice, filter_numbered, numbers_in, path_now, setting}
 use Rattle.span_registry.specs.Hooks.{no_filter}
-use Rattle.span_registry.specs.Path.{passes_path}
-use Rattle.span_registry.specs.Place.{Heard}
+use Rattle.span_registry.proofs.Plain.{plain_views_agree}
+use Rattle.span_registry.specs.Path.{mask_of, passes_path}
+use Rattle.span_registry.specs.Place.{Heard, told_in}
 use Rattle.span_registry.specs.Plan.{passes}
 use Rattle.span_registry.specs.Question.{single}
 use Rattle.span_registry.specs.Step.{IsContext, IsParentFor, begun, entered, exited}
@@ -107,6 +108,29 @@ own_number numbers n b cs h = h n (or_left (n == n) (numbers_in cs n) (eq-eqb n 
 
 other_numbers : (numbers : FilterSet) (n : ℕ) (b : Conduct) (cs : Conducts) → Within (numbers_in ((Some n, b) ∷ cs)) numbers → Within (numbers_in cs) numbers
 other_numbers numbers n b cs h k t = h k (or_right (k == n) (numbers_in cs k) t)
+
+-- the mask that such a path gives
+masks_alike : (cs ds : Conducts) (under : FilterSet) → PathsActAlike cs ds → mask_of (path_now cs) under ≡ mask_of (path_now ds) under
+masks_alike [] [] under p = refl
+masks_alike [] ((m, c) ∷ ds) under p = absurd p
+masks_alike ((n, b) ∷ cs) [] under p = absurd p
+masks_alike ((None, b) ∷ cs) ((None, c) ∷ ds) under p = masks_alike cs ds under p.2
+masks_alike ((None, b) ∷ cs) ((Some m, c) ∷ ds) under p = absurd (a_number m p.0)
+masks_alike ((Some n, b) ∷ cs) ((None, c) ∷ ds) under p = absurd (no_number n p.0)
+masks_alike ((Some n, b) ∷ cs) ((Some m, c) ∷ ds) under p = masks_alike cs ds (union under (single n)) p.2 ∙ ap (λ (k : ℕ). mask_of (path_now ds) (union under (single k))) (number_itself n m p.0)
+
+mask_within : (cs : Conducts) (under numbers : FilterSet) → Within (numbers_in cs) numbers → Within under numbers → Within (mask_of (path_now cs) under) numbers
+mask_within [] under numbers all within = within
+mask_within ((None, b) ∷ cs) under numbers all within = mask_within cs under numbers all within
+mask_within ((Some n, b) ∷ cs) under numbers all within =
+    mask_within cs (union under (single n)) numbers (other_numbers numbers n b cs all) (one_more under numbers n within (own_number numbers n b cs all))
+
+-- under it, stores that agree show the same
+pub told_alike : (cs : Conducts) (e : Notice) (s t : Store) (lane : ℕ) → AgreeAt (numbers_in cs) s t → told_in e s lane (mask_of (path_now cs) no_filter) ≡ told_in e t lane (mask_of (path_now cs) no_filter)
+told_alike cs e s t lane agree =
+    let numbers = numbers_in cs in
+    let mask = mask_of (path_now cs) no_filter in
+    ap (λ (view : View). record { lane = lane; notice = e; view = view }) (plain_views_agree numbers mask s t lane agree (mask_within cs no_filter numbers (λ n t. t) (λ n t. absurd (false≢true t))))
 
 -- ---- what such paths pass
 
@@ -247,12 +271,15 @@ acting_alike cs ds (Noticed lane e) s t u v p before after =
 acting_alike cs ds (Quiet c) s t u v p before after = p
 acting_alike cs ds (LevelSet n l) s t u v p before after = setting_alike n l cs ds p
 
-passed_both : (cs ds : Conducts) (o : Outcome) (s t : Store) → PathsActAlike cs ds → AgreeAt (numbers_in cs) s t → passed (Some (path_now cs)) o s ≡ passed (Some (path_now ds)) o t
-passed_both cs ds (Noticed lane e) s t p agree =
+passed_both : (cs ds : Conducts) (o : Outcome) (s t u v : Store) → PathsActAlike cs ds → AgreeAt (numbers_in cs) s t → AgreeAt (numbers_in cs) u v
+    → passed (Some (path_now cs)) o s (given_of o s u) ≡ passed (Some (path_now ds)) o t (given_of o t v)
+passed_both cs ds (Noticed lane e) s t u v p agree after =
     let numbers = numbers_in cs in
-    ap (λ (b : Bool). if b then (lane.0, e) ∷ [] else []) (paths_pass_alike numbers s t agree lane.0 cs ds e no_filter p (itself_within numbers) (none_within numbers))
-passed_both cs ds (Quiet c) s t p agree = refl
-passed_both cs ds (LevelSet n l) s t p agree = refl
+    let passes = paths_pass_alike numbers s t agree lane.0 cs ds e no_filter p (itself_within numbers) (none_within numbers) in
+    let told = told_alike cs e (given_in e s u) (given_in e t v) lane.0 (given_alike numbers e s t u v agree after) ∙ ap (told_in e (given_in e t v) lane.0) (masks_alike cs ds no_filter p) in
+    λ i. if passes i then told i ∷ [] else []
+passed_both cs ds (Quiet c) s t u v p agree after = refl
+passed_both cs ds (LevelSet n l) s t u v p agree after = refl
 
 -- ---- steps of stores that agree
 
@@ -277,7 +304,7 @@ changed : (numbers : FilterSet) (s t u v : Store) → u ≡ s → v ≡ t → Ag
 changed numbers s t u v e f h = subst (λ (x : Store). AgreeAt numbers x v) (sym e) (subst (λ (y : Store). AgreeAt numbers s y) (sym f) h)
 
 -- the steps of both leave stores that agree
-steps_agree : (cs ds : Conducts) (o : Outcome) (s t u v : Store) → PathsActAlike cs ds → AgreeAt (numbers_in cs) s t → StepsAlone (path_now cs) o s u → StepsAlone (path_now ds) o t v → AgreeAt (numbers_in cs) u v
+pub steps_agree : (cs ds : Conducts) (o : Outcome) (s t u v : Store) → PathsActAlike cs ds → AgreeAt (numbers_in cs) s t → StepsAlone (path_now cs) o s u → StepsAlone (path_now ds) o t v → AgreeAt (numbers_in cs) u v
 steps_agree cs ds (Noticed lane (OnNewSpan attrs id)) s t u v p agree h k =
     let numbers = numbers_in cs in
     let parent : h.parent ≡ k.parent = one_parent t lane (asked_parent attrs) h.parent k.parent (parent_alike numbers s t lane (asked_parent attrs) h.parent agree h.chosen) k.chosen in
@@ -303,7 +330,7 @@ steps_agree cs ds (LevelSet n l) s t u v p agree h k = changed (numbers_in cs) s
 steps_agree cs ds (Quiet (GoneLeft lane id)) s t u v p agree h k = changed (numbers_in cs) _ _ u v h.1 k.1 (exited_agrees (numbers_in cs) s t lane.0 (number_of id) agree)
 
 -- where the one takes a step, so does the other
-step_over : (cs ds : Conducts) (o : Outcome) (s t u : Store) → PathsActAlike cs ds → AgreeAt (numbers_in cs) s t → StepsAlone (path_now cs) o s u → (v : Store) × StepsAlone (path_now ds) o t v
+pub step_over : (cs ds : Conducts) (o : Outcome) (s t u : Store) → PathsActAlike cs ds → AgreeAt (numbers_in cs) s t → StepsAlone (path_now cs) o s u → (v : Store) × StepsAlone (path_now ds) o t v
 step_over cs ds (Noticed lane (OnNewSpan attrs id)) s t u p agree h =
     let numbers = numbers_in cs in
     let span : Span = begun (record { metadata = metadata_of attrs; parent = asked_parent attrs; verdict = h.verdict }) h.parent in (
@@ -343,7 +370,7 @@ alone_over cs ds s t (o ∷ outcomes) h p agree a =
       a.1,
       step.1,
       alone_over (acting cs o s a.0) (acting ds o t step.0) a.0 step.0 outcomes a.1 (acting_alike cs ds o s t a.0 step.0 p agree after) (after_agrees cs o s a.0 step.0 after) a.3,
-      a.4 ∙ ap (λ (first : Heard). first ++ a.1) (passed_both cs ds o s t p agree),
+      a.4 ∙ ap (λ (first : Heard). first ++ a.1) (passed_both cs ds o s t a.0 step.0 p agree after),
     )
 
 -- and nothing else is
@@ -352,10 +379,10 @@ one_alone cs ds s t [] h k a b p agree = a ∙ sym b
 one_alone cs ds s t (o ∷ outcomes) h k a b p agree =
     let after = steps_agree cs ds o s t a.0 b.0 p agree a.2 b.2 in
     let rest = one_alone (acting cs o s a.0) (acting ds o t b.0) a.0 b.0 outcomes a.1 b.1 a.3 b.3 (acting_alike cs ds o s t a.0 b.0 p agree after) (after_agrees cs o s a.0 b.0 after) in
-    let first = passed_both cs ds o s t p agree in
+    let first = passed_both cs ds o s t a.0 b.0 p agree after in
     a.4 ∙ (λ i. first i ++ rest i) ∙ sym b.4
 
 -- where each of two sees alone what it sees, both see the same
-pub both_alone : (Sees Other : Sight) → ((cs : Conducts) (s : Store) (outcomes : List Outcome) (h : Heard) → Sees cs s outcomes h → Alone cs s outcomes h) → ((cs : Conducts) (s : Store) (outcomes : List Outcome) (h : Heard) → Other cs s outcomes h → Alone cs s outcomes h)
+pub both_alone : (Sees Other : Sight (List Outcome)) → ((cs : Conducts) (s : Store) (outcomes : List Outcome) (h : Heard) → Sees cs s outcomes h → Alone cs s outcomes h) → ((cs : Conducts) (s : Store) (outcomes : List Outcome) (h : Heard) → Other cs s outcomes h → Alone cs s outcomes h)
     → SeeTheSame Sees Other
 both_alone Sees Other first second cs ds s t outcomes h k a b p agree = one_alone cs ds s t outcomes h k (first cs s outcomes h a) (second ds t outcomes k b) p agree

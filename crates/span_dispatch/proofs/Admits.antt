@@ -2,6 +2,7 @@
 use Rattle.std.proofs.Common.{◌≡◌, ℕ, Bool, true, false, not, ◌==◌, if◌then◌else◌, Option, Some, None, Result, Ok, Err, inl, inr, refl, sym, ap, subst, arith, ◌∙◌}
 use Rattle.std.proofs.lemmas.Bool.Decides.{nat_tests}
 use Rattle.std.proofs.lemmas.Bool.{eqb-true, false≢true, true≢false}
+use Rattle.std.specs.Prelude.{IfErr, IsSome}
 use Rattle.std.specs.BTreeMap as tree
 use Rattle.std.specs.Option.{option_map, unwrap_or}
 use Rattle.std.specs.Ordering.{is_eq, nat_cmp}
@@ -17,7 +18,7 @@ use Rattle.span_core.specs.declared.metadata.Metadata.{Metadata}
 use Rattle.span_core.specs.declared.pass.Pass.{Pass}
 use Rattle.span_core.specs.declared.span.Lane.{Lane}
 use Rattle.span_dispatch.specs.Admission.{GivesInterest, HasInterestBy, IsAdmitted, IsInterestBy, IsLetBy, MayLearn, interests_nobody, is_above_hint, learned, learned_if}
-use Rattle.span_dispatch.specs.Cache.{Callsites, IsCurrent, Memory, RefusesInterest, callsites_of, kept_in, no_callsite, with_callsite}
+use Rattle.span_dispatch.specs.Cache.{Callsites, IsCurrent, Memory, ReadHint, ReadsOnce, RefusesBelow, RefusesInterest, callsites_of, is_above_read, kept_in, no_callsite, with_callsite}
 use Rattle.span_dispatch.specs.declared.cache.Cache.TheVariants.{Empty, Filled, Off}
 use Rattle.span_dispatch.specs.declared.cache.Cache.{Cache}
 use Rattle.span_dispatch.specs.declared.cache.Callsite.{Callsite}
@@ -94,6 +95,18 @@ module _ (memory : Memory) (f : Form) (s : RegistryState) (lane : Lane) (m : Met
 
 -- ---- what a cache gives
 
+-- what is above no hint that is kept afterwards was above none before
+pub below_before : (memory : Memory) (before after : ReadHint) (m : Metadata) → ReadsOnce memory before after → is_above_read after m ≡ false → is_above_read before m ≡ false
+below_before None None after m r e = refl
+below_before (Some callsites) None after m r e = refl
+below_before None (Some hint) after m r e = subst (λ read. is_above_read read m ≡ false) r e
+below_before (Some callsites) (Some hint) after m r e = subst (λ read. is_above_read read m ≡ false) r e
+
+-- what is let by isn't above it
+pub let_by_below : (above : Bool) (given : Result Bool TraceError) → (above ≡ true → given ≡ Ok false) → given ≡ Ok true → above ≡ false
+let_by_below true given drops e = let dropped = drops refl in absurd (cc)
+let_by_below false given drops e = refl
+
 -- two tests of one thing
 same_test : (n m : ℕ) (b : Bool) → is_eq (nat_cmp n m) ≡ b → (n == m) ≡ b
 same_test n m true e = grind (arith, nat_tests)
@@ -122,6 +135,9 @@ module _ {S : Type 0} (registry : S → RegistryState) (has_form : S → Form �
   gives_off = record {
     off = λ e. refl;
     learns = inl refl;
+    reads = refl;
+    above = λ e. absurd (false≢true e);
+    mismatch = λ r. absurd r.1;
     refused = tt;
     by_form = λ f d h u. record { above = λ e. absurd (false≢true e); agrees = λ e. tt; never = λ e. refl; always = λ e. absurd (cc); learned = refl };
     kept = λ f d u. tt;
@@ -132,6 +148,9 @@ module _ {S : Type 0} (registry : S → RegistryState) (has_form : S → Form �
   gives_above k e = record {
     off = λ o. absurd (cc);
     learns = inl refl;
+    reads = refl;
+    above = λ a. refl;
+    mismatch = λ r. absurd (false≢true (sym r.0 ∙ e));
     refused = tt;
     by_form = λ f d h u.
         let above = ap (is_above (level_of m)) (sym u.hint) ∙ e in
@@ -163,27 +182,38 @@ module _ {S : Type 0} (registry : S → RegistryState) (has_form : S → Form �
   gives_kept k one passes at same = record {
     off = λ o. absurd (cc);
     learns = inl refl;
+    reads = refl;
+    above = λ a. absurd (false≢true (sym passes ∙ a));
+    mismatch = λ r. absurd (r.1.2 (shown r.1.0 r.1.1));
     refused = tt;
     by_form = λ f d h u.
         let below = ap (is_above (level_of m)) (sym u.hint) ∙ passes in
         let interest = u.interest (callsite_of m) one at ∙ ap (λ (p : Interest × Option Interest). p.0) (alike_interest f h one.metadata m same (registry x).filters None) in
-        let there : callsites_of k (callsite_of m) ≡ Some one.metadata = ap (option_map (λ (c : Callsite). c.metadata)) at in
         record {
           above = λ a. absurd (true≢false (sym a ∙ below));
-          agrees = λ a other e. let which : Some other ≡ Some one.metadata = sym e ∙ there in let it : other ≡ one.metadata = cc in subst (λ z. ShowSame z m) (sym it) same;
+          agrees = λ a other e. shown other e;
           never = λ a. ap is_never (sym interest);
           always = λ a. sym interest ∙ a;
           learned = sym (ap (λ c. Some c) (kept_still (callsites_of k) one.metadata there)) ∙ sym (ap (λ b. learned_if b (Some (callsites_of k)) m) below);
         };
     kept = λ f d u. u;
   }
+    where
+      there : callsites_of k (callsite_of m) ≡ Some one.metadata
+      there = ap (option_map (λ (c : Callsite). c.metadata)) at
+
+      shown : (other : Metadata) → callsites_of k (callsite_of m) ≡ Some other → ShowSame other m
+      shown other e = let which : Some other ≡ Some one.metadata = sym e ∙ there in let it : other ≡ one.metadata = cc in subst (λ z. ShowSame z m) (sym it) same
 
   -- it is kept with other metadata
   pub gives_mismatch : (k : Known) (one : Callsite) → is_above (level_of m) k.hint ≡ false → tree.get nat_cmp k.callsites (callsite_of m) ≡ Some one → ¬ (ShowSame one.metadata m) → GivesInterest registry has_form x m (Err CallsiteMismatch) (Filled k) (Filled k)
   gives_mismatch k one passes at other = record {
     off = λ o. absurd (cc);
     learns = inl refl;
-    refused = (one.metadata, ap (option_map (λ (c : Callsite). c.metadata)) at, other);
+    reads = refl;
+    above = λ a. absurd (false≢true (sym passes ∙ a));
+    mismatch = λ r. refl;
+    refused = (passes, (one.metadata, ap (option_map (λ (c : Callsite). c.metadata)) at, other));
     by_form = λ f d h u. (ap (is_above (level_of m)) (sym u.hint) ∙ passes, refl);
     kept = λ f d u. u;
   }
@@ -194,7 +224,10 @@ module _ {S : Type 0} (registry : S → RegistryState) (has_form : S → Form �
   gives_no_memory k l passes at hint same = record {
     off = λ o. absurd (cc);
     learns = inl (λ i. Some (λ n. option_map (λ (c : Callsite). c.metadata) (same n i)));
-    refused = ap (option_map (λ (c : Callsite). c.metadata)) at;
+    reads = ap (λ h. Some h) hint;
+    above = λ a. absurd (false≢true (sym passes ∙ ap (is_above (level_of m)) (sym hint) ∙ a));
+    mismatch = λ r. let no : Some r.1.0 ≡ None = sym r.1.1 ∙ ap (option_map (λ (c : Callsite). c.metadata)) at in absurd (cc);
+    refused = (passes, ap (option_map (λ (c : Callsite). c.metadata)) at);
     by_form = λ f d h u. (ap (is_above (level_of m)) (sym u.hint) ∙ passes, λ i. Some (λ n. option_map (λ (c : Callsite). c.metadata) (same n i)));
     kept = λ f d u. record { hint = hint ∙ u.hint; number = λ n one e. u.number n one (sym (same n) ∙ e); interest = λ n one e. u.interest n one (sym (same n) ∙ e) };
   }
@@ -206,6 +239,9 @@ module _ {S : Type 0} (registry : S → RegistryState) (has_form : S → Form �
   gives_asked k l i fresh pass passes at hint none a updates = record {
     off = λ o. absurd (cc);
     learns = inr (λ z. Some (λ n. grown n z));
+    reads = ap (λ h. Some h) hint;
+    above = λ a. absurd (false≢true (sym passes ∙ ap (is_above (level_of m)) (sym hint) ∙ a));
+    mismatch = λ r. let no : Some r.1.0 ≡ None = sym r.1.1 ∙ ap (option_map (λ (c : Callsite). c.metadata)) at in absurd (cc);
     refused = tt;
     by_form = λ f d h u.
         let below = ap (is_above (level_of m)) (sym u.hint) ∙ passes in
@@ -258,7 +294,14 @@ module _ {S : Type 0} (registry : S → RegistryState) (has_form : S → Form �
       record {
         off = λ o. absurd (cc);
         learns = subst (λ c. MayLearn (Some c) m (kept_in new)) none h.learns;
-        refused = subst (λ c. Rattle.std.specs.Prelude.IfErr i (RefusesInterest (Some c) m)) none h.refused;
+        reads = subst IsSome (sym h.reads) refl;
+        above = h.above;
+        mismatch = λ r. let no : Some r.1.0 ≡ None = sym r.1.1 in absurd (cc);
+        refused = begun i (λ e r. subst (λ c. RefusesInterest (Some c) m e) none r.1) h.refused;
         by_form = λ f d g u. subst (λ c. HasInterestBy (Some c) f (registry x).filters m (kept_in new) i) none (h.by_form f d g (current f d));
         kept = λ f d u. h.kept f d (current f d);
       }
+    where
+      begun : (r : Result Interest TraceError) → ((e : TraceError) → RefusesBelow (Some k.hint) (Some (callsites_of k)) m e → RefusesInterest (Some no_callsite) m e) → IfErr r (RefusesBelow (Some k.hint) (Some (callsites_of k)) m) → IfErr r (RefusesBelow None (Some no_callsite) m)
+      begun (Ok j) to r = tt
+      begun (Err e) to r = (refl, to e r)

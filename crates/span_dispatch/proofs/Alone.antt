@@ -2,7 +2,6 @@
 use Rattle.std.proofs.Common.{◌≡◌, ℕ, Bool, true, false, ◌&&◌, ◌||◌, ◌==◌, IsTrue, List, [], ◌∷◌, ◌++◌, map, Option, Some, None, if◌then◌else◌, refl, sym, ap, subst, ◌∙◌, inl, inr}
 use Rattle.std.proofs.lemmas.Bool.{both_ways, eqb-true, false≢true, false_from_ne_true, or_cases, or_from, or_left, or_parts, or_right, true≢false}
 use Rattle.std.specs.List.{FoldsTo}
-use Rattle.std.specs.Option.{option_map}
 use Rattle.span_core.proofs.FilterLemmas.{cut_verdict}
 use Rattle.span_core.specs.Event.{event_metadata}
 use Rattle.span_core.specs.Filters.{FilterSet, refuses, union}
@@ -10,11 +9,11 @@ use Rattle.span_core.specs.Span.{asked_parent, metadata_of, number_of}
 use Rattle.span_core.specs.declared.filter.FilterMap.{FilterMap}
 use Rattle.span_core.specs.declared.metadata.Metadata.{Metadata}
 use Rattle.span_core.specs.declared.span.Lane.{Lane}
-use Rattle.span_dispatch.proofs.Acting.{acting_numbers, alone_over, after_notice_alike, itself_within, learnt_alike, none_within, paths_further, paths_itself, same_numbers}
-use Rattle.span_dispatch.proofs.Seen.{goes_through}
-use Rattle.span_dispatch.specs.Alone.{Alone, StepsAlone, acting, given_in, learning, lone, passed, seen, with_new}
+use Rattle.span_dispatch.proofs.Acting.{acting_numbers, alone_over, after_notice_alike, itself_within, learnt_alike, none_within, paths_further, paths_itself, same_numbers, told_alike}
+use Rattle.span_dispatch.proofs.Seen.{beneath, goes_through, some_path}
+use Rattle.span_dispatch.specs.Alone.{Alone, StepsAlone, acting, given_in, given_of, learning, lone, passed, seen, with_new}
 use Rattle.span_dispatch.specs.Isolation.{ActAlike, PathsActAlike, SeesMade, SeesServed}
-use Rattle.span_dispatch.specs.Outcome.{Change, Changes, GoneLeft, GoesOn, HandleAdded, HandleTaken, LevelSet, Made, Makes, Noticed, Outcome, Quiet, StepsAfter, StepsBefore}
+use Rattle.span_dispatch.specs.Outcome.{Change, Changes, GoesOn, GoneLeft, HandleAdded, HandleTaken, IsGiven, IsVerdict, LevelSet, Made, Makes, Noticed, Outcome, Quiet, StepsAfter, StepsBefore}
 use Rattle.span_dispatch.specs.Serve.{EachSeesAlone, Sees, outcome_of, stack_of}
 use Rattle.span_layers.specs.Verdict.{AreDistinct, in_verdict, numbers_of}
 use Rattle.span_registry.proofs.Agreeing.{agree_aside, agree_refl, agree_sym, agree_trans, new_agrees_with, views_alike, without_agrees}
@@ -25,8 +24,8 @@ use Rattle.span_registry.specs.Conducts.{ActOn, ActsAt, ArePlainConducts, Conduc
 use Rattle.span_registry.specs.Form.{Bare, Filtered, Form, Leaf, Over}
 use Rattle.span_registry.specs.Hooks.{StackLaws, StackSteps, no_filter}
 use Rattle.span_registry.specs.Levels.{LevelLaws, LevelSteps}
-use Rattle.span_registry.specs.Path.{Path, passes_path, path_at}
-use Rattle.span_registry.specs.Place.{HearSteps, Heard, Here, Inner, Outer, Place, Under}
+use Rattle.span_registry.specs.Path.{Path, mask_of, passes_path, path_at}
+use Rattle.span_registry.specs.Place.{HearSteps, Heard, Here, Inner, Outer, Place, Told, Under, told_in}
 use Rattle.span_registry.specs.Plan.{Itself, Nobody, Plan, Through, asked_afresh, passes}
 use Rattle.span_registry.specs.Question.{single}
 use Rattle.span_registry.specs.Step.{begun, entered, exited, with_span}
@@ -56,6 +55,13 @@ paths_pass_same ((Some n, a) ∷ path) ((m, b) ∷ other) e s lane under h =
     let set = union under (single n) in
     (λ i. passes_same a b e s lane set h.1 i && paths_pass_same path other e s lane set h.2 i) ∙ ap (λ (k : Option ℕ). passes_path ((k, b) ∷ other) e s lane under) h.0
 
+masks_same : (path other : Path) (under : FilterSet) → PathsAnswerAlike path other → mask_of path under ≡ mask_of other under
+masks_same [] [] under h = refl
+masks_same [] ((m, b) ∷ other) under h = absurd h
+masks_same ((n, a) ∷ path) [] under h = absurd h
+masks_same ((None, a) ∷ path) ((m, b) ∷ other) under h = masks_same path other under h.2 ∙ ap (λ (k : Option ℕ). mask_of ((k, b) ∷ other) under) h.0
+masks_same ((Some n, a) ∷ path) ((m, b) ∷ other) under h = masks_same path other (union under (single n)) h.2 ∙ ap (λ (k : Option ℕ). mask_of ((k, b) ∷ other) under) h.0
+
 verdicts_same : (path other : Path) (meta : Metadata) (s : Store) (lane : ℕ) (under : FilterSet) (k : ℕ) → PathsAnswerAlike path other → in_verdict (lone path) meta s lane under k ≡ in_verdict (lone other) meta s lane under k
 verdicts_same [] [] meta s lane under k h = refl
 verdicts_same [] ((m, b) ∷ other) meta s lane under k h = absurd h
@@ -79,7 +85,7 @@ lone_numbers ((Some n, b) ∷ cs) = λ i k. (k == n) || lone_numbers cs i k
 
 -- ---- the verdict along a path
 
-no_verdict : (f : Form) (meta : Metadata) (s : Store) (lane : ℕ) (under : FilterSet) (k : ℕ) → numbers_of f k ≡ false → in_verdict f meta s lane under k ≡ false
+pub no_verdict : (f : Form) (meta : Metadata) (s : Store) (lane : ℕ) (under : FilterSet) (k : ℕ) → numbers_of f k ≡ false → in_verdict f meta s lane under k ≡ false
 no_verdict (Leaf still a) meta s lane under k h = refl
 no_verdict (Filtered None a f) meta s lane under k h = refl
 no_verdict (Filtered (Some n) a f) meta s lane under k h =
@@ -94,16 +100,8 @@ no_verdict (Over joint o i) meta s lane under k h =
     or_from (in_verdict o meta s lane under k) (in_verdict i meta s lane under k) (no_verdict o meta s lane under k parts.0) (no_verdict i meta s lane under k parts.1)
 no_verdict (Bare v) meta s lane under k h = refl
 
-some_path : (q r : Path) → Some q ≡ Some r → q ≡ r
-some_path q r e = cc
-
--- the path under a filter begins with that filter
-beneath : (n : Option ℕ) (a : Answers) (o : Option Path) (path : Path) → option_map (λ (r : Path). (n, a) ∷ r) o ≡ Some path → (rest : Path) × (o ≡ Some rest) × ((n, a) ∷ rest ≡ path)
-beneath n a None path h = absurd (cc)
-beneath n a (Some rest) path h = (rest, refl, some_path ((n, a) ∷ rest) path h)
-
 -- the numbers of a path are numbers of the form
-on_path : (f : Form) (place : Place) (path : Path) (k : ℕ) → path_at f place ≡ Some path → IsTrue (numbers_of (lone path) k) → IsTrue (numbers_of f k)
+pub on_path : (f : Form) (place : Place) (path : Path) (k : ℕ) → path_at f place ≡ Some path → IsTrue (numbers_of (lone path) k) → IsTrue (numbers_of f k)
 on_path (Leaf still a) Here path k h t = subst (λ (p : Path). IsTrue (numbers_of (lone p) k)) (sym (some_path [] path h)) t
 on_path (Leaf still a) (Under p) path k h t = absurd (cc)
 on_path (Leaf still a) (Outer p) path k h t = absurd (cc)
@@ -145,7 +143,7 @@ same_test : (p b c d : Bool) → b ≡ c → (if p then b else d) ≡ (if p then
 same_test p b c d h = ap (λ (x : Bool). if p then x else d) h
 
 -- of the path's filters the verdict says what the path alone says
-verdict_of_path : (f : Form) (place : Place) (path : Path) (meta : Metadata) (s : Store) (lane : ℕ) (under : FilterSet) (k : ℕ) → AreDistinct f → path_at f place ≡ Some path → IsTrue (numbers_of (lone path) k)
+pub verdict_of_path : (f : Form) (place : Place) (path : Path) (meta : Metadata) (s : Store) (lane : ℕ) (under : FilterSet) (k : ℕ) → AreDistinct f → path_at f place ≡ Some path → IsTrue (numbers_of (lone path) k)
     → in_verdict f meta s lane under k ≡ in_verdict (lone path) meta s lane under k
 verdict_of_path (Leaf still a) Here path meta s lane under k d h t = absurd (false≢true (subst (λ (p : Path). IsTrue (numbers_of (lone p) k)) (sym (some_path [] path h)) t))
 verdict_of_path (Leaf still a) (Under p) path meta s lane under k d h t = absurd (cc)
@@ -280,15 +278,19 @@ cut_refuses f place path cs meta s lane v d at alike said k = by_number (numbers
         said k ∙ verdict_of_path f place path meta s lane no_filter k d at own ∙ verdicts_same path (path_now cs) meta s lane no_filter k alike
     by_number false e = sym (no_verdict (lone (path_now cs)) meta s lane no_filter k ((λ i. lone_numbers cs i k) ∙ e))
 
-agrees_so : (numbers : FilterSet) (s t : RegistryState) (u : Store) → t ≡ s → AgreeAt numbers s.store u → AgreeAt numbers t.store u
+pub agrees_so : (numbers : FilterSet) (s t : RegistryState) (u : Store) → t ≡ s → AgreeAt numbers s.store u → AgreeAt numbers t.store u
 agrees_so numbers s t u e h = subst (λ (r : RegistryState). AgreeAt numbers r.store u) (sym e) h
 
 -- what a notice leaves, alone: and how far it agrees with the store that it is given in, and with the one after it
-abbrev NoticedAlone : Conducts → Lane → Notice → RegistryState → RegistryState → RegistryState → Type 0
+abbrev pub NoticedAlone : Conducts → Lane → Notice → RegistryState → RegistryState → RegistryState → Type 0
 NoticedAlone cs lane e s left y =
     (t : Store) × StepsAlone (path_now cs) (Noticed lane e) s.store t × AgreeAt (numbers_in cs) left.store (given_in e s.store t) × AgreeAt (numbers_in cs) y.store t
 
-module _ (f : Form) (place : Place) (path : Path) (cs : Conducts) (distinct : AreDistinct f) (at : path_at f place ≡ Some path) (alike : PathsAnswerAlike path (path_now cs)) where
+-- the verdict of a whole form, cut down to these filters, is what they alone say
+abbrev pub CutSays : Form → Conducts → Type 0
+CutSays f cs = (meta : Metadata) (s : Store) (lane : Lane) (v : FilterMap) → IsVerdict f meta s lane v → (k : ℕ) → (numbers_in cs k && refuses v k) ≡ in_verdict (lone (path_now cs)) meta s lane.0 no_filter k
+
+module _ (f : Form) (cs : Conducts) (cut_says : CutSays f cs) where
   -- hooks write extensions, and then the registry stays as it is
   onward : (left notified y : RegistryState) (t : Store) → AgreeAt (numbers_in cs) left.store t → SameButExtensions left notified → y ≡ notified → AgreeAt (numbers_in cs) y.store t
   onward left notified y t h hooks e =
@@ -299,7 +301,7 @@ module _ (f : Form) (place : Place) (path : Path) (cs : Conducts) (distinct : Ar
       let agree = agrees_so (numbers_in cs) s left s.store same (agree_refl (numbers_in cs) s.store) in
       (agree, onward left notified y s.store agree hooks after)
 
-  noticed_alone : (lane : Lane) (e : Notice) (s left notified y : RegistryState) → StepsBefore f lane e s left → SameButExtensions left notified → StepsAfter e notified y → NoticedAlone cs lane e s left y
+  pub noticed_alone : (lane : Lane) (e : Notice) (s left notified y : RegistryState) → StepsBefore f lane e s left → SameButExtensions left notified → StepsAfter e notified y → NoticedAlone cs lane e s left y
   noticed_alone lane (OnNewSpan attrs id) s left notified y before hooks after =
       let numbers = numbers_in cs in
       let x = number_of id in
@@ -315,7 +317,7 @@ module _ (f : Form) (place : Place) (path : Path) (cs : Conducts) (distinct : Ar
           parent = parent;
           chosen = before.2.finds.chosen;
           verdict = cut.0;
-          refused = λ k. cut.1 k ∙ cut_refuses f place path cs (metadata_of attrs) s.store lane.0 before.0 distinct at alike before.1 k;
+          refused = λ k. cut.1 k ∙ cut_says (metadata_of attrs) s.store lane before.0 before.1 k;
           state = refl;
         },
         agree,
@@ -345,7 +347,7 @@ module _ (f : Form) (place : Place) (path : Path) (cs : Conducts) (distinct : Ar
 
 -- ---- one outcome, and all that was made
 
-changed_alone : (cs : Conducts) (c : Change) (s t : RegistryState) → Changes c s t → (u : Store) × StepsAlone (path_now cs) (Quiet c) s.store u × AgreeAt (numbers_in cs) t.store u
+pub changed_alone : (cs : Conducts) (c : Change) (s t : RegistryState) → Changes c s t → (u : Store) × StepsAlone (path_now cs) (Quiet c) s.store u × AgreeAt (numbers_in cs) t.store u
 changed_alone cs (HandleAdded id) s t h =
     let u : Store = record s.store { spans = add_handle s.store.spans (number_of id) } in
     (u, (h.is_open, refl), agrees_so (numbers_in cs) (record s { store = u }) t u h.state (agree_refl (numbers_in cs) u))
@@ -356,10 +358,11 @@ changed_alone cs (GoneLeft lane id) s t h =
     let u = exited s.store lane.0 (number_of id) in
     (u, (h.0, refl), agrees_so (numbers_in cs) (record s { store = u }) t u h.1 (agree_refl (numbers_in cs) u))
 
-passed_alone : (path : Path) (cs : Conducts) (o : Outcome) (s : Store) → PathsAnswerAlike path (path_now cs) → passed (Some path) o s ≡ passed (Some (path_now cs)) o s
-passed_alone path cs (Noticed lane e) s alike = ap (λ (b : Bool). if b then (lane.0, e) ∷ [] else []) (paths_pass_same path (path_now cs) e s lane.0 no_filter alike)
-passed_alone path cs (Quiet c) s alike = refl
-passed_alone path cs (LevelSet n l) s alike = refl
+passed_alone : (path : Path) (cs : Conducts) (o : Outcome) (s given : Store) → PathsAnswerAlike path (path_now cs) → passed (Some path) o s given ≡ passed (Some (path_now cs)) o s given
+passed_alone path cs (Noticed lane e) s given alike =
+    λ i. if paths_pass_same path (path_now cs) e s lane.0 no_filter alike i then told_in e given lane.0 (masks_same path (path_now cs) no_filter alike i) ∷ [] else []
+passed_alone path cs (Quiet c) s given alike = refl
+passed_alone path cs (LevelSet n l) s given alike = refl
 
 seen_so : (cs : Conducts) {s t : Store} {outcomes others : List Outcome} {h k : Heard} → s ≡ t → outcomes ≡ others → h ≡ k → Alone cs s outcomes h → Alone cs t others k
 seen_so cs {s} {t} {outcomes} {others} {h} {k} e f g a =
@@ -367,29 +370,38 @@ seen_so cs {s} {t} {outcomes} {others} {h} {k} e f g a =
 
 module _ {S : Type 0} (registry : S → RegistryState) {with_registry : S → RegistryState → S} {has_form : S → Form → Type 0} {stepped : StackSteps S} {levelled : LevelSteps S} {registered : S → S → Type 0} {hears : HearSteps S} {acts_at : ActsAt S}
     (paths : StackPathLaws with_registry has_form stepped registered acts_at) (levels : LevelLaws has_form levelled hears acts_at) where
-  -- what an outcome leaves, alone: a store that agrees, and conducts as they are learnt from it
-  abbrev LeavesAlone : Place → Conducts → Outcome → S → S → Type 0
-  LeavesAlone place cs o x y =
+  -- what an outcome leaves, alone: a store that agrees, conducts as they are learnt from it, and what is told in the store that it is given in
+  abbrev LeavesAlone : (f : Form) (place : Place) (cs : Conducts) (o : Outcome) (x y : S) → GoesOn registry with_registry has_form stepped levelled f o x y → Type 0
+  LeavesAlone f place cs o x y g =
       (t : Store) × StepsAlone (path_now cs) o (registry x).store t × AgreeAt (numbers_in cs) (registry y).store t × (ds : Conducts) × acts_at y place ds × PathsActAlike ds (acting cs o (registry x).store t)
+      × ((u : Store) → IsGiven registry with_registry has_form stepped levelled f o x y g u → passed (Some (path_now cs)) o (registry x).store u ≡ passed (Some (path_now cs)) o (registry x).store (given_of o (registry x).store t))
 
-  leaves_alone : (f : Form) (o : Outcome) (x y : S) (place : Place) (cs : Conducts) → has_form x f → AreDistinct f → acts_at x place cs → GoesOn registry with_registry has_form stepped levelled f o x y → LeavesAlone place cs o x y
+  leaves_alone : (f : Form) (o : Outcome) (x y : S) (place : Place) (cs : Conducts) → has_form x f → AreDistinct f → acts_at x place cs → (g : GoesOn registry with_registry has_form stepped levelled f o x y) → LeavesAlone f place cs o x y g
   leaves_alone f (Noticed lane e) x y place cs has distinct acts g =
       let numbers = numbers_in cs in
       let s = (registry x).store in
       let plain = paths.plain x place cs acts in
       let now = paths.now x place cs f acts has in
-      let step = noticed_alone f place now.0 cs distinct now.1 now.2 lane e (registry x) g.left (registry g.notified) (registry y) g.before g.extensions g.after in
+      let step = noticed_alone f cs (λ meta t q v said. cut_refuses f place now.0 cs meta t q.0 v distinct now.1 now.2 said) lane e (registry x) g.left (registry g.notified) (registry y) g.before g.extensions g.after in
       let on = paths.goes_on x (asked_afresh f e s lane.0 no_filter) e lane.0 g.left g.notified (registry g.notified) place cs g.layers acts in
       let there = subst (λ (z : S). acts_at z place on.0) (sym g.rest) (paths.acts_with g.notified (registry y) place on.0 on.1) in
       let learnt = learns_along e s lane.0 g.left f place now.0 no_filter cs on.0 now.1 now.2 plain on.2 in
       let moved = learnt_alike numbers cs cs e s s g.left.store (given_in e s step.0) lane.0 no_filter (agree_refl numbers s) step.2 (paths_itself cs plain) (itself_within numbers) (none_within numbers) in
-      (step.0, step.1, step.3, on.0, there, paths_further on.0 (learning cs e s g.left.store lane.0 no_filter) (learning cs e s (given_in e s step.0) lane.0 no_filter) learnt moved)
+      let told = λ (u : Store) (same : u ≡ g.left.store). ap (λ (r : Store). told_in e r lane.0 (mask_of (path_now cs) no_filter)) same ∙ told_alike cs e g.left.store (given_in e s step.0) lane.0 step.2 in (
+        step.0,
+        step.1,
+        step.3,
+        on.0,
+        there,
+        paths_further on.0 (learning cs e s g.left.store lane.0 no_filter) (learning cs e s (given_in e s step.0) lane.0 no_filter) learnt moved,
+        λ u same. ap (λ (one : Told). if passes_path (path_now cs) e s lane.0 no_filter then one ∷ [] else []) (told u same),
+      )
   leaves_alone f (Quiet c) x y place cs has distinct acts g =
       let step = changed_alone cs c (registry x) (registry y) g.changes in
-      (step.0, step.1, step.2, cs, subst (λ (z : S). acts_at z place cs) (sym g.rest) (paths.acts_with x (registry y) place cs acts), paths_itself cs (paths.plain x place cs acts))
+      (step.0, step.1, step.2, cs, subst (λ (z : S). acts_at z place cs) (sym g.rest) (paths.acts_with x (registry y) place cs acts), paths_itself cs (paths.plain x place cs acts), λ u same. refl)
   leaves_alone f (LevelSet n l) x y place cs has distinct acts g =
       let later = levels.acts x n l y place cs g.goes acts in
-      ((registry x).store, refl, agrees_so (numbers_in cs) (registry x) (registry y) (registry x).store g.same (agree_refl (numbers_in cs) (registry x).store), setting n l cs, later, paths_itself (setting n l cs) (paths.plain y place (setting n l cs) later))
+      ((registry x).store, refl, agrees_so (numbers_in cs) (registry x) (registry y) (registry x).store g.same (agree_refl (numbers_in cs) (registry x).store), setting n l cs, later, paths_itself (setting n l cs) (paths.plain y place (setting n l cs) later), λ u same. refl)
 
   -- on the stack's own store
   sees_own : (x : S) (ms : List Made) (y : S) (place : Place) (cs : Conducts) → FoldsTo (Makes registry with_registry has_form stepped levelled) x ms y → acts_at x place cs → Alone cs (registry x).store (map outcome_of ms) (seen place ms)
@@ -402,7 +414,7 @@ module _ {S : Type 0} (registry : S → RegistryState) {with_registry : S → Re
       let same : numbers_in cs ≡ numbers_in step.3 = sym (same_numbers step.3 (acting cs m.outcome s step.0) step.5 ∙ acting_numbers cs m.outcome s step.0) in
       let agree = subst (λ (numbers : FilterSet). AgreeAt numbers (registry h.0).store step.0) same step.2 in
       let now = paths.now x place cs m.form acts made.honest.has in
-      let first = ap (λ (o : Option Path). passed o m.outcome m.store) now.1 ∙ ap (λ (t : Store). passed (Some now.0) m.outcome t) made.store ∙ passed_alone now.0 cs m.outcome s now.2 in (
+      let first = ap (λ (o : Option Path). passed o m.outcome m.store m.given) now.1 ∙ ap (λ (t : Store). passed (Some now.0) m.outcome t m.given) made.store ∙ passed_alone now.0 cs m.outcome s m.given now.2 ∙ step.6 m.given made.given in (
         step.0,
         seen place ms,
         step.1,

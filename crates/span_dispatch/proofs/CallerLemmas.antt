@@ -1,20 +1,25 @@
 -- For the proofs of callers: what was made of a list that was served, request by request, and what a leaf sees of it.
-use Rattle.std.proofs.Common.{◌≡◌, ◌∙◌, ◌⊎◌, ℕ, inl, inr, Bool, Option, Some, None, List, [], ◌∷◌, ◌++◌, ap, append_assoc, false, refl, sym, subst, true}
+use Rattle.std.proofs.Common.{◌≡◌, ◌∙◌, ◌⊎◌, ℕ, inl, inr, Bool, Option, Some, None, List, [], ◌∷◌, ◌++◌, ap, append_assoc, false, refl, sym, subst, true, map}
 use Rattle.std.proofs.lemmas.Bool.{false≢true}
-use Rattle.span_core.specs.Event.{event_metadata}
-use Rattle.span_core.specs.Span.{asked_parent, metadata_of}
+use Rattle.std.specs.Option.{option_map}
+use Rattle.span_core.specs.Event.{event_metadata, event_of, event_parent, event_values}
+use Rattle.span_core.specs.Span.{asked_parent, attributes_of, metadata_of, record_of, recorded_values, values_of}
 use Rattle.span_core.specs.declared.error.TraceError.{TraceError}
 use Rattle.span_core.specs.declared.event.Event.{Event}
 use Rattle.span_core.specs.declared.metadata.Metadata.{Metadata}
 use Rattle.span_core.specs.declared.span.Attributes.{Attributes}
 use Rattle.span_core.specs.declared.span.Id.{Id}
 use Rattle.span_core.specs.declared.span.Lane.{Lane}
+use Rattle.span_core.specs.declared.span.Record.{Record}
 use Rattle.span_dispatch.specs.Admission.{IsDropped, IsUnknown, LearnsOfSpan, learned}
 use Rattle.span_dispatch.specs.Cache.{IsUpToDate, Memory, forgotten}
-use Rattle.span_dispatch.specs.Call.{AddHandle, AskCurrent, Call, DropHandle, Enter, Exit, Follow, OpenSpan, Probe, RecordValues, SendEvent, SetLevel, vetoes_whole}
+use Rattle.span_dispatch.specs.Call.{OpenSpan, RecordValues, SendEvent, vetoes_whole}
 use Rattle.span_dispatch.specs.Outcome.{Made, Makes, Noticed}
 use Rattle.span_dispatch.specs.Alone.{passed, seen}
-use Rattle.span_dispatch.specs.Serve.{AsksFor, IsReady, KeepsUpToDate, Run, Serves, ServesAsked, ServesRequest, forgetful, with_stack}
+use Rattle.span_dispatch.specs.Recorder.{Kept, Records, kept_notice, recorder_steps}
+use Rattle.span_dispatch.specs.RecorderLaws.{records_more, records_nothing}
+use Rattle.span_dispatch.specs.Serve.{IsReady, KeepsUpToDate, Run, Serves, ServesRequest, call_of, forgetful, resolved, resolved_parent, with_stack}
+use Rattle.span_layers.specs.Layer.{HearsBy}
 use Rattle.span_dispatch.specs.declared.cache.Cache.TheVariants as cache
 use Rattle.span_dispatch.specs.declared.cache.Cache.{Cache}
 use Rattle.span_dispatch.specs.declared.dispatch.Dispatch.{Dispatch}
@@ -22,6 +27,7 @@ use Rattle.span_dispatch.specs.declared.request.Answer.TheVariants as answer
 use Rattle.span_dispatch.specs.declared.request.Answer.{Answer}
 use Rattle.span_dispatch.specs.declared.request.Request.TheVariants as request
 use Rattle.span_dispatch.specs.declared.request.Request.{Request}
+use Rattle.span_dispatch.specs.declared.request.Which.{Which}
 use Rattle.span_dispatch.specs.declared.request.WhichParent.{WhichParent}
 use Rattle.span_registry.specs.Path.{path_at}
 use Rattle.span_layers.specs.Verdict.{vetoes}
@@ -29,14 +35,39 @@ use Rattle.span_registry.specs.Answers.{OnEvent, OnNewSpan}
 use Rattle.span_registry.specs.Form.{Form}
 use Rattle.span_registry.specs.Hooks.{StackSteps}
 use Rattle.span_registry.specs.Levels.{LevelSteps}
-use Rattle.span_registry.specs.Place.{Place}
+use Rattle.span_registry.specs.Place.{Heard, Here, Place}
 use Rattle.span_registry.specs.Step.{RefusesNew}
 use Rattle.span_registry.specs.Store.{RegistryState}
 
 -- of two lists in a row a leaf sees what it sees of each
 pub seen_append : (place : Place) (ms ns : List Made) → seen place (ms ++ ns) ≡ seen place ms ++ seen place ns
 seen_append place [] ns = refl
-seen_append place (m ∷ ms) ns = ap (λ h. passed (path_at m.form place) m.outcome m.store ++ h) (seen_append place ms ns) ∙ sym (append_assoc (passed (path_at m.form place) m.outcome m.store) (seen place ms) (seen place ns))
+seen_append place (m ∷ ms) ns = ap (λ h. passed (path_at m.form place) m.outcome m.store m.given ++ h) (seen_append place ms ns) ∙ sym (append_assoc (passed (path_at m.form place) m.outcome m.store m.given) (seen place ms) (seen place ns))
+
+-- what a request for a new span asks for: its own lane, metadata and values, and the parent that it names
+pub span_asked : (past : List Answer) (lane l : Lane) (m : Metadata) (p : WhichParent) (values : _) (attrs : Attributes) → call_of past (request.NewSpan lane m p values) ≡ Some (OpenSpan l attrs)
+    → (l ≡ lane) × (metadata_of attrs ≡ m) × (asked_parent attrs ≡ resolved_parent past p) × (values_of attrs ≡ values.now)
+span_asked past lane l m p values attrs e =
+    let same : attributes_of m values (resolved_parent past p) ≡ attrs = cc in
+    (cc, ap metadata_of (sym same), ap asked_parent (sym same), ap values_of (sym same))
+
+-- the same of an event
+pub event_asked : (past : List Answer) (lane l : Lane) (m : Metadata) (p : WhichParent) (values : _) (event : Event) → call_of past (request.Event lane m p values) ≡ Some (SendEvent l event)
+    → (l ≡ lane) × (event_metadata event ≡ m) × (event_parent event ≡ resolved_parent past p) × (event_values event ≡ values.now)
+event_asked past lane l m p values event e =
+    let same : event_of m values (resolved_parent past p) ≡ event = cc in
+    (cc, ap event_metadata (sym same), ap event_parent (sym same), ap event_values (sym same))
+
+-- of a record its span, too
+pub record_asked : (past : List Answer) (lane l : Lane) (w : Which) (values : _) (id : Id) (r : Record) → call_of past (request.Record lane w values) ≡ Some (RecordValues l id r)
+    → (l ≡ lane) × (resolved past w ≡ Some id) × (recorded_values r ≡ values.now)
+record_asked past lane l w values id r e = by_span (resolved past w) e
+  where
+    by_span : (o : Option Id) → option_map (λ x. RecordValues lane x (record_of values)) o ≡ Some (RecordValues l id r) → (l ≡ lane) × (o ≡ Some id) × (recorded_values r ≡ values.now)
+    by_span None k = let no : ⊥ = cc in absurd no
+    by_span (Some x) k =
+        let same : record_of values ≡ r = cc in
+        (cc, cc, ap recorded_values (sym same))
 
 module _ {S : Type 0} (registry : S → RegistryState) (with_registry : S → RegistryState → S) (has_form : S → Form → Type 0) (stepped : StackSteps S) (levelled : LevelSteps S) where
   -- a list that begins with a request: it has an answer, and the rest was served behind that
@@ -61,19 +92,19 @@ module _ {S : Type 0} (registry : S → RegistryState) (with_registry : S → Re
   Goal = Answer → List Made → Memory → S → Type 0
 
   abbrev pub MadeSpan : List Answer → Request → Lane → Memory → S → Goal → Type 0
-  MadeSpan past r lane memory x G = (id : Id) (attrs : Attributes) (f : Form) (one : Made) (after : Memory) (z : S) → AsksFor past r (Some (OpenSpan lane attrs)) → after ≡ learned memory f (metadata_of attrs)
+  MadeSpan past r lane memory x G = (id : Id) (attrs : Attributes) (f : Form) (one : Made) (after : Memory) (z : S) → call_of past r ≡ Some (OpenSpan lane attrs) → after ≡ learned memory f (metadata_of attrs)
       → one.outcome ≡ Noticed lane (OnNewSpan attrs id) → Makes registry with_registry has_form stepped levelled x one z → G (answer.Made id) (one ∷ []) after z
 
   abbrev pub DroppedSpan : List Answer → Request → Lane → Memory → S → Goal → Type 0
-  DroppedSpan past r lane memory x G = (attrs : Attributes) (f : Form) (after : Memory) → AsksFor past r (Some (OpenSpan lane attrs)) → IsReady registry with_registry has_form stepped levelled f x
+  DroppedSpan past r lane memory x G = (attrs : Attributes) (f : Form) (after : Memory) → call_of past r ≡ Some (OpenSpan lane attrs) → IsReady registry with_registry has_form stepped levelled f x
       → IsDropped memory f (registry x) lane (metadata_of attrs) (vetoes f (metadata_of attrs) (registry x).store lane.0) → after ≡ learned memory f (metadata_of attrs) → G answer.Dropped [] after x
 
   abbrev pub RefusedSpan : List Answer → Request → Lane → Memory → S → Goal → Type 0
-  RefusedSpan past r lane memory x G = (attrs : Attributes) (e : TraceError) (f : Form) (after : Memory) → AsksFor past r (Some (OpenSpan lane attrs)) → IsUnknown memory f (metadata_of attrs) e ⊎ RefusesNew (registry x) lane (asked_parent attrs) e
+  RefusedSpan past r lane memory x G = (attrs : Attributes) (e : TraceError) (f : Form) (after : Memory) → call_of past r ≡ Some (OpenSpan lane attrs) → IsUnknown memory f (metadata_of attrs) e ⊎ RefusesNew (registry x) lane (asked_parent attrs) e
       → LearnsOfSpan memory f (metadata_of attrs) (answer.Refused e) after → G (answer.Refused e) [] after x
 
   opened : (past : List Answer) (r : Request) (lane : Lane) (attrs : Attributes) (f : Form) (memory : Memory) (x : S) (a : Answer) (made : List Made) (after : Memory) (y : S) (G : Goal) → MadeSpan past r lane memory x G → DroppedSpan past r lane memory x G
-      → RefusedSpan past r lane memory x G → AsksFor past r (Some (OpenSpan lane attrs)) → IsReady registry with_registry has_form stepped levelled f x → Serves registry with_registry has_form stepped levelled (OpenSpan lane attrs) f memory x a made after y → G a made after y
+      → RefusedSpan past r lane memory x G → call_of past r ≡ Some (OpenSpan lane attrs) → IsReady registry with_registry has_form stepped levelled f x → Serves registry with_registry has_form stepped levelled (OpenSpan lane attrs) f memory x a made after y → G a made after y
   opened past r lane attrs f memory x (answer.Made id) [] after y G new dropped refused asks ready s = let e = s.comes.1 in absurd (cc)
   opened past r lane attrs f memory x (answer.Made id) (one ∷ []) after y G new dropped refused asks ready s =
       let e = s.comes.1 in
@@ -96,39 +127,25 @@ module _ {S : Type 0} (registry : S → RegistryState) (with_registry : S → Re
   pub span_served : (past : List Answer) (lane : Lane) (m : Metadata) (p : WhichParent) (values : _) (memory : Memory) (x : S) (a : Answer) (made : List Made) (after : Memory) (y : S) (G : Goal)
       → MadeSpan past (request.NewSpan lane m p values) lane memory x G → DroppedSpan past (request.NewSpan lane m p values) lane memory x G → RefusedSpan past (request.NewSpan lane m p values) lane memory x G
       → ServesRequest registry with_registry has_form stepped levelled past (request.NewSpan lane m p values) memory x a made after y → G a made after y
-  span_served past lane m p values memory x a made after y G new dropped refused h = by_call h.call h.asks h.served
-    where
-      by_call : (o : Option Call) → AsksFor past (request.NewSpan lane m p values) o → ServesAsked registry with_registry has_form stepped levelled o memory x a made after y → G a made after y
-      by_call (Some (OpenSpan l attrs)) asks s =
-          opened past (request.NewSpan lane m p values) lane attrs s.0 memory x a made after y G new dropped refused (refl, asks.1, asks.2, asks.3) s.1 (subst (λ k. Serves registry with_registry has_form stepped levelled (OpenSpan k attrs) s.0 memory x a made after y) asks.0 s.2)
-      by_call (Some (SendEvent l e)) asks s = absurd asks
-      by_call (Some (Enter l id)) asks s = absurd asks
-      by_call (Some (Exit l id)) asks s = absurd asks
-      by_call (Some (RecordValues l id r)) asks s = absurd asks
-      by_call (Some (Follow l id other)) asks s = absurd asks
-      by_call (Some (AddHandle l id)) asks s = absurd asks
-      by_call (Some (DropHandle l id)) asks s = absurd asks
-      by_call (Some (Probe l k)) asks s = absurd asks
-      by_call (Some (AskCurrent l)) asks s = absurd asks
-      by_call (Some (SetLevel n k)) asks s = absurd asks
-      by_call None asks s = absurd asks
+  span_served past lane m p values memory x a made after y G new dropped refused h =
+      opened past (request.NewSpan lane m p values) lane (attributes_of m values (resolved_parent past p)) h.0 memory x a made after y G new dropped refused refl h.1 h.2
 
   -- ---- a request for an event: its notice alone came of it; or it was dropped, or refused, and nothing came of it
 
   abbrev pub MadeEvent : List Answer → Request → Lane → Memory → S → Goal → Type 0
-  MadeEvent past r lane memory x G = (e : Event) (f : Form) (one : Made) (after : Memory) (z : S) → AsksFor past r (Some (SendEvent lane e)) → after ≡ learned memory f (event_metadata e) → one.outcome ≡ Noticed lane (OnEvent e)
+  MadeEvent past r lane memory x G = (e : Event) (f : Form) (one : Made) (after : Memory) (z : S) → call_of past r ≡ Some (SendEvent lane e) → after ≡ learned memory f (event_metadata e) → one.outcome ≡ Noticed lane (OnEvent e)
       → Makes registry with_registry has_form stepped levelled x one z → G answer.Done (one ∷ []) after z
 
   abbrev pub DroppedEvent : List Answer → Request → Lane → Memory → S → Goal → Type 0
-  DroppedEvent past r lane memory x G = (e : Event) (f : Form) (after : Memory) → AsksFor past r (Some (SendEvent lane e)) → IsReady registry with_registry has_form stepped levelled f x
+  DroppedEvent past r lane memory x G = (e : Event) (f : Form) (after : Memory) → call_of past r ≡ Some (SendEvent lane e) → IsReady registry with_registry has_form stepped levelled f x
       → IsDropped memory f (registry x) lane (event_metadata e) (vetoes_whole f e (registry x).store lane) → after ≡ learned memory f (event_metadata e) → G answer.Dropped [] after x
 
   abbrev pub RefusedEvent : List Answer → Request → Lane → Memory → S → Goal → Type 0
-  RefusedEvent past r lane memory x G = (e : Event) (error : TraceError) (f : Form) (after : Memory) → AsksFor past r (Some (SendEvent lane e)) → IsUnknown memory f (event_metadata e) error → after ≡ memory
+  RefusedEvent past r lane memory x G = (e : Event) (error : TraceError) (f : Form) (after : Memory) → call_of past r ≡ Some (SendEvent lane e) → IsUnknown memory f (event_metadata e) error → after ≡ memory
       → G (answer.Refused error) [] after x
 
   sent : (past : List Answer) (r : Request) (lane : Lane) (event : Event) (f : Form) (memory : Memory) (x : S) (a : Answer) (made : List Made) (after : Memory) (y : S) (G : Goal) → MadeEvent past r lane memory x G → DroppedEvent past r lane memory x G
-      → RefusedEvent past r lane memory x G → AsksFor past r (Some (SendEvent lane event)) → IsReady registry with_registry has_form stepped levelled f x → Serves registry with_registry has_form stepped levelled (SendEvent lane event) f memory x a made after y → G a made after y
+      → RefusedEvent past r lane memory x G → call_of past r ≡ Some (SendEvent lane event) → IsReady registry with_registry has_form stepped levelled f x → Serves registry with_registry has_form stepped levelled (SendEvent lane event) f memory x a made after y → G a made after y
   sent past r lane event f memory x answer.Done [] after y G new dropped refused asks ready s = let e = s.comes.1 in absurd (cc)
   sent past r lane event f memory x answer.Done (one ∷ []) after y G new dropped refused asks ready s =
       let e = s.comes.1 in
@@ -147,22 +164,8 @@ module _ {S : Type 0} (registry : S → RegistryState) (with_registry : S → Re
   pub event_served : (past : List Answer) (lane : Lane) (m : Metadata) (p : WhichParent) (values : _) (memory : Memory) (x : S) (a : Answer) (made : List Made) (after : Memory) (y : S) (G : Goal)
       → MadeEvent past (request.Event lane m p values) lane memory x G → DroppedEvent past (request.Event lane m p values) lane memory x G → RefusedEvent past (request.Event lane m p values) lane memory x G
       → ServesRequest registry with_registry has_form stepped levelled past (request.Event lane m p values) memory x a made after y → G a made after y
-  event_served past lane m p values memory x a made after y G new dropped refused h = by_call h.call h.asks h.served
-    where
-      by_call : (o : Option Call) → AsksFor past (request.Event lane m p values) o → ServesAsked registry with_registry has_form stepped levelled o memory x a made after y → G a made after y
-      by_call (Some (SendEvent l e)) asks s =
-          sent past (request.Event lane m p values) lane e s.0 memory x a made after y G new dropped refused (refl, asks.1, asks.2, asks.3) s.1 (subst (λ k. Serves registry with_registry has_form stepped levelled (SendEvent k e) s.0 memory x a made after y) asks.0 s.2)
-      by_call (Some (OpenSpan l attrs)) asks s = absurd asks
-      by_call (Some (Enter l id)) asks s = absurd asks
-      by_call (Some (Exit l id)) asks s = absurd asks
-      by_call (Some (RecordValues l id r)) asks s = absurd asks
-      by_call (Some (Follow l id other)) asks s = absurd asks
-      by_call (Some (AddHandle l id)) asks s = absurd asks
-      by_call (Some (DropHandle l id)) asks s = absurd asks
-      by_call (Some (Probe l k)) asks s = absurd asks
-      by_call (Some (AskCurrent l)) asks s = absurd asks
-      by_call (Some (SetLevel n k)) asks s = absurd asks
-      by_call None asks s = absurd asks
+  event_served past lane m p values memory x a made after y G new dropped refused h =
+      sent past (request.Event lane m p values) lane (event_of m values (resolved_parent past p)) h.0 memory x a made after y G new dropped refused refl h.1 h.2
 
 -- where nothing is kept, what is dropped is vetoed, and no interest is wanting
 pub vetoed_unkept : (f : Form) (s : RegistryState) (lane : Lane) (m : Metadata) (vetoed : Bool) → IsDropped None f s lane m vetoed → vetoed ≡ true
@@ -189,3 +192,8 @@ forgotten_is_current f n d x = by_cache d.cache
     by_cache cache.Off = tt
     by_cache cache.Empty = tt
     by_cache (cache.Filled k) = tt
+
+-- a recorder keeps of what it heard what `kept_notice` says
+pub heard_records : (h : Heard) (x y : Kept) → HearsBy recorder_steps x Here h y → Records x y (map kept_notice h)
+heard_records [] x y a = subst (λ (z : Kept). Records x z []) a (records_nothing x)
+heard_records (one ∷ h) x y a = records_more x a.0 y (kept_notice one ∷ []) (map kept_notice h) a.1.step.1 (heard_records h a.0 y a.2)

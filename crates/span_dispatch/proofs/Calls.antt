@@ -232,7 +232,7 @@ module _ {S : Type 0} {registry : S → RegistryState} {with_registry : S → Re
   pub closed_so : ((s : S) (w : RegistryState) → registry (with_registry s w) ≡ w) → (lane : Lane) (id : Id) (a : Released) (f : Form) (x y : S) (w : RegistryState) → Releases id a (registry x) w → a ≡ Closing → IsForest (registry x).store.spans
       → ClosesEach registry with_registry has_form stepped levelled lane id (with_registry x w) y → Ready f x → Ends (DropHandle lane id) (answer.Yes true) f x y
   closed_so registry_with lane id a f x y w r same forest k h =
-      let m : Made = record { form = f; store = (registry x).store; outcome = Quiet (HandleTaken id) } in
+      let m : Made = record { form = f; store = (registry x).store; given = (registry x).store; outcome = Quiet (HandleTaken id) } in
       let z = with_registry x w in
       let q = quietly laws with_own levelled registry_with (HandleTaken id) x w (r.held, r.state) in
       let after = honest_quietly laws with_own levelled f (HandleTaken id) x z h.honest q in
@@ -245,7 +245,7 @@ module _ {S : Type 0} {registry : S → RegistryState} {with_registry : S → Re
           m ∷ notices.0,
           record {
             comes = record { closed = k.closed; exact = drops.closes; outcomes = ap (λ os. Quiet (HandleTaken id) ∷ os) notices.2; itself = (λ _. itself, λ _. refl) };
-            goes = (z, record { honest = h.honest; store = refl; goes = q }, notices.1);
+            goes = (z, record { honest = h.honest; store = refl; goes = q; given = refl }, notices.1);
             keeps = refl;
           },
         ),
@@ -301,9 +301,9 @@ module _ {S : Type 0} {registry : S → RegistryState} {with_registry : S → Re
               rest = ap (λ t. with_registry z t) (sym (registry_with z w));
             } in
             let last = honest_after laws with_own levelled g lane (OnClose span) y u before.3.1 notice in
-            let m : Made = record { form = g; store = (registry y).store; outcome = Noticed lane (OnClose span) } in (
+            let m : Made = record { form = g; store = (registry y).store; given = notice.left.store; outcome = Noticed lane (OnClose span) } in (
               before.0 ++ (m ∷ []),
-              folds_more x before.0 y m u before.1 (record { honest = before.3.1; store = refl; goes = notice }),
+              folds_more x before.0 y m u before.1 (record { honest = before.3.1; store = refl; goes = notice; given = refl }),
               outcomes_more before.0 m ∙ ap (λ os. os ++ (m.outcome ∷ [])) before.2 ∙ sym (closes_more lane xs (number_of span)),
               (last.0, last.1, keeps_again f g last.0 before.3.2 last.2, last.3 ∙ before.3.3),
             );

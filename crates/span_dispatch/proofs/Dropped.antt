@@ -10,7 +10,7 @@ use Rattle.span_dispatch.specs.Admission.{IsDropped}
 use Rattle.span_dispatch.specs.Cache.{Memory}
 use Rattle.span_dispatch.specs.Call.{AddHandle, AskCurrent, Call, Comes, DropHandle, Enter, Exit, Follow, OpenSpan, Probe, RecordValues, SendEvent, SetLevel}
 use Rattle.span_dispatch.specs.Outcome.{GoesOn, LevelSet, Made, Makes, Noticed, Outcome, Quiet}
-use Rattle.span_dispatch.specs.Serve.{AreReadableCloses, DropsLoseNothing, IsReadableClose, IsUnwantedCall, LosesNothing, Run, ServesAsked, outcome_of}
+use Rattle.span_dispatch.specs.Serve.{AreReadableCloses, DropsLoseNothing, IsReadableClose, IsUnwantedCall, LosesNothing, Run, ServesAsked, call_of, outcome_of}
 use Rattle.span_dispatch.specs.declared.request.Answer.TheVariants as answer
 use Rattle.span_dispatch.specs.declared.request.Answer.{Answer}
 use Rattle.span_dispatch.specs.declared.request.Request.{Request}
@@ -63,7 +63,7 @@ module _ {S : Type 0} (registry : S → RegistryState) (with_registry : S → Re
   lost_nothing past (q ∷ rs) [] made memory x after y h = tt
   lost_nothing past (q ∷ rs) (b ∷ answers) [] memory x after y h = tt
   lost_nothing past (q ∷ rs) (b ∷ answers) (ms ∷ made) memory x after y h =
-      (λ e. unwanted_asked h.2.call memory x b ms h.0 h.1 e h.2.served, lost_nothing (past ++ (b ∷ [])) rs answers made h.0 h.1 after y h.3)
+      (λ e. unwanted_asked (call_of past q) memory x b ms h.0 h.1 e h.2, lost_nothing (past ++ (b ∷ [])) rs answers made h.0 h.1 after y h.3)
 
   readable_one : (o : Outcome) (f : Form) (s : Store) (x y : S) → s ≡ (registry x).store → GoesOn registry with_registry has_form stepped levelled f o x y → IsReadableClose s o
   readable_one (Quiet c) f s x y same h = tt

@@ -5,8 +5,8 @@ use Rattle.span_core.specs.declared.level.LevelFilter.{LevelFilter}
 use Rattle.span_dispatch.specs.Cache.{Memory}
 use Rattle.span_dispatch.specs.Call.{Call}
 use Rattle.span_dispatch.specs.Fixed.{Formed, set_at}
-use Rattle.span_dispatch.specs.Outcome.{GoesOn, IsHonest, LevelSet, Made, Makes, Noticed, Outcome, Quiet}
-use Rattle.span_dispatch.specs.Serve.{Run, ServesAsked}
+use Rattle.span_dispatch.specs.Outcome.{GoesOn, IsGiven, IsHonest, LevelSet, Made, Makes, Noticed, Outcome, Quiet}
+use Rattle.span_dispatch.specs.Serve.{Run, ServesAsked, call_of}
 use Rattle.span_dispatch.specs.declared.request.Answer.{Answer}
 use Rattle.span_dispatch.specs.declared.request.Request.{Request}
 use Rattle.span_registry.specs.Answers.{Notice}
@@ -14,7 +14,7 @@ use Rattle.span_registry.specs.Form.{Form}
 use Rattle.span_registry.specs.Hooks.{StackSteps}
 use Rattle.span_registry.specs.Levels.{LevelSteps}
 use Rattle.span_registry.specs.Plan.{Plan}
-use Rattle.span_registry.specs.Store.{RegistryState}
+use Rattle.span_registry.specs.Store.{RegistryState, Store}
 
 -- how a registry with a form goes on
 abbrev registry_in : Formed → RegistryState
@@ -42,18 +42,21 @@ module _ {S : Type 0} (registry : S → RegistryState) (with_registry : S → Re
   honest : (f g : Form) (x : S) → Stays x f → IsHonest registry with_registry has_form stepped levelled g x → IsHonest registry_in with_registry_in has_this steps_in levels_in g (registry x, f)
   honest f g x stays h = record { has = known x f g stays h.has; rules = h.rules }
 
-  -- it stays so by this form, and goes on so in it
-  abbrev StaysOn : Form → Outcome → Form → S → S → Type 0
-  StaysOn g o f x y = (h : Form) × Stays y h × GoesOn registry_in with_registry_in has_this steps_in levels_in g o (registry x, f) (registry y, h)
+  -- it stays so by this form, and goes on so in it, its notices given in the same store
+  abbrev StaysOn : (g : Form) (o : Outcome) (f : Form) (x y : S) → GoesOn registry with_registry has_form stepped levelled g o x y → Type 0
+  StaysOn g o f x y n =
+      (h : Form) × Stays y h × (k : GoesOn registry_in with_registry_in has_this steps_in levels_in g o (registry x, f) (registry y, h))
+      × ((s : Store) → IsGiven registry with_registry has_form stepped levelled g o x y n s → IsGiven registry_in with_registry_in has_this steps_in levels_in g o (registry x, f) (registry y, h) k s)
 
-  stays_on : (g : Form) (o : Outcome) (f : Form) (x y : S) → Stays x f → GoesOn registry with_registry has_form stepped levelled g o x y → StaysOn g o f x y
+  stays_on : (g : Form) (o : Outcome) (f : Form) (x y : S) → Stays x f → (n : GoesOn registry with_registry has_form stepped levelled g o x y) → StaysOn g o f x y n
   stays_on g (Noticed lane e) f x y stays n = (
     f,
     subst (λ z. Stays z f) (sym n.rest) (aside n.notified f (registry y) (goes x f _ e lane.0 n.left n.notified (registry n.notified) n.layers stays)),
     record { left = n.left; before = n.before; notified = (registry n.notified, f); layers = refl; extensions = n.extensions; after = n.after; rest = refl },
+    λ s e. e,
   )
-  stays_on g (Quiet c) f x y stays q = (f, subst (λ z. Stays z f) (sym q.rest) (aside x f (registry y) stays), record { changes = q.changes; rest = refl })
-  stays_on g (LevelSet n l) f x y stays q = (set_at n l f, set x f n l y q.goes stays, record { taken = q.taken; goes = refl; same = q.same })
+  stays_on g (Quiet c) f x y stays q = (f, subst (λ z. Stays z f) (sym q.rest) (aside x f (registry y) stays), record { changes = q.changes; rest = refl }, λ s e. e)
+  stays_on g (LevelSet n l) f x y stays q = (set_at n l f, set x f n l y q.goes stays, record { taken = q.taken; goes = refl; same = q.same }, λ s e. e)
 
   -- so through all that is made
   abbrev StaysThrough : Form → S → List Made → S → Type 0
@@ -64,7 +67,7 @@ module _ {S : Type 0} (registry : S → RegistryState) (with_registry : S → Re
   through f x (m ∷ ms) y stays h =
       let one = stays_on m.form m.outcome f x h.0 stays h.1.goes in
       let rest = through one.0 h.0 ms y one.1 h.2 in
-      (rest.0, rest.1, ((registry h.0, one.0), record { honest = honest f m.form x stays h.1.honest; store = h.1.store; goes = one.2 }, rest.2))
+      (rest.0, rest.1, ((registry h.0, one.0), record { honest = honest f m.form x stays h.1.honest; store = h.1.store; goes = one.2; given = one.3 m.given h.1.given }, rest.2))
 
   abbrev AskedIn : Option Call → Memory → Form → S → Answer → List Made → Memory → S → Type 0
   AskedIn o memory f x a ms after y = (h : Form) × Stays y h × ServesAsked registry_in with_registry_in has_this steps_in levels_in o memory (registry x, f) a ms after (registry y, h)
@@ -84,6 +87,6 @@ module _ {S : Type 0} (registry : S → RegistryState) (with_registry : S → Re
   runs_by past (q ∷ rs) [] made memory f x after y stays h = absurd h
   runs_by past (q ∷ rs) (b ∷ answers) [] memory f x after y stays h = absurd h
   runs_by past (q ∷ rs) (b ∷ answers) (ms ∷ made) memory f x after y stays h =
-      let one = asked_in h.2.call memory f x b ms h.0 h.1 stays h.2.served in
+      let one = asked_in (call_of past q) memory f x b ms h.0 h.1 stays h.2 in
       let rest = runs_by (past ++ (b ∷ [])) rs answers made h.0 one.0 h.1 after y one.1 h.3 in
-      (rest.0, rest.1, (h.0, (registry h.1, one.0), record { call = h.2.call; asks = h.2.asks; served = one.2 }, rest.2))
+      (rest.0, rest.1, (h.0, (registry h.1, one.0), one.2, rest.2))

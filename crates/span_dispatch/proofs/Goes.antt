@@ -163,9 +163,9 @@ module _ {S : Type 0} {registry : S → RegistryState} {with_registry : S → Re
   pub by_notice : (call : Call) (a : Answer) (f : Form) (lane : Lane) (e : Notice) (memory : Memory) (x : S) (after : Memory) (y : S) → Honest f x → Comes call memory f (registry x) a (Noticed lane e ∷ []) → KeepsAfter call memory f a after
       → (n : Notices registry with_registry has_form stepped levelled f lane e x y) → (registry y).store.spans ≡ n.left.store.spans → Done call a f memory x after y
   by_notice call a f lane e memory x after y h c k n same =
-      let m : Made = record { form = f; store = (registry x).store; outcome = Noticed lane e } in
+      let m : Made = record { form = f; store = (registry x).store; given = n.left.store; outcome = Noticed lane e } in
       let next = honest_after f lane e x y h n in (
-        (m ∷ [], record { comes = c; goes = (y, record { honest = h; store = refl; goes = n }, refl); keeps = k }),
+        (m ∷ [], record { comes = c; goes = (y, record { honest = h; store = refl; goes = n; given = refl }, refl); keeps = k }),
         λ s. (next.0, record { honest = next.1; settled = subst IsSettled (sym same) (settled_before f lane e (registry x) n.left n.before s) }, next.2, next.3),
       )
 
@@ -187,9 +187,9 @@ module _ {S : Type 0} {registry : S → RegistryState} {with_registry : S → Re
   pub by_change : (call : Call) (a : Answer) (f : Form) (c : Change) (memory : Memory) (x : S) (after : Memory) (y : S) → Honest f x → Comes call memory f (registry x) a (Quiet c ∷ []) → KeepsAfter call memory f a after
       → (q : Quiets registry with_registry has_form stepped levelled c x y) → (IsSettled (registry x).store.spans → IsSettled (registry y).store.spans) → Done call a f memory x after y
   by_change call a f c memory x after y h comes k q s =
-      let m : Made = record { form = f; store = (registry x).store; outcome = Quiet c } in
+      let m : Made = record { form = f; store = (registry x).store; given = (registry x).store; outcome = Quiet c } in
       let next = honest_quietly f c x y h q in (
-        (m ∷ [], record { comes = comes; goes = (y, record { honest = h; store = refl; goes = q }, refl); keeps = k }),
+        (m ∷ [], record { comes = comes; goes = (y, record { honest = h; store = refl; goes = q; given = refl }, refl); keeps = k }),
         λ before. (next.0, record { honest = next.1; settled = s before }, next.2, next.3),
       )
 
@@ -218,8 +218,8 @@ module _ {S : Type 0} (registry : S → RegistryState) (with_registry : S → Re
   pub level_served : (f : Form) (n : ℕ) (l : LevelFilter) (memory : Memory) (x : S) (after : Memory) (y : S) → IsHonest registry with_registry has_form stepped levelled f x → takes_level f n l ≡ true → levelled x n l y → registry y ≡ registry x → after ≡ option_map (λ callsites. no_callsite) memory
       → (made : List Made) × Serves registry with_registry has_form stepped levelled (SetLevel n l) f memory x answer.Done made after y
   level_served f n l memory x after y h taken goes same kept =
-      let m : Made = record { form = f; store = (registry x).store; outcome = LevelSet n l } in
-      (m ∷ [], record { comes = (taken, refl); goes = (y, record { honest = h; store = refl; goes = record { taken = taken; goes = goes; same = same } }, refl); keeps = kept })
+      let m : Made = record { form = f; store = (registry x).store; given = (registry x).store; outcome = LevelSet n l } in
+      (m ∷ [], record { comes = (taken, refl); goes = (y, record { honest = h; store = refl; goes = record { taken = taken; goes = goes; same = same }; given = refl }, refl); keeps = kept })
 
   -- or it wasn't, and nothing changed
   pub level_refused : (f : Form) (n : ℕ) (l : LevelFilter) (memory : Memory) (x y : S) → takes_level f n l ≡ false → y ≡ x

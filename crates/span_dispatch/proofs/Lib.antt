@@ -4,11 +4,14 @@ pub mod Alone
 mod Calls
 pub mod CallerLemmas
 mod Dropped
+mod Effect
 pub mod Fixed
 mod Goes
 mod Journalled
+mod KeptHint
 mod Legal
 mod Once
+mod Readable
 pub mod Seen
 mod Served
 mod Stores

@@ -1,5 +1,5 @@
 -- Each leaf goes through what passes its path, and nothing else.
-use Rattle.std.proofs.Common.{◌≡◌, ℕ, Bool, true, false, List, [], ◌∷◌, ◌++◌, Option, Some, None, if◌then◌else◌, refl, sym, ap, subst}
+use Rattle.std.proofs.Common.{◌≡◌, ℕ, Bool, true, false, List, [], ◌∷◌, ◌++◌, Option, Some, None, if◌then◌else◌, refl, sym, ap, subst, ◌∙◌}
 use Rattle.std.proofs.lemmas.List.{append-nil}
 use Rattle.std.specs.List.{FoldsTo}
 use Rattle.std.specs.Option.{option_map}
@@ -8,19 +8,19 @@ use Rattle.span_core.specs.declared.level.LevelFilter.{LevelFilter}
 use Rattle.span_core.specs.declared.span.Lane.{Lane}
 use Rattle.span_dispatch.specs.Cache.{Memory}
 use Rattle.span_dispatch.specs.Call.{Call}
-use Rattle.span_dispatch.specs.Outcome.{Change, GoesOn, LevelSet, Made, Makes, Noticed, Outcome, Quiet}
+use Rattle.span_dispatch.specs.Outcome.{Change, GoesOn, IsGiven, LevelSet, Made, Makes, Noticed, Outcome, Quiet}
 use Rattle.span_dispatch.specs.Alone.{passed, seen}
-use Rattle.span_dispatch.specs.Serve.{Run, ServesAsked, flat}
+use Rattle.span_dispatch.specs.Serve.{Run, ServesAsked, call_of, flat}
 use Rattle.span_dispatch.specs.declared.request.Answer.{Answer}
 use Rattle.span_dispatch.specs.declared.request.Request.{Request}
 use Rattle.span_layers.proofs.Pass.{reached}
-use Rattle.span_registry.specs.Path.{Path, path_at}
-use Rattle.span_registry.specs.Answers.{Notice}
+use Rattle.span_registry.specs.Answers.{Answers, Notice}
+use Rattle.span_registry.specs.Path.{Path, mask_at, mask_of, path_at}
 use Rattle.span_registry.specs.Form.{Bare, Filtered, Form, Leaf, Over}
 use Rattle.span_registry.specs.Hooks.{StackLaws, StackSteps, no_filter}
 use Rattle.span_registry.specs.Levels.{LevelLaws, LevelSteps}
 use Rattle.span_registry.specs.Conducts.{ActsAt}
-use Rattle.span_registry.specs.Place.{HearSteps, Heard, Here, Inner, Outer, Place, Under, heard_by, is_notified}
+use Rattle.span_registry.specs.Place.{HearSteps, Heard, Here, Inner, Outer, Place, Under, heard_by, is_notified, told_in}
 use Rattle.span_registry.specs.Plan.{Nobody, Through, asked_afresh, passes}
 use Rattle.span_registry.specs.Question.{single}
 use Rattle.span_registry.specs.Store.{RegistryState, Store}
@@ -58,21 +58,55 @@ unreached (Over j o i) (Under p) e s lane under h = refl
 unreached (Over j o i) (Outer p) e s lane under h = unreached o p e s lane under h
 unreached (Over j o i) (Inner p) e s lane under h = unreached i p e s lane under h
 
+-- ---- under which filters
+
+pub some_path : (q r : Path) → Some q ≡ Some r → q ≡ r
+some_path q r e = cc
+
+-- the path under a filter begins with that filter
+pub beneath : (n : Option ℕ) (a : Answers) (o : Option Path) (path : Path) → option_map (λ (r : Path). (n, a) ∷ r) o ≡ Some path → (rest : Path) × (o ≡ Some rest) × ((n, a) ∷ rest ≡ path)
+beneath n a None path h = absurd (cc)
+beneath n a (Some rest) path h = (rest, refl, some_path ((n, a) ∷ rest) path h)
+
+-- whoever stands at a place looks under the filters of its path
+mask_on_path : (f : Form) (place : Place) (path : Path) (under : FilterSet) → path_at f place ≡ Some path → mask_at f place under ≡ mask_of path under
+mask_on_path (Leaf still a) Here path under h = ap (λ (r : Path). mask_of r under) (some_path [] path h)
+mask_on_path (Leaf still a) (Under p) path under h = absurd (cc)
+mask_on_path (Leaf still a) (Outer p) path under h = absurd (cc)
+mask_on_path (Leaf still a) (Inner p) path under h = absurd (cc)
+mask_on_path (Bare v) p path under h = absurd (cc)
+mask_on_path (Filtered None a f) Here path under h = ap (λ (r : Path). mask_of r under) (some_path ((None, a) ∷ []) path h)
+mask_on_path (Filtered (Some n) a f) Here path under h = ap (λ (r : Path). mask_of r under) (some_path ((Some n, a) ∷ []) path h)
+mask_on_path (Filtered None a f) (Under p) path under h =
+    let rest = beneath None a (path_at f p) path h in mask_on_path f p rest.0 under rest.1 ∙ ap (λ (r : Path). mask_of r under) rest.2
+mask_on_path (Filtered (Some n) a f) (Under p) path under h =
+    let rest = beneath (Some n) a (path_at f p) path h in mask_on_path f p rest.0 (union under (single n)) rest.1 ∙ ap (λ (r : Path). mask_of r under) rest.2
+mask_on_path (Filtered n a f) (Outer p) path under h = absurd (cc)
+mask_on_path (Filtered n a f) (Inner p) path under h = absurd (cc)
+mask_on_path (Over j o i) Here path under h = absurd (cc)
+mask_on_path (Over j o i) (Under p) path under h = absurd (cc)
+mask_on_path (Over j o i) (Outer p) path under h = mask_on_path o p path under h
+mask_on_path (Over j o i) (Inner p) path under h = mask_on_path i p path under h
+
+-- ---- what is told
+
 -- whom the plan asked afresh notifies sees what passes its path
-sees_passed : (f : Form) (place : Place) (lane : Lane) (e : Notice) (s : Store) → heard_by (asked_afresh f e s lane.0 no_filter) place lane.0 e ≡ passed (path_at f place) (Noticed lane e) s
-sees_passed f place lane e s = by_path (path_at f place) refl
+sees_passed : (f : Form) (place : Place) (lane : Lane) (e : Notice) (s given : Store)
+    → heard_by (asked_afresh f e s lane.0 no_filter) place (told_in e given lane.0 (mask_at f place no_filter)) ≡ passed (path_at f place) (Noticed lane e) s given
+sees_passed f place lane e s given = by_path (path_at f place) refl
   where
-    by_path : (o : Option Path) → path_at f place ≡ o → heard_by (asked_afresh f e s lane.0 no_filter) place lane.0 e ≡ passed o (Noticed lane e) s
-    by_path None h = ap (λ b. if b then (lane.0, e) ∷ [] else []) (unreached f place e s lane.0 no_filter h)
-    by_path (Some path) h = ap (λ b. if b then (lane.0, e) ∷ [] else []) (reached f place path e s lane.0 no_filter h)
+    by_path : (o : Option Path) → path_at f place ≡ o → heard_by (asked_afresh f e s lane.0 no_filter) place (told_in e given lane.0 (mask_at f place no_filter)) ≡ passed o (Noticed lane e) s given
+    by_path None h = ap (λ b. if b then told_in e given lane.0 (mask_at f place no_filter) ∷ [] else []) (unreached f place e s lane.0 no_filter h)
+    by_path (Some path) h =
+        λ i. if reached f place path e s lane.0 no_filter h i then told_in e given lane.0 (mask_on_path f place path no_filter h i) ∷ [] else []
 
-nothing_passed : (o : Option Path) (c : Change) (s : Store) → passed o (Quiet c) s ≡ []
-nothing_passed None c s = refl
-nothing_passed (Some path) c s = refl
+nothing_passed : (o : Option Path) (c : Change) (s given : Store) → passed o (Quiet c) s given ≡ []
+nothing_passed None c s given = refl
+nothing_passed (Some path) c s given = refl
 
-no_level_passed : (o : Option Path) (n : ℕ) (l : LevelFilter) (s : Store) → passed o (LevelSet n l) s ≡ []
-no_level_passed None n l s = refl
-no_level_passed (Some path) n l s = refl
+no_level_passed : (o : Option Path) (n : ℕ) (l : LevelFilter) (s given : Store) → passed o (LevelSet n l) s given ≡ []
+no_level_passed None n l s given = refl
+no_level_passed (Some path) n l s given = refl
 
 module _ {S : Type 0} (registry : S → RegistryState) {with_registry : S → RegistryState → S} {usable : S → Type 0} {has_form : S → Form → Type 0} {stepped : StackSteps S} {levelled : LevelSteps S} {hears : HearSteps S} {registered : S → S → Type 0} {acts_at : ActsAt S}
     (laws : StackLaws with_registry usable has_form stepped hears registered) (levels : LevelLaws has_form levelled hears acts_at) where
@@ -82,19 +116,22 @@ module _ {S : Type 0} (registry : S → RegistryState) {with_registry : S → Re
       let more = subst (λ w. hears y place [] w) (sym e) (laws.hears_with y (registry z) place) in
       subst (λ k. hears x place k z) (append-nil h) (laws.heard.further x y z place h [] a more)
 
-  by_outcome : (f : Form) (o : Outcome) (s : Store) (x y : S) (place : Place) → s ≡ (registry x).store → GoesOn registry with_registry has_form stepped levelled f o x y → hears x place (passed (path_at f place) o s) y
-  by_outcome f (Noticed lane e) s x y place same g =
+  by_outcome : (f : Form) (o : Outcome) (s given : Store) (x y : S) (place : Place) → s ≡ (registry x).store → has_form x f → (g : GoesOn registry with_registry has_form stepped levelled f o x y)
+      → IsGiven registry with_registry has_form stepped levelled f o x y g given → hears x place (passed (path_at f place) o s given) y
+  by_outcome f (Noticed lane e) s given x y place same has g from =
       let plan = asked_afresh f e (registry x).store lane.0 no_filter in
-      let now = aside x g.notified y place (heard_by plan place lane.0 e) (laws.notified x plan e lane.0 g.left g.notified (registry g.notified) place g.layers) g.rest in
-      subst (λ t. hears x place (passed (path_at f place) (Noticed lane e) t) y) (sym same) (subst (λ h. hears x place h y) (sees_passed f place lane e (registry x).store) now)
-  by_outcome f (Quiet c) s x y place same g = subst (λ h. hears x place h y) (sym (nothing_passed (path_at f place) c s)) (aside x x y place [] (laws.heard.nothing x place) g.rest)
-  by_outcome f (LevelSet n l) s x y place same g = subst (λ h. hears x place h y) (sym (no_level_passed (path_at f place) n l s)) (levels.heard x n l y place g.goes)
+      let told = told_in e g.left.store lane.0 (mask_at f place no_filter) in
+      let now = aside x g.notified y place (heard_by plan place told) (laws.notified x plan e lane.0 g.left g.notified (registry g.notified) place f g.layers has) g.rest in
+      let seen_there = subst (λ h. hears x place h y) (sees_passed f place lane e (registry x).store g.left.store) now in
+      subst (λ t. hears x place (passed (path_at f place) (Noticed lane e) t given) y) (sym same) (subst (λ u. hears x place (passed (path_at f place) (Noticed lane e) (registry x).store u) y) (sym from) seen_there)
+  by_outcome f (Quiet c) s given x y place same has g from = subst (λ h. hears x place h y) (sym (nothing_passed (path_at f place) c s given)) (aside x x y place [] (laws.heard.nothing x place) g.rest)
+  by_outcome f (LevelSet n l) s given x y place same has g from = subst (λ h. hears x place h y) (sym (no_level_passed (path_at f place) n l s given)) (levels.heard x n l y place g.goes)
 
   -- each leaf went through what it sees of what was made
   pub goes_through : (x : S) (ms : List Made) (y : S) (place : Place) → FoldsTo (Makes registry with_registry has_form stepped levelled) x ms y → hears x place (seen place ms) y
   goes_through x [] y place h = subst (λ z. hears x place [] z) h (laws.heard.nothing x place)
   goes_through x (m ∷ ms) y place h =
-      laws.heard.further x h.0 y place _ _ (by_outcome m.form m.outcome m.store x h.0 place h.1.store h.1.goes) (goes_through h.0 ms y place h.2)
+      laws.heard.further x h.0 y place _ _ (by_outcome m.form m.outcome m.store m.given x h.0 place h.1.store h.1.honest.has h.1.goes h.1.given) (goes_through h.0 ms y place h.2)
 
 module _ {S : Type 0} (registry : S → RegistryState) (with_registry : S → RegistryState → S) (has_form : S → Form → Type 0) (stepped : StackSteps S) (levelled : LevelSteps S) where
   folds_append : (x : S) (ms ns : List Made) (y z : S) → FoldsTo (Makes registry with_registry has_form stepped levelled) x ms y → FoldsTo (Makes registry with_registry has_form stepped levelled) y ns z → FoldsTo (Makes registry with_registry has_form stepped levelled) x (ms ++ ns) z
@@ -114,4 +151,4 @@ module _ {S : Type 0} (registry : S → RegistryState) (with_registry : S → Re
   run_folds past (q ∷ rs) [] made memory x after y h = absurd h
   run_folds past (q ∷ rs) (b ∷ answers) [] memory x after y h = absurd h
   run_folds past (q ∷ rs) (b ∷ answers) (ms ∷ made) memory x after y h =
-      folds_append x ms (flat made) h.1 y (asked_folds h.2.call memory x b ms h.0 h.1 h.2.served) (run_folds (past ++ (b ∷ [])) rs answers made h.0 h.1 after y h.3)
+      folds_append x ms (flat made) h.1 y (asked_folds (call_of past q) memory x b ms h.0 h.1 h.2) (run_folds (past ++ (b ∷ [])) rs answers made h.0 h.1 after y h.3)

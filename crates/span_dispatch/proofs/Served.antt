@@ -1,11 +1,11 @@
 -- Serving a list, request by request.
-use Rattle.std.proofs.Common.{◌≡◌, List, [], ◌∷◌, ◌++◌, Option, Some, refl, sym, subst, append_assoc, ◌∙◌}
+use Rattle.std.proofs.Common.{◌≡◌, List, [], ◌∷◌, ◌++◌, Option, Some, refl, sym, ap, subst, append_assoc, ◌∙◌}
 use Rattle.std.proofs.lemmas.List.{append-nil}
 use Rattle.span_core.specs.declared.span.Id.{Id}
 use Rattle.span_dispatch.specs.Cache.{Memory}
 use Rattle.span_dispatch.specs.Call.{Call}
 use Rattle.span_dispatch.specs.Outcome.{IsHonest, Made}
-use Rattle.span_dispatch.specs.Serve.{AsksFor, IsReadyAfter, IsReadyBy, IsReadySomehow, KeepsUpToDate, Run, Served, Serves, ServesCall, ServesRequest, flat, kept_by, stack_of}
+use Rattle.span_dispatch.specs.Serve.{IsReadyAfter, IsReadyBy, IsReadySomehow, KeepsUpToDate, Run, Served, Serves, ServesAsked, ServesCall, ServesRequest, call_of, flat, kept_by, stack_of}
 use Rattle.span_dispatch.specs.declared.dispatch.Dispatch.{Dispatch}
 use Rattle.span_dispatch.specs.declared.request.Answer.{Answer}
 use Rattle.span_dispatch.specs.declared.request.Request.{Request}
@@ -15,6 +15,8 @@ use Rattle.span_registry.specs.Hooks.{StackLaws, StackSteps}
 use Rattle.span_registry.specs.Levels.{KeepsRules, LevelLaws, LevelSteps, own_rules, rules_again}
 use Rattle.span_registry.specs.Place.{HearSteps}
 use Rattle.span_dispatch.proofs.Dropped.{lost_nothing, readable_closes}
+use Rattle.span_dispatch.proofs.Effect.{run_calls}
+use Rattle.span_dispatch.proofs.Readable.{told_can_be_read}
 use Rattle.span_dispatch.proofs.Once.{closed_once}
 use Rattle.span_dispatch.proofs.Alone.{sees_what_is_made}
 use Rattle.span_dispatch.proofs.Seen.{run_folds}
@@ -42,20 +44,17 @@ module _ {S : Type 0} (registry : S → RegistryState) (with_registry : S → Re
   ReadyAgain old new = (f : Form) → IsReadyBy registry with_registry has_form stepped levelled f old → IsReadyAfter registry with_registry has_form stepped levelled KeepsRules f new
 
   -- what a request asks for was served
-  pub served_by : (past : List Answer) (r other : Request) (call : Call) (a b : Answer) (old new : Dispatch S) → r ≡ other → AsksFor past other (Some call) → b ≡ a → DropAnswered call a old new
+  pub served_by : (past : List Answer) (r other : Request) (call : Call) (a b : Answer) (old new : Dispatch S) → r ≡ other → call_of past other ≡ Some call → b ≡ a → DropAnswered call a old new
       → NextServed past r b old new
   served_by past r other call a b old new same asks answer served k =
-      let done = served k.0 k.1 in (
+      let done = served k.0 k.1 in
+      let by_answer = subst (λ z. Serves registry with_registry has_form stepped levelled call k.0 (kept_by old) (stack_of old) z done.0 (kept_by new) (stack_of new)) (sym answer) done.1 in (
         done.0,
-        record {
-          call = Some call;
-          asks = subst (λ q. AsksFor past q (Some call)) (sym same) asks;
-          served = (k.0, k.1.stack, subst (λ z. Serves registry with_registry has_form stepped levelled call k.0 (kept_by old) (stack_of old) z done.0 (kept_by new) (stack_of new)) (sym answer) done.1);
-        },
+        subst (λ o. ServesAsked registry with_registry has_form stepped levelled o (kept_by old) (stack_of old) b done.0 (kept_by new) (stack_of new)) (sym (ap (call_of past) same ∙ asks)) (k.0, k.1.stack, by_answer),
       )
 
   -- the same of a call that is answered by every honest stack
-  pub served_by_call : (past : List Answer) (r other : Request) (call : Call) (a b : Answer) (old new : Dispatch S) → r ≡ other → AsksFor past other (Some call) → b ≡ a → CallAnswered call a old new
+  pub served_by_call : (past : List Answer) (r other : Request) (call : Call) (a b : Answer) (old new : Dispatch S) → r ≡ other → call_of past other ≡ Some call → b ≡ a → CallAnswered call a old new
       → NextServed past r b old new
   served_by_call past r other call a b old new same asks answer served = served_by past r other call a b old new same asks answer (λ f h. served f h.stack.honest h.kept)
 
@@ -110,7 +109,9 @@ module _ {S : Type 0} {registry : S → RegistryState} {with_registry : S → Re
         run = run;
         each = seen.each;
         alone = seen.alone;
+        calls = λ numbers. run_calls registry with_registry has_form stepped levelled [] all answers h.made (kept_by first) (stack_of first) (kept_by now) (stack_of now) numbers run;
         dropped = lost_nothing registry with_registry has_form stepped levelled [] all answers h.made (kept_by first) (stack_of first) (kept_by now) (stack_of now) run;
         once = closed_once registry with_registry has_form stepped levelled (stack_of first) (flat h.made) (stack_of now) issued folds;
         readable = readable_closes registry with_registry has_form stepped levelled (stack_of first) (flat h.made) (stack_of now) folds;
+        shown = λ place. told_can_be_read registry with_registry has_form stepped levelled (stack_of first) (flat h.made) (stack_of now) place folds;
       }

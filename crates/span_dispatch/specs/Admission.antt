@@ -3,6 +3,7 @@ use Rattle.std.specs.Prelude.{◌≡◌, ◌⊎◌, ℕ, Bool, true, false, Opti
 use Rattle.std.specs.Option.{option_map}
 use Rattle.span_core.specs.Level.{is_above}
 use Rattle.span_core.specs.Metadata.{level_of}
+use Rattle.span_core.specs.declared.error.TraceError.TheVariants.{CallsiteMismatch}
 use Rattle.span_core.specs.declared.error.TraceError.{TraceError}
 use Rattle.span_core.specs.declared.interest.Interest.TheVariants.{Always, Never, Sometimes}
 use Rattle.span_core.specs.declared.interest.Interest.{Interest}
@@ -10,7 +11,7 @@ use Rattle.span_core.specs.declared.level.LevelFilter.{LevelFilter}
 use Rattle.span_core.specs.declared.metadata.Metadata.{Metadata}
 use Rattle.span_core.specs.declared.pass.Pass.{Pass}
 use Rattle.span_core.specs.declared.span.Lane.{Lane}
-use Rattle.span_dispatch.specs.Cache.{Agrees, IsUpToDate, Memory, RefusesInterest, kept_in, with_callsite}
+use Rattle.span_dispatch.specs.Cache.{Agrees, IsUpToDate, Memory, ReadsOnce, RefusesBelow, RefusesInterest, hint_in, is_above_read, kept_in, with_callsite}
 use Rattle.span_dispatch.specs.declared.cache.Cache.{Cache}
 use Rattle.span_dispatch.specs.declared.request.Answer.TheVariants as answer
 use Rattle.span_dispatch.specs.declared.request.Answer.{Answer}
@@ -98,11 +99,14 @@ abbrev pub HasInterestBy : Memory → Form → ℕ → Metadata → Memory → R
 HasInterestBy memory f filters m after (Ok i) = IsInterestBy memory f filters m after i
 HasInterestBy memory f filters m after (Err e) = (is_above_hint memory f m ≡ false) × (after ≡ memory)
 
--- a cache gives an interest: which one is said of an honest stack, where the cache is up to date, and it stays so
+-- a cache gives an interest. Of any stack: never above the hint that is kept then, and a callsite that is kept with other metadata is refused below it. Which one it is else is said of an honest stack, where the cache is up to date, and it stays so
 pub record GivesInterest {S : Type 0} (registry : S → RegistryState) (has_form : S → Form → Type 0) (x : S) (m : Metadata) (i : Result Interest TraceError) (old new : Cache) : Type 0 where
   pub off : kept_in old ≡ None → i ≡ Ok Sometimes
   pub learns : MayLearn (kept_in old) m (kept_in new)
-  pub refused : IfErr i (RefusesInterest (kept_in old) m)
+  pub reads : ReadsOnce (kept_in old) (hint_in old) (hint_in new)
+  pub above : is_above_read (hint_in new) m ≡ true → i ≡ Ok Never
+  pub mismatch : RefusesBelow (hint_in old) (kept_in old) m CallsiteMismatch → i ≡ Err CallsiteMismatch
+  pub refused : IfErr i (RefusesBelow (hint_in old) (kept_in old) m)
   pub by_form : (f : Form) → has_form x f → HasHonestAnswers f → IsUpToDate f (registry x).filters old → HasInterestBy (kept_in old) f (registry x).filters m (kept_in new) i
   pub kept : (f : Form) → has_form x f → IsUpToDate f (registry x).filters old → IsUpToDate f (registry x).filters new
 

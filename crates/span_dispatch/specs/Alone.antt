@@ -15,23 +15,23 @@ use Rattle.span_registry.specs.Closes.{without}
 use Rattle.span_registry.specs.Conducts.{Conducts, after_notice, path_now, setting}
 use Rattle.span_registry.specs.Form.{Filtered, Form, Leaf}
 use Rattle.span_registry.specs.Hooks.{no_filter}
-use Rattle.span_registry.specs.Path.{Path, passes_path, path_at}
-use Rattle.span_registry.specs.Place.{Heard, Place}
+use Rattle.span_registry.specs.Path.{Path, mask_of, passes_path, path_at}
+use Rattle.span_registry.specs.Place.{Heard, Place, told_in}
 use Rattle.span_registry.specs.Plan.{passes}
 use Rattle.span_registry.specs.Question.{single}
 use Rattle.span_registry.specs.Step.{IsParentFor, begun, entered, exited}
 use Rattle.span_registry.specs.Store.{IsClosing, IsHeld, IsOpen, Span, Store, add_handle, take_handle}
 use Rattle.span_registry.specs.View.{view_of}
 
--- what passes the path of a leaf or a filter, of an outcome on this store: of a notice that passes all its filters, asked afresh, this with its lane; of all else nothing
-abbrev pub passed : Option Path → Outcome → Store → Heard
-passed (Some path) (Noticed lane e) s = if passes_path path e s lane.0 no_filter then (lane.0, e) ∷ [] else []
-passed path o s = []
+-- what passes the path of a leaf or a filter, of an outcome on this store: a notice that passes all its filters, asked afresh, told as the store shows it that it is given in, under these filters; of all else nothing
+abbrev pub passed : Option Path → Outcome → Store → Store → Heard
+passed (Some path) (Noticed lane e) s given = if passes_path path e s lane.0 no_filter then told_in e given lane.0 (mask_of path no_filter) ∷ [] else []
+passed path o s given = []
 
 -- what passes the path of the leaf or the filter at a place, of what was made: a leaf there sees just that
 abbrev pub seen : Place → List Made → Heard
 seen place [] = []
-seen place (m ∷ ms) = passed (path_at m.form place) m.outcome m.store ++ seen place ms
+seen place (m ∷ ms) = passed (path_at m.form place) m.outcome m.store m.given ++ seen place ms
 
 -- Below: nothing names another layer or filter than those of one path.
 
@@ -72,6 +72,11 @@ abbrev pub given_in : Notice → Store → Store → Store
 given_in (OnClose id) s t = s
 given_in e s t = t
 
+-- the same of an outcome: of what nobody is notified of it is the store before
+abbrev pub given_of : Outcome → Store → Store → Store
+given_of (Noticed lane e) s t = given_in e s t
+given_of other s t = s
+
 -- the filters' conducts after a notice: a filter learns of what it passes itself, and all filters round it pass, asked in the store before it; u is the store that it is given in
 abbrev pub learning : Conducts → Notice → Store → Store → ℕ → FilterSet → Conducts
 learning [] e s u lane under = []
@@ -90,4 +95,4 @@ acting cs (LevelSet n l) s t = setting n l cs
 abbrev pub Alone : Conducts → Store → List Outcome → Heard → Type 0
 Alone cs s [] heard = heard ≡ []
 Alone cs s (o ∷ outcomes) heard =
-    (t : Store) × (rest : Heard) × StepsAlone (path_now cs) o s t × Alone (acting cs o s t) t outcomes rest × (heard ≡ passed (Some (path_now cs)) o s ++ rest)
+    (t : Store) × (rest : Heard) × StepsAlone (path_now cs) o s t × Alone (acting cs o s t) t outcomes rest × (heard ≡ passed (Some (path_now cs)) o s (given_of o s t) ++ rest)

@@ -1,11 +1,13 @@
 -- What a dispatcher keeps of its stack's answers: the hint, and the interest in the callsites that it was asked of.
-use Rattle.std.specs.Prelude.{◌≡◌, ⊤, ℕ, ◌==◌, if◌then◌else◌, Option, Some, None}
+use Rattle.std.specs.Prelude.{◌≡◌, ⊤, ℕ, Bool, false, ◌==◌, if◌then◌else◌, Option, Some, None, IsSome}
 use Rattle.std.specs.BTreeMap as tree
 use Rattle.std.specs.Option.{option_map, unwrap_or}
 use Rattle.std.specs.Ordering.{nat_cmp}
-use Rattle.span_core.specs.Metadata.{ShowSame, callsite_of}
+use Rattle.span_core.specs.Level.{is_above}
+use Rattle.span_core.specs.Metadata.{ShowSame, callsite_of, level_of}
 use Rattle.span_core.specs.declared.error.TraceError.TheVariants.{CallsiteMismatch, OutOfMemory}
 use Rattle.span_core.specs.declared.error.TraceError.{TraceError}
+use Rattle.span_core.specs.declared.level.LevelFilter.{LevelFilter}
 use Rattle.span_core.specs.declared.metadata.Metadata.{Metadata}
 use Rattle.span_dispatch.specs.declared.cache.Cache.TheVariants as cache
 use Rattle.span_dispatch.specs.declared.cache.Cache.{Cache}
@@ -41,6 +43,24 @@ RefusesInterest (Some callsites) m CallsiteMismatch = (k : Metadata) × (callsit
 RefusesInterest (Some callsites) m OutOfMemory = callsites (callsite_of m) ≡ None
 RefusesInterest memory m e = ⊥
 
+-- the hint of a stack as it was read, which may be none; or none, where no reading is kept
+abbrev pub ReadHint : Type 0
+ReadHint = Option (Option LevelFilter)
+
+-- whether the level of these metadata is above the hint that was read
+abbrev pub is_above_read : ReadHint → Metadata → Bool
+is_above_read read m = is_above (level_of m) (unwrap_or read None)
+
+-- why metadata are refused: their level isn't above the hint that was read, and their interest isn't to be had
+abbrev pub RefusesBelow : ReadHint → Memory → Metadata → TraceError → Type 0
+RefusesBelow read memory m e = (is_above_read read m ≡ false) × RefusesInterest memory m e
+
+-- what is kept of the hint once metadata were asked of: what was read of it before; else what is read then, or nothing where nothing ever is kept
+abbrev pub ReadsOnce : Memory → ReadHint → ReadHint → Type 0
+ReadsOnce memory (Some hint) after = after ≡ Some hint
+ReadsOnce (Some callsites) None after = IsSome after
+ReadsOnce None None after = after ≡ None
+
 -- Below: the cache itself.
 
 -- the callsites that are known
@@ -52,6 +72,11 @@ abbrev pub kept_in : Cache → Memory
 kept_in cache.Off = None
 kept_in cache.Empty = Some no_callsite
 kept_in (cache.Filled k) = Some (callsites_of k)
+
+-- the hint that is kept in it, as it was read
+abbrev pub hint_in : Cache → ReadHint
+hint_in (cache.Filled k) = Some k.hint
+hint_in other = None
 
 -- the same with nothing kept any more
 abbrev pub forgotten : Cache → Cache

@@ -56,18 +56,18 @@ RefusesLevel f n l (NotSettable m) = (m ≡ n) × (takes_level f n l ≡ false)
 RefusesLevel f n l other = ⊥
 
 -- a lane leaves a span: a notice comes of it where the span is open, else a quiet change
-pub record LeavesSpan (lane : Lane) (id : Id) (s : RegistryState) (os : List Outcome) : Type 0 where
-  pub there : IsOpen s.store.spans (number_of id) → os ≡ Noticed lane (OnExit id) ∷ []
-  pub gone : ¬ (IsOpen s.store.spans (number_of id)) → os ≡ Quiet (GoneLeft lane id) ∷ []
+pub record LeavesSpan (lane : Lane) (id : Id) (s : Store) (os : List Outcome) : Type 0 where
+  pub there : IsOpen s.spans (number_of id) → os ≡ Noticed lane (OnExit id) ∷ []
+  pub gone : ¬ (IsOpen s.spans (number_of id)) → os ≡ Quiet (GoneLeft lane id) ∷ []
 
 -- each of these spans closes
 abbrev pub closes_of : Lane → List ℕ → List Outcome
 closes_of lane closed = map (λ x. Noticed lane (OnClose (id_of x))) closed
 
 -- a handle is taken, and all that is closed by that closes, in the order in which it should; the answer is whether the span is among them
-pub record DropsHandle (lane : Lane) (id : Id) (s : RegistryState) (closes : Bool) (os : List Outcome) : Type 0 where
+pub record DropsHandle (lane : Lane) (id : Id) (s : Store) (closes : Bool) (os : List Outcome) : Type 0 where
   pub closed : List ℕ
-  pub exact : Closes s.store.spans (number_of id) closed
+  pub exact : Closes s.spans (number_of id) closed
   pub outcomes : os ≡ Quiet (HandleTaken id) ∷ closes_of lane closed
   pub itself : IsTrue closes ↔ Member (number_of id) closed
 
@@ -90,14 +90,14 @@ Comes (SendEvent lane e) memory f s answer.Dropped os = AndNothing (IsDropped me
 Comes (SendEvent lane e) memory f s (answer.Refused error) os = AndNothing (IsUnknown memory f (event_metadata e) error) os
 Comes (Enter lane id) memory f s answer.Done os = AndOne ⊤ (Noticed lane (OnEnter id)) os
 Comes (Enter lane id) memory f s (answer.Refused e) os = AndNothing (RefusesEnter s id e) os
-Comes (Exit lane id) memory f s answer.Done os = LeavesSpan lane id s os
+Comes (Exit lane id) memory f s answer.Done os = LeavesSpan lane id s.store os
 Comes (RecordValues lane id values) memory f s answer.Done os = AndOne ⊤ (Noticed lane (OnRecord id values)) os
 Comes (RecordValues lane id values) memory f s (answer.Refused e) os = AndNothing (RefusesUnlessOpen s id e) os
 Comes (Follow lane id other) memory f s answer.Done os = AndOne ⊤ (Noticed lane (OnFollows id other)) os
 Comes (Follow lane id other) memory f s (answer.Refused e) os = AndNothing (RefusesUnlessOpen s id e) os
 Comes (AddHandle lane id) memory f s answer.Done os = AndOne ⊤ (Quiet (HandleAdded id)) os
 Comes (AddHandle lane id) memory f s (answer.Refused e) os = AndNothing (RefusesClone s id e) os
-Comes (DropHandle lane id) memory f s (answer.Yes closes) os = DropsHandle lane id s closes os
+Comes (DropHandle lane id) memory f s (answer.Yes closes) os = DropsHandle lane id s.store closes os
 Comes (DropHandle lane id) memory f s (answer.Refused e) os = AndNothing (RefusesRelease s id e) os
 Comes (Probe lane m) memory f s (answer.Yes true) os = AndNothing (IsMade memory f s m (vetoes f m s.store lane.0)) os
 Comes (Probe lane m) memory f s (answer.Yes false) os = AndNothing (IsDropped memory f s lane m (vetoes f m s.store lane.0)) os

@@ -1,10 +1,11 @@
 -- What the contract of each call of a dispatcher says. A word takes what the type of a stack says of it as one value, and dispatchers whole.
-use Rattle.std.specs.Prelude.{◌≡◌, ◌⊎◌, ◌&&◌, ℕ, Bool, true, false, List, Option, None, Result, Ok, Err, IfOk, MatchOption, is_some}
+use Rattle.std.specs.Prelude.{◌≡◌, ◌⊎◌, ◌&&◌, ℕ, Bool, true, false, List, Option, None, Result, Ok, Err, IfOk, IfSome, MatchOption, is_some}
 use Rattle.std.specs.List.{FoldsTo}
 use Rattle.std.specs.declared.alloc.Global.{Global}
 use Rattle.std.specs.declared.vec.Vec.{Vec}
 use Rattle.span_core.specs.Event.{event_metadata}
 use Rattle.span_core.specs.Span.{asked_parent, metadata_of, number_of}
+use Rattle.span_core.specs.declared.error.TraceError.TheVariants.{CallsiteMismatch}
 use Rattle.span_core.specs.declared.error.TraceError.{TraceError}
 use Rattle.span_core.specs.declared.event.Event.{Event}
 use Rattle.span_core.specs.declared.level.LevelFilter.{LevelFilter}
@@ -14,12 +15,13 @@ use Rattle.span_core.specs.declared.span.Attributes.{Attributes}
 use Rattle.span_core.specs.declared.span.Current.{Current}
 use Rattle.span_core.specs.declared.span.Id.{Id}
 use Rattle.span_core.specs.declared.span.Lane.{Lane}
+use Rattle.span_core.specs.declared.span.Parent.{Parent}
 use Rattle.span_core.specs.declared.span.Record.{Record}
 use Rattle.span_dispatch.specs.Admission.{IsAdmitted, MayLearn, hint_kept}
-use Rattle.span_dispatch.specs.Cache.{RefusesInterest}
+use Rattle.span_dispatch.specs.Cache.{ReadsOnce, RefusesBelow, RefusesInterest, is_above_read}
 use Rattle.span_dispatch.specs.Call.{AddHandle, AskCurrent, Call, DropHandle, DropsSpan, Enter, Exit, Follow, OpenSpan, OpensFor, Probe, RecordValues, SendEvent, SetLevel, current_answer, done_answer, event_answer, span_answer, yes_answer}
 use Rattle.span_dispatch.specs.Outcome.{IsHonest, Made, Makes}
-use Rattle.span_dispatch.specs.Serve.{IsReady, IsReadyAfter, IsReadyBy, IsReadySomehow, KeepsUpToDate, Sees, Served, ServesCall, ServesRequest, forgetful, kept_by, stack_of, with_stack}
+use Rattle.span_dispatch.specs.Serve.{IsReady, IsReadyAfter, IsReadyBy, IsReadySomehow, KeepsUpToDate, Sees, Served, ServesCall, ServesRequest, forgetful, hint_by, kept_by, stack_of, with_stack}
 use Rattle.span_dispatch.specs.declared.dispatch.Dispatch.{Dispatch}
 use Rattle.span_dispatch.specs.declared.request.Answer.TheVariants.{Done}
 use Rattle.span_dispatch.specs.declared.request.Answer.{Answer}
@@ -52,11 +54,31 @@ SubscriberOf S = record {
   registered : S → S → Type 0;
 }
 
--- why metadata are refused: their interest isn't to be had
-abbrev pub RefusesMetadata : {S : Type 0} → Metadata → Dispatch S → TraceError → Type 0
-RefusesMetadata m d error = RefusesInterest (kept_by d) m error
+-- the level of these metadata isn't above the hint that is kept
+abbrev pub PassesKept : {S : Type 0} → Metadata → Dispatch S → Type 0
+PassesKept m d = is_above_read (hint_by d) m ≡ false
 
--- why an event is refused: its interest isn't to be had
+-- why metadata are refused: their level isn't above the kept hint, and their interest isn't to be had
+abbrev pub RefusesMetadata : {S : Type 0} → Metadata → Dispatch S → TraceError → Type 0
+RefusesMetadata m d error = RefusesBelow (hint_by d) (kept_by d) m error
+
+-- where their callsite is kept with other metadata, and their level isn't above the kept hint, they always are refused for that
+abbrev pub RefusesMismatch : {S A : Type 0} → Metadata → Result A TraceError → Dispatch S → Dispatch S → Type 0
+RefusesMismatch m given old new = RefusesMetadata m old CallsiteMismatch → given ≡ Err CallsiteMismatch
+
+-- above the hint that is kept then, what is asked by metadata is dropped, which this answer says: it is never refused
+abbrev pub DropsAbove : {S A : Type 0} → Metadata → A → Result A TraceError → Dispatch S → Dispatch S → Type 0
+DropsAbove m dropped given old new = is_above_read (hint_by new) m ≡ true → given ≡ Ok dropped
+
+-- the hint that is kept is the one that was read first; where nothing is ever kept, none
+abbrev pub KeepsHint : {S : Type 0} → Dispatch S → Dispatch S → Type 0
+KeepsHint old new = ReadsOnce (kept_by old) (hint_by old) (hint_by new)
+
+-- where a hint is kept, it is this one
+abbrev pub ShowsKept : {S : Type 0} → Dispatch S → Option LevelFilter → Type 0
+ShowsKept d hint = IfSome (hint_by d) (λ kept. hint ≡ kept)
+
+-- why an event is refused: as its metadata are
 abbrev pub RefusesEvent : {S : Type 0} → Event → Dispatch S → TraceError → Type 0
 RefusesEvent e d error = RefusesMetadata (event_metadata e) d error
 
@@ -75,6 +97,10 @@ ChangesStack old new = new ≡ with_stack old (stack_of new)
 -- nothing changes but the stack, and all that was kept of callsites is forgotten
 abbrev pub Forgets : {S : Type 0} → Dispatch S → Dispatch S → Type 0
 Forgets old new = new ≡ forgetful (with_stack old (stack_of new))
+
+-- why a new span with these metadata and this parent is refused: its level isn't above the kept hint, and its interest isn't to be had, or the registry has no room or no such parent
+abbrev pub RefusesOpening : {S : Type 0} → (S → RegistryState) → Lane → Metadata → Parent → Dispatch S → TraceError → Type 0
+RefusesOpening registry lane m p d e = PassesKept m d × (RefusesInterest (kept_by d) m e ⊎ RefusesNew (registry (stack_of d)) lane p e)
 
 module _ {S : Type 0} (s : SubscriberOf S) where
   -- the registry of a dispatcher's stack
@@ -267,9 +293,9 @@ module _ {S : Type 0} (s : SubscriberOf S) where
   abbrev pub OpensByPass : Lane → Attributes → Pass → Dispatch S → Dispatch S → Option Id → Type 0
   OpensByPass lane attrs pass old new made = MatchOption made (stack_of new ≡ stack_of old) (λ id. TakesStep (Opens lane (step.asked attrs pass) id) old new)
 
-  -- why a new span is refused: its interest isn't to be had, or the registry has no room or no such parent
+  -- why a new span is refused, by what its attributes ask for
   abbrev pub RefusesSpan : Lane → Attributes → Dispatch S → TraceError → Type 0
-  RefusesSpan lane attrs d e = RefusesInterest (kept_by d) (metadata_of attrs) e ⊎ RefusesNew (registry_of d) lane (asked_parent attrs) e
+  RefusesSpan lane attrs d e = RefusesOpening s.registry lane (metadata_of attrs) (asked_parent attrs) d e
 
   -- where a span isn't open, only the lane leaves it
   abbrev pub LeavesGone : Lane → Id → Dispatch S → Dispatch S → Type 0

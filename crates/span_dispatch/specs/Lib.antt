@@ -3,13 +3,16 @@ pub mod Alone
 pub mod Cache
 pub mod Call
 pub mod Contract
+pub mod Effect
 pub mod Fixed
 pub mod Isolation
 pub mod Journal
+pub mod KeptHint
 pub mod Logged
 pub mod Outcome
+pub mod Readable
 pub mod Recorder
-mod RecorderLaws
+pub mod RecorderLaws
 pub mod Serve
 pub mod Tests
 pub mod Worker

@@ -14,7 +14,7 @@ use Rattle.span_core.specs.declared.span.Current.{Current}
 use Rattle.span_core.specs.declared.span.Id.{Id}
 use Rattle.span_core.specs.declared.span.Lane.{Lane}
 use Rattle.span_core.specs.declared.span.Record.{Record}
-use Rattle.span_dispatch.specs.Contract.{ServesClone, ServesCurrent, ServesDrop, ServesEnabled, ServesEnter, ServesEvent, ServesExit, ServesFollows, ServesLevel, ServesNewSpan, ServesRecord, SubscriberOf, TakesLevel, WantsSpan, registry_of}
+use Rattle.span_dispatch.specs.Contract.{DropsAbove, KeepsHint, RefusesMismatch, ServesClone, ServesCurrent, ServesDrop, ServesEnabled, ServesEnter, ServesEvent, ServesExit, ServesFollows, ServesLevel, ServesNewSpan, ServesRecord, SubscriberOf, TakesLevel, WantsSpan, registry_of}
 use Rattle.span_dispatch.specs.Journal.{Adds, Entry, LoggedState, Placed}
 use Rattle.span_dispatch.specs.declared.dispatch.Dispatch.{Dispatch}
 use Rattle.span_dispatch.specs.declared.entry.EntryWith.TheVariants as entry
@@ -78,6 +78,18 @@ AddsSpan lane attrs spans old new (Some id, receipt) =
 abbrev pub Logs : {D A : Type 0} → (Result A TraceError → D → D → Type 0) → Saying D A
 Logs serves (Ok r) old new = serves (Ok r.0) old.dispatch new.dispatch
 Logs serves (Err e) old new = (e ≡ OutOfMemory) ⊎ serves (Err e) old.dispatch new.dispatch
+
+-- what is above the kept hint is dropped, unless memory for the journal is refused
+abbrev pub LogsDropped : {S A : Type 0} → Metadata → A → Saying (Dispatch S) A
+LogsDropped m dropped = Logs (DropsAbove m dropped)
+
+-- what is below it, of a callsite that is kept with other metadata, is refused for that, unless memory for the journal is refused
+abbrev pub LogsMismatch : {S A : Type 0} → Metadata → Saying (Dispatch S) A
+LogsMismatch m = Logs (RefusesMismatch m)
+
+-- the hint that is kept is the one that was read first, unless memory for the journal is refused
+abbrev pub LogsHint : {S A : Type 0} → Saying (Dispatch S) A
+LogsHint = Logs (λ given. KeepsHint)
 
 module _ {S : Type 0} (s : SubscriberOf S) where
   -- so is `enabled` served

@@ -30,10 +30,11 @@ pub data Outcome : Type 0 where
   Quiet : Change → Outcome
   LevelSet : ℕ → LevelFilter → Outcome
 
--- what was made: an outcome, of a stack that had this form, and the store before it
+-- what was made: an outcome, of a stack that had this form; the store before it, and the one that its notice is given in
 pub record Made : Type 0 where
   pub form : Form
   pub store : Store
+  pub given : Store
   pub outcome : Outcome
 
 -- the verdict of a new span: the filters that refuse it while every filter round them passes it
@@ -92,6 +93,11 @@ module _ {S : Type 0} (registry : S → RegistryState) (with_registry : S → Re
   GoesOn f (Quiet c) x y = Quiets c x y
   GoesOn f (LevelSet n l) x y = SetsLevel f n l x y
 
+  -- the store that a notice is given in: the one that the registry's step before it leaves. Of all else nobody is notified, and the store stays the one before
+  abbrev pub IsGiven : (f : Form) (o : Outcome) (x y : S) → GoesOn f o x y → Store → Type 0
+  IsGiven f (Noticed lane e) x y g s = s ≡ g.left.store
+  IsGiven f other x y g s = s ≡ (registry x).store
+
   -- a stack has this form, and is honest
   pub record IsHonest (f : Form) (x : S) : Type 0 where
     pub has : has_form x f
@@ -102,3 +108,4 @@ module _ {S : Type 0} (registry : S → RegistryState) (with_registry : S → Re
     pub honest : IsHonest m.form x
     pub store : m.store ≡ (registry x).store
     pub goes : GoesOn m.form m.outcome x y
+    pub given : IsGiven m.form m.outcome x y goes m.given

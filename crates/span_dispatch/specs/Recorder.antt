@@ -1,5 +1,5 @@
 -- What a recorder keeps of what it is notified of.
-use Rattle.std.specs.Prelude.{◌≡◌, ⊤, ℕ, ◌+◌, ◌≤◌, Bool, true, false, List, [], ◌∷◌, ◌++◌, length, map}
+use Rattle.std.specs.Prelude.{◌≡◌, ℕ, ◌+◌, ◌≤◌, Bool, true, false, List, [], ◌∷◌, ◌++◌, length}
 use Rattle.span_core.specs.Event.{event_metadata}
 use Rattle.span_core.specs.Metadata.{callsite_of}
 use Rattle.span_core.specs.declared.span.Lane.{Lane}
@@ -7,7 +7,7 @@ use Rattle.span_dispatch.specs.declared.notice.Notice.TheVariants as kept
 use Rattle.span_dispatch.specs.declared.notice.Notice.{Notice as KeptNotice}
 use Rattle.span_layers.specs.Layer.{LayerSteps}
 use Rattle.span_registry.specs.Answers.{Notice, OnClose, OnEnter, OnEvent, OnExit, OnFollows, OnIdChange, OnNewSpan, OnRecord}
-use Rattle.span_registry.specs.Place.{HearSteps, Here}
+use Rattle.span_registry.specs.Place.{Told}
 use Rattle.span_registry.specs.Plan.{Itself}
 
 -- a recorder: the notices that it keeps, how many more it has memory for, and whether it has failed for want of memory
@@ -37,21 +37,20 @@ abbrev pub lane_of : ℕ → Lane
 lane_of n = record { 0 = n }
 
 -- what it keeps of a notice on a lane
-abbrev pub kept_notice : ℕ × Notice → KeptNotice
-kept_notice (lane, OnNewSpan attrs id) = kept.New (lane_of lane) id
-kept_notice (lane, OnRecord id values) = kept.Record (lane_of lane) id
-kept_notice (lane, OnFollows id other) = kept.Follows (lane_of lane) id other
-kept_notice (lane, OnEvent e) = kept.Event (lane_of lane) (callsite_of (event_metadata e))
-kept_notice (lane, OnEnter id) = kept.Enter (lane_of lane) id
-kept_notice (lane, OnExit id) = kept.Exit (lane_of lane) id
-kept_notice (lane, OnIdChange id other) = kept.IdChange (lane_of lane) id other
-kept_notice (lane, OnClose id) = kept.Close (lane_of lane) id
+abbrev pub kept_on : ℕ → Notice → KeptNotice
+kept_on lane (OnNewSpan attrs id) = kept.New (lane_of lane) id
+kept_on lane (OnRecord id values) = kept.Record (lane_of lane) id
+kept_on lane (OnFollows id other) = kept.Follows (lane_of lane) id other
+kept_on lane (OnEvent e) = kept.Event (lane_of lane) (callsite_of (event_metadata e))
+kept_on lane (OnEnter id) = kept.Enter (lane_of lane) id
+kept_on lane (OnExit id) = kept.Exit (lane_of lane) id
+kept_on lane (OnIdChange id other) = kept.IdChange (lane_of lane) id other
+kept_on lane (OnClose id) = kept.Close (lane_of lane) id
+
+-- what it keeps of what it is told: nothing of what its context shows
+abbrev pub kept_notice : Told → KeptNotice
+kept_notice told = kept_on told.lane told.notice
 
 -- notified of one notice it keeps that, and leaves the registry alone
 abbrev pub recorder_steps : LayerSteps Kept
-recorder_steps x p e lane under v y w = (p ≡ Itself) × Records x y (kept_notice (lane, e) ∷ []) × (w ≡ v)
-
--- notified of these, it keeps of each what `kept_notice` says
-abbrev pub recorder_hears : HearSteps Kept
-recorder_hears x Here h y = Records x y (map kept_notice h)
-recorder_hears x other h y = ⊤
+recorder_steps x p e lane under v y w = (p ≡ Itself) × Records x y (kept_on lane e ∷ []) × (w ≡ v)

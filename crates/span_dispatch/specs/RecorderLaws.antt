@@ -1,16 +1,13 @@
--- A recorder keeps the law of every layer: notified of one list and then of another, it is notified of both in a row.
-use Rattle.std.proofs.Common.{◌≡◌, ℕ, List, [], ◌∷◌, ◌++◌, refl, sym, ap, ◌∙◌, append_assoc, Bool, true, false, subst, ◌+◌, length, map, arith}
+-- A recorder keeps the law of every layer; and notified of one list and then of another, it keeps of both in a row.
+use Rattle.std.proofs.Common.{◌≡◌, List, [], ◌∷◌, ◌++◌, refl, sym, ap, ◌∙◌, append_assoc, Bool, true, false, ◌+◌, length, arith}
 use Rattle.std.proofs.lemmas.Bool.{true≢false}
-use Rattle.std.proofs.lemmas.List.{append-nil, length-append, map-append}
-use Rattle.span_dispatch.specs.Recorder.{Kept, Records, kept_notice, recorder_hears, recorder_steps}
+use Rattle.std.proofs.lemmas.List.{append-nil, length-append}
+use Rattle.span_dispatch.specs.Recorder.{Kept, Records, recorder_steps}
 use Rattle.span_dispatch.specs.declared.notice.Notice.{Notice as KeptNotice}
-use Rattle.span_layers.specs.Layer.{LayerLaws}
+use Rattle.span_layers.specs.Layer.{HearsBy, LayerLaws}
+use Rattle.span_layers.specs.Leaf.{fixed_laws}
 use Rattle.span_layers.specs.Observe.{open_answers}
-use Rattle.span_registry.specs.Answers.{Notice}
-use Rattle.span_registry.specs.Follows.{kept_form}
 use Rattle.span_registry.specs.Form.{Leaf}
-use Rattle.span_registry.specs.Place.{Heard, Here, Inner, Outer, Place, Under, heard_by}
-use Rattle.span_registry.specs.Plan.{Itself, Plan}
 
 pub records_nothing : (r : Kept) → Records r r []
 records_nothing r = record { more = []; lost = []; split = refl; kept = sym (append-nil r.notices); all = λ _. refl; failed = λ f. (f, refl); fails = λ f t. absurd (true≢false (sym t ∙ f)); room = omega arith; silent = λ _. refl }
@@ -66,29 +63,6 @@ records_more a b c ns ms f g = by_case b.failed refl
           silent = silent;
         }
 
-nothing : (x : Kept) (place : Place) → recorder_hears x place [] x
-nothing x Here = records_nothing x
-nothing x (Under p) = tt
-nothing x (Outer p) = tt
-nothing x (Inner p) = tt
-
-further : (x y z : Kept) (place : Place) (h k : Heard) → recorder_hears x place h y → recorder_hears y place k z → recorder_hears x place (h ++ k) z
-further x y z Here h k a b = subst (Records x z) (sym (map-append kept_notice h k)) (records_more x y z (map kept_notice h) (map kept_notice k) a b)
-further x y z (Under p) h k a b = tt
-further x y z (Outer p) h k a b = tt
-further x y z (Inner p) h k a b = tt
-
-notified : (x : Kept) (p : Plan) (e : Notice) (lane : ℕ) (y : Kept) (place : Place) → p ≡ Itself → Records x y (kept_notice (lane, e) ∷ []) → recorder_hears x place (heard_by p place lane e) y
-notified x p e lane y Here same h = subst (λ (q : Plan). recorder_hears x Here (heard_by q Here lane e) y) (sym same) h
-notified x p e lane y (Under q) same h = tt
-notified x p e lane y (Outer q) same h = tt
-notified x p e lane y (Inner q) same h = tt
-
--- it has one form, whatever it keeps, and hears what the plan says
-pub recorder_laws : LayerLaws (λ (x : Kept) f. f ≡ Leaf true open_answers) recorder_steps recorder_hears (λ x y. y ≡ x)
-recorder_laws = record {
-  keeps = λ x p e lane under v y w f s h. (f, h, kept_form f);
-  put_in_use = λ x y f s h. (f, h, kept_form f);
-  heard = record { nothing = nothing; further = further };
-  notified = λ x p e lane under v y w place s. notified x p e lane y place s.0 s.1;
-}
+-- it has one form, whatever it keeps, and hears by its own step
+pub recorder_laws : LayerLaws (λ (x : Kept) f. f ≡ Leaf true open_answers) recorder_steps (HearsBy recorder_steps) (λ x y. y ≡ x)
+recorder_laws = fixed_laws (Leaf true open_answers) recorder_steps (λ x y. y ≡ x) tt (λ x p e lane under v y w s. s.0)

@@ -1,16 +1,19 @@
 -- How a dispatcher serves a call, and a list of requests.
-use Rattle.std.specs.Prelude.{◌≡◌, ◌⊎◌, ⊤, ℕ, List, [], ◌∷◌, ◌++◌, map, true, Option, Some, None, IfSome, slice_get}
+use Rattle.std.specs.Prelude.{◌≡◌, ◌⊎◌, ⊤, ℕ, List, [], ◌∷◌, ◌++◌, map, filter, true, if◌then◌else◌, Option, Some, None, IfSome, slice_get}
 use Rattle.std.specs.List.{FoldsTo}
 use Rattle.std.specs.Option.{option_and_then, option_map, option_map_or}
-use Rattle.span_core.specs.Event.{event_metadata, event_parent, event_values}
-use Rattle.span_core.specs.Span.{asked_parent, metadata_of, number_of, recorded_values, values_of}
+use Rattle.span_core.specs.Event.{event_metadata, event_of}
+use Rattle.span_core.specs.Filters.{FilterSet}
+use Rattle.span_core.specs.Span.{attributes_of, metadata_of, number_of, record_of}
 use Rattle.span_core.specs.declared.span.Id.{Id}
 use Rattle.span_core.specs.declared.span.Parent.TheVariants as parent
 use Rattle.span_core.specs.declared.span.Parent.{Parent}
 use Rattle.span_dispatch.specs.Alone.{Alone, seen}
-use Rattle.span_dispatch.specs.Cache.{IsUpToDate, Memory, forgotten, kept_in}
+use Rattle.span_dispatch.specs.Cache.{IsUpToDate, Memory, ReadHint, forgotten, hint_in, kept_in}
 use Rattle.span_dispatch.specs.Call.{AddHandle, AskCurrent, Call, Comes, DropHandle, KeepsAfter, Enter, Exit, Follow, OpenSpan, Probe, RecordValues, SendEvent, SetLevel, closes_of}
+use Rattle.span_dispatch.specs.Effect.{MadeCall, OutcomesFrom, concerns, effect_of, is_concern}
 use Rattle.span_dispatch.specs.Outcome.{IsHonest, Made, Makes, Noticed, Outcome}
+use Rattle.span_dispatch.specs.Readable.{ShowTheirSpans}
 use Rattle.span_dispatch.specs.declared.dispatch.Dispatch.{Dispatch}
 use Rattle.span_dispatch.specs.declared.request.Answer.TheVariants as answer
 use Rattle.span_dispatch.specs.declared.request.Answer.{Answer}
@@ -48,6 +51,10 @@ with_stack d x = record d { stack = x }
 abbrev pub kept_by : {S : Type 0} → Dispatch S → Memory
 kept_by d = kept_in d.cache
 
+-- the hint that it keeps, as it read it of its stack; or none, where it didn't read it yet, or never does
+abbrev pub hint_by : {S : Type 0} → Dispatch S → ReadHint
+hint_by d = hint_in d.cache
+
 -- what it keeps, if anything, is what its stack, of this form and on this many filters, would answer now
 abbrev pub KeepsUpToDate : {S : Type 0} → Form → ℕ → Dispatch S → Type 0
 KeepsUpToDate f filters d = IsUpToDate f filters d.cache
@@ -73,20 +80,28 @@ resolved_parent past asked.Contextual = parent.Contextual
 resolved_parent past (asked.Explicit w) = option_map_or (λ x. parent.Explicit x) (resolved past w) parent.Root
 
 -- what a request asks of a dispatcher, where these are the answers so far: nothing where it names no span. Values are handed on as they came
-abbrev pub AsksFor : List Answer → Request → Option Call → Type 0
-AsksFor past (request.NewSpan lane m p values) (Some (OpenSpan l a)) = (l ≡ lane) × (metadata_of a ≡ m) × (asked_parent a ≡ resolved_parent past p) × (values_of a ≡ values.now)
-AsksFor past (request.Event lane m p values) (Some (SendEvent l e)) = (l ≡ lane) × (event_metadata e ≡ m) × (event_parent e ≡ resolved_parent past p) × (event_values e ≡ values.now)
-AsksFor past (request.Enter lane w) o = o ≡ option_map (λ x. Enter lane x) (resolved past w)
-AsksFor past (request.Exit lane w) o = o ≡ option_map (λ x. Exit lane x) (resolved past w)
-AsksFor past (request.Record lane w values) (Some (RecordValues l x r)) = (l ≡ lane) × (resolved past w ≡ Some x) × (recorded_values r ≡ values.now)
-AsksFor past (request.Record lane w values) None = resolved past w ≡ None
-AsksFor past (request.Follows lane w v) o = o ≡ option_and_then (λ x. option_map (λ y. Follow lane x y) (resolved past v)) (resolved past w)
-AsksFor past (request.Clone lane w) o = o ≡ option_map (λ x. AddHandle lane x) (resolved past w)
-AsksFor past (request.Drop lane w) o = o ≡ option_map (λ x. DropHandle lane x) (resolved past w)
-AsksFor past (request.Enabled lane m) o = o ≡ Some (Probe lane m)
-AsksFor past (request.Current lane) o = o ≡ Some (AskCurrent lane)
-AsksFor past (request.SetLevel number level) o = o ≡ Some (SetLevel number level)
-AsksFor past r o = ⊥
+abbrev pub call_of : List Answer → Request → Option Call
+call_of past (request.NewSpan lane m p values) = Some (OpenSpan lane (attributes_of m values (resolved_parent past p)))
+call_of past (request.Event lane m p values) = Some (SendEvent lane (event_of m values (resolved_parent past p)))
+call_of past (request.Enter lane w) = option_map (λ x. Enter lane x) (resolved past w)
+call_of past (request.Exit lane w) = option_map (λ x. Exit lane x) (resolved past w)
+call_of past (request.Record lane w values) = option_map (λ x. RecordValues lane x (record_of values)) (resolved past w)
+call_of past (request.Follows lane w v) = option_and_then (λ x. option_map (λ y. Follow lane x y) (resolved past v)) (resolved past w)
+call_of past (request.Clone lane w) = option_map (λ x. AddHandle lane x) (resolved past w)
+call_of past (request.Drop lane w) = option_map (λ x. DropHandle lane x) (resolved past w)
+call_of past (request.Enabled lane m) = Some (Probe lane m)
+call_of past (request.Current lane) = Some (AskCurrent lane)
+call_of past (request.SetLevel number level) = Some (SetLevel number level)
+
+-- what was asked for, with its answer, if something was made of it that concerns filters of these numbers
+abbrev pub made_call : FilterSet → Option Call → Answer → List MadeCall
+made_call numbers None a = []
+made_call numbers (Some call) a = if is_concern numbers (effect_of call a) then (call, a) ∷ [] else []
+
+-- the made requests of a list that was answered so, behind these answers: each with its answer, and its spans by their ids. So what was dropped or refused, probes, and other filters' levels may stand in one list and not in the other
+abbrev pub made_calls : FilterSet → List Answer → List Request → List Answer → List MadeCall
+made_calls numbers past (r ∷ rs) (a ∷ answers) = made_call numbers (call_of past r) a ++ made_calls numbers (past ++ (a ∷ [])) rs answers
+made_calls numbers past rs answers = []
 
 -- the outcome that was made
 abbrev pub outcome_of : Made → Outcome
@@ -122,6 +137,10 @@ IsUnwantedCall call f s = ⊥
 abbrev pub StandOnce : List ℕ → Type 0
 StandOnce [] = Unit {0}
 StandOnce (x ∷ xs) = ¬ (Member x xs) × StandOnce xs
+
+-- these outcomes, as far as they concern filters of any numbers, are what the made requests of a list that was answered so have by themselves, from a store on
+abbrev pub SayOutcomes : Store → List Request → List Answer → List Outcome → Type 0
+SayOutcomes s requests answers outcomes = (numbers : FilterSet) → OutcomesFrom s (made_calls numbers [] requests answers) (filter (concerns numbers) outcomes)
 
 -- all that was made, request by request, in one list
 abbrev pub flat : List (List Made) → List Made
@@ -177,10 +196,8 @@ module _ {S : Type 0} (registry : S → RegistryState) (with_registry : S → Re
   ServesAsked (Some call) kept x a made after y = (f : Form) × IsReady f x × Serves call f kept x a made after y
 
   -- what becomes of a request behind these answers: what it asks for is served so
-  pub record ServesRequest (past : List Answer) (r : Request) (kept : Memory) (x : S) (a : Answer) (made : List Made) (after : Memory) (y : S) : Type 0 where
-    pub call : Option Call
-    pub asks : AsksFor past r call
-    pub served : ServesAsked call kept x a made after y
+  abbrev pub ServesRequest : List Answer → Request → Memory → S → Answer → List Made → Memory → S → Type 0
+  ServesRequest past r kept x a made after y = ServesAsked (call_of past r) kept x a made after y
 
   -- a list of requests, one after another, behind these answers: one answer for each, and a list of what was made of it
   abbrev pub Run : List Answer → List Request → List Answer → List (List Made) → Memory → S → Memory → S → Type 0
@@ -194,7 +211,7 @@ module _ {S : Type 0} (registry : S → RegistryState) (with_registry : S → Re
 
   -- so it is of each request of a run that was dropped, by the stack that it was asked of
   abbrev pub DropsLoseNothing : (past : List Answer) (requests : List Request) (answers : List Answer) (made : List (List Made)) (kept : Memory) (x : S) (after : Memory) (y : S) → Run past requests answers made kept x after y → Type 0
-  DropsLoseNothing past (r ∷ rs) (a ∷ answers) (ms ∷ made) kept x after y run = (a ≡ answer.Dropped → LosesNothing run.2.call x) × DropsLoseNothing (past ++ (a ∷ [])) rs answers made run.0 run.1 after y run.3
+  DropsLoseNothing past (r ∷ rs) (a ∷ answers) (ms ∷ made) kept x after y run = (a ≡ answer.Dropped → LosesNothing (call_of past r) x) × DropsLoseNothing (past ++ (a ∷ [])) rs answers made run.0 run.1 after y run.3
   DropsLoseNothing past rs answers made kept x after y run = ⊤
 
   -- a list of requests is served so
@@ -207,12 +224,16 @@ module _ {S : Type 0} (registry : S → RegistryState) (with_registry : S → Re
     pub each : EachSees hears (stack_of old) (flat made) (stack_of new)
     -- as if it stood alone
     pub alone : EachSeesAlone registry acts_at (stack_of old) (flat made)
+    -- and what was made is what the made requests say by themselves, whichever stack it is
+    pub calls : SayOutcomes (registry (stack_of old)).store requests answers (map outcome_of (flat made))
     -- of a request that hint or kept interest dropped no layer would have been notified
     pub dropped : DropsLoseNothing [] requests answers made (kept_by old) (stack_of old) (kept_by new) (stack_of new) run
     -- each closed span is notified of once
     pub once : StandOnce (closed_in (flat made))
     -- child before parent, while still readable
     pub readable : AreReadableCloses (flat made)
+    -- whoever is told of a span can read it in its own context: also one that closes
+    pub shown : (place : Place) → ShowTheirSpans (seen place (flat made))
 
   -- from a stack in which a span is closing: it is taken out, and so is each parent that closes by that; before each is, a notice of its close is given
   pub record ClosesEach (lane : Lane) (id : Id) (x y : S) : Type 0 where

@@ -8,7 +8,7 @@ use Rattle.span_core.specs.declared.level.LevelFilter.{LevelFilter}
 use Rattle.span_core.specs.declared.span.Attributes.{Attributes}
 use Rattle.span_core.specs.declared.span.Id.{Id}
 use Rattle.span_core.specs.declared.span.Lane.{Lane}
-use Rattle.span_dispatch.specs.Contract.{ShowsHint, SubscriberOf}
+use Rattle.span_dispatch.specs.Contract.{ShowsHint, ShowsKept, SubscriberOf}
 use Rattle.span_dispatch.specs.Journal.{Entry, Placed}
 use Rattle.span_dispatch.specs.Logged.{Answered, OrNoMemory}
 use Rattle.span_dispatch.specs.Recorder.{lane_of}
@@ -42,6 +42,7 @@ AreCrew hint workers = (i : ℕ) (w : WorkerState) → slice_get workers i ≡ S
 pub record AreCrewOf {S : Type 0} (s : SubscriberOf S) (d : Dispatch S) (workers : List WorkerState) : Type 0 where
   pub hint : Option LevelFilter
   pub none : kept_by d ≡ None → hint ≡ None
+  pub kept : ShowsKept d hint
   pub shown : ShowsHint s d hint
   pub each : AreCrew hint workers
 

@@ -6,9 +6,9 @@ ghost use Rattle.span_core.specs.Filters.{IsEmpty};
 ghost use Rattle.span_core.specs.Span.{metadata_of, number_of};
 ghost use Rattle.span_dispatch.specs.Cache.{no_callsite};
 ghost use Rattle.span_dispatch.specs.Call.{FindsOpen, RefusesUnlessOpen};
-ghost use Rattle.span_dispatch.specs.Contract.{Admits, AsksStack, BecomesReady, ChangesLevel, ChangesStack, DropsSettled, Forgets, GivesLevel, LearnsOnly, LeavesGone, OpensByPass, OpensIfMade, Refuses, RefusesEvent, RefusesMetadata, RefusesSpan, SameRegistry, SameStack, SeesWhatIsMade, ServesClone, ServesCurrent, ServesDrop, ServesEnabled, ServesEnter, ServesEvent, ServesExit, ServesFollows, ServesLevel, ServesNewSpan, ServesRecord, Shows, ShowsHint, StaysReady, StaysReadyBut, StaysSettled, StaysUpToDate, TakesHandle, TakesLevel, TakesStep, TakesStepAlone, WantsEvent, WantsMetadata, WantsSpan};
+ghost use Rattle.span_dispatch.specs.Contract.{Admits, AsksStack, BecomesReady, ChangesLevel, ChangesStack, DropsAbove, DropsSettled, Forgets, GivesLevel, KeepsHint, LearnsOnly, LeavesGone, OpensByPass, OpensIfMade, Refuses, RefusesEvent, RefusesMetadata, RefusesMismatch, RefusesSpan, SameRegistry, SameStack, SeesWhatIsMade, ServesClone, ServesCurrent, ServesDrop, ServesEnabled, ServesEnter, ServesEvent, ServesExit, ServesFollows, ServesLevel, ServesNewSpan, ServesRecord, Shows, ShowsHint, ShowsKept, StaysReady, StaysReadyBut, StaysSettled, StaysUpToDate, TakesHandle, TakesLevel, TakesStep, TakesStepAlone, WantsEvent, WantsMetadata, WantsSpan};
 ghost use Rattle.span_dispatch.specs.contracts.dispatch.Dispatch.{the_row};
-ghost use Rattle.span_dispatch.specs.Serve.{ClosesEach, KeepsUpToDate, forgetful, kept_by, stack_of, with_stack};
+ghost use Rattle.span_dispatch.specs.Serve.{ClosesEach, KeepsUpToDate, forgetful, hint_by, kept_by, stack_of, with_stack};
 ghost use Rattle.span_registry.specs.Step.{Clones, Enters, Exits, RefusesClone, RefusesEnter, RefusesRelease};
 ghost use Rattle.span_registry.specs.Form.{Form};
 ghost use Rattle.span_registry.specs.Hooks.{Stays};
@@ -42,6 +42,7 @@ impl<S: Subscriber> Dispatch<S> {
         ensures registered { S.registered stack (stack_of result) }
         ensures registry { S.registry (stack_of result) ≡ S.registry stack }
         ensures kept { kept_by result ≡ Some no_callsite }
+        ensures read { hint_by result ≡ None }
         ensures current { (f : Form) (n : ℕ) → KeepsUpToDate f n result }
         ensures ready { BecomesReady S.Subscriber stack result }
     {
@@ -61,6 +62,7 @@ impl<S: Subscriber> Dispatch<S> {
         ensures registered { S.registered stack (stack_of result) }
         ensures registry { S.registry (stack_of result) ≡ S.registry stack }
         ensures kept { kept_by result ≡ None }
+        ensures read { hint_by result ≡ None }
         ensures current { (f : Form) (n : ℕ) → KeepsUpToDate f n result }
         ensures ready { BecomesReady S.Subscriber stack result }
     {
@@ -91,6 +93,7 @@ impl<S: Subscriber> Dispatch<S> {
     pub fn max_level_hint(&self) -> Option<LevelFilter>
         requires { S.usable (stack_of self.now) }
         ensures none { kept_by self.now ≡ None → result ≡ None }
+        ensures kept { ShowsKept self.now result }
         ensures hint { ShowsHint S.Subscriber self.now result }
     {
         match &self.cache {
@@ -111,6 +114,9 @@ impl<S: Subscriber> Dispatch<S> {
         ensures kept { StaysUpToDate S.Subscriber self.old self.new }
         ensures learned { LearnsOnly meta.now self.old self.new }
         ensures afresh { AsksStack S.Subscriber lane meta.now self.old pass.old result pass.new }
+        ensures hint { KeepsHint self.old self.new }
+        ensures above { DropsAbove meta.now false result self.old self.new }
+        ensures mismatch { RefusesMismatch meta.now result self.old self.new }
         ensures refused { IfErr result (RefusesMetadata meta.now self.old) }
     {
         match self.cache.interest(self.alloc, &self.stack, meta) {
@@ -135,6 +141,9 @@ impl<S: Subscriber> Dispatch<S> {
         ensures asked { IfOk result (WantsMetadata S.Subscriber lane meta.now self.old) }
         ensures served { ServesEnabled S.Subscriber lane meta.now result self.old self.new }
         ensures seen { SeesWhatIsMade S.Subscriber self.old self.new }
+        ensures hint { KeepsHint self.old self.new }
+        ensures above { DropsAbove meta.now false result self.old self.new }
+        ensures mismatch { RefusesMismatch meta.now result self.old self.new }
         ensures refused { IfErr result (RefusesMetadata meta.now self.old) }
     {
         let mut pass = Pass::new();
@@ -156,6 +165,9 @@ impl<S: Subscriber> Dispatch<S> {
         ensures seen { SeesWhatIsMade S.Subscriber self.old self.new }
         ensures asked { WantsSpan S.Subscriber lane attrs.now self.old result }
         ensures store { IfOk result (OpensIfMade S.Subscriber lane attrs.now self.old self.new) }
+        ensures hint { KeepsHint self.old self.new }
+        ensures above { DropsAbove (metadata_of attrs.now) None result self.old self.new }
+        ensures mismatch { RefusesMismatch (metadata_of attrs.now) result self.old self.new }
         ensures refused { IfErr result (RefusesSpan S.Subscriber lane attrs.now self.old) }
         ensures unchanged { OnErr result (SameStack self.old self.new) }
     {
@@ -181,6 +193,9 @@ impl<S: Subscriber> Dispatch<S> {
         ensures seen { SeesWhatIsMade S.Subscriber self.old self.new }
         ensures asked { WantsSpan S.Subscriber lane attrs.now self.old result }
         ensures store { IfOk result (OpensByPass S.Subscriber lane attrs.now pass.new self.old self.new) }
+        ensures hint { KeepsHint self.old self.new }
+        ensures above { DropsAbove (metadata_of attrs.now) None result self.old self.new }
+        ensures mismatch { RefusesMismatch (metadata_of attrs.now) result self.old self.new }
         ensures refused { IfErr result (RefusesSpan S.Subscriber lane attrs.now self.old) }
         ensures unchanged { OnErr result (SameStack self.old self.new) }
     {
@@ -207,6 +222,9 @@ impl<S: Subscriber> Dispatch<S> {
         ensures store { TakesStep S.Subscriber Stays self.old self.new }
         ensures dropped { result ≡ Ok false → SameStack self.old self.new }
         ensures asked { IfOk result (WantsEvent S.Subscriber lane event.now self.old) }
+        ensures hint { KeepsHint self.old self.new }
+        ensures above { DropsAbove (event_metadata event.now) false result self.old self.new }
+        ensures mismatch { RefusesMismatch (event_metadata event.now) result self.old self.new }
         ensures refused { IfErr result (RefusesEvent event.now self.old) }
         ensures unchanged { OnErr result (SameStack self.old self.new) }
     {

@@ -1,7 +1,12 @@
 //! Laws, for proofs above: no call does anything.
+ghost use Rattle.span_core.specs.Filters.{FilterSet};
 ghost use Rattle.span_dispatch.specs.Alone.{Alone};
-ghost use Rattle.span_dispatch.specs.Isolation.{PathsActAlike, SeeTheSame, SeesMade, SeesServed};
+ghost use Rattle.span_dispatch.specs.Effect.{AloneOf, MadeCall};
+ghost use Rattle.span_dispatch.specs.Isolation.{HasSameOutcomes, HaveSameOutcomes, KeepsAgreement, PathsActAlike};
+ghost use Rattle.span_dispatch.specs.Isolation.{SeeTheSame, SeenAlone, SeesCalls, SeesMade, SeesServed};
 ghost use Rattle.span_dispatch.specs.Journal.{Entry, LeavesOne};
+ghost use Rattle.span_dispatch.specs.Outcome.{Outcome};
+ghost use Rattle.span_dispatch.specs.Readable.{ClosesAsItOpened};
 ghost use Rattle.span_registry.specs.Conducts.{ArePlainConducts, Conducts};
 ghost use Rattle.std.specs.Prelude.{◌≡◌, List};
 
@@ -23,6 +28,34 @@ pub fn other_layers_make_no_difference<S: Subscriber, T: Subscriber>()
     ensures served { SeeTheSame
         (SeesServed S.registry S.with_registry S.has_form S.stepped S.levelled S.hears S.acts_at)
         (SeesServed T.registry T.with_registry T.has_form T.stepped T.levelled T.hears T.acts_at) }
+    ensures calls { SeeTheSame AloneOf AloneOf }
+    ensures requests { SeeTheSame
+        (SeesCalls S.registry S.with_registry S.has_form S.stepped S.levelled S.hears S.acts_at)
+        (SeesCalls T.registry T.with_registry T.has_form T.stepped T.levelled T.hears T.acts_at) }
+    ensures requests_alone { SeenAlone
+        (SeesCalls S.registry S.with_registry S.has_form S.stepped S.levelled S.hears S.acts_at) AloneOf }
+{
+    span_registry::laws::in_store_while_open_or_closing();
+    span_registry::laws::closes_once();
+}
+
+/// A call says by itself what is made of it, whichever stack it is asked of.
+///
+/// On stores that agree, calls that are answered the same have the same outcomes, one by one and in a row, and stores that
+/// agreed before an outcome agree after it.
+pub fn calls_say_what_is_made()
+    ensures one { (numbers : FilterSet) (call : MadeCall) → HasSameOutcomes numbers call }
+    ensures all { (calls : List MadeCall) → HaveSameOutcomes calls }
+    ensures step { (o : Outcome) → KeepsAgreement o }
+{
+    span_registry::laws::in_store_while_open_or_closing();
+    span_registry::laws::closes_once();
+}
+
+/// A path passes a span's close exactly if it passed the span: so each layer is told of the closes of the spans that it was
+/// told of, and of no other's.
+pub fn a_close_is_told_to_whom_the_span_was()
+    ensures { ClosesAsItOpened }
 {}
 
 /// One journal leaves one store, extensions aside.

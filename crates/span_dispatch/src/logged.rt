@@ -1,11 +1,11 @@
 //! The accepted requests of a dispatcher, in order, and a dispatcher that keeps them.
-ghost use Rattle.std.specs.Prelude.{◌≡◌, ◌<◌, ◌↔◌, [], IsTrue, OnErr, OnOk, IfErr, IfOk, Some, false, true, length, slice_get, vec_capacity, vec_len};
+ghost use Rattle.std.specs.Prelude.{◌≡◌, ◌<◌, ◌↔◌, [], IsTrue, OnErr, OnOk, IfErr, IfOk, None, Some, false, true, length, slice_get, vec_capacity, vec_len};
 ghost use Rattle.span_core.specs.Event.{event_metadata};
 ghost use Rattle.span_core.specs.Span.{metadata_of};
 ghost use Rattle.span_dispatch.specs.Call.{FindsOpen, RefusesUnlessOpen};
 ghost use Rattle.span_dispatch.specs.Contract.{ChangesLevel, ChangesStack, DropsAll, Forgets, GivesLevel, LearnsOnly, LeavesGone, OpensIfMade, Refuses, RefusesEvent, RefusesMetadata, RefusesSpan, SameRegistry, SameStack, SeesWhatIsMade, Shows, StaysReady, StaysReadyBut, StaysUpToDate, TakesHandle, TakesLevel, TakesStep, TakesStepAlone, WantsEvent, WantsMetadata};
 ghost use Rattle.span_dispatch.specs.Journal.{Adds, KeepsStack, Leaves, Stands, holds_by};
-ghost use Rattle.span_dispatch.specs.Logged.{AddsDone, AddsEntry, AddsNewSpan, IfDone, IfGiven, IfRefused, IfTold, LogsClone, LogsCurrent, LogsDrop, LogsEnabled, LogsEnter, LogsEvent, LogsExit, LogsFollows, LogsLevel, LogsNewSpan, LogsRecord, LogsWanted, NoneTakes, On, OrNoMemory, current_entry, event_entry};
+ghost use Rattle.span_dispatch.specs.Logged.{AddsDone, AddsEntry, AddsNewSpan, IfDone, IfGiven, IfRefused, IfTold, LogsClone, LogsCurrent, LogsDrop, LogsDropped, LogsEnabled, LogsEnter, LogsEvent, LogsExit, LogsFollows, LogsHint, LogsLevel, LogsMismatch, LogsNewSpan, LogsRecord, LogsWanted, NoneTakes, On, OrNoMemory, current_entry, event_entry};
 ghost use Rattle.span_dispatch.specs.Serve.{stack_of};
 ghost use Rattle.span_registry.specs.Closes.{IsSettled};
 ghost use Rattle.span_registry.specs.Hooks.{Stays};
@@ -199,6 +199,9 @@ impl<S: Subscriber> Logged<S> {
         ensures asked { IfTold (WantsMetadata S.Subscriber lane meta.now) result self.old }
         ensures served { LogsEnabled S.Subscriber lane meta.now result self.old self.new }
         ensures seen { IfDone (SeesWhatIsMade S.Subscriber) result self.old self.new }
+        ensures hint { LogsHint result self.old self.new }
+        ensures above { LogsDropped meta.now false result self.old self.new }
+        ensures mismatch { LogsMismatch meta.now result self.old self.new }
         ensures refused { IfRefused (RefusesMetadata meta.now) result self.old }
         ensures unchanged { OnErr result (KeepsStack self.old self.new) }
         ensures added { AddsEntry (EntryWith.Probe lane meta.now) result self.old self.new }
@@ -224,6 +227,9 @@ impl<S: Subscriber> Logged<S> {
         ensures seen { IfDone (SeesWhatIsMade S.Subscriber) result self.old self.new }
         ensures asked { LogsWanted S.Subscriber lane attrs.now result self.old self.new }
         ensures store { IfGiven (OpensIfMade S.Subscriber lane attrs.now) result self.old self.new }
+        ensures hint { LogsHint result self.old self.new }
+        ensures above { LogsDropped (metadata_of attrs.now) None result self.old self.new }
+        ensures mismatch { LogsMismatch (metadata_of attrs.now) result self.old self.new }
         ensures refused { IfRefused (RefusesSpan S.Subscriber lane attrs.now) result self.old }
         ensures unchanged { OnErr result (KeepsStack self.old self.new) }
         ensures added { AddsNewSpan S.Subscriber lane attrs.now result self.old self.new }
@@ -257,6 +263,9 @@ impl<S: Subscriber> Logged<S> {
         ensures store { IfDone (TakesStep S.Subscriber Stays) result self.old self.new }
         ensures dropped { IfOk result (λ r. r.0 ≡ false → On SameStack self.old self.new) }
         ensures asked { IfTold (WantsEvent S.Subscriber lane event.now) result self.old }
+        ensures hint { LogsHint result self.old self.new }
+        ensures above { LogsDropped (event_metadata event.now) false result self.old self.new }
+        ensures mismatch { LogsMismatch (event_metadata event.now) result self.old self.new }
         ensures refused { IfRefused (RefusesEvent event.now) result self.old }
         ensures unchanged { OnErr result (KeepsStack self.old self.new) }
         ensures added { AddsEntry (event_entry lane event.now) result self.old self.new }

@@ -1,9 +1,10 @@
 //! A layer that keeps what it is notified of.
 ghost use Rattle.std.specs.Prelude.{◌≡◌, ◌∷◌, [], true};
-ghost use Rattle.span_dispatch.specs.Recorder.{Records, new_recorder, recorder_hears, recorder_steps};
+ghost use Rattle.span_dispatch.specs.Recorder.{Records, new_recorder, recorder_steps};
 ghost use Rattle.span_dispatch.specs.RecorderLaws.{recorder_laws};
 ghost use Rattle.span_layers.specs.Acts.{LeafActs};
 ghost use Rattle.span_layers.specs.ActsKept.{is_leaf, leaf_path_laws};
+ghost use Rattle.span_layers.specs.Layer.{HearsBy};
 ghost use Rattle.span_layers.specs.Levels.{leaf_levels};
 ghost use Rattle.span_layers.specs.Observe.{open_answers};
 ghost use Rattle.span_registry.specs.Form.{Leaf};
@@ -82,7 +83,7 @@ impl<S: Subscriber> Layer<S> for Recorder {
 
     ghost stepped = { recorder_steps };
 
-    ghost hears = { recorder_hears };
+    ghost hears = { HearsBy recorder_steps };
 
     ghost acts_at = { LeafActs };
 

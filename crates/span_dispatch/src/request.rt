@@ -1,8 +1,8 @@
 //! What is asked of a dispatcher, in a list, and what it answers.
 
 ghost use Rattle.std.specs.Prelude.{◌≡◌};
-ghost use Rattle.span_core.specs.Event.{event_metadata, event_parent, event_values};
-ghost use Rattle.span_core.specs.Span.{asked_parent, metadata_of, values_of};
+ghost use Rattle.span_core.specs.Event.{event_metadata, event_of, event_parent, event_values};
+ghost use Rattle.span_core.specs.Span.{asked_parent, attributes_of, metadata_of, values_of};
 ghost use Rattle.span_dispatch.specs.Call.{current_answer, done_answer, event_answer, span_answer, yes_answer};
 ghost use Rattle.span_dispatch.specs.Serve.{resolved, resolved_parent};
 
@@ -74,6 +74,7 @@ impl WhichParent {
         ensures metadata { metadata_of result ≡ metadata }
         ensures parent { asked_parent result ≡ resolved_parent past.now self }
         ensures values { values_of result ≡ values.now }
+        ensures whole { result ≡ attributes_of metadata values.entry (resolved_parent past.now self) }
     {
         match self.parent_of(past) {
             Parent::Root => Attributes::new_root(metadata, values),
@@ -92,6 +93,7 @@ impl WhichParent {
         ensures metadata { event_metadata result ≡ metadata }
         ensures parent { event_parent result ≡ resolved_parent past.now self }
         ensures values { event_values result ≡ values.now }
+        ensures whole { result ≡ event_of metadata values.entry (resolved_parent past.now self) }
     {
         match self.parent_of(past) {
             Parent::Root => Event::new_root(metadata, values),

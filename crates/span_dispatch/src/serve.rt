@@ -1,7 +1,8 @@
 //! Lists of requests, served in order.
 ghost use Rattle.std.specs.Prelude.{◌≡◌, ◌∷◌, [], ◌++◌, OnErr, IfOk, IfErr, ◌<◌, ◌≤◌, ◌+◌, length, vec_len, vec_capacity};
 ghost use Rattle.span_dispatch.specs.Call.{Exit};
-ghost use Rattle.span_dispatch.specs.Contract.{AnswersCall, ServesList, ServesNext, StaysReady, StaysReadyByRules};
+ghost use Rattle.span_dispatch.specs.Contract.{AnswersCall, ChangesStack, ServesList, ServesNext, StaysReady, StaysReadyByRules};
+ghost use Rattle.span_dispatch.specs.KeptHint.{ListGoesByKept, RequestGoesByKept};
 ghost use Rattle.span_dispatch.specs.Serve.{stack_of};
 
 use crate::dispatch::Dispatch;
@@ -23,6 +24,7 @@ impl<S: Subscriber> Dispatch<S> {
         ensures usable { S.usable (stack_of self.new) }
         ensures ready { StaysReadyByRules S.Subscriber self.old self.new }
         ensures served { IfOk result (ServesList S.Subscriber requests.now self.old self.new) }
+        ensures kept { IfOk result (ListGoesByKept S.registry requests.now self.old self.new) }
         ensures length { IfOk result (λ a. length a.items ≡ length requests.now) }
         ensures memory { IfErr result (λ e. e ≡ TraceError.OutOfMemory) }
         ensures unchanged { OnErr result (self.new ≡ self.old) }
@@ -42,13 +44,14 @@ impl<S: Subscriber> Dispatch<S> {
         ensures usable { S.usable (stack_of self.new) }
         ensures ready { StaysReadyByRules S.Subscriber self.old self.new }
         ensures served { ServesNext S.Subscriber past.now request.now result self.old self.new }
+        ensures kept { RequestGoesByKept S.registry past.now request.now result self.old self.new }
     {
         match request {
             Request::NewSpan(lane, metadata, parent, values) => {
-                Answer::of_span(self.new_span(*lane, &parent.attributes(past, *metadata, values)))
+                Answer::of_span(self.new_span(*lane, &parent.attributes(past, *metadata, *values)))
             }
             Request::Event(lane, metadata, parent, values) => {
-                Answer::of_event(self.event(*lane, &parent.event(past, *metadata, values)))
+                Answer::of_event(self.event(*lane, &parent.event(past, *metadata, *values)))
             }
             Request::Enter(lane, which) => match which.span_of(past) {
                 None => Answer::Dropped,
@@ -60,7 +63,7 @@ impl<S: Subscriber> Dispatch<S> {
             },
             Request::Record(lane, which, values) => match which.span_of(past) {
                 None => Answer::Dropped,
-                Some(id) => Answer::of_done(self.record(*lane, id, &Record::new(values))),
+                Some(id) => Answer::of_done(self.record(*lane, id, &Record::new(*values))),
             },
             Request::Follows(lane, which, other) => match which.span_of(past) {
                 None => Answer::Dropped,
@@ -88,6 +91,7 @@ impl<S: Subscriber> Dispatch<S> {
         ensures usable { S.usable (stack_of self.new) }
         ensures ready { StaysReady S.Subscriber self.old self.new }
         ensures served { AnswersCall S.Subscriber (Exit lane id) result self.old self.new }
+        ensures rest { ChangesStack self.old self.new }
     {
         self.exit(lane, id);
         Answer::Done

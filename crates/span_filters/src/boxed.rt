@@ -2,7 +2,7 @@
 ghost use Rattle.span_filters.specs.Boxed.{ActsPlainly, AnswersHonestly, KeepsLaw, KeepsLevelLaw, LevelsInside, LevelsLawfully, StepsInside, StepsLawfully, itself, object_laws, object_levels, replaced};
 ghost use Rattle.span_filters.specs.Filter.{FilterLevelSteps, FilterSteps, Notified, Says, SaysEnabled, SaysEvent};
 ghost use Rattle.span_registry.specs.Answers.{Answers, Conduct, OnClose, OnEnter, OnExit, OnNewSpan, OnRecord};
-ghost use Rattle.span_registry.specs.Context.{WritesExtensions, view_in, view_lent};
+ghost use Rattle.span_registry.specs.Context.{HasNoRefusals, WritesExtensions, view_in, view_lent};
 ghost use Rattle.std.specs.Prelude.{◌≡◌, false};
 
 use crate::filter::Filter;
@@ -64,7 +64,8 @@ pub trait DynFilter: Drop {
 
     /// Notifies of values that a span was given later.
     fn dyn_on_record(&mut self, id: Id, values: &Record<'_>, ctx: &mut ContextMut<'_, Registry>)
-        requires { dyn_usable self.old }
+        requires usable { dyn_usable self.old }
+        requires refusals { HasNoRefusals ctx.old }
         ensures usable { dyn_usable self.new }
         ensures hook { Notified dyn_hooked itself (OnRecord id values.now) self.old ctx.old self.new ctx.new }
         ensures keeps { KeepsLaw dyn_answers dyn_acts (OnRecord id values.now) (view_lent itself ctx.old) self.old self.new }
@@ -72,7 +73,8 @@ pub trait DynFilter: Drop {
 
     /// Notifies that a span is entered.
     fn dyn_on_enter(&mut self, id: Id, ctx: &mut ContextMut<'_, Registry>)
-        requires { dyn_usable self.old }
+        requires usable { dyn_usable self.old }
+        requires refusals { HasNoRefusals ctx.old }
         ensures usable { dyn_usable self.new }
         ensures hook { Notified dyn_hooked itself (OnEnter id) self.old ctx.old self.new ctx.new }
         ensures keeps { KeepsLaw dyn_answers dyn_acts (OnEnter id) (view_lent itself ctx.old) self.old self.new }
@@ -80,7 +82,8 @@ pub trait DynFilter: Drop {
 
     /// Notifies that a span is left.
     fn dyn_on_exit(&mut self, id: Id, ctx: &mut ContextMut<'_, Registry>)
-        requires { dyn_usable self.old }
+        requires usable { dyn_usable self.old }
+        requires refusals { HasNoRefusals ctx.old }
         ensures usable { dyn_usable self.new }
         ensures hook { Notified dyn_hooked itself (OnExit id) self.old ctx.old self.new ctx.new }
         ensures keeps { KeepsLaw dyn_answers dyn_acts (OnExit id) (view_lent itself ctx.old) self.old self.new }
@@ -88,7 +91,8 @@ pub trait DynFilter: Drop {
 
     /// Notifies that a span is closing, while it can still be read.
     fn dyn_on_close(&mut self, id: Id, ctx: &mut ContextMut<'_, Registry>)
-        requires { dyn_usable self.old }
+        requires usable { dyn_usable self.old }
+        requires refusals { HasNoRefusals ctx.old }
         ensures usable { dyn_usable self.new }
         ensures hook { Notified dyn_hooked itself (OnClose id) self.old ctx.old self.new ctx.new }
         ensures keeps { KeepsLaw dyn_answers dyn_acts (OnClose id) (view_lent itself ctx.old) self.old self.new }

@@ -11,8 +11,8 @@ use span_core::{Attributes, Event, Id, Interest, LevelFilter, Metadata, Record, 
 use span_registry::{Context, ContextMut, LookupSpan};
 use std::fmt;
 
-/// Wants what both of its parts want. Of metadata and of events it asks the first part first,
-/// and the second only where the first doesn't decide.
+/// Wants what both of its parts want. It asks the first part first, and the second only where the first doesn't decide:
+/// of the hint it always asks both.
 ///
 /// Stands for `tracing_subscriber::filter::combinator::And`.
 #[derive(Debug, Drop)]
@@ -21,8 +21,8 @@ pub struct And<A, B> {
     b: B,
 }
 
-/// Wants what either of its parts wants. Of metadata and of events it asks the first part first,
-/// and the second only where the first doesn't decide.
+/// Wants what either of its parts wants. It asks the first part first, and the second only where the first doesn't decide:
+/// of its interest it always asks both.
 ///
 /// Stands for `tracing_subscriber::filter::combinator::Or`.
 #[derive(Debug, Drop)]
@@ -277,15 +277,9 @@ impl<S: LookupSpan, A: Filter<S>, B: Filter<S>> Filter<S> for Or<A, B> {
     }
 
     fn max_level_hint(&self) -> Option<LevelFilter> {
-        let first = self.a.max_level_hint();
-        let second = self.b.max_level_hint();
-        match first {
-            None => None,
-            Some(f) => match second {
-                None => None,
-                Some(g) => Some(greater_of(f, g)),
-            },
-        }
+        let first = self.a.max_level_hint()?;
+        let second = self.b.max_level_hint()?;
+        Some(greater_of(first, second))
     }
 
     fn on_new_span(&mut self, attrs: &Attributes<'_>, id: Id, ctx: &mut ContextMut<'_, S>) {

@@ -16,12 +16,14 @@ fn event_of(target: &'static str, level: Level) -> Metadata {
     Metadata::new(1, "event", target, level, Kind::EVENT, FieldSet::new(&[]))
 }
 
-/// Whether a filter wants such metadata where there is no subscriber.
+/// Whether a filter wants such an event where there is no subscriber.
 fn wants<F: Filter<Registry>>(filter: &F, target: &'static str, level: Level) -> bool
     requires { F.usable filter.now }
 {
+    let metadata = event_of(target, level);
     let nowhere: Context<'_, Registry> = Context::none();
-    filter.enabled(&event_of(target, level), &nowhere)
+    filter.enabled(&metadata, &nowhere)
+        && filter.event_enabled(&Event::new(metadata, &[]), &nowhere)
 }
 
 /// A filter's interest in a callsite at this level.
@@ -81,23 +83,13 @@ impl<S: LookupSpan> Filter<S> for Mute {
     }
 }
 
-/// Whether a filter wants an event at this level.
-fn wants_event<F: Filter<Registry>>(filter: &F, level: Level) -> bool
-    requires { F.usable filter.now }
-{
-    let metadata = event_of("tests", level);
-    let nowhere: Context<'_, Registry> = Context::none();
-    filter.enabled(&metadata, &nowhere)
-        && filter.event_enabled(&Event::new(metadata, &[]), &nowhere)
-}
-
 #[test]
 fn what_neither_part_wants_alone(rt: HostRuntime) -> Result<(), Fail> {
-    assert!(rt; !wants_event(&Mute, Level::INFO));
-    assert!(rt; !wants_event(&LevelFilter::ERROR, Level::INFO));
-    assert!(rt; wants_event(&Mute.or(LevelFilter::ERROR), Level::INFO));
-    assert!(rt; !wants_event(&Mute.and(LevelFilter::TRACE), Level::INFO));
-    assert!(rt; wants_event(&LevelFilter::ERROR.not(), Level::INFO));
+    assert!(rt; !wants(&Mute, "tests", Level::INFO));
+    assert!(rt; !wants(&LevelFilter::ERROR, "tests", Level::INFO));
+    assert!(rt; wants(&Mute.or(LevelFilter::ERROR), "tests", Level::INFO));
+    assert!(rt; !wants(&Mute.and(LevelFilter::TRACE), "tests", Level::INFO));
+    assert!(rt; wants(&LevelFilter::ERROR.not(), "tests", Level::INFO));
     Ok(())
 }
 
@@ -114,6 +106,7 @@ fn both_want_what_each_wants(rt: HostRuntime) -> Result<(), Fail> {
     assert!(rt; interest_in(&both, Level::INFO).is_sometimes());
     assert!(rt; interest_in(&both, Level::DEBUG).is_never());
     assert_eq!(rt; hint_of(&both), None);
+    assert_eq!(rt; hint_of(&LevelFilter::INFO.and(Mute)), None);
     Ok(())
 }
 
@@ -129,6 +122,7 @@ fn either_wants_what_one_wants(rt: HostRuntime) -> Result<(), Fail> {
     assert!(rt; interest_in(&either, Level::INFO).is_always());
     assert!(rt; interest_in(&either, Level::DEBUG).is_sometimes());
     assert_eq!(rt; hint_of(&either), None);
+    assert_eq!(rt; hint_of(&LevelFilter::INFO.or(Mute)), None);
     Ok(())
 }
 

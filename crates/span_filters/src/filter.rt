@@ -2,7 +2,7 @@
 ghost use Rattle.std.specs.Prelude.{◌≡◌, ⊤, false};
 ghost use Rattle.span_filters.specs.Filter.{FilterLaws, FilterLevelLaws, FilterLevelSteps, FilterSteps, Notified, Says, SaysEnabled, SaysEvent, unlevelled, unmoved};
 ghost use Rattle.span_registry.specs.Answers.{Answers, Conduct, OnClose, OnEnter, OnExit, OnNewSpan, OnRecord};
-ghost use Rattle.span_registry.specs.Context.{WritesExtensions, view_in};
+ghost use Rattle.span_registry.specs.Context.{HasNoRefusals, WritesExtensions, view_in};
 
 use span_core::{Attributes, Event, Id, Interest, LevelFilter, Metadata, Record};
 use span_registry::{Context, ContextMut, LookupSpan};
@@ -12,7 +12,8 @@ use span_registry::{Context, ContextMut, LookupSpan};
 /// What it answers are functions of its own state, of what it is asked, and of the view that the context gives. These are
 /// honest: where its interest in a callsite is `always`, what that callsite makes passes in every view; where it is `never`,
 /// or the level is above the hint, it passes in none; and metadata that show the same are of one interest. Hooks keep interest
-/// and hint, and write extensions alone.
+/// and hint, and write extensions alone. Filters are asked of new spans and of events alone, so only the hook of a new span may be
+/// lent refusals.
 ///
 /// Stands for `tracing_subscriber::layer::Filter`, with hooks that change the filter. No method has a default body.
 pub trait Filter<S: LookupSpan> {
@@ -61,28 +62,32 @@ pub trait Filter<S: LookupSpan> {
 
     /// Notifies of values that a span was given later.
     fn on_record(&mut self, id: Id, values: &Record<'_>, ctx: &mut ContextMut<'_, S>)
-        requires { usable self.old }
+        requires usable { usable self.old }
+        requires refusals { HasNoRefusals ctx.old }
         ensures usable { usable self.new }
         ensures hook { Notified hooked S.registry (OnRecord id values.now) self.old ctx.old self.new ctx.new }
         ensures written { WritesExtensions S.registry S.with_registry ctx.old ctx.new };
 
     /// Notifies that a span is entered.
     fn on_enter(&mut self, id: Id, ctx: &mut ContextMut<'_, S>)
-        requires { usable self.old }
+        requires usable { usable self.old }
+        requires refusals { HasNoRefusals ctx.old }
         ensures usable { usable self.new }
         ensures hook { Notified hooked S.registry (OnEnter id) self.old ctx.old self.new ctx.new }
         ensures written { WritesExtensions S.registry S.with_registry ctx.old ctx.new };
 
     /// Notifies that a span is left.
     fn on_exit(&mut self, id: Id, ctx: &mut ContextMut<'_, S>)
-        requires { usable self.old }
+        requires usable { usable self.old }
+        requires refusals { HasNoRefusals ctx.old }
         ensures usable { usable self.new }
         ensures hook { Notified hooked S.registry (OnExit id) self.old ctx.old self.new ctx.new }
         ensures written { WritesExtensions S.registry S.with_registry ctx.old ctx.new };
 
     /// Notifies that a span is closing, while it can still be read.
     fn on_close(&mut self, id: Id, ctx: &mut ContextMut<'_, S>)
-        requires { usable self.old }
+        requires usable { usable self.old }
+        requires refusals { HasNoRefusals ctx.old }
         ensures usable { usable self.new }
         ensures hook { Notified hooked S.registry (OnClose id) self.old ctx.old self.new ctx.new }
         ensures written { WritesExtensions S.registry S.with_registry ctx.old ctx.new };

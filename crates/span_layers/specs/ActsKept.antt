@@ -1,5 +1,5 @@
 -- The paths of layers keep their law: a leaf's has no filter, and those of layers that are made of parts keep it since the parts' do.
-use Rattle.std.specs.Prelude.{◌≡◌, ⊤, ℕ, Bool, false, is_some, List, [], ◌∷◌, Option, Some, None, refl}
+use Rattle.std.specs.Prelude.{◌≡◌, ⊤, ℕ, Bool, Box, false, is_some, List, [], ◌∷◌, Option, Some, None, refl}
 use Rattle.std.specs.List.{AllZip}
 use Rattle.std.specs.Option.{option_map, option_map_or}
 use Rattle.std.proofs.Common.{ap, subst, sym, ◌∙◌}
@@ -9,8 +9,9 @@ use Rattle.span_core.specs.NumberSet.{has_number}
 use Rattle.span_core.specs.declared.filter.FilterId.{FilterId}
 use Rattle.span_filters.specs.Filter.{FilterLaws, FilterSteps}
 use Rattle.span_layers.specs.Acts.{FilteredActs, LayeredActs, LeafActs, ListActs, OptionActs, PathLaws}
+use Rattle.span_layers.specs.Boxed.{BoxSteps}
 use Rattle.span_layers.specs.Filtered.{FilteredForm, FilteredSteps, Hooked, IsNumber}
-use Rattle.span_layers.specs.Layer.{LayerSteps}
+use Rattle.span_layers.specs.Layer.{IsLeaf, LayerSteps}
 use Rattle.span_layers.specs.Layered.{LayeredSteps, OverForm, PairSteps}
 use Rattle.span_layers.specs.Members.{ListForm, ListSteps}
 use Rattle.span_layers.specs.Optional.{OptionForm, OptionGoes, OptionSteps}
@@ -55,11 +56,6 @@ act_alone (Through p) e lane under v = refl
 act_alone (Both p q) e lane under v = refl
 
 -- ---- a leaf
-
--- it is a leaf
-abbrev pub IsLeaf : Form → Type 0
-IsLeaf (Leaf still a) = ⊤
-IsLeaf other = ⊥
 
 -- a form that is a leaf
 pub is_leaf : {still : Bool} {a : Answers} {f : Form} → f ≡ Leaf still a → IsLeaf f
@@ -358,12 +354,11 @@ module _ {L : Type 0} {has_form : L → Form → Type 0} {stepped : LayerSteps L
   pub option_path_laws : PathLaws (OptionForm has_form) (OptionSteps stepped) (OptionGoes registered) (OptionActs acts_at)
   option_path_laws = record { plain = option_plain; now = option_now; goes_on = option_goes_on; put_in_use = option_used }
 
-  -- what holds one layer, and goes on as that does, keeps the law, since that layer does
-  pub held_path_laws : {X : Type 0} (inner : X → L)
-      → PathLaws (λ x. has_form (inner x)) (λ x p e lane under v y w. stepped (inner x) p e lane under v (inner y) w) (λ x y. registered (inner x) (inner y)) (λ x. acts_at (inner x))
-  held_path_laws inner = record {
-    plain = λ x place cs a. held.plain (inner x) place cs a;
-    now = λ x place cs f a h. held.now (inner x) place cs f a h;
-    goes_on = λ x p e lane under v y w place cs s a. held.goes_on (inner x) p e lane under v (inner y) w place cs s a;
-    put_in_use = λ x y place cs s a. held.put_in_use (inner x) (inner y) place cs s a;
+  -- a box keeps the law, since its layer does
+  pub box_path_laws : {Z : Type 0} → PathLaws (λ (x : Box L Z). has_form x.value) (BoxSteps stepped) (λ x y. registered x.value y.value) (λ x. acts_at x.value)
+  box_path_laws = record {
+    plain = λ x place cs a. held.plain x.value place cs a;
+    now = λ x place cs f a h. held.now x.value place cs f a h;
+    goes_on = λ x p e lane under v y w place cs s a. held.goes_on x.value p e lane under v y.value w place cs s.1 a;
+    put_in_use = λ x y place cs s a. held.put_in_use x.value y.value place cs s a;
   }

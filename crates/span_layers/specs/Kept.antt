@@ -1,21 +1,34 @@
 -- Layers that are made of parts keep what they have of their forms, since their parts do.
-use Rattle.std.specs.Prelude.{◌≡◌, ℕ, [], ◌++◌, Option, refl}
-use Rattle.std.proofs.Common.{append-nil, sym, subst}
-use Rattle.span_core.specs.Filters.{FilterSet}
+use Rattle.std.specs.Prelude.{◌≡◌, ℕ, Bool, true, false, ◌||◌, [], ◌++◌, Option, Some, None, refl}
+use Rattle.std.proofs.Common.{ap, append-nil, sym, subst, ◌∙◌}
+use Rattle.span_core.specs.Filters.{FilterSet, has_filter, union}
 use Rattle.span_core.specs.declared.filter.FilterId.{FilterId}
 use Rattle.span_filters.specs.Filter.{FilterLaws, FilterSteps, KeepsInterestAndHint}
 use Rattle.span_layers.specs.Filtered.{FilteredForm, FilteredHears, FilteredSteps, Hooked, IsNumber}
-use Rattle.span_layers.specs.Layer.{LayerLaws, LayerSteps}
+use Rattle.span_layers.specs.ActsKept.{numbered_alone}
+use Rattle.span_layers.specs.Layer.{IsLeaf, LayerLaws, LayerSteps}
+use Rattle.span_layers.specs.Leaf.{no_leaf}
 use Rattle.span_layers.specs.Layered.{LayeredHears, LayeredSteps, OverForm, PairSteps}
 use Rattle.span_registry.specs.Answers.{Answers, Conduct, Notice, OnClose, OnEnter, OnEvent, OnExit, OnFollows, OnIdChange, OnNewSpan, OnRecord}
 use Rattle.span_registry.specs.Follows.{Follows, kept_form}
 use Rattle.span_registry.specs.Form.{Bare, Filtered, Form, InPair, Joint, Leaf, OnSubscriber, Over}
 use Rattle.span_registry.specs.Hooks.{StackLaws, StackSteps, no_filter}
-use Rattle.span_registry.specs.Place.{HearLaws, HearSteps, Heard, Here, Inner, Outer, Place, Under, heard_by}
+use Rattle.span_registry.proofs.Plain.{told_aside}
+use Rattle.span_registry.specs.Path.{mask_at}
+use Rattle.span_registry.specs.Place.{HearLaws, HearSteps, Heard, Here, Inner, Outer, Place, Told, Under, heard_by, told_in}
 use Rattle.span_registry.specs.Plan.{Both, Itself, Nobody, Plan, Through}
 use Rattle.span_registry.specs.Store.{RegistryState}
 
 -- ---- a filter round a layer
+
+none_more : (b : Bool) → b || false ≡ b
+none_more true = refl
+none_more false = refl
+
+-- under a filter's id the mask goes on by its number, if it has one
+mask_under : (i : FilterId) (n : Option ℕ) (c : Answers) (f : Form) (q : Place) (under : FilterSet) → IsNumber i n → mask_at f q (union under (has_filter i)) ≡ mask_at (Filtered n c f) (Under q) under
+mask_under i None c f q under h = ap (λ (set : FilterSet). mask_at f q (union under set)) (numbered_alone i None h) ∙ ap (mask_at f q) (λ j k. none_more (under k) j)
+mask_under i (Some n) c f q under h = ap (λ (set : FilterSet). mask_at f q (union under set)) h.1
 
 module _ {F L : Type 0} {has_answers : F → Answers → Type 0} {hooked : FilterSteps F} {acts : F → Conduct → Type 0} {has_form : L → Form → Type 0} {stepped : LayerSteps L} {hears : HearSteps L} {registered : L → L → Type 0} (own : FilterLaws has_answers hooked acts) (inside : LayerLaws has_form stepped hears registered) where
   same_answers : (f g : F) (a : Answers) → g ≡ f → has_answers f a → KeepsInterestAndHint (has_answers g) a
@@ -68,16 +81,25 @@ module _ {F L : Type 0} {has_answers : F → Answers → Type 0} {hooked : Filte
   filtered_further x y z (Outer q) h k a b = tt
   filtered_further x y z (Inner q) h k a b = tt
 
-  -- what is under the filter hears what that lets by
-  filtered_heard : (i : FilterId) (a : F) (x : L) (p : Plan) (e : Notice) (lane : ℕ) (under : FilterSet) (v : RegistryState) (b : F) (y : L) (w : RegistryState) (place : Place)
-      → FilteredSteps hooked stepped i a x p e lane under v b y w → FilteredHears hears x place (heard_by p place lane e) y
-  filtered_heard i a x Nobody e lane under v b y w (Under q) s = subst (λ z. hears x q [] z) (sym s.1) (inside.heard.nothing x q)
-  filtered_heard i a x (Through p) e lane under v b y w (Under q) s = inside.notified x p e lane _ s.between y w q s.layer
-  filtered_heard i a x Itself e lane under v b y w (Under q) s = absurd s
-  filtered_heard i a x (Both p r) e lane under v b y w (Under q) s = absurd s
-  filtered_heard i a x p e lane under v b y w Here s = tt
-  filtered_heard i a x p e lane under v b y w (Outer q) s = tt
-  filtered_heard i a x p e lane under v b y w (Inner q) s = tt
+  -- what is under the filter hears what that lets by, in the view under the filter too
+  filtered_heard : (i : FilterId) (a : F) (x : L) (p : Plan) (e : Notice) (lane : ℕ) (under : FilterSet) (v : RegistryState) (b : F) (y : L) (w : RegistryState) (place : Place) (f : Form)
+      → FilteredSteps hooked stepped i a x p e lane under v b y w → FilteredForm i (has_answers a) (has_form x) f → FilteredHears hears x place (heard_by p place (told_in e v.store lane (mask_at f place under))) y
+  filtered_heard i a x Nobody e lane under v b y w (Under q) f s h = subst (λ z. hears x q [] z) (sym s.1) (inside.heard.nothing x q)
+  filtered_heard i a x (Through p) e lane under v b y w (Under q) (Filtered n c f) s h =
+      let set = union under (has_filter i) in
+      let same : told_in e s.between.store lane (mask_at f q set) ≡ told_in e v.store lane (mask_at (Filtered n c f) (Under q) under) =
+      told_aside e v s.between lane (mask_at f q set) s.extensions ∙ ap (told_in e v.store lane) (mask_under i n c f q under h.0) in
+      subst (λ (told : Told). hears x q (heard_by p q told) y) same (inside.notified x p e lane set s.between y w q f s.layer h.2)
+  filtered_heard i a x (Through p) e lane under v b y w (Under q) f s h = absurd h
+  filtered_heard i a x Itself e lane under v b y w (Under q) f s h = absurd s
+  filtered_heard i a x (Both p r) e lane under v b y w (Under q) f s h = absurd s
+  filtered_heard i a x p e lane under v b y w Here f s h = tt
+  filtered_heard i a x p e lane under v b y w (Outer q) f s h = tt
+  filtered_heard i a x p e lane under v b y w (Inner q) f s h = tt
+
+  filtered_no_leaf : (i : FilterId) (a : F) (x : L) (f : Form) → FilteredForm i (has_answers a) (has_form x) f → IsLeaf f → ⊥
+  filtered_no_leaf i a x (Leaf still c) h l = h
+  filtered_no_leaf i a x f h l = l
 
   -- a filtered layer keeps the law, since its filter and its layer keep theirs
   pub filtered_laws : {X : Type 0} (id : X → FilterId) (filter : X → F) (layer : X → L)
@@ -92,13 +114,19 @@ module _ {F L : Type 0} {has_answers : F → Answers → Type 0} {hooked : Filte
       nothing = λ x place. filtered_nothing (layer x) place;
       further = λ x y z place h k a b. filtered_further (layer x) (layer y) (layer z) place h k a b;
     };
-    notified = λ x p e lane under v y w place s. filtered_heard (id x) (filter x) (layer x) p e lane under v (filter y) (layer y) w place s.1;
+    notified = λ x p e lane under v y w place f s h. filtered_heard (id x) (filter x) (layer x) p e lane under v (filter y) (layer y) w place f s.1 h;
+    leaf = no_leaf (λ x f h l. filtered_no_leaf (id x) (filter x) (layer x) f h l);
   }
 
 -- ---- two layers
 
 over_follows : (joint : Joint) {outer inner : Form → Type 0} (k : Joint) (o i : Form) → k ≡ joint → Follows outer o → Follows inner i → Follows (OverForm joint outer inner) (Over k o i)
 over_follows joint k o i same s t = (Over k s.0 t.0, (same, s.1, t.1), (refl, s.2, t.2))
+
+-- what has two parts is no leaf
+pub over_no_leaf : (joint : Joint) (outer inner : Form → Type 0) (f : Form) → OverForm joint outer inner f → IsLeaf f → ⊥
+over_no_leaf joint outer inner (Leaf still a) h l = h
+over_no_leaf joint outer inner f h l = l
 
 -- each part hears its own
 module _ {L I : Type 0} {outer_hears : HearSteps L} {inner_hears : HearSteps I} (outer : HearLaws outer_hears) (inner : HearLaws inner_hears) where
@@ -139,15 +167,17 @@ module _ {L I : Type 0} {outer_form : L → Form → Type 0} {inner_form : I →
   pair_used x i y j (Filtered n a f) s t h = absurd h
   pair_used x i y j (Bare z) s t h = absurd h
 
-  pair_heard : (x : L) (i : I) (p : Plan) (e : Notice) (lane : ℕ) (under : FilterSet) (v : RegistryState) (y : L) (j : I) (w : RegistryState) (place : Place)
-      → PairSteps outer_steps inner_steps x i p e lane under v y j w → LayeredHears outer_hears inner_hears x i place (heard_by p place lane e) y j
-  pair_heard x i (Both p q) e lane under v y j w (Outer r) s = outer.notified x p e lane under s.between y w r s.second
-  pair_heard x i (Both p q) e lane under v y j w (Inner r) s = inner.notified i q e lane under v j s.between r s.first
-  pair_heard x i (Both p q) e lane under v y j w Here s = tt
-  pair_heard x i (Both p q) e lane under v y j w (Under r) s = tt
-  pair_heard x i Nobody e lane under v y j w place s = absurd s
-  pair_heard x i Itself e lane under v y j w place s = absurd s
-  pair_heard x i (Through p) e lane under v y j w place s = absurd s
+  pair_heard : (x : L) (i : I) (p : Plan) (e : Notice) (lane : ℕ) (under : FilterSet) (v : RegistryState) (y : L) (j : I) (w : RegistryState) (place : Place) (f : Form)
+      → PairSteps outer_steps inner_steps x i p e lane under v y j w → OverForm InPair (outer_form x) (inner_form i) f → LayeredHears outer_hears inner_hears x i place (heard_by p place (told_in e v.store lane (mask_at f place under))) y j
+  pair_heard x i (Both p q) e lane under v y j w (Outer r) (Over k o z) s h =
+      subst (λ (told : Told). outer_hears x r (heard_by p r told) y) (told_aside e v s.between lane (mask_at o r under) s.extensions) (outer.notified x p e lane under s.between y w r o s.second h.1)
+  pair_heard x i (Both p q) e lane under v y j w (Inner r) (Over k o z) s h = inner.notified i q e lane under v j s.between r z s.first h.2
+  pair_heard x i (Both p q) e lane under v y j w Here f s h = tt
+  pair_heard x i (Both p q) e lane under v y j w (Under r) f s h = tt
+  pair_heard x i (Both p q) e lane under v y j w place f s h = absurd h
+  pair_heard x i Nobody e lane under v y j w place f s h = absurd s
+  pair_heard x i Itself e lane under v y j w place f s h = absurd s
+  pair_heard x i (Through p) e lane under v y j w place f s h = absurd s
 
   -- two layers keep the law, since each does
   pub pair_laws : {X : Type 0} (layer : X → L) (below : X → I)
@@ -159,7 +189,8 @@ module _ {L I : Type 0} {outer_form : L → Form → Type 0} {inner_form : I →
     keeps = λ x p e lane under v y w f s h. pair_keeps (layer x) (below x) p e lane under v (layer y) (below y) w f s h;
     put_in_use = λ x y f s h. pair_used (layer x) (below x) (layer y) (below y) f s.0 s.1 h;
     heard = layered_hear_laws outer.heard inner.heard layer below;
-    notified = λ x p e lane under v y w place s. pair_heard (layer x) (below x) p e lane under v (layer y) (below y) w place s;
+    notified = λ x p e lane under v y w place f s h. pair_heard (layer x) (below x) p e lane under v (layer y) (below y) w place f s h;
+    leaf = no_leaf (λ x f h l. over_no_leaf InPair (outer_form (layer x)) (inner_form (below x)) f h l);
   }
 
 -- ---- a layer on a subscriber
@@ -191,22 +222,24 @@ module _ {L I : Type 0} {with_registry : I → RegistryState → I} {inner_usabl
   stack_with x i w (Bare z) h = absurd h
 
   -- the inner stack hears its own, and the registry that the layer on it leaves makes no difference to that
-  below_heard : (i : I) (q : Plan) (e : Notice) (lane : ℕ) (v : RegistryState) (k : I) (between : RegistryState) (j : I) (w : RegistryState) (place : Place) → inner_steps i q e lane v k between → j ≡ with_registry k w
-      → inner_hears i place (heard_by q place lane e) j
-  below_heard i q e lane v k between j w place s same =
-      let heard = heard_by q place lane e in
-      let both = inner.heard.further i k (with_registry k w) place heard [] (inner.notified i q e lane v k between place s) (inner.hears_with k w place) in
-      subst (λ h. inner_hears i place h j) (append-nil heard) (subst (λ z. inner_hears i place (heard ++ []) z) (sym same) both)
+  below_heard : (i : I) (q : Plan) (e : Notice) (lane : ℕ) (v : RegistryState) (k : I) (between : RegistryState) (j : I) (w : RegistryState) (place : Place) (f : Form) → inner_steps i q e lane v k between → inner_form i f → j ≡ with_registry k w
+      → inner_hears i place (heard_by q place (told_in e v.store lane (mask_at f place no_filter))) j
+  below_heard i q e lane v k between j w place f s h same =
+      let heard = heard_by q place (told_in e v.store lane (mask_at f place no_filter)) in
+      let both = inner.heard.further i k (with_registry k w) place heard [] (inner.notified i q e lane v k between place f s h) (inner.hears_with k w place) in
+      subst (λ l. inner_hears i place l j) (append-nil heard) (subst (λ z. inner_hears i place (heard ++ []) z) (sym same) both)
 
-  stack_heard : (x : L) (i : I) (p : Plan) (e : Notice) (lane : ℕ) (v : RegistryState) (y : L) (j : I) (w : RegistryState) (place : Place)
-      → LayeredSteps with_registry outer_steps inner_steps x i p e lane v y j w → LayeredHears outer_hears inner_hears x i place (heard_by p place lane e) y j
-  stack_heard x i (Both p q) e lane v y j w (Outer r) s = outer.notified x p e lane no_filter s.between y w r s.second
-  stack_heard x i (Both p q) e lane v y j w (Inner r) s = below_heard i q e lane v s.notified s.between j w r s.first s.rest
-  stack_heard x i (Both p q) e lane v y j w Here s = tt
-  stack_heard x i (Both p q) e lane v y j w (Under r) s = tt
-  stack_heard x i Nobody e lane v y j w place s = absurd s
-  stack_heard x i Itself e lane v y j w place s = absurd s
-  stack_heard x i (Through p) e lane v y j w place s = absurd s
+  stack_heard : (x : L) (i : I) (p : Plan) (e : Notice) (lane : ℕ) (v : RegistryState) (y : L) (j : I) (w : RegistryState) (place : Place) (f : Form)
+      → LayeredSteps with_registry outer_steps inner_steps x i p e lane v y j w → OverForm OnSubscriber (outer_form x) (inner_form i) f → LayeredHears outer_hears inner_hears x i place (heard_by p place (told_in e v.store lane (mask_at f place no_filter))) y j
+  stack_heard x i (Both p q) e lane v y j w (Outer r) (Over k o z) s h =
+      subst (λ (told : Told). outer_hears x r (heard_by p r told) y) (told_aside e v s.between lane (mask_at o r no_filter) s.extensions) (outer.notified x p e lane no_filter s.between y w r o s.second h.1)
+  stack_heard x i (Both p q) e lane v y j w (Inner r) (Over k o z) s h = below_heard i q e lane v s.notified s.between j w r z s.first h.2 s.rest
+  stack_heard x i (Both p q) e lane v y j w Here f s h = tt
+  stack_heard x i (Both p q) e lane v y j w (Under r) f s h = tt
+  stack_heard x i (Both p q) e lane v y j w place f s h = absurd h
+  stack_heard x i Nobody e lane v y j w place f s h = absurd s
+  stack_heard x i Itself e lane v y j w place f s h = absurd s
+  stack_heard x i (Through p) e lane v y j w place f s h = absurd s
 
   stack_hears_with : (x : L) (i : I) (w : RegistryState) (place : Place) → LayeredHears outer_hears inner_hears x i place [] x (with_registry i w)
   stack_hears_with x i w (Outer q) = outer.heard.nothing x q
@@ -227,7 +260,7 @@ module _ {L I : Type 0} {with_registry : I → RegistryState → I} {inner_usabl
         (subst (λ b. OverForm OnSubscriber (outer_form (layer x)) (inner_form b) f) (sym (rest x (with_registry (below x) w))) (stack_with (layer x) (below x) w f h));
     usable_with = λ x w h. (subst outer_usable (sym (own x (with_registry (below x) w))) h.0, subst inner_usable (sym (rest x (with_registry (below x) w))) (inner.usable_with (below x) w h.1));
     heard = layered_hear_laws outer.heard inner.heard layer below;
-    notified = λ x p e lane v y w place s. stack_heard (layer x) (below x) p e lane v (layer y) (below y) w place s;
+    notified = λ x p e lane v y w place f s h. stack_heard (layer x) (below x) p e lane v (layer y) (below y) w place f s h;
     hears_with = λ x w place. subst (λ l. LayeredHears outer_hears inner_hears (layer x) (below x) place [] l (below (with_below x (with_registry (below x) w)))) (sym (own x (with_registry (below x) w)))
         (subst (λ b. LayeredHears outer_hears inner_hears (layer x) (below x) place [] (layer x) b) (sym (rest x (with_registry (below x) w))) (stack_hears_with (layer x) (below x) w place));
   }

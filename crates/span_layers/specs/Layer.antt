@@ -1,5 +1,6 @@
 -- How a layer is asked and notified, in a context.
-use Rattle.std.specs.Prelude.{ℕ, Bool, IfSome}
+use Rattle.std.specs.Prelude.{◌≡◌, ⊤, ℕ, Bool, IfSome}
+use Rattle.std.specs.List.{FoldsTo}
 use Rattle.span_core.specs.Filters.{FilterSet, refuses}
 use Rattle.span_core.specs.declared.event.Event.{Event}
 use Rattle.span_core.specs.declared.interest.Interest.{Interest}
@@ -8,11 +9,13 @@ use Rattle.span_core.specs.declared.pass.Pass.{Pass}
 use Rattle.span_registry.specs.Answers.{Notice}
 use Rattle.span_registry.specs.Context.{WritesExtensions, filters_in, filters_lent, lane_in, lane_lent, refused_lent, store_in, subscriber_in, subscriber_lent}
 use Rattle.span_registry.specs.Follows.{Follows}
-use Rattle.span_registry.specs.Form.{Form, IsStill}
-use Rattle.span_registry.specs.Place.{HearLaws, HearSteps, Place, heard_by}
-use Rattle.span_registry.specs.Plan.{Plan, by_pass}
+use Rattle.span_registry.specs.Form.{Form, IsStill, Leaf}
+use Rattle.span_registry.specs.Path.{mask_at}
+use Rattle.span_registry.specs.Place.{HearLaws, HearSteps, Heard, Here, LeafHears, Place, Told, heard_by, told_in}
+use Rattle.span_registry.specs.Plan.{Itself, Plan, by_pass}
 use Rattle.span_registry.specs.Question.{AnswersBy, SumsBy, asked, event_asked, interest_of}
 use Rattle.span_registry.specs.Store.{RegistryState}
+use Rattle.span_registry.specs.View.{plain_view}
 use Rattle.span_registry.specs.declared.context.Context.{Context}
 use Rattle.span_registry.specs.declared.context.ContextMut.{ContextMut}
 
@@ -51,9 +54,34 @@ Notified registry has_form stepped e x c y d =
 abbrev pub LeavesAlone : {L S : Type 0} → (S → RegistryState) → (S → RegistryState → S) → (L → Form → Type 0) → L → ContextMut S → ContextMut S → Type 0
 LeavesAlone registry with_registry has_form x c d = (f : Form) → has_form x f → IsStill f → WritesExtensions registry with_registry c d
 
--- the law of every layer: where it is notified, or put in use, it keeps what it has of its form; and each leaf hears what the plan says
+-- a layer goes on by its own step, as a leaf that is told of this: under some filters, in some registry in which its context shows just that, extensions aside
+pub record GoesBy {L : Type 0} (stepped : LayerSteps L) (x : L) (told : Told) (y : L) : Type 0 where
+  pub under : FilterSet
+  pub before : RegistryState
+  pub after : RegistryState
+  pub shown : told.view ≡ plain_view before.store told.lane under
+  pub step : stepped x Itself told.notice told.lane under before y after
+
+-- a leaf went through these by its own step, one by one
+abbrev pub HearsBy : {L : Type 0} → LayerSteps L → HearSteps L
+HearsBy stepped = LeafHears (GoesBy stepped)
+
+-- the form is a leaf's
+abbrev pub IsLeaf : Form → Type 0
+IsLeaf (Leaf still a) = ⊤
+IsLeaf other = ⊥
+
+-- the law of a layer that is a leaf: it is notified as one, and then no form that it has is of another kind; and what it hears it goes through by its own step, one by one
+pub record LeafLaws {L : Type 0} (has_form : L → Form → Type 0) (stepped : LayerSteps L) (hears : HearSteps L) : Type 0 where
+  pub alone : (x : L) (f : Form) (p : Plan) (e : Notice) (lane : ℕ) (under : FilterSet) (v : RegistryState) (y : L) (w : RegistryState) → has_form x f → IsLeaf f → stepped x p e lane under v y w → p ≡ Itself
+  pub kind : (x : L) (f : Form) (p : Plan) (e : Notice) (lane : ℕ) (under : FilterSet) (v : RegistryState) (y : L) (w : RegistryState) (g : Form) → has_form x f → IsLeaf f → stepped x p e lane under v y w → has_form x g → IsLeaf g
+  pub goes : (x : L) (f : Form) (h : Heard) (y : L) → has_form x f → IsLeaf f → hears x Here h y → FoldsTo (GoesBy stepped) x h y
+
+-- the law of every layer: where it is notified, or put in use, it keeps what it has of its form; each leaf hears what the plan says, in the view that it has of the registry then; and it hears that by its own step
 pub record LayerLaws {L : Type 0} (has_form : L → Form → Type 0) (stepped : LayerSteps L) (hears : HearSteps L) (registered : L → L → Type 0) : Type 0 where
   pub keeps : (x : L) (p : Plan) (e : Notice) (lane : ℕ) (under : FilterSet) (v : RegistryState) (y : L) (w : RegistryState) (f : Form) → stepped x p e lane under v y w → has_form x f → Follows (has_form y) f
   pub put_in_use : (x y : L) (f : Form) → registered x y → has_form x f → Follows (has_form y) f
   pub heard : HearLaws hears
-  pub notified : (x : L) (p : Plan) (e : Notice) (lane : ℕ) (under : FilterSet) (v : RegistryState) (y : L) (w : RegistryState) (place : Place) → stepped x p e lane under v y w → hears x place (heard_by p place lane e) y
+  pub notified : (x : L) (p : Plan) (e : Notice) (lane : ℕ) (under : FilterSet) (v : RegistryState) (y : L) (w : RegistryState) (place : Place) (f : Form)
+      → stepped x p e lane under v y w → has_form x f → hears x place (heard_by p place (told_in e v.store lane (mask_at f place under))) y
+  pub leaf : LeafLaws has_form stepped hears

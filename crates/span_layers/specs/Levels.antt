@@ -1,5 +1,5 @@
 -- How levels are set in a layer under a filter, in two parts, in a list: each part is asked, and keeps the law of levels.
-use Rattle.std.specs.Prelude.{◌≡◌, ℕ, Bool, true, false, if◌then◌else◌, List, [], ◌∷◌, Option, Some, None, refl}
+use Rattle.std.specs.Prelude.{◌≡◌, ℕ, Bool, Box, true, false, if◌then◌else◌, List, [], ◌∷◌, Option, Some, None, refl}
 use Rattle.std.specs.List.{AllZip}
 use Rattle.std.proofs.Common.{ap, subst, sym}
 use Rattle.span_core.specs.Filters.{FilterSet, has_filter}
@@ -8,6 +8,7 @@ use Rattle.span_core.specs.declared.level.LevelFilter.{LevelFilter}
 use Rattle.span_filters.specs.Filter.{FilterLaws, FilterLevelLaws, FilterLevelSteps, FilterSteps}
 use Rattle.span_layers.specs.Acts.{FilteredActs, LayeredActs, LeafActs, ListActs, OptionActs}
 use Rattle.span_layers.specs.ActsKept.{numbered_alone}
+use Rattle.span_layers.specs.Boxed.{BoxHears, BoxLevels}
 use Rattle.span_layers.specs.Filtered.{FilteredForm, FilteredHears, IsNumber}
 use Rattle.span_layers.specs.Layer.{LayerLaws, LayerSteps}
 use Rattle.span_layers.specs.Layered.{LayeredHears, OverForm}
@@ -211,10 +212,10 @@ module _ {L : Type 0} {has_form : L → Form → Type 0} {levelled : LevelSteps 
   pub option_levels : LevelLaws (OptionForm has_form) (OptionLevels levelled) (OptionHears hears) (OptionActs acts_at)
   option_levels = record { keeps = option_levels_keep; heard = option_levels_heard; acts = option_levels_act }
 
-  -- what holds one layer, and goes on as that does, keeps the law, since that layer does
-  pub held_levels : {X : Type 0} (held : X → L) → LevelLaws (λ x. has_form (held x)) (λ x n l y. levelled (held x) n l (held y)) (λ x place h y. hears (held x) place h (held y)) (λ x. acts_at (held x))
-  held_levels held = record {
-    keeps = λ x n l y f s h. member.keeps (held x) n l (held y) f s h;
-    heard = λ x n l y place s. member.heard (held x) n l (held y) place s;
-    acts = λ x n l y place cs s a. member.acts (held x) n l (held y) place cs s a;
+  -- a box keeps the law, since its layer does
+  pub box_levels : {Z : Type 0} → LevelLaws (λ (x : Box L Z). has_form x.value) (BoxLevels levelled) (BoxHears hears) (λ x. acts_at x.value)
+  box_levels = record {
+    keeps = λ x n l y f s h. member.keeps x.value n l y.value f s.1 h;
+    heard = λ x n l y place s. (s.0, member.heard x.value n l y.value place s.1);
+    acts = λ x n l y place cs s a. member.acts x.value n l y.value place cs s.1 a;
   }

@@ -8,6 +8,7 @@ pub mod Idle
 pub mod Kept
 pub mod Layer
 pub mod Layered
+pub mod Leaf
 pub mod Levels
 pub mod Members
 pub mod Number

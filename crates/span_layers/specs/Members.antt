@@ -2,12 +2,16 @@
 use Rattle.std.specs.Prelude.{◌≡◌, ⊤, ℕ, List, [], ◌∷◌, ◌++◌, refl}
 use Rattle.std.specs.List.{AllZip}
 use Rattle.span_core.specs.Filters.{FilterSet}
-use Rattle.span_layers.specs.Layer.{LayerLaws, LayerSteps}
+use Rattle.span_layers.specs.Layer.{IsLeaf, LayerLaws, LayerSteps}
 use Rattle.span_layers.specs.Layered.{OverForm}
+use Rattle.span_layers.specs.Leaf.{no_leaf}
+use Rattle.std.proofs.Common.{subst}
 use Rattle.span_registry.specs.Answers.{Notice}
 use Rattle.span_registry.specs.Follows.{Follows, kept_form}
 use Rattle.span_registry.specs.Form.{Bare, End, Filtered, Form, InList, Joint, Leaf, Over}
-use Rattle.span_registry.specs.Place.{HearSteps, Heard, Here, Inner, Outer, Place, Under, heard_by}
+use Rattle.span_registry.proofs.Plain.{told_aside}
+use Rattle.span_registry.specs.Path.{mask_at}
+use Rattle.span_registry.specs.Place.{HearSteps, Heard, Here, Inner, Outer, Place, Told, Under, heard_by, told_in}
 use Rattle.span_registry.specs.Plan.{Both, Itself, Nobody, Plan, Through}
 use Rattle.span_registry.specs.Store.{RegistryState}
 use Rattle.span_registry.specs.Subscriber.{SameButExtensions}
@@ -91,21 +95,28 @@ module _ {L : Type 0} {has_form : L → Form → Type 0} {stepped : LayerSteps L
   list_further (x ∷ xs) (y ∷ ys) (z ∷ zs) (Under p) h k a b = tt
 
   -- each member hears its own
-  list_heard : (xs : List L) (p : Plan) (e : Notice) (lane : ℕ) (under : FilterSet) (v : RegistryState) (ys : List L) (w : RegistryState) (place : Place)
-      → ListSteps stepped xs p e lane under v ys w → ListHears hears xs place (heard_by p place lane e) ys
-  list_heard [] Nobody e lane under v [] w place s = tt
-  list_heard [] Nobody e lane under v (y ∷ ys) w place s = absurd s
-  list_heard [] Itself e lane under v ys w place s = absurd s
-  list_heard [] (Through p) e lane under v ys w place s = absurd s
-  list_heard [] (Both p q) e lane under v ys w place s = absurd s
-  list_heard (x ∷ xs) Nobody e lane under v ys w place s = absurd s
-  list_heard (x ∷ xs) Itself e lane under v ys w place s = absurd s
-  list_heard (x ∷ xs) (Through p) e lane under v ys w place s = absurd s
-  list_heard (x ∷ xs) (Both p q) e lane under v [] w place s = absurd s
-  list_heard (x ∷ xs) (Both p q) e lane under v (y ∷ ys) w (Outer r) s = member.notified x p e lane under v y s.between r s.first
-  list_heard (x ∷ xs) (Both p q) e lane under v (y ∷ ys) w (Inner r) s = list_heard xs q e lane under s.between ys w r s.rest
-  list_heard (x ∷ xs) (Both p q) e lane under v (y ∷ ys) w Here s = tt
-  list_heard (x ∷ xs) (Both p q) e lane under v (y ∷ ys) w (Under r) s = tt
+  list_heard : (xs : List L) (p : Plan) (e : Notice) (lane : ℕ) (under : FilterSet) (v : RegistryState) (ys : List L) (w : RegistryState) (place : Place) (f : Form)
+      → ListSteps stepped xs p e lane under v ys w → ListForm has_form xs f → ListHears hears xs place (heard_by p place (told_in e v.store lane (mask_at f place under))) ys
+  list_heard [] Nobody e lane under v [] w place f s h = tt
+  list_heard [] Nobody e lane under v (y ∷ ys) w place f s h = absurd s
+  list_heard [] Itself e lane under v ys w place f s h = absurd s
+  list_heard [] (Through p) e lane under v ys w place f s h = absurd s
+  list_heard [] (Both p q) e lane under v ys w place f s h = absurd s
+  list_heard (x ∷ xs) Nobody e lane under v ys w place f s h = absurd s
+  list_heard (x ∷ xs) Itself e lane under v ys w place f s h = absurd s
+  list_heard (x ∷ xs) (Through p) e lane under v ys w place f s h = absurd s
+  list_heard (x ∷ xs) (Both p q) e lane under v [] w place f s h = absurd s
+  list_heard (x ∷ xs) (Both p q) e lane under v (y ∷ ys) w (Outer r) (Over k o i) s h = member.notified x p e lane under v y s.between r o s.first h.1
+  list_heard (x ∷ xs) (Both p q) e lane under v (y ∷ ys) w (Inner r) (Over k o i) s h =
+      subst (λ (told : Told). ListHears hears xs r (heard_by q r told) ys) (told_aside e v s.between lane (mask_at i r under) s.extensions) (list_heard xs q e lane under s.between ys w r i s.rest h.2)
+  list_heard (x ∷ xs) (Both p q) e lane under v (y ∷ ys) w Here f s h = tt
+  list_heard (x ∷ xs) (Both p q) e lane under v (y ∷ ys) w (Under r) f s h = tt
+  list_heard (x ∷ xs) (Both p q) e lane under v (y ∷ ys) w place f s h = absurd h
+
+  list_no_leaf : (xs : List L) (f : Form) → ListForm has_form xs f → IsLeaf f → ⊥
+  list_no_leaf [] f h l = subst IsLeaf h l
+  list_no_leaf (x ∷ xs) (Leaf still a) h l = h
+  list_no_leaf (x ∷ xs) f h l = l
 
   -- a list of layers keeps the law, since its members do
   pub list_laws : {X : Type 0} (items : X → List L)
@@ -118,5 +129,6 @@ module _ {L : Type 0} {has_form : L → Form → Type 0} {stepped : LayerSteps L
       nothing = λ x place. list_nothing (items x) place;
       further = λ x y z place h k a b. list_further (items x) (items y) (items z) place h k a b;
     };
-    notified = λ x p e lane under v y w place s. list_heard (items x) p e lane under v (items y) w place s;
+    notified = λ x p e lane under v y w place f s h. list_heard (items x) p e lane under v (items y) w place f s h;
+    leaf = no_leaf (λ x f h l. list_no_leaf (items x) f h l);
   }

@@ -1,17 +1,15 @@
 -- A leaf that refuses nothing, and is notified through one method.
 use Rattle.std.specs.Prelude.{◌≡◌, ℕ, true, false, None}
-use Rattle.std.proofs.Common.{subst, sym}
 use Rattle.span_core.specs.Filters.{FilterSet}
 use Rattle.span_core.specs.declared.interest.Interest.TheVariants.{Always}
-use Rattle.span_layers.specs.Layer.{LayerLaws, LayerSteps}
+use Rattle.span_layers.specs.Layer.{HearsBy, LayerLaws}
+use Rattle.span_layers.specs.Leaf.{fixed_laws}
 use Rattle.span_layers.specs.declared.observe.Observed.TheVariants.{Close, Enter, Event, Exit, FollowsFrom, IdChange, NewSpan, Record}
 use Rattle.span_layers.specs.declared.observe.Observed.{Observed}
 use Rattle.span_layers.specs.declared.observe.Observer.{Observer}
 use Rattle.span_registry.specs.Answers.{Answers, Notice, OnClose, OnEnter, OnEvent, OnExit, OnFollows, OnIdChange, OnNewSpan, OnRecord}
 use Rattle.span_registry.specs.Context.{filters_lent, lane_lent, subscriber_lent}
-use Rattle.span_registry.specs.Follows.{kept_form}
 use Rattle.span_registry.specs.Form.{Form, Leaf}
-use Rattle.span_registry.specs.Place.{HearLaws, HearSteps, LeafHears, Place, heard_by, leaf_hear_laws, leaf_heard}
 use Rattle.span_registry.specs.Plan.{Itself, Plan}
 use Rattle.span_registry.specs.Store.{RegistryState}
 use Rattle.span_registry.specs.declared.context.ContextMut.{ContextMut}
@@ -44,32 +42,11 @@ observer_of x = x.observer
 abbrev pub open_answers : Answers
 open_answers = record { enabled = λ m v. true; event = λ e v. true; interest = λ m. Always; hint = None; takes = λ l. false }
 
--- an observer is notified of one thing on a lane, under some filters, in some registry
-abbrev pub HearsOne : {T : Type 0} → ObserverSteps T → T → Notice → ℕ → T → Type 0
-HearsOne observed x e lane y = (under : FilterSet) × (v : RegistryState) × (w : RegistryState) × observed x e lane under v y w
-
 -- an observer as a leaf: the plan is a leaf's, and it is notified
 abbrev pub ObserverStep : {T : Type 0} → ObserverSteps T → T → Plan → Notice → ℕ → FilterSet → RegistryState → T → RegistryState → Type 0
 ObserverStep observed x p e lane under v y w = (p ≡ Itself) × observed x e lane under v y w
 
--- a layer that always has this one form keeps it, whatever it does
-pub fixed_laws : {L : Type 0} (form : Form) (stepped : LayerSteps L) {hears : HearSteps L} → HearLaws hears
-    → ((x : L) (p : Plan) (e : Notice) (lane : ℕ) (under : FilterSet) (v : RegistryState) (y : L) (w : RegistryState) (place : Place) → stepped x p e lane under v y w → hears x place (heard_by p place lane e) y)
-    → LayerLaws (λ x f. f ≡ form) stepped hears (λ x y. y ≡ x)
-fixed_laws form stepped heard notified = record {
-  keeps = λ x p e lane under v y w f s h. (f, h, kept_form f);
-  put_in_use = λ x y f s h. (f, h, kept_form f);
-  heard = heard;
-  notified = notified;
-}
-
 -- an observer in a layer keeps the law
 pub observer_laws : {T X : Type 0} (observed : ObserverSteps T) (own : X → T)
-    → LayerLaws (λ x f. f ≡ Leaf true open_answers) (λ x p e lane under v y w. ObserverStep observed (own x) p e lane under v (own y) w) (λ x place h y. LeafHears (HearsOne observed) (own x) place h (own y)) (λ x y. y ≡ x)
-observer_laws observed own = fixed_laws (Leaf true open_answers) (λ x p e lane under v y w. ObserverStep observed (own x) p e lane under v (own y) w)
-    (record {
-      nothing = λ x place. (leaf_hear_laws (HearsOne observed)).nothing (own x) place;
-      further = λ x y z place h k a b. (leaf_hear_laws (HearsOne observed)).further (own x) (own y) (own z) place h k a b;
-    })
-    (λ x p e lane under v y w place s. subst (λ q. LeafHears (HearsOne observed) (own x) place (heard_by q place lane e) (own y)) (sym s.0)
-    (leaf_heard (HearsOne observed) (own x) e lane (own y) place (under, v, w, s.1)))
+    → LayerLaws (λ x f. f ≡ Leaf true open_answers) (λ x p e lane under v y w. ObserverStep observed (own x) p e lane under v (own y) w) (HearsBy (λ x p e lane under v y w. ObserverStep observed (own x) p e lane under v (own y) w)) (λ x y. y ≡ x)
+observer_laws observed own = fixed_laws (Leaf true open_answers) (λ x p e lane under v y w. ObserverStep observed (own x) p e lane under v (own y) w) (λ x y. y ≡ x) tt (λ x p e lane under v y w s. s.0)

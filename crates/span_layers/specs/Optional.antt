@@ -1,12 +1,15 @@
 -- A layer that may be absent: one that is there is what it is without the `Some`.
-use Rattle.std.specs.Prelude.{◌≡◌, ⊤, ℕ, [], ◌++◌, Option, Some, None}
+use Rattle.std.specs.Prelude.{◌≡◌, ⊤, ℕ, [], ◌∷◌, ◌++◌, Option, Some, None}
+use Rattle.std.specs.List.{FoldsTo}
+use Rattle.std.proofs.Common.{ap, subst}
 use Rattle.span_core.specs.Filters.{FilterSet}
-use Rattle.span_layers.specs.Layer.{LayerLaws, LayerSteps}
+use Rattle.span_layers.specs.Layer.{GoesBy, IsLeaf, LayerLaws, LayerSteps}
 use Rattle.span_registry.specs.Answers.{Notice}
 use Rattle.span_registry.specs.Follows.{Follows, kept_form}
 use Rattle.span_registry.specs.Form.{Absent, Bare, Form}
-use Rattle.span_registry.specs.Place.{HearSteps, Heard, Place, heard_by}
-use Rattle.span_registry.specs.Plan.{Nobody, Plan}
+use Rattle.span_registry.specs.Path.{mask_at}
+use Rattle.span_registry.specs.Place.{HearSteps, Heard, Here, Place, Told, heard_by, told_in}
+use Rattle.span_registry.specs.Plan.{Itself, Nobody, Plan}
 use Rattle.span_registry.specs.Store.{RegistryState}
 
 -- the absent layer's form, or the form of the one that is there
@@ -58,12 +61,32 @@ module _ {L : Type 0} {has_form : L → Form → Type 0} {stepped : LayerSteps L
   option_further (Some x) (Some y) None place h k a b = absurd b
   option_further (Some x) (Some y) (Some z) place h k a b = held.heard.further x y z place h k a b
 
-  option_heard : (x : Option L) (p : Plan) (e : Notice) (lane : ℕ) (under : FilterSet) (v : RegistryState) (y : Option L) (w : RegistryState) (place : Place)
-      → OptionSteps stepped x p e lane under v y w → OptionHears hears x place (heard_by p place lane e) y
-  option_heard None p e lane under v None w place s = tt
-  option_heard (Some x) p e lane under v (Some y) w place s = held.notified x p e lane under v y w place s
-  option_heard None p e lane under v (Some y) w place s = absurd s
-  option_heard (Some x) p e lane under v None w place s = absurd s
+  option_heard : (x : Option L) (p : Plan) (e : Notice) (lane : ℕ) (under : FilterSet) (v : RegistryState) (y : Option L) (w : RegistryState) (place : Place) (f : Form)
+      → OptionSteps stepped x p e lane under v y w → OptionForm has_form x f → OptionHears hears x place (heard_by p place (told_in e v.store lane (mask_at f place under))) y
+  option_heard None p e lane under v None w place f s h = tt
+  option_heard (Some x) p e lane under v (Some y) w place f s h = held.notified x p e lane under v y w place f s h
+  option_heard None p e lane under v (Some y) w place f s h = absurd s
+  option_heard (Some x) p e lane under v None w place f s h = absurd s
+
+  option_alone : (x : Option L) (f : Form) (p : Plan) (e : Notice) (lane : ℕ) (under : FilterSet) (v : RegistryState) (y : Option L) (w : RegistryState) → OptionForm has_form x f → IsLeaf f → OptionSteps stepped x p e lane under v y w → p ≡ Itself
+  option_alone None f p e lane under v y w h l s = absurd (subst IsLeaf h l)
+  option_alone (Some x) f p e lane under v None w h l s = absurd s
+  option_alone (Some x) f p e lane under v (Some y) w h l s = held.leaf.alone x f p e lane under v y w h l s
+
+  option_kind : (x : Option L) (f : Form) (p : Plan) (e : Notice) (lane : ℕ) (under : FilterSet) (v : RegistryState) (y : Option L) (w : RegistryState) (g : Form)
+      → OptionForm has_form x f → IsLeaf f → OptionSteps stepped x p e lane under v y w → OptionForm has_form x g → IsLeaf g
+  option_kind None f p e lane under v y w g h l s k = absurd (subst IsLeaf h l)
+  option_kind (Some x) f p e lane under v None w g h l s k = absurd s
+  option_kind (Some x) f p e lane under v (Some y) w g h l s k = held.leaf.kind x f p e lane under v y w g h l s k
+
+  some_goes : (h : Heard) (x y : L) → FoldsTo (GoesBy stepped) x h y → FoldsTo (GoesBy (OptionSteps stepped)) (Some x) h (Some y)
+  some_goes [] x y a = ap Some a
+  some_goes (one ∷ h) x y a = (Some a.0, record { under = a.1.under; before = a.1.before; after = a.1.after; shown = a.1.shown; step = a.1.step }, some_goes h a.0 y a.2)
+
+  option_goes : (x : Option L) (f : Form) (h : Heard) (y : Option L) → OptionForm has_form x f → IsLeaf f → OptionHears hears x Here h y → FoldsTo (GoesBy (OptionSteps stepped)) x h y
+  option_goes None f h y k l a = absurd (subst IsLeaf k l)
+  option_goes (Some x) f h None k l a = absurd a
+  option_goes (Some x) f h (Some y) k l a = some_goes h x y (held.leaf.goes x f h y k l a)
 
   -- a layer that may be absent keeps the law, since the one that is there does
   pub option_laws : LayerLaws (OptionForm has_form) (OptionSteps stepped) (OptionHears hears) (OptionGoes registered)
@@ -72,4 +95,5 @@ module _ {L : Type 0} {has_form : L → Form → Type 0} {stepped : LayerSteps L
     put_in_use = option_used;
     heard = record { nothing = option_nothing; further = option_further };
     notified = option_heard;
+    leaf = record { alone = option_alone; kind = option_kind; goes = option_goes };
   }

@@ -1,7 +1,7 @@
 //! A layer in a box.
-ghost use Rattle.span_layers.specs.ActsKept.{held_path_laws};
-ghost use Rattle.span_layers.specs.Boxed.{held_laws};
-ghost use Rattle.span_layers.specs.Levels.{held_levels};
+ghost use Rattle.span_layers.specs.ActsKept.{box_path_laws};
+ghost use Rattle.span_layers.specs.Boxed.{BoxHears, BoxLevels, BoxSteps, box_laws};
+ghost use Rattle.span_layers.specs.Levels.{box_levels};
 
 use crate::layer::Layer;
 use span_core::{Attributes, Event, Id, Interest, LevelFilter, Metadata, Pass, Record};
@@ -13,23 +13,23 @@ impl<S: Subscriber, L: Layer<S>> Layer<S> for Box<L> {
 
     ghost has_form = { λ x. L.has_form x.value };
 
-    ghost stepped = { λ x p e lane under v y w. L.stepped x.value p e lane under v y.value w };
+    ghost stepped = { BoxSteps L.stepped };
 
-    ghost hears = { λ x place h y. L.hears x.value place h y.value };
+    ghost hears = { BoxHears L.hears };
 
     ghost acts_at = { λ x. L.acts_at x.value };
 
-    ghost levelled = { λ x n l y. L.levelled x.value n l y.value };
+    ghost levelled = { BoxLevels L.levelled };
 
     ghost registered = { λ x y. L.registered x.value y.value };
 
     ghost attached = { λ x y. L.attached x.value y.value };
 
-    ghost laws = { held_laws L.laws (λ x. x.value) };
+    ghost laws = { box_laws L.laws };
 
-    ghost paths = { held_path_laws L.paths (λ x. x.value) };
+    ghost paths = { box_path_laws L.paths };
 
-    ghost levels = { held_levels L.levels (λ x. x.value) };
+    ghost levels = { box_levels L.levels };
 
     fn on_register_dispatch(&mut self) {
         (**self).on_register_dispatch();

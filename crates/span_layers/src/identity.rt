@@ -2,7 +2,8 @@
 ghost use Rattle.std.specs.Prelude.{◌≡◌, true};
 ghost use Rattle.span_layers.specs.Acts.{LeafActs};
 ghost use Rattle.span_layers.specs.ActsKept.{is_leaf, leaf_path_laws};
-ghost use Rattle.span_layers.specs.Idle.{IdleHears, IdleSteps, identity, idle_laws};
+ghost use Rattle.span_layers.specs.Idle.{IdleSteps, identity, idle_laws};
+ghost use Rattle.span_layers.specs.Layer.{HearsBy};
 ghost use Rattle.span_layers.specs.Levels.{leaf_levels};
 ghost use Rattle.span_layers.specs.Observe.{open_answers};
 ghost use Rattle.span_registry.specs.Form.{Leaf};
@@ -40,7 +41,7 @@ impl<S: Subscriber> Layer<S> for Identity {
 
     ghost stepped = { IdleSteps };
 
-    ghost hears = { IdleHears };
+    ghost hears = { HearsBy IdleSteps };
 
     ghost acts_at = { LeafActs };
 
@@ -50,11 +51,11 @@ impl<S: Subscriber> Layer<S> for Identity {
 
     ghost attached = { λ x y. y ≡ x };
 
-    ghost laws = { idle_laws (λ x f. f ≡ Leaf true open_answers) };
+    ghost laws = { idle_laws (λ x f. f ≡ Leaf true open_answers) (λ x f h. is_leaf h) };
 
     ghost paths = { leaf_path_laws (λ x f h. is_leaf h) };
 
-    ghost levels = { leaf_levels (idle_laws (λ x f. f ≡ Leaf true open_answers)) };
+    ghost levels = { leaf_levels (idle_laws (λ x f. f ≡ Leaf true open_answers) (λ x f h. is_leaf h)) };
 
     fn on_register_dispatch(&mut self) {
         // It has nothing to do.

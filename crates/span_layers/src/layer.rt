@@ -5,7 +5,7 @@ ghost use Rattle.span_layers.specs.Layer.{LayerEnabled, LayerEvent, LayerInteres
 ghost use Rattle.span_layers.specs.Number.{TakesNumbers, filters_in};
 ghost use Rattle.span_registry.specs.Answers.{OnClose, OnEnter, OnEvent, OnExit, OnFollows, OnIdChange, OnNewSpan, OnRecord};
 ghost use Rattle.span_registry.specs.Conducts.{ActsAt};
-ghost use Rattle.span_registry.specs.Context.{HandsOn};
+ghost use Rattle.span_registry.specs.Context.{HandsOn, HasNoRefusals};
 ghost use Rattle.span_registry.specs.Form.{Form, is_absent, is_marked};
 ghost use Rattle.span_registry.specs.Levels.{LevelLaws, LevelSteps, takes_level};
 ghost use Rattle.span_registry.specs.Place.{HearSteps};
@@ -18,7 +18,8 @@ use span_registry::{Context, ContextMut, Subscriber};
 ///
 /// What it answers follows from its form. It is notified of a new span and of an event as the pass says, of all else as the
 /// verdicts of spans say. A hook may write extensions, and leaves the rest alone; a layer whose hooks send events says so in its
-/// form, and then nobody says who is notified in its stack. The registry stays sound in any case.
+/// form, and then nobody says who is notified in its stack. The registry stays sound in any case. Filters are asked of new spans
+/// and of events alone, so only the hooks of these may be lent refusals.
 ///
 /// Stands for `tracing_subscriber::Layer`, with hooks that change the layer. No method has a default body.
 pub trait Layer<S: Subscriber> {
@@ -113,7 +114,8 @@ pub trait Layer<S: Subscriber> {
 
     /// Notifies of values that a span was given later.
     fn on_record(&mut self, id: Id, values: &Record<'_>, ctx: &mut ContextMut<'_, S>)
-        requires { MayNotify usable S.usable self.old ctx.old }
+        requires usable { MayNotify usable S.usable self.old ctx.old }
+        requires refusals { HasNoRefusals ctx.old }
         ensures usable { MayNotify usable S.usable self.new ctx.new }
         ensures rest { HandsOn S.registry ctx.old ctx.new }
         ensures alone { LeavesAlone S.registry S.with_registry has_form self.old ctx.old ctx.new }
@@ -121,7 +123,8 @@ pub trait Layer<S: Subscriber> {
 
     /// Notifies that a span follows from another one.
     fn on_follows_from(&mut self, id: Id, follows: Id, ctx: &mut ContextMut<'_, S>)
-        requires { MayNotify usable S.usable self.old ctx.old }
+        requires usable { MayNotify usable S.usable self.old ctx.old }
+        requires refusals { HasNoRefusals ctx.old }
         ensures usable { MayNotify usable S.usable self.new ctx.new }
         ensures rest { HandsOn S.registry ctx.old ctx.new }
         ensures alone { LeavesAlone S.registry S.with_registry has_form self.old ctx.old ctx.new }
@@ -137,7 +140,8 @@ pub trait Layer<S: Subscriber> {
 
     /// Notifies that a span is entered.
     fn on_enter(&mut self, id: Id, ctx: &mut ContextMut<'_, S>)
-        requires { MayNotify usable S.usable self.old ctx.old }
+        requires usable { MayNotify usable S.usable self.old ctx.old }
+        requires refusals { HasNoRefusals ctx.old }
         ensures usable { MayNotify usable S.usable self.new ctx.new }
         ensures rest { HandsOn S.registry ctx.old ctx.new }
         ensures alone { LeavesAlone S.registry S.with_registry has_form self.old ctx.old ctx.new }
@@ -145,7 +149,8 @@ pub trait Layer<S: Subscriber> {
 
     /// Notifies that a span is left.
     fn on_exit(&mut self, id: Id, ctx: &mut ContextMut<'_, S>)
-        requires { MayNotify usable S.usable self.old ctx.old }
+        requires usable { MayNotify usable S.usable self.old ctx.old }
+        requires refusals { HasNoRefusals ctx.old }
         ensures usable { MayNotify usable S.usable self.new ctx.new }
         ensures rest { HandsOn S.registry ctx.old ctx.new }
         ensures alone { LeavesAlone S.registry S.with_registry has_form self.old ctx.old ctx.new }
@@ -153,7 +158,8 @@ pub trait Layer<S: Subscriber> {
 
     /// Notifies that a span's handle was cloned under another id.
     fn on_id_change(&mut self, id: Id, new: Id, ctx: &mut ContextMut<'_, S>)
-        requires { MayNotify usable S.usable self.old ctx.old }
+        requires usable { MayNotify usable S.usable self.old ctx.old }
+        requires refusals { HasNoRefusals ctx.old }
         ensures usable { MayNotify usable S.usable self.new ctx.new }
         ensures rest { HandsOn S.registry ctx.old ctx.new }
         ensures alone { LeavesAlone S.registry S.with_registry has_form self.old ctx.old ctx.new }
@@ -161,7 +167,8 @@ pub trait Layer<S: Subscriber> {
 
     /// Notifies that a span is closing, while it can still be read.
     fn on_close(&mut self, id: Id, ctx: &mut ContextMut<'_, S>)
-        requires { MayNotify usable S.usable self.old ctx.old }
+        requires usable { MayNotify usable S.usable self.old ctx.old }
+        requires refusals { HasNoRefusals ctx.old }
         ensures usable { MayNotify usable S.usable self.new ctx.new }
         ensures rest { HandsOn S.registry ctx.old ctx.new }
         ensures alone { LeavesAlone S.registry S.with_registry has_form self.old ctx.old ctx.new }

@@ -19,6 +19,8 @@ mod observe;
 mod optional;
 #[cfg(test)]
 mod optional_tests;
+#[cfg(test)]
+mod order_tests;
 mod stack;
 #[cfg(test)]
 mod tests;

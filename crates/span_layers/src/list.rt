@@ -9,7 +9,7 @@ ghost use Rattle.span_layers.specs.Levels.{ListLevels, list_levels};
 ghost use Rattle.span_layers.specs.Members.{ListForm, ListHears, ListSteps, list_laws};
 ghost use Rattle.span_layers.specs.Number.{TakesNumbers};
 ghost use Rattle.span_layers.specs.Observe.{notice_of};
-ghost use Rattle.span_registry.specs.Context.{HandsOn};
+ghost use Rattle.span_registry.specs.Context.{HandsOn, HasNoRefusalsUnlessAsked};
 ghost use Rattle.span_registry.specs.Levels.{takes_level};
 ghost use Rattle.span_registry.specs.Question.{ShowsBy, higher};
 
@@ -99,7 +99,8 @@ fn notify<S: Subscriber, L: Layer<S>>(
     notice: Observed<'_, '_>,
     ctx: &mut ContextMut<'_, S>,
 )
-    requires { MayNotify L.usable S.usable member.old ctx.old }
+    requires usable { MayNotify L.usable S.usable member.old ctx.old }
+    requires refusals { HasNoRefusalsUnlessAsked (notice_of notice) ctx.old }
     ensures usable { MayNotify L.usable S.usable member.new ctx.new }
     ensures rest { HandsOn S.registry ctx.old ctx.new }
     ensures alone { LeavesAlone S.registry S.with_registry L.has_form member.old ctx.old ctx.new }
@@ -124,7 +125,8 @@ fn notify_all<S: Subscriber, L: Layer<S>>(
     notice: Observed<'_, '_>,
     ctx: &mut ContextMut<'_, S>,
 )
-    requires { MayNotify (All L.usable) S.usable members.old ctx.old }
+    requires usable { MayNotify (All L.usable) S.usable members.old ctx.old }
+    requires refusals { HasNoRefusalsUnlessAsked (notice_of notice) ctx.old }
     ensures usable { MayNotify (All L.usable) S.usable members.new ctx.new }
     ensures rest { HandsOn S.registry ctx.old ctx.new }
     ensures alone { LeavesAlone S.registry S.with_registry (ListForm L.has_form) members.old ctx.old ctx.new }

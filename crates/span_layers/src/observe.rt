@@ -2,12 +2,12 @@
 ghost use Rattle.std.specs.Prelude.{◌≡◌, ⊤, true};
 ghost use Rattle.span_layers.specs.Acts.{LeafActs};
 ghost use Rattle.span_layers.specs.ActsKept.{is_leaf, leaf_path_laws};
+ghost use Rattle.span_layers.specs.Layer.{HearsBy};
 ghost use Rattle.span_layers.specs.Levels.{leaf_levels};
-ghost use Rattle.span_layers.specs.Observe.{HearsOne, ObserverStep, ObserverSteps, Observes, observer_laws, observer_of, open_answers};
-ghost use Rattle.span_registry.specs.Context.{WritesExtensions, subscriber_lent};
+ghost use Rattle.span_layers.specs.Observe.{ObserverStep, ObserverSteps, Observes, notice_of, observer_laws, observer_of, open_answers};
+ghost use Rattle.span_registry.specs.Context.{HasNoRefusalsUnlessAsked, WritesExtensions, subscriber_lent};
 ghost use Rattle.span_registry.specs.Form.{Leaf};
 ghost use Rattle.span_registry.specs.Levels.{unlevelled};
-ghost use Rattle.span_registry.specs.Place.{LeafHears};
 
 use crate::layer::Layer;
 use span_core::{Attributes, Event, Id, Interest, LevelFilter, Metadata, Pass, Record};
@@ -42,10 +42,11 @@ pub trait Observe<S: Subscriber> {
     /// How it goes on when it is notified.
     ghost observed: { ObserverSteps Self };
 
-    /// Notifies of all that passes the filters round it.
+    /// Notifies of all that passes the filters round it. Only with a new span or an event refusals may be lent.
     fn observe(&mut self, notice: Observed<'_, '_>, ctx: &mut ContextMut<'_, S>)
         requires own { usable self.old }
         requires subscriber { S.usable (subscriber_lent ctx.old) }
+        requires refusals { HasNoRefusalsUnlessAsked (notice_of notice) ctx.old }
         ensures own { usable self.new }
         ensures hook { Observes observed S.registry notice.entry self.old ctx.old self.new ctx.new }
         ensures written { WritesExtensions S.registry S.with_registry ctx.old ctx.new };
@@ -80,7 +81,7 @@ impl<S: Subscriber, T: Observe<S>> Layer<S> for Observer<T> {
 
     ghost stepped = { λ x p e lane under v y w. ObserverStep T.observed x.observer p e lane under v y.observer w };
 
-    ghost hears = { λ x place h y. LeafHears (HearsOne T.observed) x.observer place h y.observer };
+    ghost hears = { HearsBy (λ x p e lane under v y w. ObserverStep T.observed x.observer p e lane under v y.observer w) };
 
     ghost acts_at = { LeafActs };
 

@@ -2,12 +2,12 @@
 ghost use Rattle.std.specs.Prelude.{◌≡◌, ⊤, true};
 ghost use Rattle.span_layers.specs.Acts.{LeafActs};
 ghost use Rattle.span_layers.specs.ActsKept.{is_leaf, leaf_path_laws};
+ghost use Rattle.span_layers.specs.Layer.{HearsBy};
+ghost use Rattle.span_layers.specs.Leaf.{AnySteps, any_laws};
 ghost use Rattle.span_layers.specs.Levels.{leaf_levels};
-ghost use Rattle.span_layers.specs.Observe.{fixed_laws, open_answers};
-ghost use Rattle.span_registry.specs.Follows.{kept_form};
+ghost use Rattle.span_layers.specs.Observe.{open_answers};
 ghost use Rattle.span_registry.specs.Form.{Leaf};
 ghost use Rattle.span_registry.specs.Levels.{unlevelled};
-ghost use Rattle.span_registry.specs.Place.{no_leaf_laws};
 
 use crate::tests::{LANE, metadata_of, put, shown};
 use crate::{Identity, Layer, LayerExt};
@@ -39,9 +39,9 @@ impl Counter {
 impl<S: Subscriber> Layer<S> for Counter {
     ghost has_form = { λ x f. f ≡ Leaf true open_answers };
 
-    ghost stepped = { λ x p e lane under v y w. ⊤ };
+    ghost stepped = { AnySteps };
 
-    ghost hears = { λ x place h y. ⊤ };
+    ghost hears = { HearsBy AnySteps };
 
     ghost acts_at = { LeafActs };
 
@@ -51,11 +51,11 @@ impl<S: Subscriber> Layer<S> for Counter {
 
     ghost attached = { λ x y. y ≡ x };
 
-    ghost laws = { record { keeps = λ x p e lane under v y w f s h. (f, h, kept_form f); put_in_use = λ x y f s h. (f, h, kept_form f); heard = no_leaf_laws; notified = λ x p e lane under v y w place s. tt } };
+    ghost laws = { any_laws (Leaf true open_answers) (λ x y. ⊤) tt };
 
     ghost paths = { leaf_path_laws (λ x f h. is_leaf h) };
 
-    ghost levels = { leaf_levels (fixed_laws (Leaf true open_answers) (λ x p e lane under v y w. ⊤) no_leaf_laws (λ x p e lane under v y w place s. tt)) };
+    ghost levels = { leaf_levels (any_laws (Leaf true open_answers) (λ x y. ⊤) tt) };
 
     fn on_register_dispatch(&mut self) {
         self.registered = self.registered.saturating_add(1);

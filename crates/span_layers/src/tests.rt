@@ -3,12 +3,13 @@ ghost use Rattle.std.specs.Prelude.{◌≡◌, ⊤, IfOk, false};
 ghost use Rattle.span_layers.specs.Acts.{LeafActs};
 ghost use Rattle.span_layers.specs.ActsKept.{is_leaf, leaf_path_laws};
 ghost use Rattle.span_layers.specs.Layered.{inner_of, outer_of};
+ghost use Rattle.span_layers.specs.Layer.{HearsBy};
+ghost use Rattle.span_layers.specs.Leaf.{AnySteps, any_laws};
 ghost use Rattle.span_layers.specs.Levels.{leaf_levels};
-ghost use Rattle.span_layers.specs.Observe.{fixed_laws, open_answers};
+ghost use Rattle.span_layers.specs.Observe.{open_answers};
 ghost use Rattle.span_registry.specs.Form.{Leaf};
 ghost use Rattle.span_registry.specs.Context.{WritesExtensions};
 ghost use Rattle.span_registry.specs.Levels.{unlevelled};
-ghost use Rattle.span_registry.specs.Place.{no_leaf_laws};
 
 use crate::{Filtered, Layer, LayerExt, Layered, Observe, Observed, Observer, SubscriberExt};
 use span_core::{
@@ -185,9 +186,9 @@ struct Echo;
 impl<S: Subscriber> Layer<S> for Echo {
     ghost has_form = { λ x f. f ≡ Leaf false open_answers };
 
-    ghost stepped = { λ x p e lane under v y w. ⊤ };
+    ghost stepped = { AnySteps };
 
-    ghost hears = { λ x place h y. ⊤ };
+    ghost hears = { HearsBy AnySteps };
 
     ghost acts_at = { LeafActs };
 
@@ -197,11 +198,11 @@ impl<S: Subscriber> Layer<S> for Echo {
 
     ghost attached = { λ x y. y ≡ x };
 
-    ghost laws = { fixed_laws (Leaf false open_answers) (λ x p e lane under v y w. ⊤) no_leaf_laws (λ x p e lane under v y w place s. tt) };
+    ghost laws = { any_laws (Leaf false open_answers) (λ x y. y ≡ x) tt };
 
     ghost paths = { leaf_path_laws (λ x f h. is_leaf h) };
 
-    ghost levels = { leaf_levels (fixed_laws (Leaf false open_answers) (λ x p e lane under v y w. ⊤) no_leaf_laws (λ x p e lane under v y w place s. tt)) };
+    ghost levels = { leaf_levels (any_laws (Leaf false open_answers) (λ x y. y ≡ x) tt) };
 
     fn on_register_dispatch(&mut self) {}
 

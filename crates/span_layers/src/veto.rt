@@ -5,8 +5,10 @@ ghost use Rattle.span_filters.specs.Filter.{settled_answers};
 ghost use Rattle.span_filters.specs.Level.{level_answers};
 ghost use Rattle.span_layers.specs.Acts.{LeafActs};
 ghost use Rattle.span_layers.specs.ActsKept.{is_leaf, leaf_path_laws};
+ghost use Rattle.span_layers.specs.Idle.{IdleSteps};
+ghost use Rattle.span_layers.specs.Layer.{HearsBy};
 ghost use Rattle.span_layers.specs.Levels.{leaf_levels};
-ghost use Rattle.span_layers.specs.Veto.{HearsUnmoved, LeafStays, VetoForm, veto_laws};
+ghost use Rattle.span_layers.specs.Veto.{VetoForm, veto_laws};
 ghost use Rattle.span_registry.specs.Levels.{unlevelled};
 
 use crate::layer::Layer;
@@ -17,9 +19,9 @@ use span_registry::{Context, ContextMut, Subscriber};
 impl<S: Subscriber> Layer<S> for LevelFilter {
     ghost has_form = { λ x. VetoForm (settled_answers level_answers x) };
 
-    ghost stepped = { LeafStays };
+    ghost stepped = { IdleSteps };
 
-    ghost hears = { HearsUnmoved };
+    ghost hears = { HearsBy IdleSteps };
 
     ghost acts_at = { LeafActs };
 
@@ -97,9 +99,9 @@ impl<S: Subscriber, F: Function<Metadata, bool>> Layer<S> for FilterFn<F> {
 
     ghost has_form = { λ x. VetoForm (HasTestAnswers F.gives x) };
 
-    ghost stepped = { LeafStays };
+    ghost stepped = { IdleSteps };
 
-    ghost hears = { HearsUnmoved };
+    ghost hears = { HearsBy IdleSteps };
 
     ghost acts_at = { LeafActs };
 
@@ -178,9 +180,9 @@ impl<S: Subscriber, F: FunctionIn<Metadata, S, bool>, R: Function<Metadata, Inte
 
     ghost has_form = { λ x. VetoForm (HasViewAnswers S.registry F.gives_in R.gives x) };
 
-    ghost stepped = { LeafStays };
+    ghost stepped = { IdleSteps };
 
-    ghost hears = { HearsUnmoved };
+    ghost hears = { HearsBy IdleSteps };
 
     ghost acts_at = { LeafActs };
 

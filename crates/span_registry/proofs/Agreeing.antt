@@ -4,6 +4,7 @@ use Rattle.std.proofs.lemmas.Bool.{and_parts}
 use Rattle.std.specs.Cmp.{nat_cmp_total}
 use Rattle.std.specs.FinMap.{empty, entries, find, from_entries, get, get-entries, get-from_entries, get-insert, get-remove, insert, remove}
 use Rattle.std.specs.FinSet.{FinSet, insert as add}
+use Rattle.std.specs.List.{AllByRecursion}
 use Rattle.std.specs.Option.{option_map, option_map_or}
 use Rattle.std.specs.Ordering.{eq_by_cmp, nat_cmp}
 use Rattle.span_core.proofs.FilterLemmas.{cut_verdict}
@@ -18,11 +19,11 @@ use Rattle.span_core.specs.declared.span.Parent.TheVariants.{Contextual, Explici
 use Rattle.span_core.specs.declared.span.Parent.{Parent}
 use Rattle.span_registry.specs.Agree.{AgreeAt, IsCutDown, PlacesAgree, SpansAgree, VerdictsAgree}
 use Rattle.span_registry.specs.Answers.{AreAlike, unextended}
-use Rattle.span_registry.specs.Closes.{remove_all, without}
+use Rattle.span_registry.specs.Closes.{Closes, IsDeeper, IsDeepestFirst, IsUnheld, remove_all, without}
 use Rattle.span_registry.specs.LaneStack.{leave}
 use Rattle.span_registry.specs.Plan.{is_passed}
 use Rattle.span_registry.specs.Step.{IsContext, IsParentFor, entered, entered_last, exited}
-use Rattle.span_registry.specs.Store.{HasChild, IsClosing, IsHeld, IsOpen, RegistryState, Span, Spans, Stacks, Store, add_handle, stack_of, take_handle, with_handles, with_stack}
+use Rattle.span_registry.specs.Store.{HasChild, IsChain, IsClosing, IsHeld, IsOpen, RegistryState, Span, Spans, Stacks, Store, add_handle, stack_of, take_handle, with_handles, with_stack}
 use Rattle.span_registry.specs.Subscriber.{SameButExtensions}
 use Rattle.span_registry.specs.View.{see, view_of}
 use Rattle.span_registry.specs.declared.extensions.ExtensionMap.{ExtensionMap}
@@ -92,7 +93,7 @@ same_member true b c h = h refl
 same_member false b c h = refl
 
 -- filters among these hide the same
-same_hidden : (numbers set : FilterSet) (v w : FilterMap) → VerdictsAgree numbers v w → ((n : ℕ) → IsTrue (set n) → IsTrue (numbers n)) → meets set (refuses v) ≡ meets set (refuses w)
+pub same_hidden : (numbers set : FilterSet) (v w : FilterMap) → VerdictsAgree numbers v w → ((n : ℕ) → IsTrue (set n) → IsTrue (numbers n)) → meets set (refuses v) ≡ meets set (refuses w)
 same_hidden numbers set v w h i =
     some_below-same LIMIT (λ n. set n && refuses v n) (λ n. set n && refuses w n) (λ n l. same_member (set n) (refuses v n) (refuses w n) (λ t. h n (i n t)))
 
@@ -247,6 +248,59 @@ taken_agrees numbers s t x h = record { spans = handles_agree numbers (λ n. n -
 
 pub without_agrees : (numbers : FilterSet) (s t : Store) (xs : List ℕ) → AgreeAt numbers s t → AgreeAt numbers (without s xs) (without t xs)
 without_agrees numbers s t xs h = record { spans = all_gone_agrees numbers s.spans t.spans xs h.spans; issued = h.issued; stacks = h.stacks }
+
+-- ---- what a drop closes
+
+chain_over : (numbers : FilterSet) (m n : Spans) (o : Option ℕ) (xs : List ℕ) → MapsAgree numbers m n → IsChain m o xs → IsChain n o xs
+chain_over numbers m n None [] f c = c
+chain_over numbers m n None (y ∷ ys) f c = absurd c
+chain_over numbers m n (Some x) [] f c = absurd c
+chain_over numbers m n (Some x) (y ∷ ys) f c =
+    let u = found numbers (get m x) (get n x) c.1 (f x) c.2 in
+    (c.0, u.0, u.1, subst (λ (o : Option ℕ). IsChain n o ys) u.2.parent (chain_over numbers m n c.1.parent ys f c.3))
+
+unheld_over : (numbers : FilterSet) (m n : Spans) (x : ℕ) → MapsAgree numbers m n → IsUnheld m x → IsUnheld n x
+unheld_over numbers m n x f h =
+    let g = maps_back numbers m n f in
+    let there = found numbers (get m x) (get n x) h.0.0 (f x) h.0.1 in (
+      (there.0, there.1),
+      λ y q w e.
+          let back = found numbers (get n y) (get m y) q (g y) e in
+          back.2.handles ∙ h.1 y back.0 (w.0, chain_over numbers n m (Some y) w.0 g w.1, w.2) back.1,
+    )
+
+deeper_over : (numbers : FilterSet) (m n : Spans) (x : ℕ) (ys : List ℕ) → MapsAgree numbers m n → AllByRecursion (IsDeeper m x) ys → AllByRecursion (IsDeeper n x) ys
+deeper_over numbers m n x [] f h = h
+deeper_over numbers m n x (y ∷ ys) f h =
+    let d = h.0 in
+    ((d.0, d.1, chain_over numbers m n (Some x) d.0 f d.2, chain_over numbers m n (Some y) d.1 f d.3, d.4), deeper_over numbers m n x ys f h.1)
+
+order_over : (numbers : FilterSet) (m n : Spans) (xs : List ℕ) → MapsAgree numbers m n → IsDeepestFirst m xs → IsDeepestFirst n xs
+order_over numbers m n [] f h = h
+order_over numbers m n (x ∷ xs) f h = (deeper_over numbers m n x xs f h.0, order_over numbers m n xs f h.1)
+
+-- a drop closes the same spans in both, in the same order
+pub closes_alike : (numbers : FilterSet) (s t : Store) (x : ℕ) (closed : List ℕ) → AgreeAt numbers s t → Closes s.spans x closed → Closes t.spans x closed
+closes_alike numbers s t x closed h c =
+    let f = (taken_agrees numbers s t x h).spans in
+    let g = maps_back numbers (take_handle s.spans x) (take_handle t.spans x) f in
+    record {
+      each = λ y k. unheld_over numbers (take_handle s.spans x) (take_handle t.spans x) y f (c.each y k);
+      all = λ y u. c.all y (unheld_over numbers (take_handle t.spans x) (take_handle s.spans x) y g u);
+      order = order_over numbers (take_handle s.spans x) (take_handle t.spans x) closed f c.order;
+    }
+
+-- ---- fewer filters
+
+place_within : (numbers set : FilterSet) (a b : Option Span) → ((n : ℕ) → IsTrue (set n) → IsTrue (numbers n)) → PlacesAgree numbers a b → PlacesAgree set a b
+place_within numbers set None None i h = tt
+place_within numbers set None (Some q) i h = absurd h
+place_within numbers set (Some r) None i h = absurd h
+place_within numbers set (Some r) (Some q) i h = record { metadata = h.metadata; parent = h.parent; handles = h.handles; verdict = λ n t. h.verdict n (i n t) }
+
+-- stores that agree as far as some filters go agree as far as fewer go
+pub agree_within : (numbers set : FilterSet) (s t : Store) → ((n : ℕ) → IsTrue (set n) → IsTrue (numbers n)) → AgreeAt numbers s t → AgreeAt set s t
+agree_within numbers set s t i h = record { spans = λ x. place_within numbers set (get s.spans x) (get t.spans x) i (h.spans x); issued = h.issued; stacks = h.stacks }
 
 -- ---- a store cut down
 

@@ -6,8 +6,9 @@ use Rattle.std.specs.Cmp.{nat_cmp_total}
 use Rattle.std.specs.List.{find}
 use Rattle.std.specs.Borrow.{Bor}
 use Rattle.std.specs.Option.{option_and_then, option_copied, option_map}
-use Rattle.span_core.specs.Filters.{FilterSet, has_filter}
+use Rattle.span_core.specs.Filters.{FilterSet, IsEmpty, has_filter, refuses}
 use Rattle.span_core.specs.Span.{number_of}
+use Rattle.span_core.specs.declared.filter.FilterMap.{FilterMap}
 use Rattle.span_core.specs.declared.span.Id.{Id}
 use Rattle.span_core.specs.declared.span.Lane.{Lane}
 use Rattle.span_registry.specs.Closes.{AreUnheld, IsSettled, IsSettledBut, Member}
@@ -21,7 +22,7 @@ use Rattle.span_registry.specs.Subscriber.{AndHooks, SameButExtensions}
 use Rattle.span_registry.specs.Extensions.{Place, value_under, with_value}
 use Rattle.span_registry.specs.declared.extensions.ExtensionMap.{ExtensionMap}
 use Rattle.span_registry.specs.declared.tag.Tag.{Tag}
-use Rattle.span_registry.specs.Context.{LooksAt, LooksAtLent, LooksAtRoot, RefersTo, filters_in, lane_in, store_at, store_in, view_in, view_lent}
+use Rattle.span_registry.specs.Context.{HasNoRefusals, IsLent, LendsOver, LooksAt, LooksAtLent, LooksAtRoot, MasksMore, RefersTo, SameLoan, filters_in, lane_in, store_at, store_in, view_in, view_lent}
 use Rattle.span_registry.specs.LaneStack.{leave, without_duplicates}
 use Rattle.span_registry.specs.Answers.{AreAlike, AreAlikeHistories, History, OfLevel, Notice, OfNotice, notices_of, unextended}
 use Rattle.span_registry.specs.View.{SeenSpans, View, current_among, current_shown, extensions_shown, is_shown, see, shown, view_of}
@@ -396,3 +397,21 @@ stacks_restored_after registry r s t u lane id a b c any =
     ap (λ (m : Stacks). stack_of m any) (c.hooks.stacks ∙ ap (λ (w : RegistryState). w.store.stacks) c.taken)
     ∙ ap (λ (m : Stacks). stack_of (with_stack m lane.0 (leave (number_of id) (stack_of m lane.0))) any) (b.stacks ∙ a.hooks.stacks ∙ ap (λ (w : RegistryState). w.store.stacks) a.taken.state)
     ∙ stacks_restored (registry r).store lane.0 (number_of id) any
+
+-- ---- lent no refusals
+
+-- with a pass in which no filter refused
+pub unrefused_lent : {S : Type 0} {c : ContextMut S} {s : S} {from : ℕ} {under : FilterSet} {v : FilterMap} → IsLent c s from under v → IsEmpty (refuses v) → HasNoRefusals c
+unrefused_lent h k = subst (λ (v : FilterMap). IsEmpty (refuses v)) (sym h.refused) k
+
+-- handed on
+pub unrefused_on : {S : Type 0} {c d : ContextMut S} → SameLoan c d → HasNoRefusals c → HasNoRefusals d
+unrefused_on h k = subst (λ (v : FilterMap). IsEmpty (refuses v)) (sym h.refused) k
+
+-- with more filters in the mask
+pub unrefused_masked : {S : Type 0} {c d : ContextMut S} {more : FilterSet} → MasksMore c more d → HasNoRefusals c → HasNoRefusals d
+unrefused_masked h k = subst HasNoRefusals (sym h.rest) k
+
+-- over another subscriber
+pub unrefused_over : {S T : Type 0} {c : ContextMut S} {s : T} {d : ContextMut T} → LendsOver c s d → HasNoRefusals c → HasNoRefusals d
+unrefused_over h k = subst (λ (v : FilterMap). IsEmpty (refuses v)) (sym h.refused) k

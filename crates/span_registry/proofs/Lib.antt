@@ -17,10 +17,12 @@ mod Lending
 mod LookupLaws
 mod Lost
 mod Marks
+mod Distinct
 mod Masks
 mod NumberMaps
 mod Once
 mod Opened
+pub mod Plain
 mod Removed
 mod States
 mod SlotChanges

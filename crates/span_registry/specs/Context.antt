@@ -1,9 +1,9 @@
 -- What a context shows of the subscriber that it looks at.
-use Rattle.std.specs.Prelude.{◌≡◌, ℕ, Bool, ◌&&◌, false, is_some, IfSome, IsTrue, Option, None, Some}
+use Rattle.std.specs.Prelude.{◌≡◌, ⊤, ℕ, Bool, ◌&&◌, false, is_some, IfSome, IsTrue, Option, None, Some}
 use Rattle.std.specs.Borrow.{Bor, GName}
 use Rattle.std.specs.FinMap.{get}
 use Rattle.std.specs.Option.{option_copied, option_map, option_map_or}
-use Rattle.span_core.specs.Filters.{FilterSet, is_attached, is_enabled, union}
+use Rattle.span_core.specs.Filters.{FilterSet, IsEmpty, is_attached, is_enabled, refuses, union}
 use Rattle.span_core.specs.Span.{number_of}
 use Rattle.span_core.specs.declared.event.Event.{Event}
 use Rattle.span_core.specs.declared.filter.FilterId.{FilterId}
@@ -11,7 +11,7 @@ use Rattle.span_core.specs.declared.filter.FilterMap.{FilterMap}
 use Rattle.span_core.specs.declared.metadata.Metadata.{Metadata}
 use Rattle.span_core.specs.declared.span.Id.{Id}
 use Rattle.span_core.specs.declared.span.Lane.{Lane}
-use Rattle.span_registry.specs.Answers.{OnEvent}
+use Rattle.span_registry.specs.Answers.{Notice, OnClose, OnEnter, OnEvent, OnExit, OnFollows, OnIdChange, OnNewSpan, OnRecord}
 use Rattle.span_registry.specs.Form.{Form}
 use Rattle.span_registry.specs.Hooks.{Notifies, StackSteps, Stays, no_filter}
 use Rattle.span_registry.specs.Question.{ShowsBy, asked}
@@ -135,6 +135,10 @@ module _ {S : Type 0} where
   abbrev pub refused_lent : ContextMut S → FilterMap
   refused_lent c = c.refused
 
+  -- no filter refused during the request
+  abbrev pub HasNoRefusals : ContextMut S → Type 0
+  HasNoRefusals c = IsEmpty (refuses (refused_lent c))
+
   -- this subscriber is lent, from this lane, under these filters, and the mask is attached, and with these refusals
   pub record IsLent (c : ContextMut S) (s : S) (from : ℕ) (under : FilterSet) (refusals : FilterMap) : Type 0 where
     pub subscriber : subscriber_lent c ≡ s
@@ -177,6 +181,17 @@ module _ {S : Type 0} (registry : S → RegistryState) where
   -- the same of what a hook is lent
   abbrev pub enabled_lent : ContextMut S → FilterId → Id → Bool
   enabled_lent c filter id = is_enabled_in (registry (subscriber_lent c)).store (view_lent c) filter (number_of id)
+
+-- only of a new span and of an event filters are asked: of all else no filter refused
+abbrev pub HasNoRefusalsUnlessAsked : {S : Type 0} → Notice → ContextMut S → Type 0
+HasNoRefusalsUnlessAsked (OnNewSpan attrs id) c = ⊤
+HasNoRefusalsUnlessAsked (OnEvent e) c = ⊤
+HasNoRefusalsUnlessAsked (OnRecord id values) c = HasNoRefusals c
+HasNoRefusalsUnlessAsked (OnFollows id other) c = HasNoRefusals c
+HasNoRefusalsUnlessAsked (OnEnter id) c = HasNoRefusals c
+HasNoRefusalsUnlessAsked (OnExit id) c = HasNoRefusals c
+HasNoRefusalsUnlessAsked (OnIdChange id other) c = HasNoRefusals c
+HasNoRefusalsUnlessAsked (OnClose id) c = HasNoRefusals c
 
 -- the same is lent, under these filters too
 abbrev pub NarrowsLent : {S : Type 0} → ContextMut S → FilterSet → ContextMut S → Type 0

@@ -11,7 +11,8 @@ use Rattle.span_core.specs.declared.span.Lane.{Lane}
 use Rattle.span_registry.specs.Answers.{Notice, OnNewSpan}
 use Rattle.span_registry.specs.Follows.{Follows, kept_form}
 use Rattle.span_registry.specs.Form.{Bare, Base, Form, IsStill}
-use Rattle.span_registry.specs.Place.{HearLaws, HearSteps, Place, heard_by, no_leaf_laws}
+use Rattle.span_registry.specs.Path.{mask_at}
+use Rattle.span_registry.specs.Place.{HearLaws, HearSteps, Place, heard_by, no_leaf_laws, told_in}
 use Rattle.span_registry.specs.Plan.{Plan, by_pass}
 use Rattle.span_registry.specs.Question.{AnswersBy, SumsBy, asked, event_asked, interest_of, refusals}
 use Rattle.span_registry.specs.Step.{Opens, asked as asked_span}
@@ -62,14 +63,15 @@ abbrev pub OpensAndNotifies : {S : Type 0} → (S → RegistryState) → (S → 
 OpensAndNotifies registry has_form stepped lane attrs pass old new id =
     Notifies registry has_form stepped lane (refusals pass) (OnNewSpan attrs id) (Opens lane (asked_span attrs pass) id) old new
 
--- the law of every stack: where it is notified, or put in use, it keeps what it has of its form; each leaf hears what the plan says; another registry makes no difference to its form, to whether it may be asked and notified, nor to any leaf
+-- the law of every stack: where it is notified, or put in use, it keeps what it has of its form; each leaf hears what the plan says, in the view that it has of the registry then; another registry makes no difference to its form, to whether it may be asked and notified, nor to any leaf
 pub record StackLaws {S : Type 0} (with_registry : S → RegistryState → S) (usable : S → Type 0) (has_form : S → Form → Type 0) (stepped : StackSteps S) (hears : HearSteps S) (registered : S → S → Type 0) : Type 0 where
   pub keeps : (x : S) (p : Plan) (e : Notice) (lane : ℕ) (v : RegistryState) (y : S) (w : RegistryState) (f : Form) → stepped x p e lane v y w → has_form x f → Follows (has_form y) f
   pub put_in_use : (x y : S) (f : Form) → registered x y → has_form x f → Follows (has_form y) f
   pub form_with : (x : S) (w : RegistryState) (f : Form) → has_form x f → has_form (with_registry x w) f
   pub usable_with : (x : S) (w : RegistryState) → usable x → usable (with_registry x w)
   pub heard : HearLaws hears
-  pub notified : (x : S) (p : Plan) (e : Notice) (lane : ℕ) (v : RegistryState) (y : S) (w : RegistryState) (place : Place) → stepped x p e lane v y w → hears x place (heard_by p place lane e) y
+  pub notified : (x : S) (p : Plan) (e : Notice) (lane : ℕ) (v : RegistryState) (y : S) (w : RegistryState) (place : Place) (f : Form)
+      → stepped x p e lane v y w → has_form x f → hears x place (heard_by p place (told_in e v.store lane (mask_at f place no_filter))) y
   pub hears_with : (x : S) (w : RegistryState) (place : Place) → hears x place [] (with_registry x w)
 
 -- a registry keeps this law
@@ -80,6 +82,6 @@ registry_laws = record {
   form_with = λ x w f h. h;
   usable_with = λ x w h. tt;
   heard = no_leaf_laws;
-  notified = λ x p e lane v y w place s. tt;
+  notified = λ x p e lane v y w place f s h. tt;
   hears_with = λ x w place. tt;
 }

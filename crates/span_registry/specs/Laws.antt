@@ -1,11 +1,12 @@
 -- What the laws say, where that takes more than a line.
-use Rattle.std.specs.Prelude.{◌≡◌, ℕ, IsTrue, List, [], ◌∷◌, ◌++◌, Some, None, reverse}
+use Rattle.std.specs.Prelude.{◌≡◌, ℕ, IsTrue, List, Option, [], ◌∷◌, ◌++◌, Some, None, reverse}
 use Rattle.std.specs.FinMap.{get}
 use Rattle.std.specs.List.{filter, find}
 use Rattle.std.specs.Option.{option_map}
 use Rattle.span_core.specs.Filters.{FilterSet, IsEmpty}
 use Rattle.span_core.specs.Span.{number_of}
 use Rattle.span_core.specs.declared.span.Id.{Id}
+use Rattle.span_core.specs.declared.span.Parent.{Parent}
 use Rattle.span_registry.specs.Agree.{AgreeAt, IsCutDown}
 use Rattle.span_registry.specs.Answers.{AreAlike}
 use Rattle.span_registry.specs.Closes.{IsSettled}
@@ -13,7 +14,7 @@ use Rattle.span_registry.specs.Extensions.{Place, SameTag, ValueType, no_values,
 use Rattle.span_registry.specs.Step.{Drops, IsCurrent, Releases, Removal}
 use Rattle.span_registry.specs.Store.{IsChain, IsForest, IsInStore, RegistryState, SameStacks, Spans, Store, parent_of}
 use Rattle.span_registry.specs.Subscriber.{AndHooks, SameButExtensions}
-use Rattle.span_registry.specs.View.{IsDescent, current_shown, is_shown, parent_shown, scope, see, seen_spans, view_of}
+use Rattle.span_registry.specs.View.{IsDescent, current_shown, event_shown, is_shown, metadata_shown, parent_shown, plain_view, scope, see, seen_spans, shown, view_of}
 use Rattle.span_registry.specs.declared.extensions.ExtensionMap.{ExtensionMap}
 use Rattle.span_registry.specs.declared.registry.Released.TheVariants.{Closing}
 use Rattle.span_registry.specs.declared.tag.Tag.{Tag}
@@ -54,6 +55,15 @@ pub record LooksUp (s : Store) (mask : FilterSet) (x : ℕ) : Type 0 where
   pub parent : (above : List ℕ) → IsChain s.spans (Some x) (x ∷ above) → parent_shown (seen_spans s mask) x ≡ find (is_shown (seen_spans s mask)) above
   pub current : (lane : ℕ) → IsEmpty mask → IsCurrent s lane (current_shown (view_of s lane mask))
   pub descent : (chain : List ℕ) → IsChain s.spans (Some x) chain → IsDescent s.spans None (reverse chain) x
+
+-- extensions aside, a view shows the same: the same spans with their metadata and parents, the same scopes, the span that the lane is in, and that of an event
+pub record ShowsPlainly (s : Store) (lane : ℕ) (mask : FilterSet) : Type 0 where
+  pub shown : (x : ℕ) → shown x (view_of s lane mask) ≡ shown x (plain_view s lane mask)
+  pub metadata : (x : ℕ) → metadata_shown x (view_of s lane mask) ≡ metadata_shown x (plain_view s lane mask)
+  pub current : current_shown (view_of s lane mask) ≡ current_shown (plain_view s lane mask)
+  pub event : (p : Parent) → event_shown p (view_of s lane mask) ≡ event_shown p (plain_view s lane mask)
+  pub parent : (x : ℕ) → parent_shown (view_of s lane mask).spans x ≡ parent_shown (plain_view s lane mask).spans x
+  pub scope : (o : Option ℕ) → scope (view_of s lane mask).spans o ≡ scope (plain_view s lane mask).spans o
 
 -- some store is this one cut down to these filters
 abbrev pub CanBeCutDown : FilterSet → Store → Type 0

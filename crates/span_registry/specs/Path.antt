@@ -27,3 +27,18 @@ abbrev pub passes_path : Path → Notice → Store → ℕ → FilterSet → Boo
 passes_path [] e s lane under = true
 passes_path ((None, a) ∷ path) e s lane under = false
 passes_path ((Some n, a) ∷ path) e s lane under = passes a e s lane (union under (single n)) && passes_path path e s lane (union under (single n))
+
+-- the filters that whoever stands at a place looks under, below these: all with a number round it, and its own if it is a filter
+abbrev pub mask_at : Form → Place → FilterSet → FilterSet
+mask_at (Filtered (Some n) a f) Here under = union under (single n)
+mask_at (Filtered (Some n) a f) (Under p) under = mask_at f p (union under (single n))
+mask_at (Filtered None a f) (Under p) under = mask_at f p under
+mask_at (Over k o i) (Outer p) under = mask_at o p under
+mask_at (Over k o i) (Inner p) under = mask_at i p under
+mask_at other p under = under
+
+-- the filters of a path that have a number, below these
+abbrev pub mask_of : Path → FilterSet → FilterSet
+mask_of [] under = under
+mask_of ((Some n, a) ∷ path) under = mask_of path (union under (single n))
+mask_of ((None, a) ∷ path) under = mask_of path under

@@ -3,7 +3,10 @@ use Rattle.std.specs.Prelude.{⊤, ℕ, Bool, true, false, if◌then◌else◌, 
 use Rattle.std.proofs.Common.{subst, sym}
 use Rattle.std.specs.List.{FoldsTo}
 use Rattle.span_registry.specs.Answers.{Notice}
+use Rattle.span_core.specs.Filters.{FilterSet}
 use Rattle.span_registry.specs.Plan.{Both, Itself, Plan, Through}
+use Rattle.span_registry.specs.Store.{Store}
+use Rattle.span_registry.specs.View.{View, plain_view}
 
 -- where a leaf or a filter stands: there itself, under a filter, in the outer part, or in the inner one
 pub data Place : Type 0 where
@@ -21,13 +24,23 @@ is_notified (Both p q) (Outer place) = is_notified p place
 is_notified (Both p q) (Inner place) = is_notified q place
 is_notified other place = false
 
--- what a leaf was notified of, first things first, each with its lane
-abbrev pub Heard : Type 0
-Heard = List (ℕ × Notice)
+-- one thing that a leaf was notified of: on which lane, of what, and what its own context showed then, extensions aside
+pub record Told : Type 0 where
+  pub lane : ℕ
+  pub notice : Notice
+  pub view : View
 
--- what the leaf at a place hears where a plan is notified of this, on this lane: this, or nothing
-abbrev pub heard_by : Plan → Place → ℕ → Notice → Heard
-heard_by plan place lane e = if is_notified plan place then (lane, e) ∷ [] else []
+-- what a leaf under these filters is told by a notice that is given in this store
+abbrev pub told_in : Notice → Store → ℕ → FilterSet → Told
+told_in e s lane mask = record { lane = lane; notice = e; view = plain_view s lane mask }
+
+-- what a leaf was notified of, first things first
+abbrev pub Heard : Type 0
+Heard = List Told
+
+-- what the leaf at a place hears where a plan notifies it of this: this, or nothing
+abbrev pub heard_by : Plan → Place → Told → Heard
+heard_by plan place told = if is_notified plan place then told ∷ [] else []
 
 -- whether the leaf at a place went through these notices, from one value to another
 abbrev pub HearSteps : Type 0 → Type 1
@@ -43,11 +56,11 @@ pub no_leaf_laws : {T : Type 0} → HearLaws {T = T} (λ x place h y. ⊤)
 no_leaf_laws = record { nothing = λ x place. tt; further = λ x y z place h k a b. tt }
 
 -- the leaf went through them one by one, each as its own step says; no leaf stands at another place
-abbrev pub LeafHears : {T : Type 0} → (T → Notice → ℕ → T → Type 0) → HearSteps T
-LeafHears goes x Here h y = FoldsTo (λ a one b. goes a one.1 one.0 b) x h y
+abbrev pub LeafHears : {T : Type 0} → (T → Told → T → Type 0) → HearSteps T
+LeafHears goes x Here h y = FoldsTo goes x h y
 LeafHears goes x other h y = ⊤
 
-module _ {T : Type 0} (goes : T → Notice → ℕ → T → Type 0) where
+module _ {T : Type 0} (goes : T → Told → T → Type 0) where
   one_by_one : (h k : Heard) (x y z : T) → LeafHears goes x Here h y → LeafHears goes y Here k z → LeafHears goes x Here (h ++ k) z
   one_by_one [] k x y z a b = subst (λ v. LeafHears goes v Here k z) (sym a) b
   one_by_one (one ∷ h) k x y z a b = (a.0, a.1, one_by_one h k a.0 y z a.2 b)
@@ -69,8 +82,8 @@ module _ {T : Type 0} (goes : T → Notice → ℕ → T → Type 0) where
   leaf_hear_laws = record { nothing = leaf_nothing; further = leaf_further }
 
   -- a leaf that went by its own step heard what the plan of a leaf notifies it of
-  pub leaf_heard : (x : T) (e : Notice) (lane : ℕ) (y : T) (place : Place) → goes x e lane y → LeafHears goes x place (heard_by Itself place lane e) y
-  leaf_heard x e lane y Here g = (y, g, refl)
-  leaf_heard x e lane y (Under p) g = tt
-  leaf_heard x e lane y (Outer p) g = tt
-  leaf_heard x e lane y (Inner p) g = tt
+  pub leaf_heard : (x : T) (told : Told) (y : T) (place : Place) → goes x told y → LeafHears goes x place (heard_by Itself place told) y
+  leaf_heard x told y Here g = (y, g, refl)
+  leaf_heard x told y (Under p) g = tt
+  leaf_heard x told y (Outer p) g = tt
+  leaf_heard x told y (Inner p) g = tt

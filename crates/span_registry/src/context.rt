@@ -7,7 +7,7 @@ ghost use Rattle.span_core.specs.Event.{event_parent};
 ghost use Rattle.span_core.specs.Filters.{has_filter, is_attached, is_enabled};
 ghost use Rattle.span_core.specs.Pass.{refused_of};
 ghost use Rattle.span_core.specs.Span.{number_of};
-ghost use Rattle.span_registry.specs.Context.{Borrows, AnswersProbe, Exchanges, GivesScope, IsLent, LendsOver, LentOn, LooksAt, LooksAtLent, LooksAtRoot, MasksMore, Narrows, NarrowsLent, RefersTo, SendsEvent, enabled_in, enabled_lent, extensions_lent, is_shown_to, lane_in, lane_lent, loan_of, mask_of_loan, refused_lent, store_in, subscriber_in, subscriber_lent, view_in, with_mask};
+ghost use Rattle.span_registry.specs.Context.{Borrows, AnswersProbe, Exchanges, GivesScope, HasNoRefusals, IsLent, LendsOver, LentOn, LooksAt, LooksAtLent, LooksAtRoot, MasksMore, Narrows, NarrowsLent, RefersTo, SendsEvent, enabled_in, enabled_lent, extensions_lent, is_shown_to, lane_in, lane_lent, loan_of, mask_of_loan, refused_lent, store_in, subscriber_in, subscriber_lent, view_in, with_mask};
 ghost use Rattle.span_registry.specs.Lends.{lends_seen, lends_subscriber};
 ghost use Rattle.span_registry.specs.Marks.{spans_to_give};
 ghost use Rattle.span_registry.specs.Step.{ShowsCurrent};
@@ -360,8 +360,12 @@ impl<'a, S> ContextMut<'a, S> {
     }
 
     /// A filter of this id refused during the request, or the id is unattached.
+    ///
+    /// Filters are asked of a new span and of an event alone. The hooks of all else are lent no refusals: there it answers true
+    /// for an unattached id alone.
     pub fn refuses(&self, filter: FilterId) -> bool
-        ensures { result ≡ not (is_enabled (refused_lent self.now) filter) }
+        ensures refused { result ≡ not (is_enabled (refused_lent self.now) filter) }
+        ensures unrefused { HasNoRefusals self.now → result ≡ not (is_attached filter) }
     {
         !self.refused.is_enabled(filter)
     }

@@ -1,11 +1,11 @@
 //! The spans that a lane has entered.
-ghost use Rattle.std.specs.Prelude.{◌≡◌, ◌∷◌, [], OnOk, OnErr, IfErr};
+ghost use Rattle.std.specs.Prelude.{◌≡◌, ◌∷◌, [], IfErr, IsTrue, OnErr, OnOk, true};
 ghost use Rattle.std.specs.Iterator.{YieldsFirstBy, item_count};
 ghost use Rattle.std.specs.Option.{option_map};
 ghost use Rattle.span_core.specs.Span.{number_of};
-ghost use Rattle.span_registry.specs.LaneStack.{leave, leaves_for_good, newest, without_duplicates};
+ghost use Rattle.span_registry.specs.LaneStack.{leave, leaves_for_good, newest, stands, without_duplicates};
 ghost use Rattle.span_registry.specs.Kept.{PutsOn, TakesOff};
-ghost use Rattle.span_registry.specs.Marks.{HoldsAll, IsAtLast, ids, spans_to_give};
+ghost use Rattle.span_registry.specs.Marks.{HoldsAll, IsAtLast, ids, numbers_down, spans_to_give};
 
 use crate::bloom::Bloom;
 use span_core::{Id, Lane, TraceError};
@@ -21,46 +21,50 @@ pub(crate) struct Entry {
     before: Bloom,
 }
 
-/// The stack of a lane, seen as the list of its spans, newest first.
-///
-/// Stands for `tracing_subscriber::registry::SpanStack`.
+/// All entries of a stack, duplicates too, seen as the list of their spans, newest first.
 #[derive(Drop)]
-pub struct SpanStack {
+struct Entries {
     entries: Vec<Entry>,
-    /// What may stand on the stack: of an id that isn't in it no entry is looked at.
+    /// What may stand among them: of an id that isn't in it no entry is looked at.
     held: Bloom,
 }
 
-impl Model for SpanStack {
+impl Model for Entries {
     ghost use Rattle.std.specs.Prelude.{List, ℕ};
 
     ghost Value = { List ℕ };
 
-    ghost use Rattle.span_registry.specs.Marks.{KeepsStack, ids_down};
+    ghost use Rattle.span_registry.specs.Marks.{KeepsEntries, ids_down};
 
     ghost view = { λ a. ids_down a.entries.items };
 
-    ghost invariant = { λ a. KeepsStack a.entries.items a.held };
+    ghost invariant = { λ a. KeepsEntries a.entries.items a.held };
 }
 
-impl SpanStack {
-    /// An empty stack. It takes no memory before the first `push`.
-    pub fn new(alloc: Global) -> Self
+impl Entries {
+    fn new(alloc: Global) -> Self
         ensures { result ≡ [] }
     {
-        SpanStack {
+        Entries {
             entries: Vec::new(alloc),
             held: Bloom::new(),
         }
     }
 
-    /// Enters a span, whether it stands on the stack or not. Refused for want of memory alone.
-    pub fn push(&mut self, id: Id) -> Result<(), TraceError>
+    /// The span may stand among them.
+    fn may_hold(&self, id: Id) -> bool
+        ensures { stands (number_of id) self.now ≡ true → IsTrue result }
+    {
+        self.held.may_hold(id)
+    }
+
+    /// Puts an entry of a span in front, which is a duplicate or isn't. Refused for want of memory alone.
+    fn push(&mut self, id: Id, duplicate: bool) -> Result<(), TraceError>
+        requires { duplicate ≡ stands (number_of id) self.old }
         ensures entered { OnOk result (self.new ≡ number_of id ∷ self.old) }
         ensures memory { IfErr result (λ e. e ≡ TraceError.OutOfMemory) }
         ensures unchanged { OnErr result (self.new ≡ self.old) }
     {
-        let duplicate = last_place(&self.entries, self.held, id).is_some();
         let before = self.held;
         self.entries.push(Entry {
             id,
@@ -71,8 +75,8 @@ impl SpanStack {
         Ok(())
     }
 
-    /// Takes out the newest entry of a span, wherever it stands. Answers whether that leaves the span for good.
-    pub fn pop(&mut self, id: Id) -> bool
+    /// Takes out the newest entry of a span. Answers whether that leaves the span for good.
+    fn pop(&mut self, id: Id) -> bool
         ensures left { self.new ≡ leave (number_of id) self.old }
         ensures for_good { result ≡ leaves_for_good (number_of id) self.old }
     {
@@ -89,12 +93,73 @@ impl SpanStack {
             }
         }
     }
+}
+
+/// The stack of a lane, seen as the list of its spans, newest first.
+///
+/// Stands for `tracing_subscriber::registry::SpanStack`.
+#[derive(Drop)]
+pub struct SpanStack {
+    entries: Entries,
+    /// The spans of the entries that are no duplicates, oldest first. So no look-up walks over duplicates.
+    distinct: Vec<Id>,
+}
+
+impl Model for SpanStack {
+    ghost use Rattle.std.specs.Prelude.{List, ℕ};
+
+    ghost Value = { List ℕ };
+
+    ghost use Rattle.span_registry.specs.Marks.{KeepsDistinct};
+
+    ghost view = { λ a. a.entries };
+
+    ghost invariant = { λ a. KeepsDistinct a.entries a.distinct.items };
+}
+
+impl SpanStack {
+    /// An empty stack. It takes no memory before the first `push`.
+    pub fn new(alloc: Global) -> Self
+        ensures { result ≡ [] }
+    {
+        SpanStack {
+            entries: Entries::new(alloc),
+            distinct: Vec::new(alloc),
+        }
+    }
+
+    /// Enters a span, whether it stands on the stack or not. Refused for want of memory alone.
+    pub fn push(&mut self, id: Id) -> Result<(), TraceError>
+        ensures entered { OnOk result (self.new ≡ number_of id ∷ self.old) }
+        ensures memory { IfErr result (λ e. e ≡ TraceError.OutOfMemory) }
+        ensures unchanged { OnErr result (self.new ≡ self.old) }
+    {
+        if self.holds(id) {
+            return self.entries.push(id, true);
+        }
+        self.distinct.reserve(1)?;
+        self.entries.push(id, false)?;
+        self.distinct.push_reserved(id);
+        Ok(())
+    }
+
+    /// Takes out the newest entry of a span, wherever it stands. Answers whether that leaves the span for good.
+    pub fn pop(&mut self, id: Id) -> bool
+        ensures left { self.new ≡ leave (number_of id) self.old }
+        ensures for_good { result ≡ leaves_for_good (number_of id) self.old }
+    {
+        let for_good = self.entries.pop(id);
+        if for_good {
+            take_out(&mut self.distinct, id);
+        }
+        for_good
+    }
 
     /// The spans from the newest entry on, duplicates left out.
     pub fn iter(&self) -> StackIter<'_>
         ensures { spans_to_give result ≡ without_duplicates self.now }
     {
-        StackIter(&self.entries)
+        StackIter(&self.distinct)
     }
 
     /// The newest entry that is no duplicate.
@@ -102,6 +167,13 @@ impl SpanStack {
         ensures { option_map number_of result ≡ newest (without_duplicates self.now) }
     {
         self.iter().next()
+    }
+
+    /// The span stands on the stack.
+    fn holds(&self, id: Id) -> bool
+        ensures { result ≡ stands (number_of id) self.now }
+    {
+        self.entries.may_hold(id) && is_among(&self.distinct, id)
     }
 }
 
@@ -121,9 +193,28 @@ fn last_place(entries: &[Entry], held: Bloom, id: Id) -> Option<usize>
     None
 }
 
+/// The span is one of these.
+fn is_among(spans: &[Id], id: Id) -> bool
+    ensures { result ≡ stands (number_of id) (numbers_down spans.now) }
+{
+    spans.contains(&id)
+}
+
+/// Takes out the last entry of a span, if it is one of these.
+fn take_out(spans: &mut Vec<Id>, id: Id)
+    ensures { numbers_down spans.new.items ≡ leave (number_of id) (numbers_down spans.old.items) }
+{
+    for i in (0..spans.len()).rev() {
+        if spans[i] == id {
+            spans.remove(i);
+            return;
+        }
+    }
+}
+
 /// The spans on a stack, newest first, duplicates left out.
 #[derive(Drop)]
-pub struct StackIter<'a>(&'a [Entry]);
+pub struct StackIter<'a>(&'a [Id]);
 
 impl<'a> Iterator for StackIter<'a> {
     type Item = Id;
@@ -133,13 +224,9 @@ impl<'a> Iterator for StackIter<'a> {
     ghost remaining = { item_count spans_to_give };
 
     fn next(&mut self) -> Option<Id> {
-        while let Some((last, below)) = self.0.split_last() {
-            self.0 = below;
-            if !last.duplicate {
-                return Some(last.id);
-            }
-        }
-        None
+        let (last, below) = self.0.split_last()?;
+        self.0 = below;
+        Some(*last)
     }
 }
 

@@ -1,5 +1,5 @@
 -- Stacks whose form only levels change, since what settles it stays as it is: their runs, and what their recorders keep.
-use Rattle.std.proofs.Common.{◌≡◌, ℕ, List, [], ◌++◌, Bool, true, false, Option, Some, None, refl, sym, ap, subst, ◌∙◌}
+use Rattle.std.proofs.Common.{◌≡◌, ℕ, List, [], ◌++◌, map, Bool, true, false, Option, Some, None, refl, sym, ap, subst, ◌∙◌}
 use Rattle.std.specs.Prelude.{if◌then◌else◌}
 use Rattle.std.proofs.lemmas.Bool.{eq-eqb, eqb-true, true≢false}
 use Rattle.std.proofs.lemmas.List.{append-nil}
@@ -7,8 +7,9 @@ use Rattle.span_core.specs.Filters.{FilterSet, has_filter}
 use Rattle.span_core.specs.declared.filter.FilterId.{FilterId}
 use Rattle.span_core.specs.declared.level.LevelFilter.{LevelFilter}
 use Rattle.span_dispatch.proofs.Fixed.{runs_by}
+use Rattle.span_dispatch.proofs.CallerLemmas.{heard_records}
 use Rattle.span_dispatch.specs.Fixed.{RunsBy, set_at}
-use Rattle.span_dispatch.specs.Recorder.{Kept, Records, new_recorder, recorder_steps}
+use Rattle.span_dispatch.specs.Recorder.{Kept, kept_notice, new_recorder, recorder_steps}
 use Rattle.span_dispatch.specs.Cache.{no_callsite}
 use Rattle.span_dispatch.specs.Serve.{IsReady, Served, kept_by, stack_of}
 use Rattle.span_dispatch.specs.declared.dispatch.Dispatch.{Dispatch}
@@ -19,11 +20,12 @@ use Rattle.span_filters.specs.Filter.{FilterLevelSteps, settled_answers, unmoved
 use Rattle.span_filters.specs.Level.{level_answers}
 use Rattle.span_layers.specs.Filtered.{FilteredForm, FilteredSteps, Hooked, IsNumber, filter_of, id_of, layer_of}
 use Rattle.span_layers.specs.Honest.{IsHonestStack}
-use Rattle.span_layers.specs.Layer.{LayerSteps}
+use Rattle.span_layers.specs.Idle.{IdleSteps}
+use Rattle.span_layers.specs.Layer.{HearsBy, LayerSteps}
 use Rattle.span_layers.specs.Layered.{LayeredSteps, OverForm, PairSteps, inner_of, outer_of, with_inner}
 use Rattle.span_layers.specs.Levels.{FilteredLevels, LayeredLevels, LevelsIf, OptionLevels}
 use Rattle.span_layers.specs.Optional.{OptionForm, OptionGoes, OptionSteps}
-use Rattle.span_layers.specs.Veto.{LeafStays, VetoForm}
+use Rattle.span_layers.specs.Veto.{VetoForm}
 use Rattle.span_layers.specs.declared.filtered.Filtered.{Filtered as FilteredLayer}
 use Rattle.span_layers.specs.declared.layered.Layered.{Layered}
 use Rattle.span_registry.proofs.CallerLemmas.{settled_new}
@@ -33,7 +35,7 @@ use Rattle.span_registry.specs.Conducts.{ActsAt}
 use Rattle.span_registry.specs.Form.{Absent, Bare, Base, Filtered, Form, InPair, Joint, Leaf, OnSubscriber, Over}
 use Rattle.span_registry.specs.Hooks.{StackSteps, no_filter}
 use Rattle.span_registry.specs.Levels.{LevelSteps, unlevelled}
-use Rattle.span_registry.specs.Place.{HearSteps}
+use Rattle.span_registry.specs.Place.{HearSteps, Heard, Here}
 use Rattle.span_registry.specs.Plan.{Both, Itself, Nobody, Plan, Through}
 use Rattle.span_registry.specs.Store.{RegistryState}
 use Rattle.span_registry.specs.declared.limits.Limits.{Limits}
@@ -66,7 +68,7 @@ abbrev pub StaysVeto : {L : Type 0} → (L → Answers) → L → Form → Type 
 StaysVeto answers x f = f ≡ Leaf true (answers x)
 
 -- one that stays as it is
-pub steady_veto : {L : Type 0} (answers : L → Answers) → IsSteady (λ x. VetoForm (settled_answers answers x)) LeafStays unlevelled (StaysVeto answers)
+pub steady_veto : {L : Type 0} (answers : L → Answers) → IsSteady (λ x. VetoForm (settled_answers answers x)) IdleSteps unlevelled (StaysVeto answers)
 steady_veto answers = record {
   known = λ x f g s h. h.2 ∙ ap (λ b. Leaf true b) h.1 ∙ sym s;
   has = λ x f s. (answers x, refl, s);
@@ -283,6 +285,7 @@ module _ {S : Type 0} {with_registry : S → RegistryState → S} {has_form : S 
       (subst (λ r. RunsBy f requests answers h.made (kept_by old) r (kept_by new) (registry (stack_of new))) first (run.0, run.2))
 
 -- a new recorder that hasn't failed keeps all that it went through
-pub all_kept : (old new : Kept) (due : List KeptNotice) → Records old new due → old ≡ new_recorder → new.failed ≡ false → new.notices ≡ due
-all_kept old new due h begins whole =
+pub all_kept : (old new : Kept) (heard : Heard) → HearsBy recorder_steps old Here heard new → old ≡ new_recorder → new.failed ≡ false → new.notices ≡ map kept_notice heard
+all_kept old new heard goes begins whole =
+    let h = heard_records heard old new goes in
     h.kept ∙ ap (λ (r : Kept). r.notices ++ h.more) begins ∙ sym (h.split ∙ ap (λ (lost : List KeptNotice). h.more ++ lost) (h.all whole) ∙ append-nil h.more)

@@ -3,8 +3,10 @@ ghost use Rattle.std.specs.Prelude.{◌≡◌};
 ghost use Rattle.span_filters.specs.Filter.{settled_answers};
 ghost use Rattle.span_layers.specs.Acts.{LeafActs};
 ghost use Rattle.span_layers.specs.ActsKept.{is_leaf, leaf_path_laws};
+ghost use Rattle.span_layers.specs.Idle.{IdleSteps};
+ghost use Rattle.span_layers.specs.Layer.{HearsBy};
 ghost use Rattle.span_layers.specs.Levels.{leaf_levels};
-ghost use Rattle.span_layers.specs.Veto.{HearsUnmoved, LeafStays, VetoForm, veto_laws};
+ghost use Rattle.span_layers.specs.Veto.{VetoForm, veto_laws};
 ghost use Rattle.span_registry.specs.Levels.{unlevelled};
 ghost use Rattle.span_run.specs.Mute.{mute_answers};
 
@@ -20,9 +22,9 @@ pub struct MuteVeto;
 impl<S: Subscriber> Layer<S> for MuteVeto {
     ghost has_form = { λ x. VetoForm (settled_answers (λ v. mute_answers) x) };
 
-    ghost stepped = { LeafStays };
+    ghost stepped = { IdleSteps };
 
-    ghost hears = { HearsUnmoved };
+    ghost hears = { HearsBy IdleSteps };
 
     ghost acts_at = { LeafActs };
 

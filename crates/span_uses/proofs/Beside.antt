@@ -1,15 +1,16 @@
 -- A recorder under a level, on a registry alone and beside another: what it sees is the same.
-use Rattle.std.proofs.Common.{◌<◌, arith, nat_lt, ◌≡◌, ◌∙◌, ◌+◌, ◌≤◌, true, List, [], ◌∷◌, Some, ap, map, refl, subst, sym, ℕ}
+use Rattle.std.proofs.Common.{◌<◌, ◌==◌, ◌||◌, arith, nat_lt, ◌≡◌, ◌∙◌, ◌+◌, ◌≤◌, Bool, true, false, List, [], ◌∷◌, Some, ap, map, refl, subst, sym, ℕ}
 use Rattle.std.proofs.lemmas.Bool.{false≢true}
 use Rattle.std.specs.Prelude.{⊤}
 use Rattle.span_core.specs.declared.filter.TheConstants.FilterId.{LIMIT}
 use Rattle.span_core.specs.declared.level.LevelFilter.{LevelFilter}
-use Rattle.span_dispatch.specs.Alone.{Alone, seen}
-use Rattle.span_dispatch.specs.Isolation.{PathsActAlike}
-use Rattle.span_dispatch.specs.Outcome.{Outcome}
-use Rattle.span_dispatch.specs.Recorder.{Kept, Records, kept_notice, new_recorder, recorder_hears, recorder_steps}
-use Rattle.span_dispatch.specs.Serve.{IsReady, flat, stack_of}
+use Rattle.span_dispatch.proofs.CallerLemmas.{heard_records}
+use Rattle.span_dispatch.specs.Alone.{seen}
+use Rattle.span_dispatch.specs.Isolation.{PathsActAlike, SeeTheSame, SeesCalls}
+use Rattle.span_dispatch.specs.Recorder.{Kept, Records, kept_notice, new_recorder, recorder_steps}
+use Rattle.span_dispatch.specs.Serve.{IsReady, Served, flat, made_calls, stack_of}
 use Rattle.span_dispatch.specs.declared.dispatch.Dispatch.{Dispatch}
+use Rattle.span_dispatch.specs.declared.request.Answer.{Answer}
 use Rattle.span_dispatch.specs.declared.request.Request.{Request}
 use Rattle.span_filters.specs.Filter.{settled_answers, unmoved}
 use Rattle.span_filters.specs.Level.{ActsByLevel, level_answers, level_conduct, level_honest, level_plain, level_taken}
@@ -18,7 +19,7 @@ use Rattle.span_registry.specs.Levels.{LevelSteps, unlevelled}
 use Rattle.span_layers.specs.Acts.{FilteredActs, LayeredActs, LeafActs}
 use Rattle.span_layers.specs.Filtered.{FilteredForm, FilteredHears, FilteredSteps, IsNumber, IsUnnumbered, filter_of, id_of, layer_of}
 use Rattle.span_layers.specs.Honest.{IsHonestStack}
-use Rattle.span_layers.specs.Layer.{LayerSteps}
+use Rattle.span_layers.specs.Layer.{HearsBy, LayerSteps}
 use Rattle.span_layers.specs.Layered.{LayeredHears, LayeredSteps, OverForm, inner_of, outer_of, with_inner}
 use Rattle.span_layers.specs.Number.{TakesNumbers, filters_in}
 use Rattle.span_layers.specs.Observe.{open_answers}
@@ -27,19 +28,19 @@ use Rattle.span_layers.specs.declared.filtered.Filtered.{Filtered as FilteredLay
 use Rattle.span_layers.specs.declared.layered.Layered.{Layered}
 use Rattle.span_registry.proofs.Agreeing.{agree_refl}
 use Rattle.span_registry.proofs.CallerLemmas.{settled_new}
-use Rattle.span_registry.specs.Agree.{AgreeAt}
 use Rattle.span_registry.specs.Answers.{AreHonest}
 use Rattle.span_registry.specs.Closes.{IsSettled}
 use Rattle.span_registry.specs.Conducts.{ActsAt, Conducts, no_conducts, numbers_in}
 use Rattle.span_registry.specs.Form.{Bare, Base, Filtered, Form, Leaf, OnSubscriber, Over}
 use Rattle.span_registry.specs.Hooks.{StackSteps}
 use Rattle.span_registry.specs.Place.{HearSteps, Heard, Here, Inner, Outer, Under}
+use Rattle.span_registry.specs.Question.{single}
 use Rattle.span_registry.specs.Store.{RegistryState, Store, empty_store, new_registry}
 use Rattle.span_registry.specs.declared.limits.Limits.{Limits}
 use Rattle.span_uses.proofs.Level.{has_room, leaf_under, took}
 use Rattle.span_uses.proofs.Recorded.{keeps_all}
 use Rattle.span_uses.specs.Dispatches.{Recorded, recorder_of}
-use Rattle.span_uses.specs.Isolation.{Beside, IsNewUnder, KeepTheSame, MakesOf, ServesFirst, WentThroughTheSame, inner_recorder_of}
+use Rattle.span_uses.specs.Isolation.{WithAnswers, Beside, IsNewUnder, KeepTheSame, ServesFirst, WentThroughTheSame, inner_recorder_of, made_first}
 
 -- ---- what the types say
 
@@ -54,7 +55,7 @@ abbrev levelled_steps : LayerSteps Levelled
 levelled_steps x p e lane under v y w = (id_of y ≡ id_of x) × FilteredSteps unmoved recorder_steps (id_of x) (filter_of x) (layer_of x) p e lane under v (filter_of y) (layer_of y) w
 
 abbrev levelled_hears : HearSteps Levelled
-levelled_hears x place h y = FilteredHears recorder_hears (layer_of x) place h (layer_of y)
+levelled_hears x place h y = FilteredHears (HearsBy recorder_steps) (layer_of x) place h (layer_of y)
 
 abbrev levelled_acts : ActsAt Levelled
 levelled_acts x = FilteredActs (id_of x) (ActsByLevel (filter_of x)) LeafActs (layer_of x)
@@ -238,44 +239,53 @@ went_same r q h k same first second =
     let due = subst (λ g. Records new_recorder q (map kept_notice g)) (sym same) second in
     record { notices = map kept_notice h; first = first; second = due; kept = λ a b. keeps_all r _ first a ∙ sym (keeps_all q _ due b) }
 
-abbrev pub Makes1 : List Request → Dispatch Recorded → List Outcome → Dispatch Recorded → Type 0
-Makes1 = MakesOf inner_of with_inner form_1 steps_1 levels_1 hears_1 acts_1
+abbrev pub Serves1 : List Request → List Answer → Dispatch Recorded → Dispatch Recorded → Type 0
+Serves1 = Served inner_of with_inner form_1 steps_1 levels_1 hears_1 acts_1
 
-abbrev pub Makes2 : List Request → Dispatch Beside → List Outcome → Dispatch Beside → Type 0
-Makes2 = MakesOf registry_2 with_registry_2 form_2 steps_2 levels_2 hears_2 acts_2
+abbrev pub Serves2 : List Request → List Answer → Dispatch Beside → Dispatch Beside → Type 0
+Serves2 = Served registry_2 with_registry_2 form_2 steps_2 levels_2 hears_2 acts_2
 
--- what a leaf behind this filter sees from an empty store on follows from the outcomes
-abbrev pub SeesOnly : LevelFilter → Type 0
-SeesOnly level = (outcomes : List Outcome) (h k : Heard) → Alone (conducts_of level) empty_store outcomes h → Alone (conducts_of level) empty_store outcomes k → h ≡ k
+-- what a leaf behind such filters sees of made calls is the same in both stacks
+abbrev pub SeenSame : Type 0
+SeenSame = SeeTheSame (SeesCalls inner_of with_inner form_1 steps_1 levels_1 hears_1 acts_1) (SeesCalls registry_2 with_registry_2 form_2 steps_2 levels_2 hears_2 acts_2)
 
-at_empty : (level : LevelFilter) (s : Store) → s ≡ empty_store → AgreeAt (numbers_in (conducts_of level)) s empty_store
-at_empty level s e = subst (λ t. AgreeAt (numbers_in (conducts_of level)) s t) e (agree_refl _ s)
+or_nothing : (b : Bool) → b || false ≡ b
+or_nothing true = refl
+or_nothing false = refl
+
+-- its filter is the first
+first_number : (level : LevelFilter) → numbers_in (conducts_of level) ≡ single 0
+first_number level = λ i n. or_nothing (n == 0) i
 
 -- where both made the same, both recorders went through the same
-same_kept : (level : LevelFilter) → SeesOnly level → (requests : List Request) (alone last : Dispatch Recorded) (beside end : Dispatch Beside) (outcomes : List Outcome)
+same_kept : (level : LevelFilter) → SeenSame → (requests : List Request) (answers others : List Answer) (alone last : Dispatch Recorded) (beside end : Dispatch Beside)
     → IsNumbered level 0 (outer_of (stack_of alone)) → IsNumbered level 0 (outer_of (inner_of (stack_of beside))) → (inner_of (stack_of alone)).store ≡ empty_store → (registry_2 (stack_of beside)).store ≡ empty_store
-    → Makes1 requests alone outcomes last → Makes2 requests beside outcomes end → WentThroughTheSame (recorder_of last) (inner_recorder_of end)
-same_kept level law requests alone last beside end outcomes one two none nothing first second =
+    → Serves1 requests answers alone last → Serves2 requests others beside end → made_first requests answers ≡ made_first requests others → WentThroughTheSame (recorder_of last) (inner_recorder_of end)
+same_kept level law requests answers others alone last beside end one two none nothing first second same =
     let a = Outer (Under Here) in
     let b = Inner (Outer (Under Here)) in
-    let h = seen a (flat first.served.made) in
-    let k = seen b (flat second.served.made) in
+    let h = seen a (flat first.made) in
+    let k = seen b (flat second.made) in
     let cs = conducts_of level in
-    let sees = subst (λ o. Alone cs empty_store o h) first.made (first.served.alone a cs empty_store (acts_so level _ one) (at_empty level _ none)) in
-    let sees_too = subst (λ o. Alone cs empty_store o k) second.made (second.served.alone b cs empty_store (acts_so level _ two) (at_empty level _ nothing)) in
-    let heard : Records (layer_of (outer_of (stack_of alone))) (recorder_of last) (map kept_notice h) = first.served.each a in
-    let heard_too : Records (layer_of (outer_of (inner_of (stack_of beside)))) (inner_recorder_of end) (map kept_notice k) = second.served.each b in
-    went_same (recorder_of last) (inner_recorder_of end) h k (law outcomes h k sees sees_too) (subst (λ r. Records r (recorder_of last) (map kept_notice h)) one.new.inner heard)
+    let calls = made_first requests others in
+    let own : (done : List Answer) → made_calls (numbers_in cs) [] requests done ≡ made_first requests done = λ done. ap (λ numbers. made_calls numbers [] requests done) (first_number level) in
+    let heard : Records (layer_of (outer_of (stack_of alone))) (recorder_of last) (map kept_notice h) = heard_records h _ _ (first.each a) in
+    let heard_too : Records (layer_of (outer_of (inner_of (stack_of beside)))) (inner_recorder_of end) (map kept_notice k) = heard_records k _ _ (second.each b) in
+    let seen_same = law cs cs empty_store empty_store calls h k
+    (record { old = alone; new = last; requests = requests; answers = answers; served = first; place = a; acts = acts_so level _ one; at_store = none; at_calls = own answers ∙ same; sees = refl })
+    (record { old = beside; new = end; requests = requests; answers = others; served = second; place = b; acts = acts_so level _ two; at_store = nothing; at_calls = own others; sees = refl })
+    (alike level) (agree_refl (numbers_in cs) empty_store) in
+    went_same (recorder_of last) (inner_recorder_of end) h k seen_same (subst (λ r. Records r (recorder_of last) (map kept_notice h)) one.new.inner heard)
     (subst (λ r. Records r (inner_recorder_of end) (map kept_notice k)) two.new.inner heard_too)
 
 abbrev SameLayer : Levelled → Levelled → Type 0
 SameLayer x y = (id_of y ≡ id_of x) × (filter_of y ≡ filter_of x) × (layer_of y ≡ layer_of x)
 
-abbrev Serves1 : List Request → Recorded → Dispatch Recorded → Type 0
-Serves1 = ServesFirst inner_of with_inner form_1 steps_1 levels_1 hears_1 acts_1 (λ x y. SameLayer (outer_of x) (outer_of y) × (inner_of y ≡ inner_of x))
+abbrev First1 : List Request → Recorded → WithAnswers Recorded → Type 0
+First1 = ServesFirst inner_of with_inner form_1 steps_1 levels_1 hears_1 acts_1 (λ x y. SameLayer (outer_of x) (outer_of y) × (inner_of y ≡ inner_of x))
 
-abbrev Serves2 : List Request → Beside → Dispatch Beside → Type 0
-Serves2 = ServesFirst registry_2 with_registry_2 form_2 steps_2 levels_2 hears_2 acts_2
+abbrev First2 : List Request → Beside → WithAnswers Beside → Type 0
+First2 = ServesFirst registry_2 with_registry_2 form_2 steps_2 levels_2 hears_2 acts_2
     (λ x y. SameLayer (outer_of x) (outer_of y) × (SameLayer (outer_of (inner_of x)) (outer_of (inner_of y)) × (inner_of (inner_of y) ≡ inner_of (inner_of x))))
 
 abbrev PutOn1 : LevelFilter → RegistryState → Recorded → Type 0
@@ -304,23 +314,26 @@ room_for_second level other s i recorder u put unnumbered full =
     omega (arith, one, more)
 
 -- both were put in use and served
-pub keep_the_same : (level other : LevelFilter) → SeesOnly level → (requests : List Request) (s t : RegistryState) (x i : Recorded) (y : Beside) (last : Dispatch Recorded) (end : Dispatch Beside)
-    → PutOn1 level s x → PutOn1 level t i → PutOn2 level other i y → Serves1 requests x last → Serves2 requests y end → KeepTheSame level other (Makes1 requests) (Makes2 requests) (last, end)
+pub keep_the_same : (level other : LevelFilter) → SeenSame → (requests : List Request) (s t : RegistryState) (x i : Recorded) (y : Beside) (last : WithAnswers Recorded) (end : WithAnswers Beside)
+    → PutOn1 level s x → PutOn1 level t i → PutOn2 level other i y → First1 requests x last → First2 requests y end → KeepTheSame level other requests (Serves1 requests) (Serves2 requests) (last, end)
 keep_the_same level other law requests s t x i y last end alone within beside one two =
     let a = stays_numbered level 0 _ _ one.in_use.0 alone.outer in
     let kept : IsNumbered level 0 (outer_of (inner_of y)) = subst (λ (j : Recorded). IsNumbered level 0 (outer_of j)) (sym beside.below) within.outer in
     let b = stays_numbered level 0 _ _ two.in_use.1.0 kept in
     let served = one.served (ready inner_of with_inner form_1 steps_1 levels_1 _ _ x alone.stands) in
     let served_too = two.served (ready registry_2 with_registry_2 form_2 steps_2 levels_2 _ _ y beside.stands) in
+    let none = ap (λ (r : RegistryState). r.store) one.same ∙ alone.stands.empty in
+    let nothing = ap (λ (r : RegistryState). r.store) two.same ∙ beside.stands.empty in
+    let same : made_first requests last.1.items ≡ made_first requests end.1.items → WentThroughTheSame (recorder_of last.0) (inner_recorder_of end.0) =
+    same_kept level law requests last.1.items end.1.items one.first last.0 two.first end.0 a b none nothing served served_too in
     record {
       alone = one.first;
       beside = two.first;
       alone_new = a.new;
       beside_new = b.new;
       other_new = (stays_numbered other 1 _ _ two.in_use.0 beside.outer).new;
-      alone_served = (_, record { answers = served.0; served = served.1; made = refl });
-      beside_served = (_, record { answers = served_too.0; served = served_too.1; made = refl });
-      same = λ outcomes m n.
-          same_kept level law requests one.first last two.first end outcomes a b (ap (λ (r : RegistryState). r.store) one.same ∙ alone.stands.empty)
-          (ap (λ (r : RegistryState). r.store) two.same ∙ beside.stands.empty) m n;
+      alone_served = served;
+      beside_served = served_too;
+      same = same;
+      same_answers = λ e. same (ap (made_first requests) e);
     }

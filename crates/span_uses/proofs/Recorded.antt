@@ -17,10 +17,10 @@ use Rattle.span_core.specs.declared.metadata.Metadata.{Metadata}
 use Rattle.span_core.specs.declared.span.Attributes.{Attributes}
 use Rattle.span_core.specs.declared.span.Id.{Id}
 use Rattle.span_core.specs.declared.span.Lane.{Lane}
-use Rattle.span_dispatch.proofs.CallerLemmas.{event_served, known_unkept, next_served, none_served, seen_append, span_served, unkept_still, vetoed_unkept}
+use Rattle.span_dispatch.proofs.CallerLemmas.{event_asked, event_served, heard_records, known_unkept, next_served, none_served, seen_append, span_asked, span_served, unkept_still, vetoed_unkept}
 use Rattle.span_dispatch.specs.Call.{vetoes_whole}
 use Rattle.span_dispatch.specs.Outcome.{GoesOn, Made, Makes, Noticed, Outcome, Quiet, LevelSet}
-use Rattle.span_dispatch.specs.Recorder.{Kept, Records, kept_notice, new_recorder, recorder_hears, recorder_steps}
+use Rattle.span_dispatch.specs.Recorder.{Kept, Records, kept_notice, new_recorder, recorder_steps}
 use Rattle.span_dispatch.specs.Cache.{Memory}
 use Rattle.span_dispatch.specs.Alone.{passed, seen}
 use Rattle.span_dispatch.specs.Serve.{IsReady, Run, Served, ServesRequest, flat, kept_by, stack_of}
@@ -37,7 +37,7 @@ use Rattle.span_layers.specs.Levels.{FilteredLevels, LayeredLevels}
 use Rattle.span_registry.specs.Levels.{LevelSteps, unlevelled}
 use Rattle.span_layers.specs.Filtered.{FilteredForm, FilteredHears, FilteredSteps, Hooked, IsNumber, IsUnnumbered, filter_of, id_of, layer_of}
 use Rattle.span_layers.specs.Honest.{IsHonestStack}
-use Rattle.span_layers.specs.Layer.{LayerSteps}
+use Rattle.span_layers.specs.Layer.{HearsBy, LayerSteps}
 use Rattle.span_layers.specs.Layered.{LayeredHears, LayeredSteps, OverForm, inner_of, outer_of, with_inner}
 use Rattle.span_layers.specs.Number.{TakesNumbers, filters_in}
 use Rattle.span_layers.specs.Observe.{open_answers}
@@ -50,7 +50,7 @@ use Rattle.span_registry.specs.Conducts.{ActsAt}
 use Rattle.span_registry.specs.Closes.{IsSettled}
 use Rattle.span_registry.specs.Form.{Bare, Base, Filtered, Form, Leaf, OnSubscriber, Over}
 use Rattle.span_registry.specs.Hooks.{StackSteps}
-use Rattle.span_registry.specs.Place.{HearSteps, Here, Outer, Place, Under}
+use Rattle.span_registry.specs.Place.{HearSteps, Here, Outer, Place, Told, Under, told_in}
 use Rattle.span_registry.specs.Plan.{Itself, Nobody, Through}
 use Rattle.span_registry.specs.Store.{RegistryState, new_registry}
 use Rattle.span_registry.specs.declared.limits.Limits.{Limits}
@@ -82,7 +82,7 @@ stack_levels x n l y = LayeredLevels (λ a m k b. (id_of b ≡ id_of a) × Filte
 
 -- what its leaf hears
 abbrev pub stack_hears : HearSteps Recorded
-stack_hears x p h y = LayeredHears (λ (a : FilteredLayer Kept LevelFilter) q k b. FilteredHears recorder_hears (layer_of a) q k (layer_of b)) (λ (i : RegistryState) q k j. ⊤) (outer_of x) (inner_of x) p h (outer_of y) (inner_of y)
+stack_hears x p h y = LayeredHears (λ (a : FilteredLayer Kept LevelFilter) q k b. FilteredHears (HearsBy recorder_steps) (layer_of a) q k (layer_of b)) (λ (i : RegistryState) q k j. ⊤) (outer_of x) (inner_of x) p h (outer_of y) (inner_of y)
 
 -- where the recorder stands
 abbrev pub place : Place
@@ -150,11 +150,11 @@ kept_append : (ms ns : List Made) → kept_from (ms ++ ns) ≡ kept_from ms ++ k
 kept_append ms ns = ap (map kept_notice) (seen_append place ms ns) ∙ map-append kept_notice (seen place ms) (seen place ns)
 
 -- of what the level passes, and the leaf then passes too
-by_level : (b : Bool) (one : ℕ × Notice) → map kept_notice ((if b && true then one ∷ [] else []) ++ []) ≡ (if b then kept_notice one ∷ [] else [])
+by_level : (b : Bool) (one : Told) → map kept_notice ((if b && true then one ∷ [] else []) ++ []) ≡ (if b then kept_notice one ∷ [] else [])
 by_level true one = refl
 by_level false one = refl
 
-by_level_twice : (b : Bool) (one : ℕ × Notice) → map kept_notice ((if (b && true) && true then one ∷ [] else []) ++ []) ≡ (if b then kept_notice one ∷ [] else [])
+by_level_twice : (b : Bool) (one : Told) → map kept_notice ((if (b && true) && true then one ∷ [] else []) ++ []) ≡ (if b then kept_notice one ∷ [] else [])
 by_level_twice true one = refl
 by_level_twice false one = refl
 
@@ -170,9 +170,9 @@ kept_new : (level : LevelFilter) (lane : Lane) (m : Metadata) (x : Recorded) →
     → Keeps level (kept_span level lane m (answer.Made id)) (one ∷ []) z
 kept_new level lane m x u id attrs one z same is made =
     let form = formed level x one.form u made.honest.has in
-    let seen_so : kept_from (one ∷ []) ≡ map kept_notice (passed (path_at (form_of level form.0) place) (Noticed lane (OnNewSpan attrs id)) one.store ++ []) = λ j. map kept_notice (passed (path_at (form.1 j) place) (is j) one.store ++ []) in
+    let seen_so : kept_from (one ∷ []) ≡ map kept_notice (passed (path_at (form_of level form.0) place) (Noticed lane (OnNewSpan attrs id)) one.store one.given ++ []) = λ j. map kept_notice (passed (path_at (form.1 j) place) (is j) one.store one.given ++ []) in
     record {
-      keeps = seen_so ∙ by_level (passes_level level (level_of (metadata_of attrs))) (lane.0, OnNewSpan attrs id) ∙ ap (λ k. kept_span level lane k (answer.Made id)) same;
+      keeps = seen_so ∙ by_level (passes_level level (level_of (metadata_of attrs))) (told_in (OnNewSpan attrs id) one.given lane.0 _) ∙ ap (λ k. kept_span level lane k (answer.Made id)) same;
       under = goes_under level one.form one.outcome x z (subst IsNoLevel (sym is) tt) u made.honest.has made.goes;
     }
 
@@ -180,9 +180,9 @@ kept_sent : (level : LevelFilter) (lane : Lane) (m : Metadata) (x : Recorded) �
     → Keeps level (kept_event level lane m) (one ∷ []) z
 kept_sent level lane m x u e one z same is made =
     let form = formed level x one.form u made.honest.has in
-    let seen_so : kept_from (one ∷ []) ≡ map kept_notice (passed (path_at (form_of level form.0) place) (Noticed lane (OnEvent e)) one.store ++ []) = λ j. map kept_notice (passed (path_at (form.1 j) place) (is j) one.store ++ []) in
+    let seen_so : kept_from (one ∷ []) ≡ map kept_notice (passed (path_at (form_of level form.0) place) (Noticed lane (OnEvent e)) one.store one.given ++ []) = λ j. map kept_notice (passed (path_at (form.1 j) place) (is j) one.store one.given ++ []) in
     record {
-      keeps = seen_so ∙ by_level_twice (passes_level level (level_of (event_metadata e))) (lane.0, OnEvent e) ∙ ap (λ k. kept_event level lane k) same;
+      keeps = seen_so ∙ by_level_twice (passes_level level (level_of (event_metadata e))) (told_in (OnEvent e) one.given lane.0 _) ∙ ap (λ k. kept_event level lane k) same;
       under = goes_under level one.form one.outcome x z (subst IsNoLevel (sym is) tt) u made.honest.has made.goes;
     }
 
@@ -204,7 +204,7 @@ keeps_span : (level : LevelFilter) (past : List Answer) (lane : Lane) (m : Metad
     → ServesOne past (request.NewSpan lane m p values) x a made after y → IsMadeOrRefused a × Keeps level (kept_span level lane m a) made y × (after ≡ None)
 keeps_span level past lane m p values x a made after y u h =
     span_served inner_of with_inner HasForm stack_steps stack_levels past lane m p values None x a made after y (λ b ms k z. IsMadeOrRefused b × Keeps level (kept_span level lane m b) ms z × (k ≡ None))
-    (λ id attrs f one k z asks keeps is made. (tt, kept_new level lane m x u id attrs one z asks.1 is made, keeps))
+    (λ id attrs f one k z asks keeps is made. (tt, kept_new level lane m x u id attrs one z (span_asked past lane lane m p values attrs asks).1 is made, keeps))
     (λ attrs f k asks ready dropped keeps. absurd (never_vetoed level x f (metadata_of attrs) lane u ready.honest.has (vetoed_unkept f (inner_of x) lane (metadata_of attrs) _ dropped)))
     (λ attrs e f k asks refused keeps. (tt, record { keeps = refl; under = u }, unkept_still f (metadata_of attrs) e k keeps)) h
 
@@ -212,7 +212,7 @@ keeps_event : (level : LevelFilter) (past : List Answer) (lane : Lane) (m : Meta
     → ServesOne past (request.Event lane m p values) x a made after y → (a ≡ answer.Done) × Keeps level (kept_event level lane m) made y × (after ≡ None)
 keeps_event level past lane m p values x a made after y u h =
     event_served inner_of with_inner HasForm stack_steps stack_levels past lane m p values None x a made after y (λ b ms k z. (b ≡ answer.Done) × Keeps level (kept_event level lane m) ms z × (k ≡ None))
-    (λ e f one k z asks keeps is made. (refl, kept_sent level lane m x u e one z asks.1 is made, keeps))
+    (λ e f one k z asks keeps is made. (refl, kept_sent level lane m x u e one z (event_asked past lane lane m p values e asks).1 is made, keeps))
     (λ e f k asks ready dropped keeps. absurd (never_vetoed_whole level x f e lane u ready.honest.has (vetoed_unkept f (inner_of x) lane (event_metadata e) _ dropped)))
     (λ e error f k asks unknown keeps. absurd (known_unkept f (event_metadata e) error unknown)) h
 
@@ -327,6 +327,6 @@ served_three level lane outer inner event p q r us vs ws old done new kept serve
     let requests = request.NewSpan lane outer p us ∷ request.NewSpan lane inner q vs ∷ request.Event lane event r ws ∷ [] in
     let run = subst (λ k. Run inner_of with_inner HasForm stack_steps stack_levels [] requests done.1.items served.made k x (kept_by done.0) (stack_of done.0)) kept served.run in
     let three = keeps_three level lane outer inner event p q r us vs ws x (kept_by done.0) (stack_of done.0) done.1.items served.made new.under run in
-    let heard : Records (layer_of (outer_of x)) (recorder_of done.0) (kept_from (flat served.made)) = served.each place in
+    let heard : Records (layer_of (outer_of x)) (recorder_of done.0) (kept_from (flat served.made)) = heard_records _ _ _ (served.each place) in
     let due = subst (λ h. Records new_recorder (recorder_of done.0) h) three.keeps (subst (λ k. Records k (recorder_of done.0) (kept_from (flat served.made))) new.empty heard) in
     record { first = three.first; second = three.second; answers = three.answered; spans = three.spans; notified = due; kept = keeps_all (recorder_of done.0) _ due }

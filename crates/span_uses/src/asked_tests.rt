@@ -2,10 +2,11 @@
 ghost use Rattle.std.specs.Prelude.{◌≡◌, ⊤, true};
 ghost use Rattle.span_layers.specs.Acts.{LeafActs};
 ghost use Rattle.span_layers.specs.ActsKept.{is_leaf, leaf_path_laws};
+ghost use Rattle.span_layers.specs.Layer.{HearsBy};
 ghost use Rattle.span_layers.specs.Levels.{leaf_levels};
 ghost use Rattle.span_registry.specs.Form.{Leaf};
 ghost use Rattle.span_registry.specs.Levels.{unlevelled};
-ghost use Rattle.span_uses.specs.Tests.{fixed_answers, fixed_answers_laws};
+ghost use Rattle.span_uses.specs.Tests.{FixedSteps, fixed_answers, fixed_answers_laws};
 
 use crate::tests::sent_to_layer;
 use span_core::{Attributes, Event, Id, Interest, LevelFilter, Metadata, Pass, Record};
@@ -28,9 +29,9 @@ struct Asked {
 impl<S: Subscriber> Layer<S> for Asked {
     ghost has_form = { λ x f. f ≡ Leaf true (fixed_answers x.metadata_pass x.events_pass) };
 
-    ghost stepped = { λ x p e lane under v y w. (y.metadata_pass ≡ x.metadata_pass) × (y.events_pass ≡ x.events_pass) };
+    ghost stepped = { FixedSteps (λ x. x.metadata_pass) (λ x. x.events_pass) };
 
-    ghost hears = { λ x place h y. ⊤ };
+    ghost hears = { HearsBy (FixedSteps (λ x. x.metadata_pass) (λ x. x.events_pass)) };
 
     ghost acts_at = { LeafActs };
 

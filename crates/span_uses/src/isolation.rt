@@ -1,10 +1,11 @@
 //! The same recorder under the same level in two stacks: what else stands in a stack makes no difference to it.
 ghost use Rattle.std.specs.Prelude.{IfErr, IfOk, ◌≡◌};
-ghost use Rattle.span_uses.specs.Isolation.{KeepTheSame, MakesOf, ServesFirst};
+ghost use Rattle.span_dispatch.specs.Serve.{Served};
+ghost use Rattle.span_uses.specs.Isolation.{KeepTheSame, ServesFirst};
 
 use crate::dispatch::Recorded;
 use span_core::{LevelFilter, TraceError};
-use span_dispatch::{Dispatch, Recorder, Request};
+use span_dispatch::{Answer, Dispatch, Recorder, Request};
 use span_layers::{Filtered, LayerExt, Layered, SubscriberExt};
 use span_registry::{Registry, Subscriber};
 use std::alloc::Global;
@@ -12,17 +13,22 @@ use std::alloc::Global;
 /// A recorder under a level, outside another on a registry.
 pub type Beside = Layered<Filtered<Recorder, LevelFilter>, Recorded>;
 
+/// A dispatcher with what it answered.
+pub type WithAnswers<S> = (Dispatch<S>, Vec<Answer>);
+
 /// Serves the same requests on a recorder under a level alone, and on one beside another recorder under another level.
+///
+/// Where both were answered the same, the recorder that stands alone and the one beside another went through the same.
 pub fn record_alone_and_beside(
     alloc: Global,
     level: LevelFilter,
     other: LevelFilter,
     requests: &[Request<'_>],
-) -> Result<(Dispatch<Recorded>, Dispatch<Beside>), TraceError>
+) -> Result<(WithAnswers<Recorded>, WithAnswers<Beside>), TraceError>
     ensures same { let one = ⟦<Recorded as Subscriber>⟧ in let two = ⟦<Beside as Subscriber>⟧ in
-        IfOk result (KeepTheSame level other
-        (MakesOf one.registry one.with_registry one.has_form one.stepped one.levelled one.hears one.acts_at requests.now)
-        (MakesOf two.registry two.with_registry two.has_form two.stepped two.levelled two.hears two.acts_at requests.now)) }
+        IfOk result (KeepTheSame level other requests.now
+        (Served one.registry one.with_registry one.has_form one.stepped one.levelled one.hears one.acts_at requests.now)
+        (Served two.registry two.with_registry two.has_form two.stepped two.levelled two.hears two.acts_at requests.now)) }
     ensures memory { IfErr result (λ e. e ≡ TraceError.OutOfMemory) }
 {
     span_layers::laws::numbers_are_own();
@@ -48,17 +54,17 @@ pub fn record_alone_and_beside(
     ))
 }
 
-/// Puts a stack in use, and serves requests with it.
+/// Puts a stack in use, serves requests with it, and gives the answers, too.
 fn serve_first<S: Subscriber + Drop>(
     alloc: Global,
     stack: S,
     requests: &[Request<'_>],
-) -> Result<Dispatch<S>, TraceError>
+) -> Result<WithAnswers<S>, TraceError>
     requires { S.usable stack }
     ensures served { IfOk result (ServesFirst S.registry S.with_registry S.has_form S.stepped S.levelled S.hears S.acts_at S.registered requests.now stack) }
     ensures memory { IfErr result (λ e. e ≡ TraceError.OutOfMemory) }
 {
     let mut dispatch = Dispatch::fresh(alloc, stack);
-    dispatch.serve(alloc, requests)?;
-    Ok(dispatch)
+    let answers = dispatch.serve(alloc, requests)?;
+    Ok((dispatch, answers))
 }

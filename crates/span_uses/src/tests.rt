@@ -351,7 +351,9 @@ fn a_recorder_keeps_the_same_alone_and_beside_another(rt: HostRuntime) -> Result
         event_from(2, Level::WARN),
     ];
     let (level, other) = (LevelFilter::INFO, LevelFilter::TRACE);
-    let (alone, beside) = record_alone_and_beside(rt.alloc(), level, other, &requests)?;
+    let (one, two) = record_alone_and_beside(rt.alloc(), level, other, &requests)?;
+    let ((alone, answers), (beside, others)) = (one, two);
+    assert!(rt; answers == others);
     let kept = alone.stack().layer().inner().notices();
     assert_eq!(rt; kept.len(), 2);
     assert_eq!(rt; beside.stack().inner().layer().inner().notices(), kept);

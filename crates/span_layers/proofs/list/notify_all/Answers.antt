@@ -11,8 +11,8 @@ pub loop-member-init : goal.loop-member-init
 loop-member-init g c =
     let all = c.args.members.now in
     record {
-      usable = c.requires.0;
-      subscriber = c.requires.1;
+      usable = c.requires.usable.0;
+      subscriber = c.requires.usable.1;
       left = refl;
       rest = handed_same g.S.LookupSpan.registry c.args.ctx.now;
       goes = whole_left g.L.Layer.has_form all _ (none_notified g.S.LookupSpan.registry g.S.LookupSpan.with_registry g.L.Layer.has_form g.L.Layer.stepped (notice_of c.args.notice) c.args.ctx.now all g.met.S.LookupSpan.with_own);

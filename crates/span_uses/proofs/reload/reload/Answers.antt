@@ -1,7 +1,4 @@
-use Rattle.std.proofs.Common.{refl}
-use Rattle.std.specs.Prelude.{map}
 use Rattle.span_core.specs.declared.level.TheConstants.LevelFilter.{DEBUG, WARN}
-use Rattle.span_dispatch.specs.Serve.{flat, outcome_of}
 use Rattle.span_registry.specs.Levels.{KeepsRules, LevelsForm, level_rules}
 use Rattle.span_uses.proofs.Recorded.{has_room_at_first, in_use, starts, starts_first}
 use Rattle.span_uses.proofs.Settable.{is_set, never_refused, ready_first, ready_still}
@@ -33,7 +30,7 @@ returns-clause-reloads c =
       before = _;
       after = _;
       recorder = record { own = used.under.own; inner = used.empty };
-      first = (map outcome_of (flat first.made), record { answers = c.in_ok-serve.field-0.items; served = first; made = refl });
+      first = (c.in_ok-serve.field-0.items, first);
       set = is_set _ _ DEBUG before c.in_ok-set_level.ensures.level;
-      rest = (map outcome_of (flat rest.made), record { answers = c.in_ok-serve-2.field-0.items; served = rest; made = refl });
+      rest = (c.in_ok-serve-2.field-0.items, rest);
     }

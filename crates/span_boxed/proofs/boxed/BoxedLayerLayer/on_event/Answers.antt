@@ -15,4 +15,4 @@ returns-clause-hook g c =
     (StepsLawfully (λ b. (d (b.object.vtable, b.object.value)).dyn_form b.object.value) (StepsInside (λ b. (d (b.object.vtable, b.object.value)).dyn_stepped)) (HearsInside (λ b. (d (b.object.vtable, b.object.value)).dyn_hears)) (λ b. (d (b.object.vtable, b.object.value)).dyn_acts_at b.object.value)) _
     c.args.ctx.now c.take_root-root.new.self c.put_root.new.self _ _ _ c.over.result c.dyn_on_event.new.ctx
     c.take_root-root.ensures.root c.take_root-root.ensures.rest c.over.ensures.lent (search (rules)) c.put_root.ensures
-    (λ f h. let s = c.dyn_on_event.ensures.1.1 f h in record { taken = (_, refl, s.taken); follows = s.follows; heard = λ place. (_, refl, s.heard place); acts_on = s.acts_on })
+    (λ f h. let s = c.dyn_on_event.ensures.1.1 f h in record { taken = (_, refl, s.taken); follows = s.follows; heard = λ place k l. (_, refl, s.heard place k l); acts_on = s.acts_on; alone = s.alone; kind = s.kind })

@@ -2,9 +2,12 @@ use Rattle.std.proofs.Common.{refl, rules, subst, sym}
 use Rattle.span_boxed.specs.Boxed.{HearsInside, StepsInside, StepsLawfully}
 use Rattle.span_boxed.proofs.BoxLemmas.{asked_of_object, notified_over_root}
 use Rattle.span_boxed.proofs.boxed.BoxedLayerLayer.on_exit.Goals as goal
+use Rattle.span_registry.proofs.CallerLemmas.{unrefused_on, unrefused_over}
 
 pub dyn_on_exit-requires : goal.dyn_on_exit-requires
-dyn_on_exit-requires g c κs = asked_of_object _ _ _ _ (subst (λ z. (goal.DynLayer-dyn g z).dyn_usable z.1) (sym c.deref_box_mut-1.ensures.value.1) c.requires.0)
+dyn_on_exit-requires g c κs =
+    let usable = subst (λ z. (goal.DynLayer-dyn g z).dyn_usable z.1) (sym c.deref_box_mut-1.ensures.value.1) c.requires.usable.0 in
+    asked_of_object _ _ _ _ (usable, unrefused_over c.over.ensures.lent (unrefused_on c.take_root-root.ensures.rest.loan c.requires.refusals))
 
 pub returns-clause-hook : goal.returns-clause-hook
 returns-clause-hook g c =
@@ -15,4 +18,4 @@ returns-clause-hook g c =
     (StepsLawfully (λ b. (d (b.object.vtable, b.object.value)).dyn_form b.object.value) (StepsInside (λ b. (d (b.object.vtable, b.object.value)).dyn_stepped)) (HearsInside (λ b. (d (b.object.vtable, b.object.value)).dyn_hears)) (λ b. (d (b.object.vtable, b.object.value)).dyn_acts_at b.object.value)) _
     c.args.ctx.now c.take_root-root.new.self c.put_root.new.self _ _ _ c.over.result c.dyn_on_exit.new.ctx
     c.take_root-root.ensures.root c.take_root-root.ensures.rest c.over.ensures.lent (search (rules)) c.put_root.ensures
-    (λ f h. let s = c.dyn_on_exit.ensures.1.1 f h in record { taken = (_, refl, s.taken); follows = s.follows; heard = λ place. (_, refl, s.heard place); acts_on = s.acts_on })
+    (λ f h. let s = c.dyn_on_exit.ensures.1.1 f h in record { taken = (_, refl, s.taken); follows = s.follows; heard = λ place k l. (_, refl, s.heard place k l); acts_on = s.acts_on; alone = s.alone; kind = s.kind })

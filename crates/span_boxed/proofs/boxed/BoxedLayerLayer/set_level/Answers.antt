@@ -1,4 +1,4 @@
-use Rattle.std.proofs.Common.{refl, subst, sym}
+use Rattle.std.proofs.Common.{ap, refl, subst, sym}
 use Rattle.span_boxed.specs.Boxed.{HearsInside, LevelsInside, LevelsLawfully}
 use Rattle.span_boxed.proofs.BoxLemmas.{asked_of_object, boxed_same, in_its_box}
 use Rattle.span_registry.specs.Levels.{takes_level}
@@ -17,7 +17,7 @@ returns-clause-level g c =
     let levels = c.dyn_set_level.ensures.1.1.0 in
     in_its_box (λ i x. record c.args.self.now { object = record c.args.self.now.object { vtable = i; value = x } })
     (λ a b. LevelsLawfully (λ b. (d (b.object.vtable, b.object.value)).dyn_form b.object.value) (LevelsInside (λ b. (d (b.object.vtable, b.object.value)).dyn_levelled)) (HearsInside (λ b. (d (b.object.vtable, b.object.value)).dyn_hears)) (λ b. (d (b.object.vtable, b.object.value)).dyn_acts_at b.object.value) a c.args.number c.args.level b) _ _ c.deref_box_mut-1.ensures.value.1 _
-    (record { taken = (_, refl, levels.taken); follows = levels.follows; heard = λ place. (_, refl, levels.heard place); acts_on = λ place cs a. let k = levels.acts_on place cs a in record { acted = k.acted; plain = k.plain; now = k.now } })
+    (record { taken = (_, refl, levels.taken); follows = levels.follows; heard = λ place. (_, refl, levels.heard place); acts_on = λ place cs a. let k = levels.acts_on place cs a in record { acted = k.acted; plain = k.plain; now = k.now }; leaf = λ f h l. ap (λ v. record c.args.self.now { object = record c.args.self.now.object { vtable = _; value = v } }) (levels.leaf f h l) })
 
 pub returns-clause-unchanged : goal.returns-clause-unchanged
 returns-clause-unchanged g c e =

@@ -1,6 +1,6 @@
 use Rattle.span_dispatch.proofs.Alone.{sees_what_is_made}
 use Rattle.std.proofs.Common.{Ok, refl, subst, sym}
-use Rattle.span_dispatch.proofs.Calls.{event_made, event_vetoed}
+use Rattle.span_dispatch.proofs.Calls.{event_dropped, event_made, event_vetoed}
 use Rattle.span_dispatch.proofs.Goes.{ready_again, same_stack, stays_so}
 use Rattle.span_dispatch.proofs.Stores.{event_refused, event_unwanted, event_wanted, no_step}
 use Rattle.span_dispatch.specs.Admission.{IsAdmitted}
@@ -29,6 +29,12 @@ returns-in-Ok-false-clause-store g c = subst (λ y. AndHooks g.S.LookupSpan.regi
 pub returns-in-Ok-false-clause-asked : goal.returns-in-Ok-false-clause-asked
 returns-in-Ok-false-clause-asked g c =
     event_unwanted g.S.LookupSpan.registry g.S.Subscriber.has_form c.args.lane (stack_of c.args.self.now) (kept_by c.args.self.now) c.args.event.now c.metadata.result c.new-pass.result c.admits.new.pass _ c.metadata.ensures c.new-pass.ensures.refused refl (λ e. subst (λ b. AnswersEnabled g.S.LookupSpan.registry g.S.Subscriber.has_form (stack_of c.args.self.now) c.args.lane c.metadata.result c.new-pass.result b c.admits.new.pass) c.in-Ok-false.field-0-test (c.in-Ok-false.ensures.afresh e))
+
+pub returns-in-Ok-false-clause-served : goal.returns-in-Ok-false-clause-served
+returns-in-Ok-false-clause-served g c = λ f h u.
+    same_stack g.S.LookupSpan.registry g.S.LookupSpan.with_registry g.S.Subscriber.has_form g.S.Subscriber.stepped g.S.Subscriber.levelled (SendEvent c.args.lane c.args.event.now) f answer.Dropped c.args.self.now c.admits.new.self c.admits.ensures.stack
+    ((event_dropped g.met.S.Subscriber.laws g.met.S.LookupSpan.with_own g.S.Subscriber.levelled (kept_by c.args.self.now) c.args.lane c.args.event.now c.metadata.result c.admits.new.pass (kept_by c.admits.new.self) f (stack_of c.args.self.now) c.metadata.ensures
+    (subst (λ b. IsAdmitted (kept_by c.args.self.now) f (g.S.LookupSpan.registry (stack_of c.args.self.now)) c.args.lane c.metadata.result c.admits.new.pass (kept_by c.admits.new.self) (Ok b)) c.in-Ok-false.field-0-test (c.in-Ok-false.ensures.admitted f h u)) h).0)
 
 pub returns-then-not-event_enabled-clause-ready : goal.returns-then-not-event_enabled-clause-ready
 returns-then-not-event_enabled-clause-ready g c = λ f k. stays_so g.S.LookupSpan.registry g.S.LookupSpan.with_registry g.S.Subscriber.has_form g.S.Subscriber.stepped g.S.Subscriber.levelled f c.args.self.now c.admits.new.self c.admits.ensures.stack (c.admits.ensures.kept f k.stack.honest.has k.kept) k

@@ -1,11 +1,15 @@
 use Rattle.span_dispatch.proofs.Alone.{sees_what_is_made}
-use Rattle.std.proofs.Common.{Ok, inr, subst, ◌∙◌}
+use Rattle.std.proofs.Common.{◌≡◌, false, Ok, inr, subst, ◌∙◌}
 use Rattle.span_core.specs.Span.{asked_parent, metadata_of}
-use Rattle.span_dispatch.proofs.Calls.{span_made, span_refused}
-use Rattle.span_dispatch.proofs.Goes.{ready_again, stays_so}
+use Rattle.span_dispatch.proofs.Calls.{span_dropped, span_made, span_refused}
+use Rattle.span_dispatch.proofs.Goes.{ready_again, same_stack, stays_so}
 use Rattle.span_dispatch.proofs.Stores.{Wanted, metadata_wanted, opened_by, unrefused}
+use Rattle.span_dispatch.proofs.Admits.{below_before, let_by_below}
 use Rattle.span_dispatch.specs.Admission.{IsAdmitted}
-use Rattle.span_dispatch.specs.Serve.{kept_by, stack_of, with_stack}
+use Rattle.span_dispatch.specs.Cache.{is_above_read}
+use Rattle.span_dispatch.specs.Call.{OpenSpan}
+use Rattle.span_dispatch.specs.Serve.{hint_by, kept_by, stack_of, with_stack}
+use Rattle.span_dispatch.specs.declared.request.Answer.TheVariants as answer
 use Rattle.span_registry.specs.Hooks.{OpensAndNotifies}
 use Rattle.span_registry.specs.Step.{RefusesNew}
 use Rattle.span_dispatch.proofs.dispatch.Dispatch.open.Goals as goal
@@ -15,6 +19,12 @@ returns-in-Err-clause-ready g c = λ f k. stays_so g.S.LookupSpan.registry g.S.L
 
 pub returns-in-Ok-false-clause-ready : goal.returns-in-Ok-false-clause-ready
 returns-in-Ok-false-clause-ready g c = λ f k. stays_so g.S.LookupSpan.registry g.S.LookupSpan.with_registry g.S.Subscriber.has_form g.S.Subscriber.stepped g.S.Subscriber.levelled f c.args.self.now c.admits.new.self c.admits.ensures.stack (c.admits.ensures.kept f k.stack.honest.has k.kept) k
+
+pub returns-in-Ok-false-clause-served : goal.returns-in-Ok-false-clause-served
+returns-in-Ok-false-clause-served g c = λ f h u.
+    same_stack g.S.LookupSpan.registry g.S.LookupSpan.with_registry g.S.Subscriber.has_form g.S.Subscriber.stepped g.S.Subscriber.levelled (OpenSpan c.args.lane c.args.attrs.now) f answer.Dropped c.args.self.now c.admits.new.self c.admits.ensures.stack
+    ((span_dropped g.met.S.Subscriber.laws g.met.S.LookupSpan.with_own g.S.Subscriber.levelled (kept_by c.args.self.now) c.args.lane c.args.attrs.now c.metadata.result c.admits.new.pass (kept_by c.admits.new.self) f (stack_of c.args.self.now) c.metadata.ensures
+    (subst (λ b. IsAdmitted (kept_by c.args.self.now) f (g.S.LookupSpan.registry (stack_of c.args.self.now)) c.args.lane c.metadata.result c.admits.new.pass (kept_by c.admits.new.self) (Ok b)) c.in-Ok-false.field-0-test (c.in-Ok-false.ensures.admitted f h u)) h).0)
 
 pub returns-in-Ok-false-clause-asked : goal.returns-in-Ok-false-clause-asked
 returns-in-Ok-false-clause-asked g c =
@@ -49,10 +59,14 @@ returns-in-Err-new_span-clause-served g c = λ f h u.
     (subst (λ x. RefusesNew (g.S.LookupSpan.registry x) c.args.lane (asked_parent c.args.attrs.now) c.in-Err-new_span.error) c.admits.ensures.stack c.in-Err-new_span.ensures.refused) (c.in-Err-new_span.ensures.unchanged ∙ c.admits.ensures.stack) h).0
 
 pub returns-in-Err-new_span-clause-refused : goal.returns-in-Err-new_span-clause-refused
-returns-in-Err-new_span-clause-refused g c = inr (subst (λ x. RefusesNew (g.S.LookupSpan.registry x) c.args.lane (asked_parent c.args.attrs.now) c.in-Err-new_span.error) c.admits.ensures.stack c.in-Err-new_span.ensures.refused)
+returns-in-Err-new_span-clause-refused g c =
+    let passes = below_before (kept_by c.args.self.now) (hint_by c.args.self.now) (hint_by c.admits.new.self) c.metadata.result c.admits.ensures.hint (let_by_below _ (Ok c.in-Ok-true.field-0) c.in-Ok-true.ensures.above (λ i. Ok (c.in-Ok-true.field-0-test i))) in (
+      subst (λ m. is_above_read (hint_by c.args.self.now) m ≡ false) c.metadata.ensures passes,
+      inr (subst (λ x. RefusesNew (g.S.LookupSpan.registry x) c.args.lane (asked_parent c.args.attrs.now) c.in-Err-new_span.error) c.admits.ensures.stack c.in-Err-new_span.ensures.refused),
+    )
 
 pub returns-in-Err-clause-asked : goal.returns-in-Err-clause-asked
-returns-in-Err-clause-asked g c = unrefused g.S.LookupSpan.registry g.S.Subscriber.has_form c.args.lane (stack_of c.args.self.now) (kept_by c.args.self.now) c.metadata.result (metadata_of c.args.attrs.now) c.in-Err.error c.in-Err.ensures.refused
+returns-in-Err-clause-asked g c = unrefused g.S.LookupSpan.registry g.S.Subscriber.has_form c.args.lane (stack_of c.args.self.now) (kept_by c.args.self.now) c.metadata.result (metadata_of c.args.attrs.now) c.in-Err.error c.in-Err.ensures.refused.1
 
 pub returns-in-Err-new_span-clause-asked : goal.returns-in-Err-new_span-clause-asked
 returns-in-Err-new_span-clause-asked g c =

@@ -1,6 +1,8 @@
 use Rattle.span_dispatch.proofs.Goes.{by_keeping, stays_so}
 use Rattle.std.proofs.Common.{refl, ◌+◌, ap, arith, sym, subst, take, [], ◌∙◌}
 use Rattle.std.proofs.lemmas.List.{take_all, take_more}
+use Rattle.span_dispatch.proofs.KeptHint.{one_goes}
+use Rattle.span_dispatch.specs.KeptHint.{AllGoByKept}
 use Rattle.span_registry.specs.Store.{AreIssued, RegistryState}
 use Rattle.span_dispatch.proofs.Served.{SoFar, all_served, nothing_yet, one_more}
 use Rattle.span_dispatch.proofs.dispatch.Dispatch.serve.Goals as goal
@@ -11,6 +13,7 @@ loop-request-init g c =
     record {
       usable = c.requires;
       served = λ f ready. subst (SoFar g.S.LookupSpan.registry g.S.LookupSpan.with_registry g.S.Subscriber.has_form g.S.Subscriber.stepped g.S.Subscriber.levelled f c.args.self.now c.args.self.now []) (sym e.items) (nothing_yet g.S.LookupSpan.registry g.S.LookupSpan.with_registry g.S.Subscriber.has_form g.S.Subscriber.stepped g.S.Subscriber.levelled f c.args.self.now ready);
+      kept = subst (λ us. AllGoByKept g.S.LookupSpan.registry [] [] us c.args.self.now c.args.self.now) (sym e.items) refl;
       len = e.len;
       room = e.capacity;
     }
@@ -34,6 +37,7 @@ loop-request-preserved g c =
       served = λ f ready.
           one_more g.S.LookupSpan.registry g.S.LookupSpan.with_registry g.S.Subscriber.has_form g.S.Subscriber.stepped g.S.Subscriber.levelled f c.args.self.now now next (take i xs) (take (i + 1) xs) _ c.loop-request.answers.items c.append.new.answers.items a _ (h.served f ready) c.deref.ensures.value c.append.ensures.items
           (take_more xs i _ c.loop-request-test.true) c.serve_one-answer.ensures.ready c.serve_one-answer.ensures.served;
+      kept = one_goes g.S.LookupSpan.registry c.args.self.now now next (take i xs) (take (i + 1) xs) _ c.loop-request.answers.items c.append.new.answers.items a _ h.kept c.deref.ensures.value c.append.ensures.items (take_more xs i _ c.loop-request-test.true) c.serve_one-answer.ensures.kept;
       len = c.append.ensures.len ∙ ap (λ n. n + 1) h.len;
       room = omega (arith, h.room, c.append.ensures.capacity);
     }
@@ -48,6 +52,10 @@ pub returns-clause-served : goal.returns-clause-served
 returns-clause-served g c = λ ready.
     all_served g.met.S.Subscriber.laws g.met.S.Subscriber.paths g.met.S.Subscriber.levels ready.0 c.args.self.now c.loop-request.self c.args.requests.now (take c.loop-request.request-index c.args.requests.now) c.loop-request.answers.items
     (subst (λ x. AreIssued (g.S.LookupSpan.registry x).store) c.stack.ensures (subst (λ (s : RegistryState). AreIssued s.store) c.root.ensures c.a_registry_is_sound.ensures.issued)) (take_all c.loop-request.request-index c.args.requests.now c.loop-request-test.false) (c.loop-request.invariant.served ready.0 ready.1)
+
+pub returns-clause-kept : goal.returns-clause-kept
+returns-clause-kept g c =
+    subst (λ rs. AllGoByKept g.S.LookupSpan.registry [] rs c.loop-request.answers.items c.args.self.now c.loop-request.self) (take_all c.loop-request.request-index c.args.requests.now c.loop-request-test.false) c.loop-request.invariant.kept
 
 pub returns-in_err-answers-clause-ready : goal.returns-in_err-answers-clause-ready
 returns-in_err-answers-clause-ready g c = λ f k. by_keeping g.S.LookupSpan.registry g.S.LookupSpan.with_registry g.S.Subscriber.has_form g.S.Subscriber.stepped g.S.Subscriber.levelled f c.args.self.now (stays_so g.S.LookupSpan.registry g.S.LookupSpan.with_registry g.S.Subscriber.has_form g.S.Subscriber.stepped g.S.Subscriber.levelled f c.args.self.now c.args.self.now refl k.kept k)

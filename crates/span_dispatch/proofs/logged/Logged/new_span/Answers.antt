@@ -2,7 +2,7 @@ use Rattle.std.proofs.Common.{◌≡◌, Err, List, ◌⊎◌, ap, sym, subst, �
 use Rattle.span_dispatch.proofs.Goes.{stays_same}
 use Rattle.span_dispatch.proofs.Journalled.{goes_on, logs_refused, grown, kept_same, kept_verdict, opens, refused_too, some_of, none_of, stays}
 use Rattle.span_dispatch.proofs.Stores.{opened_for}
-use Rattle.span_dispatch.specs.Contract.{ServesNewSpan, SubscriberOf}
+use Rattle.span_dispatch.specs.Contract.{PassesKept, ServesNewSpan, SubscriberOf}
 use Rattle.span_dispatch.specs.Journal.{Adds, Entry}
 use Rattle.span_dispatch.specs.Serve.{kept_by, stack_of}
 use Rattle.span_dispatch.specs.declared.entry.EntryWith.TheVariants as entry
@@ -25,7 +25,7 @@ invariant_of-self-in_err-id g c =
 pub returns-in_err-id-clause-refused : goal.returns-in_err-id-clause-refused
 returns-in_err-id-clause-refused g c =
     let refuses : Dispatch g.row.S.Denot → TraceError → Type 0 =
-    λ d e. RefusesInterest (kept_by d) (metadata_of c.args.attrs.now) e ⊎ RefusesNew (g.S.LookupSpan.registry (stack_of d)) c.args.lane (asked_parent c.args.attrs.now) e in
+    λ d e. PassesKept (metadata_of c.args.attrs.now) d × (RefusesInterest (kept_by d) (metadata_of c.args.attrs.now) e ⊎ RefusesNew (g.S.LookupSpan.registry (stack_of d)) c.args.lane (asked_parent c.args.attrs.now) e) in
     refused_too (refuses c.args.self.now.dispatch) c.in_err-id.field-0.0 c.from_residual-in_err-id.result c.from_residual-in_err-id.ensures.1
     (subst (λ l. refuses l.dispatch c.in_err-id.field-0.0) c.self.view_is c.in_err-id.ensures.refused)
 

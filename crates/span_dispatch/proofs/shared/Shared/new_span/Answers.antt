@@ -4,6 +4,7 @@ use Rattle.span_core.specs.declared.error.TraceError.{TraceError}
 use Rattle.span_core.specs.declared.span.Lane.{Lane}
 use Rattle.span_dispatch.proofs.Journalled.{some_refuses, span_receipt}
 use Rattle.span_dispatch.specs.Cache.{RefusesInterest}
+use Rattle.span_dispatch.specs.Contract.{PassesKept}
 use Rattle.span_dispatch.specs.Logged.{OrNoMemory}
 use Rattle.span_dispatch.specs.Serve.{kept_by, stack_of}
 use Rattle.span_dispatch.specs.declared.dispatch.Dispatch.{Dispatch}
@@ -17,7 +18,7 @@ returns-clause-receipt g c =
 pub returns-in_err-given-clause-refused : goal.returns-in_err-given-clause-refused
 returns-in_err-given-clause-refused g c =
     let refuses : Lane → Dispatch g.row.S.Denot → TraceError → Type 0 =
-    λ lane d e. RefusesInterest (kept_by d) (metadata_of c.args.attrs.now) e ⊎ RefusesNew (g.S.LookupSpan.registry (stack_of d)) lane (asked_parent c.args.attrs.now) e in
+    λ lane d e. PassesKept (metadata_of c.args.attrs.now) d × (RefusesInterest (kept_by d) (metadata_of c.args.attrs.now) e ⊎ RefusesNew (g.S.LookupSpan.registry (stack_of d)) lane (asked_parent c.args.attrs.now) e) in
     let d = c.deref_mut.result.now.logged.dispatch in
     let e = c.in_err-given.field-0.0 in
     some_refuses (refuses c.args.worker.now.lane) d e c.from_residual.result c.from_residual.ensures.1 (subst (λ lane. OrNoMemory (refuses lane d) e) (ap (λ w. w.lane) c.worker.view_is) c.in_err-given.ensures.refused)

@@ -2,9 +2,12 @@ use Rattle.std.proofs.Common.{refl, rules, subst, sym}
 use Rattle.span_filters.specs.Boxed.{StepsInside}
 use Rattle.span_filters.proofs.BoxLemmas.{asked_of_object, boxed_lawfully}
 use Rattle.span_filters.proofs.boxed.BoxedFilterFilter.on_close.Goals as goal
+use Rattle.span_registry.proofs.CallerLemmas.{unrefused_on, unrefused_over}
 
 pub dyn_on_close-requires : goal.dyn_on_close-requires
-dyn_on_close-requires g c κs = asked_of_object _ _ _ _ (subst (λ z. (goal.DynFilter-dyn g z).dyn_usable z.1) (sym c.deref_box_mut-1.ensures.value.1) c.requires)
+dyn_on_close-requires g c κs =
+    let usable = subst (λ z. (goal.DynFilter-dyn g z).dyn_usable z.1) (sym c.deref_box_mut-1.ensures.value.1) c.requires.usable in
+    asked_of_object _ _ _ _ (usable, unrefused_over c.over.ensures.lent (unrefused_on c.take_root-root.ensures.rest.loan c.requires.refusals))
 
 pub returns-clause-hook : goal.returns-clause-hook
 returns-clause-hook g c =

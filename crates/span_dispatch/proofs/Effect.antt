@@ -1,0 +1,316 @@
+-- What calls make by themselves: on stores that agree the same; and a stack makes just that of them.
+use Rattle.std.proofs.Common.{◌≡◌, ℕ, ◌↔◌, ◌⊎◌, inl, inr, Bool, true, false, cond, if◌then◌else◌, List, [], ◌∷◌, ◌++◌, map, filter, Option, Some, None, refl, sym, ap, subst, ◌∙◌}
+use Rattle.std.proofs.lemmas.Bool.{false≢true, or_parts, true≢false}
+use Rattle.std.proofs.lemmas.List.Elements.{filter-append}
+use Rattle.std.proofs.lemmas.List.{map-append}
+use Rattle.std.specs.FinMap.{get}
+use Rattle.std.specs.List.{FoldsTo}
+use Rattle.span_core.specs.Filters.{FilterSet}
+use Rattle.span_core.specs.Span.{number_of}
+use Rattle.span_core.specs.declared.level.LevelFilter.{LevelFilter}
+use Rattle.span_core.specs.declared.span.Lane.{Lane}
+use Rattle.span_dispatch.proofs.Acting.{acting_numbers, none_within, one_alone, step_over, steps_agree}
+use Rattle.span_dispatch.proofs.Alone.{agrees_so, changed_alone, noticed_alone}
+use Rattle.span_dispatch.specs.Alone.{Alone, StepsAlone, acting, seen}
+use Rattle.span_dispatch.specs.Cache.{Memory}
+use Rattle.span_dispatch.specs.Call.{AddHandle, AskCurrent, Call, Comes, DropHandle, Enter, Exit, Follow, OpenSpan, Probe, RecordValues, SendEvent, SetLevel, closes_of}
+use Rattle.span_dispatch.specs.Effect.{AloneOf, Effect, GoesThrough, HasOutcomes, MadeCall, NoEffect, OfDrop, OfExit, OneOutcome, OutcomesFrom, concerns, effect_of, is_concern}
+use Rattle.span_dispatch.specs.Isolation.{HasSameOutcomes, HaveSameOutcomes, SeeTheSame, SeenAlone, SeesCalls, Sight}
+use Rattle.span_dispatch.specs.Outcome.{GoesOn, HandleTaken, LevelSet, Made, Makes, Noticed, Outcome, Quiet}
+use Rattle.span_dispatch.specs.Serve.{Run, ServesAsked, call_of, flat, made_call, made_calls, outcome_of, stack_of}
+use Rattle.span_dispatch.specs.declared.request.Answer.TheVariants as answer
+use Rattle.span_dispatch.specs.declared.request.Answer.{Answer}
+use Rattle.span_dispatch.specs.declared.request.Request.{Request}
+use Rattle.span_registry.proofs.Agreeing.{agree_refl, agree_sym, agree_trans, agree_within, closes_alike, not_open_alike, open_alike}
+use Rattle.span_registry.specs.Agree.{AgreeAt}
+use Rattle.span_registry.specs.Closes.{Closes}
+use Rattle.span_registry.specs.Conducts.{ActsAt, Conducts, after_level, filter_numbered, numbers_in, setting}
+use Rattle.span_registry.specs.Form.{Form}
+use Rattle.span_registry.specs.Hooks.{StackSteps, no_filter}
+use Rattle.span_registry.specs.Levels.{LevelSteps}
+use Rattle.span_registry.specs.Place.{HearSteps, Heard}
+use Rattle.span_registry.specs.Store.{IsClosing, IsInStore, IsOpen, RegistryState, Span, Spans, Store}
+
+-- ---- one call
+
+-- what has outcomes on the one store has the same on one that agrees
+effect_over : (e : Effect) (numbers : FilterSet) (s t : Store) (os : List Outcome) → AgreeAt numbers s t → HasOutcomes e s os → HasOutcomes e t os
+effect_over NoEffect numbers s t os agree h = h
+effect_over (OneOutcome o) numbers s t os agree h = h
+effect_over (OfExit lane id) numbers s t os agree h =
+    let back = agree_sym numbers s t agree in
+    record { there = λ o. h.there (open_alike numbers t s (number_of id) back o); gone = λ n. h.gone (not_open_alike numbers t s (number_of id) back n) }
+effect_over (OfDrop lane id closes) numbers s t os agree h = record { closed = h.closed; exact = closes_alike numbers s t (number_of id) h.closed agree h.exact; outcomes = h.outcomes; itself = h.itself }
+
+-- what the registry's laws say: a span is in the store while it is open or closing, and never both; and what a drop closes is one list
+abbrev pub InStoreWhile : Type 0
+InStoreWhile = (m : Spans) (x : ℕ) → IsInStore m x ↔ (IsOpen m x ⊎ IsClosing m x)
+
+abbrev pub NeverBoth : Type 0
+NeverBoth = (m : Spans) (x : ℕ) → IsOpen m x → ¬ (IsClosing m x)
+
+abbrev pub ClosesOnce : Type 0
+ClosesOnce = (m : Spans) (x : ℕ) (xs ys : List ℕ) → Closes m x xs → Closes m x ys → xs ≡ ys
+
+-- by these
+module _ (while : InStoreWhile) (never : NeverBoth) (once : ClosesOnce) where
+  open_or_not : (m : Spans) (x : ℕ) → IsOpen m x ⊎ ¬ (IsOpen m x)
+  open_or_not m x = by_place (get m x) refl
+    where
+      by_place : (o : Option Span) → get m x ≡ o → IsOpen m x ⊎ ¬ (IsOpen m x)
+      by_place None e = inr (λ h. let gone : None ≡ Some h.0 = sym e ∙ h.1 in let no : ⊥ = cc in no)
+      by_place (Some r) e = elim ((while m x).0 (r, e)) [
+        | inl o ↦ inl o
+        | inr k ↦ inr (λ o. never m x o k)
+      ]
+
+  effect_once : (e : Effect) (numbers : FilterSet) (s t : Store) (os us : List Outcome) → AgreeAt numbers s t → HasOutcomes e s os → HasOutcomes e t us → os ≡ us
+  effect_once NoEffect numbers s t os us agree h k = h ∙ sym k
+  effect_once (OneOutcome o) numbers s t os us agree h k = h ∙ sym k
+  effect_once (OfExit lane id) numbers s t os us agree h k = elim (open_or_not s.spans (number_of id)) [
+    | inl o ↦ h.there o ∙ sym (k.there (open_alike numbers s t (number_of id) agree o))
+    | inr n ↦ h.gone n ∙ sym (k.gone (not_open_alike numbers s t (number_of id) agree n))
+  ]
+  effect_once (OfDrop lane id closes) numbers s t os us agree h k =
+      let same : h.closed ≡ k.closed = once t.spans (number_of id) h.closed k.closed (closes_alike numbers s t (number_of id) h.closed agree h.exact) k.exact in
+      h.outcomes ∙ ap (λ closed. Quiet (HandleTaken id) ∷ closes_of lane closed) same ∙ sym k.outcomes
+
+  pub same_outcomes : (numbers : FilterSet) (one : MadeCall) → HasSameOutcomes numbers one
+  same_outcomes numbers one s t os us agree h k = effect_once (effect_of one.0 one.1) numbers s t os us agree h k
+
+-- ---- calls in a row
+
+-- stores that agree still do after the same outcomes
+through_agree : (os : List Outcome) (s t u v : Store) → AgreeAt no_filter s t → GoesThrough s os u → GoesThrough t os v → AgreeAt no_filter u v
+through_agree [] s t u v agree h k = subst (λ (x : Store). AgreeAt no_filter x v) h (subst (λ (x : Store). AgreeAt no_filter s x) k agree)
+through_agree (o ∷ os) s t u v agree h k = through_agree os h.0 k.0 u v (steps_agree [] [] o s t h.0 k.0 tt agree h.1 k.1) h.2 k.2
+
+-- where the one goes through them, so does the other
+through_over : (os : List Outcome) (s t u : Store) → AgreeAt no_filter s t → GoesThrough s os u → (v : Store) × GoesThrough t os v
+through_over [] s t u agree h = (t, refl)
+through_over (o ∷ os) s t u agree h =
+    let step = step_over [] [] o s t h.0 tt agree h.1 in
+    let rest = through_over os h.0 step.0 u (steps_agree [] [] o s t h.0 step.0 tt agree h.1 step.1) h.2 in
+    (rest.0, (step.0, step.1, rest.1))
+
+-- what calls have on the one store they have on the other
+outcomes_over : (calls : List MadeCall) (s t : Store) (os : List Outcome) → AgreeAt no_filter s t → OutcomesFrom s calls os → OutcomesFrom t calls os
+outcomes_over [] s t os agree h = h
+outcomes_over (one ∷ calls) s t os agree h =
+    let on = through_over h.0 s t h.1 agree h.4 in
+    let after = through_agree h.0 s t h.1 on.0 agree h.4 on.1 in
+    (h.0, on.0, h.2, effect_over (effect_of one.0 one.1) no_filter s t h.0 agree h.3, on.1, outcomes_over calls h.1 on.0 h.2 after h.5, h.6)
+
+module _ (while : InStoreWhile) (never : NeverBoth) (once : ClosesOnce) where
+  pub same_outcomes_all : (calls : List MadeCall) → HaveSameOutcomes calls
+  same_outcomes_all [] s t os us agree h k = h ∙ sym k
+  same_outcomes_all (one ∷ calls) s t os us agree h k =
+      let first : h.0 ≡ k.0 = same_outcomes while never once no_filter one s t h.0 k.0 agree h.3 k.3 in
+      let through = subst (λ (ws : List Outcome). GoesThrough t ws k.1) (sym first) k.4 in
+      let rest : h.2 ≡ k.2 = same_outcomes_all calls h.1 k.1 h.2 k.2 (through_agree h.0 s t h.1 k.1 agree h.4 through) h.5 k.5 in
+      h.6 ∙ (λ i. first i ++ rest i) ∙ sym k.6
+
+  agree_at_none : (numbers : FilterSet) (s t : Store) → AgreeAt numbers s t → AgreeAt no_filter s t
+  agree_at_none numbers s t agree = agree_within numbers no_filter s t (none_within numbers) agree
+
+  -- what is seen of calls alone is the same on stores that agree
+  pub one_alone_of : SeeTheSame AloneOf AloneOf
+  one_alone_of cs ds s t calls h k a b p agree =
+      let same : a.0 ≡ b.0 = same_outcomes_all calls s t a.0 b.0 (agree_at_none (numbers_in cs) s t agree) a.1 b.1 in
+      one_alone cs ds s t a.0 h k a.2 (subst (λ (os : List Outcome). Alone ds t os k) (sym same) b.2) p agree
+
+-- ---- outcomes that concern some filters
+
+by_level : (b : Bool) (n : ℕ) (l : LevelFilter) (os : List Outcome) (s u t : Store) → u ≡ s → GoesThrough u os t → GoesThrough s (cond b (LevelSet n l ∷ os) os) t
+by_level true n l os s u t e h = (u, e, h)
+by_level false n l os s u t e h = subst (λ (v : Store). GoesThrough v os t) e h
+
+through_concerning : (numbers : FilterSet) (os : List Outcome) (s t : Store) → GoesThrough s os t → GoesThrough s (filter (concerns numbers) os) t
+through_concerning numbers [] s t h = h
+through_concerning numbers (Noticed lane e ∷ os) s t h = (h.0, h.1, through_concerning numbers os h.0 t h.2)
+through_concerning numbers (Quiet c ∷ os) s t h = (h.0, h.1, through_concerning numbers os h.0 t h.2)
+through_concerning numbers (LevelSet n l ∷ os) s t h = by_level (numbers n) n l (filter (concerns numbers) os) s h.0 t h.1 (through_concerning numbers os h.0 t h.2)
+
+closes_concern : (numbers : FilterSet) (lane : Lane) (closed : List ℕ) → filter (concerns numbers) (closes_of lane closed) ≡ closes_of lane closed
+closes_concern numbers lane [] = refl
+closes_concern numbers lane (x ∷ closed) = ap (λ os. closes_of lane (x ∷ []) ++ os) (closes_concern numbers lane closed)
+
+concern_of : (numbers : FilterSet) (e : Effect) (s : Store) (os : List Outcome) → HasOutcomes e s os → (is_concern numbers e ≡ true → HasOutcomes e s (filter (concerns numbers) os)) × (is_concern numbers e ≡ false → filter (concerns numbers) os ≡ [])
+concern_of numbers NoEffect s os h = (λ t. absurd (false≢true t), λ f. ap (filter (concerns numbers)) h)
+concern_of numbers (OneOutcome o) s os h =
+    let one : (b : Bool) → concerns numbers o ≡ b → filter (concerns numbers) os ≡ cond b (o ∷ []) [] = λ b e. ap (filter (concerns numbers)) h ∙ ap (λ c. cond c (o ∷ []) []) e in
+    (one true, one false)
+concern_of numbers (OfExit lane id) s os h =
+    (λ t. record { there = λ o. ap (filter (concerns numbers)) (h.there o); gone = λ n. ap (filter (concerns numbers)) (h.gone n) }, λ f. absurd (true≢false f))
+concern_of numbers (OfDrop lane id closes) s os h =
+    let outcomes = ap (filter (concerns numbers)) h.outcomes ∙ ap (λ us. Quiet (HandleTaken id) ∷ us) (closes_concern numbers lane h.closed) in
+    (λ t. record { closed = h.closed; exact = h.exact; outcomes = outcomes; itself = h.itself }, λ f. absurd (true≢false f))
+
+-- ---- what a stack makes of a call
+
+comes_so : (call : Call) (memory : Memory) (f : Form) (s : RegistryState) (a : Answer) (os : List Outcome) → Comes call memory f s a os → HasOutcomes (effect_of call a) s.store os
+comes_so (OpenSpan lane attrs) memory f s (answer.Made id) os h = h.1
+comes_so (OpenSpan lane attrs) memory f s answer.Dropped os h = h.1
+comes_so (OpenSpan lane attrs) memory f s answer.Done os h = absurd h
+comes_so (OpenSpan lane attrs) memory f s (answer.Yes closes) os h = absurd h
+comes_so (OpenSpan lane attrs) memory f s (answer.Current o) os h = absurd h
+comes_so (OpenSpan lane attrs) memory f s (answer.Refused e) os h = h.1
+comes_so (SendEvent lane event) memory f s (answer.Made id) os h = absurd h
+comes_so (SendEvent lane event) memory f s answer.Dropped os h = h.1
+comes_so (SendEvent lane event) memory f s answer.Done os h = h.1
+comes_so (SendEvent lane event) memory f s (answer.Yes closes) os h = absurd h
+comes_so (SendEvent lane event) memory f s (answer.Current o) os h = absurd h
+comes_so (SendEvent lane event) memory f s (answer.Refused e) os h = h.1
+comes_so (Enter lane id) memory f s (answer.Made x) os h = absurd h
+comes_so (Enter lane id) memory f s answer.Dropped os h = absurd h
+comes_so (Enter lane id) memory f s answer.Done os h = h.1
+comes_so (Enter lane id) memory f s (answer.Yes closes) os h = absurd h
+comes_so (Enter lane id) memory f s (answer.Current o) os h = absurd h
+comes_so (Enter lane id) memory f s (answer.Refused e) os h = h.1
+comes_so (Exit lane id) memory f s (answer.Made x) os h = absurd h
+comes_so (Exit lane id) memory f s answer.Dropped os h = absurd h
+comes_so (Exit lane id) memory f s answer.Done os h = h
+comes_so (Exit lane id) memory f s (answer.Yes closes) os h = absurd h
+comes_so (Exit lane id) memory f s (answer.Current o) os h = absurd h
+comes_so (Exit lane id) memory f s (answer.Refused e) os h = absurd h
+comes_so (RecordValues lane id values) memory f s (answer.Made x) os h = absurd h
+comes_so (RecordValues lane id values) memory f s answer.Dropped os h = absurd h
+comes_so (RecordValues lane id values) memory f s answer.Done os h = h.1
+comes_so (RecordValues lane id values) memory f s (answer.Yes closes) os h = absurd h
+comes_so (RecordValues lane id values) memory f s (answer.Current o) os h = absurd h
+comes_so (RecordValues lane id values) memory f s (answer.Refused e) os h = h.1
+comes_so (Follow lane id other) memory f s (answer.Made x) os h = absurd h
+comes_so (Follow lane id other) memory f s answer.Dropped os h = absurd h
+comes_so (Follow lane id other) memory f s answer.Done os h = h.1
+comes_so (Follow lane id other) memory f s (answer.Yes closes) os h = absurd h
+comes_so (Follow lane id other) memory f s (answer.Current o) os h = absurd h
+comes_so (Follow lane id other) memory f s (answer.Refused e) os h = h.1
+comes_so (AddHandle lane id) memory f s (answer.Made x) os h = absurd h
+comes_so (AddHandle lane id) memory f s answer.Dropped os h = absurd h
+comes_so (AddHandle lane id) memory f s answer.Done os h = h.1
+comes_so (AddHandle lane id) memory f s (answer.Yes closes) os h = absurd h
+comes_so (AddHandle lane id) memory f s (answer.Current o) os h = absurd h
+comes_so (AddHandle lane id) memory f s (answer.Refused e) os h = h.1
+comes_so (DropHandle lane id) memory f s (answer.Made x) os h = absurd h
+comes_so (DropHandle lane id) memory f s answer.Dropped os h = absurd h
+comes_so (DropHandle lane id) memory f s answer.Done os h = absurd h
+comes_so (DropHandle lane id) memory f s (answer.Yes closes) os h = h
+comes_so (DropHandle lane id) memory f s (answer.Current o) os h = absurd h
+comes_so (DropHandle lane id) memory f s (answer.Refused e) os h = h.1
+comes_so (Probe lane m) memory f s (answer.Made id) os h = absurd h
+comes_so (Probe lane m) memory f s answer.Dropped os h = absurd h
+comes_so (Probe lane m) memory f s answer.Done os h = absurd h
+comes_so (Probe lane m) memory f s (answer.Yes true) os h = h.1
+comes_so (Probe lane m) memory f s (answer.Yes false) os h = h.1
+comes_so (Probe lane m) memory f s (answer.Current o) os h = absurd h
+comes_so (Probe lane m) memory f s (answer.Refused e) os h = h.1
+comes_so (AskCurrent lane) memory f s (answer.Made id) os h = absurd h
+comes_so (AskCurrent lane) memory f s answer.Dropped os h = absurd h
+comes_so (AskCurrent lane) memory f s answer.Done os h = absurd h
+comes_so (AskCurrent lane) memory f s (answer.Yes closes) os h = absurd h
+comes_so (AskCurrent lane) memory f s (answer.Current o) os h = h.1
+comes_so (AskCurrent lane) memory f s (answer.Refused e) os h = absurd h
+comes_so (SetLevel n l) memory f s (answer.Made id) os h = absurd h
+comes_so (SetLevel n l) memory f s answer.Dropped os h = absurd h
+comes_so (SetLevel n l) memory f s answer.Done os h = h.1
+comes_so (SetLevel n l) memory f s (answer.Yes closes) os h = absurd h
+comes_so (SetLevel n l) memory f s (answer.Current o) os h = absurd h
+comes_so (SetLevel n l) memory f s (answer.Refused e) os h = h.1
+
+module _ {S : Type 0} (registry : S → RegistryState) (with_registry : S → RegistryState → S) (has_form : S → Form → Type 0) (stepped : StackSteps S) (levelled : LevelSteps S) where
+  -- an outcome leaves the store that it leaves without any filter, as far as no filter goes
+  made_bare : (f : Form) (o : Outcome) (x y : S) → GoesOn registry with_registry has_form stepped levelled f o x y → (t : Store) × StepsAlone [] o (registry x).store t × AgreeAt no_filter (registry y).store t
+  made_bare f (Noticed lane e) x y g =
+      let step = noticed_alone f [] (λ meta s q v said k. refl) lane e (registry x) g.left (registry g.notified) (registry y) g.before g.extensions g.after in
+      (step.0, step.1, step.3)
+  made_bare f (Quiet c) x y g = changed_alone [] c (registry x) (registry y) g.changes
+  made_bare f (LevelSet n l) x y g = ((registry x).store, refl, agrees_so no_filter (registry x) (registry y) (registry x).store g.same (agree_refl no_filter (registry x).store))
+
+  folds_bare : (x : S) (ms : List Made) (y : S) → FoldsTo (Makes registry with_registry has_form stepped levelled) x ms y → (t : Store) × GoesThrough (registry x).store (map outcome_of ms) t × AgreeAt no_filter (registry y).store t
+  folds_bare x [] y h = ((registry x).store, refl, subst (λ (z : S). AgreeAt no_filter (registry z).store (registry x).store) h (agree_refl no_filter (registry x).store))
+  folds_bare x (m ∷ ms) y h =
+      let one = made_bare m.form m.outcome x h.0 h.1.goes in
+      let rest = folds_bare h.0 ms y h.2 in
+      let on = through_over (map outcome_of ms) (registry h.0).store one.0 rest.0 one.2 rest.1 in
+      let after = through_agree (map outcome_of ms) (registry h.0).store one.0 rest.0 on.0 one.2 rest.1 on.1 in
+      (on.0, (one.0, one.1, on.1), agree_trans no_filter (registry y).store rest.0 on.0 rest.2 after)
+
+  by_concern : (numbers : FilterSet) (call : Call) (a : Answer) (s t : Store) (all os : List Outcome) (calls : List MadeCall) (b : Bool) → is_concern numbers (effect_of call a) ≡ b → HasOutcomes (effect_of call a) s all
+      → GoesThrough s (filter (concerns numbers) all) t → OutcomesFrom t calls (filter (concerns numbers) os) → OutcomesFrom s ((if b then (call, a) ∷ [] else []) ++ calls) (filter (concerns numbers) (all ++ os))
+  by_concern numbers call a s t all os calls true e h through rest =
+      (filter (concerns numbers) all, t, filter (concerns numbers) os, (concern_of numbers (effect_of call a) s all h).0 e, through, rest, filter-append (concerns numbers) all os)
+  by_concern numbers call a s t all os calls false e h through rest =
+      let none : filter (concerns numbers) all ≡ [] = (concern_of numbers (effect_of call a) s all h).1 e in
+      let same : s ≡ t = subst (λ (us : List Outcome). GoesThrough s us t) none through in
+      let both : filter (concerns numbers) (all ++ os) ≡ filter (concerns numbers) os = filter-append (concerns numbers) all os ∙ ap (λ us. us ++ filter (concerns numbers) os) none in
+      subst (λ (us : List Outcome). OutcomesFrom s calls us) (sym both) (subst (λ (u : Store). OutcomesFrom u calls (filter (concerns numbers) os)) (sym same) rest)
+
+  asked_calls : (numbers : FilterSet) (o : Option Call) (memory : Memory) (x : S) (a : Answer) (ms : List Made) (after : Memory) (y : S) (os : List Outcome) (calls : List MadeCall) → ServesAsked registry with_registry has_form stepped levelled o memory x a ms after y
+      → OutcomesFrom (registry y).store calls (filter (concerns numbers) os) → OutcomesFrom (registry x).store (made_call numbers o a ++ calls) (filter (concerns numbers) (map outcome_of ms ++ os))
+  asked_calls numbers None memory x a ms after y os calls h rest =
+      subst (λ (ns : List Made). OutcomesFrom (registry x).store calls (filter (concerns numbers) (map outcome_of ns ++ os))) (sym h.1)
+      (subst (λ (z : S). OutcomesFrom (registry z).store calls (filter (concerns numbers) os)) h.3 rest)
+  asked_calls numbers (Some call) memory x a ms after y os calls h rest =
+      let own = folds_bare x ms y h.2.goes in
+      let through = through_concerning numbers (map outcome_of ms) (registry x).store own.0 own.1 in
+      let on = outcomes_over calls (registry y).store own.0 (filter (concerns numbers) os) own.2 rest in
+      by_concern numbers call a (registry x).store own.0 (map outcome_of ms) os calls (is_concern numbers (effect_of call a)) refl (comes_so call memory h.0 (registry x) a (map outcome_of ms) h.2.comes) through on
+
+  -- what was made in a run is what its made calls have by themselves
+  pub run_calls : (past : List Answer) (rs : List Request) (answers : List Answer) (made : List (List Made)) (memory : Memory) (x : S) (after : Memory) (y : S) (numbers : FilterSet)
+      → Run registry with_registry has_form stepped levelled past rs answers made memory x after y → OutcomesFrom (registry x).store (made_calls numbers past rs answers) (filter (concerns numbers) (map outcome_of (flat made)))
+  run_calls past [] [] [] memory x after y numbers h = refl
+  run_calls past [] [] (m ∷ made) memory x after y numbers h = absurd h
+  run_calls past [] (b ∷ answers) made memory x after y numbers h = absurd h
+  run_calls past (q ∷ rs) [] made memory x after y numbers h = absurd h
+  run_calls past (q ∷ rs) (b ∷ answers) [] memory x after y numbers h = absurd h
+  run_calls past (q ∷ rs) (b ∷ answers) (ms ∷ made) memory x after y numbers h =
+      let rest = run_calls (past ++ (b ∷ [])) rs answers made h.0 h.1 after y numbers h.3 in
+      subst (λ (os : List Outcome). OutcomesFrom (registry x).store (made_calls numbers past (q ∷ rs) (b ∷ answers)) (filter (concerns numbers) os)) (sym (map-append outcome_of ms (flat made)))
+      (asked_calls numbers (call_of past q) memory x b ms h.0 h.1 (map outcome_of (flat made)) (made_calls numbers (past ++ (b ∷ [])) rs answers) h.2 rest)
+
+-- ---- what a leaf sees of calls
+
+-- a level that no filter on the path takes makes no difference to them
+setting_other : (n : ℕ) (l : LevelFilter) (cs : Conducts) → numbers_in cs n ≡ false → setting n l cs ≡ cs
+setting_other n l [] h = refl
+setting_other n l ((None, b) ∷ cs) h = ap (λ ds. (None, b) ∷ ds) (setting_other n l cs h)
+setting_other n l ((Some m, b) ∷ cs) h =
+    let parts = or_parts (filter_numbered (Some m) n) (numbers_in cs n) h in
+    ap (λ p. if p then (Some m, after_level l b) ∷ cs else (Some m, b) ∷ setting n l cs) parts.0 ∙ ap (λ ds. (Some m, b) ∷ ds) (setting_other n l cs parts.1)
+
+level_concerning : (b : Bool) (numbers : FilterSet) (cs : Conducts) (s : Store) (n : ℕ) (l : LevelFilter) (os : List Outcome) (h : Heard) → (b ≡ false → setting n l cs ≡ cs) → (a : Alone cs s (LevelSet n l ∷ os) h)
+    → Alone (setting n l cs) a.0 (filter (concerns numbers) os) a.1 → Alone cs s (cond b (LevelSet n l ∷ filter (concerns numbers) os) (filter (concerns numbers) os)) h
+level_concerning true numbers cs s n l os h same a rest = (a.0, a.1, a.2, rest, a.4)
+level_concerning false numbers cs s n l os h same a rest =
+    let own = subst (λ (ds : Conducts). Alone ds a.0 (filter (concerns numbers) os) a.1) (same refl) rest in
+    subst (λ (k : Heard). Alone cs s (filter (concerns numbers) os) k) (sym a.4) (subst (λ (t : Store). Alone cs t (filter (concerns numbers) os) a.1) a.2 own)
+
+-- what is seen alone of outcomes is seen of those that concern the filters of the path
+alone_concerning : (numbers : FilterSet) (cs : Conducts) (s : Store) (os : List Outcome) (h : Heard) → numbers_in cs ≡ numbers → Alone cs s os h → Alone cs s (filter (concerns numbers) os) h
+alone_concerning numbers cs s [] h e a = a
+alone_concerning numbers cs s (Noticed lane n ∷ os) h e a =
+    (a.0, a.1, a.2, alone_concerning numbers (acting cs (Noticed lane n) s a.0) a.0 os a.1 (acting_numbers cs (Noticed lane n) s a.0 ∙ e) a.3, a.4)
+alone_concerning numbers cs s (Quiet c ∷ os) h e a = (a.0, a.1, a.2, alone_concerning numbers cs a.0 os a.1 e a.3, a.4)
+alone_concerning numbers cs s (LevelSet n l ∷ os) h e a =
+    level_concerning (numbers n) numbers cs s n l os h (λ none. setting_other n l cs ((λ i. e i n) ∙ none)) a
+    (alone_concerning numbers (setting n l cs) a.0 os a.1 (acting_numbers cs (LevelSet n l) s a.0 ∙ e) a.3)
+
+module _ {S : Type 0} (registry : S → RegistryState) (with_registry : S → RegistryState → S) (has_form : S → Form → Type 0) (stepped : StackSteps S) (levelled : LevelSteps S) (hears : HearSteps S) (acts_at : ActsAt S) where
+  -- what a leaf sees of served requests it sees of their made calls alone
+  pub seen_calls : SeenAlone (SeesCalls registry with_registry has_form stepped levelled hears acts_at) AloneOf
+  seen_calls cs s t calls h m agree =
+      let numbers = numbers_in cs in
+      let u = (registry (stack_of m.old)).store in
+      let os = map outcome_of (flat m.served.made) in
+      let os_here = filter (concerns numbers) os in
+      let near : AgreeAt numbers u t = subst (λ (v : Store). AgreeAt numbers v t) (sym m.at_store) agree in
+      let own = subst (λ (ks : List MadeCall). OutcomesFrom u ks os_here) m.at_calls (m.served.calls numbers) in
+      let bare = agree_within numbers no_filter u t (none_within numbers) near in
+      let alone = alone_concerning numbers cs t os (seen m.place (flat m.served.made)) refl (m.served.alone m.place cs t m.acts near) in
+      (os_here, outcomes_over calls u t os_here bare own, subst (λ (k : Heard). Alone cs t os_here k) m.sees alone)
+
+  -- so where what is seen of calls alone is fixed, it is the same
+  pub seen_both : (Other : Sight (List MadeCall)) → SeeTheSame AloneOf AloneOf → SeenAlone Other AloneOf → SeeTheSame (SeesCalls registry with_registry has_form stepped levelled hears acts_at) Other
+  seen_both Other law other cs ds s t calls h k a b p agree =
+      law cs ds s t calls h k (seen_calls cs s s calls h a (agree_refl (numbers_in cs) s)) (other ds t t calls k b (agree_refl (numbers_in ds) t)) p agree
