@@ -3,8 +3,6 @@
 
 mod boxed;
 mod object;
-#[cfg(test)]
-mod tests;
 
 pub use boxed::BoxedLayer;
 pub use object::DynLayer;

@@ -14,5 +14,4 @@ pub mod Readable
 pub mod Recorder
 pub mod RecorderLaws
 pub mod Serve
-pub mod Tests
 pub mod Worker

@@ -2,25 +2,15 @@
 #![tactic(auto)]
 
 mod cache;
-#[cfg(test)]
-mod cache_tests;
 mod dispatch;
 mod entry;
-#[cfg(test)]
-mod isolation_tests;
 pub mod laws;
-#[cfg(test)]
-mod layer_tests;
-#[cfg(test)]
-mod level_tests;
 mod logged;
 mod notice;
 mod recorder;
 mod request;
 mod serve;
 mod shared;
-#[cfg(test)]
-mod tests;
 
 pub use dispatch::Dispatch;
 pub use entry::{Entry, EntryWith};

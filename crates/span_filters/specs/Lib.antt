@@ -5,4 +5,3 @@ pub mod CombinatorLaws
 pub mod Filter
 pub mod Function
 pub mod Level
-pub mod Tests

@@ -3,34 +3,22 @@
 
 mod bloom;
 mod context;
-#[cfg(test)]
-mod context_tests;
-#[cfg(test)]
-mod extension_tests;
 mod extension_value;
 mod extensions;
 pub mod laws;
 mod limits;
 mod lookup;
-#[cfg(test)]
-mod lookup_tests;
 mod mask;
 mod registry;
 mod scope;
 mod slot;
-#[cfg(test)]
-mod slot_tests;
 mod span_data;
 mod span_record;
 mod span_store;
 mod stack;
 mod subscriber;
-#[cfg(test)]
-mod subscriber_tests;
 mod table;
 mod tag;
-#[cfg(test)]
-mod tests;
 
 pub use context::{Context, ContextMut};
 pub use extension_value::ExtensionValue;

@@ -10,8 +10,6 @@ mod reason;
 mod script;
 mod site;
 mod stack_name;
-#[cfg(test)]
-mod tests;
 
 pub use fault::{ReadFault, ScriptFault, WrongLine};
 pub use line::{Line, MuteField, Name, ParentName};
