@@ -14,6 +14,7 @@ pub mod Members
 pub mod Number
 pub mod Observe
 pub mod Optional
+pub mod Stands
 pub mod Takes
 pub mod Verdict
 pub mod Veto
