@@ -1,15 +1,19 @@
--- What a caller's proof may need of a boxed filter: a box adds nothing to the filter in it.
-use Rattle.std.specs.Prelude.{◌≡◌, ℕ, refl}
+-- What a caller's proof may need of a filter: a box adds nothing to the filter in it, and a closure that answers in every context answers on every view.
+use Rattle.std.specs.Prelude.{◌≡◌, ℕ, Bool, refl}
 use Rattle.std.proofs.Common.{Global, subst, sym}
 use Rattle.std.specs.declared.dyn_box.DynBox.{DynBox}
 use denote.Param.Object.{Made, read_made}
 use denote.Param.Table.{Entry, Table}
 use Rattle.span_core.specs.Filters.{FilterSet}
+use Rattle.span_core.specs.declared.metadata.Metadata.{Metadata}
+use Rattle.span_filters.proofs.Views.{shown_by_some}
 use Rattle.span_filters.specs.Boxed.{ActsPlainly, AnswersHonestly, StepsInside}
+use Rattle.span_filters.specs.Closure.{AnswersAllIn}
 use Rattle.span_filters.specs.Filter.{FilterLaws, FilterSteps}
 use Rattle.span_filters.specs.declared.boxed.BoxedFilter.{BoxedFilter}
 use Rattle.span_registry.specs.Answers.{Answers, Conduct, Notice}
 use Rattle.span_registry.specs.Store.{RegistryState}
+use Rattle.span_registry.specs.declared.context.Context.{Context}
 
 -- T and at are `own-1` and `at-1-1` of the caller's `OwnLists`: the types that it puts into boxes, and the one in this box
 module _ {G : Type 0 → Type 1} {C : Type 0} (T : Table G C) (at : T.I) where
@@ -48,3 +52,10 @@ module _ {G : Type 0 → Type 1} {C : Type 0} (T : Table G C) (at : T.I) where
         → StepsTo g.object.vtable g.object.value
     steps_in_a_box f g made s =
         subst (λ (o : DynBox T.I Global (λ i. (T.entry i).0.Denot)). StepsTo o.vtable o.value) (sym s.1) (stepped f.object.vtable (sym made.index) f.object.value s.0 made.codes s.2)
+
+-- a closure that has an answer in every context has one on each view: whatever subscriber there is, some context shows just that
+pub answers_all_in : {F S : Type 0} (registry : S → RegistryState) (with_registry : S → RegistryState → S) → ((x : S) (w : RegistryState) → registry (with_registry x w) ≡ w) → (gives : F → Metadata → Context S → Bool → Type 0) (f : F) → S
+    → ((m : Metadata) (c : Context S) → (r : Bool) × gives f m c r) → AnswersAllIn registry gives f
+answers_all_in registry with_registry shows gives f x answers m s lane mask =
+    let c = shown_by_some registry with_registry shows x s lane mask in
+    (c.0, c.1, answers m c.0)

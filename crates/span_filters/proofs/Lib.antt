@@ -1,3 +1,4 @@
 pub mod CallerLemmas
 mod BoxLemmas
 mod Hooks
+pub mod Views
