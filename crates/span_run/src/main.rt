@@ -1,22 +1,11 @@
 //! Runs a script of spans: standard input says what is asked, standard output what comes of it.
 #![tactic(auto)]
 
-mod crew;
-#[cfg(test)]
-mod crew_tests;
-mod fault;
-mod mute;
-mod mute_veto;
-mod reply;
-mod run;
-mod stacks;
-#[cfg(test)]
-mod tests;
-
+use span_runner::run;
 use std::process::ExitCode;
 
 fn main(rt: HostRuntime) -> ExitCode {
-    match run::run(rt.alloc(), &mut rt.stdin(), &mut rt.stdout()) {
+    match run(rt.alloc(), &mut rt.stdin(), &mut rt.stdout()) {
         Ok(()) => ExitCode::SUCCESS,
         Err(fault) => {
             // Where standard error can't be written, the status alone tells.

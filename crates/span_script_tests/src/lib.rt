@@ -2,4 +2,10 @@
 #![tactic(auto)]
 
 #[cfg(test)]
+mod crew;
+#[cfg(test)]
+mod row;
+#[cfg(test)]
+mod run;
+#[cfg(test)]
 mod script;

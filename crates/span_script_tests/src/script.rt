@@ -1,22 +1,11 @@
 //! Tests of scripts: what they ask for, which lines are wrong, and why.
-use crate::fault::{ScriptFault, WrongLine};
-use crate::reason::Reason;
-use crate::script::Script;
-use crate::stack_name::StackName;
+use crate::row::lines;
 use span_core::{FieldValue, Lane, LevelFilter};
 use span_dispatch::{Request, Which};
-use std::alloc::{AllocError, Global};
+use span_script::{Reason, Script, ScriptFault, StackName, WrongLine};
+use std::alloc::Global;
 use std::process::Abort;
 use std::test::Fail;
-
-/// The text of a row, in which ` / ` stands for a line end.
-fn lines(alloc: Global, row: &str) -> Result<String, AllocError> {
-    let mut text = String::new(alloc);
-    for line in row.split(" / ") {
-        writeln!(text, "{line}")?;
-    }
-    Ok(text)
-}
 
 /// The first line that is wrong of a text that isn't a script.
 fn wrong_line(alloc: Global, text: &str) -> Option<WrongLine> {
