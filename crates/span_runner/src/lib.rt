@@ -5,14 +5,14 @@ mod crew;
 mod fault;
 mod mute;
 mod mute_veto;
+mod program;
 mod reply;
-mod run;
 mod stacks;
 
 pub use crew::shared_text;
 pub use fault::RunFault;
 pub use mute::{Mute, is_muted};
 pub use mute_veto::MuteVeto;
+pub use program::{run, run_shared, run_with};
 pub use reply::{Section, text_of};
-pub use run::{run, run_shared, run_with};
 pub use stacks::served_text;
