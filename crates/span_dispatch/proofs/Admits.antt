@@ -2,7 +2,7 @@
 use Rattle.std.proofs.Common.{◌≡◌, ℕ, Bool, true, false, not, ◌==◌, if◌then◌else◌, Option, Some, None, Result, Ok, Err, inl, inr, refl, sym, ap, subst, arith, ◌∙◌}
 use Rattle.std.proofs.lemmas.Bool.Decides.{nat_tests}
 use Rattle.std.proofs.lemmas.Bool.{eqb-true, false≢true, true≢false}
-use Rattle.std.specs.Prelude.{IfErr, IsSome}
+use Rattle.std.specs.Prelude.{IfErr, IsSome, OnOk}
 use Rattle.std.specs.BTreeMap as tree
 use Rattle.std.specs.Option.{option_map, unwrap_or}
 use Rattle.std.specs.Ordering.{is_eq, nat_cmp}
@@ -18,7 +18,7 @@ use Rattle.span_core.specs.declared.metadata.Metadata.{Metadata}
 use Rattle.span_core.specs.declared.pass.Pass.{Pass}
 use Rattle.span_core.specs.declared.span.Lane.{Lane}
 use Rattle.span_dispatch.specs.Admission.{GivesInterest, HasInterestBy, IsAdmitted, IsInterestBy, IsLetBy, MayLearn, interests_nobody, is_above_hint, learned, learned_if}
-use Rattle.span_dispatch.specs.Cache.{Callsites, IsCurrent, Memory, ReadHint, ReadsOnce, RefusesBelow, RefusesInterest, callsites_of, is_above_read, kept_in, no_callsite, with_callsite}
+use Rattle.span_dispatch.specs.Cache.{Callsites, IsCurrent, Memory, ReadHint, ReadsOnce, RefusesBelow, RefusesInterest, callsites_of, hint_in, is_above_read, kept_in, no_callsite, with_callsite}
 use Rattle.span_dispatch.specs.declared.cache.Cache.TheVariants.{Empty, Filled, Off}
 use Rattle.span_dispatch.specs.declared.cache.Cache.{Cache}
 use Rattle.span_dispatch.specs.declared.cache.Callsite.{Callsite}
@@ -135,6 +135,7 @@ module _ {S : Type 0} (registry : S → RegistryState) (has_form : S → Form �
   gives_off = record {
     off = λ e. refl;
     learns = inl refl;
+    keeps = refl;
     reads = refl;
     above = λ e. absurd (false≢true e);
     mismatch = λ r. absurd r.1;
@@ -148,6 +149,7 @@ module _ {S : Type 0} (registry : S → RegistryState) (has_form : S → Form �
   gives_above k e = record {
     off = λ o. absurd (cc);
     learns = inl refl;
+    keeps = sym (ap (λ b. learned_if b (Some (callsites_of k)) m) e);
     reads = refl;
     above = λ a. refl;
     mismatch = λ r. absurd (false≢true (sym r.0 ∙ e));
@@ -182,6 +184,7 @@ module _ {S : Type 0} (registry : S → RegistryState) (has_form : S → Form �
   gives_kept k one passes at same = record {
     off = λ o. absurd (cc);
     learns = inl refl;
+    keeps = sym (ap (λ c. Some c) (kept_still (callsites_of k) one.metadata there)) ∙ sym (ap (λ b. learned_if b (Some (callsites_of k)) m) passes);
     reads = refl;
     above = λ a. absurd (false≢true (sym passes ∙ a));
     mismatch = λ r. absurd (r.1.2 (shown r.1.0 r.1.1));
@@ -210,6 +213,7 @@ module _ {S : Type 0} (registry : S → RegistryState) (has_form : S → Form �
   gives_mismatch k one passes at other = record {
     off = λ o. absurd (cc);
     learns = inl refl;
+    keeps = tt;
     reads = refl;
     above = λ a. absurd (false≢true (sym passes ∙ a));
     mismatch = λ r. refl;
@@ -224,6 +228,7 @@ module _ {S : Type 0} (registry : S → RegistryState) (has_form : S → Form �
   gives_no_memory k l passes at hint same = record {
     off = λ o. absurd (cc);
     learns = inl (λ i. Some (λ n. option_map (λ (c : Callsite). c.metadata) (same n i)));
+    keeps = tt;
     reads = ap (λ h. Some h) hint;
     above = λ a. absurd (false≢true (sym passes ∙ ap (is_above (level_of m)) (sym hint) ∙ a));
     mismatch = λ r. let no : Some r.1.0 ≡ None = sym r.1.1 ∙ ap (option_map (λ (c : Callsite). c.metadata)) at in absurd (cc);
@@ -239,6 +244,7 @@ module _ {S : Type 0} (registry : S → RegistryState) (has_form : S → Form �
   gives_asked k l i fresh pass passes at hint none a updates = record {
     off = λ o. absurd (cc);
     learns = inr (λ z. Some (λ n. grown n z));
+    keeps = (λ z. Some (λ n. grown n z)) ∙ sym (ap (λ b. learned_if b (Some (callsites_of k)) m) (ap (is_above (level_of m)) hint ∙ passes));
     reads = ap (λ h. Some h) hint;
     above = λ a. absurd (false≢true (sym passes ∙ ap (is_above (level_of m)) (sym hint) ∙ a));
     mismatch = λ r. let no : Some r.1.0 ≡ None = sym r.1.1 ∙ ap (option_map (λ (c : Callsite). c.metadata)) at in absurd (cc);
@@ -294,6 +300,7 @@ module _ {S : Type 0} (registry : S → RegistryState) (has_form : S → Form �
       record {
         off = λ o. absurd (cc);
         learns = subst (λ c. MayLearn (Some c) m (kept_in new)) none h.learns;
+        keeps = subst (λ c. OnOk i (kept_in new ≡ learned_if (is_above_read (hint_in new) m) (Some c) m)) none h.keeps;
         reads = subst IsSome (sym h.reads) refl;
         above = h.above;
         mismatch = λ r. let no : Some r.1.0 ≡ None = sym r.1.1 in absurd (cc);

@@ -13,8 +13,8 @@ use Rattle.span_core.specs.declared.span.Lane.{Lane}
 use Rattle.span_core.specs.declared.span.Parent.{Parent}
 use Rattle.span_dispatch.specs.Cache.{forgotten, hint_in, kept_in, no_callsite}
 use Rattle.span_dispatch.specs.Call.{done_answer, event_answer, span_answer, yes_answer}
-use Rattle.span_dispatch.specs.Contract.{ChangesStack, DropsAbove, Forgets, KeepsHint, LearnsOnly, RefusesMetadata, RefusesMismatch, RefusesOpening}
-use Rattle.span_dispatch.specs.KeptHint.{AllGoByKept, GoesByKept, IsForgotten, RequestGoesByKept, StaysKept}
+use Rattle.span_dispatch.specs.Contract.{ChangesStack, DropsAbove, Forgets, KeepsCallsite, KeepsHint, LearnsOnly, RefusesMetadata, RefusesMismatch, RefusesOpening}
+use Rattle.span_dispatch.specs.KeptHint.{AllGoByKept, GoesByKept, IsForgotten, IsNoRefusal, RequestGoesByKept, StaysKept}
 use Rattle.span_dispatch.specs.Serve.{hint_by, kept_by}
 use Rattle.span_dispatch.specs.declared.cache.Cache.TheVariants.{Empty, Filled, Off}
 use Rattle.span_dispatch.specs.declared.cache.Cache.{Cache}
@@ -41,17 +41,32 @@ yes_refused : (given : Result Bool TraceError) (P : TraceError → Type 0) (e : 
 yes_refused (Ok b) P e same h = absurd (cc)
 yes_refused (Err x) P e same h = let it : x ≡ e = cc in subst P it h
 
+span_kept : (given : Result (Option Id) TraceError) (P : Type 0) (a : Answer) → a ≡ span_answer given → OnOk given P → IsNoRefusal a → P
+span_kept (Ok None) P a same h n = h
+span_kept (Ok (Some id)) P a same h n = h
+span_kept (Err x) P a same h n = absurd (subst IsNoRefusal same n)
+
+event_kept : (given : Result Bool TraceError) (P : Type 0) (a : Answer) → a ≡ event_answer given → OnOk given P → IsNoRefusal a → P
+event_kept (Ok true) P a same h n = h
+event_kept (Ok false) P a same h n = h
+event_kept (Err x) P a same h n = absurd (subst IsNoRefusal same n)
+
+yes_kept : (given : Result Bool TraceError) (P : Type 0) (a : Answer) → a ≡ yes_answer given → OnOk given P → IsNoRefusal a → P
+yes_kept (Ok b) P a same h n = h
+yes_kept (Err x) P a same h n = absurd (subst IsNoRefusal same n)
+
 module _ {S : Type 0} (registry : S → RegistryState) where
   -- a new span
   pub span_goes : (lane : Lane) (m : Metadata) (p : Parent) (attrs : Attributes) (given : Result (Option Id) TraceError) (a : Answer) (old new : Dispatch S) → metadata_of attrs ≡ m → asked_parent attrs ≡ p → a ≡ span_answer given
-      → KeepsHint old new → LearnsOnly (metadata_of attrs) old new → DropsAbove (metadata_of attrs) None given old new → RefusesMismatch (metadata_of attrs) given old new → IfErr given (RefusesOpening registry lane (metadata_of attrs) (asked_parent attrs) old)
+      → KeepsHint old new → LearnsOnly (metadata_of attrs) old new → KeepsCallsite (metadata_of attrs) given old new → DropsAbove (metadata_of attrs) None given old new → RefusesMismatch (metadata_of attrs) given old new → IfErr given (RefusesOpening registry lane (metadata_of attrs) (asked_parent attrs) old)
       → GoesByKept m answer.Dropped (RefusesOpening registry lane m p old) a old new
-  span_goes lane m p attrs given a old new same parent answered hint learned above mismatch refused =
+  span_goes lane m p attrs given a old new same parent answered hint learned keeps above mismatch refused =
       subst (λ n. GoesByKept n answer.Dropped (RefusesOpening registry lane n p old) a old new) same
       (subst (λ q. GoesByKept (metadata_of attrs) answer.Dropped (RefusesOpening registry lane (metadata_of attrs) q old) a old new) parent
       (record {
         hint = hint;
         callsites = learned;
+        keeps = span_kept given _ a answered keeps;
         above = λ h. answered ∙ ap span_answer (above h);
         mismatch = λ h. answered ∙ ap span_answer (mismatch h);
         refused = λ e h. span_refused given (RefusesOpening registry lane (metadata_of attrs) (asked_parent attrs) old) e (sym answered ∙ h) refused;
@@ -70,24 +85,26 @@ no_callsites (Filled k) = refl
 
 module _ {S : Type 0} where
   -- an event
-  pub event_goes : (n m : Metadata) (given : Result Bool TraceError) (a : Answer) (old new : Dispatch S) → n ≡ m → a ≡ event_answer given → KeepsHint old new → LearnsOnly n old new → DropsAbove n false given old new → RefusesMismatch n given old new → IfErr given (RefusesMetadata n old)
+  pub event_goes : (n m : Metadata) (given : Result Bool TraceError) (a : Answer) (old new : Dispatch S) → n ≡ m → a ≡ event_answer given → KeepsHint old new → LearnsOnly n old new → KeepsCallsite n given old new → DropsAbove n false given old new → RefusesMismatch n given old new → IfErr given (RefusesMetadata n old)
       → GoesByKept m answer.Dropped (RefusesMetadata m old) a old new
-  event_goes n m given a old new same answered hint learned above mismatch refused =
+  event_goes n m given a old new same answered hint learned keeps above mismatch refused =
       subst (λ k. GoesByKept k answer.Dropped (RefusesMetadata k old) a old new) same
       (record {
         hint = hint;
         callsites = learned;
+        keeps = event_kept given _ a answered keeps;
         above = λ h. answered ∙ ap event_answer (above h);
         mismatch = λ h. answered ∙ ap event_answer (mismatch h);
         refused = λ e h. event_refused given (RefusesMetadata n old) e (sym answered ∙ h) refused;
       })
 
   -- a probe
-  pub probe_goes : (m : Metadata) (given : Result Bool TraceError) (a : Answer) (old new : Dispatch S) → a ≡ yes_answer given → KeepsHint old new → LearnsOnly m old new → DropsAbove m false given old new → RefusesMismatch m given old new → IfErr given (RefusesMetadata m old)
+  pub probe_goes : (m : Metadata) (given : Result Bool TraceError) (a : Answer) (old new : Dispatch S) → a ≡ yes_answer given → KeepsHint old new → LearnsOnly m old new → KeepsCallsite m given old new → DropsAbove m false given old new → RefusesMismatch m given old new → IfErr given (RefusesMetadata m old)
       → GoesByKept m (answer.Yes false) (RefusesMetadata m old) a old new
-  probe_goes m given a old new answered hint learned above mismatch refused = record {
+  probe_goes m given a old new answered hint learned keeps above mismatch refused = record {
     hint = hint;
     callsites = learned;
+    keeps = yes_kept given _ a answered keeps;
     above = λ h. answered ∙ ap yes_answer (above h);
     mismatch = λ h. answered ∙ ap yes_answer (mismatch h);
     refused = λ e h. yes_refused given (RefusesMetadata m old) e (sym answered ∙ h) refused;

@@ -20,10 +20,9 @@ use Rattle.span_layers.specs.Verdict.{AreDistinct, in_verdict, numbers_of}
 use Rattle.span_registry.proofs.Chains.{get_put}
 use Rattle.span_registry.proofs.Plain.{shown_as_passed}
 use Rattle.span_registry.specs.Answers.{Answers, Notice, OnClose, OnEnter, OnEvent, OnExit, OnFollows, OnIdChange, OnNewSpan, OnRecord}
-use Rattle.span_registry.specs.Follows.{Keeps}
 use Rattle.span_registry.specs.Form.{Bare, Filtered, Form, Leaf, Over}
 use Rattle.span_registry.specs.Hooks.{StackSteps, no_filter}
-use Rattle.span_registry.specs.Levels.{LevelSteps}
+use Rattle.span_registry.specs.Levels.{KeepsRules, LevelSteps}
 use Rattle.span_registry.specs.Path.{Path, mask_of, passes_path, path_at}
 use Rattle.span_registry.specs.Place.{Heard, Here, Inner, Outer, Place, Told, Under, told_in}
 use Rattle.span_registry.specs.Plan.{is_passed, passes}
@@ -232,7 +231,7 @@ module _ (attrs : Attributes) (id : Id) (r : Span) (s t : Store) (lane later : �
           ap (λ (q : Bool). q && passes_path other (OnClose id) t later set) stopped ∙ ap (λ (q : Bool). q && passes_path path (OnNewSpan attrs id) s lane set) (sym e)
 
 -- what follows a form has the same numbers on each path
-numbers_kept : (f g : Form) (place : Place) (path other : Path) → Keeps f g → path_at f place ≡ Some path → path_at g place ≡ Some other → HaveSameNumbers path other
+numbers_kept : (f g : Form) (place : Place) (path other : Path) → KeepsRules f g → path_at f place ≡ Some path → path_at g place ≡ Some other → HaveSameNumbers path other
 numbers_kept (Leaf still a) (Leaf moved b) Here path other k h l = subst (λ (p : Path). HaveSameNumbers p other) (some_path [] path h) (subst (λ (q : Path). HaveSameNumbers [] q) (some_path [] other l) tt)
 numbers_kept (Leaf still a) (Leaf moved b) (Under p) path other k h l = absurd (cc)
 numbers_kept (Leaf still a) (Leaf moved b) (Outer p) path other k h l = absurd (cc)
@@ -242,7 +241,7 @@ numbers_kept (Filtered n a f) (Filtered m b g) Here path other k h l =
 numbers_kept (Filtered n a f) (Filtered m b g) (Under p) path other k h l =
     let one = beneath n a (path_at f p) path h in
     let two = beneath m b (path_at g p) other l in
-    subst (λ (q : Path). HaveSameNumbers q other) one.2 (subst (λ (q : Path). HaveSameNumbers ((n, a) ∷ one.0) q) two.2 (k.0, numbers_kept f g p one.0 two.0 k.3 one.1 two.1))
+    subst (λ (q : Path). HaveSameNumbers q other) one.2 (subst (λ (q : Path). HaveSameNumbers ((n, a) ∷ one.0) q) two.2 (k.0, numbers_kept f g p one.0 two.0 k.2 one.1 two.1))
 numbers_kept (Filtered n a f) (Filtered m b g) (Outer p) path other k h l = absurd (cc)
 numbers_kept (Filtered n a f) (Filtered m b g) (Inner p) path other k h l = absurd (cc)
 numbers_kept (Over j o i) (Over c p q) (Outer r) path other k h l = numbers_kept o p r path other k.1 h l

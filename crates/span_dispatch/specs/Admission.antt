@@ -1,5 +1,5 @@
 -- Which new spans, events and probes a dispatcher lets by. One that keeps the hint and interests goes by these first; one that keeps nothing asks everything.
-use Rattle.std.specs.Prelude.{◌≡◌, ◌⊎◌, ℕ, Bool, true, false, Option, Some, None, Result, Ok, Err, IfErr}
+use Rattle.std.specs.Prelude.{◌≡◌, ◌⊎◌, ℕ, Bool, true, false, Option, Some, None, Result, Ok, Err, IfErr, OnOk}
 use Rattle.std.specs.Option.{option_map}
 use Rattle.span_core.specs.Level.{is_above}
 use Rattle.span_core.specs.Metadata.{level_of}
@@ -103,6 +103,7 @@ HasInterestBy memory f filters m after (Err e) = (is_above_hint memory f m ≡ f
 pub record GivesInterest {S : Type 0} (registry : S → RegistryState) (has_form : S → Form → Type 0) (x : S) (m : Metadata) (i : Result Interest TraceError) (old new : Cache) : Type 0 where
   pub off : kept_in old ≡ None → i ≡ Ok Sometimes
   pub learns : MayLearn (kept_in old) m (kept_in new)
+  pub keeps : OnOk i (kept_in new ≡ learned_if (is_above_read (hint_in new) m) (kept_in old) m)
   pub reads : ReadsOnce (kept_in old) (hint_in old) (hint_in new)
   pub above : is_above_read (hint_in new) m ≡ true → i ≡ Ok Never
   pub mismatch : RefusesBelow (hint_in old) (kept_in old) m CallsiteMismatch → i ≡ Err CallsiteMismatch

@@ -1,5 +1,5 @@
 -- What the contract of each call of a dispatcher says. A word takes what the type of a stack says of it as one value, and dispatchers whole.
-use Rattle.std.specs.Prelude.{◌≡◌, ◌⊎◌, ◌&&◌, ℕ, Bool, true, false, List, Option, None, Result, Ok, Err, IfOk, IfSome, MatchOption, is_some}
+use Rattle.std.specs.Prelude.{◌≡◌, ◌⊎◌, ◌&&◌, ℕ, Bool, true, false, List, Option, None, Result, Ok, Err, IfOk, IfSome, MatchOption, OnOk, is_some}
 use Rattle.std.specs.List.{FoldsTo}
 use Rattle.std.specs.declared.alloc.Global.{Global}
 use Rattle.std.specs.declared.vec.Vec.{Vec}
@@ -17,7 +17,7 @@ use Rattle.span_core.specs.declared.span.Id.{Id}
 use Rattle.span_core.specs.declared.span.Lane.{Lane}
 use Rattle.span_core.specs.declared.span.Parent.{Parent}
 use Rattle.span_core.specs.declared.span.Record.{Record}
-use Rattle.span_dispatch.specs.Admission.{IsAdmitted, MayLearn, hint_kept}
+use Rattle.span_dispatch.specs.Admission.{IsAdmitted, MayLearn, hint_kept, learned_if}
 use Rattle.span_dispatch.specs.Cache.{ReadsOnce, RefusesBelow, RefusesInterest, is_above_read}
 use Rattle.span_dispatch.specs.Call.{AddHandle, AskCurrent, Call, DropHandle, DropsSpan, Enter, Exit, Follow, OpenSpan, OpensFor, Probe, RecordValues, SendEvent, SetLevel, current_answer, done_answer, event_answer, span_answer, yes_answer}
 use Rattle.span_dispatch.specs.Outcome.{IsHonest, Made, Makes}
@@ -85,6 +85,10 @@ RefusesEvent e d error = RefusesMetadata (event_metadata e) d error
 -- of callsites, none but that of these metadata may be kept that wasn't
 abbrev pub LearnsOnly : {S : Type 0} → Metadata → Dispatch S → Dispatch S → Type 0
 LearnsOnly m old new = MayLearn (kept_by old) m (kept_by new)
+
+-- what isn't refused has its callsite kept then, unless its level is above the kept hint
+abbrev pub KeepsCallsite : {S A : Type 0} → Metadata → Result A TraceError → Dispatch S → Dispatch S → Type 0
+KeepsCallsite m given old new = OnOk given (kept_by new ≡ learned_if (is_above_read (hint_by new) m) (kept_by old) m)
 
 -- the stack is the same
 abbrev pub SameStack : {S : Type 0} → Dispatch S → Dispatch S → Type 0

@@ -1,11 +1,12 @@
 -- What is promised of any stack, in a list of requests: what is asked by metadata goes by the hint and the callsites that are kept.
-use Rattle.std.specs.Prelude.{◌≡◌, List, [], ◌∷◌, ◌++◌, true, false, None}
+use Rattle.std.specs.Prelude.{◌≡◌, ⊤, List, [], ◌∷◌, ◌++◌, true, false, None}
 use Rattle.std.specs.Option.{option_map}
 use Rattle.std.specs.declared.alloc.Global.{Global}
 use Rattle.std.specs.declared.vec.Vec.{Vec}
 use Rattle.span_core.specs.declared.error.TraceError.TheVariants.{CallsiteMismatch}
 use Rattle.span_core.specs.declared.error.TraceError.{TraceError}
 use Rattle.span_core.specs.declared.metadata.Metadata.{Metadata}
+use Rattle.span_dispatch.specs.Admission.{learned_if}
 use Rattle.span_dispatch.specs.Cache.{is_above_read, no_callsite}
 use Rattle.span_dispatch.specs.Contract.{KeepsHint, LearnsOnly, RefusesMetadata, RefusesOpening}
 use Rattle.span_dispatch.specs.Serve.{hint_by, kept_by, resolved_parent}
@@ -16,10 +17,16 @@ use Rattle.span_dispatch.specs.declared.request.Request.TheVariants as request
 use Rattle.span_dispatch.specs.declared.request.Request.{Request}
 use Rattle.span_registry.specs.Store.{RegistryState}
 
--- what is asked by metadata is answered so: above the hint that is kept then it is dropped; below it, of a callsite that is kept with other metadata, refused for that; else refused as this says; and of callsites none but theirs is kept newly
+-- it isn't a refusal
+abbrev pub IsNoRefusal : Answer → Type 0
+IsNoRefusal (answer.Refused e) = ⊥
+IsNoRefusal other = ⊤
+
+-- what is asked by metadata is answered so: above the hint that is kept then it is dropped; below it, of a callsite that is kept with other metadata, refused for that; else refused as this says; and of callsites none but theirs is kept newly, which is kept where it isn't refused, unless the level is above the hint
 pub record GoesByKept {S : Type 0} (m : Metadata) (dropped : Answer) (refuses : TraceError → Type 0) (a : Answer) (old new : Dispatch S) : Type 0 where
   pub hint : KeepsHint old new
   pub callsites : LearnsOnly m old new
+  pub keeps : IsNoRefusal a → kept_by new ≡ learned_if (is_above_read (hint_by new) m) (kept_by old) m
   pub above : is_above_read (hint_by new) m ≡ true → a ≡ dropped
   pub mismatch : RefusesMetadata m old CallsiteMismatch → a ≡ answer.Refused CallsiteMismatch
   pub refused : (e : TraceError) → a ≡ answer.Refused e → refuses e

@@ -14,8 +14,9 @@ use Rattle.span_core.specs.declared.span.Current.{Current}
 use Rattle.span_core.specs.declared.span.Id.{Id}
 use Rattle.span_core.specs.declared.span.Lane.{Lane}
 use Rattle.span_core.specs.declared.span.Record.{Record}
-use Rattle.span_dispatch.specs.Contract.{DropsAbove, KeepsHint, RefusesMismatch, ServesClone, ServesCurrent, ServesDrop, ServesEnabled, ServesEnter, ServesEvent, ServesExit, ServesFollows, ServesLevel, ServesNewSpan, ServesRecord, SubscriberOf, TakesLevel, WantsSpan, registry_of}
+use Rattle.span_dispatch.specs.Contract.{DropsAbove, KeepsCallsite, KeepsHint, RefusesMismatch, ServesClone, ServesCurrent, ServesDrop, ServesEnabled, ServesEnter, ServesEvent, ServesExit, ServesFollows, ServesLevel, ServesNewSpan, ServesRecord, SubscriberOf, TakesLevel, WantsSpan, registry_of}
 use Rattle.span_dispatch.specs.Journal.{Adds, Entry, LoggedState, Placed}
+use Rattle.span_dispatch.specs.Serve.{hint_by}
 use Rattle.span_dispatch.specs.declared.dispatch.Dispatch.{Dispatch}
 use Rattle.span_dispatch.specs.declared.entry.EntryWith.TheVariants as entry
 use Rattle.span_registry.specs.Store.{Span, Spans}
@@ -87,9 +88,13 @@ LogsDropped m dropped = Logs (DropsAbove m dropped)
 abbrev pub LogsMismatch : {S A : Type 0} → Metadata → Saying (Dispatch S) A
 LogsMismatch m = Logs (RefusesMismatch m)
 
--- the hint that is kept is the one that was read first, unless memory for the journal is refused
+-- where the call isn't refused, its callsite is kept then, unless its level is above the kept hint
+abbrev pub LogsCallsite : {S A : Type 0} → Metadata → Saying (Dispatch S) A
+LogsCallsite m result old new = KeepsCallsite m result old.dispatch new.dispatch
+
+-- the hint that is kept is the one that was read first, or none still
 abbrev pub LogsHint : {S A : Type 0} → Saying (Dispatch S) A
-LogsHint = Logs (λ given. KeepsHint)
+LogsHint result old new = (hint_by new.dispatch ≡ hint_by old.dispatch) ⊎ KeepsHint old.dispatch new.dispatch
 
 module _ {S : Type 0} (s : SubscriberOf S) where
   -- so is `enabled` served

@@ -10,9 +10,9 @@ use Rattle.span_core.specs.declared.span.Lane.{Lane}
 use Rattle.span_dispatch.specs.Outcome.{IsVerdict}
 use Rattle.span_layers.specs.Verdict.{AreDistinct, numbers_of}
 use Rattle.span_registry.specs.Answers.{Notice, OnClose, OnEnter, OnEvent, OnExit, OnFollows, OnIdChange, OnNewSpan, OnRecord}
-use Rattle.span_registry.specs.Follows.{Keeps}
 use Rattle.span_registry.specs.Form.{Form}
 use Rattle.span_registry.specs.Hooks.{no_filter}
+use Rattle.span_registry.specs.Levels.{KeepsRules}
 use Rattle.span_registry.specs.Path.{Path, passes_path, path_at}
 use Rattle.span_registry.specs.Place.{Heard, Place, Told}
 use Rattle.span_registry.specs.Store.{Span, Store}
@@ -40,5 +40,5 @@ ShowTheirSpans heard = AllByRecursion ShowsItsSpan heard
 -- a span of these metadata opened under a form, whose verdict that is; where the form's filters kept their numbers, a path passes the span's close exactly if it passed the span
 abbrev pub ClosesAsItOpened : Type 0
 ClosesAsItOpened = (f g : Form) (place : Place) (path other : Path) (attrs : Attributes) (id : Id) (r : Span) (s t : Store) (lane later : Lane)
-    → AreDistinct f → ((k : ℕ) → numbers_of f k ≡ true → k < LIMIT) → Keeps f g → path_at f place ≡ Some path → path_at g place ≡ Some other → IsVerdict f (metadata_of attrs) s lane r.verdict → get t.spans (number_of id) ≡ Some r
+    → AreDistinct f → ((k : ℕ) → numbers_of f k ≡ true → k < LIMIT) → KeepsRules f g → path_at f place ≡ Some path → path_at g place ≡ Some other → IsVerdict f (metadata_of attrs) s lane r.verdict → get t.spans (number_of id) ≡ Some r
     → passes_path other (OnClose id) t later.0 no_filter ≡ passes_path path (OnNewSpan attrs id) s lane.0 no_filter

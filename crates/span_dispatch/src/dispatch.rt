@@ -6,7 +6,7 @@ ghost use Rattle.span_core.specs.Filters.{IsEmpty};
 ghost use Rattle.span_core.specs.Span.{metadata_of, number_of};
 ghost use Rattle.span_dispatch.specs.Cache.{no_callsite};
 ghost use Rattle.span_dispatch.specs.Call.{FindsOpen, RefusesUnlessOpen};
-ghost use Rattle.span_dispatch.specs.Contract.{Admits, AsksStack, BecomesReady, ChangesLevel, ChangesStack, DropsAbove, DropsSettled, Forgets, GivesLevel, KeepsHint, LearnsOnly, LeavesGone, OpensByPass, OpensIfMade, Refuses, RefusesEvent, RefusesMetadata, RefusesMismatch, RefusesSpan, SameRegistry, SameStack, SeesWhatIsMade, ServesClone, ServesCurrent, ServesDrop, ServesEnabled, ServesEnter, ServesEvent, ServesExit, ServesFollows, ServesLevel, ServesNewSpan, ServesRecord, Shows, ShowsHint, ShowsKept, StaysReady, StaysReadyBut, StaysSettled, StaysUpToDate, TakesHandle, TakesLevel, TakesStep, TakesStepAlone, WantsEvent, WantsMetadata, WantsSpan};
+ghost use Rattle.span_dispatch.specs.Contract.{Admits, AsksStack, BecomesReady, ChangesLevel, ChangesStack, DropsAbove, DropsSettled, Forgets, GivesLevel, KeepsCallsite, KeepsHint, LearnsOnly, LeavesGone, OpensByPass, OpensIfMade, Refuses, RefusesEvent, RefusesMetadata, RefusesMismatch, RefusesSpan, SameRegistry, SameStack, SeesWhatIsMade, ServesClone, ServesCurrent, ServesDrop, ServesEnabled, ServesEnter, ServesEvent, ServesExit, ServesFollows, ServesLevel, ServesNewSpan, ServesRecord, Shows, ShowsHint, ShowsKept, StaysReady, StaysReadyBut, StaysSettled, StaysUpToDate, TakesHandle, TakesLevel, TakesStep, TakesStepAlone, WantsEvent, WantsMetadata, WantsSpan};
 ghost use Rattle.span_dispatch.specs.contracts.dispatch.Dispatch.{the_row};
 ghost use Rattle.span_dispatch.specs.Serve.{ClosesEach, KeepsUpToDate, forgetful, hint_by, kept_by, stack_of, with_stack};
 ghost use Rattle.span_registry.specs.Step.{Clones, Enters, Exits, RefusesClone, RefusesEnter, RefusesRelease};
@@ -116,6 +116,7 @@ impl<S: Subscriber> Dispatch<S> {
         ensures afresh { AsksStack S.Subscriber lane meta.now self.old pass.old result pass.new }
         ensures hint { KeepsHint self.old self.new }
         ensures above { DropsAbove meta.now false result self.old self.new }
+        ensures keeps { KeepsCallsite meta.now result self.old self.new }
         ensures mismatch { RefusesMismatch meta.now result self.old self.new }
         ensures refused { IfErr result (RefusesMetadata meta.now self.old) }
     {
@@ -143,6 +144,7 @@ impl<S: Subscriber> Dispatch<S> {
         ensures seen { SeesWhatIsMade S.Subscriber self.old self.new }
         ensures hint { KeepsHint self.old self.new }
         ensures above { DropsAbove meta.now false result self.old self.new }
+        ensures keeps { KeepsCallsite meta.now result self.old self.new }
         ensures mismatch { RefusesMismatch meta.now result self.old self.new }
         ensures refused { IfErr result (RefusesMetadata meta.now self.old) }
     {
@@ -167,6 +169,7 @@ impl<S: Subscriber> Dispatch<S> {
         ensures store { IfOk result (OpensIfMade S.Subscriber lane attrs.now self.old self.new) }
         ensures hint { KeepsHint self.old self.new }
         ensures above { DropsAbove (metadata_of attrs.now) None result self.old self.new }
+        ensures keeps { KeepsCallsite (metadata_of attrs.now) result self.old self.new }
         ensures mismatch { RefusesMismatch (metadata_of attrs.now) result self.old self.new }
         ensures refused { IfErr result (RefusesSpan S.Subscriber lane attrs.now self.old) }
         ensures unchanged { OnErr result (SameStack self.old self.new) }
@@ -195,6 +198,7 @@ impl<S: Subscriber> Dispatch<S> {
         ensures store { IfOk result (OpensByPass S.Subscriber lane attrs.now pass.new self.old self.new) }
         ensures hint { KeepsHint self.old self.new }
         ensures above { DropsAbove (metadata_of attrs.now) None result self.old self.new }
+        ensures keeps { KeepsCallsite (metadata_of attrs.now) result self.old self.new }
         ensures mismatch { RefusesMismatch (metadata_of attrs.now) result self.old self.new }
         ensures refused { IfErr result (RefusesSpan S.Subscriber lane attrs.now self.old) }
         ensures unchanged { OnErr result (SameStack self.old self.new) }
@@ -224,6 +228,7 @@ impl<S: Subscriber> Dispatch<S> {
         ensures asked { IfOk result (WantsEvent S.Subscriber lane event.now self.old) }
         ensures hint { KeepsHint self.old self.new }
         ensures above { DropsAbove (event_metadata event.now) false result self.old self.new }
+        ensures keeps { KeepsCallsite (event_metadata event.now) result self.old self.new }
         ensures mismatch { RefusesMismatch (event_metadata event.now) result self.old self.new }
         ensures refused { IfErr result (RefusesEvent event.now self.old) }
         ensures unchanged { OnErr result (SameStack self.old self.new) }

@@ -2,7 +2,7 @@ use Rattle.std.proofs.Common.{◌∙◌, ap, sym, subst}
 use Rattle.std.specs.Str.Lossy.{utf8_lossy}
 use Rattle.span_runner.specs.Program.{Prints}
 use Rattle.span_runner.proofs.Written.{printable, refused, written}
-use Rattle.span_runner.proofs.run.run_with.Goals as goal
+use Rattle.span_runner.proofs.program.run_with.Goals as goal
 
 pub returns-clause-done : goal.returns-clause-done
 returns-clause-done g c = written (Prints c.args.limits) (g.R.Read.remaining c.args.reader.now) c.in_ok-bytes.bytes.items c.as_str.result.now c.as_str-2.result.now

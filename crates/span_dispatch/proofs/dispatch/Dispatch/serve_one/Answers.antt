@@ -100,13 +100,13 @@ pub returns-in-SetLevel-clause-ready : goal.returns-in-SetLevel-clause-ready
 returns-in-SetLevel-clause-ready g c = λ f k. by_level g.S.LookupSpan.registry g.S.LookupSpan.with_registry g.S.Subscriber.has_form g.S.Subscriber.stepped g.S.Subscriber.levelled c.in-SetLevel.number f c.set_level.new.self (c.set_level.ensures.ready f k)
 
 pub returns-in-NewSpan-clause-kept : goal.returns-in-NewSpan-clause-kept
-returns-in-NewSpan-clause-kept g c = goes_as g.S.LookupSpan.registry c.args.past.now c.args.request.now (request.NewSpan c.in-NewSpan.lane c.in-NewSpan.metadata c.in-NewSpan.parent c.in-NewSpan.values) c.of_span.result c.args.self.now c.new_span.new.self c.in-NewSpan.is (span_goes g.S.LookupSpan.registry c.in-NewSpan.lane c.in-NewSpan.metadata (resolved_parent c.args.past.now c.in-NewSpan.parent) c.attributes.result c.new_span.result c.of_span.result c.args.self.now c.new_span.new.self c.attributes.ensures.metadata c.attributes.ensures.parent c.of_span.ensures c.new_span.ensures.hint c.new_span.ensures.kept c.new_span.ensures.above c.new_span.ensures.mismatch c.new_span.ensures.refused)
+returns-in-NewSpan-clause-kept g c = goes_as g.S.LookupSpan.registry c.args.past.now c.args.request.now (request.NewSpan c.in-NewSpan.lane c.in-NewSpan.metadata c.in-NewSpan.parent c.in-NewSpan.values) c.of_span.result c.args.self.now c.new_span.new.self c.in-NewSpan.is (span_goes g.S.LookupSpan.registry c.in-NewSpan.lane c.in-NewSpan.metadata (resolved_parent c.args.past.now c.in-NewSpan.parent) c.attributes.result c.new_span.result c.of_span.result c.args.self.now c.new_span.new.self c.attributes.ensures.metadata c.attributes.ensures.parent c.of_span.ensures c.new_span.ensures.hint c.new_span.ensures.kept c.new_span.ensures.keeps c.new_span.ensures.above c.new_span.ensures.mismatch c.new_span.ensures.refused)
 
 pub returns-in-Event-clause-kept : goal.returns-in-Event-clause-kept
-returns-in-Event-clause-kept g c = goes_as g.S.LookupSpan.registry c.args.past.now c.args.request.now (request.Event c.in-Event.lane c.in-Event.metadata c.in-Event.parent c.in-Event.values) c.of_event.result c.args.self.now c.event-in-Event.new.self c.in-Event.is (event_goes (event_metadata c.event.result) c.in-Event.metadata c.event-in-Event.result c.of_event.result c.args.self.now c.event-in-Event.new.self c.event.ensures.metadata c.of_event.ensures c.event-in-Event.ensures.hint c.event-in-Event.ensures.kept c.event-in-Event.ensures.above c.event-in-Event.ensures.mismatch c.event-in-Event.ensures.refused)
+returns-in-Event-clause-kept g c = goes_as g.S.LookupSpan.registry c.args.past.now c.args.request.now (request.Event c.in-Event.lane c.in-Event.metadata c.in-Event.parent c.in-Event.values) c.of_event.result c.args.self.now c.event-in-Event.new.self c.in-Event.is (event_goes (event_metadata c.event.result) c.in-Event.metadata c.event-in-Event.result c.of_event.result c.args.self.now c.event-in-Event.new.self c.event.ensures.metadata c.of_event.ensures c.event-in-Event.ensures.hint c.event-in-Event.ensures.kept c.event-in-Event.ensures.keeps c.event-in-Event.ensures.above c.event-in-Event.ensures.mismatch c.event-in-Event.ensures.refused)
 
 pub returns-in-Enabled-clause-kept : goal.returns-in-Enabled-clause-kept
-returns-in-Enabled-clause-kept g c = goes_as g.S.LookupSpan.registry c.args.past.now c.args.request.now (request.Enabled c.in-Enabled.lane c.in-Enabled.metadata) c.of_yes-in-Enabled.result c.args.self.now c.enabled.new.self c.in-Enabled.is (probe_goes c.in-Enabled.metadata c.enabled.result c.of_yes-in-Enabled.result c.args.self.now c.enabled.new.self c.of_yes-in-Enabled.ensures c.enabled.ensures.hint c.enabled.ensures.kept c.enabled.ensures.above c.enabled.ensures.mismatch c.enabled.ensures.refused)
+returns-in-Enabled-clause-kept g c = goes_as g.S.LookupSpan.registry c.args.past.now c.args.request.now (request.Enabled c.in-Enabled.lane c.in-Enabled.metadata) c.of_yes-in-Enabled.result c.args.self.now c.enabled.new.self c.in-Enabled.is (probe_goes c.in-Enabled.metadata c.enabled.result c.of_yes-in-Enabled.result c.args.self.now c.enabled.new.self c.of_yes-in-Enabled.ensures c.enabled.ensures.hint c.enabled.ensures.kept c.enabled.ensures.keeps c.enabled.ensures.above c.enabled.ensures.mismatch c.enabled.ensures.refused)
 
 pub returns-in-SetLevel-clause-kept : goal.returns-in-SetLevel-clause-kept
 returns-in-SetLevel-clause-kept g c = goes_as g.S.LookupSpan.registry c.args.past.now c.args.request.now (request.SetLevel c.in-SetLevel.number c.in-SetLevel.level) c.of_done-in-SetLevel.result c.args.self.now c.set_level.new.self c.in-SetLevel.is (level_goes g.S.LookupSpan.registry c.args.past.now c.in-SetLevel.number c.in-SetLevel.level c.set_level.result c.of_done-in-SetLevel.result c.args.self.now c.set_level.new.self c.of_done-in-SetLevel.ensures c.set_level.ensures.forgets c.set_level.ensures.unchanged)
