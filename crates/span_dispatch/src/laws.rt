@@ -14,9 +14,9 @@ use span_registry::Subscriber;
 
 /// A leaf sees the same in every stack, and alone: nothing that stands beside its path makes a difference.
 ///
-/// Two runs may be of stacks of two types. The same outcomes were made in both. The filters round the one leaf are plain; those
-/// round the other have the same numbers and act as they do, as the same filters do by themselves. At first the stores differ in
-/// extensions and other filters' verdicts alone.
+/// Two runs may be of stacks of two types. The same outcomes were made in both, or the same requests were made and answered the
+/// same. The filters round the one leaf are plain; those round the other have the same numbers and act as they do, as the same
+/// filters do by themselves. At first the stores differ in extensions and other filters' verdicts alone.
 pub fn other_layers_make_no_difference<S: Subscriber, T: Subscriber>()
     ensures itself { (cs : Conducts) → ArePlainConducts cs → PathsActAlike cs cs }
     ensures alone { SeeTheSame Alone Alone }
@@ -52,8 +52,8 @@ pub fn calls_say_what_is_made()
     span_registry::laws::closes_once();
 }
 
-/// A path passes a span's close exactly if it passed the span: so each layer is told of the closes of the spans that it was
-/// told of, and of no other's.
+/// Of a span that opened under a form, a path passes the close exactly if it passed the span, by that form or any that keeps
+/// its rules, also where levels were set between.
 pub fn a_close_is_told_to_whom_the_span_was()
     ensures { ClosesAsItOpened }
 {}
