@@ -1,46 +1,18 @@
 //! Tests of a dispatcher that keeps its stack's hint and interests: what it asks of filters once, and what each time.
 ghost use Rattle.span_dispatch.specs.Serve.{stack_of};
 
-use crate::tests::{LANE, in_use, put, serve_by_layer, serve_by_layers};
-use crate::{Answer, Dispatch, Notice, Recorder, Request, WhichParent};
-use span_core::{Event, FieldSet, Kind, Level, LevelFilter, Metadata, TraceError};
+use crate::requests::{event, in_use, made, new_span, serve, serve_by_layers};
+use crate::stack::{LANE, metadata_of, put};
+use span_core::{Event, Id, Kind, Level, LevelFilter, Metadata, TraceError};
+use span_dispatch::{Answer, Dispatch, Notice, Recorder, Request, Which, WhichParent};
 use span_filters::filter_fn;
-use span_layers::LayerExt;
+use span_layers::{Filtered, LayerExt, Layered};
 use span_registry::{Registry, Subscriber};
 use std::alloc::Global;
 use std::cell::Cell;
+use std::process::Abort;
 use std::rc::Rc;
 use std::test::Fail;
-
-/// The metadata of an event.
-fn event_of(callsite: u64, level: Level) -> Metadata {
-    Metadata::new(
-        callsite,
-        "sent",
-        "tests",
-        level,
-        Kind::EVENT,
-        FieldSet::new(&[]),
-    )
-}
-
-/// Sends an event where the lane is.
-fn send<S: Subscriber>(dispatch: &mut Dispatch<S>, metadata: Metadata) -> Result<bool, TraceError>
-    requires { S.usable (stack_of dispatch.old) }
-    ensures { S.usable (stack_of dispatch.new) }
-{
-    dispatch.event(LANE, &Event::new(metadata, &[]))
-}
-
-/// An event where the lane is.
-pub(crate) fn event(callsite: u64, level: Level) -> Request<'static> {
-    Request::Event(
-        LANE,
-        event_of(callsite, level),
-        WhichParent::Contextual,
-        &[],
-    )
-}
 
 /// So many events of level info, from one callsite.
 fn events(alloc: Global, count: usize) -> Result<Vec<Request<'static>>, Fail> {
@@ -51,6 +23,14 @@ fn events(alloc: Global, count: usize) -> Result<Vec<Request<'static>>, Fail> {
     Ok(requests)
 }
 
+/// Sends an event of this level from one callsite. Answers whether it was made.
+fn send<S: Subscriber>(dispatch: &mut Dispatch<S>, level: Level) -> Result<bool, TraceError>
+    requires { S.usable (stack_of dispatch.old) }
+    ensures { S.usable (stack_of dispatch.new) }
+{
+    dispatch.event(LANE, &Event::new(metadata_of(5, level, Kind::EVENT), &[]))
+}
+
 /// Sends an event of level info. Answers whether it was made, and the hint that the dispatcher then has.
 pub(crate) fn sent_under<S: Subscriber>(
     dispatch: &mut Dispatch<S>,
@@ -58,40 +38,40 @@ pub(crate) fn sent_under<S: Subscriber>(
     requires { S.usable (stack_of dispatch.old) }
     ensures { S.usable (stack_of dispatch.new) }
 {
-    let is_made = send(dispatch, event_of(5, Level::INFO));
+    let is_made = send(dispatch, Level::INFO);
     (is_made, dispatch.max_level_hint())
 }
 
 /// Counts that a filter is asked.
-pub(crate) fn count(asked: &Cell<u32>) {
+pub(crate) fn count_one(asked: &Cell<u32>) {
     asked.set(asked.get().saturating_add(1));
+}
+
+/// So many events under no filter, and under one that wants them: it is asked once.
+fn asked_once(rt: &impl Abort, alloc: Global, count: usize) -> Result<(), Fail> {
+    let asked = Rc::new(alloc, Cell::new(0))?;
+    let counter = asked.clone()?;
+    let counted = filter_fn(move |_meta: &Metadata| {
+        count_one(&counter);
+        true
+    });
+    let absent: Option<LevelFilter> = None;
+    let under_none = Recorder::new(alloc).with_filter(absent);
+    let under_counted = Recorder::new(alloc).with_filter(counted);
+    let requests = events(alloc, count)?;
+    let registry = Registry::new(alloc);
+    let (dispatch, _) = serve_by_layers(alloc, registry, under_none, under_counted, &requests)?;
+    let stack = dispatch.stack();
+    let counted = stack.layer().inner().notices().len();
+    let other = stack.inner().layer().inner().notices().len();
+    assert_eq!(rt; (counted, other, asked.get()), (count, count, 1));
+    Ok(())
 }
 
 #[test]
 fn filters_that_want_a_callsite_are_asked_of_it_once(rt: HostRuntime) -> Result<(), Fail> {
-    let asked = Rc::new(rt.alloc(), Cell::new(0))?;
-    let counter = asked.clone()?;
-    let counted = filter_fn(move |_meta: &Metadata| {
-        count(&counter);
-        true
-    });
-    let absent: Option<LevelFilter> = None;
-    let under_none = Recorder::new(rt.alloc()).with_filter(absent);
-    let under_counted = Recorder::new(rt.alloc()).with_filter(counted);
-    let requests = events(rt.alloc(), 10_000)?;
-    let registry = Registry::new(rt.alloc());
-    let (dispatch, _) = serve_by_layers(
-        rt.alloc(),
-        registry,
-        under_none,
-        under_counted,
-        &requests,
-    )?;
-    let stack = dispatch.stack();
-    let counted = stack.layer().inner().notices().len();
-    let other = stack.inner().layer().inner().notices().len();
-    assert_eq!(rt; (counted, other, asked.get()), (10_000, 10_000, 1));
-    Ok(())
+    asked_once(&rt, rt.alloc(), 2)?;
+    asked_once(&rt, rt.alloc(), 10_000)
 }
 
 #[test]
@@ -99,7 +79,7 @@ fn filters_that_differ_on_a_callsite_are_asked_each_time(rt: HostRuntime) -> Res
     let asked = Rc::new(rt.alloc(), Cell::new(0))?;
     let counter = asked.clone()?;
     let counted = filter_fn(move |meta: &Metadata| {
-        count(&counter);
+        count_one(&counter);
         meta.level() <= Level::WARN
     });
     let under_info = Recorder::new(rt.alloc()).with_filter(LevelFilter::INFO);
@@ -178,23 +158,121 @@ const ONLY_INFO: [Answer; 11] = [
     Answer::Refused(TraceError::CallsiteMismatch),
 ];
 
+/// A dispatcher, what it answered, and its hint then.
+type Answered<S> = (Dispatch<S>, Vec<Answer>, Option<LevelFilter>);
+
+/// Puts a stack in use, and serves a list.
+fn answers_and_hint<S: Subscriber + Drop>(
+    alloc: Global,
+    stack: S,
+    requests: &[Request<'_>],
+) -> Result<Answered<S>, TraceError>
+    requires { S.usable stack }
+{
+    let mut dispatch = in_use(alloc, stack);
+    let answers = serve(alloc, &mut dispatch, requests)?;
+    let hint = dispatch.max_level_hint();
+    Ok((dispatch, answers, hint))
+}
+
 #[test]
 fn each_callsite_is_asked_of_once(rt: HostRuntime) -> Result<(), Fail> {
     let asked = Rc::new(rt.alloc(), Cell::new(0))?;
     let counter = asked.clone()?;
     let counted = filter_fn(move |meta: &Metadata| {
-        count(&counter);
+        count_one(&counter);
         meta.level() == Level::INFO
     });
     let under_counted = Recorder::new(rt.alloc()).with_filter(counted);
-    let registry = Registry::new(rt.alloc());
     let requests = events_of_each_level();
-    let (dispatch, answers) = serve_by_layer(rt.alloc(), registry, under_counted, &requests)?;
+    let stack = put(Registry::new(rt.alloc()), under_counted)?;
+    let (dispatch, answers, hint) = answers_and_hint(rt.alloc(), stack, &requests)?;
     let twice = [Notice::Event(LANE, 5), Notice::Event(LANE, 5)];
     let kept = dispatch.stack().layer().inner().notices();
     assert_eq!(rt;
-        (answers.as_slice(), asked.get(), kept),
-        (ONLY_INFO.as_slice(), 5, twice.as_slice())
+        (answers.as_slice(), asked.get(), kept, hint),
+        (ONLY_INFO.as_slice(), 5, twice.as_slice(), None)
+    );
+    Ok(())
+}
+
+/// From the registry outwards: a recorder under a level, and one under two.
+type Nested = Layered<
+    Filtered<Filtered<Recorder, LevelFilter>, LevelFilter>,
+    Layered<Filtered<Recorder, LevelFilter>, Registry>,
+>;
+
+/// The levels next to the recorders are INFO.
+fn nested(alloc: Global) -> Result<Dispatch<Nested>, TraceError> {
+    let under_one = Recorder::new(alloc).with_filter(LevelFilter::INFO);
+    let under_two = Recorder::new(alloc)
+        .with_filter(LevelFilter::INFO)
+        .with_filter(LevelFilter::TRACE);
+    let below = put(Registry::new(alloc), under_one)?;
+    Ok(in_use(alloc, put(below, under_two)?))
+}
+
+/// Sets the levels next to the recorders.
+fn set_levels(stack: &mut Nested, level: LevelFilter) {
+    *stack.inner_mut().layer_mut().filter_mut() = level;
+    *stack.layer_mut().inner_mut().filter_mut() = level;
+}
+
+/// A span, entered, and an event of level debug in it.
+fn one_span() -> [Request<'static>; 3] {
+    [
+        new_span(0, Level::INFO, WhichParent::Root),
+        Request::Enter(LANE, Which::Made(0)),
+        event(8, Level::DEBUG),
+    ]
+}
+
+/// The event again; then the span is left and dropped.
+fn rest_of(span: Id) -> [Request<'static>; 3] {
+    [
+        event(8, Level::DEBUG),
+        Request::Exit(LANE, Which::Known(span)),
+        Request::Drop(LANE, Which::Known(span)),
+    ]
+}
+
+/// What a recorder keeps that begins under INFO, and is under DEBUG for the rest.
+fn kept_over_a_change(span: Id) -> [Notice; 5] {
+    [
+        Notice::New(LANE, span),
+        Notice::Enter(LANE, span),
+        Notice::Event(LANE, 8),
+        Notice::Exit(LANE, span),
+        Notice::Close(LANE, span),
+    ]
+}
+
+#[test]
+fn a_changed_stack_goes_on_with_its_spans(rt: HostRuntime) -> Result<(), Fail> {
+    let mut dispatch = nested(rt.alloc())?;
+    let answers = serve(rt.alloc(), &mut dispatch, &one_span())?;
+    let span = made(&answers, 0)?;
+    set_levels(dispatch.stack_mut(), LevelFilter::DEBUG);
+    serve(rt.alloc(), &mut dispatch, &rest_of(span))?;
+    let kept = kept_over_a_change(span);
+    let stack = dispatch.stack();
+    assert_eq!(rt; stack.inner().layer().inner().notices(), kept.as_slice());
+    assert_eq!(rt; stack.layer().inner().inner().notices(), kept.as_slice());
+    Ok(())
+}
+
+#[test]
+fn a_callsite_has_one_metadata(rt: HostRuntime) -> Result<(), Fail> {
+    let stack = put(Registry::new(rt.alloc()), Recorder::new(rt.alloc()))?;
+    let mut dispatch = in_use(rt.alloc(), stack);
+    assert_eq!(rt; send(&mut dispatch, Level::INFO), Ok(true));
+    assert_eq!(rt;
+        send(&mut dispatch, Level::DEBUG),
+        Err(TraceError::CallsiteMismatch)
+    );
+    assert_eq!(rt;
+        dispatch.stack().layer().notices(),
+        [Notice::Event(LANE, 5)].as_slice()
     );
     Ok(())
 }

@@ -1,110 +1,15 @@
 //! Tests of a dispatcher, as a program drives it: calls and lists of requests, and what a recorder keeps of them.
 ghost use Rattle.span_dispatch.specs.Serve.{stack_of};
-ghost use Rattle.span_layers.specs.Layered.{inner_of, outer_of};
-ghost use Rattle.std.specs.Prelude.{IfOk};
 
-use crate::{Answer, Dispatch, Notice, Recorder, Request, Which, WhichParent};
-use span_core::{Attributes, Event, FieldSet, Id, Kind, Lane, Level, Metadata, Record, TraceError};
-use span_layers::{Layer, Layered, SubscriberExt};
+use crate::requests::{event, fresh, in_use, made, new_event, new_span, serve, within};
+use crate::stack::{LANE, metadata_of, put};
+use span_core::{Attributes, Event, Id, Kind, Lane, Level, Metadata, Record, TraceError};
+use span_dispatch::{Answer, Dispatch, Notice, Recorder, Request, Which, WhichParent};
+use span_layers::Layered;
 use span_registry::{Context, LookupSpan, Registry, Subscriber};
 use std::alloc::Global;
 use std::process::Abort;
 use std::test::Fail;
-
-pub(crate) const LANE: Lane = Lane(0);
-
-/// Puts a layer on a stack.
-pub(crate) fn put<S: Subscriber + Drop, L: Layer<S> + Drop>(
-    stack: S,
-    layer: L,
-) -> Result<Layered<L, S>, TraceError>
-    requires layer { L.usable layer }
-    requires stack { S.usable stack }
-    ensures layer { IfOk result (λ made. L.usable (outer_of made)) }
-    ensures stack { IfOk result (λ made. S.usable (inner_of made)) }
-{
-    match stack.with(layer) {
-        Ok(made) => Ok(made),
-        Err(back) => Err(back.error),
-    }
-}
-
-/// Puts a stack in use.
-pub(crate) fn in_use<S: Subscriber>(alloc: Global, stack: S) -> Dispatch<S>
-    requires { S.usable stack }
-    ensures { S.usable (stack_of result) }
-{
-    Dispatch::new(alloc, stack)
-}
-
-/// Puts a stack in use by a dispatcher that keeps nothing.
-pub(crate) fn fresh<S: Subscriber>(alloc: Global, stack: S) -> Dispatch<S>
-    requires { S.usable stack }
-    ensures { S.usable (stack_of result) }
-{
-    Dispatch::fresh(alloc, stack)
-}
-
-/// Serves a list.
-pub(crate) fn serve<S: Subscriber>(
-    alloc: Global,
-    dispatch: &mut Dispatch<S>,
-    requests: &[Request<'_>],
-) -> Result<Vec<Answer>, TraceError>
-    requires { S.usable (stack_of dispatch.old) }
-    ensures { S.usable (stack_of dispatch.new) }
-{
-    dispatch.serve(alloc, requests)
-}
-
-/// Puts a stack in use, and serves a list.
-pub(crate) fn serve_by<S: Subscriber + Drop>(
-    alloc: Global,
-    stack: S,
-    requests: &[Request<'_>],
-) -> Result<(Dispatch<S>, Vec<Answer>), TraceError>
-    requires { S.usable stack }
-{
-    let mut dispatch = in_use(alloc, stack);
-    let answers = serve(alloc, &mut dispatch, requests)?;
-    Ok((dispatch, answers))
-}
-
-/// The same of a layer on a stack.
-pub(crate) fn serve_by_layer<S: Subscriber + Drop, L: Layer<S> + Drop>(
-    alloc: Global,
-    stack: S,
-    layer: L,
-    requests: &[Request<'_>],
-) -> Result<(Dispatch<Layered<L, S>>, Vec<Answer>), TraceError>
-    requires stack { S.usable stack }
-    requires layer { L.usable layer }
-{
-    serve_by(alloc, put(stack, layer)?, requests)
-}
-
-/// Two layers on a stack.
-type TwoOn<S, I, O> = Layered<O, Layered<I, S>>;
-
-/// The same of two layers on a stack.
-pub(crate) fn serve_by_layers<S, I, O>(
-    alloc: Global,
-    stack: S,
-    inner: I,
-    outer: O,
-    requests: &[Request<'_>],
-) -> Result<(Dispatch<TwoOn<S, I, O>>, Vec<Answer>), TraceError>
-where
-    S: Subscriber + Drop,
-    I: Layer<S> + Drop,
-    O: Layer<Layered<I, S>> + Drop,
-    requires stack { S.usable stack }
-    requires inner { I.usable inner }
-    requires outer { O.usable outer }
-{
-    let below = put(stack, inner)?;
-    serve_by(alloc, put(below, outer)?, requests)
-}
 
 /// A recorder on a registry.
 type Plain = Layered<Recorder, Registry>;
@@ -114,8 +19,19 @@ fn plain(alloc: Global) -> Result<Dispatch<Plain>, Fail> {
     Ok(fresh(alloc, stack))
 }
 
-fn metadata_of(kind: Kind) -> Metadata {
-    Metadata::new(7, "made", "tests", Level::INFO, kind, FieldSet::new(&[]))
+/// What the one callsite for spans makes.
+fn span_metadata() -> Metadata {
+    metadata_of(7, Level::INFO, Kind::SPAN)
+}
+
+/// What the one callsite for events makes.
+fn event_metadata() -> Metadata {
+    metadata_of(7, Level::INFO, Kind::EVENT)
+}
+
+/// A span of level info.
+fn span_in(parent: WhichParent) -> Request<'static> {
+    new_span(7, Level::INFO, parent)
 }
 
 /// Opens a root, where no layer vetoes.
@@ -123,7 +39,7 @@ fn open<S: Subscriber>(dispatch: &mut Dispatch<S>) -> Result<Option<Id>, TraceEr
     requires { S.usable (stack_of dispatch.old) }
     ensures { S.usable (stack_of dispatch.new) }
 {
-    dispatch.new_span(LANE, &Attributes::new_root(metadata_of(Kind::SPAN), &[]))
+    dispatch.new_span(LANE, &Attributes::new_root(span_metadata(), &[]))
 }
 
 /// The same. Fails where a layer vetoes.
@@ -139,7 +55,7 @@ fn send<S: Subscriber>(dispatch: &mut Dispatch<S>) -> Result<bool, TraceError>
     requires { S.usable (stack_of dispatch.old) }
     ensures { S.usable (stack_of dispatch.new) }
 {
-    dispatch.event(LANE, &Event::new(metadata_of(Kind::EVENT), &[]))
+    dispatch.event(LANE, &Event::new(event_metadata(), &[]))
 }
 
 /// Drops a handle.
@@ -148,14 +64,6 @@ fn drop_handle<S: Subscriber>(dispatch: &mut Dispatch<S>, id: Id) -> Result<bool
     ensures { S.usable (stack_of dispatch.new) }
 {
     dispatch.drop_span(LANE, id)
-}
-
-/// The span that the request at this place made.
-pub(crate) fn made(answers: &[Answer], place: usize) -> Result<Id, Fail> {
-    match answers.get(place) {
-        Some(Answer::Made(id)) => Ok(*id),
-        _ => Err(Fail::from("no span was made")),
-    }
 }
 
 /// The parent of an open span.
@@ -185,18 +93,16 @@ fn a_span_closes_with_its_last_handle(rt: HostRuntime) -> Result<(), Fail> {
 
 /// Requests that name spans by the places of those that make them.
 fn requests_by_places(never: Id) -> [Request<'static>; 9] {
-    let span = metadata_of(Kind::SPAN);
-    let event = metadata_of(Kind::EVENT);
     [
-        Request::NewSpan(LANE, span, WhichParent::Root, &[]),
-        Request::NewSpan(LANE, span, WhichParent::Explicit(Which::Made(0)), &[]),
-        Request::Event(LANE, event, WhichParent::Explicit(Which::Made(1)), &[]),
+        span_in(WhichParent::Root),
+        span_in(within(0)),
+        new_event(7, Level::INFO, within(1)),
         Request::Enter(LANE, Which::Made(2)),
-        Request::NewSpan(LANE, span, WhichParent::Explicit(Which::Made(2)), &[]),
+        span_in(within(2)),
         Request::Drop(LANE, Which::Made(9)),
         Request::Follows(LANE, Which::Made(0), Which::Made(3)),
         Request::Enter(LANE, Which::Known(never)),
-        Request::NewSpan(LANE, span, WhichParent::Explicit(Which::Known(never)), &[]),
+        span_in(WhichParent::Explicit(Which::Known(never))),
     ]
 }
 
@@ -243,7 +149,7 @@ fn a_list_names_spans_by_their_places(rt: HostRuntime) -> Result<(), Fail> {
 fn requests_of_one_span(never: Id) -> [Request<'static>; 13] {
     let span = Which::Made(0);
     [
-        Request::NewSpan(LANE, metadata_of(Kind::SPAN), WhichParent::Contextual, &[]),
+        span_in(WhichParent::Contextual),
         Request::Clone(LANE, span),
         Request::Enter(LANE, span),
         Request::Current(LANE),
@@ -252,7 +158,7 @@ fn requests_of_one_span(never: Id) -> [Request<'static>; 13] {
         Request::Follows(LANE, span, Which::Known(never)),
         Request::Exit(LANE, span),
         Request::Current(LANE),
-        Request::Enabled(LANE, metadata_of(Kind::EVENT)),
+        Request::Enabled(LANE, event_metadata()),
         Request::Drop(LANE, span),
         Request::Drop(LANE, span),
         Request::Clone(LANE, span),
@@ -310,8 +216,8 @@ fn refuses_unknown<S: Subscriber>(
     ensures { S.usable (stack_of dispatch.new) }
 {
     let unknown = TraceError::UnknownSpan(id);
-    let child = Attributes::child_of(id, metadata_of(Kind::SPAN), &[]);
-    let event = Event::new_child_of(id, metadata_of(Kind::EVENT), &[]);
+    let child = Attributes::child_of(id, span_metadata(), &[]);
+    let event = Event::new_child_of(id, event_metadata(), &[]);
     let values = Record::new(&[]);
     assert_eq!(rt; dispatch.enter(LANE, id), Err(unknown));
     assert_eq!(rt; dispatch.record(LANE, id, &values), Err(unknown));

@@ -1,9 +1,9 @@
 //! Tests of what hooks are lent, and of texts.
 ghost use Rattle.std.specs.Prelude.{⊤};
 
-use crate::tests::{notify, open, put, send};
-use crate::{LayerExt, Observe, Observed, Observer};
+use crate::stack::{notify, open, put, send_in};
 use span_core::{FilterId, Level, LevelFilter};
+use span_layers::{LayerExt, Observe, Observed, Observer};
 use span_registry::{ContextMut, Registry, Subscriber};
 use std::test::Fail;
 
@@ -36,7 +36,7 @@ fn a_pass_ends_with_its_request(rt: HostRuntime) -> Result<(), Fail> {
     let watching = Observer::new(Refusals { asked: 0, other: 0 });
     let mut stack = put(Registry::new(rt.alloc()), refused.and_then(watching))?;
     let id = open(&mut stack, Level::INFO, None)?;
-    assert!(rt; send(&mut stack, Level::INFO, id));
+    assert!(rt; send_in(&mut stack, Level::INFO, id));
     notify(&mut stack, id, id)?;
     let watched = stack.layer().layer().observer();
     assert_eq!(rt; watched.asked, 2);

@@ -1,22 +1,18 @@
 //! Tests of what other layers' filters make no difference to, and of what they do where a filter reads extensions.
-ghost use Rattle.span_dispatch.specs.Tests.{in_marked, is_marked};
+ghost use Rattle.span_stack_tests.specs.Marked.{in_marked, is_marked};
 ghost use Rattle.span_registry.specs.Context.{view_in};
 ghost use Rattle.std.specs.Prelude.{◌≡◌, ⊤};
 
-use crate::tests::{LANE, made, put, serve_by_layers};
-use crate::{Answer, Notice, Recorder, Request, Which, WhichParent};
-use span_core::{FieldSet, Id, Kind, Level, LevelFilter, Metadata};
+use crate::requests::{event, made, new_span, serve_by_layers, within};
+use crate::stack::{LANE, put};
+use span_core::{Id, Level, LevelFilter, Metadata};
+use span_dispatch::{Answer, Notice, Recorder, Request, Which, WhichParent};
 use span_filters::{FunctionIn, dynamic_filter_fn};
 use span_layers::{Filtered, LayerExt, Layered, Observe, Observed, Observer};
 use span_registry::{Context, ContextMut, ExtensionValue, LookupSpan, Registry, Subscriber, Tag};
 use std::alloc::Global;
 use std::process::Abort;
 use std::test::Fail;
-
-/// What a callsite with this number makes.
-fn metadata_of(callsite: u64, level: Level, kind: Kind) -> Metadata {
-    Metadata::new(callsite, "made", "tests", level, kind, FieldSet::new(&[]))
-}
 
 /// From the registry outwards: B without a filter, and A under INFO.
 type Two = Layered<Filtered<Recorder, LevelFilter>, Layered<Recorder, Registry>>;
@@ -32,18 +28,10 @@ fn kept_by_b(stack: &Two) -> &[Notice] {
 /// Three spans at info, debug, info, each in the one before, all entered; an event of each level where the lane is; then all are
 /// left and dropped.
 fn requests() -> [Request<'static>; 17] {
-    let span = |callsite, level, parent| {
-        Request::NewSpan(LANE, metadata_of(callsite, level, Kind::SPAN), parent, &[])
-    };
-    let within = |place| WhichParent::Explicit(Which::Made(place));
-    let event = |callsite, level| {
-        let metadata = metadata_of(callsite, level, Kind::EVENT);
-        Request::Event(LANE, metadata, WhichParent::Contextual, &[])
-    };
     [
-        span(0, Level::INFO, WhichParent::Root),
-        span(1, Level::DEBUG, within(0)),
-        span(2, Level::INFO, within(1)),
+        new_span(0, Level::INFO, WhichParent::Root),
+        new_span(1, Level::DEBUG, within(0)),
+        new_span(2, Level::INFO, within(1)),
         Request::Enter(LANE, Which::Made(0)),
         Request::Enter(LANE, Which::Made(1)),
         Request::Enter(LANE, Which::Made(2)),
@@ -154,11 +142,11 @@ fn is_marked<S: LookupSpan>(mark: Tag<bool>, cx: &Context<'_, S>) -> bool
 
 /// Marks each new span, as far as there is memory.
 #[derive(Drop)]
-struct Marker {
+struct SpanMarker {
     mark: Tag<bool>,
 }
 
-impl<S: Subscriber> Observe<S> for Marker {
+impl<S: Subscriber> Observe<S> for SpanMarker {
     ghost observed = { λ x e lane under v y w. ⊤ };
 
     fn observe(&mut self, notice: Observed<'_, '_>, ctx: &mut ContextMut<'_, S>) {
@@ -172,12 +160,10 @@ impl<S: Subscriber> Observe<S> for Marker {
 
 /// A span, entered, and an event where the lane is; then the span is left and dropped.
 fn one_span() -> [Request<'static>; 5] {
-    let span = metadata_of(0, Level::INFO, Kind::SPAN);
-    let event = metadata_of(5, Level::INFO, Kind::EVENT);
     [
-        Request::NewSpan(LANE, span, WhichParent::Root, &[]),
+        new_span(0, Level::INFO, WhichParent::Root),
         Request::Enter(LANE, Which::Made(0)),
-        Request::Event(LANE, event, WhichParent::Contextual, &[]),
+        event(5, Level::INFO),
         Request::Exit(LANE, Which::Made(0)),
         Request::Drop(LANE, Which::Made(0)),
     ]
@@ -188,7 +174,7 @@ fn one_span() -> [Request<'static>; 5] {
 fn kept_beside_marker(alloc: Global, outermost: LevelFilter) -> Result<(Id, Vec<Notice>), Fail> {
     let mark = Tag::new(0);
     let a = Recorder::new(alloc).with_filter(dynamic_filter_fn(InMarked { mark }));
-    let c = Observer::new(Marker { mark }).with_filter(outermost);
+    let c = Observer::new(SpanMarker { mark }).with_filter(outermost);
     let (dispatch, answers) = serve_by_layers(alloc, Registry::new(alloc), a, c, &one_span())?;
     first_and_kept(alloc, &answers, dispatch.stack().inner().layer().inner())
 }

@@ -1,7 +1,7 @@
 //! Tests of levels that are set: the filter with the number takes it, and no other does.
-use crate::tests::put;
-use crate::{Filtered, Identity, Layer, LayerExt};
+use crate::stack::put;
 use span_core::LevelFilter;
+use span_layers::{Filtered, Identity, Layer, LayerExt};
 use span_registry::{Registry, Subscriber};
 use std::alloc::Global;
 use std::process::Abort;

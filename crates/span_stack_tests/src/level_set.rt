@@ -1,10 +1,11 @@
 //! Tests of levels that are set: what is asked anew, what a refusal leaves as it was, and what open spans keep.
 ghost use Rattle.span_dispatch.specs.Serve.{stack_of};
 
-use crate::cache_tests::{count, event, sent_under};
-use crate::tests::{LANE, fresh, in_use, made, put, serve, serve_by_layers};
-use crate::{Answer, Dispatch, Notice, Recorder, Request, Which, WhichParent};
-use span_core::{FieldSet, Kind, Level, LevelFilter, Metadata, TraceError};
+use crate::cache::{count_one, sent_under};
+use crate::requests::{event, fresh, in_use, made, new_span, serve, serve_by_layers};
+use crate::stack::{LANE, put};
+use span_core::{Level, LevelFilter, Metadata, TraceError};
+use span_dispatch::{Answer, Dispatch, Notice, Recorder, Request, Which, WhichParent};
 use span_filters::filter_fn;
 use span_layers::LayerExt;
 use span_registry::{Registry, Subscriber};
@@ -145,7 +146,7 @@ fn the_third_event_beside_a_closure(
     let asked = Rc::new(alloc, Cell::new(0))?;
     let counter = asked.clone()?;
     let counted = filter_fn(move |meta: &Metadata| {
-        count(&counter);
+        count_one(&counter);
         meta.level() <= Level::WARN
     });
     let under_warn = put(
@@ -175,15 +176,7 @@ fn a_level_is_set_in_a_list(rt: HostRuntime) -> Result<(), Fail> {
 
 /// A span of this level, in none.
 fn root(callsite: u64, level: Level) -> Request<'static> {
-    let metadata = Metadata::new(
-        callsite,
-        "made",
-        "tests",
-        level,
-        Kind::SPAN,
-        FieldSet::new(&[]),
-    );
-    Request::NewSpan(LANE, metadata, WhichParent::Root, &[])
+    new_span(callsite, level, WhichParent::Root)
 }
 
 /// A span of level debug and one of level info, and, the level set to DEBUG, another debug span. With the level OFF the first two are

@@ -24,4 +24,14 @@ mod optional;
 #[cfg(test)]
 mod order;
 #[cfg(test)]
-mod told;
+mod requests;
+#[cfg(test)]
+mod signer;
+#[cfg(test)]
+mod stack;
+#[cfg(test)]
+mod veto;
+#[cfg(test)]
+mod view;
+#[cfg(test)]
+mod watcher;

@@ -1,5 +1,5 @@
 //! Tests of the order in which layers are put on a registry, and in use. No clause says it: two layers share nothing there.
-ghost use Rattle.std.specs.Prelude.{◌≡◌, ⊤, true, tt};
+ghost use Rattle.std.specs.Prelude.{◌≡◌, ⊤, true};
 ghost use Rattle.span_layers.specs.Acts.{LeafActs};
 ghost use Rattle.span_layers.specs.ActsKept.{is_leaf, leaf_path_laws};
 ghost use Rattle.span_layers.specs.Levels.{leaf_levels};
@@ -9,9 +9,9 @@ ghost use Rattle.span_layers.specs.Observe.{open_answers};
 ghost use Rattle.span_registry.specs.Form.{Leaf};
 ghost use Rattle.span_registry.specs.Levels.{unlevelled};
 
-use crate::tests::put;
-use crate::{Layer, LayerExt};
+use crate::stack::put;
 use span_core::{Attributes, Event, Id, Interest, LevelFilter, Metadata, Pass, Record};
+use span_layers::{Layer, LayerExt};
 use span_registry::{Context, ContextMut, Registry, Subscriber};
 use std::alloc::{AllocError, Global};
 use std::cell::Cell;
@@ -23,15 +23,15 @@ type Digits = Rc<Cell<u64>>;
 
 /// Writes its digit behind those of others when it is put on a registry, and when it is put in use.
 #[derive(Drop)]
-struct Signer {
+struct Newcomer {
     digit: u64,
     put_on: Digits,
     in_use: Digits,
 }
 
-/// A signer that writes where this one does.
-fn beside(first: &Signer, digit: u64) -> Result<Signer, AllocError> {
-    Ok(Signer {
+/// A newcomer that writes where this one does.
+fn beside(first: &Newcomer, digit: u64) -> Result<Newcomer, AllocError> {
+    Ok(Newcomer {
         digit,
         put_on: first.put_on.clone()?,
         in_use: first.in_use.clone()?,
@@ -43,7 +43,7 @@ fn sign(digits: &Cell<u64>, digit: u64) {
     digits.set(digits.get().saturating_mul(10).saturating_add(digit));
 }
 
-impl<S: Subscriber> Layer<S> for Signer {
+impl<S: Subscriber> Layer<S> for Newcomer {
     ghost has_form = { λ x f. f ≡ Leaf true open_answers };
 
     ghost stepped = { AnySteps };
@@ -130,7 +130,7 @@ fn put_in_use<S: Subscriber>(stack: &mut S)
 }
 
 /// Two members of a list.
-fn two_beside(alloc: Global, first: &Signer) -> Result<Vec<Signer>, AllocError> {
+fn two_beside(alloc: Global, first: &Newcomer) -> Result<Vec<Newcomer>, AllocError> {
     let mut members = Vec::new(alloc);
     members.push(beside(first, 4)?)?;
     members.push(beside(first, 5)?)?;
@@ -141,7 +141,7 @@ fn two_beside(alloc: Global, first: &Signer) -> Result<Vec<Signer>, AllocError> 
 fn layers_are_put_in_use_inner_first(rt: HostRuntime) -> Result<(), Fail> {
     let put_on = Rc::new(rt.alloc(), Cell::new(0))?;
     let in_use = Rc::new(rt.alloc(), Cell::new(0))?;
-    let first = Signer {
+    let first = Newcomer {
         digit: 1,
         put_on: put_on.clone()?,
         in_use: in_use.clone()?,

@@ -1,6 +1,6 @@
 use Rattle.std.proofs.Common.{rules}
 use Rattle.span_registry.proofs.CallerLemmas.{current_is_shown, extensions_found}
-use Rattle.span_dispatch.proofs.isolation_tests.is_marked.Goals as goal
+use Rattle.span_stack_tests.proofs.isolation.is_marked.Goals as goal
 
 pub returns-in-Some : goal.returns-in-Some
 returns-in-Some g c =

@@ -1,27 +1,17 @@
-//! Tests of layers under a dispatcher: what one layer's filter hides, and what layers can read.
+//! Tests of what filters and layers under a dispatcher can read: what one layer's filter hides is hidden from that layer alone.
 ghost use Rattle.std.specs.Prelude.{⊤};
 
-use crate::tests::{LANE, made, serve_by_layers};
-use crate::{Answer, Notice, Recorder, Request, Which, WhichParent};
-use span_core::{FieldSet, Id, Kind, Level, LevelFilter, Metadata};
+use crate::requests::{event, made, new_event, new_span, serve_by_layers, within};
+use crate::stack::LANE;
+use crate::watcher::{Seen, Watcher, new_watcher};
+use span_core::{Id, Level, LevelFilter, Metadata};
+use span_dispatch::{Answer, Notice, Recorder, Request, Which, WhichParent};
 use span_filters::dynamic_filter_fn;
 use span_layers::{LayerExt, Layered, Observe, Observed, Observer};
-use span_registry::{Context, ContextMut, Registry, Scope, Subscriber};
+use span_registry::{Context, ContextMut, Registry, Scope, SpanRef, Subscriber};
 use std::alloc::Global;
 use std::process::Abort;
 use std::test::Fail;
-
-fn metadata_of(callsite: u64, level: Level, kind: Kind) -> Metadata {
-    Metadata::new(callsite, "made", "tests", level, kind, FieldSet::new(&[]))
-}
-
-fn new_span(callsite: u64, level: Level, parent: WhichParent) -> Request<'static> {
-    Request::NewSpan(LANE, metadata_of(callsite, level, Kind::SPAN), parent, &[])
-}
-
-fn event(parent: WhichParent) -> Request<'static> {
-    Request::Event(LANE, metadata_of(7, Level::INFO, Kind::EVENT), parent, &[])
-}
 
 /// A span, and another one while the lane is in it; both are dropped.
 fn one_in_another() -> [Request<'static>; 6] {
@@ -94,12 +84,13 @@ fn both_spans(rt: &impl Abort, recorder: &Recorder, answers: &[Answer]) -> Resul
     Ok(())
 }
 
-/// Reads the span of each event, as far as there is memory: its scope, leaf first and root first.
+/// Reads the span of each event, as far as there is memory: its scope, leaf first and root first, and its parent.
 #[derive(Drop)]
 struct Reader {
     alloc: Global,
     up: Vec<Option<Id>>,
     down: Vec<Id>,
+    parents: Vec<Option<Id>>,
 }
 
 impl<S: Subscriber> Observe<S> for Reader {
@@ -113,6 +104,7 @@ impl<S: Subscriber> Observe<S> for Reader {
             Some(span) => {
                 read_up(&mut self.up, span.scope());
                 read_down(self.alloc, &mut self.down, span.scope());
+                read_parent(&mut self.parents, &span);
             }
             None => {
                 let _ = self.up.push(None);
@@ -137,27 +129,36 @@ fn read_down<S: Subscriber>(alloc: Global, seen: &mut Vec<Id>, scope: Scope<'_, 
     }
 }
 
+/// Keeps the parent of a span.
+fn read_parent<S: Subscriber>(seen: &mut Vec<Option<Id>>, span: &SpanRef<'_, S>) {
+    let _ = seen.push(match span.parent() {
+        Some(parent) => Some(parent.id()),
+        None => None,
+    });
+}
+
+/// A layer that has read nothing.
 fn new_reader(alloc: Global) -> Observer<Reader> {
     Observer::new(Reader {
         alloc,
         up: Vec::new(alloc),
         down: Vec::new(alloc),
+        parents: Vec::new(alloc),
     })
 }
 
 /// Spans each in the one before, of which INFO passes all but the second. The lane is in the second; an event in the third, one in
 /// the second, and one where the lane is.
 fn family() -> [Request<'static>; 8] {
-    let within = |place| WhichParent::Explicit(Which::Made(place));
     [
         new_span(0, Level::INFO, WhichParent::Root),
         new_span(1, Level::DEBUG, within(0)),
         new_span(0, Level::INFO, within(1)),
         Request::Enter(LANE, Which::Made(0)),
         Request::Enter(LANE, Which::Made(1)),
-        event(within(2)),
-        event(within(1)),
-        event(WhichParent::Contextual),
+        new_event(7, Level::INFO, within(2)),
+        new_event(7, Level::INFO, within(1)),
+        event(7, Level::INFO),
     ]
 }
 
@@ -183,6 +184,7 @@ fn reads_what_info_passes(
         [Some(leaf), Some(root), None, Some(root)].as_slice()
     );
     assert_eq!(rt; reader.down.as_slice(), [root, leaf, root].as_slice());
+    assert_eq!(rt; reader.parents.as_slice(), [Some(root), None].as_slice());
     Ok(())
 }
 
@@ -205,51 +207,48 @@ fn reads_all(rt: &impl Abort, reader: &Reader, answers: &[Answer]) -> Result<(),
         reader.down.as_slice(),
         [root, child, leaf, root, child, root, child].as_slice()
     );
+    assert_eq!(rt;
+        reader.parents.as_slice(),
+        [Some(child), Some(root), Some(root)].as_slice()
+    );
     Ok(())
 }
 
-/// Counts the closing spans that it finds.
-#[derive(Drop)]
-struct Mourner {
-    found: u32,
-}
-
-impl<S: Subscriber> Observe<S> for Mourner {
-    ghost observed = { λ x e lane under v y w. ⊤ };
-
-    fn observe(&mut self, notice: Observed<'_, '_>, ctx: &mut ContextMut<'_, S>) {
-        if let Observed::Close(id) = notice {
-            if ctx.ctx().span(id).is_some() {
-                self.found = self.found.saturating_add(1);
-            }
-        }
-    }
-}
-
-fn new_mourner() -> Observer<Mourner> {
-    Observer::new(Mourner { found: 0 })
+/// What a watcher without a filter sees of one span in another: it finds both while they close.
+fn sees_both_close(rt: &impl Abort, watcher: &Watcher, answers: &[Answer]) -> Result<(), Fail> {
+    let (p, q) = (made(answers, 0)?, made(answers, 2)?);
+    assert_eq!(rt;
+        watcher.seen(),
+        [
+            Seen::NewSpan(p),
+            Seen::InScope(p),
+            Seen::Enter(p),
+            Seen::NewSpan(q),
+            Seen::InScope(q),
+            Seen::Close(q),
+            Seen::Exit(p),
+            Seen::Close(p),
+        ]
+        .as_slice()
+    );
+    Ok(())
 }
 
 #[test]
 fn every_layer_finds_a_closing_span(rt: HostRuntime) -> Result<(), Fail> {
-    let pair = new_mourner().and_then(new_mourner());
+    let pair = new_watcher(rt.alloc()).and_then(new_watcher(rt.alloc()));
+    let outer = new_watcher(rt.alloc());
     let registry = Registry::new(rt.alloc());
-    let (dispatch, _) = serve_by_layers(
+    let (dispatch, answers) = serve_by_layers(
         rt.alloc(),
         registry,
         pair,
-        new_mourner(),
+        outer,
         &one_in_another(),
     )?;
     let stack = dispatch.stack();
     let pair = stack.inner().layer();
-    assert_eq!(rt;
-        [
-            stack.layer().observer().found,
-            pair.layer().observer().found,
-            pair.inner().observer().found,
-        ],
-        [2, 2, 2]
-    );
-    Ok(())
+    sees_both_close(&rt, stack.layer().observer(), &answers)?;
+    sees_both_close(&rt, pair.layer().observer(), &answers)?;
+    sees_both_close(&rt, pair.inner().observer(), &answers)
 }
