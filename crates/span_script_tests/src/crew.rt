@@ -1,5 +1,6 @@
 //! Tests of scripts that workers serve: what they print, and their journals.
 use crate::row::{ROWS, lines};
+use crate::run::{chain_replies, chain_script};
 use span_core::Lane;
 use span_dispatch::{Entry, Journal};
 use span_runner::{RunFault, run_shared};
@@ -61,8 +62,13 @@ fn entries_of(alloc: Global, journal: &Journal) -> Result<String, AllocError> {
 /// What the script of a row prints where workers serve it, and its journal.
 fn shared(rt: &impl Wait, alloc: Global, script: &str) -> Result<(Vec<u8>, Journal), RunFault> {
     let input = lines(alloc, script)?;
+    shared_text(rt, alloc, input.as_str())
+}
+
+/// The same of a whole script.
+fn shared_text(rt: &impl Wait, alloc: Global, text: &str) -> Result<(Vec<u8>, Journal), RunFault> {
     let mut output = Vec::new(alloc);
-    let journal = run_shared(rt, alloc, &mut input.as_bytes(), &mut output)?;
+    let journal = run_shared(rt, alloc, &mut text.as_bytes(), &mut output)?;
     Ok((output, journal))
 }
 
@@ -96,5 +102,19 @@ fn the_current_span_is_the_first(rt: HostRuntime) -> Result<(), Fail> {
         return Err("the first entry is of a span".into());
     };
     assert_eq!(rt; journal.get(7), Some(Entry::Current(Lane(0), Some(first))));
+    Ok(())
+}
+
+#[test]
+fn workers_serve_a_long_script(rt: HostRuntime) -> Result<(), Fail> {
+    let script = chain_script(rt.alloc())?;
+    let replies = chain_replies(rt.alloc())?;
+    let (output, journal) = shared_text(&rt, rt.alloc(), script.as_str())?;
+    assert!(rt; output.as_slice() == replies.as_bytes());
+    assert_eq!(rt; journal.len(), 20_000);
+    assert_eq!(rt; journal.get(0).map(named), Some("new"));
+    assert_eq!(rt; journal.get(9_999).map(named), Some("new"));
+    assert_eq!(rt; journal.get(10_000).map(named), Some("drop"));
+    assert_eq!(rt; journal.get(19_999).map(named), Some("drop closes"));
     Ok(())
 }

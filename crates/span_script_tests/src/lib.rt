@@ -4,6 +4,8 @@
 #[cfg(test)]
 mod crew;
 #[cfg(test)]
+mod long;
+#[cfg(test)]
 mod row;
 #[cfg(test)]
 mod run;

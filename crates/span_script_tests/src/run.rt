@@ -277,7 +277,7 @@ fn writers(rt: HostRuntime) {
 const CHAIN: u32 = 10_000;
 
 /// Spans each in the one before; then the handle of each is dropped, from the root on.
-fn chain_script(alloc: Global) -> Result<String, AllocError> {
+pub(crate) fn chain_script(alloc: Global) -> Result<String, AllocError> {
     let mut script = String::from_str(alloc, "stack plain\nnew 0 2 s0\n")?;
     for span in 1..CHAIN {
         writeln!(script, "new 0 2 s{span} in s{}", span - 1)?;
@@ -289,7 +289,7 @@ fn chain_script(alloc: Global) -> Result<String, AllocError> {
 }
 
 /// What it prints: all close by the last drop, the leaf first.
-fn chain_replies(alloc: Global) -> Result<String, AllocError> {
+pub(crate) fn chain_replies(alloc: Global) -> Result<String, AllocError> {
     let mut replies = String::new(alloc);
     for span in 0..CHAIN {
         writeln!(replies, "s{span}")?;
