@@ -62,11 +62,15 @@ fn entries_of(alloc: Global, journal: &Journal) -> Result<String, AllocError> {
 /// What the script of a row prints where workers serve it, and its journal.
 fn shared(rt: &impl Wait, alloc: Global, script: &str) -> Result<(Vec<u8>, Journal), RunFault> {
     let input = lines(alloc, script)?;
-    shared_text(rt, alloc, input.as_str())
+    served_by_workers(rt, alloc, input.as_str())
 }
 
 /// The same of a whole script.
-fn shared_text(rt: &impl Wait, alloc: Global, text: &str) -> Result<(Vec<u8>, Journal), RunFault> {
+fn served_by_workers(
+    rt: &impl Wait,
+    alloc: Global,
+    text: &str,
+) -> Result<(Vec<u8>, Journal), RunFault> {
     let mut output = Vec::new(alloc);
     let journal = run_shared(rt, alloc, &mut text.as_bytes(), &mut output)?;
     Ok((output, journal))
@@ -109,7 +113,7 @@ fn the_current_span_is_the_first(rt: HostRuntime) -> Result<(), Fail> {
 fn workers_serve_a_long_script(rt: HostRuntime) -> Result<(), Fail> {
     let script = chain_script(rt.alloc())?;
     let replies = chain_replies(rt.alloc())?;
-    let (output, journal) = shared_text(&rt, rt.alloc(), script.as_str())?;
+    let (output, journal) = served_by_workers(&rt, rt.alloc(), script.as_str())?;
     assert!(rt; output.as_slice() == replies.as_bytes());
     assert_eq!(rt; journal.len(), 20_000);
     assert_eq!(rt; journal.get(0).map(named), Some("new"));
