@@ -5,3 +5,4 @@ mod Optional
 mod Parents
 mod Recorded
 mod Settable
+mod Standing

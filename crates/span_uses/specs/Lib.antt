@@ -1,6 +1,7 @@
 pub mod Dispatches
 pub mod Filters
 pub mod Isolation
+pub mod Kinds
 pub mod Law
 pub mod Layers
 pub mod Reload

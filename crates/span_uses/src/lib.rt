@@ -18,6 +18,7 @@ pub mod boxed;
 pub mod dispatch;
 pub mod filter;
 pub mod isolation;
+pub mod kinds;
 pub mod law;
 #[cfg(test)]
 mod law_tests;

@@ -1,0 +1,126 @@
+-- Honest stacks: that they are ready, and what a recorder in them keeps.
+use Rattle.std.proofs.Common.{arith, ◌≡◌, ◌∙◌, ◌+◌, ◌<◌, ◌≤◌, ℕ, List, [], ◌∷◌, true, Result, Ok, Err, IfOk, ap, map, refl, subst, sym}
+use Rattle.std.proofs.lemmas.Bool.{false≢true}
+use Rattle.span_core.specs.declared.filter.TheConstants.FilterId.{LIMIT}
+use Rattle.span_dispatch.proofs.CallerLemmas.{heard_records}
+use Rattle.span_dispatch.specs.Alone.{seen}
+use Rattle.span_dispatch.specs.Contract.{SubscriberOf}
+use Rattle.span_dispatch.specs.Recorder.{Kept, Records, kept_notice, new_recorder}
+use Rattle.span_dispatch.specs.Serve.{IsReady, flat, stack_of}
+use Rattle.span_dispatch.specs.declared.request.Request.{Request}
+use Rattle.span_layers.proofs.CallerLemmas.{bare_stands, stands_on}
+use Rattle.span_layers.specs.Attach.{Attaches}
+use Rattle.span_layers.specs.Honest.{IsHonestStack}
+use Rattle.span_layers.specs.Layered.{inner_of, outer_of, with_inner}
+use Rattle.span_layers.specs.Members.{ListForm}
+use Rattle.span_layers.specs.Number.{filters_in, numbered}
+use Rattle.span_layers.specs.Observe.{open_answers}
+use Rattle.span_layers.specs.Stands.{IsHonestLayer, Stands, another, bare_form, itself, registry_on, stack_form}
+use Rattle.span_layers.specs.Verdict.{IsQuiet, NumbersStayOwn}
+use Rattle.span_layers.specs.declared.layered.Layered.{Layered}
+use Rattle.span_registry.proofs.CallerLemmas.{settled_new}
+use Rattle.span_registry.proofs.Agreeing.{agree_refl}
+use Rattle.span_registry.specs.Agree.{AgreeAt}
+use Rattle.span_registry.specs.Answers.{AreHonest}
+use Rattle.span_registry.specs.Conducts.{Conducts, numbers_in}
+use Rattle.span_registry.specs.Closes.{IsSettled}
+use Rattle.span_registry.specs.Form.{Bare, Base, End, Form, InList, Leaf, OnSubscriber, Over}
+use Rattle.span_registry.specs.Hooks.{StackSteps}
+use Rattle.span_registry.specs.Levels.{LevelSteps}
+use Rattle.span_registry.specs.Place.{Heard, Place}
+use Rattle.span_registry.specs.Store.{RegistryState, Store, empty_store, new_registry}
+use Rattle.span_registry.specs.declared.limits.Limits.{Limits}
+use Rattle.span_uses.specs.Isolation.{WithAnswers}
+use Rattle.span_uses.specs.Kinds.{IsFit, RecordsAlone, ServesReady, WillRecord}
+
+-- an honest stack on a registry without spans is ready
+pub is_ready : {S : Type 0} {registry : S → RegistryState} {with_registry : S → RegistryState → S} {has_form : S → Form → Type 0} {stepped : StackSteps S} {levelled : LevelSteps S} (f : Form) (n : ℕ) (x : S)
+    → Stands registry has_form f n x → IsReady registry with_registry has_form stepped levelled f x
+is_ready {registry = registry} f n x h = record {
+  honest = record { has = h.has; rules = subst (IsHonestStack f) (sym h.filters) h.rules };
+  settled = subst IsSettled (sym (ap (λ (s : Store). s.spans) h.empty)) (settled_new (registry x).limits);
+}
+
+-- a leaf that wants everything keeps a stack honest
+open_honest : AreHonest open_answers
+open_honest = record { always = λ m v e. refl; never = λ m v e. absurd (cc); above = λ m v e. absurd (false≢true e); alike = λ m k e. refl }
+
+pub open_layer : IsHonestLayer (Leaf true open_answers)
+open_layer = record { answers = open_honest; orderly = tt; still = refl; full = refl }
+
+-- so does a layer that is such a leaf
+pub open_fit : {L : Type 0} {has_form : L → Form → Type 0} (x : L) → has_form x (Leaf true open_answers) → IsFit has_form x
+open_fit x h = record { form = Leaf true open_answers; has = h; honest = open_layer; room = omega arith }
+
+-- and a list of two
+abbrev two_open : Form
+two_open = Over InList (Leaf true open_answers) (Over InList (Leaf true open_answers) (Bare End))
+
+open_quiet : IsQuiet (Leaf true open_answers)
+open_quiet = record { enabled = λ m v. refl; event = λ e v. refl }
+
+pub two_fit : {L X : Type 0} (has_form : L → Form → Type 0) (items : X → List L) (v : X) (x y : L) → items v ≡ x ∷ y ∷ [] → has_form x (Leaf true open_answers) → has_form y (Leaf true open_answers) → IsFit (λ w. ListForm has_form (items w)) v
+two_fit has_form items v x y e h k = record {
+  form = two_open;
+  has = subst (λ xs. ListForm has_form xs two_open) (sym e) (refl, h, (refl, k, refl));
+  honest = record { answers = (open_honest, (open_honest, tt)); orderly = (open_quiet, (open_quiet, tt)); still = (refl, (refl, tt)); full = refl };
+  room = omega arith;
+}
+
+-- ---- a recorder outside a layer
+
+-- the stack of the layer
+abbrev pub On : Type 0 → Type 0
+On L = Layered L RegistryState
+
+module _ {L : Type 0} {has_form : L → Form → Type 0} (law : NumbersStayOwn) (layer : L) (fit : IsFit has_form layer) (l : Limits) (s : RegistryState) (new : s ≡ new_registry l) where
+  -- a new registry has room for it
+  pub finds_room : ((f : Form) → has_form layer f → LIMIT < s.filters + filters_in f) → ⊥
+  finds_room full =
+      let none : s.filters ≡ 0 = ap (λ (t : RegistryState). t.filters) new in
+      let more = full fit.form fit.has in
+      let room = fit.room in
+      omega (arith, none, more, room)
+
+  pub put_on : {usable : L → Type 0} {attached : L → L → Type 0} {inner_usable : RegistryState → Type 0} (x : On L) → Attaches itself another inner_usable usable has_form attached layer s x
+      → Stands (registry_on itself) (stack_form has_form bare_form) (Over OnSubscriber (numbered fit.form 0).0 (Bare Base)) (numbered fit.form 0).1 x
+  put_on x put = stands_on law (λ t w. refl) (λ t w f h. h) fit.form (Bare Base) 0 layer s x fit.has fit.honest (bare_stands l s new) put
+
+  -- and that has room for a recorder
+  pub leaves_room : {usable : L → Type 0} {attached : L → L → Type 0} {inner_usable : RegistryState → Type 0} (x : On L) → Attaches itself another inner_usable usable has_form attached layer s x
+      → ((f : Form) → f ≡ Leaf true open_answers → LIMIT < (inner_of x).filters + filters_in f) → ⊥
+  leaves_room x put full =
+      let filters : (inner_of x).filters ≡ (numbered fit.form 0).1 = (put_on x put).filters in
+      let start : 0 + filters_in fit.form ≤ LIMIT = let room = fit.room in omega (arith, room) in
+      let next : (numbered fit.form 0).1 ≡ 0 + filters_in fit.form = (law fit.form 0 start).next in
+      let more : LIMIT < (inner_of x).filters + 0 = full (Leaf true open_answers) refl in
+      omega (arith, filters, next, more, start)
+
+  pub put_over : {usable : L → Type 0} {attached : L → L → Type 0} {inner_usable : RegistryState → Type 0} {below_usable : On L → Type 0} {recorder_usable : Kept → Type 0} (x : On L) (recorder : Kept) (y : Layered Kept (On L))
+      → Attaches itself another inner_usable usable has_form attached layer s x
+      → Attaches (registry_on itself) with_inner below_usable recorder_usable (λ r f. f ≡ Leaf true open_answers) (λ r q. q ≡ r) recorder x y
+      → Stands (registry_on (registry_on itself)) (stack_form (λ r f. f ≡ Leaf true open_answers) (stack_form has_form bare_form)) (Over OnSubscriber (Leaf true open_answers) (Over OnSubscriber (numbered fit.form 0).0 (Bare Base))) (numbered fit.form 0).1 y
+  put_over x recorder y put second = stands_on law (λ t w. refl) (λ t w f h. h) (Leaf true open_answers) (Over OnSubscriber (numbered fit.form 0).0 (Bare Base)) (numbered fit.form 0).1 recorder x y refl open_layer (put_on x put) second
+
+-- ---- what a recorder keeps
+
+-- a recorder that is new, stays new in use and keeps what it hears, under filters that then act so, will record so
+pub records_alone : {S : Type 0} (s : SubscriberOf S) (place : Place) (recorder : S → Kept) (cs : Conducts) (x : S) → recorder x ≡ new_recorder → ((y : S) → s.registered x y → (recorder y ≡ recorder x) × s.acts_at y place cs)
+    → ((y z : S) (h : Heard) → s.hears y place h z → Records (recorder y) (recorder z) (map kept_notice h)) → WillRecord s place recorder cs x
+records_alone s place recorder cs x new used hears requests done h =
+    let y = stack_of h.first in
+    let z = stack_of done.0 in
+    let in_use = used y h.in_use in
+    let made = flat h.served.made in
+    record {
+      stack = x;
+      serves = h;
+      kept = subst (λ (r : Kept). Records r (recorder z) (map kept_notice (seen place made))) (in_use.0 ∙ new) (hears y z (seen place made) (h.served.each place));
+      alone = h.served.alone place cs empty_store in_use.1 (subst (λ (t : Store). AgreeAt (numbers_in cs) t empty_store) (sym h.empty) (agree_refl (numbers_in cs) empty_store));
+    }
+
+-- so it has recorded so, where it served
+pub recorded : {S E : Type 0} {s : SubscriberOf S} {place : Place} {recorder : S → Kept} {cs : Conducts} {x : S} (requests : List Request) (r : Result (WithAnswers S) E) → WillRecord s place recorder cs x → IfOk r (ServesReady s x requests)
+    → IfOk r (RecordsAlone s place recorder cs requests)
+recorded requests (Ok done) will h = will requests done h
+recorded requests (Err e) will h = tt

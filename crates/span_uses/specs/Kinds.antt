@@ -1,0 +1,57 @@
+-- Stacks that are honest and ready, whatever kind of layer or filter stands in them, and what a recorder there keeps.
+use Rattle.std.specs.Prelude.{◌≡◌, ◌≤◌, ℕ, List, [], map}
+use Rattle.span_core.specs.declared.filter.TheConstants.FilterId.{LIMIT}
+use Rattle.span_dispatch.specs.Alone.{Alone, seen}
+use Rattle.span_dispatch.specs.Contract.{SubscriberOf}
+use Rattle.span_dispatch.specs.Recorder.{Kept, Records, kept_notice, new_recorder}
+use Rattle.span_dispatch.specs.Serve.{IsReadySomehow, Served, flat, outcome_of, stack_of}
+use Rattle.span_dispatch.specs.declared.dispatch.Dispatch.{Dispatch}
+use Rattle.span_dispatch.specs.declared.request.Answer.{Answer}
+use Rattle.span_dispatch.specs.declared.request.Request.{Request}
+use Rattle.span_layers.specs.Number.{filters_in}
+use Rattle.span_layers.specs.Stands.{IsHonestLayer, Stands}
+use Rattle.span_registry.specs.Conducts.{Conducts}
+use Rattle.span_registry.specs.Form.{Form}
+use Rattle.span_registry.specs.Place.{Place}
+use Rattle.span_registry.specs.Store.{RegistryState, empty_store}
+use Rattle.span_uses.specs.Isolation.{WithAnswers}
+
+-- the stack is honest, by some form, on a registry without spans
+abbrev pub StandsSomehow : {S : Type 0} → (S → RegistryState) → (S → Form → Type 0) → S → Type 0
+StandsSomehow registry has_form x = (f : Form) × (n : ℕ) × Stands registry has_form f n x
+
+-- the layer has a form that keeps a stack honest, and a new registry has a number for each of its filters
+pub record IsFit {L : Type 0} (has_form : L → Form → Type 0) (layer : L) : Type 0 where
+  pub form : Form
+  pub has : has_form layer form
+  pub honest : IsHonestLayer form
+  pub room : filters_in form ≤ LIMIT
+
+module _ {S : Type 0} (s : SubscriberOf S) where
+  -- the dispatcher is ready
+  abbrev pub IsReadyNow : Dispatch S → Type 0
+  IsReadyNow d = IsReadySomehow s.registry s.with_registry s.has_form s.stepped s.levelled d
+
+  -- a list was served, with these answers
+  abbrev pub ServedList : List Request → List Answer → Dispatch S → Dispatch S → Type 0
+  ServedList requests answers old new = Served s.registry s.with_registry s.has_form s.stepped s.levelled s.hears s.acts_at requests answers old new
+
+  -- a stack on a registry without spans was put in use, and was ready; then a list was served, and the stack is ready for the next
+  pub record ServesReady (stack : S) (requests : List Request) (done : WithAnswers S) : Type 0 where
+    pub first : Dispatch S
+    pub in_use : s.registered stack (stack_of first)
+    pub empty : (s.registry (stack_of first)).store ≡ empty_store
+    pub ready : IsReadyNow first
+    pub served : ServedList requests done.1.items first done.0
+    pub next : IsReadyNow done.0
+
+  -- so was a list served. The recorder at this place, which was new, was notified of just what it would see if it stood alone, on a registry without spans, under filters that act so
+  pub record RecordsAlone (place : Place) (recorder : S → Kept) (cs : Conducts) (requests : List Request) (done : WithAnswers S) : Type 0 where
+    pub stack : S
+    pub serves : ServesReady stack requests done
+    pub kept : Records new_recorder (recorder (stack_of done.0)) (map kept_notice (seen place (flat serves.served.made)))
+    pub alone : Alone cs empty_store (map outcome_of (flat serves.served.made)) (seen place (flat serves.served.made))
+
+  -- whatever list it serves first, put in use, the recorder at this place will have recorded so
+  abbrev pub WillRecord : Place → (S → Kept) → Conducts → S → Type 0
+  WillRecord place recorder cs x = (requests : List Request) (done : WithAnswers S) → ServesReady x requests done → RecordsAlone place recorder cs requests done
