@@ -1,37 +1,48 @@
 -- Honest stacks: that they are ready, and what a recorder in them keeps.
-use Rattle.std.proofs.Common.{arith, ◌≡◌, ◌∙◌, ◌+◌, ◌<◌, ◌≤◌, ℕ, List, [], ◌∷◌, true, Result, Ok, Err, IfOk, ap, map, refl, subst, sym}
+use Rattle.std.proofs.Common.{arith, ◌≡◌, ◌∙◌, ◌+◌, ◌<◌, ◌≤◌, ℕ, List, [], ◌∷◌, true, Bool, Option, None, Some, Result, Ok, Err, IfOk, ap, map, refl, subst, sym}
 use Rattle.std.proofs.lemmas.Bool.{false≢true}
 use Rattle.span_core.specs.declared.filter.TheConstants.FilterId.{LIMIT}
+use Rattle.span_core.specs.declared.span.Attributes.{Attributes}
+use Rattle.span_core.specs.declared.span.Id.{Id}
+use Rattle.span_core.specs.declared.span.Lane.{Lane}
 use Rattle.span_dispatch.proofs.CallerLemmas.{heard_records}
 use Rattle.span_dispatch.specs.Alone.{seen}
-use Rattle.span_dispatch.specs.Contract.{SubscriberOf}
+use Rattle.span_dispatch.specs.Call.{Call, DropHandle, OpenSpan, span_answer, yes_answer}
+use Rattle.span_dispatch.specs.Contract.{AnswersCall, AnswersDrop, StaysReady, SubscriberOf}
+use Rattle.span_dispatch.specs.declared.dispatch.Dispatch.{Dispatch}
+use Rattle.span_dispatch.specs.declared.request.Answer.TheVariants.{Dropped, Made, Yes}
+use Rattle.span_dispatch.specs.declared.request.Answer.{Answer}
 use Rattle.span_dispatch.specs.Recorder.{Kept, Records, kept_notice, new_recorder}
 use Rattle.span_dispatch.specs.Serve.{IsReady, flat, stack_of}
 use Rattle.span_dispatch.specs.declared.request.Request.{Request}
 use Rattle.span_layers.proofs.CallerLemmas.{bare_stands, stands_on}
 use Rattle.span_layers.specs.Attach.{Attaches}
 use Rattle.span_layers.specs.Honest.{IsHonestStack}
+use Rattle.span_filters.specs.Filter.{FilterLaws, FilterSteps}
+use Rattle.span_layers.specs.Filtered.{IsNumber, IsUnnumbered, id_of}
 use Rattle.span_layers.specs.Layered.{inner_of, outer_of, with_inner}
 use Rattle.span_layers.specs.Members.{ListForm}
 use Rattle.span_layers.specs.Number.{filters_in, numbered}
 use Rattle.span_layers.specs.Observe.{open_answers}
-use Rattle.span_layers.specs.Stands.{IsHonestLayer, Stands, another, bare_form, itself, registry_on, stack_form}
+use Rattle.span_layers.specs.Stands.{IsHonestLayer, Stands, another, bare_form, filtered_form, itself, registry_on, stack_form}
 use Rattle.span_layers.specs.Verdict.{IsQuiet, NumbersStayOwn}
+use Rattle.span_layers.specs.declared.filtered.Filtered.{Filtered as FilteredLayer}
 use Rattle.span_layers.specs.declared.layered.Layered.{Layered}
 use Rattle.span_registry.proofs.CallerLemmas.{settled_new}
 use Rattle.span_registry.proofs.Agreeing.{agree_refl}
 use Rattle.span_registry.specs.Agree.{AgreeAt}
-use Rattle.span_registry.specs.Answers.{AreHonest}
+use Rattle.span_registry.specs.Answers.{Answers, AreHonest, Conduct}
 use Rattle.span_registry.specs.Conducts.{Conducts, numbers_in}
 use Rattle.span_registry.specs.Closes.{IsSettled}
-use Rattle.span_registry.specs.Form.{Bare, Base, End, Form, InList, Leaf, OnSubscriber, Over}
+use Rattle.span_registry.specs.Form.{Bare, Base, End, Filtered, Form, InList, Leaf, OnSubscriber, Over}
 use Rattle.span_registry.specs.Hooks.{StackSteps}
 use Rattle.span_registry.specs.Levels.{LevelSteps}
 use Rattle.span_registry.specs.Place.{Heard, Place}
 use Rattle.span_registry.specs.Store.{RegistryState, Store, empty_store, new_registry}
 use Rattle.span_registry.specs.declared.limits.Limits.{Limits}
+use Rattle.span_uses.specs.Chain.{AnswersReady, OpensAndDrops}
 use Rattle.span_uses.specs.Isolation.{WithAnswers}
-use Rattle.span_uses.specs.Kinds.{IsFit, RecordsAlone, ServesReady, WillRecord}
+use Rattle.span_uses.specs.Kinds.{IsFit, IsReadyNow, RecordsAlone, ServesReady, UnderFilter, WillRecord}
 
 -- an honest stack on a registry without spans is ready
 pub is_ready : {S : Type 0} {registry : S → RegistryState} {with_registry : S → RegistryState → S} {has_form : S → Form → Type 0} {stepped : StackSteps S} {levelled : LevelSteps S} (f : Form) (n : ℕ) (x : S)
@@ -42,7 +53,7 @@ is_ready {registry = registry} f n x h = record {
 }
 
 -- a leaf that wants everything keeps a stack honest
-open_honest : AreHonest open_answers
+pub open_honest : AreHonest open_answers
 open_honest = record { always = λ m v e. refl; never = λ m v e. absurd (cc); above = λ m v e. absurd (false≢true e); alike = λ m k e. refl }
 
 pub open_layer : IsHonestLayer (Leaf true open_answers)
@@ -56,7 +67,7 @@ open_fit x h = record { form = Leaf true open_answers; has = h; honest = open_la
 abbrev two_open : Form
 two_open = Over InList (Leaf true open_answers) (Over InList (Leaf true open_answers) (Bare End))
 
-open_quiet : IsQuiet (Leaf true open_answers)
+pub open_quiet : IsQuiet (Leaf true open_answers)
 open_quiet = record { enabled = λ m v. refl; event = λ e v. refl }
 
 pub two_fit : {L X : Type 0} (has_form : L → Form → Type 0) (items : X → List L) (v : X) (x y : L) → items v ≡ x ∷ y ∷ [] → has_form x (Leaf true open_answers) → has_form y (Leaf true open_answers) → IsFit (λ w. ListForm has_form (items w)) v
@@ -124,3 +135,47 @@ pub recorded : {S E : Type 0} {s : SubscriberOf S} {place : Place} {recorder : S
     → IfOk r (RecordsAlone s place recorder cs requests)
 recorded requests (Ok done) will h = will requests done h
 recorded requests (Err e) will h = tt
+
+-- ---- a recorder under a filter
+
+module _ {F : Type 0} {has_answers : F → Answers → Type 0} {hooked : FilterSteps F} {acts : F → Conduct → Type 0} (laws : FilterLaws has_answers hooked acts) (law : NumbersStayOwn) (filter : F) (answers : Answers) (has : has_answers filter answers)
+    (u : FilteredLayer Kept F) (recorder : Kept) (unnumbered : IsUnnumbered u recorder filter) where
+  -- its form has honest answers
+  abbrev pub fits : IsFit (filtered_form has_answers (λ (r : Kept) f. f ≡ Leaf true open_answers)) u
+  fits = record {
+    form = Filtered None answers (Leaf true open_answers);
+    has = (unnumbered.id, subst (λ g. has_answers g answers) (sym unnumbered.own) has, refl);
+    honest = record { answers = (laws.honest filter answers has, open_honest); orderly = open_quiet; still = refl; full = refl };
+    room = omega arith;
+  }
+
+  -- on a new registry it takes the number 0
+  pub takes_first : (l : Limits) (s : RegistryState) → s ≡ new_registry l → {usable : FilteredLayer Kept F → Type 0} {attached : FilteredLayer Kept F → FilteredLayer Kept F → Type 0} {inner_usable : RegistryState → Type 0} (x : UnderFilter F)
+      → Attaches itself another inner_usable usable (filtered_form has_answers (λ (r : Kept) f. f ≡ Leaf true open_answers)) attached u s x → IsNumber (id_of (outer_of x)) (Some 0)
+  takes_first l s new x put = (put_on law u fits l s new x put).has.1.0
+
+-- ---- single calls
+
+module _ {S : Type 0} (s : SubscriberOf S) where
+  -- a dispatcher that was ready is ready again
+  pub stays_ready : {old new : Dispatch S} → StaysReady s old new → IsReadyNow s old → IsReadyNow s new
+  stays_ready stays h = let r = stays h.0 h.1 in (r.0, r.1)
+
+  -- and answered as it promises of an honest stack
+  pub answers_ready : {call : Call} {old new : Dispatch S} (a : Answer) → AnswersCall s call a old new → StaysReady s old new → IsReadyNow s old → AnswersReady s call a old new
+  answers_ready a answered stays h = record { served = (h.0, answered h.0 h.1.stack.honest h.1.kept); next = stays_ready stays h }
+
+  -- so it did a drop
+  pub drops_ready : {call : Call} {old new : Dispatch S} (a : Answer) → AnswersDrop s call a old new → StaysReady s old new → IsReadyNow s old → AnswersReady s call a old new
+  drops_ready a answered stays h = record { served = (h.0, answered h.0 h.1); next = stays_ready stays h }
+
+  -- a span that was opened, of which the handle was then dropped
+  pub opens_and_drops : (lane : Lane) (attrs : Attributes) (id : Id) (o : Option Id) (closed : Bool) (old between new : Dispatch S) → o ≡ Some id → AnswersCall s (OpenSpan lane attrs) (span_answer (Ok o)) old between → StaysReady s old between
+      → AnswersDrop s (DropHandle lane id) (yes_answer (Ok closed)) between new → StaysReady s between new → OpensAndDrops s lane attrs old new (Some id)
+  opens_and_drops lane attrs id o closed old between new is opened stays dropped still h =
+      let first = answers_ready (Made id) (subst (λ p. AnswersCall s (OpenSpan lane attrs) (span_answer (Ok p)) old between) is opened) stays h in
+      (between, first, (closed, drops_ready (Yes closed) dropped still first.next))
+
+  -- and one that wasn't opened
+  pub opens_nothing : (lane : Lane) (attrs : Attributes) (o : Option Id) (old new : Dispatch S) → o ≡ None → AnswersCall s (OpenSpan lane attrs) (span_answer (Ok o)) old new → StaysReady s old new → OpensAndDrops s lane attrs old new None
+  opens_nothing lane attrs o old new is opened stays h = answers_ready Dropped (subst (λ p. AnswersCall s (OpenSpan lane attrs) (span_answer (Ok p)) old new) is opened) stays h

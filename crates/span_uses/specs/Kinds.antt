@@ -1,5 +1,5 @@
 -- Stacks that are honest and ready, whatever kind of layer or filter stands in them, and what a recorder there keeps.
-use Rattle.std.specs.Prelude.{◌≡◌, ◌≤◌, ℕ, List, [], map}
+use Rattle.std.specs.Prelude.{◌≡◌, ◌≤◌, ℕ, List, [], ◌∷◌, Some, map}
 use Rattle.span_core.specs.declared.filter.TheConstants.FilterId.{LIMIT}
 use Rattle.span_dispatch.specs.Alone.{Alone, seen}
 use Rattle.span_dispatch.specs.Contract.{SubscriberOf}
@@ -8,11 +8,16 @@ use Rattle.span_dispatch.specs.Serve.{IsReadySomehow, Served, flat, outcome_of, 
 use Rattle.span_dispatch.specs.declared.dispatch.Dispatch.{Dispatch}
 use Rattle.span_dispatch.specs.declared.request.Answer.{Answer}
 use Rattle.span_dispatch.specs.declared.request.Request.{Request}
+use Rattle.span_layers.specs.Filtered.{layer_of}
+use Rattle.span_layers.specs.Layered.{outer_of}
 use Rattle.span_layers.specs.Number.{filters_in}
 use Rattle.span_layers.specs.Stands.{IsHonestLayer, Stands}
+use Rattle.span_layers.specs.declared.filtered.Filtered.{Filtered}
+use Rattle.span_layers.specs.declared.layered.Layered.{Layered}
+use Rattle.span_registry.specs.Answers.{Answers, Conduct, notices_of}
 use Rattle.span_registry.specs.Conducts.{Conducts}
 use Rattle.span_registry.specs.Form.{Form}
-use Rattle.span_registry.specs.Place.{Place}
+use Rattle.span_registry.specs.Place.{Here, Outer, Place, Under}
 use Rattle.span_registry.specs.Store.{RegistryState, empty_store}
 use Rattle.span_uses.specs.Isolation.{WithAnswers}
 
@@ -55,3 +60,28 @@ module _ {S : Type 0} (s : SubscriberOf S) where
   -- whatever list it serves first, put in use, the recorder at this place will have recorded so
   abbrev pub WillRecord : Place → (S → Kept) → Conducts → S → Type 0
   WillRecord place recorder cs x = (requests : List Request) (done : WithAnswers S) → ServesReady x requests done → RecordsAlone place recorder cs requests done
+
+-- a recorder under a filter of this type, on a registry
+abbrev pub UnderFilter : Type 0 → Type 0
+UnderFilter F = Layered (Filtered Kept F) RegistryState
+
+-- that recorder
+abbrev pub recorder_under : {F : Type 0} → UnderFilter F → Kept
+recorder_under x = layer_of (outer_of x)
+
+module _ {F : Type 0} (s : SubscriberOf (UnderFilter F)) where
+  -- a list was served, and the recorder was notified of just what it would see alone under a filter that acts so
+  abbrev pub RecordsUnder : Conduct → List Request → WithAnswers (UnderFilter F) → Type 0
+  RecordsUnder b requests done = RecordsAlone s (Outer (Under Here)) recorder_under ((Some 0, b) ∷ []) requests done
+
+  -- whatever list it serves first, put in use, the recorder will have recorded so, where its filter acts in this way
+  abbrev pub WillRecordUnder : (Conduct → Type 0) → UnderFilter F → Type 0
+  WillRecordUnder acts x = (b : Conduct) → acts b → WillRecord s (Outer (Under Here)) recorder_under ((Some 0, b) ∷ []) x
+
+-- the conduct of a filter of two parts, which take no level
+abbrev pub both_conduct : (Answers → Answers → Answers) → Conduct → Conduct → Conduct
+both_conduct join left right h = join (left (notices_of h)) (right (notices_of h))
+
+-- that of a filter of one part
+abbrev pub one_conduct : (Answers → Answers) → Conduct → Conduct
+one_conduct turn inside h = turn (inside (notices_of h))

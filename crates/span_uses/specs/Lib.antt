@@ -1,3 +1,4 @@
+pub mod Chain
 pub mod Dispatches
 pub mod Filters
 pub mod Isolation

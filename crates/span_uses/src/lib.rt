@@ -15,6 +15,8 @@ ghost use Rattle.span_uses.specs.Uses.{left, name_in, parent_name_in, stack_in, 
 #[cfg(test)]
 mod asked_tests;
 pub mod boxed;
+pub mod chain;
+pub mod conducts;
 pub mod dispatch;
 pub mod filter;
 pub mod isolation;
