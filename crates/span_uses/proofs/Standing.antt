@@ -1,7 +1,11 @@
 -- Honest stacks: that they are ready, and what a recorder in them keeps.
 use Rattle.std.proofs.Common.{arith, ◌≡◌, ◌∙◌, ◌+◌, ◌<◌, ◌≤◌, ℕ, List, [], ◌∷◌, true, Bool, Option, None, Some, Result, Ok, Err, IfOk, ap, map, refl, subst, sym}
+use Rattle.std.proofs.lemmas.List.{length-map}
+use Rattle.std.specs.Prelude.{IfSome, length}
 use Rattle.std.proofs.lemmas.Bool.{false≢true}
 use Rattle.span_core.specs.declared.filter.TheConstants.FilterId.{LIMIT}
+use Rattle.span_core.specs.declared.level.LevelFilter.{LevelFilter}
+use Rattle.span_core.specs.declared.metadata.Metadata.{Metadata}
 use Rattle.span_core.specs.declared.span.Attributes.{Attributes}
 use Rattle.span_core.specs.declared.span.Id.{Id}
 use Rattle.span_core.specs.declared.span.Lane.{Lane}
@@ -13,11 +17,13 @@ use Rattle.span_dispatch.specs.declared.dispatch.Dispatch.{Dispatch}
 use Rattle.span_dispatch.specs.declared.request.Answer.TheVariants.{Dropped, Made, Yes}
 use Rattle.span_dispatch.specs.declared.request.Answer.{Answer}
 use Rattle.span_dispatch.specs.Recorder.{Kept, Records, kept_notice, new_recorder}
-use Rattle.span_dispatch.specs.Serve.{IsReady, flat, stack_of}
+use Rattle.span_dispatch.specs.Serve.{IsReady, SayOutcomes, flat, outcome_of, stack_of}
 use Rattle.span_dispatch.specs.declared.request.Request.{Request}
 use Rattle.span_layers.proofs.CallerLemmas.{bare_stands, stands_on}
 use Rattle.span_layers.specs.Attach.{Attaches}
 use Rattle.span_layers.specs.Honest.{IsHonestStack}
+use Rattle.span_filters.specs.Closure.{AnswersAll, Computes, GoesByWhatShows, HasTestAnswers, RefusesAbove, TestsBy, test_answers}
+use Rattle.span_filters.specs.declared.closure.FilterFn.{FilterFn}
 use Rattle.span_filters.specs.Filter.{FilterLaws, FilterSteps}
 use Rattle.span_layers.specs.Filtered.{IsNumber, IsUnnumbered, id_of}
 use Rattle.span_layers.specs.Layered.{inner_of, outer_of, with_inner}
@@ -37,12 +43,13 @@ use Rattle.span_registry.specs.Closes.{IsSettled}
 use Rattle.span_registry.specs.Form.{Bare, Base, End, Filtered, Form, InList, Leaf, OnSubscriber, Over}
 use Rattle.span_registry.specs.Hooks.{StackSteps}
 use Rattle.span_registry.specs.Levels.{LevelSteps}
-use Rattle.span_registry.specs.Place.{Heard, Place}
+use Rattle.span_registry.specs.Place.{Heard, Here, Outer, Place, Under}
 use Rattle.span_registry.specs.Store.{RegistryState, Store, empty_store, new_registry}
 use Rattle.span_registry.specs.declared.limits.Limits.{Limits}
+use Rattle.span_uses.proofs.Recorded.{keeps_all}
 use Rattle.span_uses.specs.Chain.{AnswersReady, OpensAndDrops}
 use Rattle.span_uses.specs.Isolation.{WithAnswers}
-use Rattle.span_uses.specs.Kinds.{IsFit, IsReadyNow, RecordsAlone, ServesReady, UnderFilter, WillRecord}
+use Rattle.span_uses.specs.Kinds.{CountsUnder, IsCounted, IsFit, IsReadyNow, RecordsAlone, RecordsUnder, ServesReady, UnderFilter, WillRecord, recorder_under}
 
 -- an honest stack on a registry without spans is ready
 pub is_ready : {S : Type 0} {registry : S → RegistryState} {with_registry : S → RegistryState → S} {has_form : S → Form → Type 0} {stepped : StackSteps S} {levelled : LevelSteps S} (f : Form) (n : ℕ) (x : S)
@@ -179,3 +186,33 @@ module _ {S : Type 0} (s : SubscriberOf S) where
   -- and one that wasn't opened
   pub opens_nothing : (lane : Lane) (attrs : Attributes) (o : Option Id) (old new : Dispatch S) → o ≡ None → AnswersCall s (OpenSpan lane attrs) (span_answer (Ok o)) old new → StaysReady s old new → OpensAndDrops s lane attrs old new None
   opens_nothing lane attrs o old new is opened stays h = answers_ready Dropped (subst (λ p. AnswersCall s (OpenSpan lane attrs) (span_answer (Ok p)) old new) is opened) stays h
+
+-- ---- under a closure
+
+-- a filter that was made of a test alone has the answers of the test
+pub tested : {F : Type 0} (gives : F → Metadata → Bool → Type 0) (f : FilterFn F) (g : F) (test : Metadata → Bool) → TestsBy f g None → AnswersAll gives g → Computes gives g test → GoesByWhatShows test → HasTestAnswers gives f (test_answers test None)
+tested gives f g test made all computes shown = record {
+  test = test;
+  all = subst (AnswersAll gives) (sym made.enabled) all;
+  computed = subst (λ h. Computes gives h test) (sym made.enabled) computes;
+  shown = shown;
+  refuses = subst (λ (h : Option LevelFilter). RefusesAbove test h) (sym made.max_level_hint) (λ m e. absurd (cc));
+  answers = ap (test_answers test) (sym made.max_level_hint);
+}
+
+-- what was recorded, by its number
+pub counts_under : {F : Type 0} (s : SubscriberOf (UnderFilter F)) (b : Conduct) (requests : List Request) (done : WithAnswers (UnderFilter F)) (o : Option ℕ) → RecordsUnder s b requests done
+    → IsCounted (recorder_under (stack_of done.0)) o → CountsUnder b requests (done.1, o)
+counts_under s b requests done o r c =
+    let heard = seen (Outer (Under Here)) (flat r.serves.served.made) in
+    record {
+      outcomes = map outcome_of (flat r.serves.served.made);
+      heard = heard;
+      say = subst (λ (t : Store). SayOutcomes t requests done.1.items (map outcome_of (flat r.serves.served.made))) r.serves.empty r.serves.served.calls;
+      alone = r.alone;
+      count = counted_by (recorder_under (stack_of done.0)) heard o r.kept c;
+    }
+  where
+    counted_by : (q : Kept) (heard : Heard) (p : Option ℕ) → Records new_recorder q (map kept_notice heard) → IsCounted q p → IfSome p (λ n. n ≡ length heard)
+    counted_by q heard None kept counted = tt
+    counted_by q heard (Some n) kept counted = counted.1 ∙ ap length (keeps_all q (map kept_notice heard) kept counted.0) ∙ length-map heard kept_notice

@@ -1,10 +1,13 @@
 -- Stacks that are honest and ready, whatever kind of layer or filter stands in them, and what a recorder there keeps.
-use Rattle.std.specs.Prelude.{◌≡◌, ◌≤◌, ℕ, List, [], ◌∷◌, Some, map}
+use Rattle.std.specs.Prelude.{◌≡◌, ◌≤◌, ℕ, List, [], ◌∷◌, Option, Some, IfSome, false, length, map}
+use Rattle.std.specs.declared.alloc.Global.{Global}
+use Rattle.std.specs.declared.vec.Vec.{Vec}
 use Rattle.span_core.specs.declared.filter.TheConstants.FilterId.{LIMIT}
 use Rattle.span_dispatch.specs.Alone.{Alone, seen}
 use Rattle.span_dispatch.specs.Contract.{SubscriberOf}
+use Rattle.span_dispatch.specs.Outcome.{Outcome}
 use Rattle.span_dispatch.specs.Recorder.{Kept, Records, kept_notice, new_recorder}
-use Rattle.span_dispatch.specs.Serve.{IsReadySomehow, Served, flat, outcome_of, stack_of}
+use Rattle.span_dispatch.specs.Serve.{IsReadySomehow, SayOutcomes, Served, flat, outcome_of, stack_of}
 use Rattle.span_dispatch.specs.declared.dispatch.Dispatch.{Dispatch}
 use Rattle.span_dispatch.specs.declared.request.Answer.{Answer}
 use Rattle.span_dispatch.specs.declared.request.Request.{Request}
@@ -17,7 +20,7 @@ use Rattle.span_layers.specs.declared.layered.Layered.{Layered}
 use Rattle.span_registry.specs.Answers.{Answers, Conduct, notices_of}
 use Rattle.span_registry.specs.Conducts.{Conducts}
 use Rattle.span_registry.specs.Form.{Form}
-use Rattle.span_registry.specs.Place.{Here, Outer, Place, Under}
+use Rattle.span_registry.specs.Place.{Heard, Here, Outer, Place, Under}
 use Rattle.span_registry.specs.Store.{RegistryState, empty_store}
 use Rattle.span_uses.specs.Isolation.{WithAnswers}
 
@@ -85,3 +88,15 @@ both_conduct join left right h = join (left (notices_of h)) (right (notices_of h
 -- that of a filter of one part
 abbrev pub one_conduct : (Answers → Answers) → Conduct → Conduct
 one_conduct turn inside h = turn (inside (notices_of h))
+
+-- how many notices a recorder keeps, unless it failed
+abbrev pub IsCounted : Kept → Option ℕ → Type 0
+IsCounted r o = IfSome o (λ n. (r.failed ≡ false) × (n ≡ length r.notices))
+
+-- a list was answered, and a recorder under a filter that acts so was notified of just what it would see alone: so many notices, unless it failed for want of memory
+pub record CountsUnder (b : Conduct) (requests : List Request) (told : Vec Answer Global × Option ℕ) : Type 0 where
+  pub outcomes : List Outcome
+  pub heard : Heard
+  pub say : SayOutcomes empty_store requests told.0.items outcomes
+  pub alone : Alone ((Some 0, b) ∷ []) empty_store outcomes heard
+  pub count : IfSome told.1 (λ n. n ≡ length heard)

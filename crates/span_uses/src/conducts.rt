@@ -1,15 +1,18 @@
 //! Filters of each kind round a recorder: it keeps what it would alone under a filter that acts so.
-ghost use Rattle.std.specs.Prelude.{◌≡◌, IfErr, IfOk};
+ghost use Rattle.std.specs.Prelude.{◌≡◌, None, IfErr, IfOk};
+ghost use Rattle.span_core.specs.Level.{passes_level};
+ghost use Rattle.span_core.specs.Metadata.{level_of};
+ghost use Rattle.span_filters.specs.Closure.{test_answers};
 ghost use Rattle.span_filters.specs.Combinator.{and_answers, not_answers, or_answers};
 ghost use Rattle.span_filters.specs.Level.{level_conduct};
 ghost use Rattle.span_registry.specs.Answers.{Answers};
-ghost use Rattle.span_uses.specs.Kinds.{RecordsUnder, StandsSomehow, WillRecordUnder, both_conduct, one_conduct};
+ghost use Rattle.span_uses.specs.Kinds.{CountsUnder, IsCounted, RecordsUnder, StandsSomehow, WillRecordUnder, both_conduct, one_conduct};
 
 use crate::isolation::WithAnswers;
 use crate::kinds::serve_new;
-use span_core::{LevelFilter, TraceError};
-use span_dispatch::{Recorder, Request};
-use span_filters::{And, Filter, FilterExt, Not, Or};
+use span_core::{LevelFilter, Metadata, TraceError};
+use span_dispatch::{Answer, Recorder, Request};
+use span_filters::{And, Filter, FilterExt, Not, Or, filter_fn, laws};
 use span_layers::{Filtered, LayerExt, Layered, SubscriberExt};
 use span_registry::{Registry, Subscriber};
 use std::alloc::Global;
@@ -91,4 +94,35 @@ pub fn under_optional(
 {
     let stack = put_filtered(alloc, Some(level))?;
     serve_new(alloc, stack, requests)
+}
+
+/// How many notices it keeps, unless it failed.
+fn count(recorder: &Recorder) -> Option<usize>
+    ensures { IsCounted recorder.now result }
+{
+    if recorder.failed() {
+        return None;
+    }
+    Some(recorder.notices().len())
+}
+
+/// Under a test of metadata, a closure: how many notices the recorder keeps.
+pub fn count_tested(
+    alloc: Global,
+    level: LevelFilter,
+    requests: &[Request<'_>],
+) -> Result<(Vec<Answer>, Option<usize>), TraceError>
+    ensures counted { IfOk result (CountsUnder (λ h. test_answers (λ m. passes_level level (level_of m)) None) requests.now) }
+    ensures memory { IfErr result (λ e. e ≡ TraceError.OutOfMemory) }
+{
+    let filter = filter_fn(
+        move |meta: &Metadata| -> bool
+            ensures { result ≡ passes_level level (level_of meta.now) }
+        { level.passes(meta.level()) },
+    );
+    laws::tests_are_plain::<Registry, _>(&filter);
+    let stack = put_filtered(alloc, filter)?;
+    let (dispatch, answers) = serve_new(alloc, stack, requests)?;
+    let counted = count(dispatch.stack().layer().inner());
+    Ok((answers, counted))
 }
