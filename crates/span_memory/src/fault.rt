@@ -1,0 +1,64 @@
+//! Why a run ends early.
+ghost use Rattle.span_memory.specs.Fault.{status_of};
+ghost use Rattle.std.specs.Prelude.{◌≡◌};
+
+use span_core::TraceError;
+use std::alloc::{AllocError, AllocFailed};
+use std::io;
+use thiserror::Error;
+
+/// Why a run ends early.
+#[derive(Clone, Copy, Debug, PartialEq, Eq, Error)]
+pub enum Fault {
+    /// A line names no call.
+    #[error("a line names no call")]
+    Line,
+    /// A step of the preparation was refused.
+    #[error("refused: {0}")]
+    Refused(TraceError),
+    /// A step of the preparation didn't do what it should.
+    #[error("a state was not prepared")]
+    Unprepared,
+    /// Input or output failed.
+    #[error("input or output failed")]
+    Io,
+    /// Memory was refused outside a call.
+    #[error("out of memory")]
+    Memory,
+}
+
+impl Fault {
+    /// The status that the program ends with.
+    pub fn status(&self) -> u8
+        ensures { result ≡ status_of self.now }
+    {
+        match self {
+            Fault::Line => 2,
+            _ => 1,
+        }
+    }
+}
+
+impl From<TraceError> for Fault {
+    fn from(error: TraceError) -> Fault {
+        Fault::Refused(error)
+    }
+}
+
+impl From<AllocError> for Fault {
+    fn from(_error: AllocError) -> Fault {
+        Fault::Memory
+    }
+}
+
+impl<T: Drop> From<AllocFailed<T>> for Fault {
+    fn from(_failed: AllocFailed<T>) -> Fault {
+        Fault::Memory
+    }
+}
+
+impl From<io::Error> for Fault {
+    fn from(_error: io::Error) -> Fault {
+        Fault::Io
+    }
+}

@@ -1,0 +1,40 @@
+//! From lines to calls.
+
+use crate::call::Call;
+use crate::fault::Fault;
+use crate::{dispatcher, filter, lane_stack, registry, shared};
+use std::alloc::Global;
+use std::io::{Read, Write};
+use std::sync::Wait;
+
+/// Makes the call that each line names.
+pub fn run<H: Wait, R: Read, W: Write>(
+    rt: &H,
+    alloc: Global,
+    reader: &mut R,
+    writer: &mut W,
+) -> Result<(), Fault> {
+    let mut text = String::new(alloc);
+    reader.read_to_string(&mut text)?;
+    for line in text.lines() {
+        let Some(call) = Call::of(line) else {
+            return Err(Fault::Line);
+        };
+        writeln!(writer, "== {line}")?;
+        make(rt, alloc, writer, call)?;
+    }
+    Ok(())
+}
+
+/// Makes a call.
+fn make<H: Wait, W: Write>(rt: &H, alloc: Global, writer: &mut W, call: Call) -> Result<(), Fault> {
+    match call {
+        Call::Push => lane_stack::push(alloc, writer),
+        Call::Registry(call) => registry::make(alloc, writer, call),
+        Call::Clone(kind) => filter::make(alloc, writer, kind),
+        Call::Dispatcher(request) => dispatcher::make(alloc, writer, request),
+        Call::Serve => dispatcher::serve(alloc, writer),
+        Call::Share => shared::share(rt, alloc, writer),
+        Call::Shared(request) => shared::make(rt, alloc, writer, request),
+    }
+}

@@ -1,0 +1,241 @@
+//! Calls of a dispatcher that workers share.
+ghost use Rattle.span_dispatch.specs.Serve.{stack_of};
+ghost use Rattle.span_registry.specs.Store.{IsFresh};
+ghost use Rattle.span_dispatch.specs.Worker.{called};
+ghost use Rattle.std.specs.Prelude.{◌≡◌, ◌-◌, ◌<◌, ◌^◌, OnErr, OnOk};
+
+use crate::dispatcher::{Stack, receiver, write_dispatcher};
+use crate::fault::Fault;
+use crate::shown::{write_end, write_start};
+use crate::site::preparation;
+use span_core::{Record, TraceError};
+use span_dispatch::{Crew, Dispatch, Journal, Receipt, Request, Shared, Which, Worker};
+use span_registry::Subscriber;
+use std::alloc::Global;
+use std::io::Write;
+use std::marker::Brand;
+use std::sync::Wait;
+use std::sync::ledger::Blank;
+
+/// What is left of a shared dispatcher when its worker is back.
+#[derive(Drop)]
+struct Finished<S> {
+    dispatch: Dispatch<S>,
+    journal: Journal,
+    receipts: Vec<Receipt>,
+    /// How many of the worker's calls were accepted.
+    accepted: u64,
+}
+
+/// Makes a request of a shared dispatcher, and writes what it shows without the request and after it.
+pub fn make<W: Write>(
+    rt: &impl Wait,
+    alloc: Global,
+    writer: &mut W,
+    request: Request<'_>,
+) -> Result<(), Fault> {
+    let without = after(rt, alloc, writer, None)?;
+    write_finished(writer, without)?;
+    let with = after(rt, alloc, writer, Some(request))?;
+    write_finished(writer, with)
+}
+
+/// What is left of a dispatcher that was shared with a worker, after the preparation and this request, if there is one.
+fn after<W: Write>(
+    rt: &impl Wait,
+    alloc: Global,
+    writer: &mut W,
+    request: Option<Request<'_>>,
+) -> Result<Finished<Stack>, Fault> {
+    let dispatch = receiver(alloc)?;
+    shared_with_one::<Stack, Brand, W>(rt, alloc, writer, Blank::new(1), dispatch, request)
+}
+
+/// Shares a dispatcher, and writes what it shows without that and after it.
+pub fn share<W: Write>(rt: &impl Wait, alloc: Global, writer: &mut W) -> Result<(), Fault> {
+    write_dispatcher(writer, receiver(alloc)?)?;
+    let dispatch = receiver(alloc)?;
+    let dispatch = shared_once::<Stack, Brand, W>(alloc, writer, Blank::new(1), dispatch)?;
+    write_dispatcher(writer, dispatch)
+}
+
+/// Writes all that a dispatcher that was shared shows: its journal, and whether that holds its receipts, too.
+fn write_finished<W: Write>(writer: &mut W, finished: Finished<Stack>) -> Result<(), Fault> {
+    for place in 0..finished.journal.len() {
+        if let Some(entry) = finished.journal.get(place) {
+            writeln!(writer, "{entry:?}")?;
+        }
+    }
+    for receipt in &finished.receipts {
+        let held = finished.journal.holds(receipt);
+        writeln!(writer, "receipt of {} held {held}", receipt.place())?;
+    }
+    writeln!(writer, "accepted {}", finished.accepted)?;
+    write_dispatcher(writer, finished.dispatch)
+}
+
+/// Shares a dispatcher with one worker, and writes how that ended. Where it was refused, what came back is shared. Answers the
+/// dispatcher.
+fn shared_once<S: Subscriber + Drop, L: Crew, W: Write>(
+    alloc: Global,
+    writer: &mut W,
+    blank: Blank,
+    dispatch: Dispatch<S>,
+) -> Result<Dispatch<S>, Fault>
+    requires name { blank.name ≡ L.name }
+    requires parts { (blank.parts ≡ L.parts) × (L.parts ≡ 1) × (L.workers ≡ 1) }
+    requires usable { S.usable (stack_of dispatch) }
+    requires fresh { IsFresh (S.registry (stack_of dispatch)) }
+{
+    let (book, all) = blank.open::<L>();
+    write_start(writer)?;
+    let (shared, workers) = match Shared::new(alloc, book, all, dispatch, 1) {
+        Ok(shared) => {
+            write_end(writer, Ok(()))?;
+            shared
+        }
+        Err(rejected) => {
+            write_end(writer, Err(rejected.error))?;
+            let (dispatch, book, all) = rejected.value;
+            match Shared::new(alloc, book, all, dispatch, 1) {
+                Ok(shared) => shared,
+                Err(_) => return Err(Fault::Memory),
+            }
+        }
+    };
+    match shared.finish(workers) {
+        Ok((dispatch, _)) => Ok(dispatch),
+        Err(_) => unreachable!(), // No worker is missing.
+    }
+}
+
+/// Shares a dispatcher with one worker, that prepares it and makes the request, if there is one, and writes how that ended.
+fn shared_with_one<S: Subscriber + Drop, L: Crew, W: Write>(
+    rt: &impl Wait,
+    alloc: Global,
+    writer: &mut W,
+    blank: Blank,
+    dispatch: Dispatch<S>,
+    request: Option<Request<'_>>,
+) -> Result<Finished<S>, Fault>
+    requires name { blank.name ≡ L.name }
+    requires parts { (blank.parts ≡ L.parts) × (L.parts ≡ 1) × (L.workers ≡ 1) }
+    requires usable { S.usable (stack_of dispatch) }
+    requires fresh { IsFresh (S.registry (stack_of dispatch)) }
+{
+    let (book, all) = blank.open::<L>();
+    let Ok((shared, mut workers)) = Shared::new(alloc, book, all, dispatch, 1) else {
+        return Err(Fault::Memory);
+    };
+    let mut worker = workers.pop().ok_or(Fault::Unprepared)?;
+    if worker.calls() > 0 {
+        return Err(Fault::Unprepared);
+    }
+    let mut receipts = Vec::new(alloc);
+    prepare(rt, &shared, &mut worker, &mut receipts)?;
+    if let Some(request) = request {
+        try_once(rt, writer, &shared, &mut worker, &mut receipts, request)?;
+    }
+    let accepted = worker.calls();
+    workers.push_reserved(worker);
+    let Ok((dispatch, journal)) = shared.finish(workers) else {
+        unreachable!() // No worker is missing.
+    };
+    Ok(Finished {
+        dispatch,
+        journal,
+        receipts,
+        accepted,
+    })
+}
+
+/// Makes the requests of the preparation, and keeps their receipts.
+fn prepare<S: Subscriber, L: Crew>(
+    rt: &impl Wait,
+    shared: &Shared<S, L>,
+    worker: &mut Worker<L>,
+    receipts: &mut Vec<Receipt>,
+) -> Result<(), Fault>
+    requires { worker.old.calls ≡ 0 }
+    ensures { OnOk result (worker.new.calls ≡ 16) }
+{
+    for request in &preparation() {
+        receipts.push(asked(rt, shared, worker, *request)?)?;
+    }
+    Ok(())
+}
+
+/// Makes a request, and writes how it ended. Its receipt is kept.
+fn try_once<S: Subscriber, L: Crew, W: Write>(
+    rt: &impl Wait,
+    writer: &mut W,
+    shared: &Shared<S, L>,
+    worker: &mut Worker<L>,
+    receipts: &mut Vec<Receipt>,
+    request: Request<'_>,
+) -> Result<(), Fault>
+    requires { worker.old.calls < 2 ^ 64 - 1 }
+{
+    write_start(writer)?;
+    match asked(rt, shared, worker, request) {
+        Ok(receipt) => {
+            write_end(writer, Ok(()))?;
+            receipts.push(receipt)?;
+        }
+        Err(error) => write_end(writer, Err(error))?,
+    }
+    Ok(())
+}
+
+/// The receipt of a request. A refused one isn't counted.
+fn asked<S: Subscriber, L: Crew>(
+    rt: &impl Wait,
+    shared: &Shared<S, L>,
+    worker: &mut Worker<L>,
+    request: Request<'_>,
+) -> Result<Receipt, TraceError>
+    requires { worker.old.calls < 2 ^ 64 - 1 }
+    ensures counted { OnOk result (worker.new ≡ called worker.old) }
+    ensures unchanged { OnErr result (worker.new ≡ worker.old) }
+{
+    match request {
+        Request::NewSpan(_, metadata, parent, values) => {
+            let attributes = parent.attributes(&[], metadata, values);
+            Ok(shared.new_span(rt, worker, &attributes)?.1)
+        }
+        Request::Event(_, metadata, parent, values) => {
+            let event = parent.event(&[], metadata, values);
+            Ok(shared.event(rt, worker, &event)?.1)
+        }
+        Request::Enabled(_, metadata) => Ok(shared.enabled(rt, worker, &metadata)?.1),
+        Request::Current(_) => Ok(shared.current_span(rt, worker)?.1),
+        Request::SetLevel(number, level) => Ok(shared.set_level(rt, worker, number, level)?.1),
+        _ => asked_of_span(rt, shared, worker, request),
+    }
+}
+
+/// The receipt of a request of a span.
+fn asked_of_span<S: Subscriber, L: Crew>(
+    rt: &impl Wait,
+    shared: &Shared<S, L>,
+    worker: &mut Worker<L>,
+    request: Request<'_>,
+) -> Result<Receipt, TraceError>
+    requires { worker.old.calls < 2 ^ 64 - 1 }
+    ensures counted { OnOk result (worker.new ≡ called worker.old) }
+    ensures unchanged { OnErr result (worker.new ≡ worker.old) }
+{
+    match request {
+        Request::Enter(_, Which::Known(id)) => Ok(shared.enter(rt, worker, id)?.1),
+        Request::Exit(_, Which::Known(id)) => Ok(shared.exit(rt, worker, id)?.1),
+        Request::Record(_, Which::Known(id), values) => {
+            Ok(shared.record(rt, worker, id, &Record::new(values))?.1)
+        }
+        Request::Follows(_, Which::Known(id), Which::Known(other)) => {
+            Ok(shared.follows_from(rt, worker, id, other)?.1)
+        }
+        Request::Clone(_, Which::Known(id)) => Ok(shared.clone_span(rt, worker, id)?.1),
+        Request::Drop(_, Which::Known(id)) => Ok(shared.drop_span(rt, worker, id)?.1),
+        _ => Ok(shared.current_span(rt, worker)?.1), // It asks of no span that is known.
+    }
+}
