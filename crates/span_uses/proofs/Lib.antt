@@ -1,8 +1,10 @@
 mod Beside
 mod Counter
 mod Level
+mod Lines
 mod Optional
 mod Parents
+mod PutOn
 mod Recorded
 mod Settable
 mod Standing

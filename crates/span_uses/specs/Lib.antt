@@ -5,6 +5,7 @@ pub mod Isolation
 pub mod Kinds
 pub mod Law
 pub mod Layers
+pub mod Outline
 pub mod Reload
 pub mod Stacks
 pub mod Tests

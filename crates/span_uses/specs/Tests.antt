@@ -1,13 +1,13 @@
 -- What a layer of the tests answers. No public clause cites it.
-use Rattle.std.specs.Prelude.{◌≡◌, Bool, true, false, None, refl}
+use Rattle.std.specs.Prelude.{◌≡◌, Bool, true, false, None}
 use Rattle.std.proofs.Common.{subst, sym}
 use Rattle.span_core.specs.declared.interest.Interest.TheVariants.{Sometimes}
 use Rattle.span_layers.specs.ActsKept.{is_leaf}
 use Rattle.span_layers.specs.Layer.{HearsBy, LayerLaws, LayerSteps}
 use Rattle.span_layers.specs.Leaf.{leaf_layer_laws}
 use Rattle.span_registry.specs.Answers.{Answers}
-use Rattle.span_registry.specs.Follows.{Follows, kept_form}
-use Rattle.span_registry.specs.Form.{Form, Leaf}
+use Rattle.span_registry.specs.Follows.{kept_form}
+use Rattle.span_registry.specs.Form.{Leaf}
 use Rattle.span_registry.specs.Plan.{Itself}
 
 -- whether metadata pass, and whether events do, whatever they are

@@ -55,7 +55,7 @@ pub fn record_alone_and_beside(
 }
 
 /// Puts a stack in use, serves requests with it, and gives the answers, too.
-fn serve_first<S: Subscriber + Drop>(
+pub(crate) fn serve_first<S: Subscriber + Drop>(
     alloc: Global,
     stack: S,
     requests: &[Request<'_>],

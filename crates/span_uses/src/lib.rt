@@ -25,6 +25,7 @@ pub mod law;
 #[cfg(test)]
 mod law_tests;
 pub mod layer;
+pub mod outline;
 pub mod reload;
 pub mod stack;
 #[cfg(test)]

@@ -4,6 +4,7 @@ ghost use Rattle.span_layers.specs.Layered.{inner_of, outer_of};
 ghost use Rattle.span_registry.specs.Context.{WritesExtensions};
 
 use crate::isolation::record_alone_and_beside;
+use crate::outline::serve_outlined;
 use crate::reload::reload;
 use span_boxed::{BoxedLayer, DynLayer};
 use span_core::{
@@ -376,5 +377,43 @@ fn a_level_is_set_between_requests(rt: HostRuntime) -> Result<(), Fail> {
     assert!(rt; matches!(kept.get(1), Some(Notice::New(_, _))));
     assert_eq!(rt; kept.get(2).copied(), Some(Notice::Event(LANE, 1)));
     assert_eq!(rt; kept.get(3).copied(), Some(Notice::Event(LANE, 2)));
+    Ok(())
+}
+
+/// A new span from this callsite, in the one that the request with this number makes.
+fn span_in(parent: usize, callsite: u64, level: Level) -> Request<'static> {
+    let metadata = metadata_of(callsite, level, Kind::SPAN);
+    Request::NewSpan(
+        LANE,
+        metadata,
+        WhichParent::Explicit(Which::Made(parent)),
+        &[],
+    )
+}
+
+/// An event with this name, in this parent.
+fn named_event(name: &'static str, parent: WhichParent) -> Request<'static> {
+    let fields = FieldSet::new(&[]);
+    let metadata = Metadata::new(9, name, "tests", Level::WARN, Kind::EVENT, fields);
+    Request::Event(LANE, metadata, parent, &[])
+}
+
+#[test]
+fn an_outline_goes_by_what_its_own_level_shows(rt: HostRuntime) -> Result<(), Fail> {
+    let requests = [
+        root_from(0, Level::INFO),
+        span_in(0, 1, Level::DEBUG),
+        span_in(1, 2, Level::INFO),
+        named_event("apart", WhichParent::Root),
+        named_event("outer", WhichParent::Explicit(Which::Made(0))),
+        named_event("hidden", WhichParent::Explicit(Which::Made(1))),
+        event_from(3, Level::DEBUG),
+        Request::Enter(LANE, Which::Made(2)),
+        named_event("inner", WhichParent::Contextual),
+    ];
+    let (level, other) = (LevelFilter::INFO, LevelFilter::TRACE);
+    let (answers, text) = serve_outlined(rt.alloc(), level, other, &requests)?;
+    assert_eq!(rt; answers.len(), 9);
+    assert_eq!(rt; text.as_str(), "apart\n  outer\nhidden\n    inner\n");
     Ok(())
 }
