@@ -4,7 +4,7 @@ use crate::call::RegistryCall;
 use crate::fault::Fault;
 use crate::shown::{write_all_of, write_end, write_start};
 use crate::site::{ENTERED, LANE, OTHER_LANE, SPANS, UNKNOWN, nth, span_metadata};
-use span_core::{Attributes, Pass, TraceError};
+use span_core::{Attributes, Id, Pass, TraceError};
 use span_dispatch::Dispatch;
 use span_registry::{LookupSpan, Registry, Subscriber, Tag};
 use std::alloc::Global;
@@ -52,7 +52,7 @@ fn prepared(alloc: Global, call: RegistryCall) -> Result<Registry, Fault> {
 }
 
 /// Opens the next span, in the one before, if there is one.
-fn open(registry: &mut Registry, number: u64) -> Result<span_core::Id, TraceError> {
+fn open(registry: &mut Registry, number: u64) -> Result<Id, TraceError> {
     let metadata = span_metadata(number);
     let attributes = if number > 1 {
         Attributes::child_of(nth(number - 1), metadata, &[])
@@ -71,14 +71,14 @@ fn called(alloc: Global, registry: &mut Registry, call: RegistryCall) -> Result<
             Ok(())
         }
         RegistryCall::Enter => registry.enter(OTHER_LANE, nth(5)),
-        RegistryCall::Insert => insert(registry, nth(1), 1),
+        RegistryCall::Insert => insert(registry, nth(2), 0),
         RegistryCall::Replace => replace(registry, nth(2), 0),
         RegistryCall::FromRoot(spans) => from_root(alloc, registry, nth(spans)),
     }
 }
 
 /// Puts a value of a span under a tag that has none.
-fn insert(registry: &mut Registry, id: span_core::Id, tag: u32) -> Result<(), TraceError> {
+fn insert(registry: &mut Registry, id: Id, tag: u32) -> Result<(), TraceError> {
     let Some(extensions) = registry.extensions_mut(id) else {
         return Err(TraceError::UnknownSpan(id));
     };
@@ -89,7 +89,7 @@ fn insert(registry: &mut Registry, id: span_core::Id, tag: u32) -> Result<(), Tr
 }
 
 /// The same by `replace`.
-fn replace(registry: &mut Registry, id: span_core::Id, tag: u32) -> Result<(), TraceError> {
+fn replace(registry: &mut Registry, id: Id, tag: u32) -> Result<(), TraceError> {
     let Some(extensions) = registry.extensions_mut(id) else {
         return Err(TraceError::UnknownSpan(id));
     };
@@ -100,7 +100,7 @@ fn replace(registry: &mut Registry, id: span_core::Id, tag: u32) -> Result<(), T
 }
 
 /// Asks for the scope of a span from its root on.
-fn from_root(alloc: Global, registry: &Registry, id: span_core::Id) -> Result<(), TraceError> {
+fn from_root(alloc: Global, registry: &Registry, id: Id) -> Result<(), TraceError> {
     let Some(span) = registry.span(id) else {
         return Err(TraceError::UnknownSpan(id));
     };

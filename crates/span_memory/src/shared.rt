@@ -157,7 +157,7 @@ fn prepare<S: Subscriber, L: Crew>(
     receipts: &mut Vec<Receipt>,
 ) -> Result<(), Fault>
     requires { worker.old.calls ≡ 0 }
-    ensures { OnOk result (worker.new.calls ≡ 16) }
+    ensures { OnOk result (worker.new.calls ≡ 32) }
 {
     for request in &preparation() {
         receipts.push(asked(rt, shared, worker, *request)?)?;

@@ -9,11 +9,11 @@ pub const LANE: Lane = Lane(0);
 /// A lane that has entered nothing yet.
 pub const OTHER_LANE: Lane = Lane(1);
 
-/// How many spans are prepared, each in the one before. Each has a callsite of its own, of its number: 1, 2, and so on.
-pub const SPANS: u64 = 8;
+/// How many spans are prepared, each in the one before.
+pub const SPANS: u64 = 16;
 
 /// How many of them the lane is in.
-pub const ENTERED: u64 = 4;
+pub const ENTERED: u64 = 8;
 
 /// A callsite that nothing was asked of.
 pub const UNKNOWN: u64 = 20;
@@ -59,9 +59,9 @@ pub fn event(callsite: u64) -> Request<'static> {
     Request::Event(LANE, event_metadata(callsite), WhichParent::Contextual, &[])
 }
 
-/// The requests that prepare a dispatcher: spans each in the one before, of which the lane is in some, an event, two probes, and one
-/// handle more of the first span. Their journal has 16 entries, and 11 callsites are kept: so many that the next needs memory.
-pub fn preparation() -> [Request<'static>; 16] {
+/// The requests that prepare a dispatcher: spans each in the one before, of which the lane is in some, an event, and what takes no more
+/// memory. Their journal has 32 entries, and 15 callsites are kept: so many that the next needs memory.
+pub fn preparation() -> [Request<'static>; 32] {
     [
         new_span(1, WhichParent::Root),
         new_span(2, WhichParent::Explicit(known(1))),
@@ -71,13 +71,29 @@ pub fn preparation() -> [Request<'static>; 16] {
         new_span(6, WhichParent::Explicit(known(5))),
         new_span(7, WhichParent::Explicit(known(6))),
         new_span(8, WhichParent::Explicit(known(7))),
+        new_span(9, WhichParent::Explicit(known(8))),
+        new_span(10, WhichParent::Explicit(known(9))),
+        new_span(11, WhichParent::Explicit(known(10))),
+        new_span(12, WhichParent::Explicit(known(11))),
+        new_span(13, WhichParent::Explicit(known(12))),
+        new_span(14, WhichParent::Explicit(known(13))),
+        new_span(14, WhichParent::Explicit(known(14))),
+        new_span(14, WhichParent::Explicit(known(15))),
         Request::Enter(LANE, known(1)),
         Request::Enter(LANE, known(2)),
         Request::Enter(LANE, known(3)),
         Request::Enter(LANE, known(4)),
-        event(9),
-        Request::Enabled(LANE, event_metadata(10)),
-        Request::Enabled(LANE, event_metadata(11)),
+        Request::Enter(LANE, known(5)),
+        Request::Enter(LANE, known(6)),
+        Request::Enter(LANE, known(7)),
+        Request::Enter(LANE, known(8)),
+        event(15),
         Request::Clone(LANE, known(1)),
+        Request::Record(LANE, known(1), &[]),
+        Request::Follows(LANE, known(1), known(2)),
+        Request::Enabled(LANE, span_metadata(1)),
+        Request::Enabled(LANE, span_metadata(2)),
+        Request::Enabled(LANE, span_metadata(3)),
+        Request::Enabled(LANE, span_metadata(4)),
     ]
 }
