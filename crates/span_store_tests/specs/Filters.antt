@@ -1,4 +1,4 @@
--- What the filters of the tests answer. No public clause cites it.
+-- What the filters of these tests answer.
 use Rattle.std.specs.Prelude.{◌≡◌, Bool, true, false, [], ◌∷◌, None, is_some, refl}
 use Rattle.std.proofs.Common.{ap, subst, sym, ◌∙◌}
 use Rattle.span_core.specs.declared.interest.Interest.TheVariants.{Always}
@@ -26,6 +26,9 @@ in_span_honest = unhinted_view_honest (λ m v. is_some (current_shown v))
 abbrev pub if_answers : Bool → Answers
 if_answers b = view_answers (λ m v. b) (interest_under None) None
 
+pub if_honest : (b : Bool) → AreHonest (if_answers b)
+if_honest b = unhinted_view_honest (λ m v. b)
+
 -- whether everything is wanted after a notice: from the first enter on
 abbrev pub wanted_after : Notice → Bool → Bool
 wanted_after (OnEnter id) wanted = true
@@ -51,7 +54,7 @@ since_same wanted h k a = absurd a
 -- such a filter keeps the law
 pub since_laws : {F : Type 0} (wants : F → Bool) → FilterLaws (settled_answers (λ f. if_answers (wants f))) (λ f e lane under v g w. (wants g ≡ wanted_after e (wants f)) × (w ≡ v)) (λ f b. b ≡ since_entered (wants f))
 since_laws wants = record {
-  honest = λ f a h. subst AreHonest (sym h) (unhinted_view_honest (λ m v. wants f));
+  honest = λ f a h. subst AreHonest (sym h) (if_honest (wants f));
   keeps = λ f e lane under v g w a s h. (if_answers (wants g), refl, subst (λ b. SameInterestAndHint b (if_answers (wants g))) (sym h) (record { interest = refl; hint = refl }));
   plain = λ f b h. subst IsPlain (sym h) (record { answers = since_plain (wants f); history = since_same (wants f) });
   now = λ f b h. ap (λ (c : Conduct). c []) h;

@@ -1,23 +1,13 @@
 //! Tests of boxed filters: a box adds nothing to the filter in it.
 ghost use Rattle.span_filters.specs.Filter.{ActsSteadily, settled_answers, settled_laws, steady_levels};
-ghost use Rattle.span_filters.specs.Tests.{if_answers, in_span_answers, in_span_honest, since_entered, since_laws, since_levels, wanted_after};
+ghost use Rattle.span_store_tests.specs.Filters.{if_answers, in_span_answers, in_span_honest, since_entered, since_laws, since_levels, wanted_after};
 ghost use Rattle.std.specs.Prelude.{◌≡◌};
 
-use crate::boxed::{BoxedFilter, DynFilter};
-use crate::combinator::{And, FilterExt, Not, Or};
-use crate::filter::Filter;
-use span_core::{
-    Attributes, Event, FieldSet, Id, Interest, Kind, Lane, Level, LevelFilter, Metadata, Pass,
-    Record,
-};
-use span_registry::{Context, ContextMut, LookupSpan, Registry, Subscriber};
+use crate::fixture::{LANE, enter, event_at, open, open_named, root};
+use span_core::{Attributes, Event, Id, Interest, Level, LevelFilter, Metadata, Pass, Record};
+use span_filters::{And, BoxedFilter, DynFilter, Filter, FilterExt, Not, Or};
+use span_registry::{Context, ContextMut, LookupSpan, Registry};
 use std::test::Fail;
-
-const LANE: Lane = Lane(0);
-
-fn metadata_at(level: Level, kind: Kind) -> Metadata {
-    Metadata::new(1, "name", "tests", level, kind, FieldSet::new(&[]))
-}
 
 /// All that a filter says of an event.
 #[derive(Clone, Copy, Debug, PartialEq, Eq)]
@@ -32,7 +22,7 @@ struct Said {
 fn answers_of<F: Filter<Registry>>(filter: &F, level: Level, cx: &Context<'_, Registry>) -> Said
     requires { F.usable filter.now }
 {
-    let metadata = metadata_at(level, Kind::EVENT);
+    let metadata = event_at(level);
     Said {
         enabled: filter.enabled(&metadata, cx),
         event: filter.event_enabled(&Event::new(metadata, &[]), cx),
@@ -142,11 +132,8 @@ fn a_box_sees_what_its_mask_shows(rt: HostRuntime) -> Result<(), Fail> {
     let boxed = BoxedFilter::new(object);
     let mut registry = Registry::new(rt.alloc());
     let hiding = registry.register_filter()?;
-    let mut pass = Pass::new();
-    pass.set(hiding, false);
-    let attributes = Attributes::new_root(metadata_at(Level::INFO, Kind::SPAN), &[]);
-    let id = registry.new_span(LANE, &attributes, &pass)?;
-    registry.enter(LANE, id)?;
+    let id = open_named(&mut registry, "hidden", None, hiding)?;
+    enter(&mut registry, id)?;
 
     let all = Context::new(&registry, LANE);
     assert!(rt; answers_of(&boxed, Level::INFO, &all).enabled);
@@ -216,8 +203,7 @@ fn enters<F: Filter<Registry>>(filter: &mut F, registry: &mut Registry, id: Id)
 #[test]
 fn a_box_hands_a_notice_on(rt: HostRuntime) -> Result<(), Fail> {
     let mut registry = Registry::new(rt.alloc());
-    let attributes = Attributes::new_root(metadata_at(Level::INFO, Kind::SPAN), &[]);
-    let id = registry.new_span(LANE, &attributes, &Pass::new())?;
+    let id = open(&mut registry, &root())?;
     let object: Box<dyn DynFilter + Send> = Box::new(rt.alloc(), SinceEntered { entered: false })?;
     let mut boxed = BoxedFilter::new(object);
     let nowhere: Context<'_, Registry> = Context::none();

@@ -1,103 +1,25 @@
 //! Tests of contexts: what one filter refused is hidden from those that stand under it, and from nobody else.
-use crate::context::{Context, ContextMut};
-use crate::lookup::LookupSpan;
-use crate::registry::Registry;
-use crate::scope::{Scope, SpanRef};
-use crate::span_data::SpanData;
-use crate::subscriber::Subscriber;
-use crate::tag::Tag;
-use crate::tests::{LANE, value_of};
-use span_core::{
-    Attributes, Event, FieldSet, FilterId, Id, Kind, Level, Metadata, Pass, TraceError,
+use crate::fixture::{
+    Family, LANE, down, enter, event_at, family_in, name_of, names, open, parent_of, root, up,
+    value_of,
 };
-use std::alloc::{AllocError, Global};
+use span_core::{Event, FilterId, Id, Level, Pass, TraceError};
+use span_registry::{Context, ContextMut, LookupSpan, Registry, Subscriber, Tag};
+use std::alloc::Global;
 use std::test::Fail;
 
-fn metadata_of(name: &'static str, level: Level, kind: Kind) -> Metadata {
-    Metadata::new(1, name, "tests", level, kind, FieldSet::new(&[]))
-}
-
-/// Opens a span in a parent, or a root, and enters it. The filter, if there is one, refuses it.
-fn enter_new(
-    registry: &mut Registry,
-    name: &'static str,
-    parent: Option<Id>,
-    refusing: Option<FilterId>,
-) -> Result<Id, TraceError> {
-    let mut pass = Pass::new();
-    if let Some(filter) = refusing {
-        pass.set(filter, false);
+/// Opens a family of which one filter refuses the child, and enters all of it.
+fn enter_family(registry: &mut Registry, refusing: FilterId) -> Result<Family, TraceError> {
+    let family = family_in(registry, FilterId::none(), refusing)?;
+    for id in [family.root, family.child, family.leaf] {
+        enter(registry, id)?;
     }
-    let metadata = metadata_of(name, Level::INFO, Kind::SPAN);
-    let attributes = match parent {
-        Some(id) => Attributes::child_of(id, metadata, &[]),
-        None => Attributes::new_root(metadata, &[]),
-    };
-    let id = registry.new_span(LANE, &attributes, &pass)?;
-    registry.enter(LANE, id)?;
-    Ok(id)
-}
-
-/// Spans each in the one before, all of them entered. One filter refused the child alone.
-#[derive(Clone, Copy, Drop)]
-struct Family {
-    root: Id,
-    child: Id,
-    leaf: Id,
-}
-
-fn family_in(registry: &mut Registry, refusing: FilterId) -> Result<Family, TraceError> {
-    let root = enter_new(registry, "root", None, None)?;
-    let child = enter_new(registry, "child", Some(root), Some(refusing))?;
-    let leaf = enter_new(registry, "leaf", Some(child), None)?;
-    Ok(Family { root, child, leaf })
+    Ok(family)
 }
 
 /// An event in this span.
 fn event_in(id: Id) -> Event<'static> {
-    Event::new_child_of(id, metadata_of("event", Level::INFO, Kind::EVENT), &[])
-}
-
-fn name_of<S: LookupSpan>(found: Option<SpanRef<'_, S>>) -> Option<&'static str> {
-    match found {
-        Some(span) => Some(span.name()),
-        None => None,
-    }
-}
-
-/// The names of these spans, with a space behind each.
-fn names<S: LookupSpan>(alloc: Global, scope: Scope<'_, S>) -> Result<String, AllocError> {
-    let mut text = String::new(alloc);
-    for span in scope {
-        text.push_str(span.name())?;
-        text.push_str(" ")?;
-    }
-    Ok(text)
-}
-
-/// The same from the root on.
-fn names_from_root<S: LookupSpan>(
-    alloc: Global,
-    scope: Scope<'_, S>,
-) -> Result<String, TraceError> {
-    let mut text = String::new(alloc);
-    for span in scope.from_root(alloc)? {
-        text.push_str(span.name())?;
-        text.push_str(" ")?;
-    }
-    Ok(text)
-}
-
-/// The names of a span and of those round it, leaf first, as a context shows them.
-fn up<S: LookupSpan>(alloc: Global, ctx: &Context<'_, S>, id: Id) -> Result<String, Fail> {
-    let scope = ctx.span_scope(id).ok_or("no span")?;
-    Ok(names(alloc, scope)?)
-}
-
-/// The same, root first.
-fn down<S: LookupSpan>(alloc: Global, ctx: &Context<'_, S>, id: Id) -> Result<String, Fail> {
-    let scope = ctx.span_scope(id).ok_or("no span")?;
-    Ok(names_from_root(alloc, scope)?)
+    Event::new_child_of(id, event_at(Level::INFO), &[])
 }
 
 /// The names of an event's span and of those round it, leaf first, if a context shows that span.
@@ -123,17 +45,11 @@ fn current_of<S: LookupSpan>(ctx: &Context<'_, S>) -> Option<Id> {
     Some(span.id())
 }
 
-/// The name of a span's parent, if a context shows one.
-fn parent_of<S: LookupSpan>(ctx: &Context<'_, S>, id: Id) -> Option<&'static str> {
-    let span = ctx.span(id)?;
-    name_of(span.parent())
-}
-
 #[test]
 fn one_filter_hides_from_its_own_alone(rt: HostRuntime) -> Result<(), Fail> {
     let mut registry = Registry::new(rt.alloc());
     let info = registry.register_filter()?;
-    let Family { leaf, .. } = family_in(&mut registry, info)?;
+    let Family { leaf, .. } = enter_family(&mut registry, info)?;
     let all = Context::new(&registry, LANE);
     let filtered = all.with_filter(info);
     assert_eq!(rt; up(rt.alloc(), &all, leaf)?.as_str(), "leaf child root ");
@@ -147,7 +63,7 @@ fn one_filter_hides_from_its_own_alone(rt: HostRuntime) -> Result<(), Fail> {
 fn an_event_in_a_hidden_span_has_no_scope(rt: HostRuntime) -> Result<(), Fail> {
     let mut registry = Registry::new(rt.alloc());
     let info = registry.register_filter()?;
-    let Family { child, leaf, .. } = family_in(&mut registry, info)?;
+    let Family { child, leaf, .. } = enter_family(&mut registry, info)?;
     let filtered = Context::new(&registry, LANE).with_filter(info);
     let scope = up_of_event(rt.alloc(), &filtered, &event_in(leaf))?.ok_or("no leaf")?;
     assert_eq!(rt; scope.as_str(), "leaf root ");
@@ -159,7 +75,7 @@ fn an_event_in_a_hidden_span_has_no_scope(rt: HostRuntime) -> Result<(), Fail> {
 fn what_is_hidden_is_found_by_nobody_under_the_mask(rt: HostRuntime) -> Result<(), Fail> {
     let mut registry = Registry::new(rt.alloc());
     let info = registry.register_filter()?;
-    let Family { child, leaf, .. } = family_in(&mut registry, info)?;
+    let Family { child, leaf, .. } = enter_family(&mut registry, info)?;
     let all = Context::new(&registry, LANE);
     let filtered = all.with_filter(info);
     assert_eq!(rt; span_of(&all, &event_in(child)), Some("child"));
@@ -176,7 +92,7 @@ fn what_is_hidden_is_found_by_nobody_under_the_mask(rt: HostRuntime) -> Result<(
 fn what_a_filter_refused_is_not_enabled_for_it(rt: HostRuntime) -> Result<(), Fail> {
     let mut registry = Registry::new(rt.alloc());
     let info = registry.register_filter()?;
-    let Family { child, leaf, .. } = family_in(&mut registry, info)?;
+    let Family { child, leaf, .. } = enter_family(&mut registry, info)?;
     let all = Context::new(&registry, LANE);
     let filtered = all.with_filter(info);
     assert!(rt; filtered.is_enabled_for(leaf, info));
@@ -190,9 +106,9 @@ fn what_a_filter_refused_is_not_enabled_for_it(rt: HostRuntime) -> Result<(), Fa
 fn an_event_is_in_the_span_that_is_shown(rt: HostRuntime) -> Result<(), Fail> {
     let mut registry = Registry::new(rt.alloc());
     let info = registry.register_filter()?;
-    let Family { root, child, leaf } = family_in(&mut registry, info)?;
+    let Family { root, child, leaf } = enter_family(&mut registry, info)?;
     registry.exit(LANE, leaf);
-    let metadata = metadata_of("event", Level::INFO, Kind::EVENT);
+    let metadata = event_at(Level::INFO);
     let all = Context::new(&registry, LANE);
     let filtered = all.with_filter(info);
 
@@ -210,9 +126,10 @@ fn an_event_is_in_the_span_that_is_shown(rt: HostRuntime) -> Result<(), Fail> {
 #[test]
 fn without_a_subscriber_no_span_is_there(rt: HostRuntime) -> Result<(), Fail> {
     let nowhere: Context<'_, Registry> = Context::none();
-    let metadata = metadata_of("event", Level::INFO, Kind::EVENT);
+    let metadata = event_at(Level::INFO);
     let mut registry = Registry::new(rt.alloc());
-    let root = enter_new(&mut registry, "root", None, None)?;
+    let root = open(&mut registry, &root())?;
+    enter(&mut registry, root)?;
     assert_eq!(rt; nowhere.lane(), LANE);
     assert!(rt; !nowhere.exists(root));
     assert!(rt; nowhere.span(root).is_none());
@@ -238,7 +155,7 @@ fn write<S: LookupSpan>(
 fn a_hook_writes_what_it_sees(rt: HostRuntime) -> Result<(), Fail> {
     let mut registry = Registry::new(rt.alloc());
     let info = registry.register_filter()?;
-    let Family { child, leaf, .. } = family_in(&mut registry, info)?;
+    let Family { child, leaf, .. } = enter_family(&mut registry, info)?;
     let size = Tag::<u64>::new(0);
     let pass = Pass::new();
     let mut hook = ContextMut::new(&mut registry, LANE, &pass);
@@ -256,7 +173,7 @@ fn a_hook_writes_what_it_sees(rt: HostRuntime) -> Result<(), Fail> {
 fn a_hook_knows_what_its_filter_refused(rt: HostRuntime) -> Result<(), Fail> {
     let mut registry = Registry::new(rt.alloc());
     let info = registry.register_filter()?;
-    let Family { child, leaf, .. } = family_in(&mut registry, info)?;
+    let Family { child, leaf, .. } = enter_family(&mut registry, info)?;
     let mut pass = Pass::new();
     pass.set(info, false);
     let hook = ContextMut::new(&mut registry, LANE, &pass);
@@ -274,7 +191,7 @@ fn a_hook_knows_what_its_filter_refused(rt: HostRuntime) -> Result<(), Fail> {
 fn a_hook_may_be_without_its_registry(rt: HostRuntime) -> Result<(), Fail> {
     let mut registry = Registry::new(rt.alloc());
     let info = registry.register_filter()?;
-    let Family { leaf, .. } = family_in(&mut registry, info)?;
+    let Family { leaf, .. } = enter_family(&mut registry, info)?;
     let pass = Pass::new();
     let mut hook = ContextMut::new(&mut registry, LANE, &pass);
     hook.event(&event_in(leaf));

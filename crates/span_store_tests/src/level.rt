@@ -1,31 +1,20 @@
 //! Tests of filters whose level is set: which of them take one.
-use crate::boxed::{BoxedFilter, DynFilter};
-use crate::closure::{dynamic_filter_fn, filter_fn};
-use crate::combinator::FilterExt;
-use crate::filter::Filter;
-use span_core::{FieldSet, Kind, Level, LevelFilter, Metadata};
+use crate::fixture::{event_at, wants};
+use span_core::{Level, LevelFilter, Metadata};
+use span_filters::{BoxedFilter, DynFilter, Filter, FilterExt, dynamic_filter_fn, filter_fn};
 use span_registry::{Context, Registry};
 use std::process::Abort;
 use std::test::Fail;
-
-/// Whether a filter wants an event at this level where there is no subscriber.
-fn wants<F: Filter<Registry>>(filter: &F, level: Level) -> bool
-    requires { F.usable filter.now }
-{
-    let metadata = Metadata::new(1, "event", "tests", level, Kind::EVENT, FieldSet::new(&[]));
-    let nowhere: Context<'_, Registry> = Context::none();
-    filter.enabled(&metadata, &nowhere)
-}
 
 /// Sets the level of a filter that wants warnings, and no more, to info.
 fn takes_a_level<F: Filter<Registry>>(rt: &impl Abort, filter: &mut F)
     requires { F.usable filter.old }
     ensures { F.usable filter.new }
 {
-    assert!(rt; !wants(filter, Level::INFO));
+    assert!(rt; !wants(filter, event_at(Level::INFO)));
     assert!(rt; filter.set_level(LevelFilter::INFO));
-    assert!(rt; wants(filter, Level::INFO));
-    assert!(rt; !wants(filter, Level::DEBUG));
+    assert!(rt; wants(filter, event_at(Level::INFO)));
+    assert!(rt; !wants(filter, event_at(Level::DEBUG)));
 }
 
 /// Sets the level of a filter that takes none, and wants info, or doesn't, before and after.
@@ -33,11 +22,11 @@ fn takes_no_level<F: Filter<Registry>>(rt: &impl Abort, filter: &mut F, wanted: 
     requires { F.usable filter.old }
     ensures { F.usable filter.new }
 {
-    assert_eq!(rt; wants(filter, Level::INFO), wanted);
+    assert_eq!(rt; wants(filter, event_at(Level::INFO)), wanted);
     assert!(rt; !filter.set_level(LevelFilter::TRACE));
-    assert_eq!(rt; wants(filter, Level::INFO), wanted);
+    assert_eq!(rt; wants(filter, event_at(Level::INFO)), wanted);
     assert!(rt; !filter.set_level(LevelFilter::OFF));
-    assert_eq!(rt; wants(filter, Level::INFO), wanted);
+    assert_eq!(rt; wants(filter, event_at(Level::INFO)), wanted);
 }
 
 #[test]

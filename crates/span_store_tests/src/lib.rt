@@ -12,12 +12,22 @@ mod extension;
 #[cfg(test)]
 mod filter;
 #[cfg(test)]
+mod fixture;
+#[cfg(test)]
 mod level;
+#[cfg(test)]
+mod limit;
 #[cfg(test)]
 mod lookup;
 #[cfg(test)]
+mod metadata;
+#[cfg(test)]
+mod place;
+#[cfg(test)]
 mod registry;
 #[cfg(test)]
-mod slot;
+mod stack;
 #[cfg(test)]
 mod subscriber;
+#[cfg(test)]
+mod unknown_span;

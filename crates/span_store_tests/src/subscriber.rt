@@ -3,11 +3,11 @@ ghost use Rattle.std.specs.Prelude.{◌≡◌, IfOk, OnOk};
 ghost use Rattle.span_core.specs.Span.{number_of};
 ghost use Rattle.span_registry.specs.Store.{SameStacks, handles_of};
 
-use crate::{LookupSpan, Registry, Subscriber};
+use crate::fixture::{LANE, event_at, root, span_named};
 use span_core::{
-    Attributes, Event, FieldSet, Id, Interest, Kind, Lane, Level, LevelFilter, Metadata, Pass,
-    Record, TraceError,
+    Attributes, Event, Id, Interest, Lane, Level, LevelFilter, Pass, Record, TraceError,
 };
+use span_registry::{LookupSpan, Registry, Subscriber};
 use std::process::Abort;
 use std::test::Fail;
 
@@ -37,21 +37,16 @@ fn open_twice<S: Subscriber>(
     stack.clone_span(lane, id)
 }
 
-fn metadata(kind: Kind) -> Metadata {
-    Metadata::new(7, "request", "shop", Level::INFO, kind, FieldSet::new(&[]))
-}
-
 /// Asks a stack on which nothing was done yet every question.
 fn ask<S: Subscriber>(rt: &impl Abort, stack: &S) -> Result<(), Fail>
     requires { S.usable stack.now }
 {
-    let lane = Lane(0);
-    let meta = metadata(Kind::SPAN);
-    let event = Event::new(metadata(Kind::EVENT), &[]);
+    let meta = span_named("span");
+    let event = Event::new(event_at(Level::INFO), &[]);
     let mut pass = Pass::new();
     assert_eq!(rt; stack.register_callsite(&meta, &mut pass), Interest::Always);
-    assert!(rt; stack.enabled(lane, &meta, &mut pass));
-    assert!(rt; stack.event_enabled(lane, &event, &mut pass));
+    assert!(rt; stack.enabled(LANE, &meta, &mut pass));
+    assert!(rt; stack.event_enabled(LANE, &event, &mut pass));
     assert_eq!(rt; stack.max_level_hint(), None);
     assert!(rt; stack.is_registry());
     assert!(rt; !stack.is_filtered());
@@ -63,20 +58,19 @@ fn ask<S: Subscriber>(rt: &impl Abort, stack: &S) -> Result<(), Fail>
 fn notify<S: Subscriber>(rt: &impl Abort, stack: &mut S) -> Result<(), Fail>
     requires { S.usable stack.old }
 {
-    let lane = Lane(0);
-    let attrs = Attributes::new(metadata(Kind::SPAN), &[]);
+    let attrs = Attributes::new(span_named("span"), &[]);
     let pass = Pass::new();
     stack.on_register_dispatch();
-    let id = open_twice(stack, lane, &attrs, &pass)?;
-    stack.enter(lane, id)?;
-    assert_eq!(rt; stack.current_span(lane).id(), Some(id));
-    stack.record(lane, id, &Record::new(&[]));
-    stack.record_follows_from(lane, id, id);
-    stack.event(lane, &Event::new(metadata(Kind::EVENT), &[]), &pass);
-    stack.exit(lane, id);
-    assert!(rt; stack.current_span(lane).is_none());
-    enter_and_exit(stack, lane, id)?;
-    stack.close_hooks(lane, id);
+    let id = open_twice(stack, LANE, &attrs, &pass)?;
+    stack.enter(LANE, id)?;
+    assert_eq!(rt; stack.current_span(LANE).id(), Some(id));
+    stack.record(LANE, id, &Record::new(&[]));
+    stack.record_follows_from(LANE, id, id);
+    stack.event(LANE, &Event::new(event_at(Level::INFO), &[]), &pass);
+    stack.exit(LANE, id);
+    assert!(rt; stack.current_span(LANE).is_none());
+    enter_and_exit(stack, LANE, id)?;
+    stack.close_hooks(LANE, id);
     assert!(rt; !stack.set_level(0, LevelFilter::INFO));
     Ok(())
 }
@@ -85,11 +79,10 @@ fn notify<S: Subscriber>(rt: &impl Abort, stack: &mut S) -> Result<(), Fail>
 fn refuses_unknown<S: Subscriber>(rt: &impl Abort, stack: &mut S)
     requires { S.usable stack.old }
 {
-    let lane = Lane(0);
     let id = Id::from_u64(u64::MAX);
     let unknown = TraceError::UnknownSpan(id);
-    assert_eq!(rt; stack.enter(lane, id), Err(unknown));
-    assert_eq!(rt; stack.clone_span(lane, id), Err(unknown));
+    assert_eq!(rt; stack.enter(LANE, id), Err(unknown));
+    assert_eq!(rt; stack.clone_span(LANE, id), Err(unknown));
 }
 
 #[test]
@@ -104,7 +97,7 @@ fn a_registry_is_a_subscriber(rt: HostRuntime) -> Result<(), Fail> {
 #[test]
 fn callsites_under_filters(rt: HostRuntime) -> Result<(), Fail> {
     let mut registry = Registry::new(rt.alloc());
-    let meta = metadata(Kind::SPAN);
+    let meta = span_named("span");
     let mut pass = Pass::new();
     pass.add_interest(Interest::Never);
     assert_eq!(rt;

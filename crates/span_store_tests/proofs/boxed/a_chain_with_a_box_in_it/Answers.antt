@@ -1,6 +1,6 @@
 use Rattle.span_filters.proofs.CallerLemmas.{in_a_box}
-use Rattle.span_filters.proofs.boxed_tests.a_chain_with_a_box_in_it.OwnLists.{own-1, at-1-1}
-use Rattle.span_filters.proofs.boxed_tests.a_chain_with_a_box_in_it.Goals as goal
+use Rattle.span_store_tests.proofs.boxed.a_chain_with_a_box_in_it.OwnLists.{own-1, at-1-1}
+use Rattle.span_store_tests.proofs.boxed.a_chain_with_a_box_in_it.Goals as goal
 
 pub answers_of-said-requires : goal.answers_of-said-requires
 answers_of-said-requires g c = rw (c.or-chain.ensures.first, c.and.ensures.first, c.not.ensures, c.new-2.ensures) ((in_a_box own-1 at-1-1 (λ j f. j.1.dyn_usable f) c.into_dyn_box.ensures.1 tt, tt), tt)

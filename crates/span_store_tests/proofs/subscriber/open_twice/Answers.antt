@@ -4,8 +4,8 @@ use Rattle.span_core.specs.declared.span.Id.{Id}
 use Rattle.span_registry.proofs.CallerLemmas.{and_hooks}
 use Rattle.span_registry.specs.Step.{Clones, asked}
 use Rattle.span_registry.specs.Store.{RegistryState, handles_of}
-use Rattle.span_registry.proofs.EnterExit.{ok_both, two_handles}
-use Rattle.span_registry.proofs.subscriber_tests.open_twice.Goals as goal
+use Rattle.span_store_tests.proofs.Handles.{ok_both, two_handles}
+use Rattle.span_store_tests.proofs.subscriber.open_twice.Goals as goal
 
 pub returns-clause-handles : goal.returns-clause-handles
 returns-clause-handles g c =

@@ -1,13 +1,13 @@
 //! Tests of places that hold one span after another, and of ids that are never issued again.
 ghost use Rattle.std.specs.Prelude.{◌≤◌};
 
-use crate::tests::{LANE, clone_of, current, drop_handle, enter, insert, open, root, value_of};
-use crate::{Limits, LookupSpan, Registry, Subscriber, Tag};
+use crate::fixture::{LANE, clone_of, current, drop_handle, enter, insert, open, root, value_of};
 use span_core::{Id, TraceError};
+use span_registry::{Limits, LookupSpan, Registry, Subscriber, Tag};
 use std::alloc::Global;
-use std::process::Abort;
 use std::test::Fail;
 
+/// A registry of so many places, with as many spans one after the other in each.
 fn limited(alloc: Global, places: u32, generations: u32) -> Registry
     requires places { 1 ≤ places }
     requires generations { 1 ≤ generations }

@@ -1,0 +1,78 @@
+//! Tests of limits: counts, places and filters.
+use crate::fixture::{child_of, clone_of, drop_handle, open, root};
+use span_core::{FilterId, TraceError};
+use span_registry::{Limits, LookupSpan, Registry};
+use std::process::Abort;
+use std::test::Fail;
+
+/// Makes handles and children until there is no more room for one.
+fn fills_a_count(rt: &impl Abort, registry: &mut Registry) -> Result<(), Fail> {
+    assert!(rt; registry.is_fresh());
+    let p = open(registry, &root())?;
+    assert!(rt; !registry.is_fresh());
+    assert_eq!(rt; clone_of(registry, p), Ok(p));
+    assert_eq!(rt; clone_of(registry, p), Err(TraceError::CountFull(p)));
+    open(registry, &child_of(p))?;
+    open(registry, &child_of(p))?;
+    let third = open(registry, &child_of(p));
+    assert_eq!(rt; third, Err(TraceError::CountFull(p)));
+    assert_eq!(rt; registry.retired(), 0);
+    Ok(())
+}
+
+#[test]
+fn counts_are_limited(rt: HostRuntime) -> Result<(), Fail> {
+    let limits = Limits {
+        places: 10,
+        generations: 9,
+        count: 2,
+    };
+    fills_a_count(&rt, &mut Registry::with_limits(rt.alloc(), limits))
+}
+
+#[test]
+fn places_are_limited(rt: HostRuntime) -> Result<(), Fail> {
+    let limits = Limits {
+        places: 2,
+        generations: 9,
+        count: 9,
+    };
+    let mut registry = Registry::with_limits(rt.alloc(), limits);
+    let p = open(&mut registry, &root())?;
+    open(&mut registry, &root())?;
+    let third = open(&mut registry, &root());
+    assert_eq!(rt; third, Err(TraceError::TooManySpans));
+    assert_eq!(rt;
+        drop_handle(&mut registry, p, rt.alloc())?.as_slice(),
+        [p].as_slice()
+    );
+    assert!(rt; open(&mut registry, &root()).is_ok());
+    assert_eq!(rt; Limits::MAX.places, 4_294_967_295);
+    assert_eq!(rt; Limits::MAX.generations, 4_294_967_295);
+    assert_eq!(rt; Limits::MAX.count, 4_294_967_295);
+    Ok(())
+}
+
+#[test]
+fn filters_are_handed_out_in_order(rt: HostRuntime) -> Result<(), Fail> {
+    let mut registry = Registry::new(rt.alloc());
+    for number in 0..128 {
+        assert_eq!(rt; registry.filters(), number);
+        assert_eq!(rt; registry.register_filter(), Ok(FilterId::of(number)));
+    }
+    assert_eq!(rt; registry.register_filter(), Err(TraceError::TooManyFilters));
+    assert_eq!(rt; registry.filters(), 128);
+    Ok(())
+}
+
+#[test]
+fn a_65th_filter_has_the_number_64(rt: HostRuntime) -> Result<(), Fail> {
+    let mut registry = Registry::new(rt.alloc());
+    for _ in 0..64 {
+        registry.register_filter()?;
+    }
+    assert_eq!(rt; registry.filters(), 64);
+    assert_eq!(rt; registry.register_filter(), Ok(FilterId::of(64)));
+    assert_eq!(rt; registry.filters(), 65);
+    Ok(())
+}

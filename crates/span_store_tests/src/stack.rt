@@ -1,0 +1,66 @@
+//! Tests of lanes' stacks: duplicates, and spans that are left in any order.
+use crate::fixture::{LANE, current, enter, open, root};
+use span_core::Id;
+use span_registry::{Registry, SpanStack, Subscriber};
+use std::test::Fail;
+
+#[test]
+fn a_second_entry_is_a_duplicate(rt: HostRuntime) -> Result<(), Fail> {
+    let one = Id::from_u64(1);
+    let two = Id::from_u64(2);
+    let mut stack = SpanStack::new(rt.alloc());
+    for id in [one, two, one] {
+        stack.push(id)?;
+    }
+    assert_eq!(rt; stack.current(), Some(two));
+    assert!(rt; !stack.pop(one));
+    assert_eq!(rt; stack.current(), Some(two));
+    let mut spans = stack.iter();
+    assert_eq!(rt; spans.next(), Some(two));
+    assert_eq!(rt; spans.next(), Some(one));
+    assert_eq!(rt; spans.next(), None);
+    assert!(rt; stack.pop(one));
+    assert_eq!(rt; stack.current(), Some(two));
+    assert!(rt; !stack.pop(Id::from_u64(7)));
+    assert!(rt; stack.pop(two));
+    assert_eq!(rt; stack.current(), None);
+    Ok(())
+}
+
+#[test]
+fn ids_that_are_64_apart_are_no_duplicates(rt: HostRuntime) -> Result<(), Fail> {
+    let low = Id::from_u64(3);
+    let high = Id::from_u64(67);
+    let mut stack = SpanStack::new(rt.alloc());
+    for id in [low, high] {
+        stack.push(id)?;
+    }
+    assert_eq!(rt; stack.current(), Some(high));
+    assert!(rt; stack.pop(low));
+    stack.push(low)?;
+    assert_eq!(rt; stack.current(), Some(low));
+    stack.push(low)?;
+    assert!(rt; !stack.pop(low));
+    assert!(rt; stack.pop(low));
+    assert!(rt; !stack.pop(low));
+    assert!(rt; stack.pop(high));
+    assert_eq!(rt; stack.current(), None);
+    Ok(())
+}
+
+#[test]
+fn a_span_is_entered_1000_times(rt: HostRuntime) -> Result<(), Fail> {
+    let mut registry = Registry::new(rt.alloc());
+    let p = open(&mut registry, &root())?;
+    for _ in 0..1000 {
+        enter(&mut registry, p)?;
+    }
+    for _ in 0..999 {
+        registry.exit(LANE, p);
+        assert_eq!(rt; current(&registry), Some(p));
+    }
+    registry.exit(LANE, p);
+    assert_eq!(rt; current(&registry), None);
+    assert!(rt; registry.is_open(p));
+    Ok(())
+}
