@@ -1,6 +1,4 @@
 //! What several tests stand on: metadata, the calls of a registry, spans in one another, and what filters say.
-ghost use Rattle.std.specs.Prelude.{◌≡◌};
-
 use span_core::{
     Attributes, Event, FieldSet, FilterId, Id, Interest, Kind, Lane, Level, LevelFilter, Metadata,
     Pass, TraceError,
