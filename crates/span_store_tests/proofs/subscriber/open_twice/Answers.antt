@@ -3,7 +3,7 @@ use Rattle.span_core.specs.Span.{number_of}
 use Rattle.span_core.specs.declared.span.Id.{Id}
 use Rattle.span_registry.proofs.CallerLemmas.{and_hooks}
 use Rattle.span_registry.specs.Step.{Clones, asked}
-use Rattle.span_registry.specs.Store.{RegistryState, handles_of}
+use Rattle.span_registry.specs.Store.{handles_of}
 use Rattle.span_store_tests.proofs.Handles.{ok_both, two_handles}
 use Rattle.span_store_tests.proofs.subscriber.open_twice.Goals as goal
 
