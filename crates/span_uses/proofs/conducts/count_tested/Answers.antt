@@ -18,10 +18,10 @@ goes_by_level level m k e = ap (passes_level level) e.level
 
 pub put_filtered-requires-clause-answers : goal.put_filtered-requires-clause-answers
 put_filtered-requires-clause-answers c = (
-    test_answers (test_of c.args.level) None,
-    tested _ _ _ (test_of c.args.level) c.filter_fn-filter.ensures (λ m. (test_of c.args.level m, record { shown = record { ref_ptr = (0, 0); now = m }; shows = refl; says = record { met = refl } }))
-    (λ m r h. search rules) (goes_by_level c.args.level),
-  )
+  test_answers (test_of c.args.level) None,
+  tested _ _ _ (test_of c.args.level) c.filter_fn-filter.ensures (λ m. (test_of c.args.level m, record { shown = record { ref_ptr = (0, 0); now = m }; shows = refl; says = record { met = refl } }))
+      (λ m r h. search rules) (goes_by_level c.args.level),
+)
 
 pub returns-clause-counted : goal.returns-clause-counted
 returns-clause-counted c =
