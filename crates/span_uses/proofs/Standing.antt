@@ -1,7 +1,10 @@
 -- Honest stacks: that they are ready, and what a recorder in them keeps.
 use Rattle.std.proofs.Common.{arith, ◌≡◌, ◌∙◌, ◌+◌, ◌<◌, ◌≤◌, ℕ, List, [], ◌∷◌, true, Bool, Option, None, Some, Result, Ok, Err, IfOk, ap, map, refl, subst, sym}
 use Rattle.std.proofs.lemmas.List.{length-map}
-use Rattle.std.specs.Prelude.{IfSome, length}
+use Rattle.std.specs.FinMap.{get}
+use Rattle.std.specs.List.{find}
+use Rattle.std.specs.Option.{option_map, option_map_or}
+use Rattle.std.specs.Prelude.{IfSome, false, if◌then◌else◌, is_some, length, not}
 use Rattle.std.proofs.lemmas.Bool.{false≢true}
 use Rattle.span_core.specs.declared.filter.TheConstants.FilterId.{LIMIT}
 use Rattle.span_core.specs.declared.level.LevelFilter.{LevelFilter}
@@ -22,7 +25,7 @@ use Rattle.span_dispatch.specs.declared.request.Request.{Request}
 use Rattle.span_layers.proofs.CallerLemmas.{bare_stands, stands_on}
 use Rattle.span_layers.specs.Attach.{Attaches}
 use Rattle.span_layers.specs.Honest.{IsHonestStack}
-use Rattle.span_filters.specs.Closure.{AnswersAll, Computes, GoesByWhatShows, HasTestAnswers, RefusesAbove, TestsBy, test_answers}
+use Rattle.span_filters.specs.Closure.{AnswersAll, Computes, GoesByWhatShows, HasTestAnswers, RefusesAbove, TestsBy, interest_under, test_answers, view_answers}
 use Rattle.span_filters.specs.declared.closure.FilterFn.{FilterFn}
 use Rattle.span_filters.specs.Filter.{FilterLaws, FilterSteps}
 use Rattle.span_layers.specs.Filtered.{IsNumber, IsUnnumbered, id_of}
@@ -37,7 +40,7 @@ use Rattle.span_layers.specs.declared.layered.Layered.{Layered}
 use Rattle.span_registry.proofs.CallerLemmas.{settled_new}
 use Rattle.span_registry.proofs.Agreeing.{agree_refl}
 use Rattle.span_registry.specs.Agree.{AgreeAt}
-use Rattle.span_registry.specs.Answers.{Answers, AreHonest, Conduct}
+use Rattle.span_registry.specs.Answers.{Answers, AreAlike, AreHonest, ArePlain, Conduct, unextended}
 use Rattle.span_registry.specs.Conducts.{Conducts, numbers_in}
 use Rattle.span_registry.specs.Closes.{IsSettled}
 use Rattle.span_registry.specs.Form.{Bare, Base, End, Filtered, Form, InList, Leaf, OnSubscriber, Over}
@@ -45,11 +48,13 @@ use Rattle.span_registry.specs.Hooks.{StackSteps}
 use Rattle.span_registry.specs.Levels.{LevelSteps}
 use Rattle.span_registry.specs.Place.{Heard, Here, Outer, Place, Under}
 use Rattle.span_registry.specs.Store.{RegistryState, Store, empty_store, new_registry}
+use Rattle.span_registry.specs.LaneStack.{without_duplicates}
+use Rattle.span_registry.specs.View.{SeenSpan, SeenSpans, View, current_among, current_shown}
 use Rattle.span_registry.specs.declared.limits.Limits.{Limits}
 use Rattle.span_uses.proofs.Recorded.{keeps_all}
 use Rattle.span_uses.specs.Chain.{AnswersReady, OpensAndDrops}
 use Rattle.span_uses.specs.Isolation.{WithAnswers}
-use Rattle.span_uses.specs.Kinds.{CountsUnder, IsCounted, IsFit, IsReadyNow, RecordsAlone, RecordsUnder, ServesReady, UnderFilter, WillRecord, recorder_under}
+use Rattle.span_uses.specs.Kinds.{CountsUnder, IsCounted, IsFit, IsReadyNow, RecordsAlone, RecordsUnder, ServesReady, UnderFilter, WillRecord, in_a_span, recorder_under}
 
 -- an honest stack on a registry without spans is ready
 pub is_ready : {S : Type 0} {registry : S → RegistryState} {with_registry : S → RegistryState → S} {has_form : S → Form → Type 0} {stepped : StackSteps S} {levelled : LevelSteps S} (f : Form) (n : ℕ) (x : S)
@@ -216,3 +221,30 @@ counts_under s b requests done o r c =
     counted_by : (q : Kept) (heard : Heard) (p : Option ℕ) → Records new_recorder q (map kept_notice heard) → IsCounted q p → IfSome p (λ n. n ≡ length heard)
     counted_by q heard None kept counted = tt
     counted_by q heard (Some n) kept counted = counted.1 ∙ ap length (keeps_all q (map kept_notice heard) kept counted.0) ∙ length-map heard kept_notice
+
+-- ---- under a closure that asks for the current span
+
+module _ (m n : SeenSpans) (same : (x : ℕ) → option_map unextended (get m x) ≡ option_map unextended (get n x)) where
+  shown_so : (o p : Option SeenSpan) → option_map unextended o ≡ option_map unextended p → option_map_or (λ r. not r.hidden) o false ≡ option_map_or (λ r. not r.hidden) p false
+  shown_so None None h = refl
+  shown_so None (Some q) h = let no : ⊥ = cc in absurd no
+  shown_so (Some r) None h = let no : ⊥ = cc in absurd no
+  shown_so (Some r) (Some q) h = ap (λ (o : Option SeenSpan). option_map_or (λ r. not r.hidden) o false) h
+
+  there_so : (o p : Option SeenSpan) → option_map unextended o ≡ option_map unextended p → is_some o ≡ is_some p
+  there_so None None h = refl
+  there_so None (Some q) h = let no : ⊥ = cc in absurd no
+  there_so (Some r) None h = let no : ⊥ = cc in absurd no
+  there_so (Some r) (Some q) h = refl
+
+  current_so : (xs : List ℕ) → current_among m xs ≡ current_among n xs
+  current_so [] = refl
+  current_so (x ∷ xs) = λ i. if there_so (get m x) (get n x) (same x) i then find (λ y. shown_so (get m y) (get n y) (same y) i) (x ∷ xs) else None
+
+-- views that differ in extensions alone show the same current span
+current_alike : (v w : View) → AreAlike v w → current_shown v ≡ current_shown w
+current_alike v w h = current_so v.spans w.spans h.spans (without_duplicates v.stack) ∙ ap (λ xs. current_among w.spans (without_duplicates xs)) h.stack
+
+-- so its answers are plain
+pub in_span_plain : ArePlain (view_answers in_a_span (interest_under None) None)
+in_span_plain = record { enabled = λ m v w e. ap is_some (current_alike v w e); event = λ e v w d. refl }

@@ -1,8 +1,9 @@
 -- Stacks that are honest and ready, whatever kind of layer or filter stands in them, and what a recorder there keeps.
-use Rattle.std.specs.Prelude.{◌≡◌, ◌≤◌, ℕ, List, [], ◌∷◌, Option, Some, IfSome, false, length, map}
+use Rattle.std.specs.Prelude.{◌≡◌, ◌≤◌, ℕ, List, [], ◌∷◌, Bool, Option, Some, IfSome, false, is_some, length, map}
 use Rattle.std.specs.declared.alloc.Global.{Global}
 use Rattle.std.specs.declared.vec.Vec.{Vec}
 use Rattle.span_core.specs.declared.filter.TheConstants.FilterId.{LIMIT}
+use Rattle.span_core.specs.declared.metadata.Metadata.{Metadata}
 use Rattle.span_dispatch.specs.Alone.{Alone, seen}
 use Rattle.span_dispatch.specs.Contract.{SubscriberOf}
 use Rattle.span_dispatch.specs.Outcome.{Outcome}
@@ -22,6 +23,7 @@ use Rattle.span_registry.specs.Conducts.{Conducts}
 use Rattle.span_registry.specs.Form.{Form}
 use Rattle.span_registry.specs.Place.{Heard, Here, Outer, Place, Under}
 use Rattle.span_registry.specs.Store.{RegistryState, empty_store}
+use Rattle.span_registry.specs.View.{View, current_shown}
 use Rattle.span_uses.specs.Isolation.{WithAnswers}
 
 -- the stack is honest, by some form, on a registry without spans
@@ -100,3 +102,7 @@ pub record CountsUnder (b : Conduct) (requests : List Request) (told : Vec Answe
   pub say : SayOutcomes empty_store requests told.0.items outcomes
   pub alone : Alone ((Some 0, b) ∷ []) empty_store outcomes heard
   pub count : IfSome told.1 (λ n. n ≡ length heard)
+
+-- whether the lane is in a span that is shown, whatever the metadata
+abbrev pub in_a_span : Metadata → View → Bool
+in_a_span m v = is_some (current_shown v)

@@ -2,19 +2,20 @@
 ghost use Rattle.std.specs.Prelude.{◌≡◌, None, IfErr, IfOk};
 ghost use Rattle.span_core.specs.Level.{passes_level};
 ghost use Rattle.span_core.specs.Metadata.{level_of};
-ghost use Rattle.span_filters.specs.Closure.{test_answers};
+ghost use Rattle.span_filters.specs.Closure.{interest_under, test_answers, view_answers};
 ghost use Rattle.span_filters.specs.Combinator.{and_answers, not_answers, or_answers};
 ghost use Rattle.span_filters.specs.Level.{level_conduct};
 ghost use Rattle.span_registry.specs.Answers.{Answers};
-ghost use Rattle.span_uses.specs.Kinds.{CountsUnder, IsCounted, RecordsUnder, StandsSomehow, WillRecordUnder, both_conduct, one_conduct};
+ghost use Rattle.span_registry.specs.Context.{view_in};
+ghost use Rattle.span_uses.specs.Kinds.{CountsUnder, IsCounted, RecordsUnder, StandsSomehow, WillRecordUnder, both_conduct, in_a_span, one_conduct};
 
 use crate::isolation::WithAnswers;
 use crate::kinds::serve_new;
 use span_core::{LevelFilter, Metadata, TraceError};
 use span_dispatch::{Answer, Recorder, Request};
-use span_filters::{And, Filter, FilterExt, Not, Or, filter_fn, laws};
+use span_filters::{And, Filter, FilterExt, Not, Or, dynamic_filter_fn, filter_fn, laws};
 use span_layers::{Filtered, LayerExt, Layered, SubscriberExt};
-use span_registry::{Registry, Subscriber};
+use span_registry::{Context, Registry, Subscriber};
 use std::alloc::Global;
 
 /// A recorder under a filter, on a registry.
@@ -121,6 +122,26 @@ pub fn count_tested(
         { level.passes(meta.level()) },
     );
     laws::tests_are_plain::<Registry, _>(&filter);
+    let stack = put_filtered(alloc, filter)?;
+    let (dispatch, answers) = serve_new(alloc, stack, requests)?;
+    let counted = count(dispatch.stack().layer().inner());
+    Ok((answers, counted))
+}
+
+/// Under a closure that asks for the current span: how many notices the recorder keeps of what comes in a span.
+pub fn count_in_span(
+    alloc: Global,
+    requests: &[Request<'_>],
+) -> Result<(Vec<Answer>, Option<usize>), TraceError>
+    ensures counted { IfOk result (CountsUnder (λ h. view_answers in_a_span (interest_under None) None) requests.now) }
+    ensures memory { IfErr result (λ e. e ≡ TraceError.OutOfMemory) }
+{
+    let filter = dynamic_filter_fn(
+        move |_meta: &Metadata, cx: &Context<'_, Registry>| -> bool
+            ensures { result ≡ in_a_span _meta.now (view_in (λ s. s) cx.entry.now) }
+        { cx.lookup_current().is_some() },
+    );
+    laws::view_tests_may_be_plain::<Registry, _, _>(&filter);
     let stack = put_filtered(alloc, filter)?;
     let (dispatch, answers) = serve_new(alloc, stack, requests)?;
     let counted = count(dispatch.stack().layer().inner());
