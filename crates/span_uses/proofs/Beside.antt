@@ -14,22 +14,20 @@ use Rattle.span_dispatch.specs.declared.request.Answer.{Answer}
 use Rattle.span_dispatch.specs.declared.request.Request.{Request}
 use Rattle.span_filters.specs.Filter.{settled_answers, unmoved}
 use Rattle.span_filters.specs.Level.{ActsByLevel, level_answers, level_conduct, level_honest, level_plain, level_taken}
-use Rattle.span_layers.specs.Levels.{FilteredLevels, LayeredLevels}
 use Rattle.span_registry.specs.Levels.{LevelSteps, unlevelled}
-use Rattle.span_layers.specs.Acts.{FilteredActs, LayeredActs, LeafActs}
-use Rattle.span_layers.specs.Filtered.{FilteredForm, FilteredHears, FilteredSteps, IsNumber, IsUnnumbered, filter_of, id_of, layer_of}
-use Rattle.span_layers.specs.Honest.{IsHonestStack}
+use Rattle.span_layers.proofs.CallerLemmas.{bare_stands, stands_on}
+use Rattle.span_layers.specs.Acts.{LeafActs}
+use Rattle.span_layers.specs.Attach.{Attaches}
+use Rattle.span_layers.specs.Filtered.{IsNumber, IsUnnumbered, filter_of, id_of, layer_of}
 use Rattle.span_layers.specs.Layer.{HearsBy, LayerSteps}
-use Rattle.span_layers.specs.Layered.{LayeredHears, LayeredSteps, OverForm, inner_of, outer_of, with_inner}
+use Rattle.span_layers.specs.Layered.{inner_of, outer_of, with_inner}
 use Rattle.span_layers.specs.Number.{TakesNumbers, filters_in}
 use Rattle.span_layers.specs.Observe.{open_answers}
-use Rattle.span_layers.specs.Verdict.{HasOwnNumbers, NumbersStayOwn}
+use Rattle.span_layers.specs.Stands.{IsHonestLayer, Stands, another, bare_form, bare_hears, bare_steps, filtered_acts, filtered_form, filtered_hears, filtered_levels, filtered_steps, itself, registry_on, stack_acts, stack_form, stack_hears, stack_levels, stack_steps}
+use Rattle.span_layers.specs.Verdict.{NumbersStayOwn}
 use Rattle.span_layers.specs.declared.filtered.Filtered.{Filtered as FilteredLayer}
 use Rattle.span_layers.specs.declared.layered.Layered.{Layered}
 use Rattle.span_registry.proofs.Agreeing.{agree_refl}
-use Rattle.span_registry.proofs.CallerLemmas.{settled_new}
-use Rattle.span_registry.specs.Answers.{AreHonest}
-use Rattle.span_registry.specs.Closes.{IsSettled}
 use Rattle.span_registry.specs.Conducts.{ActsAt, Conducts, no_conducts, numbers_in}
 use Rattle.span_registry.specs.Form.{Bare, Base, Filtered, Form, Leaf, OnSubscriber, Over}
 use Rattle.span_registry.specs.Hooks.{StackSteps}
@@ -39,6 +37,7 @@ use Rattle.span_registry.specs.Store.{RegistryState, Store, empty_store, new_reg
 use Rattle.span_registry.specs.declared.limits.Limits.{Limits}
 use Rattle.span_uses.proofs.Level.{has_room, leaf_under, took}
 use Rattle.span_uses.proofs.Recorded.{keeps_all}
+use Rattle.span_uses.proofs.Standing.{is_ready, open_honest, open_quiet}
 use Rattle.span_uses.specs.Dispatches.{Recorded, recorder_of}
 use Rattle.span_uses.specs.Isolation.{WithAnswers, Beside, IsNewUnder, KeepTheSame, ServesFirst, WentThroughTheSame, inner_recorder_of, made_first}
 
@@ -49,69 +48,35 @@ abbrev pub Levelled : Type 0
 Levelled = FilteredLayer Kept LevelFilter
 
 abbrev pub levelled_form : Levelled → Form → Type 0
-levelled_form x = FilteredForm (id_of x) (settled_answers level_answers (filter_of x)) (λ f. f ≡ Leaf true open_answers)
+levelled_form = filtered_form (settled_answers level_answers) (λ r f. f ≡ Leaf true open_answers)
 
 abbrev levelled_steps : LayerSteps Levelled
-levelled_steps x p e lane under v y w = (id_of y ≡ id_of x) × FilteredSteps unmoved recorder_steps (id_of x) (filter_of x) (layer_of x) p e lane under v (filter_of y) (layer_of y) w
+levelled_steps = filtered_steps unmoved recorder_steps
 
 abbrev levelled_hears : HearSteps Levelled
-levelled_hears x place h y = FilteredHears (HearsBy recorder_steps) (layer_of x) place h (layer_of y)
+levelled_hears = filtered_hears (HearsBy recorder_steps)
 
 abbrev levelled_acts : ActsAt Levelled
-levelled_acts x = FilteredActs (id_of x) (ActsByLevel (filter_of x)) LeafActs (layer_of x)
+levelled_acts = filtered_acts ActsByLevel LeafActs
 
 abbrev levelled_levels : LevelSteps Levelled
-levelled_levels x n l y = (id_of y ≡ id_of x) × FilteredLevels level_taken unlevelled (id_of x) (filter_of x) (layer_of x) n l (filter_of y) (layer_of y)
-
--- a stack with one on it
-abbrev On : Type 0 → Type 0
-On I = Layered Levelled I
-
-abbrev on_form : {I : Type 0} → (I → Form → Type 0) → On I → Form → Type 0
-on_form form x = OverForm OnSubscriber (levelled_form (outer_of x)) (form (inner_of x))
-
-abbrev on_steps : {I : Type 0} → (I → RegistryState → I) → StackSteps I → StackSteps (On I)
-on_steps with_registry steps x p e lane v y w = LayeredSteps with_registry levelled_steps steps (outer_of x) (inner_of x) p e lane v (outer_of y) (inner_of y) w
-
-abbrev on_hears : {I : Type 0} → HearSteps I → HearSteps (On I)
-on_hears hears x place h y = LayeredHears levelled_hears hears (outer_of x) (inner_of x) place h (outer_of y) (inner_of y)
-
-abbrev on_levels : {I : Type 0} → LevelSteps I → LevelSteps (On I)
-on_levels levels x n l y = LayeredLevels levelled_levels levels (outer_of x) (inner_of x) n l (outer_of y) (inner_of y)
-
-abbrev on_acts : {I : Type 0} → ActsAt I → ActsAt (On I)
-on_acts acts x = LayeredActs levelled_acts acts (outer_of x) (inner_of x)
-
-abbrev itself : RegistryState → RegistryState
-itself s = s
-
-abbrev another : RegistryState → RegistryState → RegistryState
-another s w = w
-
-abbrev bare_form : RegistryState → Form → Type 0
-bare_form s f = f ≡ Bare Base
-
-abbrev bare_steps : StackSteps RegistryState
-bare_steps x p e lane v y w = w ≡ v
-
-abbrev bare_hears : HearSteps RegistryState
-bare_hears x place h y = ⊤
+levelled_levels = filtered_levels level_taken unlevelled
 
 -- the first stack
 abbrev form_1 : Recorded → Form → Type 0
-form_1 = on_form bare_form
+form_1 = stack_form levelled_form bare_form
 
 abbrev steps_1 : StackSteps Recorded
-steps_1 = on_steps another bare_steps
+steps_1 = stack_steps another levelled_steps bare_steps
 
 abbrev levels_1 : LevelSteps Recorded
-levels_1 = on_levels unlevelled
+levels_1 = stack_levels levelled_levels unlevelled
 
 abbrev hears_1 : HearSteps Recorded
-hears_1 = on_hears bare_hears
+hears_1 = stack_hears levelled_hears bare_hears
 
 abbrev acts_1 : ActsAt Recorded
-acts_1 = on_acts no_conducts
+acts_1 = stack_acts levelled_acts no_conducts
 
 -- the second
 abbrev registry_2 : Beside → RegistryState
@@ -121,28 +86,21 @@ abbrev with_registry_2 : Beside → RegistryState → Beside
 with_registry_2 x w = with_inner x (with_inner (inner_of x) w)
 
 abbrev form_2 : Beside → Form → Type 0
-form_2 = on_form form_1
+form_2 = stack_form levelled_form form_1
 
 abbrev steps_2 : StackSteps Beside
-steps_2 = on_steps with_inner steps_1
+steps_2 = stack_steps with_inner levelled_steps steps_1
 
 abbrev levels_2 : LevelSteps Beside
-levels_2 = on_levels levels_1
+levels_2 = stack_levels levelled_levels levels_1
 
 abbrev hears_2 : HearSteps Beside
-hears_2 = on_hears hears_1
+hears_2 = stack_hears levelled_hears hears_1
 
 abbrev acts_2 : ActsAt Beside
-acts_2 = on_acts acts_1
+acts_2 = stack_acts levelled_acts acts_1
 
 -- ---- at first
-
--- a stack of this form, honest, on a registry without spans that handed out this many filters
-pub record Stands {S : Type 0} (registry : S → RegistryState) (has_form : S → Form → Type 0) (f : Form) (n : ℕ) (x : S) : Type 0 where
-  pub has : has_form x f
-  pub rules : IsHonestStack f n
-  pub filters : (registry x).filters ≡ n
-  pub empty : (registry x).store ≡ empty_store
 
 -- a new recorder under this level, whose filter has this number
 pub record IsNumbered (level : LevelFilter) (n : ℕ) (x : Levelled) : Type 0 where
@@ -153,69 +111,39 @@ pub record IsNumbered (level : LevelFilter) (n : ℕ) (x : Levelled) : Type 0 wh
 abbrev form_on : LevelFilter → ℕ → Form → Form
 form_on level n f = Over OnSubscriber (Filtered (Some n) (level_answers level) (Leaf true open_answers)) f
 
-open_honest : AreHonest open_answers
-open_honest = record { always = λ m v e. refl; never = λ m v e. absurd (cc); above = λ m v e. absurd (false≢true e); alike = λ m k e. refl }
-
-honest_on : (level : LevelFilter) (n : ℕ) (f : Form) → HasOwnNumbers (form_on level n f) (n + 1) → IsHonestStack f n → IsHonestStack (form_on level n f) (n + 1)
-honest_on level n f own h = record {
-  answers = ((level_honest level, open_honest), h.answers);
-  numbers = own;
-  orderly = (record { enabled = λ m v. refl; event = λ e v. refl }, h.orderly);
-  still = (refl, h.still);
-  stack = h.stack;
-}
-
--- a new registry stands so
-pub bare_stands : (l : Limits) (s : RegistryState) → s ≡ new_registry l → Stands itself bare_form (Bare Base) 0 s
-bare_stands l s new = record {
-  has = refl;
-  rules = record { answers = tt; numbers = record { distinct = tt; handed_out = λ k e. absurd (false≢true e) }; orderly = tt; still = tt; stack = refl };
-  filters = ap (λ (t : RegistryState). t.filters) new;
-  empty = ap (λ (t : RegistryState). t.store) new;
-}
+-- a recorder under a level keeps a stack honest
+level_layer : (level : LevelFilter) → IsHonestLayer (leaf_under (level_answers level))
+level_layer level = record { answers = (level_honest level, open_honest); orderly = open_quiet; still = refl; full = refl }
 
 module _ {I : Type 0} (registry : I → RegistryState) (with_registry : I → RegistryState → I) (has_form : I → Form → Type 0) (shows : (i : I) (w : RegistryState) → registry (with_registry i w) ≡ w) (keeps : (i : I) (w : RegistryState) (f : Form) → has_form i f → has_form (with_registry i w) f) where
   -- what comes of a stack that a recorder under a level was put on
-  pub record PutOn (level : LevelFilter) (f : Form) (n : ℕ) (i : I) (x : On I) : Type 0 where
-    pub stands : Stands (λ y. registry (inner_of y)) (on_form has_form) (form_on level n f) (n + 1) x
+  pub record PutOn (level : LevelFilter) (f : Form) (n : ℕ) (i : I) (x : Layered Levelled I) : Type 0 where
+    pub stands : Stands (registry_on registry) (stack_form levelled_form has_form) (form_on level n f) (n + 1) x
     pub outer : IsNumbered level n (outer_of x)
     pub below : inner_of x ≡ with_registry i (record (registry i) { filters = (registry (inner_of x)).filters })
 
   -- it took the next number
-  pub put_on : NumbersStayOwn → (level : LevelFilter) (f : Form) (n : ℕ) (i : I) (recorder : Kept) (u : Levelled) (x : On I) → Stands registry has_form f n i → recorder ≡ new_recorder → IsUnnumbered u recorder level
+  pub put_on : NumbersStayOwn → (level : LevelFilter) (f : Form) (n : ℕ) (i : I) (recorder : Kept) (u : Levelled) (x : Layered Levelled I) → Stands registry has_form f n i → recorder ≡ new_recorder → IsUnnumbered u recorder level
       → TakesNumbers registry with_registry levelled_form u i (outer_of x) (inner_of x) → ((g : Form) → levelled_form u g → (registry i).filters + filters_in g ≤ LIMIT)
       → (filter_of (outer_of x) ≡ filter_of u) × (layer_of (outer_of x) ≡ layer_of u) → PutOn level f n i x
   put_on law level f n i recorder u x stands new unnumbered numbers room attached =
       let a = level_answers level in
-      let g = leaf_under a in
-      let has : levelled_form u g = (unnumbered.id, ap level_answers (sym unnumbered.own), refl) in
-      let r : n + 1 ≤ LIMIT = subst (λ k. k + 1 ≤ LIMIT) stands.filters (room g has) in
-      let formed = subst (λ k. levelled_form (outer_of x) (took a k (nat_lt k LIMIT)).0) stands.filters (numbers.form g has) in
-      let form = subst (λ b. levelled_form (outer_of x) (took a n b).0) (has_room n r) formed in
-      let counted = subst (λ k. (registry (inner_of x)).filters ≡ (took a k (nat_lt k LIMIT)).1) stands.filters (numbers.next g has) in
-      let next = subst (λ b. (registry (inner_of x)).filters ≡ (took a n b).1) (has_room n r) counted in
-      let own = subst (λ b. HasOwnNumbers (Over OnSubscriber (took a n b).0 f) (took a n b).1) (has_room n r) ((law g n r).stack f stands.rules.numbers) in
+      let has : levelled_form u (leaf_under a) = (unnumbered.id, ap level_answers (sym unnumbered.own), refl) in
+      let r : n + 1 ≤ LIMIT = subst (λ k. k + 1 ≤ LIMIT) stands.filters (room (leaf_under a) has) in
+      let put : Attaches registry with_registry (λ j. ⊤) (λ y. ⊤) levelled_form (λ y z. (filter_of z ≡ filter_of y) × (layer_of z ≡ layer_of y)) u i x =
+      record { numbers = numbers; room = room; layer_as_it_was = attached; outer = tt; inner = tt } in
+      let stood = stands_on law shows keeps (leaf_under a) f n u i x has (level_layer level) stands put in
+      let there = subst (λ b. Stands (registry_on registry) (stack_form levelled_form has_form) (Over OnSubscriber (took a n b).0 f) (took a n b).1 x) (has_room n r) stood in
       record {
-        stands = record {
-          has = (refl, form, subst (λ j. has_form j f) (sym numbers.alone) (keeps i _ f stands.has));
-          rules = honest_on level n f own stands.rules;
-          filters = next;
-          empty = ap (λ j. (registry j).store) numbers.alone ∙ ap (λ (t : RegistryState). t.store) (shows i _) ∙ stands.empty;
-        };
-        outer = record { number = form.0; new = record { own = attached.0 ∙ unnumbered.own; inner = attached.1 ∙ unnumbered.inner ∙ new } };
+        stands = there;
+        outer = record { number = there.has.1.0; new = record { own = attached.0 ∙ unnumbered.own; inner = attached.1 ∙ unnumbered.inner ∙ new } };
         below = numbers.alone;
       }
 
 module _ {S : Type 0} (registry : S → RegistryState) (with_registry : S → RegistryState → S) (has_form : S → Form → Type 0) (stepped : StackSteps S) (levelled : LevelSteps S) where
   -- what stands so is ready
   pub ready : (f : Form) (n : ℕ) (x : S) → Stands registry has_form f n x → (g : Form) × IsReady registry with_registry has_form stepped levelled g x
-  ready f n x h = (
-    f,
-    record {
-      honest = record { has = h.has; rules = subst (λ k. IsHonestStack f k) (sym h.filters) h.rules };
-      settled = subst IsSettled (sym (ap (λ (s : Store). s.spans) h.empty)) (settled_new (registry x).limits);
-    },
-  )
+  ready f n x h = (f, is_ready f n x h)
 
 -- ---- both runs
 
