@@ -33,16 +33,18 @@ use Rattle.span_dispatch.specs.declared.request.Request.{Request}
 use Rattle.span_dispatch.specs.declared.request.WhichParent.{WhichParent}
 use Rattle.span_filters.specs.Filter.{settled_answers, unmoved}
 use Rattle.span_filters.specs.Level.{level_answers, level_honest, level_taken}
-use Rattle.span_layers.specs.Levels.{FilteredLevels, LayeredLevels}
 use Rattle.span_registry.specs.Levels.{LevelSteps, unlevelled}
-use Rattle.span_layers.specs.Filtered.{FilteredForm, FilteredHears, FilteredSteps, Hooked, IsNumber, IsUnnumbered, filter_of, id_of, layer_of}
+use Rattle.span_layers.specs.Filtered.{FilteredSteps, Hooked, IsNumber, IsUnnumbered, filter_of, id_of, layer_of}
+use Rattle.span_layers.proofs.CallerLemmas.{bare_stands, stands_on}
+use Rattle.span_layers.specs.Attach.{Attaches}
 use Rattle.span_layers.specs.Honest.{IsHonestStack}
 use Rattle.span_layers.specs.Layer.{HearsBy, LayerSteps}
-use Rattle.span_layers.specs.Layered.{LayeredHears, LayeredSteps, OverForm, inner_of, outer_of, with_inner}
+use Rattle.span_layers.specs.Layered.{inner_of, outer_of, with_inner}
 use Rattle.span_layers.specs.Number.{TakesNumbers, filters_in}
 use Rattle.span_layers.specs.Observe.{open_answers}
+use Rattle.span_layers.specs.Stands.{IsHonestLayer, another, bare_form, bare_hears, bare_steps, filtered_form, filtered_hears, filtered_levels, filtered_steps, itself, stack_form, stack_hears, stack_levels, stack_steps}
 use Rattle.span_registry.specs.Path.{path_at}
-use Rattle.span_layers.specs.Verdict.{HasOwnNumbers, NumbersStayOwn, vetoes}
+use Rattle.span_layers.specs.Verdict.{NumbersStayOwn, vetoes}
 use Rattle.span_layers.specs.declared.filtered.Filtered.{Filtered as FilteredLayer}
 use Rattle.span_registry.proofs.CallerLemmas.{settled_new}
 use Rattle.span_registry.specs.Answers.{AreHonest, Notice, OnClose, OnEnter, OnEvent, OnExit, OnFollows, OnIdChange, OnNewSpan, OnRecord}
@@ -52,9 +54,9 @@ use Rattle.span_registry.specs.Form.{Bare, Base, Filtered, Form, Leaf, OnSubscri
 use Rattle.span_registry.specs.Hooks.{StackSteps}
 use Rattle.span_registry.specs.Place.{HearSteps, Here, Outer, Place, Told, Under, told_in}
 use Rattle.span_registry.specs.Plan.{Itself, Nobody, Through}
-use Rattle.span_registry.specs.Store.{RegistryState, new_registry}
+use Rattle.span_registry.specs.Store.{RegistryState, Store, new_registry}
 use Rattle.span_registry.specs.declared.limits.Limits.{Limits}
-use Rattle.span_uses.proofs.Level.{has_room, leaf_under, took}
+use Rattle.span_uses.proofs.Level.{leaf_under}
 use Rattle.span_uses.specs.Dispatches.{IsMadeOrRefused, KeepsWhatPasses, Recorded, kept_event, kept_of, kept_span, recorder_of}
 
 -- ---- this form
@@ -64,25 +66,25 @@ abbrev pub form_of : LevelFilter → ℕ → Form
 form_of level n = Over OnSubscriber (Filtered (Some n) (level_answers level) (Leaf true open_answers)) (Bare Base)
 
 abbrev UnderLevel : FilteredLayer Kept LevelFilter → Form → Type 0
-UnderLevel x = FilteredForm (id_of x) (settled_answers level_answers (filter_of x)) (λ f. f ≡ Leaf true open_answers)
+UnderLevel = filtered_form (settled_answers level_answers) (λ r f. f ≡ Leaf true open_answers)
 
 abbrev pub HasForm : Recorded → Form → Type 0
-HasForm x = OverForm OnSubscriber (UnderLevel (outer_of x)) (λ f. f ≡ Bare Base)
+HasForm = stack_form UnderLevel bare_form
 
 -- how its parts go on, as their types say
 abbrev under_level : LayerSteps (FilteredLayer Kept LevelFilter)
-under_level x p e lane under v y w = (id_of y ≡ id_of x) × FilteredSteps unmoved recorder_steps (id_of x) (filter_of x) (layer_of x) p e lane under v (filter_of y) (layer_of y) w
+under_level = filtered_steps unmoved recorder_steps
 
-abbrev pub stack_steps : StackSteps Recorded
-stack_steps x p e lane v y w = LayeredSteps (λ (s t : RegistryState). t) under_level (λ x p e lane v y w. w ≡ v) (outer_of x) (inner_of x) p e lane v (outer_of y) (inner_of y) w
+abbrev pub recorded_steps : StackSteps Recorded
+recorded_steps = stack_steps another under_level bare_steps
 
 -- and where a level is set
-abbrev pub stack_levels : LevelSteps Recorded
-stack_levels x n l y = LayeredLevels (λ a m k b. (id_of b ≡ id_of a) × FilteredLevels level_taken unlevelled (id_of a) (filter_of a) (layer_of a) m k (filter_of b) (layer_of b)) unlevelled (outer_of x) (inner_of x) n l (outer_of y) (inner_of y)
+abbrev pub recorded_levels : LevelSteps Recorded
+recorded_levels = stack_levels (filtered_levels level_taken unlevelled) unlevelled
 
 -- what its leaf hears
-abbrev pub stack_hears : HearSteps Recorded
-stack_hears x p h y = LayeredHears (λ (a : FilteredLayer Kept LevelFilter) q k b. FilteredHears (HearsBy recorder_steps) (layer_of a) q k (layer_of b)) (λ (i : RegistryState) q k j. ⊤) (outer_of x) (inner_of x) p h (outer_of y) (inner_of y)
+abbrev pub recorded_hears : HearSteps Recorded
+recorded_hears = stack_hears (filtered_hears (HearsBy recorder_steps)) bare_hears
 
 -- where the recorder stands
 abbrev pub place : Place
@@ -130,10 +132,10 @@ IsNoLevel (LevelSet n l) = ⊥
 IsNoLevel o = ⊤
 
 -- whatever is made of the stack, unless its level is set, its filter stays
-goes_under : (level : LevelFilter) (f : Form) (o : Outcome) (x y : Recorded) → IsNoLevel o → IsUnder level (outer_of x) → HasForm x f → GoesOn inner_of with_inner HasForm stack_steps stack_levels f o x y → IsUnder level (outer_of y)
+goes_under : (level : LevelFilter) (f : Form) (o : Outcome) (x y : Recorded) → IsNoLevel o → IsUnder level (outer_of x) → HasForm x f → GoesOn inner_of with_inner HasForm recorded_steps recorded_levels f o x y → IsUnder level (outer_of y)
 goes_under level f (Noticed lane e) x y none u has n =
     let form = formed level x f u has in
-    let goes = subst (λ g. GoesOn inner_of with_inner HasForm stack_steps stack_levels g (Noticed lane e) x y) form.1 n in
+    let goes = subst (λ g. GoesOn inner_of with_inner HasForm recorded_steps recorded_levels g (Noticed lane e) x y) form.1 n in
     let outer = goes.layers.second in
     stays_under level (outer_of x) (outer_of y) (ap (λ (z : Recorded). id_of (outer_of z)) goes.rest ∙ outer.0)
     (ap (λ (z : Recorded). filter_of (outer_of z)) goes.rest ∙ filter_stays _ e (outer_of x) (outer_of goes.notified) lane.0 _ _ _ outer.1) u
@@ -164,7 +166,7 @@ pub record Keeps (level : LevelFilter) (due : List KeptNotice) (made : List Made
   pub under : IsUnder level (outer_of y)
 
 abbrev MakesOne : Recorded → Made → Recorded → Type 0
-MakesOne = Makes inner_of with_inner HasForm stack_steps stack_levels
+MakesOne = Makes inner_of with_inner HasForm recorded_steps recorded_levels
 
 kept_new : (level : LevelFilter) (lane : Lane) (m : Metadata) (x : Recorded) → IsUnder level (outer_of x) → (id : Id) (attrs : Attributes) (one : Made) (z : Recorded) → metadata_of attrs ≡ m → one.outcome ≡ Noticed lane (OnNewSpan attrs id) → MakesOne x one z
     → Keeps level (kept_span level lane m (answer.Made id)) (one ∷ []) z
@@ -187,7 +189,7 @@ kept_sent level lane m x u e one z same is made =
     }
 
 abbrev ServesOne : List Answer → Request → Recorded → Answer → List Made → Memory → Recorded → Type 0
-ServesOne past r x a made after y = ServesRequest inner_of with_inner HasForm stack_steps stack_levels past r None x a made after y
+ServesOne past r x a made after y = ServesRequest inner_of with_inner HasForm recorded_steps recorded_levels past r None x a made after y
 
 -- nobody in this stack vetoes
 never_vetoed : (level : LevelFilter) (x : Recorded) (f : Form) (m : Metadata) (lane : Lane) → IsUnder level (outer_of x) → HasForm x f → vetoes f m (inner_of x).store lane.0 ≡ true → ⊥
@@ -203,7 +205,7 @@ never_vetoed_whole level x f e lane u has h =
 keeps_span : (level : LevelFilter) (past : List Answer) (lane : Lane) (m : Metadata) (p : WhichParent) (values : _) (x : Recorded) (a : Answer) (made : List Made) (after : Memory) (y : Recorded) → IsUnder level (outer_of x)
     → ServesOne past (request.NewSpan lane m p values) x a made after y → IsMadeOrRefused a × Keeps level (kept_span level lane m a) made y × (after ≡ None)
 keeps_span level past lane m p values x a made after y u h =
-    span_served inner_of with_inner HasForm stack_steps stack_levels past lane m p values None x a made after y (λ b ms k z. IsMadeOrRefused b × Keeps level (kept_span level lane m b) ms z × (k ≡ None))
+    span_served inner_of with_inner HasForm recorded_steps recorded_levels past lane m p values None x a made after y (λ b ms k z. IsMadeOrRefused b × Keeps level (kept_span level lane m b) ms z × (k ≡ None))
     (λ id attrs f one k z asks keeps is made. (tt, kept_new level lane m x u id attrs one z (span_asked past lane lane m p values attrs asks).1 is made, keeps))
     (λ attrs f k asks ready dropped keeps. absurd (never_vetoed level x f (metadata_of attrs) lane u ready.honest.has (vetoed_unkept f (inner_of x) lane (metadata_of attrs) _ dropped)))
     (λ attrs e f k asks refused keeps. (tt, record { keeps = refl; under = u }, unkept_still f (metadata_of attrs) e k keeps)) h
@@ -211,7 +213,7 @@ keeps_span level past lane m p values x a made after y u h =
 keeps_event : (level : LevelFilter) (past : List Answer) (lane : Lane) (m : Metadata) (p : WhichParent) (values : _) (x : Recorded) (a : Answer) (made : List Made) (after : Memory) (y : Recorded) → IsUnder level (outer_of x)
     → ServesOne past (request.Event lane m p values) x a made after y → (a ≡ answer.Done) × Keeps level (kept_event level lane m) made y × (after ≡ None)
 keeps_event level past lane m p values x a made after y u h =
-    event_served inner_of with_inner HasForm stack_steps stack_levels past lane m p values None x a made after y (λ b ms k z. (b ≡ answer.Done) × Keeps level (kept_event level lane m) ms z × (k ≡ None))
+    event_served inner_of with_inner HasForm recorded_steps recorded_levels past lane m p values None x a made after y (λ b ms k z. (b ≡ answer.Done) × Keeps level (kept_event level lane m) ms z × (k ≡ None))
     (λ e f one k z asks keeps is made. (refl, kept_sent level lane m x u e one z (event_asked past lane lane m p values e asks).1 is made, keeps))
     (λ e f k asks ready dropped keeps. absurd (never_vetoed_whole level x f e lane u ready.honest.has (vetoed_unkept f (inner_of x) lane (event_metadata e) _ dropped)))
     (λ e error f k asks unknown keeps. absurd (known_unkept f (event_metadata e) error unknown)) h
@@ -229,79 +231,64 @@ three_kept ms ns os a b c f g h =
     kept_append ms (ns ++ (os ++ [])) ∙ (λ j. f j ++ (kept_append ns (os ++ []) ∙ (λ i. g i ++ (ap kept_from (append-nil os) ∙ h) i)) j)
 
 pub keeps_three : (level : LevelFilter) (lane : Lane) (outer inner event : Metadata) (p q r : WhichParent) (us vs ws : _) (x : Recorded) (after : Memory) (y : Recorded) (answers : List Answer) (made : List (List Made)) → IsUnder level (outer_of x)
-    → Run inner_of with_inner HasForm stack_steps stack_levels [] (request.NewSpan lane outer p us ∷ request.NewSpan lane inner q vs ∷ request.Event lane event r ws ∷ []) answers made None x after y → KeepsThree level lane outer inner event answers made
+    → Run inner_of with_inner HasForm recorded_steps recorded_levels [] (request.NewSpan lane outer p us ∷ request.NewSpan lane inner q vs ∷ request.Event lane event r ws ∷ []) answers made None x after y → KeepsThree level lane outer inner event answers made
 keeps_three level lane outer inner event p q r us vs ws x after y answers made u =
     let second = request.NewSpan lane inner q vs in
     let third = request.Event lane event r ws in
-    next_served inner_of with_inner HasForm stack_steps stack_levels [] (request.NewSpan lane outer p us) (second ∷ third ∷ []) answers made None x after y (KeepsThree level lane outer inner event)
+    next_served inner_of with_inner HasForm recorded_steps recorded_levels [] (request.NewSpan lane outer p us) (second ∷ third ∷ []) answers made None x after y (KeepsThree level lane outer inner event)
     (λ a others ms rest i z s.
     let one = keeps_span level [] lane outer p us x a ms i z u s in
-    next_served inner_of with_inner HasForm stack_steps stack_levels (a ∷ []) second (third ∷ []) others rest i z after y (λ bs nss. KeepsThree level lane outer inner event (a ∷ bs) (ms ∷ nss))
+    next_served inner_of with_inner HasForm recorded_steps recorded_levels (a ∷ []) second (third ∷ []) others rest i z after y (λ bs nss. KeepsThree level lane outer inner event (a ∷ bs) (ms ∷ nss))
     (λ b more ns last j w t.
-    let two = keeps_span level (a ∷ []) lane inner q vs z b ns j w one.1.under (subst (λ k. ServesRequest inner_of with_inner HasForm stack_steps stack_levels (a ∷ []) second k z b ns j w) one.2 t) in
-    next_served inner_of with_inner HasForm stack_steps stack_levels (a ∷ b ∷ []) third [] more last j w after y (λ cs oss. KeepsThree level lane outer inner event (a ∷ b ∷ cs) (ms ∷ ns ∷ oss))
+    let two = keeps_span level (a ∷ []) lane inner q vs z b ns j w one.1.under (subst (λ k. ServesRequest inner_of with_inner HasForm recorded_steps recorded_levels (a ∷ []) second k z b ns j w) one.2 t) in
+    next_served inner_of with_inner HasForm recorded_steps recorded_levels (a ∷ b ∷ []) third [] more last j w after y (λ cs oss. KeepsThree level lane outer inner event (a ∷ b ∷ cs) (ms ∷ ns ∷ oss))
     (λ c none os end l v k.
-    let three = keeps_event level (a ∷ b ∷ []) lane event r ws w c os l v two.1.under (subst (λ n. ServesRequest inner_of with_inner HasForm stack_steps stack_levels (a ∷ b ∷ []) third n w c os l v) two.2 k) in
-    none_served inner_of with_inner HasForm stack_steps stack_levels (a ∷ b ∷ c ∷ []) none end l v after y (λ ds pss. KeepsThree level lane outer inner event (a ∷ b ∷ c ∷ ds) (ms ∷ ns ∷ os ∷ pss))
+    let three = keeps_event level (a ∷ b ∷ []) lane event r ws w c os l v two.1.under (subst (λ n. ServesRequest inner_of with_inner HasForm recorded_steps recorded_levels (a ∷ b ∷ []) third n w c os l v) two.2 k) in
+    none_served inner_of with_inner HasForm recorded_steps recorded_levels (a ∷ b ∷ c ∷ []) none end l v after y (λ ds pss. KeepsThree level lane outer inner event (a ∷ b ∷ c ∷ ds) (ms ∷ ns ∷ os ∷ pss))
     (record { first = a; second = b; answered = (λ n. a ∷ b ∷ three.0 n ∷ []); spans = (one.0, two.0); keeps = three_kept ms ns os _ _ _ one.1.keeps two.1.keeps three.1.keeps }))))
 
 -- ---- at first
 
 -- a new recorder under a level, on an empty registry
 pub record Starts (level : LevelFilter) (x : Recorded) : Type 0 where
-  pub ready : (f : Form) × IsReady inner_of with_inner HasForm stack_steps stack_levels f x
+  pub ready : (f : Form) × IsReady inner_of with_inner HasForm recorded_steps recorded_levels f x
   pub under : IsUnder level (outer_of x)
   pub empty : layer_of (outer_of x) ≡ new_recorder
 
--- a leaf that wants everything is honest, and refuses nothing
-open_honest : AreHonest open_answers
+-- a leaf that wants everything answers honestly
+pub open_honest : AreHonest open_answers
 open_honest = record { always = λ m v e. refl; never = λ m v e. absurd (cc); above = λ m v e. absurd (false≢true e); alike = λ m k e. refl }
 
-honest_stack : (level : LevelFilter) (n : ℕ) → HasOwnNumbers (form_of level n) (n + 1) → IsHonestStack (form_of level n) (n + 1)
-honest_stack level n own = record {
-  answers = ((level_honest level, open_honest), tt);
-  numbers = own;
-  orderly = (record { enabled = λ m v. refl; event = λ e v. refl }, tt);
-  still = (refl, tt);
-  stack = refl;
-}
-
-base_own : (n : ℕ) → HasOwnNumbers (Bare Base) n
-base_own n = record { distinct = tt; handed_out = λ k e. absurd (false≢true e) }
+-- and so does such a leaf under a level
+level_layer : (level : LevelFilter) → IsHonestLayer (leaf_under (level_answers level))
+level_layer level = record { answers = (level_honest level, open_honest); orderly = record { enabled = λ m v. refl; event = λ e v. refl }; still = refl; full = refl }
 
 -- it was put on that registry, and took the next number
 pub starts : NumbersStayOwn → (level : LevelFilter) (l : Limits) (s : RegistryState) (recorder : Kept) (u : FilteredLayer Kept LevelFilter) (x : Recorded) → s ≡ new_registry l → recorder ≡ new_recorder → IsUnnumbered u recorder level
     → TakesNumbers (λ (t : RegistryState). t) (λ (t w : RegistryState). w) UnderLevel u s (outer_of x) (inner_of x) → ((f : Form) → UnderLevel u f → s.filters + filters_in f ≤ LIMIT) → (filter_of (outer_of x) ≡ filter_of u) × (layer_of (outer_of x) ≡ layer_of u) → Starts level x
 starts law level l s recorder u x new empty unnumbered numbers room attached =
-    let a = level_answers (filter_of u) in
-    let f = leaf_under a in
-    let n = s.filters in
-    let has : UnderLevel u f = (unnumbered.id, refl, refl) in
-    let r : n + 1 ≤ LIMIT = room f has in
-    let form = subst (λ b. UnderLevel (outer_of x) (took a n b).0) (has_room n r) (numbers.form f has) in
-    let next = subst (λ b. (inner_of x).filters ≡ (took a n b).1) (has_room n r) (numbers.next f has) in
-    let own = subst (λ b. HasOwnNumbers (Over OnSubscriber (took a n b).0 (Bare Base)) (took a n b).1) (has_room n r) ((law f n r).stack (Bare Base) (base_own n)) in
-    let spans = ap (λ (t : RegistryState). t.store.spans) numbers.alone ∙ ap (λ (t : RegistryState). t.store.spans) new in
+    let level_now = filter_of u in
+    let g = leaf_under (level_answers level_now) in
+    let put : Attaches itself another (λ t. ⊤) (λ y. ⊤) UnderLevel (λ y z. (filter_of z ≡ filter_of y) × (layer_of z ≡ layer_of y)) u s x = record { numbers = numbers; room = room; layer_as_it_was = attached; outer = tt; inner = tt } in
+    let stood = stands_on law (λ t w. refl) (λ t w f h. h) g (Bare Base) 0 u s x (unnumbered.id, refl, refl) (level_layer level_now) (bare_stands l s new) put in
     record {
       ready = (
-        form_of (filter_of u) n,
+        form_of level_now 0,
         record {
-          honest = record { has = (refl, form, refl); rules = subst (λ k. IsHonestStack (form_of (filter_of u) n) k) (sym next) (honest_stack (filter_of u) n own) };
-          settled = subst IsSettled (sym spans) (settled_new l);
+          honest = record { has = stood.has; rules = subst (IsHonestStack (form_of level_now 0)) (sym stood.filters) stood.rules };
+          settled = subst IsSettled (sym (ap (λ (t : Store). t.spans) stood.empty)) (settled_new l);
         },
       );
-      under = record { number = (n, form.0); own = attached.0 ∙ unnumbered.own };
+      under = record { number = (0, stood.has.1.0); own = attached.0 ∙ unnumbered.own };
       empty = attached.1 ∙ unnumbered.inner ∙ empty;
     }
 
 -- on an empty registry its filter took the number 0
 pub starts_first : (law : NumbersStayOwn) → (level : LevelFilter) (l : Limits) (s : RegistryState) (recorder : Kept) (u : FilteredLayer Kept LevelFilter) (x : Recorded) → s ≡ new_registry l → recorder ≡ new_recorder → IsUnnumbered u recorder level
     → TakesNumbers (λ (t : RegistryState). t) (λ (t w : RegistryState). w) UnderLevel u s (outer_of x) (inner_of x) → ((f : Form) → UnderLevel u f → s.filters + filters_in f ≤ LIMIT) → (filter_of (outer_of x) ≡ filter_of u) × (layer_of (outer_of x) ≡ layer_of u)
-    → IsReady inner_of with_inner HasForm stack_steps stack_levels (form_of (filter_of u) 0) x
+    → IsReady inner_of with_inner HasForm recorded_steps recorded_levels (form_of (filter_of u) 0) x
 unfolding starts
-starts_first law level l s recorder u x new empty unnumbered numbers room attached =
-    let none : s.filters ≡ 0 = ap (λ (t : RegistryState). t.filters) new in
-    subst (λ n. IsReady inner_of with_inner HasForm stack_steps stack_levels (form_of (filter_of u) n) x) none (starts law level l s recorder u x new empty unnumbered numbers room attached).ready.1
+starts_first law level l s recorder u x new empty unnumbered numbers room attached = (starts law level l s recorder u x new empty unnumbered numbers room attached).ready.1
 
 -- an empty registry has room for it
 pub has_room_at_first : (l : Limits) (s : RegistryState) (level : LevelFilter) (recorder : Kept) (u : FilteredLayer Kept LevelFilter) → s ≡ new_registry l → IsUnnumbered u recorder level → ((f : Form) → UnderLevel u f → LIMIT < s.filters + filters_in f) → ⊥
@@ -311,7 +298,7 @@ has_room_at_first l s level recorder u new unnumbered full =
     omega (arith, none, more)
 
 -- a dispatcher puts it in use
-pub in_use : (level : LevelFilter) (x y : Recorded) → Starts level x → ((f : Form) × IsReady inner_of with_inner HasForm stack_steps stack_levels f x → (f : Form) × IsReady inner_of with_inner HasForm stack_steps stack_levels f y)
+pub in_use : (level : LevelFilter) (x y : Recorded) → Starts level x → ((f : Form) × IsReady inner_of with_inner HasForm recorded_steps recorded_levels f x → (f : Form) × IsReady inner_of with_inner HasForm recorded_steps recorded_levels f y)
     → (id_of (outer_of y) ≡ id_of (outer_of x)) × (filter_of (outer_of y) ≡ filter_of (outer_of x)) × (layer_of (outer_of y) ≡ layer_of (outer_of x)) → Starts level y
 in_use level x y h ready same = record { ready = ready h.ready; under = stays_under level (outer_of x) (outer_of y) same.0 same.1 h.under; empty = same.2 ∙ h.empty }
 
@@ -321,11 +308,11 @@ keeps_all r due h f = h.kept ∙ sym (h.split ∙ ap (λ (us : List KeptNotice).
 
 -- two spans and an event were served by a new stack
 pub served_three : {acts_at : ActsAt Recorded} (level : LevelFilter) (lane : Lane) (outer inner event : Metadata) (p q r : WhichParent) (us vs ws : _) (old : Dispatch Recorded) (done : Dispatch Recorded × Vec Answer Global) → Starts level (stack_of old) → kept_by old ≡ None
-    → Served inner_of with_inner HasForm stack_steps stack_levels stack_hears acts_at (request.NewSpan lane outer p us ∷ request.NewSpan lane inner q vs ∷ request.Event lane event r ws ∷ []) done.1.items old done.0 → KeepsWhatPasses level lane outer inner event done
+    → Served inner_of with_inner HasForm recorded_steps recorded_levels recorded_hears acts_at (request.NewSpan lane outer p us ∷ request.NewSpan lane inner q vs ∷ request.Event lane event r ws ∷ []) done.1.items old done.0 → KeepsWhatPasses level lane outer inner event done
 served_three level lane outer inner event p q r us vs ws old done new kept served =
     let x = stack_of old in
     let requests = request.NewSpan lane outer p us ∷ request.NewSpan lane inner q vs ∷ request.Event lane event r ws ∷ [] in
-    let run = subst (λ k. Run inner_of with_inner HasForm stack_steps stack_levels [] requests done.1.items served.made k x (kept_by done.0) (stack_of done.0)) kept served.run in
+    let run = subst (λ k. Run inner_of with_inner HasForm recorded_steps recorded_levels [] requests done.1.items served.made k x (kept_by done.0) (stack_of done.0)) kept served.run in
     let three = keeps_three level lane outer inner event p q r us vs ws x (kept_by done.0) (stack_of done.0) done.1.items served.made new.under run in
     let heard : Records (layer_of (outer_of x)) (recorder_of done.0) (kept_from (flat served.made)) = heard_records _ _ _ (served.each place) in
     let due = subst (λ h. Records new_recorder (recorder_of done.0) h) three.keeps (subst (λ k. Records k (recorder_of done.0) (kept_from (flat served.made))) new.empty heard) in

@@ -19,15 +19,15 @@ use Rattle.span_registry.specs.Conducts.{filter_numbered}
 use Rattle.span_registry.specs.Follows.{Keeps}
 use Rattle.span_registry.specs.Form.{Bare, Filtered, Form, Leaf, Over}
 use Rattle.span_registry.specs.Levels.{KeepsRules, kept_rules, rules_again, takes_level, unlevelled}
-use Rattle.span_uses.proofs.Recorded.{HasForm, form_of, stack_levels, stack_steps}
+use Rattle.span_uses.proofs.Recorded.{HasForm, form_of, recorded_levels, recorded_steps}
 use Rattle.span_uses.specs.Dispatches.{Recorded}
 use Rattle.span_uses.specs.Reload.{IsSetTo}
 
 abbrev ReadyBy : Form → Dispatch Recorded → Type 0
-ReadyBy f d = IsReadyBy inner_of with_inner HasForm stack_steps stack_levels f d
+ReadyBy f d = IsReadyBy inner_of with_inner HasForm recorded_steps recorded_levels f d
 
 abbrev ReadyAfter : (Form → Form → Type 0) → Form → Dispatch Recorded → Type 0
-ReadyAfter keeps f d = IsReadyAfter inner_of with_inner HasForm stack_steps stack_levels keeps f d
+ReadyAfter keeps f d = IsReadyAfter inner_of with_inner HasForm recorded_steps recorded_levels keeps f d
 
 -- ready, by a form in which its filter has the number 0
 pub record IsReadyFirst (d : Dispatch Recorded) : Type 0 where
@@ -37,8 +37,8 @@ pub record IsReadyFirst (d : Dispatch Recorded) : Type 0 where
   pub rules : KeepsRules (form_of level 0) form
 
 -- so is a dispatcher that such a stack was put in
-pub ready_first : (level : LevelFilter) (x : Recorded) (d : Dispatch Recorded) → IsReady inner_of with_inner HasForm stack_steps stack_levels (form_of level 0) x
-    → ((f : Form) → IsReady inner_of with_inner HasForm stack_steps stack_levels f x → ReadyAfter Keeps f d) → IsReadyFirst d
+pub ready_first : (level : LevelFilter) (x : Recorded) (d : Dispatch Recorded) → IsReady inner_of with_inner HasForm recorded_steps recorded_levels (form_of level 0) x
+    → ((f : Form) → IsReady inner_of with_inner HasForm recorded_steps recorded_levels f x → ReadyAfter Keeps f d) → IsReadyFirst d
 ready_first level x d ready step = let r = step (form_of level 0) ready in record { level = level; form = r.0; ready = r.1; rules = kept_rules (form_of level 0) r.0 r.2 }
 
 -- and so it stays, where what a form keeps includes its rules
@@ -62,7 +62,7 @@ takes level l x (Bare v) keeps has = absurd has
 
 -- so it is never refused
 pub never_refused : (d e : Dispatch Recorded) (l : LevelFilter) (error : TraceError) → IsReadyFirst d → error ≡ NotSettable 0
-    → ((f : Form) → IsHonest inner_of with_inner HasForm stack_steps stack_levels f (stack_of d) → KeepsUpToDate f (inner_of (stack_of d)).filters d → ServesCall inner_of with_inner HasForm stack_steps stack_levels (SetLevel 0 l) f (Refused error) d e) → ⊥
+    → ((f : Form) → IsHonest inner_of with_inner HasForm recorded_steps recorded_levels f (stack_of d) → KeepsUpToDate f (inner_of (stack_of d)).filters d → ServesCall inner_of with_inner HasForm recorded_steps recorded_levels (SetLevel 0 l) f (Refused error) d e) → ⊥
 never_refused d e l error h same served =
     let answered = served h.form h.ready.stack.honest h.ready.kept in
     let refused : RefusesLevel h.form 0 l (NotSettable 0) = subst (λ r. RefusesLevel h.form 0 l r) same answered.1.comes.0 in
@@ -70,7 +70,7 @@ never_refused d e l error h same served =
     true≢false (sym taken.0 ∙ refused.1)
 
 -- and its level is set
-pub is_set : (d e : Dispatch Recorded) (l : LevelFilter) → IsReadyFirst d → stack_levels (stack_of d) 0 l (stack_of e) → IsSetTo l d e
+pub is_set : (d e : Dispatch Recorded) (l : LevelFilter) → IsReadyFirst d → recorded_levels (stack_of d) 0 l (stack_of e) → IsSetTo l d e
 is_set d e l h steps =
     let x = outer_of (stack_of d) in
     let y = outer_of (stack_of e) in
