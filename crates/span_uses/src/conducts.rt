@@ -13,7 +13,9 @@ use crate::isolation::WithAnswers;
 use crate::kinds::serve_new;
 use span_core::{LevelFilter, Metadata, TraceError};
 use span_dispatch::{Answer, Recorder, Request};
-use span_filters::{And, Filter, FilterExt, Not, Or, dynamic_filter_fn, filter_fn, laws};
+use span_filters::{
+    And, BoxedFilter, DynFilter, Filter, FilterExt, Not, Or, dynamic_filter_fn, filter_fn, laws,
+};
 use span_layers::{Filtered, LayerExt, Layered, SubscriberExt};
 use span_registry::{Context, Registry, Subscriber};
 use std::alloc::Global;
@@ -142,6 +144,23 @@ pub fn count_in_span(
         { cx.lookup_current().is_some() },
     );
     laws::view_tests_may_be_plain::<Registry, _, _>(&filter);
+    let stack = put_filtered(alloc, filter)?;
+    let (dispatch, answers) = serve_new(alloc, stack, requests)?;
+    let counted = count(dispatch.stack().layer().inner());
+    Ok((answers, counted))
+}
+
+/// Under a level in a box: how many notices the recorder keeps.
+pub fn count_boxed(
+    alloc: Global,
+    level: LevelFilter,
+    requests: &[Request<'_>],
+) -> Result<(Vec<Answer>, Option<usize>), TraceError>
+    ensures counted { IfOk result (CountsUnder (level_conduct level) requests.now) }
+    ensures memory { IfErr result (λ e. e ≡ TraceError.OutOfMemory) }
+{
+    let object: Box<dyn DynFilter + Send> = Box::new(alloc, level)?;
+    let filter = BoxedFilter::new(object);
     let stack = put_filtered(alloc, filter)?;
     let (dispatch, answers) = serve_new(alloc, stack, requests)?;
     let counted = count(dispatch.stack().layer().inner());
