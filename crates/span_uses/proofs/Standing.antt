@@ -54,7 +54,7 @@ use Rattle.span_registry.specs.declared.limits.Limits.{Limits}
 use Rattle.span_uses.proofs.Recorded.{keeps_all}
 use Rattle.span_uses.specs.Chain.{AnswersReady, OpensAndDrops}
 use Rattle.span_uses.specs.Isolation.{WithAnswers}
-use Rattle.span_uses.specs.Kinds.{CountsUnder, IsCounted, IsFit, IsReadyNow, RecordsAlone, RecordsUnder, ServesReady, UnderFilter, WillRecord, in_a_span, recorder_under}
+use Rattle.span_uses.specs.Kinds.{CountsAlone, CountsUnder, IsCounted, IsFit, IsReadyNow, RecordsAlone, RecordsUnder, ServesReady, UnderFilter, WillRecord, in_a_span, recorder_under}
 
 -- an honest stack on a registry without spans is ready
 pub is_ready : {S : Type 0} {registry : S → RegistryState} {with_registry : S → RegistryState → S} {has_form : S → Form → Type 0} {stepped : StackSteps S} {levelled : LevelSteps S} (f : Form) (n : ℕ) (x : S)
@@ -206,21 +206,24 @@ tested gives f g test made all computes shown = record {
 }
 
 -- what was recorded, by its number
-pub counts_under : {F : Type 0} (s : SubscriberOf (UnderFilter F)) (b : Conduct) (requests : List Request) (done : WithAnswers (UnderFilter F)) (o : Option ℕ) → RecordsUnder s b requests done
-    → IsCounted (recorder_under (stack_of done.0)) o → CountsUnder b requests (done.1, o)
-counts_under s b requests done o r c =
-    let heard = seen (Outer (Under Here)) (flat r.serves.served.made) in
+pub counts_alone : {S : Type 0} (s : SubscriberOf S) (place : Place) (recorder : S → Kept) (cs : Conducts) (requests : List Request) (done : WithAnswers S) (o : Option ℕ) → RecordsAlone s place recorder cs requests done
+    → IsCounted (recorder (stack_of done.0)) o → CountsAlone cs requests (done.1, o)
+counts_alone s place recorder cs requests done o r c =
+    let heard = seen place (flat r.serves.served.made) in
     record {
       outcomes = map outcome_of (flat r.serves.served.made);
       heard = heard;
       say = subst (λ (t : Store). SayOutcomes t requests done.1.items (map outcome_of (flat r.serves.served.made))) r.serves.empty r.serves.served.calls;
       alone = r.alone;
-      count = counted_by (recorder_under (stack_of done.0)) heard o r.kept c;
+      count = counted_by (recorder (stack_of done.0)) heard o r.kept c;
     }
   where
     counted_by : (q : Kept) (heard : Heard) (p : Option ℕ) → Records new_recorder q (map kept_notice heard) → IsCounted q p → IfSome p (λ n. n ≡ length heard)
     counted_by q heard None kept counted = tt
     counted_by q heard (Some n) kept counted = counted.1 ∙ ap length (keeps_all q (map kept_notice heard) kept counted.0) ∙ length-map heard kept_notice
+
+pub counts_under : {F : Type 0} (s : SubscriberOf (UnderFilter F)) (b : Conduct) (requests : List Request) (done : WithAnswers (UnderFilter F)) (o : Option ℕ) → RecordsUnder s b requests done → IsCounted (recorder_under (stack_of done.0)) o → CountsUnder b requests (done.1, o)
+counts_under s b requests done o r c = counts_alone s (Outer (Under Here)) recorder_under ((Some 0, b) ∷ []) requests done o r c
 
 -- ---- under a closure that asks for the current span
 

@@ -95,13 +95,17 @@ one_conduct turn inside h = turn (inside (notices_of h))
 abbrev pub IsCounted : Kept → Option ℕ → Type 0
 IsCounted r o = IfSome o (λ n. (r.failed ≡ false) × (n ≡ length r.notices))
 
--- a list was answered, and a recorder under a filter that acts so was notified of just what it would see alone: so many notices, unless it failed for want of memory
-pub record CountsUnder (b : Conduct) (requests : List Request) (told : Vec Answer Global × Option ℕ) : Type 0 where
+-- a list was answered, and a recorder under filters that act so was notified of just what it would see alone: so many notices, unless it failed for want of memory
+pub record CountsAlone (cs : Conducts) (requests : List Request) (told : Vec Answer Global × Option ℕ) : Type 0 where
   pub outcomes : List Outcome
   pub heard : Heard
   pub say : SayOutcomes empty_store requests told.0.items outcomes
-  pub alone : Alone ((Some 0, b) ∷ []) empty_store outcomes heard
+  pub alone : Alone cs empty_store outcomes heard
   pub count : IfSome told.1 (λ n. n ≡ length heard)
+
+-- the same of one filter
+abbrev pub CountsUnder : Conduct → List Request → Vec Answer Global × Option ℕ → Type 0
+CountsUnder b = CountsAlone ((Some 0, b) ∷ [])
 
 -- whether the lane is in a span that is shown, whatever the metadata
 abbrev pub in_a_span : Metadata → View → Bool

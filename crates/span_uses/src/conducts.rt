@@ -100,7 +100,7 @@ pub fn under_optional(
 }
 
 /// How many notices it keeps, unless it failed.
-fn count(recorder: &Recorder) -> Option<usize>
+pub(crate) fn count(recorder: &Recorder) -> Option<usize>
     ensures { IsCounted recorder.now result }
 {
     if recorder.failed() {

@@ -2,12 +2,14 @@
 ghost use Rattle.std.specs.Prelude.{◌≡◌, [], IfErr, IfOk};
 ghost use Rattle.span_layers.specs.Layered.{outer_of};
 ghost use Rattle.span_registry.specs.Place.{Here, Outer};
-ghost use Rattle.span_uses.specs.Kinds.{IsFit, RecordsAlone, ServesReady, StandsSomehow, WillRecord};
+ghost use Rattle.span_uses.specs.Kinds.{CountsAlone, IsFit, RecordsAlone, ServesReady, StandsSomehow, WillRecord};
 
+use crate::conducts::count;
 use crate::isolation::WithAnswers;
 use crate::layer::SpanCounter;
+use span_boxed::{BoxedLayer, DynLayer};
 use span_core::TraceError;
-use span_dispatch::{Dispatch, Recorder, Request};
+use span_dispatch::{Answer, Dispatch, Recorder, Request};
 use span_layers::{Identity, Layer, Layered, Observer, SubscriberExt};
 use span_registry::{Registry, Subscriber};
 use std::alloc::Global;
@@ -113,4 +115,20 @@ pub fn over_list(
     let layers = vec![in alloc; first, second]?;
     let stack = put_under(alloc, layers)?;
     serve_new(alloc, stack, requests)
+}
+
+/// Outside a layer in a box whose type is picked while the program runs: how many notices the recorder keeps.
+pub fn count_over_boxed(
+    alloc: Global,
+    requests: &[Request<'_>],
+) -> Result<(Vec<Answer>, Option<usize>), TraceError>
+    ensures counted { IfOk result (CountsAlone [] requests.now) }
+    ensures memory { IfErr result (λ e. e ≡ TraceError.OutOfMemory) }
+{
+    let object: Box<dyn DynLayer + Send> = Box::new(alloc, Observer::new(SpanCounter::new()))?;
+    let layer = BoxedLayer::new(object);
+    let stack = put_under(alloc, layer)?;
+    let (dispatch, answers) = serve_new(alloc, stack, requests)?;
+    let counted = count(dispatch.stack().layer());
+    Ok((answers, counted))
 }
