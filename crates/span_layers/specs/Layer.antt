@@ -77,7 +77,7 @@ pub record LeafLaws {L : Type 0} (has_form : L → Form → Type 0) (stepped : L
   pub kind : (x : L) (f : Form) (p : Plan) (e : Notice) (lane : ℕ) (under : FilterSet) (v : RegistryState) (y : L) (w : RegistryState) (g : Form) → has_form x f → IsLeaf f → stepped x p e lane under v y w → has_form x g → IsLeaf g
   pub goes : (x : L) (f : Form) (h : Heard) (y : L) → has_form x f → IsLeaf f → hears x Here h y → FoldsTo (GoesBy stepped) x h y
 
--- the law of every layer: where it is notified, or put in use, it keeps what it has of its form; each leaf hears what the plan says, in the view that it has of the registry then; and it hears that by its own step
+-- the law of every layer: where it is notified, or put in use, it keeps what it has of its form; each leaf hears what the plan says, in the view that it has of the registry then; and a layer that is a leaf hears it by its own step
 pub record LayerLaws {L : Type 0} (has_form : L → Form → Type 0) (stepped : LayerSteps L) (hears : HearSteps L) (registered : L → L → Type 0) : Type 0 where
   pub keeps : (x : L) (p : Plan) (e : Notice) (lane : ℕ) (under : FilterSet) (v : RegistryState) (y : L) (w : RegistryState) (f : Form) → stepped x p e lane under v y w → has_form x f → Follows (has_form y) f
   pub put_in_use : (x y : L) (f : Form) → registered x y → has_form x f → Follows (has_form y) f

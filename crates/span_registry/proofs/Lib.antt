@@ -9,7 +9,6 @@ mod Entries
 mod Finds
 mod Counts
 pub mod Drops
-mod EnterExit
 mod FromRoot
 mod Itself
 mod Kept
