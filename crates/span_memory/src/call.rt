@@ -1,6 +1,8 @@
 //! The calls, by their names.
 
-use crate::site::{ENTERED, LANE, SPANS, UNKNOWN, event, event_metadata, known, new_span};
+use crate::site::{
+    ENTERED, KEPT_SPAN, LANE, SPANS, UNKNOWN, event, event_metadata, known, new_span,
+};
 use span_core::LevelFilter;
 use span_dispatch::{Request, WhichParent};
 
@@ -17,6 +19,8 @@ pub enum Call {
     Dispatcher(Request<'static>),
     /// `Dispatch::serve` of a list with one request.
     Serve,
+    /// `Dispatch::event`, where the recorder has no room for one notice more.
+    Record,
     /// `Shared::new`.
     Share,
     /// A call of a dispatcher that workers share.
@@ -60,6 +64,7 @@ impl Call {
         match (subject, name) {
             ("stack", "push") => Some(Call::Push),
             ("dispatcher", "serve") => Some(Call::Serve),
+            ("recorder", "event") => Some(Call::Record),
             ("shared", "new") => Some(Call::Share),
             ("registry", _) => Some(Call::Registry(RegistryCall::of(name)?)),
             ("filter", _) => Some(Call::Clone(FilterKind::of(name)?)),
@@ -99,11 +104,13 @@ impl FilterKind {
     }
 }
 
-/// The request with this name, of spans that are prepared, and of a callsite that nothing was asked of.
+/// The request with this name, of spans that are prepared, and of a callsite that nothing was asked of, or one that is kept.
 fn request_of(name: &str) -> Option<Request<'static>> {
     match name {
         "enabled" => Some(Request::Enabled(LANE, event_metadata(UNKNOWN))),
         "new_span" => Some(new_span(UNKNOWN, WhichParent::Contextual)),
+        "new_span_in_unknown" => Some(new_span(UNKNOWN, never_opened())),
+        "kept_span_in_unknown" => Some(new_span(KEPT_SPAN, never_opened())),
         "event" => Some(event(UNKNOWN)),
         "enter" => Some(Request::Enter(LANE, known(ENTERED + 1))),
         "exit" => Some(Request::Exit(LANE, known(ENTERED))),
@@ -115,4 +122,9 @@ fn request_of(name: &str) -> Option<Request<'static>> {
         "current_span" => Some(Request::Current(LANE)),
         _ => None,
     }
+}
+
+/// In a span that was never opened.
+fn never_opened() -> WhichParent {
+    WhichParent::Explicit(known(0))
 }

@@ -6,13 +6,19 @@ ghost use Rattle.std.specs.Prelude.{◌≡◌, IfOk, OnErr};
 
 use crate::fault::Fault;
 use crate::shown::{write_all_of, write_end, write_notices, write_start};
-use crate::site::{UNKNOWN, new_span, preparation};
-use span_core::{LevelFilter, Record, TraceError};
+use crate::site::{KEPT_EVENT, LANE, UNKNOWN, event_metadata, new_span, preparation};
+use span_core::{Event, LevelFilter, Record, TraceError};
 use span_dispatch::{Answer, Dispatch, Recorder, Request, Which, WhichParent};
 use span_layers::{Filtered, LayerExt, Layered, SubscriberExt};
 use span_registry::{Registry, Subscriber};
 use std::alloc::Global;
 use std::io::Write;
+
+/// The notices of the preparation.
+const NOTICES: usize = 27;
+
+/// How many notices a recorder has room for, where it has kept over half as many.
+const ROOM: usize = 32;
 
 /// A recorder under a level, on a registry.
 pub type Stack = Layered<Filtered<Recorder, LevelFilter>, Registry>;
@@ -58,6 +64,38 @@ pub fn serve<W: Write>(alloc: Global, writer: &mut W) -> Result<(), Fault> {
     write_start(writer)?;
     let ended = served(alloc, &mut dispatch, request);
     write_end(writer, ended)?;
+    write_dispatcher(writer, dispatch)
+}
+
+/// A dispatcher whose recorder has room for no notice more.
+fn full(alloc: Global) -> Result<Dispatch<Stack>, Fault> {
+    let mut dispatch = prepared(alloc)?;
+    for _ in NOTICES..ROOM {
+        send(&mut dispatch)?;
+    }
+    Ok(dispatch)
+}
+
+/// Sends an event of a callsite that is kept.
+fn send<S: Subscriber>(dispatch: &mut Dispatch<S>) -> Result<(), Fault>
+    requires { S.usable (stack_of dispatch.old) }
+    ensures { S.usable (stack_of dispatch.new) }
+{
+    let event = Event::new(event_metadata(KEPT_EVENT), &[]);
+    if dispatch.event(LANE, &event)? {
+        return Ok(());
+    }
+    Err(Fault::Unprepared)
+}
+
+/// Sends an event that the recorder has no room for, and then another; and writes the same, both after the second.
+pub fn record<W: Write>(alloc: Global, writer: &mut W) -> Result<(), Fault> {
+    write_dispatcher(writer, full(alloc)?)?;
+    let mut dispatch = full(alloc)?;
+    write_start(writer)?;
+    send(&mut dispatch)?;
+    write_end(writer, Ok(()))?;
+    send(&mut dispatch)?;
     write_dispatcher(writer, dispatch)
 }
 

@@ -34,6 +34,7 @@ fn make<H: Wait, W: Write>(rt: &H, alloc: Global, writer: &mut W, call: Call) ->
         Call::Clone(kind) => filter::make(alloc, writer, kind),
         Call::Dispatcher(request) => dispatcher::make(alloc, writer, request),
         Call::Serve => dispatcher::serve(alloc, writer),
+        Call::Record => dispatcher::record(alloc, writer),
         Call::Share => shared::share(rt, alloc, writer),
         Call::Shared(request) => shared::make(rt, alloc, writer, request),
     }

@@ -18,6 +18,12 @@ pub const ENTERED: u64 = 8;
 /// A callsite that nothing was asked of.
 pub const UNKNOWN: u64 = 20;
 
+/// A callsite of spans that is kept.
+pub const KEPT_SPAN: u64 = 1;
+
+/// A callsite of events that is kept.
+pub const KEPT_EVENT: u64 = 15;
+
 /// The metadata of a callsite of spans.
 pub fn span_metadata(callsite: u64) -> Metadata {
     metadata(callsite, "span", Kind::SPAN)

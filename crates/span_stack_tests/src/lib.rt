@@ -26,6 +26,8 @@ mod order;
 #[cfg(test)]
 mod requests;
 #[cfg(test)]
+mod scale;
+#[cfg(test)]
 mod signer;
 #[cfg(test)]
 mod stack;
