@@ -1,45 +1,100 @@
 //! The calls, by their names.
 
-use crate::site::{
-    ENTERED, KEPT_SPAN, LANE, SPANS, UNKNOWN, event, event_metadata, known, new_span,
-};
-use span_core::LevelFilter;
-use span_dispatch::{Request, WhichParent};
+use crate::site::request_named;
+use span_dispatch::Request;
 
 /// A call, and what it is made of.
 #[derive(Clone, Copy, Debug)]
 pub enum Call {
-    /// `SpanStack::push`.
-    Push,
+    /// A call of a lane's stack.
+    Stack(StackCall),
     /// A call of a registry.
     Registry(RegistryCall),
     /// `clone` of a filter.
     Clone(FilterKind),
-    /// A call of a dispatcher.
-    Dispatcher(Request<'static>),
-    /// `Dispatch::serve` of a list with one request.
+    /// A layer is put on a registry.
+    Attach(Attachment),
+    /// A call of a dispatcher in this state.
+    Dispatcher(State, Request<'static>),
+    /// `Dispatch::serve`, of a list of requests that take no memory.
     Serve,
     /// `Dispatch::event`, where the recorder has no room for one notice more.
     Record,
+    /// A call of a dispatcher of which a layer vetoes everything, and keeps the callsite.
+    Veto(Request<'static>),
     /// `Shared::new`.
     Share,
     /// A call of a dispatcher that workers share.
     Shared(Request<'static>),
 }
 
+/// What was served before a call.
+#[derive(Clone, Copy, Debug, PartialEq, Eq)]
+pub enum State {
+    /// The preparation, by a dispatcher that keeps hint and interests.
+    Kept,
+    /// The preparation, by one that keeps nothing.
+    Fresh,
+    /// Nothing, by one that is to keep hint and interests.
+    Begun,
+}
+
+/// A call of a lane's stack.
+#[derive(Clone, Copy, Debug, PartialEq, Eq)]
+pub enum StackCall {
+    /// `push` of a span that isn't on it.
+    Push,
+    /// `push` of a span that is on it.
+    PushAgain,
+    /// `pop`.
+    Pop,
+}
+
 /// A call of a registry, of its spans' extensions, or of their scopes.
 #[derive(Clone, Copy, Debug, PartialEq, Eq)]
 pub enum RegistryCall {
-    /// `Registry::new_span`.
+    /// `new_span` in the last span.
     NewSpan,
-    /// `Registry::enter`.
+    /// `new_span` in a span that has no room for a child.
+    NewSpanOfFullParent,
+    /// `new_span` where no place is left.
+    NewSpanWithoutPlace,
+    /// `enter` on a lane that has entered nothing.
     Enter,
-    /// `ExtensionMap::insert`.
+    /// `enter` where no lane has entered anything.
+    EnterFirst,
+    /// `enter` where 15 lanes have, and this one hasn't.
+    EnterOneLaneMore,
+    /// `enter` of a span that was never opened.
+    EnterUnknown,
+    /// `exit`.
+    Exit,
+    /// `clone_span`.
+    CloneSpan,
+    /// `release` of a span that stays open.
+    Release,
+    /// `release` and `remove` of each span of a chain.
+    CloseChain,
+    /// `register_filter`.
+    RegisterFilter,
+    /// `ExtensionMap::insert` of a span's first value.
     Insert,
-    /// `ExtensionMap::replace`.
+    /// `ExtensionMap::insert` of a sixteenth value.
+    InsertOneMore,
+    /// `ExtensionMap::insert` where there is a value.
+    InsertTaken,
+    /// `ExtensionMap::replace` where there is none.
     Replace,
+    /// `ExtensionMap::replace` where there is one.
+    ReplaceKept,
+    /// `ExtensionMap::remove`.
+    RemoveValue,
+    /// `ExtensionMap::get_mut`.
+    ChangeValue,
     /// `Scope::from_root`, of so many spans.
     FromRoot(u64),
+    /// All look-ups, by registry and context.
+    LookUp,
 }
 
 /// A filter that is cloned.
@@ -57,19 +112,53 @@ pub enum FilterKind {
     Not,
 }
 
+/// How a layer is put on a registry.
+#[derive(Clone, Copy, Debug, PartialEq, Eq)]
+pub enum Attachment {
+    /// `SubscriberExt::with`.
+    With,
+    /// `Layer::with_subscriber`.
+    WithSubscriber,
+}
+
 impl Call {
     /// The call that a line names: of what, and which, with a space between.
     pub fn of(line: &str) -> Option<Call> {
         let (subject, name) = line.split_once(' ')?;
         match (subject, name) {
-            ("stack", "push") => Some(Call::Push),
             ("dispatcher", "serve") => Some(Call::Serve),
             ("recorder", "event") => Some(Call::Record),
             ("shared", "new") => Some(Call::Share),
+            ("stack", _) => Some(Call::Stack(StackCall::of(name)?)),
             ("registry", _) => Some(Call::Registry(RegistryCall::of(name)?)),
             ("filter", _) => Some(Call::Clone(FilterKind::of(name)?)),
-            ("dispatcher", _) => Some(Call::Dispatcher(request_of(name)?)),
-            ("shared", _) => Some(Call::Shared(request_of(name)?)),
+            ("layer", _) => Some(Call::Attach(Attachment::of(name)?)),
+            ("veto", _) => Some(Call::Veto(request_named(name)?)),
+            ("shared", _) => Some(Call::Shared(request_named(name)?)),
+            _ => Some(Call::Dispatcher(State::of(subject)?, request_named(name)?)),
+        }
+    }
+}
+
+impl State {
+    /// The state of a dispatcher by this name.
+    fn of(subject: &str) -> Option<State> {
+        match subject {
+            "dispatcher" => Some(State::Kept),
+            "fresh" => Some(State::Fresh),
+            "begun" => Some(State::Begun),
+            _ => None,
+        }
+    }
+}
+
+impl StackCall {
+    /// The call with this name.
+    fn of(name: &str) -> Option<StackCall> {
+        match name {
+            "push" => Some(StackCall::Push),
+            "push_again" => Some(StackCall::PushAgain),
+            "pop" => Some(StackCall::Pop),
             _ => None,
         }
     }
@@ -80,11 +169,34 @@ impl RegistryCall {
     fn of(name: &str) -> Option<RegistryCall> {
         match name {
             "new_span" => Some(RegistryCall::NewSpan),
+            "new_span_of_full_parent" => Some(RegistryCall::NewSpanOfFullParent),
+            "new_span_without_place" => Some(RegistryCall::NewSpanWithoutPlace),
             "enter" => Some(RegistryCall::Enter),
-            "insert" => Some(RegistryCall::Insert),
-            "replace" => Some(RegistryCall::Replace),
+            "enter_first" => Some(RegistryCall::EnterFirst),
+            "enter_one_lane_more" => Some(RegistryCall::EnterOneLaneMore),
+            "enter_unknown" => Some(RegistryCall::EnterUnknown),
+            "exit" => Some(RegistryCall::Exit),
+            "clone_span" => Some(RegistryCall::CloneSpan),
+            "release" => Some(RegistryCall::Release),
+            "close_chain" => Some(RegistryCall::CloseChain),
+            "register_filter" => Some(RegistryCall::RegisterFilter),
+            "look_up" => Some(RegistryCall::LookUp),
             "from_root_of_16" => Some(RegistryCall::FromRoot(16)),
             "from_root_of_17" => Some(RegistryCall::FromRoot(17)),
+            _ => RegistryCall::of_values(name),
+        }
+    }
+
+    /// The call of a span's extensions with this name.
+    fn of_values(name: &str) -> Option<RegistryCall> {
+        match name {
+            "insert" => Some(RegistryCall::Insert),
+            "insert_one_more" => Some(RegistryCall::InsertOneMore),
+            "insert_taken" => Some(RegistryCall::InsertTaken),
+            "replace" => Some(RegistryCall::Replace),
+            "replace_kept" => Some(RegistryCall::ReplaceKept),
+            "remove_value" => Some(RegistryCall::RemoveValue),
+            "change_value" => Some(RegistryCall::ChangeValue),
             _ => None,
         }
     }
@@ -104,27 +216,13 @@ impl FilterKind {
     }
 }
 
-/// The request with this name, of spans that are prepared, and of a callsite that nothing was asked of, or one that is kept.
-fn request_of(name: &str) -> Option<Request<'static>> {
-    match name {
-        "enabled" => Some(Request::Enabled(LANE, event_metadata(UNKNOWN))),
-        "new_span" => Some(new_span(UNKNOWN, WhichParent::Contextual)),
-        "new_span_in_unknown" => Some(new_span(UNKNOWN, never_opened())),
-        "kept_span_in_unknown" => Some(new_span(KEPT_SPAN, never_opened())),
-        "event" => Some(event(UNKNOWN)),
-        "enter" => Some(Request::Enter(LANE, known(ENTERED + 1))),
-        "exit" => Some(Request::Exit(LANE, known(ENTERED))),
-        "record" => Some(Request::Record(LANE, known(1), &[])),
-        "follows_from" => Some(Request::Follows(LANE, known(1), known(2))),
-        "clone_span" => Some(Request::Clone(LANE, known(1))),
-        "drop_span" => Some(Request::Drop(LANE, known(SPANS))),
-        "set_level" => Some(Request::SetLevel(0, LevelFilter::WARN)),
-        "current_span" => Some(Request::Current(LANE)),
-        _ => None,
+impl Attachment {
+    /// The call with this name.
+    fn of(name: &str) -> Option<Attachment> {
+        match name {
+            "with" => Some(Attachment::With),
+            "with_subscriber" => Some(Attachment::WithSubscriber),
+            _ => None,
+        }
     }
-}
-
-/// In a span that was never opened.
-fn never_opened() -> WhichParent {
-    WhichParent::Explicit(known(0))
 }

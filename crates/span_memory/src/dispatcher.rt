@@ -1,13 +1,14 @@
 //! Calls of a dispatcher.
-ghost use Rattle.span_dispatch.specs.Contract.{SameStack};
 ghost use Rattle.span_dispatch.specs.Serve.{stack_of};
-ghost use Rattle.span_registry.specs.Store.{IsFresh};
-ghost use Rattle.std.specs.Prelude.{◌≡◌, IfOk, OnErr};
 
+use crate::call::State;
 use crate::fault::Fault;
-use crate::shown::{write_all_of, write_end, write_notices, write_start};
-use crate::site::{KEPT_EVENT, LANE, UNKNOWN, event_metadata, new_span, preparation};
-use span_core::{Event, LevelFilter, Record, TraceError};
+use crate::shown::{write_all_of, write_answer, write_notices, write_start};
+use crate::site::{
+    KEPT_EVENT, LANE, UNKNOWN_EVENT, UNKNOWN_SPAN, event, event_metadata, new_span, other_event,
+    preparation, sparing,
+};
+use span_core::{Event, LevelFilter, Record};
 use span_dispatch::{Answer, Dispatch, Recorder, Request, Which, WhichParent};
 use span_layers::{Filtered, LayerExt, Layered, SubscriberExt};
 use span_registry::{Registry, Subscriber};
@@ -21,24 +22,43 @@ const NOTICES: usize = 27;
 const ROOM: usize = 32;
 
 /// A recorder under a level, on a registry.
-pub type Stack = Layered<Filtered<Recorder, LevelFilter>, Registry>;
+type Recording = Layered<Filtered<Recorder, LevelFilter>, Registry>;
 
-/// A dispatcher with such a stack.
-pub fn receiver(alloc: Global) -> Result<Dispatch<Stack>, Fault>
-    ensures fresh { IfOk result (λ d. IsFresh (stack_of d).inner) }
-{
+/// Outside it that level as a layer, which vetoes what is above it.
+pub type Stack = Layered<LevelFilter, Recording>;
+
+/// Such a stack, of which nothing was asked.
+fn stack(alloc: Global) -> Result<Stack, Fault> {
     let layer = Recorder::new(alloc).with_filter(LevelFilter::INFO);
-    match Registry::new(alloc).with(layer) {
-        Ok(stack) => Ok(Dispatch::new(alloc, stack)),
+    let recording = match Registry::new(alloc).with(layer) {
+        Ok(made) => made,
+        Err(back) => return Err(Fault::Refused(back.error)),
+    };
+    match recording.with(LevelFilter::INFO) {
+        Ok(made) => Ok(made),
         Err(back) => Err(Fault::Refused(back.error)),
     }
 }
 
-/// The same, once the preparation was served.
-fn prepared(alloc: Global) -> Result<Dispatch<Stack>, Fault> {
-    let mut dispatch = receiver(alloc)?;
-    let answers = dispatch.serve(alloc, &preparation())?;
-    for answer in &answers {
+/// A dispatcher with such a stack, in this state.
+pub fn dispatcher(alloc: Global, state: State) -> Result<Dispatch<Stack>, Fault> {
+    let stack = stack(alloc)?;
+    match state {
+        State::Begun => Ok(Dispatch::new(alloc, stack)),
+        State::Kept => prepared(alloc, Dispatch::new(alloc, stack)),
+        State::Fresh => prepared(alloc, Dispatch::fresh(alloc, stack)),
+    }
+}
+
+/// The same dispatcher, once it served the preparation.
+fn prepared<S: Subscriber + Drop>(
+    alloc: Global,
+    dispatch: Dispatch<S>,
+) -> Result<Dispatch<S>, Fault>
+    requires { S.usable (stack_of dispatch) }
+{
+    let mut dispatch = dispatch;
+    for answer in &dispatch.serve(alloc, &preparation())? {
         if let Answer::Refused(error) = answer {
             return Err(Fault::Refused(*error));
         }
@@ -47,29 +67,47 @@ fn prepared(alloc: Global) -> Result<Dispatch<Stack>, Fault> {
 }
 
 /// Makes a request of a dispatcher, and writes what it shows without the request and after it.
-pub fn make<W: Write>(alloc: Global, writer: &mut W, request: Request<'_>) -> Result<(), Fault> {
-    write_dispatcher(writer, prepared(alloc)?)?;
-    let mut dispatch = prepared(alloc)?;
+pub fn make<W: Write>(
+    alloc: Global,
+    writer: &mut W,
+    state: State,
+    request: Request<'_>,
+) -> Result<(), Fault> {
+    write_dispatcher(writer, dispatcher(alloc, state)?)?;
+    let mut dispatch = dispatcher(alloc, state)?;
     write_start(writer)?;
     let ended = asked(&mut dispatch, request);
-    write_end(writer, ended)?;
+    write_answer(writer, ended)?;
     write_dispatcher(writer, dispatch)
 }
 
-/// Serves a list with one new span by a dispatcher, and writes the same.
+/// Serves a list whose requests take no memory, and writes the same.
 pub fn serve<W: Write>(alloc: Global, writer: &mut W) -> Result<(), Fault> {
-    write_dispatcher(writer, prepared(alloc)?)?;
-    let mut dispatch = prepared(alloc)?;
-    let request = new_span(UNKNOWN, WhichParent::Root);
+    write_dispatcher(writer, dispatcher(alloc, State::Kept)?)?;
+    let mut dispatch = dispatcher(alloc, State::Kept)?;
     write_start(writer)?;
-    let ended = served(alloc, &mut dispatch, request);
-    write_end(writer, ended)?;
+    let ended = served(alloc, &mut dispatch, &sparing());
+    write_answer(writer, ended)?;
     write_dispatcher(writer, dispatch)
+}
+
+/// How the serving of a list ends: as its last request.
+fn served<S: Subscriber>(
+    alloc: Global,
+    dispatch: &mut Dispatch<S>,
+    requests: &[Request<'_>],
+) -> Answer
+    requires { S.usable (stack_of dispatch.old) }
+{
+    match dispatch.serve(alloc, requests) {
+        Ok(answers) => answers.last().copied().unwrap_or(Answer::Dropped),
+        Err(error) => Answer::Refused(error),
+    }
 }
 
 /// A dispatcher whose recorder has room for no notice more.
 fn full(alloc: Global) -> Result<Dispatch<Stack>, Fault> {
-    let mut dispatch = prepared(alloc)?;
+    let mut dispatch = dispatcher(alloc, State::Kept)?;
     for _ in NOTICES..ROOM {
         send(&mut dispatch)?;
     }
@@ -94,82 +132,85 @@ pub fn record<W: Write>(alloc: Global, writer: &mut W) -> Result<(), Fault> {
     let mut dispatch = full(alloc)?;
     write_start(writer)?;
     send(&mut dispatch)?;
-    write_end(writer, Ok(()))?;
+    write_answer(writer, Answer::Done)?;
     send(&mut dispatch)?;
     write_dispatcher(writer, dispatch)
 }
 
-/// Writes all that a dispatcher shows, and what its recorder was notified of.
+/// Writes all that a dispatcher shows and answers, and what its recorder was notified of.
 pub fn write_dispatcher<W: Write>(writer: &mut W, dispatch: Dispatch<Stack>) -> Result<(), Fault> {
     let mut dispatch = dispatch;
+    let level = dispatch.stack().inner().layer().filter();
+    writeln!(
+        writer,
+        "level {level:?}, hint {:?}",
+        dispatch.max_level_hint()
+    )?;
+    write_answers(writer, &mut dispatch)?;
     write_all_of(writer, &mut dispatch)?;
-    let recorder = dispatch.stack().layer().inner();
+    let recorder = dispatch.stack().inner().layer().inner();
     write_notices(writer, recorder.notices(), recorder.failed())
 }
 
-/// How the serving of a list with one request ends.
-fn served<S: Subscriber>(
-    alloc: Global,
+/// Writes what becomes of an event and of a span of callsites that weren't asked of, and of an event of one that is kept with other
+/// metadata.
+fn write_answers<S: Subscriber, W: Write>(
+    writer: &mut W,
     dispatch: &mut Dispatch<S>,
-    request: Request<'_>,
-) -> Result<(), TraceError>
+) -> Result<(), Fault>
     requires { S.usable (stack_of dispatch.old) }
+    ensures { S.usable (stack_of dispatch.new) }
 {
-    let answers = dispatch.serve(alloc, &[request])?;
-    match answers.first() {
-        Some(Answer::Refused(error)) => Err(*error),
-        _ => Ok(()),
+    let requests = [
+        event(UNKNOWN_EVENT),
+        new_span(UNKNOWN_SPAN, WhichParent::Root),
+        other_event(),
+    ];
+    for request in &requests {
+        let answer = asked(dispatch, *request);
+        write_answer(writer, answer)?;
     }
+    Ok(())
 }
 
-/// How a request ends. A refused one leaves the stack as it was.
-fn asked<S: Subscriber>(dispatch: &mut Dispatch<S>, request: Request<'_>) -> Result<(), TraceError>
+/// How a request ends.
+pub fn asked<S: Subscriber>(dispatch: &mut Dispatch<S>, request: Request<'_>) -> Answer
     requires { S.usable (stack_of dispatch.old) }
-    ensures { OnErr result (SameStack dispatch.old dispatch.new) }
+    ensures { S.usable (stack_of dispatch.new) }
 {
     match request {
         Request::NewSpan(lane, metadata, parent, values) => {
-            dispatch.new_span(lane, &parent.attributes(&[], metadata, values))?;
+            Answer::of_span(dispatch.new_span(lane, &parent.attributes(&[], metadata, values)))
         }
         Request::Event(lane, metadata, parent, values) => {
-            dispatch.event(lane, &parent.event(&[], metadata, values))?;
+            Answer::of_event(dispatch.event(lane, &parent.event(&[], metadata, values)))
         }
-        Request::Enabled(lane, metadata) => {
-            dispatch.enabled(lane, &metadata)?;
-        }
-        Request::Current(lane) => {
-            dispatch.current_span(lane);
-        }
-        Request::SetLevel(number, level) => dispatch.set_level(number, level)?,
-        _ => asked_of_span(dispatch, request)?,
+        Request::Enabled(lane, metadata) => Answer::of_yes(dispatch.enabled(lane, &metadata)),
+        Request::Current(lane) => Answer::of_current(dispatch.current_span(lane)),
+        Request::SetLevel(number, level) => Answer::of_done(dispatch.set_level(number, level)),
+        _ => asked_of_span(dispatch, request),
     }
-    Ok(())
 }
 
 /// How a request of a span ends.
-fn asked_of_span<S: Subscriber>(
-    dispatch: &mut Dispatch<S>,
-    request: Request<'_>,
-) -> Result<(), TraceError>
+fn asked_of_span<S: Subscriber>(dispatch: &mut Dispatch<S>, request: Request<'_>) -> Answer
     requires { S.usable (stack_of dispatch.old) }
-    ensures { OnErr result (dispatch.new ≡ dispatch.old) }
+    ensures { S.usable (stack_of dispatch.new) }
 {
     match request {
-        Request::Enter(lane, Which::Known(id)) => dispatch.enter(lane, id)?,
-        Request::Exit(lane, Which::Known(id)) => dispatch.exit(lane, id),
+        Request::Enter(lane, Which::Known(id)) => Answer::of_done(dispatch.enter(lane, id)),
+        Request::Exit(lane, Which::Known(id)) => {
+            dispatch.exit(lane, id);
+            Answer::Done
+        }
         Request::Record(lane, Which::Known(id), values) => {
-            dispatch.record(lane, id, &Record::new(values))?
+            Answer::of_done(dispatch.record(lane, id, &Record::new(values)))
         }
         Request::Follows(lane, Which::Known(id), Which::Known(other)) => {
-            dispatch.follows_from(lane, id, other)?
+            Answer::of_done(dispatch.follows_from(lane, id, other))
         }
-        Request::Clone(lane, Which::Known(id)) => {
-            dispatch.clone_span(lane, id)?;
-        }
-        Request::Drop(lane, Which::Known(id)) => {
-            dispatch.drop_span(lane, id)?;
-        }
-        _ => {} // It asks of no span that is known.
+        Request::Clone(lane, Which::Known(id)) => Answer::of_clone(dispatch.clone_span(lane, id)),
+        Request::Drop(lane, Which::Known(id)) => Answer::of_yes(dispatch.drop_span(lane, id)),
+        _ => Answer::Dropped, // It asks of no span that is known.
     }
-    Ok(())
 }

@@ -3,9 +3,10 @@
 use crate::call::FilterKind;
 use crate::fault::Fault;
 use crate::named::Named;
-use crate::shown::{write_end, write_start};
+use crate::shown::{write_answer, write_start};
 use crate::site::{event_metadata, span_metadata};
 use span_core::TraceError;
+use span_dispatch::Answer;
 use span_filters::{Filter, FilterExt, dynamic_filter_fn, filter_fn};
 use span_registry::Registry;
 use std::alloc::Global;
@@ -29,7 +30,7 @@ fn copy_function<W: Write>(alloc: Global, writer: &mut W) -> Result<(), Fault> {
     write_answers(writer, &filter)?;
     write_start(writer)?;
     let ended = done(filter.clone());
-    write_end(writer, ended)?;
+    write_answer(writer, ended)?;
     write_answers(writer, &filter)
 }
 
@@ -40,7 +41,7 @@ fn copy_in_context<W: Write>(alloc: Global, writer: &mut W) -> Result<(), Fault>
     write_answers(writer, &filter)?;
     write_start(writer)?;
     let ended = done(filter.clone());
-    write_end(writer, ended)?;
+    write_answer(writer, ended)?;
     write_answers(writer, &filter)
 }
 
@@ -50,7 +51,7 @@ fn copy_and<W: Write>(alloc: Global, writer: &mut W) -> Result<(), Fault> {
     write_text(writer, &filter)?;
     write_start(writer)?;
     let ended = done(filter.clone());
-    write_end(writer, ended)?;
+    write_answer(writer, ended)?;
     write_text(writer, &filter)
 }
 
@@ -60,7 +61,7 @@ fn copy_or<W: Write>(alloc: Global, writer: &mut W) -> Result<(), Fault> {
     write_text(writer, &filter)?;
     write_start(writer)?;
     let ended = done(filter.clone());
-    write_end(writer, ended)?;
+    write_answer(writer, ended)?;
     write_text(writer, &filter)
 }
 
@@ -70,15 +71,15 @@ fn copy_not<W: Write>(alloc: Global, writer: &mut W) -> Result<(), Fault> {
     write_text(writer, &filter)?;
     write_start(writer)?;
     let ended = done(filter.clone());
-    write_end(writer, ended)?;
+    write_answer(writer, ended)?;
     write_text(writer, &filter)
 }
 
 /// How a copy ended.
-fn done<T: Drop>(copy: Result<T, TraceError>) -> Result<(), TraceError> {
+fn done<T: Drop>(copy: Result<T, TraceError>) -> Answer {
     match copy {
-        Ok(_) => Ok(()),
-        Err(error) => Err(error),
+        Ok(_) => Answer::Done,
+        Err(error) => Answer::Refused(error),
     }
 }
 

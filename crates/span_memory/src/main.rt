@@ -2,17 +2,21 @@
 //! how it ended, and what they show after it. `tests/each_call_refused` refuses memory in it.
 #![tactic(auto)]
 
+mod attach;
 mod call;
 mod dispatcher;
 mod fault;
 mod filter;
 mod lane_stack;
+mod look_up;
 mod named;
 mod registry;
 mod run;
 mod shared;
 mod shown;
 mod site;
+mod values;
+mod veto;
 
 use std::process::ExitCode;
 

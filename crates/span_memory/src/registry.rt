@@ -1,14 +1,20 @@
 //! Calls of a registry, of its spans' extensions, and of their scopes.
+ghost use Rattle.span_dispatch.specs.Serve.{stack_of};
 
 use crate::call::RegistryCall;
 use crate::fault::Fault;
-use crate::shown::{write_all_of, write_end, write_start};
-use crate::site::{ENTERED, LANE, OTHER_LANE, SPANS, UNKNOWN, nth, span_metadata};
-use span_core::{Attributes, Id, Pass, TraceError};
-use span_dispatch::Dispatch;
-use span_registry::{LookupSpan, Registry, Subscriber, Tag};
+use crate::look_up::look_up;
+use crate::shown::{write_all_of, write_answer, write_start};
+use crate::site::{ENTERED, LANE, OTHER_LANE, SPANS, UNKNOWN_SPAN, nth, span_metadata};
+use crate::values::called_of_values;
+use span_core::{Attributes, Id, Lane, Pass, TraceError};
+use span_dispatch::{Answer, Dispatch};
+use span_registry::{Limits, LookupSpan, Registry, Subscriber, Tag};
 use std::alloc::Global;
 use std::io::Write;
+
+/// How many values the first span has.
+const VALUES: u32 = 15;
 
 /// Makes a call of a registry, and writes what it shows without the call and after it.
 pub fn make<W: Write>(alloc: Global, writer: &mut W, call: RegistryCall) -> Result<(), Fault> {
@@ -16,8 +22,31 @@ pub fn make<W: Write>(alloc: Global, writer: &mut W, call: RegistryCall) -> Resu
     let mut registry = prepared(alloc, call)?;
     write_start(writer)?;
     let ended = called(alloc, &mut registry, call);
-    write_end(writer, ended)?;
+    write_answer(writer, Answer::of_done(ended))?;
     write_registry(alloc, writer, registry)
+}
+
+/// Closes a chain of spans, and writes the same.
+pub fn close_chain<W: Write>(alloc: Global, writer: &mut W) -> Result<(), Fault> {
+    let call = RegistryCall::CloseChain;
+    write_registry(alloc, writer, prepared(alloc, call)?)?;
+    let mut dispatch = Dispatch::fresh(alloc, prepared(alloc, call)?);
+    write_start(writer)?;
+    let ended = drop_each(&mut dispatch, spans_of(call));
+    write_answer(writer, Answer::of_yes(ended))?;
+    write_all_of(writer, &mut dispatch)
+}
+
+/// Drops the handles of a chain from the root on, and answers whether the last one closes it.
+fn drop_each<S: Subscriber>(dispatch: &mut Dispatch<S>, spans: u64) -> Result<bool, TraceError>
+    requires { S.usable (stack_of dispatch.old) }
+    ensures { S.usable (stack_of dispatch.new) }
+{
+    let mut closes = false;
+    for number in 1..=spans {
+        closes = dispatch.drop_span(LANE, nth(number))?;
+    }
+    Ok(closes)
 }
 
 /// Writes all that a registry shows.
@@ -30,24 +59,50 @@ fn write_registry<W: Write>(
     write_all_of(writer, &mut dispatch)
 }
 
-/// A registry with spans each in the one before, of which the lane is in some. The first has a value.
-fn prepared(alloc: Global, call: RegistryCall) -> Result<Registry, Fault> {
-    let mut registry = Registry::new(alloc);
-    let spans = match call {
+/// How many spans are prepared for a call.
+fn spans_of(call: RegistryCall) -> u64 {
+    match call {
         RegistryCall::FromRoot(spans) => spans,
+        RegistryCall::CloseChain => SPANS + 1,
         _ => SPANS,
-    };
-    for number in 1..=spans {
-        let id = open(&mut registry, number)?;
-        if number <= ENTERED {
-            registry.enter(LANE, id)?;
-        }
     }
-    if let Some(extensions) = registry.extensions_mut(nth(1)) {
-        if extensions.insert(Tag::<u64>::new(0), 7).is_err() {
-            return Err(Fault::Memory);
-        }
+}
+
+/// How many lanes have entered spans.
+fn lanes_of(call: RegistryCall) -> u32 {
+    match call {
+        RegistryCall::EnterFirst => 0,
+        RegistryCall::EnterOneLaneMore => 15,
+        _ => 1,
     }
+}
+
+/// A registry with room for one span more, and for one child or handle more of each.
+fn limits_of(call: RegistryCall) -> Limits {
+    match call {
+        RegistryCall::NewSpanOfFullParent => Limits { count: 1, ..ROOM },
+        RegistryCall::NewSpanWithoutPlace => Limits { places: 16, ..ROOM },
+        _ => ROOM,
+    }
+}
+
+/// The limits of most registries.
+const ROOM: Limits = Limits {
+    places: 17,
+    generations: u32::MAX,
+    count: 2,
+};
+
+/// A registry with spans each in the one before, of which lanes are in some. The first has values.
+fn prepared(alloc: Global, call: RegistryCall) -> Result<Registry, Fault> {
+    let mut registry = Registry::with_limits(alloc, limits_of(call));
+    for number in 1..=spans_of(call) {
+        open(&mut registry, number)?;
+    }
+    for lane in 0..lanes_of(call) {
+        enter_some(&mut registry, Lane(lane))?;
+    }
+    insert_values(&mut registry)?;
     Ok(registry)
 }
 
@@ -62,41 +117,71 @@ fn open(registry: &mut Registry, number: u64) -> Result<Id, TraceError> {
     registry.new_span(LANE, &attributes, &Pass::new())
 }
 
+/// Has a lane enter the first spans.
+fn enter_some(registry: &mut Registry, lane: Lane) -> Result<(), TraceError> {
+    for number in 1..=ENTERED {
+        registry.enter(lane, nth(number))?;
+    }
+    Ok(())
+}
+
+/// Puts values of the first span under the first tags.
+fn insert_values(registry: &mut Registry) -> Result<(), Fault> {
+    let Some(extensions) = registry.extensions_mut(nth(1)) else {
+        return Err(Fault::Unprepared);
+    };
+    let mut extensions = extensions;
+    for tag in 0..VALUES {
+        if extensions.insert(Tag::<u64>::new(tag), 7).is_err() {
+            return Err(Fault::Memory);
+        }
+    }
+    Ok(())
+}
+
 /// How a call ends.
 fn called(alloc: Global, registry: &mut Registry, call: RegistryCall) -> Result<(), TraceError> {
     match call {
-        RegistryCall::NewSpan => {
-            let attributes = Attributes::new_root(span_metadata(UNKNOWN), &[]);
-            registry.new_span(LANE, &attributes, &Pass::new())?;
+        RegistryCall::NewSpan => open_child(registry, nth(SPANS)),
+        RegistryCall::NewSpanOfFullParent => open_child(registry, nth(1)),
+        RegistryCall::NewSpanWithoutPlace => open_child(registry, nth(SPANS)),
+        RegistryCall::Enter => registry.enter(OTHER_LANE, nth(5)),
+        RegistryCall::EnterFirst => registry.enter(LANE, nth(5)),
+        RegistryCall::EnterOneLaneMore => registry.enter(Lane(15), nth(5)),
+        RegistryCall::EnterUnknown => registry.enter(LANE, nth(0)),
+        RegistryCall::Exit => {
+            registry.exit(LANE, nth(ENTERED));
             Ok(())
         }
-        RegistryCall::Enter => registry.enter(OTHER_LANE, nth(5)),
-        RegistryCall::Insert => insert(registry, nth(2), 0),
-        RegistryCall::Replace => replace(registry, nth(2), 0),
+        RegistryCall::CloneSpan => clone_span(registry, nth(1)),
+        RegistryCall::Release => release(registry, nth(1)),
+        RegistryCall::RegisterFilter => {
+            registry.register_filter()?;
+            Ok(())
+        }
         RegistryCall::FromRoot(spans) => from_root(alloc, registry, nth(spans)),
+        RegistryCall::LookUp => look_up(registry),
+        _ => called_of_values(registry, call),
     }
 }
 
-/// Puts a value of a span under a tag that has none.
-fn insert(registry: &mut Registry, id: Id, tag: u32) -> Result<(), TraceError> {
-    let Some(extensions) = registry.extensions_mut(id) else {
-        return Err(TraceError::UnknownSpan(id));
-    };
-    match extensions.insert(Tag::<u64>::new(tag), 8) {
-        Ok(()) => Ok(()),
-        Err(rejected) => Err(rejected.error),
-    }
+/// Opens a span in another.
+fn open_child(registry: &mut Registry, parent: Id) -> Result<(), TraceError> {
+    let attributes = Attributes::child_of(parent, span_metadata(UNKNOWN_SPAN), &[]);
+    registry.new_span(LANE, &attributes, &Pass::new())?;
+    Ok(())
 }
 
-/// The same by `replace`.
-fn replace(registry: &mut Registry, id: Id, tag: u32) -> Result<(), TraceError> {
-    let Some(extensions) = registry.extensions_mut(id) else {
-        return Err(TraceError::UnknownSpan(id));
-    };
-    match extensions.replace(Tag::<u64>::new(tag), 8) {
-        Ok(_) => Ok(()),
-        Err(rejected) => Err(rejected.error),
-    }
+/// Adds a handle.
+fn clone_span(registry: &mut Registry, id: Id) -> Result<(), TraceError> {
+    registry.clone_span(LANE, id)?;
+    Ok(())
+}
+
+/// Takes a handle.
+fn release(registry: &mut Registry, id: Id) -> Result<(), TraceError> {
+    registry.release(id)?;
+    Ok(())
 }
 
 /// Asks for the scope of a span from its root on.

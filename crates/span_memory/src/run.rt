@@ -1,8 +1,8 @@
 //! From lines to calls.
 
-use crate::call::Call;
+use crate::call::{Call, RegistryCall};
 use crate::fault::Fault;
-use crate::{dispatcher, filter, lane_stack, registry, shared};
+use crate::{attach, dispatcher, filter, lane_stack, registry, shared, veto};
 use std::alloc::Global;
 use std::io::{Read, Write};
 use std::sync::Wait;
@@ -29,12 +29,15 @@ pub fn run<H: Wait, R: Read, W: Write>(
 /// Makes a call.
 fn make<H: Wait, W: Write>(rt: &H, alloc: Global, writer: &mut W, call: Call) -> Result<(), Fault> {
     match call {
-        Call::Push => lane_stack::push(alloc, writer),
+        Call::Stack(call) => lane_stack::make(alloc, writer, call),
+        Call::Registry(RegistryCall::CloseChain) => registry::close_chain(alloc, writer),
         Call::Registry(call) => registry::make(alloc, writer, call),
         Call::Clone(kind) => filter::make(alloc, writer, kind),
-        Call::Dispatcher(request) => dispatcher::make(alloc, writer, request),
+        Call::Attach(call) => attach::make(alloc, writer, call),
+        Call::Dispatcher(state, request) => dispatcher::make(alloc, writer, state, request),
         Call::Serve => dispatcher::serve(alloc, writer),
         Call::Record => dispatcher::record(alloc, writer),
+        Call::Veto(request) => veto::make(alloc, writer, request),
         Call::Share => shared::share(rt, alloc, writer),
         Call::Shared(request) => shared::make(rt, alloc, writer, request),
     }

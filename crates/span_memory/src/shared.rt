@@ -1,16 +1,16 @@
 //! Calls of a dispatcher that workers share.
 ghost use Rattle.span_dispatch.specs.Serve.{stack_of};
-ghost use Rattle.span_registry.specs.Store.{IsFresh};
 ghost use Rattle.span_dispatch.specs.Worker.{called};
 ghost use Rattle.std.specs.Prelude.{◌≡◌, ◌-◌, ◌<◌, ◌^◌, OnErr, OnOk};
 
-use crate::dispatcher::{Stack, receiver, write_dispatcher};
+use crate::call::State;
+use crate::dispatcher::{Stack, dispatcher, write_dispatcher};
 use crate::fault::Fault;
-use crate::shown::{write_end, write_start};
+use crate::shown::{write_answer, write_start};
 use crate::site::preparation;
 use span_core::{Record, TraceError};
-use span_dispatch::{Crew, Dispatch, Journal, Receipt, Request, Shared, Which, Worker};
-use span_registry::Subscriber;
+use span_dispatch::{Answer, Crew, Dispatch, Journal, Receipt, Request, Shared, Which, Worker};
+use span_registry::{LookupSpan, Subscriber};
 use std::alloc::Global;
 use std::io::Write;
 use std::marker::Brand;
@@ -47,14 +47,14 @@ fn after<W: Write>(
     writer: &mut W,
     request: Option<Request<'_>>,
 ) -> Result<Finished<Stack>, Fault> {
-    let dispatch = receiver(alloc)?;
+    let dispatch = dispatcher(alloc, State::Begun)?;
     shared_with_one::<Stack, Brand, W>(rt, alloc, writer, Blank::new(1), dispatch, request)
 }
 
 /// Shares a dispatcher, and writes what it shows without that and after it.
 pub fn share<W: Write>(rt: &impl Wait, alloc: Global, writer: &mut W) -> Result<(), Fault> {
-    write_dispatcher(writer, receiver(alloc)?)?;
-    let dispatch = receiver(alloc)?;
+    write_dispatcher(writer, dispatcher(alloc, State::Begun)?)?;
+    let dispatch = dispatcher(alloc, State::Begun)?;
     let dispatch = shared_once::<Stack, Brand, W>(alloc, writer, Blank::new(1), dispatch)?;
     write_dispatcher(writer, dispatch)
 }
@@ -85,17 +85,19 @@ fn shared_once<S: Subscriber + Drop, L: Crew, W: Write>(
     requires name { blank.name ≡ L.name }
     requires parts { (blank.parts ≡ L.parts) × (L.parts ≡ 1) × (L.workers ≡ 1) }
     requires usable { S.usable (stack_of dispatch) }
-    requires fresh { IsFresh (S.registry (stack_of dispatch)) }
 {
+    if !dispatch.stack().root().is_fresh() {
+        return Err(Fault::Unprepared);
+    }
     let (book, all) = blank.open::<L>();
     write_start(writer)?;
     let (shared, workers) = match Shared::new(alloc, book, all, dispatch, 1) {
         Ok(shared) => {
-            write_end(writer, Ok(()))?;
+            write_answer(writer, Answer::Done)?;
             shared
         }
         Err(rejected) => {
-            write_end(writer, Err(rejected.error))?;
+            write_answer(writer, Answer::Refused(rejected.error))?;
             let (dispatch, book, all) = rejected.value;
             match Shared::new(alloc, book, all, dispatch, 1) {
                 Ok(shared) => shared,
@@ -121,8 +123,10 @@ fn shared_with_one<S: Subscriber + Drop, L: Crew, W: Write>(
     requires name { blank.name ≡ L.name }
     requires parts { (blank.parts ≡ L.parts) × (L.parts ≡ 1) × (L.workers ≡ 1) }
     requires usable { S.usable (stack_of dispatch) }
-    requires fresh { IsFresh (S.registry (stack_of dispatch)) }
 {
+    if !dispatch.stack().root().is_fresh() {
+        return Err(Fault::Unprepared);
+    }
     let (book, all) = blank.open::<L>();
     let Ok((shared, mut workers)) = Shared::new(alloc, book, all, dispatch, 1) else {
         return Err(Fault::Memory);
@@ -179,10 +183,10 @@ fn try_once<S: Subscriber, L: Crew, W: Write>(
     write_start(writer)?;
     match asked(rt, shared, worker, request) {
         Ok(receipt) => {
-            write_end(writer, Ok(()))?;
+            write_answer(writer, Answer::Done)?;
             receipts.push(receipt)?;
         }
-        Err(error) => write_end(writer, Err(error))?,
+        Err(error) => write_answer(writer, Answer::Refused(error))?,
     }
     Ok(())
 }

@@ -2,14 +2,17 @@
 ghost use Rattle.span_dispatch.specs.Serve.{stack_of};
 
 use crate::fault::Fault;
-use crate::site::{LANE, OTHER_LANE, nth};
-use span_core::{Id, Lane, TraceError};
-use span_dispatch::{Dispatch, Notice};
+use crate::site::{KEPT_SPAN, LANE, OTHER_LANE, nth, span_metadata};
+use span_core::{Attributes, Id, Lane};
+use span_dispatch::{Answer, Dispatch, Notice};
 use span_registry::{LookupSpan, Registry, Subscriber, Tag};
 use std::io::Write;
 
 /// The spans that are looked up: more than a state has.
 const LOOKED_UP: u64 = 18;
+
+/// The tags that are looked up.
+const TAGS: u32 = 16;
 
 /// The most entries of a lane that are left.
 const ENTRIES: u32 = 20;
@@ -19,11 +22,15 @@ pub fn write_start<W: Write>(writer: &mut W) -> Result<(), Fault> {
     Ok(writer.write_all(b"call\n")?)
 }
 
-/// Writes how a call ended.
-pub fn write_end<W: Write>(writer: &mut W, ended: Result<(), TraceError>) -> Result<(), Fault> {
-    match ended {
-        Ok(()) => writeln!(writer, "done")?,
-        Err(error) => writeln!(writer, "refused {}", error.number())?,
+/// Writes how a call ended, in a line.
+pub fn write_answer<W: Write>(writer: &mut W, answer: Answer) -> Result<(), Fault> {
+    match answer {
+        Answer::Made(_) => writeln!(writer, "made")?,
+        Answer::Dropped => writeln!(writer, "dropped")?,
+        Answer::Done => writeln!(writer, "done")?,
+        Answer::Yes(said) => writeln!(writer, "{said}")?,
+        Answer::Current(span) => writeln!(writer, "current {}", span.is_some())?,
+        Answer::Refused(error) => writeln!(writer, "refused {}", error.number())?,
     }
     Ok(())
 }
@@ -53,7 +60,7 @@ fn write_span<W: Write>(writer: &mut W, registry: &Registry, id: Id) -> Result<(
     }
     let callsite = span.metadata().callsite();
     write!(writer, " of callsite {callsite}, values")?;
-    for tag in 0..3 {
+    for tag in 0..TAGS {
         if let Some(value) = span.extensions().get(Tag::<u64>::new(tag)) {
             write!(writer, " {tag}: {value}")?;
         }
@@ -62,7 +69,8 @@ fn write_span<W: Write>(writer: &mut W, registry: &Registry, id: Id) -> Result<(
     Ok(())
 }
 
-/// Writes what look-ups, stacks and handles show. So lanes leave their spans, and all handles are dropped.
+/// Writes what look-ups, stacks and handles show, and whether there is room for one span more. So lanes leave their spans, all
+/// handles are dropped, and what is left is written.
 pub fn write_all_of<S: Subscriber, W: Write>(
     writer: &mut W,
     dispatch: &mut Dispatch<S>,
@@ -71,12 +79,26 @@ pub fn write_all_of<S: Subscriber, W: Write>(
     ensures { S.usable (stack_of dispatch.new) }
 {
     write_spans(writer, dispatch.stack().root())?;
+    write_one_more(writer, dispatch)?;
     write_stack(writer, dispatch, LANE)?;
     write_stack(writer, dispatch, OTHER_LANE)?;
     for number in 1..=LOOKED_UP {
         write_handles(writer, dispatch, nth(number))?;
     }
-    Ok(())
+    write_spans(writer, dispatch.stack().root())
+}
+
+/// Opens a root, and writes how that ends.
+fn write_one_more<S: Subscriber, W: Write>(
+    writer: &mut W,
+    dispatch: &mut Dispatch<S>,
+) -> Result<(), Fault>
+    requires { S.usable (stack_of dispatch.old) }
+    ensures { S.usable (stack_of dispatch.new) }
+{
+    let attributes = Attributes::new_root(span_metadata(KEPT_SPAN), &[]);
+    let opened = dispatch.new_span(LANE, &attributes);
+    write_answer(writer, Answer::of_span(opened))
 }
 
 /// Writes the spans that a lane is in, newest first, and leaves them.

@@ -1,6 +1,6 @@
 //! The callsites of the spans and events, and the requests that are made of them.
 
-use span_core::{FieldSet, Id, Kind, Lane, Level, Metadata};
+use span_core::{FieldSet, Id, Kind, Lane, Level, LevelFilter, Metadata};
 use span_dispatch::{Request, Which, WhichParent};
 
 /// The lane of all that is prepared.
@@ -15,34 +15,36 @@ pub const SPANS: u64 = 16;
 /// How many of them the lane is in.
 pub const ENTERED: u64 = 8;
 
-/// A callsite that nothing was asked of.
-pub const UNKNOWN: u64 = 20;
-
 /// A callsite of spans that is kept.
 pub const KEPT_SPAN: u64 = 1;
 
 /// A callsite of events that is kept.
 pub const KEPT_EVENT: u64 = 15;
 
+/// A callsite of spans that nothing was asked of.
+pub const UNKNOWN_SPAN: u64 = 20;
+
+/// A callsite of events that nothing was asked of.
+pub const UNKNOWN_EVENT: u64 = 21;
+
+/// A callsite of debug spans that nothing was asked of.
+const DEBUG_SPAN: u64 = 22;
+
+/// A callsite of debug events that nothing was asked of.
+const DEBUG_EVENT: u64 = 23;
+
 /// The metadata of a callsite of spans.
 pub fn span_metadata(callsite: u64) -> Metadata {
-    metadata(callsite, "span", Kind::SPAN)
+    metadata(callsite, "span", Level::INFO, Kind::SPAN)
 }
 
 /// The metadata of a callsite of events.
 pub fn event_metadata(callsite: u64) -> Metadata {
-    metadata(callsite, "event", Kind::EVENT)
+    metadata(callsite, "event", Level::INFO, Kind::EVENT)
 }
 
-fn metadata(callsite: u64, name: &'static str, kind: Kind) -> Metadata {
-    Metadata::new(
-        callsite,
-        name,
-        "memory",
-        Level::INFO,
-        kind,
-        FieldSet::new(&[]),
-    )
+fn metadata(callsite: u64, name: &'static str, level: Level, kind: Kind) -> Metadata {
+    Metadata::new(callsite, name, "memory", level, kind, FieldSet::new(&[]))
 }
 
 /// The id of the span that was made as this one, counted from 1: a fresh registry hands them out so.
@@ -62,7 +64,83 @@ pub fn new_span(callsite: u64, parent: WhichParent) -> Request<'static> {
 
 /// A request for an event.
 pub fn event(callsite: u64) -> Request<'static> {
-    Request::Event(LANE, event_metadata(callsite), WhichParent::Contextual, &[])
+    event_of(event_metadata(callsite))
+}
+
+/// The same of these metadata.
+fn event_of(metadata: Metadata) -> Request<'static> {
+    Request::Event(LANE, metadata, WhichParent::Contextual, &[])
+}
+
+/// An event of a callsite that is kept with other metadata.
+pub fn other_event() -> Request<'static> {
+    event_of(metadata(KEPT_EVENT, "event", Level::WARN, Kind::EVENT))
+}
+
+/// The request with this name, of spans that are prepared, and of a callsite that nothing was asked of.
+pub fn request_named(name: &str) -> Option<Request<'static>> {
+    match name {
+        "enabled" => Some(Request::Enabled(LANE, event_metadata(UNKNOWN_EVENT))),
+        "new_span" => Some(new_span(UNKNOWN_SPAN, WhichParent::Contextual)),
+        "event" => Some(event(UNKNOWN_EVENT)),
+        "enter" => Some(Request::Enter(LANE, known(ENTERED + 1))),
+        "exit" => Some(Request::Exit(LANE, known(ENTERED))),
+        "record" => Some(Request::Record(LANE, known(1), &[])),
+        "follows_from" => Some(Request::Follows(LANE, known(1), known(2))),
+        "clone_span" => Some(Request::Clone(LANE, known(1))),
+        "drop_span" => Some(Request::Drop(LANE, known(SPANS))),
+        "set_level" => Some(Request::SetLevel(0, LevelFilter::WARN)),
+        "current_span" => Some(Request::Current(LANE)),
+        _ => request_of_kept(name),
+    }
+}
+
+/// The request with this name of a callsite that is kept.
+fn request_of_kept(name: &str) -> Option<Request<'static>> {
+    match name {
+        "enabled_kept" => Some(Request::Enabled(LANE, event_metadata(KEPT_EVENT))),
+        "event_kept" => Some(event(KEPT_EVENT)),
+        "span_kept" => Some(new_span(KEPT_SPAN, WhichParent::Contextual)),
+        "event_of_other_metadata" => Some(other_event()),
+        _ => request_above(name),
+    }
+}
+
+/// The request with this name of a level that the stack's hint rules out.
+fn request_above(name: &str) -> Option<Request<'static>> {
+    let event = metadata(DEBUG_EVENT, "event", Level::DEBUG, Kind::EVENT);
+    let span = metadata(DEBUG_SPAN, "span", Level::DEBUG, Kind::SPAN);
+    match name {
+        "enabled_above" => Some(Request::Enabled(LANE, event)),
+        "event_above" => Some(event_of(event)),
+        "span_above" => Some(Request::NewSpan(LANE, span, WhichParent::Contextual, &[])),
+        _ => request_in_vain(name),
+    }
+}
+
+/// The request with this name that is refused, whatever memory there is: of a span that was never opened, or a filter that isn't
+/// there.
+fn request_in_vain(name: &str) -> Option<Request<'static>> {
+    let never = WhichParent::Explicit(known(0));
+    match name {
+        "enter_unknown" => Some(Request::Enter(LANE, known(0))),
+        "span_in_unknown" => Some(new_span(UNKNOWN_SPAN, never)),
+        "span_kept_in_unknown" => Some(new_span(KEPT_SPAN, never)),
+        "set_level_of_none" => Some(Request::SetLevel(9, LevelFilter::WARN)),
+        _ => None,
+    }
+}
+
+/// Requests that take no memory once a dispatcher is prepared: more than a list has room for that was given no more.
+pub fn sparing() -> [Request<'static>; 6] {
+    [
+        Request::Clone(LANE, known(2)),
+        Request::Current(LANE),
+        Request::Record(LANE, known(2), &[]),
+        Request::Drop(LANE, known(2)),
+        Request::Enabled(LANE, event_metadata(KEPT_EVENT)),
+        Request::Follows(LANE, known(2), known(3)),
+    ]
 }
 
 /// The requests that prepare a dispatcher: spans each in the one before, of which the lane is in some, an event, and what takes no more

@@ -21,7 +21,7 @@ fn plain(alloc: Global) -> Result<Dispatch<Plain>, Fail> {
 
 /// What the one callsite for spans makes.
 fn span_metadata() -> Metadata {
-    metadata_of(7, Level::INFO, Kind::SPAN)
+    metadata_of(6, Level::INFO, Kind::SPAN)
 }
 
 /// What the one callsite for events makes.
@@ -31,7 +31,7 @@ fn event_metadata() -> Metadata {
 
 /// A span of level info.
 fn span_in(parent: WhichParent) -> Request<'static> {
-    new_span(7, Level::INFO, parent)
+    new_span(6, Level::INFO, parent)
 }
 
 /// Opens a root, where no layer vetoes.
@@ -235,13 +235,13 @@ fn refuses_unknown<S: Subscriber>(
     Ok(())
 }
 
-#[test]
-fn spans_may_be_unknown(rt: HostRuntime) -> Result<(), Fail> {
-    let mut dispatch = plain(rt.alloc())?;
+/// Makes each call with ids that were never handed out and with that of a closed span.
+fn knows_open_spans_alone(rt: &impl Abort, dispatch: Dispatch<Plain>) -> Result<(), Fail> {
+    let mut dispatch = dispatch;
     let closed = open_root(&mut dispatch)?;
     assert_eq!(rt; drop_handle(&mut dispatch, closed), Ok(true));
     for id in [Id::from_u64(0), Id::from_u64(u64::MAX), closed] {
-        refuses_unknown(&rt, &mut dispatch, id)?;
+        refuses_unknown(rt, &mut dispatch, id)?;
     }
     assert_eq!(rt;
         dispatch.stack().layer().notices(),
@@ -255,6 +255,13 @@ fn spans_may_be_unknown(rt: HostRuntime) -> Result<(), Fail> {
         .as_slice()
     );
     Ok(())
+}
+
+#[test]
+fn spans_may_be_unknown(rt: HostRuntime) -> Result<(), Fail> {
+    knows_open_spans_alone(&rt, plain(rt.alloc())?)?;
+    let stack = put(Registry::new(rt.alloc()), Recorder::new(rt.alloc()))?;
+    knows_open_spans_alone(&rt, in_use(rt.alloc(), stack))
 }
 
 /// The span that the lane is in.

@@ -284,7 +284,7 @@ fn closes_a_chain(rt: &impl Abort, alloc: Global, dispatch: Dispatch<Plain>) -> 
     let stack = dispatch.stack();
     assert!(rt; stack.layer().notices() == told.as_slice());
     let mut closed = chain.iter();
-    assert!(rt; closed.all(|id| !stack.root().is_open(*id)));
+    assert!(rt; closed.all(|id| stack.span(*id).is_none()));
     Ok(())
 }
 

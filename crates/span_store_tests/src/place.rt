@@ -1,7 +1,8 @@
 //! Tests of places that hold one span after another, and of ids that are never issued again.
 ghost use Rattle.std.specs.Prelude.{◌≤◌};
 
-use crate::fixture::{LANE, clone_of, current, drop_handle, enter, insert, open, root, value_of};
+use crate::fixture::{LANE, current, drop_handle, enter, insert, open, root, value_of};
+use crate::unknown_span::refuses_unknown;
 use span_core::{Id, TraceError};
 use span_registry::{Limits, LookupSpan, Registry, Subscriber, Tag};
 use std::alloc::Global;
@@ -77,8 +78,7 @@ fn one_place_for_two_spans(rt: HostRuntime) -> Result<(), Fail> {
     assert_eq!(rt; registry.retired(), 1);
     assert_eq!(rt; new_root(&mut registry), Err(TraceError::TooManySpans));
     for id in [a, b] {
-        let cloned = clone_of(&mut registry, id);
-        assert_eq!(rt; cloned, Err(TraceError::UnknownSpan(id)));
+        refuses_unknown(&rt, &mut registry, id);
     }
     Ok(())
 }

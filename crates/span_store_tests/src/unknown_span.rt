@@ -9,7 +9,7 @@ use std::process::Abort;
 use std::test::Fail;
 
 /// Makes each call that wants an open span with one that isn't.
-fn refuses_unknown(rt: &impl Abort, registry: &mut Registry, id: Id) {
+pub(crate) fn refuses_unknown(rt: &impl Abort, registry: &mut Registry, id: Id) {
     let unknown = TraceError::UnknownSpan(id);
     assert!(rt; !registry.is_open(id));
     assert_eq!(rt; enter(registry, id), Err(unknown));
