@@ -1,5 +1,6 @@
 //! Calls of a registry, of its spans' extensions, and of their scopes.
 ghost use Rattle.span_dispatch.specs.Serve.{stack_of};
+ghost use Rattle.std.specs.Prelude.{◌≤◌};
 
 use crate::call::RegistryCall;
 use crate::fault::Fault;
@@ -78,7 +79,11 @@ fn lanes_of(call: RegistryCall) -> u32 {
 }
 
 /// A registry with room for one span more, and for one child or handle more of each.
-fn limits_of(call: RegistryCall) -> Limits {
+fn limits_of(call: RegistryCall) -> Limits
+    ensures places { 1 ≤ result.places }
+    ensures generations { 1 ≤ result.generations }
+    ensures count { 1 ≤ result.count }
+{
     match call {
         RegistryCall::NewSpanOfFullParent => Limits { count: 1, ..ROOM },
         RegistryCall::NewSpanWithoutPlace => Limits { places: 16, ..ROOM },
