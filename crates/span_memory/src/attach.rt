@@ -11,7 +11,7 @@ use std::alloc::Global;
 use std::io::Write;
 
 /// Puts a recorder under a level on a registry, and writes how many filters that handed out without that and after it.
-pub fn make<W: Write>(alloc: Global, writer: &mut W, call: Attachment) -> Result<(), Fault> {
+pub(crate) fn make<W: Write>(alloc: Global, writer: &mut W, call: Attachment) -> Result<(), Fault> {
     let registry = Registry::new(alloc);
     let layer = Recorder::new(alloc).with_filter(LevelFilter::INFO);
     write_filters(writer, &registry)?;

@@ -123,7 +123,7 @@ pub enum Attachment {
 
 impl Call {
     /// The call that a line names: of what, and which, with a space between.
-    pub fn of(line: &str) -> Option<Call> {
+    pub(crate) fn of(line: &str) -> Option<Call> {
         let (subject, name) = line.split_once(' ')?;
         match (subject, name) {
             ("dispatcher", "serve") => Some(Call::Serve),

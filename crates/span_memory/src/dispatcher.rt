@@ -41,7 +41,7 @@ fn stack(alloc: Global) -> Result<Stack, Fault> {
 }
 
 /// A dispatcher with such a stack, in this state.
-pub fn dispatcher(alloc: Global, state: State) -> Result<Dispatch<Stack>, Fault> {
+pub(crate) fn dispatcher(alloc: Global, state: State) -> Result<Dispatch<Stack>, Fault> {
     let stack = stack(alloc)?;
     match state {
         State::Begun => Ok(Dispatch::new(alloc, stack)),
@@ -67,7 +67,7 @@ fn prepared<S: Subscriber + Drop>(
 }
 
 /// Makes a request of a dispatcher, and writes what it shows without the request and after it.
-pub fn make<W: Write>(
+pub(crate) fn make<W: Write>(
     alloc: Global,
     writer: &mut W,
     state: State,
@@ -82,7 +82,7 @@ pub fn make<W: Write>(
 }
 
 /// Serves a list whose requests take no memory, and writes the same.
-pub fn serve<W: Write>(alloc: Global, writer: &mut W) -> Result<(), Fault> {
+pub(crate) fn serve<W: Write>(alloc: Global, writer: &mut W) -> Result<(), Fault> {
     write_dispatcher(writer, dispatcher(alloc, State::Kept)?)?;
     let mut dispatch = dispatcher(alloc, State::Kept)?;
     write_start(writer)?;
@@ -127,7 +127,7 @@ fn send<S: Subscriber>(dispatch: &mut Dispatch<S>) -> Result<(), Fault>
 }
 
 /// Sends an event that the recorder has no room for, and then another; and writes the same, both after the second.
-pub fn record<W: Write>(alloc: Global, writer: &mut W) -> Result<(), Fault> {
+pub(crate) fn record<W: Write>(alloc: Global, writer: &mut W) -> Result<(), Fault> {
     write_dispatcher(writer, full(alloc)?)?;
     let mut dispatch = full(alloc)?;
     write_start(writer)?;
@@ -138,7 +138,10 @@ pub fn record<W: Write>(alloc: Global, writer: &mut W) -> Result<(), Fault> {
 }
 
 /// Writes all that a dispatcher shows and answers, and what its recorder was notified of.
-pub fn write_dispatcher<W: Write>(writer: &mut W, dispatch: Dispatch<Stack>) -> Result<(), Fault> {
+pub(crate) fn write_dispatcher<W: Write>(
+    writer: &mut W,
+    dispatch: Dispatch<Stack>,
+) -> Result<(), Fault> {
     let mut dispatch = dispatch;
     let level = dispatch.stack().inner().layer().filter();
     writeln!(
@@ -174,7 +177,7 @@ fn write_answers<S: Subscriber, W: Write>(
 }
 
 /// How a request ends.
-pub fn asked<S: Subscriber>(dispatch: &mut Dispatch<S>, request: Request<'_>) -> Answer
+pub(crate) fn asked<S: Subscriber>(dispatch: &mut Dispatch<S>, request: Request<'_>) -> Answer
     requires { S.usable (stack_of dispatch.old) }
     ensures { S.usable (stack_of dispatch.new) }
 {

@@ -14,7 +14,7 @@ use std::fmt::Debug;
 use std::io::Write;
 
 /// Copies a filter, and writes what it answers without that and after it.
-pub fn make<W: Write>(alloc: Global, writer: &mut W, kind: FilterKind) -> Result<(), Fault> {
+pub(crate) fn make<W: Write>(alloc: Global, writer: &mut W, kind: FilterKind) -> Result<(), Fault> {
     match kind {
         FilterKind::Function => copy_function(alloc, writer),
         FilterKind::InContext => copy_in_context(alloc, writer),

@@ -5,7 +5,7 @@ use span_core::{Event, FilterId, Id, TraceError};
 use span_registry::{Context, LookupSpan, Registry, Tag};
 
 /// Looks a span up in each way. Fails where one of them doesn't find it.
-pub fn look_up(registry: &Registry) -> Result<(), TraceError> {
+pub(crate) fn look_up(registry: &Registry) -> Result<(), TraceError> {
     let id = nth(5);
     let context = Context::new(registry, LANE);
     if finds_span(registry, id) && finds_in_context(&context, id) && finds_event(&context) {

@@ -24,7 +24,7 @@ impl Model for Named {
 
 impl Named {
     /// Whether it is this name.
-    pub fn new(alloc: Global, name: &str) -> Result<Named, AllocError>
+    pub(crate) fn new(alloc: Global, name: &str) -> Result<Named, AllocError>
         ensures { IfOk result (λ named. named ≡ name.now) }
     {
         Ok(Named {

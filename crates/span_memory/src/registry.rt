@@ -18,7 +18,11 @@ use std::io::Write;
 const VALUES: u32 = 15;
 
 /// Makes a call of a registry, and writes what it shows without the call and after it.
-pub fn make<W: Write>(alloc: Global, writer: &mut W, call: RegistryCall) -> Result<(), Fault> {
+pub(crate) fn make<W: Write>(
+    alloc: Global,
+    writer: &mut W,
+    call: RegistryCall,
+) -> Result<(), Fault> {
     write_registry(alloc, writer, prepared(alloc, call)?)?;
     let mut registry = prepared(alloc, call)?;
     write_start(writer)?;
@@ -28,7 +32,7 @@ pub fn make<W: Write>(alloc: Global, writer: &mut W, call: RegistryCall) -> Resu
 }
 
 /// Closes a chain of spans, and writes the same.
-pub fn close_chain<W: Write>(alloc: Global, writer: &mut W) -> Result<(), Fault> {
+pub(crate) fn close_chain<W: Write>(alloc: Global, writer: &mut W) -> Result<(), Fault> {
     let call = RegistryCall::CloseChain;
     write_registry(alloc, writer, prepared(alloc, call)?)?;
     let mut dispatch = Dispatch::fresh(alloc, prepared(alloc, call)?);

@@ -8,7 +8,7 @@ use std::io::{Read, Write};
 use std::sync::Wait;
 
 /// Makes the call that each line names.
-pub fn run<H: Wait, R: Read, W: Write>(
+pub(crate) fn run<H: Wait, R: Read, W: Write>(
     rt: &H,
     alloc: Global,
     reader: &mut R,

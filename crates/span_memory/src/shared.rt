@@ -28,7 +28,7 @@ struct Finished<S> {
 }
 
 /// Makes a request of a shared dispatcher, and writes what it shows without the request and after it.
-pub fn make<W: Write>(
+pub(crate) fn make<W: Write>(
     rt: &impl Wait,
     alloc: Global,
     writer: &mut W,
@@ -52,7 +52,7 @@ fn after<W: Write>(
 }
 
 /// Shares a dispatcher, and writes what it shows without that and after it.
-pub fn share<W: Write>(rt: &impl Wait, alloc: Global, writer: &mut W) -> Result<(), Fault> {
+pub(crate) fn share<W: Write>(rt: &impl Wait, alloc: Global, writer: &mut W) -> Result<(), Fault> {
     write_dispatcher(writer, dispatcher(alloc, State::Begun)?)?;
     let dispatch = dispatcher(alloc, State::Begun)?;
     let dispatch = shared_once::<Stack, Brand, W>(alloc, writer, Blank::new(1), dispatch)?;

@@ -18,12 +18,12 @@ const TAGS: u32 = 16;
 const ENTRIES: u32 = 20;
 
 /// Writes that the call begins, by one write and without memory: `tests/each_call_refused` refuses memory from here to the next write.
-pub fn write_start<W: Write>(writer: &mut W) -> Result<(), Fault> {
+pub(crate) fn write_start<W: Write>(writer: &mut W) -> Result<(), Fault> {
     Ok(writer.write_all(b"call\n")?)
 }
 
 /// Writes how a call ended, in a line.
-pub fn write_answer<W: Write>(writer: &mut W, answer: Answer) -> Result<(), Fault> {
+pub(crate) fn write_answer<W: Write>(writer: &mut W, answer: Answer) -> Result<(), Fault> {
     match answer {
         Answer::Made(_) => writeln!(writer, "made")?,
         Answer::Dropped => writeln!(writer, "dropped")?,
@@ -36,7 +36,7 @@ pub fn write_answer<W: Write>(writer: &mut W, answer: Answer) -> Result<(), Faul
 }
 
 /// Writes what look-ups show of each span.
-pub fn write_spans<W: Write>(writer: &mut W, registry: &Registry) -> Result<(), Fault> {
+pub(crate) fn write_spans<W: Write>(writer: &mut W, registry: &Registry) -> Result<(), Fault> {
     writeln!(
         writer,
         "filters {}, retired {}",
@@ -71,7 +71,7 @@ fn write_span<W: Write>(writer: &mut W, registry: &Registry, id: Id) -> Result<(
 
 /// Writes what look-ups, stacks and handles show, and whether there is room for one span more. So lanes leave their spans, all
 /// handles are dropped, and what is left is written.
-pub fn write_all_of<S: Subscriber, W: Write>(
+pub(crate) fn write_all_of<S: Subscriber, W: Write>(
     writer: &mut W,
     dispatch: &mut Dispatch<S>,
 ) -> Result<(), Fault>
@@ -148,7 +148,7 @@ fn write_handles<S: Subscriber, W: Write>(
 }
 
 /// Writes notices, and whether their recorder failed.
-pub fn write_notices<W: Write>(
+pub(crate) fn write_notices<W: Write>(
     writer: &mut W,
     notices: &[Notice],
     failed: bool,

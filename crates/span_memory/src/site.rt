@@ -34,12 +34,12 @@ const DEBUG_SPAN: u64 = 22;
 const DEBUG_EVENT: u64 = 23;
 
 /// The metadata of a callsite of spans.
-pub fn span_metadata(callsite: u64) -> Metadata {
+pub(crate) fn span_metadata(callsite: u64) -> Metadata {
     metadata(callsite, "span", Level::INFO, Kind::SPAN)
 }
 
 /// The metadata of a callsite of events.
-pub fn event_metadata(callsite: u64) -> Metadata {
+pub(crate) fn event_metadata(callsite: u64) -> Metadata {
     metadata(callsite, "event", Level::INFO, Kind::EVENT)
 }
 
@@ -48,22 +48,22 @@ fn metadata(callsite: u64, name: &'static str, level: Level, kind: Kind) -> Meta
 }
 
 /// The id of the span that was made as this one, counted from 1: a fresh registry hands them out so.
-pub fn nth(number: u64) -> Id {
+pub(crate) fn nth(number: u64) -> Id {
     Id::from_u64(number)
 }
 
 /// The same, as requests name it.
-pub fn known(number: u64) -> Which {
+pub(crate) fn known(number: u64) -> Which {
     Which::Known(nth(number))
 }
 
 /// A request for a new span.
-pub fn new_span(callsite: u64, parent: WhichParent) -> Request<'static> {
+pub(crate) fn new_span(callsite: u64, parent: WhichParent) -> Request<'static> {
     Request::NewSpan(LANE, span_metadata(callsite), parent, &[])
 }
 
 /// A request for an event.
-pub fn event(callsite: u64) -> Request<'static> {
+pub(crate) fn event(callsite: u64) -> Request<'static> {
     event_of(event_metadata(callsite))
 }
 
@@ -73,12 +73,12 @@ fn event_of(metadata: Metadata) -> Request<'static> {
 }
 
 /// An event of a callsite that is kept with other metadata.
-pub fn other_event() -> Request<'static> {
+pub(crate) fn other_event() -> Request<'static> {
     event_of(metadata(KEPT_EVENT, "event", Level::WARN, Kind::EVENT))
 }
 
 /// The request with this name, of spans that are prepared, and of a callsite that nothing was asked of.
-pub fn request_named(name: &str) -> Option<Request<'static>> {
+pub(crate) fn request_named(name: &str) -> Option<Request<'static>> {
     match name {
         "enabled" => Some(Request::Enabled(LANE, event_metadata(UNKNOWN_EVENT))),
         "new_span" => Some(new_span(UNKNOWN_SPAN, WhichParent::Contextual)),
@@ -132,7 +132,7 @@ fn request_in_vain(name: &str) -> Option<Request<'static>> {
 }
 
 /// Requests that take no memory once a dispatcher is prepared: more than a list has room for that was given no more.
-pub fn sparing() -> [Request<'static>; 6] {
+pub(crate) fn sparing() -> [Request<'static>; 6] {
     [
         Request::Clone(LANE, known(2)),
         Request::Current(LANE),
@@ -145,7 +145,7 @@ pub fn sparing() -> [Request<'static>; 6] {
 
 /// The requests that prepare a dispatcher: spans each in the one before, of which the lane is in some, an event, and what takes no more
 /// memory. Their journal has 32 entries, and 15 callsites are kept: so many that the next needs memory.
-pub fn preparation() -> [Request<'static>; 32] {
+pub(crate) fn preparation() -> [Request<'static>; 32] {
     [
         new_span(1, WhichParent::Root),
         new_span(2, WhichParent::Explicit(known(1))),

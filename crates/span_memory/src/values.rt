@@ -12,7 +12,10 @@ const VALUE: u64 = 8;
 const NOTHING: TraceError = TraceError::TooManyFilters;
 
 /// How a call of the extensions of a span ends.
-pub fn called_of_values(registry: &mut Registry, call: RegistryCall) -> Result<(), TraceError> {
+pub(crate) fn called_of_values(
+    registry: &mut Registry,
+    call: RegistryCall,
+) -> Result<(), TraceError> {
     match call {
         RegistryCall::Insert => insert(values_of(registry, nth(2))?, 0),
         RegistryCall::InsertOneMore => insert(values_of(registry, nth(1))?, 15),

@@ -13,7 +13,11 @@ use std::alloc::Global;
 use std::io::Write;
 
 /// Makes a request for the second time: the first keeps its callsite.
-pub fn make<W: Write>(alloc: Global, writer: &mut W, request: Request<'_>) -> Result<(), Fault> {
+pub(crate) fn make<W: Write>(
+    alloc: Global,
+    writer: &mut W,
+    request: Request<'_>,
+) -> Result<(), Fault> {
     let veto = dynamic_filter_fn(Named::new(alloc, "no such name")?);
     match Registry::new(alloc).with(veto) {
         Ok(stack) => make_twice(writer, Dispatch::new(alloc, stack), request),
