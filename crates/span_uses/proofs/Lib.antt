@@ -2,7 +2,6 @@ mod Beside
 mod Counter
 mod Level
 mod Lines
-mod Optional
 mod Parents
 mod PutOn
 mod Recorded

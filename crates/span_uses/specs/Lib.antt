@@ -8,5 +8,4 @@ pub mod Layers
 pub mod Outline
 pub mod Reload
 pub mod Stacks
-pub mod Tests
 pub mod Uses

@@ -12,8 +12,6 @@ ghost use Rattle.span_registry.specs.Subscriber.{SameButExtensions};
 ghost use Rattle.span_uses.specs.Uses.{Begins, DropsAndLists, IsChainOf, Lists, RemovesAndLists};
 ghost use Rattle.span_uses.specs.Uses.{left, name_in, parent_name_in, stack_in, value_in};
 
-#[cfg(test)]
-mod asked_tests;
 pub mod boxed;
 pub mod chain;
 pub mod conducts;
@@ -22,14 +20,10 @@ pub mod filter;
 pub mod isolation;
 pub mod kinds;
 pub mod law;
-#[cfg(test)]
-mod law_tests;
 pub mod layer;
 pub mod outline;
 pub mod reload;
 pub mod stack;
-#[cfg(test)]
-mod tests;
 
 use span_core::{Attributes, Id, Lane, Pass, Record, TraceError};
 use span_registry::{

@@ -1,4 +1,4 @@
--- What a layer of the tests answers. No public clause cites it.
+-- What a layer of the tests answers.
 use Rattle.std.specs.Prelude.{◌≡◌, Bool, true, false, None}
 use Rattle.std.proofs.Common.{subst, sym}
 use Rattle.span_core.specs.declared.interest.Interest.TheVariants.{Sometimes}

@@ -1,8 +1,8 @@
 use Rattle.std.specs.Prelude.{⊤}
 use Rattle.span_filters.proofs.CallerLemmas.{in_a_box}
-use Rattle.span_uses.proofs.Optional.{if_some_of_all}
-use Rattle.span_uses.proofs.tests.a_receiver_of_five.OwnLists.{own-1, at-1-1}
-use Rattle.span_uses.proofs.tests.a_receiver_of_five.Goals as goal
+use Rattle.span_uses_tests.proofs.Optional.{if_some_of_all}
+use Rattle.span_uses_tests.proofs.receiver.a_receiver_of_five.OwnLists.{own-1, at-1-1}
+use Rattle.span_uses_tests.proofs.receiver.a_receiver_of_five.Goals as goal
 
 pub serve_by-requires-clause-layer : goal.serve_by-requires-clause-layer
 serve_by-requires-clause-layer g c = (

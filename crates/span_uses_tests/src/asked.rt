@@ -6,9 +6,9 @@ ghost use Rattle.span_layers.specs.Layer.{HearsBy};
 ghost use Rattle.span_layers.specs.Levels.{leaf_levels};
 ghost use Rattle.span_registry.specs.Form.{Leaf};
 ghost use Rattle.span_registry.specs.Levels.{unlevelled};
-ghost use Rattle.span_uses.specs.Tests.{FixedSteps, fixed_answers, fixed_answers_laws};
+ghost use Rattle.span_uses_tests.specs.Fixed.{FixedSteps, fixed_answers, fixed_answers_laws};
 
-use crate::tests::sent_to_layer;
+use crate::receiver::sent_to_layer;
 use span_core::{Attributes, Event, Id, Interest, LevelFilter, Metadata, Pass, Record};
 use span_layers::Layer;
 use span_registry::{Context, ContextMut, Registry, Subscriber};

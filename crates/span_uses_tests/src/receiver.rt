@@ -3,9 +3,6 @@ ghost use Rattle.std.specs.Prelude.{⊤, IfOk};
 ghost use Rattle.span_layers.specs.Layered.{inner_of, outer_of};
 ghost use Rattle.span_registry.specs.Context.{WritesExtensions};
 
-use crate::isolation::record_alone_and_beside;
-use crate::outline::serve_outlined;
-use crate::reload::reload;
 use span_boxed::{BoxedLayer, DynLayer};
 use span_core::{
     Event, FieldSet, Id, Interest, Kind, Lane, Level, LevelFilter, Metadata, Pass, TraceError,
@@ -13,6 +10,9 @@ use span_core::{
 use span_dispatch::{Answer, Dispatch, Notice, Recorder, Request, Which, WhichParent};
 use span_layers::{Filtered, Layer, LayerExt, Layered, Observe, Observed, Observer, SubscriberExt};
 use span_registry::{ContextMut, LookupSpan, Registry, Subscriber, Tag};
+use span_uses::isolation::record_alone_and_beside;
+use span_uses::outline::serve_outlined;
+use span_uses::reload::reload;
 use std::alloc::Global;
 use std::process::Abort;
 use std::test::Fail;
