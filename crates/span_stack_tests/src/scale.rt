@@ -6,7 +6,7 @@ use crate::stack::{LANE, metadata_of, put};
 use span_core::{Attributes, Id, Kind, Level, LevelFilter, TraceError};
 use span_dispatch::{Answer, Dispatch, Notice, Recorder};
 use span_layers::{Filtered, LayerExt, Layered};
-use span_registry::{Registry, Subscriber};
+use span_registry::{LookupSpan, Registry, Subscriber};
 use std::alloc::{AllocError, Global};
 use std::process::Abort;
 use std::test::Fail;
