@@ -1,6 +1,6 @@
 //! Tests of contexts: what one filter refused is hidden from those that stand under it, and from nobody else.
 use crate::fixture::{
-    Family, LANE, down, enter, event_at, family_in, name_of, names, open, parent_of, root, up,
+    Family, LANE, enter, event_at, family_in, name_of, names, open, parent_of, root, shows_scope,
     value_of,
 };
 use span_core::{Event, FilterId, Id, Level, Pass, TraceError};
@@ -52,11 +52,20 @@ fn one_filter_hides_from_its_own_alone(rt: HostRuntime) -> Result<(), Fail> {
     let Family { leaf, .. } = enter_family(&mut registry, info)?;
     let all = Context::new(&registry, LANE);
     let filtered = all.with_filter(info);
-    assert_eq!(rt; up(rt.alloc(), &all, leaf)?.as_str(), "leaf child root ");
-    assert_eq!(rt; up(rt.alloc(), &filtered, leaf)?.as_str(), "leaf root ");
-    assert_eq!(rt; down(rt.alloc(), &all, leaf)?.as_str(), "root child leaf ");
-    assert_eq!(rt; down(rt.alloc(), &filtered, leaf)?.as_str(), "root leaf ");
-    Ok(())
+    shows_scope(
+        &rt,
+        rt.alloc(),
+        &all,
+        leaf,
+        ("leaf child root ", "root child leaf "),
+    )?;
+    shows_scope(
+        &rt,
+        rt.alloc(),
+        &filtered,
+        leaf,
+        ("leaf root ", "root leaf "),
+    )
 }
 
 #[test]

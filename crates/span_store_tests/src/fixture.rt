@@ -6,6 +6,7 @@ use span_core::{
 use span_filters::Filter;
 use span_registry::{Context, LookupSpan, Registry, Released, Scope, SpanRef, Subscriber, Tag};
 use std::alloc::{AllocError, Global};
+use std::process::Abort;
 use std::test::Fail;
 
 /// The lane on which tests act.
@@ -176,13 +177,22 @@ pub(crate) fn up<S: LookupSpan>(
 }
 
 /// The same, root first.
-pub(crate) fn down<S: LookupSpan>(
+fn down<S: LookupSpan>(alloc: Global, ctx: &Context<'_, S>, id: Id) -> Result<String, Fail> {
+    let scope = ctx.span_scope(id).ok_or("no span")?;
+    Ok(names_from_root(alloc, scope)?)
+}
+
+/// A context shows these names of a span and of those round it, leaf first and root first.
+pub(crate) fn shows_scope<S: LookupSpan>(
+    rt: &impl Abort,
     alloc: Global,
     ctx: &Context<'_, S>,
     id: Id,
-) -> Result<String, Fail> {
-    let scope = ctx.span_scope(id).ok_or("no span")?;
-    Ok(names_from_root(alloc, scope)?)
+    named: (&'static str, &'static str),
+) -> Result<(), Fail> {
+    assert_eq!(rt; up(alloc, ctx, id)?.as_str(), named.0);
+    assert_eq!(rt; down(alloc, ctx, id)?.as_str(), named.1);
+    Ok(())
 }
 
 /// The name of a span's parent, if a context shows one.

@@ -1,10 +1,11 @@
 //! Tests of the look-ups: spans by their ids, parents and scopes under masks.
 use crate::fixture::{
-    Family, LANE, down, family_in, insert, open_named, parent_of, span_named, up, value_of,
+    Family, LANE, family_in, insert, open_named, parent_of, shows_scope, span_named, up, value_of,
 };
 use span_core::{FieldSet, FilterId, Id, TraceError};
-use span_registry::{Context, LookupSpan, Registry, Scope, SpanData, Tag};
+use span_registry::{Context, LookupSpan, Registry, Scope, ScopeFromRoot, SpanData, SpanRef, Tag};
 use std::alloc::{AllocError, Global};
+use std::process::Abort;
 use std::test::Fail;
 
 /// A family of which filter 0 refused the child, and filter 1 the root.
@@ -20,14 +21,13 @@ fn scopes_under_masks(rt: HostRuntime) -> Result<(), Fail> {
     let child_hidden = all.with_filter(FilterId::of(0));
     let root_hidden = all.with_filter(FilterId::of(1));
     let both_hidden = child_hidden.with_filter(FilterId::of(1));
-    for (ctx, leaf_first, root_first, parent) in [
-        (all, "leaf child root ", "root child leaf ", Some("child")),
-        (child_hidden, "leaf root ", "root leaf ", Some("root")),
-        (root_hidden, "leaf child ", "child leaf ", Some("child")),
-        (both_hidden, "leaf ", "leaf ", None),
+    for (ctx, named, parent) in [
+        (all, ("leaf child root ", "root child leaf "), Some("child")),
+        (child_hidden, ("leaf root ", "root leaf "), Some("root")),
+        (root_hidden, ("leaf child ", "child leaf "), Some("child")),
+        (both_hidden, ("leaf ", "leaf "), None),
     ] {
-        assert_eq!(rt; up(rt.alloc(), &ctx, leaf)?.as_str(), leaf_first);
-        assert_eq!(rt; down(rt.alloc(), &ctx, leaf)?.as_str(), root_first);
+        shows_scope(&rt, rt.alloc(), &ctx, leaf, named)?;
         assert_eq!(rt; parent_of(&ctx, leaf), parent);
     }
     Ok(())
@@ -57,29 +57,31 @@ fn first_filter<R: LookupSpan>(subscriber: &mut R) -> Result<(FilterId, u32), Tr
     Ok((filter, subscriber.root().filters()))
 }
 
-#[test]
-fn what_a_reference_shows_of_a_span(rt: HostRuntime) -> Result<(), Fail> {
-    let mut registry = Registry::new(rt.alloc());
-    let Family { child, leaf, .. } = refused_family(&mut registry)?;
-    let size = Tag::<u64>::new(3);
-    insert(&mut registry, leaf, size, 42)?;
-    assert!(rt; registry.span(Id::from_u64(0)).is_none());
-    let found = registry.span(leaf).ok_or("no leaf")?;
-    assert_eq!(rt; found.id(), leaf);
+/// What a reference shows of the leaf of a family.
+fn shows_the_leaf(rt: &impl Abort, registry: &Registry, family: Family) -> Result<(), Fail> {
+    let found = registry.span(family.leaf).ok_or("no leaf")?;
+    assert_eq!(rt; found.id(), family.leaf);
     assert_eq!(rt; found.metadata(), span_named("leaf"));
     assert_eq!(rt; found.name(), "leaf");
     assert_eq!(rt; found.fields(), FieldSet::new(&["size"]));
-    assert_eq!(rt; found.parent().ok_or("no child")?.id(), child);
-    assert_eq!(rt; value_of(&registry, leaf, size), Some(42));
-    assert_eq!(rt; value_of(&registry, child, size), None);
+    assert_eq!(rt; found.parent().ok_or("no child")?.id(), family.child);
     Ok(())
 }
 
 #[test]
-fn what_is_found_of_a_span(rt: HostRuntime) -> Result<(), Fail> {
+fn what_a_reference_shows_of_a_span(rt: HostRuntime) -> Result<(), Fail> {
     let mut registry = Registry::new(rt.alloc());
-    assert_eq!(rt; first_filter(&mut registry)?, (FilterId::of(0), 1));
-    let family = refused_family(registry.root_mut())?;
+    let family = refused_family(&mut registry)?;
+    let size = Tag::<u64>::new(3);
+    insert(&mut registry, family.leaf, size, 42)?;
+    assert!(rt; registry.span(Id::from_u64(0)).is_none());
+    assert_eq!(rt; value_of(&registry, family.leaf, size), Some(42));
+    assert_eq!(rt; value_of(&registry, family.child, size), None);
+    shows_the_leaf(&rt, &registry, family)
+}
+
+/// What is found of the child of a family, from its leaf on.
+fn finds_the_child(rt: &impl Abort, registry: &Registry, family: Family) -> Result<(), Fail> {
     let leaf = registry.root().span_data(family.leaf).ok_or("no leaf")?;
     let child = leaf.parent().ok_or("no child")?;
     let found = registry.span_data(child).ok_or("no child")?;
@@ -90,6 +92,14 @@ fn what_is_found_of_a_span(rt: HostRuntime) -> Result<(), Fail> {
     assert!(rt; found.is_enabled_for(FilterId::of(1)));
     assert!(rt; !found.is_enabled_for(FilterId::unattached()));
     Ok(())
+}
+
+#[test]
+fn what_is_found_of_a_span(rt: HostRuntime) -> Result<(), Fail> {
+    let mut registry = Registry::new(rt.alloc());
+    assert_eq!(rt; first_filter(&mut registry)?, (FilterId::of(0), 1));
+    let family = refused_family(registry.root_mut())?;
+    finds_the_child(&rt, &registry, family)
 }
 
 /// Opens so many spans, each in the one before, and answers the last.
@@ -110,23 +120,40 @@ fn ids<R: LookupSpan>(alloc: Global, scope: Scope<'_, R>) -> Result<Vec<Id>, All
     Ok(found)
 }
 
+/// The last of these spans, or else this one.
+fn last_of<R: LookupSpan>(scope: ScopeFromRoot<'_, R>, first: Id) -> Id {
+    let mut last = first;
+    for span in scope {
+        last = span.id();
+    }
+    last
+}
+
+/// How long a span's scope is, in both orders: the root comes first in one of them, and the span last.
+fn is_so_deep<R: LookupSpan>(
+    rt: &impl Abort,
+    alloc: Global,
+    leaf: &SpanRef<'_, R>,
+    depth: usize,
+) -> Result<(), Fail> {
+    assert_eq!(rt; ids(alloc, leaf.scope())?.len(), depth);
+    let mut scope = leaf.scope().from_root(alloc)?;
+    assert_eq!(rt; scope.size_hint(), (depth, Some(depth)));
+    let root = scope.next().ok_or("no root")?;
+    assert!(rt; root.parent().is_none());
+    let rest = depth.saturating_sub(1);
+    assert_eq!(rt; scope.size_hint(), (rest, Some(rest)));
+    assert_eq!(rt; last_of(scope, root.id()), leaf.id());
+    Ok(())
+}
+
 #[test]
 fn lengths_of_scopes(rt: HostRuntime) -> Result<(), Fail> {
-    for depth in [1usize, 16, 17, 1000] {
+    for depth in [1, 16, 17, 1000] {
         let mut registry = Registry::new(rt.alloc());
-        let id = open_chain(&mut registry, depth as u32)?.ok_or("no span")?;
+        let id = open_chain(&mut registry, depth)?.ok_or("no span")?;
         let leaf = registry.span(id).ok_or("no leaf")?;
-        assert_eq!(rt; ids(rt.alloc(), leaf.scope())?.len(), depth);
-        let mut scope = leaf.scope().from_root(rt.alloc())?;
-        assert_eq!(rt; scope.size_hint(), (depth, Some(depth)));
-        let root = scope.next().ok_or("no root")?;
-        assert!(rt; root.parent().is_none());
-        assert_eq!(rt; scope.size_hint(), (depth - 1, Some(depth - 1)));
-        let mut last = root.id();
-        for span in scope {
-            last = span.id();
-        }
-        assert_eq!(rt; last, id);
+        is_so_deep(&rt, rt.alloc(), &leaf, depth as usize)?;
     }
     Ok(())
 }

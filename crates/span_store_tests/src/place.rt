@@ -6,6 +6,7 @@ use crate::unknown_span::refuses_unknown;
 use span_core::{Id, TraceError};
 use span_registry::{Limits, LookupSpan, Registry, Subscriber, Tag};
 use std::alloc::Global;
+use std::process::Abort;
 use std::test::Fail;
 
 /// A registry of so many places, with as many spans one after the other in each.
@@ -33,25 +34,28 @@ fn come_and_gone(registry: &mut Registry, alloc: Global) -> Result<Id, Fail> {
     Ok(id)
 }
 
-#[test]
-fn a_place_is_retired_after_its_last_generation(rt: HostRuntime) -> Result<(), Fail> {
-    let mut registry = limited(rt.alloc(), 2, 3);
-    let a = new_root(&mut registry)?;
-    let b = new_root(&mut registry)?;
-    drop_handle(&mut registry, a, rt.alloc())?;
-    let c = come_and_gone(&mut registry, rt.alloc())?;
+/// Of two places one is retired with its third span, whose id and those before it are unknown then; the other has room.
+fn retires_a_place(rt: &impl Abort, alloc: Global, registry: &mut Registry) -> Result<(), Fail> {
+    let a = new_root(registry)?;
+    let b = new_root(registry)?;
+    drop_handle(registry, a, alloc)?;
+    let c = come_and_gone(registry, alloc)?;
     assert_eq!(rt; registry.retired(), 0);
-    let d = come_and_gone(&mut registry, rt.alloc())?;
+    let d = come_and_gone(registry, alloc)?;
     assert_eq!(rt; registry.retired(), 1);
     for id in [a, c, d] {
-        let entered = enter(&mut registry, id);
-        assert_eq!(rt; entered, Err(TraceError::UnknownSpan(id)));
+        assert_eq!(rt; enter(registry, id), Err(TraceError::UnknownSpan(id)));
         assert!(rt; registry.span_data(id).is_none());
     }
-    assert_eq!(rt; new_root(&mut registry), Err(TraceError::TooManySpans));
-    drop_handle(&mut registry, b, rt.alloc())?;
-    assert!(rt; new_root(&mut registry).is_ok());
+    assert_eq!(rt; new_root(registry), Err(TraceError::TooManySpans));
+    drop_handle(registry, b, alloc)?;
+    assert!(rt; new_root(registry).is_ok());
     Ok(())
+}
+
+#[test]
+fn a_place_is_retired_after_its_last_generation(rt: HostRuntime) -> Result<(), Fail> {
+    retires_a_place(&rt, rt.alloc(), &mut limited(rt.alloc(), 2, 3))
 }
 
 #[test]
@@ -83,23 +87,31 @@ fn one_place_for_two_spans(rt: HostRuntime) -> Result<(), Fail> {
     Ok(())
 }
 
-#[test]
-fn the_place_freed_last_is_used_first(rt: HostRuntime) -> Result<(), Fail> {
-    let mut registry = limited(rt.alloc(), 4, 3);
-    let first = new_root(&mut registry)?;
-    let second = new_root(&mut registry)?;
-    let third = new_root(&mut registry)?;
+/// Of four places three are used, and two of these freed: the one freed last is used first, and the fourth at last.
+fn uses_the_last_first(
+    rt: &impl Abort,
+    alloc: Global,
+    registry: &mut Registry,
+) -> Result<(), Fail> {
+    let first = new_root(registry)?;
+    let second = new_root(registry)?;
+    let third = new_root(registry)?;
     assert_eq!(rt;
         (first.into_u64(), second.into_u64(), third.into_u64()),
         (1, 2, 3)
     );
-    drop_handle(&mut registry, first, rt.alloc())?;
-    drop_handle(&mut registry, second, rt.alloc())?;
-    assert_eq!(rt; new_root(&mut registry), Ok(Id::from_u64(4_294_967_298)));
-    assert_eq!(rt; new_root(&mut registry), Ok(Id::from_u64(4_294_967_297)));
-    assert_eq!(rt; new_root(&mut registry), Ok(Id::from_u64(4)));
-    assert_eq!(rt; new_root(&mut registry), Err(TraceError::TooManySpans));
+    drop_handle(registry, first, alloc)?;
+    drop_handle(registry, second, alloc)?;
+    assert_eq!(rt; new_root(registry), Ok(Id::from_u64(4_294_967_298)));
+    assert_eq!(rt; new_root(registry), Ok(Id::from_u64(4_294_967_297)));
+    assert_eq!(rt; new_root(registry), Ok(Id::from_u64(4)));
+    assert_eq!(rt; new_root(registry), Err(TraceError::TooManySpans));
     Ok(())
+}
+
+#[test]
+fn the_place_freed_last_is_used_first(rt: HostRuntime) -> Result<(), Fail> {
+    uses_the_last_first(&rt, rt.alloc(), &mut limited(rt.alloc(), 4, 3))
 }
 
 #[test]

@@ -15,7 +15,8 @@ use std::test::Fail;
 fn enter_and_exit<S: Subscriber>(stack: &mut S, lane: Lane, id: Id) -> Result<(), TraceError>
     requires { S.usable stack.old }
     ensures usable { S.usable stack.new }
-    ensures stacks { OnOk result (SameStacks (S.registry stack.old).store (S.registry stack.new).store) }
+    ensures stacks { OnOk result
+        (SameStacks (S.registry stack.old).store (S.registry stack.new).store) }
 {
     stack.enter(lane, id)?;
     stack.exit(lane, id);
@@ -31,7 +32,8 @@ fn open_twice<S: Subscriber>(
 ) -> Result<Id, TraceError>
     requires { S.usable stack.old }
     ensures usable { S.usable stack.new }
-    ensures handles { IfOk result (λ id. handles_of (S.registry stack.new).store.spans (number_of id) ≡ 2) }
+    ensures handles { IfOk result
+        (λ id. handles_of (S.registry stack.new).store.spans (number_of id) ≡ 2) }
 {
     let id = stack.new_span(lane, attrs, pass)?;
     stack.clone_span(lane, id)
