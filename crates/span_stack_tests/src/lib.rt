@@ -20,6 +20,8 @@ mod level_set;
 #[cfg(test)]
 mod list;
 #[cfg(test)]
+mod nested;
+#[cfg(test)]
 mod optional;
 #[cfg(test)]
 mod order;
