@@ -1,11 +1,13 @@
 //! Tests of a dispatcher that keeps its stack's hint and interests: what it asks of filters once, and what each time.
 ghost use Rattle.span_dispatch.specs.Serve.{stack_of};
 
-use crate::requests::{event, in_use, made, new_span, serve, serve_by_layers};
+use crate::requests::{
+    TwoOn, event, in_use, in_use_by_layers, made, new_span, plain, serve, serve_by_layers,
+};
 use crate::stack::{LANE, metadata_of, put};
 use span_core::{Event, Id, Kind, Level, LevelFilter, Metadata, TraceError};
 use span_dispatch::{Answer, Dispatch, Notice, Recorder, Request, Which, WhichParent};
-use span_filters::filter_fn;
+use span_filters::{Filter, filter_fn};
 use span_layers::{Filtered, LayerExt, Layered};
 use span_registry::{Registry, Subscriber};
 use std::alloc::Global;
@@ -47,6 +49,32 @@ pub(crate) fn count_one(asked: &Cell<u32>) {
     asked.set(asked.get().saturating_add(1));
 }
 
+/// What two recorders keep, the inner one first.
+type KeptByTwo = (Vec<Notice>, Vec<Notice>);
+
+fn kept_by_two(alloc: Global, inner: &Recorder, outer: &Recorder) -> Result<KeptByTwo, Fail> {
+    Ok((
+        inner.notices().to_vec(alloc)?,
+        outer.notices().to_vec(alloc)?,
+    ))
+}
+
+/// What recorders keep of so many events, each under a filter of its own.
+fn kept_under<I, O>(alloc: Global, inner: I, outer: O, count: usize) -> Result<KeptByTwo, Fail>
+where
+    I: Filter<Registry> + Drop,
+    O: Filter<Layered<Filtered<Recorder, I>, Registry>> + Drop,
+    requires inner { I.usable inner }
+    requires outer { O.usable outer }
+{
+    let requests = events(alloc, count)?;
+    let inner = Recorder::new(alloc).with_filter(inner);
+    let outer = Recorder::new(alloc).with_filter(outer);
+    let (dispatch, _) = serve_by_layers(alloc, Registry::new(alloc), inner, outer, &requests)?;
+    let stack = dispatch.stack();
+    kept_by_two(alloc, stack.inner().layer().inner(), stack.layer().inner())
+}
+
 /// So many events under no filter, and under one that wants them: it is asked once.
 fn asked_once(rt: &impl Abort, alloc: Global, count: usize) -> Result<(), Fail> {
     let asked = Rc::new(alloc, Cell::new(0))?;
@@ -56,15 +84,11 @@ fn asked_once(rt: &impl Abort, alloc: Global, count: usize) -> Result<(), Fail> 
         true
     });
     let absent: Option<LevelFilter> = None;
-    let under_none = Recorder::new(alloc).with_filter(absent);
-    let under_counted = Recorder::new(alloc).with_filter(counted);
-    let requests = events(alloc, count)?;
-    let registry = Registry::new(alloc);
-    let (dispatch, _) = serve_by_layers(alloc, registry, under_none, under_counted, &requests)?;
-    let stack = dispatch.stack();
-    let counted = stack.layer().inner().notices().len();
-    let other = stack.inner().layer().inner().notices().len();
-    assert_eq!(rt; (counted, other, asked.get()), (count, count, 1));
+    let (other, counted) = kept_under(alloc, absent, counted, count)?;
+    assert_eq!(rt;
+        (counted.len(), other.len(), asked.get()),
+        (count, count, 1)
+    );
     Ok(())
 }
 
@@ -82,24 +106,11 @@ fn filters_that_differ_on_a_callsite_are_asked_each_time(rt: HostRuntime) -> Res
         count_one(&counter);
         meta.level() <= Level::WARN
     });
-    let under_info = Recorder::new(rt.alloc()).with_filter(LevelFilter::INFO);
-    let under_counted = Recorder::new(rt.alloc()).with_filter(counted);
-    let requests = events(rt.alloc(), 3)?;
-    let registry = Registry::new(rt.alloc());
-    let (dispatch, _) = serve_by_layers(
-        rt.alloc(),
-        registry,
-        under_info,
-        under_counted,
-        &requests,
-    )?;
-    let stack = dispatch.stack();
-    let counted = stack.layer().inner().notices();
-    let other = stack.inner().layer().inner().notices();
+    let (other, counted) = kept_under(rt.alloc(), LevelFilter::INFO, counted, 3)?;
     let notice = Notice::Event(LANE, 5);
     // It is asked once for the interest, and once for each event.
     assert_eq!(rt;
-        (counted, other, asked.get()),
+        (counted.as_slice(), other.as_slice(), asked.get()),
         ([].as_slice(), [notice, notice, notice].as_slice(), 4)
     );
     Ok(())
@@ -196,11 +207,11 @@ fn each_callsite_is_asked_of_once(rt: HostRuntime) -> Result<(), Fail> {
     Ok(())
 }
 
+/// A recorder under a level.
+type UnderOne = Filtered<Recorder, LevelFilter>;
+
 /// From the registry outwards: a recorder under a level, and one under two.
-type Nested = Layered<
-    Filtered<Filtered<Recorder, LevelFilter>, LevelFilter>,
-    Layered<Filtered<Recorder, LevelFilter>, Registry>,
->;
+type Nested = TwoOn<Registry, UnderOne, Filtered<UnderOne, LevelFilter>>;
 
 /// The levels next to the recorders are INFO.
 fn nested(alloc: Global) -> Result<Dispatch<Nested>, TraceError> {
@@ -208,8 +219,7 @@ fn nested(alloc: Global) -> Result<Dispatch<Nested>, TraceError> {
     let under_two = Recorder::new(alloc)
         .with_filter(LevelFilter::INFO)
         .with_filter(LevelFilter::TRACE);
-    let below = put(Registry::new(alloc), under_one)?;
-    Ok(in_use(alloc, put(below, under_two)?))
+    in_use_by_layers(alloc, Registry::new(alloc), under_one, under_two)
 }
 
 /// Sets the levels next to the recorders.
@@ -247,24 +257,40 @@ fn kept_over_a_change(span: Id) -> [Notice; 5] {
     ]
 }
 
+/// Serves the span and its event.
+fn open_one_span<S: Subscriber>(alloc: Global, dispatch: &mut Dispatch<S>) -> Result<Id, Fail>
+    requires { S.usable (stack_of dispatch.old) }
+    ensures { S.usable (stack_of dispatch.new) }
+{
+    let answers = serve(alloc, dispatch, &one_span())?;
+    made(&answers, 0)
+}
+
+/// What the recorders of a stack keep, the inner one first.
+fn kept_by_both(stack: &Nested) -> [&[Notice]; 2] {
+    [
+        stack.inner().layer().inner().notices(),
+        stack.layer().inner().inner().notices(),
+    ]
+}
+
 #[test]
 fn a_changed_stack_goes_on_with_its_spans(rt: HostRuntime) -> Result<(), Fail> {
     let mut dispatch = nested(rt.alloc())?;
-    let answers = serve(rt.alloc(), &mut dispatch, &one_span())?;
-    let span = made(&answers, 0)?;
+    let span = open_one_span(rt.alloc(), &mut dispatch)?;
     set_levels(dispatch.stack_mut(), LevelFilter::DEBUG);
     serve(rt.alloc(), &mut dispatch, &rest_of(span))?;
     let kept = kept_over_a_change(span);
-    let stack = dispatch.stack();
-    assert_eq!(rt; stack.inner().layer().inner().notices(), kept.as_slice());
-    assert_eq!(rt; stack.layer().inner().inner().notices(), kept.as_slice());
+    assert_eq!(rt;
+        kept_by_both(dispatch.stack()),
+        [kept.as_slice(), kept.as_slice()]
+    );
     Ok(())
 }
 
 #[test]
 fn a_callsite_has_one_metadata(rt: HostRuntime) -> Result<(), Fail> {
-    let stack = put(Registry::new(rt.alloc()), Recorder::new(rt.alloc()))?;
-    let mut dispatch = in_use(rt.alloc(), stack);
+    let mut dispatch = in_use(rt.alloc(), plain(rt.alloc())?);
     assert_eq!(rt; send(&mut dispatch, Level::INFO), Ok(true));
     assert_eq!(rt;
         send(&mut dispatch, Level::DEBUG),

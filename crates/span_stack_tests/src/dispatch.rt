@@ -1,22 +1,18 @@
 //! Tests of a dispatcher, as a program drives it: calls and lists of requests, and what a recorder keeps of them.
 ghost use Rattle.span_dispatch.specs.Serve.{stack_of};
 
-use crate::requests::{event, fresh, in_use, made, new_event, new_span, serve, within};
-use crate::stack::{LANE, metadata_of, put};
+use crate::requests::{Plain, fresh, in_use, made, new_event, new_span, plain, serve, within};
+use crate::stack::{LANE, metadata_of};
 use span_core::{Attributes, Event, Id, Kind, Lane, Level, Metadata, Record, TraceError};
 use span_dispatch::{Answer, Dispatch, Notice, Recorder, Request, Which, WhichParent};
-use span_layers::Layered;
-use span_registry::{Context, LookupSpan, Registry, Subscriber};
+use span_registry::{Context, LookupSpan, Subscriber};
 use std::alloc::Global;
 use std::process::Abort;
 use std::test::Fail;
 
-/// A recorder on a registry.
-type Plain = Layered<Recorder, Registry>;
-
-fn plain(alloc: Global) -> Result<Dispatch<Plain>, Fail> {
-    let stack = put(Registry::new(alloc), Recorder::new(alloc))?;
-    Ok(fresh(alloc, stack))
+/// A recorder on a registry, in use by a dispatcher that keeps nothing.
+fn fresh_plain(alloc: Global) -> Result<Dispatch<Plain>, TraceError> {
+    Ok(fresh(alloc, plain(alloc)?))
 }
 
 /// What the one callsite for spans makes.
@@ -74,7 +70,7 @@ fn parent_of(dispatch: &Dispatch<Plain>, id: Id) -> Option<Id> {
 
 #[test]
 fn a_span_closes_with_its_last_handle(rt: HostRuntime) -> Result<(), Fail> {
-    let mut dispatch = plain(rt.alloc())?;
+    let mut dispatch = fresh_plain(rt.alloc())?;
     let id = open_root(&mut dispatch)?;
     assert_eq!(rt; dispatch.clone_span(LANE, id), Ok(id));
     assert_eq!(rt; drop_handle(&mut dispatch, id), Ok(false));
@@ -106,17 +102,13 @@ fn requests_by_places(never: Id) -> [Request<'static>; 9] {
     ]
 }
 
-#[test]
-fn a_list_names_spans_by_their_places(rt: HostRuntime) -> Result<(), Fail> {
-    let mut dispatch = plain(rt.alloc())?;
-    let never = Id::from_u64(0);
-    let requests = requests_by_places(never);
-    let answers = serve(rt.alloc(), &mut dispatch, &requests)?;
-    let root = made(&answers, 0)?;
-    let child = made(&answers, 1)?;
-    let other = made(&answers, 4)?;
+/// The spans that these make: a root, its child, and another root. Looks at the answers.
+fn made_by_places(rt: &impl Abort, answers: &[Answer], never: Id) -> Result<[Id; 3], Fail> {
+    let root = made(answers, 0)?;
+    let child = made(answers, 1)?;
+    let other = made(answers, 4)?;
     assert_eq!(rt;
-        answers.as_slice(),
+        answers,
         [
             Answer::Made(root),
             Answer::Made(child),
@@ -130,8 +122,20 @@ fn a_list_names_spans_by_their_places(rt: HostRuntime) -> Result<(), Fail> {
         ]
         .as_slice()
     );
-    assert_eq!(rt; parent_of(&dispatch, child), Some(root));
-    assert_eq!(rt; parent_of(&dispatch, other), None);
+    Ok([root, child, other])
+}
+
+#[test]
+fn a_list_names_spans_by_their_places(rt: HostRuntime) -> Result<(), Fail> {
+    let mut dispatch = fresh_plain(rt.alloc())?;
+    let never = Id::from_u64(0);
+    let requests = requests_by_places(never);
+    let answers = serve(rt.alloc(), &mut dispatch, &requests)?;
+    let [root, child, other] = made_by_places(&rt, &answers, never)?;
+    assert_eq!(rt;
+        (parent_of(&dispatch, child), parent_of(&dispatch, other)),
+        (Some(root), None)
+    );
     assert_eq!(rt;
         dispatch.stack().layer().notices(),
         [
@@ -167,7 +171,7 @@ fn requests_of_one_span(never: Id) -> [Request<'static>; 13] {
 
 #[test]
 fn a_list_is_answered_in_its_order(rt: HostRuntime) -> Result<(), Fail> {
-    let mut dispatch = plain(rt.alloc())?;
+    let mut dispatch = fresh_plain(rt.alloc())?;
     let never = Id::from_u64(0);
     let requests = requests_of_one_span(never);
     let answers = serve(rt.alloc(), &mut dispatch, &requests)?;
@@ -235,14 +239,26 @@ fn refuses_unknown<S: Subscriber>(
     Ok(())
 }
 
-/// Makes each call with ids that were never handed out and with that of a closed span.
+/// Makes each call with ids that were never handed out and with that of a closed span. Answers that.
+fn refuses_all_unknown<S: Subscriber>(
+    rt: &impl Abort,
+    dispatch: &mut Dispatch<S>,
+) -> Result<Id, Fail>
+    requires { S.usable (stack_of dispatch.old) }
+    ensures { S.usable (stack_of dispatch.new) }
+{
+    let closed = open_root(dispatch)?;
+    assert_eq!(rt; drop_handle(dispatch, closed), Ok(true));
+    refuses_unknown(rt, dispatch, Id::from_u64(0))?;
+    refuses_unknown(rt, dispatch, Id::from_u64(u64::MAX))?;
+    refuses_unknown(rt, dispatch, closed)?;
+    Ok(closed)
+}
+
+/// A recorder hears of the closed span, and of the events that have an unknown parent.
 fn knows_open_spans_alone(rt: &impl Abort, dispatch: Dispatch<Plain>) -> Result<(), Fail> {
     let mut dispatch = dispatch;
-    let closed = open_root(&mut dispatch)?;
-    assert_eq!(rt; drop_handle(&mut dispatch, closed), Ok(true));
-    for id in [Id::from_u64(0), Id::from_u64(u64::MAX), closed] {
-        refuses_unknown(rt, &mut dispatch, id)?;
-    }
+    let closed = refuses_all_unknown(rt, &mut dispatch)?;
     assert_eq!(rt;
         dispatch.stack().layer().notices(),
         [
@@ -259,9 +275,8 @@ fn knows_open_spans_alone(rt: &impl Abort, dispatch: Dispatch<Plain>) -> Result<
 
 #[test]
 fn spans_may_be_unknown(rt: HostRuntime) -> Result<(), Fail> {
-    knows_open_spans_alone(&rt, plain(rt.alloc())?)?;
-    let stack = put(Registry::new(rt.alloc()), Recorder::new(rt.alloc()))?;
-    knows_open_spans_alone(&rt, in_use(rt.alloc(), stack))
+    knows_open_spans_alone(&rt, fresh_plain(rt.alloc())?)?;
+    knows_open_spans_alone(&rt, in_use(rt.alloc(), plain(rt.alloc())?))
 }
 
 /// The span that the lane is in.
@@ -327,34 +342,42 @@ fn serve_at_last(
     }
 }
 
-/// It passes too where any one allocation is refused, as `rt try --test --fail-alloc N` does.
-#[test]
-fn a_refusal_of_memory_changes_nothing(rt: HostRuntime) -> Result<(), Fail> {
-    let mut dispatch = plain(rt.alloc())?;
-    let id = open_at_last(&rt, &mut dispatch)?;
-    enter_at_last(&rt, &mut dispatch, id)?;
-    assert_eq!(rt; current(&dispatch), Some(id));
-    assert_eq!(rt; send(&mut dispatch), Ok(true));
-    let requests = [Request::Drop(LANE, Which::Known(id))];
-    let answers = serve_at_last(&rt, rt.alloc(), &mut dispatch, &requests)?;
-    assert_eq!(rt; answers.as_slice(), [Answer::Yes(true)].as_slice());
-    let kept = [
+/// Opens a span, enters it, and sends an event in it.
+fn send_in_span_at_last(rt: &impl Abort, dispatch: &mut Dispatch<Plain>) -> Result<Id, Fail> {
+    let id = open_at_last(rt, dispatch)?;
+    enter_at_last(rt, dispatch, id)?;
+    assert_eq!(rt; (current(dispatch), send(dispatch)), (Some(id), Ok(true)));
+    Ok(id)
+}
+
+/// A recorder keeps what it is told of that span until it closes, or as much of it as there was memory for.
+fn keeps_what_fits(rt: &impl Abort, recorder: &Recorder, id: Id) {
+    let told = [
         Notice::New(LANE, id),
         Notice::Enter(LANE, id),
         Notice::Event(LANE, 7),
         Notice::Close(LANE, id),
     ];
-    let recorder = dispatch.stack().layer();
-    assert!(rt; kept.as_slice().starts_with(recorder.notices()));
+    assert!(rt; told.as_slice().starts_with(recorder.notices()));
     assert_eq!(rt; recorder.failed(), recorder.notices().len() < 4);
+}
+
+/// It passes too where any one allocation is refused, as `rt try --test --fail-alloc N` does.
+#[test]
+fn a_refusal_of_memory_changes_nothing(rt: HostRuntime) -> Result<(), Fail> {
+    let mut dispatch = fresh_plain(rt.alloc())?;
+    let id = send_in_span_at_last(&rt, &mut dispatch)?;
+    let requests = [Request::Drop(LANE, Which::Known(id))];
+    let answers = serve_at_last(&rt, rt.alloc(), &mut dispatch, &requests)?;
+    assert_eq!(rt; answers.as_slice(), [Answer::Yes(true)].as_slice());
+    keeps_what_fits(&rt, dispatch.stack().layer(), id);
     Ok(())
 }
 
 /// It passes too where any one allocation is refused.
 #[test]
 fn a_refused_interest_changes_nothing(rt: HostRuntime) -> Result<(), Fail> {
-    let stack = put(Registry::new(rt.alloc()), Recorder::new(rt.alloc()))?;
-    let mut dispatch = in_use(rt.alloc(), stack);
+    let mut dispatch = in_use(rt.alloc(), plain(rt.alloc())?);
     let before = seen(&dispatch);
     if let Err(error) = send(&mut dispatch) {
         assert_eq!(rt; error, TraceError::OutOfMemory);

@@ -30,17 +30,25 @@ impl<S: Subscriber> Observe<S> for Refusals {
     }
 }
 
+/// Notifies a stack of a span, of an event in it, and of all else that comes of a span. True where no layer vetoes.
+fn notify_of_all<S: Subscriber>(stack: &mut S) -> Result<bool, Fail>
+    requires { S.usable stack.old }
+    ensures { S.usable stack.new }
+{
+    let id = open(stack, Level::INFO, None)?;
+    let is_sent = send_in(stack, Level::INFO, id);
+    notify(stack, id, id)?;
+    Ok(is_sent)
+}
+
 #[test]
 fn a_pass_ends_with_its_request(rt: HostRuntime) -> Result<(), Fail> {
     let refused = Observer::new(Refusals { asked: 0, other: 0 }).with_filter(LevelFilter::OFF);
     let watching = Observer::new(Refusals { asked: 0, other: 0 });
     let mut stack = put(Registry::new(rt.alloc()), refused.and_then(watching))?;
-    let id = open(&mut stack, Level::INFO, None)?;
-    assert!(rt; send_in(&mut stack, Level::INFO, id));
-    notify(&mut stack, id, id)?;
+    let is_sent = notify_of_all(&mut stack)?;
     let watched = stack.layer().layer().observer();
-    assert_eq!(rt; watched.asked, 2);
-    assert_eq!(rt; watched.other, 0);
+    assert_eq!(rt; (is_sent, watched.asked, watched.other), (true, 2, 0));
     Ok(())
 }
 

@@ -3,9 +3,9 @@ ghost use Rattle.span_dispatch.specs.Serve.{stack_of};
 
 use crate::stack::{LANE, metadata_of, put};
 use span_core::{Id, Kind, Level, TraceError};
-use span_dispatch::{Answer, Dispatch, Request, Which, WhichParent};
+use span_dispatch::{Answer, Dispatch, Recorder, Request, Which, WhichParent};
 use span_layers::{Layer, Layered};
-use span_registry::Subscriber;
+use span_registry::{Registry, Subscriber};
 use std::alloc::Global;
 use std::test::Fail;
 
@@ -37,6 +37,13 @@ pub(crate) fn made(answers: &[Answer], place: usize) -> Result<Id, Fail> {
     }
 }
 
+/// A recorder on a registry.
+pub(crate) type Plain = Layered<Recorder, Registry>;
+
+pub(crate) fn plain(alloc: Global) -> Result<Plain, TraceError> {
+    put(Registry::new(alloc), Recorder::new(alloc))
+}
+
 /// Puts a stack in use.
 pub(crate) fn in_use<S: Subscriber>(alloc: Global, stack: S) -> Dispatch<S>
     requires { S.usable stack }
@@ -66,7 +73,7 @@ pub(crate) fn serve<S: Subscriber>(
 }
 
 /// Puts a stack in use, and serves a list.
-pub(crate) fn serve_by<S: Subscriber + Drop>(
+fn serve_by<S: Subscriber + Drop>(
     alloc: Global,
     stack: S,
     requests: &[Request<'_>],
@@ -78,8 +85,40 @@ pub(crate) fn serve_by<S: Subscriber + Drop>(
     Ok((dispatch, answers))
 }
 
+/// Puts a stack under a layer in use, and serves a list.
+pub(crate) fn serve_by_layer<S: Subscriber + Drop, L: Layer<S> + Drop>(
+    alloc: Global,
+    stack: S,
+    layer: L,
+    requests: &[Request<'_>],
+) -> Result<(Dispatch<Layered<L, S>>, Vec<Answer>), TraceError>
+    requires stack { S.usable stack }
+    requires layer { L.usable layer }
+{
+    serve_by(alloc, put(stack, layer)?, requests)
+}
+
 /// Two layers on a stack.
-type TwoOn<S, I, O> = Layered<O, Layered<I, S>>;
+pub(crate) type TwoOn<S, I, O> = Layered<O, Layered<I, S>>;
+
+/// Puts a stack under two layers in use.
+pub(crate) fn in_use_by_layers<S, I, O>(
+    alloc: Global,
+    stack: S,
+    inner: I,
+    outer: O,
+) -> Result<Dispatch<TwoOn<S, I, O>>, TraceError>
+where
+    S: Subscriber + Drop,
+    I: Layer<S> + Drop,
+    O: Layer<Layered<I, S>> + Drop,
+    requires stack { S.usable stack }
+    requires inner { I.usable inner }
+    requires outer { O.usable outer }
+{
+    let below = put(stack, inner)?;
+    Ok(in_use(alloc, put(below, outer)?))
+}
 
 /// Puts a stack under two layers in use, and serves a list.
 pub(crate) fn serve_by_layers<S, I, O>(
@@ -98,5 +137,5 @@ where
     requires outer { O.usable outer }
 {
     let below = put(stack, inner)?;
-    serve_by(alloc, put(below, outer)?, requests)
+    serve_by_layer(alloc, below, outer, requests)
 }

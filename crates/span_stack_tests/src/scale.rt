@@ -1,9 +1,9 @@
 //! Many filters, long chains and many entries, each by a dispatcher that keeps hint and interests and by one that keeps nothing.
 ghost use Rattle.span_dispatch.specs.Serve.{stack_of};
 
-use crate::requests::{event, fresh, in_use, serve};
+use crate::requests::{Plain, event, fresh, in_use, plain, serve};
 use crate::stack::{LANE, metadata_of, put};
-use span_core::{Attributes, Id, Kind, Level, LevelFilter, TraceError};
+use span_core::{Attributes, FilterId, Id, Kind, Level, LevelFilter, TraceError};
 use span_dispatch::{Answer, Dispatch, Notice, Recorder};
 use span_layers::{Filtered, LayerExt, Layered};
 use span_registry::{LookupSpan, Registry, Subscriber};
@@ -11,36 +11,27 @@ use std::alloc::{AllocError, Global};
 use std::process::Abort;
 use std::test::Fail;
 
-/// The filters that a registry has room for.
-const FILTERS: u32 = 128;
-
 /// The spans of a chain.
 const DEPTH: usize = 10_000;
 
 /// How often a lane enters a span.
 const ENTRIES: u32 = 1_000;
 
-/// A recorder on a registry.
-type Plain = Layered<Recorder, Registry>;
+/// Recorders, each under OFF.
+type Closed = Vec<Filtered<Recorder, LevelFilter>>;
 
-/// Recorders, each under a level.
-type UnderLevels = Vec<Filtered<Recorder, LevelFilter>>;
-
-fn plain(alloc: Global) -> Result<Plain, TraceError> {
-    put(Registry::new(alloc), Recorder::new(alloc))
-}
-
-fn under_levels(alloc: Global, count: u32, level: LevelFilter) -> Result<UnderLevels, AllocError> {
+/// As many as there is room for.
+fn closed(alloc: Global) -> Result<Closed, AllocError> {
     let mut layers = Vec::new(alloc);
-    for _ in 0..count {
-        layers.push(Recorder::new(alloc).with_filter(level))?;
+    for _ in 0..FilterId::LIMIT {
+        layers.push(Recorder::new(alloc).with_filter(LevelFilter::OFF))?;
     }
     Ok(layers)
 }
 
-/// An open recorder, and outside it as many under OFF as there is room for.
-fn open_below_closed(alloc: Global) -> Result<Layered<UnderLevels, Plain>, Fail> {
-    let closed = under_levels(alloc, FILTERS, LevelFilter::OFF)?;
+/// An open recorder, and outside it those under OFF.
+fn open_below_closed(alloc: Global) -> Result<Layered<Closed, Plain>, Fail> {
+    let closed = closed(alloc)?;
     Ok(put(plain(alloc)?, closed)?)
 }
 
@@ -59,7 +50,7 @@ fn serve_error<S: Subscriber>(
 }
 
 /// The open recorder alone was told of the event.
-fn is_told_alone(stack: &Layered<UnderLevels, Plain>) -> bool {
+fn is_told_alone(stack: &Layered<Closed, Plain>) -> bool {
     let told = stack.inner().layer().notices() == [Notice::Event(LANE, 1)].as_slice();
     let mut others = stack.layer().iter();
     told && others.all(|layer| layer.inner().notices().is_empty())

@@ -1,13 +1,13 @@
 //! Tests of what filters and layers under a dispatcher can read: what one layer's filter hides is hidden from that layer alone.
 ghost use Rattle.std.specs.Prelude.{⊤};
 
-use crate::requests::{event, made, new_event, new_span, serve_by_layers, within};
+use crate::requests::{Plain, event, made, new_event, new_span, serve_by_layers, within};
 use crate::stack::LANE;
 use crate::watcher::{Seen, Watcher, new_watcher};
 use span_core::{Id, Level, LevelFilter, Metadata};
 use span_dispatch::{Answer, Notice, Recorder, Request, Which, WhichParent};
 use span_filters::dynamic_filter_fn;
-use span_layers::{LayerExt, Layered, Observe, Observed, Observer};
+use span_layers::{LayerExt, Observe, Observed, Observer};
 use span_registry::{Context, ContextMut, Registry, Scope, SpanRef, Subscriber};
 use std::alloc::Global;
 use std::process::Abort;
@@ -25,12 +25,9 @@ fn one_in_another() -> [Request<'static>; 6] {
     ]
 }
 
-/// A recorder on a registry.
-type Recorded = Layered<Recorder, Registry>;
-
 #[test]
 fn a_filter_may_ask_for_the_current_span(rt: HostRuntime) -> Result<(), Fail> {
-    let outside = dynamic_filter_fn(|_meta: &Metadata, cx: &Context<'_, Recorded>| {
+    let outside = dynamic_filter_fn(|_meta: &Metadata, cx: &Context<'_, Plain>| {
         cx.lookup_current().is_none()
     });
     let under_outside = Recorder::new(rt.alloc()).with_filter(outside);
