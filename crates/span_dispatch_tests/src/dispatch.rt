@@ -1,0 +1,392 @@
+//! Tests of a dispatcher, as a program drives it: calls and lists of requests, and what a recorder keeps of them.
+ghost use Rattle.span_dispatch.specs.Serve.{stack_of};
+
+use crate::requests::{Plain, fresh, in_use, made, new_event, new_span, plain, serve, within};
+use span_core::{Attributes, Event, Id, Kind, Lane, Level, Metadata, Record, TraceError};
+use span_dispatch::{Answer, Dispatch, Notice, Recorder, Request, Which, WhichParent};
+use span_layer_tests::fixture::{LANE, metadata_of};
+use span_registry::{Context, LookupSpan, Subscriber};
+use std::alloc::Global;
+use std::process::Abort;
+use std::test::Fail;
+
+/// A recorder on a registry, in use by a dispatcher that keeps nothing.
+fn fresh_plain(alloc: Global) -> Result<Dispatch<Plain>, TraceError> {
+    Ok(fresh(alloc, plain(alloc)?))
+}
+
+/// What the one callsite for spans makes.
+fn span_metadata() -> Metadata {
+    metadata_of(6, Level::INFO, Kind::SPAN)
+}
+
+/// What the one callsite for events makes.
+fn event_metadata() -> Metadata {
+    metadata_of(7, Level::INFO, Kind::EVENT)
+}
+
+/// A span of level info.
+fn span_in(parent: WhichParent) -> Request<'static> {
+    new_span(6, Level::INFO, parent)
+}
+
+/// Opens a root, where no layer vetoes.
+fn open<S: Subscriber>(dispatch: &mut Dispatch<S>) -> Result<Option<Id>, TraceError>
+    requires { S.usable (stack_of dispatch.old) }
+    ensures { S.usable (stack_of dispatch.new) }
+{
+    dispatch.new_span(LANE, &Attributes::new_root(span_metadata(), &[]))
+}
+
+/// The same. Fails where a layer vetoes.
+fn open_root<S: Subscriber>(dispatch: &mut Dispatch<S>) -> Result<Id, Fail>
+    requires { S.usable (stack_of dispatch.old) }
+    ensures { S.usable (stack_of dispatch.new) }
+{
+    Ok(open(dispatch)?.ok_or("a layer vetoes")?)
+}
+
+/// Sends an event where the lane is.
+fn send<S: Subscriber>(dispatch: &mut Dispatch<S>) -> Result<bool, TraceError>
+    requires { S.usable (stack_of dispatch.old) }
+    ensures { S.usable (stack_of dispatch.new) }
+{
+    dispatch.event(LANE, &Event::new(event_metadata(), &[]))
+}
+
+/// Drops a handle.
+fn drop_handle<S: Subscriber>(dispatch: &mut Dispatch<S>, id: Id) -> Result<bool, TraceError>
+    requires { S.usable (stack_of dispatch.old) }
+    ensures { S.usable (stack_of dispatch.new) }
+{
+    dispatch.drop_span(LANE, id)
+}
+
+/// The parent of an open span.
+fn parent_of(dispatch: &Dispatch<Plain>, id: Id) -> Option<Id> {
+    let parent = dispatch.stack().span(id)?.parent()?;
+    Some(parent.id())
+}
+
+#[test]
+fn a_span_closes_with_its_last_handle(rt: HostRuntime) -> Result<(), Fail> {
+    let mut dispatch = fresh_plain(rt.alloc())?;
+    let id = open_root(&mut dispatch)?;
+    assert_eq!(rt; dispatch.clone_span(LANE, id), Ok(id));
+    assert_eq!(rt; drop_handle(&mut dispatch, id), Ok(false));
+    assert_eq!(rt; drop_handle(&mut dispatch, id), Ok(true));
+    assert_eq!(rt;
+        drop_handle(&mut dispatch, id),
+        Err(TraceError::UnknownSpan(id))
+    );
+    assert_eq!(rt;
+        dispatch.stack().layer().notices(),
+        [Notice::New(LANE, id), Notice::Close(LANE, id)].as_slice()
+    );
+    assert!(rt; !dispatch.stack().layer().failed());
+    Ok(())
+}
+
+/// Requests that name spans by the places of those that make them.
+fn requests_by_places(never: Id) -> [Request<'static>; 9] {
+    [
+        span_in(WhichParent::Root),
+        span_in(within(0)),
+        new_event(7, Level::INFO, within(1)),
+        Request::Enter(LANE, Which::Made(2)),
+        span_in(within(2)),
+        Request::Drop(LANE, Which::Made(9)),
+        Request::Follows(LANE, Which::Made(0), Which::Made(3)),
+        Request::Enter(LANE, Which::Known(never)),
+        span_in(WhichParent::Explicit(Which::Known(never))),
+    ]
+}
+
+/// The spans that these make: a root, its child, and another root. Looks at the answers.
+fn made_by_places(rt: &impl Abort, answers: &[Answer], never: Id) -> Result<[Id; 3], Fail> {
+    let root = made(answers, 0)?;
+    let child = made(answers, 1)?;
+    let other = made(answers, 4)?;
+    assert_eq!(rt;
+        answers,
+        [
+            Answer::Made(root),
+            Answer::Made(child),
+            Answer::Done,
+            Answer::Dropped,
+            Answer::Made(other),
+            Answer::Dropped,
+            Answer::Dropped,
+            Answer::Refused(TraceError::UnknownSpan(never)),
+            Answer::Refused(TraceError::UnknownParent(never)),
+        ]
+        .as_slice()
+    );
+    Ok([root, child, other])
+}
+
+#[test]
+fn a_list_names_spans_by_their_places(rt: HostRuntime) -> Result<(), Fail> {
+    let mut dispatch = fresh_plain(rt.alloc())?;
+    let never = Id::from_u64(0);
+    let requests = requests_by_places(never);
+    let answers = serve(rt.alloc(), &mut dispatch, &requests)?;
+    let [root, child, other] = made_by_places(&rt, &answers, never)?;
+    assert_eq!(rt;
+        (parent_of(&dispatch, child), parent_of(&dispatch, other)),
+        (Some(root), None)
+    );
+    assert_eq!(rt;
+        dispatch.stack().layer().notices(),
+        [
+            Notice::New(LANE, root),
+            Notice::New(LANE, child),
+            Notice::Event(LANE, 7),
+            Notice::New(LANE, other),
+        ]
+        .as_slice()
+    );
+    Ok(())
+}
+
+/// Requests of each kind, for one span.
+fn requests_of_one_span(never: Id) -> [Request<'static>; 13] {
+    let span = Which::Made(0);
+    [
+        span_in(WhichParent::Contextual),
+        Request::Clone(LANE, span),
+        Request::Enter(LANE, span),
+        Request::Current(LANE),
+        Request::Current(Lane(1)),
+        Request::Record(LANE, span, &[]),
+        Request::Follows(LANE, span, Which::Known(never)),
+        Request::Exit(LANE, span),
+        Request::Current(LANE),
+        Request::Enabled(LANE, event_metadata()),
+        Request::Drop(LANE, span),
+        Request::Drop(LANE, span),
+        Request::Clone(LANE, span),
+    ]
+}
+
+#[test]
+fn a_list_is_answered_in_its_order(rt: HostRuntime) -> Result<(), Fail> {
+    let mut dispatch = fresh_plain(rt.alloc())?;
+    let never = Id::from_u64(0);
+    let requests = requests_of_one_span(never);
+    let answers = serve(rt.alloc(), &mut dispatch, &requests)?;
+    let id = made(&answers, 0)?;
+    assert_eq!(rt;
+        answers.as_slice(),
+        [
+            Answer::Made(id),
+            Answer::Done,
+            Answer::Done,
+            Answer::Current(Some(id)),
+            Answer::Current(None),
+            Answer::Done,
+            Answer::Done,
+            Answer::Done,
+            Answer::Current(None),
+            Answer::Yes(true),
+            Answer::Yes(false),
+            Answer::Yes(true),
+            Answer::Refused(TraceError::UnknownSpan(id)),
+        ]
+        .as_slice()
+    );
+    assert_eq!(rt;
+        dispatch.stack().layer().notices(),
+        [
+            Notice::New(LANE, id),
+            Notice::Enter(LANE, id),
+            Notice::Record(LANE, id),
+            Notice::Follows(LANE, id, never),
+            Notice::Exit(LANE, id),
+            Notice::Close(LANE, id),
+        ]
+        .as_slice()
+    );
+    Ok(())
+}
+
+/// Makes each call with a span that isn't open.
+fn refuses_unknown<S: Subscriber>(
+    rt: &impl Abort,
+    dispatch: &mut Dispatch<S>,
+    id: Id,
+) -> Result<(), Fail>
+    requires { S.usable (stack_of dispatch.old) }
+    ensures { S.usable (stack_of dispatch.new) }
+{
+    let unknown = TraceError::UnknownSpan(id);
+    let child = Attributes::child_of(id, span_metadata(), &[]);
+    let event = Event::new_child_of(id, event_metadata(), &[]);
+    let values = Record::new(&[]);
+    assert_eq!(rt; dispatch.enter(LANE, id), Err(unknown));
+    assert_eq!(rt; dispatch.record(LANE, id, &values), Err(unknown));
+    assert_eq!(rt; dispatch.follows_from(LANE, id, id), Err(unknown));
+    assert_eq!(rt; dispatch.clone_span(LANE, id), Err(unknown));
+    assert_eq!(rt; dispatch.drop_span(LANE, id), Err(unknown));
+    assert_eq!(rt;
+        dispatch.new_span(LANE, &child),
+        Err(TraceError::UnknownParent(id))
+    );
+    dispatch.exit(LANE, id);
+    assert_eq!(rt; dispatch.event(LANE, &event), Ok(true));
+    let found = Context::new(dispatch.stack(), LANE).event_span(&event);
+    assert!(rt; found.is_none());
+    Ok(())
+}
+
+/// Makes each call with ids that were never handed out and with that of a closed span. Answers the
+/// closed span.
+fn refuses_all_unknown<S: Subscriber>(
+    rt: &impl Abort,
+    dispatch: &mut Dispatch<S>,
+) -> Result<Id, Fail>
+    requires { S.usable (stack_of dispatch.old) }
+    ensures { S.usable (stack_of dispatch.new) }
+{
+    let closed = open_root(dispatch)?;
+    assert_eq!(rt; drop_handle(dispatch, closed), Ok(true));
+    refuses_unknown(rt, dispatch, Id::from_u64(0))?;
+    refuses_unknown(rt, dispatch, Id::from_u64(u64::MAX))?;
+    refuses_unknown(rt, dispatch, closed)?;
+    Ok(closed)
+}
+
+/// A recorder hears of the closed span, and of the events that have an unknown parent.
+fn knows_open_spans_alone(rt: &impl Abort, dispatch: Dispatch<Plain>) -> Result<(), Fail> {
+    let mut dispatch = dispatch;
+    let closed = refuses_all_unknown(rt, &mut dispatch)?;
+    assert_eq!(rt;
+        dispatch.stack().layer().notices(),
+        [
+            Notice::New(LANE, closed),
+            Notice::Close(LANE, closed),
+            Notice::Event(LANE, 7),
+            Notice::Event(LANE, 7),
+            Notice::Event(LANE, 7),
+        ]
+        .as_slice()
+    );
+    Ok(())
+}
+
+#[test]
+fn spans_may_be_unknown(rt: HostRuntime) -> Result<(), Fail> {
+    knows_open_spans_alone(&rt, fresh_plain(rt.alloc())?)?;
+    knows_open_spans_alone(&rt, in_use(rt.alloc(), plain(rt.alloc())?))
+}
+
+/// The span that the lane is in.
+fn current<S: Subscriber>(dispatch: &Dispatch<S>) -> Option<Id> {
+    dispatch.current_span(LANE).id()
+}
+
+/// Enters a span.
+fn enter<S: Subscriber>(dispatch: &mut Dispatch<S>, id: Id) -> Result<(), TraceError>
+    requires { S.usable (stack_of dispatch.old) }
+    ensures { S.usable (stack_of dispatch.new) }
+{
+    dispatch.enter(LANE, id)
+}
+
+/// What a program sees of a dispatcher: the span that the lane is in, and how many notices its recorder keeps.
+fn seen(dispatch: &Dispatch<Plain>) -> (Option<Id>, usize, bool) {
+    let recorder = dispatch.stack().layer();
+    (
+        current(dispatch),
+        recorder.notices().len(),
+        recorder.failed(),
+    )
+}
+
+/// Opens a span, and once more where memory is refused: that changes nothing.
+fn open_at_last(rt: &impl Abort, dispatch: &mut Dispatch<Plain>) -> Result<Id, Fail> {
+    let before = seen(dispatch);
+    let opened = open(dispatch);
+    if opened == Err(TraceError::OutOfMemory) {
+        assert_eq!(rt; seen(dispatch), before);
+        return open_root(dispatch);
+    }
+    Ok(opened?.ok_or("a layer vetoes")?)
+}
+
+/// Enters a span, and once more where memory is refused: that changes nothing.
+fn enter_at_last(rt: &impl Abort, dispatch: &mut Dispatch<Plain>, id: Id) -> Result<(), Fail> {
+    let before = seen(dispatch);
+    if let Err(error) = enter(dispatch, id) {
+        assert_eq!(rt; error, TraceError::OutOfMemory);
+        assert_eq!(rt; seen(dispatch), before);
+        enter(dispatch, id)?;
+    }
+    Ok(())
+}
+
+/// Serves requests, and once more where memory is refused before: that changes nothing.
+fn serve_at_last(
+    rt: &impl Abort,
+    alloc: Global,
+    dispatch: &mut Dispatch<Plain>,
+    requests: &[Request<'_>],
+) -> Result<Vec<Answer>, Fail> {
+    let before = seen(dispatch);
+    match serve(alloc, dispatch, requests) {
+        Err(error) => {
+            assert_eq!(rt; error, TraceError::OutOfMemory);
+            assert_eq!(rt; seen(dispatch), before);
+            Ok(serve(alloc, dispatch, requests)?)
+        }
+        Ok(answers) => Ok(answers),
+    }
+}
+
+/// Opens a span, enters it, and sends an event in it.
+fn send_in_span_at_last(rt: &impl Abort, dispatch: &mut Dispatch<Plain>) -> Result<Id, Fail> {
+    let id = open_at_last(rt, dispatch)?;
+    enter_at_last(rt, dispatch, id)?;
+    assert_eq!(rt; (current(dispatch), send(dispatch)), (Some(id), Ok(true)));
+    Ok(id)
+}
+
+/// A recorder keeps what it is told of that span until it closes, or as much of it as there was
+/// memory for.
+fn keeps_what_fits(rt: &impl Abort, recorder: &Recorder, id: Id) {
+    let told = [
+        Notice::New(LANE, id),
+        Notice::Enter(LANE, id),
+        Notice::Event(LANE, 7),
+        Notice::Close(LANE, id),
+    ];
+    assert!(rt; told.as_slice().starts_with(recorder.notices()));
+    assert_eq!(rt; recorder.failed(), recorder.notices().len() < 4);
+}
+
+/// It passes too where any one allocation is refused, as `rt try --test --fail-alloc N` does.
+#[test]
+fn a_refusal_of_memory_changes_nothing(rt: HostRuntime) -> Result<(), Fail> {
+    let mut dispatch = fresh_plain(rt.alloc())?;
+    let id = send_in_span_at_last(&rt, &mut dispatch)?;
+    let requests = [Request::Drop(LANE, Which::Known(id))];
+    let answers = serve_at_last(&rt, rt.alloc(), &mut dispatch, &requests)?;
+    assert_eq!(rt; answers.as_slice(), [Answer::Yes(true)].as_slice());
+    keeps_what_fits(&rt, dispatch.stack().layer(), id);
+    Ok(())
+}
+
+/// It passes too where any one allocation is refused.
+#[test]
+fn a_refused_interest_changes_nothing(rt: HostRuntime) -> Result<(), Fail> {
+    let mut dispatch = in_use(rt.alloc(), plain(rt.alloc())?);
+    let before = seen(&dispatch);
+    if let Err(error) = send(&mut dispatch) {
+        assert_eq!(rt; error, TraceError::OutOfMemory);
+        assert_eq!(rt; seen(&dispatch), before);
+        assert_eq!(rt; send(&mut dispatch), Ok(true));
+    }
+    let recorder = dispatch.stack().layer();
+    assert_eq!(rt; recorder.failed(), recorder.notices().is_empty());
+    Ok(())
+}
