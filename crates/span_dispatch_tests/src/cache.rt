@@ -60,17 +60,25 @@ fn kept_by_two(alloc: Global, inner: &Recorder, outer: &Recorder) -> Result<Kept
 }
 
 /// What recorders keep of so many events, each under a filter of its own.
-fn kept_under<I, O>(alloc: Global, inner: I, outer: O, count: usize) -> Result<KeptByTwo, Fail>
+fn kept_under<S, I, O>(
+    alloc: Global,
+    stack: S,
+    inner: I,
+    outer: O,
+    count: usize,
+) -> Result<KeptByTwo, Fail>
 where
-    I: Filter<Registry> + Drop,
-    O: Filter<Layered<Filtered<Recorder, I>, Registry>> + Drop,
+    S: Subscriber + Drop,
+    I: Filter<S> + Drop,
+    O: Filter<Layered<Filtered<Recorder, I>, S>> + Drop,
+    requires stack { S.usable stack }
     requires inner { I.usable inner }
     requires outer { O.usable outer }
 {
     let requests = events(alloc, count)?;
     let inner = Recorder::new(alloc).with_filter(inner);
     let outer = Recorder::new(alloc).with_filter(outer);
-    let (dispatch, _) = serve_by_layers(alloc, Registry::new(alloc), inner, outer, &requests)?;
+    let (dispatch, _) = serve_by_layers(alloc, stack, inner, outer, &requests)?;
     let stack = dispatch.stack();
     kept_by_two(alloc, stack.inner().layer().inner(), stack.layer().inner())
 }
@@ -84,7 +92,8 @@ fn asked_once(rt: &impl Abort, alloc: Global, count: usize) -> Result<(), Fail> 
         true
     });
     let absent: Option<LevelFilter> = None;
-    let (other, counted) = kept_under(alloc, absent, counted, count)?;
+    let registry = Registry::new(alloc);
+    let (other, counted) = kept_under(alloc, registry, absent, counted, count)?;
     assert_eq!(rt;
         (counted.len(), other.len(), asked.get()),
         (count, count, 1)
@@ -106,7 +115,8 @@ fn filters_that_differ_on_a_callsite_are_asked_each_time(rt: HostRuntime) -> Res
         count_one(&counter);
         meta.level() <= Level::WARN
     });
-    let (other, counted) = kept_under(rt.alloc(), LevelFilter::INFO, counted, 3)?;
+    let registry = Registry::new(rt.alloc());
+    let (other, counted) = kept_under(rt.alloc(), registry, LevelFilter::INFO, counted, 3)?;
     let notice = Notice::Event(LANE, 5);
     // It is asked once for the interest, and once for each event.
     assert_eq!(rt;

@@ -8,7 +8,7 @@ use span_core::{Id, Level, LevelFilter, Metadata, TraceError};
 use span_dispatch::{Answer, Notice, Recorder, Request, Which, WhichParent};
 use span_filters::{FunctionIn, dynamic_filter_fn};
 use span_layer_tests::fixture::{LANE, put};
-use span_layers::{Filtered, Layer, LayerExt, Layered, Observe, Observed, Observer};
+use span_layers::{Filtered, LayerExt, Layered, Observe, Observed, Observer};
 use span_registry::{Context, ContextMut, ExtensionValue, LookupSpan, Registry, Subscriber, Tag};
 use std::alloc::Global;
 use std::process::Abort;
@@ -94,10 +94,10 @@ fn a_and_b(alloc: Global) -> Result<Two, TraceError> {
     put(b, Recorder::new(alloc).with_filter(LevelFilter::INFO))
 }
 
-/// Serves the list with C outside A and B, and looks at what these were notified of.
-fn a_and_b_beside<C: Layer<Two> + Drop>(rt: &impl Abort, alloc: Global, c: C) -> Result<(), Fail>
-    requires { C.usable c }
-{
+/// Serves the list with C, under this level, outside A and B, and looks at what these were notified
+/// of.
+fn a_and_b_beside(rt: &impl Abort, alloc: Global, outermost: LevelFilter) -> Result<(), Fail> {
+    let c = Recorder::new(alloc).with_filter(outermost);
     let (dispatch, answers) = serve_by_layer(alloc, a_and_b(alloc)?, c, &requests())?;
     a_and_b_kept(rt, dispatch.stack().inner(), &answers)
 }
@@ -113,10 +113,8 @@ fn a_and_b_kept(rt: &impl Abort, stack: &Two, answers: &[Answer]) -> Result<(), 
 
 #[test]
 fn another_layers_filter_makes_no_difference(rt: HostRuntime) -> Result<(), Fail> {
-    let open = Recorder::new(rt.alloc()).with_filter(LevelFilter::TRACE);
-    a_and_b_beside(&rt, rt.alloc(), open)?;
-    let closed = Recorder::new(rt.alloc()).with_filter(LevelFilter::OFF);
-    a_and_b_beside(&rt, rt.alloc(), closed)
+    a_and_b_beside(&rt, rt.alloc(), LevelFilter::TRACE)?;
+    a_and_b_beside(&rt, rt.alloc(), LevelFilter::OFF)
 }
 
 /// The test of a filter: it passes spans, and of events those in a marked span, one with a value under this tag. It reads

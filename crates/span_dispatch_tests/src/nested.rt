@@ -135,82 +135,89 @@ fn by_worker<S: Subscriber + Drop, C: Crew>(
     }
 }
 
-/// Puts a layer with eight filters on a registry, and has a dispatcher open a span of this level.
-fn on_registry<L: Layer<Registry> + Drop>(
+/// Puts a layer with eight filters on a stack without any, and has a dispatcher open a span of this
+/// level.
+fn on_stack<S: Subscriber + Drop, L: Layer<S> + Drop>(
     rt: &(impl Abort + Wait),
     alloc: Global,
     by: By,
     level: Level,
+    stack: S,
     layer: L,
 ) -> Result<Opened, Fail>
-    requires { L.usable layer }
+    requires stack { S.usable stack }
+    requires layer { L.usable layer }
 {
-    let stack = put(Registry::new(alloc), layer)?;
+    let stack = put(stack, layer)?;
     assert_eq!(rt; stack.root().filters(), 8);
     match by {
         By::Keeping => by_dispatcher(alloc, &mut in_use(alloc, stack), level),
         By::Asking => by_dispatcher(alloc, &mut fresh(alloc, stack), level),
-        By::Sharing => {
-            by_worker::<Layered<L, Registry>, Brand>(rt, alloc, Blank::new(1), stack, level)
-        }
+        By::Sharing => { by_worker::<Layered<L, S>, Brand>(rt, alloc, Blank::new(1), stack, level) }
     }
 }
 
 /// The same of a layer with six filters, under two that pass all.
-fn in_two_more<L: Layer<Registry> + Drop>(
+fn in_two_more<S: Subscriber + Drop, L: Layer<S> + Drop>(
     rt: &(impl Abort + Wait),
     alloc: Global,
     by: By,
     level: Level,
+    stack: S,
     layer: L,
 ) -> Result<Opened, Fail>
-    requires { L.usable layer }
+    requires stack { S.usable stack }
+    requires layer { L.usable layer }
 {
     let under_two = layer
         .with_filter(LevelFilter::TRACE)
         .with_filter(LevelFilter::TRACE);
-    on_registry(rt, alloc, by, level, under_two)
+    on_stack(rt, alloc, by, level, stack, under_two)
 }
 
 /// The same of a layer with four filters. Numbers are given from the outermost filter on, from 0,
 /// and two filters more will stand outside these: so the inner one here is number 3, which refuses.
-fn in_four_more<L: Layer<Registry> + Drop>(
+fn in_four_more<S: Subscriber + Drop, L: Layer<S> + Drop>(
     rt: &(impl Abort + Wait),
     alloc: Global,
     by: By,
     level: Level,
+    stack: S,
     layer: L,
 ) -> Result<Opened, Fail>
-    requires { L.usable layer }
+    requires stack { S.usable stack }
+    requires layer { L.usable layer }
 {
     let under_two = layer
         .with_filter(LevelFilter::ERROR)
         .with_filter(LevelFilter::TRACE);
-    in_two_more(rt, alloc, by, level, under_two)
+    in_two_more(rt, alloc, by, level, stack, under_two)
 }
 
 /// The same of a layer with two filters.
-fn in_six_more<L: Layer<Registry> + Drop>(
+fn in_six_more<S: Subscriber + Drop, L: Layer<S> + Drop>(
     rt: &(impl Abort + Wait),
     alloc: Global,
     by: By,
     level: Level,
+    stack: S,
     layer: L,
 ) -> Result<Opened, Fail>
-    requires { L.usable layer }
+    requires stack { S.usable stack }
+    requires layer { L.usable layer }
 {
     let under_two = layer
         .with_filter(LevelFilter::TRACE)
         .with_filter(LevelFilter::TRACE);
-    in_four_more(rt, alloc, by, level, under_two)
+    in_four_more(rt, alloc, by, level, stack, under_two)
 }
 
-/// The same of a layer without filters, which marks the spans that it is told of.
+/// The same of a layer without filters on a registry, which marks the spans that it is told of.
 fn in_eight(rt: &(impl Abort + Wait), alloc: Global, by: By, level: Level) -> Result<Opened, Fail> {
     let under_two = Observer::new(SpanMarker { mark: mark() })
         .with_filter(LevelFilter::TRACE)
         .with_filter(LevelFilter::TRACE);
-    in_six_more(rt, alloc, by, level, under_two)
+    in_six_more(rt, alloc, by, level, Registry::new(alloc), under_two)
 }
 
 /// An info span is refused by number 3 alone. It is in the registry all the same, and the innermost
