@@ -9,9 +9,10 @@ use Rattle.span_core.specs.declared.metadata.Metadata.{Metadata}
 use Rattle.span_core.specs.declared.span.Lane.{Lane}
 use Rattle.span_core.specs.declared.span.Parent.{Parent}
 use Rattle.span_core.specs.declared.span.Parent.TheVariants.{Contextual, Explicit, Root}
-use Rattle.span_dispatch.specs.Alone.{Alone, StepsAlone, acting, given_in, given_of, learning, lone, passed, with_new}
+use Rattle.span_dispatch.specs.Alone.{Alone, acting, learning, lone, passed}
 use Rattle.span_dispatch.specs.Isolation.{ActAlike, PathsActAlike, SeeTheSame, Sight}
-use Rattle.span_dispatch.specs.Outcome.{GoneLeft, HandleAdded, HandleTaken, LevelSet, Noticed, Outcome, Quiet}
+use Rattle.span_dispatch.specs.Outcome.{GoneLeft, HandleAdded, HandleTaken, LevelSet, Noticed, Outcome, Quiet, Steps, given_in, with_new}
+use Rattle.std.specs.FinSet.{contains}
 use Rattle.span_layers.specs.Verdict.{in_verdict}
 use Rattle.span_registry.proofs.Agreeing.{closing_alike, held_alike, not_open_alike, open_alike, added_agrees, entered_agrees, exited_agrees, new_agrees, parent_alike, passed_alike, taken_agrees, views_alike, without_agrees}
 use Rattle.span_registry.specs.Agree.{AgreeAt, SpansAgree}
@@ -254,7 +255,7 @@ itself_within a n t = t
 pub none_within : (a : FilterSet) → Within no_filter a
 none_within a n t = absurd (false≢true t)
 
-given_alike : (numbers : FilterSet) (e : Notice) (s t u v : Store) → AgreeAt numbers s t → AgreeAt numbers u v → AgreeAt numbers (given_in e s u) (given_in e t v)
+pub given_alike : (numbers : FilterSet) (e : Notice) (s t u v : Store) → AgreeAt numbers s t → AgreeAt numbers u v → AgreeAt numbers (given_in e s u) (given_in e t v)
 given_alike numbers (OnNewSpan attrs id) s t u v before after = after
 given_alike numbers (OnRecord id values) s t u v before after = after
 given_alike numbers (OnFollows id other) s t u v before after = after
@@ -271,8 +272,8 @@ acting_alike cs ds (Noticed lane e) s t u v p before after =
 acting_alike cs ds (Quiet c) s t u v p before after = p
 acting_alike cs ds (LevelSet n l) s t u v p before after = setting_alike n l cs ds p
 
-passed_both : (cs ds : Conducts) (o : Outcome) (s t u v : Store) → PathsActAlike cs ds → AgreeAt (numbers_in cs) s t → AgreeAt (numbers_in cs) u v
-    → passed (Some (path_now cs)) o s (given_of o s u) ≡ passed (Some (path_now ds)) o t (given_of o t v)
+pub passed_both : (cs ds : Conducts) (o : Outcome) (s t u v : Store) → PathsActAlike cs ds → AgreeAt (numbers_in cs) s t → AgreeAt (numbers_in cs) u v
+    → passed (Some (path_now cs)) o s u ≡ passed (Some (path_now ds)) o t v
 passed_both cs ds (Noticed lane e) s t u v p agree after =
     let numbers = numbers_in cs in
     let passes = paths_pass_alike numbers s t agree lane.0 cs ds e no_filter p (itself_within numbers) (none_within numbers) in
@@ -304,7 +305,7 @@ changed : (numbers : FilterSet) (s t u v : Store) → u ≡ s → v ≡ t → Ag
 changed numbers s t u v e f h = subst (λ (x : Store). AgreeAt numbers x v) (sym e) (subst (λ (y : Store). AgreeAt numbers s y) (sym f) h)
 
 -- the steps of both leave stores that agree
-pub steps_agree : (cs ds : Conducts) (o : Outcome) (s t u v : Store) → PathsActAlike cs ds → AgreeAt (numbers_in cs) s t → StepsAlone (path_now cs) o s u → StepsAlone (path_now ds) o t v → AgreeAt (numbers_in cs) u v
+pub steps_agree : (cs ds : Conducts) (o : Outcome) (s t u v : Store) → PathsActAlike cs ds → AgreeAt (numbers_in cs) s t → Steps (lone (path_now cs)) o s u → Steps (lone (path_now ds)) o t v → AgreeAt (numbers_in cs) u v
 steps_agree cs ds (Noticed lane (OnNewSpan attrs id)) s t u v p agree h k =
     let numbers = numbers_in cs in
     let parent : h.parent ≡ k.parent = one_parent t lane (asked_parent attrs) h.parent k.parent (parent_alike numbers s t lane (asked_parent attrs) h.parent agree h.chosen) k.chosen in
@@ -330,7 +331,7 @@ steps_agree cs ds (LevelSet n l) s t u v p agree h k = changed (numbers_in cs) s
 steps_agree cs ds (Quiet (GoneLeft lane id)) s t u v p agree h k = changed (numbers_in cs) _ _ u v h.1 k.1 (exited_agrees (numbers_in cs) s t lane.0 (number_of id) agree)
 
 -- where the one takes a step, so does the other
-pub step_over : (cs ds : Conducts) (o : Outcome) (s t u : Store) → PathsActAlike cs ds → AgreeAt (numbers_in cs) s t → StepsAlone (path_now cs) o s u → (v : Store) × StepsAlone (path_now ds) o t v
+pub step_over : (cs ds : Conducts) (o : Outcome) (s t u : Store) → PathsActAlike cs ds → AgreeAt (numbers_in cs) s t → Steps (lone (path_now cs)) o s u → (v : Store) × Steps (lone (path_now ds)) o t v
 step_over cs ds (Noticed lane (OnNewSpan attrs id)) s t u p agree h =
     let numbers = numbers_in cs in
     let span : Span = begun (record { metadata = metadata_of attrs; parent = asked_parent attrs; verdict = h.verdict }) h.parent in (
@@ -340,6 +341,7 @@ step_over cs ds (Noticed lane (OnNewSpan attrs id)) s t u p agree h =
         chosen = parent_alike numbers s t lane (asked_parent attrs) h.parent agree h.chosen;
         verdict = h.verdict;
         refused = λ k. h.refused k ∙ verdicts_alike numbers s t agree lane.0 cs ds (metadata_of attrs) no_filter k p (itself_within numbers) (none_within numbers);
+        fresh = ap (λ i. contains i (number_of id)) (sym agree.issued) ∙ h.fresh;
         state = refl;
       },
     )

@@ -17,22 +17,25 @@ use Rattle.span_core.specs.declared.interest.Interest.{Interest}
 use Rattle.span_core.specs.declared.metadata.Metadata.{Metadata}
 use Rattle.span_core.specs.declared.pass.Pass.{Pass}
 use Rattle.span_core.specs.declared.span.Lane.{Lane}
-use Rattle.span_dispatch.specs.Admission.{GivesInterest, HasInterestBy, IsAdmitted, IsInterestBy, IsLetBy, MayLearn, interests_nobody, is_above_hint, learned, learned_if}
-use Rattle.span_dispatch.specs.Cache.{Callsites, IsCurrent, Memory, ReadHint, ReadsOnce, RefusesBelow, RefusesInterest, callsites_of, hint_in, is_above_read, kept_in, no_callsite, with_callsite}
+use Rattle.span_dispatch.specs.Admission.{Decides, GivesInterest, HasInterestBy, IsAdmitted, IsInterestBy, IsLetBy, KeepsSafely, LosesNothing, MayLearn, Promises, interests_nobody, is_above_hint, learned, learned_if}
+use Rattle.span_dispatch.specs.Cache.{Callsites, IsCurrent, IsKept, IsUpToDate, Memory, ReadHint, ReadsOnce, RefusesBelow, RefusesInterest, callsites_of, hint_in, is_above_read, kept_in, no_callsite, with_callsite}
 use Rattle.span_dispatch.specs.declared.cache.Cache.TheVariants.{Empty, Filled, Off}
 use Rattle.span_dispatch.specs.declared.cache.Cache.{Cache}
 use Rattle.span_dispatch.specs.declared.cache.Callsite.{Callsite}
 use Rattle.span_dispatch.specs.declared.cache.Known.{Known}
 use Rattle.span_layers.proofs.Hint.{above_is_unwanted}
-use Rattle.span_layers.proofs.HonestKept.{alike_interest}
+use Rattle.span_dispatch.proofs.Goes.{keeps_again}
+use Rattle.span_layers.proofs.HonestKept.{alike_interest, hint_is_kept, interest_is_kept}
+use Rattle.span_core.specs.declared.level.LevelFilter.{LevelFilter}
+use Rattle.span_registry.specs.Follows.{Keeps, kept_form}
 use Rattle.span_layers.proofs.Interest.{always_is_wanted, never_is_unwanted}
 use Rattle.span_layers.proofs.Pass.{asked_unless_vetoed}
 use Rattle.span_layers.specs.Honest.{IsHonestStack}
-use Rattle.span_layers.specs.Wanted.{IsUnwanted}
+use Rattle.span_layers.specs.Wanted.{IsUnwanted, IsWantedByAll}
 use Rattle.span_registry.specs.Form.{Form}
 use Rattle.span_registry.specs.Hooks.{AnswersEnabled, AnswersInterest, no_filter}
 use Rattle.span_registry.specs.Question.{asked, hint_of, interest_of, is_never, refusals}
-use Rattle.span_registry.specs.Store.{RegistryState}
+use Rattle.span_registry.specs.Store.{RegistryState, Store}
 
 -- ---- what hint and interest say
 
@@ -93,6 +96,62 @@ module _ (memory : Memory) (f : Form) (s : RegistryState) (lane : Lane) (m : Met
           not_true true e = refl
           not_true false e = sym e
 
+-- ---- what is decided where what is kept loses nothing
+
+module _ (f : Form) (s : Store) (lane : Lane) (m : Metadata) (n : ℕ) (honest : IsHonestStack f n) where
+  pub decides_always : (pass : Pass) → IsWantedByAll f m s lane.0 → IsEmpty (refusals pass) → Decides f s lane m pass (Ok true)
+  decides_always pass wanted empty = wanted.question ∙ (λ k. (true, λ j. sym (empty j) k))
+
+  pub decides_asked : {S : Type 0} (registry : S → RegistryState) (has_form : S → Form → Type 0) (x : S) (fresh pass : Pass) (said : Bool) → (registry x).store ≡ s → has_form x f → IsEmpty (refusals fresh) → AnswersEnabled registry has_form x lane m fresh said pass
+      → Decides f s lane m pass (Ok said)
+  decides_asked registry has_form x fresh pass said at d empty a = by_answer said refl
+    where
+      here : asked f m s lane.0 no_filter no_filter ≡ asked f m (registry x).store lane.0 no_filter (refusals fresh)
+      here = λ k. asked f m (sym at k) lane.0 no_filter (λ j. sym (empty j) k)
+
+      by_answer : (b : Bool) → said ≡ b → Decides f s lane m pass (Ok b)
+      by_answer true e = here ∙ (λ k. ((sym (a f d).answer ∙ e) k, sym (a f d).refused k))
+      by_answer false e = inl (not_true _ (sym (asked_unless_vetoed f m s lane.0 no_filter honest.orderly) ∙ ap (λ (p : Bool × FilterSet). p.0) here ∙ sym (a f d).answer ∙ e))
+        where
+          not_true : (b : Bool) → not b ≡ false → b ≡ true
+          not_true true k = refl
+          not_true false k = sym k
+
+-- what an interest promises of what shows the same, by a form that keeps another
+module _ (f g : Form) (n : ℕ) (keeps : Keeps f g) (honest : IsHonestStack g n) where
+  as_before : (k m : Metadata) (i : Interest) → ShowSame k m → i ≡ (interest_of f k n None).0 → (interest_of g m n None).0 ≡ i
+  as_before k m i same e =
+      sym (ap (λ (p : Interest × Option Interest). p.0) (alike_interest g honest.answers k m same n None)) ∙ ap (λ (p : Interest × Option Interest). p.0) (interest_is_kept f g keeps k n) ∙ sym e
+
+  pub never_still : (k m : Metadata) (i : Interest) (s : Store) (lane : ℕ) → ShowSame k m → i ≡ (interest_of f k n None).0 → i ≡ Never → IsUnwanted g m s lane
+  never_still k m i s lane same e none = never_is_unwanted g n m s lane honest (as_before k m i same e ∙ none)
+
+  pub always_still : (k m : Metadata) (i : Interest) (s : Store) (lane : ℕ) → ShowSame k m → i ≡ (interest_of f k n None).0 → i ≡ Always → IsWantedByAll g m s lane
+  always_still k m i s lane same e all = always_is_wanted g n m s lane honest (as_before k m i same e ∙ all)
+
+  pub above_still : (hint : Option LevelFilter) (m : Metadata) (s : Store) (lane : ℕ) → hint ≡ hint_of f → is_above (level_of m) hint ≡ true → IsUnwanted g m s lane
+  above_still hint m s lane e above = above_is_unwanted g n m s lane honest (ap (is_above (level_of m)) (hint_is_kept f g keeps ∙ sym e) ∙ above)
+
+-- what a stack would answer now loses nothing
+pub current_is_safe : (f : Form) (n : ℕ) (c : Cache) → IsUpToDate f n c → KeepsSafely f n c
+current_is_safe f n Off u = tt
+current_is_safe f n Empty u = tt
+current_is_safe f n (Filled k) u = record {
+  above = λ g m s lane keeps honest e. above_still f g n keeps honest k.hint m s lane u.hint e;
+  never = λ g m one s lane keeps honest kept e. never_still f g n keeps honest one.metadata m one.interest s lane kept.same (u.interest (callsite_of m) one kept.there) e;
+  always = λ g m one s lane keeps honest kept e. always_still f g n keeps honest one.metadata m one.interest s lane kept.same (u.interest (callsite_of m) one kept.there) e;
+}
+
+-- by a form that keeps another it loses nothing either
+pub safely_again : (f g : Form) (n : ℕ) (c : Cache) → Keeps f g → KeepsSafely f n c → KeepsSafely g n c
+safely_again f g n Off e u = tt
+safely_again f g n Empty e u = tt
+safely_again f g n (Filled k) e u = record {
+  above = λ h m s lane keeps honest a. u.above h m s lane (keeps_again f g h e keeps) honest a;
+  never = λ h m one s lane keeps honest kept a. u.never h m one s lane (keeps_again f g h e keeps) honest kept a;
+  always = λ h m one s lane keeps honest kept a. u.always h m one s lane (keeps_again f g h e keeps) honest kept a;
+}
+
 -- ---- what a cache gives
 
 -- what is above no hint that is kept afterwards was above none before
@@ -140,6 +199,7 @@ module _ {S : Type 0} (registry : S → RegistryState) (has_form : S → Form �
     above = λ e. absurd (false≢true e);
     mismatch = λ r. absurd r.1;
     refused = tt;
+    safe = λ f d h u. (tt, tt);
     by_form = λ f d h u. record { above = λ e. absurd (false≢true e); agrees = λ e. tt; never = λ e. refl; always = λ e. absurd (cc); learned = refl };
     kept = λ f d u. tt;
   }
@@ -154,6 +214,7 @@ module _ {S : Type 0} (registry : S → RegistryState) (has_form : S → Form �
     above = λ a. refl;
     mismatch = λ r. absurd (false≢true (sym r.0 ∙ e));
     refused = tt;
+    safe = λ f d h u. (λ s lane. u.above f m s lane (kept_form f) h e, u);
     by_form = λ f d h u.
         let above = ap (is_above (level_of m)) (sym u.hint) ∙ e in
         record {
@@ -189,6 +250,7 @@ module _ {S : Type 0} (registry : S → RegistryState) (has_form : S → Form �
     above = λ a. absurd (false≢true (sym passes ∙ a));
     mismatch = λ r. absurd (r.1.2 (shown r.1.0 r.1.1));
     refused = tt;
+    safe = λ f d h u. (promised f h u one.interest refl, u);
     by_form = λ f d h u.
         let below = ap (is_above (level_of m)) (sym u.hint) ∙ passes in
         let interest = u.interest (callsite_of m) one at ∙ ap (λ (p : Interest × Option Interest). p.0) (alike_interest f h one.metadata m same (registry x).filters None) in
@@ -205,6 +267,11 @@ module _ {S : Type 0} (registry : S → RegistryState) (has_form : S → Form �
       there : callsites_of k (callsite_of m) ≡ Some one.metadata
       there = ap (option_map (λ (c : Callsite). c.metadata)) at
 
+      promised : (f : Form) → IsHonestStack f (registry x).filters → LosesNothing f (registry x).filters k → (i : Interest) → one.interest ≡ i → Promises f m (Ok i)
+      promised f h u Never e = λ s lane. u.never f m one s lane (kept_form f) h (record { there = at; same = same }) e
+      promised f h u Sometimes e = tt
+      promised f h u Always e = λ s lane. u.always f m one s lane (kept_form f) h (record { there = at; same = same }) e
+
       shown : (other : Metadata) → callsites_of k (callsite_of m) ≡ Some other → ShowSame other m
       shown other e = let which : Some other ≡ Some one.metadata = sym e ∙ there in let it : other ≡ one.metadata = cc in subst (λ z. ShowSame z m) (sym it) same
 
@@ -218,6 +285,7 @@ module _ {S : Type 0} (registry : S → RegistryState) (has_form : S → Form �
     above = λ a. absurd (false≢true (sym passes ∙ a));
     mismatch = λ r. refl;
     refused = (passes, (one.metadata, ap (option_map (λ (c : Callsite). c.metadata)) at, other));
+    safe = λ f d h u. (tt, u);
     by_form = λ f d h u. (ap (is_above (level_of m)) (sym u.hint) ∙ passes, refl);
     kept = λ f d u. u;
   }
@@ -233,6 +301,14 @@ module _ {S : Type 0} (registry : S → RegistryState) (has_form : S → Form �
     above = λ a. absurd (false≢true (sym passes ∙ ap (is_above (level_of m)) (sym hint) ∙ a));
     mismatch = λ r. let no : Some r.1.0 ≡ None = sym r.1.1 ∙ ap (option_map (λ (c : Callsite). c.metadata)) at in absurd (cc);
     refused = (passes, ap (option_map (λ (c : Callsite). c.metadata)) at);
+    safe = λ f d h u. (
+      tt,
+      record {
+        above = λ g k s lane keeps honest a. u.above g k s lane keeps honest (ap (is_above (level_of k)) (sym hint) ∙ a);
+        never = λ g k one s lane keeps honest kept a. u.never g k one s lane keeps honest (record { there = sym (same (callsite_of k)) ∙ kept.there; same = kept.same }) a;
+        always = λ g k one s lane keeps honest kept a. u.always g k one s lane keeps honest (record { there = sym (same (callsite_of k)) ∙ kept.there; same = kept.same }) a;
+      },
+    );
     by_form = λ f d h u. (ap (is_above (level_of m)) (sym u.hint) ∙ passes, λ i. Some (λ n. option_map (λ (c : Callsite). c.metadata) (same n i)));
     kept = λ f d u. record { hint = hint ∙ u.hint; number = λ n one e. u.number n one (sym (same n) ∙ e); interest = λ n one e. u.interest n one (sym (same n) ∙ e) };
   }
@@ -249,6 +325,18 @@ module _ {S : Type 0} (registry : S → RegistryState) (has_form : S → Form �
     above = λ a. absurd (false≢true (sym passes ∙ ap (is_above (level_of m)) (sym hint) ∙ a));
     mismatch = λ r. let no : Some r.1.0 ≡ None = sym r.1.1 ∙ ap (option_map (λ (c : Callsite). c.metadata)) at in absurd (cc);
     refused = tt;
+    safe = λ f d h u. (
+      promised f d h i refl,
+      record {
+        above = λ g k s lane keeps honest e. u.above g k s lane keeps honest (ap (is_above (level_of k)) (sym hint) ∙ e);
+        never = λ g k one s lane keeps honest kept e.
+            entry (callsite_of k) one (λ c. ShowSame c.metadata k → c.interest ≡ Never → IsUnwanted g k s lane) (λ it same e. never_still f g (registry x).filters keeps honest m k i s lane same (interest f d) e)
+            (λ old same e. u.never g k one s lane keeps honest (record { there = old; same = same }) e) kept.there kept.same e;
+        always = λ g k one s lane keeps honest kept e.
+            entry (callsite_of k) one (λ c. ShowSame c.metadata k → c.interest ≡ Always → IsWantedByAll g k s lane) (λ it same e. always_still f g (registry x).filters keeps honest m k i s lane same (interest f d) e)
+            (λ old same e. u.always g k one s lane keeps honest (record { there = old; same = same }) e) kept.there kept.same e;
+      },
+    );
     by_form = λ f d h u.
         let below = ap (is_above (level_of m)) (sym u.hint) ∙ passes in
         record {
@@ -263,6 +351,11 @@ module _ {S : Type 0} (registry : S → RegistryState) (has_form : S → Form �
     where
       interest : (f : Form) → has_form x f → i ≡ (interest_of f m (registry x).filters None).0
       interest f d = (a f d).answer ∙ ap (λ sum. (interest_of f m (registry x).filters sum).0) none
+
+      promised : (f : Form) → has_form x f → IsHonestStack f (registry x).filters → (j : Interest) → i ≡ j → Promises f m (Ok j)
+      promised f d h Never e = λ s lane. never_is_unwanted f (registry x).filters m s lane h (sym (interest f d) ∙ e)
+      promised f d h Sometimes e = tt
+      promised f d h Always e = λ s lane. always_is_wanted f (registry x).filters m s lane h (sym (interest f d) ∙ e)
 
       is_it : (n : ℕ) (b : Bool) → is_eq (nat_cmp (callsite_of m) n) ≡ b → (callsite_of m == n) ≡ b
       is_it n b e = same_test (callsite_of m) n b e
@@ -304,6 +397,11 @@ module _ {S : Type 0} (registry : S → RegistryState) (has_form : S → Form �
         reads = subst IsSome (sym h.reads) refl;
         above = h.above;
         mismatch = λ r. let no : Some r.1.0 ≡ None = sym r.1.1 in absurd (cc);
+        safe = λ f d hn u. h.safe f d hn (record {
+          above = λ g m s lane keeps honest e. above_still f g (registry x).filters keeps honest k.hint m s lane (hint f d) e;
+          never = λ g m one s lane keeps honest kept e. let no : None ≡ Some one = sym (nothing (callsite_of m)) ∙ kept.there in absurd (cc);
+          always = λ g m one s lane keeps honest kept e. let no : None ≡ Some one = sym (nothing (callsite_of m)) ∙ kept.there in absurd (cc);
+        });
         refused = begun i (λ e r. subst (λ c. RefusesInterest (Some c) m e) none r.1) h.refused;
         by_form = λ f d g u. subst (λ c. HasInterestBy (Some c) f (registry x).filters m (kept_in new) i) none (h.by_form f d g (current f d));
         kept = λ f d u. h.kept f d (current f d);

@@ -9,17 +9,17 @@ use Rattle.span_core.specs.Span.{asked_parent, metadata_of, number_of}
 use Rattle.span_core.specs.declared.filter.FilterMap.{FilterMap}
 use Rattle.span_core.specs.declared.metadata.Metadata.{Metadata}
 use Rattle.span_core.specs.declared.span.Lane.{Lane}
-use Rattle.span_dispatch.proofs.Acting.{acting_numbers, alone_over, after_notice_alike, itself_within, learnt_alike, none_within, paths_further, paths_itself, same_numbers, told_alike}
+use Rattle.span_dispatch.proofs.Acting.{acting_numbers, after_notice_alike, alone_over, given_alike, itself_within, learnt_alike, none_within, passed_both, paths_further, paths_itself, same_numbers}
 use Rattle.span_dispatch.proofs.Seen.{beneath, goes_through, some_path}
-use Rattle.span_dispatch.specs.Alone.{Alone, StepsAlone, acting, given_in, given_of, learning, lone, passed, seen, with_new}
+use Rattle.span_dispatch.specs.Alone.{Alone, acting, learning, lone, passed, seen}
 use Rattle.span_dispatch.specs.Isolation.{ActAlike, PathsActAlike, SeesMade, SeesServed}
-use Rattle.span_dispatch.specs.Outcome.{Change, Changes, GoesOn, GoneLeft, HandleAdded, HandleTaken, IsGiven, IsVerdict, LevelSet, Made, Makes, Noticed, Outcome, Quiet, StepsAfter, StepsBefore}
+use Rattle.span_dispatch.specs.Outcome.{GoneLeft, HandleAdded, HandleTaken, IsVerdict, LayersGo, LevelSet, Made, Makes, Noticed, Outcome, Quiet, SameAside, Steps, given_in, with_new}
+use Rattle.std.specs.FinMap.{get}
 use Rattle.span_dispatch.specs.Serve.{EachSeesAlone, Sees, outcome_of, stack_of}
 use Rattle.span_layers.specs.Verdict.{AreDistinct, in_verdict, numbers_of}
-use Rattle.span_registry.proofs.Agreeing.{agree_aside, agree_refl, agree_sym, agree_trans, new_agrees_with, views_alike, without_agrees}
-use Rattle.span_registry.specs.Agree.{AgreeAt, SpansAgree}
+use Rattle.span_registry.proofs.Agreeing.{agree_aside, agree_refl, agree_sym, agree_trans, new_agrees_with, views_alike}
+use Rattle.span_registry.specs.Agree.{AgreeAt, PlacesAgree, SpansAgree}
 use Rattle.span_registry.specs.Answers.{AnswerAlike, Answers, Conduct, IsPlain, Notice, OnClose, OnEnter, OnEvent, OnExit, OnFollows, OnIdChange, OnNewSpan, OnRecord}
-use Rattle.span_registry.specs.Closes.{without}
 use Rattle.span_registry.specs.Conducts.{ActOn, ActsAt, ArePlainConducts, Conducts, Learns, PathsAnswerAlike, StackPathLaws, after_notice, numbers_in, path_now, setting}
 use Rattle.span_registry.specs.Form.{Bare, Filtered, Form, Leaf, Over}
 use Rattle.span_registry.specs.Hooks.{StackLaws, StackSteps, no_filter}
@@ -28,8 +28,8 @@ use Rattle.span_registry.specs.Path.{Path, mask_of, passes_path, path_at}
 use Rattle.span_registry.specs.Place.{HearSteps, Heard, Here, Inner, Outer, Place, Told, Under, told_in}
 use Rattle.span_registry.specs.Plan.{Itself, Nobody, Plan, Through, asked_afresh, passes}
 use Rattle.span_registry.specs.Question.{single}
-use Rattle.span_registry.specs.Step.{begun, entered, exited, with_span}
-use Rattle.span_registry.specs.Store.{RegistryState, Span, Store, add_handle, take_handle}
+use Rattle.span_registry.specs.Step.{begun}
+use Rattle.span_registry.specs.Store.{RegistryState, Span, Spans, Store}
 use Rattle.span_registry.specs.Subscriber.{SameButExtensions}
 use Rattle.span_registry.specs.View.{view_of}
 
@@ -278,91 +278,46 @@ cut_refuses f place path cs meta s lane v d at alike said k = by_number (numbers
         said k ∙ verdict_of_path f place path meta s lane no_filter k d at own ∙ verdicts_same path (path_now cs) meta s lane no_filter k alike
     by_number false e = sym (no_verdict (lone (path_now cs)) meta s lane no_filter k ((λ i. lone_numbers cs i k) ∙ e))
 
-pub agrees_so : (numbers : FilterSet) (s t : RegistryState) (u : Store) → t ≡ s → AgreeAt numbers s.store u → AgreeAt numbers t.store u
-agrees_so numbers s t u e h = subst (λ (r : RegistryState). AgreeAt numbers r.store u) (sym e) h
-
--- what a notice leaves, alone: and how far it agrees with the store that it is given in, and with the one after it
-abbrev pub NoticedAlone : Conducts → Lane → Notice → RegistryState → RegistryState → RegistryState → Type 0
-NoticedAlone cs lane e s left y =
-    (t : Store) × StepsAlone (path_now cs) (Noticed lane e) s.store t × AgreeAt (numbers_in cs) left.store (given_in e s.store t) × AgreeAt (numbers_in cs) y.store t
+-- stores that are the same, extensions aside, agree
+pub agree_same : (numbers : FilterSet) (s t : Store) → SameAside s t → AgreeAt numbers s t
+agree_same numbers s t a = record { spans = λ x. subst (λ (m : Spans). PlacesAgree numbers (get s.spans x) (get m x)) (sym a.spans) ((agree_refl numbers s).spans x); issued = sym a.issued; stacks = sym a.stacks }
 
 -- the verdict of a whole form, cut down to these filters, is what they alone say
 abbrev pub CutSays : Form → Conducts → Type 0
 CutSays f cs = (meta : Metadata) (s : Store) (lane : Lane) (v : FilterMap) → IsVerdict f meta s lane v → (k : ℕ) → (numbers_in cs k && refuses v k) ≡ in_verdict (lone (path_now cs)) meta s lane.0 no_filter k
 
-module _ (f : Form) (cs : Conducts) (cut_says : CutSays f cs) where
-  -- hooks write extensions, and then the registry stays as it is
-  onward : (left notified y : RegistryState) (t : Store) → AgreeAt (numbers_in cs) left.store t → SameButExtensions left notified → y ≡ notified → AgreeAt (numbers_in cs) y.store t
-  onward left notified y t h hooks e =
-      agrees_so (numbers_in cs) notified y t e (agree_trans (numbers_in cs) notified.store left.store t (agree_sym (numbers_in cs) left.store notified.store (agree_aside (numbers_in cs) left notified hooks)) h)
-
-  unchanged : (s left notified y : RegistryState) → left ≡ s → SameButExtensions left notified → y ≡ notified → AgreeAt (numbers_in cs) left.store s.store × AgreeAt (numbers_in cs) y.store s.store
-  unchanged s left notified y same hooks after =
-      let agree = agrees_so (numbers_in cs) s left s.store same (agree_refl (numbers_in cs) s.store) in
-      (agree, onward left notified y s.store agree hooks after)
-
-  pub noticed_alone : (lane : Lane) (e : Notice) (s left notified y : RegistryState) → StepsBefore f lane e s left → SameButExtensions left notified → StepsAfter e notified y → NoticedAlone cs lane e s left y
-  noticed_alone lane (OnNewSpan attrs id) s left notified y before hooks after =
-      let numbers = numbers_in cs in
-      let x = number_of id in
-      let parent = before.2.parent in
-      let cut = cut_verdict numbers before.0 in
-      let whole : Span = begun (record { metadata = metadata_of attrs; parent = asked_parent attrs; verdict = before.0 }) parent in
-      let own : Span = begun (record { metadata = metadata_of attrs; parent = asked_parent attrs; verdict = cut.0 }) parent in
-      let both : SpansAgree numbers whole own = record { metadata = refl; parent = refl; handles = refl; verdict = λ n t. sym (cut.1 n ∙ ap (λ (b : Bool). b && refuses before.0 n) t) } in
-      let opened : RegistryState = with_span s x whole in
-      let agree = agrees_so numbers opened left (with_new s.store x own) before.2.state (new_agrees_with numbers s.store s.store opened.store x whole own (agree_refl numbers s.store) both refl refl refl) in (
-        with_new s.store x own,
-        record {
-          parent = parent;
-          chosen = before.2.finds.chosen;
-          verdict = cut.0;
-          refused = λ k. cut.1 k ∙ cut_says (metadata_of attrs) s.store lane before.0 before.1 k;
-          state = refl;
-        },
-        agree,
-        onward left notified y (with_new s.store x own) agree hooks after,
-      )
-  noticed_alone lane (OnRecord id values) s left notified y before hooks after =
-      let both = unchanged s left notified y before.1 hooks after in (s.store, (before.0, refl), both.0, both.1)
-  noticed_alone lane (OnFollows id other) s left notified y before hooks after =
-      let both = unchanged s left notified y before.1 hooks after in (s.store, (before.0, refl), both.0, both.1)
-  noticed_alone lane (OnEvent e) s left notified y before hooks after =
-      let both = unchanged s left notified y before hooks after in (s.store, refl, both.0, both.1)
-  noticed_alone lane (OnEnter id) s left notified y before hooks after =
-      let t = entered s.store lane.0 (number_of id) in
-      let agree = agrees_so (numbers_in cs) (record s { store = t }) left t before.state (agree_refl (numbers_in cs) t) in
-      (t, (before.is_open, refl), agree, onward left notified y t agree hooks after)
-  noticed_alone lane (OnExit id) s left notified y before hooks after =
-      let t = exited s.store lane.0 (number_of id) in
-      let agree = agrees_so (numbers_in cs) (record s { store = t }) left t before.1 (agree_refl (numbers_in cs) t) in
-      (t, (before.0, refl), agree, onward left notified y t agree hooks after)
-  noticed_alone lane (OnIdChange id other) s left notified y before hooks after = absurd before
-  noticed_alone lane (OnClose id) s left notified y before hooks after =
-      let numbers = numbers_in cs in
-      let gone = number_of id ∷ [] in
-      let agree = agrees_so numbers s left s.store before.1 (agree_refl numbers s.store) in
-      let later = onward left notified notified s.store agree hooks refl in
-      (without s.store gone, (before.0, refl), agree, subst (λ (u : Store). AgreeAt numbers u (without s.store gone)) (sym after.1.taken.store) (without_agrees numbers notified.store s.store gone later))
+-- where a stack takes a step, so does a path of it alone, and the stores after these agree
+pub steps_alone : (f : Form) (cs : Conducts) → CutSays f cs → (o : Outcome) (s t : Store) → Steps f o s t → (u : Store) × Steps (lone (path_now cs)) o s u × AgreeAt (numbers_in cs) t u
+steps_alone f cs cut_says (Noticed lane (OnNewSpan attrs id)) s t h =
+    let numbers = numbers_in cs in
+    let x = number_of id in
+    let cut = cut_verdict numbers h.verdict in
+    let whole : Span = begun (record { metadata = metadata_of attrs; parent = asked_parent attrs; verdict = h.verdict }) h.parent in
+    let own : Span = begun (record { metadata = metadata_of attrs; parent = asked_parent attrs; verdict = cut.0 }) h.parent in
+    let both : SpansAgree numbers whole own = record { metadata = refl; parent = refl; handles = refl; verdict = λ n m. sym (cut.1 n ∙ ap (λ (b : Bool). b && refuses h.verdict n) m) } in (
+      with_new s x own,
+      record { parent = h.parent; chosen = h.chosen; verdict = cut.0; refused = λ k. cut.1 k ∙ cut_says (metadata_of attrs) s lane h.verdict h.refused k; fresh = h.fresh; state = refl },
+      subst (λ (v : Store). AgreeAt numbers v (with_new s x own)) (sym h.state) (new_agrees_with numbers s s (with_new s x whole) x whole own (agree_refl numbers s) both refl refl refl),
+    )
+steps_alone f cs cut_says (Noticed lane (OnRecord id values)) s t h = (t, h, agree_refl (numbers_in cs) t)
+steps_alone f cs cut_says (Noticed lane (OnFollows id other)) s t h = (t, h, agree_refl (numbers_in cs) t)
+steps_alone f cs cut_says (Noticed lane (OnEvent e)) s t h = (t, h, agree_refl (numbers_in cs) t)
+steps_alone f cs cut_says (Noticed lane (OnEnter id)) s t h = (t, h, agree_refl (numbers_in cs) t)
+steps_alone f cs cut_says (Noticed lane (OnExit id)) s t h = (t, h, agree_refl (numbers_in cs) t)
+steps_alone f cs cut_says (Noticed lane (OnIdChange id other)) s t h = absurd h
+steps_alone f cs cut_says (Noticed lane (OnClose id)) s t h = (t, h, agree_refl (numbers_in cs) t)
+steps_alone f cs cut_says (Quiet (HandleAdded id)) s t h = (t, h, agree_refl (numbers_in cs) t)
+steps_alone f cs cut_says (Quiet (HandleTaken id)) s t h = (t, h, agree_refl (numbers_in cs) t)
+steps_alone f cs cut_says (Quiet (GoneLeft lane id)) s t h = (t, h, agree_refl (numbers_in cs) t)
+steps_alone f cs cut_says (LevelSet n l) s t h = (t, h, agree_refl (numbers_in cs) t)
 
 -- ---- one outcome, and all that was made
 
-pub changed_alone : (cs : Conducts) (c : Change) (s t : RegistryState) → Changes c s t → (u : Store) × StepsAlone (path_now cs) (Quiet c) s.store u × AgreeAt (numbers_in cs) t.store u
-changed_alone cs (HandleAdded id) s t h =
-    let u : Store = record s.store { spans = add_handle s.store.spans (number_of id) } in
-    (u, (h.is_open, refl), agrees_so (numbers_in cs) (record s { store = u }) t u h.state (agree_refl (numbers_in cs) u))
-changed_alone cs (HandleTaken id) s t h =
-    let u : Store = record s.store { spans = take_handle s.store.spans (number_of id) } in
-    (u, (h.0, refl), agrees_so (numbers_in cs) (record s { store = u }) t u h.1 (agree_refl (numbers_in cs) u))
-changed_alone cs (GoneLeft lane id) s t h =
-    let u = exited s.store lane.0 (number_of id) in
-    (u, (h.0, refl), agrees_so (numbers_in cs) (record s { store = u }) t u h.1 (agree_refl (numbers_in cs) u))
-
-passed_alone : (path : Path) (cs : Conducts) (o : Outcome) (s given : Store) → PathsAnswerAlike path (path_now cs) → passed (Some path) o s given ≡ passed (Some (path_now cs)) o s given
-passed_alone path cs (Noticed lane e) s given alike =
-    λ i. if paths_pass_same path (path_now cs) e s lane.0 no_filter alike i then told_in e given lane.0 (masks_same path (path_now cs) no_filter alike i) ∷ [] else []
-passed_alone path cs (Quiet c) s given alike = refl
-passed_alone path cs (LevelSet n l) s given alike = refl
+passed_alone : (path : Path) (cs : Conducts) (o : Outcome) (s t : Store) → PathsAnswerAlike path (path_now cs) → passed (Some path) o s t ≡ passed (Some (path_now cs)) o s t
+passed_alone path cs (Noticed lane e) s t alike =
+    λ i. if paths_pass_same path (path_now cs) e s lane.0 no_filter alike i then told_in e (given_in e s t) lane.0 (masks_same path (path_now cs) no_filter alike i) ∷ [] else []
+passed_alone path cs (Quiet c) s t alike = refl
+passed_alone path cs (LevelSet n l) s t alike = refl
 
 seen_so : (cs : Conducts) {s t : Store} {outcomes others : List Outcome} {h k : Heard} → s ≡ t → outcomes ≡ others → h ≡ k → Alone cs s outcomes h → Alone cs t others k
 seen_so cs {s} {t} {outcomes} {others} {h} {k} e f g a =
@@ -370,51 +325,60 @@ seen_so cs {s} {t} {outcomes} {others} {h} {k} e f g a =
 
 module _ {S : Type 0} (registry : S → RegistryState) {with_registry : S → RegistryState → S} {has_form : S → Form → Type 0} {stepped : StackSteps S} {levelled : LevelSteps S} {registered : S → S → Type 0} {hears : HearSteps S} {acts_at : ActsAt S}
     (paths : StackPathLaws with_registry has_form stepped registered acts_at) (levels : LevelLaws has_form levelled hears acts_at) where
-  -- what an outcome leaves, alone: a store that agrees, conducts as they are learnt from it, and what is told in the store that it is given in
-  abbrev LeavesAlone : (f : Form) (place : Place) (cs : Conducts) (o : Outcome) (x y : S) → GoesOn registry with_registry has_form stepped levelled f o x y → Type 0
-  LeavesAlone f place cs o x y g =
-      (t : Store) × StepsAlone (path_now cs) o (registry x).store t × AgreeAt (numbers_in cs) (registry y).store t × (ds : Conducts) × acts_at y place ds × PathsActAlike ds (acting cs o (registry x).store t)
-      × ((u : Store) → IsGiven registry with_registry has_form stepped levelled f o x y g u → passed (Some (path_now cs)) o (registry x).store u ≡ passed (Some (path_now cs)) o (registry x).store (given_of o (registry x).store t))
+  -- what was made leaves, alone: a store that agrees, conducts as they are learnt from it, and what is told in the store that it is given in
+  abbrev LeavesAlone : (place : Place) (cs : Conducts) (o : Outcome) (s t : Store) (y : S) → Type 0
+  LeavesAlone place cs o s t y =
+      (u : Store) × Steps (lone (path_now cs)) o s u × AgreeAt (numbers_in cs) (registry y).store u × (ds : Conducts) × acts_at y place ds × PathsActAlike ds (acting cs o s u) × (passed (Some (path_now cs)) o s t ≡ passed (Some (path_now cs)) o s u)
 
-  leaves_alone : (f : Form) (o : Outcome) (x y : S) (place : Place) (cs : Conducts) → has_form x f → AreDistinct f → acts_at x place cs → (g : GoesOn registry with_registry has_form stepped levelled f o x y) → LeavesAlone f place cs o x y g
-  leaves_alone f (Noticed lane e) x y place cs has distinct acts g =
+  leaves_alone : (f : Form) (o : Outcome) (s t : Store) (x y : S) (place : Place) (cs : Conducts) → has_form x f → AreDistinct f → acts_at x place cs → Steps f o s t → SameAside t (registry y).store → LayersGo registry with_registry has_form stepped levelled f o s t x y
+      → LeavesAlone place cs o s t y
+  leaves_alone f (Noticed lane e) s t x y place cs has distinct acts steps aside n =
       let numbers = numbers_in cs in
-      let s = (registry x).store in
       let plain = paths.plain x place cs acts in
       let now = paths.now x place cs f acts has in
-      let step = noticed_alone f cs (λ meta t q v said. cut_refuses f place now.0 cs meta t q.0 v distinct now.1 now.2 said) lane e (registry x) g.left (registry g.notified) (registry y) g.before g.extensions g.after in
-      let on = paths.goes_on x (asked_afresh f e s lane.0 no_filter) e lane.0 g.left g.notified (registry g.notified) place cs g.layers acts in
-      let there = subst (λ (z : S). acts_at z place on.0) (sym g.rest) (paths.acts_with g.notified (registry y) place on.0 on.1) in
-      let learnt = learns_along e s lane.0 g.left f place now.0 no_filter cs on.0 now.1 now.2 plain on.2 in
-      let moved = learnt_alike numbers cs cs e s s g.left.store (given_in e s step.0) lane.0 no_filter (agree_refl numbers s) step.2 (paths_itself cs plain) (itself_within numbers) (none_within numbers) in
-      let told = λ (u : Store) (same : u ≡ g.left.store). ap (λ (r : Store). told_in e r lane.0 (mask_of (path_now cs) no_filter)) same ∙ told_alike cs e g.left.store (given_in e s step.0) lane.0 step.2 in (
+      let step = steps_alone f cs (λ meta u q v said. cut_refuses f place now.0 cs meta u q.0 v distinct now.1 now.2 said) (Noticed lane e) s t steps in
+      let on = paths.goes_on x (asked_afresh f e s lane.0 no_filter) e lane.0 n.left n.notified (registry n.notified) place cs n.layers acts in
+      let there = subst (λ (z : S). acts_at z place on.0) (sym n.rest) (paths.acts_with n.notified (registry y) place on.0 on.1) in
+      let learnt = learns_along e s lane.0 n.left f place now.0 no_filter cs on.0 now.1 now.2 plain on.2 in
+      let given = agree_trans numbers n.left.store (given_in e s t) (given_in e s step.0) (agree_sym numbers (given_in e s t) n.left.store (agree_same numbers (given_in e s t) n.left.store n.given)) (given_alike numbers e s s t step.0 (agree_refl numbers s) step.2) in
+      let moved = learnt_alike numbers cs cs e s s n.left.store (given_in e s step.0) lane.0 no_filter (agree_refl numbers s) given (paths_itself cs plain) (itself_within numbers) (none_within numbers) in (
         step.0,
         step.1,
-        step.3,
+        agree_trans numbers (registry y).store t step.0 (agree_sym numbers t (registry y).store (agree_same numbers t (registry y).store aside)) step.2,
         on.0,
         there,
-        paths_further on.0 (learning cs e s g.left.store lane.0 no_filter) (learning cs e s (given_in e s step.0) lane.0 no_filter) learnt moved,
-        λ u same. ap (λ (one : Told). if passes_path (path_now cs) e s lane.0 no_filter then one ∷ [] else []) (told u same),
+        paths_further on.0 (learning cs e s n.left.store lane.0 no_filter) (learning cs e s (given_in e s step.0) lane.0 no_filter) learnt moved,
+        passed_both cs cs (Noticed lane e) s s t step.0 (paths_itself cs plain) (agree_refl numbers s) step.2,
       )
-  leaves_alone f (Quiet c) x y place cs has distinct acts g =
-      let step = changed_alone cs c (registry x) (registry y) g.changes in
-      (step.0, step.1, step.2, cs, subst (λ (z : S). acts_at z place cs) (sym g.rest) (paths.acts_with x (registry y) place cs acts), paths_itself cs (paths.plain x place cs acts), λ u same. refl)
-  leaves_alone f (LevelSet n l) x y place cs has distinct acts g =
-      let later = levels.acts x n l y place cs g.goes acts in
-      ((registry x).store, refl, agrees_so (numbers_in cs) (registry x) (registry y) (registry x).store g.same (agree_refl (numbers_in cs) (registry x).store), setting n l cs, later, paths_itself (setting n l cs) (paths.plain y place (setting n l cs) later), λ u same. refl)
+  leaves_alone f (Quiet c) s t x y place cs has distinct acts steps aside rest =
+      let numbers = numbers_in cs in
+      let step = steps_alone f cs (λ meta u q v said. let now = paths.now x place cs f acts has in cut_refuses f place now.0 cs meta u q.0 v distinct now.1 now.2 said) (Quiet c) s t steps in (
+        step.0,
+        step.1,
+        agree_trans numbers (registry y).store t step.0 (agree_sym numbers t (registry y).store (agree_same numbers t (registry y).store aside)) step.2,
+        cs,
+        subst (λ (z : S). acts_at z place cs) (sym rest) (paths.acts_with x (registry y) place cs acts),
+        paths_itself cs (paths.plain x place cs acts),
+        refl,
+      )
+  leaves_alone f (LevelSet n l) s t x y place cs has distinct acts steps aside set =
+      let numbers = numbers_in cs in
+      let later = levels.acts x n l y place cs set.goes acts in
+      (t, steps, agree_sym numbers t (registry y).store (agree_same numbers t (registry y).store aside), setting n l cs, later, paths_itself (setting n l cs) (paths.plain y place (setting n l cs) later), refl)
 
   -- on the stack's own store
   sees_own : (x : S) (ms : List Made) (y : S) (place : Place) (cs : Conducts) → FoldsTo (Makes registry with_registry has_form stepped levelled) x ms y → acts_at x place cs → Alone cs (registry x).store (map outcome_of ms) (seen place ms)
   sees_own x [] y place cs h acts = refl
   sees_own x (m ∷ ms) y place cs h acts =
       let made = h.1 in
-      let s = (registry x).store in
-      let step = leaves_alone m.form m.outcome x h.0 place cs made.honest.has made.honest.rules.numbers.distinct acts made.goes in
+      let s = m.before in
+      let step = leaves_alone m.form m.outcome s m.after x h.0 place cs made.honest.has made.honest.rules.numbers.distinct acts made.steps made.after made.layers in
       let rest = sees_own h.0 ms y place step.3 h.2 step.4 in
       let same : numbers_in cs ≡ numbers_in step.3 = sym (same_numbers step.3 (acting cs m.outcome s step.0) step.5 ∙ acting_numbers cs m.outcome s step.0) in
       let agree = subst (λ (numbers : FilterSet). AgreeAt numbers (registry h.0).store step.0) same step.2 in
       let now = paths.now x place cs m.form acts made.honest.has in
-      let first = ap (λ (o : Option Path). passed o m.outcome m.store m.given) now.1 ∙ ap (λ (t : Store). passed (Some now.0) m.outcome t m.given) made.store ∙ passed_alone now.0 cs m.outcome s m.given now.2 ∙ step.6 m.given made.given in (
+      let first = ap (λ (o : Option Path). passed o m.outcome s m.after) now.1 ∙ passed_alone now.0 cs m.outcome s m.after now.2 ∙ step.6 in
+      subst (λ (u : Store). Alone cs u (map outcome_of (m ∷ ms)) (seen place (m ∷ ms))) made.before (
         step.0,
         seen place ms,
         step.1,

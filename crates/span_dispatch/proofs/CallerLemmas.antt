@@ -18,7 +18,7 @@ use Rattle.span_dispatch.specs.Outcome.{Made, Makes, Noticed}
 use Rattle.span_dispatch.specs.Alone.{passed, seen}
 use Rattle.span_dispatch.specs.Recorder.{Kept, Records, kept_notice, recorder_steps}
 use Rattle.span_dispatch.specs.RecorderLaws.{records_more, records_nothing}
-use Rattle.span_dispatch.specs.Serve.{IsReady, KeepsUpToDate, Run, Serves, ServesRequest, call_of, forgetful, resolved, resolved_parent, with_stack}
+use Rattle.span_dispatch.specs.Serve.{IsReady, KeepsUpToDate, RunExactly, Serves, ServesRequest, call_of, forgetful, resolved, resolved_parent, with_stack}
 use Rattle.span_layers.specs.Layer.{HearsBy}
 use Rattle.span_dispatch.specs.declared.cache.Cache.TheVariants as cache
 use Rattle.span_dispatch.specs.declared.cache.Cache.{Cache}
@@ -42,7 +42,7 @@ use Rattle.span_registry.specs.Store.{RegistryState}
 -- of two lists in a row a leaf sees what it sees of each
 pub seen_append : (place : Place) (ms ns : List Made) → seen place (ms ++ ns) ≡ seen place ms ++ seen place ns
 seen_append place [] ns = refl
-seen_append place (m ∷ ms) ns = ap (λ h. passed (path_at m.form place) m.outcome m.store m.given ++ h) (seen_append place ms ns) ∙ sym (append_assoc (passed (path_at m.form place) m.outcome m.store m.given) (seen place ms) (seen place ns))
+seen_append place (m ∷ ms) ns = ap (λ h. passed (path_at m.form place) m.outcome m.before m.after ++ h) (seen_append place ms ns) ∙ sym (append_assoc (passed (path_at m.form place) m.outcome m.before m.after) (seen place ms) (seen place ns))
 
 -- what a request for a new span asks for: its own lane, metadata and values, and the parent that it names
 pub span_asked : (past : List Answer) (lane l : Lane) (m : Metadata) (p : WhichParent) (values : _) (attrs : Attributes) → call_of past (request.NewSpan lane m p values) ≡ Some (OpenSpan l attrs)
@@ -73,14 +73,14 @@ module _ {S : Type 0} (registry : S → RegistryState) (with_registry : S → Re
   -- a list that begins with a request: it has an answer, and the rest was served behind that
   pub next_served : (past : List Answer) (r : Request) (rs : List Request) (answers : List Answer) (made : List (List Made)) (memory : Memory) (x : S) (after : Memory) (y : S) (G : List Answer → List (List Made) → Type 0)
       → ((a : Answer) (rest : List Answer) (ms : List Made) (more : List (List Made)) (between : Memory) (z : S) → ServesRequest registry with_registry has_form stepped levelled past r memory x a ms between z
-      → Run registry with_registry has_form stepped levelled (past ++ (a ∷ [])) rs rest more between z after y → G (a ∷ rest) (ms ∷ more))
-      → Run registry with_registry has_form stepped levelled past (r ∷ rs) answers made memory x after y → G answers made
+      → RunExactly registry with_registry has_form stepped levelled (past ++ (a ∷ [])) rs rest more between z after y → G (a ∷ rest) (ms ∷ more))
+      → RunExactly registry with_registry has_form stepped levelled past (r ∷ rs) answers made memory x after y → G answers made
   next_served past r rs [] made memory x after y G k h = absurd h
   next_served past r rs (a ∷ rest) [] memory x after y G k h = absurd h
   next_served past r rs (a ∷ rest) (ms ∷ more) memory x after y G k h = k a rest ms more h.0 h.1 h.2 h.3
 
   -- an empty list has no answer, and nothing was made of it
-  pub none_served : (past : List Answer) (answers : List Answer) (made : List (List Made)) (memory : Memory) (x : S) (after : Memory) (y : S) (G : List Answer → List (List Made) → Type 0) → G [] [] → Run registry with_registry has_form stepped levelled past [] answers made memory x after y → G answers made
+  pub none_served : (past : List Answer) (answers : List Answer) (made : List (List Made)) (memory : Memory) (x : S) (after : Memory) (y : S) (G : List Answer → List (List Made) → Type 0) → G [] [] → RunExactly registry with_registry has_form stepped levelled past [] answers made memory x after y → G answers made
   none_served past [] [] memory x after y G k h = k
   none_served past [] (m ∷ made) memory x after y G k h = absurd h
   none_served past (a ∷ answers) made memory x after y G k h = absurd h
@@ -105,24 +105,24 @@ module _ {S : Type 0} (registry : S → RegistryState) (with_registry : S → Re
 
   opened : (past : List Answer) (r : Request) (lane : Lane) (attrs : Attributes) (f : Form) (memory : Memory) (x : S) (a : Answer) (made : List Made) (after : Memory) (y : S) (G : Goal) → MadeSpan past r lane memory x G → DroppedSpan past r lane memory x G
       → RefusedSpan past r lane memory x G → call_of past r ≡ Some (OpenSpan lane attrs) → IsReady registry with_registry has_form stepped levelled f x → Serves registry with_registry has_form stepped levelled (OpenSpan lane attrs) f memory x a made after y → G a made after y
-  opened past r lane attrs f memory x (answer.Made id) [] after y G new dropped refused asks ready s = let e = s.comes.1 in absurd (cc)
+  opened past r lane attrs f memory x (answer.Made id) [] after y G new dropped refused asks ready s = let e = s.told.says in absurd (cc)
   opened past r lane attrs f memory x (answer.Made id) (one ∷ []) after y G new dropped refused asks ready s =
-      let e = s.comes.1 in
-      let h = s.goes in
+      let e = s.told.says in
+      let h = s.told.goes in
       let o : one.outcome ≡ Noticed lane (OnNewSpan attrs id) = cc in
-      subst (λ z. G (answer.Made id) (one ∷ []) after z) h.2 (new id attrs f one after h.0 asks s.keeps o h.1)
-  opened past r lane attrs f memory x (answer.Made id) (one ∷ two ∷ made) after y G new dropped refused asks ready s = let e = s.comes.1 in absurd (cc)
-  opened past r lane attrs f memory x answer.Dropped [] after y G new dropped refused asks ready s = subst (λ z. G answer.Dropped [] after z) s.goes (dropped attrs f after asks ready s.comes.0 s.keeps)
-  opened past r lane attrs f memory x answer.Dropped (one ∷ made) after y G new dropped refused asks ready s = let e = s.comes.1 in absurd (cc)
-  opened past r lane attrs f memory x (answer.Refused e) [] after y G new dropped refused asks ready s = subst (λ z. G (answer.Refused e) [] after z) s.goes (refused attrs e f after asks (why s.comes.0) s.keeps)
+      subst (λ z. G (answer.Made id) (one ∷ []) after z) h.2 (new id attrs f one after h.0 asks s.exact.keeps o h.1)
+  opened past r lane attrs f memory x (answer.Made id) (one ∷ two ∷ made) after y G new dropped refused asks ready s = let e = s.told.says in absurd (cc)
+  opened past r lane attrs f memory x answer.Dropped [] after y G new dropped refused asks ready s = subst (λ z. G answer.Dropped [] after z) s.told.goes (dropped attrs f after asks ready s.exact.answers s.exact.keeps)
+  opened past r lane attrs f memory x answer.Dropped (one ∷ made) after y G new dropped refused asks ready s = let e = s.told.says in absurd (cc)
+  opened past r lane attrs f memory x (answer.Refused e) [] after y G new dropped refused asks ready s = subst (λ z. G (answer.Refused e) [] after z) s.told.goes (refused attrs e f after asks (why s.exact.answers) s.exact.keeps)
     where
       why : {P Q R : Type 0} → P ⊎ (Q × R) → P ⊎ R
       why (inl p) = inl p
       why (inr q) = inr q.1
-  opened past r lane attrs f memory x (answer.Refused e) (one ∷ made) after y G new dropped refused asks ready s = let d = s.comes.1 in absurd (cc)
-  opened past r lane attrs f memory x answer.Done made after y G new dropped refused asks ready s = absurd s.comes
-  opened past r lane attrs f memory x (answer.Yes b) made after y G new dropped refused asks ready s = absurd s.comes
-  opened past r lane attrs f memory x (answer.Current o) made after y G new dropped refused asks ready s = absurd s.comes
+  opened past r lane attrs f memory x (answer.Refused e) (one ∷ made) after y G new dropped refused asks ready s = let d = s.told.says in absurd (cc)
+  opened past r lane attrs f memory x answer.Done made after y G new dropped refused asks ready s = absurd s.exact.answers
+  opened past r lane attrs f memory x (answer.Yes b) made after y G new dropped refused asks ready s = absurd s.exact.answers
+  opened past r lane attrs f memory x (answer.Current o) made after y G new dropped refused asks ready s = absurd s.exact.answers
 
   pub span_served : (past : List Answer) (lane : Lane) (m : Metadata) (p : WhichParent) (values : _) (memory : Memory) (x : S) (a : Answer) (made : List Made) (after : Memory) (y : S) (G : Goal)
       → MadeSpan past (request.NewSpan lane m p values) lane memory x G → DroppedSpan past (request.NewSpan lane m p values) lane memory x G → RefusedSpan past (request.NewSpan lane m p values) lane memory x G
@@ -146,20 +146,20 @@ module _ {S : Type 0} (registry : S → RegistryState) (with_registry : S → Re
 
   sent : (past : List Answer) (r : Request) (lane : Lane) (event : Event) (f : Form) (memory : Memory) (x : S) (a : Answer) (made : List Made) (after : Memory) (y : S) (G : Goal) → MadeEvent past r lane memory x G → DroppedEvent past r lane memory x G
       → RefusedEvent past r lane memory x G → call_of past r ≡ Some (SendEvent lane event) → IsReady registry with_registry has_form stepped levelled f x → Serves registry with_registry has_form stepped levelled (SendEvent lane event) f memory x a made after y → G a made after y
-  sent past r lane event f memory x answer.Done [] after y G new dropped refused asks ready s = let e = s.comes.1 in absurd (cc)
+  sent past r lane event f memory x answer.Done [] after y G new dropped refused asks ready s = let e = s.told.says in absurd (cc)
   sent past r lane event f memory x answer.Done (one ∷ []) after y G new dropped refused asks ready s =
-      let e = s.comes.1 in
-      let h = s.goes in
+      let e = s.told.says in
+      let h = s.told.goes in
       let o : one.outcome ≡ Noticed lane (OnEvent event) = cc in
-      subst (λ z. G answer.Done (one ∷ []) after z) h.2 (new event f one after h.0 asks s.keeps o h.1)
-  sent past r lane event f memory x answer.Done (one ∷ two ∷ made) after y G new dropped refused asks ready s = let e = s.comes.1 in absurd (cc)
-  sent past r lane event f memory x answer.Dropped [] after y G new dropped refused asks ready s = subst (λ z. G answer.Dropped [] after z) s.goes (dropped event f after asks ready s.comes.0 s.keeps)
-  sent past r lane event f memory x answer.Dropped (one ∷ made) after y G new dropped refused asks ready s = let e = s.comes.1 in absurd (cc)
-  sent past r lane event f memory x (answer.Refused e) [] after y G new dropped refused asks ready s = subst (λ z. G (answer.Refused e) [] after z) s.goes (refused event e f after asks s.comes.0 s.keeps)
-  sent past r lane event f memory x (answer.Refused e) (one ∷ made) after y G new dropped refused asks ready s = let d = s.comes.1 in absurd (cc)
-  sent past r lane event f memory x (answer.Made id) made after y G new dropped refused asks ready s = absurd s.comes
-  sent past r lane event f memory x (answer.Yes b) made after y G new dropped refused asks ready s = absurd s.comes
-  sent past r lane event f memory x (answer.Current o) made after y G new dropped refused asks ready s = absurd s.comes
+      subst (λ z. G answer.Done (one ∷ []) after z) h.2 (new event f one after h.0 asks s.exact.keeps o h.1)
+  sent past r lane event f memory x answer.Done (one ∷ two ∷ made) after y G new dropped refused asks ready s = let e = s.told.says in absurd (cc)
+  sent past r lane event f memory x answer.Dropped [] after y G new dropped refused asks ready s = subst (λ z. G answer.Dropped [] after z) s.told.goes (dropped event f after asks ready s.exact.answers s.exact.keeps)
+  sent past r lane event f memory x answer.Dropped (one ∷ made) after y G new dropped refused asks ready s = let e = s.told.says in absurd (cc)
+  sent past r lane event f memory x (answer.Refused e) [] after y G new dropped refused asks ready s = subst (λ z. G (answer.Refused e) [] after z) s.told.goes (refused event e f after asks s.exact.answers s.exact.keeps)
+  sent past r lane event f memory x (answer.Refused e) (one ∷ made) after y G new dropped refused asks ready s = let d = s.told.says in absurd (cc)
+  sent past r lane event f memory x (answer.Made id) made after y G new dropped refused asks ready s = absurd s.exact.answers
+  sent past r lane event f memory x (answer.Yes b) made after y G new dropped refused asks ready s = absurd s.exact.answers
+  sent past r lane event f memory x (answer.Current o) made after y G new dropped refused asks ready s = absurd s.exact.answers
 
   pub event_served : (past : List Answer) (lane : Lane) (m : Metadata) (p : WhichParent) (values : _) (memory : Memory) (x : S) (a : Answer) (made : List Made) (after : Memory) (y : S) (G : Goal)
       → MadeEvent past (request.Event lane m p values) lane memory x G → DroppedEvent past (request.Event lane m p values) lane memory x G → RefusedEvent past (request.Event lane m p values) lane memory x G

@@ -15,12 +15,13 @@ use Rattle.std.specs.Option.{option_map}
 use Rattle.span_core.specs.declared.span.Id.{Id}
 use Rattle.span_core.specs.declared.span.Lane.{Lane}
 use Rattle.span_core.specs.declared.span.Record.{Record}
-use Rattle.span_dispatch.proofs.Goes.{Done, StillReady, keeps_again, by_call, by_change, by_none, honest_after, honest_quietly, quietly}
-use Rattle.span_dispatch.specs.Admission.{IsAdmitted, IsDropped}
+use Rattle.span_dispatch.proofs.Goes.{Done, StepsTo, StillReady, aside_further, aside_state, by_call, by_change, by_none, changed, filters_same, honest_after, honest_quietly, its_own, keeps_again, same_aside, settled_aside}
+use Rattle.span_dispatch.specs.Admission.{Decides, IsAdmitted, IsDropped}
 use Rattle.span_dispatch.specs.Cache.{Memory}
 use Rattle.span_dispatch.specs.Call.{AddHandle, AskCurrent, Call, DropHandle, Enter, Exit, Follow, OpenSpan, Probe, RecordValues, SendEvent, closes_of, current_answer, done_answer, vetoes_whole, yes_answer}
-use Rattle.span_dispatch.specs.Outcome.{GoneLeft, HandleAdded, HandleTaken, IsHonest, Made, Makes, Noticed, Notices, Outcome, Quiet}
-use Rattle.span_dispatch.specs.Serve.{ClosesEach, IsReady, outcome_of}
+use Rattle.span_dispatch.specs.Outcome.{GoneLeft, HandleAdded, HandleTaken, IsHonest, IsVerdict, Made, Makes, Noticed, Notices, Outcome, Quiet, SameAside, Steps, given_in, with_new}
+use Rattle.span_core.specs.declared.filter.FilterMap.{FilterMap}
+use Rattle.span_dispatch.specs.Serve.{AnswersExactly, ClosesEach, IsReady, outcome_of}
 use Rattle.span_dispatch.specs.declared.request.Answer.TheVariants as answer
 use Rattle.span_dispatch.specs.declared.request.Answer.{Answer}
 use Rattle.span_layers.proofs.RulesKept.{honesty_is_kept}
@@ -28,7 +29,7 @@ use Rattle.span_layers.specs.Honest.{IsHonestStack}
 use Rattle.span_layers.proofs.Pass.{asked_unless_vetoed, event_fresh, event_unless_vetoed, new_span_fresh, others_afresh}
 use Rattle.span_layers.specs.Verdict.{IsOrderly, vetoes, vetoes_event}
 use Rattle.span_registry.specs.Answers.{Notice, OnClose, OnEnter, OnEvent, OnExit, OnFollows, OnNewSpan, OnRecord}
-use Rattle.span_registry.specs.Closes.{IsSettled}
+use Rattle.span_registry.specs.Closes.{IsSettled, remove_all, without}
 use Rattle.span_registry.specs.Follows.{Keeps, kept_form}
 use Rattle.span_registry.specs.Form.{Form}
 use Rattle.span_registry.specs.Hooks.{AnswersEvent, Notifies, OpensAndNotifies, StackLaws, StackSteps, Stays, no_filter}
@@ -36,13 +37,13 @@ use Rattle.span_registry.specs.Levels.{LevelSteps, kept_rules}
 use Rattle.span_registry.specs.Place.{HearSteps}
 use Rattle.span_registry.specs.Plan.{asked_afresh, by_pass}
 use Rattle.span_registry.specs.Question.{asked, event_asked, refusals}
-use Rattle.span_registry.specs.Step.{Begun, Between, Clones, Enters, Exits, IsCurrent, ShowsCurrent, RefusesClone, RefusesEnter, RefusesNew, Releases, Removal, Removed, Removes}
-use Rattle.span_registry.specs.Store.{IsClosing, IsForest, IsOpen, RegistryState, Spans, Store}
+use Rattle.span_registry.specs.Step.{Begun, Between, Clones, Enters, Exits, IsCurrent, Opens, ShowsCurrent, begun, entered, exited, RefusesClone, RefusesEnter, RefusesNew, Releases, Removal, Removed, Removes}
+use Rattle.span_registry.specs.Store.{IsClosing, IsForest, IsOpen, RegistryState, Spans, Store, add_handle, take_handle}
 use Rattle.span_registry.specs.Subscriber.{SameButExtensions}
 use Rattle.span_registry.specs.Laws.{ClosesAll}
 use Rattle.span_registry.specs.declared.registry.Released.{Released}
 use Rattle.span_registry.specs.declared.registry.Released.TheVariants.{Closing, StillOpen}
-use Rattle.span_registry.proofs.CallerLemmas.{closes_itself, closes_with_hooks, drops_open, hooks_alone, next_is_closing, settled_cloned, settled_closed, settled_still}
+use Rattle.span_registry.proofs.CallerLemmas.{closes_itself, closes_with_hooks, drops_open, hooks_alone, next_is_closing, settled_cloned, settled_closed, settled_opened, settled_still}
 use Rattle.std.specs.List.{FoldsTo}
 
 not_true : (b : Bool) → not b ≡ true → b ≡ false
@@ -65,17 +66,53 @@ or_both_false : (a b : Bool) → a ≡ false → b ≡ false → a || b ≡ fals
 or_both_false true b h k = h
 or_both_false false b h k = k
 
+-- ---- what the registry's own step makes of a notice
+
+-- it stays as it is
+stays_to : (f : Form) (lane : Lane) (e : Notice) (s t : RegistryState) → Steps f (Noticed lane e) s.store s.store → SameAside (given_in e s.store s.store) s.store → t ≡ s → StepsTo f lane e s t
+stays_to f lane e s t steps given same = record {
+  after = s.store;
+  steps = steps;
+  given = aside_further (given_in e s.store s.store) s.store t.store given (aside_state s t same);
+  left = aside_state s t same;
+  filters = filters_same same;
+  settled = settled_aside s.store t.store (aside_state s t same);
+}
+
+enters_to : (f : Form) (lane : Lane) (id : Id) (s t : RegistryState) → Enters lane id s t → StepsTo f lane (OnEnter id) s t
+enters_to f lane id s t n =
+    let u = entered s.store lane.0 (number_of id) in
+    let same : SameAside u t.store = same_aside u t.store (ap (λ (r : RegistryState). r.store) n.state) in
+    record { after = u; steps = (n.is_open, refl); given = same; left = same; filters = filters_same n.state; settled = λ h. subst IsSettled (sym same.spans) h }
+
+leaves_to : (f : Form) (lane : Lane) (id : Id) (s t : RegistryState) → IsOpen s.store.spans (number_of id) → Exits lane id s t → StepsTo f lane (OnExit id) s t
+leaves_to f lane id s t there n =
+    let u = exited s.store lane.0 (number_of id) in
+    let same : SameAside u t.store = same_aside u t.store (ap (λ (r : RegistryState). r.store) n) in
+    record { after = u; steps = (there, refl); given = same; left = same; filters = filters_same n; settled = λ h. subst IsSettled (sym same.spans) h }
+
+opens_to : (f : Form) (lane : Lane) (attrs : Attributes) (id : Id) (s t : RegistryState) (v : FilterMap) → IsVerdict f (metadata_of attrs) s.store lane v
+    → Opens lane (record { metadata = metadata_of attrs; parent = asked_parent attrs; verdict = v }) id s t → StepsTo f lane (OnNewSpan attrs id) s t
+opens_to f lane attrs id s t v said o =
+    let span = begun (record { metadata = metadata_of attrs; parent = asked_parent attrs; verdict = v }) o.parent in
+    let u = with_new s.store (number_of id) span in
+    let same : SameAside u t.store = record { spans = ap (λ (r : RegistryState). r.store.spans) o.state; issued = ap (λ (r : RegistryState). r.store.issued) o.state; stacks = ap (λ (r : RegistryState). r.store.stacks) o.state } in
+    record {
+      after = u;
+      steps = record { parent = o.parent; chosen = o.finds.chosen; verdict = v; refused = said; fresh = o.fresh; state = refl };
+      given = same;
+      left = same;
+      filters = filters_same o.state;
+      settled = settled_opened lane _ id s t o;
+    }
+
 module _ {S : Type 0} {registry : S → RegistryState} {with_registry : S → RegistryState → S} {usable : S → Type 0} {has_form : S → Form → Type 0} {stepped : StackSteps S} {hears : HearSteps S} {registered : S → S → Type 0}
-    (laws : StackLaws with_registry usable has_form stepped hears registered) (with_own : (s : S) → with_registry s (registry s) ≡ s) (levelled : LevelSteps S) (memory : Memory) where
+    (laws : StackLaws with_registry usable has_form stepped hears registered) (with_own : (s : S) → with_registry s (registry s) ≡ s) (levelled : LevelSteps S) where
   abbrev pub Ready : Form → S → Type 0
   Ready f x = IsReady registry with_registry has_form stepped levelled f x
 
   abbrev pub Honest : Form → S → Type 0
   Honest f x = IsHonest registry with_registry has_form stepped levelled f x
-
-  -- a call is served that leaves what is kept as it is
-  abbrev pub Ends : Call → Answer → Form → S → S → Type 0
-  Ends call a f x y = Done laws with_own levelled call a f memory x memory y
 
   -- ---- questions
 
@@ -83,95 +120,117 @@ module _ {S : Type 0} {registry : S → RegistryState} {with_registry : S → Re
   current_number s lane None h = h
   current_number s lane (Some p) h = h
 
-  pub current_so : (lane : Lane) (c : Current) (f : Form) (x : S) → ShowsCurrent (registry x).store lane c → Honest f x → Ends (AskCurrent lane) (current_answer c) f x x
-  current_so lane c f x shown h = by_none laws with_own levelled (AskCurrent lane) (current_answer c) f memory x memory x h refl (current_number (registry x).store lane.0 (current_span c) shown.span, refl) refl
+  pub current_so : (lane : Lane) (c : Current) (f : Form) (x : S) → Honest f x → Done laws with_own levelled (AskCurrent lane) (current_answer c) f x x
+  current_so lane c f x h = by_none laws with_own levelled (AskCurrent lane) (current_answer c) f x x h refl refl (λ d. absurd (cc))
+
+  pub current_exact : (lane : Lane) (c : Current) (f : Form) (memory : Memory) (s : RegistryState) → ShowsCurrent s.store lane c → AnswersExactly (AskCurrent lane) f memory s (current_answer c) memory
+  current_exact lane c f memory s shown = record { answers = current_number s.store lane.0 (current_span c) shown.span; keeps = refl }
 
   -- where all were asked and answered true, no leaf vetoes
   unvetoed : (f : Form) (m : Metadata) (s : Store) (lane : Lane) (pass : Pass) → IsOrderly f → asked f m s lane.0 no_filter no_filter ≡ (true, refusals pass) → vetoes f m s lane.0 ≡ false
   unvetoed f m s lane pass orderly e = not_true _ (sym (asked_unless_vetoed f m s lane.0 no_filter orderly) ∙ ap (λ (p : Bool × FilterSet). p.0) e)
 
-  pub probed : (lane : Lane) (m : Metadata) (pass : Pass) (said : Result Bool TraceError) (after : Memory) (f : Form) (x : S) → IsAdmitted memory f (registry x) lane m pass after said → Honest f x → Done laws with_own levelled (Probe lane m) (yes_answer said) f memory x after x
-  probed lane m pass (Ok true) after f x a h = by_none laws with_own levelled (Probe lane m) (answer.Yes true) f memory x after x h refl ((a.0, unvetoed f m (registry x).store lane pass h.rules.orderly a.1), refl) a.2
-  probed lane m pass (Ok false) after f x a h = by_none laws with_own levelled (Probe lane m) (answer.Yes false) f memory x after x h refl (a.0, refl) a.1
-  probed lane m pass (Err e) after f x a h = by_none laws with_own levelled (Probe lane m) (answer.Refused e) f memory x after x h refl (a.0, refl) a.1
+  pub probed : (lane : Lane) (m : Metadata) (said : Result Bool TraceError) (f : Form) (x : S) → Honest f x → Done laws with_own levelled (Probe lane m) (yes_answer said) f x x
+  probed lane m (Ok said) f x h = by_none laws with_own levelled (Probe lane m) (answer.Yes said) f x x h refl refl (λ d. absurd (cc))
+  probed lane m (Err e) f x h = by_none laws with_own levelled (Probe lane m) (answer.Refused e) f x x h refl refl (λ d. absurd (cc))
+
+  pub probed_exactly : (lane : Lane) (m : Metadata) (pass : Pass) (said : Result Bool TraceError) (f : Form) (memory after : Memory) (s : RegistryState) → IsOrderly f → IsAdmitted memory f s lane m pass after said → AnswersExactly (Probe lane m) f memory s (yes_answer said) after
+  probed_exactly lane m pass (Ok true) f memory after s orderly a = record { answers = (a.0, unvetoed f m s.store lane pass orderly a.1); keeps = a.2 }
+  probed_exactly lane m pass (Ok false) f memory after s orderly a = record { answers = a.0; keeps = a.1 }
+  probed_exactly lane m pass (Err e) f memory after s orderly a = record { answers = a.0; keeps = a.1 }
 
   -- ---- new spans
 
-  abbrev Admitted : Form → S → Lane → Metadata → Pass → Memory → Result Bool TraceError → Type 0
-  Admitted f x lane m pass after said = IsAdmitted memory f (registry x) lane m pass after said
-
   -- this was said of the metadata
-  by_metadata : (f : Form) (x : S) (lane : Lane) (m meta : Metadata) (pass : Pass) (after : Memory) (said : Result Bool TraceError) → m ≡ meta → Admitted f x lane m pass after said → Admitted f x lane meta pass after said
-  by_metadata f x lane m meta pass after said same a = subst (λ n. Admitted f x lane n pass after said) same a
+  by_metadata : (f : Form) (s : RegistryState) (lane : Lane) (m meta : Metadata) (pass : Pass) (memory after : Memory) (said : Result Bool TraceError) → m ≡ meta → IsAdmitted memory f s lane m pass after said → IsAdmitted memory f s lane meta pass after said
+  by_metadata f s lane m meta pass memory after said same a = subst (λ n. IsAdmitted memory f s lane n pass after said) same a
 
-  pub span_dropped : (lane : Lane) (attrs : Attributes) (m : Metadata) (pass : Pass) (after : Memory) (f : Form) (x : S) → m ≡ metadata_of attrs → Admitted f x lane m pass after (Ok false) → Honest f x → Done laws with_own levelled (OpenSpan lane attrs) answer.Dropped f memory x after x
-  span_dropped lane attrs m pass after f x same a h =
-      let d = by_metadata f x lane m (metadata_of attrs) pass after (Ok false) same a in
-      by_none laws with_own levelled (OpenSpan lane attrs) answer.Dropped f memory x after x h refl (d.0, refl) d.1
+  decided : (f : Form) (s : Store) (lane : Lane) (m meta : Metadata) (pass : Pass) (said : Result Bool TraceError) → m ≡ meta → Decides f s lane m pass said → Decides f s lane meta pass said
+  decided f s lane m meta pass said same a = subst (λ n. Decides f s lane n pass said) same a
 
-  pub span_unknown : (lane : Lane) (attrs : Attributes) (m : Metadata) (pass : Pass) (e : TraceError) (after : Memory) (f : Form) (x : S) → m ≡ metadata_of attrs → Admitted f x lane m pass after (Err e) → Honest f x → Done laws with_own levelled (OpenSpan lane attrs) (answer.Refused e) f memory x after x
-  span_unknown lane attrs m pass e after f x same a h =
-      let d = by_metadata f x lane m (metadata_of attrs) pass after (Err e) same a in
-      by_none laws with_own levelled (OpenSpan lane attrs) (answer.Refused e) f memory x after x h refl (inl d.0, refl) (inl (d.0.refused, d.1))
+  pub span_dropped : (lane : Lane) (attrs : Attributes) (m : Metadata) (pass : Pass) (f : Form) (x : S) → m ≡ metadata_of attrs → Decides f (registry x).store lane m pass (Ok false) → Honest f x → Done laws with_own levelled (OpenSpan lane attrs) answer.Dropped f x x
+  span_dropped lane attrs m pass f x same a h = by_none laws with_own levelled (OpenSpan lane attrs) answer.Dropped f x x h refl refl (λ d. decided f (registry x).store lane m (metadata_of attrs) pass (Ok false) same a)
 
-  pub span_made : (lane : Lane) (attrs : Attributes) (m : Metadata) (pass : Pass) (id : Id) (after : Memory) (f : Form) (x y : S) → m ≡ metadata_of attrs → Admitted f x lane m pass after (Ok true)
-      → OpensAndNotifies registry has_form stepped lane attrs pass x y id → Honest f x → Done laws with_own levelled (OpenSpan lane attrs) (answer.Made id) f memory x after y
-  span_made lane attrs m pass id after f x y same a n h =
+  pub span_unmade : (lane : Lane) (attrs : Attributes) (e : TraceError) (f : Form) (x y : S) → y ≡ x → Honest f x → Done laws with_own levelled (OpenSpan lane attrs) (answer.Refused e) f x y
+  span_unmade lane attrs e f x y u h = by_none laws with_own levelled (OpenSpan lane attrs) (answer.Refused e) f x y h u refl (λ d. absurd (cc))
+
+  pub span_made : (lane : Lane) (attrs : Attributes) (m : Metadata) (pass : Pass) (id : Id) (f : Form) (x y : S) → m ≡ metadata_of attrs → Decides f (registry x).store lane m pass (Ok true)
+      → OpensAndNotifies registry has_form stepped lane attrs pass x y id → Honest f x → Done laws with_own levelled (OpenSpan lane attrs) (answer.Made id) f x y
+  span_made lane attrs m pass id f x y same a n h =
       let s = (registry x).store in
-      let d = by_metadata f x lane m (metadata_of attrs) pass after (Ok true) same a in
-      let refused = ap (λ (p : Bool × FilterSet). p.1) d.1 in
-      let law = new_span_fresh f attrs id s lane.0 h.rules.numbers.distinct (ap (λ (p : Bool × FilterSet). p.0) d.1) in
+      let d = decided f s lane m (metadata_of attrs) pass (Ok true) same a in
+      let refused = ap (λ (p : Bool × FilterSet). p.1) d in
+      let law = new_span_fresh f attrs id s lane.0 h.rules.numbers.distinct (ap (λ (p : Bool × FilterSet). p.0) d) in
       let plan = subst (λ r. by_pass f (OnNewSpan attrs id) n.left.store.spans no_filter r ≡ asked_afresh f (OnNewSpan attrs id) s lane.0 no_filter) refused (law.plan n.left.store.spans) in
-      by_call laws with_own levelled (OpenSpan lane attrs) (answer.Made id) f lane (OnNewSpan attrs id) (refusals pass) _ memory x after y h ((d.0, unvetoed f (metadata_of attrs) s lane pass h.rules.orderly d.1), refl) d.2
-      n plan (refused_of pass, (λ k. ap (λ (r : FilterSet). r k) (sym refused) ∙ law.verdict k), n.taken) refl
+      by_call laws with_own levelled (OpenSpan lane attrs) (answer.Made id) f lane (OnNewSpan attrs id) (refusals pass) _ x y h refl (λ d. absurd (cc))
+      n plan (opens_to f lane attrs id (registry x) n.left (refused_of pass) (λ k. ap (λ (r : FilterSet). r k) (sym refused) ∙ law.verdict k) n.taken)
 
-  pub span_refused : (lane : Lane) (attrs : Attributes) (m : Metadata) (pass : Pass) (e : TraceError) (after : Memory) (f : Form) (x y : S) → m ≡ metadata_of attrs → Admitted f x lane m pass after (Ok true)
-      → RefusesNew (registry x) lane (asked_parent attrs) e → y ≡ x → Honest f x → Done laws with_own levelled (OpenSpan lane attrs) (answer.Refused e) f memory x after y
-  span_refused lane attrs m pass e after f x y same a r u h =
-      let d = by_metadata f x lane m (metadata_of attrs) pass after (Ok true) same a in
-      by_none laws with_own levelled (OpenSpan lane attrs) (answer.Refused e) f memory x after y h u (inr ((d.0, unvetoed f (metadata_of attrs) (registry x).store lane pass h.rules.orderly d.1), r), refl) (inr d.2)
+  -- and exactly so
+  module _ (f : Form) (memory after : Memory) (s : RegistryState) (lane : Lane) (attrs : Attributes) (m : Metadata) (pass : Pass) (same : m ≡ metadata_of attrs) (orderly : IsOrderly f) where
+    pub dropped_exactly : IsAdmitted memory f s lane m pass after (Ok false) → AnswersExactly (OpenSpan lane attrs) f memory s answer.Dropped after
+    dropped_exactly a = let d = by_metadata f s lane m (metadata_of attrs) pass memory after (Ok false) same a in record { answers = d.0; keeps = d.1 }
+
+    pub unknown_exactly : (e : TraceError) → IsAdmitted memory f s lane m pass after (Err e) → AnswersExactly (OpenSpan lane attrs) f memory s (answer.Refused e) after
+    unknown_exactly e a = let d = by_metadata f s lane m (metadata_of attrs) pass memory after (Err e) same a in record { answers = inl d.0; keeps = inl (d.0.refused, d.1) }
+
+    pub made_exactly : (id : Id) → IsAdmitted memory f s lane m pass after (Ok true) → AnswersExactly (OpenSpan lane attrs) f memory s (answer.Made id) after
+    made_exactly id a = let d = by_metadata f s lane m (metadata_of attrs) pass memory after (Ok true) same a in record { answers = (d.0, unvetoed f (metadata_of attrs) s.store lane pass orderly d.1); keeps = d.2 }
+
+    pub refused_exactly : (e : TraceError) → RefusesNew s lane (asked_parent attrs) e → IsAdmitted memory f s lane m pass after (Ok true) → AnswersExactly (OpenSpan lane attrs) f memory s (answer.Refused e) after
+    refused_exactly e r a = let d = by_metadata f s lane m (metadata_of attrs) pass memory after (Ok true) same a in record { answers = inr ((d.0, unvetoed f (metadata_of attrs) s.store lane pass orderly d.1), r); keeps = inr d.2 }
 
   -- ---- events
 
-  -- an event whose metadata are dropped is dropped
-  dropped_whole : (f : Form) (s : RegistryState) (lane : Lane) (e : Event) → IsDropped memory f s lane (event_metadata e) (vetoes f (event_metadata e) s.store lane.0) → IsDropped memory f s lane (event_metadata e) (vetoes_whole f e s.store lane)
-  dropped_whole f s lane e (inl d) = inl d
-  dropped_whole f s lane e (inr d) = inr (d.0, or_left_true _ _ d.1)
+  pub event_dropped : (lane : Lane) (e : Event) (m : Metadata) (pass : Pass) (f : Form) (x : S) → m ≡ event_metadata e → Decides f (registry x).store lane m pass (Ok false) → Honest f x → Done laws with_own levelled (SendEvent lane e) answer.Dropped f x x
+  event_dropped lane e m pass f x same a h = by_none laws with_own levelled (SendEvent lane e) answer.Dropped f x x h refl refl (λ d. inl (decided f (registry x).store lane m (event_metadata e) pass (Ok false) same a))
 
-  pub event_dropped : (lane : Lane) (e : Event) (m : Metadata) (pass : Pass) (after : Memory) (f : Form) (x : S) → m ≡ event_metadata e → Admitted f x lane m pass after (Ok false) → Honest f x → Done laws with_own levelled (SendEvent lane e) answer.Dropped f memory x after x
-  event_dropped lane e m pass after f x same a h =
-      let d = by_metadata f x lane m (event_metadata e) pass after (Ok false) same a in
-      by_none laws with_own levelled (SendEvent lane e) answer.Dropped f memory x after x h refl (dropped_whole f (registry x) lane e d.0, refl) d.1
-
-  pub event_unknown : (lane : Lane) (e : Event) (m : Metadata) (pass : Pass) (error : TraceError) (after : Memory) (f : Form) (x : S) → m ≡ event_metadata e → Admitted f x lane m pass after (Err error) → Honest f x → Done laws with_own levelled (SendEvent lane e) (answer.Refused error) f memory x after x
-  event_unknown lane e m pass error after f x same a h =
-      let d = by_metadata f x lane m (event_metadata e) pass after (Err error) same a in
-      by_none laws with_own levelled (SendEvent lane e) (answer.Refused error) f memory x after x h refl (d.0, refl) d.1
+  pub event_unmade : (lane : Lane) (e : Event) (error : TraceError) (f : Form) (x : S) → Honest f x → Done laws with_own levelled (SendEvent lane e) (answer.Refused error) f x x
+  event_unmade lane e error f x h = by_none laws with_own levelled (SendEvent lane e) (answer.Refused error) f x x h refl refl (λ d. absurd (cc))
 
   wanted_or_vetoed : (f : Form) (x : S) (lane : Lane) (e : Event) (before pass : Pass) (said : Bool) → Honest f x → AnswersEvent registry has_form x lane e before said pass → said ≡ not (vetoes_event f e (registry x).store lane.0)
   wanted_or_vetoed f x lane e before pass said h a = (a f h.has).answer ∙ event_unless_vetoed f e (registry x).store lane.0 (refusals before) h.rules.orderly
 
-  pub event_vetoed : (lane : Lane) (e : Event) (m : Metadata) (first second : Pass) (wanted : Bool) (after : Memory) (f : Form) (x : S) → m ≡ event_metadata e → Admitted f x lane m first after (Ok true) → wanted ≡ false
-      → AnswersEvent registry has_form x lane e first wanted second → Honest f x → Done laws with_own levelled (SendEvent lane e) answer.Dropped f memory x after x
-  event_vetoed lane e m first second wanted after f x same a no_one b h =
-      let d = by_metadata f x lane m (event_metadata e) first after (Ok true) same a in
-      let vetoed = not_false _ (sym (wanted_or_vetoed f x lane e first second wanted h b) ∙ no_one) in
-      by_none laws with_own levelled (SendEvent lane e) answer.Dropped f memory x after x h refl (inr (d.0, or_right_true _ _ vetoed), refl) d.2
+  vetoed_so : (f : Form) (x : S) (lane : Lane) (e : Event) (first second : Pass) (wanted : Bool) → wanted ≡ false → AnswersEvent registry has_form x lane e first wanted second → Honest f x → vetoes_event f e (registry x).store lane.0 ≡ true
+  vetoed_so f x lane e first second wanted no_one b h = not_false _ (sym (wanted_or_vetoed f x lane e first second wanted h b) ∙ no_one)
 
-  pub event_made : (lane : Lane) (e : Event) (m : Metadata) (first second : Pass) (wanted : Bool) (after : Memory) (f : Form) (x y : S) → m ≡ event_metadata e → Admitted f x lane m first after (Ok true) → wanted ≡ true
-      → AnswersEvent registry has_form x lane e first wanted second → Notifies registry has_form stepped lane (refusals second) (OnEvent e) Stays x y → Honest f x → Done laws with_own levelled (SendEvent lane e) answer.Done f memory x after y
-  event_made lane e m first second wanted after f x y same a agreed b n h =
+  pub event_vetoed : (lane : Lane) (e : Event) (first second : Pass) (wanted : Bool) (f : Form) (x : S) → wanted ≡ false → AnswersEvent registry has_form x lane e first wanted second → Honest f x → Done laws with_own levelled (SendEvent lane e) answer.Dropped f x x
+  event_vetoed lane e first second wanted f x no_one b h = by_none laws with_own levelled (SendEvent lane e) answer.Dropped f x x h refl refl (λ d. inr (vetoed_so f x lane e first second wanted no_one b h))
+
+  pub event_made : (lane : Lane) (e : Event) (m : Metadata) (first second : Pass) (wanted : Bool) (f : Form) (x y : S) → m ≡ event_metadata e → Decides f (registry x).store lane m first (Ok true) → wanted ≡ true
+      → AnswersEvent registry has_form x lane e first wanted second → Notifies registry has_form stepped lane (refusals second) (OnEvent e) Stays x y → Honest f x → Done laws with_own levelled (SendEvent lane e) answer.Done f x y
+  event_made lane e m first second wanted f x y same a agreed b n h =
       let s = (registry x).store in
-      let d = by_metadata f x lane m (event_metadata e) first after (Ok true) same a in
+      let d = decided f s lane m (event_metadata e) first (Ok true) same a in
       let unvetoed_now = not_true _ (sym (wanted_or_vetoed f x lane e first second wanted h b) ∙ agreed) in
       let asked_first = (asked f (event_metadata e) s lane.0 no_filter no_filter).1 in
       let true_of_all = event_unless_vetoed f e s lane.0 asked_first h.rules.orderly ∙ ap not unvetoed_now in
-      let law = event_fresh f e s lane.0 h.rules.numbers.distinct (ap (λ (p : Bool × FilterSet). p.0) d.1) true_of_all in
+      let law = event_fresh f e s lane.0 h.rules.numbers.distinct (ap (λ (p : Bool × FilterSet). p.0) d) true_of_all in
       let refused : refusals second ≡ (event_asked f e s lane.0 no_filter asked_first).1 =
-      (b f h.has).refused ∙ ap (λ r. (event_asked f e s lane.0 no_filter r).1) (sym (ap (λ (p : Bool × FilterSet). p.1) d.1)) in
+      (b f h.has).refused ∙ ap (λ r. (event_asked f e s lane.0 no_filter r).1) (sym (ap (λ (p : Bool × FilterSet). p.1) d)) in
       let plan = subst (λ r. by_pass f (OnEvent e) n.left.store.spans no_filter r ≡ asked_afresh f (OnEvent e) s lane.0 no_filter) (sym refused) (law n.left.store.spans) in
-      by_call laws with_own levelled (SendEvent lane e) answer.Done f lane (OnEvent e) (refusals second) _ memory x after y h
-      ((d.0, or_both_false _ _ (unvetoed f (event_metadata e) s lane first h.rules.orderly d.1) unvetoed_now), refl) d.2 n plan n.taken refl
+      by_call laws with_own levelled (SendEvent lane e) answer.Done f lane (OnEvent e) (refusals second) _ x y h refl (λ d. absurd (cc)) n plan (stays_to f lane (OnEvent e) (registry x) n.left refl (record { spans = refl; issued = refl; stacks = refl }) n.taken)
+
+  -- and exactly so
+  module _ (f : Form) (memory after : Memory) (x : S) (lane : Lane) (e : Event) (m : Metadata) (first : Pass) (same : m ≡ event_metadata e) (h : Honest f x) where
+    pub event_dropped_exactly : IsAdmitted memory f (registry x) lane m first after (Ok false) → AnswersExactly (SendEvent lane e) f memory (registry x) answer.Dropped after
+    event_dropped_exactly a = let d = by_metadata f (registry x) lane m (event_metadata e) first memory after (Ok false) same a in record { answers = dropped_whole d.0; keeps = d.1 }
+      where
+        -- an event whose metadata are dropped is dropped
+        dropped_whole : IsDropped memory f (registry x) lane (event_metadata e) (vetoes f (event_metadata e) (registry x).store lane.0) → IsDropped memory f (registry x) lane (event_metadata e) (vetoes_whole f e (registry x).store lane)
+        dropped_whole (inl d) = inl d
+        dropped_whole (inr d) = inr (d.0, or_left_true _ _ d.1)
+
+    pub event_unknown_exactly : (error : TraceError) → IsAdmitted memory f (registry x) lane m first after (Err error) → AnswersExactly (SendEvent lane e) f memory (registry x) (answer.Refused error) after
+    event_unknown_exactly error a = let d = by_metadata f (registry x) lane m (event_metadata e) first memory after (Err error) same a in record { answers = d.0; keeps = d.1 }
+
+    pub event_vetoed_exactly : (second : Pass) (wanted : Bool) → wanted ≡ false → AnswersEvent registry has_form x lane e first wanted second → IsAdmitted memory f (registry x) lane m first after (Ok true) → AnswersExactly (SendEvent lane e) f memory (registry x) answer.Dropped after
+    event_vetoed_exactly second wanted no_one b a =
+        let d = by_metadata f (registry x) lane m (event_metadata e) first memory after (Ok true) same a in record { answers = inr (d.0, or_right_true _ _ (vetoed_so f x lane e first second wanted no_one b h)); keeps = d.2 }
+
+    pub event_made_exactly : (second : Pass) (wanted : Bool) → wanted ≡ true → AnswersEvent registry has_form x lane e first wanted second → IsAdmitted memory f (registry x) lane m first after (Ok true) → AnswersExactly (SendEvent lane e) f memory (registry x) answer.Done after
+    event_made_exactly second wanted agreed b a =
+        let d = by_metadata f (registry x) lane m (event_metadata e) first memory after (Ok true) same a in
+        record { answers = (d.0, or_both_false _ _ (unvetoed f (event_metadata e) (registry x).store lane first h.rules.orderly d.1) (not_true _ (sym (wanted_or_vetoed f x lane e first second wanted h b) ∙ agreed))); keeps = d.2 }
 
   -- ---- enters, exits, and what else is said of a span
 
@@ -181,61 +240,74 @@ module _ {S : Type 0} {registry : S → RegistryState} {with_registry : S → Re
   kept_plan f e x lane spans same law = ap (λ v. by_pass f e v no_filter no_filter) same ∙ law
 
   pub entered_so : (lane : Lane) (id : Id) (r : Result (Unit {0}) TraceError) (f : Form) (x y : S) → OnOk r (Notifies registry has_form stepped lane no_filter (OnEnter id) (Enters lane id) x y) → IfErr r (RefusesEnter (registry x) id) → OnErr r (y ≡ x)
-      → Honest f x → Ends (Enter lane id) (done_answer r) f x y
+      → Honest f x → Done laws with_own levelled (Enter lane id) (done_answer r) f x y
   entered_so lane id (Ok u) f x y n r e h =
-      by_call laws with_own levelled (Enter lane id) answer.Done f lane (OnEnter id) no_filter _ memory x memory y h (tt, refl) refl
-      n (kept_plan f (OnEnter id) x lane _ (ap (λ (t : RegistryState). t.store.spans) n.taken.state) (others_afresh f (OnEnter id) (registry x).store lane.0 no_filter no_filter)) n.taken refl
-  entered_so lane id (Err error) f x y n r e h = by_none laws with_own levelled (Enter lane id) (answer.Refused error) f memory x memory y h e (r, refl) refl
+      by_call laws with_own levelled (Enter lane id) answer.Done f lane (OnEnter id) no_filter _ x y h refl (λ d. absurd (cc))
+      n (kept_plan f (OnEnter id) x lane _ (ap (λ (t : RegistryState). t.store.spans) n.taken.state) (others_afresh f (OnEnter id) (registry x).store lane.0 no_filter no_filter)) (enters_to f lane id (registry x) n.left n.taken)
+  entered_so lane id (Err error) f x y n r e h = by_none laws with_own levelled (Enter lane id) (answer.Refused error) f x y h e refl (λ d. absurd (cc))
 
-  pub left_so : (lane : Lane) (id : Id) (f : Form) (x y : S) → IsOpen (registry x).store.spans (number_of id) → Notifies registry has_form stepped lane no_filter (OnExit id) (Exits lane id) x y → Honest f x → Ends (Exit lane id) answer.Done f x y
+  pub enter_exactly : {A : Type 0} (lane : Lane) (id : Id) (r : Result A TraceError) (f : Form) (memory : Memory) (s : RegistryState) → IfErr r (RefusesEnter s id) → AnswersExactly (Enter lane id) f memory s (done_answer r) memory
+  enter_exactly lane id (Ok u) f memory s r = record { answers = tt; keeps = refl }
+  enter_exactly lane id (Err e) f memory s r = record { answers = r; keeps = refl }
+
+  pub left_so : (lane : Lane) (id : Id) (f : Form) (x y : S) → IsOpen (registry x).store.spans (number_of id) → Notifies registry has_form stepped lane no_filter (OnExit id) (Exits lane id) x y → Honest f x → Done laws with_own levelled (Exit lane id) answer.Done f x y
   left_so lane id f x y there n h =
-      by_call laws with_own levelled (Exit lane id) answer.Done f lane (OnExit id) no_filter _ memory x memory y h (record { there = λ o. refl; gone = λ shut. absurd (shut there) }) refl
-      n (kept_plan f (OnExit id) x lane _ (ap (λ (t : RegistryState). t.store.spans) n.taken) (others_afresh f (OnExit id) (registry x).store lane.0 no_filter no_filter)) (there, n.taken) refl
+      by_call laws with_own levelled (Exit lane id) answer.Done f lane (OnExit id) no_filter _ x y h (record { there = λ o. refl; gone = λ shut. absurd (shut there) }) (λ d. absurd (cc))
+      n (kept_plan f (OnExit id) x lane _ (ap (λ (t : RegistryState). t.store.spans) n.taken) (others_afresh f (OnExit id) (registry x).store lane.0 no_filter no_filter)) (leaves_to f lane id (registry x) n.left there n.taken)
 
   pub gone_so : ((s : S) (w : RegistryState) → registry (with_registry s w) ≡ w) → (lane : Lane) (id : Id) (f : Form) (x : S) (w : RegistryState) → ¬ (IsOpen (registry x).store.spans (number_of id)) → Exits lane id (registry x) w → Honest f x
-      → Ends (Exit lane id) answer.Done f x (with_registry x w)
+      → Done laws with_own levelled (Exit lane id) answer.Done f x (with_registry x w)
   gone_so registry_with lane id f x w shut e h =
-      by_change laws with_own levelled (Exit lane id) answer.Done f (GoneLeft lane id) memory x memory (with_registry x w) h (record { there = λ o. absurd (shut o); gone = λ s. refl }) refl
-      (quietly laws with_own levelled registry_with (GoneLeft lane id) x w (shut, e)) (λ s. subst (λ (t : RegistryState). IsSettled t.store.spans) (sym (registry_with x w)) (subst IsSettled (sym (ap (λ (t : RegistryState). t.store.spans) e)) s))
+      by_change laws with_own levelled (Exit lane id) answer.Done f (GoneLeft lane id) x (with_registry x w) h (record { there = λ o. absurd (shut o); gone = λ s. refl }) (λ d. absurd (cc))
+      (exited (registry x).store lane.0 (number_of id)) (shut, refl) (same_aside _ _ (ap (λ (t : RegistryState). t.store) (registry_with x w ∙ e))) (its_own laws with_own levelled registry_with x w) (filters_same (registry_with x w ∙ e))
+      (λ s. subst (λ (t : RegistryState). IsSettled t.store.spans) (sym (registry_with x w)) (subst IsSettled (sym (ap (λ (t : RegistryState). t.store.spans) e)) s))
 
   pub recorded_so : (lane : Lane) (id : Id) (values : Record) (f : Form) (x y : S) → IsOpen (registry x).store.spans (number_of id) → Notifies registry has_form stepped lane no_filter (OnRecord id values) Stays x y → Honest f x
-      → Ends (RecordValues lane id values) answer.Done f x y
+      → Done laws with_own levelled (RecordValues lane id values) answer.Done f x y
   recorded_so lane id values f x y there n h =
-      by_call laws with_own levelled (RecordValues lane id values) answer.Done f lane (OnRecord id values) no_filter _ memory x memory y h (tt, refl) refl
-      n (kept_plan f (OnRecord id values) x lane _ (ap (λ (t : RegistryState). t.store.spans) n.taken) (others_afresh f (OnRecord id values) (registry x).store lane.0 no_filter no_filter)) (there, n.taken) refl
+      by_call laws with_own levelled (RecordValues lane id values) answer.Done f lane (OnRecord id values) no_filter _ x y h refl (λ d. absurd (cc))
+      n (kept_plan f (OnRecord id values) x lane _ (ap (λ (t : RegistryState). t.store.spans) n.taken) (others_afresh f (OnRecord id values) (registry x).store lane.0 no_filter no_filter)) (stays_to f lane (OnRecord id values) (registry x) n.left (there, refl) (record { spans = refl; issued = refl; stacks = refl }) n.taken)
 
   pub followed_so : (lane : Lane) (id other : Id) (f : Form) (x y : S) → IsOpen (registry x).store.spans (number_of id) → Notifies registry has_form stepped lane no_filter (OnFollows id other) Stays x y → Honest f x
-      → Ends (Follow lane id other) answer.Done f x y
+      → Done laws with_own levelled (Follow lane id other) answer.Done f x y
   followed_so lane id other f x y there n h =
-      by_call laws with_own levelled (Follow lane id other) answer.Done f lane (OnFollows id other) no_filter _ memory x memory y h (tt, refl) refl
-      n (kept_plan f (OnFollows id other) x lane _ (ap (λ (t : RegistryState). t.store.spans) n.taken) (others_afresh f (OnFollows id other) (registry x).store lane.0 no_filter no_filter)) (there, n.taken) refl
+      by_call laws with_own levelled (Follow lane id other) answer.Done f lane (OnFollows id other) no_filter _ x y h refl (λ d. absurd (cc))
+      n (kept_plan f (OnFollows id other) x lane _ (ap (λ (t : RegistryState). t.store.spans) n.taken) (others_afresh f (OnFollows id other) (registry x).store lane.0 no_filter no_filter)) (stays_to f lane (OnFollows id other) (registry x) n.left (there, refl) (record { spans = refl; issued = refl; stacks = refl }) n.taken)
 
   -- ---- handles
 
   pub cloned_so : (lane : Lane) (id : Id) (r : Result Id TraceError) (f : Form) (x y : S) → OnOk r (Clones id (registry x) (registry y)) → y ≡ with_registry x (registry y) → IfErr r (RefusesClone (registry x) id) → OnErr r (y ≡ x)
-      → Honest f x → Ends (AddHandle lane id) (done_answer r) f x y
+      → Honest f x → Done laws with_own levelled (AddHandle lane id) (done_answer r) f x y
   cloned_so lane id (Ok other) f x y n rest r e h =
-      by_change laws with_own levelled (AddHandle lane id) answer.Done f (HandleAdded id) memory x memory y h (tt, refl) refl (record { changes = n; rest = rest }) (settled_cloned id (registry x) (registry y) n)
-  cloned_so lane id (Err error) f x y n rest r e h = by_none laws with_own levelled (AddHandle lane id) (answer.Refused error) f memory x memory y h e (r, refl) refl
+      by_change laws with_own levelled (AddHandle lane id) answer.Done f (HandleAdded id) x y h refl (λ d. absurd (cc))
+      (record (registry x).store { spans = add_handle (registry x).store.spans (number_of id) }) (n.is_open, refl) (same_aside _ _ (ap (λ (t : RegistryState). t.store) n.state)) rest (filters_same n.state) (settled_cloned id (registry x) (registry y) n)
+  cloned_so lane id (Err error) f x y n rest r e h = by_none laws with_own levelled (AddHandle lane id) (answer.Refused error) f x y h e refl (λ d. absurd (cc))
+
+  pub clone_exactly : (lane : Lane) (id : Id) (r : Result Id TraceError) (f : Form) (memory : Memory) (s : RegistryState) → IfErr r (RefusesClone s id) → AnswersExactly (AddHandle lane id) f memory s (done_answer r) memory
+  clone_exactly lane id (Ok other) f memory s r = record { answers = tt; keeps = refl }
+  clone_exactly lane id (Err e) f memory s r = record { answers = r; keeps = refl }
 
   pub still_open_so : ((s : S) (w : RegistryState) → registry (with_registry s w) ≡ w) → (lane : Lane) (id : Id) (a : Released) (f : Form) (x : S) (w : RegistryState) → Releases id a (registry x) w → a ≡ StillOpen → IsForest (registry x).store.spans → Ready f x
-      → Ends (DropHandle lane id) (answer.Yes false) f x (with_registry x w)
+      → Done laws with_own levelled (DropHandle lane id) (answer.Yes false) f x (with_registry x w)
   still_open_so registry_with lane id a f x w r same forest h =
       let drops = drops_open forest h.settled r same in
-      by_change laws with_own levelled (DropHandle lane id) (answer.Yes false) f (HandleTaken id) memory x memory (with_registry x w) h.honest
-      (record { closed = []; exact = drops.closes; outcomes = refl; itself = (λ t. absurd (true≢false (sym t)), λ n. absurd n) }) refl
-      (quietly laws with_own levelled registry_with (HandleTaken id) x w (r.held, r.state)) (λ s. subst (λ (t : RegistryState). IsSettled t.store.spans) (sym (registry_with x w)) (settled_still s r same))
+      by_change laws with_own levelled (DropHandle lane id) (answer.Yes false) f (HandleTaken id) x (with_registry x w) h.honest
+      (record { closed = []; exact = drops.closes; outcomes = refl; itself = (λ t. absurd (true≢false (sym t)), λ n. absurd n) }) (λ d. absurd (cc))
+      (record (registry x).store { spans = take_handle (registry x).store.spans (number_of id) }) (r.held, refl) (same_aside _ _ (ap (λ (t : RegistryState). t.store) (registry_with x w ∙ r.state))) (its_own laws with_own levelled registry_with x w) (filters_same (registry_with x w ∙ r.state))
+      (λ s. subst (λ (t : RegistryState). IsSettled t.store.spans) (sym (registry_with x w)) (settled_still s r same))
 
   -- ---- closes
 
   -- all that closes by a drop closes
   pub closed_so : ((s : S) (w : RegistryState) → registry (with_registry s w) ≡ w) → (lane : Lane) (id : Id) (a : Released) (f : Form) (x y : S) (w : RegistryState) → Releases id a (registry x) w → a ≡ Closing → IsForest (registry x).store.spans
-      → ClosesEach registry with_registry has_form stepped levelled lane id (with_registry x w) y → Ready f x → Ends (DropHandle lane id) (answer.Yes true) f x y
+      → ClosesEach registry with_registry has_form stepped levelled lane id (with_registry x w) y → Ready f x → Done laws with_own levelled (DropHandle lane id) (answer.Yes true) f x y
   closed_so registry_with lane id a f x y w r same forest k h =
-      let m : Made = record { form = f; store = (registry x).store; given = (registry x).store; outcome = Quiet (HandleTaken id) } in
       let z = with_registry x w in
-      let q = quietly laws with_own levelled registry_with (HandleTaken id) x w (r.held, r.state) in
-      let after = honest_quietly laws with_own levelled f (HandleTaken id) x z h.honest q in
+      let t : Store = record (registry x).store { spans = take_handle (registry x).store.spans (number_of id) } in
+      let m : Made = record { form = f; before = (registry x).store; after = t; outcome = Quiet (HandleTaken id) } in
+      let rest = its_own laws with_own levelled registry_with x w in
+      let aside : SameAside t (registry z).store = same_aside _ _ (ap (λ (u : RegistryState). u.store) (registry_with x w ∙ r.state)) in
+      let after = honest_quietly laws with_own levelled f x z h.honest rest (filters_same (registry_with x w ∙ r.state)) in
       let notices = k.notices after.0 after.1 in
       let release : Releases id Closing (registry x) (registry z) = subst (λ t. Releases id Closing (registry x) t) (sym (registry_with x w)) (subst (λ b. Releases id b (registry x) w) same r) in
       let all : ClosesAll SameButExtensions (registry x) id k.closed (registry y) = record { released = registry z; is_forest = forest; settled = h.settled; release = release; removal = k.removal } in
@@ -244,9 +316,9 @@ module _ {S : Type 0} {registry : S → RegistryState} {with_registry : S → Re
         (
           m ∷ notices.0,
           record {
-            comes = record { closed = k.closed; exact = drops.closes; outcomes = ap (λ os. Quiet (HandleTaken id) ∷ os) notices.2; itself = (λ _. itself, λ _. refl) };
-            goes = (z, record { honest = h.honest; store = refl; goes = q; given = refl }, notices.1);
-            keeps = refl;
+            says = record { closed = k.closed; exact = drops.closes; outcomes = ap (λ os. Quiet (HandleTaken id) ∷ os) notices.2; itself = (λ _. itself, λ _. refl) };
+            goes = (z, changed laws with_own levelled f (HandleTaken id) x z t h.honest (r.held, refl) aside rest, notices.1);
+            loses = λ d. absurd (cc);
           },
         ),
         λ s. (notices.3.0, record { honest = notices.3.1; settled = settled_closed (registry x) (registry y) id k.closed all }, keeps_again f after.0 notices.3.0 after.2 notices.3.2, notices.3.3 ∙ after.3),
@@ -291,19 +363,23 @@ module _ {S : Type 0} {registry : S → RegistryState} {with_registry : S → Re
             let before = c.notices f h in
             let g = before.3.0 in
             let plan = ap (λ v. by_pass g (OnClose span) v no_filter no_filter) (ap (λ (t : RegistryState). t.store.spans) n.taken) ∙ others_afresh g (OnClose span) (registry y).store lane.0 no_filter no_filter in
-            let notice : Notices registry with_registry has_form stepped levelled g lane (OnClose span) y u = record {
+            let t = without (registry y).store (number_of span ∷ []) in
+            let notice : Notices registry with_registry has_form stepped levelled g lane (OnClose span) (registry y).store t y u = record {
               left = n.left;
-              before = (closing, n.taken);
+              given = aside_state (registry y) n.left n.taken;
               notified = z;
               layers = subst (λ p. stepped y p (OnClose span) lane.0 n.left z (registry z)) plan (n.notified g before.3.1.has before.3.1.rules.still);
-              extensions = n.extensions;
-              after = (next, removes);
               rest = ap (λ t. with_registry z t) (sym (registry_with z w));
             } in
-            let last = honest_after laws with_own levelled g lane (OnClose span) y u before.3.1 notice in
-            let m : Made = record { form = g; store = (registry y).store; given = notice.left.store; outcome = Noticed lane (OnClose span) } in (
+            let last = honest_after laws with_own levelled g lane (OnClose span) (registry y).store t y u before.3.1 notice (removes.taken.filters ∙ aside.filters) in
+            let gone : SameAside t (registry u).store = record {
+              spans = ap (λ (v : Store). v.spans) removes.taken.store ∙ ap (λ (v : Spans). remove_all v (number_of span ∷ [])) aside.spans;
+              issued = ap (λ (v : Store). v.issued) removes.taken.store ∙ aside.issued;
+              stacks = ap (λ (v : Store). v.stacks) removes.taken.store ∙ aside.stacks;
+            } in
+            let m : Made = record { form = g; before = (registry y).store; after = t; outcome = Noticed lane (OnClose span) } in (
               before.0 ++ (m ∷ []),
-              folds_more x before.0 y m u before.1 (record { honest = before.3.1; store = refl; goes = notice; given = refl }),
+              folds_more x before.0 y m u before.1 (record { honest = before.3.1; before = refl; steps = (closing, refl); after = gone; layers = notice }),
               outcomes_more before.0 m ∙ ap (λ os. os ++ (m.outcome ∷ [])) before.2 ∙ sym (closes_more lane xs (number_of span)),
               (last.0, last.1, keeps_again f g last.0 before.3.2 last.2, last.3 ∙ before.3.3),
             );

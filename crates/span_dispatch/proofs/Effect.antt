@@ -10,14 +10,13 @@ use Rattle.span_core.specs.Span.{number_of}
 use Rattle.span_core.specs.declared.level.LevelFilter.{LevelFilter}
 use Rattle.span_core.specs.declared.span.Lane.{Lane}
 use Rattle.span_dispatch.proofs.Acting.{acting_numbers, none_within, one_alone, step_over, steps_agree}
-use Rattle.span_dispatch.proofs.Alone.{agrees_so, changed_alone, noticed_alone}
-use Rattle.span_dispatch.specs.Alone.{Alone, StepsAlone, acting, seen}
-use Rattle.span_dispatch.specs.Cache.{Memory}
-use Rattle.span_dispatch.specs.Call.{AddHandle, AskCurrent, Call, Comes, DropHandle, Enter, Exit, Follow, OpenSpan, Probe, RecordValues, SendEvent, SetLevel, closes_of}
+use Rattle.span_dispatch.proofs.Alone.{agree_same, steps_alone}
+use Rattle.span_dispatch.specs.Alone.{Alone, acting, lone, seen}
+use Rattle.span_dispatch.specs.Call.{Call, closes_of}
 use Rattle.span_dispatch.specs.Effect.{AloneOf, Effect, GoesThrough, HasOutcomes, MadeCall, NoEffect, OfDrop, OfExit, OneOutcome, OutcomesFrom, concerns, effect_of, is_concern}
 use Rattle.span_dispatch.specs.Isolation.{HasSameOutcomes, HaveSameOutcomes, SeeTheSame, SeenAlone, SeesCalls, Sight}
-use Rattle.span_dispatch.specs.Outcome.{GoesOn, HandleTaken, LevelSet, Made, Makes, Noticed, Outcome, Quiet}
-use Rattle.span_dispatch.specs.Serve.{Run, ServesAsked, call_of, flat, made_call, made_calls, outcome_of, stack_of}
+use Rattle.span_dispatch.specs.Outcome.{HandleTaken, LevelSet, Made, Makes, Noticed, Outcome, Quiet, Steps}
+use Rattle.span_dispatch.specs.Serve.{Run, TellsAsked, call_of, flat, made_call, made_calls, outcome_of, stack_of}
 use Rattle.span_dispatch.specs.declared.request.Answer.TheVariants as answer
 use Rattle.span_dispatch.specs.declared.request.Answer.{Answer}
 use Rattle.span_dispatch.specs.declared.request.Request.{Request}
@@ -148,88 +147,20 @@ concern_of numbers (OfDrop lane id closes) s os h =
 
 -- ---- what a stack makes of a call
 
-comes_so : (call : Call) (memory : Memory) (f : Form) (s : RegistryState) (a : Answer) (os : List Outcome) → Comes call memory f s a os → HasOutcomes (effect_of call a) s.store os
-comes_so (OpenSpan lane attrs) memory f s (answer.Made id) os h = h.1
-comes_so (OpenSpan lane attrs) memory f s answer.Dropped os h = h.1
-comes_so (OpenSpan lane attrs) memory f s answer.Done os h = absurd h
-comes_so (OpenSpan lane attrs) memory f s (answer.Yes closes) os h = absurd h
-comes_so (OpenSpan lane attrs) memory f s (answer.Current o) os h = absurd h
-comes_so (OpenSpan lane attrs) memory f s (answer.Refused e) os h = h.1
-comes_so (SendEvent lane event) memory f s (answer.Made id) os h = absurd h
-comes_so (SendEvent lane event) memory f s answer.Dropped os h = h.1
-comes_so (SendEvent lane event) memory f s answer.Done os h = h.1
-comes_so (SendEvent lane event) memory f s (answer.Yes closes) os h = absurd h
-comes_so (SendEvent lane event) memory f s (answer.Current o) os h = absurd h
-comes_so (SendEvent lane event) memory f s (answer.Refused e) os h = h.1
-comes_so (Enter lane id) memory f s (answer.Made x) os h = absurd h
-comes_so (Enter lane id) memory f s answer.Dropped os h = absurd h
-comes_so (Enter lane id) memory f s answer.Done os h = h.1
-comes_so (Enter lane id) memory f s (answer.Yes closes) os h = absurd h
-comes_so (Enter lane id) memory f s (answer.Current o) os h = absurd h
-comes_so (Enter lane id) memory f s (answer.Refused e) os h = h.1
-comes_so (Exit lane id) memory f s (answer.Made x) os h = absurd h
-comes_so (Exit lane id) memory f s answer.Dropped os h = absurd h
-comes_so (Exit lane id) memory f s answer.Done os h = h
-comes_so (Exit lane id) memory f s (answer.Yes closes) os h = absurd h
-comes_so (Exit lane id) memory f s (answer.Current o) os h = absurd h
-comes_so (Exit lane id) memory f s (answer.Refused e) os h = absurd h
-comes_so (RecordValues lane id values) memory f s (answer.Made x) os h = absurd h
-comes_so (RecordValues lane id values) memory f s answer.Dropped os h = absurd h
-comes_so (RecordValues lane id values) memory f s answer.Done os h = h.1
-comes_so (RecordValues lane id values) memory f s (answer.Yes closes) os h = absurd h
-comes_so (RecordValues lane id values) memory f s (answer.Current o) os h = absurd h
-comes_so (RecordValues lane id values) memory f s (answer.Refused e) os h = h.1
-comes_so (Follow lane id other) memory f s (answer.Made x) os h = absurd h
-comes_so (Follow lane id other) memory f s answer.Dropped os h = absurd h
-comes_so (Follow lane id other) memory f s answer.Done os h = h.1
-comes_so (Follow lane id other) memory f s (answer.Yes closes) os h = absurd h
-comes_so (Follow lane id other) memory f s (answer.Current o) os h = absurd h
-comes_so (Follow lane id other) memory f s (answer.Refused e) os h = h.1
-comes_so (AddHandle lane id) memory f s (answer.Made x) os h = absurd h
-comes_so (AddHandle lane id) memory f s answer.Dropped os h = absurd h
-comes_so (AddHandle lane id) memory f s answer.Done os h = h.1
-comes_so (AddHandle lane id) memory f s (answer.Yes closes) os h = absurd h
-comes_so (AddHandle lane id) memory f s (answer.Current o) os h = absurd h
-comes_so (AddHandle lane id) memory f s (answer.Refused e) os h = h.1
-comes_so (DropHandle lane id) memory f s (answer.Made x) os h = absurd h
-comes_so (DropHandle lane id) memory f s answer.Dropped os h = absurd h
-comes_so (DropHandle lane id) memory f s answer.Done os h = absurd h
-comes_so (DropHandle lane id) memory f s (answer.Yes closes) os h = h
-comes_so (DropHandle lane id) memory f s (answer.Current o) os h = absurd h
-comes_so (DropHandle lane id) memory f s (answer.Refused e) os h = h.1
-comes_so (Probe lane m) memory f s (answer.Made id) os h = absurd h
-comes_so (Probe lane m) memory f s answer.Dropped os h = absurd h
-comes_so (Probe lane m) memory f s answer.Done os h = absurd h
-comes_so (Probe lane m) memory f s (answer.Yes true) os h = h.1
-comes_so (Probe lane m) memory f s (answer.Yes false) os h = h.1
-comes_so (Probe lane m) memory f s (answer.Current o) os h = absurd h
-comes_so (Probe lane m) memory f s (answer.Refused e) os h = h.1
-comes_so (AskCurrent lane) memory f s (answer.Made id) os h = absurd h
-comes_so (AskCurrent lane) memory f s answer.Dropped os h = absurd h
-comes_so (AskCurrent lane) memory f s answer.Done os h = absurd h
-comes_so (AskCurrent lane) memory f s (answer.Yes closes) os h = absurd h
-comes_so (AskCurrent lane) memory f s (answer.Current o) os h = h.1
-comes_so (AskCurrent lane) memory f s (answer.Refused e) os h = absurd h
-comes_so (SetLevel n l) memory f s (answer.Made id) os h = absurd h
-comes_so (SetLevel n l) memory f s answer.Dropped os h = absurd h
-comes_so (SetLevel n l) memory f s answer.Done os h = h.1
-comes_so (SetLevel n l) memory f s (answer.Yes closes) os h = absurd h
-comes_so (SetLevel n l) memory f s (answer.Current o) os h = absurd h
-comes_so (SetLevel n l) memory f s (answer.Refused e) os h = h.1
-
 module _ {S : Type 0} (registry : S → RegistryState) (with_registry : S → RegistryState → S) (has_form : S → Form → Type 0) (stepped : StackSteps S) (levelled : LevelSteps S) where
   -- an outcome leaves the store that it leaves without any filter, as far as no filter goes
-  made_bare : (f : Form) (o : Outcome) (x y : S) → GoesOn registry with_registry has_form stepped levelled f o x y → (t : Store) × StepsAlone [] o (registry x).store t × AgreeAt no_filter (registry y).store t
-  made_bare f (Noticed lane e) x y g =
-      let step = noticed_alone f [] (λ meta s q v said k. refl) lane e (registry x) g.left (registry g.notified) (registry y) g.before g.extensions g.after in
-      (step.0, step.1, step.3)
-  made_bare f (Quiet c) x y g = changed_alone [] c (registry x) (registry y) g.changes
-  made_bare f (LevelSet n l) x y g = ((registry x).store, refl, agrees_so no_filter (registry x) (registry y) (registry x).store g.same (agree_refl no_filter (registry x).store))
+  made_bare : (x : S) (m : Made) (y : S) → Makes registry with_registry has_form stepped levelled x m y → (t : Store) × Steps (lone []) m.outcome (registry x).store t × AgreeAt no_filter (registry y).store t
+  made_bare x m y h =
+      let step = steps_alone m.form [] (λ meta s q v said k. refl) m.outcome m.before m.after h.steps in (
+        step.0,
+        subst (λ (u : Store). Steps (lone []) m.outcome u step.0) h.before step.1,
+        agree_trans no_filter (registry y).store m.after step.0 (agree_sym no_filter m.after (registry y).store (agree_same no_filter m.after (registry y).store h.after)) step.2,
+      )
 
   folds_bare : (x : S) (ms : List Made) (y : S) → FoldsTo (Makes registry with_registry has_form stepped levelled) x ms y → (t : Store) × GoesThrough (registry x).store (map outcome_of ms) t × AgreeAt no_filter (registry y).store t
   folds_bare x [] y h = ((registry x).store, refl, subst (λ (z : S). AgreeAt no_filter (registry z).store (registry x).store) h (agree_refl no_filter (registry x).store))
   folds_bare x (m ∷ ms) y h =
-      let one = made_bare m.form m.outcome x h.0 h.1.goes in
+      let one = made_bare x m h.0 h.1 in
       let rest = folds_bare h.0 ms y h.2 in
       let on = through_over (map outcome_of ms) (registry h.0).store one.0 rest.0 one.2 rest.1 in
       let after = through_agree (map outcome_of ms) (registry h.0).store one.0 rest.0 on.0 one.2 rest.1 on.1 in
@@ -245,29 +176,29 @@ module _ {S : Type 0} (registry : S → RegistryState) (with_registry : S → Re
       let both : filter (concerns numbers) (all ++ os) ≡ filter (concerns numbers) os = filter-append (concerns numbers) all os ∙ ap (λ us. us ++ filter (concerns numbers) os) none in
       subst (λ (us : List Outcome). OutcomesFrom s calls us) (sym both) (subst (λ (u : Store). OutcomesFrom u calls (filter (concerns numbers) os)) (sym same) rest)
 
-  asked_calls : (numbers : FilterSet) (o : Option Call) (memory : Memory) (x : S) (a : Answer) (ms : List Made) (after : Memory) (y : S) (os : List Outcome) (calls : List MadeCall) → ServesAsked registry with_registry has_form stepped levelled o memory x a ms after y
+  asked_calls : (numbers : FilterSet) (o : Option Call) (x : S) (a : Answer) (ms : List Made) (y : S) (os : List Outcome) (calls : List MadeCall) → TellsAsked registry with_registry has_form stepped levelled o x a ms y
       → OutcomesFrom (registry y).store calls (filter (concerns numbers) os) → OutcomesFrom (registry x).store (made_call numbers o a ++ calls) (filter (concerns numbers) (map outcome_of ms ++ os))
-  asked_calls numbers None memory x a ms after y os calls h rest =
+  asked_calls numbers None x a ms y os calls h rest =
       subst (λ (ns : List Made). OutcomesFrom (registry x).store calls (filter (concerns numbers) (map outcome_of ns ++ os))) (sym h.1)
-      (subst (λ (z : S). OutcomesFrom (registry z).store calls (filter (concerns numbers) os)) h.3 rest)
-  asked_calls numbers (Some call) memory x a ms after y os calls h rest =
+      (subst (λ (z : S). OutcomesFrom (registry z).store calls (filter (concerns numbers) os)) h.2 rest)
+  asked_calls numbers (Some call) x a ms y os calls h rest =
       let own = folds_bare x ms y h.2.goes in
       let through = through_concerning numbers (map outcome_of ms) (registry x).store own.0 own.1 in
       let on = outcomes_over calls (registry y).store own.0 (filter (concerns numbers) os) own.2 rest in
-      by_concern numbers call a (registry x).store own.0 (map outcome_of ms) os calls (is_concern numbers (effect_of call a)) refl (comes_so call memory h.0 (registry x) a (map outcome_of ms) h.2.comes) through on
+      by_concern numbers call a (registry x).store own.0 (map outcome_of ms) os calls (is_concern numbers (effect_of call a)) refl h.2.says through on
 
-  -- what was made in a run is what its made calls have by themselves
-  pub run_calls : (past : List Answer) (rs : List Request) (answers : List Answer) (made : List (List Made)) (memory : Memory) (x : S) (after : Memory) (y : S) (numbers : FilterSet)
-      → Run registry with_registry has_form stepped levelled past rs answers made memory x after y → OutcomesFrom (registry x).store (made_calls numbers past rs answers) (filter (concerns numbers) (map outcome_of (flat made)))
-  run_calls past [] [] [] memory x after y numbers h = refl
-  run_calls past [] [] (m ∷ made) memory x after y numbers h = absurd h
-  run_calls past [] (b ∷ answers) made memory x after y numbers h = absurd h
-  run_calls past (q ∷ rs) [] made memory x after y numbers h = absurd h
-  run_calls past (q ∷ rs) (b ∷ answers) [] memory x after y numbers h = absurd h
-  run_calls past (q ∷ rs) (b ∷ answers) (ms ∷ made) memory x after y numbers h =
-      let rest = run_calls (past ++ (b ∷ [])) rs answers made h.0 h.1 after y numbers h.3 in
+  -- what was made in a run is what its made calls have by themselves, as far as it concerns filters of these numbers
+  run_calls : (past : List Answer) (rs : List Request) (answers : List Answer) (made : List (List Made)) (x y : S) (numbers : FilterSet) → Run registry with_registry has_form stepped levelled past rs answers made x y
+      → OutcomesFrom (registry x).store (made_calls numbers past rs answers) (filter (concerns numbers) (map outcome_of (flat made)))
+  run_calls past [] [] [] x y numbers h = refl
+  run_calls past [] [] (m ∷ made) x y numbers h = absurd h
+  run_calls past [] (b ∷ answers) made x y numbers h = absurd h
+  run_calls past (q ∷ rs) [] made x y numbers h = absurd h
+  run_calls past (q ∷ rs) (b ∷ answers) [] x y numbers h = absurd h
+  run_calls past (q ∷ rs) (b ∷ answers) (ms ∷ made) x y numbers h =
+      let rest = run_calls (past ++ (b ∷ [])) rs answers made h.0 y numbers h.2 in
       subst (λ (os : List Outcome). OutcomesFrom (registry x).store (made_calls numbers past (q ∷ rs) (b ∷ answers)) (filter (concerns numbers) os)) (sym (map-append outcome_of ms (flat made)))
-      (asked_calls numbers (call_of past q) memory x b ms h.0 h.1 (map outcome_of (flat made)) (made_calls numbers (past ++ (b ∷ [])) rs answers) h.2 rest)
+      (asked_calls numbers (call_of past q) x b ms h.0 (map outcome_of (flat made)) (made_calls numbers (past ++ (b ∷ [])) rs answers) h.1 rest)
 
 -- ---- what a leaf sees of calls
 
@@ -305,7 +236,7 @@ module _ {S : Type 0} (registry : S → RegistryState) (with_registry : S → Re
       let os = map outcome_of (flat m.served.made) in
       let os_here = filter (concerns numbers) os in
       let near : AgreeAt numbers u t = subst (λ (v : Store). AgreeAt numbers v t) (sym m.at_store) agree in
-      let own = subst (λ (ks : List MadeCall). OutcomesFrom u ks os_here) m.at_calls (m.served.calls numbers) in
+      let own = subst (λ (ks : List MadeCall). OutcomesFrom u ks os_here) m.at_calls (run_calls registry with_registry has_form stepped levelled [] m.requests m.answers m.served.made (stack_of m.old) (stack_of m.new) numbers m.served.run) in
       let bare = agree_within numbers no_filter u t (none_within numbers) near in
       let alone = alone_concerning numbers cs t os (seen m.place (flat m.served.made)) refl (m.served.alone m.place cs t m.acts near) in
       (os_here, outcomes_over calls u t os_here bare own, subst (λ (k : Heard). Alone cs t os_here k) m.sees alone)

@@ -5,8 +5,8 @@ use Rattle.span_core.specs.declared.level.LevelFilter.{LevelFilter}
 use Rattle.span_dispatch.specs.Cache.{Memory}
 use Rattle.span_dispatch.specs.Call.{Call}
 use Rattle.span_dispatch.specs.Fixed.{Formed, set_at}
-use Rattle.span_dispatch.specs.Outcome.{GoesOn, IsGiven, IsHonest, LevelSet, Made, Makes, Noticed, Outcome, Quiet}
-use Rattle.span_dispatch.specs.Serve.{Run, ServesAsked, call_of}
+use Rattle.span_dispatch.specs.Outcome.{IsHonest, LayersGo, LevelSet, Made, Makes, Noticed, Outcome, Quiet}
+use Rattle.span_dispatch.specs.Serve.{RunExactly, ServesAsked, call_of}
 use Rattle.span_dispatch.specs.declared.request.Answer.{Answer}
 use Rattle.span_dispatch.specs.declared.request.Request.{Request}
 use Rattle.span_registry.specs.Answers.{Notice}
@@ -42,21 +42,18 @@ module _ {S : Type 0} (registry : S → RegistryState) (with_registry : S → Re
   honest : (f g : Form) (x : S) → Stays x f → IsHonest registry with_registry has_form stepped levelled g x → IsHonest registry_in with_registry_in has_this steps_in levels_in g (registry x, f)
   honest f g x stays h = record { has = known x f g stays h.has; rules = h.rules }
 
-  -- it stays so by this form, and goes on so in it, its notices given in the same store
-  abbrev StaysOn : (g : Form) (o : Outcome) (f : Form) (x y : S) → GoesOn registry with_registry has_form stepped levelled g o x y → Type 0
-  StaysOn g o f x y n =
-      (h : Form) × Stays y h × (k : GoesOn registry_in with_registry_in has_this steps_in levels_in g o (registry x, f) (registry y, h))
-      × ((s : Store) → IsGiven registry with_registry has_form stepped levelled g o x y n s → IsGiven registry_in with_registry_in has_this steps_in levels_in g o (registry x, f) (registry y, h) k s)
+  -- it stays so by this form, and its layers go on so in it
+  abbrev StaysOn : (g : Form) (o : Outcome) (s t : Store) (f : Form) (x y : S) → Type 0
+  StaysOn g o s t f x y = (h : Form) × Stays y h × LayersGo registry_in with_registry_in has_this steps_in levels_in g o s t (registry x, f) (registry y, h)
 
-  stays_on : (g : Form) (o : Outcome) (f : Form) (x y : S) → Stays x f → (n : GoesOn registry with_registry has_form stepped levelled g o x y) → StaysOn g o f x y n
-  stays_on g (Noticed lane e) f x y stays n = (
+  stays_on : (g : Form) (o : Outcome) (s t : Store) (f : Form) (x y : S) → Stays x f → LayersGo registry with_registry has_form stepped levelled g o s t x y → StaysOn g o s t f x y
+  stays_on g (Noticed lane e) s t f x y stays n = (
     f,
     subst (λ z. Stays z f) (sym n.rest) (aside n.notified f (registry y) (goes x f _ e lane.0 n.left n.notified (registry n.notified) n.layers stays)),
-    record { left = n.left; before = n.before; notified = (registry n.notified, f); layers = refl; extensions = n.extensions; after = n.after; rest = refl },
-    λ s e. e,
+    record { left = n.left; given = n.given; notified = (registry n.notified, f); layers = refl; rest = refl },
   )
-  stays_on g (Quiet c) f x y stays q = (f, subst (λ z. Stays z f) (sym q.rest) (aside x f (registry y) stays), record { changes = q.changes; rest = refl }, λ s e. e)
-  stays_on g (LevelSet n l) f x y stays q = (set_at n l f, set x f n l y q.goes stays, record { taken = q.taken; goes = refl; same = q.same }, λ s e. e)
+  stays_on g (Quiet c) s t f x y stays rest = (f, subst (λ z. Stays z f) (sym rest) (aside x f (registry y) stays), refl)
+  stays_on g (LevelSet n l) s t f x y stays q = (set_at n l f, set x f n l y q.goes stays, record { taken = q.taken; goes = refl; same = q.same })
 
   -- so through all that is made
   abbrev StaysThrough : Form → S → List Made → S → Type 0
@@ -65,9 +62,9 @@ module _ {S : Type 0} (registry : S → RegistryState) (with_registry : S → Re
   through : (f : Form) (x : S) (ms : List Made) (y : S) → Stays x f → FoldsTo (Makes registry with_registry has_form stepped levelled) x ms y → StaysThrough f x ms y
   through f x [] y stays h = (f, subst (λ z. Stays z f) h stays, ap (λ z. (registry z, f)) h)
   through f x (m ∷ ms) y stays h =
-      let one = stays_on m.form m.outcome f x h.0 stays h.1.goes in
+      let one = stays_on m.form m.outcome m.before m.after f x h.0 stays h.1.layers in
       let rest = through one.0 h.0 ms y one.1 h.2 in
-      (rest.0, rest.1, ((registry h.0, one.0), record { honest = honest f m.form x stays h.1.honest; store = h.1.store; goes = one.2; given = one.3 m.given h.1.given }, rest.2))
+      (rest.0, rest.1, ((registry h.0, one.0), record { honest = honest f m.form x stays h.1.honest; before = h.1.before; steps = h.1.steps; after = h.1.after; layers = one.2 }, rest.2))
 
   abbrev AskedIn : Option Call → Memory → Form → S → Answer → List Made → Memory → S → Type 0
   AskedIn o memory f x a ms after y = (h : Form) × Stays y h × ServesAsked registry_in with_registry_in has_this steps_in levels_in o memory (registry x, f) a ms after (registry y, h)
@@ -75,12 +72,12 @@ module _ {S : Type 0} (registry : S → RegistryState) (with_registry : S → Re
   asked_in : (o : Option Call) (memory : Memory) (f : Form) (x : S) (a : Answer) (ms : List Made) (after : Memory) (y : S) → Stays x f → ServesAsked registry with_registry has_form stepped levelled o memory x a ms after y → AskedIn o memory f x a ms after y
   asked_in None memory f x a ms after y stays h = (f, subst (λ z. Stays z f) (sym h.3) stays, (h.0, h.1, h.2, ap (λ z. (registry z, f)) h.3))
   asked_in (Some call) memory f x a ms after y stays h =
-      let all = through f x ms y stays h.2.goes in
-      (all.0, all.1, (h.0, record { honest = honest f h.0 x stays h.1.honest; settled = h.1.settled }, record { comes = h.2.comes; goes = all.2; keeps = h.2.keeps }))
+      let all = through f x ms y stays h.2.told.goes in
+      (all.0, all.1, (h.0, record { honest = honest f h.0 x stays h.1.honest; settled = h.1.settled }, record { told = record { says = h.2.told.says; goes = all.2; loses = h.2.told.loses }; exact = h.2.exact }))
 
   -- a run of such a stack is a run by its form
-  pub runs_by : (past : List Answer) (rs : List Request) (answers : List Answer) (made : List (List Made)) (memory : Memory) (f : Form) (x : S) (after : Memory) (y : S) → Stays x f → Run registry with_registry has_form stepped levelled past rs answers made memory x after y
-      → (g : Form) × Stays y g × Run registry_in with_registry_in has_this steps_in levels_in past rs answers made memory (registry x, f) after (registry y, g)
+  pub runs_by : (past : List Answer) (rs : List Request) (answers : List Answer) (made : List (List Made)) (memory : Memory) (f : Form) (x : S) (after : Memory) (y : S) → Stays x f → RunExactly registry with_registry has_form stepped levelled past rs answers made memory x after y
+      → (g : Form) × Stays y g × RunExactly registry_in with_registry_in has_this steps_in levels_in past rs answers made memory (registry x, f) after (registry y, g)
   runs_by past [] [] [] memory f x after y stays h = (f, subst (λ z. Stays z f) (sym h.1) stays, (h.0, ap (λ z. (registry z, f)) h.1))
   runs_by past [] [] (m ∷ made) memory f x after y stays h = absurd h
   runs_by past [] (b ∷ answers) made memory f x after y stays h = absurd h

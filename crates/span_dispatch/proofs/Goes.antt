@@ -6,10 +6,12 @@ use Rattle.span_core.specs.declared.level.LevelFilter.{LevelFilter}
 use Rattle.span_core.specs.Filters.{FilterSet}
 use Rattle.span_core.specs.declared.interest.Interest.{Interest}
 use Rattle.span_core.specs.declared.span.Lane.{Lane}
-use Rattle.span_dispatch.specs.Cache.{IsCurrent, IsUpToDate, Memory, forgotten, kept_in, no_callsite}
-use Rattle.span_dispatch.specs.Call.{Call, Comes, KeepsAfter, SetLevel}
-use Rattle.span_dispatch.specs.Outcome.{Change, Changes, GoneLeft, HandleAdded, HandleTaken, IsHonest, LevelSet, Made, Noticed, Notices, Quiet, Quiets, StepsAfter, StepsBefore}
-use Rattle.span_dispatch.specs.Serve.{IsReady, IsReadyAfter, IsReadyBy, KeepsUpToDate, Serves, ServesCall, kept_by, stack_of}
+use Rattle.span_dispatch.specs.Admission.{KeepsSafely}
+use Rattle.span_dispatch.specs.Cache.{IsCurrent, IsUpToDate, forgotten, kept_in, no_callsite}
+use Rattle.span_dispatch.specs.Call.{Call, SetLevel}
+use Rattle.span_dispatch.specs.Effect.{OutcomesOf}
+use Rattle.span_dispatch.specs.Outcome.{Change, IsHonest, LevelSet, Made, Makes, Noticed, Notices, Quiet, SameAside, Steps, given_in}
+use Rattle.span_dispatch.specs.Serve.{IsReady, IsReadyAfter, IsReadyWith, IsTold, IsUnwantedCall, Tells, stack_of}
 use Rattle.span_dispatch.specs.declared.cache.Cache.TheVariants as cache
 use Rattle.span_dispatch.specs.declared.cache.Cache.{Cache}
 use Rattle.span_dispatch.specs.declared.cache.Known.{Known}
@@ -19,8 +21,7 @@ use Rattle.span_dispatch.specs.declared.request.Answer.{Answer}
 use Rattle.span_layers.proofs.HonestKept.{hint_is_kept, interest_is_kept}
 use Rattle.span_layers.proofs.RulesKept.{honesty_is_kept}
 use Rattle.span_layers.specs.Honest.{IsHonestStack}
-use Rattle.span_registry.proofs.CallerLemmas.{settled_opened}
-use Rattle.span_registry.specs.Answers.{Answers, Notice, OnClose, OnEnter, OnEvent, OnExit, OnFollows, OnIdChange, OnNewSpan, OnRecord}
+use Rattle.span_registry.specs.Answers.{Answers, Notice}
 use Rattle.span_registry.specs.Closes.{IsSettled}
 use Rattle.span_registry.specs.Follows.{AnswersKeep, Follows, Keeps, kept_form}
 use Rattle.span_registry.specs.Form.{Bare, Filtered, Form, Leaf, Over}
@@ -29,7 +30,8 @@ use Rattle.span_registry.specs.Levels.{KeepsRules, LevelLaws, LevelSteps, Levels
 use Rattle.span_registry.specs.Conducts.{ActsAt}
 use Rattle.span_registry.specs.Place.{HearSteps}
 use Rattle.span_registry.specs.Plan.{asked_afresh, by_pass}
-use Rattle.span_registry.specs.Store.{RegistryState}
+use Rattle.span_registry.specs.Store.{RegistryState, Store}
+use Rattle.span_registry.specs.Subscriber.{SameButExtensions}
 
 -- ---- what is kept of what was kept is kept
 
@@ -71,52 +73,36 @@ keeps_again (Bare a0) (Bare b0) (Leaf c0 c1) p q = absurd q
 keeps_again (Bare a0) (Bare b0) (Filtered c0 c1 c2) p q = absurd q
 keeps_again (Bare a0) (Bare b0) (Over c0 c1 c2) p q = absurd q
 
--- ---- what a notice leaves of the registry
+-- ---- stores that are the same, extensions aside
 
-filters_same : {s t : RegistryState} → t ≡ s → t.filters ≡ s.filters
+pub same_aside : (s t : Store) → t ≡ s → SameAside s t
+same_aside s t e = record { spans = ap (λ (u : Store). u.spans) e; issued = ap (λ (u : Store). u.issued) e; stacks = ap (λ (u : Store). u.stacks) e }
+
+pub aside_further : (s t u : Store) → SameAside s t → SameAside t u → SameAside s u
+aside_further s t u a b = record { spans = b.spans ∙ a.spans; issued = b.issued ∙ a.issued; stacks = b.stacks ∙ a.stacks }
+
+-- hooks write extensions alone
+pub aside_hooks : (s : Store) (t u : RegistryState) → SameAside s t.store → SameButExtensions t u → SameAside s u.store
+aside_hooks s t u a b = record { spans = b.spans ∙ a.spans; issued = b.issued ∙ a.issued; stacks = b.stacks ∙ a.stacks }
+
+-- a registry that took a step to this one
+pub aside_state : (s t : RegistryState) → t ≡ s → SameAside s.store t.store
+aside_state s t e = same_aside s.store t.store (ap (λ (r : RegistryState). r.store) e)
+
+pub filters_same : {s t : RegistryState} → t ≡ s → t.filters ≡ s.filters
 filters_same e = ap (λ (r : RegistryState). r.filters) e
 
-filters_before : (f : Form) (lane : Lane) (e : Notice) (s t : RegistryState) → StepsBefore f lane e s t → t.filters ≡ s.filters
-filters_before f lane (OnNewSpan attrs id) s t b = filters_same b.2.state
-filters_before f lane (OnRecord id values) s t b = filters_same b.1
-filters_before f lane (OnFollows id other) s t b = filters_same b.1
-filters_before f lane (OnEvent e) s t b = filters_same b
-filters_before f lane (OnEnter id) s t b = filters_same b.state
-filters_before f lane (OnExit id) s t b = filters_same b.1
-filters_before f lane (OnIdChange id other) s t b = absurd b
-filters_before f lane (OnClose id) s t b = filters_same b.1
+pub settled_aside : (s t : Store) → SameAside s t → IsSettled s.spans → IsSettled t.spans
+settled_aside s t a h = subst IsSettled (sym a.spans) h
 
-filters_after : (e : Notice) (s t : RegistryState) → StepsAfter e s t → t.filters ≡ s.filters
-filters_after (OnNewSpan attrs id) s t b = filters_same b
-filters_after (OnRecord id values) s t b = filters_same b
-filters_after (OnFollows id other) s t b = filters_same b
-filters_after (OnEvent e) s t b = filters_same b
-filters_after (OnEnter id) s t b = filters_same b
-filters_after (OnExit id) s t b = filters_same b
-filters_after (OnIdChange id other) s t b = filters_same b
-filters_after (OnClose id) s t b = b.1.taken.filters
-
-filters_changed : (c : Change) (s t : RegistryState) → Changes c s t → t.filters ≡ s.filters
-filters_changed (HandleAdded id) s t b = filters_same b.state
-filters_changed (HandleTaken id) s t b = filters_same b.1
-filters_changed (GoneLeft lane id) s t b = filters_same b.1
-
-settled_same : (s t : RegistryState) → t.store.spans ≡ s.store.spans → IsSettled s.store.spans → IsSettled t.store.spans
-settled_same s t e h = subst IsSettled (sym e) h
-
-spans_same : {s t : RegistryState} → t ≡ s → t.store.spans ≡ s.store.spans
-spans_same e = ap (λ (r : RegistryState). r.store.spans) e
-
--- what the registry does before a notice leaves no span closing
-pub settled_before : (f : Form) (lane : Lane) (e : Notice) (s t : RegistryState) → StepsBefore f lane e s t → IsSettled s.store.spans → IsSettled t.store.spans
-settled_before f lane (OnNewSpan attrs id) s t b h = settled_opened lane _ id s t b.2 h
-settled_before f lane (OnRecord id values) s t b h = settled_same s t (spans_same b.1) h
-settled_before f lane (OnFollows id other) s t b h = settled_same s t (spans_same b.1) h
-settled_before f lane (OnEvent e) s t b h = settled_same s t (spans_same b) h
-settled_before f lane (OnEnter id) s t b h = settled_same s t (spans_same b.state) h
-settled_before f lane (OnExit id) s t b h = settled_same s t (spans_same b.1) h
-settled_before f lane (OnIdChange id other) s t b h = absurd b
-settled_before f lane (OnClose id) s t b h = settled_same s t (spans_same b.1) h
+-- what the registry's own step makes of a notice: the store after it, which this registry has, extensions aside, on as many filters
+pub record StepsTo (f : Form) (lane : Lane) (e : Notice) (s t : RegistryState) : Type 0 where
+  pub after : Store
+  pub steps : Steps f (Noticed lane e) s.store after
+  pub given : SameAside (given_in e s.store after) t.store
+  pub left : SameAside after t.store
+  pub filters : t.filters ≡ s.filters
+  pub settled : IsSettled s.store.spans → IsSettled t.store.spans
 
 module _ {S : Type 0} {registry : S → RegistryState} {with_registry : S → RegistryState → S} {usable : S → Type 0} {has_form : S → Form → Type 0} {stepped : StackSteps S} {hears : HearSteps S} {registered : S → S → Type 0}
     (laws : StackLaws with_registry usable has_form stepped hears registered) (with_own : (s : S) → with_registry s (registry s) ≡ s) (levelled : LevelSteps S) where
@@ -134,14 +120,13 @@ module _ {S : Type 0} {registry : S → RegistryState} {with_registry : S → Re
   elsewhere f x y w e k = (k.0, subst (λ z. has_form z k.0) (sym e) (laws.form_with x w k.0 k.1), k.2)
 
   -- after a notice an honest stack is honest
-  pub honest_after : (f : Form) (lane : Lane) (e : Notice) (x y : S) → Honest f x → Notices registry with_registry has_form stepped levelled f lane e x y → StillHonest f x y
-  honest_after f lane e x y h n =
-      let next = laws.keeps x _ e lane.0 n.left n.notified (registry n.notified) f n.layers h.has in
-      followed f x y h (elsewhere f n.notified y (registry y) n.rest next) (filters_after e (registry n.notified) (registry y) n.after ∙ n.extensions.filters ∙ filters_before f lane e (registry x) n.left n.before)
+  pub honest_after : (f : Form) (lane : Lane) (e : Notice) (s t : Store) (x y : S) → Honest f x → Notices registry with_registry has_form stepped levelled f lane e s t x y → (registry y).filters ≡ (registry x).filters → StillHonest f x y
+  honest_after f lane e s t x y h n filters =
+      let next = laws.keeps x _ e lane.0 n.left n.notified (registry n.notified) f n.layers h.has in followed f x y h (elsewhere f n.notified y (registry y) n.rest next) filters
 
   -- after a quiet change it is
-  pub honest_quietly : (f : Form) (c : Change) (x y : S) → Honest f x → Quiets registry with_registry has_form stepped levelled c x y → StillHonest f x y
-  honest_quietly f c x y h q = followed f x y h (elsewhere f x y (registry y) q.rest (f, h.has, kept_form f)) (filters_changed c (registry x) (registry y) q.changes)
+  pub honest_quietly : (f : Form) (x y : S) → Honest f x → y ≡ with_registry x (registry y) → (registry y).filters ≡ (registry x).filters → StillHonest f x y
+  honest_quietly f x y h rest filters = followed f x y h (elsewhere f x y (registry y) rest (f, h.has, kept_form f)) filters
 
   -- ---- a call that is served by one outcome, or by none
 
@@ -152,50 +137,49 @@ module _ {S : Type 0} {registry : S → RegistryState} {with_registry : S → Re
   abbrev pub StillReady : Form → S → S → Type 0
   StillReady f x y = (g : Form) × Ready g y × Keeps f g × ((registry y).filters ≡ (registry x).filters)
 
-  -- it is served, and the stack is ready again where no span was closing
-  abbrev pub Done : Call → Answer → Form → Memory → S → Memory → S → Type 0
-  Done call a f memory x after y = ((made : List Made) × Serves registry with_registry has_form stepped levelled call f memory x a made after y) × (IsSettled (registry x).store.spans → StillReady f x y)
+  -- it is told, and the stack is ready again where no span was closing
+  abbrev pub Done : Call → Answer → Form → S → S → Type 0
+  Done call a f x y = IsTold registry with_registry has_form stepped levelled call f a x y × (IsSettled (registry x).store.spans → StillReady f x y)
 
-  pub by_none : (call : Call) (a : Answer) (f : Form) (memory : Memory) (x : S) (after : Memory) (y : S) → Honest f x → y ≡ x → Comes call memory f (registry x) a [] → KeepsAfter call memory f a after → Done call a f memory x after y
-  by_none call a f memory x after y h e c k =
-      (([], record { comes = c; goes = sym e; keeps = k }), λ s. (f, subst (Ready f) (sym e) (record { honest = h; settled = s }), kept_form f, ap (λ z. (registry z).filters) e))
+  pub by_none : (call : Call) (a : Answer) (f : Form) (x y : S) → Honest f x → y ≡ x → OutcomesOf (call, a) (registry x).store [] → (a ≡ answer.Dropped → IsUnwantedCall call f (registry x).store) → Done call a f x y
+  by_none call a f x y h e says loses =
+      (([], record { says = says; goes = sym e; loses = loses }), λ s. (f, subst (Ready f) (sym e) (record { honest = h; settled = s }), kept_form f, ap (λ z. (registry z).filters) e))
 
-  pub by_notice : (call : Call) (a : Answer) (f : Form) (lane : Lane) (e : Notice) (memory : Memory) (x : S) (after : Memory) (y : S) → Honest f x → Comes call memory f (registry x) a (Noticed lane e ∷ []) → KeepsAfter call memory f a after
-      → (n : Notices registry with_registry has_form stepped levelled f lane e x y) → (registry y).store.spans ≡ n.left.store.spans → Done call a f memory x after y
-  by_notice call a f lane e memory x after y h c k n same =
-      let m : Made = record { form = f; store = (registry x).store; given = n.left.store; outcome = Noticed lane e } in
-      let next = honest_after f lane e x y h n in (
-        (m ∷ [], record { comes = c; goes = (y, record { honest = h; store = refl; goes = n; given = refl }, refl); keeps = k }),
-        λ s. (next.0, record { honest = next.1; settled = subst IsSettled (sym same) (settled_before f lane e (registry x) n.left n.before s) }, next.2, next.3),
-      )
-
-  -- the same of a call of the stack, which notified by a plan that is the plan asked afresh
-  pub by_call : (call : Call) (a : Answer) (f : Form) (lane : Lane) (e : Notice) (refused : FilterSet) (step : RegistryState → RegistryState → Type 0) (memory : Memory) (x : S) (after : Memory) (y : S) → Honest f x → Comes call memory f (registry x) a (Noticed lane e ∷ [])
-      → KeepsAfter call memory f a after → (n : Notifies registry has_form stepped lane refused e step x y) → by_pass f e n.left.store.spans no_filter refused ≡ asked_afresh f e (registry x).store lane.0 no_filter
-      → StepsBefore f lane e (registry x) n.left → StepsAfter e (registry y) (registry y) → Done call a f memory x after y
-  by_call call a f lane e refused step memory x after y h c k n plan before ended =
-      by_notice call a f lane e memory x after y h c k (record {
+  -- a call of the stack, which notified by a plan that is the plan asked afresh
+  pub by_call : (call : Call) (a : Answer) (f : Form) (lane : Lane) (e : Notice) (refused : FilterSet) (step : RegistryState → RegistryState → Type 0) (x y : S) → Honest f x → OutcomesOf (call, a) (registry x).store (Noticed lane e ∷ []) → (a ≡ answer.Dropped → ⊥)
+      → (n : Notifies registry has_form stepped lane refused e step x y) → by_pass f e n.left.store.spans no_filter refused ≡ asked_afresh f e (registry x).store lane.0 no_filter → StepsTo f lane e (registry x) n.left → Done call a f x y
+  by_call call a f lane e refused step x y h says done n plan to =
+      let m : Made = record { form = f; before = (registry x).store; after = to.after; outcome = Noticed lane e } in
+      let notices : Notices registry with_registry has_form stepped levelled f lane e (registry x).store to.after x y = record {
         left = n.left;
-        before = before;
+        given = to.given;
         notified = y;
         layers = subst (λ p. stepped x p e lane.0 n.left y (registry y)) plan (n.notified f h.has h.rules.still);
-        extensions = n.extensions;
-        after = ended;
         rest = sym (with_own y);
-      }) n.extensions.spans
+      } in
+      let next = honest_after f lane e (registry x).store to.after x y h notices (n.extensions.filters ∙ to.filters) in (
+        (m ∷ [], record { says = says; goes = (y, record { honest = h; before = refl; steps = to.steps; after = aside_hooks to.after n.left (registry y) to.left n.extensions; layers = notices }, refl); loses = λ d. absurd (done d) }),
+        λ s. (next.0, record { honest = next.1; settled = subst IsSettled (sym n.extensions.spans) (to.settled s) }, next.2, next.3),
+      )
 
-  pub by_change : (call : Call) (a : Answer) (f : Form) (c : Change) (memory : Memory) (x : S) (after : Memory) (y : S) → Honest f x → Comes call memory f (registry x) a (Quiet c ∷ []) → KeepsAfter call memory f a after
-      → (q : Quiets registry with_registry has_form stepped levelled c x y) → (IsSettled (registry x).store.spans → IsSettled (registry y).store.spans) → Done call a f memory x after y
-  by_change call a f c memory x after y h comes k q s =
-      let m : Made = record { form = f; store = (registry x).store; given = (registry x).store; outcome = Quiet c } in
-      let next = honest_quietly f c x y h q in (
-        (m ∷ [], record { comes = comes; goes = (y, record { honest = h; store = refl; goes = q; given = refl }, refl); keeps = k }),
-        λ before. (next.0, record { honest = next.1; settled = s before }, next.2, next.3),
+  -- this was made by a quiet change
+  pub changed : (f : Form) (c : Change) (x y : S) (t : Store) → Honest f x → Steps f (Quiet c) (registry x).store t → SameAside t (registry y).store → y ≡ with_registry x (registry y)
+      → Makes registry with_registry has_form stepped levelled x (record { form = f; before = (registry x).store; after = t; outcome = Quiet c }) y
+  changed f c x y t h steps aside rest = record { honest = h; before = refl; steps = steps; after = aside; layers = rest }
+
+  pub by_change : (call : Call) (a : Answer) (f : Form) (c : Change) (x y : S) → Honest f x → OutcomesOf (call, a) (registry x).store (Quiet c ∷ []) → (a ≡ answer.Dropped → ⊥)
+      → (t : Store) → Steps f (Quiet c) (registry x).store t → SameAside t (registry y).store → y ≡ with_registry x (registry y) → (registry y).filters ≡ (registry x).filters → (IsSettled (registry x).store.spans → IsSettled (registry y).store.spans)
+      → Done call a f x y
+  by_change call a f c x y h says done t steps aside rest filters settled =
+      let m : Made = record { form = f; before = (registry x).store; after = t; outcome = Quiet c } in
+      let next = honest_quietly f x y h rest filters in (
+        (m ∷ [], record { says = says; goes = (y, changed f c x y t h steps aside rest, refl); loses = λ d. absurd (done d) }),
+        λ before. (next.0, record { honest = next.1; settled = settled before }, next.2, next.3),
       )
 
   -- a stack with another registry
-  pub quietly : ((s : S) (w : RegistryState) → registry (with_registry s w) ≡ w) → (c : Change) (x : S) (w : RegistryState) → Changes c (registry x) w → Quiets registry with_registry has_form stepped levelled c x (with_registry x w)
-  quietly registry_with c x w h = record { changes = subst (λ r. Changes c (registry x) r) (sym (registry_with x w)) h; rest = ap (λ r. with_registry x r) (sym (registry_with x w)) }
+  pub its_own : ((s : S) (w : RegistryState) → registry (with_registry s w) ≡ w) → (x : S) (w : RegistryState) → with_registry x w ≡ with_registry x (registry (with_registry x w))
+  its_own registry_with x w = ap (λ r. with_registry x r) (sym (registry_with x w))
 
 -- ---- a level that is set
 
@@ -208,29 +192,34 @@ module _ {S : Type 0} (registry : S → RegistryState) (with_registry : S → Re
       (k.0, record { has = k.1; rules = subst (λ (s : RegistryState). IsHonestStack k.0 s.filters) (sym same) (honesty_is_kept f k.0 (registry x).filters (level_rules n f k.0 k.2) h.rules) }, k.2)
 
   -- and so ready, where nothing is kept any more
-  pub ready_levelled : (f : Form) (n : ℕ) (l : LevelFilter) (old new : Dispatch S) → IsReadyBy registry with_registry has_form stepped levelled f old → levelled (stack_of old) n l (stack_of new) → registry (stack_of new) ≡ registry (stack_of old)
-      → ((g : Form) (m : ℕ) → KeepsUpToDate g m new) → IsReadyAfter registry with_registry has_form stepped levelled (LevelsForm n) f new
-  ready_levelled f n l old new h goes same kept =
+  pub ready_levelled : (Kept : Form → ℕ → Cache → Type 0) (f : Form) (n : ℕ) (l : LevelFilter) (old new : Dispatch S) → IsReadyWith registry with_registry has_form stepped levelled Kept f old → levelled (stack_of old) n l (stack_of new)
+      → registry (stack_of new) ≡ registry (stack_of old) → ((g : Form) (m : ℕ) → Kept g m new.cache) → IsReadyAfter registry with_registry has_form stepped levelled Kept (LevelsForm n) f new
+  ready_levelled Kept f n l old new h goes same kept =
       let k = honest_levelled f n l (stack_of old) (stack_of new) h.stack.honest goes same in
       (k.0, record { stack = record { honest = k.1; settled = subst (λ (s : RegistryState). IsSettled s.store.spans) (sym same) h.stack.settled }; kept = kept k.0 (registry (stack_of new)).filters }, k.2)
 
   -- a level was set
-  pub level_served : (f : Form) (n : ℕ) (l : LevelFilter) (memory : Memory) (x : S) (after : Memory) (y : S) → IsHonest registry with_registry has_form stepped levelled f x → takes_level f n l ≡ true → levelled x n l y → registry y ≡ registry x → after ≡ option_map (λ callsites. no_callsite) memory
-      → (made : List Made) × Serves registry with_registry has_form stepped levelled (SetLevel n l) f memory x answer.Done made after y
-  level_served f n l memory x after y h taken goes same kept =
-      let m : Made = record { form = f; store = (registry x).store; given = (registry x).store; outcome = LevelSet n l } in
-      (m ∷ [], record { comes = (taken, refl); goes = (y, record { honest = h; store = refl; goes = record { taken = taken; goes = goes; same = same }; given = refl }, refl); keeps = kept })
+  pub level_told : (f : Form) (n : ℕ) (l : LevelFilter) (x y : S) → IsHonest registry with_registry has_form stepped levelled f x → takes_level f n l ≡ true → levelled x n l y → registry y ≡ registry x
+      → IsTold registry with_registry has_form stepped levelled (SetLevel n l) f answer.Done x y
+  level_told f n l x y h taken goes same =
+      let m : Made = record { form = f; before = (registry x).store; after = (registry x).store; outcome = LevelSet n l } in
+      (m ∷ [], record { says = refl; goes = (y, record { honest = h; before = refl; steps = refl; after = aside_state (registry x) (registry y) same; layers = record { taken = taken; goes = goes; same = same } }, refl); loses = λ d. absurd (cc) })
 
   -- or it wasn't, and nothing changed
-  pub level_refused : (f : Form) (n : ℕ) (l : LevelFilter) (memory : Memory) (x y : S) → takes_level f n l ≡ false → y ≡ x
-      → (made : List Made) × Serves registry with_registry has_form stepped levelled (SetLevel n l) f memory x (answer.Refused (NotSettable n)) made memory y
-  level_refused f n l memory x y none same = ([], record { comes = ((refl, none), refl); goes = sym same; keeps = refl })
+  pub level_refused : (f : Form) (n : ℕ) (l : LevelFilter) (x y : S) → y ≡ x → IsTold registry with_registry has_form stepped levelled (SetLevel n l) f (answer.Refused (NotSettable n)) x y
+  level_refused f n l x y same = ([], record { says = refl; goes = sym same; loses = λ d. absurd (cc) })
 
 -- a cache that forgot is up to date, and keeps no callsite
 pub forgotten_current : (f : Form) (n : ℕ) (c : Cache) → IsUpToDate f n (forgotten c)
 forgotten_current f n cache.Off = tt
 forgotten_current f n cache.Empty = tt
 forgotten_current f n (cache.Filled k) = tt
+
+-- and loses nothing
+pub forgotten_safe : (f : Form) (n : ℕ) (c : Cache) → KeepsSafely f n (forgotten c)
+forgotten_safe f n cache.Off = tt
+forgotten_safe f n cache.Empty = tt
+forgotten_safe f n (cache.Filled k) = tt
 
 pub forgotten_kept : (c : Cache) → kept_in (forgotten c) ≡ option_map (λ callsites. no_callsite) (kept_in c)
 forgotten_kept cache.Off = refl
@@ -252,43 +241,46 @@ up_to_date_again f g n cache.Off e h = h
 up_to_date_again f g n cache.Empty e h = h
 up_to_date_again f g n (cache.Filled k) e h = current_again f g n k e h
 
+-- what is said of what is kept holds by a form that keeps another
+abbrev pub HoldsAgain : (Form → ℕ → Cache → Type 0) → Type 0
+HoldsAgain Kept = (f g : Form) (n : ℕ) (c : Cache) → Keeps f g → Kept f n c → Kept g n c
+
 module _ {S : Type 0} (registry : S → RegistryState) (with_registry : S → RegistryState → S) (has_form : S → Form → Type 0) (stepped : StackSteps S) (levelled : LevelSteps S) where
-  -- whose stack is ready again, and which keeps what the old stack would answer
-  pub ready_again : (f : Form) (old new : Dispatch S)
-      → (g : Form) × IsReady registry with_registry has_form stepped levelled g (stack_of new) × Keeps f g × ((registry (stack_of new)).filters ≡ (registry (stack_of old)).filters) → KeepsUpToDate f (registry (stack_of old)).filters new
-      → IsReadyAfter registry with_registry has_form stepped levelled Keeps f new
-  ready_again f old new h k = (h.0, record { stack = h.1; kept = subst (λ n. IsUpToDate h.0 n new.cache) (sym h.3) (up_to_date_again f h.0 (registry (stack_of old)).filters new.cache h.2 k) }, h.2)
+  module _ (Kept : Form → ℕ → Cache → Type 0) where
+    abbrev pub ReadyWith : Form → Dispatch S → Type 0
+    ReadyWith f d = IsReadyWith registry with_registry has_form stepped levelled Kept f d
 
-  -- a stack that stays as it is, or is the same, is ready by the form that it had
-  pub stays_so : (f : Form) (old new : Dispatch S) → stack_of new ≡ stack_of old → KeepsUpToDate f (registry (stack_of old)).filters new → IsReadyBy registry with_registry has_form stepped levelled f old → IsReadyAfter registry with_registry has_form stepped levelled Keeps f new
-  stays_so f old new e k h =
-      ready_again f old new (f, subst (λ x. IsReady registry with_registry has_form stepped levelled f x) (sym e) h.stack, kept_form f, ap (λ x. (registry x).filters) e) k
+    abbrev pub AfterWith : (Form → Form → Type 0) → Form → Dispatch S → Type 0
+    AfterWith keeps f d = IsReadyAfter registry with_registry has_form stepped levelled Kept keeps f d
 
-  -- one that is as it was
-  pub stays_same : (f : Form) (old new : Dispatch S) → new ≡ old → IsReadyBy registry with_registry has_form stepped levelled f old → IsReadyAfter registry with_registry has_form stepped levelled Keeps f new
-  stays_same f old new e h = (f, subst (λ d. IsReadyBy registry with_registry has_form stepped levelled f d) (sym e) h, kept_form f)
+    -- whose stack is ready again, and which keeps what the old stack would answer
+    pub ready_again : HoldsAgain Kept → (f : Form) (old new : Dispatch S)
+        → (g : Form) × IsReady registry with_registry has_form stepped levelled g (stack_of new) × Keeps f g × ((registry (stack_of new)).filters ≡ (registry (stack_of old)).filters) → Kept f (registry (stack_of old)).filters new.cache → AfterWith Keeps f new
+    ready_again again f old new h k = (h.0, record { stack = h.1; kept = subst (λ n. Kept h.0 n new.cache) (sym h.3) (again f h.0 (registry (stack_of old)).filters new.cache h.2 k) }, h.2)
 
-  pub same_but : (f : Form) (n : ℕ) (old new : Dispatch S) → new ≡ old → IsReadyBy registry with_registry has_form stepped levelled f old → IsReadyAfter registry with_registry has_form stepped levelled (LevelsForm n) f new
-  same_but f n old new e h = (f, subst (λ d. IsReadyBy registry with_registry has_form stepped levelled f d) (sym e) h, same_levels n f)
+    -- a stack that stays as it is, or is the same, is ready by the form that it had
+    pub stays_so : HoldsAgain Kept → (f : Form) (old new : Dispatch S) → stack_of new ≡ stack_of old → Kept f (registry (stack_of old)).filters new.cache → ReadyWith f old → AfterWith Keeps f new
+    stays_so again f old new e k h = ready_again again f old new (f, subst (λ x. IsReady registry with_registry has_form stepped levelled f x) (sym e) h.stack, kept_form f, ap (λ x. (registry x).filters) e) k
 
-  -- also where a level was to be set
-  pub stays_but : (f : Form) (n : ℕ) (old new : Dispatch S) → stack_of new ≡ stack_of old → KeepsUpToDate f (registry (stack_of old)).filters new → IsReadyBy registry with_registry has_form stepped levelled f old → IsReadyAfter registry with_registry has_form stepped levelled (LevelsForm n) f new
-  stays_but f n old new e k h = (f, record { stack = subst (λ x. IsReady registry with_registry has_form stepped levelled f x) (sym e) h.stack; kept = subst (λ x. KeepsUpToDate f (registry x).filters new) (sym e) k }, same_levels n f)
+    -- one that is as it was
+    pub stays_same : (f : Form) (old new : Dispatch S) → new ≡ old → ReadyWith f old → AfterWith Keeps f new
+    stays_same f old new e h = (f, subst (λ d. ReadyWith f d) (sym e) h, kept_form f)
 
-  -- whatever it keeps, it keeps the rules
-  pub by_keeping : (f : Form) (d : Dispatch S) → IsReadyAfter registry with_registry has_form stepped levelled Keeps f d → IsReadyAfter registry with_registry has_form stepped levelled KeepsRules f d
-  by_keeping f d h = (h.0, h.1, kept_rules f h.0 h.2)
+    pub same_but : (f : Form) (n : ℕ) (old new : Dispatch S) → new ≡ old → ReadyWith f old → AfterWith (LevelsForm n) f new
+    same_but f n old new e h = (f, subst (λ d. ReadyWith f d) (sym e) h, same_levels n f)
 
-  pub by_level : (n : ℕ) (f : Form) (d : Dispatch S) → IsReadyAfter registry with_registry has_form stepped levelled (LevelsForm n) f d → IsReadyAfter registry with_registry has_form stepped levelled KeepsRules f d
-  by_level n f d h = (h.0, h.1, level_rules n f h.0 h.2)
+    -- whatever it keeps, it keeps the rules
+    pub by_keeping : (f : Form) (d : Dispatch S) → AfterWith Keeps f d → AfterWith KeepsRules f d
+    by_keeping f d h = (h.0, h.1, kept_rules f h.0 h.2)
 
-  -- one that is new, and keeps nothing yet
-  pub first_ready : (f : Form) (x : S) (d : Dispatch S)
-      → (g : Form) × IsReady registry with_registry has_form stepped levelled g (stack_of d) × Keeps f g × ((registry (stack_of d)).filters ≡ (registry x).filters) → ((g : Form) (n : ℕ) → KeepsUpToDate g n d)
-      → IsReadyAfter registry with_registry has_form stepped levelled Keeps f d
-  first_ready f x d h k = (h.0, record { stack = h.1; kept = k h.0 (registry (stack_of d)).filters }, h.2)
+    pub by_level : (n : ℕ) (f : Form) (d : Dispatch S) → AfterWith (LevelsForm n) f d → AfterWith KeepsRules f d
+    by_level n f d h = (h.0, h.1, level_rules n f h.0 h.2)
+
+    -- one that is new, and keeps nothing yet
+    pub first_ready : (f : Form) (x : S) (d : Dispatch S)
+        → (g : Form) × IsReady registry with_registry has_form stepped levelled g (stack_of d) × Keeps f g × ((registry (stack_of d)).filters ≡ (registry x).filters) → ((g : Form) (n : ℕ) → Kept g n d.cache) → AfterWith Keeps f d
+    first_ready f x d h k = (h.0, record { stack = h.1; kept = k h.0 (registry (stack_of d)).filters }, h.2)
 
   -- a call that leaves the stack as it is
-  pub same_stack : (call : Call) (f : Form) (a : Answer) (old new : Dispatch S) → stack_of new ≡ stack_of old → (made : List Made) × Serves registry with_registry has_form stepped levelled call f (kept_by old) (stack_of old) a made (kept_by new) (stack_of old)
-      → ServesCall registry with_registry has_form stepped levelled call f a old new
-  same_stack call f a old new e h = (h.0, subst (λ y. Serves registry with_registry has_form stepped levelled call f (kept_by old) (stack_of old) a h.0 (kept_by new) y) (sym e) h.1)
+  pub same_stack : (call : Call) (f : Form) (a : Answer) (old new : Dispatch S) → stack_of new ≡ stack_of old → IsTold registry with_registry has_form stepped levelled call f a (stack_of old) (stack_of old) → IsTold registry with_registry has_form stepped levelled call f a (stack_of old) (stack_of new)
+  same_stack call f a old new e h = (h.0, subst (λ y. Tells registry with_registry has_form stepped levelled call f (stack_of old) a h.0 y) (sym e) h.1)

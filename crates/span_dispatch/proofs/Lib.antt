@@ -12,6 +12,7 @@ mod KeptHint
 mod Legal
 mod Once
 mod Readable
+mod Ready
 pub mod Seen
 mod Served
 mod Stores

@@ -9,15 +9,15 @@ use Rattle.std.specs.Ordering.{eq_by_cmp, nat_cmp}
 use Rattle.span_core.specs.Span.{number_of}
 use Rattle.span_core.specs.declared.span.Id.{Id}
 use Rattle.span_core.specs.declared.span.Lane.{Lane}
-use Rattle.span_dispatch.specs.Outcome.{Change, Changes, GoesOn, GoneLeft, HandleAdded, HandleTaken, LevelSet, Made, Makes, Noticed, Notices, Outcome, Quiet, StepsAfter, StepsBefore}
+use Rattle.span_dispatch.specs.Outcome.{GoneLeft, HandleAdded, HandleTaken, LevelSet, Made, Makes, Noticed, Opened, Outcome, Quiet, Steps}
+use Rattle.span_core.specs.declared.span.Attributes.{Attributes}
 use Rattle.span_dispatch.specs.Serve.{StandOnce, closed_by, closed_in}
 use Rattle.span_registry.proofs.Chains.{get_beside, get_kept, get_removed, same_test, test_same}
-use Rattle.span_registry.specs.Answers.{Notice, OnClose, OnEnter, OnEvent, OnExit, OnFollows, OnIdChange, OnNewSpan, OnRecord}
+use Rattle.span_registry.specs.Answers.{OnClose, OnEnter, OnEvent, OnExit, OnFollows, OnIdChange, OnNewSpan, OnRecord}
 use Rattle.span_registry.specs.Closes.{Member}
 use Rattle.span_registry.specs.Form.{Form}
 use Rattle.span_registry.specs.Hooks.{StackSteps}
 use Rattle.span_registry.specs.Levels.{LevelSteps}
-use Rattle.span_registry.specs.Step.{Opens, Removes}
 use Rattle.span_registry.specs.Store.{AreIssued, IsInStore, RegistryState, Span, Spans, Store, with_handles}
 
 -- from one store to the next: issued ids stay issued, one that isn't in the store stays out of it, and all in it are issued
@@ -38,8 +38,8 @@ onward_shrinks s t e back =
 onward_same : (s t : Store) → t.issued ≡ s.issued → t.spans ≡ s.spans → Onward s t
 onward_same s t e f = onward_shrinks s t e (λ c h. subst (λ (m : Spans). IsInStore m c) f h)
 
-store_same : (s t : RegistryState) → t ≡ s → Onward s.store t.store
-store_same s t e = onward_same s.store t.store (ap (λ (r : RegistryState). r.store.issued) e) (ap (λ (r : RegistryState). r.store.spans) e)
+store_same : (s t : Store) → t ≡ s → Onward s t
+store_same s t e = onward_same s t (ap (λ (r : Store). r.issued) e) (ap (λ (r : Store). r.spans) e)
 
 -- a span is opened under an id that was never issued
 opened_back : (s : Store) (x : ℕ) (r : Span) (c : ℕ) → contains s.issued x ≡ false → IsInStore (insert s.spans x r) c → contains s.issued c ≡ true → IsInStore s.spans c
@@ -57,15 +57,15 @@ opened_sound s x r sound c h = issued_itself s x c ∙ by_test (eq_by_cmp nat_cm
     by_test true e = refl
     by_test false e = sound c (h.0, sym (get_beside s.spans x r c (λ same. true≢false (sym (same_test c x same) ∙ e))) ∙ h.1)
 
-onward_opened : (lane : Lane) (span : Rattle.span_registry.specs.Step.AskedSpan) (id : Id) (s t : RegistryState) → Opens lane span id s t → Onward s.store t.store
-onward_opened lane span id s t o =
+onward_opened : (f : Form) (lane : Lane) (attrs : Attributes) (id : Id) (s t : Store) → Opened f lane attrs id s t → Onward s t
+onward_opened f lane attrs id s t o =
     let x = number_of id in
-    let spans = ap (λ (r : RegistryState). r.store.spans) o.state in
-    let issued = ap (λ (r : RegistryState). r.store.issued) o.state in
+    let spans = ap (λ (r : Store). r.spans) o.state in
+    let issued = ap (λ (r : Store). r.issued) o.state in
     record {
-      issued = λ c h. ap (λ i. contains i c) issued ∙ issued_itself s.store x c ∙ or_right (eq_by_cmp nat_cmp c x) _ h;
-      back = λ c h k. opened_back s.store x _ c o.fresh (subst (λ (m : Spans). IsInStore m c) spans h) k;
-      sound = λ h c k. ap (λ i. contains i c) issued ∙ opened_sound s.store x _ h c (subst (λ (m : Spans). IsInStore m c) spans k);
+      issued = λ c h. ap (λ i. contains i c) issued ∙ issued_itself s x c ∙ or_right (eq_by_cmp nat_cmp c x) _ h;
+      back = λ c h k. opened_back s x _ c o.fresh (subst (λ (m : Spans). IsInStore m c) spans h) k;
+      sound = λ h c k. ap (λ i. contains i c) issued ∙ opened_sound s x _ h c (subst (λ (m : Spans). IsInStore m c) spans k);
     }
 
 -- a span's handles make no difference to which are in the store
@@ -87,38 +87,22 @@ removed_back m x c h = by_test (eq_by_cmp nat_cmp c x) refl
         absurd no
     by_test false t = (h.0, sym (get_kept m x c (λ same. true≢false (sym (same_test c x same) ∙ t))) ∙ h.1)
 
-onward_removed : (id : Id) (next : Option Id) (s t : RegistryState) → Removes id next s t → Onward s.store t.store
-onward_removed id next s t r =
-    onward_shrinks s.store t.store (ap (λ (u : Store). u.issued) r.taken.store) (λ c h. removed_back s.store.spans (number_of id) c (subst (λ (m : Spans). IsInStore m c) (ap (λ (u : Store). u.spans) r.taken.store) h))
-
-onward_changed : (k : Change) (s t : RegistryState) → Changes k s t → Onward s.store t.store
-onward_changed (HandleAdded id) s t c =
-    onward_shrinks s.store t.store (ap (λ (r : RegistryState). r.store.issued) c.state)
-    (λ y h. handles_back _ s.store.spans (number_of id) y (get s.store.spans (number_of id)) refl (subst (λ (m : Spans). IsInStore m y) (ap (λ (r : RegistryState). r.store.spans) c.state) h))
-onward_changed (HandleTaken id) s t c =
-    onward_shrinks s.store t.store (ap (λ (r : RegistryState). r.store.issued) c.1)
-    (λ y h. handles_back _ s.store.spans (number_of id) y (get s.store.spans (number_of id)) refl (subst (λ (m : Spans). IsInStore m y) (ap (λ (r : RegistryState). r.store.spans) c.1) h))
-onward_changed (GoneLeft lane id) s t c = onward_same s.store t.store (ap (λ (r : RegistryState). r.store.issued) c.1) (ap (λ (r : RegistryState). r.store.spans) c.1)
-
-onward_before : (f : Form) (lane : Lane) (e : Notice) (s t : RegistryState) → StepsBefore f lane e s t → Onward s.store t.store
-onward_before f lane (OnNewSpan attrs id) s t b = onward_opened lane _ id s t b.2
-onward_before f lane (OnRecord id values) s t b = store_same s t b.1
-onward_before f lane (OnFollows id other) s t b = store_same s t b.1
-onward_before f lane (OnEvent e) s t b = store_same s t b
-onward_before f lane (OnEnter id) s t b = onward_same s.store t.store (ap (λ (r : RegistryState). r.store.issued) b.state) (ap (λ (r : RegistryState). r.store.spans) b.state)
-onward_before f lane (OnExit id) s t b = onward_same s.store t.store (ap (λ (r : RegistryState). r.store.issued) b.1) (ap (λ (r : RegistryState). r.store.spans) b.1)
-onward_before f lane (OnIdChange id other) s t b = absurd b
-onward_before f lane (OnClose id) s t b = store_same s t b.1
-
-onward_after : (e : Notice) (s t : RegistryState) → StepsAfter e s t → Onward s.store t.store
-onward_after (OnNewSpan attrs id) s t b = store_same s t b
-onward_after (OnRecord id values) s t b = store_same s t b
-onward_after (OnFollows id other) s t b = store_same s t b
-onward_after (OnEvent e) s t b = store_same s t b
-onward_after (OnEnter id) s t b = store_same s t b
-onward_after (OnExit id) s t b = store_same s t b
-onward_after (OnIdChange id other) s t b = store_same s t b
-onward_after (OnClose id) s t b = onward_removed id b.0 s t b.1
+onward_steps : (f : Form) (o : Outcome) (s t : Store) → Steps f o s t → Onward s t
+onward_steps f (Noticed lane (OnNewSpan attrs id)) s t b = onward_opened f lane attrs id s t b
+onward_steps f (Noticed lane (OnRecord id values)) s t b = store_same s t b.1
+onward_steps f (Noticed lane (OnFollows id other)) s t b = store_same s t b.1
+onward_steps f (Noticed lane (OnEvent e)) s t b = store_same s t b
+onward_steps f (Noticed lane (OnEnter id)) s t b = onward_same s t (ap (λ (r : Store). r.issued) b.1) (ap (λ (r : Store). r.spans) b.1)
+onward_steps f (Noticed lane (OnExit id)) s t b = onward_same s t (ap (λ (r : Store). r.issued) b.1) (ap (λ (r : Store). r.spans) b.1)
+onward_steps f (Noticed lane (OnIdChange id other)) s t b = absurd b
+onward_steps f (Noticed lane (OnClose id)) s t b =
+    onward_shrinks s t (ap (λ (u : Store). u.issued) b.1) (λ c h. removed_back s.spans (number_of id) c (subst (λ (m : Spans). IsInStore m c) (ap (λ (u : Store). u.spans) b.1) h))
+onward_steps f (Quiet (HandleAdded id)) s t b =
+    onward_shrinks s t (ap (λ (r : Store). r.issued) b.1) (λ y h. handles_back _ s.spans (number_of id) y (get s.spans (number_of id)) refl (subst (λ (m : Spans). IsInStore m y) (ap (λ (r : Store). r.spans) b.1) h))
+onward_steps f (Quiet (HandleTaken id)) s t b =
+    onward_shrinks s t (ap (λ (r : Store). r.issued) b.1) (λ y h. handles_back _ s.spans (number_of id) y (get s.spans (number_of id)) refl (subst (λ (m : Spans). IsInStore m y) (ap (λ (r : Store). r.spans) b.1) h))
+onward_steps f (Quiet (GoneLeft lane id)) s t b = onward_same s t (ap (λ (r : Store). r.issued) b.1) (ap (λ (r : Store). r.spans) b.1)
+onward_steps f (LevelSet n l) s t b = store_same s t b
 
 -- ---- lists of closes
 
@@ -141,41 +125,41 @@ closes_join (Quiet c) ys h k = h
 closes_join (LevelSet n l) ys h k = h
 
 module _ {S : Type 0} (registry : S → RegistryState) (with_registry : S → RegistryState → S) (has_form : S → Form → Type 0) (stepped : StackSteps S) (levelled : LevelSteps S) where
-  onward_notice : (f : Form) (lane : Lane) (e : Notice) (x y : S) → Notices registry with_registry has_form stepped levelled f lane e x y → Onward (registry x).store (registry y).store
-  onward_notice f lane e x y n =
-      onward_further (registry x).store n.left.store (registry y).store (onward_before f lane e (registry x) n.left n.before)
-      (onward_further n.left.store (registry n.notified).store (registry y).store (onward_same n.left.store (registry n.notified).store n.extensions.issued n.extensions.spans) (onward_after e (registry n.notified) (registry y) n.after))
-
-  onward_on : (f : Form) (o : Outcome) (x y : S) → GoesOn registry with_registry has_form stepped levelled f o x y → Onward (registry x).store (registry y).store
-  onward_on f (Noticed lane e) x y g = onward_notice f lane e x y g
-  onward_on f (Quiet c) x y g = onward_changed c (registry x) (registry y) g.changes
-  onward_on f (LevelSet n l) x y g = store_same (registry x) (registry y) g.same
+  onward_on : (x : S) (m : Made) (y : S) → Makes registry with_registry has_form stepped levelled x m y → Onward (registry x).store (registry y).store
+  onward_on x m y h =
+      subst (λ (u : Store). Onward u (registry y).store) h.before
+      (onward_further m.before m.after (registry y).store (onward_steps m.form m.outcome m.before m.after h.steps) (onward_same m.after (registry y).store h.after.issued h.after.spans))
 
   -- what closes by an outcome was in the store, and isn't any more
-  closing_on : (f : Form) (o : Outcome) (x y : S) (c : ℕ) → GoesOn registry with_registry has_form stepped levelled f o x y → Member c (closed_by o) → IsInStore (registry x).store.spans c × (IsInStore (registry y).store.spans c → ⊥)
-  closing_on f (Noticed lane (OnNewSpan attrs id)) x y c g h = absurd h
-  closing_on f (Noticed lane (OnRecord id values)) x y c g h = absurd h
-  closing_on f (Noticed lane (OnFollows id other)) x y c g h = absurd h
-  closing_on f (Noticed lane (OnEvent e)) x y c g h = absurd h
-  closing_on f (Noticed lane (OnEnter id)) x y c g h = absurd h
-  closing_on f (Noticed lane (OnExit id)) x y c g h = absurd h
-  closing_on f (Noticed lane (OnIdChange id other)) x y c g h = absurd h
-  closing_on f (Quiet k) x y c g h = absurd h
-  closing_on f (LevelSet n l) x y c g h = absurd h
-  closing_on f (Noticed lane (OnClose id)) x y c g (inr h) = absurd h
-  closing_on f (Noticed lane (OnClose id)) x y c g (inl e) =
-      let gone : get (registry y).store.spans (number_of id) ≡ None = ap (λ (u : Store). get u.spans (number_of id)) g.after.1.taken.store ∙ get_removed (registry g.notified).store.spans (number_of id) in (
-        subst (IsInStore (registry x).store.spans) (sym e) (g.before.0.0, g.before.0.1),
-        λ h. let there : Some h.0 ≡ None = sym h.1 ∙ ap (get (registry y).store.spans) e ∙ gone in let no : ⊥ = cc in no,
+  closing_step : (f : Form) (o : Outcome) (s t : Store) (c : ℕ) → Steps f o s t → Member c (closed_by o) → IsInStore s.spans c × (IsInStore t.spans c → ⊥)
+  closing_step f (Noticed lane (OnNewSpan attrs id)) s t c g h = absurd h
+  closing_step f (Noticed lane (OnRecord id values)) s t c g h = absurd h
+  closing_step f (Noticed lane (OnFollows id other)) s t c g h = absurd h
+  closing_step f (Noticed lane (OnEvent e)) s t c g h = absurd h
+  closing_step f (Noticed lane (OnEnter id)) s t c g h = absurd h
+  closing_step f (Noticed lane (OnExit id)) s t c g h = absurd h
+  closing_step f (Noticed lane (OnIdChange id other)) s t c g h = absurd h
+  closing_step f (Quiet k) s t c g h = absurd h
+  closing_step f (LevelSet n l) s t c g h = absurd h
+  closing_step f (Noticed lane (OnClose id)) s t c g (inr h) = absurd h
+  closing_step f (Noticed lane (OnClose id)) s t c g (inl e) =
+      let gone : get t.spans (number_of id) ≡ None = ap (λ (u : Store). get u.spans (number_of id)) g.1 ∙ get_removed s.spans (number_of id) in (
+        subst (IsInStore s.spans) (sym e) (g.0.0, g.0.1),
+        λ h. let there : Some h.0 ≡ None = sym h.1 ∙ ap (get t.spans) e ∙ gone in let no : ⊥ = cc in no,
       )
+
+  closing_on : (x : S) (m : Made) (y : S) (c : ℕ) → Makes registry with_registry has_form stepped levelled x m y → Member c (closed_by m.outcome) → IsInStore (registry x).store.spans c × (IsInStore (registry y).store.spans c → ⊥)
+  closing_on x m y c h k =
+      let both = closing_step m.form m.outcome m.before m.after c h.steps k in
+      (subst (λ (u : Store). IsInStore u.spans c) h.before both.0, λ there. both.1 (subst (λ (v : Spans). IsInStore v c) h.after.spans there))
 
   -- an issued id that isn't in the store closes no more
   never_again : (x : S) (ms : List Made) (y : S) (c : ℕ) → FoldsTo (Makes registry with_registry has_form stepped levelled) x ms y → contains (registry x).store.issued c ≡ true → (IsInStore (registry x).store.spans c → ⊥) → Member c (closed_in ms) → ⊥
   never_again x [] y c h issued out k = k
   never_again x (m ∷ ms) y c h issued out k =
-      let on = onward_on m.form m.outcome x h.0 h.1.goes in
+      let on = onward_on x m h.0 h.1 in
       elim (member_split (closed_by m.outcome) (closed_in ms) c k) [
-        | inl now ↦ out (closing_on m.form m.outcome x h.0 c h.1.goes now).0
+        | inl now ↦ out (closing_on x m h.0 c h.1 now).0
         | inr later ↦ never_again h.0 ms y c h.2 (on.issued c issued) (λ k. out (on.back c k issued)) later
       ]
 
@@ -183,6 +167,6 @@ module _ {S : Type 0} (registry : S → RegistryState) (with_registry : S → Re
   pub closed_once : (x : S) (ms : List Made) (y : S) → AreIssued (registry x).store → FoldsTo (Makes registry with_registry has_form stepped levelled) x ms y → StandOnce (closed_in ms)
   closed_once x [] y sound h = tt
   closed_once x (m ∷ ms) y sound h =
-      let on = onward_on m.form m.outcome x h.0 h.1.goes in
+      let on = onward_on x m h.0 h.1 in
       closes_join m.outcome (closed_in ms) (closed_once h.0 ms y (on.sound sound) h.2)
-      (λ c now later. let both = closing_on m.form m.outcome x h.0 c h.1.goes now in never_again h.0 ms y c h.2 (on.issued c (sound c both.0)) both.1 later)
+      (λ c now later. let both = closing_on x m h.0 c h.1 now in never_again h.0 ms y c h.2 (on.issued c (sound c both.0)) both.1 later)

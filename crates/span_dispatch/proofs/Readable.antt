@@ -14,7 +14,7 @@ use Rattle.span_core.specs.declared.span.Lane.{Lane}
 use Rattle.span_dispatch.proofs.Alone.{no_verdict, on_path, verdict_of_path}
 use Rattle.span_dispatch.proofs.Seen.{beneath, some_path}
 use Rattle.span_dispatch.specs.Alone.{lone, passed, seen}
-use Rattle.span_dispatch.specs.Outcome.{GoesOn, IsGiven, LevelSet, Made, Makes, Noticed, Outcome, Quiet, StepsBefore}
+use Rattle.span_dispatch.specs.Outcome.{LevelSet, Made, Makes, Noticed, Outcome, Quiet, Steps, given_in}
 use Rattle.span_dispatch.specs.Readable.{ClosesAsItOpened, ShowTheirSpans, ShowsItsSpan}
 use Rattle.span_layers.specs.Verdict.{AreDistinct, in_verdict, numbers_of}
 use Rattle.span_registry.proofs.Chains.{get_put}
@@ -117,51 +117,42 @@ module _ {S : Type 0} (registry : S → RegistryState) (with_registry : S → Re
       shown_passed given lane mask id (ap (λ (m : Spans). is_passed m mask id) same ∙ passed_down s.spans id path e s lane no_filter asks (passed_by_none (get s.spans (number_of id)) r there) h)
 
   -- the notice that a leaf's path passes is of a span that its context shows
-  told_of_span : (f : Form) (place : Place) (path : Path) (lane : Lane) (e : Notice) (s t : RegistryState) → AreDistinct f → path_at f place ≡ Some path → StepsBefore f lane e s t → passes_path path e s.store lane.0 no_filter ≡ true
-      → ShowsItsSpan (told_in e t.store lane.0 (mask_of path no_filter))
-  told_of_span f place path lane (OnNewSpan attrs id) s t d at before h =
+  told_of_span : (f : Form) (place : Place) (path : Path) (lane : Lane) (e : Notice) (s t : Store) → AreDistinct f → path_at f place ≡ Some path → Steps f (Noticed lane e) s t → passes_path path e s lane.0 no_filter ≡ true
+      → ShowsItsSpan (told_in e (given_in e s t) lane.0 (mask_of path no_filter))
+  told_of_span f place path lane (OnNewSpan attrs id) s t d at step h =
       let mask = mask_of path no_filter in
-      let r = begun (record { metadata = metadata_of attrs; parent = asked_parent attrs; verdict = before.0 }) before.2.parent in
-      let spans : t.store.spans ≡ insert s.store.spans (number_of id) r = ap (λ (u : RegistryState). u.store.spans) before.2.state in
-      let none = hides_none mask (refuses before.0) (λ k k_in.
+      let r = begun (record { metadata = metadata_of attrs; parent = asked_parent attrs; verdict = step.verdict }) step.parent in
+      let spans : t.spans ≡ insert s.spans (number_of id) r = ap (λ (u : Store). u.spans) step.state in
+      let none = hides_none mask (refuses step.verdict) (λ k k_in.
       let own = in_mask path no_filter k k_in in
-      before.1 k ∙ verdict_of_path f place path (metadata_of attrs) s.store lane.0 no_filter k d at own ∙ none_refuses path attrs id s.store lane.0 no_filter k h) in
-      let passed_now : is_passed t.store.spans mask id ≡ true =
-      ap (λ (m : Spans). is_passed m mask id) spans ∙ ap (λ (o : Option Span). option_map_or (λ q. not (meets mask (refuses q.verdict))) o false) (get_put s.store.spans (number_of id) r) ∙ ap not none in
-      shown_passed t.store lane.0 mask id passed_now
-  told_of_span f place path lane (OnRecord id values) s t d at before h =
-      told_of_one path (OnRecord id values) s.store t.store lane.0 id before.0.0 (ap (λ (u : RegistryState). u.store.spans) before.1) before.0.1 (λ a set p. p) h
-  told_of_span f place path lane (OnFollows id other) s t d at before h =
-      told_of_one path (OnFollows id other) s.store t.store lane.0 id before.0.0 (ap (λ (u : RegistryState). u.store.spans) before.1) before.0.1
-      (λ a set p. (and_parts (is_passed s.store.spans set id) (is_passed s.store.spans set other) p).0) h
-  told_of_span f place path lane (OnEvent e) s t d at before h = tt
-  told_of_span f place path lane (OnEnter id) s t d at before h =
-      told_of_one path (OnEnter id) s.store t.store lane.0 id before.is_open.0 (ap (λ (u : RegistryState). u.store.spans) before.state) before.is_open.1 (λ a set p. p) h
-  told_of_span f place path lane (OnExit id) s t d at before h =
-      told_of_one path (OnExit id) s.store t.store lane.0 id before.0.0 (ap (λ (u : RegistryState). u.store.spans) before.1) before.0.1 (λ a set p. p) h
-  told_of_span f place path lane (OnIdChange id other) s t d at before h = absurd before
-  told_of_span f place path lane (OnClose id) s t d at before h =
-      told_of_one path (OnClose id) s.store t.store lane.0 id before.0.0 (ap (λ (u : RegistryState). u.store.spans) before.1) before.0.1 (λ a set p. p) h
+      step.refused k ∙ verdict_of_path f place path (metadata_of attrs) s lane.0 no_filter k d at own ∙ none_refuses path attrs id s lane.0 no_filter k h) in
+      let passed_now : is_passed t.spans mask id ≡ true =
+      ap (λ (m : Spans). is_passed m mask id) spans ∙ ap (λ (o : Option Span). option_map_or (λ q. not (meets mask (refuses q.verdict))) o false) (get_put s.spans (number_of id) r) ∙ ap not none in
+      shown_passed t lane.0 mask id passed_now
+  told_of_span f place path lane (OnRecord id values) s t d at step h = told_of_one path (OnRecord id values) s t lane.0 id step.0.0 (ap (λ (u : Store). u.spans) step.1) step.0.1 (λ a set p. p) h
+  told_of_span f place path lane (OnFollows id other) s t d at step h =
+      told_of_one path (OnFollows id other) s t lane.0 id step.0.0 (ap (λ (u : Store). u.spans) step.1) step.0.1 (λ a set p. (and_parts (is_passed s.spans set id) (is_passed s.spans set other) p).0) h
+  told_of_span f place path lane (OnEvent e) s t d at step h = tt
+  told_of_span f place path lane (OnEnter id) s t d at step h = told_of_one path (OnEnter id) s t lane.0 id step.0.0 (ap (λ (u : Store). u.spans) step.1) step.0.1 (λ a set p. p) h
+  told_of_span f place path lane (OnExit id) s t d at step h = told_of_one path (OnExit id) s t lane.0 id step.0.0 (ap (λ (u : Store). u.spans) step.1) step.0.1 (λ a set p. p) h
+  told_of_span f place path lane (OnIdChange id other) s t d at step h = absurd step
+  told_of_span f place path lane (OnClose id) s t d at step h = told_of_one path (OnClose id) s s lane.0 id step.0.0 refl step.0.1 (λ a set p. p) h
 
   if_told : (b : Bool) (told : Told) → (b ≡ true → ShowsItsSpan told) → ShowTheirSpans (if b then told ∷ [] else [])
   if_told true told h = (h refl, tt)
   if_told false told h = tt
 
-  told_of_made : (x : S) (m : Made) (y : S) (place : Place) (o : Option Path) → path_at m.form place ≡ o → MakesOne x m y → ShowTheirSpans (passed o m.outcome m.store m.given)
-  told_of_made x m y place o at made = by_outcome m.outcome o at made.goes made.given
+  told_of_made : (x : S) (m : Made) (y : S) (place : Place) (o : Option Path) → path_at m.form place ≡ o → MakesOne x m y → ShowTheirSpans (passed o m.outcome m.before m.after)
+  told_of_made x m y place o at made = by_outcome m.outcome o at made.steps
     where
-      by_outcome : (out : Outcome) (p : Option Path) → path_at m.form place ≡ p → (g : GoesOn registry with_registry has_form stepped levelled m.form out x y)
-          → IsGiven registry with_registry has_form stepped levelled m.form out x y g m.given → ShowTheirSpans (passed p out m.store m.given)
-      by_outcome (Noticed lane e) None h g given = tt
-      by_outcome (Noticed lane e) (Some path) h g given =
-          subst (λ (u : Store). ShowTheirSpans (passed (Some path) (Noticed lane e) m.store u)) (sym given)
-          (subst (λ (u : Store). ShowTheirSpans (passed (Some path) (Noticed lane e) u g.left.store)) (sym made.store)
-          (if_told (passes_path path e (registry x).store lane.0 no_filter) (told_in e g.left.store lane.0 (mask_of path no_filter))
-          (λ t. told_of_span m.form place path lane e (registry x) g.left made.honest.rules.numbers.distinct h g.before t)))
-      by_outcome (Quiet c) None h g given = tt
-      by_outcome (Quiet c) (Some path) h g given = tt
-      by_outcome (LevelSet n l) None h g given = tt
-      by_outcome (LevelSet n l) (Some path) h g given = tt
+      by_outcome : (out : Outcome) (p : Option Path) → path_at m.form place ≡ p → Steps m.form out m.before m.after → ShowTheirSpans (passed p out m.before m.after)
+      by_outcome (Noticed lane e) None h g = tt
+      by_outcome (Noticed lane e) (Some path) h g =
+          if_told (passes_path path e m.before lane.0 no_filter) (told_in e (given_in e m.before m.after) lane.0 (mask_of path no_filter)) (λ t. told_of_span m.form place path lane e m.before m.after made.honest.rules.numbers.distinct h g t)
+      by_outcome (Quiet c) None h g = tt
+      by_outcome (Quiet c) (Some path) h g = tt
+      by_outcome (LevelSet n l) None h g = tt
+      by_outcome (LevelSet n l) (Some path) h g = tt
 
   both_show : (h k : Heard) → ShowTheirSpans h → ShowTheirSpans k → ShowTheirSpans (h ++ k)
   both_show [] k a b = b
@@ -171,7 +162,7 @@ module _ {S : Type 0} (registry : S → RegistryState) (with_registry : S → Re
   pub told_can_be_read : (x : S) (ms : List Made) (y : S) (place : Place) → FoldsTo MakesOne x ms y → ShowTheirSpans (seen place ms)
   told_can_be_read x [] y place h = tt
   told_can_be_read x (m ∷ ms) y place h =
-      both_show (passed (path_at m.form place) m.outcome m.store m.given) (seen place ms) (told_of_made x m h.0 place (path_at m.form place) refl h.1) (told_can_be_read h.0 ms y place h.2)
+      both_show (passed (path_at m.form place) m.outcome m.before m.after) (seen place ms) (told_of_made x m h.0 place (path_at m.form place) refl h.1) (told_can_be_read h.0 ms y place h.2)
 
 -- ---- a close is told to whom the span was
 

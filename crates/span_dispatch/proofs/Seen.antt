@@ -8,9 +8,11 @@ use Rattle.span_core.specs.declared.level.LevelFilter.{LevelFilter}
 use Rattle.span_core.specs.declared.span.Lane.{Lane}
 use Rattle.span_dispatch.specs.Cache.{Memory}
 use Rattle.span_dispatch.specs.Call.{Call}
-use Rattle.span_dispatch.specs.Outcome.{Change, GoesOn, IsGiven, LevelSet, Made, Makes, Noticed, Outcome, Quiet}
+use Rattle.span_dispatch.specs.Outcome.{Change, LayersGo, LevelSet, Made, Makes, Noticed, Outcome, Quiet, SameAside, given_in}
+use Rattle.std.specs.FinMap.{empty}
+use Rattle.span_registry.specs.View.{seen_spans}
 use Rattle.span_dispatch.specs.Alone.{passed, seen}
-use Rattle.span_dispatch.specs.Serve.{Run, ServesAsked, call_of, flat}
+use Rattle.span_dispatch.specs.Serve.{Run, RunExactly, ServesAsked, TellsAsked, call_of, flat}
 use Rattle.span_dispatch.specs.declared.request.Answer.{Answer}
 use Rattle.span_dispatch.specs.declared.request.Request.{Request}
 use Rattle.span_layers.proofs.Pass.{reached}
@@ -23,7 +25,7 @@ use Rattle.span_registry.specs.Conducts.{ActsAt}
 use Rattle.span_registry.specs.Place.{HearSteps, Heard, Here, Inner, Outer, Place, Under, heard_by, is_notified, told_in}
 use Rattle.span_registry.specs.Plan.{Nobody, Through, asked_afresh, passes}
 use Rattle.span_registry.specs.Question.{single}
-use Rattle.span_registry.specs.Store.{RegistryState, Store}
+use Rattle.span_registry.specs.Store.{RegistryState, Store, stack_of}
 
 -- where nothing stands, nobody is notified
 unreached : (f : Form) (place : Place) (e : Notice) (s : Store) (lane : ℕ) (under : FilterSet) → path_at f place ≡ None → is_notified (asked_afresh f e s lane under) place ≡ false
@@ -91,14 +93,18 @@ mask_on_path (Over j o i) (Inner p) path under h = mask_on_path i p path under h
 -- ---- what is told
 
 -- whom the plan asked afresh notifies sees what passes its path
-sees_passed : (f : Form) (place : Place) (lane : Lane) (e : Notice) (s given : Store)
-    → heard_by (asked_afresh f e s lane.0 no_filter) place (told_in e given lane.0 (mask_at f place no_filter)) ≡ passed (path_at f place) (Noticed lane e) s given
-sees_passed f place lane e s given = by_path (path_at f place) refl
+sees_passed : (f : Form) (place : Place) (lane : Lane) (e : Notice) (s t : Store)
+    → heard_by (asked_afresh f e s lane.0 no_filter) place (told_in e (given_in e s t) lane.0 (mask_at f place no_filter)) ≡ passed (path_at f place) (Noticed lane e) s t
+sees_passed f place lane e s t = by_path (path_at f place) refl
   where
-    by_path : (o : Option Path) → path_at f place ≡ o → heard_by (asked_afresh f e s lane.0 no_filter) place (told_in e given lane.0 (mask_at f place no_filter)) ≡ passed o (Noticed lane e) s given
-    by_path None h = ap (λ b. if b then told_in e given lane.0 (mask_at f place no_filter) ∷ [] else []) (unreached f place e s lane.0 no_filter h)
+    by_path : (o : Option Path) → path_at f place ≡ o → heard_by (asked_afresh f e s lane.0 no_filter) place (told_in e (given_in e s t) lane.0 (mask_at f place no_filter)) ≡ passed o (Noticed lane e) s t
+    by_path None h = ap (λ b. if b then told_in e (given_in e s t) lane.0 (mask_at f place no_filter) ∷ [] else []) (unreached f place e s lane.0 no_filter h)
     by_path (Some path) h =
-        λ i. if reached f place path e s lane.0 no_filter h i then told_in e given lane.0 (mask_on_path f place path no_filter h i) ∷ [] else []
+        λ i. if reached f place path e s lane.0 no_filter h i then told_in e (given_in e s t) lane.0 (mask_on_path f place path no_filter h i) ∷ [] else []
+
+-- extensions make no difference to what is told
+told_aside : (e : Notice) (s t : Store) (lane : ℕ) (mask : FilterSet) → SameAside s t → told_in e t lane mask ≡ told_in e s lane mask
+told_aside e s t lane mask a = λ i. record { lane = lane; notice = e; view = record { lane = lane; stack = stack_of (a.stacks i) lane; spans = seen_spans (record s { spans = a.spans i; extensions = empty }) mask } }
 
 nothing_passed : (o : Option Path) (c : Change) (s given : Store) → passed o (Quiet c) s given ≡ []
 nothing_passed None c s given = refl
@@ -116,39 +122,52 @@ module _ {S : Type 0} (registry : S → RegistryState) {with_registry : S → Re
       let more = subst (λ w. hears y place [] w) (sym e) (laws.hears_with y (registry z) place) in
       subst (λ k. hears x place k z) (append-nil h) (laws.heard.further x y z place h [] a more)
 
-  by_outcome : (f : Form) (o : Outcome) (s given : Store) (x y : S) (place : Place) → s ≡ (registry x).store → has_form x f → (g : GoesOn registry with_registry has_form stepped levelled f o x y)
-      → IsGiven registry with_registry has_form stepped levelled f o x y g given → hears x place (passed (path_at f place) o s given) y
-  by_outcome f (Noticed lane e) s given x y place same has g from =
-      let plan = asked_afresh f e (registry x).store lane.0 no_filter in
-      let told = told_in e g.left.store lane.0 (mask_at f place no_filter) in
-      let now = aside x g.notified y place (heard_by plan place told) (laws.notified x plan e lane.0 g.left g.notified (registry g.notified) place f g.layers has) g.rest in
-      let seen_there = subst (λ h. hears x place h y) (sees_passed f place lane e (registry x).store g.left.store) now in
-      subst (λ t. hears x place (passed (path_at f place) (Noticed lane e) t given) y) (sym same) (subst (λ u. hears x place (passed (path_at f place) (Noticed lane e) (registry x).store u) y) (sym from) seen_there)
-  by_outcome f (Quiet c) s given x y place same has g from = subst (λ h. hears x place h y) (sym (nothing_passed (path_at f place) c s given)) (aside x x y place [] (laws.heard.nothing x place) g.rest)
-  by_outcome f (LevelSet n l) s given x y place same has g from = subst (λ h. hears x place h y) (sym (no_level_passed (path_at f place) n l s given)) (levels.heard x n l y place g.goes)
+  by_outcome : (f : Form) (o : Outcome) (s t : Store) (x y : S) (place : Place) → has_form x f → LayersGo registry with_registry has_form stepped levelled f o s t x y → hears x place (passed (path_at f place) o s t) y
+  by_outcome f (Noticed lane e) s t x y place has n =
+      let plan = asked_afresh f e s lane.0 no_filter in
+      let mask = mask_at f place no_filter in
+      let there = aside x n.notified y place (heard_by plan place (told_in e n.left.store lane.0 mask)) (laws.notified x plan e lane.0 n.left n.notified (registry n.notified) place f n.layers has) n.rest in
+      let told = ap (heard_by plan place) (told_aside e (given_in e s t) n.left.store lane.0 mask n.given) ∙ sees_passed f place lane e s t in
+      subst (λ h. hears x place h y) told there
+  by_outcome f (Quiet c) s t x y place has rest = subst (λ h. hears x place h y) (sym (nothing_passed (path_at f place) c s t)) (aside x x y place [] (laws.heard.nothing x place) rest)
+  by_outcome f (LevelSet n l) s t x y place has set = subst (λ h. hears x place h y) (sym (no_level_passed (path_at f place) n l s t)) (levels.heard x n l y place set.goes)
 
   -- each leaf went through what it sees of what was made
   pub goes_through : (x : S) (ms : List Made) (y : S) (place : Place) → FoldsTo (Makes registry with_registry has_form stepped levelled) x ms y → hears x place (seen place ms) y
   goes_through x [] y place h = subst (λ z. hears x place [] z) h (laws.heard.nothing x place)
   goes_through x (m ∷ ms) y place h =
-      laws.heard.further x h.0 y place _ _ (by_outcome m.form m.outcome m.store m.given x h.0 place h.1.store h.1.honest.has h.1.goes h.1.given) (goes_through h.0 ms y place h.2)
+      laws.heard.further x h.0 y place _ _ (by_outcome m.form m.outcome m.before m.after x h.0 place h.1.honest.has h.1.layers) (goes_through h.0 ms y place h.2)
 
 module _ {S : Type 0} (registry : S → RegistryState) (with_registry : S → RegistryState → S) (has_form : S → Form → Type 0) (stepped : StackSteps S) (levelled : LevelSteps S) where
   folds_append : (x : S) (ms ns : List Made) (y z : S) → FoldsTo (Makes registry with_registry has_form stepped levelled) x ms y → FoldsTo (Makes registry with_registry has_form stepped levelled) y ns z → FoldsTo (Makes registry with_registry has_form stepped levelled) x (ms ++ ns) z
   folds_append x [] ns y z h k = subst (λ w. FoldsTo (Makes registry with_registry has_form stepped levelled) w ns z) (sym h) k
   folds_append x (m ∷ ms) ns y z h k = (h.0, h.1, folds_append h.0 ms ns y z h.2 k)
 
-  asked_folds : (o : Option Call) (memory : Memory) (x : S) (a : Answer) (ms : List Made) (after : Memory) (y : S) → ServesAsked registry with_registry has_form stepped levelled o memory x a ms after y → FoldsTo (Makes registry with_registry has_form stepped levelled) x ms y
-  asked_folds None memory x a ms after y h = subst (λ ns. FoldsTo (Makes registry with_registry has_form stepped levelled) x ns y) (sym h.1) (sym h.3)
-  asked_folds (Some call) memory x a ms after y h = h.2.goes
+  asked_folds : (o : Option Call) (x : S) (a : Answer) (ms : List Made) (y : S) → TellsAsked registry with_registry has_form stepped levelled o x a ms y → FoldsTo (Makes registry with_registry has_form stepped levelled) x ms y
+  asked_folds None x a ms y h = subst (λ ns. FoldsTo (Makes registry with_registry has_form stepped levelled) x ns y) (sym h.1) (sym h.2)
+  asked_folds (Some call) x a ms y h = h.2.goes
 
   -- a run goes through all that was made, one after another
-  pub run_folds : (past : List Answer) (rs : List Request) (answers : List Answer) (made : List (List Made)) (memory : Memory) (x : S) (after : Memory) (y : S) → Run registry with_registry has_form stepped levelled past rs answers made memory x after y
+  pub run_folds : (past : List Answer) (rs : List Request) (answers : List Answer) (made : List (List Made)) (x y : S) → Run registry with_registry has_form stepped levelled past rs answers made x y
       → FoldsTo (Makes registry with_registry has_form stepped levelled) x (flat made) y
-  run_folds past [] [] [] memory x after y h = sym h.1
-  run_folds past [] [] (m ∷ made) memory x after y h = absurd h
-  run_folds past [] (b ∷ answers) made memory x after y h = absurd h
-  run_folds past (q ∷ rs) [] made memory x after y h = absurd h
-  run_folds past (q ∷ rs) (b ∷ answers) [] memory x after y h = absurd h
-  run_folds past (q ∷ rs) (b ∷ answers) (ms ∷ made) memory x after y h =
-      folds_append x ms (flat made) h.1 y (asked_folds (call_of past q) memory x b ms h.0 h.1 h.2) (run_folds (past ++ (b ∷ [])) rs answers made h.0 h.1 after y h.3)
+  run_folds past [] [] [] x y h = sym h
+  run_folds past [] [] (m ∷ made) x y h = absurd h
+  run_folds past [] (b ∷ answers) made x y h = absurd h
+  run_folds past (q ∷ rs) [] made x y h = absurd h
+  run_folds past (q ∷ rs) (b ∷ answers) [] x y h = absurd h
+  run_folds past (q ∷ rs) (b ∷ answers) (ms ∷ made) x y h =
+      folds_append x ms (flat made) h.0 y (asked_folds (call_of past q) x b ms h.0 h.1) (run_folds (past ++ (b ∷ [])) rs answers made h.0 y h.2)
+
+  -- one that answers exactly so is a run
+  asked_told : (o : Option Call) (memory : Memory) (x : S) (a : Answer) (ms : List Made) (after : Memory) (y : S) → ServesAsked registry with_registry has_form stepped levelled o memory x a ms after y → TellsAsked registry with_registry has_form stepped levelled o x a ms y
+  asked_told None memory x a ms after y h = (h.0, h.1, h.3)
+  asked_told (Some call) memory x a ms after y h = (h.0, h.1.honest.has, h.2.told)
+
+  pub run_told : (past : List Answer) (rs : List Request) (answers : List Answer) (made : List (List Made)) (memory : Memory) (x : S) (after : Memory) (y : S) → RunExactly registry with_registry has_form stepped levelled past rs answers made memory x after y
+      → Run registry with_registry has_form stepped levelled past rs answers made x y
+  run_told past [] [] [] memory x after y h = h.1
+  run_told past [] [] (m ∷ made) memory x after y h = absurd h
+  run_told past [] (b ∷ answers) made memory x after y h = absurd h
+  run_told past (q ∷ rs) [] made memory x after y h = absurd h
+  run_told past (q ∷ rs) (b ∷ answers) [] memory x after y h = absurd h
+  run_told past (q ∷ rs) (b ∷ answers) (ms ∷ made) memory x after y h = (h.1, asked_told (call_of past q) memory x b ms h.0 h.1 h.2, run_told (past ++ (b ∷ [])) rs answers made h.0 h.1 after y h.3)

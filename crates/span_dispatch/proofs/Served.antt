@@ -1,12 +1,21 @@
 -- Serving a list, request by request.
-use Rattle.std.proofs.Common.{◌≡◌, List, [], ◌∷◌, ◌++◌, Option, Some, refl, sym, ap, subst, append_assoc, ◌∙◌}
+use Rattle.std.proofs.Common.{◌≡◌, List, [], ◌∷◌, ◌++◌, Option, Some, None, refl, sym, ap, subst, append_assoc, ◌∙◌}
 use Rattle.std.proofs.lemmas.List.{append-nil}
 use Rattle.span_core.specs.declared.span.Id.{Id}
-use Rattle.span_dispatch.specs.Cache.{Memory}
+use Rattle.span_dispatch.proofs.Admits.{current_is_safe}
+use Rattle.span_dispatch.proofs.Alone.{sees_what_is_made}
+use Rattle.span_dispatch.proofs.Dropped.{readable_closes}
+use Rattle.span_dispatch.proofs.Once.{closed_once}
+use Rattle.span_dispatch.proofs.Readable.{told_can_be_read}
+use Rattle.span_dispatch.proofs.Seen.{run_folds, run_told}
+use Rattle.span_dispatch.specs.Admission.{KeepsSafely}
+use Rattle.span_dispatch.specs.Cache.{IsUpToDate, Memory}
 use Rattle.span_dispatch.specs.Call.{Call}
-use Rattle.span_dispatch.specs.Outcome.{IsHonest, Made}
-use Rattle.span_dispatch.specs.Serve.{IsReadyAfter, IsReadyBy, IsReadySomehow, KeepsUpToDate, Run, Served, Serves, ServesAsked, ServesCall, ServesRequest, call_of, flat, kept_by, stack_of}
+use Rattle.span_dispatch.specs.Contract.{AnswersCall, AnswersDrop, ReadyAfter, ServesNext, StaysReadyByRules, SubscriberOf}
+use Rattle.span_dispatch.specs.Outcome.{Made}
+use Rattle.span_dispatch.specs.Serve.{AnswersExactly, IsReadyWith, Run, RunExactly, Served, ServedExactly, ServesAsked, ServesRequest, Tells, TellsAsked, call_of, flat, kept_by, stack_of}
 use Rattle.span_dispatch.specs.declared.dispatch.Dispatch.{Dispatch}
+use Rattle.span_dispatch.specs.declared.request.Answer.TheVariants as answer
 use Rattle.span_dispatch.specs.declared.request.Answer.{Answer}
 use Rattle.span_dispatch.specs.declared.request.Request.{Request}
 use Rattle.span_registry.specs.Conducts.{ActsAt, StackPathLaws}
@@ -14,104 +23,151 @@ use Rattle.span_registry.specs.Form.{Form}
 use Rattle.span_registry.specs.Hooks.{StackLaws, StackSteps}
 use Rattle.span_registry.specs.Levels.{KeepsRules, LevelLaws, LevelSteps, own_rules, rules_again}
 use Rattle.span_registry.specs.Place.{HearSteps}
-use Rattle.span_dispatch.proofs.Dropped.{lost_nothing, readable_closes}
-use Rattle.span_dispatch.proofs.Effect.{run_calls}
-use Rattle.span_dispatch.proofs.Readable.{told_can_be_read}
-use Rattle.span_dispatch.proofs.Once.{closed_once}
-use Rattle.span_dispatch.proofs.Alone.{sees_what_is_made}
-use Rattle.span_dispatch.proofs.Seen.{run_folds}
 use Rattle.span_registry.specs.Store.{AreIssued, RegistryState}
 
 -- the span that is named
 pub named : {o p : Option Id} {id : Id} → o ≡ p → o ≡ Some id → p ≡ Some id
 named e i = sym e ∙ i
 
-module _ {S : Type 0} (registry : S → RegistryState) (with_registry : S → RegistryState → S) (has_form : S → Form → Type 0) (stepped : StackSteps S) (levelled : LevelSteps S) where
-  -- what `AnswersDrop`, `AnswersCall`, `ServesNext` and `StaysReady` say
-  abbrev DropAnswered : Call → Answer → Dispatch S → Dispatch S → Type 0
-  DropAnswered call a old new = (f : Form) → IsReadyBy registry with_registry has_form stepped levelled f old → ServesCall registry with_registry has_form stepped levelled call f a old new
-
-  abbrev CallAnswered : Call → Answer → Dispatch S → Dispatch S → Type 0
-  CallAnswered call a old new =
-      (f : Form) → IsHonest registry with_registry has_form stepped levelled f (stack_of old) → KeepsUpToDate f (registry (stack_of old)).filters old → ServesCall registry with_registry has_form stepped levelled call f a old new
-
-  abbrev NextServed : List Answer → Request → Answer → Dispatch S → Dispatch S → Type 0
-  NextServed past r a old new =
-      IsReadySomehow registry with_registry has_form stepped levelled old
-      → (made : List Made) × ServesRequest registry with_registry has_form stepped levelled past r (kept_by old) (stack_of old) a made (kept_by new) (stack_of new)
-
-  abbrev ReadyAgain : Dispatch S → Dispatch S → Type 0
-  ReadyAgain old new = (f : Form) → IsReadyBy registry with_registry has_form stepped levelled f old → IsReadyAfter registry with_registry has_form stepped levelled KeepsRules f new
-
+module _ {S : Type 0} {s : SubscriberOf S} where
   -- what a request asks for was served
-  pub served_by : (past : List Answer) (r other : Request) (call : Call) (a b : Answer) (old new : Dispatch S) → r ≡ other → call_of past other ≡ Some call → b ≡ a → DropAnswered call a old new
-      → NextServed past r b old new
-  served_by past r other call a b old new same asks answer served k =
-      let done = served k.0 k.1 in
-      let by_answer = subst (λ z. Serves registry with_registry has_form stepped levelled call k.0 (kept_by old) (stack_of old) z done.0 (kept_by new) (stack_of new)) (sym answer) done.1 in (
-        done.0,
-        subst (λ o. ServesAsked registry with_registry has_form stepped levelled o (kept_by old) (stack_of old) b done.0 (kept_by new) (stack_of new)) (sym (ap (call_of past) same ∙ asks)) (k.0, k.1.stack, by_answer),
-      )
+  pub served_by : (past : List Answer) (r other : Request) (call : Call) (a b : Answer) (old new : Dispatch S) → r ≡ other → call_of past other ≡ Some call → b ≡ a → AnswersDrop s call a old new → ServesNext s past r b old new
+  served_by past r other call a b old new same asks answer served = record {
+    told = λ k.
+        let t = (served k.1.stack.settled).told k.0 k.1.stack.honest k.1.kept in
+        let tells = subst (λ z. Tells s.registry s.with_registry s.has_form s.stepped s.levelled call k.0 (stack_of old) z t.0 (stack_of new)) (sym answer) t.1 in
+        (t.0, subst (λ o. TellsAsked s.registry s.with_registry s.has_form s.stepped s.levelled o (stack_of old) b t.0 (stack_of new)) (sym (ap (call_of past) same ∙ asks)) (k.0, k.1.stack.honest.has, tells));
+    exact = λ k.
+        let answers = served k.1.stack.settled in
+        let t = answers.told k.0 k.1.stack.honest (current_is_safe k.0 (s.registry (stack_of old)).filters old.cache k.1.kept) in
+        let tells = subst (λ z. Tells s.registry s.with_registry s.has_form s.stepped s.levelled call k.0 (stack_of old) z t.0 (stack_of new)) (sym answer) t.1 in
+        let exactly = subst (λ z. AnswersExactly call k.0 (kept_by old) (s.registry (stack_of old)) z (kept_by new)) (sym answer) (answers.exact k.0 k.1.stack.honest k.1.kept) in
+        (t.0, subst (λ o. ServesAsked s.registry s.with_registry s.has_form s.stepped s.levelled o (kept_by old) (stack_of old) b t.0 (kept_by new) (stack_of new)) (sym (ap (call_of past) same ∙ asks)) (k.0, k.1.stack, record { told = tells; exact = exactly }));
+  }
 
   -- the same of a call that is answered by every honest stack
-  pub served_by_call : (past : List Answer) (r other : Request) (call : Call) (a b : Answer) (old new : Dispatch S) → r ≡ other → call_of past other ≡ Some call → b ≡ a → CallAnswered call a old new
-      → NextServed past r b old new
-  served_by_call past r other call a b old new same asks answer served = served_by past r other call a b old new same asks answer (λ f h. served f h.stack.honest h.kept)
+  pub served_by_call : (past : List Answer) (r other : Request) (call : Call) (a b : Answer) (old new : Dispatch S) → r ≡ other → call_of past other ≡ Some call → b ≡ a → AnswersCall s call a old new → ServesNext s past r b old new
+  served_by_call past r other call a b old new same asks answer served = served_by past r other call a b old new same asks answer (λ settled. served)
+
+  -- it names no span: nothing is asked
+  pub served_nothing : (past : List Answer) (r other : Request) (d : Dispatch S) → r ≡ other → call_of past other ≡ None → ServesNext s past r answer.Dropped d d
+  served_nothing past r other d same none = record {
+    told = λ k. ([], subst (λ o. TellsAsked s.registry s.with_registry s.has_form s.stepped s.levelled o (stack_of d) answer.Dropped [] (stack_of d)) (sym (ap (call_of past) same ∙ none)) (refl, refl, refl));
+    exact = λ k. ([], subst (λ o. ServesAsked s.registry s.with_registry s.has_form s.stepped s.levelled o (kept_by d) (stack_of d) answer.Dropped [] (kept_by d) (stack_of d)) (sym (ap (call_of past) same ∙ none)) (refl, refl, refl, refl));
+  }
+
+module _ {S : Type 0} (s : SubscriberOf S) where
+  abbrev TellsRequest : List Answer → Request → S → Answer → List Made → S → Type 0
+  TellsRequest past r x a ms y = TellsAsked s.registry s.with_registry s.has_form s.stepped s.levelled (call_of past r) x a ms y
+
+  abbrev RunsTo : List Answer → List Request → List Answer → List (List Made) → S → S → Type 0
+  RunsTo past rs answers made x y = Run s.registry s.with_registry s.has_form s.stepped s.levelled past rs answers made x y
+
+  abbrev AnswersRequest : List Answer → Request → Memory → S → Answer → List Made → Memory → S → Type 0
+  AnswersRequest past r memory x a ms after y = ServesRequest s.registry s.with_registry s.has_form s.stepped s.levelled past r memory x a ms after y
+
+  abbrev RunsExactly : List Answer → List Request → List Answer → List (List Made) → Memory → S → Memory → S → Type 0
+  RunsExactly past rs answers made memory x after y = RunExactly s.registry s.with_registry s.has_form s.stepped s.levelled past rs answers made memory x after y
 
   -- a run, and then one request more
+  tell_more : (past : List Answer) (rs : List Request) (answers : List Answer) (made : List (List Made)) (x y : S) (r : Request) (a : Answer) (ms : List Made) (z : S)
+      → RunsTo past rs answers made x y → TellsRequest (past ++ answers) r y a ms z → RunsTo past (rs ++ (r ∷ [])) (answers ++ (a ∷ [])) (made ++ (ms ∷ [])) x z
+  tell_more past [] [] [] x y r a ms z h t =
+      let here = subst (λ p. TellsRequest p r y a ms z) (append-nil past) t in (z, subst (λ v. TellsRequest past r v a ms z) h here, refl)
+  tell_more past [] [] (m ∷ made) x y r a ms z h t = absurd h
+  tell_more past [] (b ∷ answers) made x y r a ms z h t = absurd h
+  tell_more past (q ∷ rs) [] made x y r a ms z h t = absurd h
+  tell_more past (q ∷ rs) (b ∷ answers) [] x y r a ms z h t = absurd h
+  tell_more past (q ∷ rs) (b ∷ answers) (m ∷ made) x y r a ms z h t =
+      let rest = subst (λ p. TellsRequest p r y a ms z) (sym (append_assoc past (b ∷ []) answers)) t in (h.0, h.1, tell_more (past ++ (b ∷ [])) rs answers made h.0 y r a ms z h.2 rest)
+
   run_more : (past : List Answer) (rs : List Request) (answers : List Answer) (made : List (List Made)) (memory : Memory) (x : S) (between : Memory) (y : S) (r : Request) (a : Answer) (ms : List Made) (after : Memory) (z : S)
-      → Run registry with_registry has_form stepped levelled past rs answers made memory x between y → ServesRequest registry with_registry has_form stepped levelled (past ++ answers) r between y a ms after z
-      → Run registry with_registry has_form stepped levelled past (rs ++ (r ∷ [])) (answers ++ (a ∷ [])) (made ++ (ms ∷ [])) memory x after z
-  run_more past [] [] [] memory x between y r a ms after z h s =
-      let here = subst (λ p. ServesRequest registry with_registry has_form stepped levelled p r between y a ms after z) (append-nil past) s in
-      (after, z, subst (λ k. ServesRequest registry with_registry has_form stepped levelled past r k x a ms after z) h.0 (subst (λ v. ServesRequest registry with_registry has_form stepped levelled past r between v a ms after z) h.1 here), (refl, refl))
-  run_more past [] [] (m ∷ made) memory x between y r a ms after z h s = absurd h
-  run_more past [] (b ∷ answers) made memory x between y r a ms after z h s = absurd h
-  run_more past (q ∷ rs) [] made memory x between y r a ms after z h s = absurd h
-  run_more past (q ∷ rs) (b ∷ answers) [] memory x between y r a ms after z h s = absurd h
-  run_more past (q ∷ rs) (b ∷ answers) (m ∷ made) memory x between y r a ms after z h s =
-      let rest = subst (λ p. ServesRequest registry with_registry has_form stepped levelled p r between y a ms after z) (sym (append_assoc past (b ∷ []) answers)) s in
+      → RunsExactly past rs answers made memory x between y → AnswersRequest (past ++ answers) r between y a ms after z → RunsExactly past (rs ++ (r ∷ [])) (answers ++ (a ∷ [])) (made ++ (ms ∷ [])) memory x after z
+  run_more past [] [] [] memory x between y r a ms after z h t =
+      let here = subst (λ p. AnswersRequest p r between y a ms after z) (append-nil past) t in
+      (after, z, subst (λ k. AnswersRequest past r k x a ms after z) h.0 (subst (λ v. AnswersRequest past r between v a ms after z) h.1 here), (refl, refl))
+  run_more past [] [] (m ∷ made) memory x between y r a ms after z h t = absurd h
+  run_more past [] (b ∷ answers) made memory x between y r a ms after z h t = absurd h
+  run_more past (q ∷ rs) [] made memory x between y r a ms after z h t = absurd h
+  run_more past (q ∷ rs) (b ∷ answers) [] memory x between y r a ms after z h t = absurd h
+  run_more past (q ∷ rs) (b ∷ answers) (m ∷ made) memory x between y r a ms after z h t =
+      let rest = subst (λ p. AnswersRequest p r between y a ms after z) (sym (append_assoc past (b ∷ []) answers)) t in
       (h.0, h.1, h.2, run_more (past ++ (b ∷ [])) rs answers made h.0 h.1 between y r a ms after z h.3 rest)
 
-  -- these requests were served so far
-  pub record SoFar (f : Form) (first now : Dispatch S) (done : List Request) (answers : List Answer) : Type 0 where
-    pub ready : IsReadyAfter registry with_registry has_form stepped levelled KeepsRules f now
+  -- these requests were told so far
+  pub record ToldSoFar (f : Form) (first now : Dispatch S) (done : List Request) (answers : List Answer) : Type 0 where
+    pub ready : ReadyAfter s KeepsSafely KeepsRules f now
     pub made : List (List Made)
-    pub run : Run registry with_registry has_form stepped levelled [] done answers made (kept_by first) (stack_of first) (kept_by now) (stack_of now)
+    pub run : RunsTo [] done answers made (stack_of first) (stack_of now)
 
-  pub nothing_yet : (f : Form) (first : Dispatch S) → IsReadyBy registry with_registry has_form stepped levelled f first → SoFar f first first [] []
-  nothing_yet f first ready = record { ready = (f, ready, own_rules f); made = []; run = (refl, refl) }
+  -- and answered exactly so
+  pub record ExactSoFar (f : Form) (first now : Dispatch S) (done : List Request) (answers : List Answer) : Type 0 where
+    pub ready : ReadyAfter s IsUpToDate KeepsRules f now
+    pub made : List (List Made)
+    pub run : RunsExactly [] done answers made (kept_by first) (stack_of first) (kept_by now) (stack_of now)
 
-  pub one_more : (f : Form) (first now next : Dispatch S) (done all : List Request) (past answers after : List Answer) (a : Answer) (r : Request) → SoFar f first now done answers → past ≡ answers → after ≡ answers ++ (a ∷ []) → all ≡ done ++ (r ∷ [])
-      → ReadyAgain now next → NextServed past r a now next → SoFar f first next all after
-  one_more f first now next done all past answers after a r h same longer one ready served =
-      let s = served (h.ready.0, h.ready.1) in
-      let after_it = ready h.ready.0 h.ready.1 in
-      let step = subst (λ p. ServesRequest registry with_registry has_form stepped levelled p r (kept_by now) (stack_of now) a s.0 (kept_by next) (stack_of next)) same s.1 in
-      subst (λ us. SoFar f first next all us) (sym longer) (subst (λ rs. SoFar f first next rs (answers ++ (a ∷ []))) (sym one)
+  -- both, from whatever the dispatcher was ready by
+  pub record SoFar (first now : Dispatch S) (done : List Request) (answers : List Answer) : Type 0 where
+    pub told : (f : Form) → IsReadyWith s.registry s.with_registry s.has_form s.stepped s.levelled KeepsSafely f first → ToldSoFar f first now done answers
+    pub exact : (f : Form) → IsReadyWith s.registry s.with_registry s.has_form s.stepped s.levelled IsUpToDate f first → ExactSoFar f first now done answers
+
+  pub nothing_yet : (first : Dispatch S) → SoFar first first [] []
+  nothing_yet first = record {
+    told = λ f ready. record { ready = (f, ready, own_rules f); made = []; run = refl };
+    exact = λ f ready. record { ready = (f, ready, own_rules f); made = []; run = (refl, refl) };
+  }
+
+  pub one_more : (first now next : Dispatch S) (done all : List Request) (past answers after : List Answer) (a : Answer) (r : Request) → SoFar first now done answers → past ≡ answers → after ≡ answers ++ (a ∷ []) → all ≡ done ++ (r ∷ [])
+      → StaysReadyByRules s now next → ServesNext s past r a now next → SoFar first next all after
+  one_more first now next done all past answers after a r h same longer one ready served =
+      subst (λ us. SoFar first next all us) (sym longer) (subst (λ rs. SoFar first next rs (answers ++ (a ∷ []))) (sym one)
       (record {
-        ready = (after_it.0, after_it.1, rules_again f h.ready.0 after_it.0 h.ready.2 after_it.2);
-        made = h.made ++ (s.0 ∷ []);
-        run = run_more [] done answers h.made (kept_by first) (stack_of first) (kept_by now) (stack_of now) r a s.0 (kept_by next) (stack_of next) h.run step;
+        told = λ f k.
+            let t = h.told f k in
+            let n = served.told (t.ready.0, t.ready.1) in
+            let next_ready = ready.safe t.ready.0 t.ready.1 in
+            record {
+              ready = (next_ready.0, next_ready.1, rules_again f t.ready.0 next_ready.0 t.ready.2 next_ready.2);
+              made = t.made ++ (n.0 ∷ []);
+              run = tell_more [] done answers t.made (stack_of first) (stack_of now) r a n.0 (stack_of next) t.run (subst (λ p. TellsRequest p r (stack_of now) a n.0 (stack_of next)) same n.1);
+            };
+        exact = λ f k.
+            let t = h.exact f k in
+            let n = served.exact (t.ready.0, t.ready.1) in
+            let next_ready = ready.current t.ready.0 t.ready.1 in
+            record {
+              ready = (next_ready.0, next_ready.1, rules_again f t.ready.0 next_ready.0 t.ready.2 next_ready.2);
+              made = t.made ++ (n.0 ∷ []);
+              run = run_more [] done answers t.made (kept_by first) (stack_of first) (kept_by now) (stack_of now) r a n.0 (kept_by next) (stack_of next) t.run (subst (λ p. AnswersRequest p r (kept_by now) (stack_of now) a n.0 (kept_by next) (stack_of next)) same n.1);
+            };
       }))
 
-module _ {S : Type 0} {registry : S → RegistryState} {with_registry : S → RegistryState → S} {usable : S → Type 0} {has_form : S → Form → Type 0} {stepped : StackSteps S} {levelled : LevelSteps S} {hears : HearSteps S} {registered : S → S → Type 0} {acts_at : ActsAt S}
-    (laws : StackLaws with_registry usable has_form stepped hears registered) (paths : StackPathLaws with_registry has_form stepped registered acts_at) (levels : LevelLaws has_form levelled hears acts_at) where
-  -- all were served
-  pub all_served : (f : Form) (first now : Dispatch S) (all done : List Request) (answers : List Answer) → AreIssued (registry (stack_of first)).store → done ≡ all → SoFar registry with_registry has_form stepped levelled f first now done answers
-      → Served registry with_registry has_form stepped levelled hears acts_at all answers first now
-  all_served f first now all done answers issued same h =
-      let folds = run_folds registry with_registry has_form stepped levelled [] done answers h.made (kept_by first) (stack_of first) (kept_by now) (stack_of now) h.run in
-      let seen = sees_what_is_made registry laws paths levels (flat h.made) folds in
-      let run = subst (λ rs. Run registry with_registry has_form stepped levelled [] rs answers h.made (kept_by first) (stack_of first) (kept_by now) (stack_of now)) same h.run in
+  -- all were answered exactly so
+  pub all_exactly : StackLaws s.with_registry s.usable s.has_form s.stepped s.hears s.registered → StackPathLaws s.with_registry s.has_form s.stepped s.registered s.acts_at → LevelLaws s.has_form s.levelled s.hears s.acts_at
+      → (f : Form) (first now : Dispatch S) (all done : List Request) (answers : List Answer) → done ≡ all → ExactSoFar f first now done answers
+      → ServedExactly s.registry s.with_registry s.has_form s.stepped s.levelled s.hears all answers first now
+  all_exactly laws paths levels f first now all done answers same h =
+      let told = run_told s.registry s.with_registry s.has_form s.stepped s.levelled [] done answers h.made (kept_by first) (stack_of first) (kept_by now) (stack_of now) h.run in
+      let folds = run_folds s.registry s.with_registry s.has_form s.stepped s.levelled [] done answers h.made (stack_of first) (stack_of now) told in
       record {
         made = h.made;
-        run = run;
+        run = subst (λ rs. RunsExactly [] rs answers h.made (kept_by first) (stack_of first) (kept_by now) (stack_of now)) same h.run;
+        each = (sees_what_is_made s.registry laws paths levels (flat h.made) folds).each;
+      }
+
+  -- all were told
+  pub all_served : StackLaws s.with_registry s.usable s.has_form s.stepped s.hears s.registered → StackPathLaws s.with_registry s.has_form s.stepped s.registered s.acts_at → LevelLaws s.has_form s.levelled s.hears s.acts_at
+      → (f : Form) (first now : Dispatch S) (all done : List Request) (answers : List Answer) → AreIssued (s.registry (stack_of first)).store → done ≡ all → ToldSoFar f first now done answers
+      → Served s.registry s.with_registry s.has_form s.stepped s.levelled s.hears s.acts_at all answers (stack_of first) (stack_of now)
+  all_served laws paths levels f first now all done answers issued same h =
+      let folds = run_folds s.registry s.with_registry s.has_form s.stepped s.levelled [] done answers h.made (stack_of first) (stack_of now) h.run in
+      let seen = sees_what_is_made s.registry laws paths levels (flat h.made) folds in
+      record {
+        made = h.made;
+        run = subst (λ rs. RunsTo [] rs answers h.made (stack_of first) (stack_of now)) same h.run;
         each = seen.each;
         alone = seen.alone;
-        calls = λ numbers. run_calls registry with_registry has_form stepped levelled [] all answers h.made (kept_by first) (stack_of first) (kept_by now) (stack_of now) numbers run;
-        dropped = lost_nothing registry with_registry has_form stepped levelled [] all answers h.made (kept_by first) (stack_of first) (kept_by now) (stack_of now) run;
-        once = closed_once registry with_registry has_form stepped levelled (stack_of first) (flat h.made) (stack_of now) issued folds;
-        readable = readable_closes registry with_registry has_form stepped levelled (stack_of first) (flat h.made) (stack_of now) folds;
-        shown = λ place. told_can_be_read registry with_registry has_form stepped levelled (stack_of first) (flat h.made) (stack_of now) place folds;
+        once = closed_once s.registry s.with_registry s.has_form s.stepped s.levelled (stack_of first) (flat h.made) (stack_of now) issued folds;
+        readable = readable_closes s.registry s.with_registry s.has_form s.stepped s.levelled (stack_of first) (flat h.made) (stack_of now) folds;
+        shown = λ place. told_can_be_read s.registry s.with_registry s.has_form s.stepped s.levelled (stack_of first) (flat h.made) (stack_of now) place folds;
       }

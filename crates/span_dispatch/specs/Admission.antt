@@ -1,5 +1,5 @@
 -- Which new spans, events and probes a dispatcher lets by. One that keeps the hint and interests goes by these first; one that keeps nothing asks everything.
-use Rattle.std.specs.Prelude.{◌≡◌, ◌⊎◌, ℕ, Bool, true, false, Option, Some, None, Result, Ok, Err, IfErr, OnOk}
+use Rattle.std.specs.Prelude.{◌≡◌, ◌⊎◌, ⊤, ℕ, Bool, true, false, Option, Some, None, Result, Ok, Err, IfErr, OnOk}
 use Rattle.std.specs.Option.{option_map}
 use Rattle.span_core.specs.Level.{is_above}
 use Rattle.span_core.specs.Metadata.{level_of}
@@ -11,17 +11,21 @@ use Rattle.span_core.specs.declared.level.LevelFilter.{LevelFilter}
 use Rattle.span_core.specs.declared.metadata.Metadata.{Metadata}
 use Rattle.span_core.specs.declared.pass.Pass.{Pass}
 use Rattle.span_core.specs.declared.span.Lane.{Lane}
-use Rattle.span_dispatch.specs.Cache.{Agrees, IsUpToDate, Memory, ReadsOnce, RefusesBelow, RefusesInterest, hint_in, is_above_read, kept_in, with_callsite}
+use Rattle.span_dispatch.specs.Cache.{Agrees, IsKept, IsUpToDate, Memory, ReadsOnce, RefusesBelow, RefusesInterest, hint_in, is_above_read, kept_in, with_callsite}
+use Rattle.span_dispatch.specs.declared.cache.Cache.TheVariants as cache
 use Rattle.span_dispatch.specs.declared.cache.Cache.{Cache}
+use Rattle.span_dispatch.specs.declared.cache.Callsite.{Callsite}
+use Rattle.span_dispatch.specs.declared.cache.Known.{Known}
 use Rattle.span_dispatch.specs.declared.request.Answer.TheVariants as answer
 use Rattle.span_dispatch.specs.declared.request.Answer.{Answer}
-use Rattle.span_layers.specs.Honest.{HasHonestAnswers}
+use Rattle.span_layers.specs.Honest.{HasHonestAnswers, IsHonestStack}
 use Rattle.span_layers.specs.Verdict.{vetoes}
-use Rattle.span_layers.specs.Wanted.{IsUnwanted}
+use Rattle.span_layers.specs.Wanted.{IsUnwanted, IsWantedByAll}
+use Rattle.span_registry.specs.Follows.{Keeps}
 use Rattle.span_registry.specs.Form.{Form}
 use Rattle.span_registry.specs.Hooks.{no_filter}
 use Rattle.span_registry.specs.Question.{asked, hint_of, interest_of, is_never, refusals}
-use Rattle.span_registry.specs.Store.{RegistryState}
+use Rattle.span_registry.specs.Store.{RegistryState, Store}
 
 -- the hint that a dispatcher goes by: its stack's, or none where it keeps nothing
 abbrev pub hint_kept : Memory → Form → Option LevelFilter
@@ -84,6 +88,29 @@ LearnsOfSpan memory f m a after = after ≡ learned memory f m
 abbrev pub MayLearn : Memory → Metadata → Memory → Type 0
 MayLearn memory m after = (after ≡ memory) ⊎ (after ≡ learned_if false memory m)
 
+-- what is kept loses nothing, whatever the filters learn: a level above the hint, and an interest of never in what shows the same, are of what nobody wants in any store; of always, of what all want
+pub record LosesNothing (f : Form) (filters : ℕ) (k : Known) : Type 0 where
+  pub above : (g : Form) (m : Metadata) (s : Store) (lane : ℕ) → Keeps f g → IsHonestStack g filters → is_above (level_of m) k.hint ≡ true → IsUnwanted g m s lane
+  pub never : (g : Form) (m : Metadata) (one : Callsite) (s : Store) (lane : ℕ) → Keeps f g → IsHonestStack g filters → IsKept k m one → one.interest ≡ Never → IsUnwanted g m s lane
+  pub always : (g : Form) (m : Metadata) (one : Callsite) (s : Store) (lane : ℕ) → Keeps f g → IsHonestStack g filters → IsKept k m one → one.interest ≡ Always → IsWantedByAll g m s lane
+
+-- so it is of a cache, if anything is in it
+abbrev pub KeepsSafely : Form → ℕ → Cache → Type 0
+KeepsSafely f filters (cache.Filled k) = LosesNothing f filters k
+KeepsSafely f filters other = ⊤
+
+-- what an interest promises of these metadata, in any store
+abbrev pub Promises : Form → Metadata → Result Interest TraceError → Type 0
+Promises f m (Ok Never) = (s : Store) (lane : ℕ) → IsUnwanted f m s lane
+Promises f m (Ok Always) = (s : Store) (lane : ℕ) → IsWantedByAll f m s lane
+Promises f m given = ⊤
+
+-- what comes of asking whether metadata are wanted: true, with the pass that a new one becomes where all are asked; or nobody wants them
+abbrev pub Decides : Form → Store → Lane → Metadata → Pass → Result Bool TraceError → Type 0
+Decides f s lane m pass (Ok true) = asked f m s lane.0 no_filter no_filter ≡ (true, refusals pass)
+Decides f s lane m pass (Ok false) = IsUnwanted f m s lane.0
+Decides f s lane m pass (Err e) = ⊤
+
 -- Below: steps of the code, which no public clause cites.
 
 -- the interest by which metadata are let by: never above the hint; sometimes where nothing is kept; else the stack's
@@ -108,6 +135,7 @@ pub record GivesInterest {S : Type 0} (registry : S → RegistryState) (has_form
   pub above : is_above_read (hint_in new) m ≡ true → i ≡ Ok Never
   pub mismatch : RefusesBelow (hint_in old) (kept_in old) m CallsiteMismatch → i ≡ Err CallsiteMismatch
   pub refused : IfErr i (RefusesBelow (hint_in old) (kept_in old) m)
+  pub safe : (f : Form) → has_form x f → IsHonestStack f (registry x).filters → KeepsSafely f (registry x).filters old → Promises f m i × KeepsSafely f (registry x).filters new
   pub by_form : (f : Form) → has_form x f → HasHonestAnswers f → IsUpToDate f (registry x).filters old → HasInterestBy (kept_in old) f (registry x).filters m (kept_in new) i
   pub kept : (f : Form) → has_form x f → IsUpToDate f (registry x).filters old → IsUpToDate f (registry x).filters new
 

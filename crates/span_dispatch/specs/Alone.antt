@@ -1,17 +1,9 @@
 -- What a leaf sees of what was made; and what it would see if it and the filters round it stood alone, with no other layer or filter beside them.
 use Rattle.std.specs.Prelude.{◌≡◌, ℕ, true, if◌then◌else◌, List, [], ◌∷◌, ◌++◌, Option, Some, None}
-use Rattle.std.specs.FinMap.{insert}
-use Rattle.std.specs.FinSet.{insert as add}
 use Rattle.span_core.specs.Filters.{FilterSet, union}
-use Rattle.span_core.specs.Span.{asked_parent, metadata_of, number_of}
-use Rattle.span_core.specs.declared.filter.FilterMap.{FilterMap}
-use Rattle.span_core.specs.declared.span.Attributes.{Attributes}
-use Rattle.span_core.specs.declared.span.Id.{Id}
-use Rattle.span_core.specs.declared.span.Lane.{Lane}
-use Rattle.span_dispatch.specs.Outcome.{GoneLeft, HandleAdded, HandleTaken, IsVerdict, LevelSet, Made, Noticed, Outcome, Quiet}
+use Rattle.span_dispatch.specs.Outcome.{LevelSet, Made, Noticed, Outcome, Quiet, Steps, given_in}
 use Rattle.span_layers.specs.Observe.{open_answers}
-use Rattle.span_registry.specs.Answers.{Notice, OnClose, OnEnter, OnEvent, OnExit, OnFollows, OnIdChange, OnNewSpan, OnRecord}
-use Rattle.span_registry.specs.Closes.{without}
+use Rattle.span_registry.specs.Answers.{Notice}
 use Rattle.span_registry.specs.Conducts.{Conducts, after_notice, path_now, setting}
 use Rattle.span_registry.specs.Form.{Filtered, Form, Leaf}
 use Rattle.span_registry.specs.Hooks.{no_filter}
@@ -19,19 +11,19 @@ use Rattle.span_registry.specs.Path.{Path, mask_of, passes_path, path_at}
 use Rattle.span_registry.specs.Place.{Heard, Place, told_in}
 use Rattle.span_registry.specs.Plan.{passes}
 use Rattle.span_registry.specs.Question.{single}
-use Rattle.span_registry.specs.Step.{IsParentFor, begun, entered, exited}
-use Rattle.span_registry.specs.Store.{IsClosing, IsHeld, IsOpen, Span, Store, add_handle, take_handle}
+use Rattle.span_registry.specs.Store.{Store}
 use Rattle.span_registry.specs.View.{view_of}
 
--- what passes the path of a leaf or a filter, of an outcome on this store: a notice that passes all its filters, asked afresh, told as the store shows it that it is given in, under these filters; of all else nothing
+-- what passes the path of a leaf or a filter, of an outcome between two stores: a notice that all its filters pass, asked afresh on the first
 abbrev pub passed : Option Path → Outcome → Store → Store → Heard
-passed (Some path) (Noticed lane e) s given = if passes_path path e s lane.0 no_filter then told_in e given lane.0 (mask_of path no_filter) ∷ [] else []
-passed path o s given = []
+passed (Some path) (Noticed lane e) s t =
+    if passes_path path e s lane.0 no_filter then told_in e (given_in e s t) lane.0 (mask_of path no_filter) ∷ [] else []
+passed path o s t = []
 
 -- what passes the path of the leaf or the filter at a place, of what was made: a leaf there sees just that
 abbrev pub seen : Place → List Made → Heard
 seen place [] = []
-seen place (m ∷ ms) = passed (path_at m.form place) m.outcome m.store m.given ++ seen place ms
+seen place (m ∷ ms) = passed (path_at m.form place) m.outcome m.before m.after ++ seen place ms
 
 -- Below: nothing names another layer or filter than those of one path.
 
@@ -39,43 +31,6 @@ seen place (m ∷ ms) = passed (path_at m.form place) m.outcome m.store m.given 
 abbrev pub lone : Path → Form
 lone [] = Leaf true open_answers
 lone ((n, a) ∷ path) = Filtered n a (lone path)
-
--- the store with one span more
-abbrev pub with_new : Store → ℕ → Span → Store
-with_new s x r = record s { spans = insert s.spans x r; issued = add s.issued x }
-
--- a new span is in the store, with the parent that it gets there, and with a verdict of the path's filters alone
-pub record OpensAlone (path : Path) (lane : Lane) (attrs : Attributes) (id : Id) (s t : Store) : Type 0 where
-  pub parent : Option ℕ
-  pub chosen : IsParentFor s lane (asked_parent attrs) parent
-  pub verdict : FilterMap
-  pub refused : IsVerdict (lone path) (metadata_of attrs) s lane verdict
-  pub state : t ≡ with_new s (number_of id) (begun (record { metadata = metadata_of attrs; parent = asked_parent attrs; verdict = verdict }) parent)
-
--- what an outcome makes of the store
-abbrev pub StepsAlone : Path → Outcome → Store → Store → Type 0
-StepsAlone path (Noticed lane (OnNewSpan attrs id)) s t = OpensAlone path lane attrs id s t
-StepsAlone path (Noticed lane (OnRecord id values)) s t = IsOpen s.spans (number_of id) × (t ≡ s)
-StepsAlone path (Noticed lane (OnFollows id other)) s t = IsOpen s.spans (number_of id) × (t ≡ s)
-StepsAlone path (Noticed lane (OnEvent e)) s t = t ≡ s
-StepsAlone path (Noticed lane (OnEnter id)) s t = IsOpen s.spans (number_of id) × (t ≡ entered s lane.0 (number_of id))
-StepsAlone path (Noticed lane (OnExit id)) s t = IsOpen s.spans (number_of id) × (t ≡ exited s lane.0 (number_of id))
-StepsAlone path (Noticed lane (OnIdChange id other)) s t = ⊥
-StepsAlone path (Noticed lane (OnClose id)) s t = IsClosing s.spans (number_of id) × (t ≡ without s (number_of id ∷ []))
-StepsAlone path (Quiet (HandleAdded id)) s t = IsOpen s.spans (number_of id) × (t ≡ record s { spans = add_handle s.spans (number_of id) })
-StepsAlone path (Quiet (HandleTaken id)) s t = IsHeld s.spans (number_of id) × (t ≡ record s { spans = take_handle s.spans (number_of id) })
-StepsAlone path (LevelSet n l) s t = t ≡ s
-StepsAlone path (Quiet (GoneLeft lane id)) s t = ¬ (IsOpen s.spans (number_of id)) × (t ≡ exited s lane.0 (number_of id))
-
--- the store that a notice is given in: the one after its step, but a close is given while its span is still there
-abbrev pub given_in : Notice → Store → Store → Store
-given_in (OnClose id) s t = s
-given_in e s t = t
-
--- the same of an outcome: of what nobody is notified of it is the store before
-abbrev pub given_of : Outcome → Store → Store → Store
-given_of (Noticed lane e) s t = given_in e s t
-given_of other s t = s
 
 -- the filters' conducts after a notice: a filter learns of what it passes itself, and all filters round it pass, asked in the store before it; u is the store that it is given in
 abbrev pub learning : Conducts → Notice → Store → Store → ℕ → FilterSet → Conducts
@@ -95,4 +50,4 @@ acting cs (LevelSet n l) s t = setting n l cs
 abbrev pub Alone : Conducts → Store → List Outcome → Heard → Type 0
 Alone cs s [] heard = heard ≡ []
 Alone cs s (o ∷ outcomes) heard =
-    (t : Store) × (rest : Heard) × StepsAlone (path_now cs) o s t × Alone (acting cs o s t) t outcomes rest × (heard ≡ passed (Some (path_now cs)) o s (given_of o s t) ++ rest)
+    (t : Store) × (rest : Heard) × Steps (lone (path_now cs)) o s t × Alone (acting cs o s t) t outcomes rest × (heard ≡ passed (Some (path_now cs)) o s t ++ rest)

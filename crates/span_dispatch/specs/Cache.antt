@@ -83,6 +83,11 @@ abbrev pub forgotten : Cache → Cache
 forgotten (cache.Filled k) = cache.Empty
 forgotten other = other
 
+-- of the callsite of these metadata this is kept, of metadata that show the same
+pub record IsKept (k : Known) (m : Metadata) (one : Callsite) : Type 0 where
+  pub there : tree.get nat_cmp k.callsites (callsite_of m) ≡ Some one
+  pub same : ShowSame one.metadata m
+
 -- what is known is what a stack of this form would answer now, on a registry that handed out this many filters
 pub record IsCurrent (f : Form) (filters : ℕ) (k : Known) : Type 0 where
   pub hint : k.hint ≡ hint_of f

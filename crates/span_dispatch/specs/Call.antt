@@ -71,41 +71,33 @@ pub record DropsHandle (lane : Lane) (id : Id) (s : Store) (closes : Bool) (os :
   pub outcomes : os ≡ Quiet (HandleTaken id) ∷ closes_of lane closed
   pub itself : IsTrue closes ↔ Member (number_of id) closed
 
--- a fact holds, and nothing comes of the call
-abbrev pub AndNothing : Type 0 → List Outcome → Type 0
-AndNothing fact os = fact × (os ≡ [])
-
--- a fact holds, and this alone comes of the call
-abbrev pub AndOne : Type 0 → Outcome → List Outcome → Type 0
-AndOne fact o os = fact × (os ≡ o ∷ [])
-
--- how a call is answered by a stack of this form on this registry, where these callsites are kept, and which outcomes come of it. A new span and an event are dropped exactly where hint or interest rule them out or a leaf vetoes; no layer refuses anything else
-abbrev pub Comes : Call → Memory → Form → RegistryState → Answer → List Outcome → Type 0
-Comes (OpenSpan lane a) memory f s (answer.Made id) os = AndOne (IsMade memory f s (metadata_of a) (vetoes f (metadata_of a) s.store lane.0)) (Noticed lane (OnNewSpan a id)) os
-Comes (OpenSpan lane a) memory f s answer.Dropped os = AndNothing (IsDropped memory f s lane (metadata_of a) (vetoes f (metadata_of a) s.store lane.0)) os
-Comes (OpenSpan lane a) memory f s (answer.Refused e) os =
-    AndNothing (IsUnknown memory f (metadata_of a) e ⊎ (IsMade memory f s (metadata_of a) (vetoes f (metadata_of a) s.store lane.0) × RefusesNew s lane (asked_parent a) e)) os
-Comes (SendEvent lane e) memory f s answer.Done os = AndOne (IsMade memory f s (event_metadata e) (vetoes_whole f e s.store lane)) (Noticed lane (OnEvent e)) os
-Comes (SendEvent lane e) memory f s answer.Dropped os = AndNothing (IsDropped memory f s lane (event_metadata e) (vetoes_whole f e s.store lane)) os
-Comes (SendEvent lane e) memory f s (answer.Refused error) os = AndNothing (IsUnknown memory f (event_metadata e) error) os
-Comes (Enter lane id) memory f s answer.Done os = AndOne ⊤ (Noticed lane (OnEnter id)) os
-Comes (Enter lane id) memory f s (answer.Refused e) os = AndNothing (RefusesEnter s id e) os
-Comes (Exit lane id) memory f s answer.Done os = LeavesSpan lane id s.store os
-Comes (RecordValues lane id values) memory f s answer.Done os = AndOne ⊤ (Noticed lane (OnRecord id values)) os
-Comes (RecordValues lane id values) memory f s (answer.Refused e) os = AndNothing (RefusesUnlessOpen s id e) os
-Comes (Follow lane id other) memory f s answer.Done os = AndOne ⊤ (Noticed lane (OnFollows id other)) os
-Comes (Follow lane id other) memory f s (answer.Refused e) os = AndNothing (RefusesUnlessOpen s id e) os
-Comes (AddHandle lane id) memory f s answer.Done os = AndOne ⊤ (Quiet (HandleAdded id)) os
-Comes (AddHandle lane id) memory f s (answer.Refused e) os = AndNothing (RefusesClone s id e) os
-Comes (DropHandle lane id) memory f s (answer.Yes closes) os = DropsHandle lane id s.store closes os
-Comes (DropHandle lane id) memory f s (answer.Refused e) os = AndNothing (RefusesRelease s id e) os
-Comes (Probe lane m) memory f s (answer.Yes true) os = AndNothing (IsMade memory f s m (vetoes f m s.store lane.0)) os
-Comes (Probe lane m) memory f s (answer.Yes false) os = AndNothing (IsDropped memory f s lane m (vetoes f m s.store lane.0)) os
-Comes (Probe lane m) memory f s (answer.Refused e) os = AndNothing (IsUnknown memory f m e) os
-Comes (AskCurrent lane) memory f s (answer.Current o) os = AndNothing (IsCurrent s.store lane.0 (option_map number_of o)) os
-Comes (SetLevel n l) memory f s answer.Done os = AndOne (takes_level f n l ≡ true) (LevelSet n l) os
-Comes (SetLevel n l) memory f s (answer.Refused e) os = AndNothing (RefusesLevel f n l e) os
-Comes call memory f s a os = ⊥
+-- how a stack of this form on this registry answers a call, where these callsites are kept. A new span and an event are dropped exactly where hint or interest rule them out or a leaf vetoes; no layer refuses anything else
+abbrev pub AnswersWith : Call → Memory → Form → RegistryState → Answer → Type 0
+AnswersWith (OpenSpan lane a) memory f s (answer.Made id) = IsMade memory f s (metadata_of a) (vetoes f (metadata_of a) s.store lane.0)
+AnswersWith (OpenSpan lane a) memory f s answer.Dropped = IsDropped memory f s lane (metadata_of a) (vetoes f (metadata_of a) s.store lane.0)
+AnswersWith (OpenSpan lane a) memory f s (answer.Refused e) =
+    IsUnknown memory f (metadata_of a) e ⊎ (IsMade memory f s (metadata_of a) (vetoes f (metadata_of a) s.store lane.0) × RefusesNew s lane (asked_parent a) e)
+AnswersWith (SendEvent lane e) memory f s answer.Done = IsMade memory f s (event_metadata e) (vetoes_whole f e s.store lane)
+AnswersWith (SendEvent lane e) memory f s answer.Dropped = IsDropped memory f s lane (event_metadata e) (vetoes_whole f e s.store lane)
+AnswersWith (SendEvent lane e) memory f s (answer.Refused error) = IsUnknown memory f (event_metadata e) error
+AnswersWith (Enter lane id) memory f s answer.Done = ⊤
+AnswersWith (Enter lane id) memory f s (answer.Refused e) = RefusesEnter s id e
+AnswersWith (Exit lane id) memory f s answer.Done = ⊤
+AnswersWith (RecordValues lane id values) memory f s answer.Done = ⊤
+AnswersWith (RecordValues lane id values) memory f s (answer.Refused e) = RefusesUnlessOpen s id e
+AnswersWith (Follow lane id other) memory f s answer.Done = ⊤
+AnswersWith (Follow lane id other) memory f s (answer.Refused e) = RefusesUnlessOpen s id e
+AnswersWith (AddHandle lane id) memory f s answer.Done = ⊤
+AnswersWith (AddHandle lane id) memory f s (answer.Refused e) = RefusesClone s id e
+AnswersWith (DropHandle lane id) memory f s (answer.Yes closes) = ⊤
+AnswersWith (DropHandle lane id) memory f s (answer.Refused e) = RefusesRelease s id e
+AnswersWith (Probe lane m) memory f s (answer.Yes true) = IsMade memory f s m (vetoes f m s.store lane.0)
+AnswersWith (Probe lane m) memory f s (answer.Yes false) = IsDropped memory f s lane m (vetoes f m s.store lane.0)
+AnswersWith (Probe lane m) memory f s (answer.Refused e) = IsUnknown memory f m e
+AnswersWith (AskCurrent lane) memory f s (answer.Current o) = IsCurrent s.store lane.0 (option_map number_of o)
+AnswersWith (SetLevel n l) memory f s answer.Done = takes_level f n l ≡ true
+AnswersWith (SetLevel n l) memory f s (answer.Refused e) = RefusesLevel f n l e
+AnswersWith call memory f s a = ⊥
 
 -- which callsites are kept after a call was answered so: of what is asked by metadata that callsite, too; none once a level was set
 abbrev pub KeepsAfter : Call → Memory → Form → Answer → Memory → Type 0

@@ -17,11 +17,12 @@ use Rattle.span_core.specs.declared.span.Id.{Id}
 use Rattle.span_core.specs.declared.span.Lane.{Lane}
 use Rattle.span_core.specs.declared.span.Parent.{Parent}
 use Rattle.span_core.specs.declared.span.Record.{Record}
-use Rattle.span_dispatch.specs.Admission.{IsAdmitted, MayLearn, hint_kept, learned_if}
-use Rattle.span_dispatch.specs.Cache.{ReadsOnce, RefusesBelow, RefusesInterest, is_above_read}
+use Rattle.span_dispatch.specs.Admission.{Decides, IsAdmitted, KeepsSafely, MayLearn, hint_kept, learned_if}
+use Rattle.span_dispatch.specs.Cache.{IsUpToDate, ReadsOnce, RefusesBelow, RefusesInterest, is_above_read}
 use Rattle.span_dispatch.specs.Call.{AddHandle, AskCurrent, Call, DropHandle, DropsSpan, Enter, Exit, Follow, OpenSpan, OpensFor, Probe, RecordValues, SendEvent, SetLevel, current_answer, done_answer, event_answer, span_answer, yes_answer}
 use Rattle.span_dispatch.specs.Outcome.{IsHonest, Made, Makes}
-use Rattle.span_dispatch.specs.Serve.{IsReady, IsReadyAfter, IsReadyBy, IsReadySomehow, KeepsUpToDate, Sees, Served, ServesCall, ServesRequest, forgetful, hint_by, kept_by, stack_of, with_stack}
+use Rattle.span_dispatch.specs.Serve.{AnswersExactly, IsCurrentSomehow, IsReady, IsReadyAfter, IsReadySomehow, IsReadyWith, IsTold, KeepsUpToDate, Sees, Served, ServedExactly, ServesRequest, TellsAsked, call_of, forgetful, hint_by, kept_by, stack_of, with_stack}
+use Rattle.span_dispatch.specs.declared.cache.Cache.{Cache}
 use Rattle.span_dispatch.specs.declared.dispatch.Dispatch.{Dispatch}
 use Rattle.span_dispatch.specs.declared.request.Answer.TheVariants.{Done}
 use Rattle.span_dispatch.specs.declared.request.Answer.{Answer}
@@ -135,27 +136,25 @@ module _ {S : Type 0} (s : SubscriberOf S) where
   abbrev pub CurrentBy : Form → Dispatch S → Type 0
   CurrentBy f d = KeepsUpToDate f (registry_of d).filters d
 
-  -- it is ready by this form
-  abbrev pub ReadyBy : Form → Dispatch S → Type 0
-  ReadyBy f d = IsReadyBy s.registry s.with_registry s.has_form s.stepped s.levelled f d
+  -- what it keeps loses nothing, by this form
+  abbrev pub SafeBy : Form → Dispatch S → Type 0
+  SafeBy f d = KeepsSafely f (registry_of d).filters d.cache
 
-  -- it is ready by a form that keeps this of the old one
-  abbrev pub ReadyAfter : (Form → Form → Type 0) → Form → Dispatch S → Type 0
-  ReadyAfter keeps f d = IsReadyAfter s.registry s.with_registry s.has_form s.stepped s.levelled keeps f d
-
-  -- a call is answered so by a stack of this form
-  abbrev pub ServesBy : Call → Form → Answer → Dispatch S → Dispatch S → Type 0
-  ServesBy call f a old new = ServesCall s.registry s.with_registry s.has_form s.stepped s.levelled call f a old new
+  -- it is ready by a form that keeps this of the old one, with this said of what it keeps
+  abbrev pub ReadyAfter : (Form → ℕ → Cache → Type 0) → (Form → Form → Type 0) → Form → Dispatch S → Type 0
+  ReadyAfter Kept keeps f d = IsReadyAfter s.registry s.with_registry s.has_form s.stepped s.levelled Kept keeps f d
 
   -- ---- what is promised of an honest stack
 
-  -- a stack that was ready is ready in its dispatcher, by a form that keeps what the old one had
-  abbrev pub BecomesReady : S → Dispatch S → Type 0
-  BecomesReady x d = (f : Form) → IsReady s.registry s.with_registry s.has_form s.stepped s.levelled f x → ReadyAfter Keeps f d
+  -- a stack that was ready is ready in its dispatcher, by a form that keeps what the old one had, whatever is said of what is kept: nothing is yet
+  pub record BecomesReady (x : S) (d : Dispatch S) : Type 0 where
+    pub safe : (f : Form) → IsReady s.registry s.with_registry s.has_form s.stepped s.levelled f x → ReadyAfter KeepsSafely Keeps f d
+    pub current : (f : Form) → IsReady s.registry s.with_registry s.has_form s.stepped s.levelled f x → ReadyAfter IsUpToDate Keeps f d
 
-  -- a dispatcher that was ready is ready again, by a form that keeps this of the old one
-  abbrev pub StaysReadyWith : (Form → Form → Type 0) → Dispatch S → Dispatch S → Type 0
-  StaysReadyWith keeps old new = (f : Form) → ReadyBy f old → ReadyAfter keeps f new
+  -- a dispatcher that was ready is ready again, by a form that keeps this of the old one: both with what loses nothing kept, and with what its stack would answer now
+  pub record StaysReadyWith (keeps : Form → Form → Type 0) (old new : Dispatch S) : Type 0 where
+    pub safe : (f : Form) → IsReadyWith s.registry s.with_registry s.has_form s.stepped s.levelled KeepsSafely f old → ReadyAfter KeepsSafely keeps f new
+    pub current : (f : Form) → IsReadyWith s.registry s.with_registry s.has_form s.stepped s.levelled IsUpToDate f old → ReadyAfter IsUpToDate keeps f new
 
   -- by one that keeps what the old one had: interest and hint of each filter too
   abbrev pub StaysReady : Dispatch S → Dispatch S → Type 0
@@ -169,13 +168,14 @@ module _ {S : Type 0} (s : SubscriberOf S) where
   abbrev pub StaysReadyByRules : Dispatch S → Dispatch S → Type 0
   StaysReadyByRules old new = StaysReadyWith KeepsRules old new
 
-  -- an honest stack answers a call so, where what is kept is what it would answer now
-  abbrev pub AnswersCall : Call → Answer → Dispatch S → Dispatch S → Type 0
-  AnswersCall call a old new = (f : Form) → HonestBy f old → CurrentBy f old → ServesBy call f a old new
+  -- an honest stack is told of a call so, where what is kept loses nothing; and it answers it exactly so, where what is kept is what it would answer now
+  pub record AnswersCall (call : Call) (a : Answer) (old new : Dispatch S) : Type 0 where
+    pub told : (f : Form) → HonestBy f old → SafeBy f old → IsTold s.registry s.with_registry s.has_form s.stepped s.levelled call f a (stack_of old) (stack_of new)
+    pub exact : (f : Form) → HonestBy f old → CurrentBy f old → AnswersExactly call f (kept_by old) (registry_of old) a (kept_by new)
 
-  -- and so does a dispatcher that is ready answer a drop
+  -- and so does a drop, where no span was closing
   abbrev pub AnswersDrop : Call → Answer → Dispatch S → Dispatch S → Type 0
-  AnswersDrop call a old new = (f : Form) → ReadyBy f old → ServesBy call f a old new
+  AnswersDrop call a old new = IsSettled (registry_of old).store.spans → AnswersCall call a old new
 
   -- so is `enabled` answered, with what it gives for an answer
   abbrev pub ServesEnabled : Lane → Metadata → Result Bool TraceError → Dispatch S → Dispatch S → Type 0
@@ -225,17 +225,27 @@ module _ {S : Type 0} (s : SubscriberOf S) where
   abbrev pub Admits : Lane → Metadata → Dispatch S → Pass → Result Bool TraceError → Dispatch S → Type 0
   Admits lane m old pass said new = (f : Form) → HonestBy f old → CurrentBy f old → IsAdmitted (kept_by old) f (registry_of old) lane m pass (kept_by new) said
 
+  -- and where what is kept loses nothing
+  abbrev pub AdmitsSafely : Lane → Metadata → Dispatch S → Pass → Result Bool TraceError → Type 0
+  AdmitsSafely lane m old pass said = (f : Form) → HonestBy f old → SafeBy f old → Decides f (registry_of old).store lane m pass said
+
   -- a dispatcher that is ready serves the next request so
-  abbrev pub ServesNext : List Answer → Request → Answer → Dispatch S → Dispatch S → Type 0
-  ServesNext past r a old new =
-      IsReadySomehow s.registry s.with_registry s.has_form s.stepped s.levelled old
-      → (made : List Made) × ServesRequest s.registry s.with_registry s.has_form s.stepped s.levelled past r (kept_by old) (stack_of old) a made (kept_by new) (stack_of new)
+  pub record ServesNext (past : List Answer) (r : Request) (a : Answer) (old new : Dispatch S) : Type 0 where
+    pub told : IsReadySomehow s.registry s.with_registry s.has_form s.stepped s.levelled old → (made : List Made) × TellsAsked s.registry s.with_registry s.has_form s.stepped s.levelled (call_of past r) (stack_of old) a made (stack_of new)
+    pub exact : IsCurrentSomehow s.registry s.with_registry s.has_form s.stepped s.levelled old
+        → (made : List Made) × ServesRequest s.registry s.with_registry s.has_form s.stepped s.levelled past r (kept_by old) (stack_of old) a made (kept_by new) (stack_of new)
 
   -- a dispatcher that is ready serves a list so
   abbrev pub ServesList : List Request → Dispatch S → Dispatch S → Vec Answer Global → Type 0
   ServesList requests old new answers =
       IsReadySomehow s.registry s.with_registry s.has_form s.stepped s.levelled old
-      → Served s.registry s.with_registry s.has_form s.stepped s.levelled s.hears s.acts_at requests answers.items old new
+      → Served s.registry s.with_registry s.has_form s.stepped s.levelled s.hears s.acts_at requests answers.items (stack_of old) (stack_of new)
+
+  -- and answers each request of it exactly so, where what it keeps is what its stack would answer now
+  abbrev pub ServesListExactly : List Request → Dispatch S → Dispatch S → Vec Answer Global → Type 0
+  ServesListExactly requests old new answers =
+      IsCurrentSomehow s.registry s.with_registry s.has_form s.stepped s.levelled old
+      → ServedExactly s.registry s.with_registry s.has_form s.stepped s.levelled s.hears requests answers.items old new
 
   -- whatever was made between the two, each leaf sees of it what its path passes, as if it stood alone
   abbrev pub SeesWhatIsMade : Dispatch S → Dispatch S → Type 0
@@ -247,6 +257,10 @@ module _ {S : Type 0} (s : SubscriberOf S) where
   -- where what was kept is what the stack would answer, by a form that it has, so is what is kept now
   abbrev pub StaysUpToDate : Dispatch S → Dispatch S → Type 0
   StaysUpToDate old new = (f : Form) → s.has_form (stack_of old) f → CurrentBy f old → KeepsUpToDate f (registry_of old).filters new
+
+  -- where what was kept lost nothing, by a form that it has and is honest by, neither does what is kept now
+  abbrev pub StaysSafe : Dispatch S → Dispatch S → Type 0
+  StaysSafe old new = (f : Form) → HonestBy f old → SafeBy f old → KeepsSafely f (registry_of old).filters new.cache
 
   -- whether a filter with this number takes this level, by each form that the stack has
   abbrev pub TakesLevel : ℕ → LevelFilter → Dispatch S → Bool → Type 0

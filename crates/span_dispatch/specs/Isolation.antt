@@ -2,9 +2,9 @@
 use Rattle.std.specs.Prelude.{◌≡◌, ⊤, List, [], ◌∷◌, map}
 use Rattle.std.specs.List.{FoldsTo}
 use Rattle.span_core.specs.Filters.{FilterSet}
-use Rattle.span_dispatch.specs.Alone.{StepsAlone, seen}
+use Rattle.span_dispatch.specs.Alone.{lone, seen}
 use Rattle.span_dispatch.specs.Effect.{MadeCall, OutcomesFrom, OutcomesOf}
-use Rattle.span_dispatch.specs.Outcome.{Made, Makes, Outcome}
+use Rattle.span_dispatch.specs.Outcome.{Made, Makes, Outcome, Steps}
 use Rattle.span_dispatch.specs.Serve.{Served, flat, made_calls, outcome_of, stack_of}
 use Rattle.span_dispatch.specs.declared.dispatch.Dispatch.{Dispatch}
 use Rattle.span_dispatch.specs.declared.request.Answer.{Answer}
@@ -60,7 +60,7 @@ pub record SeesServed {S : Type 0} (registry : S → RegistryState) (with_regist
   pub new : Dispatch S
   pub requests : List Request
   pub answers : List Answer
-  pub served : Served registry with_registry has_form stepped levelled hears acts_at requests answers old new
+  pub served : Served registry with_registry has_form stepped levelled hears acts_at requests answers (stack_of old) (stack_of new)
   pub place : Place
   pub acts : acts_at (stack_of old) place cs
   pub at_store : (registry (stack_of old)).store ≡ s
@@ -73,7 +73,7 @@ pub record SeesCalls {S : Type 0} (registry : S → RegistryState) (with_registr
   pub new : Dispatch S
   pub requests : List Request
   pub answers : List Answer
-  pub served : Served registry with_registry has_form stepped levelled hears acts_at requests answers old new
+  pub served : Served registry with_registry has_form stepped levelled hears acts_at requests answers (stack_of old) (stack_of new)
   pub place : Place
   pub acts : acts_at (stack_of old) place cs
   pub at_store : (registry (stack_of old)).store ≡ s
@@ -91,4 +91,4 @@ HaveSameOutcomes calls = (s t : Store) (os us : List Outcome) → AgreeAt no_fil
 -- behind filters that act alike, an outcome leaves stores that agree as those before it did
 abbrev pub KeepsAgreement : Outcome → Type 0
 KeepsAgreement o =
-    (cs ds : Conducts) (s t u v : Store) → PathsActAlike cs ds → AgreeAt (numbers_in cs) s t → StepsAlone (path_now cs) o s u → StepsAlone (path_now ds) o t v → AgreeAt (numbers_in cs) u v
+    (cs ds : Conducts) (s t u v : Store) → PathsActAlike cs ds → AgreeAt (numbers_in cs) s t → Steps (lone (path_now cs)) o s u → Steps (lone (path_now ds)) o t v → AgreeAt (numbers_in cs) u v

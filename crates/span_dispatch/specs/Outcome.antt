@@ -1,102 +1,108 @@
--- What comes of a request: notices, and changes of the store that nobody is notified of; and how a stack goes through them.
-use Rattle.std.specs.Prelude.{◌≡◌, ℕ, true, Option}
+-- What comes of a request: notices, changes of the store of which nobody is told, and levels that filters take; and what each does to a store, and to a stack.
+use Rattle.std.specs.Prelude.{◌≡◌, ℕ, true, false, List, [], ◌∷◌, Option}
+use Rattle.std.specs.FinMap.{insert}
+use Rattle.std.specs.FinSet.{contains, insert as add}
 use Rattle.span_core.specs.Filters.{refuses}
 use Rattle.span_core.specs.Span.{asked_parent, metadata_of, number_of}
 use Rattle.span_core.specs.declared.filter.FilterMap.{FilterMap}
 use Rattle.span_core.specs.declared.level.LevelFilter.{LevelFilter}
 use Rattle.span_core.specs.declared.metadata.Metadata.{Metadata}
+use Rattle.span_core.specs.declared.span.Attributes.{Attributes}
 use Rattle.span_core.specs.declared.span.Id.{Id}
 use Rattle.span_core.specs.declared.span.Lane.{Lane}
 use Rattle.span_layers.specs.Honest.{IsHonestStack}
 use Rattle.span_layers.specs.Verdict.{in_verdict}
 use Rattle.span_registry.specs.Answers.{Notice, OnClose, OnEnter, OnEvent, OnExit, OnFollows, OnIdChange, OnNewSpan, OnRecord}
+use Rattle.span_registry.specs.Closes.{without}
 use Rattle.span_registry.specs.Form.{Form}
 use Rattle.span_registry.specs.Hooks.{StackSteps, no_filter}
 use Rattle.span_registry.specs.Levels.{LevelSteps, takes_level}
 use Rattle.span_registry.specs.Plan.{asked_afresh}
-use Rattle.span_registry.specs.Step.{Clones, Enters, Exits, Opens, Removes}
-use Rattle.span_registry.specs.Store.{IsClosing, IsHeld, IsOpen, RegistryState, Store, take_handle, with_spans}
-use Rattle.span_registry.specs.Subscriber.{SameButExtensions}
+use Rattle.span_registry.specs.Step.{IsParentFor, begun, entered, exited}
+use Rattle.span_registry.specs.Store.{IsClosing, IsHeld, IsOpen, RegistryState, Span, Store, add_handle, take_handle}
 
--- a change of the store that nobody is notified of: a span has a handle more, or a handle less; a lane leaves a span that isn't open
+-- a change of the store of which nobody is told: a span has a handle more, or a handle less; a lane leaves a span that isn't open
 pub data Change : Type 0 where
   HandleAdded : Id → Change
   HandleTaken : Id → Change
   GoneLeft : Lane → Id → Change
 
--- one thing that comes of a request: a notice from a lane, a quiet change, or a level that the filter with a number took, of which nobody is notified either
+-- one thing that comes of a request: a notice from a lane, a quiet change, or a level that the filter with a number takes
 pub data Outcome : Type 0 where
   Noticed : Lane → Notice → Outcome
   Quiet : Change → Outcome
   LevelSet : ℕ → LevelFilter → Outcome
 
--- what was made: an outcome, of a stack that had this form; the store before it, and the one that its notice is given in
-pub record Made : Type 0 where
-  pub form : Form
-  pub store : Store
-  pub given : Store
-  pub outcome : Outcome
-
 -- the verdict of a new span: the filters that refuse it while every filter round them passes it
 abbrev pub IsVerdict : Form → Metadata → Store → Lane → FilterMap → Type 0
 IsVerdict f m s lane v = (k : ℕ) → refuses v k ≡ in_verdict f m s lane.0 no_filter k
 
--- what the registry does before a notice is given: it opens a new span with its verdict, or a lane enters or leaves an open one; for all else it stays as it is
-abbrev pub StepsBefore : Form → Lane → Notice → RegistryState → RegistryState → Type 0
-StepsBefore f lane (OnNewSpan attrs id) s t =
-    (v : FilterMap) × IsVerdict f (metadata_of attrs) s.store lane v
-    × Opens lane (record { metadata = metadata_of attrs; parent = asked_parent attrs; verdict = v }) id s t
-StepsBefore f lane (OnRecord id values) s t = IsOpen s.store.spans (number_of id) × (t ≡ s)
-StepsBefore f lane (OnFollows id other) s t = IsOpen s.store.spans (number_of id) × (t ≡ s)
-StepsBefore f lane (OnEvent e) s t = t ≡ s
-StepsBefore f lane (OnEnter id) s t = Enters lane id s t
-StepsBefore f lane (OnExit id) s t = IsOpen s.store.spans (number_of id) × Exits lane id s t
-StepsBefore f lane (OnIdChange id other) s t = ⊥
-StepsBefore f lane (OnClose id) s t = IsClosing s.store.spans (number_of id) × (t ≡ s)
+-- the store with one span more
+abbrev pub with_new : Store → ℕ → Span → Store
+with_new s x r = record s { spans = insert s.spans x r; issued = add s.issued x }
 
--- what it does after: a span that was closing is taken out
-abbrev pub StepsAfter : Notice → RegistryState → RegistryState → Type 0
-StepsAfter (OnClose id) s t = (next : Option Id) × Removes id next s t
-StepsAfter other s t = t ≡ s
+-- a new span is in the store: under an id that was never issued, with the parent that it gets there and the verdict of this form
+pub record Opened (f : Form) (lane : Lane) (attrs : Attributes) (id : Id) (s t : Store) : Type 0 where
+  pub parent : Option ℕ
+  pub chosen : IsParentFor s lane (asked_parent attrs) parent
+  pub verdict : FilterMap
+  pub refused : IsVerdict f (metadata_of attrs) s lane verdict
+  pub fresh : contains s.issued (number_of id) ≡ false
+  pub state : t ≡ with_new s (number_of id) (begun (record { metadata = metadata_of attrs; parent = asked_parent attrs; verdict = verdict }) parent)
 
--- a quiet change of the store
-abbrev pub Changes : Change → RegistryState → RegistryState → Type 0
-Changes (HandleAdded id) s t = Clones id s t
-Changes (HandleTaken id) s t = IsHeld s.store.spans (number_of id) × (t ≡ with_spans s (take_handle s.store.spans (number_of id)))
-Changes (GoneLeft lane id) s t = ¬ (IsOpen s.store.spans (number_of id)) × Exits lane id s t
+-- what an outcome makes of the store of a stack of this form, extensions aside
+abbrev pub Steps : Form → Outcome → Store → Store → Type 0
+Steps f (Noticed lane (OnNewSpan attrs id)) s t = Opened f lane attrs id s t
+Steps f (Noticed lane (OnRecord id values)) s t = IsOpen s.spans (number_of id) × (t ≡ s)
+Steps f (Noticed lane (OnFollows id other)) s t = IsOpen s.spans (number_of id) × (t ≡ s)
+Steps f (Noticed lane (OnEvent e)) s t = t ≡ s
+Steps f (Noticed lane (OnEnter id)) s t = IsOpen s.spans (number_of id) × (t ≡ entered s lane.0 (number_of id))
+Steps f (Noticed lane (OnExit id)) s t = IsOpen s.spans (number_of id) × (t ≡ exited s lane.0 (number_of id))
+Steps f (Noticed lane (OnIdChange id other)) s t = ⊥
+Steps f (Noticed lane (OnClose id)) s t = IsClosing s.spans (number_of id) × (t ≡ without s (number_of id ∷ []))
+Steps f (Quiet (HandleAdded id)) s t = IsOpen s.spans (number_of id) × (t ≡ record s { spans = add_handle s.spans (number_of id) })
+Steps f (Quiet (HandleTaken id)) s t = IsHeld s.spans (number_of id) × (t ≡ record s { spans = take_handle s.spans (number_of id) })
+Steps f (Quiet (GoneLeft lane id)) s t = ¬ (IsOpen s.spans (number_of id)) × (t ≡ exited s lane.0 (number_of id))
+Steps f (LevelSet n l) s t = t ≡ s
+
+-- the store that a notice is given in: the one after its step, but a close is given while its span is still there
+abbrev pub given_in : Notice → Store → Store → Store
+given_in (OnClose id) s t = s
+given_in e s t = t
+
+-- the two are the same, extensions aside
+pub record SameAside (s t : Store) : Type 0 where
+  pub spans : t.spans ≡ s.spans
+  pub issued : t.issued ≡ s.issued
+  pub stacks : t.stacks ≡ s.stacks
+
+-- what was made: an outcome of a stack that had this form; the store before it, and the one after
+pub record Made : Type 0 where
+  pub form : Form
+  pub before : Store
+  pub after : Store
+  pub outcome : Outcome
 
 module _ {S : Type 0} (registry : S → RegistryState) (with_registry : S → RegistryState → S) (has_form : S → Form → Type 0) (stepped : StackSteps S) (levelled : LevelSteps S) where
-  -- a notice is given: the registry takes its step before; then each filter and leaf whose path passes the notice, asked afresh on the store as it was, goes on by its own step, and may write extensions; then the registry takes its step after
-  pub record Notices (f : Form) (lane : Lane) (e : Notice) (x y : S) : Type 0 where
+  -- a notice is given: each filter and leaf whose path passes it, asked afresh on the store before it, goes on by its own step
+  pub record Notices (f : Form) (lane : Lane) (e : Notice) (s t : Store) (x y : S) : Type 0 where
     pub left : RegistryState
-    pub before : StepsBefore f lane e (registry x) left
+    pub given : SameAside (given_in e s t) left.store
     pub notified : S
-    pub layers : stepped x (asked_afresh f e (registry x).store lane.0 no_filter) e lane.0 left notified (registry notified)
-    pub extensions : SameButExtensions left (registry notified)
-    pub after : StepsAfter e (registry notified) (registry y)
+    pub layers : stepped x (asked_afresh f e s lane.0 no_filter) e lane.0 left notified (registry notified)
     pub rest : y ≡ with_registry notified (registry y)
 
-  -- a quiet change: only the registry changes
-  pub record Quiets (c : Change) (x y : S) : Type 0 where
-    pub changes : Changes c (registry x) (registry y)
-    pub rest : y ≡ with_registry x (registry y)
-
-  -- the filter with this number takes this level: it alone goes on, and the registry stays as it is
+  -- the filter with this number takes this level: it alone goes on
   pub record SetsLevel (f : Form) (n : ℕ) (l : LevelFilter) (x y : S) : Type 0 where
     pub taken : takes_level f n l ≡ true
     pub goes : levelled x n l y
     pub same : registry y ≡ registry x
 
-  -- an outcome of a stack of this form
-  abbrev pub GoesOn : Form → Outcome → S → S → Type 0
-  GoesOn f (Noticed lane e) x y = Notices f lane e x y
-  GoesOn f (Quiet c) x y = Quiets c x y
-  GoesOn f (LevelSet n l) x y = SetsLevel f n l x y
-
-  -- the store that a notice is given in: the one that the registry's step before it leaves. Of all else nobody is notified, and the store stays the one before
-  abbrev pub IsGiven : (f : Form) (o : Outcome) (x y : S) → GoesOn f o x y → Store → Type 0
-  IsGiven f (Noticed lane e) x y g s = s ≡ g.left.store
-  IsGiven f other x y g s = s ≡ (registry x).store
+  -- how the layers of a stack of this form go on by an outcome: by a quiet change none does
+  abbrev pub LayersGo : Form → Outcome → Store → Store → S → S → Type 0
+  LayersGo f (Noticed lane e) s t x y = Notices f lane e s t x y
+  LayersGo f (Quiet c) s t x y = y ≡ with_registry x (registry y)
+  LayersGo f (LevelSet n l) s t x y = SetsLevel f n l x y
 
   -- a stack has this form, and is honest
   pub record IsHonest (f : Form) (x : S) : Type 0 where
@@ -106,6 +112,7 @@ module _ {S : Type 0} (registry : S → RegistryState) (with_registry : S → Re
   -- this was made of an honest stack
   pub record Makes (x : S) (m : Made) (y : S) : Type 0 where
     pub honest : IsHonest m.form x
-    pub store : m.store ≡ (registry x).store
-    pub goes : GoesOn m.form m.outcome x y
-    pub given : IsGiven m.form m.outcome x y goes m.given
+    pub before : m.before ≡ (registry x).store
+    pub steps : Steps m.form m.outcome m.before m.after
+    pub after : SameAside m.after (registry y).store
+    pub layers : LayersGo m.form m.outcome m.before m.after x y

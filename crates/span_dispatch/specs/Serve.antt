@@ -1,5 +1,5 @@
 -- How a dispatcher serves a call, and a list of requests.
-use Rattle.std.specs.Prelude.{◌≡◌, ◌⊎◌, ⊤, ℕ, List, [], ◌∷◌, ◌++◌, map, filter, true, if◌then◌else◌, Option, Some, None, IfSome, slice_get}
+use Rattle.std.specs.Prelude.{◌≡◌, ◌⊎◌, ⊤, ℕ, List, [], ◌∷◌, ◌++◌, map, true, if◌then◌else◌, Option, Some, None, slice_get}
 use Rattle.std.specs.List.{FoldsTo}
 use Rattle.std.specs.Option.{option_and_then, option_map, option_map_or}
 use Rattle.span_core.specs.Event.{event_metadata, event_of}
@@ -10,8 +10,10 @@ use Rattle.span_core.specs.declared.span.Parent.TheVariants as parent
 use Rattle.span_core.specs.declared.span.Parent.{Parent}
 use Rattle.span_dispatch.specs.Alone.{Alone, seen}
 use Rattle.span_dispatch.specs.Cache.{IsUpToDate, Memory, ReadHint, forgotten, hint_in, kept_in}
-use Rattle.span_dispatch.specs.Call.{AddHandle, AskCurrent, Call, Comes, DropHandle, KeepsAfter, Enter, Exit, Follow, OpenSpan, Probe, RecordValues, SendEvent, SetLevel, closes_of}
-use Rattle.span_dispatch.specs.Effect.{MadeCall, OutcomesFrom, concerns, effect_of, is_concern}
+use Rattle.span_dispatch.specs.Admission.{KeepsSafely}
+use Rattle.span_dispatch.specs.declared.cache.Cache.{Cache}
+use Rattle.span_dispatch.specs.Call.{AddHandle, AnswersWith, AskCurrent, Call, DropHandle, Enter, Exit, Follow, KeepsAfter, OpenSpan, Probe, RecordValues, SendEvent, SetLevel, closes_of}
+use Rattle.span_dispatch.specs.Effect.{MadeCall, OutcomesOf, effect_of, is_concern}
 use Rattle.span_dispatch.specs.Outcome.{IsHonest, Made, Makes, Noticed, Outcome}
 use Rattle.span_dispatch.specs.Readable.{ShowTheirSpans}
 use Rattle.span_dispatch.specs.declared.dispatch.Dispatch.{Dispatch}
@@ -125,7 +127,7 @@ IsReadableClose s other = ⊤
 -- each close is: so a child closes before its parent, and what closes can still be read
 abbrev pub AreReadableCloses : List Made → Type 0
 AreReadableCloses [] = ⊤
-AreReadableCloses (m ∷ ms) = IsReadableClose m.store m.outcome × AreReadableCloses ms
+AreReadableCloses (m ∷ ms) = IsReadableClose m.before m.outcome × AreReadableCloses ms
 
 -- nobody would have been notified of the new span, or the event, that a call asks for: a leaf vetoes it, or no path passes it
 abbrev pub IsUnwantedCall : Call → Form → Store → Type 0
@@ -137,10 +139,6 @@ IsUnwantedCall call f s = ⊥
 abbrev pub StandOnce : List ℕ → Type 0
 StandOnce [] = Unit {0}
 StandOnce (x ∷ xs) = ¬ (Member x xs) × StandOnce xs
-
--- these outcomes, as far as they concern filters of any numbers, are what the made requests of a list that was answered so have by themselves, from a store on
-abbrev pub SayOutcomes : Store → List Request → List Answer → List Outcome → Type 0
-SayOutcomes s requests answers outcomes = (numbers : FilterSet) → OutcomesFrom s (made_calls numbers [] requests answers) (filter (concerns numbers) outcomes)
 
 -- all that was made, request by request, in one list
 abbrev pub flat : List (List Made) → List Made
@@ -161,34 +159,48 @@ pub record Sees {S : Type 0} (registry : S → RegistryState) (hears : HearSteps
   pub each : EachSees hears x made y
   pub alone : EachSeesAlone registry acts_at x made
 
+-- a stack of this form on this registry answers a call so, where these callsites are kept, and then these are
+pub record AnswersExactly (call : Call) (f : Form) (kept : Memory) (s : RegistryState) (a : Answer) (after : Memory) : Type 0 where
+  pub answers : AnswersWith call kept f s a
+  pub keeps : KeepsAfter call kept f a after
+
 module _ {S : Type 0} (registry : S → RegistryState) (with_registry : S → RegistryState → S) (has_form : S → Form → Type 0) (stepped : StackSteps S) (levelled : LevelSteps S) where
   -- between two requests: no span is closing, and the stack is honest by this form
   pub record IsReady (f : Form) (x : S) : Type 0 where
     pub honest : IsHonest registry with_registry has_form stepped levelled f x
     pub settled : IsSettled (registry x).store.spans
 
-  -- the same of a dispatcher, which keeps what its stack would answer now
-  pub record IsReadyBy (f : Form) (d : Dispatch S) : Type 0 where
+  -- the same of a dispatcher, of which this is said of what it keeps
+  pub record IsReadyWith (Kept : Form → ℕ → Cache → Type 0) (f : Form) (d : Dispatch S) : Type 0 where
     pub stack : IsReady f (stack_of d)
-    pub kept : KeepsUpToDate f (registry (stack_of d)).filters d
+    pub kept : Kept f (registry (stack_of d)).filters d.cache
 
-  -- a call is answered so by a stack of this form, where these callsites are kept; this was made of it, and then these are kept
-  pub record Serves (call : Call) (f : Form) (kept : Memory) (x : S) (a : Answer) (made : List Made) (after : Memory) (y : S) : Type 0 where
-    pub comes : Comes call kept f (registry x) a (map outcome_of made)
+  -- of a call that was answered so this was made, as its answer says, and the stack went through it; where it was dropped nobody would have been told
+  pub record Tells (call : Call) (f : Form) (x : S) (a : Answer) (made : List Made) (y : S) : Type 0 where
+    pub says : OutcomesOf (call, a) (registry x).store (map outcome_of made)
     pub goes : FoldsTo (Makes registry with_registry has_form stepped levelled) x made y
-    pub keeps : KeepsAfter call kept f a after
+    pub loses : a ≡ answer.Dropped → IsUnwantedCall call f (registry x).store
 
-  -- a dispatcher's call is answered so
-  abbrev pub ServesCall : Call → Form → Answer → Dispatch S → Dispatch S → Type 0
-  ServesCall call f a old new = (made : List Made) × Serves call f (kept_by old) (stack_of old) a made (kept_by new) (stack_of new)
+  -- something was made so of a call
+  abbrev pub IsTold : Call → Form → Answer → S → S → Type 0
+  IsTold call f a x y = (made : List Made) × Tells call f x a made y
 
   -- ready by a form that keeps this of the old one
-  abbrev pub IsReadyAfter : (Form → Form → Type 0) → Form → Dispatch S → Type 0
-  IsReadyAfter keeps f d = (g : Form) × IsReadyBy g d × keeps f g
+  abbrev pub IsReadyAfter : (Form → ℕ → Cache → Type 0) → (Form → Form → Type 0) → Form → Dispatch S → Type 0
+  IsReadyAfter Kept keeps f d = (g : Form) × IsReadyWith Kept g d × keeps f g
 
-  -- ready by some form
+  -- ready by some form, with what loses nothing kept
   abbrev pub IsReadySomehow : Dispatch S → Type 0
-  IsReadySomehow d = (f : Form) × IsReadyBy f d
+  IsReadySomehow d = (f : Form) × IsReadyWith KeepsSafely f d
+
+  -- ready by some form, with what its stack would answer now
+  abbrev pub IsCurrentSomehow : Dispatch S → Type 0
+  IsCurrentSomehow d = (f : Form) × IsReadyWith IsUpToDate f d
+
+  -- the same as is told of a call, and it is answered exactly so by a stack of this form, where these callsites are kept, and then these are
+  pub record Serves (call : Call) (f : Form) (kept : Memory) (x : S) (a : Answer) (made : List Made) (after : Memory) (y : S) : Type 0 where
+    pub told : Tells call f x a made y
+    pub exact : AnswersExactly call f kept (registry x) a after
 
   -- one request: what it asks for is served, or, where it names no span, nothing is asked and nothing changes
   abbrev pub ServesAsked : Option Call → Memory → S → Answer → List Made → Memory → S → Type 0
@@ -199,41 +211,49 @@ module _ {S : Type 0} (registry : S → RegistryState) (with_registry : S → Re
   abbrev pub ServesRequest : List Answer → Request → Memory → S → Answer → List Made → Memory → S → Type 0
   ServesRequest past r kept x a made after y = ServesAsked (call_of past r) kept x a made after y
 
-  -- a list of requests, one after another, behind these answers: one answer for each, and a list of what was made of it
-  abbrev pub Run : List Answer → List Request → List Answer → List (List Made) → Memory → S → Memory → S → Type 0
-  Run past [] [] [] kept x after y = (after ≡ kept) × (y ≡ x)
-  Run past (r ∷ rs) (a ∷ answers) (ms ∷ made) kept x after y = (k : Memory) × (z : S) × ServesRequest past r kept x a ms k z × Run (past ++ (a ∷ [])) rs answers made k z after y
-  Run past rs answers made kept x after y = ⊥
+  -- a list of requests, one after another, behind these answers: each is answered, dropped or refused exactly so
+  abbrev pub RunExactly : List Answer → List Request → List Answer → List (List Made) → Memory → S → Memory → S → Type 0
+  RunExactly past [] [] [] kept x after y = (after ≡ kept) × (y ≡ x)
+  RunExactly past (r ∷ rs) (a ∷ answers) (ms ∷ made) kept x after y =
+      (k : Memory) × (z : S) × ServesRequest past r kept x a ms k z × RunExactly (past ++ (a ∷ [])) rs answers made k z after y
+  RunExactly past rs answers made kept x after y = ⊥
 
-  -- nobody would have been notified of what was asked of this stack; or nothing was asked
-  abbrev pub LosesNothing : Option Call → S → Type 0
-  LosesNothing asked x = IfSome asked (λ call. (f : Form) × has_form x f × IsUnwantedCall call f (registry x).store)
+  -- of one request: what it asks for was told, or, where it names no span, nothing was asked and nothing changes
+  abbrev pub TellsAsked : Option Call → S → Answer → List Made → S → Type 0
+  TellsAsked None x a made y = (a ≡ answer.Dropped) × (made ≡ []) × (y ≡ x)
+  TellsAsked (Some call) x a made y = (f : Form) × has_form x f × Tells call f x a made y
 
-  -- so it is of each request of a run that was dropped, by the stack that it was asked of
-  abbrev pub DropsLoseNothing : (past : List Answer) (requests : List Request) (answers : List Answer) (made : List (List Made)) (kept : Memory) (x : S) (after : Memory) (y : S) → Run past requests answers made kept x after y → Type 0
-  DropsLoseNothing past (r ∷ rs) (a ∷ answers) (ms ∷ made) kept x after y run = (a ≡ answer.Dropped → LosesNothing (call_of past r) x) × DropsLoseNothing (past ++ (a ∷ [])) rs answers made run.0 run.1 after y run.3
-  DropsLoseNothing past rs answers made kept x after y run = ⊤
+  -- so is each request of a list told, one after another, behind these answers
+  abbrev pub Run : List Answer → List Request → List Answer → List (List Made) → S → S → Type 0
+  Run past [] [] [] x y = y ≡ x
+  Run past (r ∷ rs) (a ∷ answers) (ms ∷ made) x y = (z : S) × TellsAsked (call_of past r) x a ms z × Run (past ++ (a ∷ [])) rs answers made z y
+  Run past rs answers made x y = ⊥
 
   -- a list of requests is served so
-  pub record Served (hears : HearSteps S) (acts_at : ActsAt S) (requests : List Request) (answers : List Answer) (old new : Dispatch S) : Type 0 where
+  pub record Served (hears : HearSteps S) (acts_at : ActsAt S) (requests : List Request) (answers : List Answer) (old new : S) : Type 0 where
     -- there is one list of what was made of each request, on any lanes
     pub made : List (List Made)
-    -- each request is answered in turn, dropped or refused exactly where it should be, and the stack goes through what was made of it
-    pub run : Run [] requests answers made (kept_by old) (stack_of old) (kept_by new) (stack_of new)
+    -- made is what their answers say, and of a request that hint or kept interest dropped no layer would have been notified
+    pub run : Run [] requests answers made old new
     -- each layer is notified, in order, of exactly the made requests that its own path's filters pass when asked afresh
-    pub each : EachSees hears (stack_of old) (flat made) (stack_of new)
+    pub each : EachSees hears old (flat made) new
     -- as if it stood alone
-    pub alone : EachSeesAlone registry acts_at (stack_of old) (flat made)
-    -- and what was made is what the made requests say by themselves, whichever stack it is
-    pub calls : SayOutcomes (registry (stack_of old)).store requests answers (map outcome_of (flat made))
-    -- of a request that hint or kept interest dropped no layer would have been notified
-    pub dropped : DropsLoseNothing [] requests answers made (kept_by old) (stack_of old) (kept_by new) (stack_of new) run
+    pub alone : EachSeesAlone registry acts_at old (flat made)
     -- each closed span is notified of once
     pub once : StandOnce (closed_in (flat made))
     -- child before parent, while still readable
     pub readable : AreReadableCloses (flat made)
     -- whoever is told of a span can read it in its own context: also one that closes
     pub shown : (place : Place) → ShowTheirSpans (seen place (flat made))
+
+  -- a list of requests is served exactly so
+  pub record ServedExactly (hears : HearSteps S) (requests : List Request) (answers : List Answer) (old new : Dispatch S) : Type 0 where
+    -- there is one list of what was made of each request
+    pub made : List (List Made)
+    -- each request is answered in turn, dropped or refused exactly where it should be, and the stack goes through what was made of it
+    pub run : RunExactly [] requests answers made (kept_by old) (stack_of old) (kept_by new) (stack_of new)
+    -- each layer is notified, in order, of exactly what of that its own path's filters pass when asked afresh
+    pub each : EachSees hears (stack_of old) (flat made) (stack_of new)
 
   -- from a stack in which a span is closing: it is taken out, and so is each parent that closes by that; before each is, a notice of its close is given
   pub record ClosesEach (lane : Lane) (id : Id) (x y : S) : Type 0 where

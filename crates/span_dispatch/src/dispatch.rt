@@ -6,7 +6,7 @@ ghost use Rattle.span_core.specs.Filters.{IsEmpty};
 ghost use Rattle.span_core.specs.Span.{metadata_of, number_of};
 ghost use Rattle.span_dispatch.specs.Cache.{no_callsite};
 ghost use Rattle.span_dispatch.specs.Call.{FindsOpen, RefusesUnlessOpen};
-ghost use Rattle.span_dispatch.specs.Contract.{Admits, AsksStack, BecomesReady, ChangesLevel, ChangesStack, DropsAbove, DropsSettled, Forgets, GivesLevel, KeepsCallsite, KeepsHint, LearnsOnly, LeavesGone, OpensByPass, OpensIfMade, Refuses, RefusesEvent, RefusesMetadata, RefusesMismatch, RefusesSpan, SameRegistry, SameStack, SeesWhatIsMade, ServesClone, ServesCurrent, ServesDrop, ServesEnabled, ServesEnter, ServesEvent, ServesExit, ServesFollows, ServesLevel, ServesNewSpan, ServesRecord, Shows, ShowsHint, ShowsKept, StaysReady, StaysReadyBut, StaysSettled, StaysUpToDate, TakesHandle, TakesLevel, TakesStep, TakesStepAlone, WantsEvent, WantsMetadata, WantsSpan};
+ghost use Rattle.span_dispatch.specs.Contract.{Admits, AdmitsSafely, AsksStack, BecomesReady, ChangesLevel, ChangesStack, DropsAbove, DropsSettled, Forgets, GivesLevel, KeepsCallsite, KeepsHint, LearnsOnly, LeavesGone, OpensByPass, OpensIfMade, Refuses, RefusesEvent, RefusesMetadata, RefusesMismatch, RefusesSpan, SameRegistry, SameStack, SeesWhatIsMade, ServesClone, ServesCurrent, ServesDrop, ServesEnabled, ServesEnter, ServesEvent, ServesExit, ServesFollows, ServesLevel, ServesNewSpan, ServesRecord, Shows, ShowsHint, ShowsKept, StaysReady, StaysReadyBut, StaysSafe, StaysSettled, StaysUpToDate, TakesHandle, TakesLevel, TakesStep, TakesStepAlone, WantsEvent, WantsMetadata, WantsSpan};
 ghost use Rattle.span_dispatch.specs.contracts.dispatch.Dispatch.{the_row};
 ghost use Rattle.span_dispatch.specs.Serve.{ClosesEach, KeepsUpToDate, forgetful, hint_by, kept_by, stack_of, with_stack};
 ghost use Rattle.span_registry.specs.Step.{Clones, Enters, Exits, RefusesClone, RefusesEnter, RefusesRelease};
@@ -111,7 +111,9 @@ impl<S: Subscriber> Dispatch<S> {
         requires fresh { IsEmpty (refusals pass.old) }
         ensures stack { SameStack self.old self.new }
         ensures admitted { Admits S.Subscriber lane meta.now self.old pass.new result self.new }
+        ensures decided { AdmitsSafely S.Subscriber lane meta.now self.old pass.new result }
         ensures kept { StaysUpToDate S.Subscriber self.old self.new }
+        ensures safe { StaysSafe S.Subscriber self.old self.new }
         ensures learned { LearnsOnly meta.now self.old self.new }
         ensures afresh { AsksStack S.Subscriber lane meta.now self.old pass.old result pass.new }
         ensures hint { KeepsHint self.old self.new }
@@ -138,6 +140,7 @@ impl<S: Subscriber> Dispatch<S> {
         ensures stack { SameStack self.old self.new }
         ensures kept { LearnsOnly meta.now self.old self.new }
         ensures up_to_date { StaysUpToDate S.Subscriber self.old self.new }
+        ensures safe { StaysSafe S.Subscriber self.old self.new }
         ensures ready { StaysReady S.Subscriber self.old self.new }
         ensures asked { IfOk result (WantsMetadata S.Subscriber lane meta.now self.old) }
         ensures served { ServesEnabled S.Subscriber lane meta.now result self.old self.new }
@@ -162,6 +165,7 @@ impl<S: Subscriber> Dispatch<S> {
         ensures usable { S.usable (stack_of self.new) }
         ensures kept { LearnsOnly (metadata_of attrs.now) self.old self.new }
         ensures up_to_date { StaysUpToDate S.Subscriber self.old self.new }
+        ensures safe { StaysSafe S.Subscriber self.old self.new }
         ensures ready { StaysReady S.Subscriber self.old self.new }
         ensures served { ServesNewSpan S.Subscriber lane attrs.now result self.old self.new }
         ensures seen { SeesWhatIsMade S.Subscriber self.old self.new }
@@ -191,6 +195,7 @@ impl<S: Subscriber> Dispatch<S> {
         ensures usable { S.usable (stack_of self.new) }
         ensures kept { LearnsOnly (metadata_of attrs.now) self.old self.new }
         ensures up_to_date { StaysUpToDate S.Subscriber self.old self.new }
+        ensures safe { StaysSafe S.Subscriber self.old self.new }
         ensures ready { StaysReady S.Subscriber self.old self.new }
         ensures served { ServesNewSpan S.Subscriber lane attrs.now result self.old self.new }
         ensures seen { SeesWhatIsMade S.Subscriber self.old self.new }
@@ -220,6 +225,7 @@ impl<S: Subscriber> Dispatch<S> {
         ensures usable { S.usable (stack_of self.new) }
         ensures kept { LearnsOnly (event_metadata event.now) self.old self.new }
         ensures up_to_date { StaysUpToDate S.Subscriber self.old self.new }
+        ensures safe { StaysSafe S.Subscriber self.old self.new }
         ensures ready { StaysReady S.Subscriber self.old self.new }
         ensures served { ServesEvent S.Subscriber lane event.now result self.old self.new }
         ensures seen { SeesWhatIsMade S.Subscriber self.old self.new }

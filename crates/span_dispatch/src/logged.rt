@@ -3,7 +3,7 @@ ghost use Rattle.std.specs.Prelude.{◌≡◌, ◌<◌, ◌↔◌, [], IsTrue, O
 ghost use Rattle.span_core.specs.Event.{event_metadata};
 ghost use Rattle.span_core.specs.Span.{metadata_of};
 ghost use Rattle.span_dispatch.specs.Call.{FindsOpen, RefusesUnlessOpen};
-ghost use Rattle.span_dispatch.specs.Contract.{ChangesLevel, ChangesStack, DropsAll, Forgets, GivesLevel, LearnsOnly, LeavesGone, OpensIfMade, Refuses, RefusesEvent, RefusesMetadata, RefusesSpan, SameRegistry, SameStack, SeesWhatIsMade, Shows, StaysReady, StaysReadyBut, StaysUpToDate, TakesHandle, TakesLevel, TakesStep, TakesStepAlone, WantsEvent, WantsMetadata};
+ghost use Rattle.span_dispatch.specs.Contract.{ChangesLevel, ChangesStack, DropsAll, Forgets, GivesLevel, LearnsOnly, LeavesGone, OpensIfMade, Refuses, RefusesEvent, RefusesMetadata, RefusesSpan, SameRegistry, SameStack, SeesWhatIsMade, Shows, StaysReady, StaysReadyBut, StaysSafe, StaysUpToDate, TakesHandle, TakesLevel, TakesStep, TakesStepAlone, WantsEvent, WantsMetadata};
 ghost use Rattle.span_dispatch.specs.Journal.{Adds, KeepsStack, Leaves, Stands, holds_by};
 ghost use Rattle.span_dispatch.specs.Logged.{AddsDone, AddsEntry, AddsNewSpan, IfDone, IfGiven, IfRefused, IfTold, LogsCallsite, LogsClone, LogsCurrent, LogsDrop, LogsDropped, LogsEnabled, LogsEnter, LogsEvent, LogsExit, LogsFollows, LogsHint, LogsLevel, LogsMismatch, LogsNewSpan, LogsRecord, LogsWanted, NoneTakes, On, OrNoMemory, current_entry, event_entry};
 ghost use Rattle.span_dispatch.specs.Serve.{stack_of};
@@ -196,6 +196,7 @@ impl<S: Subscriber> Logged<S> {
         ensures kept { On (LearnsOnly meta.now) self.old self.new }
         ensures keeps { LogsCallsite meta.now result self.old self.new }
         ensures up_to_date { On (StaysUpToDate S.Subscriber) self.old self.new }
+        ensures safe { On (StaysSafe S.Subscriber) self.old self.new }
         ensures ready { On (StaysReady S.Subscriber) self.old self.new }
         ensures asked { IfTold (WantsMetadata S.Subscriber lane meta.now) result self.old }
         ensures served { LogsEnabled S.Subscriber lane meta.now result self.old self.new }
@@ -224,6 +225,7 @@ impl<S: Subscriber> Logged<S> {
         ensures kept { On (LearnsOnly (metadata_of attrs.now)) self.old self.new }
         ensures keeps { LogsCallsite (metadata_of attrs.now) result self.old self.new }
         ensures up_to_date { On (StaysUpToDate S.Subscriber) self.old self.new }
+        ensures safe { On (StaysSafe S.Subscriber) self.old self.new }
         ensures ready { On (StaysReady S.Subscriber) self.old self.new }
         ensures served { LogsNewSpan S.Subscriber lane attrs.now result self.old self.new }
         ensures seen { IfDone (SeesWhatIsMade S.Subscriber) result self.old self.new }
@@ -260,6 +262,7 @@ impl<S: Subscriber> Logged<S> {
         ensures kept { On (LearnsOnly (event_metadata event.now)) self.old self.new }
         ensures keeps { LogsCallsite (event_metadata event.now) result self.old self.new }
         ensures up_to_date { On (StaysUpToDate S.Subscriber) self.old self.new }
+        ensures safe { On (StaysSafe S.Subscriber) self.old self.new }
         ensures ready { On (StaysReady S.Subscriber) self.old self.new }
         ensures served { LogsEvent S.Subscriber lane event.now result self.old self.new }
         ensures seen { IfDone (SeesWhatIsMade S.Subscriber) result self.old self.new }

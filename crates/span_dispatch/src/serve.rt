@@ -1,7 +1,7 @@
 //! Lists of requests, served in order.
 ghost use Rattle.std.specs.Prelude.{◌≡◌, ◌∷◌, [], ◌++◌, OnErr, IfOk, IfErr, ◌<◌, ◌≤◌, ◌+◌, length, vec_len, vec_capacity};
 ghost use Rattle.span_dispatch.specs.Call.{Exit};
-ghost use Rattle.span_dispatch.specs.Contract.{AnswersCall, ChangesStack, ServesList, ServesNext, StaysReady, StaysReadyByRules};
+ghost use Rattle.span_dispatch.specs.Contract.{AnswersCall, ChangesStack, ServesList, ServesListExactly, ServesNext, StaysReady, StaysReadyByRules};
 ghost use Rattle.span_dispatch.specs.KeptHint.{ListGoesByKept, RequestGoesByKept};
 ghost use Rattle.span_dispatch.specs.Serve.{stack_of};
 
@@ -24,6 +24,7 @@ impl<S: Subscriber> Dispatch<S> {
         ensures usable { S.usable (stack_of self.new) }
         ensures ready { StaysReadyByRules S.Subscriber self.old self.new }
         ensures served { IfOk result (ServesList S.Subscriber requests.now self.old self.new) }
+        ensures exact { IfOk result (ServesListExactly S.Subscriber requests.now self.old self.new) }
         ensures kept { IfOk result (ListGoesByKept S.registry requests.now self.old self.new) }
         ensures length { IfOk result (λ a. length a.items ≡ length requests.now) }
         ensures memory { IfErr result (λ e. e ≡ TraceError.OutOfMemory) }

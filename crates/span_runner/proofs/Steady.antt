@@ -11,7 +11,7 @@ use Rattle.span_dispatch.proofs.CallerLemmas.{heard_records}
 use Rattle.span_dispatch.specs.Fixed.{RunsBy, set_at}
 use Rattle.span_dispatch.specs.Recorder.{Kept, kept_notice, new_recorder, recorder_steps}
 use Rattle.span_dispatch.specs.Cache.{no_callsite}
-use Rattle.span_dispatch.specs.Serve.{IsReady, Served, kept_by, stack_of}
+use Rattle.span_dispatch.specs.Serve.{IsReady, ServedExactly, kept_by, stack_of}
 use Rattle.span_dispatch.specs.declared.dispatch.Dispatch.{Dispatch}
 use Rattle.span_dispatch.specs.declared.notice.Notice.{Notice as KeptNotice}
 use Rattle.span_dispatch.specs.declared.request.Answer.{Answer}
@@ -31,7 +31,6 @@ use Rattle.span_layers.specs.declared.layered.Layered.{Layered}
 use Rattle.span_registry.proofs.CallerLemmas.{settled_new}
 use Rattle.span_registry.specs.Answers.{Answers, Notice, OnClose, OnEnter, OnEvent, OnExit, OnFollows, OnIdChange, OnNewSpan, OnRecord}
 use Rattle.span_registry.specs.Closes.{IsSettled}
-use Rattle.span_registry.specs.Conducts.{ActsAt}
 use Rattle.span_registry.specs.Form.{Absent, Bare, Base, Filtered, Form, InPair, Joint, Leaf, OnSubscriber, Over}
 use Rattle.span_registry.specs.Hooks.{StackSteps, no_filter}
 use Rattle.span_registry.specs.Levels.{LevelSteps, unlevelled}
@@ -277,8 +276,8 @@ module _ {S : Type 0} {with_registry : S → RegistryState → S} {has_form : S 
   )
 
   -- what it served, with nothing kept at first, is a run of its form
-  pub run_of : {hears : HearSteps S} {acts_at : ActsAt S} {requests : List Request} {answers : List Answer} (f : Form) (old new : Dispatch S) (s : RegistryState) → Stays (stack_of old) f → registry (stack_of old) ≡ s → kept_by old ≡ Some no_callsite
-      → (h : Served registry with_registry has_form stepped levelled hears acts_at requests answers old new) → RunsBy f requests answers h.made (Some no_callsite) s (kept_by new) (registry (stack_of new))
+  pub run_of : {hears : HearSteps S} {requests : List Request} {answers : List Answer} (f : Form) (old new : Dispatch S) (s : RegistryState) → Stays (stack_of old) f → registry (stack_of old) ≡ s → kept_by old ≡ Some no_callsite
+      → (h : ServedExactly registry with_registry has_form stepped levelled hears requests answers old new) → RunsBy f requests answers h.made (Some no_callsite) s (kept_by new) (registry (stack_of new))
   run_of {hears} {requests} {answers} f old new s stays first kept h =
       let run = runs_by registry with_registry has_form stepped levelled Stays steady.known steady.goes steady.aside steady.set [] requests answers h.made (kept_by old) f (stack_of old) (kept_by new) (stack_of new) stays h.run in
       subst (λ k. RunsBy f requests answers h.made k s (kept_by new) (registry (stack_of new))) kept

@@ -10,7 +10,7 @@ use Rattle.span_dispatch.specs.Contract.{SubscriberOf}
 use Rattle.span_dispatch.specs.Fixed.{RunsBy, kept_at}
 use Rattle.span_dispatch.specs.Outcome.{Made}
 use Rattle.span_dispatch.specs.Recorder.{Kept, new_recorder}
-use Rattle.span_dispatch.specs.Serve.{IsReady, Served, kept_by, stack_of}
+use Rattle.span_dispatch.specs.Serve.{IsReady, ServedExactly, kept_by, stack_of}
 use Rattle.span_dispatch.specs.Worker.{WorkerState}
 use Rattle.span_dispatch.specs.declared.dispatch.Dispatch.{Dispatch}
 use Rattle.span_dispatch.specs.declared.notice.Notice.{Notice}
@@ -125,13 +125,13 @@ pub record BeginsAbsent (limits : Limits) (x : Layered Kept (Layered (Option Kep
   pub absent : outer_of (inner_of x) ≡ None
   pub registry : inner_of (inner_of x) ≡ start_of limits AbsentStack
 
--- a stack was put in use, with nothing kept yet, and then, if it was ready, it served these requests so
+-- a stack was put in use, with nothing kept yet, and then, if it was ready, it served these requests exactly so
 pub record ServesInUse {S : Type 0} (s : SubscriberOf S) (requests : List Request) (x : S) (given : Vec Answer Global × Dispatch S) : Type 0 where
   pub begun : Dispatch S
   pub in_use : s.registered x (stack_of begun)
   pub same : s.registry (stack_of begun) ≡ s.registry x
   pub kept : kept_by begun ≡ Some no_callsite
-  pub served : (f : Form) × IsReady s.registry s.with_registry s.has_form s.stepped s.levelled f x → Served s.registry s.with_registry s.has_form s.stepped s.levelled s.hears s.acts_at requests given.0.items begun given.1
+  pub served : (f : Form) × IsReady s.registry s.with_registry s.has_form s.stepped s.levelled f x → ServedExactly s.registry s.with_registry s.has_form s.stepped s.levelled s.hears requests given.0.items begun given.1
 
 -- each of these workers was called so often at most
 abbrev pub AreCalled : ℕ → List WorkerState → Type 0

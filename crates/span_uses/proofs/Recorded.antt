@@ -19,11 +19,11 @@ use Rattle.span_core.specs.declared.span.Id.{Id}
 use Rattle.span_core.specs.declared.span.Lane.{Lane}
 use Rattle.span_dispatch.proofs.CallerLemmas.{event_asked, event_served, heard_records, known_unkept, next_served, none_served, seen_append, span_asked, span_served, unkept_still, vetoed_unkept}
 use Rattle.span_dispatch.specs.Call.{vetoes_whole}
-use Rattle.span_dispatch.specs.Outcome.{GoesOn, Made, Makes, Noticed, Outcome, Quiet, LevelSet}
+use Rattle.span_dispatch.specs.Outcome.{LayersGo, LevelSet, Made, Makes, Noticed, Outcome, Quiet}
 use Rattle.span_dispatch.specs.Recorder.{Kept, Records, kept_notice, new_recorder, recorder_steps}
 use Rattle.span_dispatch.specs.Cache.{Memory}
 use Rattle.span_dispatch.specs.Alone.{passed, seen}
-use Rattle.span_dispatch.specs.Serve.{IsReady, Run, Served, ServesRequest, flat, kept_by, stack_of}
+use Rattle.span_dispatch.specs.Serve.{IsReady, RunExactly, ServedExactly, ServesRequest, flat, kept_by, stack_of}
 use Rattle.span_dispatch.specs.declared.dispatch.Dispatch.{Dispatch}
 use Rattle.span_dispatch.specs.declared.notice.Notice.{Notice as KeptNotice}
 use Rattle.span_dispatch.specs.declared.request.Answer.TheVariants as answer
@@ -48,7 +48,6 @@ use Rattle.span_layers.specs.Verdict.{NumbersStayOwn, vetoes}
 use Rattle.span_layers.specs.declared.filtered.Filtered.{Filtered as FilteredLayer}
 use Rattle.span_registry.proofs.CallerLemmas.{settled_new}
 use Rattle.span_registry.specs.Answers.{AreHonest, Notice, OnClose, OnEnter, OnEvent, OnExit, OnFollows, OnIdChange, OnNewSpan, OnRecord}
-use Rattle.span_registry.specs.Conducts.{ActsAt}
 use Rattle.span_registry.specs.Closes.{IsSettled}
 use Rattle.span_registry.specs.Form.{Bare, Base, Filtered, Form, Leaf, OnSubscriber, Over}
 use Rattle.span_registry.specs.Hooks.{StackSteps}
@@ -132,15 +131,15 @@ IsNoLevel (LevelSet n l) = ⊥
 IsNoLevel o = ⊤
 
 -- whatever is made of the stack, unless its level is set, its filter stays
-goes_under : (level : LevelFilter) (f : Form) (o : Outcome) (x y : Recorded) → IsNoLevel o → IsUnder level (outer_of x) → HasForm x f → GoesOn inner_of with_inner HasForm recorded_steps recorded_levels f o x y → IsUnder level (outer_of y)
-goes_under level f (Noticed lane e) x y none u has n =
+goes_under : (level : LevelFilter) (f : Form) (o : Outcome) (s t : Store) (x y : Recorded) → IsNoLevel o → IsUnder level (outer_of x) → HasForm x f → LayersGo inner_of with_inner HasForm recorded_steps recorded_levels f o s t x y → IsUnder level (outer_of y)
+goes_under level f (Noticed lane e) s t x y none u has n =
     let form = formed level x f u has in
-    let goes = subst (λ g. GoesOn inner_of with_inner HasForm recorded_steps recorded_levels g (Noticed lane e) x y) form.1 n in
+    let goes = subst (λ g. LayersGo inner_of with_inner HasForm recorded_steps recorded_levels g (Noticed lane e) s t x y) form.1 n in
     let outer = goes.layers.second in
     stays_under level (outer_of x) (outer_of y) (ap (λ (z : Recorded). id_of (outer_of z)) goes.rest ∙ outer.0)
     (ap (λ (z : Recorded). filter_of (outer_of z)) goes.rest ∙ filter_stays _ e (outer_of x) (outer_of goes.notified) lane.0 _ _ _ outer.1) u
-goes_under level f (LevelSet n l) x y none u has q = absurd none
-goes_under level f (Quiet c) x y none u has q = stays_under level (outer_of x) (outer_of y) (ap (λ (z : Recorded). id_of (outer_of z)) q.rest) (ap (λ (z : Recorded). filter_of (outer_of z)) q.rest) u
+goes_under level f (LevelSet n l) s t x y none u has q = absurd none
+goes_under level f (Quiet c) s t x y none u has rest = stays_under level (outer_of x) (outer_of y) (ap (λ (z : Recorded). id_of (outer_of z)) rest) (ap (λ (z : Recorded). filter_of (outer_of z)) rest) u
 
 -- ---- what the recorder keeps
 
@@ -172,20 +171,20 @@ kept_new : (level : LevelFilter) (lane : Lane) (m : Metadata) (x : Recorded) →
     → Keeps level (kept_span level lane m (answer.Made id)) (one ∷ []) z
 kept_new level lane m x u id attrs one z same is made =
     let form = formed level x one.form u made.honest.has in
-    let seen_so : kept_from (one ∷ []) ≡ map kept_notice (passed (path_at (form_of level form.0) place) (Noticed lane (OnNewSpan attrs id)) one.store one.given ++ []) = λ j. map kept_notice (passed (path_at (form.1 j) place) (is j) one.store one.given ++ []) in
+    let seen_so : kept_from (one ∷ []) ≡ map kept_notice (passed (path_at (form_of level form.0) place) (Noticed lane (OnNewSpan attrs id)) one.before one.after ++ []) = λ j. map kept_notice (passed (path_at (form.1 j) place) (is j) one.before one.after ++ []) in
     record {
-      keeps = seen_so ∙ by_level (passes_level level (level_of (metadata_of attrs))) (told_in (OnNewSpan attrs id) one.given lane.0 _) ∙ ap (λ k. kept_span level lane k (answer.Made id)) same;
-      under = goes_under level one.form one.outcome x z (subst IsNoLevel (sym is) tt) u made.honest.has made.goes;
+      keeps = seen_so ∙ by_level (passes_level level (level_of (metadata_of attrs))) (told_in (OnNewSpan attrs id) one.after lane.0 _) ∙ ap (λ k. kept_span level lane k (answer.Made id)) same;
+      under = goes_under level one.form one.outcome one.before one.after x z (subst IsNoLevel (sym is) tt) u made.honest.has made.layers;
     }
 
 kept_sent : (level : LevelFilter) (lane : Lane) (m : Metadata) (x : Recorded) → IsUnder level (outer_of x) → (e : Event) (one : Made) (z : Recorded) → event_metadata e ≡ m → one.outcome ≡ Noticed lane (OnEvent e) → MakesOne x one z
     → Keeps level (kept_event level lane m) (one ∷ []) z
 kept_sent level lane m x u e one z same is made =
     let form = formed level x one.form u made.honest.has in
-    let seen_so : kept_from (one ∷ []) ≡ map kept_notice (passed (path_at (form_of level form.0) place) (Noticed lane (OnEvent e)) one.store one.given ++ []) = λ j. map kept_notice (passed (path_at (form.1 j) place) (is j) one.store one.given ++ []) in
+    let seen_so : kept_from (one ∷ []) ≡ map kept_notice (passed (path_at (form_of level form.0) place) (Noticed lane (OnEvent e)) one.before one.after ++ []) = λ j. map kept_notice (passed (path_at (form.1 j) place) (is j) one.before one.after ++ []) in
     record {
-      keeps = seen_so ∙ by_level_twice (passes_level level (level_of (event_metadata e))) (told_in (OnEvent e) one.given lane.0 _) ∙ ap (λ k. kept_event level lane k) same;
-      under = goes_under level one.form one.outcome x z (subst IsNoLevel (sym is) tt) u made.honest.has made.goes;
+      keeps = seen_so ∙ by_level_twice (passes_level level (level_of (event_metadata e))) (told_in (OnEvent e) one.after lane.0 _) ∙ ap (λ k. kept_event level lane k) same;
+      under = goes_under level one.form one.outcome one.before one.after x z (subst IsNoLevel (sym is) tt) u made.honest.has made.layers;
     }
 
 abbrev ServesOne : List Answer → Request → Recorded → Answer → List Made → Memory → Recorded → Type 0
@@ -231,7 +230,7 @@ three_kept ms ns os a b c f g h =
     kept_append ms (ns ++ (os ++ [])) ∙ (λ j. f j ++ (kept_append ns (os ++ []) ∙ (λ i. g i ++ (ap kept_from (append-nil os) ∙ h) i)) j)
 
 pub keeps_three : (level : LevelFilter) (lane : Lane) (outer inner event : Metadata) (p q r : WhichParent) (us vs ws : _) (x : Recorded) (after : Memory) (y : Recorded) (answers : List Answer) (made : List (List Made)) → IsUnder level (outer_of x)
-    → Run inner_of with_inner HasForm recorded_steps recorded_levels [] (request.NewSpan lane outer p us ∷ request.NewSpan lane inner q vs ∷ request.Event lane event r ws ∷ []) answers made None x after y → KeepsThree level lane outer inner event answers made
+    → RunExactly inner_of with_inner HasForm recorded_steps recorded_levels [] (request.NewSpan lane outer p us ∷ request.NewSpan lane inner q vs ∷ request.Event lane event r ws ∷ []) answers made None x after y → KeepsThree level lane outer inner event answers made
 keeps_three level lane outer inner event p q r us vs ws x after y answers made u =
     let second = request.NewSpan lane inner q vs in
     let third = request.Event lane event r ws in
@@ -307,12 +306,12 @@ pub keeps_all : (r : Kept) (due : List KeptNotice) → Records new_recorder r du
 keeps_all r due h f = h.kept ∙ sym (h.split ∙ ap (λ (us : List KeptNotice). h.more ++ us) (h.all f) ∙ append-nil h.more)
 
 -- two spans and an event were served by a new stack
-pub served_three : {acts_at : ActsAt Recorded} (level : LevelFilter) (lane : Lane) (outer inner event : Metadata) (p q r : WhichParent) (us vs ws : _) (old : Dispatch Recorded) (done : Dispatch Recorded × Vec Answer Global) → Starts level (stack_of old) → kept_by old ≡ None
-    → Served inner_of with_inner HasForm recorded_steps recorded_levels recorded_hears acts_at (request.NewSpan lane outer p us ∷ request.NewSpan lane inner q vs ∷ request.Event lane event r ws ∷ []) done.1.items old done.0 → KeepsWhatPasses level lane outer inner event done
+pub served_three : (level : LevelFilter) (lane : Lane) (outer inner event : Metadata) (p q r : WhichParent) (us vs ws : _) (old : Dispatch Recorded) (done : Dispatch Recorded × Vec Answer Global) → Starts level (stack_of old) → kept_by old ≡ None
+    → ServedExactly inner_of with_inner HasForm recorded_steps recorded_levels recorded_hears (request.NewSpan lane outer p us ∷ request.NewSpan lane inner q vs ∷ request.Event lane event r ws ∷ []) done.1.items old done.0 → KeepsWhatPasses level lane outer inner event done
 served_three level lane outer inner event p q r us vs ws old done new kept served =
     let x = stack_of old in
     let requests = request.NewSpan lane outer p us ∷ request.NewSpan lane inner q vs ∷ request.Event lane event r ws ∷ [] in
-    let run = subst (λ k. Run inner_of with_inner HasForm recorded_steps recorded_levels [] requests done.1.items served.made k x (kept_by done.0) (stack_of done.0)) kept served.run in
+    let run = subst (λ k. RunExactly inner_of with_inner HasForm recorded_steps recorded_levels [] requests done.1.items served.made k x (kept_by done.0) (stack_of done.0)) kept served.run in
     let three = keeps_three level lane outer inner event p q r us vs ws x (kept_by done.0) (stack_of done.0) done.1.items served.made new.under run in
     let heard : Records (layer_of (outer_of x)) (recorder_of done.0) (kept_from (flat served.made)) = heard_records _ _ _ (served.each place) in
     let due = subst (λ h. Records new_recorder (recorder_of done.0) h) three.keeps (subst (λ k. Records k (recorder_of done.0) (kept_from (flat served.made))) new.empty heard) in

@@ -6,9 +6,8 @@ use Rattle.span_core.specs.Filters.{FilterSet, has_filter}
 use Rattle.span_core.specs.declared.error.TraceError.TheVariants.{NotSettable}
 use Rattle.span_core.specs.declared.error.TraceError.{TraceError}
 use Rattle.span_core.specs.declared.level.LevelFilter.{LevelFilter}
-use Rattle.span_dispatch.specs.Call.{RefusesLevel, SetLevel}
-use Rattle.span_dispatch.specs.Outcome.{IsHonest}
-use Rattle.span_dispatch.specs.Serve.{IsReady, IsReadyAfter, IsReadyBy, KeepsUpToDate, ServesCall, stack_of}
+use Rattle.span_dispatch.specs.Admission.{KeepsSafely}
+use Rattle.span_dispatch.specs.Serve.{IsReady, IsReadyAfter, IsReadyWith, stack_of}
 use Rattle.span_dispatch.specs.declared.dispatch.Dispatch.{Dispatch}
 use Rattle.span_dispatch.specs.declared.request.Answer.TheVariants.{Refused}
 use Rattle.span_filters.specs.Level.{level_taken}
@@ -24,10 +23,10 @@ use Rattle.span_uses.specs.Dispatches.{Recorded}
 use Rattle.span_uses.specs.Reload.{IsSetTo}
 
 abbrev ReadyBy : Form → Dispatch Recorded → Type 0
-ReadyBy f d = IsReadyBy inner_of with_inner HasForm recorded_steps recorded_levels f d
+ReadyBy f d = IsReadyWith inner_of with_inner HasForm recorded_steps recorded_levels KeepsSafely f d
 
 abbrev ReadyAfter : (Form → Form → Type 0) → Form → Dispatch Recorded → Type 0
-ReadyAfter keeps f d = IsReadyAfter inner_of with_inner HasForm recorded_steps recorded_levels keeps f d
+ReadyAfter keeps f d = IsReadyAfter inner_of with_inner HasForm recorded_steps recorded_levels KeepsSafely keeps f d
 
 -- ready, by a form in which its filter has the number 0
 pub record IsReadyFirst (d : Dispatch Recorded) : Type 0 where
@@ -61,13 +60,10 @@ takes level l x (Filtered n a g) keeps has = absurd has
 takes level l x (Bare v) keeps has = absurd has
 
 -- so it is never refused
-pub never_refused : (d e : Dispatch Recorded) (l : LevelFilter) (error : TraceError) → IsReadyFirst d → error ≡ NotSettable 0
-    → ((f : Form) → IsHonest inner_of with_inner HasForm recorded_steps recorded_levels f (stack_of d) → KeepsUpToDate f (inner_of (stack_of d)).filters d → ServesCall inner_of with_inner HasForm recorded_steps recorded_levels (SetLevel 0 l) f (Refused error) d e) → ⊥
-never_refused d e l error h same served =
-    let answered = served h.form h.ready.stack.honest h.ready.kept in
-    let refused : RefusesLevel h.form 0 l (NotSettable 0) = subst (λ r. RefusesLevel h.form 0 l r) same answered.1.comes.0 in
+pub never_refused : (d : Dispatch Recorded) (l : LevelFilter) → IsReadyFirst d → ((f : Form) → HasForm (stack_of d) f → takes_level f 0 l ≡ false) → ⊥
+never_refused d l h none =
     let taken = takes h.level l (stack_of d) h.form h.rules h.ready.stack.honest.has in
-    true≢false (sym taken.0 ∙ refused.1)
+    true≢false (sym taken.0 ∙ none h.form h.ready.stack.honest.has)
 
 -- and its level is set
 pub is_set : (d e : Dispatch Recorded) (l : LevelFilter) → IsReadyFirst d → recorded_levels (stack_of d) 0 l (stack_of e) → IsSetTo l d e

@@ -171,15 +171,15 @@ module _ {F : Type 0} {has_answers : F → Answers → Type 0} {hooked : FilterS
 module _ {S : Type 0} (s : SubscriberOf S) where
   -- a dispatcher that was ready is ready again
   pub stays_ready : {old new : Dispatch S} → StaysReady s old new → IsReadyNow s old → IsReadyNow s new
-  stays_ready stays h = let r = stays h.0 h.1 in (r.0, r.1)
+  stays_ready stays h = let r = stays.safe h.0 h.1 in (r.0, r.1)
 
   -- and answered as it promises of an honest stack
   pub answers_ready : {call : Call} {old new : Dispatch S} (a : Answer) → AnswersCall s call a old new → StaysReady s old new → IsReadyNow s old → AnswersReady s call a old new
-  answers_ready a answered stays h = record { served = (h.0, answered h.0 h.1.stack.honest h.1.kept); next = stays_ready stays h }
+  answers_ready a answered stays h = record { told = (h.0, answered.told h.0 h.1.stack.honest h.1.kept); next = stays_ready stays h }
 
   -- so it did a drop
   pub drops_ready : {call : Call} {old new : Dispatch S} (a : Answer) → AnswersDrop s call a old new → StaysReady s old new → IsReadyNow s old → AnswersReady s call a old new
-  drops_ready a answered stays h = record { served = (h.0, answered h.0 h.1); next = stays_ready stays h }
+  drops_ready a answered stays h = record { told = (h.0, (answered h.1.stack.settled).told h.0 h.1.stack.honest h.1.kept); next = stays_ready stays h }
 
   -- a span that was opened, of which the handle was then dropped
   pub opens_and_drops : (lane : Lane) (attrs : Attributes) (id : Id) (o : Option Id) (closed : Bool) (old between new : Dispatch S) → o ≡ Some id → AnswersCall s (OpenSpan lane attrs) (span_answer (Ok o)) old between → StaysReady s old between

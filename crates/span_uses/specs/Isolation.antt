@@ -49,7 +49,7 @@ pub record ServesFirst {S : Type 0} (registry : S → RegistryState) (with_regis
   pub first : Dispatch S
   pub in_use : registered x (stack_of first)
   pub same : registry (stack_of first) ≡ registry x
-  pub served : (f : Form) × IsReady registry with_registry has_form stepped levelled f x → Served registry with_registry has_form stepped levelled hears acts_at requests done.1.items first done.0
+  pub served : (f : Form) × IsReady registry with_registry has_form stepped levelled f x → Served registry with_registry has_form stepped levelled hears acts_at requests done.1.items (stack_of first) (stack_of done.0)
 
 -- both new recorders were notified of the same, in the same order; where neither failed for want of memory, they keep the same
 pub record WentThroughTheSame (r q : Kept) : Type 0 where

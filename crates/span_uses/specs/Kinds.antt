@@ -44,7 +44,7 @@ module _ {S : Type 0} (s : SubscriberOf S) where
 
   -- a list was served, with these answers
   abbrev pub ServedList : List Request → List Answer → Dispatch S → Dispatch S → Type 0
-  ServedList requests answers old new = Served s.registry s.with_registry s.has_form s.stepped s.levelled s.hears s.acts_at requests answers old new
+  ServedList requests answers old new = Served s.registry s.with_registry s.has_form s.stepped s.levelled s.hears s.acts_at requests answers (stack_of old) (stack_of new)
 
   -- a stack on a registry without spans was put in use, and was ready; then a list was served, and the stack is ready for the next
   pub record ServesReady (stack : S) (requests : List Request) (done : WithAnswers S) : Type 0 where

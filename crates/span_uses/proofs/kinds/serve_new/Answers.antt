@@ -6,8 +6,8 @@ use Rattle.span_uses.proofs.kinds.serve_new.Goals as goal
 pub returns-clause-served : goal.returns-clause-served
 returns-clause-served g c =
     let stands = c.requires.stands in
-    let first = c.new-dispatch.ensures.ready stands.0 (is_ready stands.0 stands.1 c.args.stack stands.2) in
-    let next = c.in_ok-answers.ensures.ready first.0 first.1 in
+    let first = c.new-dispatch.ensures.ready.safe stands.0 (is_ready stands.0 stands.1 c.args.stack stands.2) in
+    let next = c.in_ok-answers.ensures.ready.safe first.0 first.1 in
     record {
       first = c.new-dispatch.result;
       in_use = c.new-dispatch.ensures.registered;

@@ -7,8 +7,14 @@ use Rattle.std.specs.Ordering.{is_eq, nat_cmp}
 use Rattle.span_dispatch.specs.declared.cache.Callsite.{Callsite}
 use Rattle.span_dispatch.specs.declared.cache.Known.{Known}
 use Rattle.span_core.specs.Level.{is_above}
-use Rattle.span_dispatch.proofs.Admits.{gives_asked, gives_kept, gives_no_memory, passes_below}
+use Rattle.span_dispatch.proofs.Admits.{fails_above, gives_above, gives_asked, gives_kept, gives_no_memory, passes_below}
 use Rattle.span_dispatch.proofs.cache.Known.interest.Goals as goal
+
+pub returns-then-not-passes : goal.returns-then-not-passes
+returns-then-not-passes g c =
+    let k = c.args.self.now in
+    gives_above g.S.LookupSpan.registry g.S.Subscriber.has_form c.args.stack.now c.args.meta.now k
+    (ap (λ l. is_above l k.hint) (sym c.level.ensures) ∙ fails_above _ _ c.passes.ensures c.if-not-passes.true)
 
 pub returns-then-shows_same : goal.returns-then-shows_same
 returns-then-shows_same g c =

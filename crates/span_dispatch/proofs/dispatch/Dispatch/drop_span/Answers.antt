@@ -1,6 +1,6 @@
+use Rattle.span_dispatch.proofs.Ready.{same_ready, stays_ready}
 use Rattle.span_dispatch.proofs.Alone.{sees_what_is_made}
-use Rattle.span_dispatch.specs.Serve.{kept_by, with_stack}
-use Rattle.span_dispatch.proofs.Goes.{ready_again, stays_so}
+use Rattle.span_dispatch.specs.Serve.{with_stack}
 use Rattle.span_dispatch.proofs.Stores.{closed_taken, still_open_taken}
 use Rattle.span_dispatch.proofs.Stores.{closed_store, still_open_store}
 use Rattle.std.proofs.Common.{ap, refl, subst, sym, ◌∙◌}
@@ -16,20 +16,16 @@ pub close_all-requires-clause-closing : goal.close_all-requires-clause-closing
 close_all-requires-clause-closing g c = subst (λ (s : RegistryState). IsClosing s.store.spans (number_of c.args.id)) (sym (g.met.S.LookupSpan.registry_with c.args.self.now.stack c.release.new.self)) (closing_now c.in-Ok-Closing.ensures.released c.in-Ok-Closing.field-0-is)
 
 pub returns-in-Ok-StillOpen-clause-ready : goal.returns-in-Ok-StillOpen-clause-ready
-returns-in-Ok-StillOpen-clause-ready g c = λ f k.
-    ready_again g.S.LookupSpan.registry g.S.LookupSpan.with_registry g.S.Subscriber.has_form g.S.Subscriber.stepped g.S.Subscriber.levelled f c.args.self.now (with_stack c.args.self.now (g.S.LookupSpan.with_registry c.args.self.now.stack c.release.new.self))
-    ((still_open_so g.met.S.Subscriber.laws g.met.S.LookupSpan.with_own g.S.Subscriber.levelled (kept_by c.args.self.now) g.met.S.LookupSpan.registry_with c.args.lane c.args.id c.in-Ok-StillOpen.field-0 f c.args.self.now.stack c.release.new.self (subst (λ (s : RegistryState). Releases c.args.id c.in-Ok-StillOpen.field-0 s c.release.new.self) c.root_mut.ensures.value c.in-Ok-StillOpen.ensures.released) c.in-Ok-StillOpen.field-0-is (subst (λ (s : RegistryState). IsForest s.store.spans) c.root_mut.ensures.value c.in-Ok-StillOpen.ensures.forest) k.stack).1 k.stack.settled) k.kept
+returns-in-Ok-StillOpen-clause-ready g c = stays_ready c.args.self.now (with_stack c.args.self.now (g.S.LookupSpan.with_registry c.args.self.now.stack c.release.new.self)) (λ f k u. (still_open_so g.met.S.Subscriber.laws g.met.S.LookupSpan.with_own g.S.Subscriber.levelled g.met.S.LookupSpan.registry_with c.args.lane c.args.id c.in-Ok-StillOpen.field-0 f c.args.self.now.stack c.release.new.self (subst (λ (s : RegistryState). Releases c.args.id c.in-Ok-StillOpen.field-0 s c.release.new.self) c.root_mut.ensures.value c.in-Ok-StillOpen.ensures.released) c.in-Ok-StillOpen.field-0-is (subst (λ (s : RegistryState). IsForest s.store.spans) c.root_mut.ensures.value c.in-Ok-StillOpen.ensures.forest) k).1 k.settled) (λ f h u. u) (λ f h u. u)
 
 pub returns-in-Ok-StillOpen-clause-served : goal.returns-in-Ok-StillOpen-clause-served
-returns-in-Ok-StillOpen-clause-served g c = λ f h. (still_open_so g.met.S.Subscriber.laws g.met.S.LookupSpan.with_own g.S.Subscriber.levelled (kept_by c.args.self.now) g.met.S.LookupSpan.registry_with c.args.lane c.args.id c.in-Ok-StillOpen.field-0 f c.args.self.now.stack c.release.new.self (subst (λ (s : RegistryState). Releases c.args.id c.in-Ok-StillOpen.field-0 s c.release.new.self) c.root_mut.ensures.value c.in-Ok-StillOpen.ensures.released) c.in-Ok-StillOpen.field-0-is (subst (λ (s : RegistryState). IsForest s.store.spans) c.root_mut.ensures.value c.in-Ok-StillOpen.ensures.forest) h.stack).0
+returns-in-Ok-StillOpen-clause-served g c = λ settled. record { told = λ f h u. (still_open_so g.met.S.Subscriber.laws g.met.S.LookupSpan.with_own g.S.Subscriber.levelled g.met.S.LookupSpan.registry_with c.args.lane c.args.id c.in-Ok-StillOpen.field-0 f c.args.self.now.stack c.release.new.self (subst (λ (s : RegistryState). Releases c.args.id c.in-Ok-StillOpen.field-0 s c.release.new.self) c.root_mut.ensures.value c.in-Ok-StillOpen.ensures.released) c.in-Ok-StillOpen.field-0-is (subst (λ (s : RegistryState). IsForest s.store.spans) c.root_mut.ensures.value c.in-Ok-StillOpen.ensures.forest) (record { honest = h; settled = settled })).0; exact = λ f h u. record { answers = tt; keeps = refl } }
 
 pub returns-in-Ok-Closing-clause-ready : goal.returns-in-Ok-Closing-clause-ready
-returns-in-Ok-Closing-clause-ready g c = λ f k.
-    ready_again g.S.LookupSpan.registry g.S.LookupSpan.with_registry g.S.Subscriber.has_form g.S.Subscriber.stepped g.S.Subscriber.levelled f c.args.self.now (with_stack c.args.self.now c.close_all.new.stack)
-    ((closed_so g.met.S.Subscriber.laws g.met.S.LookupSpan.with_own g.S.Subscriber.levelled (kept_by c.args.self.now) g.met.S.LookupSpan.registry_with c.args.lane c.args.id c.in-Ok-Closing.field-0 f c.args.self.now.stack c.close_all.new.stack c.release.new.self (subst (λ (s : RegistryState). Releases c.args.id c.in-Ok-Closing.field-0 s c.release.new.self) c.root_mut.ensures.value c.in-Ok-Closing.ensures.released) c.in-Ok-Closing.field-0-is (subst (λ (s : RegistryState). IsForest s.store.spans) c.root_mut.ensures.value c.in-Ok-Closing.ensures.forest) c.close_all.ensures.closes k.stack).1 k.stack.settled) k.kept
+returns-in-Ok-Closing-clause-ready g c = stays_ready c.args.self.now (with_stack c.args.self.now c.close_all.new.stack) (λ f k u. (closed_so g.met.S.Subscriber.laws g.met.S.LookupSpan.with_own g.S.Subscriber.levelled g.met.S.LookupSpan.registry_with c.args.lane c.args.id c.in-Ok-Closing.field-0 f c.args.self.now.stack c.close_all.new.stack c.release.new.self (subst (λ (s : RegistryState). Releases c.args.id c.in-Ok-Closing.field-0 s c.release.new.self) c.root_mut.ensures.value c.in-Ok-Closing.ensures.released) c.in-Ok-Closing.field-0-is (subst (λ (s : RegistryState). IsForest s.store.spans) c.root_mut.ensures.value c.in-Ok-Closing.ensures.forest) c.close_all.ensures.closes k).1 k.settled) (λ f h u. u) (λ f h u. u)
 
 pub returns-in-Ok-Closing-clause-served : goal.returns-in-Ok-Closing-clause-served
-returns-in-Ok-Closing-clause-served g c = λ f h. (closed_so g.met.S.Subscriber.laws g.met.S.LookupSpan.with_own g.S.Subscriber.levelled (kept_by c.args.self.now) g.met.S.LookupSpan.registry_with c.args.lane c.args.id c.in-Ok-Closing.field-0 f c.args.self.now.stack c.close_all.new.stack c.release.new.self (subst (λ (s : RegistryState). Releases c.args.id c.in-Ok-Closing.field-0 s c.release.new.self) c.root_mut.ensures.value c.in-Ok-Closing.ensures.released) c.in-Ok-Closing.field-0-is (subst (λ (s : RegistryState). IsForest s.store.spans) c.root_mut.ensures.value c.in-Ok-Closing.ensures.forest) c.close_all.ensures.closes h.stack).0
+returns-in-Ok-Closing-clause-served g c = λ settled. record { told = λ f h u. (closed_so g.met.S.Subscriber.laws g.met.S.LookupSpan.with_own g.S.Subscriber.levelled g.met.S.LookupSpan.registry_with c.args.lane c.args.id c.in-Ok-Closing.field-0 f c.args.self.now.stack c.close_all.new.stack c.release.new.self (subst (λ (s : RegistryState). Releases c.args.id c.in-Ok-Closing.field-0 s c.release.new.self) c.root_mut.ensures.value c.in-Ok-Closing.ensures.released) c.in-Ok-Closing.field-0-is (subst (λ (s : RegistryState). IsForest s.store.spans) c.root_mut.ensures.value c.in-Ok-Closing.ensures.forest) c.close_all.ensures.closes (record { honest = h; settled = settled })).0; exact = λ f h u. record { answers = tt; keeps = refl } }
 
 pub returns-in-Err-clause-settled : goal.returns-in-Err-clause-settled
 returns-in-Err-clause-settled g c = λ h.
@@ -54,8 +50,7 @@ pub returns-in-Ok-Closing-clause-taken : goal.returns-in-Ok-Closing-clause-taken
 returns-in-Ok-Closing-clause-taken g c = closed_taken g.S.LookupSpan.registry g.S.LookupSpan.with_registry g.S.Subscriber.has_form g.S.Subscriber.stepped g.S.Subscriber.levelled g.met.S.LookupSpan.registry_with c.args.lane c.args.id c.in-Ok-Closing.field-0 c.args.self.now (with_stack c.args.self.now c.close_all.new.stack) c.release.new.self (subst (λ (s : RegistryState). Releases c.args.id c.in-Ok-Closing.field-0 s c.release.new.self) c.root_mut.ensures.value c.in-Ok-Closing.ensures.released) c.in-Ok-Closing.field-0-is c.close_all.ensures.closes
 
 pub returns-in-Err-clause-ready : goal.returns-in-Err-clause-ready
-returns-in-Err-clause-ready g c = λ f k.
-    stays_so g.S.LookupSpan.registry g.S.LookupSpan.with_registry g.S.Subscriber.has_form g.S.Subscriber.stepped g.S.Subscriber.levelled f c.args.self.now (with_stack c.args.self.now (g.S.LookupSpan.with_registry c.args.self.now.stack c.release.new.self)) (ap (λ w. g.S.LookupSpan.with_registry c.args.self.now.stack w) (c.in-Err.ensures.unchanged ∙ c.root_mut.ensures.value) ∙ g.met.S.LookupSpan.with_own c.args.self.now.stack) k.kept k
+returns-in-Err-clause-ready g c = same_ready c.args.self.now (with_stack c.args.self.now (g.S.LookupSpan.with_registry c.args.self.now.stack c.release.new.self)) (ap (λ w. g.S.LookupSpan.with_registry c.args.self.now.stack w) (c.in-Err.ensures.unchanged ∙ c.root_mut.ensures.value) ∙ g.met.S.LookupSpan.with_own c.args.self.now.stack) (λ f h u. u) (λ f h u. u)
 
 pub returns-in-Err-clause-seen : goal.returns-in-Err-clause-seen
 returns-in-Err-clause-seen g c = sees_what_is_made g.S.LookupSpan.registry g.met.S.Subscriber.laws g.met.S.Subscriber.paths g.met.S.Subscriber.levels

@@ -1,6 +1,6 @@
+use Rattle.span_dispatch.proofs.Ready.{stays_ready, unchanged_ready}
 use Rattle.span_dispatch.proofs.Alone.{sees_what_is_made}
 use Rattle.span_dispatch.specs.Serve.{kept_by, with_stack}
-use Rattle.span_dispatch.proofs.Goes.{ready_again, stays_so}
 use Rattle.span_dispatch.proofs.Stores.{found_store}
 use Rattle.span_registry.proofs.CallerLemmas.{and_hooks}
 use Rattle.std.proofs.Common.{[], refl, subst, sym, ◌∙◌}
@@ -14,21 +14,22 @@ pub returns-then-not-is_open-clause-refused : goal.returns-then-not-is_open-clau
 returns-then-not-is_open-clause-refused g c = (refl, (λ o. true≢false (sym (c.is_open.ensures.1 (subst (λ (s : RegistryState). IsOpen s.store.spans (number_of c.args.id)) (sym c.root.ensures) o)) ∙ c.if-not-is_open.true)))
 
 pub returns-then-not-is_open-clause-served : goal.returns-then-not-is_open-clause-served
-returns-then-not-is_open-clause-served g c = λ f h u. ([], record { comes = ((refl, (λ o. true≢false (sym (c.is_open.ensures.1 (subst (λ (s : RegistryState). IsOpen s.store.spans (number_of c.args.id)) (sym c.root.ensures) o)) ∙ c.if-not-is_open.true))), refl); goes = refl; keeps = refl })
+returns-then-not-is_open-clause-served g c = record {
+  told = λ f h u. ([], record { says = refl; goes = refl; loses = λ d. absurd (cc) });
+  exact = λ f h u. record { answers = (refl, (λ o. true≢false (sym (c.is_open.ensures.1 (subst (λ (s : RegistryState). IsOpen s.store.spans (number_of c.args.id)) (sym c.root.ensures) o)) ∙ c.if-not-is_open.true))); keeps = refl };
+}
 
 pub returns-clause-ready : goal.returns-clause-ready
-returns-clause-ready g c = λ f k.
-    ready_again g.S.LookupSpan.registry g.S.LookupSpan.with_registry g.S.Subscriber.has_form g.S.Subscriber.stepped g.S.Subscriber.levelled f c.args.self.now (with_stack c.args.self.now c.record.new.self)
-    ((recorded_so g.met.S.Subscriber.laws g.met.S.LookupSpan.with_own g.S.Subscriber.levelled (kept_by c.args.self.now) c.args.lane c.args.id c.args.values.now f c.args.self.now.stack c.record.new.self (subst (λ (s : RegistryState). IsOpen s.store.spans (number_of c.args.id)) c.root.ensures (c.is_open.ensures.0 c.if-not-is_open.false)) c.record.ensures.hooks k.stack.honest).1 k.stack.settled) k.kept
+returns-clause-ready g c = stays_ready c.args.self.now (with_stack c.args.self.now c.record.new.self) (λ f k u. (recorded_so g.met.S.Subscriber.laws g.met.S.LookupSpan.with_own g.S.Subscriber.levelled c.args.lane c.args.id c.args.values.now f c.args.self.now.stack c.record.new.self (subst (λ (s : RegistryState). IsOpen s.store.spans (number_of c.args.id)) c.root.ensures (c.is_open.ensures.0 c.if-not-is_open.false)) c.record.ensures.hooks k.honest).1 k.settled) (λ f h u. u) (λ f h u. u)
 
 pub returns-clause-served : goal.returns-clause-served
-returns-clause-served g c = λ f h u. (recorded_so g.met.S.Subscriber.laws g.met.S.LookupSpan.with_own g.S.Subscriber.levelled (kept_by c.args.self.now) c.args.lane c.args.id c.args.values.now f c.args.self.now.stack c.record.new.self (subst (λ (s : RegistryState). IsOpen s.store.spans (number_of c.args.id)) c.root.ensures (c.is_open.ensures.0 c.if-not-is_open.false)) c.record.ensures.hooks h).0
+returns-clause-served g c = record { told = λ f h u. (recorded_so g.met.S.Subscriber.laws g.met.S.LookupSpan.with_own g.S.Subscriber.levelled c.args.lane c.args.id c.args.values.now f c.args.self.now.stack c.record.new.self (subst (λ (s : RegistryState). IsOpen s.store.spans (number_of c.args.id)) c.root.ensures (c.is_open.ensures.0 c.if-not-is_open.false)) c.record.ensures.hooks h).0; exact = λ f h u. record { answers = tt; keeps = refl } }
 
 pub returns-clause-store : goal.returns-clause-store
 returns-clause-store g c = found_store g.S.LookupSpan.registry c.args.id c.args.self.now.stack c.record.new.self (subst (λ (s : RegistryState). IsOpen s.store.spans (number_of c.args.id)) c.root.ensures (c.is_open.ensures.0 c.if-not-is_open.false)) (and_hooks c.record.ensures.hooks)
 
 pub returns-then-not-is_open-clause-ready : goal.returns-then-not-is_open-clause-ready
-returns-then-not-is_open-clause-ready g c = λ f k. stays_so g.S.LookupSpan.registry g.S.LookupSpan.with_registry g.S.Subscriber.has_form g.S.Subscriber.stepped g.S.Subscriber.levelled f c.args.self.now c.args.self.now refl k.kept k
+returns-then-not-is_open-clause-ready g c = unchanged_ready c.args.self.now c.args.self.now refl
 
 pub returns-then-not-is_open-clause-seen : goal.returns-then-not-is_open-clause-seen
 returns-then-not-is_open-clause-seen g c = sees_what_is_made g.S.LookupSpan.registry g.met.S.Subscriber.laws g.met.S.Subscriber.paths g.met.S.Subscriber.levels

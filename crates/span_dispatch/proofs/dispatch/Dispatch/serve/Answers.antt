@@ -1,10 +1,10 @@
-use Rattle.span_dispatch.proofs.Goes.{by_keeping, stays_so}
+use Rattle.span_dispatch.proofs.Ready.{ready_by_rules, unchanged_ready}
 use Rattle.std.proofs.Common.{refl, ◌+◌, ap, arith, sym, subst, take, [], ◌∙◌}
 use Rattle.std.proofs.lemmas.List.{take_all, take_more}
 use Rattle.span_dispatch.proofs.KeptHint.{one_goes}
 use Rattle.span_dispatch.specs.KeptHint.{AllGoByKept}
 use Rattle.span_registry.specs.Store.{AreIssued, RegistryState}
-use Rattle.span_dispatch.proofs.Served.{SoFar, all_served, nothing_yet, one_more}
+use Rattle.span_dispatch.proofs.Served.{SoFar, all_exactly, all_served, nothing_yet, one_more}
 use Rattle.span_dispatch.proofs.dispatch.Dispatch.serve.Goals as goal
 
 pub loop-request-init : goal.loop-request-init
@@ -12,7 +12,7 @@ loop-request-init g c =
     let e = c.in_ok-answers.ensures in
     record {
       usable = c.requires;
-      served = λ f ready. subst (SoFar g.S.LookupSpan.registry g.S.LookupSpan.with_registry g.S.Subscriber.has_form g.S.Subscriber.stepped g.S.Subscriber.levelled f c.args.self.now c.args.self.now []) (sym e.items) (nothing_yet g.S.LookupSpan.registry g.S.LookupSpan.with_registry g.S.Subscriber.has_form g.S.Subscriber.stepped g.S.Subscriber.levelled f c.args.self.now ready);
+      served = subst (SoFar (record { registry = g.S.LookupSpan.registry; with_registry = g.S.LookupSpan.with_registry; usable = g.S.Subscriber.usable; has_form = g.S.Subscriber.has_form; stepped = g.S.Subscriber.stepped; hears = g.S.Subscriber.hears; acts_at = g.S.Subscriber.acts_at; levelled = g.S.Subscriber.levelled; registered = g.S.Subscriber.registered }) c.args.self.now c.args.self.now []) (sym e.items) (nothing_yet (record { registry = g.S.LookupSpan.registry; with_registry = g.S.LookupSpan.with_registry; usable = g.S.Subscriber.usable; has_form = g.S.Subscriber.has_form; stepped = g.S.Subscriber.stepped; hears = g.S.Subscriber.hears; acts_at = g.S.Subscriber.acts_at; levelled = g.S.Subscriber.levelled; registered = g.S.Subscriber.registered }) c.args.self.now);
       kept = subst (λ us. AllGoByKept g.S.LookupSpan.registry [] [] us c.args.self.now c.args.self.now) (sym e.items) refl;
       len = e.len;
       room = e.capacity;
@@ -34,8 +34,8 @@ loop-request-preserved g c =
     let i = c.loop-request.request-index in
     record {
       usable = c.serve_one-answer.ensures.usable;
-      served = λ f ready.
-          one_more g.S.LookupSpan.registry g.S.LookupSpan.with_registry g.S.Subscriber.has_form g.S.Subscriber.stepped g.S.Subscriber.levelled f c.args.self.now now next (take i xs) (take (i + 1) xs) _ c.loop-request.answers.items c.append.new.answers.items a _ (h.served f ready) c.deref.ensures.value c.append.ensures.items
+      served =
+          one_more (record { registry = g.S.LookupSpan.registry; with_registry = g.S.LookupSpan.with_registry; usable = g.S.Subscriber.usable; has_form = g.S.Subscriber.has_form; stepped = g.S.Subscriber.stepped; hears = g.S.Subscriber.hears; acts_at = g.S.Subscriber.acts_at; levelled = g.S.Subscriber.levelled; registered = g.S.Subscriber.registered }) c.args.self.now now next (take i xs) (take (i + 1) xs) _ c.loop-request.answers.items c.append.new.answers.items a _ h.served c.deref.ensures.value c.append.ensures.items
           (take_more xs i _ c.loop-request-test.true) c.serve_one-answer.ensures.ready c.serve_one-answer.ensures.served;
       kept = one_goes g.S.LookupSpan.registry c.args.self.now now next (take i xs) (take (i + 1) xs) _ c.loop-request.answers.items c.append.new.answers.items a _ h.kept c.deref.ensures.value c.append.ensures.items (take_more xs i _ c.loop-request-test.true) c.serve_one-answer.ensures.kept;
       len = c.append.ensures.len ∙ ap (λ n. n + 1) h.len;
@@ -46,16 +46,21 @@ pub returns-clause-usable : goal.returns-clause-usable
 returns-clause-usable g c = c.loop-request.invariant.usable
 
 pub returns-clause-ready : goal.returns-clause-ready
-returns-clause-ready g c = λ f ready. (c.loop-request.invariant.served f ready).ready
+returns-clause-ready g c = record { safe = λ f ready. (c.loop-request.invariant.served.told f ready).ready; current = λ f ready. (c.loop-request.invariant.served.exact f ready).ready }
 
 pub returns-clause-served : goal.returns-clause-served
 returns-clause-served g c = λ ready.
-    all_served g.met.S.Subscriber.laws g.met.S.Subscriber.paths g.met.S.Subscriber.levels ready.0 c.args.self.now c.loop-request.self c.args.requests.now (take c.loop-request.request-index c.args.requests.now) c.loop-request.answers.items
-    (subst (λ x. AreIssued (g.S.LookupSpan.registry x).store) c.stack.ensures (subst (λ (s : RegistryState). AreIssued s.store) c.root.ensures c.a_registry_is_sound.ensures.issued)) (take_all c.loop-request.request-index c.args.requests.now c.loop-request-test.false) (c.loop-request.invariant.served ready.0 ready.1)
+    all_served (record { registry = g.S.LookupSpan.registry; with_registry = g.S.LookupSpan.with_registry; usable = g.S.Subscriber.usable; has_form = g.S.Subscriber.has_form; stepped = g.S.Subscriber.stepped; hears = g.S.Subscriber.hears; acts_at = g.S.Subscriber.acts_at; levelled = g.S.Subscriber.levelled; registered = g.S.Subscriber.registered }) g.met.S.Subscriber.laws g.met.S.Subscriber.paths g.met.S.Subscriber.levels ready.0 c.args.self.now c.loop-request.self c.args.requests.now (take c.loop-request.request-index c.args.requests.now) c.loop-request.answers.items
+    (subst (λ x. AreIssued (g.S.LookupSpan.registry x).store) c.stack.ensures (subst (λ (s : RegistryState). AreIssued s.store) c.root.ensures c.a_registry_is_sound.ensures.issued)) (take_all c.loop-request.request-index c.args.requests.now c.loop-request-test.false) (c.loop-request.invariant.served.told ready.0 ready.1)
+
+pub returns-clause-exact : goal.returns-clause-exact
+returns-clause-exact g c = λ ready.
+    all_exactly (record { registry = g.S.LookupSpan.registry; with_registry = g.S.LookupSpan.with_registry; usable = g.S.Subscriber.usable; has_form = g.S.Subscriber.has_form; stepped = g.S.Subscriber.stepped; hears = g.S.Subscriber.hears; acts_at = g.S.Subscriber.acts_at; levelled = g.S.Subscriber.levelled; registered = g.S.Subscriber.registered }) g.met.S.Subscriber.laws g.met.S.Subscriber.paths g.met.S.Subscriber.levels ready.0 c.args.self.now c.loop-request.self c.args.requests.now (take c.loop-request.request-index c.args.requests.now) c.loop-request.answers.items
+    (take_all c.loop-request.request-index c.args.requests.now c.loop-request-test.false) (c.loop-request.invariant.served.exact ready.0 ready.1)
 
 pub returns-clause-kept : goal.returns-clause-kept
 returns-clause-kept g c =
     subst (λ rs. AllGoByKept g.S.LookupSpan.registry [] rs c.loop-request.answers.items c.args.self.now c.loop-request.self) (take_all c.loop-request.request-index c.args.requests.now c.loop-request-test.false) c.loop-request.invariant.kept
 
 pub returns-in_err-answers-clause-ready : goal.returns-in_err-answers-clause-ready
-returns-in_err-answers-clause-ready g c = λ f k. by_keeping g.S.LookupSpan.registry g.S.LookupSpan.with_registry g.S.Subscriber.has_form g.S.Subscriber.stepped g.S.Subscriber.levelled f c.args.self.now (stays_so g.S.LookupSpan.registry g.S.LookupSpan.with_registry g.S.Subscriber.has_form g.S.Subscriber.stepped g.S.Subscriber.levelled f c.args.self.now c.args.self.now refl k.kept k)
+returns-in_err-answers-clause-ready g c = ready_by_rules c.args.self.now c.args.self.now (unchanged_ready c.args.self.now c.args.self.now refl)

@@ -1,5 +1,5 @@
 use Rattle.std.proofs.Common.{sym, subst, ◌∙◌, ap}
-use Rattle.span_dispatch.proofs.Goes.{stays_same}
+use Rattle.span_dispatch.proofs.Ready.{unchanged_ready}
 use Rattle.span_dispatch.proofs.Journalled.{drops_on, grown, refused_too}
 use Rattle.span_dispatch.specs.Journal.{Entry}
 use Rattle.span_dispatch.specs.Serve.{stack_of}
@@ -28,4 +28,4 @@ pub returns-clause-taken : goal.returns-clause-taken
 returns-clause-taken g c = rw (sym c.self.view_is) c.in_ok-given.ensures.taken
 
 pub returns-in_err-reserve-clause-ready : goal.returns-in_err-reserve-clause-ready
-returns-in_err-reserve-clause-ready g c = λ f k. stays_same g.S.LookupSpan.registry g.S.LookupSpan.with_registry g.S.Subscriber.has_form g.S.Subscriber.stepped g.S.Subscriber.levelled f c.args.self.now.dispatch c.self.inside.dispatch (ap (λ l. l.dispatch) c.self.view_is) k
+returns-in_err-reserve-clause-ready g c = unchanged_ready c.args.self.now.dispatch c.self.inside.dispatch (ap (λ l. l.dispatch) c.self.view_is)

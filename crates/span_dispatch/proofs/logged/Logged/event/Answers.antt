@@ -1,5 +1,5 @@
 use Rattle.std.proofs.Common.{◌∙◌, ap}
-use Rattle.span_dispatch.proofs.Goes.{stays_same}
+use Rattle.span_dispatch.proofs.Ready.{unchanged_ready}
 use Rattle.span_dispatch.proofs.Journalled.{goes_on, grown, kept_same, stays}
 use Rattle.span_dispatch.specs.Journal.{Entry}
 use Rattle.span_dispatch.specs.Serve.{stack_of}
@@ -19,4 +19,4 @@ invariant_of-self-2 g c =
     (goes_on g.S.LookupSpan.registry Stays (stack_of old.dispatch) (stack_of c.event.new.self) e c.event.ensures.store stays)
 
 pub returns-in_err-reserve-clause-ready : goal.returns-in_err-reserve-clause-ready
-returns-in_err-reserve-clause-ready g c = λ f k. stays_same g.S.LookupSpan.registry g.S.LookupSpan.with_registry g.S.Subscriber.has_form g.S.Subscriber.stepped g.S.Subscriber.levelled f c.args.self.now.dispatch c.self.inside.dispatch (ap (λ l. l.dispatch) c.self.view_is) k
+returns-in_err-reserve-clause-ready g c = unchanged_ready c.args.self.now.dispatch c.self.inside.dispatch (ap (λ l. l.dispatch) c.self.view_is)

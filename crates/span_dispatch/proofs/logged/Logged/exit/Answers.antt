@@ -1,5 +1,5 @@
 use Rattle.std.proofs.Common.{sym, ◌∙◌, ap}
-use Rattle.span_dispatch.proofs.Goes.{stays_same}
+use Rattle.span_dispatch.proofs.Ready.{unchanged_ready}
 use Rattle.span_dispatch.proofs.Journalled.{exits, goes_on, grown}
 use Rattle.span_dispatch.specs.Journal.{Entry}
 use Rattle.span_dispatch.specs.Serve.{stack_of}
@@ -18,4 +18,4 @@ pub returns-clause-gone : goal.returns-clause-gone
 returns-clause-gone g c = rw (sym c.self.view_is) c.exit.ensures.gone
 
 pub returns-in_err-reserve-clause-ready : goal.returns-in_err-reserve-clause-ready
-returns-in_err-reserve-clause-ready g c = λ f k. stays_same g.S.LookupSpan.registry g.S.LookupSpan.with_registry g.S.Subscriber.has_form g.S.Subscriber.stepped g.S.Subscriber.levelled f c.args.self.now.dispatch c.self.inside.dispatch (ap (λ l. l.dispatch) c.self.view_is) k
+returns-in_err-reserve-clause-ready g c = unchanged_ready c.args.self.now.dispatch c.self.inside.dispatch (ap (λ l. l.dispatch) c.self.view_is)

@@ -1,5 +1,5 @@
 use Rattle.std.proofs.Common.{subst, ◌∙◌, ap}
-use Rattle.span_dispatch.proofs.Goes.{stays_same}
+use Rattle.span_dispatch.proofs.Ready.{unchanged_ready}
 use Rattle.span_dispatch.proofs.Journalled.{follows, goes_on, grown, refused_too}
 use Rattle.span_dispatch.specs.Journal.{Entry}
 use Rattle.span_dispatch.specs.Serve.{stack_of}
@@ -20,4 +20,4 @@ invariant_of-self-2 g c =
     (goes_on g.S.LookupSpan.registry (FindsOpen c.args.id) (stack_of old.dispatch) (stack_of c.follows_from.new.self) e c.in_ok-follows_from.ensures.store (follows c.args.lane c.args.id c.args.follows))
 
 pub returns-in_err-reserve-clause-ready : goal.returns-in_err-reserve-clause-ready
-returns-in_err-reserve-clause-ready g c = λ f k. stays_same g.S.LookupSpan.registry g.S.LookupSpan.with_registry g.S.Subscriber.has_form g.S.Subscriber.stepped g.S.Subscriber.levelled f c.args.self.now.dispatch c.self.inside.dispatch (ap (λ l. l.dispatch) c.self.view_is) k
+returns-in_err-reserve-clause-ready g c = unchanged_ready c.args.self.now.dispatch c.self.inside.dispatch (ap (λ l. l.dispatch) c.self.view_is)

@@ -1,5 +1,5 @@
 use Rattle.std.proofs.Common.{◌≡◌, Err, List, ◌⊎◌, ap, sym, subst, ◌∙◌}
-use Rattle.span_dispatch.proofs.Goes.{stays_same}
+use Rattle.span_dispatch.proofs.Ready.{unchanged_ready}
 use Rattle.span_dispatch.proofs.Journalled.{goes_on, logs_refused, grown, kept_same, kept_verdict, opens, refused_too, some_of, none_of, stays}
 use Rattle.span_dispatch.proofs.Stores.{opened_for}
 use Rattle.span_dispatch.specs.Contract.{PassesKept, ServesNewSpan, SubscriberOf}
@@ -64,7 +64,7 @@ returns-clause-added g c =
     (kept.0, kept.1, subst entries (λ i. (entry.New c.args.lane (c.metadata-2.ensures i) (c.asked_parent.ensures i) ((c.refused.ensures ∙ sym kept.2) i) c.in-Some.id, old i)) c.noted-receipt-2.ensures)
 
 pub returns-in_err-reserve-clause-ready : goal.returns-in_err-reserve-clause-ready
-returns-in_err-reserve-clause-ready g c = λ f k. stays_same g.S.LookupSpan.registry g.S.LookupSpan.with_registry g.S.Subscriber.has_form g.S.Subscriber.stepped g.S.Subscriber.levelled f c.args.self.now.dispatch c.self.inside.dispatch (ap (λ l. l.dispatch) c.self.view_is) k
+returns-in_err-reserve-clause-ready g c = unchanged_ready c.args.self.now.dispatch c.self.inside.dispatch (ap (λ l. l.dispatch) c.self.view_is)
 
 pub returns-in_err-id-clause-served : goal.returns-in_err-id-clause-served
 returns-in_err-id-clause-served g c =

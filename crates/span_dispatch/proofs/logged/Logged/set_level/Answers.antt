@@ -1,5 +1,5 @@
 use Rattle.std.proofs.Common.{◌∙◌, ap}
-use Rattle.span_dispatch.proofs.Goes.{same_but}
+use Rattle.span_dispatch.proofs.Ready.{unset_from, unset_ready}
 use Rattle.span_dispatch.proofs.Journalled.{grown, stays}
 use Rattle.span_dispatch.specs.Journal.{Entry}
 use Rattle.span_dispatch.specs.Serve.{stack_of}
@@ -14,4 +14,7 @@ invariant_of-self-2 g c =
     (stays (g.S.LookupSpan.registry (stack_of old.dispatch)) (g.S.LookupSpan.registry (stack_of c.set_level.new.self)) c.set_level.ensures.registry)
 
 pub returns-in_err-reserve-clause-ready : goal.returns-in_err-reserve-clause-ready
-returns-in_err-reserve-clause-ready g c = λ f k. same_but g.S.LookupSpan.registry g.S.LookupSpan.with_registry g.S.Subscriber.has_form g.S.Subscriber.stepped g.S.Subscriber.levelled f c.args.number c.args.self.now.dispatch c.self.inside.dispatch (ap (λ l. l.dispatch) c.self.view_is) k
+returns-in_err-reserve-clause-ready g c = unset_ready c.args.number c.args.self.now.dispatch c.self.inside.dispatch (ap (λ l. l.dispatch) c.self.view_is)
+
+pub returns-in_err-set_level-clause-ready : goal.returns-in_err-set_level-clause-ready
+returns-in_err-set_level-clause-ready g c = unset_from c.args.number c.args.self.now.dispatch c.self.inside.dispatch c.set_level.new.self (ap (λ l. l.dispatch) c.self.view_is) c.set_level.ensures.ready
