@@ -4,7 +4,7 @@ pub mod Alone
 mod Calls
 pub mod CallerLemmas
 mod Dropped
-mod Effect
+pub mod Effect
 pub mod Fixed
 mod Goes
 mod Journalled

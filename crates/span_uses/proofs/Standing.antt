@@ -13,14 +13,16 @@ use Rattle.span_core.specs.declared.span.Attributes.{Attributes}
 use Rattle.span_core.specs.declared.span.Id.{Id}
 use Rattle.span_core.specs.declared.span.Lane.{Lane}
 use Rattle.span_dispatch.proofs.CallerLemmas.{heard_records}
+use Rattle.span_dispatch.proofs.Effect.{seen_calls}
 use Rattle.span_dispatch.specs.Alone.{seen}
 use Rattle.span_dispatch.specs.Call.{Call, DropHandle, OpenSpan, span_answer, yes_answer}
 use Rattle.span_dispatch.specs.Contract.{AnswersCall, AnswersDrop, StaysReady, SubscriberOf}
+use Rattle.span_dispatch.specs.Isolation.{SeesCalls}
 use Rattle.span_dispatch.specs.declared.dispatch.Dispatch.{Dispatch}
 use Rattle.span_dispatch.specs.declared.request.Answer.TheVariants.{Dropped, Made, Yes}
 use Rattle.span_dispatch.specs.declared.request.Answer.{Answer}
 use Rattle.span_dispatch.specs.Recorder.{Kept, Records, kept_notice, new_recorder}
-use Rattle.span_dispatch.specs.Serve.{IsReady, SayOutcomes, flat, outcome_of, stack_of}
+use Rattle.span_dispatch.specs.Serve.{IsReady, flat, made_calls, stack_of}
 use Rattle.span_dispatch.specs.declared.request.Request.{Request}
 use Rattle.span_layers.proofs.CallerLemmas.{bare_stands, stands_on}
 use Rattle.span_layers.specs.Attach.{Attaches}
@@ -39,7 +41,6 @@ use Rattle.span_layers.specs.declared.filtered.Filtered.{Filtered as FilteredLay
 use Rattle.span_layers.specs.declared.layered.Layered.{Layered}
 use Rattle.span_registry.proofs.CallerLemmas.{settled_new}
 use Rattle.span_registry.proofs.Agreeing.{agree_refl}
-use Rattle.span_registry.specs.Agree.{AgreeAt}
 use Rattle.span_registry.specs.Answers.{Answers, AreAlike, AreHonest, ArePlain, Conduct, unextended}
 use Rattle.span_registry.specs.Conducts.{Conducts, numbers_in}
 use Rattle.span_registry.specs.Closes.{IsSettled}
@@ -135,11 +136,15 @@ records_alone s place recorder cs x new used hears requests done h =
     let z = stack_of done.0 in
     let in_use = used y h.in_use in
     let made = flat h.served.made in
+    let calls : SeesCalls s.registry s.with_registry s.has_form s.stepped s.levelled s.hears s.acts_at cs empty_store (made_calls (numbers_in cs) [] requests done.1.items) (seen place made) = record {
+      old = h.first; new = done.0; requests = requests; answers = done.1.items; served = h.served;
+      place = place; acts = in_use.1; at_store = h.empty; at_calls = refl; sees = refl;
+    } in
     record {
       stack = x;
       serves = h;
       kept = subst (λ (r : Kept). Records r (recorder z) (map kept_notice (seen place made))) (in_use.0 ∙ new) (hears y z (seen place made) (h.served.each place));
-      alone = h.served.alone place cs empty_store in_use.1 (subst (λ (t : Store). AgreeAt (numbers_in cs) t empty_store) (sym h.empty) (agree_refl (numbers_in cs) empty_store));
+      alone = seen_calls s.registry s.with_registry s.has_form s.stepped s.levelled s.hears s.acts_at cs empty_store empty_store (made_calls (numbers_in cs) [] requests done.1.items) (seen place made) calls (agree_refl (numbers_in cs) empty_store);
     }
 
 -- so it has recorded so, where it served
@@ -211,9 +216,7 @@ pub counts_alone : {S : Type 0} (s : SubscriberOf S) (place : Place) (recorder :
 counts_alone s place recorder cs requests done o r c =
     let heard = seen place (flat r.serves.served.made) in
     record {
-      outcomes = map outcome_of (flat r.serves.served.made);
       heard = heard;
-      say = subst (λ (t : Store). SayOutcomes t requests done.1.items (map outcome_of (flat r.serves.served.made))) r.serves.empty r.serves.served.calls;
       alone = r.alone;
       count = counted_by (recorder (stack_of done.0)) heard o r.kept c;
     }

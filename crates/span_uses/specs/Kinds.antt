@@ -4,11 +4,11 @@ use Rattle.std.specs.declared.alloc.Global.{Global}
 use Rattle.std.specs.declared.vec.Vec.{Vec}
 use Rattle.span_core.specs.declared.filter.TheConstants.FilterId.{LIMIT}
 use Rattle.span_core.specs.declared.metadata.Metadata.{Metadata}
-use Rattle.span_dispatch.specs.Alone.{Alone, seen}
+use Rattle.span_dispatch.specs.Alone.{seen}
 use Rattle.span_dispatch.specs.Contract.{SubscriberOf}
-use Rattle.span_dispatch.specs.Outcome.{Outcome}
+use Rattle.span_dispatch.specs.Effect.{AloneOf}
 use Rattle.span_dispatch.specs.Recorder.{Kept, Records, kept_notice, new_recorder}
-use Rattle.span_dispatch.specs.Serve.{IsReadySomehow, SayOutcomes, Served, flat, outcome_of, stack_of}
+use Rattle.span_dispatch.specs.Serve.{IsReadySomehow, Served, flat, made_calls, stack_of}
 use Rattle.span_dispatch.specs.declared.dispatch.Dispatch.{Dispatch}
 use Rattle.span_dispatch.specs.declared.request.Answer.{Answer}
 use Rattle.span_dispatch.specs.declared.request.Request.{Request}
@@ -19,7 +19,7 @@ use Rattle.span_layers.specs.Stands.{IsHonestLayer, Stands}
 use Rattle.span_layers.specs.declared.filtered.Filtered.{Filtered}
 use Rattle.span_layers.specs.declared.layered.Layered.{Layered}
 use Rattle.span_registry.specs.Answers.{Answers, Conduct, notices_of}
-use Rattle.span_registry.specs.Conducts.{Conducts}
+use Rattle.span_registry.specs.Conducts.{Conducts, numbers_in}
 use Rattle.span_registry.specs.Form.{Form}
 use Rattle.span_registry.specs.Place.{Heard, Here, Outer, Place, Under}
 use Rattle.span_registry.specs.Store.{RegistryState, empty_store}
@@ -36,6 +36,10 @@ pub record IsFit {L : Type 0} (has_form : L → Form → Type 0) (layer : L) : T
   pub has : has_form layer form
   pub honest : IsHonestLayer form
   pub room : filters_in form ≤ LIMIT
+
+-- what a leaf sees of a list that was answered so, as if it stood alone under filters of these conducts, on a registry without spans
+abbrev pub SeesAlone : Conducts → List Request → List Answer → Heard → Type 0
+SeesAlone cs requests answers heard = AloneOf cs empty_store (made_calls (numbers_in cs) [] requests answers) heard
 
 module _ {S : Type 0} (s : SubscriberOf S) where
   -- the dispatcher is ready
@@ -60,7 +64,7 @@ module _ {S : Type 0} (s : SubscriberOf S) where
     pub stack : S
     pub serves : ServesReady stack requests done
     pub kept : Records new_recorder (recorder (stack_of done.0)) (map kept_notice (seen place (flat serves.served.made)))
-    pub alone : Alone cs empty_store (map outcome_of (flat serves.served.made)) (seen place (flat serves.served.made))
+    pub alone : SeesAlone cs requests done.1.items (seen place (flat serves.served.made))
 
   -- whatever list it serves first, put in use, the recorder at this place will have recorded so
   abbrev pub WillRecord : Place → (S → Kept) → Conducts → S → Type 0
@@ -97,10 +101,8 @@ IsCounted r o = IfSome o (λ n. (r.failed ≡ false) × (n ≡ length r.notices)
 
 -- a list was answered, and a recorder under filters that act so was notified of just what it would see alone: so many notices, unless it failed for want of memory
 pub record CountsAlone (cs : Conducts) (requests : List Request) (told : Vec Answer Global × Option ℕ) : Type 0 where
-  pub outcomes : List Outcome
   pub heard : Heard
-  pub say : SayOutcomes empty_store requests told.0.items outcomes
-  pub alone : Alone cs empty_store outcomes heard
+  pub alone : SeesAlone cs requests told.0.items heard
   pub count : IfSome told.1 (λ n. n ≡ length heard)
 
 -- the same of one filter
