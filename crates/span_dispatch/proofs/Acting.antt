@@ -304,6 +304,10 @@ one_parent s lane (Explicit x) o p h k = h.0 ∙ sym k.0
 changed : (numbers : FilterSet) (s t u v : Store) → u ≡ s → v ≡ t → AgreeAt numbers s t → AgreeAt numbers u v
 changed numbers s t u v e f h = subst (λ (x : Store). AgreeAt numbers x v) (sym e) (subst (λ (y : Store). AgreeAt numbers s y) (sym f) h)
 
+-- stores that agree still do with one span more in each, whatever their extensions
+pub new_stores_agree : (numbers : FilterSet) (s t : Store) (x : ℕ) (r q : Span) → AgreeAt numbers s t → SpansAgree numbers r q → AgreeAt numbers (with_new s x r) (with_new t x q)
+new_stores_agree numbers s t x r q h k = let a = new_agrees numbers s t x r q h k in record { spans = a.spans; issued = a.issued; stacks = a.stacks }
+
 -- the steps of both leave stores that agree
 pub steps_agree : (cs ds : Conducts) (o : Outcome) (s t u v : Store) → PathsActAlike cs ds → AgreeAt (numbers_in cs) s t → Steps (lone (path_now cs)) o s u → Steps (lone (path_now ds)) o t v → AgreeAt (numbers_in cs) u v
 steps_agree cs ds (Noticed lane (OnNewSpan attrs id)) s t u v p agree h k =
@@ -317,7 +321,7 @@ steps_agree cs ds (Noticed lane (OnNewSpan attrs id)) s t u v p agree h k =
       handles = refl;
       verdict = λ n m. h.refused n ∙ verdicts_alike numbers s t agree lane.0 cs ds (metadata_of attrs) no_filter n p (itself_within numbers) (none_within numbers) ∙ sym (k.refused n);
     } in
-    changed numbers (with_new s (number_of id) first) (with_new t (number_of id) second) u v h.state k.state (new_agrees numbers s t (number_of id) first second agree both)
+    changed numbers (with_new s (number_of id) first) (with_new t (number_of id) second) u v h.state k.state (new_stores_agree numbers s t (number_of id) first second agree both)
 steps_agree cs ds (Noticed lane (OnRecord id values)) s t u v p agree h k = changed (numbers_in cs) s t u v h.1 k.1 agree
 steps_agree cs ds (Noticed lane (OnFollows id other)) s t u v p agree h k = changed (numbers_in cs) s t u v h.1 k.1 agree
 steps_agree cs ds (Noticed lane (OnEvent e)) s t u v p agree h k = changed (numbers_in cs) s t u v h k agree
@@ -342,6 +346,7 @@ step_over cs ds (Noticed lane (OnNewSpan attrs id)) s t u p agree h =
         verdict = h.verdict;
         refused = λ k. h.refused k ∙ verdicts_alike numbers s t agree lane.0 cs ds (metadata_of attrs) no_filter k p (itself_within numbers) (none_within numbers);
         fresh = ap (λ i. contains i (number_of id)) (sym agree.issued) ∙ h.fresh;
+        other = h.other;
         state = refl;
       },
     )

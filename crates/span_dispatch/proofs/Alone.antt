@@ -9,7 +9,8 @@ use Rattle.span_core.specs.Span.{asked_parent, metadata_of, number_of}
 use Rattle.span_core.specs.declared.filter.FilterMap.{FilterMap}
 use Rattle.span_core.specs.declared.metadata.Metadata.{Metadata}
 use Rattle.span_core.specs.declared.span.Lane.{Lane}
-use Rattle.span_dispatch.proofs.Acting.{acting_numbers, after_notice_alike, alone_over, given_alike, itself_within, learnt_alike, none_within, passed_both, paths_further, paths_itself, same_numbers}
+use Rattle.span_dispatch.proofs.Goes.{same_aside}
+use Rattle.span_dispatch.proofs.Acting.{acting_numbers, after_notice_alike, alone_over, given_alike, itself_within, learnt_alike, new_stores_agree, none_within, passed_both, paths_further, paths_itself, same_numbers}
 use Rattle.span_dispatch.proofs.Seen.{beneath, goes_through, some_path}
 use Rattle.span_dispatch.specs.Alone.{Alone, acting, learning, lone, passed, seen}
 use Rattle.span_dispatch.specs.Isolation.{ActAlike, PathsActAlike, SeesMade, SeesServed}
@@ -17,7 +18,7 @@ use Rattle.span_dispatch.specs.Outcome.{GoneLeft, HandleAdded, HandleTaken, IsVe
 use Rattle.std.specs.FinMap.{get}
 use Rattle.span_dispatch.specs.Serve.{EachSeesAlone, Sees, outcome_of, stack_of}
 use Rattle.span_layers.specs.Verdict.{AreDistinct, in_verdict, numbers_of}
-use Rattle.span_registry.proofs.Agreeing.{agree_aside, agree_refl, agree_sym, agree_trans, new_agrees_with, views_alike}
+use Rattle.span_registry.proofs.Agreeing.{agree_aside, agree_refl, agree_sym, agree_trans, views_alike}
 use Rattle.span_registry.specs.Agree.{AgreeAt, PlacesAgree, SpansAgree}
 use Rattle.span_registry.specs.Answers.{AnswerAlike, Answers, Conduct, IsPlain, Notice, OnClose, OnEnter, OnEvent, OnExit, OnFollows, OnIdChange, OnNewSpan, OnRecord}
 use Rattle.span_registry.specs.Conducts.{ActOn, ActsAt, ArePlainConducts, Conducts, Learns, PathsAnswerAlike, StackPathLaws, after_notice, numbers_in, path_now, setting}
@@ -296,8 +297,8 @@ steps_alone f cs cut_says (Noticed lane (OnNewSpan attrs id)) s t h =
     let own : Span = begun (record { metadata = metadata_of attrs; parent = asked_parent attrs; verdict = cut.0 }) h.parent in
     let both : SpansAgree numbers whole own = record { metadata = refl; parent = refl; handles = refl; verdict = λ n m. sym (cut.1 n ∙ ap (λ (b : Bool). b && refuses h.verdict n) m) } in (
       with_new s x own,
-      record { parent = h.parent; chosen = h.chosen; verdict = cut.0; refused = λ k. cut.1 k ∙ cut_says (metadata_of attrs) s lane h.verdict h.refused k; fresh = h.fresh; state = refl },
-      subst (λ (v : Store). AgreeAt numbers v (with_new s x own)) (sym h.state) (new_agrees_with numbers s s (with_new s x whole) x whole own (agree_refl numbers s) both refl refl refl),
+      record { parent = h.parent; chosen = h.chosen; verdict = cut.0; refused = λ k. cut.1 k ∙ cut_says (metadata_of attrs) s lane h.verdict h.refused k; fresh = h.fresh; other = h.other; state = refl },
+      subst (λ (v : Store). AgreeAt numbers v (with_new s x own)) (sym h.state) (new_stores_agree numbers s s x whole own (agree_refl numbers s) both),
     )
 steps_alone f cs cut_says (Noticed lane (OnRecord id values)) s t h = (t, h, agree_refl (numbers_in cs) t)
 steps_alone f cs cut_says (Noticed lane (OnFollows id other)) s t h = (t, h, agree_refl (numbers_in cs) t)
@@ -340,7 +341,7 @@ module _ {S : Type 0} (registry : S → RegistryState) {with_registry : S → Re
       let on = paths.goes_on x (asked_afresh f e s lane.0 no_filter) e lane.0 n.left n.notified (registry n.notified) place cs n.layers acts in
       let there = subst (λ (z : S). acts_at z place on.0) (sym n.rest) (paths.acts_with n.notified (registry y) place on.0 on.1) in
       let learnt = learns_along e s lane.0 n.left f place now.0 no_filter cs on.0 now.1 now.2 plain on.2 in
-      let given = agree_trans numbers n.left.store (given_in e s t) (given_in e s step.0) (agree_sym numbers (given_in e s t) n.left.store (agree_same numbers (given_in e s t) n.left.store n.given)) (given_alike numbers e s s t step.0 (agree_refl numbers s) step.2) in
+      let given = agree_trans numbers n.left.store (given_in e s t) (given_in e s step.0) (agree_sym numbers (given_in e s t) n.left.store (agree_same numbers (given_in e s t) n.left.store (same_aside _ _ (ap (λ (r : RegistryState). r.store) n.given)))) (given_alike numbers e s s t step.0 (agree_refl numbers s) step.2) in
       let moved = learnt_alike numbers cs cs e s s n.left.store (given_in e s step.0) lane.0 no_filter (agree_refl numbers s) given (paths_itself cs plain) (itself_within numbers) (none_within numbers) in (
         step.0,
         step.1,
@@ -350,14 +351,14 @@ module _ {S : Type 0} (registry : S → RegistryState) {with_registry : S → Re
         paths_further on.0 (learning cs e s n.left.store lane.0 no_filter) (learning cs e s (given_in e s step.0) lane.0 no_filter) learnt moved,
         passed_both cs cs (Noticed lane e) s s t step.0 (paths_itself cs plain) (agree_refl numbers s) step.2,
       )
-  leaves_alone f (Quiet c) s t x y place cs has distinct acts steps aside rest =
+  leaves_alone f (Quiet c) s t x y place cs has distinct acts steps aside quiet =
       let numbers = numbers_in cs in
       let step = steps_alone f cs (λ meta u q v said. let now = paths.now x place cs f acts has in cut_refuses f place now.0 cs meta u q.0 v distinct now.1 now.2 said) (Quiet c) s t steps in (
         step.0,
         step.1,
         agree_trans numbers (registry y).store t step.0 (agree_sym numbers t (registry y).store (agree_same numbers t (registry y).store aside)) step.2,
         cs,
-        subst (λ (z : S). acts_at z place cs) (sym rest) (paths.acts_with x (registry y) place cs acts),
+        subst (λ (z : S). acts_at z place cs) (sym quiet.rest) (paths.acts_with x (registry y) place cs acts),
         paths_itself cs (paths.plain x place cs acts),
         refl,
       )

@@ -1,5 +1,5 @@
 -- How each call of a dispatcher is served, from what the stack's own calls say.
-use Rattle.std.proofs.Common.{◌≡◌, ℕ, Bool, true, false, not, ◌||◌, List, [], ◌∷◌, ◌++◌, map, Option, Some, None, Result, Ok, Err, inl, inr, IfSome, IfErr, OnOk, OnErr, refl, sym, ap, subst, ◌∙◌}
+use Rattle.std.proofs.Common.{◌≡◌, ℕ, Bool, true, false, not, ◌||◌, List, [], ◌∷◌, ◌++◌, map, Option, Some, None, Result, Ok, Err, inl, inr, IfSome, IfErr, IfOk, OnOk, OnErr, ◌<◌, refl, sym, ap, subst, ◌∙◌}
 use Rattle.std.proofs.lemmas.Bool.{true≢false}
 use Rattle.span_core.specs.Event.{event_metadata}
 use Rattle.span_core.specs.Filters.{FilterSet}
@@ -18,8 +18,8 @@ use Rattle.span_core.specs.declared.span.Record.{Record}
 use Rattle.span_dispatch.proofs.Goes.{Done, StepsTo, StillReady, aside_further, aside_state, by_call, by_change, by_none, changed, filters_same, honest_after, honest_quietly, its_own, keeps_again, same_aside, settled_aside}
 use Rattle.span_dispatch.specs.Admission.{Decides, IsAdmitted, IsDropped}
 use Rattle.span_dispatch.specs.Cache.{Memory}
-use Rattle.span_dispatch.specs.Call.{AddHandle, AskCurrent, Call, DropHandle, Enter, Exit, Follow, OpenSpan, Probe, RecordValues, SendEvent, closes_of, current_answer, done_answer, vetoes_whole, yes_answer}
-use Rattle.span_dispatch.specs.Outcome.{GoneLeft, HandleAdded, HandleTaken, IsHonest, IsVerdict, Made, Makes, Noticed, Notices, Outcome, Quiet, SameAside, Steps, given_in, with_new}
+use Rattle.span_dispatch.specs.Call.{AddHandle, AskCurrent, Call, DropHandle, Enter, Exit, Follow, HasRoomFor, OpenSpan, Probe, RecordValues, SendEvent, closes_of, current_answer, done_answer, vetoes_whole, yes_answer}
+use Rattle.span_dispatch.specs.Outcome.{GoneLeft, HandleAdded, HandleTaken, IsHonest, IsVerdict, Ends, Made, Makes, Noticed, Notices, Outcome, Quiet, SameAside, Steps, given_in, with_new}
 use Rattle.span_core.specs.declared.filter.FilterMap.{FilterMap}
 use Rattle.span_dispatch.specs.Serve.{AnswersExactly, ClosesEach, IsReady, outcome_of}
 use Rattle.span_dispatch.specs.declared.request.Answer.TheVariants as answer
@@ -38,7 +38,7 @@ use Rattle.span_registry.specs.Place.{HearSteps}
 use Rattle.span_registry.specs.Plan.{asked_afresh, by_pass}
 use Rattle.span_registry.specs.Question.{asked, event_asked, refusals}
 use Rattle.span_registry.specs.Step.{Begun, Between, Clones, Enters, Exits, IsCurrent, Opens, ShowsCurrent, begun, entered, exited, RefusesClone, RefusesEnter, RefusesNew, Releases, Removal, Removed, Removes}
-use Rattle.span_registry.specs.Store.{IsClosing, IsForest, IsOpen, RegistryState, Spans, Store, add_handle, take_handle}
+use Rattle.span_registry.specs.Store.{IsClosing, IsForest, IsOpen, RegistryState, Spans, Store, add_handle, handles_of, take_handle}
 use Rattle.span_registry.specs.Subscriber.{SameButExtensions}
 use Rattle.span_registry.specs.Laws.{ClosesAll}
 use Rattle.span_registry.specs.declared.registry.Released.{Released}
@@ -69,12 +69,13 @@ or_both_false false b h k = k
 -- ---- what the registry's own step makes of a notice
 
 -- it stays as it is
-stays_to : (f : Form) (lane : Lane) (e : Notice) (s t : RegistryState) → Steps f (Noticed lane e) s.store s.store → SameAside (given_in e s.store s.store) s.store → t ≡ s → StepsTo f lane e s t
-stays_to f lane e s t steps given same = record {
+stays_to : (f : Form) (lane : Lane) (e : Notice) (s t : RegistryState) → Steps f (Noticed lane e) s.store s.store → given_in e s.store s.store ≡ s.store → ((u : RegistryState) → Ends e u u) → t ≡ s → StepsTo f lane e s t
+stays_to f lane e s t steps given ends same = record {
   after = s.store;
   steps = steps;
-  given = aside_further (given_in e s.store s.store) s.store t.store given (aside_state s t same);
+  given = same ∙ sym (ap (λ (u : Store). record s { store = u }) given);
   left = aside_state s t same;
+  ends = ends;
   filters = filters_same same;
   settled = settled_aside s.store t.store (aside_state s t same);
 }
@@ -83,13 +84,13 @@ enters_to : (f : Form) (lane : Lane) (id : Id) (s t : RegistryState) → Enters 
 enters_to f lane id s t n =
     let u = entered s.store lane.0 (number_of id) in
     let same : SameAside u t.store = same_aside u t.store (ap (λ (r : RegistryState). r.store) n.state) in
-    record { after = u; steps = (n.is_open, refl); given = same; left = same; filters = filters_same n.state; settled = λ h. subst IsSettled (sym same.spans) h }
+    record { after = u; steps = (n.is_open, refl); given = n.state; left = same; ends = λ r. refl; filters = filters_same n.state; settled = λ h. subst IsSettled (sym same.spans) h }
 
 leaves_to : (f : Form) (lane : Lane) (id : Id) (s t : RegistryState) → IsOpen s.store.spans (number_of id) → Exits lane id s t → StepsTo f lane (OnExit id) s t
 leaves_to f lane id s t there n =
     let u = exited s.store lane.0 (number_of id) in
     let same : SameAside u t.store = same_aside u t.store (ap (λ (r : RegistryState). r.store) n) in
-    record { after = u; steps = (there, refl); given = same; left = same; filters = filters_same n; settled = λ h. subst IsSettled (sym same.spans) h }
+    record { after = u; steps = (there, refl); given = n; left = same; ends = λ r. refl; filters = filters_same n; settled = λ h. subst IsSettled (sym same.spans) h }
 
 opens_to : (f : Form) (lane : Lane) (attrs : Attributes) (id : Id) (s t : RegistryState) (v : FilterMap) → IsVerdict f (metadata_of attrs) s.store lane v
     → Opens lane (record { metadata = metadata_of attrs; parent = asked_parent attrs; verdict = v }) id s t → StepsTo f lane (OnNewSpan attrs id) s t
@@ -99,9 +100,10 @@ opens_to f lane attrs id s t v said o =
     let same : SameAside u t.store = record { spans = ap (λ (r : RegistryState). r.store.spans) o.state; issued = ap (λ (r : RegistryState). r.store.issued) o.state; stacks = ap (λ (r : RegistryState). r.store.stacks) o.state } in
     record {
       after = u;
-      steps = record { parent = o.parent; chosen = o.finds.chosen; verdict = v; refused = said; fresh = o.fresh; state = refl };
-      given = same;
+      steps = record { parent = o.parent; chosen = o.finds.chosen; verdict = v; refused = said; fresh = o.fresh; other = o.other; state = refl };
+      given = o.state;
       left = same;
+      ends = λ r. refl;
       filters = filters_same o.state;
       settled = settled_opened lane _ id s t o;
     }
@@ -173,8 +175,8 @@ module _ {S : Type 0} {registry : S → RegistryState} {with_registry : S → Re
     pub unknown_exactly : (e : TraceError) → IsAdmitted memory f s lane m pass after (Err e) → AnswersExactly (OpenSpan lane attrs) f memory s (answer.Refused e) after
     unknown_exactly e a = let d = by_metadata f s lane m (metadata_of attrs) pass memory after (Err e) same a in record { answers = inl d.0; keeps = inl (d.0.refused, d.1) }
 
-    pub made_exactly : (id : Id) → IsAdmitted memory f s lane m pass after (Ok true) → AnswersExactly (OpenSpan lane attrs) f memory s (answer.Made id) after
-    made_exactly id a = let d = by_metadata f s lane m (metadata_of attrs) pass memory after (Ok true) same a in record { answers = (d.0, unvetoed f (metadata_of attrs) s.store lane pass orderly d.1); keeps = d.2 }
+    pub made_exactly : (id : Id) → HasRoomFor s lane (asked_parent attrs) → IsAdmitted memory f s lane m pass after (Ok true) → AnswersExactly (OpenSpan lane attrs) f memory s (answer.Made id) after
+    made_exactly id room a = let d = by_metadata f s lane m (metadata_of attrs) pass memory after (Ok true) same a in record { answers = ((d.0, unvetoed f (metadata_of attrs) s.store lane pass orderly d.1), room); keeps = d.2 }
 
     pub refused_exactly : (e : TraceError) → RefusesNew s lane (asked_parent attrs) e → IsAdmitted memory f s lane m pass after (Ok true) → AnswersExactly (OpenSpan lane attrs) f memory s (answer.Refused e) after
     refused_exactly e r a = let d = by_metadata f s lane m (metadata_of attrs) pass memory after (Ok true) same a in record { answers = inr ((d.0, unvetoed f (metadata_of attrs) s.store lane pass orderly d.1), r); keeps = inr d.2 }
@@ -208,7 +210,7 @@ module _ {S : Type 0} {registry : S → RegistryState} {with_registry : S → Re
       let refused : refusals second ≡ (event_asked f e s lane.0 no_filter asked_first).1 =
       (b f h.has).refused ∙ ap (λ r. (event_asked f e s lane.0 no_filter r).1) (sym (ap (λ (p : Bool × FilterSet). p.1) d)) in
       let plan = subst (λ r. by_pass f (OnEvent e) n.left.store.spans no_filter r ≡ asked_afresh f (OnEvent e) s lane.0 no_filter) (sym refused) (law n.left.store.spans) in
-      by_call laws with_own levelled (SendEvent lane e) answer.Done f lane (OnEvent e) (refusals second) _ x y h refl (λ d. absurd (cc)) n plan (stays_to f lane (OnEvent e) (registry x) n.left refl (record { spans = refl; issued = refl; stacks = refl }) n.taken)
+      by_call laws with_own levelled (SendEvent lane e) answer.Done f lane (OnEvent e) (refusals second) _ x y h refl (λ d. absurd (cc)) n plan (stays_to f lane (OnEvent e) (registry x) n.left refl refl (λ r. refl) n.taken)
 
   -- and exactly so
   module _ (f : Form) (memory after : Memory) (x : S) (lane : Lane) (e : Event) (m : Metadata) (first : Pass) (same : m ≡ event_metadata e) (h : Honest f x) where
@@ -259,20 +261,20 @@ module _ {S : Type 0} {registry : S → RegistryState} {with_registry : S → Re
       → Done laws with_own levelled (Exit lane id) answer.Done f x (with_registry x w)
   gone_so registry_with lane id f x w shut e h =
       by_change laws with_own levelled (Exit lane id) answer.Done f (GoneLeft lane id) x (with_registry x w) h (record { there = λ o. absurd (shut o); gone = λ s. refl }) (λ d. absurd (cc))
-      (exited (registry x).store lane.0 (number_of id)) (shut, refl) (same_aside _ _ (ap (λ (t : RegistryState). t.store) (registry_with x w ∙ e))) (its_own laws with_own levelled registry_with x w) (filters_same (registry_with x w ∙ e))
+      (exited (registry x).store lane.0 (number_of id)) (shut, refl) (registry_with x w ∙ e) (its_own laws with_own levelled registry_with x w) (filters_same (registry_with x w ∙ e))
       (λ s. subst (λ (t : RegistryState). IsSettled t.store.spans) (sym (registry_with x w)) (subst IsSettled (sym (ap (λ (t : RegistryState). t.store.spans) e)) s))
 
   pub recorded_so : (lane : Lane) (id : Id) (values : Record) (f : Form) (x y : S) → IsOpen (registry x).store.spans (number_of id) → Notifies registry has_form stepped lane no_filter (OnRecord id values) Stays x y → Honest f x
       → Done laws with_own levelled (RecordValues lane id values) answer.Done f x y
   recorded_so lane id values f x y there n h =
       by_call laws with_own levelled (RecordValues lane id values) answer.Done f lane (OnRecord id values) no_filter _ x y h refl (λ d. absurd (cc))
-      n (kept_plan f (OnRecord id values) x lane _ (ap (λ (t : RegistryState). t.store.spans) n.taken) (others_afresh f (OnRecord id values) (registry x).store lane.0 no_filter no_filter)) (stays_to f lane (OnRecord id values) (registry x) n.left (there, refl) (record { spans = refl; issued = refl; stacks = refl }) n.taken)
+      n (kept_plan f (OnRecord id values) x lane _ (ap (λ (t : RegistryState). t.store.spans) n.taken) (others_afresh f (OnRecord id values) (registry x).store lane.0 no_filter no_filter)) (stays_to f lane (OnRecord id values) (registry x) n.left (there, refl) refl (λ r. refl) n.taken)
 
   pub followed_so : (lane : Lane) (id other : Id) (f : Form) (x y : S) → IsOpen (registry x).store.spans (number_of id) → Notifies registry has_form stepped lane no_filter (OnFollows id other) Stays x y → Honest f x
       → Done laws with_own levelled (Follow lane id other) answer.Done f x y
   followed_so lane id other f x y there n h =
       by_call laws with_own levelled (Follow lane id other) answer.Done f lane (OnFollows id other) no_filter _ x y h refl (λ d. absurd (cc))
-      n (kept_plan f (OnFollows id other) x lane _ (ap (λ (t : RegistryState). t.store.spans) n.taken) (others_afresh f (OnFollows id other) (registry x).store lane.0 no_filter no_filter)) (stays_to f lane (OnFollows id other) (registry x) n.left (there, refl) (record { spans = refl; issued = refl; stacks = refl }) n.taken)
+      n (kept_plan f (OnFollows id other) x lane _ (ap (λ (t : RegistryState). t.store.spans) n.taken) (others_afresh f (OnFollows id other) (registry x).store lane.0 no_filter no_filter)) (stays_to f lane (OnFollows id other) (registry x) n.left (there, refl) refl (λ r. refl) n.taken)
 
   -- ---- handles
 
@@ -280,12 +282,12 @@ module _ {S : Type 0} {registry : S → RegistryState} {with_registry : S → Re
       → Honest f x → Done laws with_own levelled (AddHandle lane id) (done_answer r) f x y
   cloned_so lane id (Ok other) f x y n rest r e h =
       by_change laws with_own levelled (AddHandle lane id) answer.Done f (HandleAdded id) x y h refl (λ d. absurd (cc))
-      (record (registry x).store { spans = add_handle (registry x).store.spans (number_of id) }) (n.is_open, refl) (same_aside _ _ (ap (λ (t : RegistryState). t.store) n.state)) rest (filters_same n.state) (settled_cloned id (registry x) (registry y) n)
+      (record (registry x).store { spans = add_handle (registry x).store.spans (number_of id) }) (n.is_open, refl) n.state rest (filters_same n.state) (settled_cloned id (registry x) (registry y) n)
   cloned_so lane id (Err error) f x y n rest r e h = by_none laws with_own levelled (AddHandle lane id) (answer.Refused error) f x y h e refl (λ d. absurd (cc))
 
-  pub clone_exactly : (lane : Lane) (id : Id) (r : Result Id TraceError) (f : Form) (memory : Memory) (s : RegistryState) → IfErr r (RefusesClone s id) → AnswersExactly (AddHandle lane id) f memory s (done_answer r) memory
-  clone_exactly lane id (Ok other) f memory s r = record { answers = tt; keeps = refl }
-  clone_exactly lane id (Err e) f memory s r = record { answers = r; keeps = refl }
+  pub clone_exactly : (lane : Lane) (id : Id) (r : Result Id TraceError) (f : Form) (memory : Memory) (s : RegistryState) → IfOk r (λ other. handles_of s.store.spans (number_of id) < s.limits.count) → IfErr r (RefusesClone s id) → AnswersExactly (AddHandle lane id) f memory s (done_answer r) memory
+  clone_exactly lane id (Ok other) f memory s room r = record { answers = room; keeps = refl }
+  clone_exactly lane id (Err e) f memory s room r = record { answers = r; keeps = refl }
 
   pub still_open_so : ((s : S) (w : RegistryState) → registry (with_registry s w) ≡ w) → (lane : Lane) (id : Id) (a : Released) (f : Form) (x : S) (w : RegistryState) → Releases id a (registry x) w → a ≡ StillOpen → IsForest (registry x).store.spans → Ready f x
       → Done laws with_own levelled (DropHandle lane id) (answer.Yes false) f x (with_registry x w)
@@ -293,7 +295,7 @@ module _ {S : Type 0} {registry : S → RegistryState} {with_registry : S → Re
       let drops = drops_open forest h.settled r same in
       by_change laws with_own levelled (DropHandle lane id) (answer.Yes false) f (HandleTaken id) x (with_registry x w) h.honest
       (record { closed = []; exact = drops.closes; outcomes = refl; itself = (λ t. absurd (true≢false (sym t)), λ n. absurd n) }) (λ d. absurd (cc))
-      (record (registry x).store { spans = take_handle (registry x).store.spans (number_of id) }) (r.held, refl) (same_aside _ _ (ap (λ (t : RegistryState). t.store) (registry_with x w ∙ r.state))) (its_own laws with_own levelled registry_with x w) (filters_same (registry_with x w ∙ r.state))
+      (record (registry x).store { spans = take_handle (registry x).store.spans (number_of id) }) (r.held, refl) (registry_with x w ∙ r.state) (its_own laws with_own levelled registry_with x w) (filters_same (registry_with x w ∙ r.state))
       (λ s. subst (λ (t : RegistryState). IsSettled t.store.spans) (sym (registry_with x w)) (settled_still s r same))
 
   -- ---- closes
@@ -306,7 +308,6 @@ module _ {S : Type 0} {registry : S → RegistryState} {with_registry : S → Re
       let t : Store = record (registry x).store { spans = take_handle (registry x).store.spans (number_of id) } in
       let m : Made = record { form = f; before = (registry x).store; after = t; outcome = Quiet (HandleTaken id) } in
       let rest = its_own laws with_own levelled registry_with x w in
-      let aside : SameAside t (registry z).store = same_aside _ _ (ap (λ (u : RegistryState). u.store) (registry_with x w ∙ r.state)) in
       let after = honest_quietly laws with_own levelled f x z h.honest rest (filters_same (registry_with x w ∙ r.state)) in
       let notices = k.notices after.0 after.1 in
       let release : Releases id Closing (registry x) (registry z) = subst (λ t. Releases id Closing (registry x) t) (sym (registry_with x w)) (subst (λ b. Releases id b (registry x) w) same r) in
@@ -317,7 +318,7 @@ module _ {S : Type 0} {registry : S → RegistryState} {with_registry : S → Re
           m ∷ notices.0,
           record {
             says = record { closed = k.closed; exact = drops.closes; outcomes = ap (λ os. Quiet (HandleTaken id) ∷ os) notices.2; itself = (λ _. itself, λ _. refl) };
-            goes = (z, changed laws with_own levelled f (HandleTaken id) x z t h.honest (r.held, refl) aside rest, notices.1);
+            goes = (z, changed laws with_own levelled f (HandleTaken id) x z t h.honest (r.held, refl) (registry_with x w ∙ r.state) rest, notices.1);
             loses = λ d. absurd (cc);
           },
         ),
@@ -366,9 +367,11 @@ module _ {S : Type 0} {registry : S → RegistryState} {with_registry : S → Re
             let t = without (registry y).store (number_of span ∷ []) in
             let notice : Notices registry with_registry has_form stepped levelled g lane (OnClose span) (registry y).store t y u = record {
               left = n.left;
-              given = aside_state (registry y) n.left n.taken;
+              given = n.taken;
               notified = z;
               layers = subst (λ p. stepped y p (OnClose span) lane.0 n.left z (registry z)) plan (n.notified g before.3.1.has before.3.1.rules.still);
+              hooks = n.extensions;
+              ends = removes.taken;
               rest = ap (λ t. with_registry z t) (sym (registry_with z w));
             } in
             let last = honest_after laws with_own levelled g lane (OnClose span) (registry y).store t y u before.3.1 notice (removes.taken.filters ∙ aside.filters) in

@@ -188,7 +188,7 @@ module _ {S : Type 0} (registry : S → RegistryState) (with_registry : S → Re
       by_concern numbers call a (registry x).store own.0 (map outcome_of ms) os calls (is_concern numbers (effect_of call a)) refl h.2.says through on
 
   -- what was made in a run is what its made calls have by themselves, as far as it concerns filters of these numbers
-  run_calls : (past : List Answer) (rs : List Request) (answers : List Answer) (made : List (List Made)) (x y : S) (numbers : FilterSet) → Run registry with_registry has_form stepped levelled past rs answers made x y
+  pub run_calls : (past : List Answer) (rs : List Request) (answers : List Answer) (made : List (List Made)) (x y : S) (numbers : FilterSet) → Run registry with_registry has_form stepped levelled past rs answers made x y
       → OutcomesFrom (registry x).store (made_calls numbers past rs answers) (filter (concerns numbers) (map outcome_of (flat made)))
   run_calls past [] [] [] x y numbers h = refl
   run_calls past [] [] (m ∷ made) x y numbers h = absurd h

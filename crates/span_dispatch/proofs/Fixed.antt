@@ -50,9 +50,9 @@ module _ {S : Type 0} (registry : S → RegistryState) (with_registry : S → Re
   stays_on g (Noticed lane e) s t f x y stays n = (
     f,
     subst (λ z. Stays z f) (sym n.rest) (aside n.notified f (registry y) (goes x f _ e lane.0 n.left n.notified (registry n.notified) n.layers stays)),
-    record { left = n.left; given = n.given; notified = (registry n.notified, f); layers = refl; rest = refl },
+    record { left = n.left; given = n.given; notified = (registry n.notified, f); layers = refl; hooks = n.hooks; ends = n.ends; rest = refl },
   )
-  stays_on g (Quiet c) s t f x y stays rest = (f, subst (λ z. Stays z f) (sym rest) (aside x f (registry y) stays), refl)
+  stays_on g (Quiet c) s t f x y stays quiet = (f, subst (λ z. Stays z f) (sym quiet.rest) (aside x f (registry y) stays), record { store = quiet.store; rest = refl })
   stays_on g (LevelSet n l) s t f x y stays q = (set_at n l f, set x f n l y q.goes stays, record { taken = q.taken; goes = refl; same = q.same })
 
   -- so through all that is made

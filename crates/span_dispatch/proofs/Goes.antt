@@ -10,7 +10,7 @@ use Rattle.span_dispatch.specs.Admission.{KeepsSafely}
 use Rattle.span_dispatch.specs.Cache.{IsCurrent, IsUpToDate, forgotten, kept_in, no_callsite}
 use Rattle.span_dispatch.specs.Call.{Call, SetLevel}
 use Rattle.span_dispatch.specs.Effect.{OutcomesOf}
-use Rattle.span_dispatch.specs.Outcome.{Change, IsHonest, LevelSet, Made, Makes, Noticed, Notices, Quiet, SameAside, Steps, given_in}
+use Rattle.span_dispatch.specs.Outcome.{Change, Ends, IsHonest, LevelSet, Made, Makes, Noticed, Notices, Quiet, SameAside, Steps, given_in}
 use Rattle.span_dispatch.specs.Serve.{IsReady, IsReadyAfter, IsReadyWith, IsTold, IsUnwantedCall, Tells, stack_of}
 use Rattle.span_dispatch.specs.declared.cache.Cache.TheVariants as cache
 use Rattle.span_dispatch.specs.declared.cache.Cache.{Cache}
@@ -99,8 +99,9 @@ settled_aside s t a h = subst IsSettled (sym a.spans) h
 pub record StepsTo (f : Form) (lane : Lane) (e : Notice) (s t : RegistryState) : Type 0 where
   pub after : Store
   pub steps : Steps f (Noticed lane e) s.store after
-  pub given : SameAside (given_in e s.store after) t.store
+  pub given : t ≡ record s { store = given_in e s.store after }
   pub left : SameAside after t.store
+  pub ends : (u : RegistryState) → Ends e u u
   pub filters : t.filters ≡ s.filters
   pub settled : IsSettled s.store.spans → IsSettled t.store.spans
 
@@ -155,6 +156,8 @@ module _ {S : Type 0} {registry : S → RegistryState} {with_registry : S → Re
         given = to.given;
         notified = y;
         layers = subst (λ p. stepped x p e lane.0 n.left y (registry y)) plan (n.notified f h.has h.rules.still);
+        hooks = n.extensions;
+        ends = to.ends (registry y);
         rest = sym (with_own y);
       } in
       let next = honest_after f lane e (registry x).store to.after x y h notices (n.extensions.filters ∙ to.filters) in (
@@ -163,17 +166,17 @@ module _ {S : Type 0} {registry : S → RegistryState} {with_registry : S → Re
       )
 
   -- this was made by a quiet change
-  pub changed : (f : Form) (c : Change) (x y : S) (t : Store) → Honest f x → Steps f (Quiet c) (registry x).store t → SameAside t (registry y).store → y ≡ with_registry x (registry y)
+  pub changed : (f : Form) (c : Change) (x y : S) (t : Store) → Honest f x → Steps f (Quiet c) (registry x).store t → registry y ≡ record (registry x) { store = t } → y ≡ with_registry x (registry y)
       → Makes registry with_registry has_form stepped levelled x (record { form = f; before = (registry x).store; after = t; outcome = Quiet c }) y
-  changed f c x y t h steps aside rest = record { honest = h; before = refl; steps = steps; after = aside; layers = rest }
+  changed f c x y t h steps store rest = record { honest = h; before = refl; steps = steps; after = same_aside t (registry y).store (ap (λ (r : RegistryState). r.store) store); layers = record { store = store; rest = rest } }
 
   pub by_change : (call : Call) (a : Answer) (f : Form) (c : Change) (x y : S) → Honest f x → OutcomesOf (call, a) (registry x).store (Quiet c ∷ []) → (a ≡ answer.Dropped → ⊥)
-      → (t : Store) → Steps f (Quiet c) (registry x).store t → SameAside t (registry y).store → y ≡ with_registry x (registry y) → (registry y).filters ≡ (registry x).filters → (IsSettled (registry x).store.spans → IsSettled (registry y).store.spans)
+      → (t : Store) → Steps f (Quiet c) (registry x).store t → registry y ≡ record (registry x) { store = t } → y ≡ with_registry x (registry y) → (registry y).filters ≡ (registry x).filters → (IsSettled (registry x).store.spans → IsSettled (registry y).store.spans)
       → Done call a f x y
-  by_change call a f c x y h says done t steps aside rest filters settled =
+  by_change call a f c x y h says done t steps store rest filters settled =
       let m : Made = record { form = f; before = (registry x).store; after = t; outcome = Quiet c } in
       let next = honest_quietly f x y h rest filters in (
-        (m ∷ [], record { says = says; goes = (y, changed f c x y t h steps aside rest, refl); loses = λ d. absurd (done d) }),
+        (m ∷ [], record { says = says; goes = (y, changed f c x y t h steps store rest, refl); loses = λ d. absurd (done d) }),
         λ before. (next.0, record { honest = next.1; settled = settled before }, next.2, next.3),
       )
 

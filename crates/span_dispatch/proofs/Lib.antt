@@ -1,5 +1,5 @@
 mod Acting
-mod Admits
+pub mod Admits
 pub mod Alone
 mod Calls
 pub mod CallerLemmas

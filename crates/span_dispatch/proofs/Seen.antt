@@ -6,6 +6,7 @@ use Rattle.std.specs.Option.{option_map}
 use Rattle.span_core.specs.Filters.{FilterSet, union}
 use Rattle.span_core.specs.declared.level.LevelFilter.{LevelFilter}
 use Rattle.span_core.specs.declared.span.Lane.{Lane}
+use Rattle.span_dispatch.proofs.Goes.{same_aside}
 use Rattle.span_dispatch.specs.Cache.{Memory}
 use Rattle.span_dispatch.specs.Call.{Call}
 use Rattle.span_dispatch.specs.Outcome.{Change, LayersGo, LevelSet, Made, Makes, Noticed, Outcome, Quiet, SameAside, given_in}
@@ -127,9 +128,9 @@ module _ {S : Type 0} (registry : S → RegistryState) {with_registry : S → Re
       let plan = asked_afresh f e s lane.0 no_filter in
       let mask = mask_at f place no_filter in
       let there = aside x n.notified y place (heard_by plan place (told_in e n.left.store lane.0 mask)) (laws.notified x plan e lane.0 n.left n.notified (registry n.notified) place f n.layers has) n.rest in
-      let told = ap (heard_by plan place) (told_aside e (given_in e s t) n.left.store lane.0 mask n.given) ∙ sees_passed f place lane e s t in
+      let told = ap (heard_by plan place) (told_aside e (given_in e s t) n.left.store lane.0 mask (same_aside _ _ (ap (λ (r : RegistryState). r.store) n.given))) ∙ sees_passed f place lane e s t in
       subst (λ h. hears x place h y) told there
-  by_outcome f (Quiet c) s t x y place has rest = subst (λ h. hears x place h y) (sym (nothing_passed (path_at f place) c s t)) (aside x x y place [] (laws.heard.nothing x place) rest)
+  by_outcome f (Quiet c) s t x y place has quiet = subst (λ h. hears x place h y) (sym (nothing_passed (path_at f place) c s t)) (aside x x y place [] (laws.heard.nothing x place) quiet.rest)
   by_outcome f (LevelSet n l) s t x y place has set = subst (λ h. hears x place h y) (sym (no_level_passed (path_at f place) n l s t)) (levels.heard x n l y place set.goes)
 
   -- each leaf went through what it sees of what was made

@@ -142,32 +142,33 @@ module _ {S : Type 0} (s : SubscriberOf S) where
             };
       }))
 
-  -- all were answered exactly so
-  pub all_exactly : StackLaws s.with_registry s.usable s.has_form s.stepped s.hears s.registered → StackPathLaws s.with_registry s.has_form s.stepped s.registered s.acts_at → LevelLaws s.has_form s.levelled s.hears s.acts_at
-      → (f : Form) (first now : Dispatch S) (all done : List Request) (answers : List Answer) → done ≡ all → ExactSoFar f first now done answers
-      → ServedExactly s.registry s.with_registry s.has_form s.stepped s.levelled s.hears all answers first now
-  all_exactly laws paths levels f first now all done answers same h =
-      let told = run_told s.registry s.with_registry s.has_form s.stepped s.levelled [] done answers h.made (kept_by first) (stack_of first) (kept_by now) (stack_of now) h.run in
-      let folds = run_folds s.registry s.with_registry s.has_form s.stepped s.levelled [] done answers h.made (stack_of first) (stack_of now) told in
-      record {
-        made = h.made;
-        run = subst (λ rs. RunsExactly [] rs answers h.made (kept_by first) (stack_of first) (kept_by now) (stack_of now)) same h.run;
-        each = (sees_what_is_made s.registry laws paths levels (flat h.made) folds).each;
-      }
+  -- what was made of a list that was told
+  module _ (laws : StackLaws s.with_registry s.usable s.has_form s.stepped s.hears s.registered) (paths : StackPathLaws s.with_registry s.has_form s.stepped s.registered s.acts_at) (levels : LevelLaws s.has_form s.levelled s.hears s.acts_at) where
+    abbrev ServesAll : List Request → List Answer → Dispatch S → Dispatch S → Type 0
+    ServesAll all answers first now = Served s.registry s.with_registry s.has_form s.stepped s.levelled s.hears s.acts_at all answers (stack_of first) (stack_of now)
 
-  -- all were told
-  pub all_served : StackLaws s.with_registry s.usable s.has_form s.stepped s.hears s.registered → StackPathLaws s.with_registry s.has_form s.stepped s.registered s.acts_at → LevelLaws s.has_form s.levelled s.hears s.acts_at
-      → (f : Form) (first now : Dispatch S) (all done : List Request) (answers : List Answer) → AreIssued (s.registry (stack_of first)).store → done ≡ all → ToldSoFar f first now done answers
-      → Served s.registry s.with_registry s.has_form s.stepped s.levelled s.hears s.acts_at all answers (stack_of first) (stack_of now)
-  all_served laws paths levels f first now all done answers issued same h =
-      let folds = run_folds s.registry s.with_registry s.has_form s.stepped s.levelled [] done answers h.made (stack_of first) (stack_of now) h.run in
-      let seen = sees_what_is_made s.registry laws paths levels (flat h.made) folds in
-      record {
-        made = h.made;
-        run = subst (λ rs. RunsTo [] rs answers h.made (stack_of first) (stack_of now)) same h.run;
-        each = seen.each;
-        alone = seen.alone;
-        once = closed_once s.registry s.with_registry s.has_form s.stepped s.levelled (stack_of first) (flat h.made) (stack_of now) issued folds;
-        readable = readable_closes s.registry s.with_registry s.has_form s.stepped s.levelled (stack_of first) (flat h.made) (stack_of now) folds;
-        shown = λ place. told_can_be_read s.registry s.with_registry s.has_form s.stepped s.levelled (stack_of first) (flat h.made) (stack_of now) place folds;
-      }
+    run_served : (first now : Dispatch S) (all : List Request) (answers : List Answer) (made : List (List Made)) → AreIssued (s.registry (stack_of first)).store → RunsTo [] all answers made (stack_of first) (stack_of now) → ServesAll all answers first now
+    run_served first now all answers made issued run =
+        let folds = run_folds s.registry s.with_registry s.has_form s.stepped s.levelled [] all answers made (stack_of first) (stack_of now) run in
+        let seen = sees_what_is_made s.registry laws paths levels (flat made) folds in
+        record {
+          made = made;
+          run = run;
+          each = seen.each;
+          alone = seen.alone;
+          once = closed_once s.registry s.with_registry s.has_form s.stepped s.levelled (stack_of first) (flat made) (stack_of now) issued folds;
+          readable = readable_closes s.registry s.with_registry s.has_form s.stepped s.levelled (stack_of first) (flat made) (stack_of now) folds;
+          shown = λ place. told_can_be_read s.registry s.with_registry s.has_form s.stepped s.levelled (stack_of first) (flat made) (stack_of now) place folds;
+        }
+
+    -- all were told
+    pub all_served : (f : Form) (first now : Dispatch S) (all done : List Request) (answers : List Answer) → AreIssued (s.registry (stack_of first)).store → done ≡ all → ToldSoFar f first now done answers → ServesAll all answers first now
+    all_served f first now all done answers issued same h = run_served first now all answers h.made issued (subst (λ rs. RunsTo [] rs answers h.made (stack_of first) (stack_of now)) same h.run)
+
+    -- all were answered exactly so
+    pub all_exactly : (f : Form) (first now : Dispatch S) (all done : List Request) (answers : List Answer) → AreIssued (s.registry (stack_of first)).store → done ≡ all → ExactSoFar f first now done answers
+        → ServedExactly s.registry s.with_registry s.has_form s.stepped s.levelled s.hears s.acts_at all answers first now
+    all_exactly f first now all done answers issued same h =
+        let run = subst (λ rs. RunsExactly [] rs answers h.made (kept_by first) (stack_of first) (kept_by now) (stack_of now)) same h.run in
+        let told = run_told s.registry s.with_registry s.has_form s.stepped s.levelled [] all answers h.made (kept_by first) (stack_of first) (kept_by now) (stack_of now) run in
+        record { served = run_served first now all answers h.made issued told; run = run }

@@ -1,14 +1,14 @@
 -- What each call does to the store, whatever the stack answers.
-use Rattle.std.proofs.Common.{◌≡◌, ℕ, Bool, true, false, ◌&&◌, List, [], Option, Some, None, MatchOption, Result, Ok, Err, IfOk, OnOk, refl, sym, ap, subst, ◌∙◌}
+use Rattle.std.proofs.Common.{◌≡◌, ◌<◌, ℕ, Bool, true, false, ◌&&◌, List, [], Option, Some, None, MatchOption, Result, Ok, Err, IfOk, OnOk, refl, sym, ap, subst, ◌∙◌}
 use Rattle.std.proofs.lemmas.Bool.{true≢false}
-use Rattle.span_core.specs.Span.{number_of}
+use Rattle.span_core.specs.Span.{asked_parent, number_of}
 use Rattle.span_core.specs.declared.error.TraceError.{TraceError}
 use Rattle.span_core.specs.Pass.{refused_of}
 use Rattle.span_core.specs.declared.span.Attributes.{Attributes}
 use Rattle.span_core.specs.declared.span.Id.{Id}
 use Rattle.span_core.specs.declared.span.Lane.{Lane}
 use Rattle.span_dispatch.specs.Cache.{Memory, RefusesInterest}
-use Rattle.span_dispatch.specs.Call.{DropsSpan, FindsOpen, OpensFor}
+use Rattle.span_dispatch.specs.Call.{DropsSpan, FindsOpen, HasRoomFor, OpensFor}
 use Rattle.span_dispatch.specs.Serve.{ClosesEach, stack_of}
 use Rattle.span_dispatch.specs.declared.dispatch.Dispatch.{Dispatch}
 use Rattle.span_registry.proofs.CallerLemmas.{closes_itself, closes_with_hooks, drops_open, same_itself, settled_closed, settled_still}
@@ -26,7 +26,7 @@ use Rattle.span_core.specs.declared.pass.Pass.{Pass}
 use Rattle.span_registry.specs.Laws.{ClosesAll}
 use Rattle.span_registry.specs.Step.{Clones, Exits, Opens, Releases, Removal}
 use Rattle.span_registry.specs.Step as step
-use Rattle.span_registry.specs.Store.{IsForest, IsOpen, RegistryState}
+use Rattle.span_registry.specs.Store.{IsForest, IsOpen, RegistryState, handles_of}
 use Rattle.span_registry.specs.Subscriber.{AndHooks, SameButExtensions}
 use Rattle.span_registry.specs.declared.registry.Released.TheVariants.{Closing, StillOpen}
 use Rattle.span_registry.specs.declared.registry.Released.{Released}
@@ -95,6 +95,11 @@ module _ {S : Type 0} (registry : S → RegistryState) (has_form : S → Form �
   event_wanted memory e m fresh first second said wanted same empty agreed more a b = λ none f d.
       both_true _ _ (sym (asked_same f m (event_metadata e) fresh same empty) ∙ sym (a none f d).answer ∙ agreed) (asked_second f e m fresh first second said wanted d same empty (a none) b ∙ more)
 
+-- a handle was added where there was room for it
+pub room_to_clone : (lane : Lane) (id : Id) (r : Result Id TraceError) (s t : RegistryState) → OnOk r (Clones id s t) → IfOk r (λ other. handles_of s.store.spans (number_of id) < s.limits.count)
+room_to_clone lane id (Ok other) s t n = n.room
+room_to_clone lane id (Err e) s t n = tt
+
 module _ {S : Type 0} (registry : S → RegistryState) where
   -- a span is opened with the pass's refusals for its verdict
   pub opened_store : {has_form : S → Form → Type 0} {stepped : StackSteps S} (lane : Lane) (attrs : Attributes) (pass : Pass) (x y : S) (id : Id) → OpensAndNotifies registry has_form stepped lane attrs pass x y id → AndHooks registry (OpensFor lane attrs id) x y
@@ -103,6 +108,10 @@ module _ {S : Type 0} (registry : S → RegistryState) where
   -- the same, with the verdict named
   pub opened_by : {has_form : S → Form → Type 0} {stepped : StackSteps S} (lane : Lane) (attrs : Attributes) (pass : Pass) (x y : S) (id : Id) → OpensAndNotifies registry has_form stepped lane attrs pass x y id → AndHooks registry (Opens lane (step.asked attrs pass) id) x y
   opened_by lane attrs pass x y id n = record { stepped = n.left; taken = n.taken; hooks = n.extensions }
+
+  -- so there was room for it
+  pub room_for : {has_form : S → Form → Type 0} {stepped : StackSteps S} (lane : Lane) (attrs : Attributes) (pass : Pass) (x y : S) (id : Id) → OpensAndNotifies registry has_form stepped lane attrs pass x y id → HasRoomFor (registry x) lane (asked_parent attrs)
+  room_for lane attrs pass x y id n = ((n.taken.parent, n.taken.finds), n.taken.place)
 
   pub opened_for : (lane : Lane) (attrs : Attributes) (pass : Pass) (x y : S) (id : Id) → AndHooks registry (Opens lane (step.asked attrs pass) id) x y → AndHooks registry (OpensFor lane attrs id) x y
   opened_for lane attrs pass x y id h = record { stepped = h.stepped; taken = (refused_of pass, h.taken); hooks = h.hooks }

@@ -1,5 +1,5 @@
 -- What a dispatcher is asked, and how it answers: which outcomes come of a call, and when it is refused.
-use Rattle.std.specs.Prelude.{◌≡◌, ◌↔◌, ◌⊎◌, ⊤, ℕ, Bool, true, false, ◌||◌, IsTrue, List, [], ◌∷◌, map, Option, Some, None, Result, Ok, Err}
+use Rattle.std.specs.Prelude.{◌≡◌, ◌<◌, ◌↔◌, ◌⊎◌, ⊤, ℕ, Bool, true, false, ◌||◌, IsTrue, List, [], ◌∷◌, map, Option, Some, None, Result, Ok, Err}
 use Rattle.std.specs.Option.{option_map}
 use Rattle.span_core.specs.Event.{event_metadata}
 use Rattle.span_core.specs.Span.{asked_parent, current_span, id_of, metadata_of, number_of}
@@ -13,6 +13,7 @@ use Rattle.span_core.specs.declared.span.Attributes.{Attributes}
 use Rattle.span_core.specs.declared.span.Current.{Current}
 use Rattle.span_core.specs.declared.span.Id.{Id}
 use Rattle.span_core.specs.declared.span.Lane.{Lane}
+use Rattle.span_core.specs.declared.span.Parent.{Parent}
 use Rattle.span_core.specs.declared.span.Record.{Record}
 use Rattle.span_dispatch.specs.Admission.{IsDropped, IsMade, IsUnknown, Learns, LearnsOfSpan}
 use Rattle.span_dispatch.specs.Cache.{Memory, no_callsite}
@@ -24,8 +25,8 @@ use Rattle.span_registry.specs.Answers.{OnClose, OnEnter, OnEvent, OnExit, OnFol
 use Rattle.span_registry.specs.Closes.{Closes, Member}
 use Rattle.span_registry.specs.Form.{Form}
 use Rattle.span_registry.specs.Levels.{takes_level}
-use Rattle.span_registry.specs.Step.{Drops, IsCurrent, Opens, RefusesClone, RefusesEnter, RefusesNew, RefusesRelease}
-use Rattle.span_registry.specs.Store.{IsHeld, IsOpen, RegistryState, Store}
+use Rattle.span_registry.specs.Step.{Drops, FindsParent, HasPlace, IsCurrent, Opens, RefusesClone, RefusesEnter, RefusesNew, RefusesRelease}
+use Rattle.span_registry.specs.Store.{IsHeld, IsOpen, RegistryState, Store, handles_of}
 
 -- what a dispatcher is asked, from a lane
 pub data Call : Type 0 where
@@ -50,6 +51,10 @@ abbrev pub RefusesUnlessOpen : RegistryState → Id → TraceError → Type 0
 RefusesUnlessOpen s x (UnknownSpan y) = (y ≡ x) × ¬ (IsOpen s.store.spans (number_of x))
 RefusesUnlessOpen s x other = ⊥
 
+-- a new span that asks for this parent has one with room for it, or none, and a place
+abbrev pub HasRoomFor : RegistryState → Lane → Parent → Type 0
+HasRoomFor s lane asked = ((parent : Option ℕ) × FindsParent s lane asked parent) × HasPlace s
+
 -- why a level isn't set: no filter with this number takes it
 abbrev pub RefusesLevel : Form → ℕ → LevelFilter → TraceError → Type 0
 RefusesLevel f n l (NotSettable m) = (m ≡ n) × (takes_level f n l ≡ false)
@@ -73,7 +78,8 @@ pub record DropsHandle (lane : Lane) (id : Id) (s : Store) (closes : Bool) (os :
 
 -- how a stack of this form on this registry answers a call, where these callsites are kept. A new span and an event are dropped exactly where hint or interest rule them out or a leaf vetoes; no layer refuses anything else
 abbrev pub AnswersWith : Call → Memory → Form → RegistryState → Answer → Type 0
-AnswersWith (OpenSpan lane a) memory f s (answer.Made id) = IsMade memory f s (metadata_of a) (vetoes f (metadata_of a) s.store lane.0)
+AnswersWith (OpenSpan lane a) memory f s (answer.Made id) =
+    IsMade memory f s (metadata_of a) (vetoes f (metadata_of a) s.store lane.0) × HasRoomFor s lane (asked_parent a)
 AnswersWith (OpenSpan lane a) memory f s answer.Dropped = IsDropped memory f s lane (metadata_of a) (vetoes f (metadata_of a) s.store lane.0)
 AnswersWith (OpenSpan lane a) memory f s (answer.Refused e) =
     IsUnknown memory f (metadata_of a) e ⊎ (IsMade memory f s (metadata_of a) (vetoes f (metadata_of a) s.store lane.0) × RefusesNew s lane (asked_parent a) e)
@@ -87,7 +93,7 @@ AnswersWith (RecordValues lane id values) memory f s answer.Done = ⊤
 AnswersWith (RecordValues lane id values) memory f s (answer.Refused e) = RefusesUnlessOpen s id e
 AnswersWith (Follow lane id other) memory f s answer.Done = ⊤
 AnswersWith (Follow lane id other) memory f s (answer.Refused e) = RefusesUnlessOpen s id e
-AnswersWith (AddHandle lane id) memory f s answer.Done = ⊤
+AnswersWith (AddHandle lane id) memory f s answer.Done = handles_of s.store.spans (number_of id) < s.limits.count
 AnswersWith (AddHandle lane id) memory f s (answer.Refused e) = RefusesClone s id e
 AnswersWith (DropHandle lane id) memory f s (answer.Yes closes) = ⊤
 AnswersWith (DropHandle lane id) memory f s (answer.Refused e) = RefusesRelease s id e

@@ -245,7 +245,7 @@ module _ {S : Type 0} (s : SubscriberOf S) where
   abbrev pub ServesListExactly : List Request → Dispatch S → Dispatch S → Vec Answer Global → Type 0
   ServesListExactly requests old new answers =
       IsCurrentSomehow s.registry s.with_registry s.has_form s.stepped s.levelled old
-      → ServedExactly s.registry s.with_registry s.has_form s.stepped s.levelled s.hears requests answers.items old new
+      → ServedExactly s.registry s.with_registry s.has_form s.stepped s.levelled s.hears s.acts_at requests answers.items old new
 
   -- whatever was made between the two, each leaf sees of it what its path passes, as if it stood alone
   abbrev pub SeesWhatIsMade : Dispatch S → Dispatch S → Type 0

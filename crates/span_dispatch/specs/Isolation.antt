@@ -1,9 +1,9 @@
 -- What a leaf sees is the same in every stack, and alone: where the same was made, or the same requests were made and answered the same, filters that act alike stand round the leaf, and the stores agree as far as these filters go.
 use Rattle.std.specs.Prelude.{◌≡◌, ⊤, List, [], ◌∷◌, map}
-use Rattle.std.specs.List.{FoldsTo}
+use Rattle.std.specs.List.{FoldsTo, filter}
 use Rattle.span_core.specs.Filters.{FilterSet}
 use Rattle.span_dispatch.specs.Alone.{lone, seen}
-use Rattle.span_dispatch.specs.Effect.{MadeCall, OutcomesFrom, OutcomesOf}
+use Rattle.span_dispatch.specs.Effect.{MadeCall, OutcomesFrom, OutcomesOf, concerns}
 use Rattle.span_dispatch.specs.Outcome.{Made, Makes, Outcome, Steps}
 use Rattle.span_dispatch.specs.Serve.{Served, flat, made_calls, outcome_of, stack_of}
 use Rattle.span_dispatch.specs.declared.dispatch.Dispatch.{Dispatch}
@@ -79,6 +79,12 @@ pub record SeesCalls {S : Type 0} (registry : S → RegistryState) (with_registr
   pub at_store : (registry (stack_of old)).store ≡ s
   pub at_calls : made_calls (numbers_in cs) [] requests answers ≡ calls
   pub sees : seen place (flat served.made) ≡ h
+
+-- what was made of a list that was told is what its made requests have by themselves, as far as filters of any numbers go
+abbrev pub SaysWhatIsMade : {S : Type 0} → (S → RegistryState) → (List Request → List Answer → List (List Made) → S → S → Type 0) → Type 0
+SaysWhatIsMade {S} registry Runs =
+    (numbers : FilterSet) (rs : List Request) (answers : List Answer) (made : List (List Made)) (x y : S) → Runs rs answers made x y
+    → OutcomesFrom (registry x).store (made_calls numbers [] rs answers) (filter (concerns numbers) (map outcome_of (flat made)))
 
 -- on stores that agree as far as some filters go, a call that is answered the same has the same outcomes
 abbrev pub HasSameOutcomes : FilterSet → MadeCall → Type 0

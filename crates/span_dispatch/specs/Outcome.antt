@@ -18,7 +18,9 @@ use Rattle.span_registry.specs.Form.{Form}
 use Rattle.span_registry.specs.Hooks.{StackSteps, no_filter}
 use Rattle.span_registry.specs.Levels.{LevelSteps, takes_level}
 use Rattle.span_registry.specs.Plan.{asked_afresh}
-use Rattle.span_registry.specs.Step.{IsParentFor, begun, entered, exited}
+use Rattle.span_registry.specs.Extensions.{no_values}
+use Rattle.span_registry.specs.Step.{IsParentFor, TakesOut, begun, entered, exited}
+use Rattle.span_registry.specs.Subscriber.{SameButExtensions}
 use Rattle.span_registry.specs.Store.{IsClosing, IsHeld, IsOpen, RegistryState, Span, Store, add_handle, take_handle}
 
 -- a change of the store of which nobody is told: a span has a handle more, or a handle less; a lane leaves a span that isn't open
@@ -37,20 +39,21 @@ pub data Outcome : Type 0 where
 abbrev pub IsVerdict : Form → Metadata → Store → Lane → FilterMap → Type 0
 IsVerdict f m s lane v = (k : ℕ) → refuses v k ≡ in_verdict f m s lane.0 no_filter k
 
--- the store with one span more
+-- the store with one span more, without extensions
 abbrev pub with_new : Store → ℕ → Span → Store
-with_new s x r = record s { spans = insert s.spans x r; issued = add s.issued x }
+with_new s x r = record s { spans = insert s.spans x r; extensions = insert s.extensions x no_values; issued = add s.issued x }
 
--- a new span is in the store: under an id that was never issued, with the parent that it gets there and the verdict of this form
+-- a new span is in the store: under an id that was never issued, nor is 0, with the parent that it gets there and the verdict of this form
 pub record Opened (f : Form) (lane : Lane) (attrs : Attributes) (id : Id) (s t : Store) : Type 0 where
   pub parent : Option ℕ
   pub chosen : IsParentFor s lane (asked_parent attrs) parent
   pub verdict : FilterMap
   pub refused : IsVerdict f (metadata_of attrs) s lane verdict
   pub fresh : contains s.issued (number_of id) ≡ false
+  pub other : ¬ (number_of id ≡ 0)
   pub state : t ≡ with_new s (number_of id) (begun (record { metadata = metadata_of attrs; parent = asked_parent attrs; verdict = verdict }) parent)
 
--- what an outcome makes of the store of a stack of this form, extensions aside
+-- what an outcome makes of the store of a stack of this form
 abbrev pub Steps : Form → Outcome → Store → Store → Type 0
 Steps f (Noticed lane (OnNewSpan attrs id)) s t = Opened f lane attrs id s t
 Steps f (Noticed lane (OnRecord id values)) s t = IsOpen s.spans (number_of id) × (t ≡ s)
@@ -83,14 +86,26 @@ pub record Made : Type 0 where
   pub after : Store
   pub outcome : Outcome
 
+-- what the registry does at the end of a notice: a span that was closing is taken out, and else nothing changes
+abbrev pub Ends : Notice → RegistryState → RegistryState → Type 0
+Ends (OnClose id) s t = TakesOut s (number_of id ∷ []) t
+Ends e s t = t ≡ s
+
 module _ {S : Type 0} (registry : S → RegistryState) (with_registry : S → RegistryState → S) (has_form : S → Form → Type 0) (stepped : StackSteps S) (levelled : LevelSteps S) where
-  -- a notice is given: each filter and leaf whose path passes it, asked afresh on the store before it, goes on by its own step
+  -- a notice is given in this store: each filter and leaf whose path passes it, asked afresh on the store before it, goes on by its own step, and may write extensions
   pub record Notices (f : Form) (lane : Lane) (e : Notice) (s t : Store) (x y : S) : Type 0 where
     pub left : RegistryState
-    pub given : SameAside (given_in e s t) left.store
+    pub given : left ≡ record (registry x) { store = given_in e s t }
     pub notified : S
     pub layers : stepped x (asked_afresh f e s lane.0 no_filter) e lane.0 left notified (registry notified)
+    pub hooks : SameButExtensions left (registry notified)
+    pub ends : Ends e (registry notified) (registry y)
     pub rest : y ≡ with_registry notified (registry y)
+
+  -- a quiet change leaves this store: only the registry changes
+  pub record Quiets (t : Store) (x y : S) : Type 0 where
+    pub store : registry y ≡ record (registry x) { store = t }
+    pub rest : y ≡ with_registry x (registry y)
 
   -- the filter with this number takes this level: it alone goes on
   pub record SetsLevel (f : Form) (n : ℕ) (l : LevelFilter) (x y : S) : Type 0 where
@@ -98,10 +113,10 @@ module _ {S : Type 0} (registry : S → RegistryState) (with_registry : S → Re
     pub goes : levelled x n l y
     pub same : registry y ≡ registry x
 
-  -- how the layers of a stack of this form go on by an outcome: by a quiet change none does
+  -- how a stack of this form goes on by an outcome between two stores
   abbrev pub LayersGo : Form → Outcome → Store → Store → S → S → Type 0
   LayersGo f (Noticed lane e) s t x y = Notices f lane e s t x y
-  LayersGo f (Quiet c) s t x y = y ≡ with_registry x (registry y)
+  LayersGo f (Quiet c) s t x y = Quiets t x y
   LayersGo f (LevelSet n l) s t x y = SetsLevel f n l x y
 
   -- a stack has this form, and is honest

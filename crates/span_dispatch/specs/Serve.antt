@@ -247,13 +247,11 @@ module _ {S : Type 0} (registry : S → RegistryState) (with_registry : S → Re
     pub shown : (place : Place) → ShowTheirSpans (seen place (flat made))
 
   -- a list of requests is served exactly so
-  pub record ServedExactly (hears : HearSteps S) (requests : List Request) (answers : List Answer) (old new : Dispatch S) : Type 0 where
-    -- there is one list of what was made of each request
-    pub made : List (List Made)
-    -- each request is answered in turn, dropped or refused exactly where it should be, and the stack goes through what was made of it
-    pub run : RunExactly [] requests answers made (kept_by old) (stack_of old) (kept_by new) (stack_of new)
-    -- each layer is notified, in order, of exactly what of that its own path's filters pass when asked afresh
-    pub each : EachSees hears (stack_of old) (flat made) (stack_of new)
+  pub record ServedExactly (hears : HearSteps S) (acts_at : ActsAt S) (requests : List Request) (answers : List Answer) (old new : Dispatch S) : Type 0 where
+    -- as the sentence says
+    pub served : Served hears acts_at requests answers (stack_of old) (stack_of new)
+    -- and each request is answered in turn, dropped or refused exactly where it should be, from what is kept then, and the stack goes through what was made of it
+    pub run : RunExactly [] requests answers served.made (kept_by old) (stack_of old) (kept_by new) (stack_of new)
 
   -- from a stack in which a span is closing: it is taken out, and so is each parent that closes by that; before each is, a notice of its close is given
   pub record ClosesEach (lane : Lane) (id : Id) (x y : S) : Type 0 where

@@ -3,10 +3,11 @@ ghost use Rattle.span_core.specs.Filters.{FilterSet};
 ghost use Rattle.span_dispatch.specs.Alone.{Alone};
 ghost use Rattle.span_dispatch.specs.Effect.{AloneOf, MadeCall};
 ghost use Rattle.span_dispatch.specs.Isolation.{HasSameOutcomes, HaveSameOutcomes, KeepsAgreement, PathsActAlike};
-ghost use Rattle.span_dispatch.specs.Isolation.{SeeTheSame, SeenAlone, SeesCalls, SeesMade, SeesServed};
+ghost use Rattle.span_dispatch.specs.Isolation.{SaysWhatIsMade, SeeTheSame, SeenAlone, SeesCalls, SeesMade, SeesServed};
 ghost use Rattle.span_dispatch.specs.Journal.{Entry, LeavesOne};
 ghost use Rattle.span_dispatch.specs.Outcome.{Outcome};
 ghost use Rattle.span_dispatch.specs.Readable.{ClosesAsItOpened};
+ghost use Rattle.span_dispatch.specs.Serve.{Run};
 ghost use Rattle.span_registry.specs.Conducts.{ArePlainConducts, Conducts};
 ghost use Rattle.std.specs.Prelude.{◌≡◌, List};
 
@@ -17,6 +18,8 @@ use span_registry::Subscriber;
 /// Two runs may be of stacks of two types. The same outcomes were made in both, or the same requests were made and answered the
 /// same. The filters round the one leaf are plain; those round the other have the same numbers and act as they do, as the same
 /// filters do by themselves. At first the stores differ in extensions and other filters' verdicts alone.
+///
+/// And what was made of a list is what its made requests say by themselves, whichever stack it is.
 pub fn other_layers_make_no_difference<S: Subscriber, T: Subscriber>()
     ensures itself { (cs : Conducts) → ArePlainConducts cs → PathsActAlike cs cs }
     ensures alone { SeeTheSame Alone Alone }
@@ -29,6 +32,8 @@ pub fn other_layers_make_no_difference<S: Subscriber, T: Subscriber>()
         (SeesServed S.registry S.with_registry S.has_form S.stepped S.levelled S.hears S.acts_at)
         (SeesServed T.registry T.with_registry T.has_form T.stepped T.levelled T.hears T.acts_at) }
     ensures calls { SeeTheSame AloneOf AloneOf }
+    ensures says { SaysWhatIsMade S.registry
+        (Run S.registry S.with_registry S.has_form S.stepped S.levelled []) }
     ensures requests { SeeTheSame
         (SeesCalls S.registry S.with_registry S.has_form S.stepped S.levelled S.hears S.acts_at)
         (SeesCalls T.registry T.with_registry T.has_form T.stepped T.levelled T.hears T.acts_at) }

@@ -49,6 +49,7 @@ use Rattle.span_layers.specs.declared.filtered.Filtered.{Filtered as FilteredLay
 use Rattle.span_registry.proofs.CallerLemmas.{settled_new}
 use Rattle.span_registry.specs.Answers.{AreHonest, Notice, OnClose, OnEnter, OnEvent, OnExit, OnFollows, OnIdChange, OnNewSpan, OnRecord}
 use Rattle.span_registry.specs.Closes.{IsSettled}
+use Rattle.span_registry.specs.Conducts.{ActsAt}
 use Rattle.span_registry.specs.Form.{Bare, Base, Filtered, Form, Leaf, OnSubscriber, Over}
 use Rattle.span_registry.specs.Hooks.{StackSteps}
 use Rattle.span_registry.specs.Place.{HearSteps, Here, Outer, Place, Told, Under, told_in}
@@ -306,13 +307,13 @@ pub keeps_all : (r : Kept) (due : List KeptNotice) → Records new_recorder r du
 keeps_all r due h f = h.kept ∙ sym (h.split ∙ ap (λ (us : List KeptNotice). h.more ++ us) (h.all f) ∙ append-nil h.more)
 
 -- two spans and an event were served by a new stack
-pub served_three : (level : LevelFilter) (lane : Lane) (outer inner event : Metadata) (p q r : WhichParent) (us vs ws : _) (old : Dispatch Recorded) (done : Dispatch Recorded × Vec Answer Global) → Starts level (stack_of old) → kept_by old ≡ None
-    → ServedExactly inner_of with_inner HasForm recorded_steps recorded_levels recorded_hears (request.NewSpan lane outer p us ∷ request.NewSpan lane inner q vs ∷ request.Event lane event r ws ∷ []) done.1.items old done.0 → KeepsWhatPasses level lane outer inner event done
+pub served_three : {acts_at : ActsAt Recorded} (level : LevelFilter) (lane : Lane) (outer inner event : Metadata) (p q r : WhichParent) (us vs ws : _) (old : Dispatch Recorded) (done : Dispatch Recorded × Vec Answer Global) → Starts level (stack_of old) → kept_by old ≡ None
+    → ServedExactly inner_of with_inner HasForm recorded_steps recorded_levels recorded_hears acts_at (request.NewSpan lane outer p us ∷ request.NewSpan lane inner q vs ∷ request.Event lane event r ws ∷ []) done.1.items old done.0 → KeepsWhatPasses level lane outer inner event done
 served_three level lane outer inner event p q r us vs ws old done new kept served =
     let x = stack_of old in
     let requests = request.NewSpan lane outer p us ∷ request.NewSpan lane inner q vs ∷ request.Event lane event r ws ∷ [] in
-    let run = subst (λ k. RunExactly inner_of with_inner HasForm recorded_steps recorded_levels [] requests done.1.items served.made k x (kept_by done.0) (stack_of done.0)) kept served.run in
-    let three = keeps_three level lane outer inner event p q r us vs ws x (kept_by done.0) (stack_of done.0) done.1.items served.made new.under run in
-    let heard : Records (layer_of (outer_of x)) (recorder_of done.0) (kept_from (flat served.made)) = heard_records _ _ _ (served.each place) in
-    let due = subst (λ h. Records new_recorder (recorder_of done.0) h) three.keeps (subst (λ k. Records k (recorder_of done.0) (kept_from (flat served.made))) new.empty heard) in
+    let run = subst (λ k. RunExactly inner_of with_inner HasForm recorded_steps recorded_levels [] requests done.1.items served.served.made k x (kept_by done.0) (stack_of done.0)) kept served.run in
+    let three = keeps_three level lane outer inner event p q r us vs ws x (kept_by done.0) (stack_of done.0) done.1.items served.served.made new.under run in
+    let heard : Records (layer_of (outer_of x)) (recorder_of done.0) (kept_from (flat served.served.made)) = heard_records _ _ _ (served.served.each place) in
+    let due = subst (λ h. Records new_recorder (recorder_of done.0) h) three.keeps (subst (λ k. Records k (recorder_of done.0) (kept_from (flat served.served.made))) new.empty heard) in
     record { first = three.first; second = three.second; answers = three.answered; spans = three.spans; notified = due; kept = keeps_all (recorder_of done.0) _ due }

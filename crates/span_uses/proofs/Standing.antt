@@ -12,6 +12,7 @@ use Rattle.span_core.specs.declared.metadata.Metadata.{Metadata}
 use Rattle.span_core.specs.declared.span.Attributes.{Attributes}
 use Rattle.span_core.specs.declared.span.Id.{Id}
 use Rattle.span_core.specs.declared.span.Lane.{Lane}
+use Rattle.span_dispatch.proofs.Admits.{current_is_safe}
 use Rattle.span_dispatch.proofs.CallerLemmas.{heard_records}
 use Rattle.span_dispatch.proofs.Effect.{seen_calls}
 use Rattle.span_dispatch.specs.Alone.{seen}
@@ -176,15 +177,20 @@ module _ {F : Type 0} {has_answers : F → Answers → Type 0} {hooked : FilterS
 module _ {S : Type 0} (s : SubscriberOf S) where
   -- a dispatcher that was ready is ready again
   pub stays_ready : {old new : Dispatch S} → StaysReady s old new → IsReadyNow s old → IsReadyNow s new
-  stays_ready stays h = let r = stays.safe h.0 h.1 in (r.0, r.1)
+  stays_ready stays h = let r = stays.current h.0 h.1 in (r.0, r.1)
 
   -- and answered as it promises of an honest stack
   pub answers_ready : {call : Call} {old new : Dispatch S} (a : Answer) → AnswersCall s call a old new → StaysReady s old new → IsReadyNow s old → AnswersReady s call a old new
-  answers_ready a answered stays h = record { told = (h.0, answered.told h.0 h.1.stack.honest h.1.kept); next = stays_ready stays h }
+  answers_ready {old = old} a answered stays h = record {
+    form = h.0;
+    told = answered.told h.0 h.1.stack.honest (current_is_safe h.0 (s.registry (stack_of old)).filters old.cache h.1.kept);
+    exact = answered.exact h.0 h.1.stack.honest h.1.kept;
+    next = stays_ready stays h;
+  }
 
   -- so it did a drop
   pub drops_ready : {call : Call} {old new : Dispatch S} (a : Answer) → AnswersDrop s call a old new → StaysReady s old new → IsReadyNow s old → AnswersReady s call a old new
-  drops_ready a answered stays h = record { told = (h.0, (answered h.1.stack.settled).told h.0 h.1.stack.honest h.1.kept); next = stays_ready stays h }
+  drops_ready a answered stays h = answers_ready a (answered h.1.stack.settled) stays h
 
   -- a span that was opened, of which the handle was then dropped
   pub opens_and_drops : (lane : Lane) (attrs : Attributes) (id : Id) (o : Option Id) (closed : Bool) (old between new : Dispatch S) → o ≡ Some id → AnswersCall s (OpenSpan lane attrs) (span_answer (Ok o)) old between → StaysReady s old between

@@ -58,9 +58,9 @@ pub record WentThroughTheSame (r q : Kept) : Type 0 where
   pub second : Records new_recorder q notices
   pub kept : r.failed ≡ false → q.failed ≡ false → r.notices ≡ q.notices
 
--- how a dispatcher serves a list and answers, on its way to another
+-- how a stack serves a list with these answers, on its way to another
 abbrev pub Serving : Type 0 → Type 1
-Serving S = List Answer → Dispatch S → Dispatch S → Type 0
+Serving S = List Answer → S → S → Type 0
 
 -- both dispatchers began with new recorders under these levels, and served; where the same requests were made, and answered the same, as they are where all answers are the same, the recorder that stands alone and the one that stands beside another went through the same
 pub record KeepTheSame (level other : LevelFilter) (requests : List Request) (ServesAlone : Serving Recorded) (ServesBeside : Serving Beside) (both : WithAnswers Recorded × WithAnswers Beside) : Type 0 where
@@ -69,7 +69,7 @@ pub record KeepTheSame (level other : LevelFilter) (requests : List Request) (Se
   pub alone_new : IsNewUnder level (outer_of (stack_of alone))
   pub beside_new : IsNewUnder level (outer_of (inner_of (stack_of beside)))
   pub other_new : IsNewUnder other (outer_of (stack_of beside))
-  pub alone_served : ServesAlone both.0.1.items alone both.0.0
-  pub beside_served : ServesBeside both.1.1.items beside both.1.0
+  pub alone_served : ServesAlone both.0.1.items (stack_of alone) (stack_of both.0.0)
+  pub beside_served : ServesBeside both.1.1.items (stack_of beside) (stack_of both.1.0)
   pub same : made_first requests both.0.1.items ≡ made_first requests both.1.1.items → WentThroughTheSame (recorder_of both.0.0) (inner_recorder_of both.1.0)
   pub same_answers : both.0.1.items ≡ both.1.1.items → WentThroughTheSame (recorder_of both.0.0) (inner_recorder_of both.1.0)

@@ -1,6 +1,7 @@
 use Rattle.span_dispatch.proofs.Acting.{both_alone, one_alone, paths_itself}
 use Rattle.span_dispatch.proofs.Alone.{seen_made, seen_served}
-use Rattle.span_dispatch.proofs.Effect.{one_alone_of, seen_both, seen_calls}
+use Rattle.std.proofs.Common.{[]}
+use Rattle.span_dispatch.proofs.Effect.{one_alone_of, run_calls, seen_both, seen_calls}
 use Rattle.span_dispatch.specs.Alone.{Alone}
 use Rattle.span_dispatch.specs.Isolation.{SeesCalls, SeesMade, SeesServed}
 use Rattle.span_dispatch.proofs.laws.other_layers_make_no_difference.Goals as goal
@@ -27,6 +28,9 @@ returns-clause-served g c =
 
 pub returns-clause-calls : goal.returns-clause-calls
 returns-clause-calls g c = one_alone_of c.in_store_while_open_or_closing.ensures.in_store c.in_store_while_open_or_closing.ensures.not_both c.closes_once.ensures
+
+pub returns-clause-says : goal.returns-clause-says
+returns-clause-says g c = λ numbers rs answers made x y h. run_calls g.S.LookupSpan.registry g.S.LookupSpan.with_registry g.S.Subscriber.has_form g.S.Subscriber.stepped g.S.Subscriber.levelled [] rs answers made x y numbers h
 
 pub returns-clause-requests : goal.returns-clause-requests
 returns-clause-requests g c =

@@ -3,10 +3,10 @@ use Rattle.span_uses.proofs.Standing.{opens_and_drops, opens_nothing}
 use Rattle.span_uses.proofs.chain.open_and_drop.Goals as goal
 
 pub returns-in_err-id-clause-ready : goal.returns-in_err-id-clause-ready
-returns-in_err-id-clause-ready g c = λ h. let r = c.new_span.ensures.ready.safe h.0 h.1 in (r.0, r.1)
+returns-in_err-id-clause-ready g c = λ h. let r = c.new_span.ensures.ready.current h.0 h.1 in (r.0, r.1)
 
 pub returns-in_default-clause-ready : goal.returns-in_default-clause-ready
-returns-in_default-clause-ready g c = λ h. let r = c.new_span.ensures.ready.safe h.0 h.1 in (r.0, r.1)
+returns-in_default-clause-ready g c = λ h. let r = c.new_span.ensures.ready.current h.0 h.1 in (r.0, r.1)
 
 pub returns-in_default-clause-served : goal.returns-in_default-clause-served
 returns-in_default-clause-served g c =

@@ -4,7 +4,7 @@ use Rattle.std.proofs.Common.{◌≡◌, false, Ok, inr, refl, subst, ◌∙◌}
 use Rattle.span_core.specs.Span.{asked_parent, metadata_of}
 use Rattle.span_dispatch.proofs.Calls.{dropped_exactly, made_exactly, refused_exactly, span_dropped, span_made, span_unmade, unknown_exactly}
 use Rattle.span_dispatch.proofs.Goes.{same_stack}
-use Rattle.span_dispatch.proofs.Stores.{Wanted, metadata_wanted, opened_by, unrefused}
+use Rattle.span_dispatch.proofs.Stores.{Wanted, metadata_wanted, opened_by, room_for, unrefused}
 use Rattle.span_dispatch.proofs.Admits.{below_before, let_by_below}
 use Rattle.span_dispatch.specs.Admission.{Decides, IsAdmitted}
 use Rattle.span_dispatch.specs.Cache.{is_above_read}
@@ -36,7 +36,7 @@ pub returns-in-Ok-clause-ready : goal.returns-in-Ok-clause-ready
 returns-in-Ok-clause-ready g c = stays_ready c.args.self.now (with_stack c.admits.new.self c.new_span.new.self) (λ f k u. let h = k.honest in (span_made g.met.S.Subscriber.laws g.met.S.LookupSpan.with_own g.S.Subscriber.levelled c.args.lane c.args.attrs.now c.metadata.result c.admits.new.pass c.in-Ok.id f (stack_of c.args.self.now) c.new_span.new.self c.metadata.ensures (subst (λ b. Decides f (g.S.LookupSpan.registry (stack_of c.args.self.now)).store c.args.lane c.metadata.result c.admits.new.pass (Ok b)) c.in-Ok-true.field-0-test (c.in-Ok-true.ensures.decided f h u)) (subst (λ x. OpensAndNotifies g.S.LookupSpan.registry g.S.Subscriber.has_form g.S.Subscriber.stepped c.args.lane c.args.attrs.now c.admits.new.pass x c.new_span.new.self c.in-Ok.id) c.admits.ensures.stack c.in-Ok.ensures.opened) h).1 k.settled) c.admits.ensures.safe c.admits.ensures.kept
 
 pub returns-in-Ok-clause-served : goal.returns-in-Ok-clause-served
-returns-in-Ok-clause-served g c = record { told = λ f h u. (span_made g.met.S.Subscriber.laws g.met.S.LookupSpan.with_own g.S.Subscriber.levelled c.args.lane c.args.attrs.now c.metadata.result c.admits.new.pass c.in-Ok.id f (stack_of c.args.self.now) c.new_span.new.self c.metadata.ensures (subst (λ b. Decides f (g.S.LookupSpan.registry (stack_of c.args.self.now)).store c.args.lane c.metadata.result c.admits.new.pass (Ok b)) c.in-Ok-true.field-0-test (c.in-Ok-true.ensures.decided f h u)) (subst (λ x. OpensAndNotifies g.S.LookupSpan.registry g.S.Subscriber.has_form g.S.Subscriber.stepped c.args.lane c.args.attrs.now c.admits.new.pass x c.new_span.new.self c.in-Ok.id) c.admits.ensures.stack c.in-Ok.ensures.opened) h).0; exact = λ f h u. made_exactly g.met.S.Subscriber.laws g.met.S.LookupSpan.with_own g.S.Subscriber.levelled f (kept_by c.args.self.now) (kept_by c.admits.new.self) (g.S.LookupSpan.registry (stack_of c.args.self.now)) c.args.lane c.args.attrs.now c.metadata.result c.admits.new.pass c.metadata.ensures h.rules.orderly c.in-Ok.id (subst (λ b. IsAdmitted (kept_by c.args.self.now) f (g.S.LookupSpan.registry (stack_of c.args.self.now)) c.args.lane c.metadata.result c.admits.new.pass (kept_by c.admits.new.self) (Ok b)) c.in-Ok-true.field-0-test (c.in-Ok-true.ensures.admitted f h u)) }
+returns-in-Ok-clause-served g c = record { told = λ f h u. (span_made g.met.S.Subscriber.laws g.met.S.LookupSpan.with_own g.S.Subscriber.levelled c.args.lane c.args.attrs.now c.metadata.result c.admits.new.pass c.in-Ok.id f (stack_of c.args.self.now) c.new_span.new.self c.metadata.ensures (subst (λ b. Decides f (g.S.LookupSpan.registry (stack_of c.args.self.now)).store c.args.lane c.metadata.result c.admits.new.pass (Ok b)) c.in-Ok-true.field-0-test (c.in-Ok-true.ensures.decided f h u)) (subst (λ x. OpensAndNotifies g.S.LookupSpan.registry g.S.Subscriber.has_form g.S.Subscriber.stepped c.args.lane c.args.attrs.now c.admits.new.pass x c.new_span.new.self c.in-Ok.id) c.admits.ensures.stack c.in-Ok.ensures.opened) h).0; exact = λ f h u. made_exactly g.met.S.Subscriber.laws g.met.S.LookupSpan.with_own g.S.Subscriber.levelled f (kept_by c.args.self.now) (kept_by c.admits.new.self) (g.S.LookupSpan.registry (stack_of c.args.self.now)) c.args.lane c.args.attrs.now c.metadata.result c.admits.new.pass c.metadata.ensures h.rules.orderly c.in-Ok.id (room_for g.S.LookupSpan.registry c.args.lane c.args.attrs.now c.admits.new.pass (stack_of c.args.self.now) c.new_span.new.self c.in-Ok.id (subst (λ x. OpensAndNotifies g.S.LookupSpan.registry g.S.Subscriber.has_form g.S.Subscriber.stepped c.args.lane c.args.attrs.now c.admits.new.pass x c.new_span.new.self c.in-Ok.id) c.admits.ensures.stack c.in-Ok.ensures.opened)) (subst (λ b. IsAdmitted (kept_by c.args.self.now) f (g.S.LookupSpan.registry (stack_of c.args.self.now)) c.args.lane c.metadata.result c.admits.new.pass (kept_by c.admits.new.self) (Ok b)) c.in-Ok-true.field-0-test (c.in-Ok-true.ensures.admitted f h u)) }
 
 pub returns-in-Ok-clause-store : goal.returns-in-Ok-clause-store
 returns-in-Ok-clause-store g c = opened_by g.S.LookupSpan.registry c.args.lane c.args.attrs.now c.admits.new.pass (stack_of c.args.self.now) c.new_span.new.self c.in-Ok.id

@@ -56,7 +56,7 @@ returns-clause-served g c = λ ready.
 pub returns-clause-exact : goal.returns-clause-exact
 returns-clause-exact g c = λ ready.
     all_exactly (record { registry = g.S.LookupSpan.registry; with_registry = g.S.LookupSpan.with_registry; usable = g.S.Subscriber.usable; has_form = g.S.Subscriber.has_form; stepped = g.S.Subscriber.stepped; hears = g.S.Subscriber.hears; acts_at = g.S.Subscriber.acts_at; levelled = g.S.Subscriber.levelled; registered = g.S.Subscriber.registered }) g.met.S.Subscriber.laws g.met.S.Subscriber.paths g.met.S.Subscriber.levels ready.0 c.args.self.now c.loop-request.self c.args.requests.now (take c.loop-request.request-index c.args.requests.now) c.loop-request.answers.items
-    (take_all c.loop-request.request-index c.args.requests.now c.loop-request-test.false) (c.loop-request.invariant.served.exact ready.0 ready.1)
+    (subst (λ x. AreIssued (g.S.LookupSpan.registry x).store) c.stack.ensures (subst (λ (s : RegistryState). AreIssued s.store) c.root.ensures c.a_registry_is_sound.ensures.issued)) (take_all c.loop-request.request-index c.args.requests.now c.loop-request-test.false) (c.loop-request.invariant.served.exact ready.0 ready.1)
 
 pub returns-clause-kept : goal.returns-clause-kept
 returns-clause-kept g c =
