@@ -9,7 +9,7 @@ ghost use Rattle.span_dispatch.specs.Outcome.{Outcome};
 ghost use Rattle.span_dispatch.specs.Readable.{ClosesAsItOpened};
 ghost use Rattle.span_dispatch.specs.Serve.{Run};
 ghost use Rattle.span_registry.specs.Conducts.{ArePlainConducts, Conducts};
-ghost use Rattle.std.specs.Prelude.{◌≡◌, List};
+ghost use Rattle.std.specs.Prelude.{◌≡◌, List, []};
 
 use span_registry::Subscriber;
 
