@@ -147,7 +147,7 @@ module _ {S : Type 0} (s : SubscriberOf S) where
     abbrev ServesAll : List Request → List Answer → Dispatch S → Dispatch S → Type 0
     ServesAll all answers first now = Served s.registry s.with_registry s.has_form s.stepped s.levelled s.hears s.acts_at all answers (stack_of first) (stack_of now)
 
-    run_served : (first now : Dispatch S) (all : List Request) (answers : List Answer) (made : List (List Made)) → AreIssued (s.registry (stack_of first)).store → RunsTo [] all answers made (stack_of first) (stack_of now) → ServesAll all answers first now
+    abbrev run_served : (first now : Dispatch S) (all : List Request) (answers : List Answer) (made : List (List Made)) → AreIssued (s.registry (stack_of first)).store → RunsTo [] all answers made (stack_of first) (stack_of now) → ServesAll all answers first now
     run_served first now all answers made issued run =
         let folds = run_folds s.registry s.with_registry s.has_form s.stepped s.levelled [] all answers made (stack_of first) (stack_of now) run in
         let seen = sees_what_is_made s.registry laws paths levels (flat made) folds in
