@@ -45,7 +45,7 @@ pub registry_then : (s u t : RegistryState) (n : ℕ) → s ≡ u → t ≡ reco
 registry_then s u t n same alone next = alone ∙ (λ i. record (same i) { filters = next i })
 
 -- where the registry handed out no filter more, nothing changed
-as_before : {S : Type 0} (registry : S → RegistryState) (with_registry : S → RegistryState → S) (own : (x : S) → with_registry x (registry x) ≡ x) (s t : S)
+pub as_before : {S : Type 0} (registry : S → RegistryState) (with_registry : S → RegistryState → S) (own : (x : S) → with_registry x (registry x) ≡ x) (s t : S)
     → t ≡ with_registry s (record (registry s) { filters = (registry t).filters }) → (registry t).filters ≡ (registry s).filters → t ≡ s
 as_before registry with_registry own s t alone same = alone ∙ (λ i. with_registry s (record (registry s) { filters = same i })) ∙ own s
 
@@ -68,6 +68,10 @@ begins_under u x layer level n h begins attached number = record { number = numb
 -- so many filters were handed out, and these leave room for so many more
 pub room_after : {n taken : ℕ} (more : ℕ) → n ≡ taken → taken + more ≤ LIMIT → n + more ≤ LIMIT
 room_after more same room = subst (λ k. k + more ≤ LIMIT) (sym same) room
+
+-- there is room for what takes no number
+pub no_more : {n taken : ℕ} → n ≡ taken → taken ≤ LIMIT → n + 0 ≤ LIMIT
+no_more same room = subst (λ k. k + 0 ≤ LIMIT) (sym same) (omega (arith, room))
 
 -- ---- pair
 
@@ -137,24 +141,12 @@ module _ {limits : Limits} (l : Levelled) (warn : Kept) (s : Layered Kept Regist
         registry = registry_then (inner_of s) (new_registry limits) (inner_of (inner_of x)) 1 begun.registry (ap (λ (r : Layered Kept RegistryState). inner_of r) alone) one;
       }
 
--- the recorders of the stack `veto` took one number
-pub one_number : {limits : Limits} (w : Warned) → BeginsWarned limits w → (inner_of (inner_of w)).filters ≡ 1
+-- the recorders of the stack `veto` took one number, so there is room for what needs none
+one_number : {limits : Limits} (w : Warned) → BeginsWarned limits w → (inner_of (inner_of w)).filters ≡ 1
 one_number w begun = ap (λ (r : RegistryState). r.filters) begun.registry
 
--- the layer that vetoes muted events took no number
-pub begins_muted : {limits : Limits} (w : Warned) → BeginsWarned limits w → (x : Layered MuteVeto Warned) → inner_of x ≡ record w { inner = record (inner_of w) { inner = record (inner_of (inner_of w)) { filters = (inner_of (inner_of (inner_of x))).filters } } }
-    → (inner_of (inner_of (inner_of x))).filters ≡ (inner_of (inner_of w)).filters → BeginsWarned limits (inner_of x)
-begins_muted {limits} w begun x alone none =
-    let same = as_before (λ (z : Warned). inner_of (inner_of z)) (λ z r. with_inner z (with_inner (inner_of z) r)) (λ z. refl) w (inner_of x) alone none in
-    subst (BeginsWarned limits) (sym same) begun
-
--- nor did the level outside it
-pub begins_veto : {limits : Limits} (m : Layered MuteVeto Warned) → BeginsWarned limits (inner_of m) → (x : VetoStack) → outer_of x ≡ INFO
-    → inner_of x ≡ record m { inner = record (inner_of m) { inner = record (inner_of (inner_of m)) { inner = record (inner_of (inner_of (inner_of m))) { filters = (inner_of (inner_of (inner_of (inner_of x)))).filters } } } }
-    → (inner_of (inner_of (inner_of (inner_of x)))).filters ≡ (inner_of (inner_of (inner_of m))).filters → BeginsVeto limits x
-begins_veto {limits} m begun x level alone none =
-    let same = as_before (λ (z : Layered MuteVeto Warned). inner_of (inner_of (inner_of z))) (λ z r. with_inner z (with_inner (inner_of z) (with_inner (inner_of (inner_of z)) r))) (λ z. refl) m (inner_of x) alone none in
-    record { level = level; below = subst (λ (z : Layered MuteVeto Warned). BeginsWarned limits (inner_of z)) (sym same) begun }
+pub few_filters : {limits : Limits} (w : Warned) → BeginsWarned limits w → (inner_of (inner_of w)).filters ≤ LIMIT
+few_filters w begun = subst (λ k. k ≤ LIMIT) (sym (one_number w begun)) (omega (arith))
 
 -- ---- absent
 

@@ -7,9 +7,8 @@ ghost use Rattle.span_runner.specs.Stacks.{AreCalled};
 ghost use Rattle.span_script.specs.Script.{stack_of};
 
 use crate::fault::RunFault;
-use crate::stacks::{
-    Absent, Nested, Pair, Plain, Veto, absent, nested, pair, plain, text_of_one, text_of_two, veto,
-};
+use crate::script_stack::ScriptStack;
+use crate::stacks::{absent, nested, pair, plain, veto};
 use span_core::{Id, Record, TraceError};
 use span_dispatch::{Answer, Crew, Dispatch, Journal, Receipt, Request, Shared, Worker};
 use span_registry::{Limits, Subscriber};
@@ -198,6 +197,31 @@ fn given<A: Drop>(answered: Result<(A, Receipt), TraceError>) -> Result<A, Trace
     }
 }
 
+/// What a script prints, where workers share this stack of scripts.
+fn shared_by<S: ScriptStack + Subscriber + Drop>(
+    rt: &impl Wait,
+    alloc: Global,
+    script: &Script<'_>,
+    stack: S,
+) -> Result<(String, Journal), RunFault>
+    requires usable { S.usable stack }
+    requires fresh { IsFresh (S.registry stack) }
+    ensures printed { IfOk result (λ r. GivesShared S.name script.now (string_bytes r.0)) }
+    ensures legal { IfOk result (λ r. IsLegal r.1) }
+    ensures fault { IfErr result (λ fault. fault ≡ RunFault.Memory) }
+{
+    let blank = Blank::new(u64::from(WORKERS));
+    let (answers, dispatch, journal) = serve::<S, Brand>(
+        rt,
+        alloc,
+        blank,
+        stack,
+        script.requests(),
+    )?;
+    let text = dispatch.stack().text(alloc, script, &answers)?;
+    Ok((text, journal))
+}
+
 /// What a script prints, where workers share the stack `plain`.
 fn plain_shared(
     rt: &impl Wait,
@@ -208,16 +232,7 @@ fn plain_shared(
     ensures legal { IfOk result (λ r. IsLegal r.1) }
     ensures fault { IfErr result (λ fault. fault ≡ RunFault.Memory) }
 {
-    let stack = plain(alloc, Limits::MAX);
-    let (answers, dispatch, journal) = serve::<Plain, Brand>(
-        rt,
-        alloc,
-        Blank::new(u64::from(WORKERS)),
-        stack,
-        script.requests(),
-    )?;
-    let text = text_of_one(alloc, script, &answers, dispatch.stack().layer())?;
-    Ok((text, journal))
+    shared_by(rt, alloc, script, plain(alloc, Limits::MAX))
 }
 
 /// What a script prints, where workers share the stack `pair`.
@@ -230,19 +245,7 @@ fn pair_shared(
     ensures legal { IfOk result (λ r. IsLegal r.1) }
     ensures fault { IfErr result (λ fault. fault ≡ RunFault.Memory) }
 {
-    let stack = pair(alloc, Limits::MAX);
-    let (answers, dispatch, journal) = serve::<Pair, Brand>(
-        rt,
-        alloc,
-        Blank::new(u64::from(WORKERS)),
-        stack,
-        script.requests(),
-    )?;
-    let both = dispatch.stack().layer();
-    let a = both.inner().inner();
-    let b = both.layer().inner();
-    let text = text_of_two(alloc, script, &answers, ("a", "b"), a, b)?;
-    Ok((text, journal))
+    shared_by(rt, alloc, script, pair(alloc, Limits::MAX))
 }
 
 /// What a script prints, where workers share the stack `nested`.
@@ -255,19 +258,7 @@ fn nested_shared(
     ensures legal { IfOk result (λ r. IsLegal r.1) }
     ensures fault { IfErr result (λ fault. fault ≡ RunFault.Memory) }
 {
-    let stack = nested(alloc, Limits::MAX);
-    let (answers, dispatch, journal) = serve::<Nested, Brand>(
-        rt,
-        alloc,
-        Blank::new(u64::from(WORKERS)),
-        stack,
-        script.requests(),
-    )?;
-    let stack = dispatch.stack();
-    let base = stack.inner().layer();
-    let deep = stack.layer().inner().inner();
-    let text = text_of_two(alloc, script, &answers, ("base", "deep"), base, deep)?;
-    Ok((text, journal))
+    shared_by(rt, alloc, script, nested(alloc, Limits::MAX))
 }
 
 /// What a script prints, where workers share the stack `veto`.
@@ -280,19 +271,7 @@ fn veto_shared(
     ensures legal { IfOk result (λ r. IsLegal r.1) }
     ensures fault { IfErr result (λ fault. fault ≡ RunFault.Memory) }
 {
-    let stack = veto(alloc, Limits::MAX);
-    let (answers, dispatch, journal) = serve::<Veto, Brand>(
-        rt,
-        alloc,
-        Blank::new(u64::from(WORKERS)),
-        stack,
-        script.requests(),
-    )?;
-    let warned = dispatch.stack().inner().inner();
-    let base = warned.inner().layer();
-    let warn = warned.layer().inner();
-    let text = text_of_two(alloc, script, &answers, ("base", "warn"), base, warn)?;
-    Ok((text, journal))
+    shared_by(rt, alloc, script, veto(alloc, Limits::MAX))
 }
 
 /// What a script prints, where workers share the stack `absent`.
@@ -305,14 +284,5 @@ fn absent_shared(
     ensures legal { IfOk result (λ r. IsLegal r.1) }
     ensures fault { IfErr result (λ fault. fault ≡ RunFault.Memory) }
 {
-    let stack = absent(alloc, Limits::MAX);
-    let (answers, dispatch, journal) = serve::<Absent, Brand>(
-        rt,
-        alloc,
-        Blank::new(u64::from(WORKERS)),
-        stack,
-        script.requests(),
-    )?;
-    let text = text_of_one(alloc, script, &answers, dispatch.stack().layer())?;
-    Ok((text, journal))
+    shared_by(rt, alloc, script, absent(alloc, Limits::MAX))
 }

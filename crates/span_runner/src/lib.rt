@@ -7,6 +7,7 @@ mod mute;
 mod mute_veto;
 mod program;
 mod reply;
+mod script_stack;
 mod stacks;
 
 pub use crew::shared_text;

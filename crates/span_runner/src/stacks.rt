@@ -1,5 +1,8 @@
 //! The stacks that scripts are served by.
-ghost use Rattle.std.specs.Prelude.{◌≡◌, ◌∷◌, [], codes, string_bytes, IfErr, IfOk, false};
+ghost use Rattle.std.specs.Prelude.{◌≡◌, ◌≤◌, ◌∷◌, [], codes, string_bytes, IfErr, IfOk, false};
+ghost use Rattle.span_core.specs.declared.filter.TheConstants.FilterId.{LIMIT};
+ghost use Rattle.span_core.specs.declared.level.TheConstants.LevelFilter.{INFO};
+ghost use Rattle.span_layers.specs.Layered.{inner_of, outer_of};
 ghost use Rattle.span_runner.specs.Program.{Gives, IsPrinted};
 ghost use Rattle.span_script.specs.Script.{lines_of, stack_of};
 ghost use Rattle.span_runner.specs.Stacks.{ArePositive, BeginsAbsent, BeginsNested, BeginsPair, BeginsPlain, BeginsVeto, BeginsWarned, HasRoom, ServesInUse};
@@ -102,13 +105,24 @@ fn warned(alloc: Global, limits: Limits) -> Warned
     put(plain(alloc, limits), warn)
 }
 
+/// Puts two layers that veto on a stack: one muted events, and outside it one what is more verbose
+/// than info.
+fn vetoed<S: Subscriber + Drop>(stack: S) -> Layered<LevelFilter, Layered<MuteVeto, S>>
+    requires usable { S.usable stack }
+    requires filters { (S.registry stack).filters ≤ LIMIT }
+    ensures level { outer_of result ≡ INFO }
+    ensures below { inner_of (inner_of result) ≡ stack }
+{
+    let muted = put(stack, MuteVeto);
+    put(muted, LevelFilter::INFO)
+}
+
 /// The stack `veto`.
 pub(crate) fn veto(alloc: Global, limits: Limits) -> Veto
     requires { ArePositive limits }
     ensures { BeginsVeto limits result }
 {
-    let muted = put(warned(alloc, limits), MuteVeto);
-    put(muted, LevelFilter::INFO)
+    vetoed(warned(alloc, limits))
 }
 
 /// The stack `absent`.

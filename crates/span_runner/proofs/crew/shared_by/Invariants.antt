@@ -1,4 +1,4 @@
-use Rattle.span_runner.proofs.crew.plain_shared.Given as goal
+use Rattle.span_runner.proofs.crew.shared_by.Given as goal
 
 abbrev pub ghosts-serve-L-Crew : goal.ghosts-serve-L-Crew
 ghosts-serve-L-Crew g a = record { workers = a.blank.parts }
