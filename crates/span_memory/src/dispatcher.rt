@@ -1,5 +1,6 @@
 //! Calls of a dispatcher.
 ghost use Rattle.span_dispatch.specs.Serve.{stack_of};
+ghost use Rattle.std.specs.Prelude.{IfOk};
 
 use crate::call::State;
 use crate::fault::Fault;
@@ -8,10 +9,10 @@ use crate::site::{
     KEPT_EVENT, LANE, UNKNOWN_EVENT, UNKNOWN_SPAN, event, event_metadata, new_span, other_event,
     preparation, sparing,
 };
-use span_core::{Event, LevelFilter, Record};
-use span_dispatch::{Answer, Dispatch, Recorder, Request, Which, WhichParent};
-use span_layers::{Filtered, LayerExt, Layered, SubscriberExt};
-use span_registry::{Registry, Subscriber};
+use crate::tried::Tried;
+use span_core::{Event, Record};
+use span_dispatch::{Answer, Dispatch, Request, Which, WhichParent};
+use span_registry::Subscriber;
 use std::alloc::Global;
 use std::io::Write;
 
@@ -21,28 +22,11 @@ const NOTICES: usize = 27;
 /// How many notices a recorder has room for, where it has kept over half as many.
 const ROOM: usize = 32;
 
-/// A recorder under a level, on a registry.
-type Recording = Layered<Filtered<Recorder, LevelFilter>, Registry>;
-
-/// Outside it that level as a layer, which vetoes what is above it.
-pub type Stack = Layered<LevelFilter, Recording>;
-
-/// Such a stack, of which nothing was asked.
-fn stack(alloc: Global) -> Result<Stack, Fault> {
-    let layer = Recorder::new(alloc).with_filter(LevelFilter::INFO);
-    let recording = match Registry::new(alloc).with(layer) {
-        Ok(made) => made,
-        Err(back) => return Err(Fault::Refused(back.error)),
-    };
-    match recording.with(LevelFilter::INFO) {
-        Ok(made) => Ok(made),
-        Err(back) => Err(Fault::Refused(back.error)),
-    }
-}
-
-/// A dispatcher with such a stack, in this state.
-pub(crate) fn dispatcher(alloc: Global, state: State) -> Result<Dispatch<Stack>, Fault> {
-    let stack = stack(alloc)?;
+/// A dispatcher in this state.
+pub(crate) fn dispatcher<S: Tried>(alloc: Global, state: State) -> Result<Dispatch<S>, Fault>
+    ensures { IfOk result (λ made. S.usable (stack_of made)) }
+{
+    let stack = S::made(alloc)?;
     match state {
         State::Begun => Ok(Dispatch::new(alloc, stack)),
         State::Kept => prepared(alloc, Dispatch::new(alloc, stack)),
@@ -56,6 +40,7 @@ fn prepared<S: Subscriber + Drop>(
     dispatch: Dispatch<S>,
 ) -> Result<Dispatch<S>, Fault>
     requires { S.usable (stack_of dispatch) }
+    ensures { IfOk result (λ served. S.usable (stack_of served)) }
 {
     let mut dispatch = dispatch;
     for answer in &dispatch.serve(alloc, &preparation())? {
@@ -67,14 +52,14 @@ fn prepared<S: Subscriber + Drop>(
 }
 
 /// Makes a request of a dispatcher, and writes what it shows without the request and after it.
-pub(crate) fn make<W: Write>(
+pub(crate) fn make<S: Tried, W: Write>(
     alloc: Global,
     writer: &mut W,
     state: State,
     request: Request<'_>,
 ) -> Result<(), Fault> {
-    write_dispatcher(writer, dispatcher(alloc, state)?)?;
-    let mut dispatch = dispatcher(alloc, state)?;
+    write_dispatcher(writer, dispatcher::<S>(alloc, state)?)?;
+    let mut dispatch = dispatcher::<S>(alloc, state)?;
     write_start(writer)?;
     let ended = asked(&mut dispatch, request);
     write_answer(writer, ended)?;
@@ -82,9 +67,9 @@ pub(crate) fn make<W: Write>(
 }
 
 /// Serves a list whose requests take no memory, and writes the same.
-pub(crate) fn serve<W: Write>(alloc: Global, writer: &mut W) -> Result<(), Fault> {
-    write_dispatcher(writer, dispatcher(alloc, State::Kept)?)?;
-    let mut dispatch = dispatcher(alloc, State::Kept)?;
+pub(crate) fn serve<S: Tried, W: Write>(alloc: Global, writer: &mut W) -> Result<(), Fault> {
+    write_dispatcher(writer, dispatcher::<S>(alloc, State::Kept)?)?;
+    let mut dispatch = dispatcher::<S>(alloc, State::Kept)?;
     write_start(writer)?;
     let ended = served(alloc, &mut dispatch, &sparing());
     write_answer(writer, ended)?;
@@ -98,6 +83,7 @@ fn served<S: Subscriber>(
     requests: &[Request<'_>],
 ) -> Answer
     requires { S.usable (stack_of dispatch.old) }
+    ensures { S.usable (stack_of dispatch.new) }
 {
     match dispatch.serve(alloc, requests) {
         Ok(answers) => answers.last().copied().unwrap_or(Answer::Dropped),
@@ -106,8 +92,10 @@ fn served<S: Subscriber>(
 }
 
 /// A dispatcher whose recorder has room for no notice more.
-fn full(alloc: Global) -> Result<Dispatch<Stack>, Fault> {
-    let mut dispatch = dispatcher(alloc, State::Kept)?;
+fn full<S: Tried>(alloc: Global) -> Result<Dispatch<S>, Fault>
+    ensures { IfOk result (λ filled. S.usable (stack_of filled)) }
+{
+    let mut dispatch = dispatcher::<S>(alloc, State::Kept)?;
     for _ in NOTICES..ROOM {
         send(&mut dispatch)?;
     }
@@ -127,9 +115,9 @@ fn send<S: Subscriber>(dispatch: &mut Dispatch<S>) -> Result<(), Fault>
 }
 
 /// Sends an event that the recorder has no room for, and then another; and writes the same, both after the second.
-pub(crate) fn record<W: Write>(alloc: Global, writer: &mut W) -> Result<(), Fault> {
-    write_dispatcher(writer, full(alloc)?)?;
-    let mut dispatch = full(alloc)?;
+pub(crate) fn record<S: Tried, W: Write>(alloc: Global, writer: &mut W) -> Result<(), Fault> {
+    write_dispatcher(writer, full::<S>(alloc)?)?;
+    let mut dispatch = full::<S>(alloc)?;
     write_start(writer)?;
     send(&mut dispatch)?;
     write_answer(writer, Answer::Done)?;
@@ -138,12 +126,14 @@ pub(crate) fn record<W: Write>(alloc: Global, writer: &mut W) -> Result<(), Faul
 }
 
 /// Writes all that a dispatcher shows and answers, and what its recorder was notified of.
-pub(crate) fn write_dispatcher<W: Write>(
+pub(crate) fn write_dispatcher<S: Tried, W: Write>(
     writer: &mut W,
-    dispatch: Dispatch<Stack>,
-) -> Result<(), Fault> {
+    dispatch: Dispatch<S>,
+) -> Result<(), Fault>
+    requires { S.usable (stack_of dispatch) }
+{
     let mut dispatch = dispatch;
-    let level = dispatch.stack().inner().layer().filter();
+    let level = dispatch.stack().level();
     writeln!(
         writer,
         "level {level:?}, hint {:?}",
@@ -151,7 +141,7 @@ pub(crate) fn write_dispatcher<W: Write>(
     )?;
     write_answers(writer, &mut dispatch)?;
     write_all_of(writer, &mut dispatch)?;
-    let recorder = dispatch.stack().inner().layer().inner();
+    let recorder = dispatch.stack().recorder();
     write_notices(writer, recorder.notices(), recorder.failed())
 }
 

@@ -15,6 +15,7 @@ mod run;
 mod shared;
 mod shown;
 mod site;
+mod tried;
 mod values;
 mod veto;
 

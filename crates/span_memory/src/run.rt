@@ -2,6 +2,7 @@
 
 use crate::call::{Call, RegistryCall};
 use crate::fault::Fault;
+use crate::tried::{Stack, Tried};
 use crate::{attach, dispatcher, filter, lane_stack, registry, shared, veto};
 use std::alloc::Global;
 use std::io::{Read, Write};
@@ -21,24 +22,31 @@ pub(crate) fn run<H: Wait, R: Read, W: Write>(
             return Err(Fault::Line);
         };
         writeln!(writer, "== {line}")?;
-        make(rt, alloc, writer, call)?;
+        make::<Stack, H, W>(rt, alloc, writer, call)?;
     }
     Ok(())
 }
 
-/// Makes a call.
-fn make<H: Wait, W: Write>(rt: &H, alloc: Global, writer: &mut W, call: Call) -> Result<(), Fault> {
+/// Makes a call; one of a dispatcher on a stack of this type.
+fn make<S: Tried, H: Wait, W: Write>(
+    rt: &H,
+    alloc: Global,
+    writer: &mut W,
+    call: Call,
+) -> Result<(), Fault> {
     match call {
         Call::Stack(call) => lane_stack::make(alloc, writer, call),
         Call::Registry(RegistryCall::CloseChain) => registry::close_chain(alloc, writer),
         Call::Registry(call) => registry::make(alloc, writer, call),
         Call::Clone(kind) => filter::make(alloc, writer, kind),
         Call::Attach(call) => attach::make(alloc, writer, call),
-        Call::Dispatcher(state, request) => dispatcher::make(alloc, writer, state, request),
-        Call::Serve => dispatcher::serve(alloc, writer),
-        Call::Record => dispatcher::record(alloc, writer),
+        Call::Dispatcher(state, request) => {
+            dispatcher::make::<S, W>(alloc, writer, state, request)
+        }
+        Call::Serve => dispatcher::serve::<S, W>(alloc, writer),
+        Call::Record => dispatcher::record::<S, W>(alloc, writer),
         Call::Veto(request) => veto::make(alloc, writer, request),
-        Call::Share => shared::share(rt, alloc, writer),
-        Call::Shared(request) => shared::make(rt, alloc, writer, request),
+        Call::Share => shared::share::<S, W>(alloc, writer),
+        Call::Shared(request) => shared::make::<S, W>(rt, alloc, writer, request),
     }
 }

@@ -1,13 +1,14 @@
 //! Calls of a dispatcher that workers share.
 ghost use Rattle.span_dispatch.specs.Serve.{stack_of};
 ghost use Rattle.span_dispatch.specs.Worker.{called};
-ghost use Rattle.std.specs.Prelude.{◌≡◌, ◌-◌, ◌<◌, ◌^◌, OnErr, OnOk};
+ghost use Rattle.std.specs.Prelude.{◌≡◌, ◌-◌, ◌<◌, ◌^◌, IfOk, OnErr, OnOk, vec_len};
 
 use crate::call::State;
-use crate::dispatcher::{Stack, dispatcher, write_dispatcher};
+use crate::dispatcher::{dispatcher, write_dispatcher};
 use crate::fault::Fault;
 use crate::shown::{write_answer, write_start};
 use crate::site::preparation;
+use crate::tried::Tried;
 use span_core::{Record, TraceError};
 use span_dispatch::{Answer, Crew, Dispatch, Journal, Receipt, Request, Shared, Which, Worker};
 use span_registry::{LookupSpan, Subscriber};
@@ -28,39 +29,43 @@ struct Finished<S> {
 }
 
 /// Makes a request of a shared dispatcher, and writes what it shows without the request and after it.
-pub(crate) fn make<W: Write>(
+pub(crate) fn make<S: Tried, W: Write>(
     rt: &impl Wait,
     alloc: Global,
     writer: &mut W,
     request: Request<'_>,
 ) -> Result<(), Fault> {
-    let without = after(rt, alloc, writer, None)?;
+    let without = after::<S, W>(rt, alloc, writer, None)?;
     write_finished(writer, without)?;
-    let with = after(rt, alloc, writer, Some(request))?;
+    let with = after::<S, W>(rt, alloc, writer, Some(request))?;
     write_finished(writer, with)
 }
 
 /// What is left of a dispatcher that was shared with a worker, after the preparation and this request, if there is one.
-fn after<W: Write>(
+fn after<S: Tried, W: Write>(
     rt: &impl Wait,
     alloc: Global,
     writer: &mut W,
     request: Option<Request<'_>>,
-) -> Result<Finished<Stack>, Fault> {
-    let dispatch = dispatcher(alloc, State::Begun)?;
-    shared_with_one::<Stack, Brand, W>(rt, alloc, writer, Blank::new(1), dispatch, request)
+) -> Result<Finished<S>, Fault>
+    ensures { IfOk result (λ finished. S.usable (stack_of finished.dispatch)) }
+{
+    let dispatch = dispatcher::<S>(alloc, State::Begun)?;
+    shared_with_one::<S, Brand, W>(rt, alloc, writer, Blank::new(1), dispatch, request)
 }
 
 /// Shares a dispatcher, and writes what it shows without that and after it.
-pub(crate) fn share<W: Write>(rt: &impl Wait, alloc: Global, writer: &mut W) -> Result<(), Fault> {
-    write_dispatcher(writer, dispatcher(alloc, State::Begun)?)?;
-    let dispatch = dispatcher(alloc, State::Begun)?;
-    let dispatch = shared_once::<Stack, Brand, W>(alloc, writer, Blank::new(1), dispatch)?;
+pub(crate) fn share<S: Tried, W: Write>(alloc: Global, writer: &mut W) -> Result<(), Fault> {
+    write_dispatcher(writer, dispatcher::<S>(alloc, State::Begun)?)?;
+    let dispatch = dispatcher::<S>(alloc, State::Begun)?;
+    let dispatch = shared_once::<S, Brand, W>(alloc, writer, Blank::new(1), dispatch)?;
     write_dispatcher(writer, dispatch)
 }
 
 /// Writes all that a dispatcher that was shared shows: its journal, and whether that holds its receipts, too.
-fn write_finished<W: Write>(writer: &mut W, finished: Finished<Stack>) -> Result<(), Fault> {
+fn write_finished<S: Tried, W: Write>(writer: &mut W, finished: Finished<S>) -> Result<(), Fault>
+    requires { S.usable (stack_of finished.dispatch) }
+{
     for place in 0..finished.journal.len() {
         if let Some(entry) = finished.journal.get(place) {
             writeln!(writer, "{entry:?}")?;
@@ -85,6 +90,7 @@ fn shared_once<S: Subscriber + Drop, L: Crew, W: Write>(
     requires name { blank.name ≡ L.name }
     requires parts { (blank.parts ≡ L.parts) × (L.parts ≡ 1) × (L.workers ≡ 1) }
     requires usable { S.usable (stack_of dispatch) }
+    ensures { IfOk result (λ shared. S.usable (stack_of shared)) }
 {
     if !dispatch.stack().root().is_fresh() {
         return Err(Fault::Unprepared);
@@ -111,6 +117,27 @@ fn shared_once<S: Subscriber + Drop, L: Crew, W: Write>(
     }
 }
 
+/// A dispatcher of which nothing was asked, shared with one worker.
+fn shared_of<S: Subscriber + Drop, L: Crew>(
+    alloc: Global,
+    blank: Blank,
+    dispatch: Dispatch<S>,
+) -> Result<(Shared<S, L>, Vec<Worker<L>>), Fault>
+    requires name { blank.name ≡ L.name }
+    requires parts { (blank.parts ≡ L.parts) × (L.parts ≡ 1) × (L.workers ≡ 1) }
+    requires usable { S.usable (stack_of dispatch) }
+    ensures { IfOk result (λ shared. vec_len shared.1 ≡ 1) }
+{
+    if !dispatch.stack().root().is_fresh() {
+        return Err(Fault::Unprepared);
+    }
+    let (book, all) = blank.open::<L>();
+    match Shared::new(alloc, book, all, dispatch, 1) {
+        Ok(shared) => Ok(shared),
+        Err(_) => Err(Fault::Memory),
+    }
+}
+
 /// Shares a dispatcher with one worker, that prepares it and makes the request, if there is one, and writes how that ended.
 fn shared_with_one<S: Subscriber + Drop, L: Crew, W: Write>(
     rt: &impl Wait,
@@ -123,25 +150,11 @@ fn shared_with_one<S: Subscriber + Drop, L: Crew, W: Write>(
     requires name { blank.name ≡ L.name }
     requires parts { (blank.parts ≡ L.parts) × (L.parts ≡ 1) × (L.workers ≡ 1) }
     requires usable { S.usable (stack_of dispatch) }
+    ensures { IfOk result (λ finished. S.usable (stack_of finished.dispatch)) }
 {
-    if !dispatch.stack().root().is_fresh() {
-        return Err(Fault::Unprepared);
-    }
-    let (book, all) = blank.open::<L>();
-    let Ok((shared, mut workers)) = Shared::new(alloc, book, all, dispatch, 1) else {
-        return Err(Fault::Memory);
-    };
-    let mut worker = workers.pop().ok_or(Fault::Unprepared)?;
-    if worker.calls() > 0 {
-        return Err(Fault::Unprepared);
-    }
-    let mut receipts = Vec::new(alloc);
-    prepare(rt, &shared, &mut worker, &mut receipts)?;
-    if let Some(request) = request {
-        try_once(rt, writer, &shared, &mut worker, &mut receipts, request)?;
-    }
-    let accepted = worker.calls();
-    workers.push_reserved(worker);
+    let (shared, mut workers) = shared_of::<S, L>(alloc, blank, dispatch)?;
+    let receipts = receipts_of(rt, alloc, writer, &shared, &mut workers[0], request)?;
+    let accepted = workers[0].calls();
     let Ok((dispatch, journal)) = shared.finish(workers) else {
         unreachable!() // No worker is missing.
     };
@@ -151,6 +164,27 @@ fn shared_with_one<S: Subscriber + Drop, L: Crew, W: Write>(
         receipts,
         accepted,
     })
+}
+
+/// The receipts of a worker that made no call yet: of the preparation, and of the request, if there
+/// is one that isn't refused.
+fn receipts_of<S: Subscriber, L: Crew, W: Write>(
+    rt: &impl Wait,
+    alloc: Global,
+    writer: &mut W,
+    shared: &Shared<S, L>,
+    worker: &mut Worker<L>,
+    request: Option<Request<'_>>,
+) -> Result<Vec<Receipt>, Fault> {
+    if worker.calls() > 0 {
+        return Err(Fault::Unprepared);
+    }
+    let mut receipts = Vec::new(alloc);
+    prepare(rt, shared, worker, &mut receipts)?;
+    if let Some(request) = request {
+        try_once(rt, writer, shared, worker, &mut receipts, request)?;
+    }
+    Ok(receipts)
 }
 
 /// Makes the requests of the preparation, and keeps their receipts.
