@@ -31,6 +31,7 @@ use Rattle.span_layers.specs.declared.layered.Layered.{Layered}
 use Rattle.span_registry.proofs.CallerLemmas.{settled_new}
 use Rattle.span_registry.specs.Answers.{Answers, Notice, OnClose, OnEnter, OnEvent, OnExit, OnFollows, OnIdChange, OnNewSpan, OnRecord}
 use Rattle.span_registry.specs.Closes.{IsSettled}
+use Rattle.span_registry.specs.Conducts.{ActsAt}
 use Rattle.span_registry.specs.Form.{Absent, Bare, Base, Filtered, Form, InPair, Joint, Leaf, OnSubscriber, Over}
 use Rattle.span_registry.specs.Hooks.{StackSteps, no_filter}
 use Rattle.span_registry.specs.Levels.{LevelSteps, unlevelled}
@@ -276,12 +277,12 @@ module _ {S : Type 0} {with_registry : S → RegistryState → S} {has_form : S 
   )
 
   -- what it served, with nothing kept at first, is a run of its form
-  pub run_of : {hears : HearSteps S} {requests : List Request} {answers : List Answer} (f : Form) (old new : Dispatch S) (s : RegistryState) → Stays (stack_of old) f → registry (stack_of old) ≡ s → kept_by old ≡ Some no_callsite
-      → (h : ServedExactly registry with_registry has_form stepped levelled hears requests answers old new) → RunsBy f requests answers h.made (Some no_callsite) s (kept_by new) (registry (stack_of new))
-  run_of {hears} {requests} {answers} f old new s stays first kept h =
-      let run = runs_by registry with_registry has_form stepped levelled Stays steady.known steady.goes steady.aside steady.set [] requests answers h.made (kept_by old) f (stack_of old) (kept_by new) (stack_of new) stays h.run in
-      subst (λ k. RunsBy f requests answers h.made k s (kept_by new) (registry (stack_of new))) kept
-      (subst (λ r. RunsBy f requests answers h.made (kept_by old) r (kept_by new) (registry (stack_of new))) first (run.0, run.2))
+  pub run_of : {hears : HearSteps S} {acts_at : ActsAt S} {requests : List Request} {answers : List Answer} (f : Form) (old new : Dispatch S) (s : RegistryState) → Stays (stack_of old) f → registry (stack_of old) ≡ s → kept_by old ≡ Some no_callsite
+      → (h : ServedExactly registry with_registry has_form stepped levelled hears acts_at requests answers old new) → RunsBy f requests answers h.served.made (Some no_callsite) s (kept_by new) (registry (stack_of new))
+  run_of {hears} {acts_at} {requests} {answers} f old new s stays first kept h =
+      let run = runs_by registry with_registry has_form stepped levelled Stays steady.known steady.goes steady.aside steady.set [] requests answers h.served.made (kept_by old) f (stack_of old) (kept_by new) (stack_of new) stays h.run in
+      subst (λ k. RunsBy f requests answers h.served.made k s (kept_by new) (registry (stack_of new))) kept
+      (subst (λ r. RunsBy f requests answers h.served.made (kept_by old) r (kept_by new) (registry (stack_of new))) first (run.0, run.2))
 
 -- a new recorder that hasn't failed keeps all that it went through
 pub all_kept : (old new : Kept) (heard : Heard) → HearsBy recorder_steps old Here heard new → old ≡ new_recorder → new.failed ≡ false → new.notices ≡ map kept_notice heard
