@@ -9,7 +9,7 @@ use Rattle.span_core.specs.declared.metadata.Metadata.{Metadata}
 use Rattle.span_core.specs.declared.span.Lane.{Lane}
 use Rattle.span_core.specs.declared.span.Parent.{Parent}
 use Rattle.span_core.specs.declared.span.Parent.TheVariants.{Contextual, Explicit, Root}
-use Rattle.span_dispatch.specs.Alone.{Alone, acting, learning, lone, passed}
+use Rattle.span_dispatch.specs.Alone.{Alone, acting, learning, form_of_path, passed}
 use Rattle.span_dispatch.specs.Isolation.{ActAlike, PathsActAlike, SeeTheSame, Sight}
 use Rattle.span_dispatch.specs.Outcome.{GoneLeft, HandleAdded, HandleTaken, LevelSet, Noticed, Outcome, Quiet, Steps, given_in, with_new}
 use Rattle.std.specs.FinSet.{contains}
@@ -174,7 +174,7 @@ module _ (numbers : FilterSet) (s t : Store) (agree : AgreeAt numbers s t) (lane
       ∙ ap (λ (k : ℕ). passes (c []) e t lane (union under (single k)) && passes_path (path_now ds) e t lane (union under (single k))) (number_itself n m p.0)
 
   verdicts_alike : (cs ds : Conducts) (meta : Metadata) (under : FilterSet) (k : ℕ) → PathsActAlike cs ds → Within (numbers_in cs) numbers → Within under numbers
-      → in_verdict (lone (path_now cs)) meta s lane under k ≡ in_verdict (lone (path_now ds)) meta t lane under k
+      → in_verdict (form_of_path (path_now cs)) meta s lane under k ≡ in_verdict (form_of_path (path_now ds)) meta t lane under k
   verdicts_alike [] [] meta under k p all within = refl
   verdicts_alike [] ((m, c) ∷ ds) meta under k p all within = absurd p
   verdicts_alike ((n, b) ∷ cs) [] meta under k p all within = absurd p
@@ -189,7 +189,7 @@ module _ (numbers : FilterSet) (s t : Store) (agree : AgreeAt numbers s t) (lane
       views.enabled meta (view_of s lane set) (view_of t lane set) (views_alike numbers set s t lane agree inside) ∙ ap (λ (a : Answers). a.enabled meta (view_of t lane set)) (p.1.same [] [] tt) in
       let rest = verdicts_alike cs ds meta set k p.2 (other_numbers numbers n b cs all) inside in
       (λ i. if own i then rest i else (k == n))
-      ∙ ap (λ (j : ℕ). if (c []).enabled meta (view_of t lane (union under (single j))) then in_verdict (lone (path_now ds)) meta t lane (union under (single j)) k else (k == j)) (number_itself n m p.0)
+      ∙ ap (λ (j : ℕ). if (c []).enabled meta (view_of t lane (union under (single j))) then in_verdict (form_of_path (path_now ds)) meta t lane (union under (single j)) k else (k == j)) (number_itself n m p.0)
 
 by_test : (p q : Bool) (cs ds es fs : Conducts) → p ≡ q → PathsActAlike cs es → PathsActAlike ds fs → PathsActAlike (if p then cs else ds) (if q then es else fs)
 by_test true true cs ds es fs e a b = a
@@ -309,7 +309,7 @@ pub new_stores_agree : (numbers : FilterSet) (s t : Store) (x : ℕ) (r q : Span
 new_stores_agree numbers s t x r q h k = let a = new_agrees numbers s t x r q h k in record { spans = a.spans; issued = a.issued; stacks = a.stacks }
 
 -- the steps of both leave stores that agree
-pub steps_agree : (cs ds : Conducts) (o : Outcome) (s t u v : Store) → PathsActAlike cs ds → AgreeAt (numbers_in cs) s t → Steps (lone (path_now cs)) o s u → Steps (lone (path_now ds)) o t v → AgreeAt (numbers_in cs) u v
+pub steps_agree : (cs ds : Conducts) (o : Outcome) (s t u v : Store) → PathsActAlike cs ds → AgreeAt (numbers_in cs) s t → Steps (form_of_path (path_now cs)) o s u → Steps (form_of_path (path_now ds)) o t v → AgreeAt (numbers_in cs) u v
 steps_agree cs ds (Noticed lane (OnNewSpan attrs id)) s t u v p agree h k =
     let numbers = numbers_in cs in
     let parent : h.parent ≡ k.parent = one_parent t lane (asked_parent attrs) h.parent k.parent (parent_alike numbers s t lane (asked_parent attrs) h.parent agree h.chosen) k.chosen in
@@ -335,7 +335,7 @@ steps_agree cs ds (LevelSet n l) s t u v p agree h k = changed (numbers_in cs) s
 steps_agree cs ds (Quiet (GoneLeft lane id)) s t u v p agree h k = changed (numbers_in cs) _ _ u v h.1 k.1 (exited_agrees (numbers_in cs) s t lane.0 (number_of id) agree)
 
 -- where the one takes a step, so does the other
-pub step_over : (cs ds : Conducts) (o : Outcome) (s t u : Store) → PathsActAlike cs ds → AgreeAt (numbers_in cs) s t → Steps (lone (path_now cs)) o s u → (v : Store) × Steps (lone (path_now ds)) o t v
+pub step_over : (cs ds : Conducts) (o : Outcome) (s t u : Store) → PathsActAlike cs ds → AgreeAt (numbers_in cs) s t → Steps (form_of_path (path_now cs)) o s u → (v : Store) × Steps (form_of_path (path_now ds)) o t v
 step_over cs ds (Noticed lane (OnNewSpan attrs id)) s t u p agree h =
     let numbers = numbers_in cs in
     let span : Span = begun (record { metadata = metadata_of attrs; parent = asked_parent attrs; verdict = h.verdict }) h.parent in (

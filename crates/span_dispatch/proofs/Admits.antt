@@ -18,7 +18,7 @@ use Rattle.span_core.specs.declared.metadata.Metadata.{Metadata}
 use Rattle.span_core.specs.declared.pass.Pass.{Pass}
 use Rattle.span_core.specs.declared.span.Lane.{Lane}
 use Rattle.span_dispatch.specs.Admission.{Decides, GivesInterest, HasInterestBy, IsAdmitted, IsInterestBy, IsLetBy, KeepsSafely, LosesNothing, MayLearn, Promises, interests_nobody, is_above_hint, learned, learned_if}
-use Rattle.span_dispatch.specs.Cache.{Callsites, IsCurrent, IsKept, IsUpToDate, Memory, ReadHint, ReadsOnce, RefusesBelow, RefusesInterest, callsites_of, hint_in, is_above_read, kept_in, no_callsite, with_callsite}
+use Rattle.span_dispatch.specs.Cache.{Callsites, IsCurrent, IsKept, IsUpToDate, KeptCallsites, ReadHint, ReadsOnce, RefusesBelow, RefusesInterest, callsites_of, hint_in, is_above_read, kept_in, no_callsite, with_callsite}
 use Rattle.span_dispatch.specs.declared.cache.Cache.TheVariants.{Empty, Filled, Off}
 use Rattle.span_dispatch.specs.declared.cache.Cache.{Cache}
 use Rattle.span_dispatch.specs.declared.cache.Callsite.{Callsite}
@@ -44,15 +44,15 @@ is_it_never Never e = refl
 is_it_never Sometimes e = absurd (false≢true e)
 is_it_never Always e = absurd (false≢true e)
 
-unwanted_above : (memory : Memory) (f : Form) (s : RegistryState) (lane : Lane) (m : Metadata) → IsHonestStack f s.filters → is_above_hint memory f m ≡ true → IsUnwanted f m s.store lane.0
+unwanted_above : (memory : KeptCallsites) (f : Form) (s : RegistryState) (lane : Lane) (m : Metadata) → IsHonestStack f s.filters → is_above_hint memory f m ≡ true → IsUnwanted f m s.store lane.0
 unwanted_above None f s lane m honest e = absurd (false≢true e)
 unwanted_above (Some callsites) f s lane m honest e = above_is_unwanted f s.filters m s.store lane.0 honest e
 
-unwanted_never : (memory : Memory) (f : Form) (s : RegistryState) (lane : Lane) (m : Metadata) → IsHonestStack f s.filters → interests_nobody memory f s.filters m ≡ true → IsUnwanted f m s.store lane.0
+unwanted_never : (memory : KeptCallsites) (f : Form) (s : RegistryState) (lane : Lane) (m : Metadata) → IsHonestStack f s.filters → interests_nobody memory f s.filters m ≡ true → IsUnwanted f m s.store lane.0
 unwanted_never None f s lane m honest e = absurd (false≢true e)
 unwanted_never (Some callsites) f s lane m honest e = never_is_unwanted f s.filters m s.store lane.0 honest (is_it_never _ e)
 
-module _ (memory : Memory) (f : Form) (s : RegistryState) (lane : Lane) (m : Metadata) (after : Memory) (honest : IsHonestStack f s.filters) where
+module _ (memory : KeptCallsites) (f : Form) (s : RegistryState) (lane : Lane) (m : Metadata) (after : KeptCallsites) (honest : IsHonestStack f s.filters) where
   -- never: they are ruled out
   pub admits_never : (pass : Pass) (i : Interest) → IsInterestBy memory f s.filters m after i → i ≡ Never → IsAdmitted memory f s lane m pass after (Ok false)
   admits_never pass i h same = (inl (by_hint (is_above_hint memory f m) refl), h.learned)
@@ -155,7 +155,7 @@ safely_again f g n (Filled k) e u = record {
 -- ---- what a cache gives
 
 -- what is above no hint that is kept afterwards was above none before
-pub below_before : (memory : Memory) (before after : ReadHint) (m : Metadata) → ReadsOnce memory before after → is_above_read after m ≡ false → is_above_read before m ≡ false
+pub below_before : (memory : KeptCallsites) (before after : ReadHint) (m : Metadata) → ReadsOnce memory before after → is_above_read after m ≡ false → is_above_read before m ≡ false
 below_before None None after m r e = refl
 below_before (Some callsites) None after m r e = refl
 below_before None (Some hint) after m r e = subst (λ read. is_above_read read m ≡ false) r e

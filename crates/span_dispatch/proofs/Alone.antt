@@ -12,9 +12,9 @@ use Rattle.span_core.specs.declared.span.Lane.{Lane}
 use Rattle.span_dispatch.proofs.Goes.{same_aside}
 use Rattle.span_dispatch.proofs.Acting.{acting_numbers, after_notice_alike, alone_over, given_alike, itself_within, learnt_alike, new_stores_agree, none_within, passed_both, paths_further, paths_itself, same_numbers}
 use Rattle.span_dispatch.proofs.Seen.{beneath, goes_through, some_path}
-use Rattle.span_dispatch.specs.Alone.{Alone, acting, learning, lone, passed, seen}
+use Rattle.span_dispatch.specs.Alone.{Alone, acting, learning, form_of_path, passed, seen}
 use Rattle.span_dispatch.specs.Isolation.{ActAlike, PathsActAlike, SeesMade, SeesServed}
-use Rattle.span_dispatch.specs.Outcome.{GoneLeft, HandleAdded, HandleTaken, IsVerdict, LayersGo, LevelSet, Made, Makes, Noticed, Outcome, Quiet, SameAside, Steps, given_in, with_new}
+use Rattle.span_dispatch.specs.Outcome.{GoneLeft, HandleAdded, HandleTaken, IsVerdict, LayersGo, LevelSet, OutcomeAt, Makes, Noticed, Outcome, Quiet, SameAside, Steps, given_in, with_new}
 use Rattle.std.specs.FinMap.{get}
 use Rattle.span_dispatch.specs.Serve.{EachSeesAlone, Sees, outcome_of, stack_of}
 use Rattle.span_layers.specs.Verdict.{AreDistinct, in_verdict, numbers_of}
@@ -63,23 +63,23 @@ masks_same ((n, a) ∷ path) [] under h = absurd h
 masks_same ((None, a) ∷ path) ((m, b) ∷ other) under h = masks_same path other under h.2 ∙ ap (λ (k : Option ℕ). mask_of ((k, b) ∷ other) under) h.0
 masks_same ((Some n, a) ∷ path) ((m, b) ∷ other) under h = masks_same path other (union under (single n)) h.2 ∙ ap (λ (k : Option ℕ). mask_of ((k, b) ∷ other) under) h.0
 
-verdicts_same : (path other : Path) (meta : Metadata) (s : Store) (lane : ℕ) (under : FilterSet) (k : ℕ) → PathsAnswerAlike path other → in_verdict (lone path) meta s lane under k ≡ in_verdict (lone other) meta s lane under k
+verdicts_same : (path other : Path) (meta : Metadata) (s : Store) (lane : ℕ) (under : FilterSet) (k : ℕ) → PathsAnswerAlike path other → in_verdict (form_of_path path) meta s lane under k ≡ in_verdict (form_of_path other) meta s lane under k
 verdicts_same [] [] meta s lane under k h = refl
 verdicts_same [] ((m, b) ∷ other) meta s lane under k h = absurd h
 verdicts_same ((n, a) ∷ path) [] meta s lane under k h = absurd h
-verdicts_same ((None, a) ∷ path) ((m, b) ∷ other) meta s lane under k h = ap (λ (j : Option ℕ). in_verdict (lone ((j, b) ∷ other)) meta s lane under k) h.0
+verdicts_same ((None, a) ∷ path) ((m, b) ∷ other) meta s lane under k h = ap (λ (j : Option ℕ). in_verdict (form_of_path ((j, b) ∷ other)) meta s lane under k) h.0
 verdicts_same ((Some n, a) ∷ path) ((m, b) ∷ other) meta s lane under k h =
     let set = union under (single n) in
-    (λ i. if h.1.enabled meta s lane set i then verdicts_same path other meta s lane set k h.2 i else (k == n)) ∙ ap (λ (j : Option ℕ). in_verdict (lone ((j, b) ∷ other)) meta s lane under k) h.0
+    (λ i. if h.1.enabled meta s lane set i then verdicts_same path other meta s lane set k h.2 i else (k == n)) ∙ ap (λ (j : Option ℕ). in_verdict (form_of_path ((j, b) ∷ other)) meta s lane under k) h.0
 
-numbers_same : (path other : Path) → PathsAnswerAlike path other → numbers_of (lone path) ≡ numbers_of (lone other)
+numbers_same : (path other : Path) → PathsAnswerAlike path other → numbers_of (form_of_path path) ≡ numbers_of (form_of_path other)
 numbers_same [] [] h = refl
 numbers_same [] ((m, b) ∷ other) h = absurd h
 numbers_same ((n, a) ∷ path) [] h = absurd h
-numbers_same ((None, a) ∷ path) ((m, b) ∷ other) h = numbers_same path other h.2 ∙ ap (λ (k : Option ℕ). numbers_of (lone ((k, b) ∷ other))) h.0
-numbers_same ((Some n, a) ∷ path) ((m, b) ∷ other) h = (λ i k. (k == n) || numbers_same path other h.2 i k) ∙ ap (λ (k : Option ℕ). numbers_of (lone ((k, b) ∷ other))) h.0
+numbers_same ((None, a) ∷ path) ((m, b) ∷ other) h = numbers_same path other h.2 ∙ ap (λ (k : Option ℕ). numbers_of (form_of_path ((k, b) ∷ other))) h.0
+numbers_same ((Some n, a) ∷ path) ((m, b) ∷ other) h = (λ i k. (k == n) || numbers_same path other h.2 i k) ∙ ap (λ (k : Option ℕ). numbers_of (form_of_path ((k, b) ∷ other))) h.0
 
-lone_numbers : (cs : Conducts) → numbers_of (lone (path_now cs)) ≡ numbers_in cs
+lone_numbers : (cs : Conducts) → numbers_of (form_of_path (path_now cs)) ≡ numbers_in cs
 lone_numbers [] = refl
 lone_numbers ((None, b) ∷ cs) = lone_numbers cs
 lone_numbers ((Some n, b) ∷ cs) = λ i k. (k == n) || lone_numbers cs i k
@@ -102,26 +102,26 @@ no_verdict (Over joint o i) meta s lane under k h =
 no_verdict (Bare v) meta s lane under k h = refl
 
 -- the numbers of a path are numbers of the form
-pub on_path : (f : Form) (place : Place) (path : Path) (k : ℕ) → path_at f place ≡ Some path → IsTrue (numbers_of (lone path) k) → IsTrue (numbers_of f k)
-on_path (Leaf still a) Here path k h t = subst (λ (p : Path). IsTrue (numbers_of (lone p) k)) (sym (some_path [] path h)) t
+pub on_path : (f : Form) (place : Place) (path : Path) (k : ℕ) → path_at f place ≡ Some path → IsTrue (numbers_of (form_of_path path) k) → IsTrue (numbers_of f k)
+on_path (Leaf still a) Here path k h t = subst (λ (p : Path). IsTrue (numbers_of (form_of_path p) k)) (sym (some_path [] path h)) t
 on_path (Leaf still a) (Under p) path k h t = absurd (cc)
 on_path (Leaf still a) (Outer p) path k h t = absurd (cc)
 on_path (Leaf still a) (Inner p) path k h t = absurd (cc)
 on_path (Bare v) p path k h t = absurd (cc)
-on_path (Filtered None a f) Here path k h t = absurd (false≢true (subst (λ (p : Path). IsTrue (numbers_of (lone p) k)) (sym (some_path ((None, a) ∷ []) path h)) t))
+on_path (Filtered None a f) Here path k h t = absurd (false≢true (subst (λ (p : Path). IsTrue (numbers_of (form_of_path p) k)) (sym (some_path ((None, a) ∷ []) path h)) t))
 on_path (Filtered (Some n) a f) Here path k h t =
-    let own : IsTrue ((k == n) || false) = subst (λ (p : Path). IsTrue (numbers_of (lone p) k)) (sym (some_path ((Some n, a) ∷ []) path h)) t in
+    let own : IsTrue ((k == n) || false) = subst (λ (p : Path). IsTrue (numbers_of (form_of_path p) k)) (sym (some_path ((Some n, a) ∷ []) path h)) t in
     elim (or_cases (k == n) false own) [
       | inl x ↦ or_left (k == n) (numbers_of f k) x
       | inr x ↦ absurd (false≢true x)
     ]
 on_path (Filtered None a f) (Under p) path k h t =
     let below = beneath None a (path_at f p) path h in
-    on_path f p below.0 k below.1 (subst (λ (r : Path). IsTrue (numbers_of (lone r) k)) (sym below.2) t)
+    on_path f p below.0 k below.1 (subst (λ (r : Path). IsTrue (numbers_of (form_of_path r) k)) (sym below.2) t)
 on_path (Filtered (Some n) a f) (Under p) path k h t =
     let below = beneath (Some n) a (path_at f p) path h in
-    let own : IsTrue ((k == n) || numbers_of (lone below.0) k) = subst (λ (r : Path). IsTrue (numbers_of (lone r) k)) (sym below.2) t in
-    elim (or_cases (k == n) (numbers_of (lone below.0) k) own) [
+    let own : IsTrue ((k == n) || numbers_of (form_of_path below.0) k) = subst (λ (r : Path). IsTrue (numbers_of (form_of_path r) k)) (sym below.2) t in
+    elim (or_cases (k == n) (numbers_of (form_of_path below.0) k) own) [
       | inl x ↦ or_left (k == n) (numbers_of f k) x
       | inr x ↦ or_right (k == n) (numbers_of f k) (on_path f p below.0 k below.1 x)
     ]
@@ -144,33 +144,33 @@ same_test : (p b c d : Bool) → b ≡ c → (if p then b else d) ≡ (if p then
 same_test p b c d h = ap (λ (x : Bool). if p then x else d) h
 
 -- of the path's filters the verdict says what the path alone says
-pub verdict_of_path : (f : Form) (place : Place) (path : Path) (meta : Metadata) (s : Store) (lane : ℕ) (under : FilterSet) (k : ℕ) → AreDistinct f → path_at f place ≡ Some path → IsTrue (numbers_of (lone path) k)
-    → in_verdict f meta s lane under k ≡ in_verdict (lone path) meta s lane under k
-verdict_of_path (Leaf still a) Here path meta s lane under k d h t = absurd (false≢true (subst (λ (p : Path). IsTrue (numbers_of (lone p) k)) (sym (some_path [] path h)) t))
+pub verdict_of_path : (f : Form) (place : Place) (path : Path) (meta : Metadata) (s : Store) (lane : ℕ) (under : FilterSet) (k : ℕ) → AreDistinct f → path_at f place ≡ Some path → IsTrue (numbers_of (form_of_path path) k)
+    → in_verdict f meta s lane under k ≡ in_verdict (form_of_path path) meta s lane under k
+verdict_of_path (Leaf still a) Here path meta s lane under k d h t = absurd (false≢true (subst (λ (p : Path). IsTrue (numbers_of (form_of_path p) k)) (sym (some_path [] path h)) t))
 verdict_of_path (Leaf still a) (Under p) path meta s lane under k d h t = absurd (cc)
 verdict_of_path (Leaf still a) (Outer p) path meta s lane under k d h t = absurd (cc)
 verdict_of_path (Leaf still a) (Inner p) path meta s lane under k d h t = absurd (cc)
 verdict_of_path (Bare v) p path meta s lane under k d h t = absurd (cc)
-verdict_of_path (Filtered None a f) Here path meta s lane under k d h t = ap (λ (p : Path). in_verdict (lone p) meta s lane under k) (some_path ((None, a) ∷ []) path h)
+verdict_of_path (Filtered None a f) Here path meta s lane under k d h t = ap (λ (p : Path). in_verdict (form_of_path p) meta s lane under k) (some_path ((None, a) ∷ []) path h)
 verdict_of_path (Filtered (Some n) a f) Here path meta s lane under k d h t =
     let set = union under (single n) in
-    let own : IsTrue ((k == n) || false) = subst (λ (p : Path). IsTrue (numbers_of (lone p) k)) (sym (some_path ((Some n, a) ∷ []) path h)) t in
+    let own : IsTrue ((k == n) || false) = subst (λ (p : Path). IsTrue (numbers_of (form_of_path p) k)) (sym (some_path ((Some n, a) ∷ []) path h)) t in
     let here : k ≡ n = eqb-true k n (sym (or_nothing (k == n) false refl) ∙ own) in
     let none : in_verdict f meta s lane set k ≡ false = no_verdict f meta s lane set k (ap (numbers_of f) here ∙ d.0) in
-    same_test (a.enabled meta (view_of s lane set)) (in_verdict f meta s lane set k) false (k == n) none ∙ ap (λ (p : Path). in_verdict (lone p) meta s lane under k) (some_path ((Some n, a) ∷ []) path h)
+    same_test (a.enabled meta (view_of s lane set)) (in_verdict f meta s lane set k) false (k == n) none ∙ ap (λ (p : Path). in_verdict (form_of_path p) meta s lane under k) (some_path ((Some n, a) ∷ []) path h)
 verdict_of_path (Filtered None a f) (Under p) path meta s lane under k d h t =
     let below = beneath None a (path_at f p) path h in
-    ap (λ (r : Path). in_verdict (lone r) meta s lane under k) below.2
+    ap (λ (r : Path). in_verdict (form_of_path r) meta s lane under k) below.2
 verdict_of_path (Filtered (Some n) a f) (Under p) path meta s lane under k d h t =
     let below = beneath (Some n) a (path_at f p) path h in
     let set = union under (single n) in
-    let own : IsTrue ((k == n) || numbers_of (lone below.0) k) = subst (λ (r : Path). IsTrue (numbers_of (lone r) k)) (sym below.2) t in
-    let not_below : k ≡ n → numbers_of (lone below.0) k ≡ false = λ e. false_from_ne_true (numbers_of (lone below.0) k) (λ x. both_ways (numbers_of f k) (ap (numbers_of f) e ∙ d.0) (on_path f p below.0 k below.1 x)) in
-    let inside : in_verdict f meta s lane set k ≡ in_verdict (lone below.0) meta s lane set k = elim (or_cases (k == n) (numbers_of (lone below.0) k) own) [
-      | inl x ↦ no_verdict f meta s lane set k (ap (numbers_of f) (eqb-true k n x) ∙ d.0) ∙ sym (no_verdict (lone below.0) meta s lane set k (not_below (eqb-true k n x)))
+    let own : IsTrue ((k == n) || numbers_of (form_of_path below.0) k) = subst (λ (r : Path). IsTrue (numbers_of (form_of_path r) k)) (sym below.2) t in
+    let not_below : k ≡ n → numbers_of (form_of_path below.0) k ≡ false = λ e. false_from_ne_true (numbers_of (form_of_path below.0) k) (λ x. both_ways (numbers_of f k) (ap (numbers_of f) e ∙ d.0) (on_path f p below.0 k below.1 x)) in
+    let inside : in_verdict f meta s lane set k ≡ in_verdict (form_of_path below.0) meta s lane set k = elim (or_cases (k == n) (numbers_of (form_of_path below.0) k) own) [
+      | inl x ↦ no_verdict f meta s lane set k (ap (numbers_of f) (eqb-true k n x) ∙ d.0) ∙ sym (no_verdict (form_of_path below.0) meta s lane set k (not_below (eqb-true k n x)))
       | inr x ↦ verdict_of_path f p below.0 meta s lane set k d.1 below.1 x
     ] in
-    same_test (a.enabled meta (view_of s lane set)) (in_verdict f meta s lane set k) (in_verdict (lone below.0) meta s lane set k) (k == n) inside ∙ ap (λ (r : Path). in_verdict (lone r) meta s lane under k) below.2
+    same_test (a.enabled meta (view_of s lane set)) (in_verdict f meta s lane set k) (in_verdict (form_of_path below.0) meta s lane set k) (k == n) inside ∙ ap (λ (r : Path). in_verdict (form_of_path r) meta s lane under k) below.2
 verdict_of_path (Filtered n a f) (Outer p) path meta s lane under k d h t = absurd (cc)
 verdict_of_path (Filtered n a f) (Inner p) path meta s lane under k d h t = absurd (cc)
 verdict_of_path (Over joint o i) Here path meta s lane under k d h t = absurd (cc)
@@ -270,14 +270,14 @@ module _ (e : Notice) (s : Store) (lane : ℕ) (v : RegistryState) where
 
 -- where the verdict is cut down to the path's filters, it is what they alone say
 cut_refuses : (f : Form) (place : Place) (path : Path) (cs : Conducts) (meta : Metadata) (s : Store) (lane : ℕ) (v : FilterMap) → AreDistinct f → path_at f place ≡ Some path → PathsAnswerAlike path (path_now cs)
-    → ((k : ℕ) → refuses v k ≡ in_verdict f meta s lane no_filter k) → (k : ℕ) → (numbers_in cs k && refuses v k) ≡ in_verdict (lone (path_now cs)) meta s lane no_filter k
+    → ((k : ℕ) → refuses v k ≡ in_verdict f meta s lane no_filter k) → (k : ℕ) → (numbers_in cs k && refuses v k) ≡ in_verdict (form_of_path (path_now cs)) meta s lane no_filter k
 cut_refuses f place path cs meta s lane v d at alike said k = by_number (numbers_in cs k) refl
   where
-    by_number : (b : Bool) → numbers_in cs k ≡ b → (b && refuses v k) ≡ in_verdict (lone (path_now cs)) meta s lane no_filter k
+    by_number : (b : Bool) → numbers_in cs k ≡ b → (b && refuses v k) ≡ in_verdict (form_of_path (path_now cs)) meta s lane no_filter k
     by_number true e =
-        let own : IsTrue (numbers_of (lone path) k) = (λ i. numbers_same path (path_now cs) alike i k) ∙ (λ i. lone_numbers cs i k) ∙ e in
+        let own : IsTrue (numbers_of (form_of_path path) k) = (λ i. numbers_same path (path_now cs) alike i k) ∙ (λ i. lone_numbers cs i k) ∙ e in
         said k ∙ verdict_of_path f place path meta s lane no_filter k d at own ∙ verdicts_same path (path_now cs) meta s lane no_filter k alike
-    by_number false e = sym (no_verdict (lone (path_now cs)) meta s lane no_filter k ((λ i. lone_numbers cs i k) ∙ e))
+    by_number false e = sym (no_verdict (form_of_path (path_now cs)) meta s lane no_filter k ((λ i. lone_numbers cs i k) ∙ e))
 
 -- stores that are the same, extensions aside, agree
 pub agree_same : (numbers : FilterSet) (s t : Store) → SameAside s t → AgreeAt numbers s t
@@ -285,10 +285,10 @@ agree_same numbers s t a = record { spans = λ x. subst (λ (m : Spans). PlacesA
 
 -- the verdict of a whole form, cut down to these filters, is what they alone say
 abbrev pub CutSays : Form → Conducts → Type 0
-CutSays f cs = (meta : Metadata) (s : Store) (lane : Lane) (v : FilterMap) → IsVerdict f meta s lane v → (k : ℕ) → (numbers_in cs k && refuses v k) ≡ in_verdict (lone (path_now cs)) meta s lane.0 no_filter k
+CutSays f cs = (meta : Metadata) (s : Store) (lane : Lane) (v : FilterMap) → IsVerdict f meta s lane v → (k : ℕ) → (numbers_in cs k && refuses v k) ≡ in_verdict (form_of_path (path_now cs)) meta s lane.0 no_filter k
 
 -- where a stack takes a step, so does a path of it alone, and the stores after these agree
-pub steps_alone : (f : Form) (cs : Conducts) → CutSays f cs → (o : Outcome) (s t : Store) → Steps f o s t → (u : Store) × Steps (lone (path_now cs)) o s u × AgreeAt (numbers_in cs) t u
+pub steps_alone : (f : Form) (cs : Conducts) → CutSays f cs → (o : Outcome) (s t : Store) → Steps f o s t → (u : Store) × Steps (form_of_path (path_now cs)) o s u × AgreeAt (numbers_in cs) t u
 steps_alone f cs cut_says (Noticed lane (OnNewSpan attrs id)) s t h =
     let numbers = numbers_in cs in
     let x = number_of id in
@@ -329,7 +329,7 @@ module _ {S : Type 0} (registry : S → RegistryState) {with_registry : S → Re
   -- what was made leaves, alone: a store that agrees, conducts as they are learnt from it, and what is told in the store that it is given in
   abbrev LeavesAlone : (place : Place) (cs : Conducts) (o : Outcome) (s t : Store) (y : S) → Type 0
   LeavesAlone place cs o s t y =
-      (u : Store) × Steps (lone (path_now cs)) o s u × AgreeAt (numbers_in cs) (registry y).store u × (ds : Conducts) × acts_at y place ds × PathsActAlike ds (acting cs o s u) × (passed (Some (path_now cs)) o s t ≡ passed (Some (path_now cs)) o s u)
+      (u : Store) × Steps (form_of_path (path_now cs)) o s u × AgreeAt (numbers_in cs) (registry y).store u × (ds : Conducts) × acts_at y place ds × PathsActAlike ds (acting cs o s u) × (passed (Some (path_now cs)) o s t ≡ passed (Some (path_now cs)) o s u)
 
   leaves_alone : (f : Form) (o : Outcome) (s t : Store) (x y : S) (place : Place) (cs : Conducts) → has_form x f → AreDistinct f → acts_at x place cs → Steps f o s t → SameAside t (registry y).store → LayersGo registry with_registry has_form stepped levelled f o s t x y
       → LeavesAlone place cs o s t y
@@ -368,7 +368,7 @@ module _ {S : Type 0} (registry : S → RegistryState) {with_registry : S → Re
       (t, steps, agree_sym numbers t (registry y).store (agree_same numbers t (registry y).store aside), setting n l cs, later, paths_itself (setting n l cs) (paths.plain y place (setting n l cs) later), refl)
 
   -- on the stack's own store
-  sees_own : (x : S) (ms : List Made) (y : S) (place : Place) (cs : Conducts) → FoldsTo (Makes registry with_registry has_form stepped levelled) x ms y → acts_at x place cs → Alone cs (registry x).store (map outcome_of ms) (seen place ms)
+  sees_own : (x : S) (ms : List OutcomeAt) (y : S) (place : Place) (cs : Conducts) → FoldsTo (Makes registry with_registry has_form stepped levelled) x ms y → acts_at x place cs → Alone cs (registry x).store (map outcome_of ms) (seen place ms)
   sees_own x [] y place cs h acts = refl
   sees_own x (m ∷ ms) y place cs h acts =
       let made = h.1 in
@@ -388,7 +388,7 @@ module _ {S : Type 0} (registry : S → RegistryState) {with_registry : S → Re
       )
 
   -- what a leaf sees of what was made, it sees alone on any store that agrees
-  pub sees_alone : (x : S) (made : List Made) (y : S) → FoldsTo (Makes registry with_registry has_form stepped levelled) x made y → EachSeesAlone registry acts_at x made
+  pub sees_alone : (x : S) (made : List OutcomeAt) (y : S) → FoldsTo (Makes registry with_registry has_form stepped levelled) x made y → EachSeesAlone registry acts_at x made
   sees_alone x made y h place cs s acts agree = alone_over cs cs (registry x).store s (map outcome_of made) (seen place made) (paths_itself cs (paths.plain x place cs acts)) agree (sees_own x made y place cs h acts)
 
   -- so whatever is seen in a stack is seen alone
@@ -401,5 +401,5 @@ module _ {S : Type 0} (registry : S → RegistryState) {with_registry : S → Re
 module _ {S : Type 0} (registry : S → RegistryState) {with_registry : S → RegistryState → S} {usable : S → Type 0} {has_form : S → Form → Type 0} {stepped : StackSteps S} {levelled : LevelSteps S} {hears : HearSteps S} {registered : S → S → Type 0} {acts_at : ActsAt S}
     (laws : StackLaws with_registry usable has_form stepped hears registered) (paths : StackPathLaws with_registry has_form stepped registered acts_at) (levels : LevelLaws has_form levelled hears acts_at) where
   -- each leaf goes through what it sees of what was made, and sees it alone
-  pub sees_what_is_made : {x y : S} (made : List Made) → FoldsTo (Makes registry with_registry has_form stepped levelled) x made y → Sees registry hears acts_at x made y
+  pub sees_what_is_made : {x y : S} (made : List OutcomeAt) → FoldsTo (Makes registry with_registry has_form stepped levelled) x made y → Sees registry hears acts_at x made y
   sees_what_is_made {x} {y} made folds = record { each = λ place. goes_through registry laws levels x made y place folds; alone = sees_alone registry paths levels x made y folds }

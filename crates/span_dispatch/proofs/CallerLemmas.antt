@@ -12,11 +12,11 @@ use Rattle.span_core.specs.declared.span.Id.{Id}
 use Rattle.span_core.specs.declared.span.Lane.{Lane}
 use Rattle.span_core.specs.declared.span.Record.{Record}
 use Rattle.span_dispatch.specs.Admission.{IsDropped, IsUnknown, LearnsOfSpan, learned}
-use Rattle.span_dispatch.specs.Cache.{IsUpToDate, Memory, forgotten}
+use Rattle.span_dispatch.specs.Cache.{IsUpToDate, KeptCallsites, forgotten}
 use Rattle.span_dispatch.specs.Call.{OpenSpan, RecordValues, SendEvent, vetoes_whole}
-use Rattle.span_dispatch.specs.Outcome.{Made, Makes, Noticed}
+use Rattle.span_dispatch.specs.Outcome.{OutcomeAt, Makes, Noticed}
 use Rattle.span_dispatch.specs.Alone.{passed, seen}
-use Rattle.span_dispatch.specs.Recorder.{Kept, Records, kept_notice, recorder_steps}
+use Rattle.span_dispatch.specs.Recorder.{RecorderState, Records, kept_notice, recorder_steps}
 use Rattle.span_dispatch.specs.RecorderLaws.{records_more, records_nothing}
 use Rattle.span_dispatch.specs.Serve.{IsReady, KeepsUpToDate, RunExactly, Serves, ServesRequest, call_of, forgetful, resolved, resolved_parent, with_stack}
 use Rattle.span_layers.specs.Layer.{HearsBy}
@@ -40,7 +40,7 @@ use Rattle.span_registry.specs.Step.{RefusesNew}
 use Rattle.span_registry.specs.Store.{RegistryState}
 
 -- of two lists in a row a leaf sees what it sees of each
-pub seen_append : (place : Place) (ms ns : List Made) → seen place (ms ++ ns) ≡ seen place ms ++ seen place ns
+pub seen_append : (place : Place) (ms ns : List OutcomeAt) → seen place (ms ++ ns) ≡ seen place ms ++ seen place ns
 seen_append place [] ns = refl
 seen_append place (m ∷ ms) ns = ap (λ h. passed (path_at m.form place) m.outcome m.before m.after ++ h) (seen_append place ms ns) ∙ sym (append_assoc (passed (path_at m.form place) m.outcome m.before m.after) (seen place ms) (seen place ns))
 
@@ -71,8 +71,8 @@ record_asked past lane l w values id r e = by_span (resolved past w) e
 
 module _ {S : Type 0} (registry : S → RegistryState) (with_registry : S → RegistryState → S) (has_form : S → Form → Type 0) (stepped : StackSteps S) (levelled : LevelSteps S) where
   -- a list that begins with a request: it has an answer, and the rest was served behind that
-  pub next_served : (past : List Answer) (r : Request) (rs : List Request) (answers : List Answer) (made : List (List Made)) (memory : Memory) (x : S) (after : Memory) (y : S) (G : List Answer → List (List Made) → Type 0)
-      → ((a : Answer) (rest : List Answer) (ms : List Made) (more : List (List Made)) (between : Memory) (z : S) → ServesRequest registry with_registry has_form stepped levelled past r memory x a ms between z
+  pub next_served : (past : List Answer) (r : Request) (rs : List Request) (answers : List Answer) (made : List (List OutcomeAt)) (memory : KeptCallsites) (x : S) (after : KeptCallsites) (y : S) (G : List Answer → List (List OutcomeAt) → Type 0)
+      → ((a : Answer) (rest : List Answer) (ms : List OutcomeAt) (more : List (List OutcomeAt)) (between : KeptCallsites) (z : S) → ServesRequest registry with_registry has_form stepped levelled past r memory x a ms between z
       → RunExactly registry with_registry has_form stepped levelled (past ++ (a ∷ [])) rs rest more between z after y → G (a ∷ rest) (ms ∷ more))
       → RunExactly registry with_registry has_form stepped levelled past (r ∷ rs) answers made memory x after y → G answers made
   next_served past r rs [] made memory x after y G k h = absurd h
@@ -80,7 +80,7 @@ module _ {S : Type 0} (registry : S → RegistryState) (with_registry : S → Re
   next_served past r rs (a ∷ rest) (ms ∷ more) memory x after y G k h = k a rest ms more h.0 h.1 h.2 h.3
 
   -- an empty list has no answer, and nothing was made of it
-  pub none_served : (past : List Answer) (answers : List Answer) (made : List (List Made)) (memory : Memory) (x : S) (after : Memory) (y : S) (G : List Answer → List (List Made) → Type 0) → G [] [] → RunExactly registry with_registry has_form stepped levelled past [] answers made memory x after y → G answers made
+  pub none_served : (past : List Answer) (answers : List Answer) (made : List (List OutcomeAt)) (memory : KeptCallsites) (x : S) (after : KeptCallsites) (y : S) (G : List Answer → List (List OutcomeAt) → Type 0) → G [] [] → RunExactly registry with_registry has_form stepped levelled past [] answers made memory x after y → G answers made
   none_served past [] [] memory x after y G k h = k
   none_served past [] (m ∷ made) memory x after y G k h = absurd h
   none_served past (a ∷ answers) made memory x after y G k h = absurd h
@@ -89,21 +89,21 @@ module _ {S : Type 0} (registry : S → RegistryState) (with_registry : S → Re
 
   -- this is shown of a request, where that was answered so, all this was made of it, and then this is kept, from here
   abbrev pub Goal : Type 1
-  Goal = Answer → List Made → Memory → S → Type 0
+  Goal = Answer → List OutcomeAt → KeptCallsites → S → Type 0
 
-  abbrev pub MadeSpan : List Answer → Request → Lane → Memory → S → Goal → Type 0
-  MadeSpan past r lane memory x G = (id : Id) (attrs : Attributes) (f : Form) (one : Made) (after : Memory) (z : S) → call_of past r ≡ Some (OpenSpan lane attrs) → after ≡ learned memory f (metadata_of attrs)
+  abbrev pub MadeSpan : List Answer → Request → Lane → KeptCallsites → S → Goal → Type 0
+  MadeSpan past r lane memory x G = (id : Id) (attrs : Attributes) (f : Form) (one : OutcomeAt) (after : KeptCallsites) (z : S) → call_of past r ≡ Some (OpenSpan lane attrs) → after ≡ learned memory f (metadata_of attrs)
       → one.outcome ≡ Noticed lane (OnNewSpan attrs id) → Makes registry with_registry has_form stepped levelled x one z → G (answer.Made id) (one ∷ []) after z
 
-  abbrev pub DroppedSpan : List Answer → Request → Lane → Memory → S → Goal → Type 0
-  DroppedSpan past r lane memory x G = (attrs : Attributes) (f : Form) (after : Memory) → call_of past r ≡ Some (OpenSpan lane attrs) → IsReady registry with_registry has_form stepped levelled f x
+  abbrev pub DroppedSpan : List Answer → Request → Lane → KeptCallsites → S → Goal → Type 0
+  DroppedSpan past r lane memory x G = (attrs : Attributes) (f : Form) (after : KeptCallsites) → call_of past r ≡ Some (OpenSpan lane attrs) → IsReady registry with_registry has_form stepped levelled f x
       → IsDropped memory f (registry x) lane (metadata_of attrs) (vetoes f (metadata_of attrs) (registry x).store lane.0) → after ≡ learned memory f (metadata_of attrs) → G answer.Dropped [] after x
 
-  abbrev pub RefusedSpan : List Answer → Request → Lane → Memory → S → Goal → Type 0
-  RefusedSpan past r lane memory x G = (attrs : Attributes) (e : TraceError) (f : Form) (after : Memory) → call_of past r ≡ Some (OpenSpan lane attrs) → IsUnknown memory f (metadata_of attrs) e ⊎ RefusesNew (registry x) lane (asked_parent attrs) e
+  abbrev pub RefusedSpan : List Answer → Request → Lane → KeptCallsites → S → Goal → Type 0
+  RefusedSpan past r lane memory x G = (attrs : Attributes) (e : TraceError) (f : Form) (after : KeptCallsites) → call_of past r ≡ Some (OpenSpan lane attrs) → IsUnknown memory f (metadata_of attrs) e ⊎ RefusesNew (registry x) lane (asked_parent attrs) e
       → LearnsOfSpan memory f (metadata_of attrs) (answer.Refused e) after → G (answer.Refused e) [] after x
 
-  opened : (past : List Answer) (r : Request) (lane : Lane) (attrs : Attributes) (f : Form) (memory : Memory) (x : S) (a : Answer) (made : List Made) (after : Memory) (y : S) (G : Goal) → MadeSpan past r lane memory x G → DroppedSpan past r lane memory x G
+  opened : (past : List Answer) (r : Request) (lane : Lane) (attrs : Attributes) (f : Form) (memory : KeptCallsites) (x : S) (a : Answer) (made : List OutcomeAt) (after : KeptCallsites) (y : S) (G : Goal) → MadeSpan past r lane memory x G → DroppedSpan past r lane memory x G
       → RefusedSpan past r lane memory x G → call_of past r ≡ Some (OpenSpan lane attrs) → IsReady registry with_registry has_form stepped levelled f x → Serves registry with_registry has_form stepped levelled (OpenSpan lane attrs) f memory x a made after y → G a made after y
   opened past r lane attrs f memory x (answer.Made id) [] after y G new dropped refused asks ready s = let e = s.told.says in absurd (cc)
   opened past r lane attrs f memory x (answer.Made id) (one ∷ []) after y G new dropped refused asks ready s =
@@ -124,7 +124,7 @@ module _ {S : Type 0} (registry : S → RegistryState) (with_registry : S → Re
   opened past r lane attrs f memory x (answer.Yes b) made after y G new dropped refused asks ready s = absurd s.exact.answers
   opened past r lane attrs f memory x (answer.Current o) made after y G new dropped refused asks ready s = absurd s.exact.answers
 
-  pub span_served : (past : List Answer) (lane : Lane) (m : Metadata) (p : WhichParent) (values : _) (memory : Memory) (x : S) (a : Answer) (made : List Made) (after : Memory) (y : S) (G : Goal)
+  pub span_served : (past : List Answer) (lane : Lane) (m : Metadata) (p : WhichParent) (values : _) (memory : KeptCallsites) (x : S) (a : Answer) (made : List OutcomeAt) (after : KeptCallsites) (y : S) (G : Goal)
       → MadeSpan past (request.NewSpan lane m p values) lane memory x G → DroppedSpan past (request.NewSpan lane m p values) lane memory x G → RefusedSpan past (request.NewSpan lane m p values) lane memory x G
       → ServesRequest registry with_registry has_form stepped levelled past (request.NewSpan lane m p values) memory x a made after y → G a made after y
   span_served past lane m p values memory x a made after y G new dropped refused h =
@@ -132,19 +132,19 @@ module _ {S : Type 0} (registry : S → RegistryState) (with_registry : S → Re
 
   -- ---- a request for an event: its notice alone came of it; or it was dropped, or refused, and nothing came of it
 
-  abbrev pub MadeEvent : List Answer → Request → Lane → Memory → S → Goal → Type 0
-  MadeEvent past r lane memory x G = (e : Event) (f : Form) (one : Made) (after : Memory) (z : S) → call_of past r ≡ Some (SendEvent lane e) → after ≡ learned memory f (event_metadata e) → one.outcome ≡ Noticed lane (OnEvent e)
+  abbrev pub MadeEvent : List Answer → Request → Lane → KeptCallsites → S → Goal → Type 0
+  MadeEvent past r lane memory x G = (e : Event) (f : Form) (one : OutcomeAt) (after : KeptCallsites) (z : S) → call_of past r ≡ Some (SendEvent lane e) → after ≡ learned memory f (event_metadata e) → one.outcome ≡ Noticed lane (OnEvent e)
       → Makes registry with_registry has_form stepped levelled x one z → G answer.Done (one ∷ []) after z
 
-  abbrev pub DroppedEvent : List Answer → Request → Lane → Memory → S → Goal → Type 0
-  DroppedEvent past r lane memory x G = (e : Event) (f : Form) (after : Memory) → call_of past r ≡ Some (SendEvent lane e) → IsReady registry with_registry has_form stepped levelled f x
+  abbrev pub DroppedEvent : List Answer → Request → Lane → KeptCallsites → S → Goal → Type 0
+  DroppedEvent past r lane memory x G = (e : Event) (f : Form) (after : KeptCallsites) → call_of past r ≡ Some (SendEvent lane e) → IsReady registry with_registry has_form stepped levelled f x
       → IsDropped memory f (registry x) lane (event_metadata e) (vetoes_whole f e (registry x).store lane) → after ≡ learned memory f (event_metadata e) → G answer.Dropped [] after x
 
-  abbrev pub RefusedEvent : List Answer → Request → Lane → Memory → S → Goal → Type 0
-  RefusedEvent past r lane memory x G = (e : Event) (error : TraceError) (f : Form) (after : Memory) → call_of past r ≡ Some (SendEvent lane e) → IsUnknown memory f (event_metadata e) error → after ≡ memory
+  abbrev pub RefusedEvent : List Answer → Request → Lane → KeptCallsites → S → Goal → Type 0
+  RefusedEvent past r lane memory x G = (e : Event) (error : TraceError) (f : Form) (after : KeptCallsites) → call_of past r ≡ Some (SendEvent lane e) → IsUnknown memory f (event_metadata e) error → after ≡ memory
       → G (answer.Refused error) [] after x
 
-  sent : (past : List Answer) (r : Request) (lane : Lane) (event : Event) (f : Form) (memory : Memory) (x : S) (a : Answer) (made : List Made) (after : Memory) (y : S) (G : Goal) → MadeEvent past r lane memory x G → DroppedEvent past r lane memory x G
+  sent : (past : List Answer) (r : Request) (lane : Lane) (event : Event) (f : Form) (memory : KeptCallsites) (x : S) (a : Answer) (made : List OutcomeAt) (after : KeptCallsites) (y : S) (G : Goal) → MadeEvent past r lane memory x G → DroppedEvent past r lane memory x G
       → RefusedEvent past r lane memory x G → call_of past r ≡ Some (SendEvent lane event) → IsReady registry with_registry has_form stepped levelled f x → Serves registry with_registry has_form stepped levelled (SendEvent lane event) f memory x a made after y → G a made after y
   sent past r lane event f memory x answer.Done [] after y G new dropped refused asks ready s = let e = s.told.says in absurd (cc)
   sent past r lane event f memory x answer.Done (one ∷ []) after y G new dropped refused asks ready s =
@@ -161,7 +161,7 @@ module _ {S : Type 0} (registry : S → RegistryState) (with_registry : S → Re
   sent past r lane event f memory x (answer.Yes b) made after y G new dropped refused asks ready s = absurd s.exact.answers
   sent past r lane event f memory x (answer.Current o) made after y G new dropped refused asks ready s = absurd s.exact.answers
 
-  pub event_served : (past : List Answer) (lane : Lane) (m : Metadata) (p : WhichParent) (values : _) (memory : Memory) (x : S) (a : Answer) (made : List Made) (after : Memory) (y : S) (G : Goal)
+  pub event_served : (past : List Answer) (lane : Lane) (m : Metadata) (p : WhichParent) (values : _) (memory : KeptCallsites) (x : S) (a : Answer) (made : List OutcomeAt) (after : KeptCallsites) (y : S) (G : Goal)
       → MadeEvent past (request.Event lane m p values) lane memory x G → DroppedEvent past (request.Event lane m p values) lane memory x G → RefusedEvent past (request.Event lane m p values) lane memory x G
       → ServesRequest registry with_registry has_form stepped levelled past (request.Event lane m p values) memory x a made after y → G a made after y
   event_served past lane m p values memory x a made after y G new dropped refused h =
@@ -180,7 +180,7 @@ pub known_unkept : (f : Form) (m : Metadata) (e : TraceError) → IsUnknown None
 known_unkept f m e h = h.refused
 
 -- and nothing is kept afterwards
-pub unkept_still : (f : Form) (m : Metadata) (e : TraceError) (after : Memory) → LearnsOfSpan None f m (answer.Refused e) after → after ≡ None
+pub unkept_still : (f : Form) (m : Metadata) (e : TraceError) (after : KeptCallsites) → LearnsOfSpan None f m (answer.Refused e) after → after ≡ None
 unkept_still f m e after (inl h) = h.1
 unkept_still f m e after (inr h) = h
 
@@ -194,6 +194,6 @@ forgotten_is_current f n d x = by_cache d.cache
     by_cache (cache.Filled k) = tt
 
 -- a recorder keeps of what it heard what `kept_notice` says
-pub heard_records : (h : Heard) (x y : Kept) → HearsBy recorder_steps x Here h y → Records x y (map kept_notice h)
-heard_records [] x y a = subst (λ (z : Kept). Records x z []) a (records_nothing x)
+pub heard_records : (h : Heard) (x y : RecorderState) → HearsBy recorder_steps x Here h y → Records x y (map kept_notice h)
+heard_records [] x y a = subst (λ (z : RecorderState). Records x z []) a (records_nothing x)
 heard_records (one ∷ h) x y a = records_more x a.0 y (kept_notice one ∷ []) (map kept_notice h) a.1.step.1 (heard_records h a.0 y a.2)

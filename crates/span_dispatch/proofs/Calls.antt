@@ -17,9 +17,9 @@ use Rattle.span_core.specs.declared.span.Lane.{Lane}
 use Rattle.span_core.specs.declared.span.Record.{Record}
 use Rattle.span_dispatch.proofs.Goes.{Done, StepsTo, StillReady, aside_further, aside_state, by_call, by_change, by_none, changed, filters_same, honest_after, honest_quietly, its_own, keeps_again, same_aside, settled_aside}
 use Rattle.span_dispatch.specs.Admission.{Decides, IsAdmitted, IsDropped}
-use Rattle.span_dispatch.specs.Cache.{Memory}
+use Rattle.span_dispatch.specs.Cache.{KeptCallsites}
 use Rattle.span_dispatch.specs.Call.{AddHandle, AskCurrent, Call, DropHandle, Enter, Exit, Follow, HasRoomFor, OpenSpan, Probe, RecordValues, SendEvent, closes_of, current_answer, done_answer, vetoes_whole, yes_answer}
-use Rattle.span_dispatch.specs.Outcome.{GoneLeft, HandleAdded, HandleTaken, IsHonest, IsVerdict, Ends, Made, Makes, Noticed, Notices, Outcome, Quiet, SameAside, Steps, given_in, with_new}
+use Rattle.span_dispatch.specs.Outcome.{GoneLeft, HandleAdded, HandleTaken, IsHonest, IsVerdict, Ends, OutcomeAt, Makes, Noticed, Notices, Outcome, Quiet, SameAside, Steps, given_in, with_new}
 use Rattle.span_core.specs.declared.filter.FilterMap.{FilterMap}
 use Rattle.span_dispatch.specs.Serve.{AnswersExactly, ClosesEach, IsReady, outcome_of}
 use Rattle.span_dispatch.specs.declared.request.Answer.TheVariants as answer
@@ -125,7 +125,7 @@ module _ {S : Type 0} {registry : S → RegistryState} {with_registry : S → Re
   pub current_so : (lane : Lane) (c : Current) (f : Form) (x : S) → Honest f x → Done laws with_own levelled (AskCurrent lane) (current_answer c) f x x
   current_so lane c f x h = by_none laws with_own levelled (AskCurrent lane) (current_answer c) f x x h refl refl (λ d. absurd (cc))
 
-  pub current_exact : (lane : Lane) (c : Current) (f : Form) (memory : Memory) (s : RegistryState) → ShowsCurrent s.store lane c → AnswersExactly (AskCurrent lane) f memory s (current_answer c) memory
+  pub current_exact : (lane : Lane) (c : Current) (f : Form) (memory : KeptCallsites) (s : RegistryState) → ShowsCurrent s.store lane c → AnswersExactly (AskCurrent lane) f memory s (current_answer c) memory
   current_exact lane c f memory s shown = record { answers = current_number s.store lane.0 (current_span c) shown.span; keeps = refl }
 
   -- where all were asked and answered true, no leaf vetoes
@@ -136,7 +136,7 @@ module _ {S : Type 0} {registry : S → RegistryState} {with_registry : S → Re
   probed lane m (Ok said) f x h = by_none laws with_own levelled (Probe lane m) (answer.Yes said) f x x h refl refl (λ d. absurd (cc))
   probed lane m (Err e) f x h = by_none laws with_own levelled (Probe lane m) (answer.Refused e) f x x h refl refl (λ d. absurd (cc))
 
-  pub probed_exactly : (lane : Lane) (m : Metadata) (pass : Pass) (said : Result Bool TraceError) (f : Form) (memory after : Memory) (s : RegistryState) → IsOrderly f → IsAdmitted memory f s lane m pass after said → AnswersExactly (Probe lane m) f memory s (yes_answer said) after
+  pub probed_exactly : (lane : Lane) (m : Metadata) (pass : Pass) (said : Result Bool TraceError) (f : Form) (memory after : KeptCallsites) (s : RegistryState) → IsOrderly f → IsAdmitted memory f s lane m pass after said → AnswersExactly (Probe lane m) f memory s (yes_answer said) after
   probed_exactly lane m pass (Ok true) f memory after s orderly a = record { answers = (a.0, unvetoed f m s.store lane pass orderly a.1); keeps = a.2 }
   probed_exactly lane m pass (Ok false) f memory after s orderly a = record { answers = a.0; keeps = a.1 }
   probed_exactly lane m pass (Err e) f memory after s orderly a = record { answers = a.0; keeps = a.1 }
@@ -144,7 +144,7 @@ module _ {S : Type 0} {registry : S → RegistryState} {with_registry : S → Re
   -- ---- new spans
 
   -- this was said of the metadata
-  by_metadata : (f : Form) (s : RegistryState) (lane : Lane) (m meta : Metadata) (pass : Pass) (memory after : Memory) (said : Result Bool TraceError) → m ≡ meta → IsAdmitted memory f s lane m pass after said → IsAdmitted memory f s lane meta pass after said
+  by_metadata : (f : Form) (s : RegistryState) (lane : Lane) (m meta : Metadata) (pass : Pass) (memory after : KeptCallsites) (said : Result Bool TraceError) → m ≡ meta → IsAdmitted memory f s lane m pass after said → IsAdmitted memory f s lane meta pass after said
   by_metadata f s lane m meta pass memory after said same a = subst (λ n. IsAdmitted memory f s lane n pass after said) same a
 
   decided : (f : Form) (s : Store) (lane : Lane) (m meta : Metadata) (pass : Pass) (said : Result Bool TraceError) → m ≡ meta → Decides f s lane m pass said → Decides f s lane meta pass said
@@ -168,7 +168,7 @@ module _ {S : Type 0} {registry : S → RegistryState} {with_registry : S → Re
       n plan (opens_to f lane attrs id (registry x) n.left (refused_of pass) (λ k. ap (λ (r : FilterSet). r k) (sym refused) ∙ law.verdict k) n.taken)
 
   -- and exactly so
-  module _ (f : Form) (memory after : Memory) (s : RegistryState) (lane : Lane) (attrs : Attributes) (m : Metadata) (pass : Pass) (same : m ≡ metadata_of attrs) (orderly : IsOrderly f) where
+  module _ (f : Form) (memory after : KeptCallsites) (s : RegistryState) (lane : Lane) (attrs : Attributes) (m : Metadata) (pass : Pass) (same : m ≡ metadata_of attrs) (orderly : IsOrderly f) where
     pub dropped_exactly : IsAdmitted memory f s lane m pass after (Ok false) → AnswersExactly (OpenSpan lane attrs) f memory s answer.Dropped after
     dropped_exactly a = let d = by_metadata f s lane m (metadata_of attrs) pass memory after (Ok false) same a in record { answers = d.0; keeps = d.1 }
 
@@ -213,7 +213,7 @@ module _ {S : Type 0} {registry : S → RegistryState} {with_registry : S → Re
       by_call laws with_own levelled (SendEvent lane e) answer.Done f lane (OnEvent e) (refusals second) _ x y h refl (λ d. absurd (cc)) n plan (stays_to f lane (OnEvent e) (registry x) n.left refl refl (λ r. refl) n.taken)
 
   -- and exactly so
-  module _ (f : Form) (memory after : Memory) (x : S) (lane : Lane) (e : Event) (m : Metadata) (first : Pass) (same : m ≡ event_metadata e) (h : Honest f x) where
+  module _ (f : Form) (memory after : KeptCallsites) (x : S) (lane : Lane) (e : Event) (m : Metadata) (first : Pass) (same : m ≡ event_metadata e) (h : Honest f x) where
     pub event_dropped_exactly : IsAdmitted memory f (registry x) lane m first after (Ok false) → AnswersExactly (SendEvent lane e) f memory (registry x) answer.Dropped after
     event_dropped_exactly a = let d = by_metadata f (registry x) lane m (event_metadata e) first memory after (Ok false) same a in record { answers = dropped_whole d.0; keeps = d.1 }
       where
@@ -248,7 +248,7 @@ module _ {S : Type 0} {registry : S → RegistryState} {with_registry : S → Re
       n (kept_plan f (OnEnter id) x lane _ (ap (λ (t : RegistryState). t.store.spans) n.taken.state) (others_afresh f (OnEnter id) (registry x).store lane.0 no_filter no_filter)) (enters_to f lane id (registry x) n.left n.taken)
   entered_so lane id (Err error) f x y n r e h = by_none laws with_own levelled (Enter lane id) (answer.Refused error) f x y h e refl (λ d. absurd (cc))
 
-  pub enter_exactly : {A : Type 0} (lane : Lane) (id : Id) (r : Result A TraceError) (f : Form) (memory : Memory) (s : RegistryState) → IfErr r (RefusesEnter s id) → AnswersExactly (Enter lane id) f memory s (done_answer r) memory
+  pub enter_exactly : {A : Type 0} (lane : Lane) (id : Id) (r : Result A TraceError) (f : Form) (memory : KeptCallsites) (s : RegistryState) → IfErr r (RefusesEnter s id) → AnswersExactly (Enter lane id) f memory s (done_answer r) memory
   enter_exactly lane id (Ok u) f memory s r = record { answers = tt; keeps = refl }
   enter_exactly lane id (Err e) f memory s r = record { answers = r; keeps = refl }
 
@@ -285,7 +285,7 @@ module _ {S : Type 0} {registry : S → RegistryState} {with_registry : S → Re
       (record (registry x).store { spans = add_handle (registry x).store.spans (number_of id) }) (n.is_open, refl) n.state rest (filters_same n.state) (settled_cloned id (registry x) (registry y) n)
   cloned_so lane id (Err error) f x y n rest r e h = by_none laws with_own levelled (AddHandle lane id) (answer.Refused error) f x y h e refl (λ d. absurd (cc))
 
-  pub clone_exactly : (lane : Lane) (id : Id) (r : Result Id TraceError) (f : Form) (memory : Memory) (s : RegistryState) → IfOk r (λ other. handles_of s.store.spans (number_of id) < s.limits.count) → IfErr r (RefusesClone s id) → AnswersExactly (AddHandle lane id) f memory s (done_answer r) memory
+  pub clone_exactly : (lane : Lane) (id : Id) (r : Result Id TraceError) (f : Form) (memory : KeptCallsites) (s : RegistryState) → IfOk r (λ other. handles_of s.store.spans (number_of id) < s.limits.count) → IfErr r (RefusesClone s id) → AnswersExactly (AddHandle lane id) f memory s (done_answer r) memory
   clone_exactly lane id (Ok other) f memory s room r = record { answers = room; keeps = refl }
   clone_exactly lane id (Err e) f memory s room r = record { answers = r; keeps = refl }
 
@@ -306,7 +306,7 @@ module _ {S : Type 0} {registry : S → RegistryState} {with_registry : S → Re
   closed_so registry_with lane id a f x y w r same forest k h =
       let z = with_registry x w in
       let t : Store = record (registry x).store { spans = take_handle (registry x).store.spans (number_of id) } in
-      let m : Made = record { form = f; before = (registry x).store; after = t; outcome = Quiet (HandleTaken id) } in
+      let m : OutcomeAt = record { form = f; before = (registry x).store; after = t; outcome = Quiet (HandleTaken id) } in
       let rest = its_own laws with_own levelled registry_with x w in
       let after = honest_quietly laws with_own levelled f x z h.honest rest (filters_same (registry_with x w ∙ r.state)) in
       let notices = k.notices after.0 after.1 in
@@ -328,7 +328,7 @@ module _ {S : Type 0} {registry : S → RegistryState} {with_registry : S → Re
   -- so far these spans have closed, and this one is closing now
   pub record SoFar (lane : Lane) (id : Id) (x : S) (xs : List ℕ) (next : Option Id) (y : S) : Type 0 where
     pub removal : Removal SameButExtensions (registry x) id xs next (registry y)
-    pub notices : (f : Form) → IsHonest registry with_registry has_form stepped levelled f x → (made : List Made) × FoldsTo (Makes registry with_registry has_form stepped levelled) x made y × (map outcome_of made ≡ closes_of lane xs) × ((g : Form) × IsHonest registry with_registry has_form stepped levelled g y × Keeps f g × ((registry y).filters ≡ (registry x).filters))
+    pub notices : (f : Form) → IsHonest registry with_registry has_form stepped levelled f x → (made : List OutcomeAt) × FoldsTo (Makes registry with_registry has_form stepped levelled) x made y × (map outcome_of made ≡ closes_of lane xs) × ((g : Form) × IsHonest registry with_registry has_form stepped levelled g y × Keeps f g × ((registry y).filters ≡ (registry x).filters))
 
   pub nothing_yet : (lane : Lane) (id : Id) (x : S) → SoFar lane id x [] (Some id) x
   nothing_yet lane id x = record { removal = Begun; notices = λ f h. ([], refl, refl, (f, h, kept_form f, refl)) }
@@ -337,11 +337,11 @@ module _ {S : Type 0} {registry : S → RegistryState} {with_registry : S → Re
   closes_more lane [] x = refl
   closes_more lane (y ∷ ys) x = ap (λ (os : List Outcome). Noticed lane (OnClose (id_of y)) ∷ os) (closes_more lane ys x)
 
-  outcomes_more : (ms : List Made) (m : Made) → map outcome_of (ms ++ (m ∷ [])) ≡ map outcome_of ms ++ (m.outcome ∷ [])
+  outcomes_more : (ms : List OutcomeAt) (m : OutcomeAt) → map outcome_of (ms ++ (m ∷ [])) ≡ map outcome_of ms ++ (m.outcome ∷ [])
   outcomes_more [] m = refl
   outcomes_more (n ∷ ms) m = ap (λ (os : List Outcome). n.outcome ∷ os) (outcomes_more ms m)
 
-  folds_more : (x : S) (ms : List Made) (y : S) (m : Made) (z : S) → FoldsTo (Makes registry with_registry has_form stepped levelled) x ms y → Makes registry with_registry has_form stepped levelled y m z → FoldsTo (Makes registry with_registry has_form stepped levelled) x (ms ++ (m ∷ [])) z
+  folds_more : (x : S) (ms : List OutcomeAt) (y : S) (m : OutcomeAt) (z : S) → FoldsTo (Makes registry with_registry has_form stepped levelled) x ms y → Makes registry with_registry has_form stepped levelled y m z → FoldsTo (Makes registry with_registry has_form stepped levelled) x (ms ++ (m ∷ [])) z
   folds_more x [] y m z p q = (z, subst (λ w. Makes registry with_registry has_form stepped levelled w m z) (sym p) q, refl)
   folds_more x (n ∷ ms) y m z p q = (p.0, p.1, folds_more p.0 ms y m z p.2 q)
 
@@ -380,7 +380,7 @@ module _ {S : Type 0} {registry : S → RegistryState} {with_registry : S → Re
               issued = ap (λ (v : Store). v.issued) removes.taken.store ∙ aside.issued;
               stacks = ap (λ (v : Store). v.stacks) removes.taken.store ∙ aside.stacks;
             } in
-            let m : Made = record { form = g; before = (registry y).store; after = t; outcome = Noticed lane (OnClose span) } in (
+            let m : OutcomeAt = record { form = g; before = (registry y).store; after = t; outcome = Noticed lane (OnClose span) } in (
               before.0 ++ (m ∷ []),
               folds_more x before.0 y m u before.1 (record { honest = before.3.1; before = refl; steps = (closing, refl); after = gone; layers = notice }),
               outcomes_more before.0 m ∙ ap (λ os. os ++ (m.outcome ∷ [])) before.2 ∙ sym (closes_more lane xs (number_of span)),

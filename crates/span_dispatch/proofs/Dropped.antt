@@ -5,8 +5,8 @@ use Rattle.std.specs.List.{FoldsTo}
 use Rattle.span_core.specs.Event.{event_metadata}
 use Rattle.span_core.specs.declared.event.Event.{Event}
 use Rattle.span_core.specs.declared.span.Lane.{Lane}
-use Rattle.span_dispatch.specs.Cache.{Memory}
-use Rattle.span_dispatch.specs.Outcome.{LevelSet, Made, Makes, Noticed, Outcome, Quiet, Steps}
+use Rattle.span_dispatch.specs.Cache.{KeptCallsites}
+use Rattle.span_dispatch.specs.Outcome.{LevelSet, OutcomeAt, Makes, Noticed, Outcome, Quiet, Steps}
 use Rattle.span_dispatch.specs.Serve.{AreReadableCloses, IsReadableClose}
 use Rattle.span_dispatch.specs.declared.request.Answer.TheVariants as answer
 use Rattle.span_dispatch.specs.declared.request.Answer.{Answer}
@@ -32,6 +32,6 @@ module _ {S : Type 0} (registry : S → RegistryState) (with_registry : S → Re
   readable_one (Noticed lane (OnClose id)) f s t h = h.0
 
   -- each close is given while its span can be read, and no child of it is left
-  pub readable_closes : (x : S) (made : List Made) (y : S) → FoldsTo (Makes registry with_registry has_form stepped levelled) x made y → AreReadableCloses made
+  pub readable_closes : (x : S) (made : List OutcomeAt) (y : S) → FoldsTo (Makes registry with_registry has_form stepped levelled) x made y → AreReadableCloses made
   readable_closes x [] y h = tt
   readable_closes x (m ∷ ms) y h = (readable_one m.outcome m.form m.before m.after h.1.steps, readable_closes h.0 ms y h.2)

@@ -11,11 +11,11 @@ use Rattle.span_core.specs.declared.level.LevelFilter.{LevelFilter}
 use Rattle.span_core.specs.declared.span.Lane.{Lane}
 use Rattle.span_dispatch.proofs.Acting.{acting_numbers, none_within, one_alone, step_over, steps_agree}
 use Rattle.span_dispatch.proofs.Alone.{agree_same, steps_alone}
-use Rattle.span_dispatch.specs.Alone.{Alone, acting, lone, seen}
+use Rattle.span_dispatch.specs.Alone.{Alone, acting, form_of_path, seen}
 use Rattle.span_dispatch.specs.Call.{Call, closes_of}
 use Rattle.span_dispatch.specs.Effect.{AloneOf, Effect, GoesThrough, HasOutcomes, MadeCall, NoEffect, OfDrop, OfExit, OneOutcome, OutcomesFrom, concerns, effect_of, is_concern}
 use Rattle.span_dispatch.specs.Isolation.{HasSameOutcomes, HaveSameOutcomes, SeeTheSame, SeenAlone, SeesCalls, Sight}
-use Rattle.span_dispatch.specs.Outcome.{HandleTaken, LevelSet, Made, Makes, Noticed, Outcome, Quiet, Steps}
+use Rattle.span_dispatch.specs.Outcome.{HandleTaken, LevelSet, OutcomeAt, Makes, Noticed, Outcome, Quiet, Steps}
 use Rattle.span_dispatch.specs.Serve.{Run, TellsAsked, call_of, flat, made_call, made_calls, outcome_of, stack_of}
 use Rattle.span_dispatch.specs.declared.request.Answer.TheVariants as answer
 use Rattle.span_dispatch.specs.declared.request.Answer.{Answer}
@@ -149,15 +149,15 @@ concern_of numbers (OfDrop lane id closes) s os h =
 
 module _ {S : Type 0} (registry : S → RegistryState) (with_registry : S → RegistryState → S) (has_form : S → Form → Type 0) (stepped : StackSteps S) (levelled : LevelSteps S) where
   -- an outcome leaves the store that it leaves without any filter, as far as no filter goes
-  made_bare : (x : S) (m : Made) (y : S) → Makes registry with_registry has_form stepped levelled x m y → (t : Store) × Steps (lone []) m.outcome (registry x).store t × AgreeAt no_filter (registry y).store t
+  made_bare : (x : S) (m : OutcomeAt) (y : S) → Makes registry with_registry has_form stepped levelled x m y → (t : Store) × Steps (form_of_path []) m.outcome (registry x).store t × AgreeAt no_filter (registry y).store t
   made_bare x m y h =
       let step = steps_alone m.form [] (λ meta s q v said k. refl) m.outcome m.before m.after h.steps in (
         step.0,
-        subst (λ (u : Store). Steps (lone []) m.outcome u step.0) h.before step.1,
+        subst (λ (u : Store). Steps (form_of_path []) m.outcome u step.0) h.before step.1,
         agree_trans no_filter (registry y).store m.after step.0 (agree_sym no_filter m.after (registry y).store (agree_same no_filter m.after (registry y).store h.after)) step.2,
       )
 
-  folds_bare : (x : S) (ms : List Made) (y : S) → FoldsTo (Makes registry with_registry has_form stepped levelled) x ms y → (t : Store) × GoesThrough (registry x).store (map outcome_of ms) t × AgreeAt no_filter (registry y).store t
+  folds_bare : (x : S) (ms : List OutcomeAt) (y : S) → FoldsTo (Makes registry with_registry has_form stepped levelled) x ms y → (t : Store) × GoesThrough (registry x).store (map outcome_of ms) t × AgreeAt no_filter (registry y).store t
   folds_bare x [] y h = ((registry x).store, refl, subst (λ (z : S). AgreeAt no_filter (registry z).store (registry x).store) h (agree_refl no_filter (registry x).store))
   folds_bare x (m ∷ ms) y h =
       let one = made_bare x m h.0 h.1 in
@@ -176,10 +176,10 @@ module _ {S : Type 0} (registry : S → RegistryState) (with_registry : S → Re
       let both : filter (concerns numbers) (all ++ os) ≡ filter (concerns numbers) os = filter-append (concerns numbers) all os ∙ ap (λ us. us ++ filter (concerns numbers) os) none in
       subst (λ (us : List Outcome). OutcomesFrom s calls us) (sym both) (subst (λ (u : Store). OutcomesFrom u calls (filter (concerns numbers) os)) (sym same) rest)
 
-  asked_calls : (numbers : FilterSet) (o : Option Call) (x : S) (a : Answer) (ms : List Made) (y : S) (os : List Outcome) (calls : List MadeCall) → TellsAsked registry with_registry has_form stepped levelled o x a ms y
+  asked_calls : (numbers : FilterSet) (o : Option Call) (x : S) (a : Answer) (ms : List OutcomeAt) (y : S) (os : List Outcome) (calls : List MadeCall) → TellsAsked registry with_registry has_form stepped levelled o x a ms y
       → OutcomesFrom (registry y).store calls (filter (concerns numbers) os) → OutcomesFrom (registry x).store (made_call numbers o a ++ calls) (filter (concerns numbers) (map outcome_of ms ++ os))
   asked_calls numbers None x a ms y os calls h rest =
-      subst (λ (ns : List Made). OutcomesFrom (registry x).store calls (filter (concerns numbers) (map outcome_of ns ++ os))) (sym h.1)
+      subst (λ (ns : List OutcomeAt). OutcomesFrom (registry x).store calls (filter (concerns numbers) (map outcome_of ns ++ os))) (sym h.1)
       (subst (λ (z : S). OutcomesFrom (registry z).store calls (filter (concerns numbers) os)) h.2 rest)
   asked_calls numbers (Some call) x a ms y os calls h rest =
       let own = folds_bare x ms y h.2.goes in
@@ -188,7 +188,7 @@ module _ {S : Type 0} (registry : S → RegistryState) (with_registry : S → Re
       by_concern numbers call a (registry x).store own.0 (map outcome_of ms) os calls (is_concern numbers (effect_of call a)) refl h.2.says through on
 
   -- what was made in a run is what its made calls have by themselves, as far as it concerns filters of these numbers
-  pub run_calls : (past : List Answer) (rs : List Request) (answers : List Answer) (made : List (List Made)) (x y : S) (numbers : FilterSet) → Run registry with_registry has_form stepped levelled past rs answers made x y
+  pub run_calls : (past : List Answer) (rs : List Request) (answers : List Answer) (made : List (List OutcomeAt)) (x y : S) (numbers : FilterSet) → Run registry with_registry has_form stepped levelled past rs answers made x y
       → OutcomesFrom (registry x).store (made_calls numbers past rs answers) (filter (concerns numbers) (map outcome_of (flat made)))
   run_calls past [] [] [] x y numbers h = refl
   run_calls past [] [] (m ∷ made) x y numbers h = absurd h

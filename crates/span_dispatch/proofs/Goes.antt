@@ -10,7 +10,7 @@ use Rattle.span_dispatch.specs.Admission.{KeepsSafely}
 use Rattle.span_dispatch.specs.Cache.{IsCurrent, IsUpToDate, forgotten, kept_in, no_callsite}
 use Rattle.span_dispatch.specs.Call.{Call, SetLevel}
 use Rattle.span_dispatch.specs.Effect.{OutcomesOf}
-use Rattle.span_dispatch.specs.Outcome.{Change, Ends, IsHonest, LevelSet, Made, Makes, Noticed, Notices, Quiet, SameAside, Steps, given_in}
+use Rattle.span_dispatch.specs.Outcome.{Change, Ends, IsHonest, LevelSet, OutcomeAt, Makes, Noticed, Notices, Quiet, SameAside, Steps, given_in}
 use Rattle.span_dispatch.specs.Serve.{IsReady, IsReadyAfter, IsReadyWith, IsTold, IsUnwantedCall, Tells, stack_of}
 use Rattle.span_dispatch.specs.declared.cache.Cache.TheVariants as cache
 use Rattle.span_dispatch.specs.declared.cache.Cache.{Cache}
@@ -150,7 +150,7 @@ module _ {S : Type 0} {registry : S → RegistryState} {with_registry : S → Re
   pub by_call : (call : Call) (a : Answer) (f : Form) (lane : Lane) (e : Notice) (refused : FilterSet) (step : RegistryState → RegistryState → Type 0) (x y : S) → Honest f x → OutcomesOf (call, a) (registry x).store (Noticed lane e ∷ []) → (a ≡ answer.Dropped → ⊥)
       → (n : Notifies registry has_form stepped lane refused e step x y) → by_pass f e n.left.store.spans no_filter refused ≡ asked_afresh f e (registry x).store lane.0 no_filter → StepsTo f lane e (registry x) n.left → Done call a f x y
   by_call call a f lane e refused step x y h says done n plan to =
-      let m : Made = record { form = f; before = (registry x).store; after = to.after; outcome = Noticed lane e } in
+      let m : OutcomeAt = record { form = f; before = (registry x).store; after = to.after; outcome = Noticed lane e } in
       let notices : Notices registry with_registry has_form stepped levelled f lane e (registry x).store to.after x y = record {
         left = n.left;
         given = to.given;
@@ -174,7 +174,7 @@ module _ {S : Type 0} {registry : S → RegistryState} {with_registry : S → Re
       → (t : Store) → Steps f (Quiet c) (registry x).store t → registry y ≡ record (registry x) { store = t } → y ≡ with_registry x (registry y) → (registry y).filters ≡ (registry x).filters → (IsSettled (registry x).store.spans → IsSettled (registry y).store.spans)
       → Done call a f x y
   by_change call a f c x y h says done t steps store rest filters settled =
-      let m : Made = record { form = f; before = (registry x).store; after = t; outcome = Quiet c } in
+      let m : OutcomeAt = record { form = f; before = (registry x).store; after = t; outcome = Quiet c } in
       let next = honest_quietly f x y h rest filters in (
         (m ∷ [], record { says = says; goes = (y, changed f c x y t h steps store rest, refl); loses = λ d. absurd (done d) }),
         λ before. (next.0, record { honest = next.1; settled = settled before }, next.2, next.3),
@@ -205,7 +205,7 @@ module _ {S : Type 0} (registry : S → RegistryState) (with_registry : S → Re
   pub level_told : (f : Form) (n : ℕ) (l : LevelFilter) (x y : S) → IsHonest registry with_registry has_form stepped levelled f x → takes_level f n l ≡ true → levelled x n l y → registry y ≡ registry x
       → IsTold registry with_registry has_form stepped levelled (SetLevel n l) f answer.Done x y
   level_told f n l x y h taken goes same =
-      let m : Made = record { form = f; before = (registry x).store; after = (registry x).store; outcome = LevelSet n l } in
+      let m : OutcomeAt = record { form = f; before = (registry x).store; after = (registry x).store; outcome = LevelSet n l } in
       (m ∷ [], record { says = refl; goes = (y, record { honest = h; before = refl; steps = refl; after = aside_state (registry x) (registry y) same; layers = record { taken = taken; goes = goes; same = same } }, refl); loses = λ d. absurd (cc) })
 
   -- or it wasn't, and nothing changed

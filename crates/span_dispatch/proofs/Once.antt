@@ -9,7 +9,7 @@ use Rattle.std.specs.Ordering.{eq_by_cmp, nat_cmp}
 use Rattle.span_core.specs.Span.{number_of}
 use Rattle.span_core.specs.declared.span.Id.{Id}
 use Rattle.span_core.specs.declared.span.Lane.{Lane}
-use Rattle.span_dispatch.specs.Outcome.{GoneLeft, HandleAdded, HandleTaken, LevelSet, Made, Makes, Noticed, Opened, Outcome, Quiet, Steps}
+use Rattle.span_dispatch.specs.Outcome.{GoneLeft, HandleAdded, HandleTaken, LevelSet, OutcomeAt, Makes, Noticed, Opened, Outcome, Quiet, Steps}
 use Rattle.span_core.specs.declared.span.Attributes.{Attributes}
 use Rattle.span_dispatch.specs.Serve.{StandOnce, closed_by, closed_in}
 use Rattle.span_registry.proofs.Chains.{get_beside, get_kept, get_removed, same_test, test_same}
@@ -125,7 +125,7 @@ closes_join (Quiet c) ys h k = h
 closes_join (LevelSet n l) ys h k = h
 
 module _ {S : Type 0} (registry : S → RegistryState) (with_registry : S → RegistryState → S) (has_form : S → Form → Type 0) (stepped : StackSteps S) (levelled : LevelSteps S) where
-  onward_on : (x : S) (m : Made) (y : S) → Makes registry with_registry has_form stepped levelled x m y → Onward (registry x).store (registry y).store
+  onward_on : (x : S) (m : OutcomeAt) (y : S) → Makes registry with_registry has_form stepped levelled x m y → Onward (registry x).store (registry y).store
   onward_on x m y h =
       subst (λ (u : Store). Onward u (registry y).store) h.before
       (onward_further m.before m.after (registry y).store (onward_steps m.form m.outcome m.before m.after h.steps) (onward_same m.after (registry y).store h.after.issued h.after.spans))
@@ -148,13 +148,13 @@ module _ {S : Type 0} (registry : S → RegistryState) (with_registry : S → Re
         λ h. let there : Some h.0 ≡ None = sym h.1 ∙ ap (get t.spans) e ∙ gone in let no : ⊥ = cc in no,
       )
 
-  closing_on : (x : S) (m : Made) (y : S) (c : ℕ) → Makes registry with_registry has_form stepped levelled x m y → Member c (closed_by m.outcome) → IsInStore (registry x).store.spans c × (IsInStore (registry y).store.spans c → ⊥)
+  closing_on : (x : S) (m : OutcomeAt) (y : S) (c : ℕ) → Makes registry with_registry has_form stepped levelled x m y → Member c (closed_by m.outcome) → IsInStore (registry x).store.spans c × (IsInStore (registry y).store.spans c → ⊥)
   closing_on x m y c h k =
       let both = closing_step m.form m.outcome m.before m.after c h.steps k in
       (subst (λ (u : Store). IsInStore u.spans c) h.before both.0, λ there. both.1 (subst (λ (v : Spans). IsInStore v c) h.after.spans there))
 
   -- an issued id that isn't in the store closes no more
-  never_again : (x : S) (ms : List Made) (y : S) (c : ℕ) → FoldsTo (Makes registry with_registry has_form stepped levelled) x ms y → contains (registry x).store.issued c ≡ true → (IsInStore (registry x).store.spans c → ⊥) → Member c (closed_in ms) → ⊥
+  never_again : (x : S) (ms : List OutcomeAt) (y : S) (c : ℕ) → FoldsTo (Makes registry with_registry has_form stepped levelled) x ms y → contains (registry x).store.issued c ≡ true → (IsInStore (registry x).store.spans c → ⊥) → Member c (closed_in ms) → ⊥
   never_again x [] y c h issued out k = k
   never_again x (m ∷ ms) y c h issued out k =
       let on = onward_on x m h.0 h.1 in
@@ -164,7 +164,7 @@ module _ {S : Type 0} (registry : S → RegistryState) (with_registry : S → Re
       ]
 
   -- over a whole run no span closes twice
-  pub closed_once : (x : S) (ms : List Made) (y : S) → AreIssued (registry x).store → FoldsTo (Makes registry with_registry has_form stepped levelled) x ms y → StandOnce (closed_in ms)
+  pub closed_once : (x : S) (ms : List OutcomeAt) (y : S) → AreIssued (registry x).store → FoldsTo (Makes registry with_registry has_form stepped levelled) x ms y → StandOnce (closed_in ms)
   closed_once x [] y sound h = tt
   closed_once x (m ∷ ms) y sound h =
       let on = onward_on x m h.0 h.1 in

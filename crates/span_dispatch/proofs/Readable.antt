@@ -13,8 +13,8 @@ use Rattle.span_core.specs.declared.span.Id.{Id}
 use Rattle.span_core.specs.declared.span.Lane.{Lane}
 use Rattle.span_dispatch.proofs.Alone.{no_verdict, on_path, verdict_of_path}
 use Rattle.span_dispatch.proofs.Seen.{beneath, some_path}
-use Rattle.span_dispatch.specs.Alone.{lone, passed, seen}
-use Rattle.span_dispatch.specs.Outcome.{LevelSet, Made, Makes, Noticed, Outcome, Quiet, Steps, given_in}
+use Rattle.span_dispatch.specs.Alone.{form_of_path, passed, seen}
+use Rattle.span_dispatch.specs.Outcome.{LevelSet, OutcomeAt, Makes, Noticed, Outcome, Quiet, Steps, given_in}
 use Rattle.span_dispatch.specs.Readable.{ClosesAsItOpened, ShowTheirSpans, ShowsItsSpan}
 use Rattle.span_layers.specs.Verdict.{AreDistinct, in_verdict, numbers_of}
 use Rattle.span_registry.proofs.Chains.{get_put}
@@ -33,20 +33,20 @@ use Rattle.span_registry.specs.View.{is_shown, plain_view, view_of}
 
 -- ---- the filters of a path
 
-path_distinct : (f : Form) (place : Place) (path : Path) → AreDistinct f → path_at f place ≡ Some path → AreDistinct (lone path)
-path_distinct (Leaf still a) Here path d h = subst (λ (p : Path). AreDistinct (lone p)) (some_path [] path h) tt
+path_distinct : (f : Form) (place : Place) (path : Path) → AreDistinct f → path_at f place ≡ Some path → AreDistinct (form_of_path path)
+path_distinct (Leaf still a) Here path d h = subst (λ (p : Path). AreDistinct (form_of_path p)) (some_path [] path h) tt
 path_distinct (Leaf still a) (Under p) path d h = absurd (cc)
 path_distinct (Leaf still a) (Outer p) path d h = absurd (cc)
 path_distinct (Leaf still a) (Inner p) path d h = absurd (cc)
 path_distinct (Bare v) p path d h = absurd (cc)
-path_distinct (Filtered None a f) Here path d h = subst (λ (p : Path). AreDistinct (lone p)) (some_path ((None, a) ∷ []) path h) tt
-path_distinct (Filtered (Some n) a f) Here path d h = subst (λ (p : Path). AreDistinct (lone p)) (some_path ((Some n, a) ∷ []) path h) (refl, tt)
+path_distinct (Filtered None a f) Here path d h = subst (λ (p : Path). AreDistinct (form_of_path p)) (some_path ((None, a) ∷ []) path h) tt
+path_distinct (Filtered (Some n) a f) Here path d h = subst (λ (p : Path). AreDistinct (form_of_path p)) (some_path ((Some n, a) ∷ []) path h) (refl, tt)
 path_distinct (Filtered None a f) (Under p) path d h =
-    let rest = beneath None a (path_at f p) path h in subst (λ (r : Path). AreDistinct (lone r)) rest.2 (path_distinct f p rest.0 d rest.1)
+    let rest = beneath None a (path_at f p) path h in subst (λ (r : Path). AreDistinct (form_of_path r)) rest.2 (path_distinct f p rest.0 d rest.1)
 path_distinct (Filtered (Some n) a f) (Under p) path d h =
     let rest = beneath (Some n) a (path_at f p) path h in
-    let other : numbers_of (lone rest.0) n ≡ false = false_from_ne_true (numbers_of (lone rest.0) n) (λ x. both_ways (numbers_of f n) d.0 (on_path f p rest.0 n rest.1 x)) in
-    subst (λ (r : Path). AreDistinct (lone r)) rest.2 (other, path_distinct f p rest.0 d.1 rest.1)
+    let other : numbers_of (form_of_path rest.0) n ≡ false = false_from_ne_true (numbers_of (form_of_path rest.0) n) (λ x. both_ways (numbers_of f n) d.0 (on_path f p rest.0 n rest.1 x)) in
+    subst (λ (r : Path). AreDistinct (form_of_path r)) rest.2 (other, path_distinct f p rest.0 d.1 rest.1)
 path_distinct (Filtered n a f) (Outer p) path d h = absurd (cc)
 path_distinct (Filtered n a f) (Inner p) path d h = absurd (cc)
 path_distinct (Over j o i) Here path d h = absurd (cc)
@@ -55,26 +55,26 @@ path_distinct (Over j o i) (Outer p) path d h = path_distinct o p path d.0 h
 path_distinct (Over j o i) (Inner p) path d h = path_distinct i p path d.1 h
 
 -- the mask of a path has its filters, and those that were there
-in_mask : (path : Path) (under : FilterSet) (k : ℕ) → IsTrue (mask_of path under k) → IsTrue (under k || numbers_of (lone path) k)
+in_mask : (path : Path) (under : FilterSet) (k : ℕ) → IsTrue (mask_of path under k) → IsTrue (under k || numbers_of (form_of_path path) k)
 in_mask [] under k t = or_left (under k) false t
 in_mask ((None, a) ∷ path) under k t = in_mask path under k t
 in_mask ((Some n, a) ∷ path) under k t =
-    elim (or_cases (union under (single n) k) (numbers_of (lone path) k) (in_mask path (union under (single n)) k t)) [
+    elim (or_cases (union under (single n) k) (numbers_of (form_of_path path) k) (in_mask path (union under (single n)) k t)) [
       | inl x ↦ elim (or_cases (under k) (k == n) x) [
-        | inl y ↦ or_left (under k) ((k == n) || numbers_of (lone path) k) y
-        | inr y ↦ or_right (under k) ((k == n) || numbers_of (lone path) k) (or_left (k == n) (numbers_of (lone path) k) y)
+        | inl y ↦ or_left (under k) ((k == n) || numbers_of (form_of_path path) k) y
+        | inr y ↦ or_right (under k) ((k == n) || numbers_of (form_of_path path) k) (or_left (k == n) (numbers_of (form_of_path path) k) y)
       ]
-      | inr x ↦ or_right (under k) ((k == n) || numbers_of (lone path) k) (or_right (k == n) (numbers_of (lone path) k) x)
+      | inr x ↦ or_right (under k) ((k == n) || numbers_of (form_of_path path) k) (or_right (k == n) (numbers_of (form_of_path path) k) x)
     ]
 
 -- whom a path passes a new span to, no filter of it refuses that
-none_refuses : (path : Path) (attrs : Attributes) (id : Id) (s : Store) (lane : ℕ) (under : FilterSet) (k : ℕ) → passes_path path (OnNewSpan attrs id) s lane under ≡ true → in_verdict (lone path) (metadata_of attrs) s lane under k ≡ false
+none_refuses : (path : Path) (attrs : Attributes) (id : Id) (s : Store) (lane : ℕ) (under : FilterSet) (k : ℕ) → passes_path path (OnNewSpan attrs id) s lane under ≡ true → in_verdict (form_of_path path) (metadata_of attrs) s lane under k ≡ false
 none_refuses [] attrs id s lane under k h = refl
 none_refuses ((None, a) ∷ path) attrs id s lane under k h = refl
 none_refuses ((Some n, a) ∷ path) attrs id s lane under k h =
     let set = union under (single n) in
     let both = and_parts (a.enabled (metadata_of attrs) (view_of s lane set)) (passes_path path (OnNewSpan attrs id) s lane set) h in
-    ap (λ (b : Bool). if b then in_verdict (lone path) (metadata_of attrs) s lane set k else (k == n)) both.0 ∙ none_refuses path attrs id s lane set k both.1
+    ap (λ (b : Bool). if b then in_verdict (form_of_path path) (metadata_of attrs) s lane set k else (k == n)) both.0 ∙ none_refuses path attrs id s lane set k both.1
 
 -- ---- what a mask hides
 
@@ -106,7 +106,7 @@ passed_down spans id ((Some n, a) ∷ path) e s lane under asks here h =
 -- ---- all that is told
 
 module _ {S : Type 0} (registry : S → RegistryState) (with_registry : S → RegistryState → S) (has_form : S → Form → Type 0) (stepped : StackSteps S) (levelled : LevelSteps S) where
-  abbrev MakesOne : S → Made → S → Type 0
+  abbrev MakesOne : S → OutcomeAt → S → Type 0
   MakesOne = Makes registry with_registry has_form stepped levelled
 
   -- a span that is in the store, asked for by the notice itself
@@ -142,7 +142,7 @@ module _ {S : Type 0} (registry : S → RegistryState) (with_registry : S → Re
   if_told true told h = (h refl, tt)
   if_told false told h = tt
 
-  told_of_made : (x : S) (m : Made) (y : S) (place : Place) (o : Option Path) → path_at m.form place ≡ o → MakesOne x m y → ShowTheirSpans (passed o m.outcome m.before m.after)
+  told_of_made : (x : S) (m : OutcomeAt) (y : S) (place : Place) (o : Option Path) → path_at m.form place ≡ o → MakesOne x m y → ShowTheirSpans (passed o m.outcome m.before m.after)
   told_of_made x m y place o at made = by_outcome m.outcome o at made.steps
     where
       by_outcome : (out : Outcome) (p : Option Path) → path_at m.form place ≡ p → Steps m.form out m.before m.after → ShowTheirSpans (passed p out m.before m.after)
@@ -159,7 +159,7 @@ module _ {S : Type 0} (registry : S → RegistryState) (with_registry : S → Re
   both_show (one ∷ h) k a b = (a.0, both_show h k a.1 b)
 
   -- so of all that was made
-  pub told_can_be_read : (x : S) (ms : List Made) (y : S) (place : Place) → FoldsTo MakesOne x ms y → ShowTheirSpans (seen place ms)
+  pub told_can_be_read : (x : S) (ms : List OutcomeAt) (y : S) (place : Place) → FoldsTo MakesOne x ms y → ShowTheirSpans (seen place ms)
   told_can_be_read x [] y place h = tt
   told_can_be_read x (m ∷ ms) y place h =
       both_show (passed (path_at m.form place) m.outcome m.before m.after) (seen place ms) (told_of_made x m h.0 place (path_at m.form place) refl h.1) (told_can_be_read h.0 ms y place h.2)
@@ -187,8 +187,8 @@ HaveSameNumbers ((n, a) ∷ path) ((m, b) ∷ other) = (m ≡ n) × HaveSameNumb
 HaveSameNumbers path other = ⊥
 
 module _ (attrs : Attributes) (id : Id) (r : Span) (s t : Store) (lane later : ℕ) (there : get t.spans (number_of id) ≡ Some r) where
-  closes_along : (path other : Path) (under : FilterSet) → HaveSameNumbers path other → AreDistinct (lone path) → ((k : ℕ) → IsTrue (numbers_of (lone path) k) → k < LIMIT) → ((k : ℕ) → IsTrue (under k) → refuses r.verdict k ≡ false)
-      → ((k : ℕ) → IsTrue (numbers_of (lone path) k) → refuses r.verdict k ≡ in_verdict (lone path) (metadata_of attrs) s lane under k)
+  closes_along : (path other : Path) (under : FilterSet) → HaveSameNumbers path other → AreDistinct (form_of_path path) → ((k : ℕ) → IsTrue (numbers_of (form_of_path path) k) → k < LIMIT) → ((k : ℕ) → IsTrue (under k) → refuses r.verdict k ≡ false)
+      → ((k : ℕ) → IsTrue (numbers_of (form_of_path path) k) → refuses r.verdict k ≡ in_verdict (form_of_path path) (metadata_of attrs) s lane under k)
       → passes_path other (OnClose id) t later under ≡ passes_path path (OnNewSpan attrs id) s lane under
   closes_along [] [] under same d bound none said = refl
   closes_along [] ((m, b) ∷ other) under same d bound none said = absurd same
@@ -196,27 +196,27 @@ module _ (attrs : Attributes) (id : Id) (r : Span) (s t : Store) (lane later : �
   closes_along ((None, a) ∷ path) ((m, b) ∷ other) under same d bound none said = ap (λ (k : Option ℕ). passes_path ((k, b) ∷ other) (OnClose id) t later under) same.0
   closes_along ((Some n, a) ∷ path) ((m, b) ∷ other) under same d bound none said =
       ap (λ (k : Option ℕ). passes_path ((k, b) ∷ other) (OnClose id) t later under) same.0
-      ∙ by_answer (a.enabled (metadata_of attrs) (view_of s lane (union under (single n)))) refl (λ now inside. closes_along path other (union under (single n)) same.1 d.1 (λ k h. bound k (or_right (k == n) (numbers_of (lone path) k) h)) now inside)
+      ∙ by_answer (a.enabled (metadata_of attrs) (view_of s lane (union under (single n)))) refl (λ now inside. closes_along path other (union under (single n)) same.1 d.1 (λ k h. bound k (or_right (k == n) (numbers_of (form_of_path path) k) h)) now inside)
     where
       set : FilterSet
       set = union under (single n)
 
-      own : IsTrue (numbers_of (lone ((Some n, a) ∷ path)) n)
-      own = or_left (n == n) (numbers_of (lone path) n) (eq-eqb n n refl)
+      own : IsTrue (numbers_of (form_of_path ((Some n, a) ∷ path)) n)
+      own = or_left (n == n) (numbers_of (form_of_path path) n) (eq-eqb n n refl)
 
       by_answer : (p : Bool) → a.enabled (metadata_of attrs) (view_of s lane set) ≡ p
-          → (((k : ℕ) → IsTrue (set k) → refuses r.verdict k ≡ false) → ((k : ℕ) → IsTrue (numbers_of (lone path) k) → refuses r.verdict k ≡ in_verdict (lone path) (metadata_of attrs) s lane set k)
+          → (((k : ℕ) → IsTrue (set k) → refuses r.verdict k ≡ false) → ((k : ℕ) → IsTrue (numbers_of (form_of_path path) k) → refuses r.verdict k ≡ in_verdict (form_of_path path) (metadata_of attrs) s lane set k)
           → passes_path other (OnClose id) t later set ≡ passes_path path (OnNewSpan attrs id) s lane set)
           → (is_passed t.spans set id && passes_path other (OnClose id) t later set) ≡ (a.enabled (metadata_of attrs) (view_of s lane set) && passes_path path (OnNewSpan attrs id) s lane set)
       by_answer true e below =
-          let inside = λ (k : ℕ). ap (λ (q : Bool). if q then in_verdict (lone path) (metadata_of attrs) s lane set k else (k == n)) e in
-          let free : refuses r.verdict n ≡ false = said n own ∙ inside n ∙ no_verdict (lone path) (metadata_of attrs) s lane set n d.0 in
+          let inside = λ (k : ℕ). ap (λ (q : Bool). if q then in_verdict (form_of_path path) (metadata_of attrs) s lane set k else (k == n)) e in
+          let free : refuses r.verdict n ≡ false = said n own ∙ inside n ∙ no_verdict (form_of_path path) (metadata_of attrs) s lane set n d.0 in
           let now = hides_neither under (refuses r.verdict) n none free in
           let passed_here : is_passed t.spans set id ≡ true = same_passed (get t.spans (number_of id)) r set there ∙ ap not (hides_none set (refuses r.verdict) now) in
-          let rest = below now (λ k h. said k (or_right (k == n) (numbers_of (lone path) k) h) ∙ inside k) in
+          let rest = below now (λ k h. said k (or_right (k == n) (numbers_of (form_of_path path) k) h) ∙ inside k) in
           (λ i. passed_here i && rest i) ∙ ap (λ (q : Bool). q && passes_path path (OnNewSpan attrs id) s lane set) (sym e)
       by_answer false e below =
-          let refused : refuses r.verdict n ≡ true = said n own ∙ ap (λ (q : Bool). if q then in_verdict (lone path) (metadata_of attrs) s lane set n else (n == n)) e ∙ eq-eqb n n refl in
+          let refused : refuses r.verdict n ≡ true = said n own ∙ ap (λ (q : Bool). if q then in_verdict (form_of_path path) (metadata_of attrs) s lane set n else (n == n)) e ∙ eq-eqb n n refl in
           let hidden = hides_one set (refuses r.verdict) n (bound n own) (or_right (under n) (n == n) (eq-eqb n n refl)) refused in
           let stopped : is_passed t.spans set id ≡ false = same_passed (get t.spans (number_of id)) r set there ∙ ap not hidden in
           ap (λ (q : Bool). q && passes_path other (OnClose id) t later set) stopped ∙ ap (λ (q : Bool). q && passes_path path (OnNewSpan attrs id) s lane set) (sym e)

@@ -7,9 +7,9 @@ use Rattle.span_core.specs.Filters.{FilterSet, union}
 use Rattle.span_core.specs.declared.level.LevelFilter.{LevelFilter}
 use Rattle.span_core.specs.declared.span.Lane.{Lane}
 use Rattle.span_dispatch.proofs.Goes.{same_aside}
-use Rattle.span_dispatch.specs.Cache.{Memory}
+use Rattle.span_dispatch.specs.Cache.{KeptCallsites}
 use Rattle.span_dispatch.specs.Call.{Call}
-use Rattle.span_dispatch.specs.Outcome.{Change, LayersGo, LevelSet, Made, Makes, Noticed, Outcome, Quiet, SameAside, given_in}
+use Rattle.span_dispatch.specs.Outcome.{Change, LayersGo, LevelSet, OutcomeAt, Makes, Noticed, Outcome, Quiet, SameAside, given_in}
 use Rattle.std.specs.FinMap.{empty}
 use Rattle.span_registry.specs.View.{seen_spans}
 use Rattle.span_dispatch.specs.Alone.{passed, seen}
@@ -134,22 +134,22 @@ module _ {S : Type 0} (registry : S → RegistryState) {with_registry : S → Re
   by_outcome f (LevelSet n l) s t x y place has set = subst (λ h. hears x place h y) (sym (no_level_passed (path_at f place) n l s t)) (levels.heard x n l y place set.goes)
 
   -- each leaf went through what it sees of what was made
-  pub goes_through : (x : S) (ms : List Made) (y : S) (place : Place) → FoldsTo (Makes registry with_registry has_form stepped levelled) x ms y → hears x place (seen place ms) y
+  pub goes_through : (x : S) (ms : List OutcomeAt) (y : S) (place : Place) → FoldsTo (Makes registry with_registry has_form stepped levelled) x ms y → hears x place (seen place ms) y
   goes_through x [] y place h = subst (λ z. hears x place [] z) h (laws.heard.nothing x place)
   goes_through x (m ∷ ms) y place h =
       laws.heard.further x h.0 y place _ _ (by_outcome m.form m.outcome m.before m.after x h.0 place h.1.honest.has h.1.layers) (goes_through h.0 ms y place h.2)
 
 module _ {S : Type 0} (registry : S → RegistryState) (with_registry : S → RegistryState → S) (has_form : S → Form → Type 0) (stepped : StackSteps S) (levelled : LevelSteps S) where
-  folds_append : (x : S) (ms ns : List Made) (y z : S) → FoldsTo (Makes registry with_registry has_form stepped levelled) x ms y → FoldsTo (Makes registry with_registry has_form stepped levelled) y ns z → FoldsTo (Makes registry with_registry has_form stepped levelled) x (ms ++ ns) z
+  folds_append : (x : S) (ms ns : List OutcomeAt) (y z : S) → FoldsTo (Makes registry with_registry has_form stepped levelled) x ms y → FoldsTo (Makes registry with_registry has_form stepped levelled) y ns z → FoldsTo (Makes registry with_registry has_form stepped levelled) x (ms ++ ns) z
   folds_append x [] ns y z h k = subst (λ w. FoldsTo (Makes registry with_registry has_form stepped levelled) w ns z) (sym h) k
   folds_append x (m ∷ ms) ns y z h k = (h.0, h.1, folds_append h.0 ms ns y z h.2 k)
 
-  asked_folds : (o : Option Call) (x : S) (a : Answer) (ms : List Made) (y : S) → TellsAsked registry with_registry has_form stepped levelled o x a ms y → FoldsTo (Makes registry with_registry has_form stepped levelled) x ms y
+  asked_folds : (o : Option Call) (x : S) (a : Answer) (ms : List OutcomeAt) (y : S) → TellsAsked registry with_registry has_form stepped levelled o x a ms y → FoldsTo (Makes registry with_registry has_form stepped levelled) x ms y
   asked_folds None x a ms y h = subst (λ ns. FoldsTo (Makes registry with_registry has_form stepped levelled) x ns y) (sym h.1) (sym h.2)
   asked_folds (Some call) x a ms y h = h.2.goes
 
   -- a run goes through all that was made, one after another
-  pub run_folds : (past : List Answer) (rs : List Request) (answers : List Answer) (made : List (List Made)) (x y : S) → Run registry with_registry has_form stepped levelled past rs answers made x y
+  pub run_folds : (past : List Answer) (rs : List Request) (answers : List Answer) (made : List (List OutcomeAt)) (x y : S) → Run registry with_registry has_form stepped levelled past rs answers made x y
       → FoldsTo (Makes registry with_registry has_form stepped levelled) x (flat made) y
   run_folds past [] [] [] x y h = sym h
   run_folds past [] [] (m ∷ made) x y h = absurd h
@@ -160,11 +160,11 @@ module _ {S : Type 0} (registry : S → RegistryState) (with_registry : S → Re
       folds_append x ms (flat made) h.0 y (asked_folds (call_of past q) x b ms h.0 h.1) (run_folds (past ++ (b ∷ [])) rs answers made h.0 y h.2)
 
   -- one that answers exactly so is a run
-  asked_told : (o : Option Call) (memory : Memory) (x : S) (a : Answer) (ms : List Made) (after : Memory) (y : S) → ServesAsked registry with_registry has_form stepped levelled o memory x a ms after y → TellsAsked registry with_registry has_form stepped levelled o x a ms y
+  asked_told : (o : Option Call) (memory : KeptCallsites) (x : S) (a : Answer) (ms : List OutcomeAt) (after : KeptCallsites) (y : S) → ServesAsked registry with_registry has_form stepped levelled o memory x a ms after y → TellsAsked registry with_registry has_form stepped levelled o x a ms y
   asked_told None memory x a ms after y h = (h.0, h.1, h.3)
   asked_told (Some call) memory x a ms after y h = (h.0, h.1.honest.has, h.2.told)
 
-  pub run_told : (past : List Answer) (rs : List Request) (answers : List Answer) (made : List (List Made)) (memory : Memory) (x : S) (after : Memory) (y : S) → RunExactly registry with_registry has_form stepped levelled past rs answers made memory x after y
+  pub run_told : (past : List Answer) (rs : List Request) (answers : List Answer) (made : List (List OutcomeAt)) (memory : KeptCallsites) (x : S) (after : KeptCallsites) (y : S) → RunExactly registry with_registry has_form stepped levelled past rs answers made memory x after y
       → Run registry with_registry has_form stepped levelled past rs answers made x y
   run_told past [] [] [] memory x after y h = h.1
   run_told past [] [] (m ∷ made) memory x after y h = absurd h

@@ -9,10 +9,10 @@ use Rattle.span_dispatch.proofs.Once.{closed_once}
 use Rattle.span_dispatch.proofs.Readable.{told_can_be_read}
 use Rattle.span_dispatch.proofs.Seen.{run_folds, run_told}
 use Rattle.span_dispatch.specs.Admission.{KeepsSafely}
-use Rattle.span_dispatch.specs.Cache.{IsUpToDate, Memory}
+use Rattle.span_dispatch.specs.Cache.{IsUpToDate, KeptCallsites}
 use Rattle.span_dispatch.specs.Call.{Call}
 use Rattle.span_dispatch.specs.Contract.{AnswersCall, AnswersDrop, ReadyAfter, ServesNext, StaysReadyByRules, SubscriberOf}
-use Rattle.span_dispatch.specs.Outcome.{Made}
+use Rattle.span_dispatch.specs.Outcome.{OutcomeAt}
 use Rattle.span_dispatch.specs.Serve.{AnswersExactly, IsReadyWith, Run, RunExactly, Served, ServedExactly, ServesAsked, ServesRequest, Tells, TellsAsked, call_of, flat, kept_by, stack_of}
 use Rattle.span_dispatch.specs.declared.dispatch.Dispatch.{Dispatch}
 use Rattle.span_dispatch.specs.declared.request.Answer.TheVariants as answer
@@ -57,20 +57,20 @@ module _ {S : Type 0} {s : SubscriberOf S} where
   }
 
 module _ {S : Type 0} (s : SubscriberOf S) where
-  abbrev TellsRequest : List Answer → Request → S → Answer → List Made → S → Type 0
+  abbrev TellsRequest : List Answer → Request → S → Answer → List OutcomeAt → S → Type 0
   TellsRequest past r x a ms y = TellsAsked s.registry s.with_registry s.has_form s.stepped s.levelled (call_of past r) x a ms y
 
-  abbrev RunsTo : List Answer → List Request → List Answer → List (List Made) → S → S → Type 0
+  abbrev RunsTo : List Answer → List Request → List Answer → List (List OutcomeAt) → S → S → Type 0
   RunsTo past rs answers made x y = Run s.registry s.with_registry s.has_form s.stepped s.levelled past rs answers made x y
 
-  abbrev AnswersRequest : List Answer → Request → Memory → S → Answer → List Made → Memory → S → Type 0
+  abbrev AnswersRequest : List Answer → Request → KeptCallsites → S → Answer → List OutcomeAt → KeptCallsites → S → Type 0
   AnswersRequest past r memory x a ms after y = ServesRequest s.registry s.with_registry s.has_form s.stepped s.levelled past r memory x a ms after y
 
-  abbrev RunsExactly : List Answer → List Request → List Answer → List (List Made) → Memory → S → Memory → S → Type 0
+  abbrev RunsExactly : List Answer → List Request → List Answer → List (List OutcomeAt) → KeptCallsites → S → KeptCallsites → S → Type 0
   RunsExactly past rs answers made memory x after y = RunExactly s.registry s.with_registry s.has_form s.stepped s.levelled past rs answers made memory x after y
 
   -- a run, and then one request more
-  tell_more : (past : List Answer) (rs : List Request) (answers : List Answer) (made : List (List Made)) (x y : S) (r : Request) (a : Answer) (ms : List Made) (z : S)
+  tell_more : (past : List Answer) (rs : List Request) (answers : List Answer) (made : List (List OutcomeAt)) (x y : S) (r : Request) (a : Answer) (ms : List OutcomeAt) (z : S)
       → RunsTo past rs answers made x y → TellsRequest (past ++ answers) r y a ms z → RunsTo past (rs ++ (r ∷ [])) (answers ++ (a ∷ [])) (made ++ (ms ∷ [])) x z
   tell_more past [] [] [] x y r a ms z h t =
       let here = subst (λ p. TellsRequest p r y a ms z) (append-nil past) t in (z, subst (λ v. TellsRequest past r v a ms z) h here, refl)
@@ -81,7 +81,7 @@ module _ {S : Type 0} (s : SubscriberOf S) where
   tell_more past (q ∷ rs) (b ∷ answers) (m ∷ made) x y r a ms z h t =
       let rest = subst (λ p. TellsRequest p r y a ms z) (sym (append_assoc past (b ∷ []) answers)) t in (h.0, h.1, tell_more (past ++ (b ∷ [])) rs answers made h.0 y r a ms z h.2 rest)
 
-  run_more : (past : List Answer) (rs : List Request) (answers : List Answer) (made : List (List Made)) (memory : Memory) (x : S) (between : Memory) (y : S) (r : Request) (a : Answer) (ms : List Made) (after : Memory) (z : S)
+  run_more : (past : List Answer) (rs : List Request) (answers : List Answer) (made : List (List OutcomeAt)) (memory : KeptCallsites) (x : S) (between : KeptCallsites) (y : S) (r : Request) (a : Answer) (ms : List OutcomeAt) (after : KeptCallsites) (z : S)
       → RunsExactly past rs answers made memory x between y → AnswersRequest (past ++ answers) r between y a ms after z → RunsExactly past (rs ++ (r ∷ [])) (answers ++ (a ∷ [])) (made ++ (ms ∷ [])) memory x after z
   run_more past [] [] [] memory x between y r a ms after z h t =
       let here = subst (λ p. AnswersRequest p r between y a ms after z) (append-nil past) t in
@@ -97,13 +97,13 @@ module _ {S : Type 0} (s : SubscriberOf S) where
   -- these requests were told so far
   pub record ToldSoFar (f : Form) (first now : Dispatch S) (done : List Request) (answers : List Answer) : Type 0 where
     pub ready : ReadyAfter s KeepsSafely KeepsRules f now
-    pub made : List (List Made)
+    pub made : List (List OutcomeAt)
     pub run : RunsTo [] done answers made (stack_of first) (stack_of now)
 
   -- and answered exactly so
   pub record ExactSoFar (f : Form) (first now : Dispatch S) (done : List Request) (answers : List Answer) : Type 0 where
     pub ready : ReadyAfter s IsUpToDate KeepsRules f now
-    pub made : List (List Made)
+    pub made : List (List OutcomeAt)
     pub run : RunsExactly [] done answers made (kept_by first) (stack_of first) (kept_by now) (stack_of now)
 
   -- both, from whatever the dispatcher was ready by
@@ -147,7 +147,7 @@ module _ {S : Type 0} (s : SubscriberOf S) where
     abbrev ServesAll : List Request → List Answer → Dispatch S → Dispatch S → Type 0
     ServesAll all answers first now = Served s.registry s.with_registry s.has_form s.stepped s.levelled s.hears s.acts_at all answers (stack_of first) (stack_of now)
 
-    abbrev run_served : (first now : Dispatch S) (all : List Request) (answers : List Answer) (made : List (List Made)) → AreIssued (s.registry (stack_of first)).store → RunsTo [] all answers made (stack_of first) (stack_of now) → ServesAll all answers first now
+    abbrev run_served : (first now : Dispatch S) (all : List Request) (answers : List Answer) (made : List (List OutcomeAt)) → AreIssued (s.registry (stack_of first)).store → RunsTo [] all answers made (stack_of first) (stack_of now) → ServesAll all answers first now
     run_served first now all answers made issued run =
         let folds = run_folds s.registry s.with_registry s.has_form s.stepped s.levelled [] all answers made (stack_of first) (stack_of now) run in
         let seen = sees_what_is_made s.registry laws paths levels (flat made) folds in

@@ -7,7 +7,7 @@ use Rattle.span_core.specs.Pass.{refused_of}
 use Rattle.span_core.specs.declared.span.Attributes.{Attributes}
 use Rattle.span_core.specs.declared.span.Id.{Id}
 use Rattle.span_core.specs.declared.span.Lane.{Lane}
-use Rattle.span_dispatch.specs.Cache.{Memory, RefusesInterest}
+use Rattle.span_dispatch.specs.Cache.{KeptCallsites, RefusesInterest}
 use Rattle.span_dispatch.specs.Call.{DropsSpan, FindsOpen, HasRoomFor, OpensFor}
 use Rattle.span_dispatch.specs.Serve.{ClosesEach, stack_of}
 use Rattle.span_dispatch.specs.declared.dispatch.Dispatch.{Dispatch}
@@ -51,10 +51,10 @@ second_false false q a = refl
 
 module _ {S : Type 0} (registry : S → RegistryState) (has_form : S → Form → Type 0) (lane : Lane) (x : S) where
   -- what `WantsMetadata` and `WantsEvent` say of a dispatcher that keeps this and has this stack
-  abbrev pub Wanted : Memory → Metadata → Bool → Type 0
+  abbrev pub Wanted : KeptCallsites → Metadata → Bool → Type 0
   Wanted memory m wanted = memory ≡ None → (f : Form) → has_form x f → wanted ≡ (asked f m (registry x).store lane.0 no_filter no_filter).0
 
-  abbrev pub WantedEvent : Memory → Event → Bool → Type 0
+  abbrev pub WantedEvent : KeptCallsites → Event → Bool → Type 0
   WantedEvent memory e wanted =
       memory ≡ None → (f : Form) → has_form x f
       → let first = asked f (event_metadata e) (registry x).store lane.0 no_filter no_filter in wanted ≡ first.0 && (event_asked f e (registry x).store lane.0 no_filter first.1).0
@@ -63,19 +63,19 @@ module _ {S : Type 0} (registry : S → RegistryState) (has_form : S → Form �
   asked_same : (f : Form) (m meta : Metadata) (fresh : Pass) → m ≡ meta → IsEmpty (refusals fresh) → (asked f m (registry x).store lane.0 no_filter (refusals fresh)).0 ≡ (asked f meta (registry x).store lane.0 no_filter no_filter).0
   asked_same f m meta fresh same empty = λ k. (asked f (same k) (registry x).store lane.0 no_filter (λ n. empty n k)).0
 
-  pub metadata_wanted : (memory : Memory) (m meta : Metadata) (fresh pass : Pass) (said : Bool) → m ≡ meta → IsEmpty (refusals fresh) → (memory ≡ None → AnswersEnabled registry has_form x lane m fresh said pass) → Wanted memory meta said
+  pub metadata_wanted : (memory : KeptCallsites) (m meta : Metadata) (fresh pass : Pass) (said : Bool) → m ≡ meta → IsEmpty (refusals fresh) → (memory ≡ None → AnswersEnabled registry has_form x lane m fresh said pass) → Wanted memory meta said
   metadata_wanted memory m meta fresh pass said same empty a = λ none f d. (a none f d).answer ∙ asked_same f m meta fresh same empty
 
   -- where nothing is kept no interest is wanting
-  pub unrefused : (memory : Memory) (m meta : Metadata) (e : TraceError) → RefusesInterest memory m e → Wanted memory meta true
+  pub unrefused : (memory : KeptCallsites) (m meta : Metadata) (e : TraceError) → RefusesInterest memory m e → Wanted memory meta true
   unrefused memory m meta e h = λ none. absurd (subst (λ kept. RefusesInterest kept m e) none h)
 
-  pub asked_of : (memory : Memory) (m meta : Metadata) (fresh pass : Pass) (said : Result Bool TraceError) → m ≡ meta → IsEmpty (refusals fresh) → (memory ≡ None → IfOk said (λ b. AnswersEnabled registry has_form x lane m fresh b pass)) → IfOk said (Wanted memory meta)
+  pub asked_of : (memory : KeptCallsites) (m meta : Metadata) (fresh pass : Pass) (said : Result Bool TraceError) → m ≡ meta → IsEmpty (refusals fresh) → (memory ≡ None → IfOk said (λ b. AnswersEnabled registry has_form x lane m fresh b pass)) → IfOk said (Wanted memory meta)
   asked_of memory m meta fresh pass (Ok said) same empty a = metadata_wanted memory m meta fresh pass said same empty a
   asked_of memory m meta fresh pass (Err e) same empty a = tt
 
   -- an event whose metadata aren't wanted isn't
-  pub event_unwanted : (memory : Memory) (e : Event) (m : Metadata) (fresh pass : Pass) (said : Bool) → m ≡ event_metadata e → IsEmpty (refusals fresh) → said ≡ false → (memory ≡ None → AnswersEnabled registry has_form x lane m fresh said pass)
+  pub event_unwanted : (memory : KeptCallsites) (e : Event) (m : Metadata) (fresh pass : Pass) (said : Bool) → m ≡ event_metadata e → IsEmpty (refusals fresh) → said ≡ false → (memory ≡ None → AnswersEnabled registry has_form x lane m fresh said pass)
       → WantedEvent memory e false
   event_unwanted memory e m fresh pass said same empty no_one a = λ none f d. first_false _ _ (sym (asked_same f m (event_metadata e) fresh same empty) ∙ sym (a none f d).answer ∙ no_one)
 
@@ -86,11 +86,11 @@ module _ {S : Type 0} (registry : S → RegistryState) (has_form : S → Form �
       let before = (a f d).refused ∙ asked_by_nobody f (registry x).store lane.0 fresh m (event_metadata e) same empty in
       sym (ap (λ (r : FilterSet). (event_asked f e (registry x).store lane.0 no_filter r).0) before) ∙ sym (b f d).answer
 
-  pub event_refused : (memory : Memory) (e : Event) (m : Metadata) (fresh first second : Pass) (said wanted : Bool) → m ≡ event_metadata e → IsEmpty (refusals fresh) → wanted ≡ false → (memory ≡ None → AnswersEnabled registry has_form x lane m fresh said first)
+  pub event_refused : (memory : KeptCallsites) (e : Event) (m : Metadata) (fresh first second : Pass) (said wanted : Bool) → m ≡ event_metadata e → IsEmpty (refusals fresh) → wanted ≡ false → (memory ≡ None → AnswersEnabled registry has_form x lane m fresh said first)
       → AnswersEvent registry has_form x lane e first wanted second → WantedEvent memory e false
   event_refused memory e m fresh first second said wanted same empty no_one a b = λ none f d. second_false _ _ (asked_second f e m fresh first second said wanted d same empty (a none) b ∙ no_one)
 
-  pub event_wanted : (memory : Memory) (e : Event) (m : Metadata) (fresh first second : Pass) (said wanted : Bool) → m ≡ event_metadata e → IsEmpty (refusals fresh) → said ≡ true → wanted ≡ true
+  pub event_wanted : (memory : KeptCallsites) (e : Event) (m : Metadata) (fresh first second : Pass) (said wanted : Bool) → m ≡ event_metadata e → IsEmpty (refusals fresh) → said ≡ true → wanted ≡ true
       → (memory ≡ None → AnswersEnabled registry has_form x lane m fresh said first) → AnswersEvent registry has_form x lane e first wanted second → WantedEvent memory e true
   event_wanted memory e m fresh first second said wanted same empty agreed more a b = λ none f d.
       both_true _ _ (sym (asked_same f m (event_metadata e) fresh same empty) ∙ sym (a none f d).answer ∙ agreed) (asked_second f e m fresh first second said wanted d same empty (a none) b ∙ more)

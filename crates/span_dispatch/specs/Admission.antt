@@ -11,7 +11,7 @@ use Rattle.span_core.specs.declared.level.LevelFilter.{LevelFilter}
 use Rattle.span_core.specs.declared.metadata.Metadata.{Metadata}
 use Rattle.span_core.specs.declared.pass.Pass.{Pass}
 use Rattle.span_core.specs.declared.span.Lane.{Lane}
-use Rattle.span_dispatch.specs.Cache.{Agrees, IsKept, IsUpToDate, Memory, ReadsOnce, RefusesBelow, RefusesInterest, hint_in, is_above_read, kept_in, with_callsite}
+use Rattle.span_dispatch.specs.Cache.{Agrees, IsKept, IsUpToDate, KeptCallsites, ReadsOnce, RefusesBelow, RefusesInterest, hint_in, is_above_read, kept_in, with_callsite}
 use Rattle.span_dispatch.specs.declared.cache.Cache.TheVariants as cache
 use Rattle.span_dispatch.specs.declared.cache.Cache.{Cache}
 use Rattle.span_dispatch.specs.declared.cache.Callsite.{Callsite}
@@ -28,64 +28,64 @@ use Rattle.span_registry.specs.Question.{asked, hint_of, interest_of, is_never, 
 use Rattle.span_registry.specs.Store.{RegistryState, Store}
 
 -- the hint that a dispatcher goes by: its stack's, or none where it keeps nothing
-abbrev pub hint_kept : Memory → Form → Option LevelFilter
+abbrev pub hint_kept : KeptCallsites → Form → Option LevelFilter
 hint_kept None f = None
 hint_kept (Some callsites) f = hint_of f
 
 -- whether a level is above that
-abbrev pub is_above_hint : Memory → Form → Metadata → Bool
+abbrev pub is_above_hint : KeptCallsites → Form → Metadata → Bool
 is_above_hint memory f m = is_above (level_of m) (hint_kept memory f)
 
 -- whether a dispatcher that goes by interests finds the stack's, on this many filters, to be never
-abbrev pub interests_nobody : Memory → Form → ℕ → Metadata → Bool
+abbrev pub interests_nobody : KeptCallsites → Form → ℕ → Metadata → Bool
 interests_nobody None f filters m = false
 interests_nobody (Some callsites) f filters m = is_never (interest_of f m filters None).0
 
 -- hint and interest let metadata by
-pub record IsLetBy (memory : Memory) (f : Form) (s : RegistryState) (m : Metadata) : Type 0 where
+pub record IsLetBy (memory : KeptCallsites) (f : Form) (s : RegistryState) (m : Metadata) : Type 0 where
   pub hint : is_above_hint memory f m ≡ false
   pub agrees : Agrees memory m
   pub interest : interests_nobody memory f s.filters m ≡ false
 
 -- hint or interest rule them out, and nobody wants them
-pub record IsRuledOut (memory : Memory) (f : Form) (s : RegistryState) (lane : Lane) (m : Metadata) : Type 0 where
+pub record IsRuledOut (memory : KeptCallsites) (f : Form) (s : RegistryState) (lane : Lane) (m : Metadata) : Type 0 where
   pub rule : (is_above_hint memory f m ≡ true) ⊎ (Agrees memory m × (interests_nobody memory f s.filters m ≡ true))
   pub unwanted : IsUnwanted f m s.store lane.0
 
 -- the level passes the hint, but the interest isn't to be had
-pub record IsUnknown (memory : Memory) (f : Form) (m : Metadata) (e : TraceError) : Type 0 where
+pub record IsUnknown (memory : KeptCallsites) (f : Form) (m : Metadata) (e : TraceError) : Type 0 where
   pub hint : is_above_hint memory f m ≡ false
   pub refused : RefusesInterest memory m e
 
 -- they are let by, and no leaf vetoes
-abbrev pub IsMade : Memory → Form → RegistryState → Metadata → Bool → Type 0
-IsMade memory f s m vetoed = IsLetBy memory f s m × (vetoed ≡ false)
+abbrev pub IsAccepted : KeptCallsites → Form → RegistryState → Metadata → Bool → Type 0
+IsAccepted memory f s m vetoed = IsLetBy memory f s m × (vetoed ≡ false)
 
 -- they are ruled out, or let by and a leaf vetoes
-abbrev pub IsDropped : Memory → Form → RegistryState → Lane → Metadata → Bool → Type 0
+abbrev pub IsDropped : KeptCallsites → Form → RegistryState → Lane → Metadata → Bool → Type 0
 IsDropped memory f s lane m vetoed = IsRuledOut memory f s lane m ⊎ (IsLetBy memory f s m × (vetoed ≡ true))
 
 -- what is kept, and their callsite too unless this is true
-abbrev pub learned_if : Bool → Memory → Metadata → Memory
+abbrev pub learned_if : Bool → KeptCallsites → Metadata → KeptCallsites
 learned_if true memory m = memory
 learned_if false memory m = option_map (λ callsites. with_callsite callsites m) memory
 
 -- what is kept afterwards: their callsite too, unless the level was above the hint
-abbrev pub learned : Memory → Form → Metadata → Memory
+abbrev pub learned : KeptCallsites → Form → Metadata → KeptCallsites
 learned memory f m = learned_if (is_above_hint memory f m) memory m
 
 -- the same after an answer to an event or a probe: of what was refused, as it was
-abbrev pub Learns : Memory → Form → Metadata → Answer → Memory → Type 0
+abbrev pub Learns : KeptCallsites → Form → Metadata → Answer → KeptCallsites → Type 0
 Learns memory f m (answer.Refused e) after = after ≡ memory
 Learns memory f m a after = after ≡ learned memory f m
 
 -- the same after an answer to a new span: where its interest wasn't to be had, as it was; where the registry refused it, its callsite is kept
-abbrev pub LearnsOfSpan : Memory → Form → Metadata → Answer → Memory → Type 0
+abbrev pub LearnsOfSpan : KeptCallsites → Form → Metadata → Answer → KeptCallsites → Type 0
 LearnsOfSpan memory f m (answer.Refused e) after = (RefusesInterest memory m e × (after ≡ memory)) ⊎ (after ≡ learned memory f m)
 LearnsOfSpan memory f m a after = after ≡ learned memory f m
 
 -- whatever the stack: the same is kept, and perhaps the callsite of these metadata
-abbrev pub MayLearn : Memory → Metadata → Memory → Type 0
+abbrev pub MayLearn : KeptCallsites → Metadata → KeptCallsites → Type 0
 MayLearn memory m after = (after ≡ memory) ⊎ (after ≡ learned_if false memory m)
 
 -- what is kept loses nothing, whatever the filters learn: a level above the hint, and an interest of never in what shows the same, are of what nobody wants in any store; of always, of what all want
@@ -114,7 +114,7 @@ Decides f s lane m pass (Err e) = ⊤
 -- Below: steps of the code, which no public clause cites.
 
 -- the interest by which metadata are let by: never above the hint; sometimes where nothing is kept; else the stack's
-pub record IsInterestBy (memory : Memory) (f : Form) (filters : ℕ) (m : Metadata) (after : Memory) (i : Interest) : Type 0 where
+pub record IsInterestBy (memory : KeptCallsites) (f : Form) (filters : ℕ) (m : Metadata) (after : KeptCallsites) (i : Interest) : Type 0 where
   pub above : is_above_hint memory f m ≡ true → i ≡ Never
   pub agrees : is_above_hint memory f m ≡ false → Agrees memory m
   pub never : is_above_hint memory f m ≡ false → interests_nobody memory f filters m ≡ is_never i
@@ -122,7 +122,7 @@ pub record IsInterestBy (memory : Memory) (f : Form) (filters : ℕ) (m : Metada
   pub learned : after ≡ learned memory f m
 
 -- it is to be had, or not, and then the same is kept as before
-abbrev pub HasInterestBy : Memory → Form → ℕ → Metadata → Memory → Result Interest TraceError → Type 0
+abbrev pub HasInterestBy : KeptCallsites → Form → ℕ → Metadata → KeptCallsites → Result Interest TraceError → Type 0
 HasInterestBy memory f filters m after (Ok i) = IsInterestBy memory f filters m after i
 HasInterestBy memory f filters m after (Err e) = (is_above_hint memory f m ≡ false) × (after ≡ memory)
 
@@ -140,7 +140,7 @@ pub record GivesInterest {S : Type 0} (registry : S → RegistryState) (has_form
   pub kept : (f : Form) → has_form x f → IsUpToDate f (registry x).filters old → IsUpToDate f (registry x).filters new
 
 -- what comes of asking whether metadata are wanted: true, with the pass that a new one becomes where all are asked; false, where they are dropped; or their interest isn't to be had
-abbrev pub IsAdmitted : Memory → Form → RegistryState → Lane → Metadata → Pass → Memory → Result Bool TraceError → Type 0
+abbrev pub IsAdmitted : KeptCallsites → Form → RegistryState → Lane → Metadata → Pass → KeptCallsites → Result Bool TraceError → Type 0
 IsAdmitted memory f s lane m pass after (Ok true) = IsLetBy memory f s m × (asked f m s.store lane.0 no_filter no_filter ≡ (true, refusals pass)) × (after ≡ learned memory f m)
 IsAdmitted memory f s lane m pass after (Ok false) = IsDropped memory f s lane m (vetoes f m s.store lane.0) × (after ≡ learned memory f m)
 IsAdmitted memory f s lane m pass after (Err e) = IsUnknown memory f m e × (after ≡ memory)

@@ -1,7 +1,7 @@
 -- What a leaf sees of what was made; and what it would see if it and the filters round it stood alone, with no other layer or filter beside them.
 use Rattle.std.specs.Prelude.{◌≡◌, ℕ, true, if◌then◌else◌, List, [], ◌∷◌, ◌++◌, Option, Some, None}
 use Rattle.span_core.specs.Filters.{FilterSet, union}
-use Rattle.span_dispatch.specs.Outcome.{LevelSet, Made, Noticed, Outcome, Quiet, Steps, given_in}
+use Rattle.span_dispatch.specs.Outcome.{LevelSet, OutcomeAt, Noticed, Outcome, Quiet, Steps, given_in}
 use Rattle.span_layers.specs.Observe.{open_answers}
 use Rattle.span_registry.specs.Answers.{Notice}
 use Rattle.span_registry.specs.Conducts.{Conducts, after_notice, path_now, setting}
@@ -21,16 +21,16 @@ passed (Some path) (Noticed lane e) s t =
 passed path o s t = []
 
 -- what passes the path of the leaf or the filter at a place, of what was made: a leaf there sees just that
-abbrev pub seen : Place → List Made → Heard
+abbrev pub seen : Place → List OutcomeAt → Heard
 seen place [] = []
 seen place (m ∷ ms) = passed (path_at m.form place) m.outcome m.before m.after ++ seen place ms
 
 -- Below: nothing names another layer or filter than those of one path.
 
 -- the form of a leaf that refuses nothing, with the filters of this path round it
-abbrev pub lone : Path → Form
-lone [] = Leaf true open_answers
-lone ((n, a) ∷ path) = Filtered n a (lone path)
+abbrev pub form_of_path : Path → Form
+form_of_path [] = Leaf true open_answers
+form_of_path ((n, a) ∷ path) = Filtered n a (form_of_path path)
 
 -- the filters' conducts after a notice: a filter learns of what it passes itself, and all filters round it pass, asked in the store before it; u is the store that it is given in
 abbrev pub learning : Conducts → Notice → Store → Store → ℕ → FilterSet → Conducts
@@ -50,4 +50,4 @@ acting cs (LevelSet n l) s t = setting n l cs
 abbrev pub Alone : Conducts → Store → List Outcome → Heard → Type 0
 Alone cs s [] heard = heard ≡ []
 Alone cs s (o ∷ outcomes) heard =
-    (t : Store) × (rest : Heard) × Steps (lone (path_now cs)) o s t × Alone (acting cs o s t) t outcomes rest × (heard ≡ passed (Some (path_now cs)) o s t ++ rest)
+    (t : Store) × (rest : Heard) × Steps (form_of_path (path_now cs)) o s t × Alone (acting cs o s t) t outcomes rest × (heard ≡ passed (Some (path_now cs)) o s t ++ rest)

@@ -29,16 +29,16 @@ abbrev pub with_callsite : Callsites → Metadata → Callsites
 with_callsite callsites m n = if callsite_of m == n then Some (unwrap_or (callsites n) m) else callsites n
 
 -- the callsites whose interest is kept; or none, where nothing ever is
-abbrev pub Memory : Type 0
-Memory = Option Callsites
+abbrev pub KeptCallsites : Type 0
+KeptCallsites = Option Callsites
 
 -- if their callsite is kept, then with metadata that show the same
-abbrev pub Agrees : Memory → Metadata → Type 0
+abbrev pub Agrees : KeptCallsites → Metadata → Type 0
 Agrees None m = ⊤
 Agrees (Some callsites) m = (k : Metadata) → callsites (callsite_of m) ≡ Some k → ShowSame k m
 
 -- why an interest isn't to be had: the callsite is kept with other metadata, or it isn't kept, and memory was refused. Where nothing is kept none is needed
-abbrev pub RefusesInterest : Memory → Metadata → TraceError → Type 0
+abbrev pub RefusesInterest : KeptCallsites → Metadata → TraceError → Type 0
 RefusesInterest (Some callsites) m CallsiteMismatch = (k : Metadata) × (callsites (callsite_of m) ≡ Some k) × ¬ (ShowSame k m)
 RefusesInterest (Some callsites) m OutOfMemory = callsites (callsite_of m) ≡ None
 RefusesInterest memory m e = ⊥
@@ -52,11 +52,11 @@ abbrev pub is_above_read : ReadHint → Metadata → Bool
 is_above_read read m = is_above (level_of m) (unwrap_or read None)
 
 -- why metadata are refused: their level isn't above the hint that was read, and their interest isn't to be had
-abbrev pub RefusesBelow : ReadHint → Memory → Metadata → TraceError → Type 0
+abbrev pub RefusesBelow : ReadHint → KeptCallsites → Metadata → TraceError → Type 0
 RefusesBelow read memory m e = (is_above_read read m ≡ false) × RefusesInterest memory m e
 
 -- what is kept of the hint once metadata were asked of: what was read of it before; else what is read then, or nothing where nothing ever is kept
-abbrev pub ReadsOnce : Memory → ReadHint → ReadHint → Type 0
+abbrev pub ReadsOnce : KeptCallsites → ReadHint → ReadHint → Type 0
 ReadsOnce memory (Some hint) after = after ≡ Some hint
 ReadsOnce (Some callsites) None after = IsSome after
 ReadsOnce None None after = after ≡ None
@@ -68,7 +68,7 @@ abbrev pub callsites_of : Known → Callsites
 callsites_of k n = option_map (λ (one : Callsite). one.metadata) (tree.get nat_cmp k.callsites n)
 
 -- what is kept in a cache
-abbrev pub kept_in : Cache → Memory
+abbrev pub kept_in : Cache → KeptCallsites
 kept_in cache.Off = None
 kept_in cache.Empty = Some no_callsite
 kept_in (cache.Filled k) = Some (callsites_of k)

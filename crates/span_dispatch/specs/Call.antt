@@ -15,8 +15,8 @@ use Rattle.span_core.specs.declared.span.Id.{Id}
 use Rattle.span_core.specs.declared.span.Lane.{Lane}
 use Rattle.span_core.specs.declared.span.Parent.{Parent}
 use Rattle.span_core.specs.declared.span.Record.{Record}
-use Rattle.span_dispatch.specs.Admission.{IsDropped, IsMade, IsUnknown, Learns, LearnsOfSpan}
-use Rattle.span_dispatch.specs.Cache.{Memory, no_callsite}
+use Rattle.span_dispatch.specs.Admission.{IsDropped, IsAccepted, IsUnknown, Learns, LearnsOfSpan}
+use Rattle.span_dispatch.specs.Cache.{KeptCallsites, no_callsite}
 use Rattle.span_dispatch.specs.Outcome.{HandleAdded, HandleTaken, GoneLeft, LevelSet, Noticed, Outcome, Quiet}
 use Rattle.span_dispatch.specs.declared.request.Answer.TheVariants as answer
 use Rattle.span_dispatch.specs.declared.request.Answer.{Answer}
@@ -77,13 +77,13 @@ pub record DropsHandle (lane : Lane) (id : Id) (s : Store) (closes : Bool) (os :
   pub itself : IsTrue closes ↔ Member (number_of id) closed
 
 -- how a stack of this form on this registry answers a call, where these callsites are kept. A new span and an event are dropped exactly where hint or interest rule them out or a leaf vetoes; no layer refuses anything else
-abbrev pub AnswersWith : Call → Memory → Form → RegistryState → Answer → Type 0
+abbrev pub AnswersWith : Call → KeptCallsites → Form → RegistryState → Answer → Type 0
 AnswersWith (OpenSpan lane a) memory f s (answer.Made id) =
-    IsMade memory f s (metadata_of a) (vetoes f (metadata_of a) s.store lane.0) × HasRoomFor s lane (asked_parent a)
+    IsAccepted memory f s (metadata_of a) (vetoes f (metadata_of a) s.store lane.0) × HasRoomFor s lane (asked_parent a)
 AnswersWith (OpenSpan lane a) memory f s answer.Dropped = IsDropped memory f s lane (metadata_of a) (vetoes f (metadata_of a) s.store lane.0)
 AnswersWith (OpenSpan lane a) memory f s (answer.Refused e) =
-    IsUnknown memory f (metadata_of a) e ⊎ (IsMade memory f s (metadata_of a) (vetoes f (metadata_of a) s.store lane.0) × RefusesNew s lane (asked_parent a) e)
-AnswersWith (SendEvent lane e) memory f s answer.Done = IsMade memory f s (event_metadata e) (vetoes_whole f e s.store lane)
+    IsUnknown memory f (metadata_of a) e ⊎ (IsAccepted memory f s (metadata_of a) (vetoes f (metadata_of a) s.store lane.0) × RefusesNew s lane (asked_parent a) e)
+AnswersWith (SendEvent lane e) memory f s answer.Done = IsAccepted memory f s (event_metadata e) (vetoes_whole f e s.store lane)
 AnswersWith (SendEvent lane e) memory f s answer.Dropped = IsDropped memory f s lane (event_metadata e) (vetoes_whole f e s.store lane)
 AnswersWith (SendEvent lane e) memory f s (answer.Refused error) = IsUnknown memory f (event_metadata e) error
 AnswersWith (Enter lane id) memory f s answer.Done = ⊤
@@ -97,7 +97,7 @@ AnswersWith (AddHandle lane id) memory f s answer.Done = handles_of s.store.span
 AnswersWith (AddHandle lane id) memory f s (answer.Refused e) = RefusesClone s id e
 AnswersWith (DropHandle lane id) memory f s (answer.Yes closes) = ⊤
 AnswersWith (DropHandle lane id) memory f s (answer.Refused e) = RefusesRelease s id e
-AnswersWith (Probe lane m) memory f s (answer.Yes true) = IsMade memory f s m (vetoes f m s.store lane.0)
+AnswersWith (Probe lane m) memory f s (answer.Yes true) = IsAccepted memory f s m (vetoes f m s.store lane.0)
 AnswersWith (Probe lane m) memory f s (answer.Yes false) = IsDropped memory f s lane m (vetoes f m s.store lane.0)
 AnswersWith (Probe lane m) memory f s (answer.Refused e) = IsUnknown memory f m e
 AnswersWith (AskCurrent lane) memory f s (answer.Current o) = IsCurrent s.store lane.0 (option_map number_of o)
@@ -106,7 +106,7 @@ AnswersWith (SetLevel n l) memory f s (answer.Refused e) = RefusesLevel f n l e
 AnswersWith call memory f s a = ⊥
 
 -- which callsites are kept after a call was answered so: of what is asked by metadata that callsite, too; none once a level was set
-abbrev pub KeepsAfter : Call → Memory → Form → Answer → Memory → Type 0
+abbrev pub KeepsAfter : Call → KeptCallsites → Form → Answer → KeptCallsites → Type 0
 KeepsAfter (OpenSpan lane attrs) memory f a after = LearnsOfSpan memory f (metadata_of attrs) a after
 KeepsAfter (SendEvent lane e) memory f a after = Learns memory f (event_metadata e) a after
 KeepsAfter (Probe lane m) memory f a after = Learns memory f m a after

@@ -20,7 +20,7 @@ use Rattle.span_core.specs.declared.span.Record.{Record}
 use Rattle.span_dispatch.specs.Admission.{Decides, IsAdmitted, KeepsSafely, MayLearn, hint_kept, learned_if}
 use Rattle.span_dispatch.specs.Cache.{IsUpToDate, ReadsOnce, RefusesBelow, RefusesInterest, is_above_read}
 use Rattle.span_dispatch.specs.Call.{AddHandle, AskCurrent, Call, DropHandle, DropsSpan, Enter, Exit, Follow, OpenSpan, OpensFor, Probe, RecordValues, SendEvent, SetLevel, current_answer, done_answer, event_answer, span_answer, yes_answer}
-use Rattle.span_dispatch.specs.Outcome.{IsHonest, Made, Makes}
+use Rattle.span_dispatch.specs.Outcome.{IsHonest, OutcomeAt, Makes}
 use Rattle.span_dispatch.specs.Serve.{AnswersExactly, IsCurrentSomehow, IsReady, IsReadyAfter, IsReadySomehow, IsReadyWith, IsTold, KeepsUpToDate, Sees, Served, ServedExactly, ServesRequest, TellsAsked, call_of, forgetful, hint_by, kept_by, stack_of, with_stack}
 use Rattle.span_dispatch.specs.declared.cache.Cache.{Cache}
 use Rattle.span_dispatch.specs.declared.dispatch.Dispatch.{Dispatch}
@@ -231,9 +231,9 @@ module _ {S : Type 0} (s : SubscriberOf S) where
 
   -- a dispatcher that is ready serves the next request so
   pub record ServesNext (past : List Answer) (r : Request) (a : Answer) (old new : Dispatch S) : Type 0 where
-    pub told : IsReadySomehow s.registry s.with_registry s.has_form s.stepped s.levelled old → (made : List Made) × TellsAsked s.registry s.with_registry s.has_form s.stepped s.levelled (call_of past r) (stack_of old) a made (stack_of new)
+    pub told : IsReadySomehow s.registry s.with_registry s.has_form s.stepped s.levelled old → (made : List OutcomeAt) × TellsAsked s.registry s.with_registry s.has_form s.stepped s.levelled (call_of past r) (stack_of old) a made (stack_of new)
     pub exact : IsCurrentSomehow s.registry s.with_registry s.has_form s.stepped s.levelled old
-        → (made : List Made) × ServesRequest s.registry s.with_registry s.has_form s.stepped s.levelled past r (kept_by old) (stack_of old) a made (kept_by new) (stack_of new)
+        → (made : List OutcomeAt) × ServesRequest s.registry s.with_registry s.has_form s.stepped s.levelled past r (kept_by old) (stack_of old) a made (kept_by new) (stack_of new)
 
   -- a dispatcher that is ready serves a list so
   abbrev pub ServesList : List Request → Dispatch S → Dispatch S → Vec Answer Global → Type 0
@@ -250,7 +250,7 @@ module _ {S : Type 0} (s : SubscriberOf S) where
   -- whatever was made between the two, each leaf sees of it what its path passes, as if it stood alone
   abbrev pub SeesWhatIsMade : Dispatch S → Dispatch S → Type 0
   SeesWhatIsMade old new =
-      (made : List Made) → FoldsTo (Makes s.registry s.with_registry s.has_form s.stepped s.levelled) (stack_of old) made (stack_of new) → Sees s.registry s.hears s.acts_at (stack_of old) made (stack_of new)
+      (made : List OutcomeAt) → FoldsTo (Makes s.registry s.with_registry s.has_form s.stepped s.levelled) (stack_of old) made (stack_of new) → Sees s.registry s.hears s.acts_at (stack_of old) made (stack_of new)
 
   -- ---- what is promised of any stack that has a form
 

@@ -4,7 +4,7 @@ use Rattle.std.specs.List.{FoldsTo}
 use Rattle.span_core.specs.Filters.{FilterSet}
 use Rattle.span_core.specs.declared.span.Id.{Id}
 use Rattle.span_core.specs.declared.span.Lane.{Lane}
-use Rattle.span_dispatch.specs.Alone.{Alone, lone}
+use Rattle.span_dispatch.specs.Alone.{Alone, form_of_path}
 use Rattle.span_dispatch.specs.Call.{AddHandle, Call, DropHandle, DropsHandle, Enter, Exit, Follow, LeavesSpan, OpenSpan, RecordValues, SendEvent, SetLevel}
 use Rattle.span_dispatch.specs.Outcome.{HandleAdded, LevelSet, Noticed, Outcome, Quiet, Steps}
 use Rattle.span_dispatch.specs.declared.request.Answer.TheVariants as answer
@@ -64,7 +64,7 @@ OutcomesOf one s os = HasOutcomes (effect_of one.0 one.1) s os
 
 -- a store goes through outcomes, where no filter refuses anything
 abbrev pub GoesThrough : Store → List Outcome → Store → Type 0
-GoesThrough s os t = FoldsTo (λ u o v. Steps (lone []) o u v) s os t
+GoesThrough s os t = FoldsTo (λ u o v. Steps (form_of_path []) o u v) s os t
 
 -- the outcomes of calls, one after another, from a store on
 abbrev pub OutcomesFrom : Store → List MadeCall → List Outcome → Type 0

@@ -1,7 +1,7 @@
 -- Stacks whose form only levels change: what is made of a list of requests, said of the form and the registry alone.
 use Rattle.std.specs.Prelude.{◌≡◌, ℕ, if◌then◌else◌, List, [], map}
-use Rattle.span_dispatch.specs.Cache.{Memory}
-use Rattle.span_dispatch.specs.Outcome.{Made}
+use Rattle.span_dispatch.specs.Cache.{KeptCallsites}
+use Rattle.span_dispatch.specs.Outcome.{OutcomeAt}
 use Rattle.span_dispatch.specs.Recorder.{kept_notice}
 use Rattle.span_dispatch.specs.Alone.{seen}
 use Rattle.span_dispatch.specs.Serve.{RunExactly, flat}
@@ -27,10 +27,10 @@ abbrev pub Formed : Type 0
 Formed = RegistryState × Form
 
 -- from one registry to another, under a stack that has this form at first, and then what levels make of it, and from callsites that are kept to others, the requests are answered so, and this is made of each
-abbrev pub RunsBy : Form → List Request → List Answer → List (List Made) → Memory → RegistryState → Memory → RegistryState → Type 0
+abbrev pub RunsBy : Form → List Request → List Answer → List (List OutcomeAt) → KeptCallsites → RegistryState → KeptCallsites → RegistryState → Type 0
 RunsBy f requests answers made kept s after t =
     (g : Form) × RunExactly (λ (r : Formed). r.0) (λ r w. (w, r.1)) (λ r h. h ≡ r.1) (λ r p e lane v q w. q.1 ≡ r.1) (λ r n l q. q.1 ≡ set_at n l r.1) [] requests answers made kept (s, f) after (t, g)
 
 -- what a recorder at a place, of which all fitted into memory, keeps of what was made
-abbrev pub kept_at : List (List Made) → Place → List Notice
+abbrev pub kept_at : List (List OutcomeAt) → Place → List Notice
 kept_at made place = map kept_notice (seen place (flat made))

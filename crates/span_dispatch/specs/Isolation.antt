@@ -2,9 +2,9 @@
 use Rattle.std.specs.Prelude.{◌≡◌, ⊤, List, [], ◌∷◌, map}
 use Rattle.std.specs.List.{FoldsTo, filter}
 use Rattle.span_core.specs.Filters.{FilterSet}
-use Rattle.span_dispatch.specs.Alone.{lone, seen}
+use Rattle.span_dispatch.specs.Alone.{form_of_path, seen}
 use Rattle.span_dispatch.specs.Effect.{MadeCall, OutcomesFrom, OutcomesOf, concerns}
-use Rattle.span_dispatch.specs.Outcome.{Made, Makes, Outcome, Steps}
+use Rattle.span_dispatch.specs.Outcome.{OutcomeAt, Makes, Outcome, Steps}
 use Rattle.span_dispatch.specs.Serve.{Served, flat, made_calls, outcome_of, stack_of}
 use Rattle.span_dispatch.specs.declared.dispatch.Dispatch.{Dispatch}
 use Rattle.span_dispatch.specs.declared.request.Answer.{Answer}
@@ -46,7 +46,7 @@ SeenAlone {M} Sees OnlyIt = (cs : Conducts) (s t : Store) (made : M) (h : Heard)
 pub record SeesMade {S : Type 0} (registry : S → RegistryState) (with_registry : S → RegistryState → S) (has_form : S → Form → Type 0) (stepped : StackSteps S) (levelled : LevelSteps S) (acts_at : ActsAt S) (cs : Conducts) (s : Store) (outcomes : List Outcome) (h : Heard) : Type 0 where
   pub old : S
   pub new : S
-  pub made : List Made
+  pub made : List OutcomeAt
   pub goes : FoldsTo (Makes registry with_registry has_form stepped levelled) old made new
   pub place : Place
   pub acts : acts_at old place cs
@@ -81,9 +81,9 @@ pub record SeesCalls {S : Type 0} (registry : S → RegistryState) (with_registr
   pub sees : seen place (flat served.made) ≡ h
 
 -- what was made of a list that was told is what its made requests have by themselves, as far as filters of any numbers go
-abbrev pub SaysWhatIsMade : {S : Type 0} → (S → RegistryState) → (List Request → List Answer → List (List Made) → S → S → Type 0) → Type 0
+abbrev pub SaysWhatIsMade : {S : Type 0} → (S → RegistryState) → (List Request → List Answer → List (List OutcomeAt) → S → S → Type 0) → Type 0
 SaysWhatIsMade {S} registry Runs =
-    (numbers : FilterSet) (rs : List Request) (answers : List Answer) (made : List (List Made)) (x y : S) → Runs rs answers made x y
+    (numbers : FilterSet) (rs : List Request) (answers : List Answer) (made : List (List OutcomeAt)) (x y : S) → Runs rs answers made x y
     → OutcomesFrom (registry x).store (made_calls numbers [] rs answers) (filter (concerns numbers) (map outcome_of (flat made)))
 
 -- on stores that agree as far as some filters go, a call that is answered the same has the same outcomes
@@ -97,4 +97,4 @@ HaveSameOutcomes calls = (s t : Store) (os us : List Outcome) → AgreeAt no_fil
 -- behind filters that act alike, an outcome leaves stores that agree as those before it did
 abbrev pub KeepsAgreement : Outcome → Type 0
 KeepsAgreement o =
-    (cs ds : Conducts) (s t u v : Store) → PathsActAlike cs ds → AgreeAt (numbers_in cs) s t → Steps (lone (path_now cs)) o s u → Steps (lone (path_now ds)) o t v → AgreeAt (numbers_in cs) u v
+    (cs ds : Conducts) (s t u v : Store) → PathsActAlike cs ds → AgreeAt (numbers_in cs) s t → Steps (form_of_path (path_now cs)) o s u → Steps (form_of_path (path_now ds)) o t v → AgreeAt (numbers_in cs) u v

@@ -80,7 +80,7 @@ pub record SameAside (s t : Store) : Type 0 where
   pub stacks : t.stacks ≡ s.stacks
 
 -- what was made: an outcome of a stack that had this form; the store before it, and the one after
-pub record Made : Type 0 where
+pub record OutcomeAt : Type 0 where
   pub form : Form
   pub before : Store
   pub after : Store
@@ -125,7 +125,7 @@ module _ {S : Type 0} (registry : S → RegistryState) (with_registry : S → Re
     pub rules : IsHonestStack f (registry x).filters
 
   -- this was made of an honest stack
-  pub record Makes (x : S) (m : Made) (y : S) : Type 0 where
+  pub record Makes (x : S) (m : OutcomeAt) (y : S) : Type 0 where
     pub honest : IsHonest m.form x
     pub before : m.before ≡ (registry x).store
     pub steps : Steps m.form m.outcome m.before m.after

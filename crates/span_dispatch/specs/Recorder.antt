@@ -11,17 +11,17 @@ use Rattle.span_registry.specs.Place.{Told}
 use Rattle.span_registry.specs.Plan.{Itself}
 
 -- a recorder: the notices that it keeps, how many more it has memory for, and whether it has failed for want of memory
-pub record Kept : Type 0 where
+pub record RecorderState : Type 0 where
   pub notices : List KeptNotice
   pub room : ℕ
   pub failed : Bool
 
 -- a recorder as it begins
-abbrev pub new_recorder : Kept
+abbrev pub new_recorder : RecorderState
 new_recorder = record { notices = []; room = 0; failed = false }
 
 -- a recorder is notified of these: behind what it has it keeps a beginning of them, all of them unless it fails, and none once it has failed. It fails only where a notice is lost for which it had no room. Notified of nothing, it is as before
-pub record Records (old new : Kept) (due : List KeptNotice) : Type 0 where
+pub record Records (old new : RecorderState) (due : List KeptNotice) : Type 0 where
   pub more : List KeptNotice
   pub lost : List KeptNotice
   pub split : due ≡ more ++ lost
@@ -52,5 +52,5 @@ abbrev pub kept_notice : Told → KeptNotice
 kept_notice told = kept_on told.lane told.notice
 
 -- notified of one notice it keeps that, and leaves the registry alone
-abbrev pub recorder_steps : LayerSteps Kept
+abbrev pub recorder_steps : LayerSteps RecorderState
 recorder_steps x p e lane under v y w = (p ≡ Itself) × Records x y (kept_on lane e ∷ []) × (w ≡ v)

@@ -2,21 +2,21 @@
 use Rattle.std.proofs.Common.{◌≡◌, List, [], ◌∷◌, ◌++◌, refl, sym, ap, ◌∙◌, append_assoc, Bool, true, false, ◌+◌, length, arith}
 use Rattle.std.proofs.lemmas.Bool.{true≢false}
 use Rattle.std.proofs.lemmas.List.{append-nil, length-append}
-use Rattle.span_dispatch.specs.Recorder.{Kept, Records, recorder_steps}
+use Rattle.span_dispatch.specs.Recorder.{RecorderState, Records, recorder_steps}
 use Rattle.span_dispatch.specs.declared.notice.Notice.{Notice as KeptNotice}
 use Rattle.span_layers.specs.Layer.{HearsBy, LayerLaws}
 use Rattle.span_layers.specs.Leaf.{fixed_laws}
 use Rattle.span_layers.specs.Observe.{open_answers}
 use Rattle.span_registry.specs.Form.{Leaf}
 
-pub records_nothing : (r : Kept) → Records r r []
+pub records_nothing : (r : RecorderState) → Records r r []
 records_nothing r = record { more = []; lost = []; split = refl; kept = sym (append-nil r.notices); all = λ _. refl; failed = λ f. (f, refl); fails = λ f t. absurd (true≢false (sym t ∙ f)); room = omega arith; silent = λ _. refl }
 
 no_more : (ns ms : List KeptNotice) → ns ++ ms ≡ [] → (ns ≡ []) × (ms ≡ [])
 no_more [] ms e = (refl, e)
 no_more (n ∷ ns) ms e = let no : ⊥ = cc in absurd no
 
-pub records_more : (a b c : Kept) (ns ms : List KeptNotice) → Records a b ns → Records b c ms → Records a c (ns ++ ms)
+pub records_more : (a b c : RecorderState) (ns ms : List KeptNotice) → Records a b ns → Records b c ms → Records a c (ns ++ ms)
 records_more a b c ns ms f g = by_case b.failed refl
   where
     kept : c.notices ≡ a.notices ++ (f.more ++ g.more)
@@ -64,5 +64,5 @@ records_more a b c ns ms f g = by_case b.failed refl
         }
 
 -- it has one form, whatever it keeps, and hears by its own step
-pub recorder_laws : LayerLaws (λ (x : Kept) f. f ≡ Leaf true open_answers) recorder_steps (HearsBy recorder_steps) (λ x y. y ≡ x)
+pub recorder_laws : LayerLaws (λ (x : RecorderState) f. f ≡ Leaf true open_answers) recorder_steps (HearsBy recorder_steps) (λ x y. y ≡ x)
 recorder_laws = fixed_laws (Leaf true open_answers) recorder_steps (λ x y. y ≡ x) tt (λ x p e lane under v y w s. s.0)

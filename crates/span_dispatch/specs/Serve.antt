@@ -9,12 +9,12 @@ use Rattle.span_core.specs.declared.span.Id.{Id}
 use Rattle.span_core.specs.declared.span.Parent.TheVariants as parent
 use Rattle.span_core.specs.declared.span.Parent.{Parent}
 use Rattle.span_dispatch.specs.Alone.{Alone, seen}
-use Rattle.span_dispatch.specs.Cache.{IsUpToDate, Memory, ReadHint, forgotten, hint_in, kept_in}
+use Rattle.span_dispatch.specs.Cache.{IsUpToDate, KeptCallsites, ReadHint, forgotten, hint_in, kept_in}
 use Rattle.span_dispatch.specs.Admission.{KeepsSafely}
 use Rattle.span_dispatch.specs.declared.cache.Cache.{Cache}
 use Rattle.span_dispatch.specs.Call.{AddHandle, AnswersWith, AskCurrent, Call, DropHandle, Enter, Exit, Follow, KeepsAfter, OpenSpan, Probe, RecordValues, SendEvent, SetLevel, closes_of}
 use Rattle.span_dispatch.specs.Effect.{MadeCall, OutcomesOf, effect_of, is_concern}
-use Rattle.span_dispatch.specs.Outcome.{IsHonest, Made, Makes, Noticed, Outcome}
+use Rattle.span_dispatch.specs.Outcome.{IsHonest, OutcomeAt, Makes, Noticed, Outcome}
 use Rattle.span_dispatch.specs.Readable.{ShowTheirSpans}
 use Rattle.span_dispatch.specs.declared.dispatch.Dispatch.{Dispatch}
 use Rattle.span_dispatch.specs.declared.request.Answer.TheVariants as answer
@@ -50,7 +50,7 @@ abbrev pub with_stack : {S : Type 0} → Dispatch S → S → Dispatch S
 with_stack d x = record d { stack = x }
 
 -- the callsites whose interest it keeps; or none, where it never keeps anything
-abbrev pub kept_by : {S : Type 0} → Dispatch S → Memory
+abbrev pub kept_by : {S : Type 0} → Dispatch S → KeptCallsites
 kept_by d = kept_in d.cache
 
 -- the hint that it keeps, as it read it of its stack; or none, where it didn't read it yet, or never does
@@ -106,7 +106,7 @@ made_calls numbers past (r ∷ rs) (a ∷ answers) = made_call numbers (call_of 
 made_calls numbers past rs answers = []
 
 -- the outcome that was made
-abbrev pub outcome_of : Made → Outcome
+abbrev pub outcome_of : OutcomeAt → Outcome
 outcome_of m = m.outcome
 
 -- the span that an outcome closes, if it is a close
@@ -115,7 +115,7 @@ closed_by (Noticed lane (OnClose id)) = number_of id ∷ []
 closed_by other = []
 
 -- the spans that a run closes, in order
-abbrev pub closed_in : List Made → List ℕ
+abbrev pub closed_in : List OutcomeAt → List ℕ
 closed_in [] = []
 closed_in (m ∷ ms) = closed_by m.outcome ++ closed_in ms
 
@@ -125,7 +125,7 @@ IsReadableClose s (Noticed lane (OnClose id)) = IsClosing s.spans (number_of id)
 IsReadableClose s other = ⊤
 
 -- each close is: so a child closes before its parent, and what closes can still be read
-abbrev pub AreReadableCloses : List Made → Type 0
+abbrev pub AreReadableCloses : List OutcomeAt → Type 0
 AreReadableCloses [] = ⊤
 AreReadableCloses (m ∷ ms) = IsReadableClose m.before m.outcome × AreReadableCloses ms
 
@@ -141,26 +141,26 @@ StandOnce [] = Unit {0}
 StandOnce (x ∷ xs) = ¬ (Member x xs) × StandOnce xs
 
 -- all that was made, request by request, in one list
-abbrev pub flat : List (List Made) → List Made
+abbrev pub flat : List (List OutcomeAt) → List OutcomeAt
 flat [] = []
 flat (ms ∷ made) = ms ++ flat made
 
 -- the leaf at each place went through what it sees of what was made
-abbrev pub EachSees : {S : Type 0} → HearSteps S → S → List Made → S → Type 0
+abbrev pub EachSees : {S : Type 0} → HearSteps S → S → List OutcomeAt → S → Type 0
 EachSees hears x made y = (place : Place) → hears x place (seen place made) y
 
 -- where only plain filters stand round a leaf, what it sees of what was made is what it would see if it stood alone, on any store that differs in extensions and other filters' verdicts alone
-abbrev pub EachSeesAlone : {S : Type 0} → (S → RegistryState) → ActsAt S → S → List Made → Type 0
+abbrev pub EachSeesAlone : {S : Type 0} → (S → RegistryState) → ActsAt S → S → List OutcomeAt → Type 0
 EachSeesAlone registry acts_at x made =
     (place : Place) (cs : Conducts) (s : Store) → acts_at x place cs → AgreeAt (numbers_in cs) (registry x).store s → Alone cs s (map outcome_of made) (seen place made)
 
 -- both
-pub record Sees {S : Type 0} (registry : S → RegistryState) (hears : HearSteps S) (acts_at : ActsAt S) (x : S) (made : List Made) (y : S) : Type 0 where
+pub record Sees {S : Type 0} (registry : S → RegistryState) (hears : HearSteps S) (acts_at : ActsAt S) (x : S) (made : List OutcomeAt) (y : S) : Type 0 where
   pub each : EachSees hears x made y
   pub alone : EachSeesAlone registry acts_at x made
 
 -- a stack of this form on this registry answers a call so, where these callsites are kept, and then these are
-pub record AnswersExactly (call : Call) (f : Form) (kept : Memory) (s : RegistryState) (a : Answer) (after : Memory) : Type 0 where
+pub record AnswersExactly (call : Call) (f : Form) (kept : KeptCallsites) (s : RegistryState) (a : Answer) (after : KeptCallsites) : Type 0 where
   pub answers : AnswersWith call kept f s a
   pub keeps : KeepsAfter call kept f a after
 
@@ -176,14 +176,14 @@ module _ {S : Type 0} (registry : S → RegistryState) (with_registry : S → Re
     pub kept : Kept f (registry (stack_of d)).filters d.cache
 
   -- of a call that was answered so this was made, as its answer says, and the stack went through it; where it was dropped nobody would have been told
-  pub record Tells (call : Call) (f : Form) (x : S) (a : Answer) (made : List Made) (y : S) : Type 0 where
+  pub record Tells (call : Call) (f : Form) (x : S) (a : Answer) (made : List OutcomeAt) (y : S) : Type 0 where
     pub says : OutcomesOf (call, a) (registry x).store (map outcome_of made)
     pub goes : FoldsTo (Makes registry with_registry has_form stepped levelled) x made y
     pub loses : a ≡ answer.Dropped → IsUnwantedCall call f (registry x).store
 
   -- something was made so of a call
   abbrev pub IsTold : Call → Form → Answer → S → S → Type 0
-  IsTold call f a x y = (made : List Made) × Tells call f x a made y
+  IsTold call f a x y = (made : List OutcomeAt) × Tells call f x a made y
 
   -- ready by a form that keeps this of the old one
   abbrev pub IsReadyAfter : (Form → ℕ → Cache → Type 0) → (Form → Form → Type 0) → Form → Dispatch S → Type 0
@@ -198,33 +198,33 @@ module _ {S : Type 0} (registry : S → RegistryState) (with_registry : S → Re
   IsCurrentSomehow d = (f : Form) × IsReadyWith IsUpToDate f d
 
   -- the same as is told of a call, and it is answered exactly so by a stack of this form, where these callsites are kept, and then these are
-  pub record Serves (call : Call) (f : Form) (kept : Memory) (x : S) (a : Answer) (made : List Made) (after : Memory) (y : S) : Type 0 where
+  pub record Serves (call : Call) (f : Form) (kept : KeptCallsites) (x : S) (a : Answer) (made : List OutcomeAt) (after : KeptCallsites) (y : S) : Type 0 where
     pub told : Tells call f x a made y
     pub exact : AnswersExactly call f kept (registry x) a after
 
   -- one request: what it asks for is served, or, where it names no span, nothing is asked and nothing changes
-  abbrev pub ServesAsked : Option Call → Memory → S → Answer → List Made → Memory → S → Type 0
+  abbrev pub ServesAsked : Option Call → KeptCallsites → S → Answer → List OutcomeAt → KeptCallsites → S → Type 0
   ServesAsked None kept x a made after y = (a ≡ answer.Dropped) × (made ≡ []) × (after ≡ kept) × (y ≡ x)
   ServesAsked (Some call) kept x a made after y = (f : Form) × IsReady f x × Serves call f kept x a made after y
 
   -- what becomes of a request behind these answers: what it asks for is served so
-  abbrev pub ServesRequest : List Answer → Request → Memory → S → Answer → List Made → Memory → S → Type 0
+  abbrev pub ServesRequest : List Answer → Request → KeptCallsites → S → Answer → List OutcomeAt → KeptCallsites → S → Type 0
   ServesRequest past r kept x a made after y = ServesAsked (call_of past r) kept x a made after y
 
   -- a list of requests, one after another, behind these answers: each is answered, dropped or refused exactly so
-  abbrev pub RunExactly : List Answer → List Request → List Answer → List (List Made) → Memory → S → Memory → S → Type 0
+  abbrev pub RunExactly : List Answer → List Request → List Answer → List (List OutcomeAt) → KeptCallsites → S → KeptCallsites → S → Type 0
   RunExactly past [] [] [] kept x after y = (after ≡ kept) × (y ≡ x)
   RunExactly past (r ∷ rs) (a ∷ answers) (ms ∷ made) kept x after y =
-      (k : Memory) × (z : S) × ServesRequest past r kept x a ms k z × RunExactly (past ++ (a ∷ [])) rs answers made k z after y
+      (k : KeptCallsites) × (z : S) × ServesRequest past r kept x a ms k z × RunExactly (past ++ (a ∷ [])) rs answers made k z after y
   RunExactly past rs answers made kept x after y = ⊥
 
   -- of one request: what it asks for was told, or, where it names no span, nothing was asked and nothing changes
-  abbrev pub TellsAsked : Option Call → S → Answer → List Made → S → Type 0
+  abbrev pub TellsAsked : Option Call → S → Answer → List OutcomeAt → S → Type 0
   TellsAsked None x a made y = (a ≡ answer.Dropped) × (made ≡ []) × (y ≡ x)
   TellsAsked (Some call) x a made y = (f : Form) × has_form x f × Tells call f x a made y
 
   -- so is each request of a list told, one after another, behind these answers
-  abbrev pub Run : List Answer → List Request → List Answer → List (List Made) → S → S → Type 0
+  abbrev pub Run : List Answer → List Request → List Answer → List (List OutcomeAt) → S → S → Type 0
   Run past [] [] [] x y = y ≡ x
   Run past (r ∷ rs) (a ∷ answers) (ms ∷ made) x y = (z : S) × TellsAsked (call_of past r) x a ms z × Run (past ++ (a ∷ [])) rs answers made z y
   Run past rs answers made x y = ⊥
@@ -232,7 +232,7 @@ module _ {S : Type 0} (registry : S → RegistryState) (with_registry : S → Re
   -- a list of requests is served so
   pub record Served (hears : HearSteps S) (acts_at : ActsAt S) (requests : List Request) (answers : List Answer) (old new : S) : Type 0 where
     -- there is one list of what was made of each request, on any lanes
-    pub made : List (List Made)
+    pub made : List (List OutcomeAt)
     -- made is what their answers say, and of a request that hint or kept interest dropped no layer would have been notified
     pub run : Run [] requests answers made old new
     -- each layer is notified, in order, of exactly the made requests that its own path's filters pass when asked afresh
@@ -257,4 +257,4 @@ module _ {S : Type 0} (registry : S → RegistryState) (with_registry : S → Re
   pub record ClosesEach (lane : Lane) (id : Id) (x y : S) : Type 0 where
     pub closed : List ℕ
     pub removal : Removal SameButExtensions (registry x) id closed None (registry y)
-    pub notices : (f : Form) → IsHonest registry with_registry has_form stepped levelled f x → (made : List Made) × FoldsTo (Makes registry with_registry has_form stepped levelled) x made y × (map outcome_of made ≡ closes_of lane closed) × ((g : Form) × IsHonest registry with_registry has_form stepped levelled g y × Keeps f g × ((registry y).filters ≡ (registry x).filters))
+    pub notices : (f : Form) → IsHonest registry with_registry has_form stepped levelled f x → (made : List OutcomeAt) × FoldsTo (Makes registry with_registry has_form stepped levelled) x made y × (map outcome_of made ≡ closes_of lane closed) × ((g : Form) × IsHonest registry with_registry has_form stepped levelled g y × Keeps f g × ((registry y).filters ≡ (registry x).filters))

@@ -28,9 +28,9 @@ pub struct Recorder {
 
 impl Model for Recorder {
     ghost use Rattle.std.specs.Prelude.{◌-◌, vec_capacity, vec_len};
-    ghost use Rattle.span_dispatch.specs.Recorder.{Kept};
+    ghost use Rattle.span_dispatch.specs.Recorder.{RecorderState};
 
-    ghost Value = { Kept };
+    ghost Value = { RecorderState };
 
     ghost view = { λ a. record {
       notices = a.notices.items;

@@ -3,7 +3,7 @@ use Rattle.std.proofs.Common.{◌≡◌, ℕ, ◌+◌, ◌≤◌, Option, Some, 
 use Rattle.span_core.specs.declared.filter.TheConstants.FilterId.{LIMIT}
 use Rattle.span_core.specs.declared.level.LevelFilter.{LevelFilter}
 use Rattle.span_core.specs.declared.level.TheConstants.LevelFilter.{INFO, TRACE, WARN}
-use Rattle.span_dispatch.specs.Recorder.{Kept, new_recorder}
+use Rattle.span_dispatch.specs.Recorder.{RecorderState, new_recorder}
 use Rattle.span_filters.specs.Filter.{settled_answers}
 use Rattle.span_filters.specs.Level.{level_answers}
 use Rattle.span_layers.specs.Filtered.{FilteredForm, IsNumber, IsUnnumbered, filter_of, id_of, layer_of}
@@ -20,16 +20,16 @@ use Rattle.span_runner.specs.declared.mute.Mute.{Mute}
 use Rattle.span_runner.specs.declared.mute_veto.MuteVeto.{MuteVeto}
 
 abbrev pub Levelled : Type 0
-Levelled = FilteredLayer Kept LevelFilter
+Levelled = FilteredLayer RecorderState LevelFilter
 
 abbrev pub Warned : Type 0
-Warned = Layered Levelled (Layered Kept RegistryState)
+Warned = Layered Levelled (Layered RecorderState RegistryState)
 
 abbrev pub VetoStack : Type 0
 VetoStack = Layered LevelFilter (Layered MuteVeto Warned)
 
 abbrev pub AbsentStack : Type 0
-AbsentStack = Layered Kept (Layered (Option Kept) RegistryState)
+AbsentStack = Layered RecorderState (Layered (Option RecorderState) RegistryState)
 
 abbrev pub UnderLevel : Levelled → Form → Type 0
 UnderLevel x = FilteredForm (id_of x) (settled_answers level_answers (filter_of x)) (λ f. f ≡ leaf)
@@ -59,10 +59,10 @@ pair_form = Over InPair (level_form INFO) (level_form TRACE)
 abbrev mute_form : Form
 mute_form = Filtered None mute_answers (level_form INFO)
 
-under_level : (u : Levelled) (layer : Kept) (level : LevelFilter) → IsUnnumbered u layer level → UnderLevel u (level_form level)
+under_level : (u : Levelled) (layer : RecorderState) (level : LevelFilter) → IsUnnumbered u layer level → UnderLevel u (level_form level)
 under_level u layer level h = (h.id, ap level_answers (sym h.own), refl)
 
-begins_under : (u x : Levelled) (layer : Kept) (level : LevelFilter) (n : ℕ) → IsUnnumbered u layer level → layer ≡ new_recorder → (filter_of x ≡ filter_of u) × (layer_of x ≡ layer_of u) → IsNumber (id_of x) (Some n) → BeginsUnder n level x
+begins_under : (u x : Levelled) (layer : RecorderState) (level : LevelFilter) (n : ℕ) → IsUnnumbered u layer level → layer ≡ new_recorder → (filter_of x ≡ filter_of u) × (layer_of x ≡ layer_of u) → IsNumber (id_of x) (Some n) → BeginsUnder n level x
 begins_under u x layer level n h begins attached number = record { number = number; level = attached.0 ∙ h.own; recorder = attached.1 ∙ h.inner ∙ begins }
 
 -- so many filters were handed out, and these leave room for so many more
@@ -75,7 +75,7 @@ no_more same room = subst (λ k. k + 0 ≤ LIMIT) (sym same) (omega (arith, room
 
 -- ---- pair
 
-module _ (limits : Limits) (p : Layered Levelled Levelled) (a b : Kept) (s : RegistryState) (first : s ≡ new_registry limits) (inner : IsUnnumbered (inner_of p) a TRACE) (outer : IsUnnumbered (outer_of p) b INFO) where
+module _ (limits : Limits) (p : Layered Levelled Levelled) (a b : RecorderState) (s : RegistryState) (first : s ≡ new_registry limits) (inner : IsUnnumbered (inner_of p) a TRACE) (outer : IsUnnumbered (outer_of p) b INFO) where
   pair_has : PairForm p pair_form
   pair_has = (refl, under_level (outer_of p) b INFO outer, under_level (inner_of p) a TRACE inner)
 
@@ -95,38 +95,38 @@ module _ (limits : Limits) (p : Layered Levelled Levelled) (a b : Kept) (s : Reg
       }
 
 -- the stack `plain` handed out no filter
-none_yet : {limits : Limits} (s : Layered Kept RegistryState) → BeginsPlain limits s → (inner_of s).filters ≡ 0
+none_yet : {limits : Limits} (s : Layered RecorderState RegistryState) → BeginsPlain limits s → (inner_of s).filters ≡ 0
 none_yet s begun = ap (λ (r : RegistryState). r.filters) begun.registry
 
 -- ---- nested
 
-module _ {limits : Limits} (u : FilteredLayer Levelled Mute) (l : Levelled) (deep : Kept) (mute : Mute) (s : Layered Kept RegistryState) (begun : BeginsPlain limits s) (inside : IsUnnumbered l deep INFO) (outside : IsUnnumbered u l mute) where
+module _ {limits : Limits} (u : FilteredLayer Levelled Mute) (l : Levelled) (deep : RecorderState) (mute : Mute) (s : Layered RecorderState RegistryState) (begun : BeginsPlain limits s) (inside : IsUnnumbered l deep INFO) (outside : IsUnnumbered u l mute) where
   inner_one : IsUnnumbered (layer_of u) deep INFO
   inner_one = subst (λ (k : Levelled). IsUnnumbered k deep INFO) (sym outside.inner) inside
 
   mute_has : UnderMute u mute_form
   mute_has = (outside.id, refl, under_level (layer_of u) deep INFO inner_one)
 
-  pub nested_has_room : HasRoom (λ (r : Layered Kept RegistryState). inner_of r) UnderMute u s
+  pub nested_has_room : HasRoom (λ (r : Layered RecorderState RegistryState). inner_of r) UnderMute u s
   nested_has_room = record { form = mute_form; has = mute_has; room = room_after 2 (none_yet s begun) (omega (arith)) }
 
-  pub begins_nested : (x : Layered (FilteredLayer Levelled Mute) (Layered Kept RegistryState)) → deep ≡ new_recorder → inner_of x ≡ record s { inner = record (inner_of s) { filters = (inner_of (inner_of x)).filters } }
+  pub begins_nested : (x : Layered (FilteredLayer Levelled Mute) (Layered RecorderState RegistryState)) → deep ≡ new_recorder → inner_of x ≡ record s { inner = record (inner_of s) { filters = (inner_of (inner_of x)).filters } }
       → ((f : Form) → UnderMute u f → UnderMute (outer_of x) (numbered f (inner_of s).filters).0) → ((f : Form) → UnderMute u f → (inner_of (inner_of x)).filters ≡ (numbered f (inner_of s).filters).1)
       → (filter_of (layer_of (outer_of x)) ≡ filter_of (layer_of u)) × (layer_of (layer_of (outer_of x)) ≡ layer_of (layer_of u)) → BeginsNested limits x
   begins_nested x deep_new alone form next attached =
       let has : UnderMute (outer_of x) (numbered mute_form 0).0 = subst (λ n. UnderMute (outer_of x) (numbered mute_form n).0) (none_yet s begun) (form mute_form mute_has) in
       let two : (inner_of (inner_of x)).filters ≡ (numbered mute_form 0).1 = next mute_form mute_has ∙ ap (λ n. (numbered mute_form n).1) (none_yet s begun) in
       record {
-        base = ap (λ (r : Layered Kept RegistryState). outer_of r) alone ∙ begun.base;
+        base = ap (λ (r : Layered RecorderState RegistryState). outer_of r) alone ∙ begun.base;
         number = has.0;
         deep = begins_under (layer_of u) (layer_of (outer_of x)) deep INFO 1 inner_one deep_new attached has.2.0;
-        registry = registry_then (inner_of s) (new_registry limits) (inner_of (inner_of x)) 2 begun.registry (ap (λ (r : Layered Kept RegistryState). inner_of r) alone) two;
+        registry = registry_then (inner_of s) (new_registry limits) (inner_of (inner_of x)) 2 begun.registry (ap (λ (r : Layered RecorderState RegistryState). inner_of r) alone) two;
       }
 
 -- ---- veto
 
-module _ {limits : Limits} (l : Levelled) (warn : Kept) (s : Layered Kept RegistryState) (begun : BeginsPlain limits s) (outside : IsUnnumbered l warn WARN) where
-  pub warned_has_room : HasRoom (λ (r : Layered Kept RegistryState). inner_of r) UnderLevel l s
+module _ {limits : Limits} (l : Levelled) (warn : RecorderState) (s : Layered RecorderState RegistryState) (begun : BeginsPlain limits s) (outside : IsUnnumbered l warn WARN) where
+  pub warned_has_room : HasRoom (λ (r : Layered RecorderState RegistryState). inner_of r) UnderLevel l s
   warned_has_room = record { form = level_form WARN; has = under_level l warn WARN outside; room = room_after 1 (none_yet s begun) (omega (arith)) }
 
   pub begins_warned : (x : Warned) → warn ≡ new_recorder → inner_of x ≡ record s { inner = record (inner_of s) { filters = (inner_of (inner_of x)).filters } }
@@ -136,9 +136,9 @@ module _ {limits : Limits} (l : Levelled) (warn : Kept) (s : Layered Kept Regist
       let has : UnderLevel (outer_of x) (numbered (level_form WARN) 0).0 = subst (λ n. UnderLevel (outer_of x) (numbered (level_form WARN) n).0) (none_yet s begun) (form (level_form WARN) (under_level l warn WARN outside)) in
       let one : (inner_of (inner_of x)).filters ≡ (numbered (level_form WARN) 0).1 = next (level_form WARN) (under_level l warn WARN outside) ∙ ap (λ n. (numbered (level_form WARN) n).1) (none_yet s begun) in
       record {
-        base = ap (λ (r : Layered Kept RegistryState). outer_of r) alone ∙ begun.base;
+        base = ap (λ (r : Layered RecorderState RegistryState). outer_of r) alone ∙ begun.base;
         warn = begins_under l (outer_of x) warn WARN 0 outside warn_new attached has.0;
-        registry = registry_then (inner_of s) (new_registry limits) (inner_of (inner_of x)) 1 begun.registry (ap (λ (r : Layered Kept RegistryState). inner_of r) alone) one;
+        registry = registry_then (inner_of s) (new_registry limits) (inner_of (inner_of x)) 1 begun.registry (ap (λ (r : Layered RecorderState RegistryState). inner_of r) alone) one;
       }
 
 -- the recorders of the stack `veto` took one number, so there is room for what needs none
@@ -150,8 +150,8 @@ few_filters w begun = subst (λ k. k ≤ LIMIT) (sym (one_number w begun)) (omeg
 
 -- ---- absent
 
-pub begins_absent : (limits : Limits) (b : Layered (Option Kept) RegistryState) → outer_of b ≡ None → inner_of b ≡ new_registry limits → (x : AbsentStack) → outer_of x ≡ new_recorder
+pub begins_absent : (limits : Limits) (b : Layered (Option RecorderState) RegistryState) → outer_of b ≡ None → inner_of b ≡ new_registry limits → (x : AbsentStack) → outer_of x ≡ new_recorder
     → inner_of x ≡ record b { inner = record (inner_of b) { filters = (inner_of (inner_of x)).filters } } → (inner_of (inner_of x)).filters ≡ (inner_of b).filters → BeginsAbsent limits x
 begins_absent limits b missing first x base alone none =
-    let same = as_before (λ (z : Layered (Option Kept) RegistryState). inner_of z) (λ z r. with_inner z r) (λ z. refl) b (inner_of x) alone none in
-    record { base = base; absent = ap (λ (z : Layered (Option Kept) RegistryState). outer_of z) same ∙ missing; registry = ap (λ (z : Layered (Option Kept) RegistryState). inner_of z) same ∙ first }
+    let same = as_before (λ (z : Layered (Option RecorderState) RegistryState). inner_of z) (λ z r. with_inner z r) (λ z. refl) b (inner_of x) alone none in
+    record { base = base; absent = ap (λ (z : Layered (Option RecorderState) RegistryState). outer_of z) same ∙ missing; registry = ap (λ (z : Layered (Option RecorderState) RegistryState). inner_of z) same ∙ first }

@@ -3,7 +3,7 @@ use Rattle.std.proofs.Common.{◌≡◌, ℕ, ◌<◌, ◌||◌, ◌==◌, Bool,
 use Rattle.std.proofs.lemmas.Bool.{eqb-true, false_from_ne_true, false≢true}
 use Rattle.span_core.specs.declared.level.LevelFilter.{LevelFilter}
 use Rattle.span_core.specs.declared.level.TheConstants.LevelFilter.{INFO, TRACE, WARN}
-use Rattle.span_dispatch.specs.Recorder.{Kept}
+use Rattle.span_dispatch.specs.Recorder.{RecorderState}
 use Rattle.span_filters.specs.Filter.{unlevelled}
 use Rattle.span_filters.specs.Level.{level_answers, level_honest, level_taken}
 use Rattle.span_layers.specs.Filtered.{IsNumber, filter_of, id_of, layer_of}
@@ -124,13 +124,13 @@ mute_kept a l b h = refl
 abbrev pub StaysLevelled : ℕ → Levelled → Form → Type 0
 StaysLevelled n = StaysUnder n level_answers StaysLeaf
 
-abbrev pub StaysPlain : Layered Kept RegistryState → Form → Type 0
+abbrev pub StaysPlain : Layered RecorderState RegistryState → Form → Type 0
 StaysPlain = StayBoth OnSubscriber StaysLeaf StaysBase
 
 abbrev pub StaysPair : Layered (Layered Levelled Levelled) RegistryState → Form → Type 0
 StaysPair = StayBoth OnSubscriber (StayBoth InPair (StaysLevelled 0) (StaysLevelled 1)) StaysBase
 
-abbrev pub StaysNested : Layered (FilteredLayer Levelled Mute) (Layered Kept RegistryState) → Form → Type 0
+abbrev pub StaysNested : Layered (FilteredLayer Levelled Mute) (Layered RecorderState RegistryState) → Form → Type 0
 StaysNested = StayBoth OnSubscriber (StaysUnder 0 (λ (f : Mute). mute_answers) (StaysLevelled 1)) StaysPlain
 
 abbrev pub StaysWarned : Warned → Form → Type 0
@@ -142,7 +142,7 @@ StaysVetoed = StayBoth OnSubscriber (StaysVeto level_answers) (StayBoth OnSubscr
 abbrev pub StaysBeside : AbsentStack → Form → Type 0
 StaysBeside = StayBoth OnSubscriber StaysLeaf (StayBoth OnSubscriber StaysAbsent StaysBase)
 
-pub stays_plain : (x : Layered Kept RegistryState) → StaysPlain x (form_of Plain)
+pub stays_plain : (x : Layered RecorderState RegistryState) → StaysPlain x (form_of Plain)
 stays_plain x = record { over = leaf; below = Bare Base; outer = refl; inner = refl; form = refl }
 
 stays_levelled : (n : ℕ) (level : LevelFilter) (x : Levelled) → BeginsUnder n level x → StaysLevelled n x (Filtered (Some n) (level_answers level) leaf)
@@ -154,7 +154,7 @@ stays_pair x h =
     let a = stays_levelled 1 TRACE (inner_of (outer_of x)) h.a in
     record { over = _; below = Bare Base; outer = record { over = _; below = _; outer = b; inner = a; form = refl }; inner = refl; form = refl }
 
-pub stays_nested : {limits : Limits} (x : Layered (FilteredLayer Levelled Mute) (Layered Kept RegistryState)) → BeginsNested limits x → StaysNested x (form_of Nested)
+pub stays_nested : {limits : Limits} (x : Layered (FilteredLayer Levelled Mute) (Layered RecorderState RegistryState)) → BeginsNested limits x → StaysNested x (form_of Nested)
 stays_nested x h =
     let deep = stays_levelled 1 INFO (layer_of (outer_of x)) h.deep in
     record { over = _; below = _; outer = record { number = h.number; below = _; inside = deep; form = refl }; inner = stays_plain (inner_of x); form = refl }
@@ -185,7 +185,7 @@ used_levelled n level x y u h = record { number = subst (λ i. IsNumber i (Some 
 pub used_pair : {limits : Limits} (x y : Layered (Layered Levelled Levelled) RegistryState) → IsUsed (outer_of (outer_of x)) (outer_of (outer_of y)) → IsUsed (inner_of (outer_of x)) (inner_of (outer_of y)) → inner_of y ≡ inner_of x → BeginsPair limits x → BeginsPair limits y
 used_pair x y b a same h = record { a = used_levelled 1 TRACE (inner_of (outer_of x)) (inner_of (outer_of y)) a h.a; b = used_levelled 0 INFO (outer_of (outer_of x)) (outer_of (outer_of y)) b h.b; registry = same ∙ h.registry }
 
-pub used_nested : {limits : Limits} (x y : Layered (FilteredLayer Levelled Mute) (Layered Kept RegistryState)) → id_of (outer_of y) ≡ id_of (outer_of x) → IsUsed (layer_of (outer_of x)) (layer_of (outer_of y)) → outer_of (inner_of y) ≡ outer_of (inner_of x) → inner_of (inner_of y) ≡ inner_of (inner_of x) → BeginsNested limits x → BeginsNested limits y
+pub used_nested : {limits : Limits} (x y : Layered (FilteredLayer Levelled Mute) (Layered RecorderState RegistryState)) → id_of (outer_of y) ≡ id_of (outer_of x) → IsUsed (layer_of (outer_of x)) (layer_of (outer_of y)) → outer_of (inner_of y) ≡ outer_of (inner_of x) → inner_of (inner_of y) ≡ inner_of (inner_of x) → BeginsNested limits x → BeginsNested limits y
 used_nested x y id deep base same h = record {
   base = base ∙ h.base;
   number = subst (λ i. IsNumber i (Some 0)) (sym id) h.number;
@@ -200,5 +200,5 @@ pub used_veto : {limits : Limits} (x y : VetoStack) → outer_of y ≡ outer_of 
     → outer_of (inner_of (inner_of (inner_of y))) ≡ outer_of (inner_of (inner_of (inner_of x))) → inner_of (inner_of (inner_of (inner_of y))) ≡ inner_of (inner_of (inner_of (inner_of x))) → BeginsVeto limits x → BeginsVeto limits y
 used_veto x y level warn base same h = record { level = level ∙ h.level; below = used_warned (inner_of (inner_of x)) (inner_of (inner_of y)) warn base same h.below }
 
-pub used_absent : {limits : Limits} (x y : AbsentStack) → outer_of y ≡ outer_of x → OptionGoes (λ (a b : Kept). b ≡ a) (outer_of (inner_of x)) (outer_of (inner_of y)) → inner_of (inner_of y) ≡ inner_of (inner_of x) → BeginsAbsent limits x → BeginsAbsent limits y
-used_absent x y base none same h = record { base = base ∙ h.base; absent = still_absent (λ (a b : Kept). b ≡ a) (outer_of (inner_of x)) (outer_of (inner_of y)) none h.absent; registry = same ∙ h.registry }
+pub used_absent : {limits : Limits} (x y : AbsentStack) → outer_of y ≡ outer_of x → OptionGoes (λ (a b : RecorderState). b ≡ a) (outer_of (inner_of x)) (outer_of (inner_of y)) → inner_of (inner_of y) ≡ inner_of (inner_of x) → BeginsAbsent limits x → BeginsAbsent limits y
+used_absent x y base none same h = record { base = base ∙ h.base; absent = still_absent (λ (a b : RecorderState). b ≡ a) (outer_of (inner_of x)) (outer_of (inner_of y)) none h.absent; registry = same ∙ h.registry }

@@ -9,7 +9,7 @@ use Rattle.span_core.specs.declared.level.LevelFilter.{LevelFilter}
 use Rattle.span_dispatch.proofs.Fixed.{runs_by}
 use Rattle.span_dispatch.proofs.CallerLemmas.{heard_records}
 use Rattle.span_dispatch.specs.Fixed.{RunsBy, set_at}
-use Rattle.span_dispatch.specs.Recorder.{Kept, kept_notice, new_recorder, recorder_steps}
+use Rattle.span_dispatch.specs.Recorder.{RecorderState, kept_notice, new_recorder, recorder_steps}
 use Rattle.span_dispatch.specs.Cache.{no_callsite}
 use Rattle.span_dispatch.specs.Serve.{IsReady, ServedExactly, kept_by, stack_of}
 use Rattle.span_dispatch.specs.declared.dispatch.Dispatch.{Dispatch}
@@ -52,10 +52,10 @@ pub record IsSteady {L : Type 0} (has_form : L → Form → Type 0) (stepped : L
   pub set : (x : L) (f : Form) (n : ℕ) (l : LevelFilter) (y : L) → levelled x n l y → Stays x f → Stays y (set_at n l f)
 
 -- a recorder is a leaf that refuses nothing
-abbrev pub StaysLeaf : Kept → Form → Type 0
+abbrev pub StaysLeaf : RecorderState → Form → Type 0
 StaysLeaf x f = f ≡ leaf
 
-pub steady_recorder : IsSteady (λ (x : Kept) f. f ≡ leaf) recorder_steps unlevelled StaysLeaf
+pub steady_recorder : IsSteady (λ (x : RecorderState) f. f ≡ leaf) recorder_steps unlevelled StaysLeaf
 steady_recorder = record {
   known = λ x f g s h. h ∙ sym s;
   has = λ x f s. s;
@@ -285,7 +285,7 @@ module _ {S : Type 0} {with_registry : S → RegistryState → S} {has_form : S 
       (subst (λ r. RunsBy f requests answers h.served.made (kept_by old) r (kept_by new) (registry (stack_of new))) first (run.0, run.2))
 
 -- a new recorder that hasn't failed keeps all that it went through
-pub all_kept : (old new : Kept) (heard : Heard) → HearsBy recorder_steps old Here heard new → old ≡ new_recorder → new.failed ≡ false → new.notices ≡ map kept_notice heard
+pub all_kept : (old new : RecorderState) (heard : Heard) → HearsBy recorder_steps old Here heard new → old ≡ new_recorder → new.failed ≡ false → new.notices ≡ map kept_notice heard
 all_kept old new heard goes begins whole =
     let h = heard_records heard old new goes in
-    h.kept ∙ ap (λ (r : Kept). r.notices ++ h.more) begins ∙ sym (h.split ∙ ap (λ (lost : List KeptNotice). h.more ++ lost) (h.all whole) ∙ append-nil h.more)
+    h.kept ∙ ap (λ (r : RecorderState). r.notices ++ h.more) begins ∙ sym (h.split ∙ ap (λ (lost : List KeptNotice). h.more ++ lost) (h.all whole) ∙ append-nil h.more)

@@ -5,11 +5,11 @@ use Rattle.std.specs.declared.vec.Vec.{Vec}
 use Rattle.span_core.specs.declared.filter.TheConstants.FilterId.{LIMIT}
 use Rattle.span_core.specs.declared.level.LevelFilter.{LevelFilter}
 use Rattle.span_core.specs.declared.level.TheConstants.LevelFilter.{INFO, TRACE, WARN}
-use Rattle.span_dispatch.specs.Cache.{Memory, no_callsite}
+use Rattle.span_dispatch.specs.Cache.{KeptCallsites, no_callsite}
 use Rattle.span_dispatch.specs.Contract.{SubscriberOf}
 use Rattle.span_dispatch.specs.Fixed.{RunsBy, kept_at}
-use Rattle.span_dispatch.specs.Outcome.{Made}
-use Rattle.span_dispatch.specs.Recorder.{Kept, new_recorder}
+use Rattle.span_dispatch.specs.Outcome.{OutcomeAt}
+use Rattle.span_dispatch.specs.Recorder.{RecorderState, new_recorder}
 use Rattle.span_dispatch.specs.Serve.{IsReady, ServedExactly, kept_by, stack_of}
 use Rattle.span_dispatch.specs.Worker.{WorkerState}
 use Rattle.span_dispatch.specs.declared.dispatch.Dispatch.{Dispatch}
@@ -74,7 +74,7 @@ start_of limits stack = record (new_registry limits) { filters = filters_of stac
 -- the stack answers these requests so, from its first registry on and with nothing kept at first, and its recorders, innermost first, keep these notices
 abbrev pub Serves : Limits → StackName → List Request → List Answer → List (List Notice) → Type 0
 Serves limits stack requests answers kept =
-    (made : List (List Made)) × (memory : Memory) × (after : RegistryState) × RunsBy (form_of stack) requests answers made (Some no_callsite) (start_of limits stack) memory after × (kept ≡ map (kept_at made) (places_of stack))
+    (made : List (List OutcomeAt)) × (memory : KeptCallsites) × (after : RegistryState) × RunsBy (form_of stack) requests answers made (Some no_callsite) (start_of limits stack) memory after × (kept ≡ map (kept_at made) (places_of stack))
 
 -- there is room on the stack for all of the layer's filters
 pub record HasRoom {L S : Type 0} (registry : S → RegistryState) (has_form : L → Form → Type 0) (layer : L) (stack : S) : Type 0 where
@@ -85,42 +85,42 @@ pub record HasRoom {L S : Type 0} (registry : S → RegistryState) (has_form : L
 -- Below: the stacks themselves, before the first request, on a registry with these limits.
 
 -- a new recorder on the first registry
-pub record BeginsPlain (limits : Limits) (x : Layered Kept RegistryState) : Type 0 where
+pub record BeginsPlain (limits : Limits) (x : Layered RecorderState RegistryState) : Type 0 where
   pub base : outer_of x ≡ new_recorder
   pub registry : inner_of x ≡ start_of limits Plain
 
 -- a new recorder under the filter of this number, which passes levels up to this one
-pub record BeginsUnder (n : ℕ) (most : LevelFilter) (x : FilteredLayer Kept LevelFilter) : Type 0 where
+pub record BeginsUnder (n : ℕ) (most : LevelFilter) (x : FilteredLayer RecorderState LevelFilter) : Type 0 where
   pub number : IsNumber (id_of x) (Some n)
   pub level : filter_of x ≡ most
   pub recorder : layer_of x ≡ new_recorder
 
 -- two new recorders, each under its level, on the first registry
-pub record BeginsPair (limits : Limits) (x : Layered (Layered (FilteredLayer Kept LevelFilter) (FilteredLayer Kept LevelFilter)) RegistryState) : Type 0 where
+pub record BeginsPair (limits : Limits) (x : Layered (Layered (FilteredLayer RecorderState LevelFilter) (FilteredLayer RecorderState LevelFilter)) RegistryState) : Type 0 where
   pub a : BeginsUnder 1 TRACE (inner_of (outer_of x))
   pub b : BeginsUnder 0 INFO (outer_of (outer_of x))
   pub registry : inner_of x ≡ start_of limits Pair
 
 -- a new recorder on the first registry, and outside it one under a level, and that under the filter of muted events
-pub record BeginsNested (limits : Limits) (x : Layered (FilteredLayer (FilteredLayer Kept LevelFilter) Mute) (Layered Kept RegistryState)) : Type 0 where
+pub record BeginsNested (limits : Limits) (x : Layered (FilteredLayer (FilteredLayer RecorderState LevelFilter) Mute) (Layered RecorderState RegistryState)) : Type 0 where
   pub base : outer_of (inner_of x) ≡ new_recorder
   pub number : IsNumber (id_of (outer_of x)) (Some 0)
   pub deep : BeginsUnder 1 INFO (layer_of (outer_of x))
   pub registry : inner_of (inner_of x) ≡ start_of limits Nested
 
 -- a new recorder on the first registry, and outside it one under warnings
-pub record BeginsWarned (limits : Limits) (x : Layered (FilteredLayer Kept LevelFilter) (Layered Kept RegistryState)) : Type 0 where
+pub record BeginsWarned (limits : Limits) (x : Layered (FilteredLayer RecorderState LevelFilter) (Layered RecorderState RegistryState)) : Type 0 where
   pub base : outer_of (inner_of x) ≡ new_recorder
   pub warn : BeginsUnder 0 WARN (outer_of x)
   pub registry : inner_of (inner_of x) ≡ start_of limits Veto
 
 -- outside these a layer that vetoes muted events, and outside that one which vetoes what is more verbose than info
-pub record BeginsVeto (limits : Limits) (x : Layered LevelFilter (Layered MuteVeto (Layered (FilteredLayer Kept LevelFilter) (Layered Kept RegistryState)))) : Type 0 where
+pub record BeginsVeto (limits : Limits) (x : Layered LevelFilter (Layered MuteVeto (Layered (FilteredLayer RecorderState LevelFilter) (Layered RecorderState RegistryState)))) : Type 0 where
   pub level : outer_of x ≡ INFO
   pub below : BeginsWarned limits (inner_of (inner_of x))
 
 -- an absent layer on the first registry, and outside it a new recorder
-pub record BeginsAbsent (limits : Limits) (x : Layered Kept (Layered (Option Kept) RegistryState)) : Type 0 where
+pub record BeginsAbsent (limits : Limits) (x : Layered RecorderState (Layered (Option RecorderState) RegistryState)) : Type 0 where
   pub base : outer_of x ≡ new_recorder
   pub absent : outer_of (inner_of x) ≡ None
   pub registry : inner_of (inner_of x) ≡ start_of limits AbsentStack

@@ -1,5 +1,5 @@
 use Rattle.std.proofs.Common.{◌≡◌, None, arith, refl, ap, ◌∙◌}
-use Rattle.span_dispatch.specs.Recorder.{Kept}
+use Rattle.span_dispatch.specs.Recorder.{RecorderState}
 use Rattle.span_layers.specs.Layered.{outer_of}
 use Rattle.span_registry.specs.Form.{Absent, Bare}
 use Rattle.span_registry.specs.Store.{RegistryState}
@@ -21,5 +21,5 @@ returns c =
     let a = c.put-below.ensures in
     let b = c.put.ensures in
     let first = registry_then _ _ _ 0 c.with_limits.ensures a.numbers.alone (a.numbers.next (Bare Absent) refl ∙ ap (λ (s : RegistryState). s.filters) c.with_limits.ensures) in
-    let missing = still_absent (λ (x y : Kept). y ≡ x) None (outer_of c.put-below.result) a.layer_as_it_was refl in
+    let missing = still_absent (λ (x y : RecorderState). y ≡ x) None (outer_of c.put-below.result) a.layer_as_it_was refl in
     begins_absent c.args.limits c.put-below.result missing first c.put.result (b.layer_as_it_was ∙ c.new.ensures) b.numbers.alone (b.numbers.next leaf refl)

@@ -1,5 +1,5 @@
 use Rattle.std.proofs.Common.{◌≡◌, ◌∷◌, [], List, false, codes, refl, ap, subst, ◌∙◌, string_bytes}
-use Rattle.span_dispatch.specs.Recorder.{Kept, recorder_steps}
+use Rattle.span_dispatch.specs.Recorder.{RecorderState, recorder_steps}
 use Rattle.span_dispatch.specs.Serve.{kept_by, stack_of}
 use Rattle.span_dispatch.specs.declared.notice.Notice.{Notice}
 use Rattle.span_layers.specs.Layered.{inner_of, outer_of}
@@ -16,7 +16,7 @@ pub returns-clause-printed : goal.returns-clause-printed
 returns-clause-printed c =
     let x = c.absent.result in
     let y = stack_of c.in_ok-answers.dispatch in
-    let steady = steady_stack steady_recorder (steady_stack (steady_absent (λ (r : Kept) f. f ≡ leaf) recorder_steps unlevelled) steady_registry) in
+    let steady = steady_stack steady_recorder (steady_stack (steady_absent (λ (r : RecorderState) f. f ≡ leaf) recorder_steps unlevelled) steady_registry) in
     let u = c.in_ok-answers.ensures.served in
     let h = used_absent x (stack_of u.begun) u.in_use.0 u.in_use.1.0 u.in_use.1.1 c.absent.ensures in
     let base = c.layer.ensures ∙ ap outer_of c.stack.ensures in
@@ -24,6 +24,6 @@ returns-clause-printed c =
     let run = run_of steady (λ z. inner_of (inner_of z)) (form_of Absent) u.begun c.in_ok-answers.dispatch (start_of c.args.limits Absent) (stays_absent (stack_of u.begun) h) h.registry u.kept served in
     two_ok c.text_of_one.result _ _ _ c.text_of_one.ensures.printed c.text_of_one.ensures.whole
     (λ s printed whole.
-    let notices = all_kept (outer_of (stack_of u.begun)) (outer_of y) _ (served.served.each (Outer Here)) h.base (subst (λ (r : Kept). r.failed ≡ false) base whole) in
+    let notices = all_kept (outer_of (stack_of u.begun)) (outer_of y) _ (served.served.each (Outer Here)) h.base (subst (λ (r : RecorderState). r.failed ≡ false) base whole) in
     gives c.args.limits Absent c.args.script.now c.requests.result.now c.in_ok-answers.answers.items c.deref.result.now ((codes "base", c.layer.result.now.notices) ∷ []) _ (string_bytes s)
-    (served.served.made, kept_by c.in_ok-answers.dispatch, inner_of (inner_of y), run, refl) c.requests.ensures c.deref.ensures.value (ap (λ (ns : List Notice). ns ∷ []) (ap (λ (r : Kept). r.notices) base ∙ notices)) refl printed)
+    (served.served.made, kept_by c.in_ok-answers.dispatch, inner_of (inner_of y), run, refl) c.requests.ensures c.deref.ensures.value (ap (λ (ns : List Notice). ns ∷ []) (ap (λ (r : RecorderState). r.notices) base ∙ notices)) refl printed)

@@ -1,5 +1,5 @@
 use Rattle.std.proofs.Common.{◌≡◌, ◌∷◌, [], false, codes, refl, ap, subst, ◌∙◌, string_bytes}
-use Rattle.span_dispatch.specs.Recorder.{Kept}
+use Rattle.span_dispatch.specs.Recorder.{RecorderState}
 use Rattle.span_dispatch.specs.Serve.{kept_by, stack_of}
 use Rattle.span_filters.specs.Level.{level_answers}
 use Rattle.span_layers.specs.Filtered.{layer_of}
@@ -28,7 +28,7 @@ returns-clause-printed c =
     let run = run_of steady (λ z. inner_of (inner_of z)) (form_of Nested) u.begun c.in_ok-answers.dispatch (start_of c.args.limits Nested) (stays_nested (stack_of u.begun) h) h.registry u.kept served in
     three_ok c.text_of_two.result _ _ _ _ c.text_of_two.ensures.printed c.text_of_two.ensures.inner c.text_of_two.ensures.outer
     (λ s printed whole also.
-    let first = ap (λ (r : Kept). r.notices) base ∙ all_kept (outer_of (inner_of (stack_of u.begun))) (outer_of (inner_of y)) _ (served.served.each (Inner (Outer Here))) h.base (subst (λ (r : Kept). r.failed ≡ false) base whole) in
-    let second = ap (λ (r : Kept). r.notices) deep ∙ all_kept (layer_of (layer_of (outer_of (stack_of u.begun)))) (layer_of (layer_of (outer_of y))) _ (served.served.each (Outer (Under (Under Here)))) h.deep.recorder (subst (λ (r : Kept). r.failed ≡ false) deep also) in
+    let first = ap (λ (r : RecorderState). r.notices) base ∙ all_kept (outer_of (inner_of (stack_of u.begun))) (outer_of (inner_of y)) _ (served.served.each (Inner (Outer Here))) h.base (subst (λ (r : RecorderState). r.failed ≡ false) base whole) in
+    let second = ap (λ (r : RecorderState). r.notices) deep ∙ all_kept (layer_of (layer_of (outer_of (stack_of u.begun)))) (layer_of (layer_of (outer_of y))) _ (served.served.each (Outer (Under (Under Here)))) h.deep.recorder (subst (λ (r : RecorderState). r.failed ≡ false) deep also) in
     gives c.args.limits Nested c.args.script.now c.requests.result.now c.in_ok-answers.answers.items c.deref.result.now ((codes "base", c.layer-base.result.now.notices) ∷ (codes "deep", c.inner-deep.result.now.notices) ∷ []) _ (string_bytes s)
     (served.served.made, kept_by c.in_ok-answers.dispatch, inner_of (inner_of y), run, refl) c.requests.ensures c.deref.ensures.value (λ i. first i ∷ second i ∷ []) refl printed)

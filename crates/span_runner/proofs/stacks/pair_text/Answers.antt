@@ -1,5 +1,5 @@
 use Rattle.std.proofs.Common.{◌≡◌, ◌∷◌, [], false, codes, refl, ap, subst, ◌∙◌, string_bytes}
-use Rattle.span_dispatch.specs.Recorder.{Kept}
+use Rattle.span_dispatch.specs.Recorder.{RecorderState}
 use Rattle.span_dispatch.specs.Serve.{kept_by, stack_of}
 use Rattle.span_filters.specs.Level.{level_answers}
 use Rattle.span_layers.specs.Filtered.{layer_of}
@@ -26,7 +26,7 @@ returns-clause-printed c =
     let run = run_of steady inner_of (form_of Pair) u.begun c.in_ok-answers.dispatch (start_of c.args.limits Pair) (stays_pair (stack_of u.begun) h) h.registry u.kept served in
     three_ok c.text_of_two.result _ _ _ _ c.text_of_two.ensures.printed c.text_of_two.ensures.inner c.text_of_two.ensures.outer
     (λ s printed whole also.
-    let first = ap (λ (r : Kept). r.notices) a ∙ all_kept (layer_of (inner_of (outer_of (stack_of u.begun)))) (layer_of (inner_of (outer_of y))) _ (served.served.each (Outer (Inner (Under Here)))) h.a.recorder (subst (λ (r : Kept). r.failed ≡ false) a whole) in
-    let second = ap (λ (r : Kept). r.notices) b ∙ all_kept (layer_of (outer_of (outer_of (stack_of u.begun)))) (layer_of (outer_of (outer_of y))) _ (served.served.each (Outer (Outer (Under Here)))) h.b.recorder (subst (λ (r : Kept). r.failed ≡ false) b also) in
+    let first = ap (λ (r : RecorderState). r.notices) a ∙ all_kept (layer_of (inner_of (outer_of (stack_of u.begun)))) (layer_of (inner_of (outer_of y))) _ (served.served.each (Outer (Inner (Under Here)))) h.a.recorder (subst (λ (r : RecorderState). r.failed ≡ false) a whole) in
+    let second = ap (λ (r : RecorderState). r.notices) b ∙ all_kept (layer_of (outer_of (outer_of (stack_of u.begun)))) (layer_of (outer_of (outer_of y))) _ (served.served.each (Outer (Outer (Under Here)))) h.b.recorder (subst (λ (r : RecorderState). r.failed ≡ false) b also) in
     gives c.args.limits Pair c.args.script.now c.requests.result.now c.in_ok-answers.answers.items c.deref.result.now ((codes "a", c.inner-a.result.now.notices) ∷ (codes "b", c.inner-b.result.now.notices) ∷ []) _ (string_bytes s)
     (served.served.made, kept_by c.in_ok-answers.dispatch, inner_of y, run, refl) c.requests.ensures c.deref.ensures.value (λ i. first i ∷ second i ∷ []) refl printed)

@@ -1,5 +1,5 @@
 use Rattle.std.proofs.Common.{◌≡◌, ◌∷◌, [], List, false, codes, refl, ap, subst, ◌∙◌, string_bytes}
-use Rattle.span_dispatch.specs.Recorder.{Kept}
+use Rattle.span_dispatch.specs.Recorder.{RecorderState}
 use Rattle.span_dispatch.specs.Serve.{kept_by, stack_of}
 use Rattle.span_dispatch.specs.declared.notice.Notice.{Notice}
 use Rattle.span_layers.specs.Layered.{inner_of, outer_of}
@@ -22,6 +22,6 @@ returns-clause-printed c =
     let run = run_of steady inner_of (form_of Plain) u.begun c.in_ok-answers.dispatch (start_of c.args.limits Plain) (stays_plain (stack_of u.begun)) (u.same ∙ c.plain.ensures.registry) u.kept served in
     two_ok c.text_of_one.result _ _ _ c.text_of_one.ensures.printed c.text_of_one.ensures.whole
     (λ s printed whole.
-    let notices = all_kept (outer_of (stack_of u.begun)) (outer_of y) _ (served.served.each (Outer Here)) (u.in_use.0 ∙ c.plain.ensures.base) (subst (λ (r : Kept). r.failed ≡ false) base whole) in
+    let notices = all_kept (outer_of (stack_of u.begun)) (outer_of y) _ (served.served.each (Outer Here)) (u.in_use.0 ∙ c.plain.ensures.base) (subst (λ (r : RecorderState). r.failed ≡ false) base whole) in
     gives c.args.limits Plain c.args.script.now c.requests.result.now c.in_ok-answers.answers.items c.deref.result.now ((codes "base", c.layer.result.now.notices) ∷ []) _ (string_bytes s)
-    (served.served.made, kept_by c.in_ok-answers.dispatch, inner_of y, run, refl) c.requests.ensures c.deref.ensures.value (ap (λ (ns : List Notice). ns ∷ []) (ap (λ (r : Kept). r.notices) base ∙ notices)) refl printed)
+    (served.served.made, kept_by c.in_ok-answers.dispatch, inner_of y, run, refl) c.requests.ensures c.deref.ensures.value (ap (λ (ns : List Notice). ns ∷ []) (ap (λ (r : RecorderState). r.notices) base ∙ notices)) refl printed)

@@ -1,5 +1,5 @@
 use Rattle.std.proofs.Common.{◌≡◌, ◌∷◌, [], false, codes, refl, ap, subst, ◌∙◌, string_bytes}
-use Rattle.span_dispatch.specs.Recorder.{Kept}
+use Rattle.span_dispatch.specs.Recorder.{RecorderState}
 use Rattle.span_dispatch.specs.Serve.{kept_by, stack_of}
 use Rattle.span_filters.specs.Level.{level_answers}
 use Rattle.span_layers.specs.Filtered.{layer_of}
@@ -31,7 +31,7 @@ returns-clause-printed c =
     let after = inner_of (inner_of y) in
     three_ok c.text_of_two.result _ _ _ _ c.text_of_two.ensures.printed c.text_of_two.ensures.inner c.text_of_two.ensures.outer
     (λ s printed whole also.
-    let first = ap (λ (r : Kept). r.notices) base ∙ all_kept (outer_of (inner_of before)) (outer_of (inner_of after)) _ (served.served.each (Inner (Inner (Inner (Outer Here))))) h.below.base (subst (λ (r : Kept). r.failed ≡ false) base whole) in
-    let second = ap (λ (r : Kept). r.notices) warn ∙ all_kept (layer_of (outer_of before)) (layer_of (outer_of after)) _ (served.served.each (Inner (Inner (Outer (Under Here))))) h.below.warn.recorder (subst (λ (r : Kept). r.failed ≡ false) warn also) in
+    let first = ap (λ (r : RecorderState). r.notices) base ∙ all_kept (outer_of (inner_of before)) (outer_of (inner_of after)) _ (served.served.each (Inner (Inner (Inner (Outer Here))))) h.below.base (subst (λ (r : RecorderState). r.failed ≡ false) base whole) in
+    let second = ap (λ (r : RecorderState). r.notices) warn ∙ all_kept (layer_of (outer_of before)) (layer_of (outer_of after)) _ (served.served.each (Inner (Inner (Outer (Under Here))))) h.below.warn.recorder (subst (λ (r : RecorderState). r.failed ≡ false) warn also) in
     gives c.args.limits Veto c.args.script.now c.requests.result.now c.in_ok-answers.answers.items c.deref.result.now ((codes "base", c.layer-base.result.now.notices) ∷ (codes "warn", c.inner-warn.result.now.notices) ∷ []) _ (string_bytes s)
     (served.served.made, kept_by c.in_ok-answers.dispatch, inner_of (inner_of after), run, refl) c.requests.ensures c.deref.ensures.value (λ i. first i ∷ second i ∷ []) refl printed)

@@ -1,0 +1,119 @@
+//! Filters, as a program that uses the library writes them.
+ghost use Rattle.std.specs.Prelude.{◌≡◌, IfOk};
+ghost use Rattle.span_core.specs.Level.{passes_level};
+ghost use Rattle.span_core.specs.Metadata.{level_of};
+ghost use Rattle.span_filters.specs.Closure.{unhinted_honest};
+ghost use Rattle.span_filters.specs.Filter.{ActsSteadily, settled_answers, settled_laws, steady_levels};
+ghost use Rattle.span_registry.specs.Context.{view_in};
+ghost use Rattle.span_examples.specs.Filters.{is_marked, view_on};
+ghost use Rattle.span_examples.specs.Filters.{goes_by_target, target_answers, wanted_by, wants_target};
+
+use span_core::{Attributes, Event, Id, Interest, Lane, LevelFilter, Metadata, Record};
+use span_filters::{BoxedFilter, DynFilter, Filter, dynamic_filter_fn};
+use span_registry::{Context, ContextMut, ExtensionValue, LookupSpan, Registry, Tag};
+use std::alloc::{AllocError, Global};
+
+/// A filter by targets: it wants what has one of these.
+#[derive(Drop)]
+pub struct Targets {
+    wanted: &'static [&'static str],
+}
+
+impl Targets {
+    /// Wants these targets.
+    pub fn new(wanted: &'static [&'static str]) -> Targets
+        ensures { wanted_by result ≡ wanted.now }
+    {
+        Targets { wanted }
+    }
+
+    /// The target is one of them, byte for byte.
+    pub fn wants(&self, meta: &Metadata) -> bool
+        ensures { result ≡ wants_target self.now meta.now }
+    {
+        let target = meta.target();
+        self.wanted.iter().any(|wanted| *wanted == target)
+    }
+}
+
+impl<S: LookupSpan> Filter<S> for Targets {
+    ghost has_answers = { settled_answers target_answers };
+
+    ghost acts = { ActsSteadily (settled_answers target_answers) };
+
+    ghost laws = { settled_laws target_answers (λ f. unhinted_honest (wants_target f) (goes_by_target f)) };
+
+    ghost levels = { steady_levels };
+
+    fn set_level(&mut self, _level: LevelFilter) -> bool {
+        false // It goes by the target.
+    }
+
+    fn enabled(&self, meta: &Metadata, _cx: &Context<'_, S>) -> bool {
+        self.wants(meta)
+    }
+
+    fn callsite_enabled(&self, meta: &Metadata) -> Interest {
+        if self.wants(meta) {
+            Interest::Always
+        } else {
+            Interest::Never
+        }
+    }
+
+    fn event_enabled(&self, _event: &Event<'_>, _cx: &Context<'_, S>) -> bool {
+        true
+    }
+
+    fn max_level_hint(&self) -> Option<LevelFilter> {
+        None
+    }
+
+    fn on_new_span(&mut self, _attrs: &Attributes<'_>, _id: Id, _ctx: &mut ContextMut<'_, S>) {}
+
+    fn on_record(&mut self, _id: Id, _values: &Record<'_>, _ctx: &mut ContextMut<'_, S>) {}
+
+    fn on_enter(&mut self, _id: Id, _ctx: &mut ContextMut<'_, S>) {}
+
+    fn on_exit(&mut self, _id: Id, _ctx: &mut ContextMut<'_, S>) {}
+
+    fn on_close(&mut self, _id: Id, _ctx: &mut ContextMut<'_, S>) {}
+}
+
+/// Whether metadata pass a filter that wants what comes in a marked span: one with a value under this tag.
+pub fn wants_in_marked<T: ExtensionValue>(
+    registry: &Registry,
+    lane: Lane,
+    meta: &Metadata,
+    mark: Tag<T>,
+) -> bool
+    ensures { result ≡ is_marked T.place mark (view_on registry.now lane) }
+{
+    let filter = dynamic_filter_fn(
+        move |_meta: &Metadata, cx: &Context<'_, Registry>| -> bool
+            ensures { result ≡ is_marked T.place mark (view_in (λ s. s) cx.entry.now) }
+        {
+            match cx.lookup_current() {
+                Some(span) => span.extensions().get(mark).is_some(),
+                None => false,
+            }
+        },
+    );
+    filter.enabled(meta, &Context::new(registry, lane))
+}
+
+/// Whether metadata pass a level in a box: where they pass the level.
+pub fn wants_boxed(
+    alloc: Global,
+    level: LevelFilter,
+    registry: &Registry,
+    lane: Lane,
+    meta: &Metadata,
+) -> Result<bool, AllocError>
+    ensures { IfOk result (λ wanted. wanted ≡ passes_level level (level_of meta.now)) }
+{
+    let object: Box<dyn DynFilter + Send> = Box::new(alloc, level)?;
+    let filter = BoxedFilter::new(object);
+    let cx = Context::new(registry, lane);
+    Ok(filter.enabled(meta, &cx))
+}

@@ -1,0 +1,419 @@
+//! Tests over all crates: layers of many kinds in one receiver, a registry full of filters, and what a stack says of itself.
+ghost use Rattle.std.specs.Prelude.{⊤, IfOk};
+ghost use Rattle.span_layers.specs.Layered.{inner_of, outer_of};
+ghost use Rattle.span_registry.specs.Context.{WritesExtensions};
+
+use span_boxed::{BoxedLayer, DynLayer};
+use span_core::{
+    Event, FieldSet, Id, Interest, Kind, Lane, Level, LevelFilter, Metadata, Pass, TraceError,
+};
+use span_dispatch::{Answer, Dispatch, Notice, Recorder, Request, Which, WhichParent};
+use span_layers::{Filtered, Layer, LayerExt, Layered, Observe, Observed, Observer, SubscriberExt};
+use span_registry::{ContextMut, LookupSpan, Registry, Subscriber, Tag};
+use span_examples::isolation::record_alone_and_beside;
+use span_examples::outline::serve_outlined;
+use span_examples::reload::reload;
+use std::alloc::Global;
+use std::process::Abort;
+use std::test::Fail;
+
+const LANE: Lane = Lane(0);
+
+/// Puts a layer on a stack.
+fn put<S: Subscriber + Drop, L: Layer<S> + Drop>(
+    stack: S,
+    layer: L,
+) -> Result<Layered<L, S>, TraceError>
+    requires layer { L.usable layer }
+    requires stack { S.usable stack }
+    ensures layer { IfOk result (λ made. L.usable (outer_of made)) }
+    ensures stack { IfOk result (λ made. S.usable (inner_of made)) }
+{
+    match stack.with(layer) {
+        Ok(made) => Ok(made),
+        Err(back) => Err(back.error),
+    }
+}
+
+/// Puts a stack in use, and sends it an event of level error.
+fn sent_to<S: Subscriber + Drop>(alloc: Global, stack: S) -> Result<Dispatch<S>, TraceError>
+    requires { S.usable stack }
+{
+    let mut dispatch = Dispatch::fresh(alloc, stack);
+    let event = Event::new_root(metadata_of(7, Level::ERROR, Kind::EVENT), &[]);
+    dispatch.event(LANE, &event)?;
+    Ok(dispatch)
+}
+
+/// The same of a layer on a stack.
+pub(crate) fn sent_to_layer<S: Subscriber + Drop, L: Layer<S> + Drop>(
+    alloc: Global,
+    stack: S,
+    layer: L,
+) -> Result<Dispatch<Layered<L, S>>, TraceError>
+    requires stack { S.usable stack }
+    requires layer { L.usable layer }
+{
+    sent_to(alloc, put(stack, layer)?)
+}
+
+/// Puts a layer on a stack, puts that in use, and serves a list.
+fn serve_by<S: Subscriber + Drop, L: Layer<S> + Drop>(
+    alloc: Global,
+    stack: S,
+    layer: L,
+    requests: &[Request<'_>],
+) -> Result<(Dispatch<Layered<L, S>>, Vec<Answer>), TraceError>
+    requires stack { S.usable stack }
+    requires layer { L.usable layer }
+{
+    let mut dispatch = Dispatch::new(alloc, put(stack, layer)?);
+    let answers = dispatch.serve(alloc, requests)?;
+    Ok((dispatch, answers))
+}
+
+fn metadata_of(callsite: u64, level: Level, kind: Kind) -> Metadata {
+    Metadata::new(callsite, "made", "tests", level, kind, FieldSet::new(&[]))
+}
+
+/// A new span from this callsite, in none.
+fn root_from(callsite: u64, level: Level) -> Request<'static> {
+    let metadata = metadata_of(callsite, level, Kind::SPAN);
+    Request::NewSpan(LANE, metadata, WhichParent::Root, &[])
+}
+
+/// An event from this callsite, in the span that the first request of the list makes.
+fn event_from(callsite: u64, level: Level) -> Request<'static> {
+    let metadata = metadata_of(callsite, level, Kind::EVENT);
+    Request::Event(LANE, metadata, WhichParent::Explicit(Which::Made(0)), &[])
+}
+
+/// The span that the first request of the list made.
+fn first_made(answers: &[Answer]) -> Result<Id, Fail> {
+    match answers.first() {
+        Some(Answer::Made(id)) => Ok(*id),
+        _ => Err(Fail::from("no span was made")),
+    }
+}
+
+/// Counts the events of each span, in its extensions.
+#[derive(Drop)]
+struct EventCounter;
+
+/// The tag of the counts.
+fn counts() -> Tag<u64> {
+    Tag::new(0)
+}
+
+impl<S: Subscriber> Observe<S> for EventCounter {
+    ghost observed = { λ x e lane under v y w. ⊤ };
+
+    fn observe(&mut self, notice: Observed<'_, '_>, ctx: &mut ContextMut<'_, S>) {
+        let Observed::Event(event) = notice else {
+            return;
+        };
+        let Some(id) = span_of(event, ctx) else {
+            return;
+        };
+        count(id, ctx);
+    }
+}
+
+fn span_of<S: Subscriber>(event: &Event<'_>, ctx: &ContextMut<'_, S>) -> Option<Id> {
+    match ctx.ctx().event_span(event) {
+        Some(span) => Some(span.id()),
+        None => None,
+    }
+}
+
+/// Adds one to the count of a span, as far as there is memory.
+fn count<S: Subscriber>(id: Id, ctx: &mut ContextMut<'_, S>)
+    ensures { WritesExtensions S.registry S.with_registry ctx.old ctx.new }
+{
+    let Some(mut extensions) = ctx.extensions_mut(id) else {
+        return;
+    };
+    let count = match extensions.get_mut(counts()) {
+        Some(count) => count.saturating_add(1),
+        None => 1,
+    };
+    let _ = extensions.replace(counts(), count);
+}
+
+/// The count of a span.
+fn counted<S: LookupSpan>(stack: &S, id: Id) -> Option<u64> {
+    let span = stack.span(id)?;
+    span.extensions().get(counts()).copied()
+}
+
+/// A recorder under a level.
+type Recording = Filtered<Recorder, LevelFilter>;
+
+fn recording(alloc: Global, level: LevelFilter) -> Recording {
+    Recorder::new(alloc).with_filter(level)
+}
+
+/// What the member at this place of a list was notified of.
+fn notices_at(list: &[Recording], place: usize) -> &[Notice] {
+    match list.get(place) {
+        Some(member) => member.inner().notices(),
+        None => &[],
+    }
+}
+
+#[test]
+fn a_receiver_of_five(rt: HostRuntime) -> Result<(), Fail> {
+    let alloc = rt.alloc();
+    let list = vec![in alloc;
+        recording(alloc, LevelFilter::INFO),
+        recording(alloc, LevelFilter::WARN),
+    ]?;
+    let object: Box<dyn DynLayer + Send> = Box::new(alloc, Observer::new(EventCounter))?;
+    let layers = Recorder::new(alloc)
+        .and_then(list)
+        .and_then(Some(recording(alloc, LevelFilter::WARN)))
+        .and_then(BoxedLayer::new(object))
+        .and_then(LevelFilter::DEBUG);
+    let requests = [
+        root_from(0, Level::INFO),
+        event_from(1, Level::TRACE),
+        event_from(2, Level::DEBUG),
+        event_from(3, Level::INFO),
+        event_from(4, Level::WARN),
+    ];
+    let (dispatch, answers) = serve_by(alloc, Registry::new(alloc), layers, &requests)?;
+    let id = first_made(&answers)?;
+    assert_eq!(rt; answers.get(1).copied(), Some(Answer::Dropped));
+    assert_eq!(rt; counted(dispatch.stack(), id), Some(3));
+    each_heard_what_passes(&rt, dispatch.stack().layer().inner().inner(), id)
+}
+
+/// A layer that may be absent, on a list, on a recorder.
+type Recordings = Layered<Option<Recording>, Layered<Vec<Recording>, Recorder>>;
+
+/// The recorder heard all but the trace event, and each other one what its level passes: the new span is of level info.
+fn each_heard_what_passes(rt: &impl Abort, layers: &Recordings, id: Id) -> Result<(), Fail> {
+    let new = Notice::New(LANE, id);
+    let debug = Notice::Event(LANE, 2);
+    let info = Notice::Event(LANE, 3);
+    let warn = Notice::Event(LANE, 4);
+    let base = layers.inner().inner();
+    assert_eq!(rt; base.notices(), [new, debug, info, warn].as_slice());
+    let list = layers.inner().layer();
+    assert_eq!(rt; notices_at(list, 0), [new, info, warn].as_slice());
+    assert_eq!(rt; notices_at(list, 1), [warn].as_slice());
+    let Some(optional) = layers.layer() else {
+        return Err(Fail::from("the layer is absent"));
+    };
+    assert_eq!(rt; optional.inner().notices(), [warn].as_slice());
+    Ok(())
+}
+
+/// As many recorders under OFF as a registry has room for.
+fn silent_recorders(alloc: Global) -> Result<Vec<Recording>, Fail> {
+    let mut members = Vec::new(alloc);
+    for _ in 0..128 {
+        members.push(recording(alloc, LevelFilter::OFF))?;
+    }
+    Ok(members)
+}
+
+/// A layer that a stack has no room for: what comes back, and the number of filters that were handed out before.
+#[derive(Drop)]
+struct NoRoom<S, O> {
+    layer: O,
+    error: TraceError,
+    filters: u32,
+    dispatch: Dispatch<S>,
+}
+
+/// Puts a layer on a stack, and then another one that there is no room for. An error event is sent to the rest.
+fn no_room_for<S, L, O>(
+    alloc: Global,
+    stack: S,
+    layer: L,
+    more: O,
+) -> Result<Option<NoRoom<Layered<L, S>, O>>, TraceError>
+where
+    S: Subscriber + Drop,
+    L: Layer<S> + Drop,
+    O: Layer<Layered<L, S>> + Drop,
+    requires stack { S.usable stack }
+    requires layer { L.usable layer }
+    requires more { O.usable more }
+{
+    let Err(back) = put(stack, layer)?.with(more) else {
+        return Ok(None);
+    };
+    let filters = back.subscriber.root().filters();
+    Ok(Some(NoRoom {
+        layer: back.layer,
+        error: back.error,
+        filters,
+        dispatch: sent_to(alloc, back.subscriber)?,
+    }))
+}
+
+#[test]
+fn a_registry_full_of_filters(rt: HostRuntime) -> Result<(), Fail> {
+    let warn = recording(rt.alloc(), LevelFilter::WARN);
+    let stack = put(Registry::new(rt.alloc()), Recorder::new(rt.alloc()))?;
+    let silent = silent_recorders(rt.alloc())?;
+    let Some(back) = no_room_for(rt.alloc(), stack, silent, warn)? else {
+        return Err(Fail::from("a 129th filter got a number"));
+    };
+    assert_eq!(rt; back.error, TraceError::TooManyFilters);
+    assert_eq!(rt; *back.layer.filter(), LevelFilter::WARN);
+    assert_eq!(rt; back.filters, 128);
+    let stack = back.dispatch.stack();
+    let kept = stack.inner().layer().notices();
+    assert_eq!(rt; kept, [Notice::Event(LANE, 7)].as_slice());
+    for member in stack.layer().iter() {
+        assert!(rt; member.inner().notices().is_empty());
+    }
+    Ok(())
+}
+
+/// The interest of a stack in an error event, asked with a new pass.
+fn interest_of<S: Subscriber>(stack: &S) -> Interest
+    requires { S.usable stack.now }
+{
+    let metadata = metadata_of(1, Level::ERROR, Kind::EVENT);
+    stack.register_callsite(&metadata, &mut Pass::new())
+}
+
+/// The interest of a layer on a stack, and of both layers.
+fn interests_of<S, I, O>(stack: S, inner: I, outer: O) -> Result<(Interest, Interest), TraceError>
+where
+    S: Subscriber + Drop,
+    I: Layer<S> + Drop,
+    O: Layer<Layered<I, S>> + Drop,
+    requires stack { S.usable stack }
+    requires inner { I.usable inner }
+    requires outer { O.usable outer }
+{
+    let one = put(stack, inner)?;
+    let interest = interest_of(&one);
+    Ok((interest, interest_of(&put(one, outer)?)))
+}
+
+/// The hint of a layer on a stack.
+fn hint_of<S: Subscriber + Drop, L: Layer<S> + Drop>(
+    stack: S,
+    layer: L,
+) -> Result<Option<LevelFilter>, TraceError>
+    requires stack { S.usable stack }
+    requires layer { L.usable layer }
+{
+    Ok(put(stack, layer)?.max_level_hint())
+}
+
+#[test]
+fn what_one_filter_wants_is_of_interest(rt: HostRuntime) -> Result<(), Fail> {
+    let all = recording(rt.alloc(), LevelFilter::TRACE);
+    let nothing = recording(rt.alloc(), LevelFilter::OFF);
+    assert_eq!(rt;
+        interests_of(Registry::new(rt.alloc()), all, nothing)?,
+        (Interest::Always, Interest::Sometimes)
+    );
+    Ok(())
+}
+
+#[test]
+fn what_a_layer_without_a_filter_may_want_is_of_interest(rt: HostRuntime) -> Result<(), Fail> {
+    let nothing = recording(rt.alloc(), LevelFilter::OFF);
+    assert_eq!(rt;
+        interests_of(
+            Registry::new(rt.alloc()),
+            Recorder::new(rt.alloc()),
+            nothing
+        )?,
+        (Interest::Always, Interest::Sometimes)
+    );
+    Ok(())
+}
+
+#[test]
+fn a_pair_under_filters_has_the_wider_hint(rt: HostRuntime) -> Result<(), Fail> {
+    let all = recording(rt.alloc(), LevelFilter::TRACE);
+    let few = recording(rt.alloc(), LevelFilter::INFO);
+    assert_eq!(rt;
+        hint_of(Registry::new(rt.alloc()), all.and_then(few))?,
+        Some(LevelFilter::TRACE)
+    );
+    Ok(())
+}
+
+#[test]
+fn a_recorder_keeps_the_same_alone_and_beside_another(rt: HostRuntime) -> Result<(), Fail> {
+    let requests = [
+        root_from(0, Level::INFO),
+        event_from(1, Level::DEBUG),
+        event_from(2, Level::WARN),
+    ];
+    let (level, other) = (LevelFilter::INFO, LevelFilter::TRACE);
+    let (one, two) = record_alone_and_beside(rt.alloc(), level, other, &requests)?;
+    let ((alone, answers), (beside, others)) = (one, two);
+    assert!(rt; answers == others);
+    let kept = alone.stack().layer().inner().notices();
+    assert_eq!(rt; kept.len(), 2);
+    assert_eq!(rt; beside.stack().inner().layer().inner().notices(), kept);
+    assert_eq!(rt; beside.stack().layer().inner().notices().len(), 3);
+    Ok(())
+}
+
+#[test]
+fn a_level_is_set_between_requests(rt: HostRuntime) -> Result<(), Fail> {
+    let requests = [
+        root_from(0, Level::INFO),
+        event_from(1, Level::WARN),
+        event_from(2, Level::DEBUG),
+        event_from(3, Level::TRACE),
+    ];
+    let dispatch = reload(rt.alloc(), &requests, &requests)?;
+    let kept = dispatch.stack().layer().inner().notices();
+    assert_eq!(rt; kept.len(), 4);
+    assert_eq!(rt; kept.first().copied(), Some(Notice::Event(LANE, 1)));
+    assert!(rt; matches!(kept.get(1), Some(Notice::New(_, _))));
+    assert_eq!(rt; kept.get(2).copied(), Some(Notice::Event(LANE, 1)));
+    assert_eq!(rt; kept.get(3).copied(), Some(Notice::Event(LANE, 2)));
+    Ok(())
+}
+
+/// A new span from this callsite, in the one that the request with this number makes.
+fn span_in(parent: usize, callsite: u64, level: Level) -> Request<'static> {
+    let metadata = metadata_of(callsite, level, Kind::SPAN);
+    Request::NewSpan(
+        LANE,
+        metadata,
+        WhichParent::Explicit(Which::Made(parent)),
+        &[],
+    )
+}
+
+/// An event with this name, in this parent.
+fn named_event(name: &'static str, parent: WhichParent) -> Request<'static> {
+    let fields = FieldSet::new(&[]);
+    let metadata = Metadata::new(9, name, "tests", Level::WARN, Kind::EVENT, fields);
+    Request::Event(LANE, metadata, parent, &[])
+}
+
+#[test]
+fn an_outline_goes_by_what_its_own_level_shows(rt: HostRuntime) -> Result<(), Fail> {
+    let requests = [
+        root_from(0, Level::INFO),
+        span_in(0, 1, Level::DEBUG),
+        span_in(1, 2, Level::INFO),
+        named_event("apart", WhichParent::Root),
+        named_event("outer", WhichParent::Explicit(Which::Made(0))),
+        named_event("hidden", WhichParent::Explicit(Which::Made(1))),
+        event_from(3, Level::DEBUG),
+        Request::Enter(LANE, Which::Made(2)),
+        named_event("inner", WhichParent::Contextual),
+    ];
+    let (level, other) = (LevelFilter::INFO, LevelFilter::TRACE);
+    let (answers, text) = serve_outlined(rt.alloc(), level, other, &requests)?;
+    assert_eq!(rt; answers.len(), 9);
+    assert_eq!(rt; text.as_str(), "apart\n  outer\nhidden\n    inner\n");
+    Ok(())
+}

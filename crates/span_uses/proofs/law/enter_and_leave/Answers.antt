@@ -1,5 +1,0 @@
-use Rattle.span_uses.proofs.Parents.{restored}
-use Rattle.span_uses.proofs.law.enter_and_leave.Goals as goal
-
-pub returns-clause-restored : goal.returns-clause-restored
-returns-clause-restored c = restored c.args.lane c.args.id _ _ _ c.leaving_undoes_entering.ensures c.in_ok-enter.ensures.entered c.exit.ensures
