@@ -11,8 +11,10 @@ use Rattle.span_registry.specs.declared.tag.Tag.{Tag}
 
 -- so many spans stand from this one up to its root, counted to the highest number that there is
 abbrev pub IsDepth : RegistryState → Id → ℕ → Type 0
-IsDepth s id n = (xs : List ℕ) → IsChain s.store.spans (Some (number_of id)) xs → n ≡ min (length xs) MAX
+IsDepth s id n =
+    (xs : List ℕ) → IsChain s.store.spans (Some (number_of id)) xs → n ≡ min (length xs) MAX
 
 -- the value that a span in the store has under a tag
 abbrev pub value_in : {T : Type 0} → Place T → RegistryState → Id → Tag T → Option T
-value_in place s id tag = option_and_then (λ m. value_under place m tag) (get s.store.extensions (number_of id))
+value_in place s id tag =
+    option_and_then (λ m. value_under place m tag) (get s.store.extensions (number_of id))

@@ -42,18 +42,22 @@ interests_nobody None f filters m = false
 interests_nobody (Some callsites) f filters m = is_never (interest_of f m filters None).0
 
 -- hint and interest let metadata by
-pub record IsLetBy (memory : KeptCallsites) (f : Form) (s : RegistryState) (m : Metadata) : Type 0 where
+pub record IsLetBy (memory : KeptCallsites) (f : Form) (s : RegistryState) (m : Metadata) : Type
+    0 where
   pub hint : is_above_hint memory f m ≡ false
   pub agrees : Agrees memory m
   pub interest : interests_nobody memory f s.filters m ≡ false
 
 -- hint or interest rule them out, and nobody wants them
-pub record IsRuledOut (memory : KeptCallsites) (f : Form) (s : RegistryState) (lane : Lane) (m : Metadata) : Type 0 where
-  pub rule : (is_above_hint memory f m ≡ true) ⊎ (Agrees memory m × (interests_nobody memory f s.filters m ≡ true))
+pub record IsRuledOut (memory : KeptCallsites) (f : Form) (s : RegistryState) (lane : Lane)
+    (m : Metadata) : Type 0 where
+  pub rule : (is_above_hint memory f m ≡ true)
+      ⊎ (Agrees memory m × (interests_nobody memory f s.filters m ≡ true))
   pub unwanted : IsUnwanted f m s.store lane.0
 
 -- the level passes the hint, but the interest isn't to be had
-pub record IsUnknown (memory : KeptCallsites) (f : Form) (m : Metadata) (e : TraceError) : Type 0 where
+pub record IsUnknown (memory : KeptCallsites) (f : Form) (m : Metadata) (e : TraceError) : Type
+    0 where
   pub hint : is_above_hint memory f m ≡ false
   pub refused : RefusesInterest memory m e
 
@@ -63,7 +67,8 @@ IsAccepted memory f s m vetoed = IsLetBy memory f s m × (vetoed ≡ false)
 
 -- they are ruled out, or let by and a leaf vetoes
 abbrev pub IsDropped : KeptCallsites → Form → RegistryState → Lane → Metadata → Bool → Type 0
-IsDropped memory f s lane m vetoed = IsRuledOut memory f s lane m ⊎ (IsLetBy memory f s m × (vetoed ≡ true))
+IsDropped memory f s lane m vetoed =
+    IsRuledOut memory f s lane m ⊎ (IsLetBy memory f s m × (vetoed ≡ true))
 
 -- what is kept, and their callsite too unless this is true
 abbrev pub learned_if : Bool → KeptCallsites → Metadata → KeptCallsites
@@ -81,7 +86,8 @@ Learns memory f m a after = after ≡ learned memory f m
 
 -- the same after an answer to a new span: where its interest wasn't to be had, as it was; where the registry refused it, its callsite is kept
 abbrev pub LearnsOfSpan : KeptCallsites → Form → Metadata → Answer → KeptCallsites → Type 0
-LearnsOfSpan memory f m (answer.Refused e) after = (RefusesInterest memory m e × (after ≡ memory)) ⊎ (after ≡ learned memory f m)
+LearnsOfSpan memory f m (answer.Refused e) after =
+    (RefusesInterest memory m e × (after ≡ memory)) ⊎ (after ≡ learned memory f m)
 LearnsOfSpan memory f m a after = after ≡ learned memory f m
 
 -- whatever the stack: the same is kept, and perhaps the callsite of these metadata
@@ -90,9 +96,12 @@ MayLearn memory m after = (after ≡ memory) ⊎ (after ≡ learned_if false mem
 
 -- what is kept loses nothing, whatever the filters learn: a level above the hint, and an interest of never in what shows the same, are of what nobody wants in any store; of always, of what all want
 pub record LosesNothing (f : Form) (filters : ℕ) (k : Known) : Type 0 where
-  pub above : (g : Form) (m : Metadata) (s : Store) (lane : ℕ) → Keeps f g → IsHonestStack g filters → is_above (level_of m) k.hint ≡ true → IsUnwanted g m s lane
-  pub never : (g : Form) (m : Metadata) (one : Callsite) (s : Store) (lane : ℕ) → Keeps f g → IsHonestStack g filters → IsKept k m one → one.interest ≡ Never → IsUnwanted g m s lane
-  pub always : (g : Form) (m : Metadata) (one : Callsite) (s : Store) (lane : ℕ) → Keeps f g → IsHonestStack g filters → IsKept k m one → one.interest ≡ Always → IsWantedByAll g m s lane
+  pub above : (g : Form) (m : Metadata) (s : Store) (lane : ℕ) → Keeps f g → IsHonestStack g filters
+      → is_above (level_of m) k.hint ≡ true → IsUnwanted g m s lane
+  pub never : (g : Form) (m : Metadata) (one : Callsite) (s : Store) (lane : ℕ) → Keeps f g
+      → IsHonestStack g filters → IsKept k m one → one.interest ≡ Never → IsUnwanted g m s lane
+  pub always : (g : Form) (m : Metadata) (one : Callsite) (s : Store) (lane : ℕ) → Keeps f g
+      → IsHonestStack g filters → IsKept k m one → one.interest ≡ Always → IsWantedByAll g m s lane
 
 -- so it is of a cache, if anything is in it
 abbrev pub KeepsSafely : Form → ℕ → Cache → Type 0
@@ -114,7 +123,8 @@ Decides f s lane m pass (Err e) = ⊤
 -- Below: steps of the code, which no public clause cites.
 
 -- the interest by which metadata are let by: never above the hint; sometimes where nothing is kept; else the stack's
-pub record IsInterestBy (memory : KeptCallsites) (f : Form) (filters : ℕ) (m : Metadata) (after : KeptCallsites) (i : Interest) : Type 0 where
+pub record IsInterestBy (memory : KeptCallsites) (f : Form) (filters : ℕ) (m : Metadata)
+    (after : KeptCallsites) (i : Interest) : Type 0 where
   pub above : is_above_hint memory f m ≡ true → i ≡ Never
   pub agrees : is_above_hint memory f m ≡ false → Agrees memory m
   pub never : is_above_hint memory f m ≡ false → interests_nobody memory f filters m ≡ is_never i
@@ -122,25 +132,38 @@ pub record IsInterestBy (memory : KeptCallsites) (f : Form) (filters : ℕ) (m :
   pub learned : after ≡ learned memory f m
 
 -- it is to be had, or not, and then the same is kept as before
-abbrev pub HasInterestBy : KeptCallsites → Form → ℕ → Metadata → KeptCallsites → Result Interest TraceError → Type 0
+abbrev pub HasInterestBy : KeptCallsites → Form → ℕ → Metadata → KeptCallsites
+    → Result Interest TraceError → Type 0
 HasInterestBy memory f filters m after (Ok i) = IsInterestBy memory f filters m after i
-HasInterestBy memory f filters m after (Err e) = (is_above_hint memory f m ≡ false) × (after ≡ memory)
+HasInterestBy memory f filters m after (Err e) =
+    (is_above_hint memory f m ≡ false) × (after ≡ memory)
 
 -- a cache gives an interest. Of any stack: never above the hint that is kept then, and a callsite that is kept with other metadata is refused below it. Which one it is else is said of an honest stack, where the cache is up to date, and it stays so
-pub record GivesInterest {S : Type 0} (registry : S → RegistryState) (has_form : S → Form → Type 0) (x : S) (m : Metadata) (i : Result Interest TraceError) (old new : Cache) : Type 0 where
+pub record GivesInterest {S : Type 0} (registry : S → RegistryState) (has_form : S → Form → Type 0)
+    (x : S) (m : Metadata) (i : Result Interest TraceError) (old new : Cache) : Type 0 where
   pub off : kept_in old ≡ None → i ≡ Ok Sometimes
   pub learns : MayLearn (kept_in old) m (kept_in new)
   pub keeps : OnOk i (kept_in new ≡ learned_if (is_above_read (hint_in new) m) (kept_in old) m)
   pub reads : ReadsOnce (kept_in old) (hint_in old) (hint_in new)
   pub above : is_above_read (hint_in new) m ≡ true → i ≡ Ok Never
-  pub mismatch : RefusesBelow (hint_in old) (kept_in old) m CallsiteMismatch → i ≡ Err CallsiteMismatch
+  pub mismatch : RefusesBelow (hint_in old) (kept_in old) m CallsiteMismatch
+      → i ≡ Err CallsiteMismatch
   pub refused : IfErr i (RefusesBelow (hint_in old) (kept_in old) m)
-  pub safe : (f : Form) → has_form x f → IsHonestStack f (registry x).filters → KeepsSafely f (registry x).filters old → Promises f m i × KeepsSafely f (registry x).filters new
-  pub by_form : (f : Form) → has_form x f → HasHonestAnswers f → IsUpToDate f (registry x).filters old → HasInterestBy (kept_in old) f (registry x).filters m (kept_in new) i
-  pub kept : (f : Form) → has_form x f → IsUpToDate f (registry x).filters old → IsUpToDate f (registry x).filters new
+  pub safe : (f : Form) → has_form x f → IsHonestStack f (registry x).filters
+      → KeepsSafely f (registry x).filters old
+      → Promises f m i × KeepsSafely f (registry x).filters new
+  pub by_form : (f : Form) → has_form x f → HasHonestAnswers f
+      → IsUpToDate f (registry x).filters old
+      → HasInterestBy (kept_in old) f (registry x).filters m (kept_in new) i
+  pub kept : (f : Form) → has_form x f → IsUpToDate f (registry x).filters old
+      → IsUpToDate f (registry x).filters new
 
 -- what comes of asking whether metadata are wanted: true, with the pass that a new one becomes where all are asked; false, where they are dropped; or their interest isn't to be had
-abbrev pub IsAdmitted : KeptCallsites → Form → RegistryState → Lane → Metadata → Pass → KeptCallsites → Result Bool TraceError → Type 0
-IsAdmitted memory f s lane m pass after (Ok true) = IsLetBy memory f s m × (asked f m s.store lane.0 no_filter no_filter ≡ (true, refusals pass)) × (after ≡ learned memory f m)
-IsAdmitted memory f s lane m pass after (Ok false) = IsDropped memory f s lane m (vetoes f m s.store lane.0) × (after ≡ learned memory f m)
+abbrev pub IsAdmitted : KeptCallsites → Form → RegistryState → Lane → Metadata → Pass
+    → KeptCallsites → Result Bool TraceError → Type 0
+IsAdmitted memory f s lane m pass after (Ok true) =
+    IsLetBy memory f s m × (asked f m s.store lane.0 no_filter no_filter ≡ (true, refusals pass))
+    × (after ≡ learned memory f m)
+IsAdmitted memory f s lane m pass after (Ok false) =
+    IsDropped memory f s lane m (vetoes f m s.store lane.0) × (after ≡ learned memory f m)
 IsAdmitted memory f s lane m pass after (Err e) = IsUnknown memory f m e × (after ≡ memory)

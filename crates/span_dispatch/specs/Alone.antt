@@ -17,7 +17,8 @@ use Rattle.span_registry.specs.View.{view_of}
 -- what passes the path of a leaf or a filter, of an outcome between two stores: a notice that all its filters pass, asked afresh on the first
 abbrev pub passed : Option Path → Outcome → Store → Store → Heard
 passed (Some path) (Noticed lane e) s t =
-    if passes_path path e s lane.0 no_filter then told_in e (given_in e s t) lane.0 (mask_of path no_filter) ∷ [] else []
+    if passes_path path e s lane.0 no_filter
+    then told_in e (given_in e s t) lane.0 (mask_of path no_filter) ∷ [] else []
 passed path o s t = []
 
 -- what passes the path of the leaf or the filter at a place, of what was made: a leaf there sees just that
@@ -37,7 +38,9 @@ abbrev pub learning : Conducts → Notice → Store → Store → ℕ → Filter
 learning [] e s u lane under = []
 learning ((None, b) ∷ cs) e s u lane under = (None, b) ∷ cs
 learning ((Some n, b) ∷ cs) e s u lane under =
-    if passes (b []) e s lane (union under (single n)) then (Some n, after_notice e (view_of u lane (union under (single n))) b) ∷ learning cs e s u lane (union under (single n))
+    if passes (b []) e s lane (union under (single n))
+    then (Some n, after_notice e (view_of u lane (union under (single n))) b) ∷ learning cs e s
+    u lane (union under (single n))
     else (Some n, b) ∷ cs
 
 -- the filters' conducts after an outcome: where a level was set, the filter with that number, if it is on the path, goes on by that
@@ -50,4 +53,6 @@ acting cs (LevelSet n l) s t = setting n l cs
 abbrev pub Alone : Conducts → Store → List Outcome → Heard → Type 0
 Alone cs s [] heard = heard ≡ []
 Alone cs s (o ∷ outcomes) heard =
-    (t : Store) × (rest : Heard) × Steps (form_of_path (path_now cs)) o s t × Alone (acting cs o s t) t outcomes rest × (heard ≡ passed (Some (path_now cs)) o s t ++ rest)
+    (t : Store) × (rest : Heard) × Steps (form_of_path (path_now cs)) o s t
+    × Alone (acting cs o s t) t outcomes rest
+    × (heard ≡ passed (Some (path_now cs)) o s t ++ rest)

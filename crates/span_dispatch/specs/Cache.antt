@@ -26,7 +26,8 @@ no_callsite n = None
 
 -- these and the callsite of these metadata, unless it is among them already
 abbrev pub with_callsite : Callsites → Metadata → Callsites
-with_callsite callsites m n = if callsite_of m == n then Some (unwrap_or (callsites n) m) else callsites n
+with_callsite callsites m n =
+    if callsite_of m == n then Some (unwrap_or (callsites n) m) else callsites n
 
 -- the callsites whose interest is kept; or none, where nothing ever is
 abbrev pub KeptCallsites : Type 0
@@ -39,7 +40,8 @@ Agrees (Some callsites) m = (k : Metadata) → callsites (callsite_of m) ≡ Som
 
 -- why an interest isn't to be had: the callsite is kept with other metadata, or it isn't kept, and memory was refused. Where nothing is kept none is needed
 abbrev pub RefusesInterest : KeptCallsites → Metadata → TraceError → Type 0
-RefusesInterest (Some callsites) m CallsiteMismatch = (k : Metadata) × (callsites (callsite_of m) ≡ Some k) × ¬ (ShowSame k m)
+RefusesInterest (Some callsites) m CallsiteMismatch =
+    (k : Metadata) × (callsites (callsite_of m) ≡ Some k) × ¬ (ShowSame k m)
 RefusesInterest (Some callsites) m OutOfMemory = callsites (callsite_of m) ≡ None
 RefusesInterest memory m e = ⊥
 
@@ -91,8 +93,10 @@ pub record IsKept (k : Known) (m : Metadata) (one : Callsite) : Type 0 where
 -- what is known is what a stack of this form would answer now, on a registry that handed out this many filters
 pub record IsCurrent (f : Form) (filters : ℕ) (k : Known) : Type 0 where
   pub hint : k.hint ≡ hint_of f
-  pub number : (n : ℕ) (one : Callsite) → tree.get nat_cmp k.callsites n ≡ Some one → callsite_of one.metadata ≡ n
-  pub interest : (n : ℕ) (one : Callsite) → tree.get nat_cmp k.callsites n ≡ Some one → one.interest ≡ (interest_of f one.metadata filters None).0
+  pub number : (n : ℕ) (one : Callsite) → tree.get nat_cmp k.callsites n ≡ Some one
+      → callsite_of one.metadata ≡ n
+  pub interest : (n : ℕ) (one : Callsite) → tree.get nat_cmp k.callsites n ≡ Some one
+      → one.interest ≡ (interest_of f one.metadata filters None).0
 
 -- what is kept, if anything, is that
 abbrev pub IsUpToDate : Form → ℕ → Cache → Type 0

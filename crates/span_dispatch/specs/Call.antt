@@ -70,7 +70,8 @@ abbrev pub closes_of : Lane → List ℕ → List Outcome
 closes_of lane closed = map (λ x. Noticed lane (OnClose (id_of x))) closed
 
 -- a handle is taken, and all that is closed by that closes, in the order in which it should; the answer is whether the span is among them
-pub record DropsHandle (lane : Lane) (id : Id) (s : Store) (closes : Bool) (os : List Outcome) : Type 0 where
+pub record DropsHandle (lane : Lane) (id : Id) (s : Store) (closes : Bool)
+    (os : List Outcome) : Type 0 where
   pub closed : List ℕ
   pub exact : Closes s.spans (number_of id) closed
   pub outcomes : os ≡ Quiet (HandleTaken id) ∷ closes_of lane closed
@@ -79,13 +80,20 @@ pub record DropsHandle (lane : Lane) (id : Id) (s : Store) (closes : Bool) (os :
 -- how a stack of this form on this registry answers a call, where these callsites are kept. A new span and an event are dropped exactly where hint or interest rule them out or a leaf vetoes; no layer refuses anything else
 abbrev pub AnswersWith : Call → KeptCallsites → Form → RegistryState → Answer → Type 0
 AnswersWith (OpenSpan lane a) memory f s (answer.Made id) =
-    IsAccepted memory f s (metadata_of a) (vetoes f (metadata_of a) s.store lane.0) × HasRoomFor s lane (asked_parent a)
-AnswersWith (OpenSpan lane a) memory f s answer.Dropped = IsDropped memory f s lane (metadata_of a) (vetoes f (metadata_of a) s.store lane.0)
+    IsAccepted memory f s (metadata_of a) (vetoes f (metadata_of a) s.store lane.0)
+    × HasRoomFor s lane (asked_parent a)
+AnswersWith (OpenSpan lane a) memory f s answer.Dropped =
+    IsDropped memory f s lane (metadata_of a) (vetoes f (metadata_of a) s.store lane.0)
 AnswersWith (OpenSpan lane a) memory f s (answer.Refused e) =
-    IsUnknown memory f (metadata_of a) e ⊎ (IsAccepted memory f s (metadata_of a) (vetoes f (metadata_of a) s.store lane.0) × RefusesNew s lane (asked_parent a) e)
-AnswersWith (SendEvent lane e) memory f s answer.Done = IsAccepted memory f s (event_metadata e) (vetoes_whole f e s.store lane)
-AnswersWith (SendEvent lane e) memory f s answer.Dropped = IsDropped memory f s lane (event_metadata e) (vetoes_whole f e s.store lane)
-AnswersWith (SendEvent lane e) memory f s (answer.Refused error) = IsUnknown memory f (event_metadata e) error
+    IsUnknown memory f (metadata_of a) e
+    ⊎ (IsAccepted memory f s (metadata_of a) (vetoes f (metadata_of a) s.store lane.0)
+    × RefusesNew s lane (asked_parent a) e)
+AnswersWith (SendEvent lane e) memory f s answer.Done =
+    IsAccepted memory f s (event_metadata e) (vetoes_whole f e s.store lane)
+AnswersWith (SendEvent lane e) memory f s answer.Dropped =
+    IsDropped memory f s lane (event_metadata e) (vetoes_whole f e s.store lane)
+AnswersWith (SendEvent lane e) memory f s (answer.Refused error) =
+    IsUnknown memory f (event_metadata e) error
 AnswersWith (Enter lane id) memory f s answer.Done = ⊤
 AnswersWith (Enter lane id) memory f s (answer.Refused e) = RefusesEnter s id e
 AnswersWith (Exit lane id) memory f s answer.Done = ⊤
@@ -93,31 +101,39 @@ AnswersWith (RecordValues lane id values) memory f s answer.Done = ⊤
 AnswersWith (RecordValues lane id values) memory f s (answer.Refused e) = RefusesUnlessOpen s id e
 AnswersWith (Follow lane id other) memory f s answer.Done = ⊤
 AnswersWith (Follow lane id other) memory f s (answer.Refused e) = RefusesUnlessOpen s id e
-AnswersWith (AddHandle lane id) memory f s answer.Done = handles_of s.store.spans (number_of id) < s.limits.count
+AnswersWith (AddHandle lane id) memory f s answer.Done =
+    handles_of s.store.spans (number_of id) < s.limits.count
 AnswersWith (AddHandle lane id) memory f s (answer.Refused e) = RefusesClone s id e
 AnswersWith (DropHandle lane id) memory f s (answer.Yes closes) = ⊤
 AnswersWith (DropHandle lane id) memory f s (answer.Refused e) = RefusesRelease s id e
-AnswersWith (Probe lane m) memory f s (answer.Yes true) = IsAccepted memory f s m (vetoes f m s.store lane.0)
-AnswersWith (Probe lane m) memory f s (answer.Yes false) = IsDropped memory f s lane m (vetoes f m s.store lane.0)
+AnswersWith (Probe lane m) memory f s (answer.Yes true) =
+    IsAccepted memory f s m (vetoes f m s.store lane.0)
+AnswersWith (Probe lane m) memory f s (answer.Yes false) =
+    IsDropped memory f s lane m (vetoes f m s.store lane.0)
 AnswersWith (Probe lane m) memory f s (answer.Refused e) = IsUnknown memory f m e
-AnswersWith (AskCurrent lane) memory f s (answer.Current o) = IsCurrent s.store lane.0 (option_map number_of o)
+AnswersWith (AskCurrent lane) memory f s (answer.Current o) =
+    IsCurrent s.store lane.0 (option_map number_of o)
 AnswersWith (SetLevel n l) memory f s answer.Done = takes_level f n l ≡ true
 AnswersWith (SetLevel n l) memory f s (answer.Refused e) = RefusesLevel f n l e
 AnswersWith call memory f s a = ⊥
 
 -- which callsites are kept after a call was answered so: of what is asked by metadata that callsite, too; none once a level was set
 abbrev pub KeepsAfter : Call → KeptCallsites → Form → Answer → KeptCallsites → Type 0
-KeepsAfter (OpenSpan lane attrs) memory f a after = LearnsOfSpan memory f (metadata_of attrs) a after
+KeepsAfter (OpenSpan lane attrs) memory f a after =
+    LearnsOfSpan memory f (metadata_of attrs) a after
 KeepsAfter (SendEvent lane e) memory f a after = Learns memory f (event_metadata e) a after
 KeepsAfter (Probe lane m) memory f a after = Learns memory f m a after
-KeepsAfter (SetLevel n l) memory f answer.Done after = after ≡ option_map (λ callsites. no_callsite) memory
+KeepsAfter (SetLevel n l) memory f answer.Done after =
+    after ≡ option_map (λ callsites. no_callsite) memory
 KeepsAfter call memory f a after = after ≡ memory
 
 -- Below: what a call does to a registry where it isn't refused, whatever the stack answers. Hooks may write extensions after it.
 
 -- a span is opened that these attributes ask for, with some verdict
 abbrev pub OpensFor : Lane → Attributes → Id → RegistryState → RegistryState → Type 0
-OpensFor lane attrs id s t = (v : FilterMap) × Opens lane (record { metadata = metadata_of attrs; parent = asked_parent attrs; verdict = v }) id s t
+OpensFor lane attrs id s t =
+    (v : FilterMap) × Opens lane
+    (record { metadata = metadata_of attrs; parent = asked_parent attrs; verdict = v }) id s t
 
 -- the span is open, and nothing changes
 abbrev pub FindsOpen : Id → RegistryState → RegistryState → Type 0
@@ -125,7 +141,10 @@ FindsOpen id s t = IsOpen s.store.spans (number_of id) × (t ≡ s)
 
 -- a handle is taken, and what closes by that is taken out; the answer is whether the span is among it
 abbrev pub DropsSpan : Id → Bool → RegistryState → RegistryState → Type 0
-DropsSpan id closes s t = IsHeld s.store.spans (number_of id) × ((closed : List ℕ) × Drops s (number_of id) closed t × (IsTrue closes ↔ Member (number_of id) closed))
+DropsSpan id closes s t =
+    IsHeld s.store.spans (number_of id)
+    × ((closed : List ℕ) × Drops s (number_of id) closed t
+    × (IsTrue closes ↔ Member (number_of id) closed))
 
 -- Below: what a call of a dispatcher gives, as an answer.
 

@@ -64,11 +64,14 @@ abbrev pub RefusesMetadata : {S : Type 0} → Metadata → Dispatch S → TraceE
 RefusesMetadata m d error = RefusesBelow (hint_by d) (kept_by d) m error
 
 -- where their callsite is kept with other metadata, and their level isn't above the kept hint, they always are refused for that
-abbrev pub RefusesMismatch : {S A : Type 0} → Metadata → Result A TraceError → Dispatch S → Dispatch S → Type 0
-RefusesMismatch m given old new = RefusesMetadata m old CallsiteMismatch → given ≡ Err CallsiteMismatch
+abbrev pub RefusesMismatch : {S A : Type 0} → Metadata → Result A TraceError → Dispatch S
+    → Dispatch S → Type 0
+RefusesMismatch m given old new =
+    RefusesMetadata m old CallsiteMismatch → given ≡ Err CallsiteMismatch
 
 -- above the hint that is kept then, what is asked by metadata is dropped, which this answer says: it is never refused
-abbrev pub DropsAbove : {S A : Type 0} → Metadata → A → Result A TraceError → Dispatch S → Dispatch S → Type 0
+abbrev pub DropsAbove : {S A : Type 0} → Metadata → A → Result A TraceError → Dispatch S
+    → Dispatch S → Type 0
 DropsAbove m dropped given old new = is_above_read (hint_by new) m ≡ true → given ≡ Ok dropped
 
 -- the hint that is kept is the one that was read first; where nothing is ever kept, none
@@ -88,8 +91,10 @@ abbrev pub LearnsOnly : {S : Type 0} → Metadata → Dispatch S → Dispatch S 
 LearnsOnly m old new = MayLearn (kept_by old) m (kept_by new)
 
 -- what isn't refused has its callsite kept then, unless its level is above the kept hint
-abbrev pub KeepsCallsite : {S A : Type 0} → Metadata → Result A TraceError → Dispatch S → Dispatch S → Type 0
-KeepsCallsite m given old new = OnOk given (kept_by new ≡ learned_if (is_above_read (hint_by new) m) (kept_by old) m)
+abbrev pub KeepsCallsite : {S A : Type 0} → Metadata → Result A TraceError → Dispatch S → Dispatch S
+    → Type 0
+KeepsCallsite m given old new =
+    OnOk given (kept_by new ≡ learned_if (is_above_read (hint_by new) m) (kept_by old) m)
 
 -- the stack is the same
 abbrev pub SameStack : {S : Type 0} → Dispatch S → Dispatch S → Type 0
@@ -104,8 +109,10 @@ abbrev pub Forgets : {S : Type 0} → Dispatch S → Dispatch S → Type 0
 Forgets old new = new ≡ forgetful (with_stack old (stack_of new))
 
 -- why a new span with these metadata and this parent is refused: its level isn't above the kept hint, and its interest isn't to be had, or the registry has no room or no such parent
-abbrev pub RefusesOpening : {S : Type 0} → (S → RegistryState) → Lane → Metadata → Parent → Dispatch S → TraceError → Type 0
-RefusesOpening registry lane m p d e = PassesKept m d × (RefusesInterest (kept_by d) m e ⊎ RefusesNew (registry (stack_of d)) lane p e)
+abbrev pub RefusesOpening : {S : Type 0} → (S → RegistryState) → Lane → Metadata → Parent
+    → Dispatch S → TraceError → Type 0
+RefusesOpening registry lane m p d e =
+    PassesKept m d × (RefusesInterest (kept_by d) m e ⊎ RefusesNew (registry (stack_of d)) lane p e)
 
 module _ {S : Type 0} (s : SubscriberOf S) where
   -- the registry of a dispatcher's stack
@@ -117,7 +124,8 @@ module _ {S : Type 0} (s : SubscriberOf S) where
   SameRegistry old new = registry_of new ≡ registry_of old
 
   -- why the registry refuses what is asked of a span
-  abbrev pub Refuses : (RegistryState → Id → TraceError → Type 0) → Id → Dispatch S → TraceError → Type 0
+  abbrev pub Refuses : (RegistryState → Id → TraceError → Type 0) → Id → Dispatch S → TraceError
+      → Type 0
   Refuses refuses id d e = refuses (registry_of d) id e
 
   -- the current span of a lane is this one
@@ -141,20 +149,29 @@ module _ {S : Type 0} (s : SubscriberOf S) where
   SafeBy f d = KeepsSafely f (registry_of d).filters d.cache
 
   -- it is ready by a form that keeps this of the old one, with this said of what it keeps
-  abbrev pub ReadyAfter : (Form → ℕ → Cache → Type 0) → (Form → Form → Type 0) → Form → Dispatch S → Type 0
-  ReadyAfter Kept keeps f d = IsReadyAfter s.registry s.with_registry s.has_form s.stepped s.levelled Kept keeps f d
+  abbrev pub ReadyAfter : (Form → ℕ → Cache → Type 0) → (Form → Form → Type 0) → Form → Dispatch S
+      → Type 0
+  ReadyAfter Kept keeps f d =
+      IsReadyAfter s.registry s.with_registry s.has_form s.stepped s.levelled Kept keeps f d
 
   -- ---- what is promised of an honest stack
 
   -- a stack that was ready is ready in its dispatcher, by a form that keeps what the old one had, whatever is said of what is kept: nothing is yet
   pub record BecomesReady (x : S) (d : Dispatch S) : Type 0 where
-    pub safe : (f : Form) → IsReady s.registry s.with_registry s.has_form s.stepped s.levelled f x → ReadyAfter KeepsSafely Keeps f d
-    pub current : (f : Form) → IsReady s.registry s.with_registry s.has_form s.stepped s.levelled f x → ReadyAfter IsUpToDate Keeps f d
+    pub safe : (f : Form) → IsReady s.registry s.with_registry s.has_form s.stepped s.levelled f x
+        → ReadyAfter KeepsSafely Keeps f d
+    pub current : (f : Form)
+        → IsReady s.registry s.with_registry s.has_form s.stepped s.levelled f x
+        → ReadyAfter IsUpToDate Keeps f d
 
   -- a dispatcher that was ready is ready again, by a form that keeps this of the old one: both with what loses nothing kept, and with what its stack would answer now
   pub record StaysReadyWith (keeps : Form → Form → Type 0) (old new : Dispatch S) : Type 0 where
-    pub safe : (f : Form) → IsReadyWith s.registry s.with_registry s.has_form s.stepped s.levelled KeepsSafely f old → ReadyAfter KeepsSafely keeps f new
-    pub current : (f : Form) → IsReadyWith s.registry s.with_registry s.has_form s.stepped s.levelled IsUpToDate f old → ReadyAfter IsUpToDate keeps f new
+    pub safe : (f : Form)
+        → IsReadyWith s.registry s.with_registry s.has_form s.stepped s.levelled KeepsSafely f old
+        → ReadyAfter KeepsSafely keeps f new
+    pub current : (f : Form)
+        → IsReadyWith s.registry s.with_registry s.has_form s.stepped s.levelled IsUpToDate f old
+        → ReadyAfter IsUpToDate keeps f new
 
   -- by one that keeps what the old one had: interest and hint of each filter too
   abbrev pub StaysReady : Dispatch S → Dispatch S → Type 0
@@ -170,27 +187,34 @@ module _ {S : Type 0} (s : SubscriberOf S) where
 
   -- an honest stack is told of a call so, where what is kept loses nothing; and it answers it exactly so, where what is kept is what it would answer now
   pub record AnswersCall (call : Call) (a : Answer) (old new : Dispatch S) : Type 0 where
-    pub told : (f : Form) → HonestBy f old → SafeBy f old → IsTold s.registry s.with_registry s.has_form s.stepped s.levelled call f a (stack_of old) (stack_of new)
-    pub exact : (f : Form) → HonestBy f old → CurrentBy f old → AnswersExactly call f (kept_by old) (registry_of old) a (kept_by new)
+    pub told : (f : Form) → HonestBy f old → SafeBy f old
+        → IsTold s.registry s.with_registry s.has_form s.stepped s.levelled call f a (stack_of old)
+        (stack_of new)
+    pub exact : (f : Form) → HonestBy f old → CurrentBy f old
+        → AnswersExactly call f (kept_by old) (registry_of old) a (kept_by new)
 
   -- and so does a drop, where no span was closing
   abbrev pub AnswersDrop : Call → Answer → Dispatch S → Dispatch S → Type 0
   AnswersDrop call a old new = IsSettled (registry_of old).store.spans → AnswersCall call a old new
 
   -- so is `enabled` answered, with what it gives for an answer
-  abbrev pub ServesEnabled : Lane → Metadata → Result Bool TraceError → Dispatch S → Dispatch S → Type 0
+  abbrev pub ServesEnabled : Lane → Metadata → Result Bool TraceError → Dispatch S → Dispatch S
+      → Type 0
   ServesEnabled lane m given old new = AnswersCall (Probe lane m) (yes_answer given) old new
 
   -- so is `new_span`
-  abbrev pub ServesNewSpan : Lane → Attributes → Result (Option Id) TraceError → Dispatch S → Dispatch S → Type 0
-  ServesNewSpan lane attrs given old new = AnswersCall (OpenSpan lane attrs) (span_answer given) old new
+  abbrev pub ServesNewSpan : Lane → Attributes → Result (Option Id) TraceError → Dispatch S
+      → Dispatch S → Type 0
+  ServesNewSpan lane attrs given old new =
+      AnswersCall (OpenSpan lane attrs) (span_answer given) old new
 
   -- so is `event`
   abbrev pub ServesEvent : Lane → Event → Result Bool TraceError → Dispatch S → Dispatch S → Type 0
   ServesEvent lane e given old new = AnswersCall (SendEvent lane e) (event_answer given) old new
 
   -- so is `enter`
-  abbrev pub ServesEnter : {A : Type 0} → Lane → Id → Result A TraceError → Dispatch S → Dispatch S → Type 0
+  abbrev pub ServesEnter : {A : Type 0} → Lane → Id → Result A TraceError → Dispatch S → Dispatch S
+      → Type 0
   ServesEnter lane id given old new = AnswersCall (Enter lane id) (done_answer given) old new
 
   -- so is `exit`, which is always done
@@ -198,12 +222,16 @@ module _ {S : Type 0} (s : SubscriberOf S) where
   ServesExit lane id old new = AnswersCall (Exit lane id) Done old new
 
   -- so is `record`
-  abbrev pub ServesRecord : {A : Type 0} → Lane → Id → Record → Result A TraceError → Dispatch S → Dispatch S → Type 0
-  ServesRecord lane id values given old new = AnswersCall (RecordValues lane id values) (done_answer given) old new
+  abbrev pub ServesRecord : {A : Type 0} → Lane → Id → Record → Result A TraceError → Dispatch S
+      → Dispatch S → Type 0
+  ServesRecord lane id values given old new =
+      AnswersCall (RecordValues lane id values) (done_answer given) old new
 
   -- so is `follows_from`
-  abbrev pub ServesFollows : {A : Type 0} → Lane → Id → Id → Result A TraceError → Dispatch S → Dispatch S → Type 0
-  ServesFollows lane id follows given old new = AnswersCall (Follow lane id follows) (done_answer given) old new
+  abbrev pub ServesFollows : {A : Type 0} → Lane → Id → Id → Result A TraceError → Dispatch S
+      → Dispatch S → Type 0
+  ServesFollows lane id follows given old new =
+      AnswersCall (Follow lane id follows) (done_answer given) old new
 
   -- so is `clone_span`
   abbrev pub ServesClone : Lane → Id → Result Id TraceError → Dispatch S → Dispatch S → Type 0
@@ -214,7 +242,8 @@ module _ {S : Type 0} (s : SubscriberOf S) where
   ServesDrop lane id given old new = AnswersDrop (DropHandle lane id) (yes_answer given) old new
 
   -- so is `set_level`
-  abbrev pub ServesLevel : {A : Type 0} → ℕ → LevelFilter → Result A TraceError → Dispatch S → Dispatch S → Type 0
+  abbrev pub ServesLevel : {A : Type 0} → ℕ → LevelFilter → Result A TraceError → Dispatch S
+      → Dispatch S → Type 0
   ServesLevel n l given old new = AnswersCall (SetLevel n l) (done_answer given) old new
 
   -- so is `current_span`, and nothing changes
@@ -222,45 +251,64 @@ module _ {S : Type 0} (s : SubscriberOf S) where
   ServesCurrent lane given d = AnswersCall (AskCurrent lane) (current_answer given) d d
 
   -- what comes of asking an honest stack whether metadata are wanted, where what is kept is what it would answer now
-  abbrev pub Admits : Lane → Metadata → Dispatch S → Pass → Result Bool TraceError → Dispatch S → Type 0
-  Admits lane m old pass said new = (f : Form) → HonestBy f old → CurrentBy f old → IsAdmitted (kept_by old) f (registry_of old) lane m pass (kept_by new) said
+  abbrev pub Admits : Lane → Metadata → Dispatch S → Pass → Result Bool TraceError → Dispatch S
+      → Type 0
+  Admits lane m old pass said new =
+      (f : Form) → HonestBy f old → CurrentBy f old
+      → IsAdmitted (kept_by old) f (registry_of old) lane m pass (kept_by new) said
 
   -- and where what is kept loses nothing
   abbrev pub AdmitsSafely : Lane → Metadata → Dispatch S → Pass → Result Bool TraceError → Type 0
-  AdmitsSafely lane m old pass said = (f : Form) → HonestBy f old → SafeBy f old → Decides f (registry_of old).store lane m pass said
+  AdmitsSafely lane m old pass said =
+      (f : Form) → HonestBy f old → SafeBy f old
+      → Decides f (registry_of old).store lane m pass said
 
   -- a dispatcher that is ready serves the next request so
-  pub record ServesNext (past : List Answer) (r : Request) (a : Answer) (old new : Dispatch S) : Type 0 where
-    pub told : IsReadySomehow s.registry s.with_registry s.has_form s.stepped s.levelled old → (made : List OutcomeAt) × TellsAsked s.registry s.with_registry s.has_form s.stepped s.levelled (call_of past r) (stack_of old) a made (stack_of new)
+  pub record ServesNext (past : List Answer) (r : Request) (a : Answer)
+      (old new : Dispatch S) : Type 0 where
+    pub told : IsReadySomehow s.registry s.with_registry s.has_form s.stepped s.levelled old
+        → (made : List OutcomeAt)
+        × TellsAsked s.registry s.with_registry s.has_form s.stepped s.levelled (call_of past r)
+        (stack_of old) a made (stack_of new)
     pub exact : IsCurrentSomehow s.registry s.with_registry s.has_form s.stepped s.levelled old
-        → (made : List OutcomeAt) × ServesRequest s.registry s.with_registry s.has_form s.stepped s.levelled past r (kept_by old) (stack_of old) a made (kept_by new) (stack_of new)
+        → (made : List OutcomeAt)
+        × ServesRequest s.registry s.with_registry s.has_form s.stepped s.levelled past r
+        (kept_by old) (stack_of old) a made (kept_by new) (stack_of new)
 
   -- a dispatcher that is ready serves a list so
   abbrev pub ServesList : List Request → Dispatch S → Dispatch S → Vec Answer Global → Type 0
   ServesList requests old new answers =
       IsReadySomehow s.registry s.with_registry s.has_form s.stepped s.levelled old
-      → Served s.registry s.with_registry s.has_form s.stepped s.levelled s.hears s.acts_at requests answers.items (stack_of old) (stack_of new)
+      → Served s.registry s.with_registry s.has_form s.stepped s.levelled s.hears s.acts_at requests
+      answers.items (stack_of old) (stack_of new)
 
   -- and answers each request of it exactly so, where what it keeps is what its stack would answer now
   abbrev pub ServesListExactly : List Request → Dispatch S → Dispatch S → Vec Answer Global → Type 0
   ServesListExactly requests old new answers =
       IsCurrentSomehow s.registry s.with_registry s.has_form s.stepped s.levelled old
-      → ServedExactly s.registry s.with_registry s.has_form s.stepped s.levelled s.hears s.acts_at requests answers.items old new
+      → ServedExactly s.registry s.with_registry s.has_form s.stepped s.levelled s.hears s.acts_at
+      requests answers.items old new
 
   -- whatever was made between the two, each leaf sees of it what its path passes, as if it stood alone
   abbrev pub SeesWhatIsMade : Dispatch S → Dispatch S → Type 0
   SeesWhatIsMade old new =
-      (made : List OutcomeAt) → FoldsTo (Makes s.registry s.with_registry s.has_form s.stepped s.levelled) (stack_of old) made (stack_of new) → Sees s.registry s.hears s.acts_at (stack_of old) made (stack_of new)
+      (made : List OutcomeAt)
+      → FoldsTo (Makes s.registry s.with_registry s.has_form s.stepped s.levelled)
+      (stack_of old) made (stack_of new)
+      → Sees s.registry s.hears s.acts_at (stack_of old) made (stack_of new)
 
   -- ---- what is promised of any stack that has a form
 
   -- where what was kept is what the stack would answer, by a form that it has, so is what is kept now
   abbrev pub StaysUpToDate : Dispatch S → Dispatch S → Type 0
-  StaysUpToDate old new = (f : Form) → s.has_form (stack_of old) f → CurrentBy f old → KeepsUpToDate f (registry_of old).filters new
+  StaysUpToDate old new =
+      (f : Form) → s.has_form (stack_of old) f → CurrentBy f old
+      → KeepsUpToDate f (registry_of old).filters new
 
   -- where what was kept lost nothing, by a form that it has and is honest by, neither does what is kept now
   abbrev pub StaysSafe : Dispatch S → Dispatch S → Type 0
-  StaysSafe old new = (f : Form) → HonestBy f old → SafeBy f old → KeepsSafely f (registry_of old).filters new.cache
+  StaysSafe old new =
+      (f : Form) → HonestBy f old → SafeBy f old → KeepsSafely f (registry_of old).filters new.cache
 
   -- whether a filter with this number takes this level, by each form that the stack has
   abbrev pub TakesLevel : ℕ → LevelFilter → Dispatch S → Bool → Type 0
@@ -268,15 +316,20 @@ module _ {S : Type 0} (s : SubscriberOf S) where
 
   -- of each form that the stack had it has one in which the filter with this number alone answers otherwise
   abbrev pub ChangesLevel : ℕ → Dispatch S → Dispatch S → Type 0
-  ChangesLevel n old new = (f : Form) → s.has_form (stack_of old) f → FollowsLevel (s.has_form (stack_of new)) n f
+  ChangesLevel n old new =
+      (f : Form) → s.has_form (stack_of old) f → FollowsLevel (s.has_form (stack_of new)) n f
 
   -- the hint is the stack's, by a form that it has, where what is kept is what it would answer
   abbrev pub ShowsHint : Dispatch S → Option LevelFilter → Type 0
-  ShowsHint d hint = (f : Form) (n : ℕ) → s.has_form (stack_of d) f → KeepsUpToDate f n d → hint ≡ hint_kept (kept_by d) f
+  ShowsHint d hint =
+      (f : Form) (n : ℕ) → s.has_form (stack_of d) f → KeepsUpToDate f n d
+      → hint ≡ hint_kept (kept_by d) f
 
   -- where nothing is ever kept: whether metadata are wanted is what the stack says, by a form that it has, asked with a new pass
   abbrev pub WantsMetadata : Lane → Metadata → Dispatch S → Bool → Type 0
-  WantsMetadata lane m d wanted = kept_by d ≡ None → (f : Form) → s.has_form (stack_of d) f → wanted ≡ (asked f m (registry_of d).store lane.0 no_filter no_filter).0
+  WantsMetadata lane m d wanted =
+      kept_by d ≡ None → (f : Form) → s.has_form (stack_of d) f
+      → wanted ≡ (asked f m (registry_of d).store lane.0 no_filter no_filter).0
 
   -- the same of a new span: it is dropped where it isn't wanted, and refused only where it is
   abbrev pub WantsSpan : Lane → Attributes → Dispatch S → Result (Option Id) TraceError → Type 0
@@ -287,11 +340,16 @@ module _ {S : Type 0} (s : SubscriberOf S) where
   abbrev pub WantsEvent : Lane → Event → Dispatch S → Bool → Type 0
   WantsEvent lane e d wanted =
       kept_by d ≡ None → (f : Form) → s.has_form (stack_of d) f
-      → let first = asked f (event_metadata e) (registry_of d).store lane.0 no_filter no_filter in wanted ≡ first.0 && (event_asked f e (registry_of d).store lane.0 no_filter first.1).0
+      → let first =
+      asked f (event_metadata e) (registry_of d).store lane.0 no_filter no_filter in
+      wanted ≡ first.0 && (event_asked f e (registry_of d).store lane.0 no_filter first.1).0
 
   -- where nothing is ever kept, it is the stack that is asked
-  abbrev pub AsksStack : Lane → Metadata → Dispatch S → Pass → Result Bool TraceError → Pass → Type 0
-  AsksStack lane m d before said after = kept_by d ≡ None → IfOk said (λ wanted. AnswersEnabled s.registry s.has_form (stack_of d) lane m before wanted after)
+  abbrev pub AsksStack : Lane → Metadata → Dispatch S → Pass → Result Bool TraceError → Pass
+      → Type 0
+  AsksStack lane m d before said after =
+      kept_by d ≡ None → IfOk said
+      (λ wanted. AnswersEnabled s.registry s.has_form (stack_of d) lane m before wanted after)
 
   -- ---- what is promised of any stack at all
 
@@ -300,30 +358,42 @@ module _ {S : Type 0} (s : SubscriberOf S) where
   TakesStep step old new = AndHooks s.registry step (stack_of old) (stack_of new)
 
   -- the registry alone takes a step: no layer is notified
-  abbrev pub TakesStepAlone : (RegistryState → RegistryState → Type 0) → Dispatch S → Dispatch S → Type 0
-  TakesStepAlone step old new = step (registry_of old) (registry_of new) × (stack_of new ≡ s.with_registry (stack_of old) (registry_of new))
+  abbrev pub TakesStepAlone : (RegistryState → RegistryState → Type 0) → Dispatch S → Dispatch S
+      → Type 0
+  TakesStepAlone step old new =
+      step (registry_of old) (registry_of new)
+      × (stack_of new ≡ s.with_registry (stack_of old) (registry_of new))
 
   -- a new span is opened where there is one; else the stack stays as it is
   abbrev pub OpensIfMade : Lane → Attributes → Dispatch S → Dispatch S → Option Id → Type 0
-  OpensIfMade lane attrs old new made = MatchOption made (stack_of new ≡ stack_of old) (λ id. TakesStep (OpensFor lane attrs id) old new)
+  OpensIfMade lane attrs old new made =
+      MatchOption made (stack_of new ≡ stack_of old)
+      (λ id. TakesStep (OpensFor lane attrs id) old new)
 
   -- the same, with this pass's refusing filters for its verdict
   abbrev pub OpensByPass : Lane → Attributes → Pass → Dispatch S → Dispatch S → Option Id → Type 0
-  OpensByPass lane attrs pass old new made = MatchOption made (stack_of new ≡ stack_of old) (λ id. TakesStep (Opens lane (step.asked attrs pass) id) old new)
+  OpensByPass lane attrs pass old new made =
+      MatchOption made (stack_of new ≡ stack_of old)
+      (λ id. TakesStep (Opens lane (step.asked attrs pass) id) old new)
 
   -- why a new span is refused, by what its attributes ask for
   abbrev pub RefusesSpan : Lane → Attributes → Dispatch S → TraceError → Type 0
-  RefusesSpan lane attrs d e = RefusesOpening s.registry lane (metadata_of attrs) (asked_parent attrs) d e
+  RefusesSpan lane attrs d e =
+      RefusesOpening s.registry lane (metadata_of attrs) (asked_parent attrs) d e
 
   -- where a span isn't open, only the lane leaves it
   abbrev pub LeavesGone : Lane → Id → Dispatch S → Dispatch S → Type 0
-  LeavesGone lane id old new = ¬ (IsOpen (registry_of old).store.spans (number_of id)) → TakesStepAlone (Exits lane id) old new
+  LeavesGone lane id old new =
+      ¬ (IsOpen (registry_of old).store.spans (number_of id))
+      → TakesStepAlone (Exits lane id) old new
 
   -- a handle is taken. Where the span closes by that, it is taken out, and then each parent that closes by that; extensions may be written in between. Else no layer is notified
   abbrev pub TakesHandle : Id → Dispatch S → Dispatch S → Bool → Type 0
   TakesHandle id old new false = TakesStepAlone (Releases id StillOpen) old new
   TakesHandle id old new true =
-      (released : RegistryState) × Releases id Closing (registry_of old) released × ((closed : List ℕ) × Removal SameButExtensions released id closed None (registry_of new))
+      (released : RegistryState) × Releases id Closing (registry_of old) released
+      × ((closed : List ℕ)
+      × Removal SameButExtensions released id closed None (registry_of new))
 
   -- what closes by a drop is all that should
   abbrev pub DropsAll : Id → Dispatch S → Dispatch S → Bool → Type 0
@@ -331,8 +401,10 @@ module _ {S : Type 0} (s : SubscriberOf S) where
 
   -- so it is where no span was closing before
   abbrev pub DropsSettled : Id → Dispatch S → Dispatch S → Bool → Type 0
-  DropsSettled id old new closes = IsSettled (registry_of old).store.spans → DropsAll id old new closes
+  DropsSettled id old new closes =
+      IsSettled (registry_of old).store.spans → DropsAll id old new closes
 
   -- where no span was closing, none is
   abbrev pub StaysSettled : Dispatch S → Dispatch S → Type 0
-  StaysSettled old new = IsSettled (registry_of old).store.spans → IsSettled (registry_of new).store.spans
+  StaysSettled old new =
+      IsSettled (registry_of old).store.spans → IsSettled (registry_of new).store.spans

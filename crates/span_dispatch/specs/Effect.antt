@@ -70,8 +70,10 @@ GoesThrough s os t = FoldsTo (λ u o v. Steps (form_of_path []) o u v) s os t
 abbrev pub OutcomesFrom : Store → List MadeCall → List Outcome → Type 0
 OutcomesFrom s [] os = os ≡ []
 OutcomesFrom s (one ∷ calls) os =
-    (us : List Outcome) × (t : Store) × (vs : List Outcome) × OutcomesOf one s us × GoesThrough s us t × OutcomesFrom t calls vs × (os ≡ us ++ vs)
+    (us : List Outcome) × (t : Store) × (vs : List Outcome) × OutcomesOf one s us
+    × GoesThrough s us t × OutcomesFrom t calls vs × (os ≡ us ++ vs)
 
 -- what a leaf sees of calls as if it stood alone under filters of these conducts, on this store
 abbrev pub AloneOf : Conducts → Store → List MadeCall → Heard → Type 0
-AloneOf cs s calls heard = (outcomes : List Outcome) × OutcomesFrom s calls outcomes × Alone cs s outcomes heard
+AloneOf cs s calls heard =
+    (outcomes : List Outcome) × OutcomesFrom s calls outcomes × Alone cs s outcomes heard

@@ -18,7 +18,9 @@ use Rattle.span_registry.specs.Store.{RegistryState}
 -- the form, once the filter with this number took this level, where each filter that takes one is by level
 abbrev pub set_at : ℕ → LevelFilter → Form → Form
 set_at n l (Leaf still a) = Leaf still a
-set_at n l (Filtered m a f) = if filter_numbered m n then Filtered m (if a.takes l then level_answers l else a) f else Filtered m a (set_at n l f)
+set_at n l (Filtered m a f) =
+    if filter_numbered m n then Filtered m (if a.takes l then level_answers l else a) f
+    else Filtered m a (set_at n l f)
 set_at n l (Over k o i) = Over k (set_at n l o) (set_at n l i)
 set_at n l (Bare v) = Bare v
 
@@ -27,9 +29,12 @@ abbrev pub Formed : Type 0
 Formed = RegistryState × Form
 
 -- from one registry to another, under a stack that has this form at first, and then what levels make of it, and from callsites that are kept to others, the requests are answered so, and this is made of each
-abbrev pub RunsBy : Form → List Request → List Answer → List (List OutcomeAt) → KeptCallsites → RegistryState → KeptCallsites → RegistryState → Type 0
+abbrev pub RunsBy : Form → List Request → List Answer → List (List OutcomeAt) → KeptCallsites
+    → RegistryState → KeptCallsites → RegistryState → Type 0
 RunsBy f requests answers made kept s after t =
-    (g : Form) × RunExactly (λ (r : Formed). r.0) (λ r w. (w, r.1)) (λ r h. h ≡ r.1) (λ r p e lane v q w. q.1 ≡ r.1) (λ r n l q. q.1 ≡ set_at n l r.1) [] requests answers made kept (s, f) after (t, g)
+    (g : Form) × RunExactly (λ (r : Formed). r.0) (λ r w. (w, r.1)) (λ r h. h ≡ r.1)
+    (λ r p e lane v q w. q.1 ≡ r.1) (λ r n l q. q.1 ≡ set_at n l r.1) [] requests answers made
+    kept (s, f) after (t, g)
 
 -- what a recorder at a place, of which all fitted into memory, keeps of what was made
 abbrev pub kept_at : List (List OutcomeAt) → Place → List Notice

@@ -36,14 +36,20 @@ Sight M = Conducts → Store → M → Heard → Type 0
 -- behind filters that act alike, from stores on that agree as far as these go, of the same the same is seen
 abbrev pub SeeTheSame : {M : Type 0} → Sight M → Sight M → Type 0
 SeeTheSame {M} Sees Other =
-    (cs ds : Conducts) (s t : Store) (made : M) (h k : Heard) → Sees cs s made h → Other ds t made k → PathsActAlike cs ds → AgreeAt (numbers_in cs) s t → h ≡ k
+    (cs ds : Conducts) (s t : Store) (made : M) (h k : Heard) → Sees cs s made h → Other ds t made k
+    → PathsActAlike cs ds → AgreeAt (numbers_in cs) s t → h ≡ k
 
 -- what is seen so is seen alone, from each store on that agrees as far as these filters go
 abbrev pub SeenAlone : {M : Type 0} → Sight M → Sight M → Type 0
-SeenAlone {M} Sees OnlyIt = (cs : Conducts) (s t : Store) (made : M) (h : Heard) → Sees cs s made h → AgreeAt (numbers_in cs) s t → OnlyIt cs t made h
+SeenAlone {M} Sees OnlyIt =
+    (cs : Conducts) (s t : Store) (made : M) (h : Heard) → Sees cs s made h
+    → AgreeAt (numbers_in cs) s t → OnlyIt cs t made h
 
 -- what the leaf at some place of a stack sees of what was made
-pub record SeesMade {S : Type 0} (registry : S → RegistryState) (with_registry : S → RegistryState → S) (has_form : S → Form → Type 0) (stepped : StackSteps S) (levelled : LevelSteps S) (acts_at : ActsAt S) (cs : Conducts) (s : Store) (outcomes : List Outcome) (h : Heard) : Type 0 where
+pub record SeesMade {S : Type 0} (registry : S → RegistryState)
+    (with_registry : S → RegistryState → S) (has_form : S → Form → Type 0) (stepped : StackSteps S)
+    (levelled : LevelSteps S) (acts_at : ActsAt S) (cs : Conducts) (s : Store)
+    (outcomes : List Outcome) (h : Heard) : Type 0 where
   pub old : S
   pub new : S
   pub made : List OutcomeAt
@@ -55,12 +61,16 @@ pub record SeesMade {S : Type 0} (registry : S → RegistryState) (with_registry
   pub sees : seen place made ≡ h
 
 -- what the leaf at some place of a dispatcher's stack sees of all that was made of a list of requests
-pub record SeesServed {S : Type 0} (registry : S → RegistryState) (with_registry : S → RegistryState → S) (has_form : S → Form → Type 0) (stepped : StackSteps S) (levelled : LevelSteps S) (hears : HearSteps S) (acts_at : ActsAt S) (cs : Conducts) (s : Store) (outcomes : List Outcome) (h : Heard) : Type 0 where
+pub record SeesServed {S : Type 0} (registry : S → RegistryState)
+    (with_registry : S → RegistryState → S) (has_form : S → Form → Type 0) (stepped : StackSteps S)
+    (levelled : LevelSteps S) (hears : HearSteps S) (acts_at : ActsAt S) (cs : Conducts) (s : Store)
+    (outcomes : List Outcome) (h : Heard) : Type 0 where
   pub old : Dispatch S
   pub new : Dispatch S
   pub requests : List Request
   pub answers : List Answer
-  pub served : Served registry with_registry has_form stepped levelled hears acts_at requests answers (stack_of old) (stack_of new)
+  pub served : Served registry with_registry has_form stepped levelled hears acts_at requests
+      answers (stack_of old) (stack_of new)
   pub place : Place
   pub acts : acts_at (stack_of old) place cs
   pub at_store : (registry (stack_of old)).store ≡ s
@@ -68,12 +78,16 @@ pub record SeesServed {S : Type 0} (registry : S → RegistryState) (with_regist
   pub sees : seen place (flat served.made) ≡ h
 
 -- what the leaf at some place of a dispatcher's stack sees of a list of requests, of which these calls were made, as far as the filters round the leaf go
-pub record SeesCalls {S : Type 0} (registry : S → RegistryState) (with_registry : S → RegistryState → S) (has_form : S → Form → Type 0) (stepped : StackSteps S) (levelled : LevelSteps S) (hears : HearSteps S) (acts_at : ActsAt S) (cs : Conducts) (s : Store) (calls : List MadeCall) (h : Heard) : Type 0 where
+pub record SeesCalls {S : Type 0} (registry : S → RegistryState)
+    (with_registry : S → RegistryState → S) (has_form : S → Form → Type 0) (stepped : StackSteps S)
+    (levelled : LevelSteps S) (hears : HearSteps S) (acts_at : ActsAt S) (cs : Conducts) (s : Store)
+    (calls : List MadeCall) (h : Heard) : Type 0 where
   pub old : Dispatch S
   pub new : Dispatch S
   pub requests : List Request
   pub answers : List Answer
-  pub served : Served registry with_registry has_form stepped levelled hears acts_at requests answers (stack_of old) (stack_of new)
+  pub served : Served registry with_registry has_form stepped levelled hears acts_at requests
+      answers (stack_of old) (stack_of new)
   pub place : Place
   pub acts : acts_at (stack_of old) place cs
   pub at_store : (registry (stack_of old)).store ≡ s
@@ -81,20 +95,29 @@ pub record SeesCalls {S : Type 0} (registry : S → RegistryState) (with_registr
   pub sees : seen place (flat served.made) ≡ h
 
 -- what was made of a list that was told is what its made requests have by themselves, as far as filters of any numbers go
-abbrev pub SaysWhatIsMade : {S : Type 0} → (S → RegistryState) → (List Request → List Answer → List (List OutcomeAt) → S → S → Type 0) → Type 0
+abbrev pub SaysWhatIsMade : {S : Type 0} → (S → RegistryState)
+    → (List Request → List Answer → List (List OutcomeAt) → S → S → Type 0) → Type 0
 SaysWhatIsMade {S} registry Runs =
-    (numbers : FilterSet) (rs : List Request) (answers : List Answer) (made : List (List OutcomeAt)) (x y : S) → Runs rs answers made x y
-    → OutcomesFrom (registry x).store (made_calls numbers [] rs answers) (filter (concerns numbers) (map outcome_of (flat made)))
+    (numbers : FilterSet) (rs : List Request) (answers : List Answer) (made : List (List OutcomeAt))
+    (x y : S) → Runs rs answers made x y
+    → OutcomesFrom (registry x).store (made_calls numbers [] rs answers)
+    (filter (concerns numbers) (map outcome_of (flat made)))
 
 -- on stores that agree as far as some filters go, a call that is answered the same has the same outcomes
 abbrev pub HasSameOutcomes : FilterSet → MadeCall → Type 0
-HasSameOutcomes numbers one = (s t : Store) (os us : List Outcome) → AgreeAt numbers s t → OutcomesOf one s os → OutcomesOf one t us → os ≡ us
+HasSameOutcomes numbers one =
+    (s t : Store) (os us : List Outcome) → AgreeAt numbers s t → OutcomesOf one s os
+    → OutcomesOf one t us → os ≡ us
 
 -- so have many, one after another, though the stores agree in no filter's verdicts
 abbrev pub HaveSameOutcomes : List MadeCall → Type 0
-HaveSameOutcomes calls = (s t : Store) (os us : List Outcome) → AgreeAt no_filter s t → OutcomesFrom s calls os → OutcomesFrom t calls us → os ≡ us
+HaveSameOutcomes calls =
+    (s t : Store) (os us : List Outcome) → AgreeAt no_filter s t → OutcomesFrom s calls os
+    → OutcomesFrom t calls us → os ≡ us
 
 -- behind filters that act alike, an outcome leaves stores that agree as those before it did
 abbrev pub KeepsAgreement : Outcome → Type 0
 KeepsAgreement o =
-    (cs ds : Conducts) (s t u v : Store) → PathsActAlike cs ds → AgreeAt (numbers_in cs) s t → Steps (form_of_path (path_now cs)) o s u → Steps (form_of_path (path_now ds)) o t v → AgreeAt (numbers_in cs) u v
+    (cs ds : Conducts) (s t u v : Store) → PathsActAlike cs ds → AgreeAt (numbers_in cs) s t
+    → Steps (form_of_path (path_now cs)) o s u → Steps (form_of_path (path_now ds)) o t v
+    → AgreeAt (numbers_in cs) u v

@@ -31,7 +31,10 @@ pub record Opening (lane : Lane) (span : AskedSpan) (id : Id) (s t : Store) : Ty
   pub chosen : IsParentFor s lane span.parent parent
   pub other : ¬ (number_of id ≡ 0)
   pub fresh : contains s.issued (number_of id) ≡ false
-  pub store : t ≡ record s { spans = insert s.spans (number_of id) (begun span parent); issued = add s.issued (number_of id) }
+  pub store : t ≡ record s {
+    spans = insert s.spans (number_of id) (begun span parent);
+    issued = add s.issued (number_of id);
+  }
 
 -- a handle is taken from an open span, and what closes by that is taken out. The answer is whether the span is among it
 pub record Dropping (id : Id) (closes : Bool) (s t : Store) : Type 0 where
@@ -43,7 +46,8 @@ pub record Dropping (id : Id) (closes : Bool) (s t : Store) : Type 0 where
 
 -- the entry may happen in the first store, and leaves the second
 abbrev pub Happens : Store → Entry → Store → Type 0
-Happens s (New lane m asked verdict id) t = Opening lane (record { metadata = m; parent = asked; verdict = verdict }) id s t
+Happens s (New lane m asked verdict id) t =
+    Opening lane (record { metadata = m; parent = asked; verdict = verdict }) id s t
 Happens s (Unmade lane m) t = t ≡ s
 Happens s (Event lane m asked made) t = t ≡ s
 Happens s (Probe lane m said) t = t ≡ s
@@ -51,7 +55,8 @@ Happens s (Enter lane id) t = IsOpen s.spans (number_of id) × (t ≡ entered s 
 Happens s (Exit lane id) t = t ≡ exited s lane.0 (number_of id)
 Happens s (Record lane id) t = IsOpen s.spans (number_of id) × (t ≡ s)
 Happens s (Follows lane id other) t = IsOpen s.spans (number_of id) × (t ≡ s)
-Happens s (Clone lane id) t = IsOpen s.spans (number_of id) × (t ≡ record s { spans = add_handle s.spans (number_of id) })
+Happens s (Clone lane id) t =
+    IsOpen s.spans (number_of id) × (t ≡ record s { spans = add_handle s.spans (number_of id) })
 Happens s (Drop lane id closes) t = Dropping id closes s t
 Happens s (Level lane number level) t = t ≡ s
 Happens s (Current lane o) t = IsCurrent s lane.0 (option_map number_of o) × (t ≡ s)
@@ -69,7 +74,8 @@ abbrev pub IsLegal : List Entry → Type 0
 IsLegal journal = (s : Store) × Leaves journal s
 
 -- what is kept between the calls of a logged dispatcher: it may be called, its journal leaves its store, and no span is closing
-pub record KeepsJournal {S : Type 0} (registry : S → RegistryState) (usable : S → Type 0) (d : Dispatch S) (journal : List Entry) : Type 0 where
+pub record KeepsJournal {S : Type 0} (registry : S → RegistryState) (usable : S → Type 0)
+    (d : Dispatch S) (journal : List Entry) : Type 0 where
   pub may : usable (stack_of d)
   pub leaves : Leaves journal (registry (stack_of d)).store
   pub settled : IsSettled (registry (stack_of d)).store.spans

@@ -23,10 +23,12 @@ IsNoRefusal (answer.Refused e) = ⊥
 IsNoRefusal other = ⊤
 
 -- what is asked by metadata is answered so: above the hint that is kept then it is dropped; below it, of a callsite that is kept with other metadata, refused for that; else refused as this says; and of callsites none but theirs is kept newly, which is kept where it isn't refused, unless the level is above the hint
-pub record GoesByKept {S : Type 0} (m : Metadata) (dropped : Answer) (refuses : TraceError → Type 0) (a : Answer) (old new : Dispatch S) : Type 0 where
+pub record GoesByKept {S : Type 0} (m : Metadata) (dropped : Answer) (refuses : TraceError → Type 0)
+    (a : Answer) (old new : Dispatch S) : Type 0 where
   pub hint : KeepsHint old new
   pub callsites : LearnsOnly m old new
-  pub keeps : IsNoRefusal a → kept_by new ≡ learned_if (is_above_read (hint_by new) m) (kept_by old) m
+  pub keeps : IsNoRefusal a
+      → kept_by new ≡ learned_if (is_above_read (hint_by new) m) (kept_by old) m
   pub above : is_above_read (hint_by new) m ≡ true → a ≡ dropped
   pub mismatch : RefusesMetadata m old CallsiteMismatch → a ≡ answer.Refused CallsiteMismatch
   pub refused : (e : TraceError) → a ≡ answer.Refused e → refuses e
@@ -44,16 +46,23 @@ pub record IsForgotten {S : Type 0} (old new : Dispatch S) : Type 0 where
 module _ {S : Type 0} (registry : S → RegistryState) where
   -- a request behind these answers is answered so, and then this is kept
   abbrev pub RequestGoesByKept : List Answer → Request → Answer → Dispatch S → Dispatch S → Type 0
-  RequestGoesByKept past (request.NewSpan lane m p values) a old new = GoesByKept m answer.Dropped (RefusesOpening registry lane m (resolved_parent past p) old) a old new
-  RequestGoesByKept past (request.Event lane m p values) a old new = GoesByKept m answer.Dropped (RefusesMetadata m old) a old new
-  RequestGoesByKept past (request.Enabled lane m) a old new = GoesByKept m (answer.Yes false) (RefusesMetadata m old) a old new
+  RequestGoesByKept past (request.NewSpan lane m p values) a old new =
+      GoesByKept m answer.Dropped (RefusesOpening registry lane m (resolved_parent past p) old) a
+      old new
+  RequestGoesByKept past (request.Event lane m p values) a old new =
+      GoesByKept m answer.Dropped (RefusesMetadata m old) a old new
+  RequestGoesByKept past (request.Enabled lane m) a old new =
+      GoesByKept m (answer.Yes false) (RefusesMetadata m old) a old new
   RequestGoesByKept past (request.SetLevel number level) answer.Done old new = IsForgotten old new
   RequestGoesByKept past r a old new = StaysKept old new
 
   -- so is each request of a list, one after another
-  abbrev pub AllGoByKept : List Answer → List Request → List Answer → Dispatch S → Dispatch S → Type 0
+  abbrev pub AllGoByKept : List Answer → List Request → List Answer → Dispatch S → Dispatch S
+      → Type 0
   AllGoByKept past [] [] old new = new ≡ old
-  AllGoByKept past (r ∷ rs) (a ∷ answers) old new = (next : Dispatch S) × RequestGoesByKept past r a old next × AllGoByKept (past ++ (a ∷ [])) rs answers next new
+  AllGoByKept past (r ∷ rs) (a ∷ answers) old new =
+      (next : Dispatch S) × RequestGoesByKept past r a old next
+      × AllGoByKept (past ++ (a ∷ [])) rs answers next new
   AllGoByKept past rs answers old new = ⊥
 
   -- a list is answered so

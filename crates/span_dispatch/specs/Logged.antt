@@ -50,7 +50,8 @@ abbrev pub OrNoMemory : (TraceError → Type 0) → TraceError → Type 0
 OrNoMemory refuses e = (e ≡ OutOfMemory) ⊎ refuses e
 
 -- so is it refused
-abbrev pub IfRefused : {D A : Type 0} → (D → TraceError → Type 0) → Answered A → LoggedState D → Type 0
+abbrev pub IfRefused : {D A : Type 0} → (D → TraceError → Type 0) → Answered A → LoggedState D
+    → Type 0
 IfRefused refuses result old = IfErr result (OrNoMemory (refuses old.dispatch))
 
 -- where the call isn't refused, this entry was put behind the journal, and the receipt is of it
@@ -70,10 +71,14 @@ abbrev pub current_entry : Lane → Current → Entry
 current_entry lane shown = entry.Current lane (option_map (λ o. o.0) (current_span shown))
 
 -- the entry of a new span that was made or not, with the verdict that these spans keep of it
-abbrev pub AddsSpan : {D : Type 0} → Lane → Attributes → Spans → LoggedState D → LoggedState D → Option Id × Placed → Type 0
-AddsSpan lane attrs spans old new (None, receipt) = Adds (entry.Unmade lane (metadata_of attrs)) old.journal receipt new.journal
+abbrev pub AddsSpan : {D : Type 0} → Lane → Attributes → Spans → LoggedState D → LoggedState D
+    → Option Id × Placed → Type 0
+AddsSpan lane attrs spans old new (None, receipt) =
+    Adds (entry.Unmade lane (metadata_of attrs)) old.journal receipt new.journal
 AddsSpan lane attrs spans old new (Some id, receipt) =
-    (kept : Span) × (get spans (number_of id) ≡ Some kept) × Adds (entry.New lane (metadata_of attrs) (asked_parent attrs) kept.verdict id) old.journal receipt new.journal
+    (kept : Span) × (get spans (number_of id) ≡ Some kept)
+    × Adds (entry.New lane (metadata_of attrs) (asked_parent attrs) kept.verdict id) old.journal
+    receipt new.journal
 
 -- the dispatcher serves a call so, unless memory for the journal is refused
 abbrev pub Logs : {D A : Type 0} → (Result A TraceError → D → D → Type 0) → Saying D A
@@ -94,7 +99,8 @@ LogsCallsite m result old new = KeepsCallsite m result old.dispatch new.dispatch
 
 -- the hint that is kept is the one that was read first, or none still
 abbrev pub LogsHint : {S A : Type 0} → Saying (Dispatch S) A
-LogsHint result old new = (hint_by new.dispatch ≡ hint_by old.dispatch) ⊎ KeepsHint old.dispatch new.dispatch
+LogsHint result old new =
+    (hint_by new.dispatch ≡ hint_by old.dispatch) ⊎ KeepsHint old.dispatch new.dispatch
 
 module _ {S : Type 0} (s : SubscriberOf S) where
   -- so is `enabled` served
@@ -147,7 +153,8 @@ module _ {S : Type 0} (s : SubscriberOf S) where
 
   -- the entry of a new span, with the verdict that the store keeps of it
   abbrev pub AddsNewSpan : Lane → Attributes → Saying (Dispatch S) (Option Id)
-  AddsNewSpan lane attrs result old new = IfOk result (AddsSpan lane attrs (registry_of s new.dispatch).store.spans old new)
+  AddsNewSpan lane attrs result old new =
+      IfOk result (AddsSpan lane attrs (registry_of s new.dispatch).store.spans old new)
 
   -- where a level isn't settable, no filter takes it
   abbrev pub NoneTakes : ℕ → LevelFilter → LoggedState (Dispatch S) → TraceError → Type 0

@@ -41,17 +41,28 @@ IsVerdict f m s lane v = (k : ℕ) → refuses v k ≡ in_verdict f m s lane.0 n
 
 -- the store with one span more, without extensions
 abbrev pub with_new : Store → ℕ → Span → Store
-with_new s x r = record s { spans = insert s.spans x r; extensions = insert s.extensions x no_values; issued = add s.issued x }
+with_new s x r =
+    record s {
+      spans = insert s.spans x r;
+      extensions = insert s.extensions x no_values;
+      issued = add s.issued x;
+    }
 
 -- a new span is in the store: under an id that was never issued, nor is 0, with the parent that it gets there and the verdict of this form
-pub record Opened (f : Form) (lane : Lane) (attrs : Attributes) (id : Id) (s t : Store) : Type 0 where
+pub record Opened (f : Form) (lane : Lane) (attrs : Attributes) (id : Id) (s t : Store) : Type
+    0 where
   pub parent : Option ℕ
   pub chosen : IsParentFor s lane (asked_parent attrs) parent
   pub verdict : FilterMap
   pub refused : IsVerdict f (metadata_of attrs) s lane verdict
   pub fresh : contains s.issued (number_of id) ≡ false
   pub other : ¬ (number_of id ≡ 0)
-  pub state : t ≡ with_new s (number_of id) (begun (record { metadata = metadata_of attrs; parent = asked_parent attrs; verdict = verdict }) parent)
+  pub state : t ≡ with_new s (number_of id)
+      (begun (record {
+        metadata = metadata_of attrs;
+        parent = asked_parent attrs;
+        verdict = verdict;
+      }) parent)
 
 -- what an outcome makes of the store of a stack of this form
 abbrev pub Steps : Form → Outcome → Store → Store → Type 0
@@ -59,13 +70,19 @@ Steps f (Noticed lane (OnNewSpan attrs id)) s t = Opened f lane attrs id s t
 Steps f (Noticed lane (OnRecord id values)) s t = IsOpen s.spans (number_of id) × (t ≡ s)
 Steps f (Noticed lane (OnFollows id other)) s t = IsOpen s.spans (number_of id) × (t ≡ s)
 Steps f (Noticed lane (OnEvent e)) s t = t ≡ s
-Steps f (Noticed lane (OnEnter id)) s t = IsOpen s.spans (number_of id) × (t ≡ entered s lane.0 (number_of id))
-Steps f (Noticed lane (OnExit id)) s t = IsOpen s.spans (number_of id) × (t ≡ exited s lane.0 (number_of id))
+Steps f (Noticed lane (OnEnter id)) s t =
+    IsOpen s.spans (number_of id) × (t ≡ entered s lane.0 (number_of id))
+Steps f (Noticed lane (OnExit id)) s t =
+    IsOpen s.spans (number_of id) × (t ≡ exited s lane.0 (number_of id))
 Steps f (Noticed lane (OnIdChange id other)) s t = ⊥
-Steps f (Noticed lane (OnClose id)) s t = IsClosing s.spans (number_of id) × (t ≡ without s (number_of id ∷ []))
-Steps f (Quiet (HandleAdded id)) s t = IsOpen s.spans (number_of id) × (t ≡ record s { spans = add_handle s.spans (number_of id) })
-Steps f (Quiet (HandleTaken id)) s t = IsHeld s.spans (number_of id) × (t ≡ record s { spans = take_handle s.spans (number_of id) })
-Steps f (Quiet (GoneLeft lane id)) s t = ¬ (IsOpen s.spans (number_of id)) × (t ≡ exited s lane.0 (number_of id))
+Steps f (Noticed lane (OnClose id)) s t =
+    IsClosing s.spans (number_of id) × (t ≡ without s (number_of id ∷ []))
+Steps f (Quiet (HandleAdded id)) s t =
+    IsOpen s.spans (number_of id) × (t ≡ record s { spans = add_handle s.spans (number_of id) })
+Steps f (Quiet (HandleTaken id)) s t =
+    IsHeld s.spans (number_of id) × (t ≡ record s { spans = take_handle s.spans (number_of id) })
+Steps f (Quiet (GoneLeft lane id)) s t =
+    ¬ (IsOpen s.spans (number_of id)) × (t ≡ exited s lane.0 (number_of id))
 Steps f (LevelSet n l) s t = t ≡ s
 
 -- the store that a notice is given in: the one after its step, but a close is given while its span is still there
@@ -91,13 +108,15 @@ abbrev pub Ends : Notice → RegistryState → RegistryState → Type 0
 Ends (OnClose id) s t = TakesOut s (number_of id ∷ []) t
 Ends e s t = t ≡ s
 
-module _ {S : Type 0} (registry : S → RegistryState) (with_registry : S → RegistryState → S) (has_form : S → Form → Type 0) (stepped : StackSteps S) (levelled : LevelSteps S) where
+module _ {S : Type 0} (registry : S → RegistryState) (with_registry : S → RegistryState → S)
+    (has_form : S → Form → Type 0) (stepped : StackSteps S) (levelled : LevelSteps S) where
   -- a notice is given in this store: each filter and leaf whose path passes it, asked afresh on the store before it, goes on by its own step, and may write extensions
   pub record Notices (f : Form) (lane : Lane) (e : Notice) (s t : Store) (x y : S) : Type 0 where
     pub left : RegistryState
     pub given : left ≡ record (registry x) { store = given_in e s t }
     pub notified : S
-    pub layers : stepped x (asked_afresh f e s lane.0 no_filter) e lane.0 left notified (registry notified)
+    pub layers : stepped x (asked_afresh f e s lane.0 no_filter) e lane.0 left notified
+        (registry notified)
     pub hooks : SameButExtensions left (registry notified)
     pub ends : Ends e (registry notified) (registry y)
     pub rest : y ≡ with_registry notified (registry y)

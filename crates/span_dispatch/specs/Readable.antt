@@ -31,7 +31,8 @@ span_in (OnClose id) = Some id
 
 -- the leaf's own context shows that span then
 abbrev pub ShowsItsSpan : Told → Type 0
-ShowsItsSpan told = IfSome (span_in told.notice) (λ id. is_shown told.view.spans (number_of id) ≡ true)
+ShowsItsSpan told =
+    IfSome (span_in told.notice) (λ id. is_shown told.view.spans (number_of id) ≡ true)
 
 -- so it is of all that a leaf hears: also a span that closes can still be read
 abbrev pub ShowTheirSpans : Heard → Type 0
@@ -39,6 +40,11 @@ ShowTheirSpans heard = AllByRecursion ShowsItsSpan heard
 
 -- a span of these metadata opened under a form, whose verdict that is; where the form's filters kept their numbers, a path passes the span's close exactly if it passed the span
 abbrev pub ClosesAsItOpened : Type 0
-ClosesAsItOpened = (f g : Form) (place : Place) (path other : Path) (attrs : Attributes) (id : Id) (r : Span) (s t : Store) (lane later : Lane)
-    → AreDistinct f → ((k : ℕ) → numbers_of f k ≡ true → k < LIMIT) → KeepsRules f g → path_at f place ≡ Some path → path_at g place ≡ Some other → IsVerdict f (metadata_of attrs) s lane r.verdict → get t.spans (number_of id) ≡ Some r
-    → passes_path other (OnClose id) t later.0 no_filter ≡ passes_path path (OnNewSpan attrs id) s lane.0 no_filter
+ClosesAsItOpened =
+    (f g : Form) (place : Place) (path other : Path) (attrs : Attributes) (id : Id) (r : Span)
+    (s t : Store) (lane later : Lane)
+    → AreDistinct f → ((k : ℕ) → numbers_of f k ≡ true → k < LIMIT) → KeepsRules f g
+    → path_at f place ≡ Some path → path_at g place ≡ Some other
+    → IsVerdict f (metadata_of attrs) s lane r.verdict → get t.spans (number_of id) ≡ Some r
+    → passes_path other (OnClose id) t later.0 no_filter
+    ≡ passes_path path (OnNewSpan attrs id) s lane.0 no_filter

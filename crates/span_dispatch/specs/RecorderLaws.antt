@@ -10,17 +10,31 @@ use Rattle.span_layers.specs.Observe.{open_answers}
 use Rattle.span_registry.specs.Form.{Leaf}
 
 pub records_nothing : (r : RecorderState) → Records r r []
-records_nothing r = record { more = []; lost = []; split = refl; kept = sym (append-nil r.notices); all = λ _. refl; failed = λ f. (f, refl); fails = λ f t. absurd (true≢false (sym t ∙ f)); room = omega arith; silent = λ _. refl }
+records_nothing r =
+    record {
+      more = [];
+      lost = [];
+      split = refl;
+      kept = sym (append-nil r.notices);
+      all = λ _. refl;
+      failed = λ f. (f, refl);
+      fails = λ f t. absurd (true≢false (sym t ∙ f));
+      room = omega arith;
+      silent = λ _. refl;
+    }
 
 no_more : (ns ms : List KeptNotice) → ns ++ ms ≡ [] → (ns ≡ []) × (ms ≡ [])
 no_more [] ms e = (refl, e)
 no_more (n ∷ ns) ms e = let no : ⊥ = cc in absurd no
 
-pub records_more : (a b c : RecorderState) (ns ms : List KeptNotice) → Records a b ns → Records b c ms → Records a c (ns ++ ms)
+pub records_more : (a b c : RecorderState) (ns ms : List KeptNotice) → Records a b ns
+    → Records b c ms → Records a c (ns ++ ms)
 records_more a b c ns ms f g = by_case b.failed refl
   where
     kept : c.notices ≡ a.notices ++ (f.more ++ g.more)
-    kept = g.kept ∙ ap (λ (us : List KeptNotice). us ++ g.more) f.kept ∙ append_assoc a.notices f.more g.more
+    kept =
+        g.kept ∙ ap (λ (us : List KeptNotice). us ++ g.more) f.kept
+        ∙ append_assoc a.notices f.more g.more
 
     failed : a.failed ≡ true → (c.failed ≡ true) × (f.more ++ g.more ≡ [])
     failed t =
@@ -40,29 +54,46 @@ records_more a b c ns ms f g = by_case b.failed refl
         record {
           more = f.more ++ g.more;
           lost = f.lost ++ ms;
-          split = ap (λ (us : List KeptNotice). us ++ ms) f.split ∙ append_assoc f.more f.lost ms ∙ ap (λ (us : List KeptNotice). us ++ (f.lost ++ ms)) (sym (ap (λ (us : List KeptNotice). f.more ++ us) v.1 ∙ append-nil f.more));
+          split =
+              ap (λ (us : List KeptNotice). us ++ ms) f.split ∙ append_assoc f.more f.lost ms
+              ∙ ap (λ (us : List KeptNotice). us ++ (f.lost ++ ms))
+              (sym (ap (λ (us : List KeptNotice). f.more ++ us) v.1 ∙ append-nil f.more));
           kept = kept;
           all = λ no. absurd (true≢false (sym v.0 ∙ no));
           failed = failed;
-          fails = λ was now. let u = f.fails was e in (λ none. u.0 (no_more f.lost ms none).0, let r = u.1 in let k = length-more in omega arith);
+          fails =
+              λ was now. let u = f.fails was e in (
+                λ none. u.0 (no_more f.lost ms none).0,
+                let r = u.1 in let k = length-more in
+                    omega arith,
+              );
           room = (let r = f.room in let s = g.room in let k = length-more in omega arith);
           silent = silent;
         }
     by_case false e =
         let none : f.lost ≡ [] = f.all e in
-        let whole : ns ≡ f.more = f.split ∙ ap (λ (us : List KeptNotice). f.more ++ us) none ∙ append-nil f.more in
+        let whole : ns ≡ f.more =
+        f.split ∙ ap (λ (us : List KeptNotice). f.more ++ us) none ∙ append-nil f.more in
         record {
           more = f.more ++ g.more;
           lost = g.lost;
-          split = ap (λ (us : List KeptNotice). us ++ ms) whole ∙ ap (λ (us : List KeptNotice). f.more ++ us) g.split ∙ sym (append_assoc f.more g.more g.lost);
+          split =
+              ap (λ (us : List KeptNotice). us ++ ms) whole
+              ∙ ap (λ (us : List KeptNotice). f.more ++ us) g.split
+              ∙ sym (append_assoc f.more g.more g.lost);
           kept = kept;
           all = g.all;
           failed = failed;
-          fails = λ was now. let u = g.fails e now in (u.0, let r = u.1 in let s = f.room in let k = length-more in omega arith);
+          fails =
+              λ was now. let u = g.fails e now in
+              (u.0, let r = u.1 in let s = f.room in let k = length-more in omega arith);
           room = (let r = f.room in let s = g.room in let k = length-more in omega arith);
           silent = silent;
         }
 
 -- it has one form, whatever it keeps, and hears by its own step
-pub recorder_laws : LayerLaws (λ (x : RecorderState) f. f ≡ Leaf true open_answers) recorder_steps (HearsBy recorder_steps) (λ x y. y ≡ x)
-recorder_laws = fixed_laws (Leaf true open_answers) recorder_steps (λ x y. y ≡ x) tt (λ x p e lane under v y w s. s.0)
+pub recorder_laws : LayerLaws (λ (x : RecorderState) f. f ≡ Leaf true open_answers) recorder_steps
+    (HearsBy recorder_steps) (λ x y. y ≡ x)
+recorder_laws =
+    fixed_laws (Leaf true open_answers) recorder_steps (λ x y. y ≡ x) tt
+    (λ x p e lane under v y w s. s.0)

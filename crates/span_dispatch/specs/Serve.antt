@@ -79,16 +79,21 @@ resolved past (which.Made k) = made_by (slice_get past k)
 abbrev pub resolved_parent : List Answer → WhichParent → Parent
 resolved_parent past asked.Root = parent.Root
 resolved_parent past asked.Contextual = parent.Contextual
-resolved_parent past (asked.Explicit w) = option_map_or (λ x. parent.Explicit x) (resolved past w) parent.Root
+resolved_parent past (asked.Explicit w) =
+    option_map_or (λ x. parent.Explicit x) (resolved past w) parent.Root
 
 -- what a request asks of a dispatcher, where these are the answers so far: nothing where it names no span. Values are handed on as they came
 abbrev pub call_of : List Answer → Request → Option Call
-call_of past (request.NewSpan lane m p values) = Some (OpenSpan lane (attributes_of m values (resolved_parent past p)))
-call_of past (request.Event lane m p values) = Some (SendEvent lane (event_of m values (resolved_parent past p)))
+call_of past (request.NewSpan lane m p values) =
+    Some (OpenSpan lane (attributes_of m values (resolved_parent past p)))
+call_of past (request.Event lane m p values) =
+    Some (SendEvent lane (event_of m values (resolved_parent past p)))
 call_of past (request.Enter lane w) = option_map (λ x. Enter lane x) (resolved past w)
 call_of past (request.Exit lane w) = option_map (λ x. Exit lane x) (resolved past w)
-call_of past (request.Record lane w values) = option_map (λ x. RecordValues lane x (record_of values)) (resolved past w)
-call_of past (request.Follows lane w v) = option_and_then (λ x. option_map (λ y. Follow lane x y) (resolved past v)) (resolved past w)
+call_of past (request.Record lane w values) =
+    option_map (λ x. RecordValues lane x (record_of values)) (resolved past w)
+call_of past (request.Follows lane w v) =
+    option_and_then (λ x. option_map (λ y. Follow lane x y) (resolved past v)) (resolved past w)
 call_of past (request.Clone lane w) = option_map (λ x. AddHandle lane x) (resolved past w)
 call_of past (request.Drop lane w) = option_map (λ x. DropHandle lane x) (resolved past w)
 call_of past (request.Enabled lane m) = Some (Probe lane m)
@@ -98,11 +103,13 @@ call_of past (request.SetLevel number level) = Some (SetLevel number level)
 -- what was asked for, with its answer, if something was made of it that concerns filters of these numbers
 abbrev pub made_call : FilterSet → Option Call → Answer → List MadeCall
 made_call numbers None a = []
-made_call numbers (Some call) a = if is_concern numbers (effect_of call a) then (call, a) ∷ [] else []
+made_call numbers (Some call) a =
+    if is_concern numbers (effect_of call a) then (call, a) ∷ [] else []
 
 -- the made requests of a list that was answered so, behind these answers: each with its answer, and its spans by their ids. So what was dropped or refused, probes, and other filters' levels may stand in one list and not in the other
 abbrev pub made_calls : FilterSet → List Answer → List Request → List Answer → List MadeCall
-made_calls numbers past (r ∷ rs) (a ∷ answers) = made_call numbers (call_of past r) a ++ made_calls numbers (past ++ (a ∷ [])) rs answers
+made_calls numbers past (r ∷ rs) (a ∷ answers) =
+    made_call numbers (call_of past r) a ++ made_calls numbers (past ++ (a ∷ [])) rs answers
 made_calls numbers past rs answers = []
 
 -- the outcome that was made
@@ -132,7 +139,8 @@ AreReadableCloses (m ∷ ms) = IsReadableClose m.before m.outcome × AreReadable
 -- nobody would have been notified of the new span, or the event, that a call asks for: a leaf vetoes it, or no path passes it
 abbrev pub IsUnwantedCall : Call → Form → Store → Type 0
 IsUnwantedCall (OpenSpan lane a) f s = IsUnwanted f (metadata_of a) s lane.0
-IsUnwantedCall (SendEvent lane e) f s = IsUnwanted f (event_metadata e) s lane.0 ⊎ (vetoes_event f e s lane.0 ≡ true)
+IsUnwantedCall (SendEvent lane e) f s =
+    IsUnwanted f (event_metadata e) s lane.0 ⊎ (vetoes_event f e s lane.0 ≡ true)
 IsUnwantedCall call f s = ⊥
 
 -- none of them stands twice
@@ -150,33 +158,41 @@ abbrev pub EachSees : {S : Type 0} → HearSteps S → S → List OutcomeAt → 
 EachSees hears x made y = (place : Place) → hears x place (seen place made) y
 
 -- where only plain filters stand round a leaf, what it sees of what was made is what it would see if it stood alone, on any store that differs in extensions and other filters' verdicts alone
-abbrev pub EachSeesAlone : {S : Type 0} → (S → RegistryState) → ActsAt S → S → List OutcomeAt → Type 0
+abbrev pub EachSeesAlone : {S : Type 0} → (S → RegistryState) → ActsAt S → S → List OutcomeAt
+    → Type 0
 EachSeesAlone registry acts_at x made =
-    (place : Place) (cs : Conducts) (s : Store) → acts_at x place cs → AgreeAt (numbers_in cs) (registry x).store s → Alone cs s (map outcome_of made) (seen place made)
+    (place : Place) (cs : Conducts) (s : Store) → acts_at x place cs
+    → AgreeAt (numbers_in cs) (registry x).store s
+    → Alone cs s (map outcome_of made) (seen place made)
 
 -- both
-pub record Sees {S : Type 0} (registry : S → RegistryState) (hears : HearSteps S) (acts_at : ActsAt S) (x : S) (made : List OutcomeAt) (y : S) : Type 0 where
+pub record Sees {S : Type 0} (registry : S → RegistryState) (hears : HearSteps S)
+    (acts_at : ActsAt S) (x : S) (made : List OutcomeAt) (y : S) : Type 0 where
   pub each : EachSees hears x made y
   pub alone : EachSeesAlone registry acts_at x made
 
 -- a stack of this form on this registry answers a call so, where these callsites are kept, and then these are
-pub record AnswersExactly (call : Call) (f : Form) (kept : KeptCallsites) (s : RegistryState) (a : Answer) (after : KeptCallsites) : Type 0 where
+pub record AnswersExactly (call : Call) (f : Form) (kept : KeptCallsites) (s : RegistryState)
+    (a : Answer) (after : KeptCallsites) : Type 0 where
   pub answers : AnswersWith call kept f s a
   pub keeps : KeepsAfter call kept f a after
 
-module _ {S : Type 0} (registry : S → RegistryState) (with_registry : S → RegistryState → S) (has_form : S → Form → Type 0) (stepped : StackSteps S) (levelled : LevelSteps S) where
+module _ {S : Type 0} (registry : S → RegistryState) (with_registry : S → RegistryState → S)
+    (has_form : S → Form → Type 0) (stepped : StackSteps S) (levelled : LevelSteps S) where
   -- between two requests: no span is closing, and the stack is honest by this form
   pub record IsReady (f : Form) (x : S) : Type 0 where
     pub honest : IsHonest registry with_registry has_form stepped levelled f x
     pub settled : IsSettled (registry x).store.spans
 
   -- the same of a dispatcher, of which this is said of what it keeps
-  pub record IsReadyWith (Kept : Form → ℕ → Cache → Type 0) (f : Form) (d : Dispatch S) : Type 0 where
+  pub record IsReadyWith (Kept : Form → ℕ → Cache → Type 0) (f : Form) (d : Dispatch S) : Type
+      0 where
     pub stack : IsReady f (stack_of d)
     pub kept : Kept f (registry (stack_of d)).filters d.cache
 
   -- of a call that was answered so this was made, as its answer says, and the stack went through it; where it was dropped nobody would have been told
-  pub record Tells (call : Call) (f : Form) (x : S) (a : Answer) (made : List OutcomeAt) (y : S) : Type 0 where
+  pub record Tells (call : Call) (f : Form) (x : S) (a : Answer) (made : List OutcomeAt)
+      (y : S) : Type 0 where
     pub says : OutcomesOf (call, a) (registry x).store (map outcome_of made)
     pub goes : FoldsTo (Makes registry with_registry has_form stepped levelled) x made y
     pub loses : a ≡ answer.Dropped → IsUnwantedCall call f (registry x).store
@@ -186,7 +202,8 @@ module _ {S : Type 0} (registry : S → RegistryState) (with_registry : S → Re
   IsTold call f a x y = (made : List OutcomeAt) × Tells call f x a made y
 
   -- ready by a form that keeps this of the old one
-  abbrev pub IsReadyAfter : (Form → ℕ → Cache → Type 0) → (Form → Form → Type 0) → Form → Dispatch S → Type 0
+  abbrev pub IsReadyAfter : (Form → ℕ → Cache → Type 0) → (Form → Form → Type 0) → Form → Dispatch S
+      → Type 0
   IsReadyAfter Kept keeps f d = (g : Form) × IsReadyWith Kept g d × keeps f g
 
   -- ready by some form, with what loses nothing kept
@@ -198,24 +215,31 @@ module _ {S : Type 0} (registry : S → RegistryState) (with_registry : S → Re
   IsCurrentSomehow d = (f : Form) × IsReadyWith IsUpToDate f d
 
   -- the same as is told of a call, and it is answered exactly so by a stack of this form, where these callsites are kept, and then these are
-  pub record Serves (call : Call) (f : Form) (kept : KeptCallsites) (x : S) (a : Answer) (made : List OutcomeAt) (after : KeptCallsites) (y : S) : Type 0 where
+  pub record Serves (call : Call) (f : Form) (kept : KeptCallsites) (x : S) (a : Answer)
+      (made : List OutcomeAt) (after : KeptCallsites) (y : S) : Type 0 where
     pub told : Tells call f x a made y
     pub exact : AnswersExactly call f kept (registry x) a after
 
   -- one request: what it asks for is served, or, where it names no span, nothing is asked and nothing changes
-  abbrev pub ServesAsked : Option Call → KeptCallsites → S → Answer → List OutcomeAt → KeptCallsites → S → Type 0
-  ServesAsked None kept x a made after y = (a ≡ answer.Dropped) × (made ≡ []) × (after ≡ kept) × (y ≡ x)
-  ServesAsked (Some call) kept x a made after y = (f : Form) × IsReady f x × Serves call f kept x a made after y
+  abbrev pub ServesAsked : Option Call → KeptCallsites → S → Answer → List OutcomeAt → KeptCallsites
+      → S → Type 0
+  ServesAsked None kept x a made after y =
+      (a ≡ answer.Dropped) × (made ≡ []) × (after ≡ kept) × (y ≡ x)
+  ServesAsked (Some call) kept x a made after y =
+      (f : Form) × IsReady f x × Serves call f kept x a made after y
 
   -- what becomes of a request behind these answers: what it asks for is served so
-  abbrev pub ServesRequest : List Answer → Request → KeptCallsites → S → Answer → List OutcomeAt → KeptCallsites → S → Type 0
+  abbrev pub ServesRequest : List Answer → Request → KeptCallsites → S → Answer → List OutcomeAt
+      → KeptCallsites → S → Type 0
   ServesRequest past r kept x a made after y = ServesAsked (call_of past r) kept x a made after y
 
   -- a list of requests, one after another, behind these answers: each is answered, dropped or refused exactly so
-  abbrev pub RunExactly : List Answer → List Request → List Answer → List (List OutcomeAt) → KeptCallsites → S → KeptCallsites → S → Type 0
+  abbrev pub RunExactly : List Answer → List Request → List Answer → List (List OutcomeAt)
+      → KeptCallsites → S → KeptCallsites → S → Type 0
   RunExactly past [] [] [] kept x after y = (after ≡ kept) × (y ≡ x)
   RunExactly past (r ∷ rs) (a ∷ answers) (ms ∷ made) kept x after y =
-      (k : KeptCallsites) × (z : S) × ServesRequest past r kept x a ms k z × RunExactly (past ++ (a ∷ [])) rs answers made k z after y
+      (k : KeptCallsites) × (z : S) × ServesRequest past r kept x a ms k z
+      × RunExactly (past ++ (a ∷ [])) rs answers made k z after y
   RunExactly past rs answers made kept x after y = ⊥
 
   -- of one request: what it asks for was told, or, where it names no span, nothing was asked and nothing changes
@@ -226,11 +250,13 @@ module _ {S : Type 0} (registry : S → RegistryState) (with_registry : S → Re
   -- so is each request of a list told, one after another, behind these answers
   abbrev pub Run : List Answer → List Request → List Answer → List (List OutcomeAt) → S → S → Type 0
   Run past [] [] [] x y = y ≡ x
-  Run past (r ∷ rs) (a ∷ answers) (ms ∷ made) x y = (z : S) × TellsAsked (call_of past r) x a ms z × Run (past ++ (a ∷ [])) rs answers made z y
+  Run past (r ∷ rs) (a ∷ answers) (ms ∷ made) x y =
+      (z : S) × TellsAsked (call_of past r) x a ms z × Run (past ++ (a ∷ [])) rs answers made z y
   Run past rs answers made x y = ⊥
 
   -- a list of requests is served so
-  pub record Served (hears : HearSteps S) (acts_at : ActsAt S) (requests : List Request) (answers : List Answer) (old new : S) : Type 0 where
+  pub record Served (hears : HearSteps S) (acts_at : ActsAt S) (requests : List Request)
+      (answers : List Answer) (old new : S) : Type 0 where
     -- there is one list of what was made of each request, on any lanes
     pub made : List (List OutcomeAt)
     -- made is what their answers say, and of a request that hint or kept interest dropped no layer would have been notified
@@ -247,14 +273,21 @@ module _ {S : Type 0} (registry : S → RegistryState) (with_registry : S → Re
     pub shown : (place : Place) → ShowTheirSpans (seen place (flat made))
 
   -- a list of requests is served exactly so
-  pub record ServedExactly (hears : HearSteps S) (acts_at : ActsAt S) (requests : List Request) (answers : List Answer) (old new : Dispatch S) : Type 0 where
+  pub record ServedExactly (hears : HearSteps S) (acts_at : ActsAt S) (requests : List Request)
+      (answers : List Answer) (old new : Dispatch S) : Type 0 where
     -- as the sentence says
     pub served : Served hears acts_at requests answers (stack_of old) (stack_of new)
     -- and each request is answered in turn, dropped or refused exactly where it should be, from what is kept then, and the stack goes through what was made of it
-    pub run : RunExactly [] requests answers served.made (kept_by old) (stack_of old) (kept_by new) (stack_of new)
+    pub run : RunExactly [] requests answers served.made (kept_by old) (stack_of old) (kept_by new)
+        (stack_of new)
 
   -- from a stack in which a span is closing: it is taken out, and so is each parent that closes by that; before each is, a notice of its close is given
   pub record ClosesEach (lane : Lane) (id : Id) (x y : S) : Type 0 where
     pub closed : List ℕ
     pub removal : Removal SameButExtensions (registry x) id closed None (registry y)
-    pub notices : (f : Form) → IsHonest registry with_registry has_form stepped levelled f x → (made : List OutcomeAt) × FoldsTo (Makes registry with_registry has_form stepped levelled) x made y × (map outcome_of made ≡ closes_of lane closed) × ((g : Form) × IsHonest registry with_registry has_form stepped levelled g y × Keeps f g × ((registry y).filters ≡ (registry x).filters))
+    pub notices : (f : Form) → IsHonest registry with_registry has_form stepped levelled f x
+        → (made : List OutcomeAt)
+        × FoldsTo (Makes registry with_registry has_form stepped levelled) x made y
+        × (map outcome_of made ≡ closes_of lane closed)
+        × ((g : Form) × IsHonest registry with_registry has_form stepped levelled g y × Keeps f g
+        × ((registry y).filters ≡ (registry x).filters))

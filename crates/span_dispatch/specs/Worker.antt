@@ -36,10 +36,12 @@ calls_of workers = sum_by (λ w. w.calls) workers
 
 -- these workers begin, each on the lane of its place, with this hint
 abbrev pub AreCrew : Option LevelFilter → List WorkerState → Type 0
-AreCrew hint workers = (i : ℕ) (w : WorkerState) → slice_get workers i ≡ Some w → w ≡ new_worker (lane_of i) hint
+AreCrew hint workers =
+    (i : ℕ) (w : WorkerState) → slice_get workers i ≡ Some w → w ≡ new_worker (lane_of i) hint
 
 -- these workers begin, with the hint of this dispatcher
-pub record AreCrewOf {S : Type 0} (s : SubscriberOf S) (d : Dispatch S) (workers : List WorkerState) : Type 0 where
+pub record AreCrewOf {S : Type 0} (s : SubscriberOf S) (d : Dispatch S)
+    (workers : List WorkerState) : Type 0 where
   pub hint : Option LevelFilter
   pub none : kept_by d ≡ None → hint ≡ None
   pub kept : ShowsKept d hint
@@ -57,7 +59,9 @@ IsReceiptOf entry result = IfOk result (λ r. r.1.entry ≡ entry r.0)
 -- the entry is that of a new span that was made or not, with some verdict
 abbrev pub IsOfSpan : Lane → Attributes → Option Id × Placed → Type 0
 IsOfSpan lane attrs (None, receipt) = receipt.entry ≡ Unmade lane (metadata_of attrs)
-IsOfSpan lane attrs (Some id, receipt) = (verdict : FilterMap) × (receipt.entry ≡ New lane (metadata_of attrs) (asked_parent attrs) verdict id)
+IsOfSpan lane attrs (Some id, receipt) =
+    (verdict : FilterMap)
+    × (receipt.entry ≡ New lane (metadata_of attrs) (asked_parent attrs) verdict id)
 
 -- where the call isn't refused, its receipt is of such an entry
 abbrev pub IsSpanReceipt : Lane → Attributes → Answered (Option Id) → Type 0

@@ -91,7 +91,8 @@ impl Known {
         meta: &Metadata,
     ) -> Result<Interest, TraceError>
         requires { S.usable stack.now }
-        ensures { GivesInterest S.registry S.has_form stack.now meta.now result (Filled self.old) (Filled self.new) }
+        ensures { GivesInterest S.registry S.has_form stack.now meta.now result (Filled self.old)
+            (Filled self.new) }
     {
         if !self.passes(meta.level()) {
             return Ok(Interest::Never);

@@ -82,7 +82,8 @@ impl<S: Subscriber> Dispatch<S> {
 
     /// The stack, to be changed. Whatever was kept of its answers is forgotten.
     pub fn stack_mut(&mut self) -> &mut S
-        ensures* writes_back { sem 𝓛 (Lends (the_row S.row) S.row self.entry result (with_stack (forgetful self.old))) }
+        ensures* writes_back { sem 𝓛
+            (Lends (the_row S.row) S.row self.entry result (with_stack (forgetful self.old))) }
         ensures value { result.now ≡ stack_of self.old }
     {
         self.cache.forget();
@@ -200,7 +201,8 @@ impl<S: Subscriber> Dispatch<S> {
         ensures served { ServesNewSpan S.Subscriber lane attrs.now result self.old self.new }
         ensures seen { SeesWhatIsMade S.Subscriber self.old self.new }
         ensures asked { WantsSpan S.Subscriber lane attrs.now self.old result }
-        ensures store { IfOk result (OpensByPass S.Subscriber lane attrs.now pass.new self.old self.new) }
+        ensures store { IfOk result
+            (OpensByPass S.Subscriber lane attrs.now pass.new self.old self.new) }
         ensures hint { KeepsHint self.old self.new }
         ensures above { DropsAbove (metadata_of attrs.now) None result self.old self.new }
         ensures keeps { KeepsCallsite (metadata_of attrs.now) result self.old self.new }
@@ -411,7 +413,8 @@ fn close_all<S: Subscriber>(stack: &mut S, lane: Lane, id: Id)
     requires usable { S.usable stack.old }
     requires closing { IsClosing (S.registry stack.old).store.spans (number_of id) }
     ensures usable { S.usable stack.new }
-    ensures closes { ClosesEach S.registry S.with_registry S.has_form S.stepped S.levelled lane id stack.old stack.new }
+    ensures closes { ClosesEach S.registry S.with_registry S.has_form S.stepped S.levelled lane id
+        stack.old stack.new }
 {
     let mut next = Some(id);
     while let Some(span) = next {

@@ -38,7 +38,8 @@ pub fn other_layers_make_no_difference<S: Subscriber, T: Subscriber>()
         (SeesCalls S.registry S.with_registry S.has_form S.stepped S.levelled S.hears S.acts_at)
         (SeesCalls T.registry T.with_registry T.has_form T.stepped T.levelled T.hears T.acts_at) }
     ensures requests_alone { SeenAlone
-        (SeesCalls S.registry S.with_registry S.has_form S.stepped S.levelled S.hears S.acts_at) AloneOf }
+        (SeesCalls S.registry S.with_registry S.has_form S.stepped S.levelled S.hears S.acts_at)
+        AloneOf }
 {
     span_registry::laws::in_store_while_open_or_closing();
     span_registry::laws::closes_once();

@@ -74,7 +74,8 @@ impl WhichParent {
         ensures metadata { metadata_of result ≡ metadata }
         ensures parent { asked_parent result ≡ resolved_parent past.now self }
         ensures values { values_of result ≡ values.now }
-        ensures whole { result ≡ attributes_of metadata values.entry (resolved_parent past.now self) }
+        ensures whole { result ≡ attributes_of metadata values.entry
+            (resolved_parent past.now self) }
     {
         match self.parent_of(past) {
             Parent::Root => Attributes::new_root(metadata, values),

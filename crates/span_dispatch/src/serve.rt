@@ -24,7 +24,8 @@ impl<S: Subscriber> Dispatch<S> {
         ensures usable { S.usable (stack_of self.new) }
         ensures ready { StaysReadyByRules S.Subscriber self.old self.new }
         ensures served { IfOk result (ServesList S.Subscriber requests.now self.old self.new) }
-        ensures exact { IfOk result (ServesListExactly S.Subscriber requests.now self.old self.new) }
+        ensures exact { IfOk result
+            (ServesListExactly S.Subscriber requests.now self.old self.new) }
         ensures kept { IfOk result (ListGoesByKept S.registry requests.now self.old self.new) }
         ensures length { IfOk result (λ a. length a.items ≡ length requests.now) }
         ensures memory { IfErr result (λ e. e ≡ TraceError.OutOfMemory) }

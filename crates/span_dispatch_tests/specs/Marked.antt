@@ -25,7 +25,8 @@ current_extensions v = option_and_then (λ x. extensions_shown x v) (current_sho
 
 -- whether that span has a value under this tag
 abbrev pub is_marked : {T : Type 0} → Place T → Tag T → View → Bool
-is_marked place mark v = is_some (option_and_then (λ m. value_under place m mark) (current_extensions v))
+is_marked place mark v =
+    is_some (option_and_then (λ m. value_under place m mark) (current_extensions v))
 
 -- all spans, and events in a span with a value under this tag
 abbrev pub in_marked : {T : Type 0} → Place T → Tag T → Metadata → View → Bool

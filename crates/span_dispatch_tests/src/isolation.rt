@@ -127,7 +127,8 @@ struct InMarked {
 impl<S: LookupSpan> FunctionIn<Metadata, S, bool> for InMarked {
     ghost callable_in = { λ f. ⊤ };
 
-    ghost gives_in = { λ f m c passes. passes ≡ in_marked ⟦<bool as ExtensionValue>⟧.place f.mark m (view_in S.registry c) };
+    ghost gives_in = { λ f m c passes. passes
+        ≡ in_marked ⟦<bool as ExtensionValue>⟧.place f.mark m (view_in S.registry c) };
 
     fn apply_in(&self, meta: &Metadata, cx: &Context<'_, S>) -> bool {
         meta.is_span() || is_marked(self.mark, cx)

@@ -138,8 +138,16 @@ records_alone s place recorder cs x new used hears requests done h =
     let in_use = used y h.in_use in
     let made = flat h.served.made in
     let calls : SeesCalls s.registry s.with_registry s.has_form s.stepped s.levelled s.hears s.acts_at cs empty_store (made_calls (numbers_in cs) [] requests done.1.items) (seen place made) = record {
-      old = h.first; new = done.0; requests = requests; answers = done.1.items; served = h.served;
-      place = place; acts = in_use.1; at_store = h.empty; at_calls = refl; sees = refl;
+      old = h.first;
+      new = done.0;
+      requests = requests;
+      answers = done.1.items;
+      served = h.served;
+      place = place;
+      acts = in_use.1;
+      at_store = h.empty;
+      at_calls = refl;
+      sees = refl;
     } in
     record {
       stack = x;

@@ -15,16 +15,22 @@ use Rattle.span_examples.specs.Kinds.{IsReadyNow}
 module _ {S : Type 0} (s : SubscriberOf S) where
   -- the stack is ready
   abbrev pub IsReadyStack : S → Type 0
-  IsReadyStack x = (f : Form) × IsReady s.registry s.with_registry s.has_form s.stepped s.levelled f x
+  IsReadyStack x =
+      (f : Form) × IsReady s.registry s.with_registry s.has_form s.stepped s.levelled f x
 
   -- a dispatcher that was ready answered a call exactly so, told its layers of it, and is ready for the next
   pub record AnswersReady (call : Call) (a : Answer) (old new : Dispatch S) : Type 0 where
     pub form : Form
-    pub told : IsTold s.registry s.with_registry s.has_form s.stepped s.levelled call form a (stack_of old) (stack_of new)
+    pub told : IsTold s.registry s.with_registry s.has_form s.stepped s.levelled call form a
+        (stack_of old) (stack_of new)
     pub exact : AnswersExactly call form (kept_by old) (s.registry (stack_of old)) a (kept_by new)
     pub next : IsReadyNow s new
 
   -- the span was opened, and then its handle was dropped, each as a dispatcher that is ready answers; or it wasn't opened
   abbrev pub OpensAndDrops : Lane → Attributes → Dispatch S → Dispatch S → Option Id → Type 0
-  OpensAndDrops lane attrs old new (Some id) = IsReadyNow s old → (between : Dispatch S) × AnswersReady (OpenSpan lane attrs) (Made id) old between × ((closed : Bool) × AnswersReady (DropHandle lane id) (Yes closed) between new)
-  OpensAndDrops lane attrs old new None = IsReadyNow s old → AnswersReady (OpenSpan lane attrs) Dropped old new
+  OpensAndDrops lane attrs old new (Some id) =
+      IsReadyNow s old → (between : Dispatch S)
+      × AnswersReady (OpenSpan lane attrs) (Made id) old between
+      × ((closed : Bool) × AnswersReady (DropHandle lane id) (Yes closed) between new)
+  OpensAndDrops lane attrs old new None =
+      IsReadyNow s old → AnswersReady (OpenSpan lane attrs) Dropped old new

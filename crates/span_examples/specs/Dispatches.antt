@@ -48,14 +48,20 @@ abbrev pub kept_event : LevelFilter → Lane → Metadata → List Notice
 kept_event level lane m = kept_if level m (Event lane (callsite_of m))
 
 -- what is kept of two new spans and an event behind them
-abbrev pub kept_of : LevelFilter → Lane → Metadata → Metadata → Metadata → Answer → Answer → List Notice
-kept_of level lane outer inner event first second = kept_span level lane outer first ++ (kept_span level lane inner second ++ kept_event level lane event)
+abbrev pub kept_of : LevelFilter → Lane → Metadata → Metadata → Metadata → Answer → Answer
+    → List Notice
+kept_of level lane outer inner event first second =
+    kept_span level lane outer first
+    ++ (kept_span level lane inner second ++ kept_event level lane event)
 
 -- two new spans and an event were served, with these answers. The recorder was notified of what the level passes of them, in that order, and this is what it keeps, unless it failed for want of memory
-pub record KeepsWhatPasses (level : LevelFilter) (lane : Lane) (outer inner event : Metadata) (done : Dispatch Recorded × Vec Answer Global) : Type 0 where
+pub record KeepsWhatPasses (level : LevelFilter) (lane : Lane) (outer inner event : Metadata)
+    (done : Dispatch Recorded × Vec Answer Global) : Type 0 where
   pub first : Answer
   pub second : Answer
   pub answers : done.1.items ≡ first ∷ second ∷ Done ∷ []
   pub spans : IsMadeOrRefused first × IsMadeOrRefused second
-  pub notified : Records new_recorder (recorder_of done.0) (kept_of level lane outer inner event first second)
-  pub kept : (recorder_of done.0).failed ≡ false → (recorder_of done.0).notices ≡ kept_of level lane outer inner event first second
+  pub notified : Records new_recorder (recorder_of done.0)
+      (kept_of level lane outer inner event first second)
+  pub kept : (recorder_of done.0).failed ≡ false
+      → (recorder_of done.0).notices ≡ kept_of level lane outer inner event first second

@@ -45,11 +45,17 @@ pub record IsNewUnder (level : LevelFilter) (x : Filtered RecorderState LevelFil
   pub inner : layer_of x ≡ new_recorder
 
 -- a stack was put in use, and nothing else about its registry changed; if it was ready, it served these requests from then on, and gave these answers
-pub record ServesFirst {S : Type 0} (registry : S → RegistryState) (with_registry : S → RegistryState → S) (has_form : S → Form → Type 0) (stepped : StackSteps S) (levelled : LevelSteps S) (hears : HearSteps S) (acts_at : ActsAt S) (registered : S → S → Type 0) (requests : List Request) (x : S) (done : WithAnswers S) : Type 0 where
+pub record ServesFirst {S : Type 0} (registry : S → RegistryState)
+    (with_registry : S → RegistryState → S) (has_form : S → Form → Type 0) (stepped : StackSteps S)
+    (levelled : LevelSteps S) (hears : HearSteps S) (acts_at : ActsAt S)
+    (registered : S → S → Type 0) (requests : List Request) (x : S) (done : WithAnswers S) : Type
+    0 where
   pub first : Dispatch S
   pub in_use : registered x (stack_of first)
   pub same : registry (stack_of first) ≡ registry x
-  pub served : (f : Form) × IsReady registry with_registry has_form stepped levelled f x → Served registry with_registry has_form stepped levelled hears acts_at requests done.1.items (stack_of first) (stack_of done.0)
+  pub served : (f : Form) × IsReady registry with_registry has_form stepped levelled f x
+      → Served registry with_registry has_form stepped levelled hears acts_at requests done.1.items
+      (stack_of first) (stack_of done.0)
 
 -- both new recorders were notified of the same, in the same order; where neither failed for want of memory, they keep the same
 pub record WentThroughTheSame (r q : RecorderState) : Type 0 where
@@ -63,7 +69,9 @@ abbrev pub Serving : Type 0 → Type 1
 Serving S = List Answer → S → S → Type 0
 
 -- both dispatchers began with new recorders under these levels, and served; where the same requests were made, and answered the same, as they are where all answers are the same, the recorder that stands alone and the one that stands beside another went through the same
-pub record KeepTheSame (level other : LevelFilter) (requests : List Request) (ServesAlone : Serving Recorded) (ServesBeside : Serving Beside) (both : WithAnswers Recorded × WithAnswers Beside) : Type 0 where
+pub record KeepTheSame (level other : LevelFilter) (requests : List Request)
+    (ServesAlone : Serving Recorded) (ServesBeside : Serving Beside)
+    (both : WithAnswers Recorded × WithAnswers Beside) : Type 0 where
   pub alone : Dispatch Recorded
   pub beside : Dispatch Beside
   pub alone_new : IsNewUnder level (outer_of (stack_of alone))
@@ -71,5 +79,7 @@ pub record KeepTheSame (level other : LevelFilter) (requests : List Request) (Se
   pub other_new : IsNewUnder other (outer_of (stack_of beside))
   pub alone_served : ServesAlone both.0.1.items (stack_of alone) (stack_of both.0.0)
   pub beside_served : ServesBeside both.1.1.items (stack_of beside) (stack_of both.1.0)
-  pub same : made_first requests both.0.1.items ≡ made_first requests both.1.1.items → WentThroughTheSame (recorder_of both.0.0) (inner_recorder_of both.1.0)
-  pub same_answers : both.0.1.items ≡ both.1.1.items → WentThroughTheSame (recorder_of both.0.0) (inner_recorder_of both.1.0)
+  pub same : made_first requests both.0.1.items ≡ made_first requests both.1.1.items
+      → WentThroughTheSame (recorder_of both.0.0) (inner_recorder_of both.1.0)
+  pub same_answers : both.0.1.items ≡ both.1.1.items
+      → WentThroughTheSame (recorder_of both.0.0) (inner_recorder_of both.1.0)

@@ -39,7 +39,8 @@ pub record IsFit {L : Type 0} (has_form : L → Form → Type 0) (layer : L) : T
 
 -- what a leaf sees of a list that was answered so, as if it stood alone under filters of these conducts, on a registry without spans
 abbrev pub SeesAlone : Conducts → List Request → List Answer → Heard → Type 0
-SeesAlone cs requests answers heard = AloneOf cs empty_store (made_calls (numbers_in cs) [] requests answers) heard
+SeesAlone cs requests answers heard =
+    AloneOf cs empty_store (made_calls (numbers_in cs) [] requests answers) heard
 
 module _ {S : Type 0} (s : SubscriberOf S) where
   -- the dispatcher is ready, and keeps what its stack would answer now
@@ -48,7 +49,9 @@ module _ {S : Type 0} (s : SubscriberOf S) where
 
   -- a list was served, with these answers
   abbrev pub ServedList : List Request → List Answer → Dispatch S → Dispatch S → Type 0
-  ServedList requests answers old new = Served s.registry s.with_registry s.has_form s.stepped s.levelled s.hears s.acts_at requests answers (stack_of old) (stack_of new)
+  ServedList requests answers old new =
+      Served s.registry s.with_registry s.has_form s.stepped s.levelled s.hears s.acts_at requests
+      answers (stack_of old) (stack_of new)
 
   -- a stack on a registry without spans was put in use, and was ready; then a list was served, and the stack is ready for the next
   pub record ServesReady (stack : S) (requests : List Request) (done : WithAnswers S) : Type 0 where
@@ -60,15 +63,19 @@ module _ {S : Type 0} (s : SubscriberOf S) where
     pub next : IsReadyNow done.0
 
   -- so was a list served. The recorder at this place, which was new, was notified of just what it would see if it stood alone, on a registry without spans, under filters that act so
-  pub record RecordsAlone (place : Place) (recorder : S → RecorderState) (cs : Conducts) (requests : List Request) (done : WithAnswers S) : Type 0 where
+  pub record RecordsAlone (place : Place) (recorder : S → RecorderState) (cs : Conducts)
+      (requests : List Request) (done : WithAnswers S) : Type 0 where
     pub stack : S
     pub serves : ServesReady stack requests done
-    pub kept : Records new_recorder (recorder (stack_of done.0)) (map kept_notice (seen place (flat serves.served.made)))
+    pub kept : Records new_recorder (recorder (stack_of done.0))
+        (map kept_notice (seen place (flat serves.served.made)))
     pub alone : SeesAlone cs requests done.1.items (seen place (flat serves.served.made))
 
   -- whatever list it serves first, put in use, the recorder at this place will have recorded so
   abbrev pub WillRecord : Place → (S → RecorderState) → Conducts → S → Type 0
-  WillRecord place recorder cs x = (requests : List Request) (done : WithAnswers S) → ServesReady x requests done → RecordsAlone place recorder cs requests done
+  WillRecord place recorder cs x =
+      (requests : List Request) (done : WithAnswers S) → ServesReady x requests done
+      → RecordsAlone place recorder cs requests done
 
 -- a recorder under a filter of this type, on a registry
 abbrev pub UnderFilter : Type 0 → Type 0
@@ -81,11 +88,13 @@ recorder_under x = layer_of (outer_of x)
 module _ {F : Type 0} (s : SubscriberOf (UnderFilter F)) where
   -- a list was served, and the recorder was notified of just what it would see alone under a filter that acts so
   abbrev pub RecordsUnder : Conduct → List Request → WithAnswers (UnderFilter F) → Type 0
-  RecordsUnder b requests done = RecordsAlone s (Outer (Under Here)) recorder_under ((Some 0, b) ∷ []) requests done
+  RecordsUnder b requests done =
+      RecordsAlone s (Outer (Under Here)) recorder_under ((Some 0, b) ∷ []) requests done
 
   -- whatever list it serves first, put in use, the recorder will have recorded so, where its filter acts in this way
   abbrev pub WillRecordUnder : (Conduct → Type 0) → UnderFilter F → Type 0
-  WillRecordUnder acts x = (b : Conduct) → acts b → WillRecord s (Outer (Under Here)) recorder_under ((Some 0, b) ∷ []) x
+  WillRecordUnder acts x =
+      (b : Conduct) → acts b → WillRecord s (Outer (Under Here)) recorder_under ((Some 0, b) ∷ []) x
 
 -- the conduct of a filter of two parts, which take no level
 abbrev pub both_conduct : (Answers → Answers → Answers) → Conduct → Conduct → Conduct
@@ -100,7 +109,8 @@ abbrev pub IsCounted : RecorderState → Option ℕ → Type 0
 IsCounted r o = IfSome o (λ n. (r.failed ≡ false) × (n ≡ length r.notices))
 
 -- a list was answered, and a recorder under filters that act so was notified of just what it would see alone: so many notices, unless it failed for want of memory
-pub record CountsAlone (cs : Conducts) (requests : List Request) (told : Vec Answer Global × Option ℕ) : Type 0 where
+pub record CountsAlone (cs : Conducts) (requests : List Request)
+    (told : Vec Answer Global × Option ℕ) : Type 0 where
   pub heard : Heard
   pub alone : SeesAlone cs requests told.0.items heard
   pub count : IfSome told.1 (λ n. n ≡ length heard)

@@ -34,7 +34,9 @@ longest_of x = x.longest
 
 -- the value under this tag of a span's extensions, where the span is shown
 abbrev pub number_seen : {T : Type 0} → Place T → Tag T → Id → View → Option T
-number_seen place tag id v = option_and_then (λ m. value_under place m tag) (option_and_then (λ x. extensions_shown x v) (shown (number_of id) v))
+number_seen place tag id v =
+    option_and_then (λ m. value_under place m tag)
+    (option_and_then (λ x. extensions_shown x v) (shown (number_of id) v))
 
 -- the same, timed to this moment
 abbrev pub ticked : Timing → Timing
@@ -42,5 +44,9 @@ ticked x = record x { clock = one_more x.clock }
 
 -- the timing layer after a notice
 abbrev pub timed : Place ℕ → Notice → View → Timing → Timing
-timed place (OnClose id) v x = record (ticked x) { longest = option_map_or (λ start. max x.longest (one_more x.clock - start)) (number_seen place x.start id v) x.longest }
+timed place (OnClose id) v x =
+    record (ticked x) {
+      longest = option_map_or (λ start. max x.longest (one_more x.clock - start))
+          (number_seen place x.start id v) x.longest;
+    }
 timed place other v x = ticked x

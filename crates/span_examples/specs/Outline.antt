@@ -117,10 +117,12 @@ module _ (s : SubscriberOf Outlined) where
     pub empty : (s.registry x).store ≡ empty_store
 
   -- a dispatcher of such a stack served these requests and gave these answers; and the text has a line for each event that its outline was told of, in order: the event's name, behind two spaces for each span that the outline's own context showed round it
-  pub record ServesOutlined (level other : LevelFilter) (requests : List Request) (done : Vec Answer Global × String Global) : Type 0 where
+  pub record ServesOutlined (level other : LevelFilter) (requests : List Request)
+      (done : Vec Answer Global × String Global) : Type 0 where
     pub first : Dispatch Outlined
     pub last : Dispatch Outlined
     pub new : IsNewOutlined level other (stack_of first)
     pub empty : (s.registry (stack_of first)).store ≡ empty_store
-    pub served : Served s.registry s.with_registry s.has_form s.stepped s.levelled s.hears s.acts_at requests done.0.items (stack_of first) (stack_of last)
+    pub served : Served s.registry s.with_registry s.has_form s.stepped s.levelled s.hears s.acts_at
+        requests done.0.items (stack_of first) (stack_of last)
     pub text : string_bytes done.1 ≡ text_of (seen outline_place (flat served.made))

@@ -50,4 +50,5 @@ pub record HasNoRoom (s : RegistryState) (error : TraceError) : Type 0 where
 -- a new span is counted where the level passes it, and nowhere else
 abbrev pub CountsWhatPasses : Attributes → Counted → Counted → Id → Type 0
 CountsWhatPasses attrs old new id =
-    counter_of new ≡ (if passes_level (level_in old) (level_of (metadata_of attrs)) then counted (OnNewSpan attrs id) (counter_of old) else counter_of old)
+    counter_of new ≡ (if passes_level (level_in old) (level_of (metadata_of attrs))
+    then counted (OnNewSpan attrs id) (counter_of old) else counter_of old)

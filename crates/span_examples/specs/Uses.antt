@@ -16,14 +16,16 @@ use Rattle.span_registry.specs.Store.{IsChain, RegistryState, parent_of, stack_o
 use Rattle.span_registry.specs.declared.tag.Tag.{Tag}
 
 -- a span is opened and then entered
-pub record Begins (lane : Lane) (attrs : Attributes) (pass : Pass) (old new : RegistryState) (id : Id) : Type 0 where
+pub record Begins (lane : Lane) (attrs : Attributes) (pass : Pass) (old new : RegistryState)
+    (id : Id) : Type 0 where
   pub opened : RegistryState
   pub opens : Opens lane (asked attrs pass) id old opened
   pub enters : Enters lane id opened new
 
 -- the value that a span in the store has under a tag
 abbrev pub value_in : {T : Type 0} → Place T → RegistryState → Id → Tag T → Option T
-value_in place s id tag = option_and_then (λ m. value_under place m tag) (get s.store.extensions (number_of id))
+value_in place s id tag =
+    option_and_then (λ m. value_under place m tag) (get s.store.extensions (number_of id))
 
 -- the name of a span in the store
 abbrev pub name_in : RegistryState → ℕ → Option (List ℕ)
@@ -55,4 +57,5 @@ DropsAndLists id old new list = (xs : List ℕ) × Drops old (number_of id) xs n
 
 -- a closing span is removed, and each parent that closes by that; the list has them
 abbrev pub RemovesAndLists : Id → RegistryState → RegistryState → Option (Vec Id Global) → Type 0
-RemovesAndLists id old new list = (xs : List ℕ) × Removal (λ _ _. ⊥) old id xs None new × Lists list xs
+RemovesAndLists id old new list =
+    (xs : List ℕ) × Removal (λ _ _. ⊥) old id xs None new × Lists list xs

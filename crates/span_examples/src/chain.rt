@@ -17,7 +17,8 @@ pub fn open_and_drop<S: Subscriber>(
     requires { S.usable (stack_of dispatch.old) }
     ensures usable { S.usable (stack_of dispatch.new) }
     ensures ready { IsReadyNow S.Subscriber dispatch.old → IsReadyNow S.Subscriber dispatch.new }
-    ensures served { IfOk result (OpensAndDrops S.Subscriber lane attrs.now dispatch.old dispatch.new) }
+    ensures served { IfOk result
+        (OpensAndDrops S.Subscriber lane attrs.now dispatch.old dispatch.new) }
 {
     let Some(id) = dispatch.new_span(lane, attrs)? else {
         return Ok(None);

@@ -31,7 +31,8 @@ fn put_filtered<F: Filter<Registry> + Drop>(
     requires usable { F.usable filter }
     requires answers { (a : Answers) × F.has_answers filter a }
     ensures usable { IfOk result ⟦<Under<F> as Subscriber>⟧.usable }
-    ensures stands { let i = ⟦<Under<F> as Subscriber>⟧ in IfOk result (StandsSomehow i.registry i.has_form) }
+    ensures stands { let i = ⟦<Under<F> as Subscriber>⟧ in
+        IfOk result (StandsSomehow i.registry i.has_form) }
     ensures records { IfOk result (WillRecordUnder ⟦<Under<F> as Subscriber>⟧ (F.acts filter)) }
     ensures memory { IfErr result (λ e. e ≡ TraceError.OutOfMemory) }
 {
@@ -51,7 +52,8 @@ pub fn under_both(
     requests: &[Request<'_>],
 ) -> Result<WithAnswers<Under<And<LevelFilter, LevelFilter>>>, TraceError>
     ensures kept { let i = ⟦<Under<And<LevelFilter, LevelFilter>> as Subscriber>⟧ in
-        IfOk result (RecordsUnder i (both_conduct and_answers (level_conduct first) (level_conduct second)) requests.now) }
+        IfOk result (RecordsUnder i
+        (both_conduct and_answers (level_conduct first) (level_conduct second)) requests.now) }
     ensures memory { IfErr result (λ e. e ≡ TraceError.OutOfMemory) }
 {
     let stack = put_filtered(alloc, first.and(second))?;
@@ -66,7 +68,8 @@ pub fn under_either(
     requests: &[Request<'_>],
 ) -> Result<WithAnswers<Under<Or<LevelFilter, LevelFilter>>>, TraceError>
     ensures kept { let i = ⟦<Under<Or<LevelFilter, LevelFilter>> as Subscriber>⟧ in
-        IfOk result (RecordsUnder i (both_conduct or_answers (level_conduct first) (level_conduct second)) requests.now) }
+        IfOk result (RecordsUnder i
+        (both_conduct or_answers (level_conduct first) (level_conduct second)) requests.now) }
     ensures memory { IfErr result (λ e. e ≡ TraceError.OutOfMemory) }
 {
     let stack = put_filtered(alloc, first.or(second))?;
@@ -79,7 +82,9 @@ pub fn under_negated(
     level: LevelFilter,
     requests: &[Request<'_>],
 ) -> Result<WithAnswers<Under<Not<LevelFilter>>>, TraceError>
-    ensures kept { IfOk result (RecordsUnder ⟦<Under<Not<LevelFilter>> as Subscriber>⟧ (one_conduct not_answers (level_conduct level)) requests.now) }
+    ensures kept { IfOk result
+        (RecordsUnder ⟦<Under<Not<LevelFilter>> as Subscriber>⟧
+        (one_conduct not_answers (level_conduct level)) requests.now) }
     ensures memory { IfErr result (λ e. e ≡ TraceError.OutOfMemory) }
 {
     let stack = put_filtered(alloc, level.not())?;
@@ -92,7 +97,9 @@ pub fn under_optional(
     level: LevelFilter,
     requests: &[Request<'_>],
 ) -> Result<WithAnswers<Under<Option<LevelFilter>>>, TraceError>
-    ensures kept { IfOk result (RecordsUnder ⟦<Under<Option<LevelFilter>> as Subscriber>⟧ (level_conduct level) requests.now) }
+    ensures kept { IfOk result
+        (RecordsUnder ⟦<Under<Option<LevelFilter>> as Subscriber>⟧ (level_conduct level)
+        requests.now) }
     ensures memory { IfErr result (λ e. e ≡ TraceError.OutOfMemory) }
 {
     let stack = put_filtered(alloc, Some(level))?;
@@ -115,7 +122,8 @@ pub fn count_tested(
     level: LevelFilter,
     requests: &[Request<'_>],
 ) -> Result<(Vec<Answer>, Option<usize>), TraceError>
-    ensures counted { IfOk result (CountsUnder (λ h. test_answers (λ m. passes_level level (level_of m)) None) requests.now) }
+    ensures counted { IfOk result
+        (CountsUnder (λ h. test_answers (λ m. passes_level level (level_of m)) None) requests.now) }
     ensures memory { IfErr result (λ e. e ≡ TraceError.OutOfMemory) }
 {
     let filter = filter_fn(
@@ -135,7 +143,8 @@ pub fn count_in_span(
     alloc: Global,
     requests: &[Request<'_>],
 ) -> Result<(Vec<Answer>, Option<usize>), TraceError>
-    ensures counted { IfOk result (CountsUnder (λ h. view_answers in_a_span (interest_under None) None) requests.now) }
+    ensures counted { IfOk result
+        (CountsUnder (λ h. view_answers in_a_span (interest_under None) None) requests.now) }
     ensures memory { IfErr result (λ e. e ≡ TraceError.OutOfMemory) }
 {
     let filter = dynamic_filter_fn(

@@ -41,7 +41,8 @@ impl<S: LookupSpan> Filter<S> for Targets {
 
     ghost acts = { ActsSteadily (settled_answers target_answers) };
 
-    ghost laws = { settled_laws target_answers (λ f. unhinted_honest (wants_target f) (goes_by_target f)) };
+    ghost laws = { settled_laws target_answers
+        (λ f. unhinted_honest (wants_target f) (goes_by_target f)) };
 
     ghost levels = { steady_levels };
 

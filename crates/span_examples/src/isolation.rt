@@ -27,8 +27,10 @@ pub fn record_alone_and_beside(
 ) -> Result<(WithAnswers<Recorded>, WithAnswers<Beside>), TraceError>
     ensures same { let one = ⟦<Recorded as Subscriber>⟧ in let two = ⟦<Beside as Subscriber>⟧ in
         IfOk result (KeepTheSame level other requests.now
-        (Served one.registry one.with_registry one.has_form one.stepped one.levelled one.hears one.acts_at requests.now)
-        (Served two.registry two.with_registry two.has_form two.stepped two.levelled two.hears two.acts_at requests.now)) }
+        (Served one.registry one.with_registry one.has_form one.stepped one.levelled one.hears
+        one.acts_at requests.now)
+        (Served two.registry two.with_registry two.has_form two.stepped two.levelled two.hears
+        two.acts_at requests.now)) }
     ensures memory { IfErr result (λ e. e ≡ TraceError.OutOfMemory) }
 {
     span_layers::laws::numbers_are_own();
@@ -61,7 +63,9 @@ pub(crate) fn serve_first<S: Subscriber + Drop>(
     requests: &[Request<'_>],
 ) -> Result<WithAnswers<S>, TraceError>
     requires { S.usable stack }
-    ensures served { IfOk result (ServesFirst S.registry S.with_registry S.has_form S.stepped S.levelled S.hears S.acts_at S.registered requests.now stack) }
+    ensures served { IfOk result
+        (ServesFirst S.registry S.with_registry S.has_form S.stepped S.levelled S.hears S.acts_at
+        S.registered requests.now stack) }
     ensures memory { IfErr result (λ e. e ≡ TraceError.OutOfMemory) }
 {
     let mut dispatch = Dispatch::fresh(alloc, stack);

@@ -38,7 +38,8 @@ fn put_under<L: Layer<Registry> + Drop>(alloc: Global, layer: L) -> Result<Over<
     requires usable { L.usable layer }
     requires fit { IsFit L.has_form layer }
     ensures usable { IfOk result ⟦<Over<L> as Subscriber>⟧.usable }
-    ensures stands { let i = ⟦<Over<L> as Subscriber>⟧ in IfOk result (StandsSomehow i.registry i.has_form) }
+    ensures stands { let i = ⟦<Over<L> as Subscriber>⟧ in
+        IfOk result (StandsSomehow i.registry i.has_form) }
     ensures records { IfOk result (WillRecord ⟦<Over<L> as Subscriber>⟧ (Outer Here) outer_of []) }
     ensures memory { IfErr result (λ e. e ≡ TraceError.OutOfMemory) }
 {
@@ -58,7 +59,8 @@ pub fn over_identity(
     alloc: Global,
     requests: &[Request<'_>],
 ) -> Result<WithAnswers<Over<Identity>>, TraceError>
-    ensures kept { IfOk result (RecordsAlone ⟦<Over<Identity> as Subscriber>⟧ (Outer Here) outer_of [] requests.now) }
+    ensures kept { IfOk result
+        (RecordsAlone ⟦<Over<Identity> as Subscriber>⟧ (Outer Here) outer_of [] requests.now) }
     ensures memory { IfErr result (λ e. e ≡ TraceError.OutOfMemory) }
 {
     let stack = put_under(alloc, Identity::new())?;
@@ -70,7 +72,9 @@ pub fn over_observer(
     alloc: Global,
     requests: &[Request<'_>],
 ) -> Result<WithAnswers<Over<Observer<SpanCounter>>>, TraceError>
-    ensures kept { IfOk result (RecordsAlone ⟦<Over<Observer<SpanCounter>> as Subscriber>⟧ (Outer Here) outer_of [] requests.now) }
+    ensures kept { IfOk result
+        (RecordsAlone ⟦<Over<Observer<SpanCounter>> as Subscriber>⟧ (Outer Here) outer_of []
+        requests.now) }
     ensures memory { IfErr result (λ e. e ≡ TraceError.OutOfMemory) }
 {
     let stack = put_under(alloc, Observer::new(SpanCounter::new()))?;
@@ -82,7 +86,9 @@ pub fn over_some(
     alloc: Global,
     requests: &[Request<'_>],
 ) -> Result<WithAnswers<Over<Option<Observer<SpanCounter>>>>, TraceError>
-    ensures kept { IfOk result (RecordsAlone ⟦<Over<Option<Observer<SpanCounter>>> as Subscriber>⟧ (Outer Here) outer_of [] requests.now) }
+    ensures kept { IfOk result
+        (RecordsAlone ⟦<Over<Option<Observer<SpanCounter>>> as Subscriber>⟧ (Outer Here) outer_of
+        [] requests.now) }
     ensures memory { IfErr result (λ e. e ≡ TraceError.OutOfMemory) }
 {
     let stack = put_under(alloc, Some(Observer::new(SpanCounter::new())))?;
@@ -94,7 +100,9 @@ pub fn over_box(
     alloc: Global,
     requests: &[Request<'_>],
 ) -> Result<WithAnswers<Over<Box<Observer<SpanCounter>>>>, TraceError>
-    ensures kept { IfOk result (RecordsAlone ⟦<Over<Box<Observer<SpanCounter>>> as Subscriber>⟧ (Outer Here) outer_of [] requests.now) }
+    ensures kept { IfOk result
+        (RecordsAlone ⟦<Over<Box<Observer<SpanCounter>>> as Subscriber>⟧ (Outer Here) outer_of []
+        requests.now) }
     ensures memory { IfErr result (λ e. e ≡ TraceError.OutOfMemory) }
 {
     let layer = Box::new(alloc, Observer::new(SpanCounter::new()))?;
@@ -107,7 +115,9 @@ pub fn over_list(
     alloc: Global,
     requests: &[Request<'_>],
 ) -> Result<WithAnswers<Over<Vec<Observer<SpanCounter>>>>, TraceError>
-    ensures kept { IfOk result (RecordsAlone ⟦<Over<Vec<Observer<SpanCounter>>> as Subscriber>⟧ (Outer Here) outer_of [] requests.now) }
+    ensures kept { IfOk result
+        (RecordsAlone ⟦<Over<Vec<Observer<SpanCounter>>> as Subscriber>⟧ (Outer Here) outer_of []
+        requests.now) }
     ensures memory { IfErr result (λ e. e ≡ TraceError.OutOfMemory) }
 {
     let first = Observer::new(SpanCounter::new());

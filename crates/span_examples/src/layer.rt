@@ -84,7 +84,9 @@ impl Timing {
 }
 
 impl<S: Subscriber> Observe<S> for Timing {
-    ghost observed = { λ x e lane under v y w. (y ≡ timed ⟦<u64 as ExtensionValue>⟧.place e (view_of v.store lane under) x) × SameButExtensions v w };
+    ghost observed = { λ x e lane under v y w.
+        (y ≡ timed ⟦<u64 as ExtensionValue>⟧.place e (view_of v.store lane under) x)
+        × SameButExtensions v w };
 
     fn observe(&mut self, notice: Observed<'_, '_>, ctx: &mut ContextMut<'_, S>) {
         self.clock = self.clock.saturating_add(1);
@@ -111,7 +113,8 @@ fn put<S: Subscriber>(tag: Tag<u64>, number: u64, id: Id, ctx: &mut ContextMut<'
 
 /// The number under this tag, where the span is shown.
 fn number<S: Subscriber>(tag: Tag<u64>, id: Id, ctx: &ContextMut<'_, S>) -> Option<u64>
-    ensures { result ≡ number_seen ⟦<u64 as ExtensionValue>⟧.place tag id (view_lent S.registry ctx.now) }
+    ensures { result ≡ number_seen ⟦<u64 as ExtensionValue>⟧.place tag id
+        (view_lent S.registry ctx.now) }
 {
     match ctx.ctx().span(id) {
         Some(span) => span.extensions().get(tag).copied(),

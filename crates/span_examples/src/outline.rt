@@ -48,7 +48,8 @@ impl Outline {
 
     /// Writes a line, if there is memory for it, and was.
     fn write(&mut self, line: Result<String, AllocError>)
-        ensures { (bytes : List ℕ) → IfOk line (λ s. string_bytes s ≡ bytes) → WritesLine bytes self.old self.new }
+        ensures { (bytes : List ℕ) → IfOk line (λ s. string_bytes s ≡ bytes)
+            → WritesLine bytes self.old self.new }
     {
         if self.failed {
             return;
@@ -92,7 +93,8 @@ fn indentation<S: Subscriber>(
     event: &Event<'_>,
     ctx: &ContextMut<'_, S>,
 ) -> Result<String, AllocError>
-    ensures { IfOk result (λ s. string_bytes s ≡ indent (spans_round event.now (view_lent S.registry ctx.now))) }
+    ensures { IfOk result (λ s. string_bytes s
+        ≡ indent (spans_round event.now (view_lent S.registry ctx.now))) }
 {
     let mut spaces = String::new(alloc);
     let look = ctx.ctx();
@@ -115,7 +117,8 @@ pub fn serve_outlined(
     other: LevelFilter,
     requests: &[Request<'_>],
 ) -> Result<(Vec<Answer>, String), TraceError>
-    ensures served { IfOk result (ServesOutlined ⟦<Outlined as Subscriber>⟧ level other requests.now) }
+    ensures served { IfOk result
+        (ServesOutlined ⟦<Outlined as Subscriber>⟧ level other requests.now) }
     ensures memory { IfErr result (λ e. e ≡ TraceError.OutOfMemory) }
 {
     let stack = stack_outlined(alloc, level, other)?;

@@ -51,7 +51,8 @@ pub fn count_one(
     lane: Lane,
     attrs: &Attributes<'_>,
 ) -> Result<u64, TraceError>
-    ensures { IfOk result (λ n. n ≡ (if passes_level level (level_of (metadata_of attrs.now)) then 1 else 0)) }
+    ensures { IfOk result (λ n. n
+        ≡ (if passes_level level (level_of (metadata_of attrs.now)) then 1 else 0)) }
 {
     let mut stack = count_under(Registry::new(alloc), level)?;
     open_counted(&mut stack, lane, attrs)?;

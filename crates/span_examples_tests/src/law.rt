@@ -1,7 +1,7 @@
 //! Tests of a visit, an open parent, a root, and the way down from it.
 use span_core::{Attributes, FieldSet, Kind, Lane, Level, Metadata, Pass};
-use span_registry::{Registry, Subscriber};
 use span_examples::law::{enter_and_leave, open_parent, root_of, way_down};
+use span_registry::{Registry, Subscriber};
 use std::process::Abort;
 use std::test::Fail;
 

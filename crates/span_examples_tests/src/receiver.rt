@@ -8,11 +8,11 @@ use span_core::{
     Event, FieldSet, Id, Interest, Kind, Lane, Level, LevelFilter, Metadata, Pass, TraceError,
 };
 use span_dispatch::{Answer, Dispatch, Notice, Recorder, Request, Which, WhichParent};
-use span_layers::{Filtered, Layer, LayerExt, Layered, Observe, Observed, Observer, SubscriberExt};
-use span_registry::{ContextMut, LookupSpan, Registry, Subscriber, Tag};
 use span_examples::isolation::record_alone_and_beside;
 use span_examples::outline::serve_outlined;
 use span_examples::reload::reload;
+use span_layers::{Filtered, Layer, LayerExt, Layered, Observe, Observed, Observer, SubscriberExt};
+use span_registry::{ContextMut, LookupSpan, Registry, Subscriber, Tag};
 use std::alloc::Global;
 use std::process::Abort;
 use std::test::Fail;

@@ -23,11 +23,24 @@ is_muted values = list_any is_mute values
 
 -- all metadata; the events that aren't muted; it is interested in everything
 abbrev pub mute_answers : Answers
-mute_answers = record { enabled = λ m v. true; event = λ e v. not (is_muted (event_values e)); interest = λ m. Always; hint = None; takes = λ l. false }
+mute_answers =
+    record {
+      enabled = λ m v. true;
+      event = λ e v. not (is_muted (event_values e));
+      interest = λ m. Always;
+      hint = None;
+      takes = λ l. false;
+    }
 
 -- these are honest
 pub mute_honest : AreHonest mute_answers
-mute_honest = record { always = λ m v e. refl; never = λ m v e. absurd (cc); above = λ m v e. absurd (cc); alike = λ m k e. refl }
+mute_honest =
+    record {
+      always = λ m v e. refl;
+      never = λ m v e. absurd (cc);
+      above = λ m v e. absurd (cc);
+      alike = λ m k e. refl;
+    }
 
 -- and plain, since they look at no view
 pub mute_plain : ArePlain mute_answers

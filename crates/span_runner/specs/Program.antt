@@ -35,15 +35,20 @@ use Rattle.span_script.specs.declared.stack_name.StackName.{StackName}
 
 -- a line declares this label, and the answer to its request made the span with this number
 abbrev pub IsNamed : Line → Option Answer → ℕ → List ℕ → Type 0
-IsNamed l answer number label = (declared_label l ≡ Some label) × ((id : Id) × (answer ≡ Some (Made id)) × (number_of id ≡ number))
+IsNamed l answer number label =
+    (declared_label l ≡ Some label)
+    × ((id : Id) × (answer ≡ Some (Made id)) × (number_of id ≡ number))
 
 -- the number and the label that a line and its answer name, or nothing where they name none
 abbrev pub IsNaming : Line → Option Answer → Option (ℕ × Bor (List ℕ)) → Type 0
-IsNaming l answer made = MatchOption made ((number : ℕ) (label : List ℕ) → ¬ (IsNamed l answer number label)) (λ made. IsNamed l answer made.0 made.1.now)
+IsNaming l answer made =
+    MatchOption made ((number : ℕ) (label : List ℕ) → ¬ (IsNamed l answer number label))
+    (λ made. IsNamed l answer made.0 made.1.now)
 
 -- the same of the line and the answer at a place
 abbrev pub IsNamedAt : List Line → List Answer → ℕ → ℕ → List ℕ → Type 0
-IsNamedAt lines answers place number label = IsSomeAnd (slice_get lines place) (λ l. IsNamed l (slice_get answers place) number label)
+IsNamedAt lines answers place number label =
+    IsSomeAnd (slice_get lines place) (λ l. IsNamed l (slice_get answers place) number label)
 
 -- each span that a line made has the label of such a line, and no other span has one
 abbrev pub AreLabels : List Line → List Answer → (ℕ → Option (List ℕ)) → Type 0
@@ -95,11 +100,13 @@ pair_of name other = name ++ 32 ∷ other
 abbrev pub notice_text : (Id → List ℕ) → Notice → List ℕ
 notice_text name (notice.New lane id) = codes "new " ++ line_of (name id)
 notice_text name (notice.Record lane id) = codes "record " ++ line_of (name id)
-notice_text name (notice.Follows lane id other) = codes "follows " ++ line_of (pair_of (name id) (name other))
+notice_text name (notice.Follows lane id other) =
+    codes "follows " ++ line_of (pair_of (name id) (name other))
 notice_text name (notice.Event lane callsite) = codes "event " ++ line_of (decimal callsite)
 notice_text name (notice.Enter lane id) = codes "enter " ++ line_of (name id)
 notice_text name (notice.Exit lane id) = codes "exit " ++ line_of (name id)
-notice_text name (notice.IdChange lane id other) = codes "id " ++ line_of (pair_of (name id) (name other))
+notice_text name (notice.IdChange lane id other) =
+    codes "id " ++ line_of (pair_of (name id) (name other))
 notice_text name (notice.Close lane id) = codes "close " ++ line_of (name id)
 
 -- a recorder's name, as its bytes, and the notices that it kept
@@ -112,7 +119,8 @@ all_sections sections = map section_in sections
 
 -- a recorder's head, and a line for each notice that it kept
 abbrev pub section_text : (Id → List ℕ) → List ℕ × List Notice → List ℕ
-section_text name section = codes "== " ++ line_of section.0 ++ flat_map (notice_text name) section.1
+section_text name section =
+    codes "== " ++ line_of section.0 ++ flat_map (notice_text name) section.1
 
 -- a line for each line of a script and its answer
 abbrev pub replies : (Id → List ℕ) → List Line → List Answer → List ℕ
@@ -120,18 +128,22 @@ replies name lines answers = flat_map (λ both. reply_text name both.0 both.1) (
 
 -- all that is printed: the replies, and then what each recorder kept
 abbrev pub printed : (Id → List ℕ) → List Line → List Answer → List (List ℕ × List Notice) → List ℕ
-printed name lines answers sections = replies name lines answers ++ flat_map (section_text name) sections
+printed name lines answers sections =
+    replies name lines answers ++ flat_map (section_text name) sections
 
 -- the text is what is printed for these lines, answers and recorders
 abbrev pub IsPrinted : List Line → List Answer → List (List ℕ × List Notice) → List ℕ → Type 0
-IsPrinted lines answers sections text = (labels : ℕ → Option (List ℕ)) × (AreLabels lines answers labels × (text ≡ printed (name_by labels) lines answers sections))
+IsPrinted lines answers sections text =
+    (labels : ℕ → Option (List ℕ))
+    × (AreLabels lines answers labels × (text ≡ printed (name_by labels) lines answers sections))
 
 -- what serves a stack's requests: with which answers, and with which notices that each of its recorders keeps, innermost first
 abbrev pub Serving : Type 1
 Serving = StackName → List Request → List Answer → List (List Notice) → Type 0
 
 -- these requests of these lines are served so, and that is printed, each recorder by its name
-pub record PrintsServed (Served : Serving) (stack : StackName) (lines : List Line) (requests : List Request) (output : List ℕ) : Type 0 where
+pub record PrintsServed (Served : Serving) (stack : StackName) (lines : List Line)
+    (requests : List Request) (output : List ℕ) : Type 0 where
   pub answers : List Answer
   pub sections : List (List ℕ × List Notice)
   pub served : Served stack requests answers (map (λ one. one.1) sections)
@@ -140,7 +152,8 @@ pub record PrintsServed (Served : Serving) (stack : StackName) (lines : List Lin
 
 -- a script whose requests this stack serves, on a registry with these limits, gives this text
 abbrev pub Gives : Limits → StackName → Script → List ℕ → Type 0
-Gives limits stack script output = PrintsServed (Serves limits) stack (lines_of script) (requests_of script) output
+Gives limits stack script output =
+    PrintsServed (Serves limits) stack (lines_of script) (requests_of script) output
 
 -- the text spells a stack and lines, these ask for requests, and what comes of serving them so is printed
 pub record PrintsBy (Served : Serving) (text output : List ℕ) : Type 0 where
@@ -161,7 +174,8 @@ AnyAnswers stack requests answers kept = length answers ≡ length requests
 
 -- a script whose requests workers ask of this stack gives this text: replies of some answers, and what its recorders kept
 abbrev pub GivesShared : StackName → Script → List ℕ → Type 0
-GivesShared stack script output = PrintsServed AnyAnswers stack (lines_of script) (requests_of script) output
+GivesShared stack script output =
+    PrintsServed AnyAnswers stack (lines_of script) (requests_of script) output
 
 -- so it is of a text that is a script
 abbrev pub PrintsShared : List ℕ → List ℕ → Type 0
@@ -196,17 +210,26 @@ IsWrongLine fault = ⊥
 -- Below: what is printed for a text, the bytes that a reader gives, if they are known, and a writer before and after.
 
 -- what is printed for the bytes is written behind what was there
-abbrev pub Writes : {W : Type 0} → (List ℕ → List ℕ → Type 0) → Option (List ℕ) → (W → Option (List ℕ)) → W → W → Type 0
-Writes prints given contents old new = IfSome given (λ bytes. (output : List ℕ) × (prints (utf8_lossy bytes) output × Appends (contents old) (contents new) output))
+abbrev pub Writes : {W : Type 0} → (List ℕ → List ℕ → Type 0) → Option (List ℕ)
+    → (W → Option (List ℕ)) → W → W → Type 0
+Writes prints given contents old new =
+    IfSome given (λ bytes. (output : List ℕ)
+    × (prints (utf8_lossy bytes) output × Appends (contents old) (contents new) output))
 
 -- a line that is said to be wrong is the first of the bytes that is
 abbrev pub BlamesFirstWrong : Option (List ℕ) → RunFault → Type 0
-BlamesFirstWrong given fault = IsWrongLine fault → IfSome given (λ bytes. IsRunFault (utf8_lossy bytes) fault)
+BlamesFirstWrong given fault =
+    IsWrongLine fault → IfSome given (λ bytes. IsRunFault (utf8_lossy bytes) fault)
 
 -- nothing is written, unless it is writing that failed: then the bytes are a script
-abbrev pub IsUnwritten : {W : Type 0} → (List ℕ → List ℕ → Type 0) → Option (List ℕ) → W → W → RunFault → Type 0
-IsUnwritten prints given old new fault = (new ≡ old) ⊎ ((fault ≡ Io) × IfSome given (λ bytes. (output : List ℕ) × prints (utf8_lossy bytes) output))
+abbrev pub IsUnwritten : {W : Type 0} → (List ℕ → List ℕ → Type 0) → Option (List ℕ) → W → W
+    → RunFault → Type 0
+IsUnwritten prints given old new fault =
+    (new ≡ old) ⊎ ((fault ≡ Io)
+    × IfSome given (λ bytes. (output : List ℕ) × prints (utf8_lossy bytes) output))
 
 -- more than 1048576 bytes are refused, with no line blamed and nothing written
 abbrev pub RefusesLong : {A W : Type 0} → Option (List ℕ) → Result A RunFault → W → W → Type 0
-RefusesLong given result old new = IfSome given (λ bytes. 1048576 < length bytes → IsErrAnd result (λ fault. ¬ (IsWrongLine fault)) × (new ≡ old))
+RefusesLong given result old new =
+    IfSome given (λ bytes. 1048576 < length bytes
+    → IsErrAnd result (λ fault. ¬ (IsWrongLine fault)) × (new ≡ old))

@@ -40,9 +40,17 @@ leaf = Leaf true open_answers
 -- the form of a stack. Plain: a recorder on the registry. Pair: `a`, which every level passes, and outside it `b`, which info and what is less verbose pass. Nested: `base`, and outside it `deep`, which those levels pass, where the event isn't muted. Veto: `base`, outside it `warn`, which warnings and errors pass, and outside these two leaves that veto, one muted events and the outer one what is more verbose than info. Absent: an absent layer, and outside it `base`
 abbrev pub form_of : StackName → Form
 form_of Plain = Over OnSubscriber leaf (Bare Base)
-form_of Pair = Over OnSubscriber (Over InPair (Filtered (Some 0) (level_answers INFO) leaf) (Filtered (Some 1) (level_answers TRACE) leaf)) (Bare Base)
-form_of Nested = Over OnSubscriber (Filtered (Some 0) mute_answers (Filtered (Some 1) (level_answers INFO) leaf)) (Over OnSubscriber leaf (Bare Base))
-form_of Veto = Over OnSubscriber (Leaf true (level_answers INFO)) (Over OnSubscriber (Leaf true mute_answers) (Over OnSubscriber (Filtered (Some 0) (level_answers WARN) leaf) (Over OnSubscriber leaf (Bare Base))))
+form_of Pair =
+    Over OnSubscriber (Over InPair (Filtered (Some 0) (level_answers INFO) leaf)
+    (Filtered (Some 1) (level_answers TRACE) leaf)) (Bare Base)
+form_of Nested =
+    Over OnSubscriber (Filtered (Some 0) mute_answers (Filtered (Some 1) (level_answers INFO) leaf))
+    (Over OnSubscriber leaf (Bare Base))
+form_of Veto =
+    Over OnSubscriber (Leaf true (level_answers INFO))
+    (Over OnSubscriber (Leaf true mute_answers)
+    (Over OnSubscriber (Filtered (Some 0) (level_answers WARN) leaf)
+    (Over OnSubscriber leaf (Bare Base))))
 form_of AbsentStack = Over OnSubscriber leaf (Over OnSubscriber (Bare Absent) (Bare Base))
 
 -- where its recorders stand, innermost first
@@ -74,10 +82,13 @@ start_of limits stack = record (new_registry limits) { filters = filters_of stac
 -- the stack answers these requests so, from its first registry on and with nothing kept at first, and its recorders, innermost first, keep these notices
 abbrev pub Serves : Limits → StackName → List Request → List Answer → List (List Notice) → Type 0
 Serves limits stack requests answers kept =
-    (made : List (List OutcomeAt)) × (memory : KeptCallsites) × (after : RegistryState) × RunsBy (form_of stack) requests answers made (Some no_callsite) (start_of limits stack) memory after × (kept ≡ map (kept_at made) (places_of stack))
+    (made : List (List OutcomeAt)) × (memory : KeptCallsites) × (after : RegistryState)
+    × RunsBy (form_of stack) requests answers made (Some no_callsite) (start_of limits stack)
+    memory after × (kept ≡ map (kept_at made) (places_of stack))
 
 -- there is room on the stack for all of the layer's filters
-pub record HasRoom {L S : Type 0} (registry : S → RegistryState) (has_form : L → Form → Type 0) (layer : L) (stack : S) : Type 0 where
+pub record HasRoom {L S : Type 0} (registry : S → RegistryState) (has_form : L → Form → Type 0)
+    (layer : L) (stack : S) : Type 0 where
   pub form : Form
   pub has : has_form layer form
   pub room : (registry stack).filters + filters_in form ≤ LIMIT
@@ -90,48 +101,62 @@ pub record BeginsPlain (limits : Limits) (x : Layered RecorderState RegistryStat
   pub registry : inner_of x ≡ start_of limits Plain
 
 -- a new recorder under the filter of this number, which passes levels up to this one
-pub record BeginsUnder (n : ℕ) (most : LevelFilter) (x : FilteredLayer RecorderState LevelFilter) : Type 0 where
+pub record BeginsUnder (n : ℕ) (most : LevelFilter)
+    (x : FilteredLayer RecorderState LevelFilter) : Type 0 where
   pub number : IsNumber (id_of x) (Some n)
   pub level : filter_of x ≡ most
   pub recorder : layer_of x ≡ new_recorder
 
 -- two new recorders, each under its level, on the first registry
-pub record BeginsPair (limits : Limits) (x : Layered (Layered (FilteredLayer RecorderState LevelFilter) (FilteredLayer RecorderState LevelFilter)) RegistryState) : Type 0 where
+pub record BeginsPair (limits : Limits)
+    (x : Layered (Layered (FilteredLayer RecorderState LevelFilter)
+    (FilteredLayer RecorderState LevelFilter)) RegistryState) : Type 0 where
   pub a : BeginsUnder 1 TRACE (inner_of (outer_of x))
   pub b : BeginsUnder 0 INFO (outer_of (outer_of x))
   pub registry : inner_of x ≡ start_of limits Pair
 
 -- a new recorder on the first registry, and outside it one under a level, and that under the filter of muted events
-pub record BeginsNested (limits : Limits) (x : Layered (FilteredLayer (FilteredLayer RecorderState LevelFilter) Mute) (Layered RecorderState RegistryState)) : Type 0 where
+pub record BeginsNested (limits : Limits)
+    (x : Layered (FilteredLayer (FilteredLayer RecorderState LevelFilter) Mute)
+    (Layered RecorderState RegistryState)) : Type 0 where
   pub base : outer_of (inner_of x) ≡ new_recorder
   pub number : IsNumber (id_of (outer_of x)) (Some 0)
   pub deep : BeginsUnder 1 INFO (layer_of (outer_of x))
   pub registry : inner_of (inner_of x) ≡ start_of limits Nested
 
 -- a new recorder on the first registry, and outside it one under warnings
-pub record BeginsWarned (limits : Limits) (x : Layered (FilteredLayer RecorderState LevelFilter) (Layered RecorderState RegistryState)) : Type 0 where
+pub record BeginsWarned (limits : Limits)
+    (x : Layered (FilteredLayer RecorderState LevelFilter)
+    (Layered RecorderState RegistryState)) : Type 0 where
   pub base : outer_of (inner_of x) ≡ new_recorder
   pub warn : BeginsUnder 0 WARN (outer_of x)
   pub registry : inner_of (inner_of x) ≡ start_of limits Veto
 
 -- outside these a layer that vetoes muted events, and outside that one which vetoes what is more verbose than info
-pub record BeginsVeto (limits : Limits) (x : Layered LevelFilter (Layered MuteVeto (Layered (FilteredLayer RecorderState LevelFilter) (Layered RecorderState RegistryState)))) : Type 0 where
+pub record BeginsVeto (limits : Limits)
+    (x : Layered LevelFilter
+    (Layered MuteVeto (Layered (FilteredLayer RecorderState LevelFilter)
+    (Layered RecorderState RegistryState)))) : Type 0 where
   pub level : outer_of x ≡ INFO
   pub below : BeginsWarned limits (inner_of (inner_of x))
 
 -- an absent layer on the first registry, and outside it a new recorder
-pub record BeginsAbsent (limits : Limits) (x : Layered RecorderState (Layered (Option RecorderState) RegistryState)) : Type 0 where
+pub record BeginsAbsent (limits : Limits)
+    (x : Layered RecorderState (Layered (Option RecorderState) RegistryState)) : Type 0 where
   pub base : outer_of x ≡ new_recorder
   pub absent : outer_of (inner_of x) ≡ None
   pub registry : inner_of (inner_of x) ≡ start_of limits AbsentStack
 
 -- a stack was put in use, with nothing kept yet, and then, if it was ready, it served these requests exactly so
-pub record ServesInUse {S : Type 0} (s : SubscriberOf S) (requests : List Request) (x : S) (given : Vec Answer Global × Dispatch S) : Type 0 where
+pub record ServesInUse {S : Type 0} (s : SubscriberOf S) (requests : List Request) (x : S)
+    (given : Vec Answer Global × Dispatch S) : Type 0 where
   pub begun : Dispatch S
   pub in_use : s.registered x (stack_of begun)
   pub same : s.registry (stack_of begun) ≡ s.registry x
   pub kept : kept_by begun ≡ Some no_callsite
-  pub served : (f : Form) × IsReady s.registry s.with_registry s.has_form s.stepped s.levelled f x → ServedExactly s.registry s.with_registry s.has_form s.stepped s.levelled s.hears s.acts_at requests given.0.items begun given.1
+  pub served : (f : Form) × IsReady s.registry s.with_registry s.has_form s.stepped s.levelled f x
+      → ServedExactly s.registry s.with_registry s.has_form s.stepped s.levelled s.hears s.acts_at
+      requests given.0.items begun given.1
 
 -- each of these workers was called so often at most
 abbrev pub AreCalled : ℕ → List WorkerState → Type 0

@@ -254,7 +254,8 @@ fn nested_shared(
     alloc: Global,
     script: &Script<'_>,
 ) -> Result<(String, Journal), RunFault>
-    ensures printed { IfOk result (λ r. GivesShared StackName.Nested script.now (string_bytes r.0)) }
+    ensures printed { IfOk result
+        (λ r. GivesShared StackName.Nested script.now (string_bytes r.0)) }
     ensures legal { IfOk result (λ r. IsLegal r.1) }
     ensures fault { IfErr result (λ fault. fault ≡ RunFault.Memory) }
 {
@@ -280,7 +281,8 @@ fn absent_shared(
     alloc: Global,
     script: &Script<'_>,
 ) -> Result<(String, Journal), RunFault>
-    ensures printed { IfOk result (λ r. GivesShared StackName.Absent script.now (string_bytes r.0)) }
+    ensures printed { IfOk result
+        (λ r. GivesShared StackName.Absent script.now (string_bytes r.0)) }
     ensures legal { IfOk result (λ r. IsLegal r.1) }
     ensures fault { IfErr result (λ fault. fault ≡ RunFault.Memory) }
 {

@@ -128,7 +128,8 @@ fn write_section(
     section: &Section<'_>,
 ) -> Result<(), AllocError>
     ensures { OnOk result
-        (IsContinued text.old text.new (section_text (name_in names.now) (section_in section.now))) }
+        (IsContinued text.old text.new
+        (section_text (name_in names.now) (section_in section.now))) }
 {
     writeln!(text, "== {}", section.name)?;
     for notice in section.notices {

@@ -61,7 +61,8 @@ fn put<S: Subscriber + Drop, L: Layer<S> + Drop>(stack: S, layer: L) -> Layered<
     requires layer { L.usable layer }
     requires stack { S.usable stack }
     requires room { HasRoom S.registry L.has_form layer stack }
-    ensures { Attaches S.registry S.with_registry S.usable L.usable L.has_form L.attached layer stack result }
+    ensures { Attaches S.registry S.with_registry S.usable L.usable L.has_form L.attached layer
+        stack result }
 {
     match stack.with(layer) {
         Ok(made) => made,
@@ -159,7 +160,9 @@ pub(crate) fn text_of_one(
     answers: &[Answer],
     base: &Recorder,
 ) -> Result<String, RunFault>
-    ensures printed { IfOk result (λ s. IsPrinted (lines_of script.now) answers.now ((codes "base", base.now.notices) ∷ []) (string_bytes s)) }
+    ensures printed { IfOk result
+        (λ s. IsPrinted (lines_of script.now) answers.now ((codes "base", base.now.notices) ∷ [])
+        (string_bytes s)) }
     ensures whole { IfOk result (λ s. base.now.failed ≡ false) }
     ensures fault { IfErr result (λ fault. fault ≡ RunFault.Memory) }
 {
@@ -182,7 +185,10 @@ pub(crate) fn text_of_two(
     inner: &Recorder,
     outer: &Recorder,
 ) -> Result<String, RunFault>
-    ensures printed { IfOk result (λ s. IsPrinted (lines_of script.now) answers.now ((names.entry.0.now, inner.now.notices) ∷ (names.entry.1.now, outer.now.notices) ∷ []) (string_bytes s)) }
+    ensures printed { IfOk result
+        (λ s. IsPrinted (lines_of script.now) answers.now
+        ((names.entry.0.now, inner.now.notices) ∷ (names.entry.1.now, outer.now.notices) ∷ [])
+        (string_bytes s)) }
     ensures inner { IfOk result (λ s. inner.now.failed ≡ false) }
     ensures outer { IfOk result (λ s. outer.now.failed ≡ false) }
     ensures fault { IfErr result (λ fault. fault ≡ RunFault.Memory) }

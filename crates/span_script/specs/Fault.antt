@@ -24,7 +24,8 @@ pub record IsWrongAt (texts : List (List ℕ)) (place column : ℕ) (reason : Re
 
 -- the first line of a text that is wrong, and why; where all are empty, the first, since no stack is named
 abbrev pub IsWrongLine : List ℕ → WrongLine → Type 0
-IsWrongLine text w = ((w.line ≡ 1) × (w.column ≡ 1) × (w.reason ≡ NoStack) × (filter is_full (cut 10 text) ≡ []))
+IsWrongLine text w =
+    ((w.line ≡ 1) × (w.column ≡ 1) × (w.reason ≡ NoStack) × (filter is_full (cut 10 text) ≡ []))
     ⊎ ((place : ℕ) × ((w.line ≡ place + 1) × IsWrongAt (cut 10 text) place w.column w.reason))
 
 -- what ends the reading of a script: its first line that is wrong, or want of memory
@@ -39,8 +40,10 @@ Blames n Why fault.Memory = ⊤
 
 -- the line of these words can't follow these lines, for its labels
 abbrev pub IsLabelFaultAt : List Line → Line → List (List ℕ) → ℕ → Reason → Type 0
-IsLabelFaultAt before l words column reason = ¬ (CanFollow before l) × IsLabelFaultIn before l words column reason
+IsLabelFaultAt before l words column reason =
+    ¬ (CanFollow before l) × IsLabelFaultIn before l words column reason
 
 -- the label that the line declares, as its fourth word, is taken
 abbrev pub IsTakenAt : List Line → Line → List (List ℕ) → ℕ → Reason → Type 0
-IsTakenAt before l words column reason = (reason ≡ DeclaredBefore) × IsTaken before l × (column ≡ column_after (take 3 words))
+IsTakenAt before l words column reason =
+    (reason ≡ DeclaredBefore) × IsTaken before l × (column ≡ column_after (take 3 words))

@@ -52,7 +52,8 @@ continues_any forms words = list_any (λ form. is_some (next_slot form.now words
 
 -- and in one of those each label can stand behind them
 abbrev pub labels_any : List (Bor (List Slot)) → List (List ℕ) → Bool
-labels_any forms words = list_any (λ form. option_map_or takes_labels (next_slot form.now words) false) forms
+labels_any forms words =
+    list_any (λ form. option_map_or takes_labels (next_slot form.now words) false) forms
 
 -- the words can stand at the places of a form, one at each
 abbrev pub FitsForm : List Slot → List (List ℕ) → Type 0
@@ -63,7 +64,8 @@ FitsForm (slot ∷ form) (word ∷ words) = IsTrue (fits slot word) × FitsForm 
 
 -- the same of one of these forms
 abbrev pub FitsForms : List (Bor (List Slot)) → List (List ℕ) → Type 0
-FitsForms forms words = (place : ℕ) × IsSomeAnd (slice_get forms place) (λ form. FitsForm form.now words)
+FitsForms forms words =
+    (place : ℕ) × IsSomeAnd (slice_get forms place) (λ form. FitsForm form.now words)
 
 -- a word that can stand there
 abbrev pub some_word : Slot → List ℕ
@@ -74,7 +76,8 @@ some_word Name = codes "?"
 
 -- that word can, and the label `a` only where each label can
 abbrev pub is_sound_slot : Slot → Bool
-is_sound_slot slot = fits slot (some_word slot) && (not (fits slot (codes "a")) || takes_labels slot)
+is_sound_slot slot =
+    fits slot (some_word slot) && (not (fits slot (codes "a")) || takes_labels slot)
 
 abbrev pub is_sound_form : List Slot → Bool
 is_sound_form form = list_all is_sound_slot form

@@ -25,7 +25,8 @@ abbrev pub IsLater : List (List ℕ) → Type 0
 IsLater words = (l : Line) × (IsLine l × (words ≡ words_of l))
 
 -- the words that have one of these forms are right, and no others
-pub record Describes (forms : List (Bor (List Slot))) (IsRight : List (List ℕ) → Type 0) : Type 0 where
+pub record Describes (forms : List (Bor (List Slot))) (IsRight : List (List ℕ) → Type 0) : Type
+    0 where
   pub sound : are_sound forms ≡ true
   pub some : begins_any forms [] ≡ true
   pub to : (words : List (List ℕ)) → FitsForms forms words → IsRight words
@@ -39,11 +40,14 @@ Begins IsRight words = (all : List (List ℕ)) × (IsRight all × (take (length 
 
 -- and are more than these
 abbrev pub Continues : (List (List ℕ) → Type 0) → List (List ℕ) → Type 0
-Continues IsRight words = (all : List (List ℕ)) × (IsRight all × (take (length words) all ≡ words) × (length words < length all))
+Continues IsRight words =
+    (all : List (List ℕ))
+    × (IsRight all × (take (length words) all ≡ words) × (length words < length all))
 
 -- each label can stand behind these
 abbrev pub TakesLabels : (List (List ℕ) → Type 0) → List (List ℕ) → Type 0
-TakesLabels IsRight words = (label : List ℕ) → IsTrue (is_label label) → Begins IsRight (words ++ label ∷ [])
+TakesLabels IsRight words =
+    (label : List ℕ) → IsTrue (is_label label) → Begins IsRight (words ++ label ∷ [])
 
 -- the column behind words that each have a space behind them
 abbrev pub column_after : List (List ℕ) → ℕ
@@ -56,7 +60,8 @@ is_return c = c == 13
 
 -- the first carriage return of a word stands there
 abbrev pub IsReturnAt : List ℕ → ℕ → Type 0
-IsReturnAt word offset = (slice_get word offset ≡ Some 13) × (list_any is_return (take offset word) ≡ false)
+IsReturnAt word offset =
+    (slice_get word offset ≡ Some 13) × (list_any is_return (take offset word) ≡ false)
 
 -- a word that is not empty, without carriage returns
 abbrev pub IsPlainWord : List ℕ → Type 0
@@ -72,18 +77,25 @@ Expects IsRight before reason = ⊥
 -- what is wrong with a word behind these, and where in it
 abbrev pub IsWordFault : (List (List ℕ) → Type 0) → List (List ℕ) → List ℕ → ℕ → Reason → Type 0
 IsWordFault IsRight before word offset reason = ((reason ≡ CarriageReturn) × IsReturnAt word offset)
-    ⊎ (((reason ≡ EmptyWord) × (offset ≡ 0) × (length word ≡ 0)) ⊎ ((offset ≡ 0) × IsPlainWord word × Expects IsRight before reason))
+    ⊎ (((reason ≡ EmptyWord) × (offset ≡ 0) × (length word ≡ 0))
+    ⊎ ((offset ≡ 0) × IsPlainWord word × Expects IsRight before reason))
 
 -- the word at this place is the first that is wrong: right words begin with those before it, and none with it too
-pub record IsFirstWrong (IsRight : List (List ℕ) → Type 0) (words : List (List ℕ)) (place : ℕ) (word : List ℕ) : Type 0 where
+pub record IsFirstWrong (IsRight : List (List ℕ) → Type 0) (words : List (List ℕ)) (place : ℕ)
+    (word : List ℕ) : Type 0 where
   pub begins : Begins IsRight (take place words)
   pub stands : slice_get words place ≡ Some word
   pub wrong : ¬ (Begins IsRight (take (place + 1) words))
 
 -- words that are not right: they are the first ones of right words; or one of them is the first that is wrong
 abbrev pub IsMisfit : (List (List ℕ) → Type 0) → List (List ℕ) → ℕ → Reason → Type 0
-IsMisfit IsRight words column reason = ((reason ≡ TooFewWords) × Begins IsRight words × ¬ (IsRight words) × (column ≡ column_after words))
-    ⊎ ((place : ℕ) × ((word : List ℕ) × ((offset : ℕ) × (IsFirstWrong IsRight words place word × (column ≡ column_after (take place words) + offset) × IsWordFault IsRight (take place words) word offset reason))))
+IsMisfit IsRight words column reason =
+    ((reason ≡ TooFewWords) × Begins IsRight words × ¬ (IsRight words)
+    × (column ≡ column_after words))
+    ⊎ ((place : ℕ) × ((word : List ℕ)
+    × ((offset : ℕ) × (IsFirstWrong IsRight words place word
+    × (column ≡ column_after (take place words) + offset)
+    × IsWordFault IsRight (take place words) word offset reason))))
 
 -- the same of a first line, in which a wrong word is no `stack` or no stack's name
 abbrev pub IsFirstMisfit : List (List ℕ) → ℕ → Reason → Type 0
@@ -120,27 +132,34 @@ names_of (Level number level) = []
 -- the name at this place is the first that no earlier line declares
 abbrev pub IsUndeclared : List Line → List (ℕ × Name) → ℕ → Type 0
 IsUndeclared before [] place = ⊥
-IsUndeclared before (name ∷ names) place = ((name.0 ≡ place) × HoldsOfNone (Means before name.1)) ⊎ (((which : Which) × Means before name.1 which) × IsUndeclared before names place)
+IsUndeclared before (name ∷ names) place =
+    ((name.0 ≡ place) × HoldsOfNone (Means before name.1))
+    ⊎ (((which : Which) × Means before name.1 which) × IsUndeclared before names place)
 
 -- an earlier line declares the label that this one declares
 abbrev pub IsTaken : List Line → Line → Type 0
-IsTaken before l = IsSomeAnd (declared_label l) (λ label. (place : ℕ) × DeclaresAt before place label)
+IsTaken before l =
+    IsSomeAnd (declared_label l) (λ label. (place : ℕ) × DeclaresAt before place label)
 
 -- why a line can't follow these, and at which of its words: it has a name that is not declared; or it has none, and declares, as its fourth word, a label that is taken
 abbrev pub IsLabelFault : List Line → Line → ℕ → Reason → Type 0
 IsLabelFault before l place Undeclared = IsUndeclared before (names_of l) place
-IsLabelFault before l place DeclaredBefore = (place ≡ 3) × ((r : Request) × Asks before l r) × IsTaken before l
+IsLabelFault before l place DeclaredBefore =
+    (place ≡ 3) × ((r : Request) × Asks before l r) × IsTaken before l
 IsLabelFault before l place reason = ⊥
 
 -- the same of a line of these words, at the column that one of them begins at
 abbrev pub IsLabelFaultIn : List Line → Line → List (List ℕ) → ℕ → Reason → Type 0
-IsLabelFaultIn before l words column reason = (place : ℕ) × (IsLabelFault before l place reason × (column ≡ column_after (take place words)))
+IsLabelFaultIn before l words column reason =
+    (place : ℕ) × (IsLabelFault before l place reason × (column ≡ column_after (take place words)))
 
 -- the words are a line, and that is why it can't follow these
 abbrev pub IsLabelFaultOf : List Line → List (List ℕ) → ℕ → Reason → Type 0
-IsLabelFaultOf before words column reason = (l : Line) × (IsLine l × (words ≡ words_of l) × IsLabelFaultIn before l words column reason)
+IsLabelFaultOf before words column reason =
+    (l : Line) × (IsLine l × (words ≡ words_of l) × IsLabelFaultIn before l words column reason)
 
 -- why a text can't follow what was read, and at which column: its words are no line, or its labels are wrong
 abbrev pub IsReason : Option (StackName × List Line) → List ℕ → ℕ → Reason → Type 0
 IsReason None text column reason = IsFirstMisfit (cut 32 text) column reason
-IsReason (Some read) text column reason = IsMisfit IsLater (cut 32 text) column reason ⊎ IsLabelFaultOf read.1 (cut 32 text) column reason
+IsReason (Some read) text column reason =
+    IsMisfit IsLater (cut 32 text) column reason ⊎ IsLabelFaultOf read.1 (cut 32 text) column reason

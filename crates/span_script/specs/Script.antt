@@ -49,7 +49,8 @@ SpellsNone {X = X} IsRight spelling spelled = (x : X) → IsRight x → spelled 
 
 -- a word that no label is
 abbrev pub is_keyword : List ℕ → Bool
-is_keyword word = bytes_eq word (codes "root") || bytes_eq word (codes "in") || bytes_eq word (codes "mute")
+is_keyword word =
+    bytes_eq word (codes "root") || bytes_eq word (codes "in") || bytes_eq word (codes "mute")
 
 -- a letter from a to z, or a digit
 abbrev pub is_letter_or_digit : ℕ → Bool
@@ -57,7 +58,9 @@ is_letter_or_digit c = is_ascii_lowercase c || is_ascii_digit c
 
 -- up to 16 letters and digits, of which the first is a letter, that are no keyword
 abbrev pub is_label : List ℕ → Bool
-is_label word = not (is_keyword word) && nat_le (length word) 16 && is_ascii_lowercase (slice_index word 0) && list_all is_letter_or_digit word
+is_label word =
+    not (is_keyword word) && nat_le (length word) 16 && is_ascii_lowercase (slice_index word 0)
+    && list_all is_letter_or_digit word
 
 -- the levels of the ten callsites, by their numbers
 abbrev pub site_levels : List Level
@@ -77,7 +80,8 @@ IsSpanSite site = (callsite_of site < 5) × IsSite SPAN [] site
 
 -- the others are of events, with the field `mute`
 abbrev pub IsEventSite : Metadata → Type 0
-IsEventSite site = (5 ≤ callsite_of site) × (callsite_of site < 10) × IsSite EVENT (codes "mute" ∷ []) site
+IsEventSite site =
+    (5 ≤ callsite_of site) × (callsite_of site < 10) × IsSite EVENT (codes "mute" ∷ []) site
 
 -- one of the ten callsites
 abbrev pub IsAnySite : Metadata → Type 0
@@ -125,12 +129,15 @@ level_word level = option_map_or (λ most. verbosity_word most.0) level.0 (codes
 
 -- the words of a line
 abbrev pub words_of : Line → List (List ℕ)
-words_of (New lane site label parent) = codes "new" ∷ digit lane.0 ∷ digit (callsite_of site) ∷ label.now ∷ parent_words parent
-words_of (Event lane site parent mute) = codes "event" ∷ digit lane.0 ∷ digit (callsite_of site) ∷ tail_words (parent, mute)
+words_of (New lane site label parent) =
+    codes "new" ∷ digit lane.0 ∷ digit (callsite_of site) ∷ label.now ∷ parent_words parent
+words_of (Event lane site parent mute) =
+    codes "event" ∷ digit lane.0 ∷ digit (callsite_of site) ∷ tail_words (parent, mute)
 words_of (Enter lane name) = codes "enter" ∷ lane_words (lane, name)
 words_of (Exit lane name) = codes "exit" ∷ lane_words (lane, name)
 words_of (Record lane name) = codes "record" ∷ lane_words (lane, name)
-words_of (Follows lane name other) = codes "follows" ∷ digit lane.0 ∷ word_of name ∷ word_of other ∷ []
+words_of (Follows lane name other) =
+    codes "follows" ∷ digit lane.0 ∷ word_of name ∷ word_of other ∷ []
 words_of (Clone name) = codes "clone" ∷ word_of name ∷ []
 words_of (Drop lane name) = codes "drop" ∷ lane_words (lane, name)
 words_of (Enabled lane site) = codes "enabled" ∷ digit lane.0 ∷ digit (callsite_of site) ∷ []
@@ -153,7 +160,8 @@ IsLaneAndName both = (both.0.0 < 10) × IsName both.1
 
 -- the words are no lane and name
 abbrev pub IsNoLaneAndName : List (List ℕ) → Type 0
-IsNoLaneAndName words = (n : ℕ) (name : Name) → n < 10 → IsName name → words ≢ digit n ∷ word_of name ∷ []
+IsNoLaneAndName words =
+    (n : ℕ) (name : Name) → n < 10 → IsName name → words ≢ digit n ∷ word_of name ∷ []
 
 -- a parent has a name where it is named by one
 abbrev pub IsParentName : ParentName → Type 0
@@ -166,11 +174,14 @@ IsTail tail = IsParentName tail.0
 
 -- the words are no parent and value
 abbrev pub IsNoTail : List (List ℕ) → Type 0
-IsNoTail words = (parent : ParentName) (mute : MuteField) → IsParentName parent → words ≢ parent_words parent ++ mute_words mute
+IsNoTail words =
+    (parent : ParentName) (mute : MuteField) → IsParentName parent
+    → words ≢ parent_words parent ++ mute_words mute
 
 -- the lane or the filter's number is a digit, the site one of spans, of events, or any, and the names are names
 abbrev pub IsLine : Line → Type 0
-IsLine (New lane site label parent) = (lane.0 < 10) × IsSpanSite site × IsTrue (is_label label.now) × IsParentName parent
+IsLine (New lane site label parent) =
+    (lane.0 < 10) × IsSpanSite site × IsTrue (is_label label.now) × IsParentName parent
 IsLine (Event lane site parent mute) = (lane.0 < 10) × IsEventSite site × IsParentName parent
 IsLine (Enter lane name) = IsLaneAndName (lane, name)
 IsLine (Exit lane name) = IsLaneAndName (lane, name)
@@ -208,7 +219,8 @@ place_of script label = tree.get_by (λ k. slice_cmp nat_cmp label k.now) script
 
 -- the line at this place declares this label
 abbrev pub DeclaresAt : List Line → ℕ → List ℕ → Type 0
-DeclaresAt lines place label = IsSomeAnd (slice_get lines place) (λ l. declared_label l ≡ Some label)
+DeclaresAt lines place label =
+    IsSomeAnd (slice_get lines place) (λ l. declared_label l ≡ Some label)
 
 -- after these lines, the name is that of this span: `?` of the id 0, a label of the span that its line's request makes
 abbrev pub Means : List Line → Name → Which → Type 0
@@ -234,17 +246,23 @@ mute_values Given = (codes "mute", value.Bool true) ∷ []
 
 -- after these lines, a line asks for this request; a clone is asked for on lane 0
 abbrev pub Asks : List Line → Line → Request → Type 0
-Asks before (New lane site label name) (request.NewSpan lane' site' parent values) = (lane' ≡ lane) × (site' ≡ site) × MeansParent before name parent × (values_in values ≡ [])
-Asks before (Event lane site name mute) (request.Event lane' site' parent values) = (lane' ≡ lane) × (site' ≡ site) × MeansParent before name parent × (values_in values ≡ mute_values mute)
+Asks before (New lane site label name) (request.NewSpan lane' site' parent values) =
+    (lane' ≡ lane) × (site' ≡ site) × MeansParent before name parent × (values_in values ≡ [])
+Asks before (Event lane site name mute) (request.Event lane' site' parent values) =
+    (lane' ≡ lane) × (site' ≡ site) × MeansParent before name parent
+    × (values_in values ≡ mute_values mute)
 Asks before (Enter lane name) (request.Enter lane' which) = (lane' ≡ lane) × Means before name which
 Asks before (Exit lane name) (request.Exit lane' which) = (lane' ≡ lane) × Means before name which
-Asks before (Record lane name) (request.Record lane' which values) = (lane' ≡ lane) × Means before name which × (values_in values ≡ [])
-Asks before (Follows lane name other) (request.Follows lane' which which') = (lane' ≡ lane) × Means before name which × Means before other which'
+Asks before (Record lane name) (request.Record lane' which values) =
+    (lane' ≡ lane) × Means before name which × (values_in values ≡ [])
+Asks before (Follows lane name other) (request.Follows lane' which which') =
+    (lane' ≡ lane) × Means before name which × Means before other which'
 Asks before (Clone name) (request.Clone lane' which) = (lane'.0 ≡ 0) × Means before name which
 Asks before (Drop lane name) (request.Drop lane' which) = (lane' ≡ lane) × Means before name which
 Asks before (Enabled lane site) (request.Enabled lane' site') = (lane' ≡ lane) × (site' ≡ site)
 Asks before (Current lane) (request.Current lane') = lane' ≡ lane
-Asks before (LevelLine number level) (request.SetLevel number' level') = (number' ≡ number) × (level' ≡ level)
+Asks before (LevelLine number level) (request.SetLevel number' level') =
+    (number' ≡ number) × (level' ≡ level)
 Asks before l r = ⊥
 
 -- a fact holds of nothing
@@ -253,24 +271,33 @@ HoldsOfNone {X = X} P = (x : X) → ¬ (P x)
 
 -- no line declares the label that this one declares
 abbrev pub IsNewIn : List Line → Line → Type 0
-IsNewIn lines l = IfSome (declared_label l) (λ label. (place : ℕ) → IfSome (slice_get lines place) (λ other. declared_label other ≢ Some label))
+IsNewIn lines l =
+    IfSome (declared_label l)
+    (λ label. (place : ℕ)
+    → IfSome (slice_get lines place) (λ other. declared_label other ≢ Some label))
 
 -- the lines ask for the requests, one for one: each is a line, names what lines before it declare, and declares what none does
 pub data AskFor : List Line → List Request → Type 0 where
   nothing : AskFor [] []
-  more : {lines : List Line} {requests : List Request} (l : Line) (r : Request) → IsLine l → AskFor lines requests
+  more : {lines : List Line} {requests : List Request} (l : Line) (r : Request) → IsLine l
+      → AskFor lines requests
       → Asks lines l r → IsNewIn lines l → AskFor (lines ++ l ∷ []) (requests ++ r ∷ [])
 
 -- the requests are those of the lines, and the places are those of the labels
 pub record IsScript (script : Script) : Type 0 where
   pub asked : AskFor (lines_of script) (requests_of script)
-  pub found : (label : List ℕ) → IfSome (place_of script label) (λ place. DeclaresAt (lines_of script) place label)
-  pub kept : (place : ℕ) → IfSome (slice_get (lines_of script) place) (λ l. IfSome (declared_label l) (λ label. IsSome (place_of script label)))
+  pub found : (label : List ℕ)
+      → IfSome (place_of script label) (λ place. DeclaresAt (lines_of script) place label)
+  pub kept : (place : ℕ)
+      → IfSome (slice_get (lines_of script) place)
+      (λ l. IfSome (declared_label l) (λ label. IsSome (place_of script label)))
 
 -- the label of a line is new, and its place is kept beside those of the others
 abbrev pub Declares : Script → Line → Script → Type 0
-Declares old l new = MatchOption (declared_label l) (new.labels ≡ old.labels) (λ label. (place_of old label ≡ None)
-    × ((other : List ℕ) → place_of new other ≡ update bytes_eq (place_of old) label (Some (length (lines_of old))) other))
+Declares old l new =
+    MatchOption (declared_label l) (new.labels ≡ old.labels) (λ label. (place_of old label ≡ None)
+    × ((other : List ℕ) → place_of new other
+    ≡ update bytes_eq (place_of old) label (Some (length (lines_of old))) other))
 
 -- the line can follow these: they declare what it names, and not what it declares
 abbrev pub CanFollow : List Line → Line → Type 0
@@ -320,7 +347,10 @@ IsSpelled text stack lines = words_of_texts (cut 10 text) ≡ words_in (Some (st
 -- the text is not empty, and can't follow what was read: its words are no first line; or they are no line, or one that can't
 abbrev pub IsWrongAfter : Option (StackName × List Line) → List ℕ → Type 0
 IsWrongAfter None text = IsTrue (is_full text) × NamesNoStack (cut 32 text)
-IsWrongAfter (Some read) text = IsTrue (is_full text) × (IsNoLine (cut 32 text) ⊎ ((l : Line) × (IsLine l × (cut 32 text ≡ words_of l) × ¬ (CanFollow read.1 l))))
+IsWrongAfter (Some read) text =
+    IsTrue (is_full text)
+    × (IsNoLine (cut 32 text)
+    ⊎ ((l : Line) × (IsLine l × (cut 32 text ≡ words_of l) × ¬ (CanFollow read.1 l))))
 
 -- what was read of a script, if its first line was
 abbrev pub read_in : Option Script → Option (StackName × List Line)
@@ -329,4 +359,5 @@ read_in (Some script) = Some (stack_of script, lines_of script)
 
 -- a script reads a text more: its words are added, if there are any
 abbrev pub ReadsText : Option Script → List ℕ → Option Script → Type 0
-ReadsText before text after = words_in (read_in after) ≡ words_in (read_in before) ++ words_of_texts (text ∷ [])
+ReadsText before text after =
+    words_in (read_in after) ≡ words_in (read_in before) ++ words_of_texts (text ∷ [])

@@ -105,7 +105,8 @@ pub fn column_after(words: &[&str]) -> usize
 fn word_fault(forms: &[&[Slot]], before: &[&str], word: &str) -> (usize, Reason)
     requires sound { are_sound forms.now ≡ true }
     ensures within { result.0 ≤ length word.now }
-    ensures fault { IsWordFault (FitsForms forms.now) (texts_in before.now) word.now result.0 result.1 }
+    ensures fault { IsWordFault (FitsForms forms.now) (texts_in before.now) word.now result.0
+        result.1 }
 {
     if word.is_empty() {
         return (0, Reason::EmptyWord);

@@ -170,7 +170,8 @@ impl<'a> Script<'a> {
         requires script { IsScript self.now }
         requires place { place < 10 }
         ensures parent { IfOk result (MeansParent (lines_of self.now) parent.entry) }
-        ensures none { IfErr result (λ _. HoldsOfNone (MeansParent (lines_of self.now) parent.entry)) }
+        ensures none { IfErr result
+            (λ _. HoldsOfNone (MeansParent (lines_of self.now) parent.entry)) }
         ensures place { IfErr result
             (IsUndeclared (lines_of self.now) (names_of_parent place parent.entry)) }
     {

@@ -64,7 +64,8 @@ where
     L: Crew + Send + Sync,
     R: Threads + Wait + Sync,
     requires name { blank.name ≡ L.name }
-    requires parts { (blank.parts ≡ L.parts) × (L.parts ≡ order.threads) × (L.workers ≡ order.threads) }
+    requires parts { (blank.parts ≡ L.parts) × (L.parts ≡ order.threads)
+        × (L.workers ≡ order.threads) }
     requires some { 0 < order.threads }
     requires usable { S.usable (stack_of dispatch) }
     requires fresh { IsFresh (S.registry (stack_of dispatch)) }
