@@ -140,7 +140,7 @@ goes_under level f (Noticed lane e) s t x y none u has n =
     stays_under level (outer_of x) (outer_of y) (ap (λ (z : Recorded). id_of (outer_of z)) goes.rest ∙ outer.0)
     (ap (λ (z : Recorded). filter_of (outer_of z)) goes.rest ∙ filter_stays _ e (outer_of x) (outer_of goes.notified) lane.0 _ _ _ outer.1) u
 goes_under level f (LevelSet n l) s t x y none u has q = absurd none
-goes_under level f (Quiet c) s t x y none u has rest = stays_under level (outer_of x) (outer_of y) (ap (λ (z : Recorded). id_of (outer_of z)) rest) (ap (λ (z : Recorded). filter_of (outer_of z)) rest) u
+goes_under level f (Quiet c) s t x y none u has quiet = stays_under level (outer_of x) (outer_of y) (ap (λ (z : Recorded). id_of (outer_of z)) quiet.rest) (ap (λ (z : Recorded). filter_of (outer_of z)) quiet.rest) u
 
 -- ---- what the recorder keeps
 

@@ -1,5 +1,5 @@
 -- A recorder under a level that is set: the level is always taken, whatever was served before.
-use Rattle.std.proofs.Common.{◌≡◌, ◌∙◌, true, Some, ap, subst, sym}
+use Rattle.std.proofs.Common.{◌≡◌, ◌∙◌, false, true, Some, ap, subst, sym}
 use Rattle.std.proofs.lemmas.Bool.{true≢false}
 use Rattle.std.specs.Prelude.{if◌then◌else◌, ◌||◌}
 use Rattle.span_core.specs.Filters.{FilterSet, has_filter}
@@ -60,10 +60,10 @@ takes level l x (Filtered n a g) keeps has = absurd has
 takes level l x (Bare v) keeps has = absurd has
 
 -- so it is never refused
-pub never_refused : (d : Dispatch Recorded) (l : LevelFilter) → IsReadyFirst d → ((f : Form) → HasForm (stack_of d) f → takes_level f 0 l ≡ false) → ⊥
+pub never_refused : (d : Dispatch Recorded) (l : LevelFilter) → IsReadyFirst d → ((f : Form) → HasForm (stack_of d) f → false ≡ takes_level f 0 l) → ⊥
 never_refused d l h none =
     let taken = takes h.level l (stack_of d) h.form h.rules h.ready.stack.honest.has in
-    true≢false (sym taken.0 ∙ none h.form h.ready.stack.honest.has)
+    true≢false (sym (none h.form h.ready.stack.honest.has ∙ taken.0))
 
 -- and its level is set
 pub is_set : (d e : Dispatch Recorded) (l : LevelFilter) → IsReadyFirst d → recorded_levels (stack_of d) 0 l (stack_of e) → IsSetTo l d e

@@ -12,7 +12,7 @@ returns-in_err-set_level-clause-memory c =
     let a = c.in-Ok.ensures.attached in
     let ready = starts_first c.numbers_are_own.ensures WARN _ _ _ _ _ c.new-2.ensures c.new.ensures c.with_filter-layer.ensures a.numbers a.room a.layer_as_it_was in
     let first = ready_still KeepsRules (λ f g h. h) _ _ (ready_first _ _ _ ready c.new-dispatch.ensures.ready.safe) c.in_ok-serve.ensures.ready.safe in
-    absurd (never_refused _ _ first c.in_err-set_level.ensures.none)
+    absurd (never_refused c.serve.new.self DEBUG first c.in_err-set_level.ensures.none)
 
 pub returns-clause-reloads : goal.returns-clause-reloads
 returns-clause-reloads c =
@@ -27,8 +27,8 @@ returns-clause-reloads c =
     let rest = c.in_ok-serve-2.ensures.served (after.form, after.ready) in
     record {
       start = c.new-dispatch.result;
-      before = _;
-      after = _;
+      before = c.serve.new.self;
+      after = c.set_level.new.self;
       recorder = record { own = used.under.own; inner = used.empty };
       first = (c.in_ok-serve.field-0.items, first);
       set = is_set _ _ DEBUG before c.in_ok-set_level.ensures.level;
