@@ -14,12 +14,12 @@ use Rattle.span_filters.specs.Boxed.{itself, replaced}
 use Rattle.span_layers.specs.Acts.{PathLaws}
 use Rattle.span_layers.specs.Layer.{LayerLaws, LayerSteps, Notified}
 use Rattle.span_layers.specs.Number.{TakesNumbers, numbered}
-use Rattle.span_registry.specs.Answers.{Notice}
+use Rattle.span_registry.specs.Behaviour.{Notice}
 use Rattle.span_registry.specs.Conducts.{ActsAt, Conducts}
 use Rattle.span_registry.specs.Context.{Exchanges, LendsOver, LooksAtRoot, filters_in, lane_in, lane_lent, mask_lent, refused_lent, store_at, store_in, subscriber_lent}
 use Rattle.span_registry.specs.Form.{Form}
 use Rattle.span_registry.specs.Levels.{LevelLaws, LevelSteps}
-use Rattle.span_registry.specs.Place.{HearSteps, Here, Place}
+use Rattle.span_registry.specs.Position.{HearSteps, Here, Position}
 use Rattle.span_registry.specs.Plan.{Plan, by_pass}
 use Rattle.span_registry.specs.Question.{AnswersBy, AnswersSo, refusals}
 use Rattle.span_registry.specs.Store.{RegistryState, Store, empty_store}
@@ -44,8 +44,8 @@ boxed_same {I} {V} boxed x y same z e = ap (boxed x.0) e ∙ ap (λ (p : (i : I)
 
 -- the paths of a layer that keep their law act plainly
 pub acts_plainly : {L : Type 0} {form : L → Form → Type 0} {steps : LayerSteps L} {registered : L → L → Type 0} {acts_at : ActsAt L} → PathLaws form steps registered acts_at
-    → (x : L) (place : Place) (cs : Conducts) → acts_at x place cs → ActsPlainlyAt form acts_at x place cs
-acts_plainly paths x place cs a = record { acted = a; plain = paths.plain x place cs a; now = λ f h. paths.now x place cs f a h }
+    → (x : L) (position : Position) (cs : Conducts) → acts_at x position cs → ActsPlainlyAt form acts_at x position cs
+acts_plainly paths x position cs a = record { acted = a; plain = paths.plain x position cs a; now = λ f h. paths.now x position cs f a h }
 
 module _ {L : Type 0} {form : L → Form → Type 0} {steps : LayerSteps L} {hears : HearSteps L} {registered : L → L → Type 0} {acts_at : ActsAt L} (laws : LayerLaws form steps hears registered) (paths : PathLaws form steps registered acts_at) where
   -- a layer that keeps the laws goes on lawfully as an object
@@ -53,15 +53,15 @@ module _ {L : Type 0} {form : L → Form → Type 0} {steps : LayerSteps L} {hea
   steps_lawfully x p e lane under v y w s = record {
     taken = s;
     follows = λ f h. laws.keeps x p e lane under v y w f s h;
-    heard = λ place f h. laws.notified x p e lane under v y w place f s h;
-    acts_on = λ place cs a. let n = paths.goes_on x p e lane under v y w place cs s a in (n.0, acts_plainly paths y place n.0 n.1, n.2);
+    heard = λ position f h. laws.notified x p e lane under v y w position f s h;
+    acts_on = λ position cs a. let n = paths.goes_on x p e lane under v y w position cs s a in (n.0, acts_plainly paths y position n.0 n.1, n.2);
     alone = λ f h l. laws.leaf.alone x f p e lane under v y w h l s;
     kind = λ f g h l k. laws.leaf.kind x f p e lane under v y w g h l s k;
   }
 
   -- and is put in use so
   pub registers_lawfully : (x y : L) → registered x y → RegistersLawfully form registered acts_at x y
-  registers_lawfully x y s = record { taken = s; follows = λ f h. laws.put_in_use x y f s h; acts_still = λ place cs a. acts_plainly paths y place cs (paths.put_in_use x y place cs s a) }
+  registers_lawfully x y s = record { taken = s; follows = λ f h. laws.put_in_use x y f s h; acts_still = λ position cs a. acts_plainly paths y position cs (paths.put_in_use x y position cs s a) }
 
 -- and takes levels so
 pub levels_lawfully : {L : Type 0} {form : L → Form → Type 0} {steps : LayerSteps L} {registered : L → L → Type 0} {levelled : LevelSteps L} {hears : HearSteps L} {acts_at : ActsAt L} → LayerLaws form steps hears registered → PathLaws form steps registered acts_at → LevelLaws form levelled hears acts_at
@@ -69,8 +69,8 @@ pub levels_lawfully : {L : Type 0} {form : L → Form → Type 0} {steps : Layer
 levels_lawfully laws paths levels x n l y s = record {
   taken = s;
   follows = λ f h. levels.keeps x n l y f s h;
-  heard = λ place. levels.heard x n l y place s;
-  acts_on = λ place cs a. acts_plainly paths y place _ (levels.acts x n l y place cs s a);
+  heard = λ position. levels.heard x n l y position s;
+  acts_on = λ position cs a. acts_plainly paths y position _ (levels.acts x n l y position cs s a);
   leaf = λ f h k. sym (laws.leaf.goes x f [] y h k (levels.heard x n l y Here s));
 }
 

@@ -11,12 +11,12 @@ use Rattle.span_core.specs.Filters.{FilterSet}
 use Rattle.span_filters.proofs.CallerLemmas.{IsBoxOf, in_a_box}
 use Rattle.span_layers.specs.Acts.{PathLaws}
 use Rattle.span_layers.specs.Layer.{LayerSteps}
-use Rattle.span_registry.specs.Answers.{Notice}
+use Rattle.span_registry.specs.Behaviour.{Notice}
 use Rattle.span_registry.specs.Conducts.{ActsAt, Conducts}
 use Rattle.span_registry.specs.Form.{Form}
 use Rattle.span_registry.specs.Levels.{LevelSteps}
 use Rattle.span_registry.specs.Path.{mask_at}
-use Rattle.span_registry.specs.Place.{Heard, HearLaws, HearSteps, Place, heard_by, told_in}
+use Rattle.span_registry.specs.Position.{Heard, HearLaws, HearSteps, Position, heard_by, told_in}
 use Rattle.span_registry.specs.Plan.{Plan}
 use Rattle.span_registry.specs.Store.{RegistryState}
 
@@ -36,9 +36,9 @@ module _ {G : Type 0 → Type 1} {C : Type 0} (T : Table G C) (at : T.I) where
 
   -- and its paths act as the layer's do
   pub acts_in_a_box : (form : (j : Entry G C) → j.0.Denot → Form → Type 0) (acts_at : (j : Entry G C) → ActsAt j.0.Denot) {steps : LayerSteps (T.entry at).0.Denot} {registered : (T.entry at).0.Denot → (T.entry at).0.Denot → Type 0}
-      → PathLaws (form (T.entry at)) steps registered (acts_at (T.entry at)) → (b : Boxed) (x : (T.entry at).0.Denot) (place : Place) (cs : Conducts) → Holds b x → acts_at (T.entry at) x place cs
-      → ActsPlainlyAt (form (T.entry b.object.vtable)) (acts_at (T.entry b.object.vtable)) b.object.value place cs
-  acts_in_a_box form acts_at paths b x place cs made h = in_a_box T at (λ j z. ActsPlainlyAt (form j) (acts_at j) z place cs) made (acts_plainly paths x place cs h)
+      → PathLaws (form (T.entry at)) steps registered (acts_at (T.entry at)) → (b : Boxed) (x : (T.entry at).0.Denot) (position : Position) (cs : Conducts) → Holds b x → acts_at (T.entry at) x position cs
+      → ActsPlainlyAt (form (T.entry b.object.vtable)) (acts_at (T.entry b.object.vtable)) b.object.value position cs
+  acts_in_a_box form acts_at paths b x position cs made h = in_a_box T at (λ j z. ActsPlainlyAt (form j) (acts_at j) z position cs) made (acts_plainly paths x position cs h)
 
   module _ (change : (j : Entry G C) → j.0.Denot → j.0.Denot → Type 0) (x : (T.entry at).0.Denot) where
     -- the layer changed so, and the box is one of what it became
@@ -61,21 +61,21 @@ module _ {G : Type 0 → Type 1} {C : Type 0} (T : Table G C) (at : T.I) where
   steps_in_a_box steps x b p e lane under v c w made s = changes_in_a_box (λ j y z. steps j y p e lane under v z w) x b c made s
 
   module _ (form : (j : Entry G C) → j.0.Denot → Form → Type 0) (steps : (j : Entry G C) → LayerSteps j.0.Denot) (levelled : (j : Entry G C) → LevelSteps j.0.Denot) (hears : (j : Entry G C) → HearSteps j.0.Denot) (acts_at : (j : Entry G C) → ActsAt j.0.Denot)
-      (laws : HearLaws (hears (T.entry at))) (x : (T.entry at).0.Denot) (b : Boxed) (made : Holds b x) (place : Place) where
+      (laws : HearLaws (hears (T.entry at))) (x : (T.entry at).0.Denot) (b : Boxed) (made : Holds b x) (position : Position) where
     -- what a box hears, lawfully
     abbrev pub BoxHearsLawfully : HearSteps Boxed
     BoxHearsLawfully = HearsLawfully (λ k. form (T.entry k.object.vtable) k.object.value) (StepsInside (λ k. steps (T.entry k.object.vtable))) (LevelsInside (λ k. levelled (T.entry k.object.vtable))) (HearsInside (λ k. hears (T.entry k.object.vtable)))
         (λ k. acts_at (T.entry k.object.vtable) k.object.value)
 
     -- and hears as the layer does
-    pub hears_in_a_box : {h : Heard} {c : Boxed} → BoxHearsLawfully b place h c → ChangesTo (λ j y z. hears j y place h z) x c.object.vtable c.object.value
-    hears_in_a_box Nothing = (x, made, laws.nothing x place)
+    pub hears_in_a_box : {h : Heard} {c : Boxed} → BoxHearsLawfully b position h c → ChangesTo (λ j y z. hears j y position h z) x c.object.vtable c.object.value
+    hears_in_a_box Nothing = (x, made, laws.nothing x position)
     hears_in_a_box (Further {h} {y} {z} before p e lane under v w f s has) =
         let u = hears_in_a_box before in
-        let k = heard_by p place (told_in e v.store lane (mask_at f place under)) in
-        let t = changes_in_a_box (λ j a o. hears j a place k o) u.0 y z u.1 (s.heard place f has) in
-        (t.0, t.1, laws.further x u.0 t.0 place h k u.2 t.2)
+        let k = heard_by p position (told_in e v.store lane (mask_at f position under)) in
+        let t = changes_in_a_box (λ j a o. hears j a position k o) u.0 y z u.1 (s.heard position f has) in
+        (t.0, t.1, laws.further x u.0 t.0 position h k u.2 t.2)
     hears_in_a_box (Levelled {h} {y} {z} before n l s) =
         let u = hears_in_a_box before in
-        let t = changes_in_a_box (λ j a o. hears j a place [] o) u.0 y z u.1 (s.heard place) in
-        (t.0, t.1, subst (λ k. hears (T.entry at) x place k t.0) (append-nil h) (laws.further x u.0 t.0 place h [] u.2 t.2))
+        let t = changes_in_a_box (λ j a o. hears j a position [] o) u.0 y z u.1 (s.heard position) in
+        (t.0, t.1, subst (λ k. hears (T.entry at) x position k t.0) (append-nil h) (laws.further x u.0 t.0 position h [] u.2 t.2))

@@ -34,15 +34,28 @@ impl<S: Subscriber> Layer<S> for BoxedLayer {
 
     ghost has_form = { λ x. (DynLayer-box x.object).dyn_form x.object.value };
 
-    ghost stepped = { StepsLawfully (λ x. (DynLayer-box x.object).dyn_form x.object.value) (StepsInside (λ x. (DynLayer-box x.object).dyn_stepped)) (HearsInside (λ x. (DynLayer-box x.object).dyn_hears)) (λ x. (DynLayer-box x.object).dyn_acts_at x.object.value) };
+    ghost stepped = { StepsLawfully (λ x. (DynLayer-box x.object).dyn_form x.object.value)
+        (StepsInside (λ x. (DynLayer-box x.object).dyn_stepped))
+        (HearsInside (λ x. (DynLayer-box x.object).dyn_hears))
+        (λ x. (DynLayer-box x.object).dyn_acts_at x.object.value) };
 
-    ghost hears = { HearsLawfully (λ x. (DynLayer-box x.object).dyn_form x.object.value) (StepsInside (λ x. (DynLayer-box x.object).dyn_stepped)) (LevelsInside (λ x. (DynLayer-box x.object).dyn_levelled)) (HearsInside (λ x. (DynLayer-box x.object).dyn_hears)) (λ x. (DynLayer-box x.object).dyn_acts_at x.object.value) };
+    ghost hears = { HearsLawfully (λ x. (DynLayer-box x.object).dyn_form x.object.value)
+        (StepsInside (λ x. (DynLayer-box x.object).dyn_stepped))
+        (LevelsInside (λ x. (DynLayer-box x.object).dyn_levelled))
+        (HearsInside (λ x. (DynLayer-box x.object).dyn_hears))
+        (λ x. (DynLayer-box x.object).dyn_acts_at x.object.value) };
 
-    ghost acts_at = { ActsPlainlyAt (λ x. (DynLayer-box x.object).dyn_form x.object.value) (λ x. (DynLayer-box x.object).dyn_acts_at x.object.value) };
+    ghost acts_at = { ActsPlainlyAt (λ x. (DynLayer-box x.object).dyn_form x.object.value)
+        (λ x. (DynLayer-box x.object).dyn_acts_at x.object.value) };
 
-    ghost levelled = { LevelsLawfully (λ x. (DynLayer-box x.object).dyn_form x.object.value) (LevelsInside (λ x. (DynLayer-box x.object).dyn_levelled)) (HearsInside (λ x. (DynLayer-box x.object).dyn_hears)) (λ x. (DynLayer-box x.object).dyn_acts_at x.object.value) };
+    ghost levelled = { LevelsLawfully (λ x. (DynLayer-box x.object).dyn_form x.object.value)
+        (LevelsInside (λ x. (DynLayer-box x.object).dyn_levelled))
+        (HearsInside (λ x. (DynLayer-box x.object).dyn_hears))
+        (λ x. (DynLayer-box x.object).dyn_acts_at x.object.value) };
 
-    ghost registered = { RegistersLawfully (λ x. (DynLayer-box x.object).dyn_form x.object.value) (ChangesInside (λ x. (DynLayer-box x.object).dyn_registered)) (λ x. (DynLayer-box x.object).dyn_acts_at x.object.value) };
+    ghost registered = { RegistersLawfully (λ x. (DynLayer-box x.object).dyn_form x.object.value)
+        (ChangesInside (λ x. (DynLayer-box x.object).dyn_registered))
+        (λ x. (DynLayer-box x.object).dyn_acts_at x.object.value) };
 
     ghost attached = { ChangesInside (λ x. (DynLayer-box x.object).dyn_attached) };
 

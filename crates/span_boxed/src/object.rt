@@ -4,12 +4,12 @@ ghost use Rattle.span_boxed.specs.Boxed.{LevelsLawfully, RegistersLawfully, Step
 ghost use Rattle.span_filters.specs.Boxed.{itself, replaced};
 ghost use Rattle.span_layers.specs.Layer.{LayerEnabled, LayerEvent, LayerInterest, LayerSteps, Notified};
 ghost use Rattle.span_layers.specs.Number.{TakesNumbers, filters_in};
-ghost use Rattle.span_registry.specs.Answers.{OnClose, OnEnter, OnEvent, OnExit, OnFollows, OnIdChange, OnNewSpan, OnRecord};
+ghost use Rattle.span_registry.specs.Behaviour.{OnClose, OnEnter, OnEvent, OnExit, OnFollows, OnIdChange, OnNewSpan, OnRecord};
 ghost use Rattle.span_registry.specs.Conducts.{ActsAt};
 ghost use Rattle.span_registry.specs.Context.{HandsOn, HasNoRefusals};
 ghost use Rattle.span_registry.specs.Form.{Form, is_absent, is_marked};
 ghost use Rattle.span_registry.specs.Levels.{LevelSteps, takes_level};
-ghost use Rattle.span_registry.specs.Place.{HearSteps};
+ghost use Rattle.span_registry.specs.Position.{HearSteps};
 ghost use Rattle.span_registry.specs.Question.{ShowsBy, hint_of};
 
 use span_core::{Attributes, Event, Id, Interest, LevelFilter, Metadata, Pass, Record};
@@ -49,14 +49,16 @@ pub trait DynLayer: Drop {
     fn dyn_on_register_dispatch(&mut self)
         requires { dyn_usable self.old }
         ensures usable { dyn_usable self.new }
-        ensures registered { RegistersLawfully dyn_form dyn_registered dyn_acts_at self.old self.new };
+        ensures registered { RegistersLawfully dyn_form dyn_registered dyn_acts_at self.old
+            self.new };
 
     /// Sets the level of the filter with this number in it, and answers whether there is one that takes it. Else nothing changes.
     fn dyn_set_level(&mut self, number: u32, level: LevelFilter) -> bool
         requires { dyn_usable self.old }
         ensures usable { dyn_usable self.new }
         ensures taken { ShowsBy (dyn_form self.old) (λ f. takes_level f number level) result }
-        ensures level { LevelsLawfully dyn_form dyn_levelled dyn_hears dyn_acts_at self.old number level self.new }
+        ensures level { LevelsLawfully dyn_form dyn_levelled dyn_hears dyn_acts_at self.old number
+            level self.new }
         ensures unchanged { result ≡ false → self.new ≡ self.old };
 
     /// Gives its filters the next numbers of the registry.
@@ -64,7 +66,8 @@ pub trait DynLayer: Drop {
         requires { dyn_usable self.old }
         ensures usable { dyn_usable self.new }
         ensures attached { dyn_attached self.old self.new }
-        ensures numbers { TakesNumbers itself replaced dyn_form self.old root.old self.new root.new };
+        ensures numbers { TakesNumbers itself replaced dyn_form self.old root.old self.new
+            root.new };
 
     /// Its interest in what a callsite with this metadata makes. Its filters add their interests to the pass.
     fn dyn_register_callsite(&self, meta: &Metadata, pass: &mut Pass) -> Interest
@@ -113,7 +116,9 @@ pub trait DynLayer: Drop {
         requires { dyn_usable self.old }
         ensures usable { dyn_usable self.new }
         ensures rest { HandsOn itself ctx.old ctx.new }
-        ensures hook { Notified itself dyn_form (StepsLawfully dyn_form dyn_stepped dyn_hears dyn_acts_at) (OnNewSpan attrs.now id) self.old ctx.old self.new ctx.new };
+        ensures hook { Notified itself dyn_form
+            (StepsLawfully dyn_form dyn_stepped dyn_hears dyn_acts_at) (OnNewSpan attrs.now id)
+            self.old ctx.old self.new ctx.new };
 
     /// Notifies of values that a span was given later.
     fn dyn_on_record(&mut self, id: Id, values: &Record<'_>, ctx: &mut ContextMut<'_, Registry>)
@@ -121,7 +126,9 @@ pub trait DynLayer: Drop {
         requires refusals { HasNoRefusals ctx.old }
         ensures usable { dyn_usable self.new }
         ensures rest { HandsOn itself ctx.old ctx.new }
-        ensures hook { Notified itself dyn_form (StepsLawfully dyn_form dyn_stepped dyn_hears dyn_acts_at) (OnRecord id values.now) self.old ctx.old self.new ctx.new };
+        ensures hook { Notified itself dyn_form
+            (StepsLawfully dyn_form dyn_stepped dyn_hears dyn_acts_at) (OnRecord id values.now)
+            self.old ctx.old self.new ctx.new };
 
     /// Notifies that a span follows from another one.
     fn dyn_on_follows_from(&mut self, id: Id, follows: Id, ctx: &mut ContextMut<'_, Registry>)
@@ -129,14 +136,18 @@ pub trait DynLayer: Drop {
         requires refusals { HasNoRefusals ctx.old }
         ensures usable { dyn_usable self.new }
         ensures rest { HandsOn itself ctx.old ctx.new }
-        ensures hook { Notified itself dyn_form (StepsLawfully dyn_form dyn_stepped dyn_hears dyn_acts_at) (OnFollows id follows) self.old ctx.old self.new ctx.new };
+        ensures hook { Notified itself dyn_form
+            (StepsLawfully dyn_form dyn_stepped dyn_hears dyn_acts_at) (OnFollows id follows)
+            self.old ctx.old self.new ctx.new };
 
     /// Notifies of an event.
     fn dyn_on_event(&mut self, event: &Event<'_>, ctx: &mut ContextMut<'_, Registry>)
         requires { dyn_usable self.old }
         ensures usable { dyn_usable self.new }
         ensures rest { HandsOn itself ctx.old ctx.new }
-        ensures hook { Notified itself dyn_form (StepsLawfully dyn_form dyn_stepped dyn_hears dyn_acts_at) (OnEvent event.now) self.old ctx.old self.new ctx.new };
+        ensures hook { Notified itself dyn_form
+            (StepsLawfully dyn_form dyn_stepped dyn_hears dyn_acts_at) (OnEvent event.now)
+            self.old ctx.old self.new ctx.new };
 
     /// Notifies that a span is entered.
     fn dyn_on_enter(&mut self, id: Id, ctx: &mut ContextMut<'_, Registry>)
@@ -144,7 +155,9 @@ pub trait DynLayer: Drop {
         requires refusals { HasNoRefusals ctx.old }
         ensures usable { dyn_usable self.new }
         ensures rest { HandsOn itself ctx.old ctx.new }
-        ensures hook { Notified itself dyn_form (StepsLawfully dyn_form dyn_stepped dyn_hears dyn_acts_at) (OnEnter id) self.old ctx.old self.new ctx.new };
+        ensures hook { Notified itself dyn_form
+            (StepsLawfully dyn_form dyn_stepped dyn_hears dyn_acts_at) (OnEnter id) self.old
+            ctx.old self.new ctx.new };
 
     /// Notifies that a span is left.
     fn dyn_on_exit(&mut self, id: Id, ctx: &mut ContextMut<'_, Registry>)
@@ -152,7 +165,9 @@ pub trait DynLayer: Drop {
         requires refusals { HasNoRefusals ctx.old }
         ensures usable { dyn_usable self.new }
         ensures rest { HandsOn itself ctx.old ctx.new }
-        ensures hook { Notified itself dyn_form (StepsLawfully dyn_form dyn_stepped dyn_hears dyn_acts_at) (OnExit id) self.old ctx.old self.new ctx.new };
+        ensures hook { Notified itself dyn_form
+            (StepsLawfully dyn_form dyn_stepped dyn_hears dyn_acts_at) (OnExit id) self.old
+            ctx.old self.new ctx.new };
 
     /// Notifies that a span's handle was cloned under another id.
     fn dyn_on_id_change(&mut self, id: Id, new: Id, ctx: &mut ContextMut<'_, Registry>)
@@ -160,7 +175,9 @@ pub trait DynLayer: Drop {
         requires refusals { HasNoRefusals ctx.old }
         ensures usable { dyn_usable self.new }
         ensures rest { HandsOn itself ctx.old ctx.new }
-        ensures hook { Notified itself dyn_form (StepsLawfully dyn_form dyn_stepped dyn_hears dyn_acts_at) (OnIdChange id new) self.old ctx.old self.new ctx.new };
+        ensures hook { Notified itself dyn_form
+            (StepsLawfully dyn_form dyn_stepped dyn_hears dyn_acts_at) (OnIdChange id new)
+            self.old ctx.old self.new ctx.new };
 
     /// Notifies that a span is closing, while it can still be read.
     fn dyn_on_close(&mut self, id: Id, ctx: &mut ContextMut<'_, Registry>)
@@ -168,7 +185,9 @@ pub trait DynLayer: Drop {
         requires refusals { HasNoRefusals ctx.old }
         ensures usable { dyn_usable self.new }
         ensures rest { HandsOn itself ctx.old ctx.new }
-        ensures hook { Notified itself dyn_form (StepsLawfully dyn_form dyn_stepped dyn_hears dyn_acts_at) (OnClose id) self.old ctx.old self.new ctx.new };
+        ensures hook { Notified itself dyn_form
+            (StepsLawfully dyn_form dyn_stepped dyn_hears dyn_acts_at) (OnClose id) self.old
+            ctx.old self.new ctx.new };
 }
 
 impl<L: Layer<Registry> + Drop> DynLayer for L {

@@ -1,5 +1,5 @@
 -- Levels and filters by level, by their numbers.
-use Rattle.std.specs.Prelude.{◌≡◌, ◌↔◌, ℕ, ◌<◌, ◌≤◌, ◌==◌, nat_le, Bool, IsTrue, false, if◌then◌else◌, not}
+use Rattle.std.specs.Prelude.{◌≡◌, ◌↔◌, ℕ, List, codes, ◌<◌, ◌≤◌, ◌==◌, nat_le, Bool, IsTrue, false, if◌then◌else◌, not}
 use Rattle.std.specs.Prelude.{Option, None, Some}
 use Rattle.std.specs.Ordering.{nat_cmp}
 use Rattle.std.specs.declared.cmp.Ordering.{Ordering}
@@ -17,9 +17,21 @@ verbosity_number Info = 3
 verbosity_number Debug = 4
 verbosity_number Trace = 5
 
+-- the names of levels
+abbrev pub verbosity_text : Verbosity → List ℕ
+verbosity_text Error = codes "ERROR"
+verbosity_text Warn = codes "WARN"
+verbosity_text Info = codes "INFO"
+verbosity_text Debug = codes "DEBUG"
+verbosity_text Trace = codes "TRACE"
+
 -- the number of a level, from 1 for errors to 5 for traces
 abbrev pub level_number : Level → ℕ
 level_number level = verbosity_number level.0
+
+-- the name of a level, in capitals
+abbrev pub level_text : Level → List ℕ
+level_text level = verbosity_text level.0
 
 -- the number of a filter: that of the most verbose level that passes, 0 where none does
 abbrev pub filter_number : LevelFilter → ℕ

@@ -1,4 +1,5 @@
 pub mod Event
+pub mod Field
 pub mod Filters
 pub mod Interest
 pub mod Level

@@ -36,9 +36,9 @@ fields_of m = m.fields
 
 -- the same is shown by both: callsite, name, target, level, kind, and the fields' names
 pub record ShowSame (m k : Metadata) : Type 0 where
-  pub callsite : callsite_of m ≡ callsite_of k
-  pub name : name_of m ≡ name_of k
-  pub target : target_of m ≡ target_of k
-  pub level : level_of m ≡ level_of k
-  pub kind : kind_of m ≡ kind_of k
-  pub fields : map (λ name. name.now) (names_of (fields_of m)) ≡ map (λ name. name.now) (names_of (fields_of k))
+  pub callsite : m.callsite ≡ k.callsite
+  pub name : m.name.now ≡ k.name.now
+  pub target : m.target.now ≡ k.target.now
+  pub level : m.level ≡ k.level
+  pub kind : m.kind ≡ k.kind
+  pub fields : map (λ x. x.now) m.fields.names.now ≡ map (λ x. x.now) k.fields.names.now

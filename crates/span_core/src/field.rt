@@ -1,6 +1,10 @@
 //! The names of a callsite's fields, and their values.
-ghost use Rattle.std.specs.Prelude.{◌≡◌, ◌↔◌, ◌==◌, IsTrue, length, map, Any};
+ghost use Rattle.std.specs.Prelude.{◌≡◌, ◌↔◌, ◌==◌, IsTrue, length, map, Any, Some};
+ghost use Rattle.span_core.specs.Field.{value_text};
 ghost use Rattle.span_core.specs.Metadata.{names_of};
+ghost use Rattle.span_core.specs.declared.field.FieldValue.TheVariants as value;
+
+use std::fmt;
 
 /// The names of a callsite's fields.
 ///
@@ -27,7 +31,9 @@ impl FieldSet {
 
     /// The same names in the same order.
     pub fn has_same_names(&self, other: &FieldSet) -> bool
-        ensures { IsTrue result ↔ (map (λ name. name.now) (names_of self.now) ≡ map (λ name. name.now) (names_of other.now)) }
+        ensures { IsTrue result ↔
+            (map (λ name. name.now) (names_of self.now)
+            ≡ map (λ name. name.now) (names_of other.now)) }
     {
         self.names == other.names
     }
@@ -67,4 +73,49 @@ pub enum FieldValue<'a> {
     Bool(bool),
     /// A text.
     Text(&'a str),
+}
+
+impl<'a> fmt::Display for FieldValue<'a> {
+    ghost output = { λ value. Some (value_text value) };
+
+    fn fmt<W: fmt::Write>(&self, f: &mut fmt::Formatter<W>) -> fmt::Result {
+        match self {
+            FieldValue::U64(number) => write!(f, "{number}"),
+            FieldValue::I64(number) => write!(f, "{number}"),
+            FieldValue::Bool(flag) => write!(f, "{flag}"),
+            FieldValue::Text(text) => write!(f, "{text}"),
+        }
+    }
+}
+
+impl<'a> From<u64> for FieldValue<'a> {
+    ghost from_gives = { λ number given. given ≡ value.U64 number };
+
+    fn from(number: u64) -> FieldValue<'a> {
+        FieldValue::U64(number)
+    }
+}
+
+impl<'a> From<i64> for FieldValue<'a> {
+    ghost from_gives = { λ number given. given ≡ value.I64 number };
+
+    fn from(number: i64) -> FieldValue<'a> {
+        FieldValue::I64(number)
+    }
+}
+
+impl<'a> From<bool> for FieldValue<'a> {
+    ghost from_gives = { λ flag given. given ≡ value.Bool flag };
+
+    fn from(flag: bool) -> FieldValue<'a> {
+        FieldValue::Bool(flag)
+    }
+}
+
+impl<'a> From<&'a str> for FieldValue<'a> {
+    ghost from_gives = { λ text given. given ≡ value.Text text };
+
+    fn from(text: &'a str) -> FieldValue<'a> {
+        FieldValue::Text(text)
+    }
 }

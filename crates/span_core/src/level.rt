@@ -1,6 +1,6 @@
 //! Levels of verbosity, and filters by level.
-ghost use Rattle.std.specs.Prelude.{◌≡◌};
-ghost use Rattle.span_core.specs.Level.{filter_number, level_number, passes_level};
+ghost use Rattle.std.specs.Prelude.{◌≡◌, Some};
+ghost use Rattle.span_core.specs.Level.{filter_number, level_number, level_text, passes_level};
 
 use std::fmt;
 
@@ -34,6 +34,28 @@ impl Level {
 
     /// Of use to who traces, and verbose.
     pub const TRACE: Level = Level(Verbosity::Trace);
+
+    /// Its name, in capitals.
+    pub fn as_str(&self) -> &'static str
+        ensures { result.now ≡ level_text self.now }
+    {
+        match self.0 {
+            Verbosity::Error => "ERROR",
+            Verbosity::Warn => "WARN",
+            Verbosity::Info => "INFO",
+            Verbosity::Debug => "DEBUG",
+            Verbosity::Trace => "TRACE",
+        }
+    }
+}
+
+impl fmt::Display for Level {
+    ghost output = { λ level. Some (level_text level) };
+
+    fn fmt<W: fmt::Write>(&self, f: &mut fmt::Formatter<W>) -> fmt::Result {
+        let name = self.as_str();
+        write!(f, "{name}")
+    }
 }
 
 /// Passes the levels up to one, or none of them. The order is by how much passes, `OFF` first.

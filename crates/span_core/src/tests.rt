@@ -301,3 +301,23 @@ fn laws_can_be_called() {
     laws::members();
     laws::filters_are_128();
 }
+
+#[test]
+fn levels_and_values_are_written(rt: HostRuntime) -> Result<(), Fail> {
+    assert_eq!(rt; Level::WARN.as_str(), "WARN");
+    let (error, warn, info) = (Level::ERROR, Level::WARN, Level::INFO);
+    let (debug, trace) = (Level::DEBUG, Level::TRACE);
+    assert_eq!(rt;
+        format!(in rt.alloc(); "{error} {warn} {info} {debug} {trace}")?.as_str(),
+        "ERROR WARN INFO DEBUG TRACE"
+    );
+    let count = FieldValue::from(7u64);
+    let change = FieldValue::from(-3i64);
+    let is_new = FieldValue::from(true);
+    let user = FieldValue::from("me");
+    assert_eq!(rt;
+        format!(in rt.alloc(); "{count} {change} {is_new} {user}")?.as_str(),
+        "7 -3 true me"
+    );
+    Ok(())
+}

@@ -15,14 +15,15 @@ use Rattle.span_dispatch.specs.Outcome.{GoneLeft, HandleAdded, HandleTaken, Leve
 use Rattle.std.specs.FinSet.{contains}
 use Rattle.span_layers.specs.Verdict.{in_verdict}
 use Rattle.span_registry.proofs.Agreeing.{closing_alike, held_alike, not_open_alike, open_alike, added_agrees, entered_agrees, exited_agrees, new_agrees, parent_alike, passed_alike, taken_agrees, views_alike, without_agrees}
-use Rattle.span_registry.specs.Agree.{AgreeAt, SpansAgree}
-use Rattle.span_registry.specs.Answers.{Answers, AreAlike, AreAlikeHistories, ArePlain, Conduct, History, IsPlain, OfLevel, Notice, OnClose, OnEnter, OnEvent, OnExit, OnFollows, OnIdChange, OnNewSpan, OnRecord, OfNotice}
+use Rattle.span_registry.proofs.Agreeing.{SpansAgree}
+use Rattle.span_registry.specs.Agree.{AgreeAt}
+use Rattle.span_registry.specs.Behaviour.{Behaviour, AreAlike, AreAlikeHistories, ArePlain, Conduct, History, IsPlain, OfLevel, Notice, OnClose, OnEnter, OnEvent, OnExit, OnFollows, OnIdChange, OnNewSpan, OnRecord, OfNotice}
 use Rattle.span_registry.specs.Closes.{without}
 use Rattle.span_registry.specs.Conducts.{ArePlainConducts, Conducts, after_level, after_notice, filter_numbered, numbers_in, path_now, setting}
 use Rattle.span_registry.specs.Hooks.{no_filter}
 use Rattle.span_registry.proofs.Plain.{plain_views_agree}
 use Rattle.span_registry.specs.Path.{mask_of, passes_path}
-use Rattle.span_registry.specs.Place.{Heard, told_in}
+use Rattle.span_registry.specs.Position.{Heard, told_in}
 use Rattle.span_registry.specs.Plan.{passes}
 use Rattle.span_registry.specs.Question.{single}
 use Rattle.span_registry.specs.Step.{IsContext, IsParentFor, begun, entered, exited}
@@ -137,14 +138,14 @@ told_alike cs e s t lane agree =
 
 -- on stores that agree, at filters down to this one: the answers b, which are plain, and the same as c
 module _ (numbers : FilterSet) (s t : Store) (agree : AgreeAt numbers s t) (lane : ℕ) where
-  passes_alike : (b c : Answers) (e : Notice) (set : FilterSet) → ArePlain b → b ≡ c → Within set numbers → passes b e s lane set ≡ passes c e t lane set
+  passes_alike : (b c : Behaviour) (e : Notice) (set : FilterSet) → ArePlain b → b ≡ c → Within set numbers → passes b e s lane set ≡ passes c e t lane set
   passes_alike b c (OnNewSpan attrs id) set plain same within =
-      plain.enabled (metadata_of attrs) (view_of s lane set) (view_of t lane set) (views_alike numbers set s t lane agree within) ∙ ap (λ (a : Answers). a.enabled (metadata_of attrs) (view_of t lane set)) same
+      plain.enabled (metadata_of attrs) (view_of s lane set) (view_of t lane set) (views_alike numbers set s t lane agree within) ∙ ap (λ (a : Behaviour). a.enabled (metadata_of attrs) (view_of t lane set)) same
   passes_alike b c (OnEvent e) set plain same within =
       let alike = views_alike numbers set s t lane agree within in
       let enabled = plain.enabled (event_metadata e) (view_of s lane set) (view_of t lane set) alike in
       let event = plain.event e (view_of s lane set) (view_of t lane set) alike in
-      (λ i. enabled i && event i) ∙ ap (λ (a : Answers). a.enabled (event_metadata e) (view_of t lane set) && a.event e (view_of t lane set)) same
+      (λ i. enabled i && event i) ∙ ap (λ (a : Behaviour). a.enabled (event_metadata e) (view_of t lane set) && a.event e (view_of t lane set)) same
   passes_alike b c (OnRecord id values) set plain same within = passed_alike numbers set s t id agree within
   passes_alike b c (OnFollows id other) set plain same within =
       let first = passed_alike numbers set s t id agree within in
@@ -186,7 +187,7 @@ module _ (numbers : FilterSet) (s t : Store) (agree : AgreeAt numbers s t) (lane
       let set = union under (single n) in
       let views = p.1.plain [] in
       let own : (b []).enabled meta (view_of s lane set) ≡ (c []).enabled meta (view_of t lane set) =
-      views.enabled meta (view_of s lane set) (view_of t lane set) (views_alike numbers set s t lane agree inside) ∙ ap (λ (a : Answers). a.enabled meta (view_of t lane set)) (p.1.same [] [] tt) in
+      views.enabled meta (view_of s lane set) (view_of t lane set) (views_alike numbers set s t lane agree inside) ∙ ap (λ (a : Behaviour). a.enabled meta (view_of t lane set)) (p.1.same [] [] tt) in
       let rest = verdicts_alike cs ds meta set k p.2 (other_numbers numbers n b cs all) inside in
       (λ i. if own i then rest i else (k == n))
       ∙ ap (λ (j : ℕ). if (c []).enabled meta (view_of t lane (union under (single j))) then in_verdict (form_of_path (path_now ds)) meta t lane (union under (single j)) k else (k == j)) (number_itself n m p.0)

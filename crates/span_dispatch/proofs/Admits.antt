@@ -18,16 +18,18 @@ use Rattle.span_core.specs.declared.metadata.Metadata.{Metadata}
 use Rattle.span_core.specs.declared.pass.Pass.{Pass}
 use Rattle.span_core.specs.declared.span.Lane.{Lane}
 use Rattle.span_dispatch.specs.Admission.{Decides, GivesInterest, HasInterestBy, IsAdmitted, IsInterestBy, IsLetBy, KeepsSafely, LosesNothing, MayLearn, Promises, interests_nobody, is_above_hint, learned, learned_if}
-use Rattle.span_dispatch.specs.Cache.{Callsites, IsCurrent, IsKept, IsUpToDate, KeptCallsites, ReadHint, ReadsOnce, RefusesBelow, RefusesInterest, callsites_of, hint_in, is_above_read, kept_in, no_callsite, with_callsite}
+use Rattle.span_dispatch.specs.Cache.{Callsites, MatchesStack, IsKept, IsUpToDate, KeptCallsites, ReadHint, ReadsOnce, RefusesBelow, RefusesInterest, callsites_of, hint_in, is_above_read, kept_in, no_callsite, with_callsite}
 use Rattle.span_dispatch.specs.declared.cache.Cache.TheVariants.{Empty, Filled, Off}
 use Rattle.span_dispatch.specs.declared.cache.Cache.{Cache}
 use Rattle.span_dispatch.specs.declared.cache.Callsite.{Callsite}
 use Rattle.span_dispatch.specs.declared.cache.Known.{Known}
+use Rattle.span_layers.proofs.Asked.{asked_by_all}
+use Rattle.span_layers.proofs.Built.{rules_of}
 use Rattle.span_layers.proofs.Hint.{above_is_unwanted}
 use Rattle.span_dispatch.proofs.Goes.{keeps_again}
 use Rattle.span_layers.proofs.HonestKept.{alike_interest, hint_is_kept, interest_is_kept}
 use Rattle.span_core.specs.declared.level.LevelFilter.{LevelFilter}
-use Rattle.span_registry.specs.Follows.{Keeps, kept_form}
+use Rattle.span_registry.specs.KeptForm.{KeepsForm, kept_form}
 use Rattle.span_layers.proofs.Interest.{always_is_wanted, never_is_unwanted}
 use Rattle.span_layers.proofs.Pass.{asked_unless_vetoed}
 use Rattle.span_layers.specs.Honest.{IsHonestStack}
@@ -75,7 +77,7 @@ module _ (memory : KeptCallsites) (f : Form) (s : RegistryState) (lane : Lane) (
   pub admits_always : (pass : Pass) (i : Interest) → IsInterestBy memory f s.filters m after i → i ≡ Always → IsEmpty (refusals pass) → IsAdmitted memory f s lane m pass after (Ok true)
   admits_always pass i h same empty =
       let wanted = always_is_wanted f s.filters m s.store lane.0 honest (h.always same) in
-      (lets_by i h (ap is_never same), wanted.question ∙ (λ k. (true, λ n. sym (empty n) k)), h.learned)
+      (lets_by i h (ap is_never same), asked_by_all f s.filters m s.store lane.0 honest wanted ∙ (λ k. (true, λ n. sym (empty n) k)), h.learned)
 
   -- sometimes: all are asked
   pub admits_asked : {S : Type 0} (registry : S → RegistryState) (has_form : S → Form → Type 0) (x : S) (fresh pass : Pass) (i : Interest) (said : Bool) → registry x ≡ s → has_form x f → IsInterestBy memory f s.filters m after i → i ≡ Sometimes → IsEmpty (refusals fresh)
@@ -88,7 +90,7 @@ module _ (memory : KeptCallsites) (f : Form) (s : RegistryState) (lane : Lane) (
       by_answer : (b : Bool) → said ≡ b → IsAdmitted memory f s lane m pass after (Ok b)
       by_answer true e = (lets_by i h (ap is_never same), here ∙ (λ k. ((sym (a f d).answer ∙ e) k, sym (a f d).refused k)), h.learned)
       by_answer false e = (
-        inr (lets_by i h (ap is_never same), not_true _ (sym (asked_unless_vetoed f m s.store lane.0 no_filter honest.orderly) ∙ ap (λ (p : Bool × FilterSet). p.0) here ∙ sym (a f d).answer ∙ e)),
+        inr (lets_by i h (ap is_never same), not_true _ (sym (asked_unless_vetoed f m s.store lane.0 no_filter (rules_of f s.filters honest).orderly) ∙ ap (λ (p : Bool × FilterSet). p.0) here ∙ sym (a f d).answer ∙ e)),
         h.learned,
       )
         where
@@ -100,7 +102,7 @@ module _ (memory : KeptCallsites) (f : Form) (s : RegistryState) (lane : Lane) (
 
 module _ (f : Form) (s : Store) (lane : Lane) (m : Metadata) (n : ℕ) (honest : IsHonestStack f n) where
   pub decides_always : (pass : Pass) → IsWantedByAll f m s lane.0 → IsEmpty (refusals pass) → Decides f s lane m pass (Ok true)
-  decides_always pass wanted empty = wanted.question ∙ (λ k. (true, λ j. sym (empty j) k))
+  decides_always pass wanted empty = asked_by_all f n m s lane.0 honest wanted ∙ (λ k. (true, λ j. sym (empty j) k))
 
   pub decides_asked : {S : Type 0} (registry : S → RegistryState) (has_form : S → Form → Type 0) (x : S) (fresh pass : Pass) (said : Bool) → (registry x).store ≡ s → has_form x f → IsEmpty (refusals fresh) → AnswersEnabled registry has_form x lane m fresh said pass
       → Decides f s lane m pass (Ok said)
@@ -111,17 +113,17 @@ module _ (f : Form) (s : Store) (lane : Lane) (m : Metadata) (n : ℕ) (honest :
 
       by_answer : (b : Bool) → said ≡ b → Decides f s lane m pass (Ok b)
       by_answer true e = here ∙ (λ k. ((sym (a f d).answer ∙ e) k, sym (a f d).refused k))
-      by_answer false e = inl (not_true _ (sym (asked_unless_vetoed f m s lane.0 no_filter honest.orderly) ∙ ap (λ (p : Bool × FilterSet). p.0) here ∙ sym (a f d).answer ∙ e))
+      by_answer false e = inl (not_true _ (sym (asked_unless_vetoed f m s lane.0 no_filter (rules_of f n honest).orderly) ∙ ap (λ (p : Bool × FilterSet). p.0) here ∙ sym (a f d).answer ∙ e))
         where
           not_true : (b : Bool) → not b ≡ false → b ≡ true
           not_true true k = refl
           not_true false k = sym k
 
 -- what an interest promises of what shows the same, by a form that keeps another
-module _ (f g : Form) (n : ℕ) (keeps : Keeps f g) (honest : IsHonestStack g n) where
+module _ (f g : Form) (n : ℕ) (keeps : KeepsForm f g) (honest : IsHonestStack g n) where
   as_before : (k m : Metadata) (i : Interest) → ShowSame k m → i ≡ (interest_of f k n None).0 → (interest_of g m n None).0 ≡ i
   as_before k m i same e =
-      sym (ap (λ (p : Interest × Option Interest). p.0) (alike_interest g honest.answers k m same n None)) ∙ ap (λ (p : Interest × Option Interest). p.0) (interest_is_kept f g keeps k n) ∙ sym e
+      sym (ap (λ (p : Interest × Option Interest). p.0) (alike_interest g (rules_of g n honest).answers k m same n None)) ∙ ap (λ (p : Interest × Option Interest). p.0) (interest_is_kept f g keeps k n) ∙ sym e
 
   pub never_still : (k m : Metadata) (i : Interest) (s : Store) (lane : ℕ) → ShowSame k m → i ≡ (interest_of f k n None).0 → i ≡ Never → IsUnwanted g m s lane
   never_still k m i s lane same e none = never_is_unwanted g n m s lane honest (as_before k m i same e ∙ none)
@@ -143,7 +145,7 @@ current_is_safe f n (Filled k) u = record {
 }
 
 -- by a form that keeps another it loses nothing either
-pub safely_again : (f g : Form) (n : ℕ) (c : Cache) → Keeps f g → KeepsSafely f n c → KeepsSafely g n c
+pub safely_again : (f g : Form) (n : ℕ) (c : Cache) → KeepsForm f g → KeepsSafely f n c → KeepsSafely g n c
 safely_again f g n Off e u = tt
 safely_again f g n Empty e u = tt
 safely_again f g n (Filled k) e u = record {
@@ -378,17 +380,17 @@ module _ {S : Type 0} (registry : S → RegistryState) (has_form : S → Form �
           by_test true t h = let it : record { metadata = m; interest = i } ≡ one = cc in subst P it (new (eqb-true (callsite_of m) n (is_it n true t)))
           by_test false t h = old h
 
-      numbered : (f : Form) → IsCurrent f (registry x).filters k → (n : ℕ) (one : Callsite) → tree.get nat_cmp l.callsites n ≡ Some one → callsite_of one.metadata ≡ n
+      numbered : (f : Form) → MatchesStack f (registry x).filters k → (n : ℕ) (one : Callsite) → tree.get nat_cmp l.callsites n ≡ Some one → callsite_of one.metadata ≡ n
       numbered f u n one e = entry n one (λ c. callsite_of c.metadata ≡ n) (λ it. it) (u.number n one) e
 
-      answered : (f : Form) → has_form x f → IsCurrent f (registry x).filters k → (n : ℕ) (one : Callsite) → tree.get nat_cmp l.callsites n ≡ Some one → one.interest ≡ (interest_of f one.metadata (registry x).filters None).0
+      answered : (f : Form) → has_form x f → MatchesStack f (registry x).filters k → (n : ℕ) (one : Callsite) → tree.get nat_cmp l.callsites n ≡ Some one → one.interest ≡ (interest_of f one.metadata (registry x).filters None).0
       answered f d u n one e = entry n one (λ c. c.interest ≡ (interest_of f c.metadata (registry x).filters None).0) (λ it. interest f d) (u.interest n one) e
 
   -- a cache that was just begun: nothing is in it but the hint
   pub gives_begun : (k : Known) (new : Cache) (i : Result Interest TraceError) → ((n : ℕ) → tree.get nat_cmp k.callsites n ≡ None) → ((f : Form) → has_form x f → k.hint ≡ hint_of f) → GivesInterest registry has_form x m i (Filled k) new → GivesInterest registry has_form x m i Empty new
   gives_begun k new i nothing hint h =
       let none : callsites_of k ≡ no_callsite = λ z n. option_map (λ (c : Callsite). c.metadata) (nothing n z) in
-      let current : (f : Form) → has_form x f → IsCurrent f (registry x).filters k =
+      let current : (f : Form) → has_form x f → MatchesStack f (registry x).filters k =
       λ f d. record { hint = hint f d; number = λ n one e. let no : None ≡ Some one = sym (nothing n) ∙ e in absurd (cc); interest = λ n one e. let no : None ≡ Some one = sym (nothing n) ∙ e in absurd (cc) } in
       record {
         off = λ o. absurd (cc);

@@ -15,7 +15,7 @@ use Rattle.span_dispatch.specs.Admission.{IsDropped, IsUnknown, LearnsOfSpan, le
 use Rattle.span_dispatch.specs.Cache.{IsUpToDate, KeptCallsites, forgotten}
 use Rattle.span_dispatch.specs.Call.{OpenSpan, RecordValues, SendEvent, vetoes_whole}
 use Rattle.span_dispatch.specs.Outcome.{OutcomeAt, Makes, Noticed}
-use Rattle.span_dispatch.specs.Alone.{passed, seen}
+use Rattle.span_dispatch.specs.Alone.{passed, passed_at}
 use Rattle.span_dispatch.specs.Recorder.{RecorderState, Records, kept_notice, recorder_steps}
 use Rattle.span_dispatch.specs.RecorderLaws.{records_more, records_nothing}
 use Rattle.span_dispatch.specs.Serve.{IsReady, KeepsUpToDate, RunExactly, Serves, ServesRequest, call_of, forgetful, resolved, resolved_parent, with_stack}
@@ -31,18 +31,18 @@ use Rattle.span_dispatch.specs.declared.request.Which.{Which}
 use Rattle.span_dispatch.specs.declared.request.WhichParent.{WhichParent}
 use Rattle.span_registry.specs.Path.{path_at}
 use Rattle.span_layers.specs.Verdict.{vetoes}
-use Rattle.span_registry.specs.Answers.{OnEvent, OnNewSpan}
+use Rattle.span_registry.specs.Behaviour.{OnEvent, OnNewSpan}
 use Rattle.span_registry.specs.Form.{Form}
 use Rattle.span_registry.specs.Hooks.{StackSteps}
 use Rattle.span_registry.specs.Levels.{LevelSteps}
-use Rattle.span_registry.specs.Place.{Heard, Here, Place}
+use Rattle.span_registry.specs.Position.{Heard, Here, Position}
 use Rattle.span_registry.specs.Step.{RefusesNew}
 use Rattle.span_registry.specs.Store.{RegistryState}
 
 -- of two lists in a row a leaf sees what it sees of each
-pub seen_append : (place : Place) (ms ns : List OutcomeAt) → seen place (ms ++ ns) ≡ seen place ms ++ seen place ns
-seen_append place [] ns = refl
-seen_append place (m ∷ ms) ns = ap (λ h. passed (path_at m.form place) m.outcome m.before m.after ++ h) (seen_append place ms ns) ∙ sym (append_assoc (passed (path_at m.form place) m.outcome m.before m.after) (seen place ms) (seen place ns))
+pub seen_append : (position : Position) (ms ns : List OutcomeAt) → passed_at position (ms ++ ns) ≡ passed_at position ms ++ passed_at position ns
+seen_append position [] ns = refl
+seen_append position (m ∷ ms) ns = ap (λ h. passed (path_at m.form position) m.outcome m.before m.after ++ h) (seen_append position ms ns) ∙ sym (append_assoc (passed (path_at m.form position) m.outcome m.before m.after) (passed_at position ms) (passed_at position ns))
 
 -- what a request for a new span asks for: its own lane, metadata and values, and the parent that it names
 pub span_asked : (past : List Answer) (lane l : Lane) (m : Metadata) (p : WhichParent) (values : _) (attrs : Attributes) → call_of past (request.NewSpan lane m p values) ≡ Some (OpenSpan l attrs)

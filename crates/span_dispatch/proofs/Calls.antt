@@ -24,17 +24,18 @@ use Rattle.span_core.specs.declared.filter.FilterMap.{FilterMap}
 use Rattle.span_dispatch.specs.Serve.{AnswersExactly, ClosesEach, IsReady, outcome_of}
 use Rattle.span_dispatch.specs.declared.request.Answer.TheVariants as answer
 use Rattle.span_dispatch.specs.declared.request.Answer.{Answer}
+use Rattle.span_layers.proofs.Built.{rules_of}
 use Rattle.span_layers.proofs.RulesKept.{honesty_is_kept}
 use Rattle.span_layers.specs.Honest.{IsHonestStack}
 use Rattle.span_layers.proofs.Pass.{asked_unless_vetoed, event_fresh, event_unless_vetoed, new_span_fresh, others_afresh}
 use Rattle.span_layers.specs.Verdict.{IsOrderly, vetoes, vetoes_event}
-use Rattle.span_registry.specs.Answers.{Notice, OnClose, OnEnter, OnEvent, OnExit, OnFollows, OnNewSpan, OnRecord}
-use Rattle.span_registry.specs.Closes.{IsSettled, remove_all, without}
-use Rattle.span_registry.specs.Follows.{Keeps, kept_form}
+use Rattle.span_registry.specs.Behaviour.{Notice, OnClose, OnEnter, OnEvent, OnExit, OnFollows, OnNewSpan, OnRecord}
+use Rattle.span_registry.specs.Closes.{HasNoClosing, remove_all, without}
+use Rattle.span_registry.specs.KeptForm.{KeepsForm, kept_form}
 use Rattle.span_registry.specs.Form.{Form}
 use Rattle.span_registry.specs.Hooks.{AnswersEvent, Notifies, OpensAndNotifies, StackLaws, StackSteps, Stays, no_filter}
 use Rattle.span_registry.specs.Levels.{LevelSteps, kept_rules}
-use Rattle.span_registry.specs.Place.{HearSteps}
+use Rattle.span_registry.specs.Position.{HearSteps}
 use Rattle.span_registry.specs.Plan.{asked_afresh, by_pass}
 use Rattle.span_registry.specs.Question.{asked, event_asked, refusals}
 use Rattle.span_registry.specs.Step.{Begun, Between, Clones, Enters, Exits, IsCurrent, Opens, ShowsCurrent, begun, entered, exited, RefusesClone, RefusesEnter, RefusesNew, Releases, Removal, Removed, Removes}
@@ -84,13 +85,13 @@ enters_to : (f : Form) (lane : Lane) (id : Id) (s t : RegistryState) → Enters 
 enters_to f lane id s t n =
     let u = entered s.store lane.0 (number_of id) in
     let same : SameAside u t.store = same_aside u t.store (ap (λ (r : RegistryState). r.store) n.state) in
-    record { after = u; steps = (n.is_open, refl); given = n.state; left = same; ends = λ r. refl; filters = filters_same n.state; settled = λ h. subst IsSettled (sym same.spans) h }
+    record { after = u; steps = (n.is_open, refl); given = n.state; left = same; ends = λ r. refl; filters = filters_same n.state; settled = λ h. subst HasNoClosing (sym same.spans) h }
 
 leaves_to : (f : Form) (lane : Lane) (id : Id) (s t : RegistryState) → IsOpen s.store.spans (number_of id) → Exits lane id s t → StepsTo f lane (OnExit id) s t
 leaves_to f lane id s t there n =
     let u = exited s.store lane.0 (number_of id) in
     let same : SameAside u t.store = same_aside u t.store (ap (λ (r : RegistryState). r.store) n) in
-    record { after = u; steps = (there, refl); given = n; left = same; ends = λ r. refl; filters = filters_same n; settled = λ h. subst IsSettled (sym same.spans) h }
+    record { after = u; steps = (there, refl); given = n; left = same; ends = λ r. refl; filters = filters_same n; settled = λ h. subst HasNoClosing (sym same.spans) h }
 
 opens_to : (f : Form) (lane : Lane) (attrs : Attributes) (id : Id) (s t : RegistryState) (v : FilterMap) → IsVerdict f (metadata_of attrs) s.store lane v
     → Opens lane (record { metadata = metadata_of attrs; parent = asked_parent attrs; verdict = v }) id s t → StepsTo f lane (OnNewSpan attrs id) s t
@@ -190,7 +191,7 @@ module _ {S : Type 0} {registry : S → RegistryState} {with_registry : S → Re
   event_unmade lane e error f x h = by_none laws with_own levelled (SendEvent lane e) (answer.Refused error) f x x h refl refl (λ d. absurd (cc))
 
   wanted_or_vetoed : (f : Form) (x : S) (lane : Lane) (e : Event) (before pass : Pass) (said : Bool) → Honest f x → AnswersEvent registry has_form x lane e before said pass → said ≡ not (vetoes_event f e (registry x).store lane.0)
-  wanted_or_vetoed f x lane e before pass said h a = (a f h.has).answer ∙ event_unless_vetoed f e (registry x).store lane.0 (refusals before) h.rules.orderly
+  wanted_or_vetoed f x lane e before pass said h a = (a f h.has).answer ∙ event_unless_vetoed f e (registry x).store lane.0 (refusals before) (rules_of f _ h.rules).orderly
 
   vetoed_so : (f : Form) (x : S) (lane : Lane) (e : Event) (first second : Pass) (wanted : Bool) → wanted ≡ false → AnswersEvent registry has_form x lane e first wanted second → Honest f x → vetoes_event f e (registry x).store lane.0 ≡ true
   vetoed_so f x lane e first second wanted no_one b h = not_false _ (sym (wanted_or_vetoed f x lane e first second wanted h b) ∙ no_one)
@@ -205,7 +206,7 @@ module _ {S : Type 0} {registry : S → RegistryState} {with_registry : S → Re
       let d = decided f s lane m (event_metadata e) first (Ok true) same a in
       let unvetoed_now = not_true _ (sym (wanted_or_vetoed f x lane e first second wanted h b) ∙ agreed) in
       let asked_first = (asked f (event_metadata e) s lane.0 no_filter no_filter).1 in
-      let true_of_all = event_unless_vetoed f e s lane.0 asked_first h.rules.orderly ∙ ap not unvetoed_now in
+      let true_of_all = event_unless_vetoed f e s lane.0 asked_first (rules_of f _ h.rules).orderly ∙ ap not unvetoed_now in
       let law = event_fresh f e s lane.0 h.rules.numbers.distinct (ap (λ (p : Bool × FilterSet). p.0) d) true_of_all in
       let refused : refusals second ≡ (event_asked f e s lane.0 no_filter asked_first).1 =
       (b f h.has).refused ∙ ap (λ r. (event_asked f e s lane.0 no_filter r).1) (sym (ap (λ (p : Bool × FilterSet). p.1) d)) in
@@ -232,7 +233,7 @@ module _ {S : Type 0} {registry : S → RegistryState} {with_registry : S → Re
     pub event_made_exactly : (second : Pass) (wanted : Bool) → wanted ≡ true → AnswersEvent registry has_form x lane e first wanted second → IsAdmitted memory f (registry x) lane m first after (Ok true) → AnswersExactly (SendEvent lane e) f memory (registry x) answer.Done after
     event_made_exactly second wanted agreed b a =
         let d = by_metadata f (registry x) lane m (event_metadata e) first memory after (Ok true) same a in
-        record { answers = (d.0, or_both_false _ _ (unvetoed f (event_metadata e) (registry x).store lane first h.rules.orderly d.1) (not_true _ (sym (wanted_or_vetoed f x lane e first second wanted h b) ∙ agreed))); keeps = d.2 }
+        record { answers = (d.0, or_both_false _ _ (unvetoed f (event_metadata e) (registry x).store lane first (rules_of f _ h.rules).orderly d.1) (not_true _ (sym (wanted_or_vetoed f x lane e first second wanted h b) ∙ agreed))); keeps = d.2 }
 
   -- ---- enters, exits, and what else is said of a span
 
@@ -262,7 +263,7 @@ module _ {S : Type 0} {registry : S → RegistryState} {with_registry : S → Re
   gone_so registry_with lane id f x w shut e h =
       by_change laws with_own levelled (Exit lane id) answer.Done f (GoneLeft lane id) x (with_registry x w) h (record { there = λ o. absurd (shut o); gone = λ s. refl }) (λ d. absurd (cc))
       (exited (registry x).store lane.0 (number_of id)) (shut, refl) (registry_with x w ∙ e) (its_own laws with_own levelled registry_with x w) (filters_same (registry_with x w ∙ e))
-      (λ s. subst (λ (t : RegistryState). IsSettled t.store.spans) (sym (registry_with x w)) (subst IsSettled (sym (ap (λ (t : RegistryState). t.store.spans) e)) s))
+      (λ s. subst (λ (t : RegistryState). HasNoClosing t.store.spans) (sym (registry_with x w)) (subst HasNoClosing (sym (ap (λ (t : RegistryState). t.store.spans) e)) s))
 
   pub recorded_so : (lane : Lane) (id : Id) (values : Record) (f : Form) (x y : S) → IsOpen (registry x).store.spans (number_of id) → Notifies registry has_form stepped lane no_filter (OnRecord id values) Stays x y → Honest f x
       → Done laws with_own levelled (RecordValues lane id values) answer.Done f x y
@@ -296,7 +297,7 @@ module _ {S : Type 0} {registry : S → RegistryState} {with_registry : S → Re
       by_change laws with_own levelled (DropHandle lane id) (answer.Yes false) f (HandleTaken id) x (with_registry x w) h.honest
       (record { closed = []; exact = drops.closes; outcomes = refl; itself = (λ t. absurd (true≢false (sym t)), λ n. absurd n) }) (λ d. absurd (cc))
       (record (registry x).store { spans = take_handle (registry x).store.spans (number_of id) }) (r.held, refl) (registry_with x w ∙ r.state) (its_own laws with_own levelled registry_with x w) (filters_same (registry_with x w ∙ r.state))
-      (λ s. subst (λ (t : RegistryState). IsSettled t.store.spans) (sym (registry_with x w)) (settled_still s r same))
+      (λ s. subst (λ (t : RegistryState). HasNoClosing t.store.spans) (sym (registry_with x w)) (settled_still s r same))
 
   -- ---- closes
 
@@ -328,7 +329,7 @@ module _ {S : Type 0} {registry : S → RegistryState} {with_registry : S → Re
   -- so far these spans have closed, and this one is closing now
   pub record SoFar (lane : Lane) (id : Id) (x : S) (xs : List ℕ) (next : Option Id) (y : S) : Type 0 where
     pub removal : Removal SameButExtensions (registry x) id xs next (registry y)
-    pub notices : (f : Form) → IsHonest registry with_registry has_form stepped levelled f x → (made : List OutcomeAt) × FoldsTo (Makes registry with_registry has_form stepped levelled) x made y × (map outcome_of made ≡ closes_of lane xs) × ((g : Form) × IsHonest registry with_registry has_form stepped levelled g y × Keeps f g × ((registry y).filters ≡ (registry x).filters))
+    pub notices : (f : Form) → IsHonest registry with_registry has_form stepped levelled f x → (made : List OutcomeAt) × FoldsTo (Makes registry with_registry has_form stepped levelled) x made y × (map outcome_of made ≡ closes_of lane xs) × ((g : Form) × IsHonest registry with_registry has_form stepped levelled g y × KeepsForm f g × ((registry y).filters ≡ (registry x).filters))
 
   pub nothing_yet : (lane : Lane) (id : Id) (x : S) → SoFar lane id x [] (Some id) x
   nothing_yet lane id x = record { removal = Begun; notices = λ f h. ([], refl, refl, (f, h, kept_form f, refl)) }
@@ -369,7 +370,7 @@ module _ {S : Type 0} {registry : S → RegistryState} {with_registry : S → Re
               left = n.left;
               given = n.taken;
               notified = z;
-              layers = subst (λ p. stepped y p (OnClose span) lane.0 n.left z (registry z)) plan (n.notified g before.3.1.has before.3.1.rules.still);
+              layers = subst (λ p. stepped y p (OnClose span) lane.0 n.left z (registry z)) plan (n.notified g before.3.1.has (rules_of g _ before.3.1.rules).still);
               hooks = n.extensions;
               ends = removes.taken;
               rest = ap (λ t. with_registry z t) (sym (registry_with z w));
@@ -399,7 +400,7 @@ module _ {S : Type 0} {registry : S → RegistryState} {with_registry : S → Re
         next.0,
         record {
           honest = record { has = next.1; rules = subst (λ n. IsHonestStack next.0 n) (sym (ap (λ (s : RegistryState). s.filters) same)) (honesty_is_kept f next.0 (registry x).filters (kept_rules f next.0 next.2) h.honest.rules) };
-          settled = subst (λ (s : RegistryState). IsSettled s.store.spans) (sym same) h.settled;
+          settled = subst (λ (s : RegistryState). HasNoClosing s.store.spans) (sym same) h.settled;
         },
         next.2,
         ap (λ (s : RegistryState). s.filters) same,

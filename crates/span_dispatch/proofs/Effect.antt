@@ -11,9 +11,9 @@ use Rattle.span_core.specs.declared.level.LevelFilter.{LevelFilter}
 use Rattle.span_core.specs.declared.span.Lane.{Lane}
 use Rattle.span_dispatch.proofs.Acting.{acting_numbers, none_within, one_alone, step_over, steps_agree}
 use Rattle.span_dispatch.proofs.Alone.{agree_same, steps_alone}
-use Rattle.span_dispatch.specs.Alone.{Alone, acting, form_of_path, seen}
-use Rattle.span_dispatch.specs.Call.{Call, closes_of}
-use Rattle.span_dispatch.specs.Effect.{AloneOf, Effect, GoesThrough, HasOutcomes, MadeCall, NoEffect, OfDrop, OfExit, OneOutcome, OutcomesFrom, concerns, effect_of, is_concern}
+use Rattle.span_dispatch.specs.Alone.{Alone, acting, form_of_path, passed_at}
+use Rattle.span_dispatch.specs.Call.{AddHandle, AskCurrent, Call, DropHandle, Enter, Exit, Follow, OpenSpan, Probe, RecordValues, SendEvent, SetLevel, closes_of}
+use Rattle.span_dispatch.specs.Effect.{AloneOf, Effect, GoesThrough, HasOutcomes, MadeCall, NoAnswer, NoEffect, OfDrop, OfExit, OneOutcome, OutcomesFrom, OutcomesOf, concerns, effect_of, is_concern}
 use Rattle.span_dispatch.specs.Isolation.{HasSameOutcomes, HaveSameOutcomes, SeeTheSame, SeenAlone, SeesCalls, Sight}
 use Rattle.span_dispatch.specs.Outcome.{HandleTaken, LevelSet, OutcomeAt, Makes, Noticed, Outcome, Quiet, Steps}
 use Rattle.span_dispatch.specs.Serve.{Run, TellsAsked, call_of, flat, made_call, made_calls, outcome_of, stack_of}
@@ -27,14 +27,87 @@ use Rattle.span_registry.specs.Conducts.{ActsAt, Conducts, after_level, filter_n
 use Rattle.span_registry.specs.Form.{Form}
 use Rattle.span_registry.specs.Hooks.{StackSteps, no_filter}
 use Rattle.span_registry.specs.Levels.{LevelSteps}
-use Rattle.span_registry.specs.Place.{HearSteps, Heard}
+use Rattle.span_registry.specs.Position.{HearSteps, Heard}
 use Rattle.span_registry.specs.Store.{IsClosing, IsInStore, IsOpen, RegistryState, Span, Spans, Store}
 
 -- ---- one call
 
+-- what comes of a call is what its effect has
+either_way : {P : Type 0} → P ↔ P
+either_way = ((λ h. h), (λ h. h))
+
+in_effect : (call : Call) (a : Answer) (s : Store) (os : List Outcome) → OutcomesOf call a s os ↔ HasOutcomes (effect_of call a) s os
+in_effect (OpenSpan lane x) (answer.Made y) s os = either_way
+in_effect (OpenSpan lane x) answer.Dropped s os = either_way
+in_effect (OpenSpan lane x) (answer.Refused y) s os = either_way
+in_effect (OpenSpan lane x) answer.Done s os = either_way
+in_effect (OpenSpan lane x) (answer.Yes b) s os = either_way
+in_effect (OpenSpan lane x) (answer.Current o) s os = either_way
+in_effect (SendEvent lane e) (answer.Made y) s os = either_way
+in_effect (SendEvent lane e) answer.Dropped s os = either_way
+in_effect (SendEvent lane e) (answer.Refused y) s os = either_way
+in_effect (SendEvent lane e) answer.Done s os = either_way
+in_effect (SendEvent lane e) (answer.Yes b) s os = either_way
+in_effect (SendEvent lane e) (answer.Current o) s os = either_way
+in_effect (Enter lane id) (answer.Made y) s os = either_way
+in_effect (Enter lane id) answer.Dropped s os = either_way
+in_effect (Enter lane id) (answer.Refused y) s os = either_way
+in_effect (Enter lane id) answer.Done s os = either_way
+in_effect (Enter lane id) (answer.Yes b) s os = either_way
+in_effect (Enter lane id) (answer.Current o) s os = either_way
+in_effect (Exit lane id) (answer.Made y) s os = either_way
+in_effect (Exit lane id) answer.Dropped s os = either_way
+in_effect (Exit lane id) (answer.Refused y) s os = either_way
+in_effect (Exit lane id) answer.Done s os = either_way
+in_effect (Exit lane id) (answer.Yes b) s os = either_way
+in_effect (Exit lane id) (answer.Current o) s os = either_way
+in_effect (RecordValues lane id values) (answer.Made y) s os = either_way
+in_effect (RecordValues lane id values) answer.Dropped s os = either_way
+in_effect (RecordValues lane id values) (answer.Refused y) s os = either_way
+in_effect (RecordValues lane id values) answer.Done s os = either_way
+in_effect (RecordValues lane id values) (answer.Yes b) s os = either_way
+in_effect (RecordValues lane id values) (answer.Current o) s os = either_way
+in_effect (Follow lane id other) (answer.Made y) s os = either_way
+in_effect (Follow lane id other) answer.Dropped s os = either_way
+in_effect (Follow lane id other) (answer.Refused y) s os = either_way
+in_effect (Follow lane id other) answer.Done s os = either_way
+in_effect (Follow lane id other) (answer.Yes b) s os = either_way
+in_effect (Follow lane id other) (answer.Current o) s os = either_way
+in_effect (AddHandle lane id) (answer.Made y) s os = either_way
+in_effect (AddHandle lane id) answer.Dropped s os = either_way
+in_effect (AddHandle lane id) (answer.Refused y) s os = either_way
+in_effect (AddHandle lane id) answer.Done s os = either_way
+in_effect (AddHandle lane id) (answer.Yes b) s os = either_way
+in_effect (AddHandle lane id) (answer.Current o) s os = either_way
+in_effect (DropHandle lane id) (answer.Made y) s os = either_way
+in_effect (DropHandle lane id) answer.Dropped s os = either_way
+in_effect (DropHandle lane id) (answer.Refused y) s os = either_way
+in_effect (DropHandle lane id) answer.Done s os = either_way
+in_effect (DropHandle lane id) (answer.Yes b) s os = either_way
+in_effect (DropHandle lane id) (answer.Current o) s os = either_way
+in_effect (Probe lane m) (answer.Made y) s os = either_way
+in_effect (Probe lane m) answer.Dropped s os = either_way
+in_effect (Probe lane m) (answer.Refused y) s os = either_way
+in_effect (Probe lane m) answer.Done s os = either_way
+in_effect (Probe lane m) (answer.Yes b) s os = either_way
+in_effect (Probe lane m) (answer.Current o) s os = either_way
+in_effect (AskCurrent lane) (answer.Made y) s os = either_way
+in_effect (AskCurrent lane) answer.Dropped s os = either_way
+in_effect (AskCurrent lane) (answer.Refused y) s os = either_way
+in_effect (AskCurrent lane) answer.Done s os = either_way
+in_effect (AskCurrent lane) (answer.Yes b) s os = either_way
+in_effect (AskCurrent lane) (answer.Current o) s os = either_way
+in_effect (SetLevel n l) (answer.Made y) s os = either_way
+in_effect (SetLevel n l) answer.Dropped s os = either_way
+in_effect (SetLevel n l) (answer.Refused y) s os = either_way
+in_effect (SetLevel n l) answer.Done s os = either_way
+in_effect (SetLevel n l) (answer.Yes b) s os = either_way
+in_effect (SetLevel n l) (answer.Current o) s os = either_way
+
 -- what has outcomes on the one store has the same on one that agrees
 effect_over : (e : Effect) (numbers : FilterSet) (s t : Store) (os : List Outcome) → AgreeAt numbers s t → HasOutcomes e s os → HasOutcomes e t os
 effect_over NoEffect numbers s t os agree h = h
+effect_over NoAnswer numbers s t os agree h = h
 effect_over (OneOutcome o) numbers s t os agree h = h
 effect_over (OfExit lane id) numbers s t os agree h =
     let back = agree_sym numbers s t agree in
@@ -65,6 +138,7 @@ module _ (while : InStoreWhile) (never : NeverBoth) (once : ClosesOnce) where
 
   effect_once : (e : Effect) (numbers : FilterSet) (s t : Store) (os us : List Outcome) → AgreeAt numbers s t → HasOutcomes e s os → HasOutcomes e t us → os ≡ us
   effect_once NoEffect numbers s t os us agree h k = h ∙ sym k
+  effect_once NoAnswer numbers s t os us agree h k = absurd h
   effect_once (OneOutcome o) numbers s t os us agree h k = h ∙ sym k
   effect_once (OfExit lane id) numbers s t os us agree h k = elim (open_or_not s.spans (number_of id)) [
     | inl o ↦ h.there o ∙ sym (k.there (open_alike numbers s t (number_of id) agree o))
@@ -75,7 +149,7 @@ module _ (while : InStoreWhile) (never : NeverBoth) (once : ClosesOnce) where
       h.outcomes ∙ ap (λ closed. Quiet (HandleTaken id) ∷ closes_of lane closed) same ∙ sym k.outcomes
 
   pub same_outcomes : (numbers : FilterSet) (one : MadeCall) → HasSameOutcomes numbers one
-  same_outcomes numbers one s t os us agree h k = effect_once (effect_of one.0 one.1) numbers s t os us agree h k
+  same_outcomes numbers one s t os us agree h k = effect_once (effect_of one.0 one.1) numbers s t os us agree ((in_effect one.0 one.1 s os).0 h) ((in_effect one.0 one.1 t us).0 k)
 
 -- ---- calls in a row
 
@@ -98,7 +172,7 @@ outcomes_over [] s t os agree h = h
 outcomes_over (one ∷ calls) s t os agree h =
     let on = through_over h.0 s t h.1 agree h.4 in
     let after = through_agree h.0 s t h.1 on.0 agree h.4 on.1 in
-    (h.0, on.0, h.2, effect_over (effect_of one.0 one.1) no_filter s t h.0 agree h.3, on.1, outcomes_over calls h.1 on.0 h.2 after h.5, h.6)
+    (h.0, on.0, h.2, (in_effect one.0 one.1 t h.0).1 (effect_over (effect_of one.0 one.1) no_filter s t h.0 agree ((in_effect one.0 one.1 s h.0).0 h.3)), on.1, outcomes_over calls h.1 on.0 h.2 after h.5, h.6)
 
 module _ (while : InStoreWhile) (never : NeverBoth) (once : ClosesOnce) where
   pub same_outcomes_all : (calls : List MadeCall) → HaveSameOutcomes calls
@@ -136,6 +210,7 @@ closes_concern numbers lane (x ∷ closed) = ap (λ os. closes_of lane (x ∷ []
 
 concern_of : (numbers : FilterSet) (e : Effect) (s : Store) (os : List Outcome) → HasOutcomes e s os → (is_concern numbers e ≡ true → HasOutcomes e s (filter (concerns numbers) os)) × (is_concern numbers e ≡ false → filter (concerns numbers) os ≡ [])
 concern_of numbers NoEffect s os h = (λ t. absurd (false≢true t), λ f. ap (filter (concerns numbers)) h)
+concern_of numbers NoAnswer s os h = absurd h
 concern_of numbers (OneOutcome o) s os h =
     let one : (b : Bool) → concerns numbers o ≡ b → filter (concerns numbers) os ≡ cond b (o ∷ []) [] = λ b e. ap (filter (concerns numbers)) h ∙ ap (λ c. cond c (o ∷ []) []) e in
     (one true, one false)
@@ -169,7 +244,7 @@ module _ {S : Type 0} (registry : S → RegistryState) (with_registry : S → Re
   by_concern : (numbers : FilterSet) (call : Call) (a : Answer) (s t : Store) (all os : List Outcome) (calls : List MadeCall) (b : Bool) → is_concern numbers (effect_of call a) ≡ b → HasOutcomes (effect_of call a) s all
       → GoesThrough s (filter (concerns numbers) all) t → OutcomesFrom t calls (filter (concerns numbers) os) → OutcomesFrom s ((if b then (call, a) ∷ [] else []) ++ calls) (filter (concerns numbers) (all ++ os))
   by_concern numbers call a s t all os calls true e h through rest =
-      (filter (concerns numbers) all, t, filter (concerns numbers) os, (concern_of numbers (effect_of call a) s all h).0 e, through, rest, filter-append (concerns numbers) all os)
+      (filter (concerns numbers) all, t, filter (concerns numbers) os, (in_effect call a s (filter (concerns numbers) all)).1 ((concern_of numbers (effect_of call a) s all h).0 e), through, rest, filter-append (concerns numbers) all os)
   by_concern numbers call a s t all os calls false e h through rest =
       let none : filter (concerns numbers) all ≡ [] = (concern_of numbers (effect_of call a) s all h).1 e in
       let same : s ≡ t = subst (λ (us : List Outcome). GoesThrough s us t) none through in
@@ -185,7 +260,7 @@ module _ {S : Type 0} (registry : S → RegistryState) (with_registry : S → Re
       let own = folds_bare x ms y h.2.goes in
       let through = through_concerning numbers (map outcome_of ms) (registry x).store own.0 own.1 in
       let on = outcomes_over calls (registry y).store own.0 (filter (concerns numbers) os) own.2 rest in
-      by_concern numbers call a (registry x).store own.0 (map outcome_of ms) os calls (is_concern numbers (effect_of call a)) refl h.2.says through on
+      by_concern numbers call a (registry x).store own.0 (map outcome_of ms) os calls (is_concern numbers (effect_of call a)) refl ((in_effect call a (registry x).store (map outcome_of ms)).0 h.2.says) through on
 
   -- what was made in a run is what its made calls have by themselves, as far as it concerns filters of these numbers
   pub run_calls : (past : List Answer) (rs : List Request) (answers : List Answer) (made : List (List OutcomeAt)) (x y : S) (numbers : FilterSet) → Run registry with_registry has_form stepped levelled past rs answers made x y
@@ -238,7 +313,7 @@ module _ {S : Type 0} (registry : S → RegistryState) (with_registry : S → Re
       let near : AgreeAt numbers u t = subst (λ (v : Store). AgreeAt numbers v t) (sym m.at_store) agree in
       let own = subst (λ (ks : List MadeCall). OutcomesFrom u ks os_here) m.at_calls (run_calls registry with_registry has_form stepped levelled [] m.requests m.answers m.served.made (stack_of m.old) (stack_of m.new) numbers m.served.run) in
       let bare = agree_within numbers no_filter u t (none_within numbers) near in
-      let alone = alone_concerning numbers cs t os (seen m.place (flat m.served.made)) refl (m.served.alone m.place cs t m.acts near) in
+      let alone = alone_concerning numbers cs t os (passed_at m.position (flat m.served.made)) refl (m.served.alone m.position cs t m.acts near) in
       (os_here, outcomes_over calls u t os_here bare own, subst (λ (k : Heard). Alone cs t os_here k) m.sees alone)
 
   -- so where what is seen of calls alone is fixed, it is the same

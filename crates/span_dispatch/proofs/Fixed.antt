@@ -9,7 +9,7 @@ use Rattle.span_dispatch.specs.Outcome.{IsHonest, LayersGo, LevelSet, OutcomeAt,
 use Rattle.span_dispatch.specs.Serve.{RunExactly, ServesAsked, call_of}
 use Rattle.span_dispatch.specs.declared.request.Answer.{Answer}
 use Rattle.span_dispatch.specs.declared.request.Request.{Request}
-use Rattle.span_registry.specs.Answers.{Notice}
+use Rattle.span_registry.specs.Behaviour.{Notice}
 use Rattle.span_registry.specs.Form.{Form}
 use Rattle.span_registry.specs.Hooks.{StackSteps}
 use Rattle.span_registry.specs.Levels.{LevelSteps}

@@ -7,7 +7,7 @@ use Rattle.span_core.specs.Filters.{FilterSet}
 use Rattle.span_core.specs.declared.interest.Interest.{Interest}
 use Rattle.span_core.specs.declared.span.Lane.{Lane}
 use Rattle.span_dispatch.specs.Admission.{KeepsSafely}
-use Rattle.span_dispatch.specs.Cache.{IsCurrent, IsUpToDate, forgotten, kept_in, no_callsite}
+use Rattle.span_dispatch.specs.Cache.{MatchesStack, IsUpToDate, forgotten, kept_in, no_callsite}
 use Rattle.span_dispatch.specs.Call.{Call, SetLevel}
 use Rattle.span_dispatch.specs.Effect.{OutcomesOf}
 use Rattle.span_dispatch.specs.Outcome.{Change, Ends, IsHonest, LevelSet, OutcomeAt, Makes, Noticed, Notices, Quiet, SameAside, Steps, given_in}
@@ -18,60 +18,61 @@ use Rattle.span_dispatch.specs.declared.cache.Known.{Known}
 use Rattle.span_dispatch.specs.declared.dispatch.Dispatch.{Dispatch}
 use Rattle.span_dispatch.specs.declared.request.Answer.TheVariants as answer
 use Rattle.span_dispatch.specs.declared.request.Answer.{Answer}
+use Rattle.span_layers.proofs.Built.{rules_of}
 use Rattle.span_layers.proofs.HonestKept.{hint_is_kept, interest_is_kept}
 use Rattle.span_layers.proofs.RulesKept.{honesty_is_kept}
 use Rattle.span_layers.specs.Honest.{IsHonestStack}
-use Rattle.span_registry.specs.Answers.{Answers, Notice}
-use Rattle.span_registry.specs.Closes.{IsSettled}
-use Rattle.span_registry.specs.Follows.{AnswersKeep, Follows, Keeps, kept_form}
-use Rattle.span_registry.specs.Form.{Bare, Filtered, Form, Leaf, Over}
+use Rattle.span_registry.specs.Behaviour.{Behaviour, Notice}
+use Rattle.span_registry.specs.Closes.{HasNoClosing}
+use Rattle.span_registry.specs.KeptForm.{AnswersKeep, HasKeptForm, KeepsForm, kept_form}
+use Rattle.span_registry.specs.Form.{Terminal, Filtered, Form, Leaf, Parts}
 use Rattle.span_registry.specs.Hooks.{Notifies, StackLaws, StackSteps, no_filter}
 use Rattle.span_registry.specs.Levels.{KeepsRules, LevelLaws, LevelSteps, LevelsForm, kept_rules, level_rules, same_levels, takes_level}
 use Rattle.span_registry.specs.Conducts.{ActsAt}
-use Rattle.span_registry.specs.Place.{HearSteps}
+use Rattle.span_registry.specs.Position.{HearSteps}
 use Rattle.span_registry.specs.Plan.{asked_afresh, by_pass}
 use Rattle.span_registry.specs.Store.{RegistryState, Store}
 use Rattle.span_registry.specs.Subscriber.{SameButExtensions}
 
 -- ---- what is kept of what was kept is kept
 
-answers_again : (a b c : Answers) → AnswersKeep a b → AnswersKeep b c → AnswersKeep a c
+answers_again : (a b c : Behaviour) → AnswersKeep a b → AnswersKeep b c → AnswersKeep a c
 answers_again a b c p q = record {
   same = record { interest = q.same.interest ∙ p.same.interest; hint = q.same.hint ∙ p.same.hint };
   honest = λ h. q.honest (p.honest h);
   quiet = λ h. q.quiet (p.quiet h);
 }
 
-pub keeps_again : (f g h : Form) → Keeps f g → Keeps g h → Keeps f h
+pub keeps_again : (f g h : Form) → KeepsForm f g → KeepsForm g h → KeepsForm f h
 keeps_again (Leaf still a) (Leaf quiet b) (Leaf calm c) p q = (q.0 ∙ p.0, answers_again a b c p.1 q.1)
 keeps_again (Filtered n a f) (Filtered m b g) (Filtered l c h) p q =
     (q.0 ∙ p.0, record { interest = q.1.interest ∙ p.1.interest; hint = q.1.hint ∙ p.1.hint }, (λ k. q.2 (p.2 k)), keeps_again f g h p.3 q.3)
-keeps_again (Over k o i) (Over l p j) (Over m q n) x y = (y.0 ∙ x.0, keeps_again o p q x.1 y.1, keeps_again i j n x.2 y.2)
-keeps_again (Bare v) (Bare w) (Bare z) p q = q ∙ p
+keeps_again (Parts k o i) (Parts l p j) (Parts m q n) x y = (y.0 ∙ x.0, keeps_again o p q x.1 y.1, keeps_again i j n x.2 y.2)
+keeps_again (Terminal v) (Terminal w) (Terminal z) p q = q ∙ p
 keeps_again (Leaf a0 a1) (Leaf b0 b1) (Filtered c0 c1 c2) p q = absurd q
-keeps_again (Leaf a0 a1) (Leaf b0 b1) (Over c0 c1 c2) p q = absurd q
-keeps_again (Leaf a0 a1) (Leaf b0 b1) (Bare c0) p q = absurd q
+keeps_again (Leaf a0 a1) (Leaf b0 b1) (Parts c0 c1 c2) p q = absurd q
+keeps_again (Leaf a0 a1) (Leaf b0 b1) (Terminal c0) p q = absurd q
 keeps_again (Leaf a0 a1) (Filtered b0 b1 b2) h p q = absurd p
-keeps_again (Leaf a0 a1) (Over b0 b1 b2) h p q = absurd p
-keeps_again (Leaf a0 a1) (Bare b0) h p q = absurd p
+keeps_again (Leaf a0 a1) (Parts b0 b1 b2) h p q = absurd p
+keeps_again (Leaf a0 a1) (Terminal b0) h p q = absurd p
 keeps_again (Filtered a0 a1 a2) (Leaf b0 b1) h p q = absurd p
 keeps_again (Filtered a0 a1 a2) (Filtered b0 b1 b2) (Leaf c0 c1) p q = absurd q
-keeps_again (Filtered a0 a1 a2) (Filtered b0 b1 b2) (Over c0 c1 c2) p q = absurd q
-keeps_again (Filtered a0 a1 a2) (Filtered b0 b1 b2) (Bare c0) p q = absurd q
-keeps_again (Filtered a0 a1 a2) (Over b0 b1 b2) h p q = absurd p
-keeps_again (Filtered a0 a1 a2) (Bare b0) h p q = absurd p
-keeps_again (Over a0 a1 a2) (Leaf b0 b1) h p q = absurd p
-keeps_again (Over a0 a1 a2) (Filtered b0 b1 b2) h p q = absurd p
-keeps_again (Over a0 a1 a2) (Over b0 b1 b2) (Leaf c0 c1) p q = absurd q
-keeps_again (Over a0 a1 a2) (Over b0 b1 b2) (Filtered c0 c1 c2) p q = absurd q
-keeps_again (Over a0 a1 a2) (Over b0 b1 b2) (Bare c0) p q = absurd q
-keeps_again (Over a0 a1 a2) (Bare b0) h p q = absurd p
-keeps_again (Bare a0) (Leaf b0 b1) h p q = absurd p
-keeps_again (Bare a0) (Filtered b0 b1 b2) h p q = absurd p
-keeps_again (Bare a0) (Over b0 b1 b2) h p q = absurd p
-keeps_again (Bare a0) (Bare b0) (Leaf c0 c1) p q = absurd q
-keeps_again (Bare a0) (Bare b0) (Filtered c0 c1 c2) p q = absurd q
-keeps_again (Bare a0) (Bare b0) (Over c0 c1 c2) p q = absurd q
+keeps_again (Filtered a0 a1 a2) (Filtered b0 b1 b2) (Parts c0 c1 c2) p q = absurd q
+keeps_again (Filtered a0 a1 a2) (Filtered b0 b1 b2) (Terminal c0) p q = absurd q
+keeps_again (Filtered a0 a1 a2) (Parts b0 b1 b2) h p q = absurd p
+keeps_again (Filtered a0 a1 a2) (Terminal b0) h p q = absurd p
+keeps_again (Parts a0 a1 a2) (Leaf b0 b1) h p q = absurd p
+keeps_again (Parts a0 a1 a2) (Filtered b0 b1 b2) h p q = absurd p
+keeps_again (Parts a0 a1 a2) (Parts b0 b1 b2) (Leaf c0 c1) p q = absurd q
+keeps_again (Parts a0 a1 a2) (Parts b0 b1 b2) (Filtered c0 c1 c2) p q = absurd q
+keeps_again (Parts a0 a1 a2) (Parts b0 b1 b2) (Terminal c0) p q = absurd q
+keeps_again (Parts a0 a1 a2) (Terminal b0) h p q = absurd p
+keeps_again (Terminal a0) (Leaf b0 b1) h p q = absurd p
+keeps_again (Terminal a0) (Filtered b0 b1 b2) h p q = absurd p
+keeps_again (Terminal a0) (Parts b0 b1 b2) h p q = absurd p
+keeps_again (Terminal a0) (Terminal b0) (Leaf c0 c1) p q = absurd q
+keeps_again (Terminal a0) (Terminal b0) (Filtered c0 c1 c2) p q = absurd q
+keeps_again (Terminal a0) (Terminal b0) (Parts c0 c1 c2) p q = absurd q
 
 -- ---- stores that are the same, extensions aside
 
@@ -92,8 +93,8 @@ aside_state s t e = same_aside s.store t.store (ap (λ (r : RegistryState). r.st
 pub filters_same : {s t : RegistryState} → t ≡ s → t.filters ≡ s.filters
 filters_same e = ap (λ (r : RegistryState). r.filters) e
 
-pub settled_aside : (s t : Store) → SameAside s t → IsSettled s.spans → IsSettled t.spans
-settled_aside s t a h = subst IsSettled (sym a.spans) h
+pub settled_aside : (s t : Store) → SameAside s t → HasNoClosing s.spans → HasNoClosing t.spans
+settled_aside s t a h = subst HasNoClosing (sym a.spans) h
 
 -- what the registry's own step makes of a notice: the store after it, which this registry has, extensions aside, on as many filters
 pub record StepsTo (f : Form) (lane : Lane) (e : Notice) (s t : RegistryState) : Type 0 where
@@ -103,7 +104,7 @@ pub record StepsTo (f : Form) (lane : Lane) (e : Notice) (s t : RegistryState) :
   pub left : SameAside after t.store
   pub ends : (u : RegistryState) → Ends e u u
   pub filters : t.filters ≡ s.filters
-  pub settled : IsSettled s.store.spans → IsSettled t.store.spans
+  pub settled : HasNoClosing s.store.spans → HasNoClosing t.store.spans
 
 module _ {S : Type 0} {registry : S → RegistryState} {with_registry : S → RegistryState → S} {usable : S → Type 0} {has_form : S → Form → Type 0} {stepped : StackSteps S} {hears : HearSteps S} {registered : S → S → Type 0}
     (laws : StackLaws with_registry usable has_form stepped hears registered) (with_own : (s : S) → with_registry s (registry s) ≡ s) (levelled : LevelSteps S) where
@@ -112,12 +113,12 @@ module _ {S : Type 0} {registry : S → RegistryState} {with_registry : S → Re
 
   -- a form that follows, on as many filters, is honest
   abbrev pub StillHonest : Form → S → S → Type 0
-  StillHonest f x y = (g : Form) × Honest g y × Keeps f g × ((registry y).filters ≡ (registry x).filters)
+  StillHonest f x y = (g : Form) × Honest g y × KeepsForm f g × ((registry y).filters ≡ (registry x).filters)
 
-  followed : (f : Form) (x y : S) → Honest f x → Follows (has_form y) f → (registry y).filters ≡ (registry x).filters → StillHonest f x y
+  followed : (f : Form) (x y : S) → Honest f x → HasKeptForm (has_form y) f → (registry y).filters ≡ (registry x).filters → StillHonest f x y
   followed f x y h k e = (k.0, record { has = k.1; rules = subst (λ n. IsHonestStack k.0 n) (sym e) (honesty_is_kept f k.0 (registry x).filters (kept_rules f k.0 k.2) h.rules) }, k.2, e)
 
-  elsewhere : (f : Form) (x y : S) (w : RegistryState) → y ≡ with_registry x w → Follows (has_form x) f → Follows (has_form y) f
+  elsewhere : (f : Form) (x y : S) (w : RegistryState) → y ≡ with_registry x w → HasKeptForm (has_form x) f → HasKeptForm (has_form y) f
   elsewhere f x y w e k = (k.0, subst (λ z. has_form z k.0) (sym e) (laws.form_with x w k.0 k.1), k.2)
 
   -- after a notice an honest stack is honest
@@ -136,18 +137,18 @@ module _ {S : Type 0} {registry : S → RegistryState} {with_registry : S → Re
 
   -- it is ready again, by a form that keeps what the old one had, on as many filters
   abbrev pub StillReady : Form → S → S → Type 0
-  StillReady f x y = (g : Form) × Ready g y × Keeps f g × ((registry y).filters ≡ (registry x).filters)
+  StillReady f x y = (g : Form) × Ready g y × KeepsForm f g × ((registry y).filters ≡ (registry x).filters)
 
   -- it is told, and the stack is ready again where no span was closing
   abbrev pub Done : Call → Answer → Form → S → S → Type 0
-  Done call a f x y = IsTold registry with_registry has_form stepped levelled call f a x y × (IsSettled (registry x).store.spans → StillReady f x y)
+  Done call a f x y = IsTold registry with_registry has_form stepped levelled call f a x y × (HasNoClosing (registry x).store.spans → StillReady f x y)
 
-  pub by_none : (call : Call) (a : Answer) (f : Form) (x y : S) → Honest f x → y ≡ x → OutcomesOf (call, a) (registry x).store [] → (a ≡ answer.Dropped → IsUnwantedCall call f (registry x).store) → Done call a f x y
+  pub by_none : (call : Call) (a : Answer) (f : Form) (x y : S) → Honest f x → y ≡ x → OutcomesOf call a (registry x).store [] → (a ≡ answer.Dropped → IsUnwantedCall call f (registry x).store) → Done call a f x y
   by_none call a f x y h e says loses =
       (([], record { says = says; goes = sym e; loses = loses }), λ s. (f, subst (Ready f) (sym e) (record { honest = h; settled = s }), kept_form f, ap (λ z. (registry z).filters) e))
 
   -- a call of the stack, which notified by a plan that is the plan asked afresh
-  pub by_call : (call : Call) (a : Answer) (f : Form) (lane : Lane) (e : Notice) (refused : FilterSet) (step : RegistryState → RegistryState → Type 0) (x y : S) → Honest f x → OutcomesOf (call, a) (registry x).store (Noticed lane e ∷ []) → (a ≡ answer.Dropped → ⊥)
+  pub by_call : (call : Call) (a : Answer) (f : Form) (lane : Lane) (e : Notice) (refused : FilterSet) (step : RegistryState → RegistryState → Type 0) (x y : S) → Honest f x → OutcomesOf call a (registry x).store (Noticed lane e ∷ []) → (a ≡ answer.Dropped → ⊥)
       → (n : Notifies registry has_form stepped lane refused e step x y) → by_pass f e n.left.store.spans no_filter refused ≡ asked_afresh f e (registry x).store lane.0 no_filter → StepsTo f lane e (registry x) n.left → Done call a f x y
   by_call call a f lane e refused step x y h says done n plan to =
       let m : OutcomeAt = record { form = f; before = (registry x).store; after = to.after; outcome = Noticed lane e } in
@@ -155,14 +156,14 @@ module _ {S : Type 0} {registry : S → RegistryState} {with_registry : S → Re
         left = n.left;
         given = to.given;
         notified = y;
-        layers = subst (λ p. stepped x p e lane.0 n.left y (registry y)) plan (n.notified f h.has h.rules.still);
+        layers = subst (λ p. stepped x p e lane.0 n.left y (registry y)) plan (n.notified f h.has (rules_of f _ h.rules).still);
         hooks = n.extensions;
         ends = to.ends (registry y);
         rest = sym (with_own y);
       } in
       let next = honest_after f lane e (registry x).store to.after x y h notices (n.extensions.filters ∙ to.filters) in (
         (m ∷ [], record { says = says; goes = (y, record { honest = h; before = refl; steps = to.steps; after = aside_hooks to.after n.left (registry y) to.left n.extensions; layers = notices }, refl); loses = λ d. absurd (done d) }),
-        λ s. (next.0, record { honest = next.1; settled = subst IsSettled (sym n.extensions.spans) (to.settled s) }, next.2, next.3),
+        λ s. (next.0, record { honest = next.1; settled = subst HasNoClosing (sym n.extensions.spans) (to.settled s) }, next.2, next.3),
       )
 
   -- this was made by a quiet change
@@ -170,8 +171,8 @@ module _ {S : Type 0} {registry : S → RegistryState} {with_registry : S → Re
       → Makes registry with_registry has_form stepped levelled x (record { form = f; before = (registry x).store; after = t; outcome = Quiet c }) y
   changed f c x y t h steps store rest = record { honest = h; before = refl; steps = steps; after = same_aside t (registry y).store (ap (λ (r : RegistryState). r.store) store); layers = record { store = store; rest = rest } }
 
-  pub by_change : (call : Call) (a : Answer) (f : Form) (c : Change) (x y : S) → Honest f x → OutcomesOf (call, a) (registry x).store (Quiet c ∷ []) → (a ≡ answer.Dropped → ⊥)
-      → (t : Store) → Steps f (Quiet c) (registry x).store t → registry y ≡ record (registry x) { store = t } → y ≡ with_registry x (registry y) → (registry y).filters ≡ (registry x).filters → (IsSettled (registry x).store.spans → IsSettled (registry y).store.spans)
+  pub by_change : (call : Call) (a : Answer) (f : Form) (c : Change) (x y : S) → Honest f x → OutcomesOf call a (registry x).store (Quiet c ∷ []) → (a ≡ answer.Dropped → ⊥)
+      → (t : Store) → Steps f (Quiet c) (registry x).store t → registry y ≡ record (registry x) { store = t } → y ≡ with_registry x (registry y) → (registry y).filters ≡ (registry x).filters → (HasNoClosing (registry x).store.spans → HasNoClosing (registry y).store.spans)
       → Done call a f x y
   by_change call a f c x y h says done t steps store rest filters settled =
       let m : OutcomeAt = record { form = f; before = (registry x).store; after = t; outcome = Quiet c } in
@@ -199,7 +200,7 @@ module _ {S : Type 0} (registry : S → RegistryState) (with_registry : S → Re
       → registry (stack_of new) ≡ registry (stack_of old) → ((g : Form) (m : ℕ) → Kept g m new.cache) → IsReadyAfter registry with_registry has_form stepped levelled Kept (LevelsForm n) f new
   ready_levelled Kept f n l old new h goes same kept =
       let k = honest_levelled f n l (stack_of old) (stack_of new) h.stack.honest goes same in
-      (k.0, record { stack = record { honest = k.1; settled = subst (λ (s : RegistryState). IsSettled s.store.spans) (sym same) h.stack.settled }; kept = kept k.0 (registry (stack_of new)).filters }, k.2)
+      (k.0, record { stack = record { honest = k.1; settled = subst (λ (s : RegistryState). HasNoClosing s.store.spans) (sym same) h.stack.settled }; kept = kept k.0 (registry (stack_of new)).filters }, k.2)
 
   -- a level was set
   pub level_told : (f : Form) (n : ℕ) (l : LevelFilter) (x y : S) → IsHonest registry with_registry has_form stepped levelled f x → takes_level f n l ≡ true → levelled x n l y → registry y ≡ registry x
@@ -232,21 +233,21 @@ forgotten_kept (cache.Filled k) = refl
 -- ---- a dispatcher that is ready
 
 -- what a form that keeps what another had would answer now is what that would
-current_again : (f g : Form) (n : ℕ) (k : Known) → Keeps f g → IsCurrent f n k → IsCurrent g n k
+current_again : (f g : Form) (n : ℕ) (k : Known) → KeepsForm f g → MatchesStack f n k → MatchesStack g n k
 current_again f g n k e h = record {
   hint = h.hint ∙ sym (hint_is_kept f g e);
   number = h.number;
   interest = λ m one at. h.interest m one at ∙ sym (ap (λ (p : Interest × Option Interest). p.0) (interest_is_kept f g e one.metadata n));
 }
 
-pub up_to_date_again : (f g : Form) (n : ℕ) (c : Cache) → Keeps f g → IsUpToDate f n c → IsUpToDate g n c
+pub up_to_date_again : (f g : Form) (n : ℕ) (c : Cache) → KeepsForm f g → IsUpToDate f n c → IsUpToDate g n c
 up_to_date_again f g n cache.Off e h = h
 up_to_date_again f g n cache.Empty e h = h
 up_to_date_again f g n (cache.Filled k) e h = current_again f g n k e h
 
 -- what is said of what is kept holds by a form that keeps another
 abbrev pub HoldsAgain : (Form → ℕ → Cache → Type 0) → Type 0
-HoldsAgain Kept = (f g : Form) (n : ℕ) (c : Cache) → Keeps f g → Kept f n c → Kept g n c
+HoldsAgain Kept = (f g : Form) (n : ℕ) (c : Cache) → KeepsForm f g → Kept f n c → Kept g n c
 
 module _ {S : Type 0} (registry : S → RegistryState) (with_registry : S → RegistryState → S) (has_form : S → Form → Type 0) (stepped : StackSteps S) (levelled : LevelSteps S) where
   module _ (Kept : Form → ℕ → Cache → Type 0) where
@@ -258,22 +259,22 @@ module _ {S : Type 0} (registry : S → RegistryState) (with_registry : S → Re
 
     -- whose stack is ready again, and which keeps what the old stack would answer
     pub ready_again : HoldsAgain Kept → (f : Form) (old new : Dispatch S)
-        → (g : Form) × IsReady registry with_registry has_form stepped levelled g (stack_of new) × Keeps f g × ((registry (stack_of new)).filters ≡ (registry (stack_of old)).filters) → Kept f (registry (stack_of old)).filters new.cache → AfterWith Keeps f new
+        → (g : Form) × IsReady registry with_registry has_form stepped levelled g (stack_of new) × KeepsForm f g × ((registry (stack_of new)).filters ≡ (registry (stack_of old)).filters) → Kept f (registry (stack_of old)).filters new.cache → AfterWith KeepsForm f new
     ready_again again f old new h k = (h.0, record { stack = h.1; kept = subst (λ n. Kept h.0 n new.cache) (sym h.3) (again f h.0 (registry (stack_of old)).filters new.cache h.2 k) }, h.2)
 
     -- a stack that stays as it is, or is the same, is ready by the form that it had
-    pub stays_so : HoldsAgain Kept → (f : Form) (old new : Dispatch S) → stack_of new ≡ stack_of old → Kept f (registry (stack_of old)).filters new.cache → ReadyWith f old → AfterWith Keeps f new
+    pub stays_so : HoldsAgain Kept → (f : Form) (old new : Dispatch S) → stack_of new ≡ stack_of old → Kept f (registry (stack_of old)).filters new.cache → ReadyWith f old → AfterWith KeepsForm f new
     stays_so again f old new e k h = ready_again again f old new (f, subst (λ x. IsReady registry with_registry has_form stepped levelled f x) (sym e) h.stack, kept_form f, ap (λ x. (registry x).filters) e) k
 
     -- one that is as it was
-    pub stays_same : (f : Form) (old new : Dispatch S) → new ≡ old → ReadyWith f old → AfterWith Keeps f new
+    pub stays_same : (f : Form) (old new : Dispatch S) → new ≡ old → ReadyWith f old → AfterWith KeepsForm f new
     stays_same f old new e h = (f, subst (λ d. ReadyWith f d) (sym e) h, kept_form f)
 
     pub same_but : (f : Form) (n : ℕ) (old new : Dispatch S) → new ≡ old → ReadyWith f old → AfterWith (LevelsForm n) f new
     same_but f n old new e h = (f, subst (λ d. ReadyWith f d) (sym e) h, same_levels n f)
 
     -- whatever it keeps, it keeps the rules
-    pub by_keeping : (f : Form) (d : Dispatch S) → AfterWith Keeps f d → AfterWith KeepsRules f d
+    pub by_keeping : (f : Form) (d : Dispatch S) → AfterWith KeepsForm f d → AfterWith KeepsRules f d
     by_keeping f d h = (h.0, h.1, kept_rules f h.0 h.2)
 
     pub by_level : (n : ℕ) (f : Form) (d : Dispatch S) → AfterWith (LevelsForm n) f d → AfterWith KeepsRules f d
@@ -281,7 +282,7 @@ module _ {S : Type 0} (registry : S → RegistryState) (with_registry : S → Re
 
     -- one that is new, and keeps nothing yet
     pub first_ready : (f : Form) (x : S) (d : Dispatch S)
-        → (g : Form) × IsReady registry with_registry has_form stepped levelled g (stack_of d) × Keeps f g × ((registry (stack_of d)).filters ≡ (registry x).filters) → ((g : Form) (n : ℕ) → Kept g n d.cache) → AfterWith Keeps f d
+        → (g : Form) × IsReady registry with_registry has_form stepped levelled g (stack_of d) × KeepsForm f g × ((registry (stack_of d)).filters ≡ (registry x).filters) → ((g : Form) (n : ℕ) → Kept g n d.cache) → AfterWith KeepsForm f d
     first_ready f x d h k = (h.0, record { stack = h.1; kept = k h.0 (registry (stack_of d)).filters }, h.2)
 
   -- a call that leaves the stack as it is

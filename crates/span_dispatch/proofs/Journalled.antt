@@ -21,7 +21,7 @@ use Rattle.span_dispatch.specs.Serve.{stack_of}
 use Rattle.span_dispatch.specs.declared.dispatch.Dispatch.{Dispatch}
 use Rattle.span_dispatch.specs.declared.entry.EntryWith.TheVariants as entry
 use Rattle.span_registry.proofs.CallerLemmas.{settled_aside, settled_cloned, settled_entered, settled_exited, settled_new, settled_opened}
-use Rattle.span_registry.specs.Closes.{IsSettled}
+use Rattle.span_registry.specs.Closes.{HasNoClosing}
 use Rattle.span_registry.specs.Step.{AskedSpan, Clones, Enters, Exits, Opens, ShowsCurrent, begun}
 use Rattle.span_registry.specs.Store.{RegistryState, Span, Spans, Store, empty_store}
 use Rattle.span_registry.specs.Subscriber.{AndHooks, SameButExtensions}
@@ -48,7 +48,7 @@ bare_same s t h = λ i. record { spans = h.spans i; extensions = empty; issued =
 
 -- what a step is, as an entry, and that no span is closing after it where none was before
 abbrev pub Goes : RegistryState → Entry → RegistryState → Type 0
-Goes s e t = Happens (bare s.store) e (bare t.store) × (IsSettled s.store.spans → IsSettled t.store.spans)
+Goes s e t = Happens (bare s.store) e (bare t.store) × (HasNoClosing s.store.spans → HasNoClosing t.store.spans)
 
 -- hooks may write extensions after it
 pub goes_aside : (s t u : RegistryState) (e : Entry) → Goes s e t → SameButExtensions t u → Goes s e u
@@ -63,8 +63,8 @@ enters lane id s t h = ((h.is_open, ap (λ (r : RegistryState). bare r.store) h.
 pub exits : (lane : Lane) (id : Id) (s t : RegistryState) → Exits lane id s t → Goes s (entry.Exit lane id) t
 exits lane id s t h = (ap (λ (r : RegistryState). bare r.store) h, settled_exited lane id s t h)
 
-pub stays : (s t : RegistryState) → t ≡ s → (bare t.store ≡ bare s.store) × (IsSettled s.store.spans → IsSettled t.store.spans)
-stays s t e = (ap (λ (r : RegistryState). bare r.store) e, λ k. subst (λ (r : RegistryState). IsSettled r.store.spans) (sym e) k)
+pub stays : (s t : RegistryState) → t ≡ s → (bare t.store ≡ bare s.store) × (HasNoClosing s.store.spans → HasNoClosing t.store.spans)
+stays s t e = (ap (λ (r : RegistryState). bare r.store) e, λ k. subst (λ (r : RegistryState). HasNoClosing r.store.spans) (sym e) k)
 
 pub records : (lane : Lane) (id : Id) (s t : RegistryState) → FindsOpen id s t → Goes s (entry.Record lane id) t
 records lane id s t h = ((h.0, (stays s t h.1).0), (stays s t h.1).1)
@@ -104,7 +104,7 @@ shows lane c s h o e = ((subst (λ n. IsCurrentOf n) (sym (ap (λ p. option_map 
     twice (Some q) = refl
     twice None = refl
 
-pub drops_on : {S : Type 0} (registry : S → RegistryState) (x y : S) (lane : Lane) (id : Id) (closes : Bool) → AndHooks registry (DropsSpan id closes) x y → (IsSettled (registry x).store.spans → IsSettled (registry y).store.spans) → Goes (registry x) (entry.Drop lane id closes) (registry y)
+pub drops_on : {S : Type 0} (registry : S → RegistryState) (x y : S) (lane : Lane) (id : Id) (closes : Bool) → AndHooks registry (DropsSpan id closes) x y → (HasNoClosing (registry x).store.spans → HasNoClosing (registry y).store.spans) → Goes (registry x) (entry.Drop lane id closes) (registry y)
 drops_on registry x y lane id closes h k = (subst (λ v. Happens (bare (registry x).store) (entry.Drop lane id closes) v) (sym (bare_same h.stepped (registry y) h.hooks)) (drops id closes lane (registry x) h.stepped h.taken), k)
 
 pub none_of : (o : Option Id) (A : Type 0) (B : Id → Type 0) → o ≡ None → MatchOption o A B → A
@@ -124,7 +124,7 @@ module _ {S : Type 0} (registry : S → RegistryState) (usable : S → Type 0) w
   begun_journal d may fresh = record {
     may = may;
     leaves = sym (ap bare fresh);
-    settled = subst (λ (s : Store). IsSettled s.spans) (sym fresh) (settled_new (registry (stack_of d)).limits);
+    settled = subst (λ (s : Store). HasNoClosing s.spans) (sym fresh) (settled_new (registry (stack_of d)).limits);
   }
 
   -- an entry that is what the dispatcher did, put behind those that were reserved room for
@@ -140,5 +140,5 @@ module _ {S : Type 0} (registry : S → RegistryState) (usable : S → Type 0) w
   kept_same old new es fs k is same = record {
     may = subst usable (sym same) k.may;
     leaves = subst (λ l. Leaves l (registry (stack_of new)).store) (sym is) (subst (λ (x : S). Leaves es (registry x).store) (sym same) k.leaves);
-    settled = subst (λ (x : S). IsSettled (registry x).store.spans) (sym same) k.settled;
+    settled = subst (λ (x : S). HasNoClosing (registry x).store.spans) (sym same) k.settled;
   }

@@ -13,7 +13,7 @@ use Rattle.span_dispatch.specs.Outcome.{GoneLeft, HandleAdded, HandleTaken, Leve
 use Rattle.span_core.specs.declared.span.Attributes.{Attributes}
 use Rattle.span_dispatch.specs.Serve.{StandOnce, closed_by, closed_in}
 use Rattle.span_registry.proofs.Chains.{get_beside, get_kept, get_removed, same_test, test_same}
-use Rattle.span_registry.specs.Answers.{OnClose, OnEnter, OnEvent, OnExit, OnFollows, OnIdChange, OnNewSpan, OnRecord}
+use Rattle.span_registry.specs.Behaviour.{OnClose, OnEnter, OnEvent, OnExit, OnFollows, OnIdChange, OnNewSpan, OnRecord}
 use Rattle.span_registry.specs.Closes.{Member}
 use Rattle.span_registry.specs.Form.{Form}
 use Rattle.span_registry.specs.Hooks.{StackSteps}

@@ -13,18 +13,18 @@ use Rattle.span_core.specs.declared.span.Id.{Id}
 use Rattle.span_core.specs.declared.span.Lane.{Lane}
 use Rattle.span_dispatch.proofs.Alone.{no_verdict, on_path, verdict_of_path}
 use Rattle.span_dispatch.proofs.Seen.{beneath, some_path}
-use Rattle.span_dispatch.specs.Alone.{form_of_path, passed, seen}
+use Rattle.span_dispatch.specs.Alone.{form_of_path, passed, passed_at}
 use Rattle.span_dispatch.specs.Outcome.{LevelSet, OutcomeAt, Makes, Noticed, Outcome, Quiet, Steps, given_in}
 use Rattle.span_dispatch.specs.Readable.{ClosesAsItOpened, ShowTheirSpans, ShowsItsSpan}
 use Rattle.span_layers.specs.Verdict.{AreDistinct, in_verdict, numbers_of}
 use Rattle.span_registry.proofs.Chains.{get_put}
 use Rattle.span_registry.proofs.Plain.{shown_as_passed}
-use Rattle.span_registry.specs.Answers.{Answers, Notice, OnClose, OnEnter, OnEvent, OnExit, OnFollows, OnIdChange, OnNewSpan, OnRecord}
-use Rattle.span_registry.specs.Form.{Bare, Filtered, Form, Leaf, Over}
+use Rattle.span_registry.specs.Behaviour.{Behaviour, Notice, OnClose, OnEnter, OnEvent, OnExit, OnFollows, OnIdChange, OnNewSpan, OnRecord}
+use Rattle.span_registry.specs.Form.{Terminal, Filtered, Form, Leaf, Parts}
 use Rattle.span_registry.specs.Hooks.{StackSteps, no_filter}
 use Rattle.span_registry.specs.Levels.{KeepsRules, LevelSteps}
 use Rattle.span_registry.specs.Path.{Path, mask_of, passes_path, path_at}
-use Rattle.span_registry.specs.Place.{Heard, Here, Inner, Outer, Place, Told, Under, told_in}
+use Rattle.span_registry.specs.Position.{Heard, Here, Inner, Outer, Position, Told, Under, told_in}
 use Rattle.span_registry.specs.Plan.{is_passed, passes}
 use Rattle.span_registry.specs.Question.{single}
 use Rattle.span_registry.specs.Step.{begun}
@@ -33,12 +33,12 @@ use Rattle.span_registry.specs.View.{is_shown, plain_view, view_of}
 
 -- ---- the filters of a path
 
-path_distinct : (f : Form) (place : Place) (path : Path) → AreDistinct f → path_at f place ≡ Some path → AreDistinct (form_of_path path)
+path_distinct : (f : Form) (position : Position) (path : Path) → AreDistinct f → path_at f position ≡ Some path → AreDistinct (form_of_path path)
 path_distinct (Leaf still a) Here path d h = subst (λ (p : Path). AreDistinct (form_of_path p)) (some_path [] path h) tt
 path_distinct (Leaf still a) (Under p) path d h = absurd (cc)
 path_distinct (Leaf still a) (Outer p) path d h = absurd (cc)
 path_distinct (Leaf still a) (Inner p) path d h = absurd (cc)
-path_distinct (Bare v) p path d h = absurd (cc)
+path_distinct (Terminal v) p path d h = absurd (cc)
 path_distinct (Filtered None a f) Here path d h = subst (λ (p : Path). AreDistinct (form_of_path p)) (some_path ((None, a) ∷ []) path h) tt
 path_distinct (Filtered (Some n) a f) Here path d h = subst (λ (p : Path). AreDistinct (form_of_path p)) (some_path ((Some n, a) ∷ []) path h) (refl, tt)
 path_distinct (Filtered None a f) (Under p) path d h =
@@ -49,10 +49,10 @@ path_distinct (Filtered (Some n) a f) (Under p) path d h =
     subst (λ (r : Path). AreDistinct (form_of_path r)) rest.2 (other, path_distinct f p rest.0 d.1 rest.1)
 path_distinct (Filtered n a f) (Outer p) path d h = absurd (cc)
 path_distinct (Filtered n a f) (Inner p) path d h = absurd (cc)
-path_distinct (Over j o i) Here path d h = absurd (cc)
-path_distinct (Over j o i) (Under p) path d h = absurd (cc)
-path_distinct (Over j o i) (Outer p) path d h = path_distinct o p path d.0 h
-path_distinct (Over j o i) (Inner p) path d h = path_distinct i p path d.1 h
+path_distinct (Parts j o i) Here path d h = absurd (cc)
+path_distinct (Parts j o i) (Under p) path d h = absurd (cc)
+path_distinct (Parts j o i) (Outer p) path d h = path_distinct o p path d.0 h
+path_distinct (Parts j o i) (Inner p) path d h = path_distinct i p path d.1 h
 
 -- the mask of a path has its filters, and those that were there
 in_mask : (path : Path) (under : FilterSet) (k : ℕ) → IsTrue (mask_of path under k) → IsTrue (under k || numbers_of (form_of_path path) k)
@@ -94,7 +94,7 @@ passed_by_none : (o : Option Span) (r : Span) → o ≡ Some r → option_map_or
 passed_by_none o r e = ap (λ (p : Option Span). option_map_or (λ (q : Span). not (meets no_filter (refuses q.verdict))) p false) e ∙ ap not (hides_none no_filter (refuses r.verdict) (λ k t. absurd (false≢true t)))
 
 -- along a path that passes the notice, each filter's mask passes a span that the notice asks of
-passed_down : (spans : Spans) (id : Id) (path : Path) (e : Notice) (s : Store) (lane : ℕ) (under : FilterSet) → ((a : Answers) (set : FilterSet) → passes a e s lane set ≡ true → is_passed spans set id ≡ true)
+passed_down : (spans : Spans) (id : Id) (path : Path) (e : Notice) (s : Store) (lane : ℕ) (under : FilterSet) → ((a : Behaviour) (set : FilterSet) → passes a e s lane set ≡ true → is_passed spans set id ≡ true)
     → is_passed spans under id ≡ true → passes_path path e s lane under ≡ true → is_passed spans (mask_of path under) id ≡ true
 passed_down spans id [] e s lane under asks here h = here
 passed_down spans id ((None, a) ∷ path) e s lane under asks here h = absurd (false≢true h)
@@ -110,45 +110,45 @@ module _ {S : Type 0} (registry : S → RegistryState) (with_registry : S → Re
   MakesOne = Makes registry with_registry has_form stepped levelled
 
   -- a span that is in the store, asked for by the notice itself
-  told_of_one : (path : Path) (e : Notice) (s given : Store) (lane : ℕ) (id : Id) (r : Span) → given.spans ≡ s.spans → get s.spans (number_of id) ≡ Some r → ((a : Answers) (set : FilterSet) → passes a e s lane set ≡ true → is_passed s.spans set id ≡ true)
+  told_of_one : (path : Path) (e : Notice) (s given : Store) (lane : ℕ) (id : Id) (r : Span) → given.spans ≡ s.spans → get s.spans (number_of id) ≡ Some r → ((a : Behaviour) (set : FilterSet) → passes a e s lane set ≡ true → is_passed s.spans set id ≡ true)
       → passes_path path e s lane no_filter ≡ true → is_shown (plain_view given lane (mask_of path no_filter)).spans (number_of id) ≡ true
   told_of_one path e s given lane id r same there asks h =
       let mask = mask_of path no_filter in
       shown_passed given lane mask id (ap (λ (m : Spans). is_passed m mask id) same ∙ passed_down s.spans id path e s lane no_filter asks (passed_by_none (get s.spans (number_of id)) r there) h)
 
   -- the notice that a leaf's path passes is of a span that its context shows
-  told_of_span : (f : Form) (place : Place) (path : Path) (lane : Lane) (e : Notice) (s t : Store) → AreDistinct f → path_at f place ≡ Some path → Steps f (Noticed lane e) s t → passes_path path e s lane.0 no_filter ≡ true
+  told_of_span : (f : Form) (position : Position) (path : Path) (lane : Lane) (e : Notice) (s t : Store) → AreDistinct f → path_at f position ≡ Some path → Steps f (Noticed lane e) s t → passes_path path e s lane.0 no_filter ≡ true
       → ShowsItsSpan (told_in e (given_in e s t) lane.0 (mask_of path no_filter))
-  told_of_span f place path lane (OnNewSpan attrs id) s t d at step h =
+  told_of_span f position path lane (OnNewSpan attrs id) s t d at step h =
       let mask = mask_of path no_filter in
       let r = begun (record { metadata = metadata_of attrs; parent = asked_parent attrs; verdict = step.verdict }) step.parent in
       let spans : t.spans ≡ insert s.spans (number_of id) r = ap (λ (u : Store). u.spans) step.state in
       let none = hides_none mask (refuses step.verdict) (λ k k_in.
       let own = in_mask path no_filter k k_in in
-      step.refused k ∙ verdict_of_path f place path (metadata_of attrs) s lane.0 no_filter k d at own ∙ none_refuses path attrs id s lane.0 no_filter k h) in
+      step.refused k ∙ verdict_of_path f position path (metadata_of attrs) s lane.0 no_filter k d at own ∙ none_refuses path attrs id s lane.0 no_filter k h) in
       let passed_now : is_passed t.spans mask id ≡ true =
       ap (λ (m : Spans). is_passed m mask id) spans ∙ ap (λ (o : Option Span). option_map_or (λ q. not (meets mask (refuses q.verdict))) o false) (get_put s.spans (number_of id) r) ∙ ap not none in
       shown_passed t lane.0 mask id passed_now
-  told_of_span f place path lane (OnRecord id values) s t d at step h = told_of_one path (OnRecord id values) s t lane.0 id step.0.0 (ap (λ (u : Store). u.spans) step.1) step.0.1 (λ a set p. p) h
-  told_of_span f place path lane (OnFollows id other) s t d at step h =
+  told_of_span f position path lane (OnRecord id values) s t d at step h = told_of_one path (OnRecord id values) s t lane.0 id step.0.0 (ap (λ (u : Store). u.spans) step.1) step.0.1 (λ a set p. p) h
+  told_of_span f position path lane (OnFollows id other) s t d at step h =
       told_of_one path (OnFollows id other) s t lane.0 id step.0.0 (ap (λ (u : Store). u.spans) step.1) step.0.1 (λ a set p. (and_parts (is_passed s.spans set id) (is_passed s.spans set other) p).0) h
-  told_of_span f place path lane (OnEvent e) s t d at step h = tt
-  told_of_span f place path lane (OnEnter id) s t d at step h = told_of_one path (OnEnter id) s t lane.0 id step.0.0 (ap (λ (u : Store). u.spans) step.1) step.0.1 (λ a set p. p) h
-  told_of_span f place path lane (OnExit id) s t d at step h = told_of_one path (OnExit id) s t lane.0 id step.0.0 (ap (λ (u : Store). u.spans) step.1) step.0.1 (λ a set p. p) h
-  told_of_span f place path lane (OnIdChange id other) s t d at step h = absurd step
-  told_of_span f place path lane (OnClose id) s t d at step h = told_of_one path (OnClose id) s s lane.0 id step.0.0 refl step.0.1 (λ a set p. p) h
+  told_of_span f position path lane (OnEvent e) s t d at step h = tt
+  told_of_span f position path lane (OnEnter id) s t d at step h = told_of_one path (OnEnter id) s t lane.0 id step.0.0 (ap (λ (u : Store). u.spans) step.1) step.0.1 (λ a set p. p) h
+  told_of_span f position path lane (OnExit id) s t d at step h = told_of_one path (OnExit id) s t lane.0 id step.0.0 (ap (λ (u : Store). u.spans) step.1) step.0.1 (λ a set p. p) h
+  told_of_span f position path lane (OnIdChange id other) s t d at step h = absurd step
+  told_of_span f position path lane (OnClose id) s t d at step h = told_of_one path (OnClose id) s s lane.0 id step.0.0 refl step.0.1 (λ a set p. p) h
 
   if_told : (b : Bool) (told : Told) → (b ≡ true → ShowsItsSpan told) → ShowTheirSpans (if b then told ∷ [] else [])
   if_told true told h = (h refl, tt)
   if_told false told h = tt
 
-  told_of_made : (x : S) (m : OutcomeAt) (y : S) (place : Place) (o : Option Path) → path_at m.form place ≡ o → MakesOne x m y → ShowTheirSpans (passed o m.outcome m.before m.after)
-  told_of_made x m y place o at made = by_outcome m.outcome o at made.steps
+  told_of_made : (x : S) (m : OutcomeAt) (y : S) (position : Position) (o : Option Path) → path_at m.form position ≡ o → MakesOne x m y → ShowTheirSpans (passed o m.outcome m.before m.after)
+  told_of_made x m y position o at made = by_outcome m.outcome o at made.steps
     where
-      by_outcome : (out : Outcome) (p : Option Path) → path_at m.form place ≡ p → Steps m.form out m.before m.after → ShowTheirSpans (passed p out m.before m.after)
+      by_outcome : (out : Outcome) (p : Option Path) → path_at m.form position ≡ p → Steps m.form out m.before m.after → ShowTheirSpans (passed p out m.before m.after)
       by_outcome (Noticed lane e) None h g = tt
       by_outcome (Noticed lane e) (Some path) h g =
-          if_told (passes_path path e m.before lane.0 no_filter) (told_in e (given_in e m.before m.after) lane.0 (mask_of path no_filter)) (λ t. told_of_span m.form place path lane e m.before m.after made.honest.rules.numbers.distinct h g t)
+          if_told (passes_path path e m.before lane.0 no_filter) (told_in e (given_in e m.before m.after) lane.0 (mask_of path no_filter)) (λ t. told_of_span m.form position path lane e m.before m.after made.honest.rules.numbers.distinct h g t)
       by_outcome (Quiet c) None h g = tt
       by_outcome (Quiet c) (Some path) h g = tt
       by_outcome (LevelSet n l) None h g = tt
@@ -159,10 +159,10 @@ module _ {S : Type 0} (registry : S → RegistryState) (with_registry : S → Re
   both_show (one ∷ h) k a b = (a.0, both_show h k a.1 b)
 
   -- so of all that was made
-  pub told_can_be_read : (x : S) (ms : List OutcomeAt) (y : S) (place : Place) → FoldsTo MakesOne x ms y → ShowTheirSpans (seen place ms)
-  told_can_be_read x [] y place h = tt
-  told_can_be_read x (m ∷ ms) y place h =
-      both_show (passed (path_at m.form place) m.outcome m.before m.after) (seen place ms) (told_of_made x m h.0 place (path_at m.form place) refl h.1) (told_can_be_read h.0 ms y place h.2)
+  pub told_can_be_read : (x : S) (ms : List OutcomeAt) (y : S) (position : Position) → FoldsTo MakesOne x ms y → ShowTheirSpans (passed_at position ms)
+  told_can_be_read x [] y position h = tt
+  told_can_be_read x (m ∷ ms) y position h =
+      both_show (passed (path_at m.form position) m.outcome m.before m.after) (passed_at position ms) (told_of_made x m h.0 position (path_at m.form position) refl h.1) (told_can_be_read h.0 ms y position h.2)
 
 -- ---- a close is told to whom the span was
 
@@ -222,7 +222,7 @@ module _ (attrs : Attributes) (id : Id) (r : Span) (s t : Store) (lane later : �
           ap (λ (q : Bool). q && passes_path other (OnClose id) t later set) stopped ∙ ap (λ (q : Bool). q && passes_path path (OnNewSpan attrs id) s lane set) (sym e)
 
 -- what follows a form has the same numbers on each path
-numbers_kept : (f g : Form) (place : Place) (path other : Path) → KeepsRules f g → path_at f place ≡ Some path → path_at g place ≡ Some other → HaveSameNumbers path other
+numbers_kept : (f g : Form) (position : Position) (path other : Path) → KeepsRules f g → path_at f position ≡ Some path → path_at g position ≡ Some other → HaveSameNumbers path other
 numbers_kept (Leaf still a) (Leaf moved b) Here path other k h l = subst (λ (p : Path). HaveSameNumbers p other) (some_path [] path h) (subst (λ (q : Path). HaveSameNumbers [] q) (some_path [] other l) tt)
 numbers_kept (Leaf still a) (Leaf moved b) (Under p) path other k h l = absurd (cc)
 numbers_kept (Leaf still a) (Leaf moved b) (Outer p) path other k h l = absurd (cc)
@@ -235,15 +235,15 @@ numbers_kept (Filtered n a f) (Filtered m b g) (Under p) path other k h l =
     subst (λ (q : Path). HaveSameNumbers q other) one.2 (subst (λ (q : Path). HaveSameNumbers ((n, a) ∷ one.0) q) two.2 (k.0, numbers_kept f g p one.0 two.0 k.2 one.1 two.1))
 numbers_kept (Filtered n a f) (Filtered m b g) (Outer p) path other k h l = absurd (cc)
 numbers_kept (Filtered n a f) (Filtered m b g) (Inner p) path other k h l = absurd (cc)
-numbers_kept (Over j o i) (Over c p q) (Outer r) path other k h l = numbers_kept o p r path other k.1 h l
-numbers_kept (Over j o i) (Over c p q) (Inner r) path other k h l = numbers_kept i q r path other k.2 h l
-numbers_kept (Over j o i) (Over c p q) Here path other k h l = absurd (cc)
-numbers_kept (Over j o i) (Over c p q) (Under r) path other k h l = absurd (cc)
-numbers_kept (Bare v) g p path other k h l = absurd (cc)
+numbers_kept (Parts j o i) (Parts c p q) (Outer r) path other k h l = numbers_kept o p r path other k.1 h l
+numbers_kept (Parts j o i) (Parts c p q) (Inner r) path other k h l = numbers_kept i q r path other k.2 h l
+numbers_kept (Parts j o i) (Parts c p q) Here path other k h l = absurd (cc)
+numbers_kept (Parts j o i) (Parts c p q) (Under r) path other k h l = absurd (cc)
+numbers_kept (Terminal v) g p path other k h l = absurd (cc)
 numbers_kept f g p path other k h l = absurd k
 
 -- a path passes a close exactly if it passed the span
 pub closes_as_it_opened : ClosesAsItOpened
-closes_as_it_opened f g place path other attrs id r s t lane later d bound keeps at now said there =
-    closes_along attrs id r s t lane.0 later.0 there path other no_filter (numbers_kept f g place path other keeps at now) (path_distinct f place path d at) (λ k h. bound k (on_path f place path k at h)) (λ k h. absurd (false≢true h))
-    (λ k h. said k ∙ verdict_of_path f place path (metadata_of attrs) s lane.0 no_filter k d at h)
+closes_as_it_opened f g position path other attrs id r s t lane later d bound keeps at now said there =
+    closes_along attrs id r s t lane.0 later.0 there path other no_filter (numbers_kept f g position path other keeps at now) (path_distinct f position path d at) (λ k h. bound k (on_path f position path k at h)) (λ k h. absurd (false≢true h))
+    (λ k h. said k ∙ verdict_of_path f position path (metadata_of attrs) s lane.0 no_filter k d at h)

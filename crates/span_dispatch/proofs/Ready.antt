@@ -7,7 +7,7 @@ use Rattle.span_dispatch.specs.Cache.{IsUpToDate}
 use Rattle.span_dispatch.specs.Contract.{SafeBy, SameStack, StaysReady, StaysReadyBut, StaysReadyByRules, StaysSafe, StaysUpToDate, SubscriberOf}
 use Rattle.span_dispatch.specs.Serve.{IsReady, stack_of}
 use Rattle.span_dispatch.specs.declared.dispatch.Dispatch.{Dispatch}
-use Rattle.span_registry.specs.Follows.{Keeps, kept_form}
+use Rattle.span_registry.specs.KeptForm.{KeepsForm, kept_form}
 use Rattle.span_registry.specs.Form.{Form}
 
 module _ {S : Type 0} (s : SubscriberOf S) where
@@ -16,7 +16,7 @@ module _ {S : Type 0} (s : SubscriberOf S) where
 
   -- it is ready again, by a form that keeps what the old one had, on as many filters
   abbrev IsReadyAgain : Form → S → S → Type 0
-  IsReadyAgain f x y = (g : Form) × IsReadyStack g y × Keeps f g × ((s.registry y).filters ≡ (s.registry x).filters)
+  IsReadyAgain f x y = (g : Form) × IsReadyStack g y × KeepsForm f g × ((s.registry y).filters ≡ (s.registry x).filters)
 
 module _ {S : Type 0} {s : SubscriberOf S} where
   -- a dispatcher whose stack is ready again, and which keeps what it may

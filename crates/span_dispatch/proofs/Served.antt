@@ -22,7 +22,7 @@ use Rattle.span_registry.specs.Conducts.{ActsAt, StackPathLaws}
 use Rattle.span_registry.specs.Form.{Form}
 use Rattle.span_registry.specs.Hooks.{StackLaws, StackSteps}
 use Rattle.span_registry.specs.Levels.{KeepsRules, LevelLaws, LevelSteps, own_rules, rules_again}
-use Rattle.span_registry.specs.Place.{HearSteps}
+use Rattle.span_registry.specs.Position.{HearSteps}
 use Rattle.span_registry.specs.Store.{AreIssued, RegistryState}
 
 -- the span that is named
@@ -158,7 +158,7 @@ module _ {S : Type 0} (s : SubscriberOf S) where
           alone = seen.alone;
           once = closed_once s.registry s.with_registry s.has_form s.stepped s.levelled (stack_of first) (flat made) (stack_of now) issued folds;
           readable = readable_closes s.registry s.with_registry s.has_form s.stepped s.levelled (stack_of first) (flat made) (stack_of now) folds;
-          shown = λ place. told_can_be_read s.registry s.with_registry s.has_form s.stepped s.levelled (stack_of first) (flat made) (stack_of now) place folds;
+          shown = λ position. told_can_be_read s.registry s.with_registry s.has_form s.stepped s.levelled (stack_of first) (flat made) (stack_of now) position folds;
         }
 
     -- all were told

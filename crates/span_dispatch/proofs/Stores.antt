@@ -12,7 +12,7 @@ use Rattle.span_dispatch.specs.Call.{DropsSpan, FindsOpen, HasRoomFor, OpensFor}
 use Rattle.span_dispatch.specs.Serve.{ClosesEach, stack_of}
 use Rattle.span_dispatch.specs.declared.dispatch.Dispatch.{Dispatch}
 use Rattle.span_registry.proofs.CallerLemmas.{closes_itself, closes_with_hooks, drops_open, same_itself, settled_closed, settled_still}
-use Rattle.span_registry.specs.Closes.{IsSettled}
+use Rattle.span_registry.specs.Closes.{HasNoClosing}
 use Rattle.span_registry.specs.Form.{Form}
 use Rattle.span_registry.specs.Hooks.{AnswersEnabled, AnswersEvent, OpensAndNotifies, StackSteps, Stays, no_filter}
 use Rattle.span_registry.specs.Levels.{LevelSteps}
@@ -154,13 +154,13 @@ module _ {S : Type 0} (registry : S → RegistryState) where
       still_open_taken id a old new w by r same =
           subst (λ y. Releases id StillOpen (registry (stack_of old)) (registry y) × (y ≡ with_registry (stack_of old) (registry y))) (sym by) (alone (Releases id StillOpen) (stack_of old) w (subst (λ b. Releases id b (registry (stack_of old)) w) same r))
 
-      pub still_open_store : (id : Id) (a : Released) (x : S) (w : RegistryState) → Releases id a (registry x) w → a ≡ StillOpen → IsForest (registry x).store.spans → IsSettled (registry x).store.spans
-          → AndHooks registry (DropsSpan id false) x (with_registry x w) × IsSettled (registry (with_registry x w)).store.spans
+      pub still_open_store : (id : Id) (a : Released) (x : S) (w : RegistryState) → Releases id a (registry x) w → a ≡ StillOpen → IsForest (registry x).store.spans → HasNoClosing (registry x).store.spans
+          → AndHooks registry (DropsSpan id false) x (with_registry x w) × HasNoClosing (registry (with_registry x w)).store.spans
       still_open_store id a x w r same forest h =
           let drops = drops_open forest h r same in
           let step : DropsSpan id false (registry x) w = (r.held, ([], drops, (λ t. absurd (true≢false (sym t)), λ n. absurd n))) in (
             record { stepped = registry (with_registry x w); taken = subst (λ t. DropsSpan id false (registry x) t) (sym (registry_with x w)) step; hooks = same_itself (registry (with_registry x w)) },
-            subst (λ (t : RegistryState). IsSettled t.store.spans) (sym (registry_with x w)) (settled_still h r same),
+            subst (λ (t : RegistryState). HasNoClosing t.store.spans) (sym (registry_with x w)) (settled_still h r same),
           )
 
     -- and then each was taken out that closed by that
@@ -171,7 +171,7 @@ module _ {S : Type 0} (registry : S → RegistryState) where
         (registry z, subst (λ t. Releases id Closing (registry (stack_of old)) t) (sym (registry_with (stack_of old) w)) (subst (λ b. Releases id b (registry (stack_of old)) w) same r), (k.closed, k.removal))
 
     pub closed_store : (has_form : S → Form → Type 0) (stepped : StackSteps S) (levelled : LevelSteps S) → ((s : S) (w : RegistryState) → registry (with_registry s w) ≡ w) → (lane : Lane) (id : Id) (a : Released) (x y : S) (w : RegistryState) → Releases id a (registry x) w → a ≡ Closing
-        → IsForest (registry x).store.spans → ClosesEach registry with_registry has_form stepped levelled lane id (with_registry x w) y → IsSettled (registry x).store.spans → AndHooks registry (DropsSpan id true) x y × IsSettled (registry y).store.spans
+        → IsForest (registry x).store.spans → ClosesEach registry with_registry has_form stepped levelled lane id (with_registry x w) y → HasNoClosing (registry x).store.spans → AndHooks registry (DropsSpan id true) x y × HasNoClosing (registry y).store.spans
     closed_store has_form stepped levelled registry_with lane id a x y w r same forest k h =
         let z = with_registry x w in
         let release : Releases id Closing (registry x) (registry z) = subst (λ t. Releases id Closing (registry x) t) (sym (registry_with x w)) (subst (λ b. Releases id b (registry x) w) same r) in

@@ -21,7 +21,7 @@ use Rattle.span_dispatch.specs.declared.request.Answer.{Answer}
 use Rattle.span_layers.specs.Honest.{HasHonestAnswers, IsHonestStack}
 use Rattle.span_layers.specs.Verdict.{vetoes}
 use Rattle.span_layers.specs.Wanted.{IsUnwanted, IsWantedByAll}
-use Rattle.span_registry.specs.Follows.{Keeps}
+use Rattle.span_registry.specs.KeptForm.{KeepsForm}
 use Rattle.span_registry.specs.Form.{Form}
 use Rattle.span_registry.specs.Hooks.{no_filter}
 use Rattle.span_registry.specs.Question.{asked, hint_of, interest_of, is_never, refusals}
@@ -96,11 +96,12 @@ MayLearn memory m after = (after ≡ memory) ⊎ (after ≡ learned_if false mem
 
 -- what is kept loses nothing, whatever the filters learn: a level above the hint, and an interest of never in what shows the same, are of what nobody wants in any store; of always, of what all want
 pub record LosesNothing (f : Form) (filters : ℕ) (k : Known) : Type 0 where
-  pub above : (g : Form) (m : Metadata) (s : Store) (lane : ℕ) → Keeps f g → IsHonestStack g filters
+  pub above : (g : Form) (m : Metadata) (s : Store) (lane : ℕ) → KeepsForm f g
+      → IsHonestStack g filters
       → is_above (level_of m) k.hint ≡ true → IsUnwanted g m s lane
-  pub never : (g : Form) (m : Metadata) (one : Callsite) (s : Store) (lane : ℕ) → Keeps f g
+  pub never : (g : Form) (m : Metadata) (one : Callsite) (s : Store) (lane : ℕ) → KeepsForm f g
       → IsHonestStack g filters → IsKept k m one → one.interest ≡ Never → IsUnwanted g m s lane
-  pub always : (g : Form) (m : Metadata) (one : Callsite) (s : Store) (lane : ℕ) → Keeps f g
+  pub always : (g : Form) (m : Metadata) (one : Callsite) (s : Store) (lane : ℕ) → KeepsForm f g
       → IsHonestStack g filters → IsKept k m one → one.interest ≡ Always → IsWantedByAll g m s lane
 
 -- so it is of a cache, if anything is in it

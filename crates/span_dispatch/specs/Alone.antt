@@ -1,14 +1,15 @@
 -- What a leaf sees of what was made; and what it would see if it and the filters round it stood alone, with no other layer or filter beside them.
 use Rattle.std.specs.Prelude.{◌≡◌, ℕ, true, if◌then◌else◌, List, [], ◌∷◌, ◌++◌, Option, Some, None}
+use Rattle.std.specs.List.{flat_map}
 use Rattle.span_core.specs.Filters.{FilterSet, union}
 use Rattle.span_dispatch.specs.Outcome.{LevelSet, OutcomeAt, Noticed, Outcome, Quiet, Steps, given_in}
 use Rattle.span_layers.specs.Observe.{open_answers}
-use Rattle.span_registry.specs.Answers.{Notice}
+use Rattle.span_registry.specs.Behaviour.{Notice}
 use Rattle.span_registry.specs.Conducts.{Conducts, after_notice, path_now, setting}
 use Rattle.span_registry.specs.Form.{Filtered, Form, Leaf}
 use Rattle.span_registry.specs.Hooks.{no_filter}
 use Rattle.span_registry.specs.Path.{Path, mask_of, passes_path, path_at}
-use Rattle.span_registry.specs.Place.{Heard, Place, told_in}
+use Rattle.span_registry.specs.Position.{Heard, Position, told_in}
 use Rattle.span_registry.specs.Plan.{passes}
 use Rattle.span_registry.specs.Question.{single}
 use Rattle.span_registry.specs.Store.{Store}
@@ -21,10 +22,10 @@ passed (Some path) (Noticed lane e) s t =
     then told_in e (given_in e s t) lane.0 (mask_of path no_filter) ∷ [] else []
 passed path o s t = []
 
--- what passes the path of the leaf or the filter at a place, of what was made: a leaf there sees just that
-abbrev pub seen : Place → List OutcomeAt → Heard
-seen place [] = []
-seen place (m ∷ ms) = passed (path_at m.form place) m.outcome m.before m.after ++ seen place ms
+-- what passes the path of the leaf or the filter at a position, of what was made: a leaf there sees just that
+abbrev pub passed_at : Position → List OutcomeAt → Heard
+passed_at position made =
+    flat_map (λ m. passed (path_at m.form position) m.outcome m.before m.after) made
 
 -- Below: nothing names another layer or filter than those of one path.
 

@@ -91,7 +91,7 @@ pub record IsKept (k : Known) (m : Metadata) (one : Callsite) : Type 0 where
   pub same : ShowSame one.metadata m
 
 -- what is known is what a stack of this form would answer now, on a registry that handed out this many filters
-pub record IsCurrent (f : Form) (filters : ℕ) (k : Known) : Type 0 where
+pub record MatchesStack (f : Form) (filters : ℕ) (k : Known) : Type 0 where
   pub hint : k.hint ≡ hint_of f
   pub number : (n : ℕ) (one : Callsite) → tree.get nat_cmp k.callsites n ≡ Some one
       → callsite_of one.metadata ≡ n
@@ -100,5 +100,5 @@ pub record IsCurrent (f : Form) (filters : ℕ) (k : Known) : Type 0 where
 
 -- what is kept, if anything, is that
 abbrev pub IsUpToDate : Form → ℕ → Cache → Type 0
-IsUpToDate f filters (cache.Filled k) = IsCurrent f filters k
+IsUpToDate f filters (cache.Filled k) = MatchesStack f filters k
 IsUpToDate f filters other = ⊤

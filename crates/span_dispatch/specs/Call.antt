@@ -21,12 +21,12 @@ use Rattle.span_dispatch.specs.Outcome.{HandleAdded, HandleTaken, GoneLeft, Leve
 use Rattle.span_dispatch.specs.declared.request.Answer.TheVariants as answer
 use Rattle.span_dispatch.specs.declared.request.Answer.{Answer}
 use Rattle.span_layers.specs.Verdict.{vetoes, vetoes_event}
-use Rattle.span_registry.specs.Answers.{OnClose, OnEnter, OnEvent, OnExit, OnFollows, OnNewSpan, OnRecord}
-use Rattle.span_registry.specs.Closes.{Closes, Member}
+use Rattle.span_registry.specs.Behaviour.{OnClose, OnEnter, OnEvent, OnExit, OnFollows, OnNewSpan, OnRecord}
+use Rattle.span_registry.specs.Closes.{AreUnheld, Member}
 use Rattle.span_registry.specs.Form.{Form}
 use Rattle.span_registry.specs.Levels.{takes_level}
 use Rattle.span_registry.specs.Step.{Drops, FindsParent, HasPlace, IsCurrent, Opens, RefusesClone, RefusesEnter, RefusesNew, RefusesRelease}
-use Rattle.span_registry.specs.Store.{IsHeld, IsOpen, RegistryState, Store, handles_of}
+use Rattle.span_registry.specs.Store.{IsHeld, IsOpen, RegistryState, Store, handles_of, take_handle}
 
 -- what a dispatcher is asked, from a lane
 pub data Call : Type 0 where
@@ -73,8 +73,8 @@ closes_of lane closed = map (λ x. Noticed lane (OnClose (id_of x))) closed
 pub record DropsHandle (lane : Lane) (id : Id) (s : Store) (closes : Bool)
     (os : List Outcome) : Type 0 where
   pub closed : List ℕ
-  pub exact : Closes s.spans (number_of id) closed
-  pub outcomes : os ≡ Quiet (HandleTaken id) ∷ closes_of lane closed
+  pub exact : AreUnheld (take_handle s.spans (number_of id)) closed
+  pub outcomes : os ≡ Quiet (HandleTaken id) ∷ map (λ x. Noticed lane (OnClose (id_of x))) closed
   pub itself : IsTrue closes ↔ Member (number_of id) closed
 
 -- how a stack of this form on this registry answers a call, where these callsites are kept. A new span and an event are dropped exactly where hint or interest rule them out or a leaf vetoes; no layer refuses anything else

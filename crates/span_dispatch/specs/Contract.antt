@@ -27,13 +27,13 @@ use Rattle.span_dispatch.specs.declared.dispatch.Dispatch.{Dispatch}
 use Rattle.span_dispatch.specs.declared.request.Answer.TheVariants.{Done}
 use Rattle.span_dispatch.specs.declared.request.Answer.{Answer}
 use Rattle.span_dispatch.specs.declared.request.Request.{Request}
-use Rattle.span_registry.specs.Closes.{IsSettled}
+use Rattle.span_registry.specs.Closes.{HasNoClosing}
 use Rattle.span_registry.specs.Conducts.{ActsAt}
 use Rattle.span_registry.specs.Form.{Form}
 use Rattle.span_registry.specs.Hooks.{AnswersEnabled, StackSteps, no_filter}
-use Rattle.span_registry.specs.Follows.{Keeps}
+use Rattle.span_registry.specs.KeptForm.{KeepsForm}
 use Rattle.span_registry.specs.Levels.{FollowsLevel, KeepsRules, LevelSteps, LevelsForm, takes_level}
-use Rattle.span_registry.specs.Place.{HearSteps}
+use Rattle.span_registry.specs.Position.{HearSteps}
 use Rattle.span_registry.specs.Question.{ShowsBy, asked, event_asked}
 use Rattle.span_registry.specs.Step as step
 use Rattle.span_registry.specs.Step.{Exits, Opens, RefusesNew, Releases, Removal}
@@ -159,10 +159,10 @@ module _ {S : Type 0} (s : SubscriberOf S) where
   -- a stack that was ready is ready in its dispatcher, by a form that keeps what the old one had, whatever is said of what is kept: nothing is yet
   pub record BecomesReady (x : S) (d : Dispatch S) : Type 0 where
     pub safe : (f : Form) → IsReady s.registry s.with_registry s.has_form s.stepped s.levelled f x
-        → ReadyAfter KeepsSafely Keeps f d
+        → ReadyAfter KeepsSafely KeepsForm f d
     pub current : (f : Form)
         → IsReady s.registry s.with_registry s.has_form s.stepped s.levelled f x
-        → ReadyAfter IsUpToDate Keeps f d
+        → ReadyAfter IsUpToDate KeepsForm f d
 
   -- a dispatcher that was ready is ready again, by a form that keeps this of the old one: both with what loses nothing kept, and with what its stack would answer now
   pub record StaysReadyWith (keeps : Form → Form → Type 0) (old new : Dispatch S) : Type 0 where
@@ -175,7 +175,7 @@ module _ {S : Type 0} (s : SubscriberOf S) where
 
   -- by one that keeps what the old one had: interest and hint of each filter too
   abbrev pub StaysReady : Dispatch S → Dispatch S → Type 0
-  StaysReady old new = StaysReadyWith Keeps old new
+  StaysReady old new = StaysReadyWith KeepsForm old new
 
   -- by one in which the filter with this number alone answers otherwise
   abbrev pub StaysReadyBut : ℕ → Dispatch S → Dispatch S → Type 0
@@ -195,7 +195,8 @@ module _ {S : Type 0} (s : SubscriberOf S) where
 
   -- and so does a drop, where no span was closing
   abbrev pub AnswersDrop : Call → Answer → Dispatch S → Dispatch S → Type 0
-  AnswersDrop call a old new = IsSettled (registry_of old).store.spans → AnswersCall call a old new
+  AnswersDrop call a old new =
+      HasNoClosing (registry_of old).store.spans → AnswersCall call a old new
 
   -- so is `enabled` answered, with what it gives for an answer
   abbrev pub ServesEnabled : Lane → Metadata → Result Bool TraceError → Dispatch S → Dispatch S
@@ -402,9 +403,9 @@ module _ {S : Type 0} (s : SubscriberOf S) where
   -- so it is where no span was closing before
   abbrev pub DropsSettled : Id → Dispatch S → Dispatch S → Bool → Type 0
   DropsSettled id old new closes =
-      IsSettled (registry_of old).store.spans → DropsAll id old new closes
+      HasNoClosing (registry_of old).store.spans → DropsAll id old new closes
 
   -- where no span was closing, none is
-  abbrev pub StaysSettled : Dispatch S → Dispatch S → Type 0
-  StaysSettled old new =
-      IsSettled (registry_of old).store.spans → IsSettled (registry_of new).store.spans
+  abbrev pub StaysWithoutClosing : Dispatch S → Dispatch S → Type 0
+  StaysWithoutClosing old new =
+      HasNoClosing (registry_of old).store.spans → HasNoClosing (registry_of new).store.spans

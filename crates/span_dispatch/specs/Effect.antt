@@ -5,18 +5,40 @@ use Rattle.span_core.specs.Filters.{FilterSet}
 use Rattle.span_core.specs.declared.span.Id.{Id}
 use Rattle.span_core.specs.declared.span.Lane.{Lane}
 use Rattle.span_dispatch.specs.Alone.{Alone, form_of_path}
-use Rattle.span_dispatch.specs.Call.{AddHandle, Call, DropHandle, DropsHandle, Enter, Exit, Follow, LeavesSpan, OpenSpan, RecordValues, SendEvent, SetLevel}
+use Rattle.span_dispatch.specs.Call.{AddHandle, AskCurrent, Call, DropHandle, DropsHandle, Enter, Exit, Follow, LeavesSpan, OpenSpan, Probe, RecordValues, SendEvent, SetLevel}
 use Rattle.span_dispatch.specs.Outcome.{HandleAdded, LevelSet, Noticed, Outcome, Quiet, Steps}
 use Rattle.span_dispatch.specs.declared.request.Answer.TheVariants as answer
 use Rattle.span_dispatch.specs.declared.request.Answer.{Answer}
-use Rattle.span_registry.specs.Answers.{OnEnter, OnEvent, OnFollows, OnNewSpan, OnRecord}
+use Rattle.span_registry.specs.Behaviour.{OnEnter, OnEvent, OnFollows, OnNewSpan, OnRecord}
 use Rattle.span_registry.specs.Conducts.{Conducts}
-use Rattle.span_registry.specs.Place.{Heard}
+use Rattle.span_registry.specs.Position.{Heard}
 use Rattle.span_registry.specs.Store.{Store}
 
--- what comes of a call that was answered so: nothing; this outcome; or what a store says of a lane that leaves a span, or of a handle that is dropped
+-- what comes of a call that was answered so, on a store: nothing of what was dropped or refused, of probes and of looks
+-- at the current span; no call is answered as another kind of call is
+abbrev pub OutcomesOf : Call → Answer → Store → List Outcome → Type 0
+OutcomesOf (OpenSpan lane a) (answer.Made id) s os = os ≡ Noticed lane (OnNewSpan a id) ∷ []
+OutcomesOf (SendEvent lane e) answer.Done s os = os ≡ Noticed lane (OnEvent e) ∷ []
+OutcomesOf (Enter lane id) answer.Done s os = os ≡ Noticed lane (OnEnter id) ∷ []
+OutcomesOf (Exit lane id) answer.Done s os = LeavesSpan lane id s os
+OutcomesOf (RecordValues lane id r) answer.Done s os = os ≡ Noticed lane (OnRecord id r) ∷ []
+OutcomesOf (Follow lane id other) answer.Done s os = os ≡ Noticed lane (OnFollows id other) ∷ []
+OutcomesOf (AddHandle lane id) answer.Done s os = os ≡ Quiet (HandleAdded id) ∷ []
+OutcomesOf (DropHandle lane id) (answer.Yes closes) s os = DropsHandle lane id s closes os
+OutcomesOf (SetLevel n l) answer.Done s os = os ≡ LevelSet n l ∷ []
+OutcomesOf (Probe lane m) (answer.Yes said) s os = os ≡ []
+OutcomesOf (AskCurrent lane) (answer.Current o) s os = os ≡ []
+OutcomesOf call answer.Dropped s os = os ≡ []
+OutcomesOf call (answer.Refused e) s os = os ≡ []
+OutcomesOf call a s os = ⊥
+
+-- Below: calls that something was made of, and what they make by themselves.
+
+-- what comes of a call, by its answer alone: nothing; it is no answer to that call; this outcome; or what a store says of a
+-- lane that leaves a span, or of a handle that is dropped
 pub data Effect : Type 0 where
   NoEffect : Effect
+  NoAnswer : Effect
   OneOutcome : Outcome → Effect
   OfExit : Lane → Id → Effect
   OfDrop : Lane → Id → Bool → Effect
@@ -32,11 +54,16 @@ effect_of (Follow lane id other) answer.Done = OneOutcome (Noticed lane (OnFollo
 effect_of (AddHandle lane id) answer.Done = OneOutcome (Quiet (HandleAdded id))
 effect_of (DropHandle lane id) (answer.Yes closes) = OfDrop lane id closes
 effect_of (SetLevel n l) answer.Done = OneOutcome (LevelSet n l)
-effect_of call a = NoEffect
+effect_of (Probe lane m) (answer.Yes said) = NoEffect
+effect_of (AskCurrent lane) (answer.Current o) = NoEffect
+effect_of call answer.Dropped = NoEffect
+effect_of call (answer.Refused e) = NoEffect
+effect_of call a = NoAnswer
 
 -- an effect has these outcomes on a store
 abbrev pub HasOutcomes : Effect → Store → List Outcome → Type 0
 HasOutcomes NoEffect s os = os ≡ []
+HasOutcomes NoAnswer s os = ⊥
 HasOutcomes (OneOutcome o) s os = os ≡ o ∷ []
 HasOutcomes (OfExit lane id) s os = LeavesSpan lane id s os
 HasOutcomes (OfDrop lane id closes) s os = DropsHandle lane id s closes os
@@ -50,6 +77,7 @@ concerns numbers (LevelSet n l) = numbers n
 -- whether an effect has outcomes of that kind
 abbrev pub is_concern : FilterSet → Effect → Bool
 is_concern numbers NoEffect = false
+is_concern numbers NoAnswer = false
 is_concern numbers (OneOutcome o) = concerns numbers o
 is_concern numbers (OfExit lane id) = true
 is_concern numbers (OfDrop lane id closes) = true
@@ -57,10 +85,6 @@ is_concern numbers (OfDrop lane id closes) = true
 -- a call that something was made of, and how it was answered
 abbrev pub MadeCall : Type 0
 MadeCall = Call × Answer
-
--- its outcomes on a store
-abbrev pub OutcomesOf : MadeCall → Store → List Outcome → Type 0
-OutcomesOf one s os = HasOutcomes (effect_of one.0 one.1) s os
 
 -- a store goes through outcomes, where no filter refuses anything
 abbrev pub GoesThrough : Store → List Outcome → Store → Type 0
@@ -70,7 +94,7 @@ GoesThrough s os t = FoldsTo (λ u o v. Steps (form_of_path []) o u v) s os t
 abbrev pub OutcomesFrom : Store → List MadeCall → List Outcome → Type 0
 OutcomesFrom s [] os = os ≡ []
 OutcomesFrom s (one ∷ calls) os =
-    (us : List Outcome) × (t : Store) × (vs : List Outcome) × OutcomesOf one s us
+    (us : List Outcome) × (t : Store) × (vs : List Outcome) × OutcomesOf one.0 one.1 s us
     × GoesThrough s us t × OutcomesFrom t calls vs × (os ≡ us ++ vs)
 
 -- what a leaf sees of calls as if it stood alone under filters of these conducts, on this store

@@ -3,7 +3,7 @@ use Rattle.std.specs.Prelude.{◌≡◌, ℕ, if◌then◌else◌, List, [], map
 use Rattle.span_dispatch.specs.Cache.{KeptCallsites}
 use Rattle.span_dispatch.specs.Outcome.{OutcomeAt}
 use Rattle.span_dispatch.specs.Recorder.{kept_notice}
-use Rattle.span_dispatch.specs.Alone.{seen}
+use Rattle.span_dispatch.specs.Alone.{passed_at}
 use Rattle.span_dispatch.specs.Serve.{RunExactly, flat}
 use Rattle.span_dispatch.specs.declared.notice.Notice.{Notice}
 use Rattle.span_dispatch.specs.declared.request.Answer.{Answer}
@@ -11,8 +11,8 @@ use Rattle.span_dispatch.specs.declared.request.Request.{Request}
 use Rattle.span_core.specs.declared.level.LevelFilter.{LevelFilter}
 use Rattle.span_filters.specs.Level.{level_answers}
 use Rattle.span_registry.specs.Conducts.{filter_numbered}
-use Rattle.span_registry.specs.Form.{Bare, Filtered, Form, Leaf, Over}
-use Rattle.span_registry.specs.Place.{Place}
+use Rattle.span_registry.specs.Form.{Terminal, Filtered, Form, Leaf, Parts}
+use Rattle.span_registry.specs.Position.{Position}
 use Rattle.span_registry.specs.Store.{RegistryState}
 
 -- the form, once the filter with this number took this level, where each filter that takes one is by level
@@ -21,8 +21,8 @@ set_at n l (Leaf still a) = Leaf still a
 set_at n l (Filtered m a f) =
     if filter_numbered m n then Filtered m (if a.takes l then level_answers l else a) f
     else Filtered m a (set_at n l f)
-set_at n l (Over k o i) = Over k (set_at n l o) (set_at n l i)
-set_at n l (Bare v) = Bare v
+set_at n l (Parts k o i) = Parts k (set_at n l o) (set_at n l i)
+set_at n l (Terminal v) = Terminal v
 
 -- a registry, and the form of the layers on it
 abbrev pub Formed : Type 0
@@ -36,6 +36,6 @@ RunsBy f requests answers made kept s after t =
     (λ r p e lane v q w. q.1 ≡ r.1) (λ r n l q. q.1 ≡ set_at n l r.1) [] requests answers made
     kept (s, f) after (t, g)
 
--- what a recorder at a place, of which all fitted into memory, keeps of what was made
-abbrev pub kept_at : List (List OutcomeAt) → Place → List Notice
-kept_at made place = map kept_notice (seen place (flat made))
+-- what a recorder at a position, of which all fitted into memory, keeps of what was made
+abbrev pub kept_at : List (List OutcomeAt) → Position → List Notice
+kept_at made position = map kept_notice (passed_at position (flat made))

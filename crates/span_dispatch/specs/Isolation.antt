@@ -2,7 +2,7 @@
 use Rattle.std.specs.Prelude.{◌≡◌, ⊤, List, [], ◌∷◌, map}
 use Rattle.std.specs.List.{FoldsTo, filter}
 use Rattle.span_core.specs.Filters.{FilterSet}
-use Rattle.span_dispatch.specs.Alone.{form_of_path, seen}
+use Rattle.span_dispatch.specs.Alone.{form_of_path, passed_at}
 use Rattle.span_dispatch.specs.Effect.{MadeCall, OutcomesFrom, OutcomesOf, concerns}
 use Rattle.span_dispatch.specs.Outcome.{OutcomeAt, Makes, Outcome, Steps}
 use Rattle.span_dispatch.specs.Serve.{Served, flat, made_calls, outcome_of, stack_of}
@@ -10,12 +10,12 @@ use Rattle.span_dispatch.specs.declared.dispatch.Dispatch.{Dispatch}
 use Rattle.span_dispatch.specs.declared.request.Answer.{Answer}
 use Rattle.span_dispatch.specs.declared.request.Request.{Request}
 use Rattle.span_registry.specs.Agree.{AgreeAt}
-use Rattle.span_registry.specs.Answers.{AreAlikeHistories, ArePlain, Conduct, History}
+use Rattle.span_registry.specs.Behaviour.{AreAlikeHistories, ArePlain, Conduct, History}
 use Rattle.span_registry.specs.Conducts.{ActsAt, Conducts, numbers_in, path_now}
 use Rattle.span_registry.specs.Form.{Form}
 use Rattle.span_registry.specs.Hooks.{StackSteps, no_filter}
 use Rattle.span_registry.specs.Levels.{LevelSteps}
-use Rattle.span_registry.specs.Place.{HearSteps, Heard, Place}
+use Rattle.span_registry.specs.Position.{HearSteps, Heard, Position}
 use Rattle.span_registry.specs.Store.{RegistryState, Store}
 
 -- extensions make no difference to the first, and after histories that are alike the two answer the same
@@ -45,7 +45,7 @@ SeenAlone {M} Sees OnlyIt =
     (cs : Conducts) (s t : Store) (made : M) (h : Heard) → Sees cs s made h
     → AgreeAt (numbers_in cs) s t → OnlyIt cs t made h
 
--- what the leaf at some place of a stack sees of what was made
+-- what the leaf at some position of a stack sees of what was made
 pub record SeesMade {S : Type 0} (registry : S → RegistryState)
     (with_registry : S → RegistryState → S) (has_form : S → Form → Type 0) (stepped : StackSteps S)
     (levelled : LevelSteps S) (acts_at : ActsAt S) (cs : Conducts) (s : Store)
@@ -54,13 +54,13 @@ pub record SeesMade {S : Type 0} (registry : S → RegistryState)
   pub new : S
   pub made : List OutcomeAt
   pub goes : FoldsTo (Makes registry with_registry has_form stepped levelled) old made new
-  pub place : Place
-  pub acts : acts_at old place cs
+  pub position : Position
+  pub acts : acts_at old position cs
   pub at_store : (registry old).store ≡ s
   pub at_outcomes : map outcome_of made ≡ outcomes
-  pub sees : seen place made ≡ h
+  pub sees : passed_at position made ≡ h
 
--- what the leaf at some place of a dispatcher's stack sees of all that was made of a list of requests
+-- what the leaf at some position of a dispatcher's stack sees of all that was made of a list of requests
 pub record SeesServed {S : Type 0} (registry : S → RegistryState)
     (with_registry : S → RegistryState → S) (has_form : S → Form → Type 0) (stepped : StackSteps S)
     (levelled : LevelSteps S) (hears : HearSteps S) (acts_at : ActsAt S) (cs : Conducts) (s : Store)
@@ -71,13 +71,13 @@ pub record SeesServed {S : Type 0} (registry : S → RegistryState)
   pub answers : List Answer
   pub served : Served registry with_registry has_form stepped levelled hears acts_at requests
       answers (stack_of old) (stack_of new)
-  pub place : Place
-  pub acts : acts_at (stack_of old) place cs
+  pub position : Position
+  pub acts : acts_at (stack_of old) position cs
   pub at_store : (registry (stack_of old)).store ≡ s
   pub at_outcomes : map outcome_of (flat served.made) ≡ outcomes
-  pub sees : seen place (flat served.made) ≡ h
+  pub sees : passed_at position (flat served.made) ≡ h
 
--- what the leaf at some place of a dispatcher's stack sees of a list of requests, of which these calls were made, as far as the filters round the leaf go
+-- what the leaf at some position of a dispatcher's stack sees of a list of requests, of which these calls were made, as far as the filters round the leaf go
 pub record SeesCalls {S : Type 0} (registry : S → RegistryState)
     (with_registry : S → RegistryState → S) (has_form : S → Form → Type 0) (stepped : StackSteps S)
     (levelled : LevelSteps S) (hears : HearSteps S) (acts_at : ActsAt S) (cs : Conducts) (s : Store)
@@ -88,11 +88,11 @@ pub record SeesCalls {S : Type 0} (registry : S → RegistryState)
   pub answers : List Answer
   pub served : Served registry with_registry has_form stepped levelled hears acts_at requests
       answers (stack_of old) (stack_of new)
-  pub place : Place
-  pub acts : acts_at (stack_of old) place cs
+  pub position : Position
+  pub acts : acts_at (stack_of old) position cs
   pub at_store : (registry (stack_of old)).store ≡ s
   pub at_calls : made_calls (numbers_in cs) [] requests answers ≡ calls
-  pub sees : seen place (flat served.made) ≡ h
+  pub sees : passed_at position (flat served.made) ≡ h
 
 -- what was made of a list that was told is what its made requests have by themselves, as far as filters of any numbers go
 abbrev pub SaysWhatIsMade : {S : Type 0} → (S → RegistryState)
@@ -106,8 +106,8 @@ SaysWhatIsMade {S} registry Runs =
 -- on stores that agree as far as some filters go, a call that is answered the same has the same outcomes
 abbrev pub HasSameOutcomes : FilterSet → MadeCall → Type 0
 HasSameOutcomes numbers one =
-    (s t : Store) (os us : List Outcome) → AgreeAt numbers s t → OutcomesOf one s os
-    → OutcomesOf one t us → os ≡ us
+    (s t : Store) (os us : List Outcome) → AgreeAt numbers s t → OutcomesOf one.0 one.1 s os
+    → OutcomesOf one.0 one.1 t us → os ≡ us
 
 -- so have many, one after another, though the stores agree in no filter's verdicts
 abbrev pub HaveSameOutcomes : List MadeCall → Type 0

@@ -13,7 +13,7 @@ use Rattle.span_dispatch.specs.Serve.{stack_of}
 use Rattle.span_dispatch.specs.declared.dispatch.Dispatch.{Dispatch}
 use Rattle.span_dispatch.specs.declared.entry.EntryWith.TheVariants.{New, Unmade, Event, Probe, Enter, Exit, Record, Follows, Clone, Drop, Level, Current}
 use Rattle.span_dispatch.specs.declared.entry.EntryWith.{EntryWith}
-use Rattle.span_registry.specs.Closes.{Closes, IsSettled, Member, remove_all}
+use Rattle.span_registry.specs.Closes.{Closes, HasNoClosing, Member, remove_all}
 use Rattle.span_registry.specs.Step.{AskedSpan, IsCurrent, IsParentFor, begun, entered, exited}
 use Rattle.span_registry.specs.Store.{IsHeld, IsOpen, RegistryState, Store, add_handle, empty_store, take_handle}
 
@@ -78,7 +78,7 @@ pub record KeepsJournal {S : Type 0} (registry : S → RegistryState) (usable : 
     (d : Dispatch S) (journal : List Entry) : Type 0 where
   pub may : usable (stack_of d)
   pub leaves : Leaves journal (registry (stack_of d)).store
-  pub settled : IsSettled (registry (stack_of d)).store.spans
+  pub settled : HasNoClosing (registry (stack_of d)).store.spans
 
 -- a place, and an entry
 pub record Placed : Type 0 where

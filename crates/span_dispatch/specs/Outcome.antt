@@ -1,6 +1,6 @@
 -- What comes of a request: notices, changes of the store of which nobody is told, and levels that filters take; and what each does to a store, and to a stack.
-use Rattle.std.specs.Prelude.{◌≡◌, ℕ, true, false, List, [], ◌∷◌, Option}
-use Rattle.std.specs.FinMap.{insert}
+use Rattle.std.specs.Prelude.{◌≡◌, ℕ, true, false, [], ◌∷◌, Option}
+use Rattle.std.specs.FinMap.{insert, remove}
 use Rattle.std.specs.FinSet.{contains, insert as add}
 use Rattle.span_core.specs.Filters.{refuses}
 use Rattle.span_core.specs.Span.{asked_parent, metadata_of, number_of}
@@ -12,14 +12,13 @@ use Rattle.span_core.specs.declared.span.Id.{Id}
 use Rattle.span_core.specs.declared.span.Lane.{Lane}
 use Rattle.span_layers.specs.Honest.{IsHonestStack}
 use Rattle.span_layers.specs.Verdict.{in_verdict}
-use Rattle.span_registry.specs.Answers.{Notice, OnClose, OnEnter, OnEvent, OnExit, OnFollows, OnIdChange, OnNewSpan, OnRecord}
-use Rattle.span_registry.specs.Closes.{without}
+use Rattle.span_registry.specs.Behaviour.{Notice, OnClose, OnEnter, OnEvent, OnExit, OnFollows, OnIdChange, OnNewSpan, OnRecord}
 use Rattle.span_registry.specs.Form.{Form}
 use Rattle.span_registry.specs.Hooks.{StackSteps, no_filter}
 use Rattle.span_registry.specs.Levels.{LevelSteps, takes_level}
 use Rattle.span_registry.specs.Plan.{asked_afresh}
 use Rattle.span_registry.specs.Extensions.{no_values}
-use Rattle.span_registry.specs.Step.{IsParentFor, TakesOut, begun, entered, exited}
+use Rattle.span_registry.specs.Step.{IsParentFor, TakesOut, entered, exited}
 use Rattle.span_registry.specs.Subscriber.{SameButExtensions}
 use Rattle.span_registry.specs.Store.{IsClosing, IsHeld, IsOpen, RegistryState, Span, Store, add_handle, take_handle}
 
@@ -41,12 +40,11 @@ IsVerdict f m s lane v = (k : ℕ) → refuses v k ≡ in_verdict f m s lane.0 n
 
 -- the store with one span more, without extensions
 abbrev pub with_new : Store → ℕ → Span → Store
-with_new s x r =
-    record s {
-      spans = insert s.spans x r;
-      extensions = insert s.extensions x no_values;
-      issued = add s.issued x;
-    }
+with_new s x r = record s {
+  spans = insert s.spans x r;
+  extensions = insert s.extensions x no_values;
+  issued = add s.issued x;
+}
 
 -- a new span is in the store: under an id that was never issued, nor is 0, with the parent that it gets there and the verdict of this form
 pub record Opened (f : Form) (lane : Lane) (attrs : Attributes) (id : Id) (s t : Store) : Type
@@ -54,15 +52,12 @@ pub record Opened (f : Form) (lane : Lane) (attrs : Attributes) (id : Id) (s t :
   pub parent : Option ℕ
   pub chosen : IsParentFor s lane (asked_parent attrs) parent
   pub verdict : FilterMap
-  pub refused : IsVerdict f (metadata_of attrs) s lane verdict
+  pub refused : (k : ℕ)
+      → refuses verdict k ≡ in_verdict f (metadata_of attrs) s lane.0 no_filter k
   pub fresh : contains s.issued (number_of id) ≡ false
   pub other : ¬ (number_of id ≡ 0)
   pub state : t ≡ with_new s (number_of id)
-      (begun (record {
-        metadata = metadata_of attrs;
-        parent = asked_parent attrs;
-        verdict = verdict;
-      }) parent)
+      (record { metadata = metadata_of attrs; parent = parent; handles = 1; verdict = verdict })
 
 -- what an outcome makes of the store of a stack of this form
 abbrev pub Steps : Form → Outcome → Store → Store → Type 0
@@ -75,8 +70,10 @@ Steps f (Noticed lane (OnEnter id)) s t =
 Steps f (Noticed lane (OnExit id)) s t =
     IsOpen s.spans (number_of id) × (t ≡ exited s lane.0 (number_of id))
 Steps f (Noticed lane (OnIdChange id other)) s t = ⊥
-Steps f (Noticed lane (OnClose id)) s t =
-    IsClosing s.spans (number_of id) × (t ≡ without s (number_of id ∷ []))
+Steps f (Noticed lane (OnClose id)) s t = IsClosing s.spans (number_of id) × (t ≡ record s {
+  spans = remove s.spans (number_of id);
+  extensions = remove s.extensions (number_of id);
+})
 Steps f (Quiet (HandleAdded id)) s t =
     IsOpen s.spans (number_of id) × (t ≡ record s { spans = add_handle s.spans (number_of id) })
 Steps f (Quiet (HandleTaken id)) s t =

@@ -1,5 +1,5 @@
--- What a leaf is told of it can read: its own context shows each span that the notice names; and it is told of a span's close where it was told of the span.
-use Rattle.std.specs.Prelude.{◌≡◌, ℕ, ◌<◌, true, Option, None, Some, IfSome}
+-- What a leaf is told of it can read: its own context shows the span that the notice is of; and it is told of a span's close where it was told of the span.
+use Rattle.std.specs.Prelude.{◌≡◌, ℕ, ◌<◌, true, Some, IfSome}
 use Rattle.std.specs.List.{AllByRecursion}
 use Rattle.std.specs.FinMap.{get}
 use Rattle.span_core.specs.Span.{metadata_of, number_of}
@@ -9,25 +9,14 @@ use Rattle.span_core.specs.declared.span.Id.{Id}
 use Rattle.span_core.specs.declared.span.Lane.{Lane}
 use Rattle.span_dispatch.specs.Outcome.{IsVerdict}
 use Rattle.span_layers.specs.Verdict.{AreDistinct, numbers_of}
-use Rattle.span_registry.specs.Answers.{Notice, OnClose, OnEnter, OnEvent, OnExit, OnFollows, OnIdChange, OnNewSpan, OnRecord}
+use Rattle.span_registry.specs.Behaviour.{OnClose, OnNewSpan, span_in}
 use Rattle.span_registry.specs.Form.{Form}
 use Rattle.span_registry.specs.Hooks.{no_filter}
 use Rattle.span_registry.specs.Levels.{KeepsRules}
 use Rattle.span_registry.specs.Path.{Path, passes_path, path_at}
-use Rattle.span_registry.specs.Place.{Heard, Place, Told}
+use Rattle.span_registry.specs.Position.{Heard, Position, Told}
 use Rattle.span_registry.specs.Store.{Span, Store}
 use Rattle.span_registry.specs.View.{is_shown}
-
--- the span that a notice is of: an event's is of none, and of two it is the first, since the span that one follows from may be gone
-abbrev pub span_in : Notice → Option Id
-span_in (OnNewSpan attrs id) = Some id
-span_in (OnRecord id values) = Some id
-span_in (OnFollows id other) = Some id
-span_in (OnEvent e) = None
-span_in (OnEnter id) = Some id
-span_in (OnExit id) = Some id
-span_in (OnIdChange id other) = Some id
-span_in (OnClose id) = Some id
 
 -- the leaf's own context shows that span then
 abbrev pub ShowsItsSpan : Told → Type 0
@@ -41,10 +30,10 @@ ShowTheirSpans heard = AllByRecursion ShowsItsSpan heard
 -- a span of these metadata opened under a form, whose verdict that is; where the form's filters kept their numbers, a path passes the span's close exactly if it passed the span
 abbrev pub ClosesAsItOpened : Type 0
 ClosesAsItOpened =
-    (f g : Form) (place : Place) (path other : Path) (attrs : Attributes) (id : Id) (r : Span)
+    (f g : Form) (position : Position) (path other : Path) (attrs : Attributes) (id : Id) (r : Span)
     (s t : Store) (lane later : Lane)
     → AreDistinct f → ((k : ℕ) → numbers_of f k ≡ true → k < LIMIT) → KeepsRules f g
-    → path_at f place ≡ Some path → path_at g place ≡ Some other
+    → path_at f position ≡ Some path → path_at g position ≡ Some other
     → IsVerdict f (metadata_of attrs) s lane r.verdict → get t.spans (number_of id) ≡ Some r
     → passes_path other (OnClose id) t later.0 no_filter
     ≡ passes_path path (OnNewSpan attrs id) s lane.0 no_filter

@@ -6,8 +6,8 @@ use Rattle.span_core.specs.declared.span.Lane.{Lane}
 use Rattle.span_dispatch.specs.declared.notice.Notice.TheVariants as kept
 use Rattle.span_dispatch.specs.declared.notice.Notice.{Notice as KeptNotice}
 use Rattle.span_layers.specs.Layer.{LayerSteps}
-use Rattle.span_registry.specs.Answers.{Notice, OnClose, OnEnter, OnEvent, OnExit, OnFollows, OnIdChange, OnNewSpan, OnRecord}
-use Rattle.span_registry.specs.Place.{Told}
+use Rattle.span_registry.specs.Behaviour.{Notice, OnClose, OnEnter, OnEvent, OnExit, OnFollows, OnIdChange, OnNewSpan, OnRecord}
+use Rattle.span_registry.specs.Position.{Told}
 use Rattle.span_registry.specs.Plan.{Itself}
 
 -- a recorder: the notices that it keeps, how many more it has memory for, and whether it has failed for want of memory

@@ -10,18 +10,17 @@ use Rattle.span_layers.specs.Observe.{open_answers}
 use Rattle.span_registry.specs.Form.{Leaf}
 
 pub records_nothing : (r : RecorderState) → Records r r []
-records_nothing r =
-    record {
-      more = [];
-      lost = [];
-      split = refl;
-      kept = sym (append-nil r.notices);
-      all = λ _. refl;
-      failed = λ f. (f, refl);
-      fails = λ f t. absurd (true≢false (sym t ∙ f));
-      room = omega arith;
-      silent = λ _. refl;
-    }
+records_nothing r = record {
+  more = [];
+  lost = [];
+  split = refl;
+  kept = sym (append-nil r.notices);
+  all = λ _. refl;
+  failed = λ f. (f, refl);
+  fails = λ f t. absurd (true≢false (sym t ∙ f));
+  room = omega arith;
+  silent = λ _. refl;
+}
 
 no_more : (ns ms : List KeptNotice) → ns ++ ms ≡ [] → (ns ≡ []) × (ms ≡ [])
 no_more [] ms e = (refl, e)

@@ -1,6 +1,6 @@
 -- How a dispatcher serves a call, and a list of requests.
 use Rattle.std.specs.Prelude.{◌≡◌, ◌⊎◌, ⊤, ℕ, List, [], ◌∷◌, ◌++◌, map, true, if◌then◌else◌, Option, Some, None, slice_get}
-use Rattle.std.specs.List.{FoldsTo}
+use Rattle.std.specs.List.{AllByRecursion, FoldsTo, flat_map}
 use Rattle.std.specs.Option.{option_and_then, option_map, option_map_or}
 use Rattle.span_core.specs.Event.{event_metadata, event_of}
 use Rattle.span_core.specs.Filters.{FilterSet}
@@ -8,14 +8,14 @@ use Rattle.span_core.specs.Span.{attributes_of, metadata_of, number_of, record_o
 use Rattle.span_core.specs.declared.span.Id.{Id}
 use Rattle.span_core.specs.declared.span.Parent.TheVariants as parent
 use Rattle.span_core.specs.declared.span.Parent.{Parent}
-use Rattle.span_dispatch.specs.Alone.{Alone, seen}
+use Rattle.span_dispatch.specs.Alone.{Alone, passed_at}
 use Rattle.span_dispatch.specs.Cache.{IsUpToDate, KeptCallsites, ReadHint, forgotten, hint_in, kept_in}
 use Rattle.span_dispatch.specs.Admission.{KeepsSafely}
 use Rattle.span_dispatch.specs.declared.cache.Cache.{Cache}
 use Rattle.span_dispatch.specs.Call.{AddHandle, AnswersWith, AskCurrent, Call, DropHandle, Enter, Exit, Follow, KeepsAfter, OpenSpan, Probe, RecordValues, SendEvent, SetLevel, closes_of}
 use Rattle.span_dispatch.specs.Effect.{MadeCall, OutcomesOf, effect_of, is_concern}
 use Rattle.span_dispatch.specs.Outcome.{IsHonest, OutcomeAt, Makes, Noticed, Outcome}
-use Rattle.span_dispatch.specs.Readable.{ShowTheirSpans}
+use Rattle.span_dispatch.specs.Readable.{ShowsItsSpan}
 use Rattle.span_dispatch.specs.declared.dispatch.Dispatch.{Dispatch}
 use Rattle.span_dispatch.specs.declared.request.Answer.TheVariants as answer
 use Rattle.span_dispatch.specs.declared.request.Answer.{Answer}
@@ -27,16 +27,16 @@ use Rattle.span_dispatch.specs.declared.request.WhichParent.TheVariants as asked
 use Rattle.span_dispatch.specs.declared.request.WhichParent.{WhichParent}
 use Rattle.span_layers.specs.Verdict.{vetoes_event}
 use Rattle.span_layers.specs.Wanted.{IsUnwanted}
-use Rattle.span_registry.specs.Answers.{OnClose}
-use Rattle.span_registry.specs.Closes.{IsSettled, Member}
-use Rattle.span_registry.specs.Follows.{Keeps}
+use Rattle.span_registry.specs.Behaviour.{OnClose}
+use Rattle.span_registry.specs.Closes.{HasNoClosing, Member}
+use Rattle.span_registry.specs.KeptForm.{KeepsForm}
 use Rattle.span_registry.specs.Form.{Form}
 use Rattle.span_core.specs.declared.span.Lane.{Lane}
 use Rattle.span_registry.specs.Agree.{AgreeAt}
 use Rattle.span_registry.specs.Conducts.{ActsAt, Conducts, numbers_in}
 use Rattle.span_registry.specs.Hooks.{StackSteps}
 use Rattle.span_registry.specs.Levels.{LevelSteps}
-use Rattle.span_registry.specs.Place.{HearSteps, Place}
+use Rattle.span_registry.specs.Position.{HearSteps, Position}
 use Rattle.span_registry.specs.Step.{Removal}
 use Rattle.span_registry.specs.Subscriber.{SameButExtensions}
 use Rattle.span_registry.specs.Store.{IsClosing, RegistryState, Store}
@@ -123,8 +123,7 @@ closed_by other = []
 
 -- the spans that a run closes, in order
 abbrev pub closed_in : List OutcomeAt → List ℕ
-closed_in [] = []
-closed_in (m ∷ ms) = closed_by m.outcome ++ closed_in ms
+closed_in made = flat_map (λ m. closed_by m.outcome) made
 
 -- if this is a close, it is given while its span is in the store, with neither a handle nor a child left there
 abbrev pub IsReadableClose : Store → Outcome → Type 0
@@ -133,8 +132,7 @@ IsReadableClose s other = ⊤
 
 -- each close is: so a child closes before its parent, and what closes can still be read
 abbrev pub AreReadableCloses : List OutcomeAt → Type 0
-AreReadableCloses [] = ⊤
-AreReadableCloses (m ∷ ms) = IsReadableClose m.before m.outcome × AreReadableCloses ms
+AreReadableCloses made = AllByRecursion (λ m. IsReadableClose m.before m.outcome) made
 
 -- nobody would have been notified of the new span, or the event, that a call asks for: a leaf vetoes it, or no path passes it
 abbrev pub IsUnwantedCall : Call → Form → Store → Type 0
@@ -150,20 +148,19 @@ StandOnce (x ∷ xs) = ¬ (Member x xs) × StandOnce xs
 
 -- all that was made, request by request, in one list
 abbrev pub flat : List (List OutcomeAt) → List OutcomeAt
-flat [] = []
-flat (ms ∷ made) = ms ++ flat made
+flat made = flat_map (λ ms. ms) made
 
--- the leaf at each place went through what it sees of what was made
+-- the leaf at each position went through what it sees of what was made
 abbrev pub EachSees : {S : Type 0} → HearSteps S → S → List OutcomeAt → S → Type 0
-EachSees hears x made y = (place : Place) → hears x place (seen place made) y
+EachSees hears x made y = (position : Position) → hears x position (passed_at position made) y
 
 -- where only plain filters stand round a leaf, what it sees of what was made is what it would see if it stood alone, on any store that differs in extensions and other filters' verdicts alone
 abbrev pub EachSeesAlone : {S : Type 0} → (S → RegistryState) → ActsAt S → S → List OutcomeAt
     → Type 0
 EachSeesAlone registry acts_at x made =
-    (place : Place) (cs : Conducts) (s : Store) → acts_at x place cs
+    (position : Position) (cs : Conducts) (s : Store) → acts_at x position cs
     → AgreeAt (numbers_in cs) (registry x).store s
-    → Alone cs s (map outcome_of made) (seen place made)
+    → Alone cs s (map outcome_of made) (passed_at position made)
 
 -- both
 pub record Sees {S : Type 0} (registry : S → RegistryState) (hears : HearSteps S)
@@ -182,7 +179,7 @@ module _ {S : Type 0} (registry : S → RegistryState) (with_registry : S → Re
   -- between two requests: no span is closing, and the stack is honest by this form
   pub record IsReady (f : Form) (x : S) : Type 0 where
     pub honest : IsHonest registry with_registry has_form stepped levelled f x
-    pub settled : IsSettled (registry x).store.spans
+    pub settled : HasNoClosing (registry x).store.spans
 
   -- the same of a dispatcher, of which this is said of what it keeps
   pub record IsReadyWith (Kept : Form → ℕ → Cache → Type 0) (f : Form) (d : Dispatch S) : Type
@@ -193,7 +190,7 @@ module _ {S : Type 0} (registry : S → RegistryState) (with_registry : S → Re
   -- of a call that was answered so this was made, as its answer says, and the stack went through it; where it was dropped nobody would have been told
   pub record Tells (call : Call) (f : Form) (x : S) (a : Answer) (made : List OutcomeAt)
       (y : S) : Type 0 where
-    pub says : OutcomesOf (call, a) (registry x).store (map outcome_of made)
+    pub says : OutcomesOf call a (registry x).store (map (λ m. m.outcome) made)
     pub goes : FoldsTo (Makes registry with_registry has_form stepped levelled) x made y
     pub loses : a ≡ answer.Dropped → IsUnwantedCall call f (registry x).store
 
@@ -262,15 +259,17 @@ module _ {S : Type 0} (registry : S → RegistryState) (with_registry : S → Re
     -- made is what their answers say, and of a request that hint or kept interest dropped no layer would have been notified
     pub run : Run [] requests answers made old new
     -- each layer is notified, in order, of exactly the made requests that its own path's filters pass when asked afresh
-    pub each : EachSees hears old (flat made) new
-    -- as if it stood alone
-    pub alone : EachSeesAlone registry acts_at old (flat made)
+    pub each : (position : Position) → hears old position (passed_at position (flat made)) new
+    -- as if it stood alone: under plain filters, on any store that differs in extensions and other filters' verdicts alone
+    pub alone : (position : Position) (cs : Conducts) (s : Store) → acts_at old position cs
+        → AgreeAt (numbers_in cs) (registry old).store s
+        → Alone cs s (map (λ m. m.outcome) (flat made)) (passed_at position (flat made))
     -- each closed span is notified of once
-    pub once : StandOnce (closed_in (flat made))
+    pub once : StandOnce (flat_map (λ m. closed_by m.outcome) (flat made))
     -- child before parent, while still readable
-    pub readable : AreReadableCloses (flat made)
+    pub readable : AllByRecursion (λ m. IsReadableClose m.before m.outcome) (flat made)
     -- whoever is told of a span can read it in its own context: also one that closes
-    pub shown : (place : Place) → ShowTheirSpans (seen place (flat made))
+    pub shown : (position : Position) → AllByRecursion ShowsItsSpan (passed_at position (flat made))
 
   -- a list of requests is served exactly so
   pub record ServedExactly (hears : HearSteps S) (acts_at : ActsAt S) (requests : List Request)
@@ -289,5 +288,6 @@ module _ {S : Type 0} (registry : S → RegistryState) (with_registry : S → Re
         → (made : List OutcomeAt)
         × FoldsTo (Makes registry with_registry has_form stepped levelled) x made y
         × (map outcome_of made ≡ closes_of lane closed)
-        × ((g : Form) × IsHonest registry with_registry has_form stepped levelled g y × Keeps f g
+        × ((g : Form) × IsHonest registry with_registry has_form stepped levelled g y
+        × KeepsForm f g
         × ((registry y).filters ≡ (registry x).filters))

@@ -6,7 +6,7 @@ ghost use Rattle.span_core.specs.Filters.{IsEmpty};
 ghost use Rattle.span_core.specs.Span.{metadata_of, number_of};
 ghost use Rattle.span_dispatch.specs.Cache.{no_callsite};
 ghost use Rattle.span_dispatch.specs.Call.{FindsOpen, RefusesUnlessOpen};
-ghost use Rattle.span_dispatch.specs.Contract.{Admits, AdmitsSafely, AsksStack, BecomesReady, ChangesLevel, ChangesStack, DropsAbove, DropsSettled, Forgets, GivesLevel, KeepsCallsite, KeepsHint, LearnsOnly, LeavesGone, OpensByPass, OpensIfMade, Refuses, RefusesEvent, RefusesMetadata, RefusesMismatch, RefusesSpan, SameRegistry, SameStack, SeesWhatIsMade, ServesClone, ServesCurrent, ServesDrop, ServesEnabled, ServesEnter, ServesEvent, ServesExit, ServesFollows, ServesLevel, ServesNewSpan, ServesRecord, Shows, ShowsHint, ShowsKept, StaysReady, StaysReadyBut, StaysSafe, StaysSettled, StaysUpToDate, TakesHandle, TakesLevel, TakesStep, TakesStepAlone, WantsEvent, WantsMetadata, WantsSpan};
+ghost use Rattle.span_dispatch.specs.Contract.{Admits, AdmitsSafely, AsksStack, BecomesReady, ChangesLevel, ChangesStack, DropsAbove, DropsSettled, Forgets, GivesLevel, KeepsCallsite, KeepsHint, LearnsOnly, LeavesGone, OpensByPass, OpensIfMade, Refuses, RefusesEvent, RefusesMetadata, RefusesMismatch, RefusesSpan, SameRegistry, SameStack, SeesWhatIsMade, ServesClone, ServesCurrent, ServesDrop, ServesEnabled, ServesEnter, ServesEvent, ServesExit, ServesFollows, ServesLevel, ServesNewSpan, ServesRecord, Shows, ShowsHint, ShowsKept, StaysReady, StaysReadyBut, StaysSafe, StaysWithoutClosing, StaysUpToDate, TakesHandle, TakesLevel, TakesStep, TakesStepAlone, WantsEvent, WantsMetadata, WantsSpan};
 ghost use Rattle.span_dispatch.specs.contracts.dispatch.Dispatch.{the_row};
 ghost use Rattle.span_dispatch.specs.Serve.{ClosesEach, KeepsUpToDate, forgetful, hint_by, kept_by, stack_of, with_stack};
 ghost use Rattle.span_registry.specs.Step.{Clones, Enters, Exits, RefusesClone, RefusesEnter, RefusesRelease};
@@ -78,6 +78,14 @@ impl<S: Subscriber> Dispatch<S> {
         ensures { result.now ≡ stack_of self.now }
     {
         &self.stack
+    }
+
+    /// The stack, taken out. Layers stay in use, and a new dispatcher puts them in use once more.
+    pub fn into_stack(self) -> S
+        ensures { result ≡ stack_of self }
+    {
+        let Dispatch { stack, .. } = self;
+        stack
     }
 
     /// The stack, to be changed. Whatever was kept of its answers is forgotten.
@@ -356,7 +364,7 @@ impl<S: Subscriber> Dispatch<S> {
         ensures seen { SeesWhatIsMade S.Subscriber self.old self.new }
         ensures taken { IfOk result (TakesHandle S.Subscriber id self.old self.new) }
         ensures store { IfOk result (DropsSettled S.Subscriber id self.old self.new) }
-        ensures settled { StaysSettled S.Subscriber self.old self.new }
+        ensures settled { StaysWithoutClosing S.Subscriber self.old self.new }
         ensures refused { IfErr result (Refuses S.Subscriber RefusesRelease id self.old) }
         ensures unchanged { OnErr result (self.new ≡ self.old) }
     {

@@ -7,7 +7,7 @@ ghost use Rattle.span_dispatch.specs.Contract.{ChangesLevel, ChangesStack, Drops
 ghost use Rattle.span_dispatch.specs.Journal.{Adds, KeepsStack, Leaves, Stands, holds_by};
 ghost use Rattle.span_dispatch.specs.Logged.{AddsDone, AddsEntry, AddsNewSpan, IfDone, IfGiven, IfRefused, IfTold, LogsCallsite, LogsClone, LogsCurrent, LogsDrop, LogsDropped, LogsEnabled, LogsEnter, LogsEvent, LogsExit, LogsFollows, LogsHint, LogsLevel, LogsMismatch, LogsNewSpan, LogsRecord, LogsWanted, NoneTakes, On, OrNoMemory, current_entry, event_entry};
 ghost use Rattle.span_dispatch.specs.Serve.{stack_of};
-ghost use Rattle.span_registry.specs.Closes.{IsSettled};
+ghost use Rattle.span_registry.specs.Closes.{HasNoClosing};
 ghost use Rattle.span_registry.specs.Hooks.{Stays};
 ghost use Rattle.span_registry.specs.Step.{Clones, Enters, Exits, RefusesClone, RefusesEnter, RefusesRelease};
 ghost use Rattle.span_registry.specs.Store.{IsFresh};
@@ -165,7 +165,7 @@ impl<S: Subscriber> Logged<S> {
     pub fn dispatch(&self) -> &Dispatch<S>
         ensures dispatch { result.now ≡ self.now.dispatch }
         ensures usable { S.usable (stack_of result.now) }
-        ensures settled { IsSettled (S.registry (stack_of result.now)).store.spans }
+        ensures settled { HasNoClosing (S.registry (stack_of result.now)).store.spans }
     {
         &self.dispatch
     }
@@ -184,7 +184,7 @@ impl<S: Subscriber> Logged<S> {
         ensures journal { result.1 ≡ self.journal }
         ensures usable { S.usable (stack_of result.0) }
         ensures leaves { Leaves result.1 (S.registry (stack_of result.0)).store }
-        ensures settled { IsSettled (S.registry (stack_of result.0)).store.spans }
+        ensures settled { HasNoClosing (S.registry (stack_of result.0)).store.spans }
     {
         let Logged { dispatch, journal } = self;
         (dispatch, journal)

@@ -7,7 +7,7 @@ ghost use Rattle.span_dispatch.specs.Journal.{Leaves};
 ghost use Rattle.span_dispatch.specs.Logged.{OrNoMemory, current_entry, event_entry};
 ghost use Rattle.span_dispatch.specs.Serve.{stack_of};
 ghost use Rattle.span_dispatch.specs.Worker.{AreCrew, AreCrewOf, SomeRefuses, IsReceipt, IsReceiptOf, IsSpanReceipt, called, calls_of, new_worker};
-ghost use Rattle.span_registry.specs.Closes.{IsSettled};
+ghost use Rattle.span_registry.specs.Closes.{HasNoClosing};
 ghost use Rattle.span_registry.specs.Step.{RefusesClone, RefusesEnter, RefusesRelease};
 ghost use Rattle.span_registry.specs.Store.{IsFresh};
 
@@ -460,7 +460,7 @@ impl<S: Subscriber, L: Crew> Shared<S, L> {
         ensures sum { IfOk result (λ r. length r.1 ≡ calls_of workers.items) }
         ensures usable { IfOk result (λ r. S.usable (stack_of r.0)) }
         ensures leaves { IfOk result (λ r. Leaves r.1 (S.registry (stack_of r.0)).store) }
-        ensures settled { IfOk result (λ r. IsSettled (S.registry (stack_of r.0)).store.spans) }
+        ensures settled { IfOk result (λ r. HasNoClosing (S.registry (stack_of r.0)).store.spans) }
         ensures back { IfErr result (λ u. (u.shared ≡ self) × (u.workers ≡ workers)) }
     {
         if workers.len() != self.workers as usize {

@@ -390,3 +390,16 @@ fn a_refused_interest_changes_nothing(rt: HostRuntime) -> Result<(), Fail> {
     assert_eq!(rt; recorder.failed(), recorder.notices().is_empty());
     Ok(())
 }
+
+#[test]
+fn a_stack_is_taken_out(rt: HostRuntime) -> Result<(), Fail> {
+    let mut dispatch = fresh_plain(rt.alloc())?;
+    let id = open_root(&mut dispatch)?;
+    let (recorder, registry) = dispatch.into_stack().into_parts();
+    let kept = [Notice::New(LANE, id)];
+    assert_eq!(rt;
+        (registry.is_open(id), recorder.notices()),
+        (true, kept.as_slice())
+    );
+    Ok(())
+}

@@ -5,7 +5,7 @@ use Rattle.std.specs.Prelude.{⊤}
 use Rattle.span_core.specs.declared.filter.TheConstants.FilterId.{LIMIT}
 use Rattle.span_core.specs.declared.level.LevelFilter.{LevelFilter}
 use Rattle.span_dispatch.proofs.CallerLemmas.{heard_records}
-use Rattle.span_dispatch.specs.Alone.{seen}
+use Rattle.span_dispatch.specs.Alone.{passed_at}
 use Rattle.span_dispatch.specs.Isolation.{PathsActAlike, SeeTheSame, SeesCalls}
 use Rattle.span_dispatch.specs.Recorder.{RecorderState, Records, kept_notice, new_recorder, recorder_steps}
 use Rattle.span_dispatch.specs.Serve.{IsReady, Served, flat, made_calls, stack_of}
@@ -23,15 +23,15 @@ use Rattle.span_layers.specs.Layer.{HearsBy, LayerSteps}
 use Rattle.span_layers.specs.Layered.{inner_of, outer_of, with_inner}
 use Rattle.span_layers.specs.Number.{TakesNumbers, filters_in}
 use Rattle.span_layers.specs.Observe.{open_answers}
-use Rattle.span_layers.specs.Stands.{IsHonestLayer, Stands, another, bare_form, bare_hears, bare_steps, filtered_acts, filtered_form, filtered_hears, filtered_levels, filtered_steps, itself, registry_on, stack_acts, stack_form, stack_hears, stack_levels, stack_steps}
+use Rattle.span_layers.specs.Stands.{IsHonestLayer, Stands, another, base_form, bare_hears, bare_steps, filtered_acts, filtered_form, filtered_hears, filtered_levels, filtered_steps, itself, registry_on, stack_acts, stack_form, stack_hears, stack_levels, stack_steps}
 use Rattle.span_layers.specs.Verdict.{NumbersStayOwn}
 use Rattle.span_layers.specs.declared.filtered.Filtered.{Filtered as FilteredLayer}
 use Rattle.span_layers.specs.declared.layered.Layered.{Layered}
 use Rattle.span_registry.proofs.Agreeing.{agree_refl}
 use Rattle.span_registry.specs.Conducts.{ActsAt, Conducts, no_conducts, numbers_in}
-use Rattle.span_registry.specs.Form.{Bare, Base, Filtered, Form, Leaf, OnSubscriber, Over}
+use Rattle.span_registry.specs.Form.{Terminal, Base, Filtered, Form, Leaf, OnSubscriber, Parts}
 use Rattle.span_registry.specs.Hooks.{StackSteps}
-use Rattle.span_registry.specs.Place.{HearSteps, Heard, Here, Inner, Outer, Under}
+use Rattle.span_registry.specs.Position.{HearSteps, Heard, Here, Inner, Outer, Under}
 use Rattle.span_registry.specs.Question.{single}
 use Rattle.span_registry.specs.Store.{RegistryState, Store, empty_store, new_registry}
 use Rattle.span_registry.specs.declared.limits.Limits.{Limits}
@@ -64,7 +64,7 @@ levelled_levels = filtered_levels level_taken unlevelled
 
 -- the first stack
 abbrev form_1 : Recorded → Form → Type 0
-form_1 = stack_form levelled_form bare_form
+form_1 = stack_form levelled_form base_form
 
 abbrev steps_1 : StackSteps Recorded
 steps_1 = stack_steps another levelled_steps bare_steps
@@ -109,7 +109,7 @@ pub record IsNumbered (level : LevelFilter) (n : ℕ) (x : Levelled) : Type 0 wh
 
 -- the form of a stack with a recorder under a level on it
 abbrev form_on : LevelFilter → ℕ → Form → Form
-form_on level n f = Over OnSubscriber (Filtered (Some n) (level_answers level) (Leaf true open_answers)) f
+form_on level n f = Parts OnSubscriber (Filtered (Some n) (level_answers level) (Leaf true open_answers)) f
 
 -- a recorder under a level keeps a stack honest
 level_layer : (level : LevelFilter) → IsHonestLayer (leaf_under (level_answers level))
@@ -133,7 +133,7 @@ module _ {I : Type 0} (registry : I → RegistryState) (with_registry : I → Re
       let put : Attaches registry with_registry (λ j. ⊤) (λ y. ⊤) levelled_form (λ y z. (filter_of z ≡ filter_of y) × (layer_of z ≡ layer_of y)) u i x =
       record { numbers = numbers; room = room; layer_as_it_was = attached; outer = tt; inner = tt } in
       let stood = stands_on law shows keeps (leaf_under a) f n u i x has (level_layer level) stands put in
-      let there = subst (λ b. Stands (registry_on registry) (stack_form levelled_form has_form) (Over OnSubscriber (took a n b).0 f) (took a n b).1 x) (has_room n r) stood in
+      let there = subst (λ b. Stands (registry_on registry) (stack_form levelled_form has_form) (Parts OnSubscriber (took a n b).0 f) (took a n b).1 x) (has_room n r) stood in
       record {
         stands = there;
         outer = record { number = there.has.1.0; new = record { own = attached.0 ∙ unnumbered.own; inner = attached.1 ∙ unnumbered.inner ∙ new } };
@@ -192,16 +192,16 @@ same_kept : (level : LevelFilter) → SeenSame → (requests : List Request) (an
 same_kept level law requests answers others alone last beside end one two none nothing first second same =
     let a = Outer (Under Here) in
     let b = Inner (Outer (Under Here)) in
-    let h = seen a (flat first.made) in
-    let k = seen b (flat second.made) in
+    let h = passed_at a (flat first.made) in
+    let k = passed_at b (flat second.made) in
     let cs = conducts_of level in
     let calls = made_first requests others in
     let own : (done : List Answer) → made_calls (numbers_in cs) [] requests done ≡ made_first requests done = λ done. ap (λ numbers. made_calls numbers [] requests done) (first_number level) in
     let heard : Records (layer_of (outer_of (stack_of alone))) (recorder_of last) (map kept_notice h) = heard_records h _ _ (first.each a) in
     let heard_too : Records (layer_of (outer_of (inner_of (stack_of beside)))) (inner_recorder_of end) (map kept_notice k) = heard_records k _ _ (second.each b) in
     let seen_same = law cs cs empty_store empty_store calls h k
-    (record { old = alone; new = last; requests = requests; answers = answers; served = first; place = a; acts = acts_so level _ one; at_store = none; at_calls = own answers ∙ same; sees = refl })
-    (record { old = beside; new = end; requests = requests; answers = others; served = second; place = b; acts = acts_so level _ two; at_store = nothing; at_calls = own others; sees = refl })
+    (record { old = alone; new = last; requests = requests; answers = answers; served = first; position = a; acts = acts_so level _ one; at_store = none; at_calls = own answers ∙ same; sees = refl })
+    (record { old = beside; new = end; requests = requests; answers = others; served = second; position = b; acts = acts_so level _ two; at_store = nothing; at_calls = own others; sees = refl })
     (alike level) (agree_refl (numbers_in cs) empty_store) in
     went_same (recorder_of last) (inner_recorder_of end) h k seen_same (subst (λ r. Records r (recorder_of last) (map kept_notice h)) one.new.inner heard)
     (subst (λ r. Records r (inner_recorder_of end) (map kept_notice k)) two.new.inner heard_too)
@@ -217,22 +217,22 @@ First2 = ServesFirst registry_2 with_registry_2 form_2 steps_2 levels_2 hears_2 
     (λ x y. SameLayer (outer_of x) (outer_of y) × (SameLayer (outer_of (inner_of x)) (outer_of (inner_of y)) × (inner_of (inner_of y) ≡ inner_of (inner_of x))))
 
 abbrev PutOn1 : LevelFilter → RegistryState → Recorded → Type 0
-PutOn1 level s x = PutOn itself another bare_form (λ i w. refl) (λ i w f h. h) level (Bare Base) 0 s x
+PutOn1 level s x = PutOn itself another base_form (λ i w. refl) (λ i w f h. h) level (Terminal Base) 0 s x
 
 -- a recorder on a new registry
 pub alone_put : NumbersStayOwn → (level : LevelFilter) (l : Limits) (s : RegistryState) (recorder : RecorderState) (u : Levelled) (x : Recorded) → s ≡ new_registry l → recorder ≡ new_recorder → IsUnnumbered u recorder level
     → TakesNumbers itself another levelled_form u s (outer_of x) (inner_of x) → ((g : Form) → levelled_form u g → s.filters + filters_in g ≤ LIMIT)
     → (filter_of (outer_of x) ≡ filter_of u) × (layer_of (outer_of x) ≡ layer_of u) → PutOn1 level s x
-alone_put law level l s recorder u x new = put_on itself another bare_form (λ i w. refl) (λ i w f h. h) law level (Bare Base) 0 s recorder u x (bare_stands l s new)
+alone_put law level l s recorder u x new = put_on itself another base_form (λ i w. refl) (λ i w f h. h) law level (Terminal Base) 0 s recorder u x (bare_stands l s new)
 
 abbrev PutOn2 : LevelFilter → LevelFilter → Recorded → Beside → Type 0
-PutOn2 level other i x = PutOn inner_of with_inner form_1 (λ j w. refl) (λ j w f h. h) other (form_on level 0 (Bare Base)) 1 i x
+PutOn2 level other i x = PutOn inner_of with_inner form_1 (λ j w. refl) (λ j w f h. h) other (form_on level 0 (Terminal Base)) 1 i x
 
 -- another on that
 pub beside_put : NumbersStayOwn → (level other : LevelFilter) (s : RegistryState) (i : Recorded) (recorder : RecorderState) (u : Levelled) (x : Beside) → PutOn1 level s i → recorder ≡ new_recorder → IsUnnumbered u recorder other
     → TakesNumbers inner_of with_inner levelled_form u i (outer_of x) (inner_of x) → ((g : Form) → levelled_form u g → (inner_of i).filters + filters_in g ≤ LIMIT)
     → (filter_of (outer_of x) ≡ filter_of u) × (layer_of (outer_of x) ≡ layer_of u) → PutOn2 level other i x
-beside_put law level other s i recorder u x put = put_on inner_of with_inner form_1 (λ j w. refl) (λ j w f h. h) law other (form_on level 0 (Bare Base)) 1 i recorder u x put.stands
+beside_put law level other s i recorder u x put = put_on inner_of with_inner form_1 (λ j w. refl) (λ j w f h. h) law other (form_on level 0 (Terminal Base)) 1 i recorder u x put.stands
 
 -- it is never refused: one filter stands there
 pub room_for_second : (level other : LevelFilter) (s : RegistryState) (i : Recorded) (recorder : RecorderState) (u : Levelled) → PutOn1 level s i → IsUnnumbered u recorder other → ((g : Form) → levelled_form u g → LIMIT < (inner_of i).filters + filters_in g) → ⊥

@@ -17,14 +17,14 @@ use Rattle.span_core.specs.declared.filter.TheConstants.FilterId.{LIMIT}
 use Rattle.span_layers.specs.Number.{filters_in, numbered}
 use Rattle.span_layers.specs.Filtered.{FilteredForm, FilteredSteps, IsUnnumbered, filter_of, id_of, layer_of}
 use Rattle.span_layers.specs.Layer.{LayerSteps}
-use Rattle.span_layers.specs.Layered.{LayeredSteps, OverForm, inner_of, outer_of}
+use Rattle.span_layers.specs.Layered.{LayeredSteps, PartsForm, inner_of, outer_of}
 use Rattle.span_layers.specs.Observe.{observer_of, open_answers}
 use Rattle.span_layers.specs.Verdict.{NewSpansAreFresh, VetoesAloneRefuse}
 use Rattle.span_layers.proofs.CallerLemmas.{asked_with_new_pass}
 use Rattle.span_layers.specs.declared.filtered.Filtered.{Filtered as FilteredLayer}
 use Rattle.span_layers.specs.declared.observe.Observer.{Observer}
-use Rattle.span_registry.specs.Answers.{OnNewSpan}
-use Rattle.span_registry.specs.Form.{Bare, Base, Filtered, Form, Leaf, OnSubscriber, Over}
+use Rattle.span_registry.specs.Behaviour.{OnNewSpan}
+use Rattle.span_registry.specs.Form.{Terminal, Base, Filtered, Form, Leaf, OnSubscriber, Parts}
 use Rattle.span_registry.specs.Hooks.{AnswersEnabled, OpensAndNotifies, StackSteps, no_filter}
 use Rattle.span_registry.specs.Plan.{Itself, Nobody, Through}
 use Rattle.span_registry.specs.Question.{refusals}
@@ -38,10 +38,10 @@ use Rattle.span_examples.specs.declared.layer.SpanCounter.{SpanCounter}
 
 -- the form of the stack
 abbrev pub form_of : LevelFilter → ℕ → Form
-form_of level n = Over OnSubscriber (Filtered (Some n) (level_answers level) (Leaf true open_answers)) (Bare Base)
+form_of level n = Parts OnSubscriber (Filtered (Some n) (level_answers level) (Leaf true open_answers)) (Terminal Base)
 
 abbrev pub HasForm : Counted → Form → Type 0
-HasForm x = OverForm OnSubscriber (FilteredForm (id_of (outer_of x)) (settled_answers level_answers (level_in x)) (λ f. f ≡ Leaf true open_answers)) (λ f. f ≡ Bare Base)
+HasForm x = PartsForm OnSubscriber (FilteredForm (id_of (outer_of x)) (settled_answers level_answers (level_in x)) (λ f. f ≡ Leaf true open_answers)) (λ f. f ≡ Terminal Base)
 
 -- how its parts go on, as their types say
 abbrev pub counter_steps : LayerSteps (Observer SpanCounter)

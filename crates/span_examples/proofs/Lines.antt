@@ -18,10 +18,10 @@ use Rattle.span_layers.specs.Observe.{ObserverStep, notice_of, observer_of}
 use Rattle.span_layers.specs.declared.observe.Observed.TheVariants as observed
 use Rattle.span_layers.specs.declared.observe.Observed.{Observed}
 use Rattle.span_layers.specs.declared.observe.Observer.{Observer}
-use Rattle.span_registry.specs.Answers.{Notice, OnClose, OnEnter, OnEvent, OnExit, OnFollows, OnIdChange, OnNewSpan, OnRecord}
-use Rattle.span_registry.specs.Form.{Bare, Base}
+use Rattle.span_registry.specs.Behaviour.{Notice, OnClose, OnEnter, OnEvent, OnExit, OnFollows, OnIdChange, OnNewSpan, OnRecord}
+use Rattle.span_registry.specs.Form.{Terminal, Base}
 use Rattle.span_registry.specs.Laws.{ShowsPlainly}
-use Rattle.span_registry.specs.Place.{Heard, Here}
+use Rattle.span_registry.specs.Position.{Heard, Here}
 use Rattle.span_registry.specs.Store.{RegistryState, Store}
 use Rattle.span_registry.specs.View.{View, event_shown, plain_view, scope, view_of}
 use Rattle.span_examples.proofs.PutOn.{LeafUnder, PutOn, another, bare_form, form_on, itself, on_form}
@@ -85,11 +85,11 @@ heard_text (told ∷ h) x y a =
 
 -- a recorder on a new registry
 abbrev pub RecorderOn : LevelFilter → RecorderState → RegistryState → Recorded → Type 0
-RecorderOn level r s x = PutOn itself another bare_form (λ i w. refl) (λ i w f h. h) level (Bare Base) 0 r s x
+RecorderOn level r s x = PutOn itself another bare_form (λ i w. refl) (λ i w f h. h) level (Terminal Base) 0 r s x
 
 -- and a layer on that
 abbrev pub OutlineOn : LevelFilter → LevelFilter → Observer Outline → Recorded → Outlined → Type 0
-OutlineOn level other k i x = PutOn inner_of with_inner (on_form bare_form) (λ j w. refl) (λ j w f h. h) level (form_on other 0 (Bare Base)) 1 k i x
+OutlineOn level other k i x = PutOn inner_of with_inner (on_form bare_form) (λ j w. refl) (λ j w f h. h) level (form_on other 0 (Terminal Base)) 1 k i x
 
 -- as they begin
 pub new_outlined : (level other : LevelFilter) (s : RegistryState) (r : RecorderState) (k : Observer Outline) (i : Recorded) (x : Outlined) → r ≡ new_recorder → text_in (observer_of k) ≡ [] → has_failed (observer_of k) ≡ false

@@ -6,18 +6,19 @@ use Rattle.span_core.specs.declared.level.LevelFilter.{LevelFilter}
 use Rattle.span_dispatch.specs.Serve.{IsReady}
 use Rattle.span_filters.specs.Filter.{settled_answers}
 use Rattle.span_filters.specs.Level.{level_answers, level_honest}
+use Rattle.span_layers.proofs.Built.{honest_by, rules_of}
 use Rattle.span_layers.specs.Filtered.{FilteredForm, IsNumber, IsUnnumbered, filter_of, id_of, layer_of}
 use Rattle.span_layers.specs.Honest.{IsHonestStack}
-use Rattle.span_layers.specs.Layered.{OverForm, inner_of, outer_of}
+use Rattle.span_layers.specs.Layered.{PartsForm, inner_of, outer_of}
 use Rattle.span_layers.specs.Number.{TakesNumbers, filters_in}
 use Rattle.span_layers.specs.Observe.{open_answers}
 use Rattle.span_layers.specs.Verdict.{HasOwnNumbers, NumbersStayOwn}
 use Rattle.span_layers.specs.declared.filtered.Filtered.{Filtered as FilteredLayer}
 use Rattle.span_layers.specs.declared.layered.Layered.{Layered}
 use Rattle.span_registry.proofs.CallerLemmas.{settled_new}
-use Rattle.span_registry.specs.Answers.{AreHonest}
-use Rattle.span_registry.specs.Closes.{IsSettled}
-use Rattle.span_registry.specs.Form.{Bare, Base, Filtered, Form, Leaf, OnSubscriber, Over}
+use Rattle.span_registry.specs.Behaviour.{AreHonest}
+use Rattle.span_registry.specs.Closes.{HasNoClosing}
+use Rattle.span_registry.specs.Form.{Terminal, Base, Filtered, Form, Leaf, OnSubscriber, Parts}
 use Rattle.span_registry.specs.Hooks.{StackSteps}
 use Rattle.span_registry.specs.Levels.{LevelSteps}
 use Rattle.span_registry.specs.Store.{RegistryState, Store, empty_store, new_registry}
@@ -36,11 +37,11 @@ abbrev pub On : Type 0 → Type 0 → Type 0
 On K I = Layered (LeafUnder K) I
 
 abbrev pub on_form : {K I : Type 0} → (I → Form → Type 0) → On K I → Form → Type 0
-on_form form x = OverForm OnSubscriber (under_form (outer_of x)) (form (inner_of x))
+on_form form x = PartsForm OnSubscriber (under_form (outer_of x)) (form (inner_of x))
 
 -- the form of that
 abbrev pub form_on : LevelFilter → ℕ → Form → Form
-form_on level n f = Over OnSubscriber (Filtered (Some n) (level_answers level) (Leaf true open_answers)) f
+form_on level n f = Parts OnSubscriber (Filtered (Some n) (level_answers level) (Leaf true open_answers)) f
 
 abbrev pub itself : RegistryState → RegistryState
 itself s = s
@@ -49,7 +50,7 @@ abbrev pub another : RegistryState → RegistryState → RegistryState
 another s w = w
 
 abbrev pub bare_form : RegistryState → Form → Type 0
-bare_form s f = f ≡ Bare Base
+bare_form s f = f ≡ Terminal Base
 
 -- a stack of this form, honest, on a registry without spans that handed out this many filters
 pub record Stands {S : Type 0} (registry : S → RegistryState) (has_form : S → Form → Type 0) (f : Form) (n : ℕ) (x : S) : Type 0 where
@@ -62,19 +63,21 @@ open_honest : AreHonest open_answers
 open_honest = record { always = λ m v e. refl; never = λ m v e. absurd (cc); above = λ m v e. absurd (false≢true e); alike = λ m k e. refl }
 
 honest_on : (level : LevelFilter) (n : ℕ) (f : Form) → HasOwnNumbers (form_on level n f) (n + 1) → IsHonestStack f n → IsHonestStack (form_on level n f) (n + 1)
-honest_on level n f own h = record {
-  answers = ((level_honest level, open_honest), h.answers);
-  numbers = own;
-  orderly = (record { enabled = λ m v. refl; event = λ e v. refl }, h.orderly);
-  still = (refl, h.still);
-  stack = h.stack;
-}
+honest_on level n f own h =
+    let rules = rules_of f n h in
+    honest_by (form_on level n f) (n + 1) (record {
+      answers = ((level_honest level, open_honest), rules.answers);
+      numbers = own;
+      orderly = (record { enabled = λ m v. refl; event = λ e v. refl }, rules.orderly);
+      still = (refl, rules.still);
+      stack = rules.stack;
+    })
 
 -- a new registry stands so
-pub bare_stands : (l : Limits) (s : RegistryState) → s ≡ new_registry l → Stands itself bare_form (Bare Base) 0 s
+pub bare_stands : (l : Limits) (s : RegistryState) → s ≡ new_registry l → Stands itself bare_form (Terminal Base) 0 s
 bare_stands l s new = record {
   has = refl;
-  rules = record { answers = tt; numbers = record { distinct = tt; handed_out = λ k e. absurd (false≢true e) }; orderly = tt; still = tt; stack = refl };
+  rules = record { numbers = record { distinct = tt; handed_out = λ k e. absurd (false≢true e) }; built = tt };
   filters = ap (λ (t : RegistryState). t.filters) new;
   empty = ap (λ (t : RegistryState). t.store) new;
 }
@@ -101,7 +104,7 @@ module _ {K I : Type 0} (registry : I → RegistryState) (with_registry : I → 
       let form = subst (λ b. under_form (outer_of x) (took a n b).0) (has_room n r) formed in
       let counted = subst (λ k. (registry (inner_of x)).filters ≡ (took a k (nat_lt k LIMIT)).1) stands.filters (numbers.next g has) in
       let next = subst (λ b. (registry (inner_of x)).filters ≡ (took a n b).1) (has_room n r) counted in
-      let own = subst (λ b. HasOwnNumbers (Over OnSubscriber (took a n b).0 f) (took a n b).1) (has_room n r) ((law g n r).stack f stands.rules.numbers) in
+      let own = subst (λ b. HasOwnNumbers (Parts OnSubscriber (took a n b).0 f) (took a n b).1) (has_room n r) ((law g n r).stack f stands.rules.numbers) in
       record {
         stands = record {
           has = (refl, form, subst (λ j. has_form j f) (sym numbers.alone) (keeps i _ f stands.has));
@@ -128,6 +131,6 @@ module _ {S : Type 0} (registry : S → RegistryState) (with_registry : S → Re
     f,
     record {
       honest = record { has = h.has; rules = subst (λ k. IsHonestStack f k) (sym h.filters) h.rules };
-      settled = subst IsSettled (sym (ap (λ (s : Store). s.spans) h.empty)) (settled_new (registry x).limits);
+      settled = subst HasNoClosing (sym (ap (λ (s : Store). s.spans) h.empty)) (settled_new (registry x).limits);
     },
   )

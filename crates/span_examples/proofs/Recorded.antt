@@ -22,7 +22,7 @@ use Rattle.span_dispatch.specs.Call.{vetoes_whole}
 use Rattle.span_dispatch.specs.Outcome.{LayersGo, LevelSet, OutcomeAt, Makes, Noticed, Outcome, Quiet}
 use Rattle.span_dispatch.specs.Recorder.{RecorderState, Records, kept_notice, new_recorder, recorder_steps}
 use Rattle.span_dispatch.specs.Cache.{KeptCallsites}
-use Rattle.span_dispatch.specs.Alone.{passed, seen}
+use Rattle.span_dispatch.specs.Alone.{passed, passed_at}
 use Rattle.span_dispatch.specs.Serve.{IsReady, RunExactly, ServedExactly, ServesRequest, flat, kept_by, stack_of}
 use Rattle.span_dispatch.specs.declared.dispatch.Dispatch.{Dispatch}
 use Rattle.span_dispatch.specs.declared.notice.Notice.{Notice as KeptNotice}
@@ -42,17 +42,17 @@ use Rattle.span_layers.specs.Layer.{HearsBy, LayerSteps}
 use Rattle.span_layers.specs.Layered.{inner_of, outer_of, with_inner}
 use Rattle.span_layers.specs.Number.{TakesNumbers, filters_in}
 use Rattle.span_layers.specs.Observe.{open_answers}
-use Rattle.span_layers.specs.Stands.{IsHonestLayer, another, bare_form, bare_hears, bare_steps, filtered_form, filtered_hears, filtered_levels, filtered_steps, itself, stack_form, stack_hears, stack_levels, stack_steps}
+use Rattle.span_layers.specs.Stands.{IsHonestLayer, another, base_form, bare_hears, bare_steps, filtered_form, filtered_hears, filtered_levels, filtered_steps, itself, stack_form, stack_hears, stack_levels, stack_steps}
 use Rattle.span_registry.specs.Path.{path_at}
 use Rattle.span_layers.specs.Verdict.{NumbersStayOwn, vetoes}
 use Rattle.span_layers.specs.declared.filtered.Filtered.{Filtered as FilteredLayer}
 use Rattle.span_registry.proofs.CallerLemmas.{settled_new}
-use Rattle.span_registry.specs.Answers.{AreHonest, Notice, OnClose, OnEnter, OnEvent, OnExit, OnFollows, OnIdChange, OnNewSpan, OnRecord}
-use Rattle.span_registry.specs.Closes.{IsSettled}
+use Rattle.span_registry.specs.Behaviour.{AreHonest, Notice, OnClose, OnEnter, OnEvent, OnExit, OnFollows, OnIdChange, OnNewSpan, OnRecord}
+use Rattle.span_registry.specs.Closes.{HasNoClosing}
 use Rattle.span_registry.specs.Conducts.{ActsAt}
-use Rattle.span_registry.specs.Form.{Bare, Base, Filtered, Form, Leaf, OnSubscriber, Over}
+use Rattle.span_registry.specs.Form.{Terminal, Base, Filtered, Form, Leaf, OnSubscriber, Parts}
 use Rattle.span_registry.specs.Hooks.{StackSteps}
-use Rattle.span_registry.specs.Place.{HearSteps, Here, Outer, Place, Told, Under, told_in}
+use Rattle.span_registry.specs.Position.{HearSteps, Here, Outer, Position, Told, Under, told_in}
 use Rattle.span_registry.specs.Plan.{Itself, Nobody, Through}
 use Rattle.span_registry.specs.Store.{RegistryState, Store, new_registry}
 use Rattle.span_registry.specs.declared.limits.Limits.{Limits}
@@ -63,13 +63,13 @@ use Rattle.span_examples.specs.Dispatches.{IsMadeOrRefused, KeepsWhatPasses, Rec
 
 -- the form of the stack
 abbrev pub form_of : LevelFilter → ℕ → Form
-form_of level n = Over OnSubscriber (Filtered (Some n) (level_answers level) (Leaf true open_answers)) (Bare Base)
+form_of level n = Parts OnSubscriber (Filtered (Some n) (level_answers level) (Leaf true open_answers)) (Terminal Base)
 
 abbrev UnderLevel : FilteredLayer RecorderState LevelFilter → Form → Type 0
 UnderLevel = filtered_form (settled_answers level_answers) (λ r f. f ≡ Leaf true open_answers)
 
 abbrev pub HasForm : Recorded → Form → Type 0
-HasForm = stack_form UnderLevel bare_form
+HasForm = stack_form UnderLevel base_form
 
 -- how its parts go on, as their types say
 abbrev under_level : LayerSteps (FilteredLayer RecorderState LevelFilter)
@@ -87,8 +87,8 @@ abbrev pub recorded_hears : HearSteps Recorded
 recorded_hears = stack_hears (filtered_hears (HearsBy recorder_steps)) bare_hears
 
 -- where the recorder stands
-abbrev pub place : Place
-place = Outer (Under Here)
+abbrev pub position : Position
+position = Outer (Under Here)
 
 -- its filter is this level, and has a number
 pub record IsUnder (level : LevelFilter) (x : FilteredLayer RecorderState LevelFilter) : Type 0 where
@@ -100,14 +100,14 @@ stays_under level x y id own h = record { number = (h.number.0, subst (λ i. IsN
 
 -- so that is its form
 formed : (level : LevelFilter) (x : Recorded) (f : Form) → IsUnder level (outer_of x) → HasForm x f → (n : ℕ) × (f ≡ form_of level n)
-formed level x (Over k (Filtered (Some n) a g) i) u h = (n, λ j. Over (h.0 j) (Filtered (Some n) ((h.1.1 ∙ ap level_answers u.own) j) (h.1.2 j)) (h.2 j))
-formed level x (Over k (Filtered None a g) i) u h = absurd (true≢false (sym u.number.1.0 ∙ h.1.0))
-formed level x (Over k (Leaf still a) i) u h = absurd h.1
-formed level x (Over k (Over l o p) i) u h = absurd h.1
-formed level x (Over k (Bare v) i) u h = absurd h.1
+formed level x (Parts k (Filtered (Some n) a g) i) u h = (n, λ j. Parts (h.0 j) (Filtered (Some n) ((h.1.1 ∙ ap level_answers u.own) j) (h.1.2 j)) (h.2 j))
+formed level x (Parts k (Filtered None a g) i) u h = absurd (true≢false (sym u.number.1.0 ∙ h.1.0))
+formed level x (Parts k (Leaf still a) i) u h = absurd h.1
+formed level x (Parts k (Parts l o p) i) u h = absurd h.1
+formed level x (Parts k (Terminal v) i) u h = absurd h.1
 formed level x (Leaf still a) u h = absurd h
 formed level x (Filtered n a g) u h = absurd h
-formed level x (Bare v) u h = absurd h
+formed level x (Terminal v) u h = absurd h
 
 -- ---- how it goes on
 
@@ -146,10 +146,10 @@ goes_under level f (Quiet c) s t x y none u has quiet = stays_under level (outer
 
 -- what it keeps of what was made
 abbrev pub kept_from : List OutcomeAt → List KeptNotice
-kept_from made = map kept_notice (seen place made)
+kept_from made = map kept_notice (passed_at position made)
 
 kept_append : (ms ns : List OutcomeAt) → kept_from (ms ++ ns) ≡ kept_from ms ++ kept_from ns
-kept_append ms ns = ap (map kept_notice) (seen_append place ms ns) ∙ map-append kept_notice (seen place ms) (seen place ns)
+kept_append ms ns = ap (map kept_notice) (seen_append position ms ns) ∙ map-append kept_notice (passed_at position ms) (passed_at position ns)
 
 -- of what the level passes, and the leaf then passes too
 by_level : (b : Bool) (one : Told) → map kept_notice ((if b && true then one ∷ [] else []) ++ []) ≡ (if b then kept_notice one ∷ [] else [])
@@ -172,7 +172,7 @@ kept_new : (level : LevelFilter) (lane : Lane) (m : Metadata) (x : Recorded) →
     → Keeps level (kept_span level lane m (answer.Made id)) (one ∷ []) z
 kept_new level lane m x u id attrs one z same is made =
     let form = formed level x one.form u made.honest.has in
-    let seen_so : kept_from (one ∷ []) ≡ map kept_notice (passed (path_at (form_of level form.0) place) (Noticed lane (OnNewSpan attrs id)) one.before one.after ++ []) = λ j. map kept_notice (passed (path_at (form.1 j) place) (is j) one.before one.after ++ []) in
+    let seen_so : kept_from (one ∷ []) ≡ map kept_notice (passed (path_at (form_of level form.0) position) (Noticed lane (OnNewSpan attrs id)) one.before one.after ++ []) = λ j. map kept_notice (passed (path_at (form.1 j) position) (is j) one.before one.after ++ []) in
     record {
       keeps = seen_so ∙ by_level (passes_level level (level_of (metadata_of attrs))) (told_in (OnNewSpan attrs id) one.after lane.0 _) ∙ ap (λ k. kept_span level lane k (answer.Made id)) same;
       under = goes_under level one.form one.outcome one.before one.after x z (subst IsNoLevel (sym is) tt) u made.honest.has made.layers;
@@ -182,7 +182,7 @@ kept_sent : (level : LevelFilter) (lane : Lane) (m : Metadata) (x : Recorded) �
     → Keeps level (kept_event level lane m) (one ∷ []) z
 kept_sent level lane m x u e one z same is made =
     let form = formed level x one.form u made.honest.has in
-    let seen_so : kept_from (one ∷ []) ≡ map kept_notice (passed (path_at (form_of level form.0) place) (Noticed lane (OnEvent e)) one.before one.after ++ []) = λ j. map kept_notice (passed (path_at (form.1 j) place) (is j) one.before one.after ++ []) in
+    let seen_so : kept_from (one ∷ []) ≡ map kept_notice (passed (path_at (form_of level form.0) position) (Noticed lane (OnEvent e)) one.before one.after ++ []) = λ j. map kept_notice (passed (path_at (form.1 j) position) (is j) one.before one.after ++ []) in
     record {
       keeps = seen_so ∙ by_level_twice (passes_level level (level_of (event_metadata e))) (told_in (OnEvent e) one.after lane.0 _) ∙ ap (λ k. kept_event level lane k) same;
       under = goes_under level one.form one.outcome one.before one.after x z (subst IsNoLevel (sym is) tt) u made.honest.has made.layers;
@@ -270,13 +270,13 @@ starts law level l s recorder u x new empty unnumbered numbers room attached =
     let level_now = filter_of u in
     let g = leaf_under (level_answers level_now) in
     let put : Attaches itself another (λ t. ⊤) (λ y. ⊤) UnderLevel (λ y z. (filter_of z ≡ filter_of y) × (layer_of z ≡ layer_of y)) u s x = record { numbers = numbers; room = room; layer_as_it_was = attached; outer = tt; inner = tt } in
-    let stood = stands_on law (λ t w. refl) (λ t w f h. h) g (Bare Base) 0 u s x (unnumbered.id, refl, refl) (level_layer level_now) (bare_stands l s new) put in
+    let stood = stands_on law (λ t w. refl) (λ t w f h. h) g (Terminal Base) 0 u s x (unnumbered.id, refl, refl) (level_layer level_now) (bare_stands l s new) put in
     record {
       ready = (
         form_of level_now 0,
         record {
           honest = record { has = stood.has; rules = subst (IsHonestStack (form_of level_now 0)) (sym stood.filters) stood.rules };
-          settled = subst IsSettled (sym (ap (λ (t : Store). t.spans) stood.empty)) (settled_new l);
+          settled = subst HasNoClosing (sym (ap (λ (t : Store). t.spans) stood.empty)) (settled_new l);
         },
       );
       under = record { number = (0, stood.has.1.0); own = attached.0 ∙ unnumbered.own };
@@ -314,6 +314,6 @@ served_three level lane outer inner event p q r us vs ws old done new kept serve
     let requests = request.NewSpan lane outer p us ∷ request.NewSpan lane inner q vs ∷ request.Event lane event r ws ∷ [] in
     let run = subst (λ k. RunExactly inner_of with_inner HasForm recorded_steps recorded_levels [] requests done.1.items served.served.made k x (kept_by done.0) (stack_of done.0)) kept served.run in
     let three = keeps_three level lane outer inner event p q r us vs ws x (kept_by done.0) (stack_of done.0) done.1.items served.served.made new.under run in
-    let heard : Records (layer_of (outer_of x)) (recorder_of done.0) (kept_from (flat served.served.made)) = heard_records _ _ _ (served.served.each place) in
+    let heard : Records (layer_of (outer_of x)) (recorder_of done.0) (kept_from (flat served.served.made)) = heard_records _ _ _ (served.served.each position) in
     let due = subst (λ h. Records new_recorder (recorder_of done.0) h) three.keeps (subst (λ k. Records k (recorder_of done.0) (kept_from (flat served.served.made))) new.empty heard) in
     record { first = three.first; second = three.second; answers = three.answered; spans = three.spans; notified = due; kept = keeps_all (recorder_of done.0) _ due }

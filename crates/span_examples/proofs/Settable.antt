@@ -15,8 +15,8 @@ use Rattle.span_layers.specs.Filtered.{IsNumber, filter_of, id_of, layer_of}
 use Rattle.span_layers.specs.Layered.{inner_of, outer_of, with_inner}
 use Rattle.span_layers.specs.Levels.{LevelsIf}
 use Rattle.span_registry.specs.Conducts.{filter_numbered}
-use Rattle.span_registry.specs.Follows.{Keeps}
-use Rattle.span_registry.specs.Form.{Bare, Filtered, Form, Leaf, Over}
+use Rattle.span_registry.specs.KeptForm.{KeepsForm}
+use Rattle.span_registry.specs.Form.{Terminal, Filtered, Form, Leaf, Parts}
 use Rattle.span_registry.specs.Levels.{KeepsRules, kept_rules, rules_again, takes_level, unlevelled}
 use Rattle.span_examples.proofs.Recorded.{HasForm, form_of, recorded_levels, recorded_steps}
 use Rattle.span_examples.specs.Dispatches.{Recorded}
@@ -37,7 +37,7 @@ pub record IsReadyFirst (d : Dispatch Recorded) : Type 0 where
 
 -- so is a dispatcher that such a stack was put in
 pub ready_first : (level : LevelFilter) (x : Recorded) (d : Dispatch Recorded) → IsReady inner_of with_inner HasForm recorded_steps recorded_levels (form_of level 0) x
-    → ((f : Form) → IsReady inner_of with_inner HasForm recorded_steps recorded_levels f x → ReadyAfter Keeps f d) → IsReadyFirst d
+    → ((f : Form) → IsReady inner_of with_inner HasForm recorded_steps recorded_levels f x → ReadyAfter KeepsForm f d) → IsReadyFirst d
 ready_first level x d ready step = let r = step (form_of level 0) ready in record { level = level; form = r.0; ready = r.1; rules = kept_rules (form_of level 0) r.0 r.2 }
 
 -- and so it stays, where what a form keeps includes its rules
@@ -48,16 +48,16 @@ ready_still keeps rules d e h step =
 
 -- its filter takes every level, and has the number 0
 takes : (level l : LevelFilter) (x : Recorded) (f : Form) → KeepsRules (form_of level 0) f → HasForm x f → (takes_level f 0 l ≡ true) × IsNumber (id_of (outer_of x)) (Some 0)
-takes level l x (Over k (Filtered m a g) i) keeps has = (
+takes level l x (Parts k (Filtered m a g) i) keeps has = (
   λ j. (if filter_numbered (keeps.1.0 j) 0 then (has.1.1 j).takes l else takes_level g 0 l) || takes_level i 0 l,
   subst (λ o. IsNumber (id_of (outer_of x)) o) keeps.1.0 has.1.0,
 )
-takes level l x (Over k (Leaf still a) i) keeps has = absurd has.1
-takes level l x (Over k (Over m o p) i) keeps has = absurd has.1
-takes level l x (Over k (Bare v) i) keeps has = absurd has.1
+takes level l x (Parts k (Leaf still a) i) keeps has = absurd has.1
+takes level l x (Parts k (Parts m o p) i) keeps has = absurd has.1
+takes level l x (Parts k (Terminal v) i) keeps has = absurd has.1
 takes level l x (Leaf still a) keeps has = absurd has
 takes level l x (Filtered n a g) keeps has = absurd has
-takes level l x (Bare v) keeps has = absurd has
+takes level l x (Terminal v) keeps has = absurd has
 
 -- so it is never refused
 pub never_refused : (d : Dispatch Recorded) (l : LevelFilter) → IsReadyFirst d → ((f : Form) → HasForm (stack_of d) f → false ≡ takes_level f 0 l) → ⊥

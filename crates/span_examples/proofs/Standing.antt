@@ -15,7 +15,7 @@ use Rattle.span_core.specs.declared.span.Lane.{Lane}
 use Rattle.span_dispatch.proofs.Admits.{current_is_safe}
 use Rattle.span_dispatch.proofs.CallerLemmas.{heard_records}
 use Rattle.span_dispatch.proofs.Effect.{seen_calls}
-use Rattle.span_dispatch.specs.Alone.{seen}
+use Rattle.span_dispatch.specs.Alone.{passed_at}
 use Rattle.span_dispatch.specs.Call.{Call, DropHandle, OpenSpan, span_answer, yes_answer}
 use Rattle.span_dispatch.specs.Contract.{AnswersCall, AnswersDrop, StaysReady, SubscriberOf}
 use Rattle.span_dispatch.specs.Isolation.{SeesCalls}
@@ -36,19 +36,19 @@ use Rattle.span_layers.specs.Layered.{inner_of, outer_of, with_inner}
 use Rattle.span_layers.specs.Members.{ListForm}
 use Rattle.span_layers.specs.Number.{filters_in, numbered}
 use Rattle.span_layers.specs.Observe.{open_answers}
-use Rattle.span_layers.specs.Stands.{IsHonestLayer, Stands, another, bare_form, filtered_form, itself, registry_on, stack_form}
-use Rattle.span_layers.specs.Verdict.{IsQuiet, NumbersStayOwn}
+use Rattle.span_layers.specs.Stands.{IsHonestLayer, Stands, another, base_form, filtered_form, itself, registry_on, stack_form}
+use Rattle.span_layers.specs.Verdict.{LeavesRefuseNothing, NumbersStayOwn}
 use Rattle.span_layers.specs.declared.filtered.Filtered.{Filtered as FilteredLayer}
 use Rattle.span_layers.specs.declared.layered.Layered.{Layered}
 use Rattle.span_registry.proofs.CallerLemmas.{settled_new}
 use Rattle.span_registry.proofs.Agreeing.{agree_refl}
-use Rattle.span_registry.specs.Answers.{Answers, AreAlike, AreHonest, ArePlain, Conduct, unextended}
+use Rattle.span_registry.specs.Behaviour.{Behaviour, AreAlike, AreHonest, ArePlain, Conduct, unextended}
 use Rattle.span_registry.specs.Conducts.{Conducts, numbers_in}
-use Rattle.span_registry.specs.Closes.{IsSettled}
-use Rattle.span_registry.specs.Form.{Bare, Base, End, Filtered, Form, InList, Leaf, OnSubscriber, Over}
+use Rattle.span_registry.specs.Closes.{HasNoClosing}
+use Rattle.span_registry.specs.Form.{Terminal, Base, End, Filtered, Form, InList, Leaf, OnSubscriber, Parts}
 use Rattle.span_registry.specs.Hooks.{StackSteps}
 use Rattle.span_registry.specs.Levels.{LevelSteps}
-use Rattle.span_registry.specs.Place.{Heard, Here, Outer, Place, Under}
+use Rattle.span_registry.specs.Position.{Heard, Here, Outer, Position, Under}
 use Rattle.span_registry.specs.Store.{RegistryState, Store, empty_store, new_registry}
 use Rattle.span_registry.specs.LaneStack.{without_duplicates}
 use Rattle.span_registry.specs.View.{SeenSpan, SeenSpans, View, current_among, current_shown}
@@ -63,7 +63,7 @@ pub is_ready : {S : Type 0} {registry : S → RegistryState} {with_registry : S 
     → Stands registry has_form f n x → IsReady registry with_registry has_form stepped levelled f x
 is_ready {registry = registry} f n x h = record {
   honest = record { has = h.has; rules = subst (IsHonestStack f) (sym h.filters) h.rules };
-  settled = subst IsSettled (sym (ap (λ (s : Store). s.spans) h.empty)) (settled_new (registry x).limits);
+  settled = subst HasNoClosing (sym (ap (λ (s : Store). s.spans) h.empty)) (settled_new (registry x).limits);
 }
 
 -- a leaf that wants everything keeps a stack honest
@@ -79,9 +79,9 @@ open_fit x h = record { form = Leaf true open_answers; has = h; honest = open_la
 
 -- and a list of two
 abbrev two_open : Form
-two_open = Over InList (Leaf true open_answers) (Over InList (Leaf true open_answers) (Bare End))
+two_open = Parts InList (Leaf true open_answers) (Parts InList (Leaf true open_answers) (Terminal End))
 
-pub open_quiet : IsQuiet (Leaf true open_answers)
+pub open_quiet : LeavesRefuseNothing (Leaf true open_answers)
 open_quiet = record { enabled = λ m v. refl; event = λ e v. refl }
 
 pub two_fit : {L X : Type 0} (has_form : L → Form → Type 0) (items : X → List L) (v : X) (x y : L) → items v ≡ x ∷ y ∷ [] → has_form x (Leaf true open_answers) → has_form y (Leaf true open_answers) → IsFit (λ w. ListForm has_form (items w)) v
@@ -108,8 +108,8 @@ module _ {L : Type 0} {has_form : L → Form → Type 0} (law : NumbersStayOwn) 
       omega (arith, none, more, room)
 
   pub put_on : {usable : L → Type 0} {attached : L → L → Type 0} {inner_usable : RegistryState → Type 0} (x : On L) → Attaches itself another inner_usable usable has_form attached layer s x
-      → Stands (registry_on itself) (stack_form has_form bare_form) (Over OnSubscriber (numbered fit.form 0).0 (Bare Base)) (numbered fit.form 0).1 x
-  put_on x put = stands_on law (λ t w. refl) (λ t w f h. h) fit.form (Bare Base) 0 layer s x fit.has fit.honest (bare_stands l s new) put
+      → Stands (registry_on itself) (stack_form has_form base_form) (Parts OnSubscriber (numbered fit.form 0).0 (Terminal Base)) (numbered fit.form 0).1 x
+  put_on x put = stands_on law (λ t w. refl) (λ t w f h. h) fit.form (Terminal Base) 0 layer s x fit.has fit.honest (bare_stands l s new) put
 
   -- and that has room for a recorder
   pub leaves_room : {usable : L → Type 0} {attached : L → L → Type 0} {inner_usable : RegistryState → Type 0} (x : On L) → Attaches itself another inner_usable usable has_form attached layer s x
@@ -124,26 +124,26 @@ module _ {L : Type 0} {has_form : L → Form → Type 0} (law : NumbersStayOwn) 
   pub put_over : {usable : L → Type 0} {attached : L → L → Type 0} {inner_usable : RegistryState → Type 0} {below_usable : On L → Type 0} {recorder_usable : RecorderState → Type 0} (x : On L) (recorder : RecorderState) (y : Layered RecorderState (On L))
       → Attaches itself another inner_usable usable has_form attached layer s x
       → Attaches (registry_on itself) with_inner below_usable recorder_usable (λ r f. f ≡ Leaf true open_answers) (λ r q. q ≡ r) recorder x y
-      → Stands (registry_on (registry_on itself)) (stack_form (λ r f. f ≡ Leaf true open_answers) (stack_form has_form bare_form)) (Over OnSubscriber (Leaf true open_answers) (Over OnSubscriber (numbered fit.form 0).0 (Bare Base))) (numbered fit.form 0).1 y
-  put_over x recorder y put second = stands_on law (λ t w. refl) (λ t w f h. h) (Leaf true open_answers) (Over OnSubscriber (numbered fit.form 0).0 (Bare Base)) (numbered fit.form 0).1 recorder x y refl open_layer (put_on x put) second
+      → Stands (registry_on (registry_on itself)) (stack_form (λ r f. f ≡ Leaf true open_answers) (stack_form has_form base_form)) (Parts OnSubscriber (Leaf true open_answers) (Parts OnSubscriber (numbered fit.form 0).0 (Terminal Base))) (numbered fit.form 0).1 y
+  put_over x recorder y put second = stands_on law (λ t w. refl) (λ t w f h. h) (Leaf true open_answers) (Parts OnSubscriber (numbered fit.form 0).0 (Terminal Base)) (numbered fit.form 0).1 recorder x y refl open_layer (put_on x put) second
 
 -- ---- what a recorder keeps
 
 -- a recorder that is new, stays new in use and keeps what it hears, under filters that then act so, will record so
-pub records_alone : {S : Type 0} (s : SubscriberOf S) (place : Place) (recorder : S → RecorderState) (cs : Conducts) (x : S) → recorder x ≡ new_recorder → ((y : S) → s.registered x y → (recorder y ≡ recorder x) × s.acts_at y place cs)
-    → ((y z : S) (h : Heard) → s.hears y place h z → Records (recorder y) (recorder z) (map kept_notice h)) → WillRecord s place recorder cs x
-records_alone s place recorder cs x new used hears requests done h =
+pub records_alone : {S : Type 0} (s : SubscriberOf S) (position : Position) (recorder : S → RecorderState) (cs : Conducts) (x : S) → recorder x ≡ new_recorder → ((y : S) → s.registered x y → (recorder y ≡ recorder x) × s.acts_at y position cs)
+    → ((y z : S) (h : Heard) → s.hears y position h z → Records (recorder y) (recorder z) (map kept_notice h)) → WillRecord s position recorder cs x
+records_alone s position recorder cs x new used hears requests done h =
     let y = stack_of h.first in
     let z = stack_of done.0 in
     let in_use = used y h.in_use in
     let made = flat h.served.made in
-    let calls : SeesCalls s.registry s.with_registry s.has_form s.stepped s.levelled s.hears s.acts_at cs empty_store (made_calls (numbers_in cs) [] requests done.1.items) (seen place made) = record {
+    let calls : SeesCalls s.registry s.with_registry s.has_form s.stepped s.levelled s.hears s.acts_at cs empty_store (made_calls (numbers_in cs) [] requests done.1.items) (passed_at position made) = record {
       old = h.first;
       new = done.0;
       requests = requests;
       answers = done.1.items;
       served = h.served;
-      place = place;
+      position = position;
       acts = in_use.1;
       at_store = h.empty;
       at_calls = refl;
@@ -152,19 +152,19 @@ records_alone s place recorder cs x new used hears requests done h =
     record {
       stack = x;
       serves = h;
-      kept = subst (λ (r : RecorderState). Records r (recorder z) (map kept_notice (seen place made))) (in_use.0 ∙ new) (hears y z (seen place made) (h.served.each place));
-      alone = seen_calls s.registry s.with_registry s.has_form s.stepped s.levelled s.hears s.acts_at cs empty_store empty_store (made_calls (numbers_in cs) [] requests done.1.items) (seen place made) calls (agree_refl (numbers_in cs) empty_store);
+      kept = subst (λ (r : RecorderState). Records r (recorder z) (map kept_notice (passed_at position made))) (in_use.0 ∙ new) (hears y z (passed_at position made) (h.served.each position));
+      alone = seen_calls s.registry s.with_registry s.has_form s.stepped s.levelled s.hears s.acts_at cs empty_store empty_store (made_calls (numbers_in cs) [] requests done.1.items) (passed_at position made) calls (agree_refl (numbers_in cs) empty_store);
     }
 
 -- so it has recorded so, where it served
-pub recorded : {S E : Type 0} {s : SubscriberOf S} {place : Place} {recorder : S → RecorderState} {cs : Conducts} {x : S} (requests : List Request) (r : Result (WithAnswers S) E) → WillRecord s place recorder cs x → IfOk r (ServesReady s x requests)
-    → IfOk r (RecordsAlone s place recorder cs requests)
+pub recorded : {S E : Type 0} {s : SubscriberOf S} {position : Position} {recorder : S → RecorderState} {cs : Conducts} {x : S} (requests : List Request) (r : Result (WithAnswers S) E) → WillRecord s position recorder cs x → IfOk r (ServesReady s x requests)
+    → IfOk r (RecordsAlone s position recorder cs requests)
 recorded requests (Ok done) will h = will requests done h
 recorded requests (Err e) will h = tt
 
 -- ---- a recorder under a filter
 
-module _ {F : Type 0} {has_answers : F → Answers → Type 0} {hooked : FilterSteps F} {acts : F → Conduct → Type 0} (laws : FilterLaws has_answers hooked acts) (law : NumbersStayOwn) (filter : F) (answers : Answers) (has : has_answers filter answers)
+module _ {F : Type 0} {has_answers : F → Behaviour → Type 0} {hooked : FilterSteps F} {acts : F → Conduct → Type 0} (laws : FilterLaws has_answers hooked acts) (law : NumbersStayOwn) (filter : F) (answers : Behaviour) (has : has_answers filter answers)
     (u : FilteredLayer RecorderState F) (recorder : RecorderState) (unnumbered : IsUnnumbered u recorder filter) where
   -- its form has honest answers
   abbrev pub fits : IsFit (filtered_form has_answers (λ (r : RecorderState) f. f ≡ Leaf true open_answers)) u
@@ -225,10 +225,10 @@ tested gives f g test made all computes shown = record {
 }
 
 -- what was recorded, by its number
-pub counts_alone : {S : Type 0} (s : SubscriberOf S) (place : Place) (recorder : S → RecorderState) (cs : Conducts) (requests : List Request) (done : WithAnswers S) (o : Option ℕ) → RecordsAlone s place recorder cs requests done
+pub counts_alone : {S : Type 0} (s : SubscriberOf S) (position : Position) (recorder : S → RecorderState) (cs : Conducts) (requests : List Request) (done : WithAnswers S) (o : Option ℕ) → RecordsAlone s position recorder cs requests done
     → IsCounted (recorder (stack_of done.0)) o → CountsAlone cs requests (done.1, o)
-counts_alone s place recorder cs requests done o r c =
-    let heard = seen place (flat r.serves.served.made) in
+counts_alone s position recorder cs requests done o r c =
+    let heard = passed_at position (flat r.serves.served.made) in
     record {
       heard = heard;
       alone = r.alone;

@@ -8,7 +8,7 @@ use Rattle.span_core.specs.Metadata.{target_of}
 use Rattle.span_core.specs.declared.span.Lane.{Lane}
 use Rattle.span_core.specs.declared.metadata.Metadata.{Metadata}
 use Rattle.span_filters.specs.Closure.{GoesByWhatShows, test_answers}
-use Rattle.span_registry.specs.Answers.{Answers}
+use Rattle.span_registry.specs.Behaviour.{Behaviour}
 use Rattle.span_registry.specs.Extensions.{Place, value_under}
 use Rattle.span_registry.specs.Store.{RegistryState}
 use Rattle.span_registry.specs.View.{View, current_shown, extensions_shown, view_of}
@@ -29,7 +29,7 @@ pub goes_by_target : (f : Targets) → GoesByWhatShows (wants_target f)
 goes_by_target f m k e = ap (λ target. list_any (λ t. bytes_eq t.now target) (wanted_by f)) e.target
 
 -- what a filter by targets answers: that test, and no hint
-abbrev pub target_answers : Targets → Answers
+abbrev pub target_answers : Targets → Behaviour
 target_answers f = test_answers (wants_target f) None
 
 -- what is seen of a lane of a registry where no filter hides a span

@@ -18,7 +18,7 @@ use Rattle.span_registry.specs.Conducts.{ActsAt}
 use Rattle.span_registry.specs.Form.{Form}
 use Rattle.span_registry.specs.Hooks.{StackSteps}
 use Rattle.span_registry.specs.Levels.{LevelSteps}
-use Rattle.span_registry.specs.Place.{HearSteps}
+use Rattle.span_registry.specs.Position.{HearSteps}
 use Rattle.span_registry.specs.Question.{single}
 use Rattle.span_registry.specs.Store.{RegistryState}
 use Rattle.span_examples.specs.Dispatches.{Recorded, recorder_of}

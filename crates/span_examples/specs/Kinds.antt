@@ -4,7 +4,7 @@ use Rattle.std.specs.declared.alloc.Global.{Global}
 use Rattle.std.specs.declared.vec.Vec.{Vec}
 use Rattle.span_core.specs.declared.filter.TheConstants.FilterId.{LIMIT}
 use Rattle.span_core.specs.declared.metadata.Metadata.{Metadata}
-use Rattle.span_dispatch.specs.Alone.{seen}
+use Rattle.span_dispatch.specs.Alone.{passed_at}
 use Rattle.span_dispatch.specs.Contract.{SubscriberOf}
 use Rattle.span_dispatch.specs.Effect.{AloneOf}
 use Rattle.span_dispatch.specs.Recorder.{RecorderState, Records, kept_notice, new_recorder}
@@ -18,10 +18,10 @@ use Rattle.span_layers.specs.Number.{filters_in}
 use Rattle.span_layers.specs.Stands.{IsHonestLayer, Stands}
 use Rattle.span_layers.specs.declared.filtered.Filtered.{Filtered}
 use Rattle.span_layers.specs.declared.layered.Layered.{Layered}
-use Rattle.span_registry.specs.Answers.{Answers, Conduct, notices_of}
+use Rattle.span_registry.specs.Behaviour.{Behaviour, Conduct, notices_of}
 use Rattle.span_registry.specs.Conducts.{Conducts, numbers_in}
 use Rattle.span_registry.specs.Form.{Form}
-use Rattle.span_registry.specs.Place.{Heard, Here, Outer, Place, Under}
+use Rattle.span_registry.specs.Position.{Heard, Here, Outer, Position, Under}
 use Rattle.span_registry.specs.Store.{RegistryState, empty_store}
 use Rattle.span_registry.specs.View.{View, current_shown}
 use Rattle.span_examples.specs.Isolation.{WithAnswers}
@@ -62,20 +62,20 @@ module _ {S : Type 0} (s : SubscriberOf S) where
     pub served : ServedList requests done.1.items first done.0
     pub next : IsReadyNow done.0
 
-  -- so was a list served. The recorder at this place, which was new, was notified of just what it would see if it stood alone, on a registry without spans, under filters that act so
-  pub record RecordsAlone (place : Place) (recorder : S → RecorderState) (cs : Conducts)
+  -- so was a list served. The recorder at this position, which was new, was notified of just what it would see if it stood alone, on a registry without spans, under filters that act so
+  pub record RecordsAlone (position : Position) (recorder : S → RecorderState) (cs : Conducts)
       (requests : List Request) (done : WithAnswers S) : Type 0 where
     pub stack : S
     pub serves : ServesReady stack requests done
     pub kept : Records new_recorder (recorder (stack_of done.0))
-        (map kept_notice (seen place (flat serves.served.made)))
-    pub alone : SeesAlone cs requests done.1.items (seen place (flat serves.served.made))
+        (map kept_notice (passed_at position (flat serves.served.made)))
+    pub alone : SeesAlone cs requests done.1.items (passed_at position (flat serves.served.made))
 
-  -- whatever list it serves first, put in use, the recorder at this place will have recorded so
-  abbrev pub WillRecord : Place → (S → RecorderState) → Conducts → S → Type 0
-  WillRecord place recorder cs x =
+  -- whatever list it serves first, put in use, the recorder at this position will have recorded so
+  abbrev pub WillRecord : Position → (S → RecorderState) → Conducts → S → Type 0
+  WillRecord position recorder cs x =
       (requests : List Request) (done : WithAnswers S) → ServesReady x requests done
-      → RecordsAlone place recorder cs requests done
+      → RecordsAlone position recorder cs requests done
 
 -- a recorder under a filter of this type, on a registry
 abbrev pub UnderFilter : Type 0 → Type 0
@@ -97,11 +97,11 @@ module _ {F : Type 0} (s : SubscriberOf (UnderFilter F)) where
       (b : Conduct) → acts b → WillRecord s (Outer (Under Here)) recorder_under ((Some 0, b) ∷ []) x
 
 -- the conduct of a filter of two parts, which take no level
-abbrev pub both_conduct : (Answers → Answers → Answers) → Conduct → Conduct → Conduct
+abbrev pub both_conduct : (Behaviour → Behaviour → Behaviour) → Conduct → Conduct → Conduct
 both_conduct join left right h = join (left (notices_of h)) (right (notices_of h))
 
 -- that of a filter of one part
-abbrev pub one_conduct : (Answers → Answers) → Conduct → Conduct
+abbrev pub one_conduct : (Behaviour → Behaviour) → Conduct → Conduct
 one_conduct turn inside h = turn (inside (notices_of h))
 
 -- how many notices a recorder keeps, unless it failed

@@ -3,7 +3,7 @@ use Rattle.std.specs.Prelude.{ℕ, ◌+◌, ◌-◌, ◌^◌, min, max, Option}
 use Rattle.std.specs.Option.{option_and_then, option_map_or}
 use Rattle.span_core.specs.Span.{number_of}
 use Rattle.span_core.specs.declared.span.Id.{Id}
-use Rattle.span_registry.specs.Answers.{Notice, OnClose, OnNewSpan}
+use Rattle.span_registry.specs.Behaviour.{Notice, OnClose, OnNewSpan}
 use Rattle.span_registry.specs.Extensions.{Place, value_under}
 use Rattle.span_registry.specs.View.{View, extensions_shown, shown}
 use Rattle.span_registry.specs.declared.tag.Tag.{Tag}

@@ -6,7 +6,7 @@ use Rattle.span_core.specs.Event.{event_metadata, event_parent}
 use Rattle.span_core.specs.Metadata.{name_of}
 use Rattle.span_core.specs.declared.event.Event.{Event}
 use Rattle.span_core.specs.declared.level.LevelFilter.{LevelFilter}
-use Rattle.span_dispatch.specs.Alone.{seen}
+use Rattle.span_dispatch.specs.Alone.{passed_at}
 use Rattle.span_dispatch.specs.Contract.{SubscriberOf}
 use Rattle.span_dispatch.specs.Serve.{IsReady, Served, flat, stack_of}
 use Rattle.span_dispatch.specs.declared.dispatch.Dispatch.{Dispatch}
@@ -18,9 +18,9 @@ use Rattle.span_layers.specs.Observe.{ObserverSteps, observer_of}
 use Rattle.span_layers.specs.declared.filtered.Filtered.{Filtered}
 use Rattle.span_layers.specs.declared.layered.Layered.{Layered}
 use Rattle.span_layers.specs.declared.observe.Observer.{Observer}
-use Rattle.span_registry.specs.Answers.{Notice, OnEvent}
+use Rattle.span_registry.specs.Behaviour.{Notice, OnEvent}
 use Rattle.span_registry.specs.Form.{Form}
-use Rattle.span_registry.specs.Place.{Heard, Here, Outer, Place, Under}
+use Rattle.span_registry.specs.Position.{Heard, Here, Outer, Position, Under}
 use Rattle.span_registry.specs.Store.{empty_store}
 use Rattle.span_registry.specs.View.{View, event_shown, plain_view, scope}
 use Rattle.span_examples.specs.Dispatches.{Recorded}
@@ -98,7 +98,7 @@ abbrev pub outline_in : Outlined → Outline
 outline_in x = observer_of (layer_of (outer_of x))
 
 -- where that stands
-abbrev pub outline_place : Place
+abbrev pub outline_place : Position
 outline_place = Outer (Under Here)
 
 -- nothing is written yet, the outline stands under the one level and a new recorder under the other
@@ -125,4 +125,4 @@ module _ (s : SubscriberOf Outlined) where
     pub empty : (s.registry (stack_of first)).store ≡ empty_store
     pub served : Served s.registry s.with_registry s.has_form s.stepped s.levelled s.hears s.acts_at
         requests done.0.items (stack_of first) (stack_of last)
-    pub text : string_bytes done.1 ≡ text_of (seen outline_place (flat served.made))
+    pub text : string_bytes done.1 ≡ text_of (passed_at outline_place (flat served.made))

@@ -15,7 +15,7 @@ use Rattle.span_layers.specs.Observe.{observer_of}
 use Rattle.span_layers.specs.declared.filtered.Filtered.{Filtered}
 use Rattle.span_layers.specs.declared.layered.Layered.{Layered}
 use Rattle.span_layers.specs.declared.observe.Observer.{Observer}
-use Rattle.span_registry.specs.Answers.{OnNewSpan}
+use Rattle.span_registry.specs.Behaviour.{OnNewSpan}
 use Rattle.span_registry.specs.Store.{RegistryState}
 use Rattle.span_examples.specs.Layers.{counted, opened_by}
 use Rattle.span_examples.specs.declared.layer.SpanCounter.{SpanCounter}

@@ -5,7 +5,7 @@ ghost use Rattle.span_core.specs.Metadata.{level_of};
 ghost use Rattle.span_filters.specs.Closure.{interest_under, test_answers, view_answers};
 ghost use Rattle.span_filters.specs.Combinator.{and_answers, not_answers, or_answers};
 ghost use Rattle.span_filters.specs.Level.{level_conduct};
-ghost use Rattle.span_registry.specs.Answers.{Answers};
+ghost use Rattle.span_registry.specs.Behaviour.{Behaviour};
 ghost use Rattle.span_registry.specs.Context.{view_in};
 ghost use Rattle.span_examples.specs.Kinds.{CountsUnder, IsCounted, RecordsUnder, StandsSomehow, WillRecordUnder, both_conduct, in_a_span, one_conduct};
 
@@ -29,7 +29,7 @@ fn put_filtered<F: Filter<Registry> + Drop>(
     filter: F,
 ) -> Result<Under<F>, TraceError>
     requires usable { F.usable filter }
-    requires answers { (a : Answers) × F.has_answers filter a }
+    requires answers { (a : Behaviour) × F.has_answers filter a }
     ensures usable { IfOk result ⟦<Under<F> as Subscriber>⟧.usable }
     ensures stands { let i = ⟦<Under<F> as Subscriber>⟧ in
         IfOk result (StandsSomehow i.registry i.has_form) }

@@ -1,7 +1,7 @@
 //! Layers of each kind in an honest stack, with a recorder outside: the recorder keeps what it would if it stood alone.
 ghost use Rattle.std.specs.Prelude.{◌≡◌, [], IfErr, IfOk};
 ghost use Rattle.span_layers.specs.Layered.{outer_of};
-ghost use Rattle.span_registry.specs.Place.{Here, Outer};
+ghost use Rattle.span_registry.specs.Position.{Here, Outer};
 ghost use Rattle.span_examples.specs.Kinds.{CountsAlone, IsFit, RecordsAlone, ServesReady, StandsSomehow, WillRecord};
 
 use crate::conducts::count;

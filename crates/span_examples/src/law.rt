@@ -2,7 +2,7 @@
 ghost use Rattle.std.specs.Option.{option_map};
 ghost use Rattle.std.specs.Prelude.{◌≡◌, ◌↔◌, IfErr, IfOk, IfSome, IsSome, IsTrue, OnErr, OnOk};
 ghost use Rattle.span_core.specs.Span.{number_of};
-ghost use Rattle.span_registry.specs.Closes.{IsSettled};
+ghost use Rattle.span_registry.specs.Closes.{HasNoClosing};
 ghost use Rattle.span_registry.specs.Laws.{RestoresStacks};
 ghost use Rattle.span_registry.specs.Step.{RefusesEnter};
 ghost use Rattle.span_examples.specs.Law.{GivesFromRoot, IsOpenIn, IsRootAbove, IsThereIn, LeadsDownTo, parent_in};
@@ -35,7 +35,7 @@ pub fn open_parent(registry: &Registry, id: Id) -> Option<Id>
 
 /// Whether a span is still there. Between two requests it is enough to ask whether it is open.
 pub fn is_there(registry: &Registry, id: Id) -> bool
-    requires { IsSettled registry.now.store.spans }
+    requires { HasNoClosing registry.now.store.spans }
     ensures { IsTrue result ↔ IsThereIn registry.now id }
 {
     laws::open_between_requests();

@@ -5,7 +5,7 @@ ghost use Rattle.std.specs.FinMap.{get};
 ghost use Rattle.std.specs.Option.{option_copied};
 ghost use Rattle.std.specs.Prelude.{◌≡◌, ◌++◌, ◌∷◌, ℕ, [], IfErr, IfOk, List, None, OnErr, OnOk, Some, length, min};
 ghost use Rattle.span_core.specs.Span.{number_of};
-ghost use Rattle.span_registry.specs.Closes.{IsSettled};
+ghost use Rattle.span_registry.specs.Closes.{HasNoClosing};
 ghost use Rattle.span_registry.specs.Step.{RefusesEnter, RefusesRelease};
 ghost use Rattle.span_registry.specs.Store.{IsClosing};
 ghost use Rattle.span_registry.specs.Subscriber.{SameButExtensions};
@@ -39,9 +39,9 @@ pub fn begin(
     pass: &Pass,
     alloc: Global,
 ) -> Result<Id, TraceError>
-    requires { IsSettled registry.old.store.spans }
+    requires { HasNoClosing registry.old.store.spans }
     ensures begun { IfOk result (Begins lane attrs.now pass.now registry.old registry.new) }
-    ensures settled { IsSettled registry.new.store.spans }
+    ensures settled { HasNoClosing registry.new.store.spans }
 {
     let id = registry.new_span(lane, attrs, pass)?;
     if let Err(error) = registry.enter(lane, id) {
@@ -115,9 +115,9 @@ pub fn finish(
     id: Id,
     alloc: Global,
 ) -> Result<Option<Vec<Id>>, TraceError>
-    requires { IsSettled registry.old.store.spans }
+    requires { HasNoClosing registry.old.store.spans }
     ensures closed { IfOk result (DropsAndLists id (left registry.old lane id) registry.new) }
-    ensures settled { IsSettled registry.new.store.spans }
+    ensures settled { HasNoClosing registry.new.store.spans }
 {
     registry.exit(lane, id);
     drop_span(registry, id, alloc)
@@ -132,11 +132,11 @@ pub fn drop_span(
     id: Id,
     alloc: Global,
 ) -> Result<Option<Vec<Id>>, TraceError>
-    requires { IsSettled registry.old.store.spans }
+    requires { HasNoClosing registry.old.store.spans }
     ensures closed { IfOk result (DropsAndLists id registry.old registry.new) }
     ensures refused { IfErr result (RefusesRelease registry.old id) }
     ensures unchanged { OnErr result (registry.new ≡ registry.old) }
-    ensures settled { IsSettled registry.new.store.spans }
+    ensures settled { HasNoClosing registry.new.store.spans }
 {
     match registry.release(id)? {
         Released::StillOpen => Ok(Some(Vec::new(alloc))),

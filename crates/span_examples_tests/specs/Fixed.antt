@@ -5,21 +5,20 @@ use Rattle.span_core.specs.declared.interest.Interest.TheVariants.{Sometimes}
 use Rattle.span_layers.specs.ActsKept.{is_leaf}
 use Rattle.span_layers.specs.Layer.{HearsBy, LayerLaws, LayerSteps}
 use Rattle.span_layers.specs.Leaf.{leaf_layer_laws}
-use Rattle.span_registry.specs.Answers.{Answers}
-use Rattle.span_registry.specs.Follows.{kept_form}
+use Rattle.span_registry.specs.Behaviour.{Behaviour}
+use Rattle.span_registry.specs.KeptForm.{kept_form}
 use Rattle.span_registry.specs.Form.{Leaf}
 use Rattle.span_registry.specs.Plan.{Itself}
 
 -- whether metadata pass, and whether events do, whatever they are
-abbrev pub fixed_answers : Bool → Bool → Answers
-fixed_answers metadata events =
-    record {
-      enabled = λ m v. metadata;
-      event = λ e v. events;
-      interest = λ m. Sometimes;
-      hint = None;
-      takes = λ l. false;
-    }
+abbrev pub fixed_answers : Bool → Bool → Behaviour
+fixed_answers metadata events = record {
+  enabled = λ m v. metadata;
+  event = λ e v. events;
+  interest = λ m. Sometimes;
+  hint = None;
+  takes = λ l. false;
+}
 
 -- the plan is a leaf's, and it stays with its answers
 abbrev pub FixedSteps : {L : Type 0} → (L → Bool) → (L → Bool) → LayerSteps L

@@ -11,7 +11,7 @@ use Rattle.span_filters.specs.Boxed.{ActsPlainly, AnswersHonestly, StepsInside}
 use Rattle.span_filters.specs.Closure.{AnswersAllIn}
 use Rattle.span_filters.specs.Filter.{FilterLaws, FilterSteps}
 use Rattle.span_filters.specs.declared.boxed.BoxedFilter.{BoxedFilter}
-use Rattle.span_registry.specs.Answers.{Answers, Conduct, Notice}
+use Rattle.span_registry.specs.Behaviour.{Behaviour, Conduct, Notice}
 use Rattle.span_registry.specs.Store.{RegistryState}
 use Rattle.span_registry.specs.declared.context.Context.{Context}
 
@@ -26,12 +26,12 @@ module _ {G : Type 0 → Type 1} {C : Type 0} (T : Table G C) (at : T.I) where
   in_a_box P made h = subst (λ (Q : Type 0). Q) (sym (read_made T (T.entry at) at refl (Type 0) P _ _ _ made)) h
 
   -- a boxed filter has the answers of the filter
-  pub answers_in_a_box : (has : (j : Entry G C) → j.0.Denot → Answers → Type 0) {steps : FilterSteps (T.entry at).0.Denot} {acts : (T.entry at).0.Denot → Conduct → Type 0}
-      → FilterLaws (has (T.entry at)) steps acts → {i : T.I} {y : (T.entry i).0.Denot} {x : (T.entry at).0.Denot} → IsBoxOf i y x → (a : Answers) → has (T.entry at) x a → AnswersHonestly (has (T.entry i) y) a
+  pub answers_in_a_box : (has : (j : Entry G C) → j.0.Denot → Behaviour → Type 0) {steps : FilterSteps (T.entry at).0.Denot} {acts : (T.entry at).0.Denot → Conduct → Type 0}
+      → FilterLaws (has (T.entry at)) steps acts → {i : T.I} {y : (T.entry i).0.Denot} {x : (T.entry at).0.Denot} → IsBoxOf i y x → (a : Behaviour) → has (T.entry at) x a → AnswersHonestly (has (T.entry i) y) a
   answers_in_a_box has laws {x = x} made a h = in_a_box (λ j z. AnswersHonestly (has j z) a) made (record { answered = h; honest = laws.honest x a h })
 
   -- and its conduct
-  pub acts_in_a_box : (has : (j : Entry G C) → j.0.Denot → Answers → Type 0) (acts : (j : Entry G C) → j.0.Denot → Conduct → Type 0) {steps : FilterSteps (T.entry at).0.Denot}
+  pub acts_in_a_box : (has : (j : Entry G C) → j.0.Denot → Behaviour → Type 0) (acts : (j : Entry G C) → j.0.Denot → Conduct → Type 0) {steps : FilterSteps (T.entry at).0.Denot}
       → FilterLaws (has (T.entry at)) steps (acts (T.entry at)) → {i : T.I} {y : (T.entry i).0.Denot} {x : (T.entry at).0.Denot} → IsBoxOf i y x → (b : Conduct) → acts (T.entry at) x b → ActsPlainly (has (T.entry i) y) (acts (T.entry i) y) b
   acts_in_a_box has acts laws {x = x} made b h =
       let now = laws.now x b h in

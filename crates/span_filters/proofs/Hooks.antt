@@ -5,7 +5,7 @@ use Rattle.span_core.specs.declared.filter.FilterId.{FilterId}
 use Rattle.span_core.specs.declared.span.Lane.{Lane}
 use Rattle.span_filters.specs.Combinator.{StepsBoth}
 use Rattle.span_filters.specs.Filter.{FilterSteps, Notified}
-use Rattle.span_registry.specs.Answers.{Notice}
+use Rattle.span_registry.specs.Behaviour.{Notice}
 use Rattle.span_registry.specs.Context.{WritesExtensions, filters_lent, lane_lent, subscriber_lent}
 use Rattle.span_registry.specs.Store.{RegistryState}
 use Rattle.span_registry.specs.declared.context.ContextMut.{ContextMut}

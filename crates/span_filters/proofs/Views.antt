@@ -12,9 +12,10 @@ use Rattle.span_core.specs.declared.filter.FilterId.{FilterId}
 use Rattle.span_core.specs.declared.filter.FilterMap.{FilterMap}
 use Rattle.span_core.specs.declared.number_set.NumberSet.{NumberSet}
 use Rattle.span_core.specs.declared.span.Lane.{Lane}
+use Rattle.span_registry.proofs.Ancestry.{see_each}
 use Rattle.span_registry.specs.Context.{view_in}
 use Rattle.span_registry.specs.Store.{RegistryState, Span, SpanExtensions, Store}
-use Rattle.span_registry.specs.View.{see, see_each, seen_spans, view_of}
+use Rattle.span_registry.specs.View.{see, seen_spans, view_of}
 use Rattle.span_registry.specs.declared.context.Context.{Context}
 use Rattle.span_registry.specs.declared.mask.Mask.{Mask}
 

@@ -9,7 +9,7 @@ use Rattle.span_filters.specs.Filter.{FilterLevelSteps, FilterSteps}
 use Rattle.span_filters.specs.declared.combinator.And.{And}
 use Rattle.span_filters.specs.declared.combinator.Not.{Not}
 use Rattle.span_filters.specs.declared.combinator.Or.{Or}
-use Rattle.span_registry.specs.Answers.{Answers, Conduct, Notice, notices_of}
+use Rattle.span_registry.specs.Behaviour.{Behaviour, Conduct, Notice, notices_of}
 use Rattle.span_registry.specs.Store.{RegistryState}
 use Rattle.span_registry.specs.Subscriber.{SameButExtensions}
 
@@ -46,7 +46,7 @@ abbrev pub or_hint : Option LevelFilter → Option LevelFilter → Option LevelF
 or_hint = wider_hint
 
 -- what both let by
-abbrev pub and_answers : Answers → Answers → Answers
+abbrev pub and_answers : Behaviour → Behaviour → Behaviour
 and_answers a b = record {
   enabled = λ m v. a.enabled m v && b.enabled m v;
   event = λ e v. a.event e v && b.event e v;
@@ -56,7 +56,7 @@ and_answers a b = record {
 }
 
 -- what either lets by
-abbrev pub or_answers : Answers → Answers → Answers
+abbrev pub or_answers : Behaviour → Behaviour → Behaviour
 or_answers a b = record {
   enabled = λ m v. a.enabled m v || b.enabled m v;
   event = λ e v. a.event e v || b.event e v;
@@ -66,26 +66,38 @@ or_answers a b = record {
 }
 
 -- the metadata that it refuses; every event; no hint
-abbrev pub not_answers : Answers → Answers
-not_answers a = record { enabled = λ m v. not (a.enabled m v); event = λ e v. true; interest = λ m. not_interest (a.interest m); hint = None; takes = λ l. false }
+abbrev pub not_answers : Behaviour → Behaviour
+not_answers a = record {
+  enabled = λ m v. not (a.enabled m v);
+  event = λ e v. true;
+  interest = λ m. not_interest (a.interest m);
+  hint = None;
+  takes = λ l. false;
+}
 
 -- the answers of a filter of two parts
-pub record HasBoth {A B : Type 0} (join : Answers → Answers → Answers) (first : A → Answers → Type 0) (second : B → Answers → Type 0) (a : A) (b : B) (c : Answers) : Type 0 where
-  pub left : Answers
-  pub right : Answers
+pub record HasBoth {A B : Type 0} (join : Behaviour → Behaviour → Behaviour)
+    (first : A → Behaviour → Type 0) (second : B → Behaviour → Type 0) (a : A) (b : B)
+    (c : Behaviour) : Type 0 where
+  pub left : Behaviour
+  pub right : Behaviour
   pub has_left : first a left
   pub has_right : second b right
   pub joined : c ≡ join left right
 
 -- it is notified: the first part, which may write extensions, and then the second
-pub record StepsBoth {A B : Type 0} (first : FilterSteps A) (second : FilterSteps B) (a : A) (b : B) (e : Notice) (lane : ℕ) (under : FilterSet) (v : RegistryState) (c : A) (d : B) (w : RegistryState) : Type 0 where
+pub record StepsBoth {A B : Type 0} (first : FilterSteps A) (second : FilterSteps B) (a : A) (b : B)
+    (e : Notice) (lane : ℕ) (under : FilterSet) (v : RegistryState) (c : A) (d : B)
+    (w : RegistryState) : Type 0 where
   pub between : RegistryState
   pub left : first a e lane under v c between
   pub extensions : SameButExtensions v between
   pub right : second b e lane under between d w
 
 -- it has the conduct of its parts, which are notified, and take no level
-pub record ActsBoth {A B : Type 0} (join : Answers → Answers → Answers) (first : A → Conduct → Type 0) (second : B → Conduct → Type 0) (a : A) (b : B) (c : Conduct) : Type 0 where
+pub record ActsBoth {A B : Type 0} (join : Behaviour → Behaviour → Behaviour)
+    (first : A → Conduct → Type 0) (second : B → Conduct → Type 0) (a : A) (b : B)
+    (c : Conduct) : Type 0 where
   pub left : Conduct
   pub right : Conduct
   pub acts_left : first a left
@@ -93,13 +105,15 @@ pub record ActsBoth {A B : Type 0} (join : Answers → Answers → Answers) (fir
   pub joined : c ≡ (λ h. join (left (notices_of h)) (right (notices_of h)))
 
 -- the answers of a filter of one part
-pub record HasOne {A : Type 0} (turn : Answers → Answers) (part : A → Answers → Type 0) (a : A) (c : Answers) : Type 0 where
-  pub inside : Answers
+pub record HasOne {A : Type 0} (turn : Behaviour → Behaviour) (part : A → Behaviour → Type 0)
+    (a : A) (c : Behaviour) : Type 0 where
+  pub inside : Behaviour
   pub has_inside : part a inside
   pub turned : c ≡ turn inside
 
 -- and its conduct
-pub record ActsOne {A : Type 0} (turn : Answers → Answers) (part : A → Conduct → Type 0) (a : A) (c : Conduct) : Type 0 where
+pub record ActsOne {A : Type 0} (turn : Behaviour → Behaviour) (part : A → Conduct → Type 0) (a : A)
+    (c : Conduct) : Type 0 where
   pub inside : Conduct
   pub acts_inside : part a inside
   pub turned : c ≡ (λ h. turn (inside (notices_of h)))
@@ -119,11 +133,17 @@ abbrev pub IsNot : {A : Type 0} → Not A → A → Type 0
 IsNot f a = f.a ≡ a
 
 -- everything
-abbrev pub all_answers : Answers
-all_answers = record { enabled = λ m v. true; event = λ e v. true; interest = λ m. Always; hint = None; takes = λ l. false }
+abbrev pub all_answers : Behaviour
+all_answers = record {
+  enabled = λ m v. true;
+  event = λ e v. true;
+  interest = λ m. Always;
+  hint = None;
+  takes = λ l. false;
+}
 
 -- the answers of an optional filter: those of the filter that it holds, and everything where it holds none
-abbrev pub HasPart : {F : Type 0} → (F → Answers → Type 0) → Option F → Answers → Type 0
+abbrev pub HasPart : {F : Type 0} → (F → Behaviour → Type 0) → Option F → Behaviour → Type 0
 HasPart has (Some f) a = has f a
 HasPart has None a = a ≡ all_answers
 

@@ -7,7 +7,7 @@ use Rattle.span_core.specs.declared.interest.Interest.TheVariants.{Always, Never
 use Rattle.span_core.specs.declared.interest.Interest.{Interest}
 use Rattle.span_core.specs.declared.level.LevelFilter.{LevelFilter}
 use Rattle.span_filters.specs.Filter.{FilterLaws, FilterLevelLaws, FilterLevelSteps, equal_alike, settled_answers, unmoved}
-use Rattle.span_registry.specs.Answers.{Answers, AreAlikeHistories, AreHonest, Conduct, History, IsPlain, OfLevel, Notice, OfNotice}
+use Rattle.span_registry.specs.Behaviour.{Behaviour, AreAlikeHistories, AreHonest, Conduct, History, IsPlain, OfLevel, Notice, OfNotice}
 use Rattle.span_registry.specs.Conducts.{after_level}
 use Rattle.span_registry.specs.View.{View, view_of}
 
@@ -16,7 +16,7 @@ abbrev pub interest_by : Bool → Interest
 interest_by passes = if passes then Always else Never
 
 -- the levels that pass it; every event; it is its own hint
-abbrev pub level_answers : LevelFilter → Answers
+abbrev pub level_answers : LevelFilter → Behaviour
 level_answers f = record {
   enabled = λ m v. passes_level f (level_of m);
   event = λ e v. true;
@@ -58,9 +58,15 @@ not_passed false e = refl
 
 -- what a filter by level answers is honest
 pub level_honest : (f : LevelFilter) → AreHonest (level_answers f)
-level_honest f = record { always = λ m v e. always_passes _ e; never = λ m v e. never_passes _ e; above = λ m v e. not_passed _ e; alike = λ m k e. ap (λ l. interest_by (passes_level f l)) e.level }
+level_honest f = record {
+  always = λ m v e. always_passes _ e;
+  never = λ m v e. never_passes _ e;
+  above = λ m v e. not_passed _ e;
+  alike = λ m k e. ap (λ l. interest_by (passes_level f l)) e.level;
+}
 
-level_same : (f g : LevelFilter) (h k : History) → f ≡ g → AreAlikeHistories h k → level_after f h ≡ level_after g k
+level_same : (f g : LevelFilter) (h k : History) → f ≡ g → AreAlikeHistories h k
+    → level_after f h ≡ level_after g k
 level_same f g [] [] e a = e
 level_same f g (OfNotice d v ∷ h) (OfNotice n w ∷ k) e a = level_same f g h k e a.2
 level_same f g (OfLevel l ∷ h) (OfLevel m ∷ k) e a = level_same l m h k a.0 a.1
@@ -81,16 +87,25 @@ after e v c = λ k. c (OfNotice e v ∷ k)
 pub level_laws : FilterLaws (settled_answers level_answers) unmoved ActsByLevel
 level_laws = record {
   honest = λ f a h. subst AreHonest (sym h) (level_honest f);
-  keeps = λ f e lane under v g w a s h. (a, subst (λ k. settled_answers level_answers k a) (sym s.0) h, record { interest = refl; hint = refl });
+  keeps =
+      λ f e lane under v g w a s h. (
+        a,
+        subst (λ k. settled_answers level_answers k a) (sym s.0) h,
+        record { interest = refl; hint = refl },
+      );
   plain = λ f b h. subst IsPlain (sym h) (level_plain f);
   now = λ f b h. ap (λ (c : Conduct). c []) h;
   only = λ f a b d h. equal_alike a (b []) (d ∙ sym (ap (λ (c : Conduct). c []) h));
-  goes_on = λ f e lane under v g w b h s. subst (λ k. ActsByLevel k (λ n. b (OfNotice e (view_of v.store lane under) ∷ n))) (sym s.0) (ap (after e (view_of v.store lane under)) h);
+  goes_on =
+      λ f e lane under v g w b h s.
+      subst (λ k. ActsByLevel k (λ n. b (OfNotice e (view_of v.store lane under) ∷ n))) (sym s.0)
+      (ap (after e (view_of v.store lane under)) h);
 }
 
 -- and that of levels
 pub level_levels : FilterLevelLaws (settled_answers level_answers) level_taken ActsByLevel
 level_levels = record {
   answers = λ f l g a s h. (level_answers g, refl);
-  goes_on = λ f l g b s h. subst (λ k. ActsByLevel k (after_level l b)) (sym s) (ap (after_level l) h);
+  goes_on =
+      λ f l g b s h. subst (λ k. ActsByLevel k (after_level l b)) (sym s) (ap (after_level l) h);
 }

@@ -1,7 +1,7 @@
 //! Boxed filters: filters whose type is picked while the program runs.
 ghost use Rattle.span_filters.specs.Boxed.{ActsPlainly, AnswersHonestly, KeepsLaw, KeepsLevelLaw, LevelsInside, LevelsLawfully, StepsInside, StepsLawfully, itself, object_laws, object_levels, replaced};
 ghost use Rattle.span_filters.specs.Filter.{FilterLevelSteps, FilterSteps, Notified, Says, SaysEnabled, SaysEvent};
-ghost use Rattle.span_registry.specs.Answers.{Answers, Conduct, OnClose, OnEnter, OnExit, OnNewSpan, OnRecord};
+ghost use Rattle.span_registry.specs.Behaviour.{Behaviour, Conduct, OnClose, OnEnter, OnExit, OnNewSpan, OnRecord};
 ghost use Rattle.span_registry.specs.Context.{HasNoRefusals, WritesExtensions, view_in, view_lent};
 ghost use Rattle.std.specs.Prelude.{◌≡◌, false};
 
@@ -18,7 +18,7 @@ pub trait DynFilter: Drop {
     ghost dyn_usable: { Self → Type 0 };
 
     /// What it answers, as it now is.
-    ghost dyn_answers: { Self → Answers → Type 0 };
+    ghost dyn_answers: { Self → Behaviour → Type 0 };
 
     /// How it goes on when it is notified.
     ghost dyn_hooked: { FilterSteps Self };
@@ -58,8 +58,10 @@ pub trait DynFilter: Drop {
     )
         requires { dyn_usable self.old }
         ensures usable { dyn_usable self.new }
-        ensures hook { Notified dyn_hooked itself (OnNewSpan attrs.now id) self.old ctx.old self.new ctx.new }
-        ensures keeps { KeepsLaw dyn_answers dyn_acts (OnNewSpan attrs.now id) (view_lent itself ctx.old) self.old self.new }
+        ensures hook { Notified dyn_hooked itself (OnNewSpan attrs.now id) self.old ctx.old
+            self.new ctx.new }
+        ensures keeps { KeepsLaw dyn_answers dyn_acts (OnNewSpan attrs.now id)
+            (view_lent itself ctx.old) self.old self.new }
         ensures written { WritesExtensions itself replaced ctx.old ctx.new };
 
     /// Notifies of values that a span was given later.
@@ -67,8 +69,10 @@ pub trait DynFilter: Drop {
         requires usable { dyn_usable self.old }
         requires refusals { HasNoRefusals ctx.old }
         ensures usable { dyn_usable self.new }
-        ensures hook { Notified dyn_hooked itself (OnRecord id values.now) self.old ctx.old self.new ctx.new }
-        ensures keeps { KeepsLaw dyn_answers dyn_acts (OnRecord id values.now) (view_lent itself ctx.old) self.old self.new }
+        ensures hook { Notified dyn_hooked itself (OnRecord id values.now) self.old ctx.old
+            self.new ctx.new }
+        ensures keeps { KeepsLaw dyn_answers dyn_acts (OnRecord id values.now)
+            (view_lent itself ctx.old) self.old self.new }
         ensures written { WritesExtensions itself replaced ctx.old ctx.new };
 
     /// Notifies that a span is entered.
@@ -77,7 +81,8 @@ pub trait DynFilter: Drop {
         requires refusals { HasNoRefusals ctx.old }
         ensures usable { dyn_usable self.new }
         ensures hook { Notified dyn_hooked itself (OnEnter id) self.old ctx.old self.new ctx.new }
-        ensures keeps { KeepsLaw dyn_answers dyn_acts (OnEnter id) (view_lent itself ctx.old) self.old self.new }
+        ensures keeps { KeepsLaw dyn_answers dyn_acts (OnEnter id) (view_lent itself ctx.old)
+            self.old self.new }
         ensures written { WritesExtensions itself replaced ctx.old ctx.new };
 
     /// Notifies that a span is left.
@@ -86,7 +91,8 @@ pub trait DynFilter: Drop {
         requires refusals { HasNoRefusals ctx.old }
         ensures usable { dyn_usable self.new }
         ensures hook { Notified dyn_hooked itself (OnExit id) self.old ctx.old self.new ctx.new }
-        ensures keeps { KeepsLaw dyn_answers dyn_acts (OnExit id) (view_lent itself ctx.old) self.old self.new }
+        ensures keeps { KeepsLaw dyn_answers dyn_acts (OnExit id) (view_lent itself ctx.old)
+            self.old self.new }
         ensures written { WritesExtensions itself replaced ctx.old ctx.new };
 
     /// Notifies that a span is closing, while it can still be read.
@@ -95,7 +101,8 @@ pub trait DynFilter: Drop {
         requires refusals { HasNoRefusals ctx.old }
         ensures usable { dyn_usable self.new }
         ensures hook { Notified dyn_hooked itself (OnClose id) self.old ctx.old self.new ctx.new }
-        ensures keeps { KeepsLaw dyn_answers dyn_acts (OnClose id) (view_lent itself ctx.old) self.old self.new }
+        ensures keeps { KeepsLaw dyn_answers dyn_acts (OnClose id) (view_lent itself ctx.old)
+            self.old self.new }
         ensures written { WritesExtensions itself replaced ctx.old ctx.new };
 
     /// Sets its level, and answers whether it takes one. Else nothing changes.
@@ -188,13 +195,19 @@ impl BoxedFilter {
 impl<S: LookupSpan> Filter<S> for BoxedFilter {
     ghost usable = { λ f. (DynFilter-box f.object).dyn_usable f.object.value };
 
-    ghost has_answers = { λ f. AnswersHonestly ((DynFilter-box f.object).dyn_answers f.object.value) };
+    ghost has_answers = { λ f.
+        AnswersHonestly ((DynFilter-box f.object).dyn_answers f.object.value) };
 
-    ghost hooked = { StepsLawfully (λ f. (DynFilter-box f.object).dyn_answers f.object.value) (StepsInside (λ f. (DynFilter-box f.object).dyn_hooked)) (λ f. (DynFilter-box f.object).dyn_acts f.object.value) };
+    ghost hooked = { StepsLawfully (λ f. (DynFilter-box f.object).dyn_answers f.object.value)
+        (StepsInside (λ f. (DynFilter-box f.object).dyn_hooked))
+        (λ f. (DynFilter-box f.object).dyn_acts f.object.value) };
 
-    ghost levelled = { LevelsLawfully (λ f. (DynFilter-box f.object).dyn_answers f.object.value) (LevelsInside (λ f. (DynFilter-box f.object).dyn_levelled)) (λ f. (DynFilter-box f.object).dyn_acts f.object.value) };
+    ghost levelled = { LevelsLawfully (λ f. (DynFilter-box f.object).dyn_answers f.object.value)
+        (LevelsInside (λ f. (DynFilter-box f.object).dyn_levelled))
+        (λ f. (DynFilter-box f.object).dyn_acts f.object.value) };
 
-    ghost acts = { λ f. ActsPlainly ((DynFilter-box f.object).dyn_answers f.object.value) ((DynFilter-box f.object).dyn_acts f.object.value) };
+    ghost acts = { λ f. ActsPlainly ((DynFilter-box f.object).dyn_answers f.object.value)
+        ((DynFilter-box f.object).dyn_acts f.object.value) };
 
     ghost laws = { object_laws };
 

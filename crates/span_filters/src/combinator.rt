@@ -159,11 +159,13 @@ impl<S: LookupSpan, A: Filter<S>, B: Filter<S>> Filter<S> for And<A, B> {
 
     ghost has_answers = { λ f a. HasBoth and_answers A.has_answers B.has_answers f.a f.b a };
 
-    ghost hooked = { λ f e lane under v g w. StepsBoth A.hooked B.hooked f.a f.b e lane under v g.a g.b w };
+    ghost hooked = { λ f e lane under v g w.
+        StepsBoth A.hooked B.hooked f.a f.b e lane under v g.a g.b w };
 
     ghost acts = { λ f b. ActsBoth and_answers A.acts B.acts f.a f.b b };
 
-    ghost laws = { both_laws and_answers (λ f. f.a) (λ f. f.b) A.laws B.laws and_honest and_same and_plain and_alike };
+    ghost laws = { both_laws and_answers (λ f. f.a) (λ f. f.b) A.laws B.laws and_honest and_same
+        and_plain and_alike };
 
     ghost levels = { both_levels (λ f. f.a) (λ f. f.b) };
 
@@ -240,11 +242,13 @@ impl<S: LookupSpan, A: Filter<S>, B: Filter<S>> Filter<S> for Or<A, B> {
 
     ghost has_answers = { λ f a. HasBoth or_answers A.has_answers B.has_answers f.a f.b a };
 
-    ghost hooked = { λ f e lane under v g w. StepsBoth A.hooked B.hooked f.a f.b e lane under v g.a g.b w };
+    ghost hooked = { λ f e lane under v g w.
+        StepsBoth A.hooked B.hooked f.a f.b e lane under v g.a g.b w };
 
     ghost acts = { λ f b. ActsBoth or_answers A.acts B.acts f.a f.b b };
 
-    ghost laws = { both_laws or_answers (λ f. f.a) (λ f. f.b) A.laws B.laws or_honest or_same or_plain or_alike };
+    ghost laws = { both_laws or_answers (λ f. f.a) (λ f. f.b) A.laws B.laws or_honest or_same
+        or_plain or_alike };
 
     ghost levels = { both_levels (λ f. f.a) (λ f. f.b) };
 

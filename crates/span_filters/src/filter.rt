@@ -1,7 +1,7 @@
 //! What every filter answers, and what it is notified of.
 ghost use Rattle.std.specs.Prelude.{◌≡◌, ⊤, false};
 ghost use Rattle.span_filters.specs.Filter.{FilterLaws, FilterLevelLaws, FilterLevelSteps, FilterSteps, Notified, Says, SaysEnabled, SaysEvent, unlevelled, unmoved};
-ghost use Rattle.span_registry.specs.Answers.{Answers, Conduct, OnClose, OnEnter, OnExit, OnNewSpan, OnRecord};
+ghost use Rattle.span_registry.specs.Behaviour.{Behaviour, Conduct, OnClose, OnEnter, OnExit, OnNewSpan, OnRecord};
 ghost use Rattle.span_registry.specs.Context.{HasNoRefusals, WritesExtensions, view_in};
 
 use span_core::{Attributes, Event, Id, Interest, LevelFilter, Metadata, Record};
@@ -21,7 +21,7 @@ pub trait Filter<S: LookupSpan> {
     ghost usable: { Self → Type 0 } = { λ f. ⊤ };
 
     /// What it answers, as it now is.
-    ghost has_answers: { Self → Answers → Type 0 };
+    ghost has_answers: { Self → Behaviour → Type 0 };
 
     /// How it goes on when it is notified. By default it stays as it is, and writes nothing.
     ghost hooked: { FilterSteps Self } = { unmoved };
@@ -57,7 +57,8 @@ pub trait Filter<S: LookupSpan> {
     fn on_new_span(&mut self, attrs: &Attributes<'_>, id: Id, ctx: &mut ContextMut<'_, S>)
         requires { usable self.old }
         ensures usable { usable self.new }
-        ensures hook { Notified hooked S.registry (OnNewSpan attrs.now id) self.old ctx.old self.new ctx.new }
+        ensures hook { Notified hooked S.registry (OnNewSpan attrs.now id) self.old ctx.old
+            self.new ctx.new }
         ensures written { WritesExtensions S.registry S.with_registry ctx.old ctx.new };
 
     /// Notifies of values that a span was given later.
@@ -65,7 +66,8 @@ pub trait Filter<S: LookupSpan> {
         requires usable { usable self.old }
         requires refusals { HasNoRefusals ctx.old }
         ensures usable { usable self.new }
-        ensures hook { Notified hooked S.registry (OnRecord id values.now) self.old ctx.old self.new ctx.new }
+        ensures hook { Notified hooked S.registry (OnRecord id values.now) self.old ctx.old
+            self.new ctx.new }
         ensures written { WritesExtensions S.registry S.with_registry ctx.old ctx.new };
 
     /// Notifies that a span is entered.

@@ -26,5 +26,7 @@ pub fn view_tests_may_be_plain<
     F: FunctionIn<Metadata, S, bool>,
     R: Function<Metadata, Interest>,
 >(filter: &DynFilterFn<F, R>)
-    ensures { AnswersAllIn S.registry F.gives_in (view_test_in filter.now) → let i = ⟦<DynFilterFn<F, R> as Filter<S>>⟧ in MayBeSteady i.has_answers i.acts filter.now }
+    ensures { AnswersAllIn S.registry F.gives_in (view_test_in filter.now)
+        → let i = ⟦<DynFilterFn<F, R> as Filter<S>>⟧ in
+        MayBeSteady i.has_answers i.acts filter.now }
 {}

@@ -317,3 +317,17 @@ fn a_hook_may_send_an_event(rt: HostRuntime) -> Result<(), Fail> {
     );
     Ok(())
 }
+
+#[test]
+fn what_an_observer_gathered_is_taken_out(rt: HostRuntime) -> Result<(), Fail> {
+    let mut watcher = new_watcher(rt.alloc());
+    watcher.observer_mut().seen.push(Seen::Event)?;
+    let stack = put(Registry::new(rt.alloc()), watcher)?;
+    let (layer, registry) = stack.into_parts();
+    let watcher = layer.into_observer();
+    assert_eq!(rt;
+        (registry.filters(), watcher.seen.as_slice()),
+        (0, [Seen::Event].as_slice())
+    );
+    Ok(())
+}

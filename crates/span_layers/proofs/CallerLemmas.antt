@@ -11,15 +11,16 @@ use Rattle.span_core.specs.declared.metadata.Metadata.{Metadata}
 use Rattle.span_core.specs.declared.pass.Pass.{Pass}
 use Rattle.span_core.specs.declared.span.Attributes.{Attributes}
 use Rattle.span_core.specs.declared.span.Id.{Id}
+use Rattle.span_layers.proofs.Built.{honest_by, rules_of, is_stack}
 use Rattle.span_layers.specs.Attach.{Attaches}
-use Rattle.span_layers.specs.Honest.{HasHonestAnswers, IsHonestStack, both_full, is_full, is_missing, is_stack}
+use Rattle.span_layers.specs.Honest.{HasHonestAnswers, IsHonestStack, both_full, is_full, is_missing}
 use Rattle.span_layers.specs.Layered.{inner_of, outer_of}
 use Rattle.span_layers.specs.Number.{filters_in, numbered}
-use Rattle.span_layers.specs.Stands.{IsHonestLayer, Stands, bare_form, itself, registry_on, stack_form}
-use Rattle.span_layers.specs.Verdict.{IsFresh, IsOrderly, IsQuiet, NewSpanIsFresh, NumbersStayOwn}
+use Rattle.span_layers.specs.Stands.{IsHonestLayer, Stands, base_form, itself, registry_on, stack_form}
+use Rattle.span_layers.specs.Verdict.{IsFresh, IsOrderly, LeavesRefuseNothing, NewSpanIsFresh, NumbersStayOwn}
 use Rattle.span_layers.specs.declared.layered.Layered.{Layered}
-use Rattle.span_registry.specs.Answers.{OnEvent, OnNewSpan}
-use Rattle.span_registry.specs.Form.{Bare, Base, Filtered, Form, InList, InPair, IsStill, Leaf, OnSubscriber, Over, is_end}
+use Rattle.span_registry.specs.Behaviour.{OnEvent, OnNewSpan}
+use Rattle.span_registry.specs.Form.{Terminal, Base, Filtered, Form, InList, InPair, WritesOnlyExtensions, Leaf, OnSubscriber, Parts, is_end}
 use Rattle.span_registry.specs.Hooks.{no_filter}
 use Rattle.span_registry.specs.Question.{AnswersSo, asked, event_asked, refusals}
 use Rattle.span_registry.specs.Store.{RegistryState, Store, new_registry}
@@ -54,63 +55,65 @@ by_room P false x y p q = q
 answers_numbered : (f : Form) (n : ℕ) → HasHonestAnswers f → HasHonestAnswers (numbered f n).0
 answers_numbered (Leaf still a) n h = h
 answers_numbered (Filtered m a f) n h = by_room HasHonestAnswers (nat_lt n LIMIT) (Filtered (Some n) a (numbered f (n + 1)).0, (numbered f (n + 1)).1) (Filtered m a (numbered f n).0, (numbered f n).1) (h.0, answers_numbered f (n + 1) h.1) (h.0, answers_numbered f n h.1)
-answers_numbered (Over k o i) n h = (answers_numbered o n h.0, answers_numbered i (numbered o n).1 h.1)
-answers_numbered (Bare v) n h = tt
+answers_numbered (Parts k o i) n h = (answers_numbered o n h.0, answers_numbered i (numbered o n).1 h.1)
+answers_numbered (Terminal v) n h = tt
 
-quiet_numbered : (f : Form) (n : ℕ) → IsQuiet f → IsQuiet (numbered f n).0
+quiet_numbered : (f : Form) (n : ℕ) → LeavesRefuseNothing f → LeavesRefuseNothing (numbered f n).0
 quiet_numbered (Leaf still a) n h = h
-quiet_numbered (Filtered m a f) n h = by_room IsQuiet (nat_lt n LIMIT) (Filtered (Some n) a (numbered f (n + 1)).0, (numbered f (n + 1)).1) (Filtered m a (numbered f n).0, (numbered f n).1) (quiet_numbered f (n + 1) h) (quiet_numbered f n h)
-quiet_numbered (Over k o i) n h = (quiet_numbered o n h.0, quiet_numbered i (numbered o n).1 h.1)
-quiet_numbered (Bare v) n h = tt
+quiet_numbered (Filtered m a f) n h = by_room LeavesRefuseNothing (nat_lt n LIMIT) (Filtered (Some n) a (numbered f (n + 1)).0, (numbered f (n + 1)).1) (Filtered m a (numbered f n).0, (numbered f n).1) (quiet_numbered f (n + 1) h) (quiet_numbered f n h)
+quiet_numbered (Parts k o i) n h = (quiet_numbered o n h.0, quiet_numbered i (numbered o n).1 h.1)
+quiet_numbered (Terminal v) n h = tt
 
 orderly_numbered : (f : Form) (n : ℕ) → IsOrderly f → IsOrderly (numbered f n).0
 orderly_numbered (Leaf still a) n h = tt
 orderly_numbered (Filtered m a f) n h = by_room IsOrderly (nat_lt n LIMIT) (Filtered (Some n) a (numbered f (n + 1)).0, (numbered f (n + 1)).1) (Filtered m a (numbered f n).0, (numbered f n).1) (quiet_numbered f (n + 1) h) (quiet_numbered f n h)
-orderly_numbered (Over OnSubscriber o i) n h = (orderly_numbered o n h.0, orderly_numbered i (numbered o n).1 h.1)
-orderly_numbered (Over InPair o i) n h = (orderly_numbered o n h.0, orderly_numbered i (numbered o n).1 h.1)
-orderly_numbered (Over InList o i) n h = (quiet_numbered o n h.0, quiet_numbered i (numbered o n).1 h.1)
-orderly_numbered (Bare v) n h = tt
+orderly_numbered (Parts OnSubscriber o i) n h = (orderly_numbered o n h.0, orderly_numbered i (numbered o n).1 h.1)
+orderly_numbered (Parts InPair o i) n h = (orderly_numbered o n h.0, orderly_numbered i (numbered o n).1 h.1)
+orderly_numbered (Parts InList o i) n h = (quiet_numbered o n h.0, quiet_numbered i (numbered o n).1 h.1)
+orderly_numbered (Terminal v) n h = tt
 
-still_numbered : (f : Form) (n : ℕ) → IsStill f → IsStill (numbered f n).0
+still_numbered : (f : Form) (n : ℕ) → WritesOnlyExtensions f → WritesOnlyExtensions (numbered f n).0
 still_numbered (Leaf still a) n h = h
-still_numbered (Filtered m a f) n h = by_room IsStill (nat_lt n LIMIT) (Filtered (Some n) a (numbered f (n + 1)).0, (numbered f (n + 1)).1) (Filtered m a (numbered f n).0, (numbered f n).1) (still_numbered f (n + 1) h) (still_numbered f n h)
-still_numbered (Over k o i) n h = (still_numbered o n h.0, still_numbered i (numbered o n).1 h.1)
-still_numbered (Bare v) n h = tt
+still_numbered (Filtered m a f) n h = by_room WritesOnlyExtensions (nat_lt n LIMIT) (Filtered (Some n) a (numbered f (n + 1)).0, (numbered f (n + 1)).1) (Filtered m a (numbered f n).0, (numbered f n).1) (still_numbered f (n + 1) h) (still_numbered f n h)
+still_numbered (Parts k o i) n h = (still_numbered o n h.0, still_numbered i (numbered o n).1 h.1)
+still_numbered (Terminal v) n h = tt
 
 -- and stand where they stood
 end_numbered : (f : Form) (n : ℕ) → is_end (numbered f n).0 ≡ is_end f
 end_numbered (Leaf still a) n = refl
 end_numbered (Filtered m a f) n = by_room (λ g. is_end g ≡ false) (nat_lt n LIMIT) (Filtered (Some n) a (numbered f (n + 1)).0, (numbered f (n + 1)).1) (Filtered m a (numbered f n).0, (numbered f n).1) refl refl
-end_numbered (Over k o i) n = refl
-end_numbered (Bare v) n = refl
+end_numbered (Parts k o i) n = refl
+end_numbered (Terminal v) n = refl
 
 missing_numbered : (f : Form) (n : ℕ) → is_missing (numbered f n).0 ≡ is_missing f
 missing_numbered (Leaf still a) n = refl
 missing_numbered (Filtered m a f) n = by_room (λ g. is_missing g ≡ false) (nat_lt n LIMIT) (Filtered (Some n) a (numbered f (n + 1)).0, (numbered f (n + 1)).1) (Filtered m a (numbered f n).0, (numbered f n).1) refl refl
-missing_numbered (Over k o i) n = refl
-missing_numbered (Bare v) n = refl
+missing_numbered (Parts k o i) n = refl
+missing_numbered (Terminal v) n = refl
 
 full_numbered : (f : Form) (n : ℕ) → is_full (numbered f n).0 ≡ is_full f
 full_numbered (Leaf still a) n = refl
 full_numbered (Filtered m a f) n = by_room (λ g. is_full g ≡ is_full f) (nat_lt n LIMIT) (Filtered (Some n) a (numbered f (n + 1)).0, (numbered f (n + 1)).1) (Filtered m a (numbered f n).0, (numbered f n).1) (full_numbered f (n + 1)) (full_numbered f n)
-full_numbered (Over k o i) n = λ j. both_full k (full_numbered o n j) (end_numbered i (numbered o n).1 j) (full_numbered i (numbered o n).1 j)
-full_numbered (Bare v) n = refl
+full_numbered (Parts k o i) n = λ j. both_full k (full_numbered o n j) (end_numbered i (numbered o n).1 j) (full_numbered i (numbered o n).1 j)
+full_numbered (Terminal v) n = refl
 
 -- where there is room for its filters, a layer that keeps stacks honest, with the next numbers taken, makes an honest stack
-pub honest_on : NumbersStayOwn → (g f : Form) (n : ℕ) → n + filters_in g ≤ LIMIT → IsHonestLayer g → IsHonestStack f n → IsHonestStack (Over OnSubscriber (numbered g n).0 f) (numbered g n).1
-honest_on law g f n room layer below = record {
-  answers = (answers_numbered g n layer.answers, below.answers);
-  numbers = (law g n room).stack f below.numbers;
-  orderly = (orderly_numbered g n layer.orderly, below.orderly);
-  still = (still_numbered g n layer.still, below.still);
-  stack = (λ j. (missing_numbered g n j || full_numbered g n j) && is_stack f) ∙ (λ j. layer.full j && below.stack j);
-}
+pub honest_on : NumbersStayOwn → (g f : Form) (n : ℕ) → n + filters_in g ≤ LIMIT → IsHonestLayer g → IsHonestStack f n → IsHonestStack (Parts OnSubscriber (numbered g n).0 f) (numbered g n).1
+honest_on law g f n room layer below =
+    let rules = rules_of f n below in
+    honest_by (Parts OnSubscriber (numbered g n).0 f) (numbered g n).1 (record {
+      answers = (answers_numbered g n layer.answers, rules.answers);
+      numbers = (law g n room).stack f rules.numbers;
+      orderly = (orderly_numbered g n layer.orderly, rules.orderly);
+      still = (still_numbered g n layer.still, rules.still);
+      stack = (λ j. (missing_numbered g n j || full_numbered g n j) && is_stack f) ∙ (λ j. layer.full j && rules.stack j);
+    })
 
 -- a new registry stands so
-pub bare_stands : (l : Limits) (s : RegistryState) → s ≡ new_registry l → Stands itself bare_form (Bare Base) 0 s
+pub bare_stands : (l : Limits) (s : RegistryState) → s ≡ new_registry l → Stands itself base_form (Terminal Base) 0 s
 bare_stands l s new = record {
   has = refl;
-  rules = record { answers = tt; numbers = record { distinct = tt; handed_out = λ k e. absurd (false≢true e) }; orderly = tt; still = tt; stack = refl };
+  rules = record { numbers = record { distinct = tt; handed_out = λ k e. absurd (false≢true e) }; built = tt };
   filters = ap (λ (t : RegistryState). t.filters) new;
   empty = ap (λ (t : RegistryState). t.store) new;
 }
@@ -119,7 +122,7 @@ bare_stands l s new = record {
 pub stands_on : {L S : Type 0} {registry : S → RegistryState} {with_registry : S → RegistryState → S} {inner_usable : S → Type 0} {has_form : S → Form → Type 0} {usable : L → Type 0} {layer_form : L → Form → Type 0} {attached : L → L → Type 0}
     → NumbersStayOwn → ((s : S) (w : RegistryState) → registry (with_registry s w) ≡ w) → ((s : S) (w : RegistryState) (f : Form) → has_form s f → has_form (with_registry s w) f) → (g f : Form) (n : ℕ) (layer : L) (s : S) (x : Layered L S)
     → layer_form layer g → IsHonestLayer g → Stands registry has_form f n s → Attaches registry with_registry inner_usable usable layer_form attached layer s x
-    → Stands (registry_on registry) (stack_form layer_form has_form) (Over OnSubscriber (numbered g n).0 f) (numbered g n).1 x
+    → Stands (registry_on registry) (stack_form layer_form has_form) (Parts OnSubscriber (numbered g n).0 f) (numbered g n).1 x
 stands_on {registry = registry} {has_form = has_form} {layer_form = layer_form} law shows keeps g f n layer s x has honest below put =
     let room = subst (λ k. k + filters_in g ≤ LIMIT) below.filters (put.room g has) in
     record {

@@ -15,7 +15,8 @@ use Rattle.span_core.specs.declared.number_set.TheConstants.{LIMIT}
 use Rattle.span_core.specs.declared.span.Id.{Id}
 use Rattle.span_layers.specs.ActsKept.{numbered_alone}
 use Rattle.span_layers.specs.Filtered.{FilteredForm, IsNumber}
-use Rattle.span_registry.specs.Answers.{Answers}
+use Rattle.span_registry.proofs.Ancestry.{see_each}
+use Rattle.span_registry.specs.Behaviour.{Behaviour}
 use Rattle.span_registry.specs.Form.{Filtered, Form}
 use Rattle.span_registry.specs.Levels.{takes_level}
 use Rattle.span_core.specs.declared.level.LevelFilter.{LevelFilter}
@@ -24,7 +25,7 @@ use Rattle.span_registry.specs.Context.{is_enabled_in}
 use Rattle.span_registry.specs.Plan.{is_passed}
 use Rattle.span_registry.specs.Question.{single}
 use Rattle.span_registry.specs.Store.{Span, SpanExtensions, Store}
-use Rattle.span_registry.specs.View.{SeenSpan, is_shown, see, see_each, seen_spans, view_of}
+use Rattle.span_registry.specs.View.{SeenSpan, is_shown, see, seen_spans, view_of}
 
 -- ---- in a map
 
@@ -108,9 +109,9 @@ passed_where_enabled id s lane set x n h =
 
 -- ---- which filter takes a level
 
-module _ (id : FilterId) (answers : Answers → Type 0) (layer : Form → Type 0) (n : ℕ) (l : LevelFilter) (said : Bool) where
+module _ (id : FilterId) (answers : Behaviour → Type 0) (layer : Form → Type 0) (n : ℕ) (l : LevelFilter) (said : Bool) where
   -- the filter itself, where it has the number
-  pub takes_itself : has_filter id n ≡ true → ((a : Answers) → answers a → said ≡ a.takes l) → (f : Form) → FilteredForm id answers layer f → said ≡ takes_level f n l
+  pub takes_itself : has_filter id n ≡ true → ((a : Behaviour) → answers a → said ≡ a.takes l) → (f : Form) → FilteredForm id answers layer f → said ≡ takes_level f n l
   takes_itself own says (Filtered m a f) h = says a h.1 ∙ ap (λ (t : Bool). if t then a.takes l else takes_level f n l) (sym own ∙ ap (λ (k : FilterSet). k n) (numbered_alone id m h.0))
   takes_itself own says f h = absurd h
 

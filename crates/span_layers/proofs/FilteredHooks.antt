@@ -13,9 +13,9 @@ use Rattle.span_layers.specs.Filtered.{FilteredForm, FilteredSteps, Hooked, IsNu
 use Rattle.span_layers.specs.Layer.{LayerSteps, Notified}
 use Rattle.span_layers.specs.declared.filtered.Filtered.{Filtered as FilteredLayer}
 use Rattle.span_registry.proofs.CallerLemmas.{same_itself}
-use Rattle.span_registry.specs.Answers.{Answers, Notice, OnFollows}
+use Rattle.span_registry.specs.Behaviour.{Behaviour, Notice, OnFollows}
 use Rattle.span_registry.specs.Context.{HandsOn, MasksMore, WritesExtensions, enabled_lent, filters_lent, lane_lent, refused_lent, subscriber_lent, with_mask}
-use Rattle.span_registry.specs.Form.{Bare, Filtered, Form, Leaf, Over}
+use Rattle.span_registry.specs.Form.{Terminal, Filtered, Form, Leaf, Parts}
 use Rattle.span_registry.specs.Plan.{Nobody, Plan, Through, by_pass, is_passed, lets_by}
 use Rattle.span_registry.specs.Question.{single}
 use Rattle.span_registry.specs.Subscriber.{SameButExtensions}
@@ -71,7 +71,7 @@ module _ {S : Type 0} (registry : S → RegistryState) where
 
 -- ---- a layer under a filter
 
-module _ {F L S : Type 0} (hooked : FilterSteps F) (stepped : LayerSteps L) (has_answers : F → Answers → Type 0) (has_form : L → Form → Type 0) (registry : S → RegistryState) where
+module _ {F L S : Type 0} (hooked : FilterSteps F) (stepped : LayerSteps L) (has_answers : F → Behaviour → Type 0) (has_form : L → Form → Type 0) (registry : S → RegistryState) where
   -- how it goes on by a plan, from one context to another
   abbrev GoesOn : Notice → FilteredLayer L F → Plan → ContextMut S → F → L → ContextMut S → Type 0
   GoesOn e x p c g y d = FilteredSteps hooked stepped x.id x.filter x.layer p e (lane_lent c).0 (filters_lent c) (registry (subscriber_lent c)) g y (registry (subscriber_lent d))
@@ -92,8 +92,8 @@ module _ {F L S : Type 0} (hooked : FilterSteps F) (stepped : LayerSteps L) (has
       (refl, subst (λ (b : Bool). GoesOn e x (if b then plan_through f e c (single n) else Nobody) c x.filter x.layer c) (sym (kept (Some n) h.0)) (refl, refl, refl))
   filtered_skips e x c kept (Filtered None a f) h = (refl, (refl, refl, refl))
   filtered_skips e x c kept (Leaf still a) h = absurd h
-  filtered_skips e x c kept (Over k o i) h = absurd h
-  filtered_skips e x c kept (Bare v) h = absurd h
+  filtered_skips e x c kept (Parts k o i) h = absurd h
+  filtered_skips e x c kept (Terminal v) h = absurd h
 
   -- the filter is notified, and then the layer in what the filter left, both under the filter too
   both_notified : (e : Notice) (x : FilteredLayer L F) (g : F) (y : L) (old : ContextMut S) {narrow between : ContextMut S} (left new : ContextMut S) (mask : Mask)
@@ -121,5 +121,5 @@ module _ {F L S : Type 0} (hooked : FilterSteps F) (stepped : LayerSteps L) (has
       (refl, transport (λ i. GoesOn e x (if sym (passed (Some n) h.0) i then plan_through f e old (h.0.1 i) else Nobody) old g y new) both)
   filtered_notified e x g y old left new mask passed narrowed own handed layer widened (Filtered None a f) h = absurd (false≢true (passed None h.0))
   filtered_notified e x g y old left new mask passed narrowed own handed layer widened (Leaf still a) h = absurd h
-  filtered_notified e x g y old left new mask passed narrowed own handed layer widened (Over k o i) h = absurd h
-  filtered_notified e x g y old left new mask passed narrowed own handed layer widened (Bare v) h = absurd h
+  filtered_notified e x g y old left new mask passed narrowed own handed layer widened (Parts k o i) h = absurd h
+  filtered_notified e x g y old left new mask passed narrowed own handed layer widened (Terminal v) h = absurd h

@@ -10,11 +10,12 @@ use Rattle.span_core.specs.declared.level.LevelFilter.{LevelFilter}
 use Rattle.span_core.specs.declared.level.TheConstants.LevelFilter.{OFF}
 use Rattle.span_core.specs.declared.metadata.Metadata.{Metadata}
 use Rattle.span_layers.proofs.Asked.{AreRefused, wanted_by_nobody}
+use Rattle.span_layers.proofs.Built.{rules_of, is_stack}
 use Rattle.span_layers.proofs.Interest.{IsMissing, IsThere, base_refused, full_no_end, stands}
-use Rattle.span_layers.specs.Honest.{HasHonestAnswers, is_full, is_missing, is_stack}
+use Rattle.span_layers.specs.Honest.{HasHonestAnswers, is_full, is_missing}
 use Rattle.span_layers.specs.Verdict.{vetoes}
 use Rattle.span_layers.specs.Wanted.{AboveIsUnwanted}
-use Rattle.span_registry.specs.Form.{Absent, Bare, Base, End, Filtered, Form, InList, InPair, Leaf, OnSubscriber, Over, is_absent, is_base, is_end, is_marked}
+use Rattle.span_registry.specs.Form.{Absent, Terminal, Base, End, Filtered, Form, InList, InPair, Leaf, OnSubscriber, Parts, is_absent, is_base, is_end, is_marked}
 use Rattle.span_registry.specs.Hooks.{no_filter}
 use Rattle.span_registry.specs.Question.{hint_by, hint_of, single}
 use Rattle.span_registry.specs.Store.{Store}
@@ -120,12 +121,12 @@ above_by l false false false ia h k a = by_open l ia h k a
 full_present : (f : Form) → is_end f || is_full f ≡ true → is_absent f ≡ false
 full_present (Leaf still a) w = refl
 full_present (Filtered n a f) w = full_present f (or_right _ _ w)
-full_present (Over OnSubscriber o i) w = absurd (false≢true w)
-full_present (Over InPair o i) w = let both : (is_full o ≡ true) × (is_full i ≡ true) = and_parts _ _ w in or_from _ _ (full_present o (or_right _ _ both.0)) (full_present i (or_right _ _ both.1))
-full_present (Over InList o i) w = let both : (is_full o ≡ true) × (is_end i || is_full i ≡ true) = and_parts _ _ w in or_from _ _ (full_present o (or_right _ _ both.0)) (full_present i both.1)
-full_present (Bare Base) w = refl
-full_present (Bare Absent) w = absurd (false≢true w)
-full_present (Bare End) w = refl
+full_present (Parts OnSubscriber o i) w = absurd (false≢true w)
+full_present (Parts InPair o i) w = let both : (is_full o ≡ true) × (is_full i ≡ true) = and_parts _ _ w in or_from _ _ (full_present o (or_right _ _ both.0)) (full_present i (or_right _ _ both.1))
+full_present (Parts InList o i) w = let both : (is_full o ≡ true) × (is_end i || is_full i ≡ true) = and_parts _ _ w in or_from _ _ (full_present o (or_right _ _ both.0)) (full_present i both.1)
+full_present (Terminal Base) w = refl
+full_present (Terminal Absent) w = absurd (false≢true w)
+full_present (Terminal End) w = refl
 
 only_marked : (f : Form) → is_full f ≡ true → is_end f || is_marked f ≡ true → is_marked f ≡ true
 only_marked f w h = ⊎_elim (λ (x : is_end f ≡ true). absurd (both_ways _ (full_no_end f w) x)) (λ (x : is_marked f ≡ true). x) (or_cases _ _ h)
@@ -136,13 +137,13 @@ Ruled f m s l b = (vetoes f m s l ≡ true) ⊎ ((is_end f || is_marked f ≡ tr
 
 above_layer : (f : Form) (m : Metadata) (s : Store) (l : ℕ) (b : FilterSet) → is_end f || is_full f ≡ true → HasHonestAnswers f → Above (level_of m) (hint_of f) → Ruled f m s l b
 above_layer (Leaf still a) m s l b w h e = inl (ap not (h.above m (view_of s l no_filter) e))
-above_layer (Bare Base) m s l b w h e = absurd (false≢true w)
-above_layer (Bare Absent) m s l b w h e = absurd (false≢true w)
-above_layer (Bare End) m s l b w h e = inr (refl, tt)
+above_layer (Terminal Base) m s l b w h e = absurd (false≢true w)
+above_layer (Terminal Absent) m s l b w h e = absurd (false≢true w)
+above_layer (Terminal End) m s l b w h e = inr (refl, tt)
 above_layer (Filtered None a f) m s l b w h e = inr (refl, tt)
 above_layer (Filtered (Some k) a f) m s l b w h e = inr (refl, h.0.above m (view_of s l (union b (single k))) e)
-above_layer (Over OnSubscriber o i) m s l b w h e = absurd (false≢true w)
-above_layer (Over InList o i) m s l b w h e =
+above_layer (Parts OnSubscriber o i) m s l b w h e = absurd (false≢true w)
+above_layer (Parts InList o i) m s l b w h e =
     let both : (is_full o ≡ true) × (is_end i || is_full i ≡ true) = and_parts _ _ w in
     let above : Above (level_of m) (hint_of o) × Above (level_of m) (hint_of i) = wider_both (level_of m) (hint_of o) (hint_of i) e in
     ⊎_elim
@@ -152,7 +153,7 @@ above_layer (Over InList o i) m s l b w h e =
     (λ (q : (is_end i || is_marked i ≡ true) × AreRefused i m s l b). inr (and_from _ _ (only_marked o both.0 p.0) q.0, (p.1, q.1)))
     (above_layer i m s l b both.1 h.1 above.1))
     (above_layer o m s l b (or_right _ _ both.0) h.0 above.0)
-above_layer (Over InPair o i) m s l b w h e =
+above_layer (Parts InPair o i) m s l b w h e =
     let both : (is_full o ≡ true) × (is_full i ≡ true) = and_parts _ _ w in
     let outer : Above (level_of m) (hint_of o) → Ruled o m s l b = λ y. above_layer o m s l b (or_right _ _ both.0) h.0 y in
     let inner : Above (level_of m) (hint_of i) → Ruled i m s l b = λ y. above_layer i m s l b (or_right _ _ both.1) h.1 y in
@@ -202,23 +203,23 @@ there o m s l b w h y = ⊎_elim
     (above_layer o m s l b (or_right _ _ w) h y)
 
 -- an absent layer on a stack that is no registry
-absent_on : (i : Form) (m : Metadata) (s : Store) (l : ℕ) (b : FilterSet) → is_base i ≡ false → RuledOut i m s l b → RuledOut (Over OnSubscriber (Bare Absent) i) m s l b
+absent_on : (i : Form) (m : Metadata) (s : Store) (l : ℕ) (b : FilterSet) → is_base i ≡ false → RuledOut i m s l b → RuledOut (Parts OnSubscriber (Terminal Absent) i) m s l b
 absent_on i m s l b n z = ⊎_elim
     (λ (q : vetoes i m s l ≡ true). inl q)
     (λ (q : Why i × AreRefused i m s l b). ⊎_elim
     (λ (x : is_marked i ≡ true). inr (inl x, (tt, q.1)))
     (λ (x : (is_absent i ≡ true) × (is_off (hint_of i) ≡ true)).
     let off : is_off (hint_by false (is_marked i) true (is_absent i) (Some OFF) (hint_of i)) ≡ true = off_over (is_marked i) (is_absent i) (hint_of i) x.1 in
-    let same : is_off (hint_of (Over OnSubscriber (Bare Absent) i)) ≡ true = ap (λ c. is_off (if c then Some OFF else hint_by false (is_marked i) true (is_absent i) (Some OFF) (hint_of i))) n ∙ off in
+    let same : is_off (hint_of (Parts OnSubscriber (Terminal Absent) i)) ≡ true = ap (λ c. is_off (if c then Some OFF else hint_by false (is_marked i) true (is_absent i) (Some OFF) (hint_of i))) n ∙ off in
     inr (inr (refl, same), (tt, q.1)))
     q.0)
     z
 
 -- a layer on the registry
-on_base : (o i : Form) (m : Metadata) (s : Store) (l : ℕ) (b : FilterSet) → is_missing o || is_full o ≡ true → HasHonestAnswers o → is_base i ≡ true → Above (level_of m) (hint_of o) → RuledOut (Over OnSubscriber o i) m s l b
+on_base : (o i : Form) (m : Metadata) (s : Store) (l : ℕ) (b : FilterSet) → is_missing o || is_full o ≡ true → HasHonestAnswers o → is_base i ≡ true → Above (level_of m) (hint_of o) → RuledOut (Parts OnSubscriber o i) m s l b
 on_base o i m s l b w h x y = elim (stands o w) [
-  | IsMissing e ↦ (let off : is_off (hint_of (Over OnSubscriber (Bare Absent) i)) ≡ true = ap (λ c. is_off (if c then Some OFF else hint_by false (is_marked i) true (is_absent i) (Some OFF) (hint_of i))) x in
-      subst (λ z. RuledOut (Over OnSubscriber z i) m s l b) (sym e) (inr (inr (refl, off), (tt, base_refused i m s l b x))))
+  | IsMissing e ↦ (let off : is_off (hint_of (Parts OnSubscriber (Terminal Absent) i)) ≡ true = ap (λ c. is_off (if c then Some OFF else hint_by false (is_marked i) true (is_absent i) (Some OFF) (hint_of i))) x in
+      subst (λ z. RuledOut (Parts OnSubscriber z i) m s l b) (sym e) (inr (inr (refl, off), (tt, base_refused i m s l b x))))
   | IsThere e ↦ (⊎_elim
       (λ (p : vetoes o m s l ≡ true). inl (or_left _ _ p))
       (λ (p : (is_marked o ≡ true) × AreRefused o m s l b). inr (inl (or_left _ _ p.0), (p.1, base_refused i m s l b x)))
@@ -227,10 +228,10 @@ on_base o i m s l b w h x y = elim (stands o w) [
 
 -- a layer on a stack that is no registry
 on_stack : (o i : Form) (m : Metadata) (s : Store) (l : ℕ) (b : FilterSet) → is_missing o || is_full o ≡ true → HasHonestAnswers o → is_base i ≡ false → (Above (level_of m) (hint_of i) → RuledOut i m s l b)
-    → Above (level_of m) (hint_by (is_marked o) (is_marked i) (is_absent o) (is_absent i) (hint_of o) (hint_of i)) → RuledOut (Over OnSubscriber o i) m s l b
+    → Above (level_of m) (hint_by (is_marked o) (is_marked i) (is_absent o) (is_absent i) (hint_of o) (hint_of i)) → RuledOut (Parts OnSubscriber o i) m s l b
 on_stack o i m s l b w h n below a =
-    let missing : o ≡ Bare Absent → RuledOut i m s l b → RuledOut (Over OnSubscriber o i) m s l b =
-    λ e z. subst (λ z. RuledOut (Over OnSubscriber z i) m s l b) (sym e) (absent_on i m s l b n z) in
+    let missing : o ≡ Terminal Absent → RuledOut i m s l b → RuledOut (Parts OnSubscriber o i) m s l b =
+    λ e z. subst (λ z. RuledOut (Parts OnSubscriber z i) m s l b) (sym e) (absent_on i m s l b n z) in
     elim (above_by (level_of m) (is_marked o) (is_marked i) (is_absent o) (is_absent i) (hint_of o) (hint_of i) a) [
       | ByBoth u v ↦ elim (stands o w) [
         | IsMissing e ↦ missing e (below v)
@@ -262,13 +263,13 @@ on_stack o i m s l b w h n below a =
 -- above the hint: a leaf vetoes, or all are refused
 above_means : (f : Form) (m : Metadata) (s : Store) (l : ℕ) (b : FilterSet) → is_stack f ≡ true → HasHonestAnswers f → Above (level_of m) (hint_of f) → RuledOut f m s l b
 above_means (Leaf still a) m s l b w h e = absurd (false≢true w)
-above_means (Bare Base) m s l b w h e = absurd (false≢true e)
-above_means (Bare Absent) m s l b w h e = absurd (false≢true w)
-above_means (Bare End) m s l b w h e = absurd (false≢true w)
+above_means (Terminal Base) m s l b w h e = absurd (false≢true e)
+above_means (Terminal Absent) m s l b w h e = absurd (false≢true w)
+above_means (Terminal End) m s l b w h e = absurd (false≢true w)
 above_means (Filtered n a f) m s l b w h e = absurd (false≢true w)
-above_means (Over InPair o i) m s l b w h e = absurd (false≢true w)
-above_means (Over InList o i) m s l b w h e = absurd (false≢true w)
-above_means (Over OnSubscriber o i) m s l b w h e =
+above_means (Parts InPair o i) m s l b w h e = absurd (false≢true w)
+above_means (Parts InList o i) m s l b w h e = absurd (false≢true w)
+above_means (Parts OnSubscriber o i) m s l b w h e =
     let both : (is_missing o || is_full o ≡ true) × (is_stack i ≡ true) = and_parts _ _ w in
     ⊎_elim
     (λ (x : is_base i ≡ true). on_base o i m s l b both.0 h.0 x (subst (λ c. Above (level_of m) (if c then hint_of o else hint_by (is_marked o) (is_marked i) (is_absent o) (is_absent i) (hint_of o) (hint_of i))) x e))
@@ -277,7 +278,9 @@ above_means (Over OnSubscriber o i) m s l b w h e =
     (cases_Bool (is_base i))
 
 pub above_is_unwanted : AboveIsUnwanted
-above_is_unwanted f n m s l h e = ⊎_elim
+above_is_unwanted f n m s l honest e =
+    let h = rules_of f n honest in
+    ⊎_elim
     (λ (x : vetoes f m s l ≡ true). inl x)
     (λ (x : Why f × AreRefused f m s l no_filter). inr (wanted_by_nobody f m s l x.1))
     (above_means f m s l no_filter h.stack h.answers e)

@@ -7,35 +7,35 @@ use Rattle.span_core.specs.declared.interest.Interest.{Interest}
 use Rattle.span_core.specs.declared.metadata.Metadata.{Metadata}
 use Rattle.span_core.specs.Interest.{sum_with}
 use Rattle.span_layers.specs.Honest.{HasHonestAnswers}
-use Rattle.span_registry.specs.Answers.{Answers, AreHonest, SameInterestAndHint}
-use Rattle.span_registry.specs.Follows.{AnswersKeep, Keeps}
-use Rattle.span_registry.specs.Form.{Absent, Bare, Base, End, Filtered, Form, InList, InPair, Joint, Leaf, OnSubscriber, Over, Void, both_marked, is_absent, is_base, is_end, is_marked}
+use Rattle.span_registry.specs.Behaviour.{Behaviour, AreHonest, SameInterestAndHint}
+use Rattle.span_registry.specs.KeptForm.{AnswersKeep, KeepsForm}
+use Rattle.span_registry.specs.Form.{Absent, Terminal, Base, End, Filtered, Form, InList, InPair, Arrangement, Leaf, OnSubscriber, Parts, TerminalKind, both_marked, is_absent, is_base, is_end, is_marked}
 use Rattle.span_registry.specs.Question.{hint_by, hint_of, interest_of, is_calm, is_never, joint_interest}
 
 -- what a form keeps, part by part
 data Kept : Form → Form → Type 0 where
-  KeptLeaf : {still : Bool} {a b : Answers} → AnswersKeep a b → Kept (Leaf still a) (Leaf still b)
-  KeptFiltered : {n : Option ℕ} {a b : Answers} {f g : Form} → SameInterestAndHint a b → (AreHonest a → AreHonest b) → Kept f g → Kept (Filtered n a f) (Filtered n b g)
-  KeptOver : {k : Joint} {o p i j : Form} → Kept o p → Kept i j → Kept (Over k o i) (Over k p j)
-  KeptBare : {v : Void} → Kept (Bare v) (Bare v)
+  KeptLeaf : {still : Bool} {a b : Behaviour} → AnswersKeep a b → Kept (Leaf still a) (Leaf still b)
+  KeptFiltered : {n : Option ℕ} {a b : Behaviour} {f g : Form} → SameInterestAndHint a b → (AreHonest a → AreHonest b) → Kept f g → Kept (Filtered n a f) (Filtered n b g)
+  KeptOver : {k : Arrangement} {o p i j : Form} → Kept o p → Kept i j → Kept (Parts k o i) (Parts k p j)
+  KeptBare : {v : TerminalKind} → Kept (Terminal v) (Terminal v)
 
-kept : (f g : Form) → Keeps f g → Kept f g
+kept : (f g : Form) → KeepsForm f g → Kept f g
 kept (Leaf still a) (Leaf quiet b) h = subst (λ z. Kept (Leaf still a) (Leaf z b)) (sym h.0) (KeptLeaf h.1)
 kept (Filtered n a f) (Filtered m b g) h = subst (λ z. Kept (Filtered n a f) (Filtered z b g)) (sym h.0) (KeptFiltered h.1 h.2 (kept f g h.3))
-kept (Over k o i) (Over l p j) h = subst (λ z. Kept (Over k o i) (Over z p j)) (sym h.0) (KeptOver (kept o p h.1) (kept i j h.2))
-kept (Bare v) (Bare w) h = subst (λ z. Kept (Bare v) (Bare z)) (sym h) KeptBare
+kept (Parts k o i) (Parts l p j) h = subst (λ z. Kept (Parts k o i) (Parts z p j)) (sym h.0) (KeptOver (kept o p h.1) (kept i j h.2))
+kept (Terminal v) (Terminal w) h = subst (λ z. Kept (Terminal v) (Terminal z)) (sym h) KeptBare
 kept (Leaf still a) (Filtered m b g) h = absurd h
-kept (Leaf still a) (Over l p j) h = absurd h
-kept (Leaf still a) (Bare w) h = absurd h
+kept (Leaf still a) (Parts l p j) h = absurd h
+kept (Leaf still a) (Terminal w) h = absurd h
 kept (Filtered n a f) (Leaf quiet b) h = absurd h
-kept (Filtered n a f) (Over l p j) h = absurd h
-kept (Filtered n a f) (Bare w) h = absurd h
-kept (Over k o i) (Leaf quiet b) h = absurd h
-kept (Over k o i) (Filtered m b g) h = absurd h
-kept (Over k o i) (Bare w) h = absurd h
-kept (Bare v) (Leaf quiet b) h = absurd h
-kept (Bare v) (Filtered m b g) h = absurd h
-kept (Bare v) (Over l p j) h = absurd h
+kept (Filtered n a f) (Parts l p j) h = absurd h
+kept (Filtered n a f) (Terminal w) h = absurd h
+kept (Parts k o i) (Leaf quiet b) h = absurd h
+kept (Parts k o i) (Filtered m b g) h = absurd h
+kept (Parts k o i) (Terminal w) h = absurd h
+kept (Terminal v) (Leaf quiet b) h = absurd h
+kept (Terminal v) (Filtered m b g) h = absurd h
+kept (Terminal v) (Parts l p j) h = absurd h
 
 end_kept : {f g : Form} → Kept f g → is_end g ≡ is_end f
 end_kept (KeptLeaf k) = refl
@@ -71,7 +71,7 @@ hints_kept (KeptOver {k = InPair} k l) = λ i. hint_by (marked_kept k i) (marked
 hints_kept (KeptOver {k = InList} k l) = λ i. wider_hint (hints_kept k i) (hints_kept l i)
 hints_kept KeptBare = refl
 
-calm_kept : (joint : Joint) {f g : Form} → Kept f g → is_calm joint g ≡ is_calm joint f
+calm_kept : (joint : Arrangement) {f g : Form} → Kept f g → is_calm joint g ≡ is_calm joint f
 calm_kept OnSubscriber k = λ i. marked_kept k i || base_kept k i
 calm_kept InPair k = marked_kept k
 calm_kept InList k = marked_kept k
@@ -87,11 +87,11 @@ interests_kept (KeptOver {k = joint} {p = p} k l) m filters sum =
 interests_kept KeptBare m filters sum = refl
 
 -- what keeps what it has keeps its hint
-pub hint_is_kept : (f g : Form) → Keeps f g → hint_of g ≡ hint_of f
+pub hint_is_kept : (f g : Form) → KeepsForm f g → hint_of g ≡ hint_of f
 hint_is_kept f g h = hints_kept (kept f g h)
 
 -- and its interest
-pub interest_is_kept : (f g : Form) → Keeps f g → (m : Metadata) (filters : ℕ) → interest_of g m filters None ≡ interest_of f m filters None
+pub interest_is_kept : (f g : Form) → KeepsForm f g → (m : Metadata) (filters : ℕ) → interest_of g m filters None ≡ interest_of f m filters None
 interest_is_kept f g h m filters = interests_kept (kept f g h) m filters None
 
 -- honest answers are of one interest in metadata that show the same
@@ -100,12 +100,12 @@ alike_interest (Leaf still a) h m k e filters sum = λ i. (h.alike m k e i, sum)
 alike_interest (Filtered None a f) h m k e filters sum = refl
 alike_interest (Filtered (Some n) a f) h m k e filters sum =
     λ i. (Always, Some (sum_with (if is_never (h.0.alike m k e i) then sum else (alike_interest f h.1 m k e filters sum i).1) (h.0.alike m k e i)))
-alike_interest (Over joint o j) h m k e filters sum =
+alike_interest (Parts joint o j) h m k e filters sum =
     let first = alike_interest o h.0 m k e filters sum in
     λ i. joint_interest joint (is_marked o) (first i).0 (is_calm joint j) (alike_interest j h.1 m k e filters (first i).1 i)
-alike_interest (Bare v) h m k e filters sum = by_void v
+alike_interest (Terminal v) h m k e filters sum = by_void v
   where
-    by_void : (v : Void) → interest_of (Bare v) m filters sum ≡ interest_of (Bare v) k filters sum
+    by_void : (v : TerminalKind) → interest_of (Terminal v) m filters sum ≡ interest_of (Terminal v) k filters sum
     by_void Base = refl
     by_void Absent = refl
     by_void End = refl

@@ -1,4 +1,5 @@
-mod Asked
+pub mod Asked
+pub mod Built
 pub mod CallerLemmas
 mod FilterNumber
 mod FilteredHooks

@@ -4,7 +4,7 @@ use Rattle.std.proofs.lemmas.List.Elements.{AllZip-push}
 use Rattle.std.proofs.lemmas.List.{drop-drop, drop-set-lt, drop_all, drop_more, take_all, take_more, take_more_set}
 use Rattle.std.specs.List.{AllZip}
 use Rattle.span_layers.specs.Members.{ListForm}
-use Rattle.span_registry.specs.Form.{Bare, End, Filtered, Form, InList, Leaf, Over}
+use Rattle.span_registry.specs.Form.{Terminal, End, Filtered, Form, InList, Leaf, Parts}
 
 -- whatever form a list has, what is left of it has one that stands so to that
 abbrev pub Left : {L : Type 0} → (L → Form → Type 0) → List L → List L → (Form → Form → Type 0) → Type 0
@@ -16,11 +16,11 @@ here xs i x lt is = drop_more xs i x lt ∙ ap (λ y. y ∷ drop (i + 1) xs) (sy
 
 module _ {L : Type 0} (has : L → Form → Type 0) where
   -- the first member's form and the rest's
-  first_of : (P : Form → Type 0) (x : L) (rest : List L) (r : Form) → ListForm has (x ∷ rest) r → P r → (o : Form) × (i : Form) × has x o × ListForm has rest i × P (Over InList o i)
-  first_of P x rest (Over k o i) h p = (o, i, h.1, h.2, subst (λ j. P (Over j o i)) h.0 p)
+  first_of : (P : Form → Type 0) (x : L) (rest : List L) (r : Form) → ListForm has (x ∷ rest) r → P r → (o : Form) × (i : Form) × has x o × ListForm has rest i × P (Parts InList o i)
+  first_of P x rest (Parts k o i) h p = (o, i, h.1, h.2, subst (λ j. P (Parts j o i)) h.0 p)
   first_of P x rest (Leaf still a) h p = absurd h
   first_of P x rest (Filtered n a f) h p = absurd h
-  first_of P x rest (Bare v) h p = absurd h
+  first_of P x rest (Terminal v) h p = absurd h
 
   -- at first the whole is left
   pub whole_left : (all : List L) (so : Form → Form → Type 0) → ((f : Form) → so f f) → Left has all all so
@@ -29,21 +29,21 @@ module _ {L : Type 0} (has : L → Form → Type 0) where
   module _ (all : List L) (so : Form → Form → Type 0) (xs : List L) (i : ℕ) where
     module _ (x : L) (lt : i < length xs) (is : x ≡ get_or xs i x) where
       -- one member less is left
-      pub less_left : (then : Form → Form → Type 0) → ((f o r : Form) → has x o → so f (Over InList o r) → then f r) → Left has all (drop i xs) so → Left has all (drop (i + 1) xs) then
+      pub less_left : (then : Form → Form → Type 0) → ((f o r : Form) → has x o → so f (Parts InList o r) → then f r) → Left has all (drop i xs) so → Left has all (drop (i + 1) xs) then
       less_left then step left f h =
           let before = left f h in
           let both = first_of (so f) x (drop (i + 1) xs) before.0 (subst (λ l. ListForm has l before.0) (here xs i x lt is) before.1) before.2 in
           (both.1, both.3, step f both.0 both.1 both.2 both.4)
 
       -- the loop ends at a member
-      pub ends_at : (P : Form → Type 0) → ((f o r : Form) → has x o → so f (Over InList o r) → P f) → Left has all (drop i xs) so → (f : Form) → ListForm has all f → P f
+      pub ends_at : (P : Form → Type 0) → ((f o r : Form) → has x o → so f (Parts InList o r) → P f) → Left has all (drop i xs) so → (f : Form) → ListForm has all f → P f
       ends_at P step left f h =
           let before = left f h in
           let both = first_of (so f) x (drop (i + 1) xs) before.0 (subst (λ l. ListForm has l before.0) (here xs i x lt is) before.1) before.2 in
           step f both.0 both.1 both.2 both.4
 
     -- nothing is left
-    pub none_left : (P : Form → Type 0) → length xs ≤ i → ((f : Form) → so f (Bare End) → P f) → Left has all (drop i xs) so → (f : Form) → ListForm has all f → P f
+    pub none_left : (P : Form → Type 0) → length xs ≤ i → ((f : Form) → so f (Terminal End) → P f) → Left has all (drop i xs) so → (f : Form) → ListForm has all f → P f
     none_left P end step left f h =
         let before = left f h in
         step f (subst (so f) (subst (λ l. ListForm has l before.0) (drop_all i xs end) before.1) before.2)

@@ -13,7 +13,7 @@ use Rattle.span_core.specs.declared.metadata.Metadata.{Metadata}
 use Rattle.span_core.specs.declared.pass.Pass.{Pass}
 use Rattle.span_layers.specs.Members.{ListForm}
 use Rattle.span_layers.specs.Number.{filters_in}
-use Rattle.span_registry.specs.Form.{Bare, End, Filtered, Form, InList, Leaf, Over, is_absent, is_end, is_marked}
+use Rattle.span_registry.specs.Form.{Terminal, End, Filtered, Form, InList, Leaf, Parts, is_absent, is_end, is_marked}
 use Rattle.span_registry.specs.Question.{AnswersSo, SumsSo, higher, hint_of, interest_of, refusals}
 
 -- ---- whether metadata or an event pass
@@ -23,9 +23,9 @@ module _ (question : Form → FilterSet → Bool × FilterSet) where
   abbrev pub AsksOn : Pass → Pass → Form → Form → Type 0
   AsksOn old now f r = (question f (refusals old) ≡ question r (refusals now)) × (interest_sum now ≡ interest_sum old)
 
-  module _ (over : (o i : Form) (n : FilterSet) → question (Over InList o i) n ≡ (if (question o n).0 then question i (question o n).1 else question o n)) (old now : Pass) where
+  module _ (over : (o i : Form) (n : FilterSet) → question (Parts InList o i) n ≡ (if (question o n).0 then question i (question o n).1 else question o n)) (old now : Pass) where
     -- a member passes it
-    pub one_passes : (next : Pass) (f o r : Form) → AnswersSo (question o (refusals now)) now true next → AsksOn old now f (Over InList o r) → AsksOn old next f r
+    pub one_passes : (next : Pass) (f o r : Form) → AnswersSo (question o (refusals now)) now true next → AsksOn old now f (Parts InList o r) → AsksOn old next f r
     one_passes next f o r a h = (h.0 ∙ over o r (refusals now) ∙ sym (λ k. if a.answer k then question r (a.refused k) else question o (refusals now)), a.sum ∙ h.1)
 
 -- ---- interests
@@ -52,7 +52,7 @@ module _ (m : Metadata) (filters : ℕ) where
 
   -- a member answered
   pub one_summed : (old now next : Pass) (highest said more : Interest) → more ≡ higher highest said → (f o r : Form) → SumsSo (interest_of o m filters (interest_sum now)) now said next
-      → SumsOn old highest now f (Over InList o r) → SumsOn old more next f r
+      → SumsOn old highest now f (Parts InList o r) → SumsOn old more next f r
   one_summed old now next highest said more is f o r a h =
       let after : Option Interest → Interest × Option Interest = interest_of r m filters in (
         h.0 ∙ sym (λ k. (higher highest (higher (a.answer k) (after (a.sum k)).0), (after (a.sum k)).1))
@@ -62,7 +62,7 @@ module _ (m : Metadata) (filters : ℕ) where
       )
 
   -- all did
-  pub all_summed : (old now : Pass) (highest : Interest) (f : Form) → SumsOn old highest now f (Bare End) → SumsSo (interest_of f m filters (interest_sum old)) old highest now
+  pub all_summed : (old now : Pass) (highest : Interest) (f : Form) → SumsOn old highest now f (Terminal End) → SumsSo (interest_of f m filters (interest_sum old)) old highest now
   all_summed old now highest f h =
       let whole : interest_of f m filters (interest_sum old) ≡ (highest, interest_sum now) = h.0 ∙ ap (λ i. (i, interest_sum now)) (higher_never highest) in
       record { answer = ap (λ (p : Interest × Option Interest). p.0) (sym whole); sum = ap (λ (p : Interest × Option Interest). p.1) (sym whole); refused = h.1 }
@@ -94,7 +94,7 @@ abbrev pub HintsOn : Option LevelFilter → Form → Form → Type 0
 HintsOn widest f r = hint_of f ≡ wider_hint widest (hint_of r)
 
 -- a member answered
-pub one_hinted : (widest said more : Option LevelFilter) → more ≡ wider_hint widest said → (f o r : Form) → said ≡ hint_of o → HintsOn widest f (Over InList o r) → HintsOn more f r
+pub one_hinted : (widest said more : Option LevelFilter) → more ≡ wider_hint widest said → (f o r : Form) → said ≡ hint_of o → HintsOn widest f (Parts InList o r) → HintsOn more f r
 one_hinted widest said more is f o r a h = h ∙ ap (λ k. wider_hint widest (wider_hint k (hint_of r))) (sym a) ∙ wider_assoc widest said (hint_of r) ∙ ap (λ k. wider_hint k (hint_of r)) (sym is)
 
 -- ---- how many filters
@@ -104,13 +104,13 @@ abbrev pub CountsOn : ℕ → Form → Form → Type 0
 CountsOn count f r = (min (filters_in f) 4294967295 ≡ min (count + filters_in r) 4294967295) × (count ≤ 4294967295)
 
 -- a member was counted
-pub one_counted : (count said more : ℕ) → more ≡ min (count + said) 4294967295 → (f o r : Form) → said ≡ min (filters_in o) 4294967295 → CountsOn count f (Over InList o r) → CountsOn more f r
+pub one_counted : (count said more : ℕ) → more ≡ min (count + said) 4294967295 → (f o r : Form) → said ≡ min (filters_in o) 4294967295 → CountsOn count f (Parts InList o r) → CountsOn more f r
 one_counted count said more is f o r a h =
     let sum : min (count + (filters_in o + filters_in r)) 4294967295 ≡ min (more + filters_in r) 4294967295 = omega (arith, is, a) in
     let small : more ≤ 4294967295 = omega (arith, is) in (h.0 ∙ sum, small)
 
 -- all were
-pub all_counted : (count : ℕ) (f : Form) → CountsOn count f (Bare End) → count ≡ min (filters_in f) 4294967295
+pub all_counted : (count : ℕ) (f : Form) → CountsOn count f (Terminal End) → count ≡ min (filters_in f) 4294967295
 all_counted count f h = let small : count ≤ 4294967295 = h.1 in let sum : min (filters_in f) 4294967295 ≡ min (count + 0) 4294967295 = h.0 in omega (arith, small, sum)
 
 -- ---- marks
@@ -123,19 +123,19 @@ all_marked f = is_end f || is_marked f
 abbrev pub MarksOn : Form → Form → Type 0
 MarksOn f r = all_marked f ≡ all_marked r
 
-pub one_marked : (f o r : Form) → true ≡ is_marked o → MarksOn f (Over InList o r) → MarksOn f r
+pub one_marked : (f o r : Form) → true ≡ is_marked o → MarksOn f (Parts InList o r) → MarksOn f r
 one_marked f o r a h = h ∙ sym (ap (λ t. t && all_marked r) a)
 
-pub all_are_marked : {L : Type 0} (has : L → Form → Type 0) (xs : List L) (f : Form) → ListForm has xs f → MarksOn f (Bare End) → not (length xs == 0) ≡ is_marked f
+pub all_are_marked : {L : Type 0} (has : L → Form → Type 0) (xs : List L) (f : Form) → ListForm has xs f → MarksOn f (Terminal End) → not (length xs == 0) ≡ is_marked f
 all_are_marked has [] f form h = sym (ap is_marked form)
-all_are_marked has (x ∷ xs) (Over k o i) form h = ap not (eqb-suc-zero (length xs)) ∙ sym h
+all_are_marked has (x ∷ xs) (Parts k o i) form h = ap not (eqb-suc-zero (length xs)) ∙ sym h
 all_are_marked has (x ∷ xs) (Leaf still a) form h = absurd form
 all_are_marked has (x ∷ xs) (Filtered n a f) form h = absurd form
-all_are_marked has (x ∷ xs) (Bare v) form h = absurd form
+all_are_marked has (x ∷ xs) (Terminal v) form h = absurd form
 
 -- a member of the whole is absent where one of those is that are left
 abbrev pub AbsentOn : Form → Form → Type 0
 AbsentOn f r = is_absent f ≡ is_absent r
 
-pub one_there : (f o r : Form) → false ≡ is_absent o → AbsentOn f (Over InList o r) → AbsentOn f r
+pub one_there : (f o r : Form) → false ≡ is_absent o → AbsentOn f (Parts InList o r) → AbsentOn f r
 one_there f o r a h = h ∙ sym (ap (λ t. t || is_absent r) a)

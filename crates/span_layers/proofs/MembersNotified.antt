@@ -6,9 +6,9 @@ use Rattle.span_core.specs.declared.filter.FilterId.{FilterId}
 use Rattle.span_layers.specs.Layer.{LayerSteps, LeavesAlone, Notified}
 use Rattle.span_layers.specs.Members.{ListSteps}
 use Rattle.span_registry.proofs.CallerLemmas.{same_further, same_itself}
-use Rattle.span_registry.specs.Answers.{Notice}
+use Rattle.span_registry.specs.Behaviour.{Notice}
 use Rattle.span_registry.specs.Context.{HandsOn, SameLoan, WritesExtensions, filters_lent, lane_lent, refused_lent, subscriber_lent}
-use Rattle.span_registry.specs.Form.{Bare, End, Form, InList, IsStill, Over}
+use Rattle.span_registry.specs.Form.{Terminal, End, Form, InList, WritesOnlyExtensions, Parts}
 use Rattle.span_registry.specs.Plan.{Plan, by_pass}
 use Rattle.span_registry.specs.Store.{RegistryState}
 use Rattle.span_registry.specs.declared.context.ContextMut.{ContextMut}
@@ -50,7 +50,7 @@ module _ {S : Type 0} (registry : S → RegistryState) where
 
       -- what is left goes on from here, and then the whole has gone on; hooks of members wrote extensions alone where the form says so
       pub record GoesOn (c : ContextMut S) (done rest : List L) (f r : Form) : Type 0 where
-        pub alone : IsStill f → WritesExtensions registry with_registry b c × IsStill r
+        pub alone : WritesOnlyExtensions f → WritesExtensions registry with_registry b c × WritesOnlyExtensions r
         pub steps : (ys : List L) (w : RegistryState) → Goes rest (plan r) (registry (subscriber_lent c)) ys w → Goes all (plan f) (registry (subscriber_lent b)) (done ++ ys) w
 
       -- nobody was notified yet
@@ -59,7 +59,7 @@ module _ {S : Type 0} (registry : S → RegistryState) where
 
       -- one member more was
       pub one_notified : ((s : S) (v w : RegistryState) → with_registry (with_registry s v) w ≡ with_registry s w) → (c d : ContextMut S) (done rest : List L) (x y : L) (f o r : Form) → has x o → HandsOn registry b c → HandsOn registry c d
-          → LeavesAlone registry with_registry has x c d → Notified registry has stepped e x c y d → GoesOn c done (x ∷ rest) f (Over InList o r) → GoesOn d (done ++ y ∷ []) rest f r
+          → LeavesAlone registry with_registry has x c d → Notified registry has stepped e x c y d → GoesOn c done (x ∷ rest) f (Parts InList o r) → GoesOn d (done ++ y ∷ []) rest f r
       one_notified with_twice c d done rest x y f o r form before now alone hook h =
           let under : filters_lent c ≡ filters_lent b = ap (λ (mask : FilterId). has_filter mask) before.loan.mask in
           record {
@@ -76,5 +76,5 @@ module _ {S : Type 0} (registry : S → RegistryState) where
           }
 
       -- all were
-      pub all_notified : (c : ContextMut S) (done : List L) (f : Form) → GoesOn c done [] f (Bare End) → Goes all (plan f) (registry (subscriber_lent b)) done (registry (subscriber_lent c))
+      pub all_notified : (c : ContextMut S) (done : List L) (f : Form) → GoesOn c done [] f (Terminal End) → Goes all (plan f) (registry (subscriber_lent b)) done (registry (subscriber_lent c))
       all_notified c done f h = subst (λ l. Goes all (plan f) (registry (subscriber_lent b)) l (registry (subscriber_lent c))) (append-nil done) (h.steps [] (registry (subscriber_lent c)) refl)

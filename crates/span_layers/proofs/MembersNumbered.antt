@@ -2,7 +2,7 @@
 use Rattle.std.proofs.Common.{◌≡◌, ℕ, List, [], ◌∷◌, ◌++◌, append-nil, append_assoc, refl, sym, ap, subst, ◌∙◌}
 use Rattle.span_layers.specs.Members.{ListForm}
 use Rattle.span_layers.specs.Number.{numbered}
-use Rattle.span_registry.specs.Form.{Bare, End, Form, InList, Over}
+use Rattle.span_registry.specs.Form.{Terminal, End, Form, InList, Parts}
 use Rattle.span_registry.specs.Store.{RegistryState}
 
 module _ {L : Type 0} (has : L → Form → Type 0) (first now : ℕ) where
@@ -17,14 +17,14 @@ module _ {L : Type 0} (has : L → Form → Type 0) (first : ℕ) where
   none_numbered f = record { form = λ rest h. h; next = refl }
 
   -- one member more took its numbers
-  pub one_numbered : (now then : ℕ) (done : List L) (y : L) (f o r : Form) → has y (numbered o now).0 → then ≡ (numbered o now).1 → TakesOn has first now done f (Over InList o r) → TakesOn has first then (done ++ y ∷ []) f r
+  pub one_numbered : (now then : ℕ) (done : List L) (y : L) (f o r : Form) → has y (numbered o now).0 → then ≡ (numbered o now).1 → TakesOn has first now done f (Parts InList o r) → TakesOn has first then (done ++ y ∷ []) f r
   one_numbered now then done y f o r form next h = record {
     form = λ rest k. subst (λ l. ListForm has l (numbered f first).0) (sym (append_assoc done (y ∷ []) rest)) (h.form (y ∷ rest) (refl, form, subst (λ n. ListForm has rest (numbered r n).0) next k));
     next = h.next ∙ ap (λ n. (numbered r n).1) (sym next);
   }
 
   -- all did
-  pub all_numbered : (now : ℕ) (done : List L) (f : Form) → TakesOn has first now done f (Bare End) → ListForm has done (numbered f first).0
+  pub all_numbered : (now : ℕ) (done : List L) (f : Form) → TakesOn has first now done f (Terminal End) → ListForm has done (numbered f first).0
   all_numbered now done f h = subst (λ l. ListForm has l (numbered f first).0) (append-nil done) (h.form [] refl)
 
 -- ---- a subscriber of which only the number of its filters is another

@@ -1,13 +1,13 @@
 -- Filters that took the next numbers have their own.
 use Rattle.std.proofs.Common.{◌≡◌, ℕ, ◌+◌, ◌<◌, ◌≤◌, nat_lt, Bool, true, false, ◌||◌, ◌==◌, Option, Some, refl, sym, ap, subst, arith}
 use Rattle.std.specs.Prelude.{if◌then◌else◌}
-use Rattle.span_registry.specs.Answers.{Answers}
+use Rattle.span_registry.specs.Behaviour.{Behaviour}
 use Rattle.std.proofs.lemmas.Bool.Decides.{nat_tests}
 use Rattle.std.proofs.lemmas.Bool.{eqb-true, false_from_ne_true, false≢true}
 use Rattle.span_core.specs.declared.filter.TheConstants.FilterId.{LIMIT}
 use Rattle.span_layers.specs.Number.{filters_in, numbered}
 use Rattle.span_layers.specs.Verdict.{AreDistinct, NumbersAreOwn, numbers_of}
-use Rattle.span_registry.specs.Form.{Bare, Filtered, Form, Leaf, Over}
+use Rattle.span_registry.specs.Form.{Terminal, Filtered, Form, Leaf, Parts}
 
 -- the numbers from n on, below this one
 record IsWithin (f : Form) (n next : ℕ) : Type 0 where
@@ -29,7 +29,7 @@ record Became (r : Form × ℕ) (f : Form) (n : ℕ) : Type 0 where
 abbrev Took : Form → ℕ → Type 0
 Took f n = Became (numbered f n) f n
 
-numbered_filter : (m : Option ℕ) (a : Answers) (f : Form) (n : ℕ) → nat_lt n LIMIT ≡ true → (Filtered (Some n) a (numbered f (n + 1)).0, (numbered f (n + 1)).1) ≡ numbered (Filtered m a f) n
+numbered_filter : (m : Option ℕ) (a : Behaviour) (f : Form) (n : ℕ) → nat_lt n LIMIT ≡ true → (Filtered (Some n) a (numbered f (n + 1)).0, (numbered f (n + 1)).1) ≡ numbered (Filtered m a f) n
 numbered_filter m a f n h = ap (λ b. if b then (Filtered (Some n) a (numbered f (n + 1)).0, (numbered f (n + 1)).1) else (Filtered m a (numbered f n).0, (numbered f n).1)) (sym h)
 
 apart : (o i : Form) (n m k : ℕ) → IsWithin o n m → IsWithin i m k → (j : ℕ) → numbers_of o j ≡ true → numbers_of i j ≡ false
@@ -37,7 +37,7 @@ apart o i n m k a b j h = false_from_ne_true (numbers_of i j) (λ g. let x = (a.
 
 took : (f : Form) (n : ℕ) → n + filters_in f ≤ LIMIT → Took f n
 took (Leaf still a) n h = record { next = omega (arith); within = record { distinct = tt; bounds = λ k g. absurd (false≢true g) } }
-took (Bare v) n h = record { next = omega (arith); within = record { distinct = tt; bounds = λ k g. absurd (false≢true g) } }
+took (Terminal v) n h = record { next = omega (arith); within = record { distinct = tt; bounds = λ k g. absurd (false≢true g) } }
 took (Filtered m a f) n h =
     let inside : Took f (n + 1) = took f (n + 1) (omega (arith, h)) in
     subst (λ r. Became r (Filtered m a f) n) (numbered_filter m a f n (has_room n (omega (arith, h)))) (record {
@@ -49,7 +49,7 @@ took (Filtered m a f) n h =
             (λ e. let x = (inside.within.bounds k e).0 in let y = (inside.within.bounds k e).1 in (omega (arith, x), omega (arith, y))) g;
       };
     })
-took (Over j o i) n h =
+took (Parts j o i) n h =
     let first : Took o n = took o n (omega (arith, h)) in
     let second : Took i (numbered o n).1 = took i (numbered o n).1 (let e = first.next in omega (arith, e, h)) in
     let e = first.next in

@@ -11,11 +11,11 @@ use Rattle.span_core.specs.declared.metadata.Metadata.{Metadata}
 use Rattle.span_core.specs.declared.span.Attributes.{Attributes}
 use Rattle.span_core.specs.declared.span.Id.{Id}
 use Rattle.span_registry.specs.Path.{Path, passes_path, path_at}
-use Rattle.span_layers.specs.Verdict.{AreDistinct, EventIsFresh, IsOrderly, IsQuiet, NewSpanIsFresh, NotifiesWhosePathPasses, OthersAreFresh, in_verdict, numbers_of, vetoes, vetoes_event}
-use Rattle.span_registry.specs.Answers.{Answers, Notice, OnClose, OnEnter, OnEvent, OnExit, OnFollows, OnIdChange, OnNewSpan, OnRecord}
-use Rattle.span_registry.specs.Form.{Bare, Filtered, Form, InList, InPair, Joint, Leaf, OnSubscriber, Over}
+use Rattle.span_layers.specs.Verdict.{AreDistinct, EventIsFresh, IsOrderly, LeavesRefuseNothing, NewSpanIsFresh, NotifiesWhosePathPasses, OthersAreFresh, in_verdict, numbers_of, vetoes, vetoes_event}
+use Rattle.span_registry.specs.Behaviour.{Behaviour, Notice, OnClose, OnEnter, OnEvent, OnExit, OnFollows, OnIdChange, OnNewSpan, OnRecord}
+use Rattle.span_registry.specs.Form.{Terminal, Filtered, Form, InList, InPair, Arrangement, Leaf, OnSubscriber, Parts}
 use Rattle.span_registry.specs.Hooks.{no_filter}
-use Rattle.span_registry.specs.Place.{Here, Inner, Outer, Place, Under, is_notified}
+use Rattle.span_registry.specs.Position.{Here, Inner, Outer, Position, Under, is_notified}
 use Rattle.span_registry.specs.Plan.{Both, Itself, Nobody, Plan, Through, asked_afresh, by_pass, lets_by, passes}
 use Rattle.span_registry.specs.Question.{answered, asked, event_asked, single}
 use Rattle.span_registry.specs.Store.{Spans, Store}
@@ -24,51 +24,51 @@ use Rattle.span_registry.specs.View.{view_of}
 -- who is notified of a new span or an event, as a pass says
 abbrev pub pass_plan : Form → FilterSet → Plan
 pass_plan (Leaf still a) p = Itself
-pass_plan (Bare z) p = Nobody
+pass_plan (Terminal z) p = Nobody
 pass_plan (Filtered None a f) p = Nobody
 pass_plan (Filtered (Some n) a f) p = if not (p n) then Through (pass_plan f p) else Nobody
-pass_plan (Over j o i) p = Both (pass_plan o p) (pass_plan i p)
+pass_plan (Parts j o i) p = Both (pass_plan o p) (pass_plan i p)
 
 -- who is notified where each filter is asked of the metadata alone
 abbrev pub metadata_plan : Form → Metadata → Store → ℕ → FilterSet → Plan
 metadata_plan (Leaf still a) e s l m = Itself
-metadata_plan (Bare z) e s l m = Nobody
+metadata_plan (Terminal z) e s l m = Nobody
 metadata_plan (Filtered None a f) e s l m = Nobody
 metadata_plan (Filtered (Some n) a f) e s l m = if a.enabled e (view_of s l (union m (single n))) then Through (metadata_plan f e s l (union m (single n))) else Nobody
-metadata_plan (Over j o i) e s l m = Both (metadata_plan o e s l m) (metadata_plan i e s l m)
+metadata_plan (Parts j o i) e s l m = Both (metadata_plan o e s l m) (metadata_plan i e s l m)
 
 -- ---- the plans of a new span and of an event
 
 pub new_by_pass : (f : Form) (t : Attributes) (x : Id) (v : Spans) (m p : FilterSet) → by_pass f (OnNewSpan t x) v m p ≡ pass_plan f p
 new_by_pass (Leaf still a) t x v m p = refl
-new_by_pass (Bare z) t x v m p = refl
+new_by_pass (Terminal z) t x v m p = refl
 new_by_pass (Filtered None a f) t x v m p = refl
 new_by_pass (Filtered (Some n) a f) t x v m p = ap (λ (q : Plan). if not (p n) then Through q else Nobody) (new_by_pass f t x v (union m (single n)) p)
-new_by_pass (Over j o i) t x v m p = λ k. Both (new_by_pass o t x v m p k) (new_by_pass i t x v m p k)
+new_by_pass (Parts j o i) t x v m p = λ k. Both (new_by_pass o t x v m p k) (new_by_pass i t x v m p k)
 
 pub event_by_pass : (f : Form) (e : Event) (v : Spans) (m p : FilterSet) → by_pass f (OnEvent e) v m p ≡ pass_plan f p
 event_by_pass (Leaf still a) e v m p = refl
-event_by_pass (Bare z) e v m p = refl
+event_by_pass (Terminal z) e v m p = refl
 event_by_pass (Filtered None a f) e v m p = refl
 event_by_pass (Filtered (Some n) a f) e v m p = ap (λ (q : Plan). if not (p n) then Through q else Nobody) (event_by_pass f e v (union m (single n)) p)
-event_by_pass (Over j o i) e v m p = λ k. Both (event_by_pass o e v m p k) (event_by_pass i e v m p k)
+event_by_pass (Parts j o i) e v m p = λ k. Both (event_by_pass o e v m p k) (event_by_pass i e v m p k)
 
 pub new_afresh : (f : Form) (t : Attributes) (x : Id) (s : Store) (l : ℕ) (m : FilterSet) → asked_afresh f (OnNewSpan t x) s l m ≡ metadata_plan f (metadata_of t) s l m
 new_afresh (Leaf still a) t x s l m = refl
-new_afresh (Bare z) t x s l m = refl
+new_afresh (Terminal z) t x s l m = refl
 new_afresh (Filtered None a f) t x s l m = refl
 new_afresh (Filtered (Some n) a f) t x s l m = ap (λ (q : Plan). if a.enabled (metadata_of t) (view_of s l (union m (single n))) then Through q else Nobody) (new_afresh f t x s l (union m (single n)))
-new_afresh (Over j o i) t x s l m = λ k. Both (new_afresh o t x s l m k) (new_afresh i t x s l m k)
+new_afresh (Parts j o i) t x s l m = λ k. Both (new_afresh o t x s l m k) (new_afresh i t x s l m k)
 
 -- ---- the plans of all else
 
 -- where verdicts alone decide, a pass makes no difference
-by_verdicts : (f : Form) (e : Notice) (s : Store) (l : ℕ) (m p : FilterSet) → ((n : ℕ) (a : Answers) (set : FilterSet) → lets_by n e s.spans set p ≡ passes a e s l set) → by_pass f e s.spans m p ≡ asked_afresh f e s l m
+by_verdicts : (f : Form) (e : Notice) (s : Store) (l : ℕ) (m p : FilterSet) → ((n : ℕ) (a : Behaviour) (set : FilterSet) → lets_by n e s.spans set p ≡ passes a e s l set) → by_pass f e s.spans m p ≡ asked_afresh f e s l m
 by_verdicts (Leaf still a) e s l m p h = refl
-by_verdicts (Bare z) e s l m p h = refl
+by_verdicts (Terminal z) e s l m p h = refl
 by_verdicts (Filtered None a f) e s l m p h = refl
 by_verdicts (Filtered (Some n) a f) e s l m p h = λ k. if h n a (union m (single n)) k then Through (by_verdicts f e s l (union m (single n)) p h k) else Nobody
-by_verdicts (Over j o i) e s l m p h = λ k. Both (by_verdicts o e s l m p h k) (by_verdicts i e s l m p h k)
+by_verdicts (Parts j o i) e s l m p h = λ k. Both (by_verdicts o e s l m p h k) (by_verdicts i e s l m p h k)
 
 pub others_afresh : (f : Form) (e : Notice) (s : Store) (l : ℕ) (m p : FilterSet) → OthersAreFresh f s l m p e
 others_afresh f (OnNewSpan t x) s l m p = tt
@@ -98,7 +98,7 @@ still_clean p n k h = by_test (k == n)
 -- a question leaves the numbers of other parts alone
 pub frame : (f : Form) (e : Metadata) (s : Store) (l : ℕ) (m p : FilterSet) (k : ℕ) → numbers_of f k ≡ false → (asked f e s l m p).1 k ≡ p k
 frame (Leaf still a) e s l m p k h = refl
-frame (Bare z) e s l m p k h = refl
+frame (Terminal z) e s l m p k h = refl
 frame (Filtered None a f) e s l m p k h = refl
 frame (Filtered (Some n) a f) e s l m p k h =
     let parts : ((k == n) ≡ false) × (numbers_of f k ≡ false) = or_parts _ _ h in
@@ -106,7 +106,7 @@ frame (Filtered (Some n) a f) e s l m p k h =
       | true ↦ frame f e s l (union m (single n)) (answered p (single n) true) k parts.1 ∙ at_other p n k true parts.0
       | false ↦ at_other p n k false parts.0
     ]
-frame (Over j o i) e s l m p k h =
+frame (Parts j o i) e s l m p k h =
     let parts : (numbers_of o k ≡ false) × (numbers_of i k ≡ false) = or_parts _ _ h in
     elim ((asked o e s l m p).0) as (λ b. (if b then asked i e s l m (asked o e s l m p).1 else asked o e s l m p).1 k ≡ p k) [
       | true ↦ frame i e s l m (asked o e s l m p).1 k parts.1 ∙ frame o e s l m p k parts.0
@@ -115,7 +115,7 @@ frame (Over j o i) e s l m p k h =
 
 pub event_frame : (f : Form) (e : Event) (s : Store) (l : ℕ) (m p : FilterSet) (k : ℕ) → numbers_of f k ≡ false → (event_asked f e s l m p).1 k ≡ p k
 event_frame (Leaf still a) e s l m p k h = refl
-event_frame (Bare z) e s l m p k h = refl
+event_frame (Terminal z) e s l m p k h = refl
 event_frame (Filtered None a f) e s l m p k h = refl
 event_frame (Filtered (Some n) a f) e s l m p k h =
     let parts : ((k == n) ≡ false) × (numbers_of f k ≡ false) = or_parts _ _ h in
@@ -126,7 +126,7 @@ event_frame (Filtered (Some n) a f) e s l m p k h =
         | false ↦ at_other p n k false parts.0
       ]
     ]
-event_frame (Over j o i) e s l m p k h =
+event_frame (Parts j o i) e s l m p k h =
     let parts : (numbers_of o k ≡ false) × (numbers_of i k ≡ false) = or_parts _ _ h in
     elim ((event_asked o e s l m p).0) as (λ b. (if b then event_asked i e s l m (event_asked o e s l m p).1 else event_asked o e s l m p).1 k ≡ p k) [
       | true ↦ event_frame i e s l m (event_asked o e s l m p).1 k parts.1 ∙ event_frame o e s l m p k parts.0
@@ -136,13 +136,13 @@ event_frame (Over j o i) e s l m p k h =
 -- hooks look at the pass only at the numbers of their own part
 pub local : (f : Form) (p q : FilterSet) → ((k : ℕ) → numbers_of f k ≡ true → p k ≡ q k) → pass_plan f p ≡ pass_plan f q
 local (Leaf still a) p q h = refl
-local (Bare z) p q h = refl
+local (Terminal z) p q h = refl
 local (Filtered None a f) p q h = refl
 local (Filtered (Some n) a f) p q h =
     let rest : pass_plan f p ≡ pass_plan f q = local f p q (λ k g. h k (or_right (k == n) (numbers_of f k) g)) in
     let own : p n ≡ q n = h n (or_left (n == n) (numbers_of f n) (eq-eqb n n refl)) in
     λ i. if not (own i) then Through (rest i) else Nobody
-local (Over j o i) p q h =
+local (Parts j o i) p q h =
     let first : pass_plan o p ≡ pass_plan o q = local o p q (λ k g. h k (or_left (numbers_of o k) (numbers_of i k) g)) in
     let second : pass_plan i p ≡ pass_plan i q = local i p q (λ k g. h k (or_right (numbers_of o k) (numbers_of i k) g)) in
     λ k. Both (first k) (second k)
@@ -154,7 +154,7 @@ apart o i k h g = false_from_ne_true (numbers_of o k) (λ x. both_ways (numbers_
 pub answers_meta : (f : Form) (e : Metadata) (s : Store) (l : ℕ) (m p : FilterSet) → AreDistinct f → ((k : ℕ) → numbers_of f k ≡ true → p k ≡ false) → (asked f e s l m p).0 ≡ true
     → pass_plan f (asked f e s l m p).1 ≡ metadata_plan f e s l m
 answers_meta (Leaf still a) e s l m p d h ok = refl
-answers_meta (Bare z) e s l m p d h ok = refl
+answers_meta (Terminal z) e s l m p d h ok = refl
 answers_meta (Filtered None a f) e s l m p d h ok = refl
 answers_meta (Filtered (Some n) a f) e s l m p d h ok =
     ⊎_elim
@@ -168,7 +168,7 @@ answers_meta (Filtered (Some n) a f) e s l m p d h ok =
     let held : answered p (single n) false n ≡ true = at_own p n false in
     rw (refuses, held) refl)
     (cases_Bool (a.enabled e (view_of s l (union m (single n)))))
-answers_meta (Over j o i) e s l m p d h ok =
+answers_meta (Parts j o i) e s l m p d h ok =
     ⊎_elim
     (λ (go : (asked o e s l m p).0 ≡ true).
     let all : (asked i e s l m (asked o e s l m p).1).0 ≡ true = rw go at ok in
@@ -193,7 +193,7 @@ both_right p q r t e = cc
 pub answers_event : (f : Form) (e : Event) (s : Store) (l : ℕ) (m p : FilterSet) → AreDistinct f → pass_plan f p ≡ metadata_plan f (event_metadata e) s l m → (event_asked f e s l m p).0 ≡ true
     → pass_plan f (event_asked f e s l m p).1 ≡ asked_afresh f (OnEvent e) s l m
 answers_event (Leaf still a) e s l m p d h ok = refl
-answers_event (Bare z) e s l m p d h ok = refl
+answers_event (Terminal z) e s l m p d h ok = refl
 answers_event (Filtered None a f) e s l m p d h ok = refl
 answers_event (Filtered (Some n) a f) e s l m p d h ok =
     let held_own : answered p (single n) false n ≡ true = at_own p n false in
@@ -218,7 +218,7 @@ answers_event (Filtered (Some n) a f) e s l m p d h ok =
     (λ (free : p n ≡ false). let wrong : Through (pass_plan f p) ≡ Nobody = rw (free, refuses) at h in absurd (cc))
     (cases_Bool (p n)))
     (cases_Bool (a.enabled (event_metadata e) (view_of s l (union m (single n)))))
-answers_event (Over j o i) e s l m p d h ok =
+answers_event (Parts j o i) e s l m p d h ok =
     ⊎_elim
     (λ (go : (event_asked o e s l m p).0 ≡ true).
     let all : (event_asked i e s l m (event_asked o e s l m p).1).0 ≡ true = rw go at ok in
@@ -233,27 +233,27 @@ answers_event (Over j o i) e s l m p d h ok =
 
 -- ---- who refuses for all
 
-quiet_asked : (f : Form) (e : Metadata) (s : Store) (l : ℕ) (m p : FilterSet) → IsQuiet f → (asked f e s l m p).0 ≡ true
+quiet_asked : (f : Form) (e : Metadata) (s : Store) (l : ℕ) (m p : FilterSet) → LeavesRefuseNothing f → (asked f e s l m p).0 ≡ true
 quiet_asked (Leaf still a) e s l m p q = q.enabled e (view_of s l m)
-quiet_asked (Bare z) e s l m p q = refl
+quiet_asked (Terminal z) e s l m p q = refl
 quiet_asked (Filtered None a f) e s l m p q = refl
 quiet_asked (Filtered (Some n) a f) e s l m p q =
     elim (a.enabled e (view_of s l (union m (single n)))) as (λ b. (if b then asked f e s l (union m (single n)) (answered p (single n) true) else (true, answered p (single n) false)).0 ≡ true) [
       | true ↦ quiet_asked f e s l (union m (single n)) (answered p (single n) true) q
       | false ↦ refl
     ]
-quiet_asked (Over j o i) e s l m p q = rw (quiet_asked o e s l m p q.0) (quiet_asked i e s l m (asked o e s l m p).1 q.1)
+quiet_asked (Parts j o i) e s l m p q = rw (quiet_asked o e s l m p q.0) (quiet_asked i e s l m (asked o e s l m p).1 q.1)
 
 -- where no leaf refuses, none vetoes
-pub quiet_veto : (f : Form) (e : Metadata) (s : Store) (l : ℕ) → IsQuiet f → vetoes f e s l ≡ false
+pub quiet_veto : (f : Form) (e : Metadata) (s : Store) (l : ℕ) → LeavesRefuseNothing f → vetoes f e s l ≡ false
 quiet_veto (Leaf still a) e s l q = ap not (q.enabled e (view_of s l no_filter))
-quiet_veto (Bare z) e s l q = refl
+quiet_veto (Terminal z) e s l q = refl
 quiet_veto (Filtered n a f) e s l q = refl
-quiet_veto (Over j o i) e s l q = rw (quiet_veto o e s l q.0) (quiet_veto i e s l q.1)
+quiet_veto (Parts j o i) e s l q = rw (quiet_veto o e s l q.0) (quiet_veto i e s l q.1)
 
 -- the outer part's answer, and then the inner one's
-asked_over : (j : Joint) (o i : Form) (e : Metadata) (s : Store) (l : ℕ) (p : FilterSet) → (asked o e s l no_filter p).0 ≡ not (vetoes o e s l) → ((q : FilterSet) → (asked i e s l no_filter q).0 ≡ not (vetoes i e s l))
-    → (asked (Over j o i) e s l no_filter p).0 ≡ not (vetoes (Over j o i) e s l)
+asked_over : (j : Arrangement) (o i : Form) (e : Metadata) (s : Store) (l : ℕ) (p : FilterSet) → (asked o e s l no_filter p).0 ≡ not (vetoes o e s l) → ((q : FilterSet) → (asked i e s l no_filter q).0 ≡ not (vetoes i e s l))
+    → (asked (Parts j o i) e s l no_filter p).0 ≡ not (vetoes (Parts j o i) e s l)
 asked_over j o i e s l p first second =
     ⊎_elim
     (λ (r : vetoes o e s l ≡ true). let stop : (asked o e s l no_filter p).0 ≡ false = first ∙ ap not r in rw (stop, r) refl)
@@ -262,15 +262,15 @@ asked_over j o i e s l p first second =
 
 pub asked_unless_vetoed : (f : Form) (e : Metadata) (s : Store) (l : ℕ) (p : FilterSet) → IsOrderly f → (asked f e s l no_filter p).0 ≡ not (vetoes f e s l)
 asked_unless_vetoed (Leaf still a) e s l p q = elim (a.enabled e (view_of s l no_filter)) as (λ b. b ≡ not (not b)) [ true ↦ refl | false ↦ refl ]
-asked_unless_vetoed (Bare z) e s l p q = refl
+asked_unless_vetoed (Terminal z) e s l p q = refl
 asked_unless_vetoed (Filtered n a f) e s l p q = quiet_asked (Filtered n a f) e s l no_filter p q
-asked_unless_vetoed (Over OnSubscriber o i) e s l p q = asked_over OnSubscriber o i e s l p (asked_unless_vetoed o e s l p q.0) (λ r. asked_unless_vetoed i e s l r q.1)
-asked_unless_vetoed (Over InPair o i) e s l p q = asked_over InPair o i e s l p (asked_unless_vetoed o e s l p q.0) (λ r. asked_unless_vetoed i e s l r q.1)
-asked_unless_vetoed (Over InList o i) e s l p q = quiet_asked (Over InList o i) e s l no_filter p q ∙ sym (ap not (quiet_veto (Over InList o i) e s l q))
+asked_unless_vetoed (Parts OnSubscriber o i) e s l p q = asked_over OnSubscriber o i e s l p (asked_unless_vetoed o e s l p q.0) (λ r. asked_unless_vetoed i e s l r q.1)
+asked_unless_vetoed (Parts InPair o i) e s l p q = asked_over InPair o i e s l p (asked_unless_vetoed o e s l p q.0) (λ r. asked_unless_vetoed i e s l r q.1)
+asked_unless_vetoed (Parts InList o i) e s l p q = quiet_asked (Parts InList o i) e s l no_filter p q ∙ sym (ap not (quiet_veto (Parts InList o i) e s l q))
 
-quiet_event : (f : Form) (e : Event) (s : Store) (l : ℕ) (m p : FilterSet) → IsQuiet f → (event_asked f e s l m p).0 ≡ true
+quiet_event : (f : Form) (e : Event) (s : Store) (l : ℕ) (m p : FilterSet) → LeavesRefuseNothing f → (event_asked f e s l m p).0 ≡ true
 quiet_event (Leaf still a) e s l m p q = q.event e (view_of s l m)
-quiet_event (Bare z) e s l m p q = refl
+quiet_event (Terminal z) e s l m p q = refl
 quiet_event (Filtered None a f) e s l m p q = refl
 quiet_event (Filtered (Some n) a f) e s l m p q =
     elim (p n) as (λ c. (if c then (true, p) else (if a.event e (view_of s l (union m (single n))) then event_asked f e s l (union m (single n)) (answered p (single n) true) else (true, answered p (single n) false))).0 ≡ true) [
@@ -280,16 +280,16 @@ quiet_event (Filtered (Some n) a f) e s l m p q =
         | false ↦ refl
       ]
     ]
-quiet_event (Over j o i) e s l m p q = rw (quiet_event o e s l m p q.0) (quiet_event i e s l m (event_asked o e s l m p).1 q.1)
+quiet_event (Parts j o i) e s l m p q = rw (quiet_event o e s l m p q.0) (quiet_event i e s l m (event_asked o e s l m p).1 q.1)
 
-quiet_event_veto : (f : Form) (e : Event) (s : Store) (l : ℕ) → IsQuiet f → vetoes_event f e s l ≡ false
+quiet_event_veto : (f : Form) (e : Event) (s : Store) (l : ℕ) → LeavesRefuseNothing f → vetoes_event f e s l ≡ false
 quiet_event_veto (Leaf still a) e s l q = ap not (q.event e (view_of s l no_filter))
-quiet_event_veto (Bare z) e s l q = refl
+quiet_event_veto (Terminal z) e s l q = refl
 quiet_event_veto (Filtered n a f) e s l q = refl
-quiet_event_veto (Over j o i) e s l q = rw (quiet_event_veto o e s l q.0) (quiet_event_veto i e s l q.1)
+quiet_event_veto (Parts j o i) e s l q = rw (quiet_event_veto o e s l q.0) (quiet_event_veto i e s l q.1)
 
-event_over : (j : Joint) (o i : Form) (e : Event) (s : Store) (l : ℕ) (p : FilterSet) → (event_asked o e s l no_filter p).0 ≡ not (vetoes_event o e s l) → ((q : FilterSet) → (event_asked i e s l no_filter q).0 ≡ not (vetoes_event i e s l))
-    → (event_asked (Over j o i) e s l no_filter p).0 ≡ not (vetoes_event (Over j o i) e s l)
+event_over : (j : Arrangement) (o i : Form) (e : Event) (s : Store) (l : ℕ) (p : FilterSet) → (event_asked o e s l no_filter p).0 ≡ not (vetoes_event o e s l) → ((q : FilterSet) → (event_asked i e s l no_filter q).0 ≡ not (vetoes_event i e s l))
+    → (event_asked (Parts j o i) e s l no_filter p).0 ≡ not (vetoes_event (Parts j o i) e s l)
 event_over j o i e s l p first second =
     ⊎_elim
     (λ (r : vetoes_event o e s l ≡ true). let stop : (event_asked o e s l no_filter p).0 ≡ false = first ∙ ap not r in rw (stop, r) refl)
@@ -298,11 +298,11 @@ event_over j o i e s l p first second =
 
 pub event_unless_vetoed : (f : Form) (e : Event) (s : Store) (l : ℕ) (p : FilterSet) → IsOrderly f → (event_asked f e s l no_filter p).0 ≡ not (vetoes_event f e s l)
 event_unless_vetoed (Leaf still a) e s l p q = elim (a.event e (view_of s l no_filter)) as (λ b. b ≡ not (not b)) [ true ↦ refl | false ↦ refl ]
-event_unless_vetoed (Bare z) e s l p q = refl
+event_unless_vetoed (Terminal z) e s l p q = refl
 event_unless_vetoed (Filtered n a f) e s l p q = quiet_event (Filtered n a f) e s l no_filter p q
-event_unless_vetoed (Over OnSubscriber o i) e s l p q = event_over OnSubscriber o i e s l p (event_unless_vetoed o e s l p q.0) (λ r. event_unless_vetoed i e s l r q.1)
-event_unless_vetoed (Over InPair o i) e s l p q = event_over InPair o i e s l p (event_unless_vetoed o e s l p q.0) (λ r. event_unless_vetoed i e s l r q.1)
-event_unless_vetoed (Over InList o i) e s l p q = quiet_event (Over InList o i) e s l no_filter p q ∙ sym (ap not (quiet_event_veto (Over InList o i) e s l q))
+event_unless_vetoed (Parts OnSubscriber o i) e s l p q = event_over OnSubscriber o i e s l p (event_unless_vetoed o e s l p q.0) (λ r. event_unless_vetoed i e s l r q.1)
+event_unless_vetoed (Parts InPair o i) e s l p q = event_over InPair o i e s l p (event_unless_vetoed o e s l p q.0) (λ r. event_unless_vetoed i e s l r q.1)
+event_unless_vetoed (Parts InList o i) e s l p q = quiet_event (Parts InList o i) e s l no_filter p q ∙ sym (ap not (quiet_event_veto (Parts InList o i) e s l q))
 
 -- ---- the verdict
 
@@ -318,7 +318,7 @@ or_nothing false = refl
 pub gains_verdict : (f : Form) (e : Metadata) (s : Store) (l : ℕ) (m p : FilterSet) (k : ℕ) → AreDistinct f → ((j : ℕ) → numbers_of f j ≡ true → p j ≡ false) → (asked f e s l m p).0 ≡ true
     → (asked f e s l m p).1 k ≡ p k || in_verdict f e s l m k
 gains_verdict (Leaf still a) e s l m p k d h ok = or_nothing (p k)
-gains_verdict (Bare z) e s l m p k d h ok = or_nothing (p k)
+gains_verdict (Terminal z) e s l m p k d h ok = or_nothing (p k)
 gains_verdict (Filtered None a f) e s l m p k d h ok = or_nothing (p k)
 gains_verdict (Filtered (Some n) a f) e s l m p k d h ok =
     let own : p n ≡ false = h n (or_left (n == n) (numbers_of f n) (eq-eqb n n refl)) in
@@ -340,7 +340,7 @@ gains_verdict (Filtered (Some n) a f) e s l m p k d h ok =
   where
     at_same : (b : Bool) (j : ℕ) → j ≡ n → answered p (single n) b j ≡ not b
     at_same b j q = ap (λ i. answered p (single n) b i) q ∙ at_own p n b
-gains_verdict (Over j o i) e s l m p k d h ok =
+gains_verdict (Parts j o i) e s l m p k d h ok =
     ⊎_elim
     (λ (go : (asked o e s l m p).0 ≡ true).
     let all : (asked i e s l m (asked o e s l m p).1).0 ≡ true = rw go at ok in
@@ -366,7 +366,7 @@ event_fresh f e s lane d first second spans =
     ∙ answers_event f e s lane no_filter (asked f (event_metadata e) s lane no_filter no_filter).1 d (answers_meta f (event_metadata e) s lane no_filter no_filter d (λ k h. refl) first) second
 
 -- a leaf under a filter is reached where the filter passes the notice, and the filters under that do
-under_filter : (n : Option ℕ) (a : Answers) (f : Form) (p : Place) (path : Path) (e : Notice) (s : Store) (lane : ℕ) (under : FilterSet) → path_at (Filtered n a f) (Under p) ≡ Some path
+under_filter : (n : Option ℕ) (a : Behaviour) (f : Form) (p : Position) (path : Path) (e : Notice) (s : Store) (lane : ℕ) (under : FilterSet) → path_at (Filtered n a f) (Under p) ≡ Some path
     → ((rest : Path) (below : FilterSet) → path_at f p ≡ Some rest → is_notified (asked_afresh f e s lane below) p ≡ passes_path rest e s lane below)
     → is_notified (asked_afresh (Filtered n a f) e s lane under) (Under p) ≡ passes_path path e s lane under
 under_filter n a f p path e s lane under h inside = beneath (path_at f p) refl h
@@ -387,7 +387,7 @@ under_filter n a f p path e s lane under h inside = beneath (path_at f p) refl h
     beneath None k g = absurd (cc)
 
 -- a leaf is reached through the filters of its path alone
-pub reached : (f : Form) (place : Place) (path : Path) (e : Notice) (s : Store) (lane : ℕ) (under : FilterSet) → NotifiesWhosePathPasses f place path e s lane under
+pub reached : (f : Form) (position : Position) (path : Path) (e : Notice) (s : Store) (lane : ℕ) (under : FilterSet) → NotifiesWhosePathPasses f position path e s lane under
 reached (Leaf still a) Here path e s lane under h = ap (λ (p : Path). passes_path p e s lane under) (inside h)
   where
     inside : Some [] ≡ Some path → [] ≡ path
@@ -395,7 +395,7 @@ reached (Leaf still a) Here path e s lane under h = ap (λ (p : Path). passes_pa
 reached (Leaf still a) (Under p) path e s lane under h = absurd (cc)
 reached (Leaf still a) (Outer p) path e s lane under h = absurd (cc)
 reached (Leaf still a) (Inner p) path e s lane under h = absurd (cc)
-reached (Bare z) p path e s lane under h = absurd (cc)
+reached (Terminal z) p path e s lane under h = absurd (cc)
 reached (Filtered None a f) Here path e s lane under h = ap (λ (p : Path). passes_path p e s lane under) (inside h)
   where
     inside : Some ((None, a) ∷ []) ≡ Some path → (None, a) ∷ [] ≡ path
@@ -413,7 +413,7 @@ reached (Filtered n a f) (Outer p) path e s lane under h = absurd (cc)
 reached (Filtered n a f) (Inner p) path e s lane under h = absurd (cc)
 reached (Filtered n a f) (Under p) path e s lane under h =
     under_filter n a f p path e s lane under h (λ rest below. reached f p rest e s lane below)
-reached (Over j o i) Here path e s lane under h = absurd (cc)
-reached (Over j o i) (Under p) path e s lane under h = absurd (cc)
-reached (Over j o i) (Outer p) path e s lane under h = reached o p path e s lane under h
-reached (Over j o i) (Inner p) path e s lane under h = reached i p path e s lane under h
+reached (Parts j o i) Here path e s lane under h = absurd (cc)
+reached (Parts j o i) (Under p) path e s lane under h = absurd (cc)
+reached (Parts j o i) (Outer p) path e s lane under h = reached o p path e s lane under h
+reached (Parts j o i) (Inner p) path e s lane under h = reached i p path e s lane under h

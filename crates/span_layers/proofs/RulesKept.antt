@@ -2,37 +2,38 @@
 use Rattle.std.proofs.Common.{◌≡◌, ℕ, Bool, ◌||◌, ◌==◌, Option, Some, None, refl, sym, ap, subst, ◌∙◌}
 use Rattle.std.specs.Prelude.{IsTrue}
 use Rattle.span_core.specs.Filters.{FilterSet}
-use Rattle.span_layers.specs.Honest.{HasHonestAnswers, HonestyIsKept, both_full, is_full, is_missing, is_stack, makes_stack}
-use Rattle.span_layers.specs.Verdict.{AreDistinct, IsOrderly, IsQuiet, numbers_of}
-use Rattle.span_registry.specs.Answers.{Answers, AreHonest}
-use Rattle.span_registry.specs.Follows.{AnswersKeep}
-use Rattle.span_registry.specs.Form.{Bare, Filtered, Form, InList, InPair, IsStill, Joint, Leaf, OnSubscriber, Over, Void, is_end}
+use Rattle.span_layers.proofs.Built.{honest_by, rules_of, is_stack, makes_stack}
+use Rattle.span_layers.specs.Honest.{HasHonestAnswers, HonestyIsKept, both_full, is_full, is_missing}
+use Rattle.span_layers.specs.Verdict.{AreDistinct, IsOrderly, LeavesRefuseNothing, numbers_of}
+use Rattle.span_registry.specs.Behaviour.{Behaviour, AreHonest}
+use Rattle.span_registry.specs.KeptForm.{AnswersKeep}
+use Rattle.span_registry.specs.Form.{Terminal, Filtered, Form, InList, InPair, WritesOnlyExtensions, Arrangement, Leaf, OnSubscriber, Parts, TerminalKind, is_end}
 use Rattle.span_registry.specs.Levels.{KeepsRules}
 
 -- what a form keeps where it is notified or levels are set, part by part
 data Ruled : Form → Form → Type 0 where
-  RuledLeaf : {still : Bool} {a b : Answers} → AnswersKeep a b → Ruled (Leaf still a) (Leaf still b)
-  RuledFiltered : {n : Option ℕ} {a b : Answers} {f g : Form} → (AreHonest a → AreHonest b) → Ruled f g → Ruled (Filtered n a f) (Filtered n b g)
-  RuledOver : {k : Joint} {o p i j : Form} → Ruled o p → Ruled i j → Ruled (Over k o i) (Over k p j)
-  RuledBare : {v : Void} → Ruled (Bare v) (Bare v)
+  RuledLeaf : {still : Bool} {a b : Behaviour} → AnswersKeep a b → Ruled (Leaf still a) (Leaf still b)
+  RuledFiltered : {n : Option ℕ} {a b : Behaviour} {f g : Form} → (AreHonest a → AreHonest b) → Ruled f g → Ruled (Filtered n a f) (Filtered n b g)
+  RuledOver : {k : Arrangement} {o p i j : Form} → Ruled o p → Ruled i j → Ruled (Parts k o i) (Parts k p j)
+  RuledBare : {v : TerminalKind} → Ruled (Terminal v) (Terminal v)
 
 ruled : (f g : Form) → KeepsRules f g → Ruled f g
 ruled (Leaf still a) (Leaf quiet b) h = subst (λ z. Ruled (Leaf still a) (Leaf z b)) (sym h.0) (RuledLeaf h.1)
 ruled (Filtered n a f) (Filtered m b g) h = subst (λ z. Ruled (Filtered n a f) (Filtered z b g)) (sym h.0) (RuledFiltered h.1 (ruled f g h.2))
-ruled (Over k o i) (Over l p j) h = subst (λ z. Ruled (Over k o i) (Over z p j)) (sym h.0) (RuledOver (ruled o p h.1) (ruled i j h.2))
-ruled (Bare v) (Bare w) h = subst (λ z. Ruled (Bare v) (Bare z)) (sym h) RuledBare
+ruled (Parts k o i) (Parts l p j) h = subst (λ z. Ruled (Parts k o i) (Parts z p j)) (sym h.0) (RuledOver (ruled o p h.1) (ruled i j h.2))
+ruled (Terminal v) (Terminal w) h = subst (λ z. Ruled (Terminal v) (Terminal z)) (sym h) RuledBare
 ruled (Leaf still a) (Filtered m b g) h = absurd h
-ruled (Leaf still a) (Over l p j) h = absurd h
-ruled (Leaf still a) (Bare w) h = absurd h
+ruled (Leaf still a) (Parts l p j) h = absurd h
+ruled (Leaf still a) (Terminal w) h = absurd h
 ruled (Filtered n a f) (Leaf quiet b) h = absurd h
-ruled (Filtered n a f) (Over l p j) h = absurd h
-ruled (Filtered n a f) (Bare w) h = absurd h
-ruled (Over k o i) (Leaf quiet b) h = absurd h
-ruled (Over k o i) (Filtered m b g) h = absurd h
-ruled (Over k o i) (Bare w) h = absurd h
-ruled (Bare v) (Leaf quiet b) h = absurd h
-ruled (Bare v) (Filtered m b g) h = absurd h
-ruled (Bare v) (Over l p j) h = absurd h
+ruled (Filtered n a f) (Parts l p j) h = absurd h
+ruled (Filtered n a f) (Terminal w) h = absurd h
+ruled (Parts k o i) (Leaf quiet b) h = absurd h
+ruled (Parts k o i) (Filtered m b g) h = absurd h
+ruled (Parts k o i) (Terminal w) h = absurd h
+ruled (Terminal v) (Leaf quiet b) h = absurd h
+ruled (Terminal v) (Filtered m b g) h = absurd h
+ruled (Terminal v) (Parts l p j) h = absurd h
 
 answers_kept : {f g : Form} → Ruled f g → HasHonestAnswers f → HasHonestAnswers g
 answers_kept (RuledLeaf k) h = k.honest h
@@ -55,7 +56,7 @@ distinct_kept (RuledOver k l) h =
     (distinct_kept k h.0, distinct_kept l h.1, λ n e. ap (λ (s : FilterSet). s n) (numbers_kept l) ∙ h.2 n (sym (ap (λ (s : FilterSet). s n) (numbers_kept k)) ∙ e))
 distinct_kept RuledBare h = tt
 
-quiet_kept : {f g : Form} → Ruled f g → IsQuiet f → IsQuiet g
+quiet_kept : {f g : Form} → Ruled f g → LeavesRefuseNothing f → LeavesRefuseNothing g
 quiet_kept (RuledLeaf k) h = k.quiet h
 quiet_kept (RuledFiltered own k) h = quiet_kept k h
 quiet_kept (RuledOver k l) h = (quiet_kept k h.0, quiet_kept l h.1)
@@ -69,7 +70,7 @@ orderly_kept (RuledOver {k = InPair} k l) h = (orderly_kept k h.0, orderly_kept 
 orderly_kept (RuledOver {k = InList} k l) h = (quiet_kept k h.0, quiet_kept l h.1)
 orderly_kept RuledBare h = tt
 
-still_kept : {f g : Form} → Ruled f g → IsStill f → IsStill g
+still_kept : {f g : Form} → Ruled f g → WritesOnlyExtensions f → WritesOnlyExtensions g
 still_kept (RuledLeaf k) h = h
 still_kept (RuledFiltered own k) h = still_kept k h
 still_kept (RuledOver k l) h = (still_kept k h.0, still_kept l h.1)
@@ -100,9 +101,10 @@ stack_kept (RuledOver {k = joint} k l) = λ i. makes_stack joint (missing_kept k
 stack_kept RuledBare = refl
 
 pub honesty_is_kept : HonestyIsKept
-honesty_is_kept f g filters h honest =
+honesty_is_kept f g filters h rules =
     let k : Ruled f g = ruled f g h in
-    record {
+    let honest = rules_of f filters rules in
+    honest_by g filters (record {
       answers = answers_kept k honest.answers;
       numbers = record {
         distinct = distinct_kept k honest.numbers.distinct;
@@ -111,4 +113,4 @@ honesty_is_kept f g filters h honest =
       orderly = orderly_kept k honest.orderly;
       still = still_kept k honest.still;
       stack = subst (λ b. IsTrue b) (sym (stack_kept k)) honest.stack;
-    }
+    })

@@ -10,15 +10,20 @@ use Rattle.span_registry.specs.Form.{Form}
 use Rattle.span_registry.specs.Store.{RegistryState}
 
 -- the layer stands on the subscriber, its filters took the next numbers, and there was room for all
-pub record Attaches {L S : Type 0} (registry : S → RegistryState) (with_registry : S → RegistryState → S) (inner_usable : S → Type 0) (usable : L → Type 0) (has_form : L → Form → Type 0) (attached : L → L → Type 0) (layer : L) (subscriber : S) (stack : Layered L S) : Type 0 where
-  pub numbers : TakesNumbers registry with_registry has_form layer subscriber (outer_of stack) (inner_of stack)
+pub record Attaches {L S : Type 0} (registry : S → RegistryState)
+    (with_registry : S → RegistryState → S) (inner_usable : S → Type 0) (usable : L → Type 0)
+    (has_form : L → Form → Type 0) (attached : L → L → Type 0) (layer : L) (subscriber : S)
+    (stack : Layered L S) : Type 0 where
+  pub numbers : TakesNumbers registry with_registry has_form layer subscriber (outer_of stack)
+      (inner_of stack)
   pub room : (f : Form) → has_form layer f → (registry subscriber).filters + filters_in f ≤ LIMIT
   pub layer_as_it_was : attached layer (outer_of stack)
   pub outer : usable (outer_of stack)
   pub inner : inner_usable (inner_of stack)
 
 -- there is no room for all the layer's filters: layer and subscriber come back as they were
-pub record IsHandedBack {L S : Type 0} (registry : S → RegistryState) (has_form : L → Form → Type 0) (layer : L) (subscriber : S) (back : Unattached L S) : Type 0 where
+pub record IsHandedBack {L S : Type 0} (registry : S → RegistryState) (has_form : L → Form → Type 0)
+    (layer : L) (subscriber : S) (back : Unattached L S) : Type 0 where
   pub same_layer : back.layer ≡ layer
   pub same_subscriber : back.subscriber ≡ subscriber
   pub error : back.error ≡ TooManyFilters

@@ -6,9 +6,9 @@ use Rattle.span_core.specs.declared.filter.TheConstants.FilterId.{LIMIT}
 use Rattle.span_filters.specs.Filter.{FilterSteps}
 use Rattle.span_layers.specs.Layer.{LayerSteps}
 use Rattle.span_layers.specs.declared.filtered.Filtered.{Filtered as FilteredLayer}
-use Rattle.span_registry.specs.Answers.{Answers, Notice, OnClose, OnEnter, OnEvent, OnExit, OnFollows, OnIdChange, OnNewSpan, OnRecord}
+use Rattle.span_registry.specs.Behaviour.{Behaviour, Notice, OnClose, OnEnter, OnEvent, OnExit, OnFollows, OnIdChange, OnNewSpan, OnRecord}
 use Rattle.span_registry.specs.Form.{Filtered, Form}
-use Rattle.span_registry.specs.Place.{HearSteps, Under}
+use Rattle.span_registry.specs.Position.{HearSteps, Under}
 use Rattle.span_registry.specs.Plan.{Nobody, Plan, Through}
 use Rattle.span_registry.specs.Question.{single}
 use Rattle.span_registry.specs.Store.{RegistryState}
@@ -35,7 +35,8 @@ abbrev pub with_filter : {L F : Type 0} → FilteredLayer L F → F → Filtered
 with_filter x f = record x { filter = f }
 
 -- it is this layer under this filter, which has no number
-pub record IsUnnumbered {L F : Type 0} (x : FilteredLayer L F) (layer : L) (filter : F) : Type 0 where
+pub record IsUnnumbered {L F : Type 0} (x : FilteredLayer L F) (layer : L) (filter : F) : Type
+    0 where
   pub inner : layer_of x ≡ layer
   pub own : filter_of x ≡ filter
   pub id : is_attached (id_of x) ≡ false
@@ -46,7 +47,7 @@ IsNumber id None = is_attached id ≡ false
 IsNumber id (Some n) = (is_attached id ≡ true) × (has_filter id ≡ single n) × (n < LIMIT)
 
 -- its form: its id's number, what its filter answers, and its layer's form
-abbrev pub FilteredForm : FilterId → (Answers → Type 0) → (Form → Type 0) → Form → Type 0
+abbrev pub FilteredForm : FilterId → (Behaviour → Type 0) → (Form → Type 0) → Form → Type 0
 FilteredForm id answers layer (Filtered n a f) = IsNumber id n × answers a × layer f
 FilteredForm id answers layer other = ⊥
 
@@ -55,23 +56,29 @@ abbrev pub Hooked : {F : Type 0} → FilterSteps F → FilterSteps F
 Hooked hooked f (OnEvent e) lane under v g w = (g ≡ f) × (w ≡ v)
 Hooked hooked f (OnFollows id other) lane under v g w = (g ≡ f) × (w ≡ v)
 Hooked hooked f (OnIdChange id other) lane under v g w = (g ≡ f) × (w ≡ v)
-Hooked hooked f (OnNewSpan attrs id) lane under v g w = hooked f (OnNewSpan attrs id) lane under v g w
-Hooked hooked f (OnRecord id values) lane under v g w = hooked f (OnRecord id values) lane under v g w
+Hooked hooked f (OnNewSpan attrs id) lane under v g w =
+    hooked f (OnNewSpan attrs id) lane under v g w
+Hooked hooked f (OnRecord id values) lane under v g w =
+    hooked f (OnRecord id values) lane under v g w
 Hooked hooked f (OnEnter id) lane under v g w = hooked f (OnEnter id) lane under v g w
 Hooked hooked f (OnExit id) lane under v g w = hooked f (OnExit id) lane under v g w
 Hooked hooked f (OnClose id) lane under v g w = hooked f (OnClose id) lane under v g w
 
 -- the filter is notified and writes extensions alone, and then its layer is in what the filter left, both under the filter too
-pub record GoThrough {F L : Type 0} (hooked : FilterSteps F) (stepped : LayerSteps L) (id : FilterId) (f : F) (x : L) (p : Plan) (e : Notice) (lane : ℕ) (under : FilterSet) (v : RegistryState) (g : F) (y : L) (w : RegistryState) : Type 0 where
+pub record GoThrough {F L : Type 0} (hooked : FilterSteps F) (stepped : LayerSteps L)
+    (id : FilterId) (f : F) (x : L) (p : Plan) (e : Notice) (lane : ℕ) (under : FilterSet)
+    (v : RegistryState) (g : F) (y : L) (w : RegistryState) : Type 0 where
   pub between : RegistryState
   pub extensions : SameButExtensions v between
   pub filter : Hooked hooked f e lane (union under (has_filter id)) v g between
   pub layer : stepped x p e lane (union under (has_filter id)) between y w
 
 -- filter and layer stay as they are, and so does the registry; or both are notified
-abbrev pub FilteredSteps : {F L : Type 0} → FilterSteps F → LayerSteps L → FilterId → F → L → Plan → Notice → ℕ → FilterSet → RegistryState → F → L → RegistryState → Type 0
+abbrev pub FilteredSteps : {F L : Type 0} → FilterSteps F → LayerSteps L → FilterId → F → L → Plan
+    → Notice → ℕ → FilterSet → RegistryState → F → L → RegistryState → Type 0
 FilteredSteps hooked stepped id f x Nobody e lane under v g y w = (g ≡ f) × (y ≡ x) × (w ≡ v)
-FilteredSteps hooked stepped id f x (Through p) e lane under v g y w = GoThrough hooked stepped id f x p e lane under v g y w
+FilteredSteps hooked stepped id f x (Through p) e lane under v g y w =
+    GoThrough hooked stepped id f x p e lane under v g y w
 FilteredSteps hooked stepped id f x other e lane under v g y w = ⊥
 
 -- what is under the filter went through these notices; the filter itself is no leaf

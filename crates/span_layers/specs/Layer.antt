@@ -6,12 +6,12 @@ use Rattle.span_core.specs.declared.event.Event.{Event}
 use Rattle.span_core.specs.declared.interest.Interest.{Interest}
 use Rattle.span_core.specs.declared.metadata.Metadata.{Metadata}
 use Rattle.span_core.specs.declared.pass.Pass.{Pass}
-use Rattle.span_registry.specs.Answers.{Notice}
+use Rattle.span_registry.specs.Behaviour.{Notice}
 use Rattle.span_registry.specs.Context.{WritesExtensions, filters_in, filters_lent, lane_in, lane_lent, refused_lent, store_in, subscriber_in, subscriber_lent}
-use Rattle.span_registry.specs.Follows.{Follows}
-use Rattle.span_registry.specs.Form.{Form, IsStill, Leaf}
+use Rattle.span_registry.specs.KeptForm.{HasKeptForm}
+use Rattle.span_registry.specs.Form.{Form, WritesOnlyExtensions, Leaf}
 use Rattle.span_registry.specs.Path.{mask_at}
-use Rattle.span_registry.specs.Place.{HearLaws, HearSteps, Heard, Here, LeafHears, Place, Told, heard_by, told_in}
+use Rattle.span_registry.specs.Position.{HearLaws, HearSteps, Heard, Here, LeafHears, Position, Told, heard_by, told_in}
 use Rattle.span_registry.specs.Plan.{Itself, Plan, by_pass}
 use Rattle.span_registry.specs.Question.{AnswersBy, SumsBy, asked, event_asked, interest_of}
 use Rattle.span_registry.specs.Store.{RegistryState}
@@ -28,31 +28,43 @@ abbrev pub MayNotify : {L S : Type 0} → (L → Type 0) → (S → Type 0) → 
 MayNotify usable inner x c = usable x × inner (subscriber_lent c)
 
 -- whether a layer wants these metadata, in this context
-abbrev pub LayerEnabled : {L S : Type 0} → (S → RegistryState) → (L → Form → Type 0) → L → Metadata → Context S → Pass → Bool → Pass → Type 0
+abbrev pub LayerEnabled : {L S : Type 0} → (S → RegistryState) → (L → Form → Type 0) → L → Metadata
+    → Context S → Pass → Bool → Pass → Type 0
 LayerEnabled registry has_form x m c old answer new =
-    AnswersBy (has_form x) (λ f. asked f m (store_in registry c) (lane_in c).0 (filters_in c)) old answer new
+    AnswersBy (has_form x) (λ f. asked f m (store_in registry c) (lane_in c).0 (filters_in c)) old
+    answer new
 
 -- whether it wants this event
-abbrev pub LayerEvent : {L S : Type 0} → (S → RegistryState) → (L → Form → Type 0) → L → Event → Context S → Pass → Bool → Pass → Type 0
+abbrev pub LayerEvent : {L S : Type 0} → (S → RegistryState) → (L → Form → Type 0) → L → Event
+    → Context S → Pass → Bool → Pass → Type 0
 LayerEvent registry has_form x e c old answer new =
-    AnswersBy (has_form x) (λ f. event_asked f e (store_in registry c) (lane_in c).0 (filters_in c)) old answer new
+    AnswersBy (has_form x) (λ f. event_asked f e (store_in registry c) (lane_in c).0 (filters_in c))
+    old answer new
 
 -- its interest in what a callsite makes, however many filters the registry handed out
-abbrev pub LayerInterest : {L : Type 0} → (L → Form → Type 0) → L → Metadata → Pass → Interest → Pass → Type 0
-LayerInterest has_form x m old answer new = (filters : ℕ) → SumsBy (has_form x) (λ f. interest_of f m filters) old answer new
+abbrev pub LayerInterest : {L : Type 0} → (L → Form → Type 0) → L → Metadata → Pass → Interest
+    → Pass → Type 0
+LayerInterest has_form x m old answer new =
+    (filters : ℕ) → SumsBy (has_form x) (λ f. interest_of f m filters) old answer new
 
 -- how a layer goes on when it is notified: which layer by which plan of which notice, on which lane, under which filters, in which registry, becomes which, and which registry it leaves
 abbrev pub LayerSteps : Type 0 → Type 1
 LayerSteps L = L → Plan → Notice → ℕ → FilterSet → RegistryState → L → RegistryState → Type 0
 
 -- whatever form a layer has, it is notified by that form and goes on so
-abbrev pub Notified : {L S : Type 0} → (S → RegistryState) → (L → Form → Type 0) → LayerSteps L → Notice → L → ContextMut S → L → ContextMut S → Type 0
+abbrev pub Notified : {L S : Type 0} → (S → RegistryState) → (L → Form → Type 0) → LayerSteps L
+    → Notice → L → ContextMut S → L → ContextMut S → Type 0
 Notified registry has_form stepped e x c y d =
-    (f : Form) → has_form x f → stepped x (by_pass f e (registry (subscriber_lent c)).store.spans (filters_lent c) (refuses (refused_lent c))) e (lane_lent c).0 (filters_lent c) (registry (subscriber_lent c)) y (registry (subscriber_lent d))
+    (f : Form) → has_form x f
+    → stepped x (by_pass f e (registry (subscriber_lent c)).store.spans (filters_lent c)
+    (refuses (refused_lent c))) e (lane_lent c).0 (filters_lent c)
+    (registry (subscriber_lent c)) y (registry (subscriber_lent d))
 
 -- a layer whose hooks write extensions alone, by its form, does so
-abbrev pub LeavesAlone : {L S : Type 0} → (S → RegistryState) → (S → RegistryState → S) → (L → Form → Type 0) → L → ContextMut S → ContextMut S → Type 0
-LeavesAlone registry with_registry has_form x c d = (f : Form) → has_form x f → IsStill f → WritesExtensions registry with_registry c d
+abbrev pub LeavesAlone : {L S : Type 0} → (S → RegistryState) → (S → RegistryState → S)
+    → (L → Form → Type 0) → L → ContextMut S → ContextMut S → Type 0
+LeavesAlone registry with_registry has_form x c d =
+    (f : Form) → has_form x f → WritesOnlyExtensions f → WritesExtensions registry with_registry c d
 
 -- a layer goes on by its own step, as a leaf that is told of this: under some filters, in some registry in which its context shows just that, extensions aside
 pub record GoesBy {L : Type 0} (stepped : LayerSteps L) (x : L) (told : Told) (y : L) : Type 0 where
@@ -72,16 +84,27 @@ IsLeaf (Leaf still a) = ⊤
 IsLeaf other = ⊥
 
 -- the law of a layer that is a leaf: it is notified as one, and then no form that it has is of another kind; and what it hears it goes through by its own step, one by one
-pub record LeafLaws {L : Type 0} (has_form : L → Form → Type 0) (stepped : LayerSteps L) (hears : HearSteps L) : Type 0 where
-  pub alone : (x : L) (f : Form) (p : Plan) (e : Notice) (lane : ℕ) (under : FilterSet) (v : RegistryState) (y : L) (w : RegistryState) → has_form x f → IsLeaf f → stepped x p e lane under v y w → p ≡ Itself
-  pub kind : (x : L) (f : Form) (p : Plan) (e : Notice) (lane : ℕ) (under : FilterSet) (v : RegistryState) (y : L) (w : RegistryState) (g : Form) → has_form x f → IsLeaf f → stepped x p e lane under v y w → has_form x g → IsLeaf g
-  pub goes : (x : L) (f : Form) (h : Heard) (y : L) → has_form x f → IsLeaf f → hears x Here h y → FoldsTo (GoesBy stepped) x h y
+pub record LeafLaws {L : Type 0} (has_form : L → Form → Type 0) (stepped : LayerSteps L)
+    (hears : HearSteps L) : Type 0 where
+  pub alone : (x : L) (f : Form) (p : Plan) (e : Notice) (lane : ℕ) (under : FilterSet)
+      (v : RegistryState) (y : L) (w : RegistryState) → has_form x f → IsLeaf f
+      → stepped x p e lane under v y w → p ≡ Itself
+  pub kind : (x : L) (f : Form) (p : Plan) (e : Notice) (lane : ℕ) (under : FilterSet)
+      (v : RegistryState) (y : L) (w : RegistryState) (g : Form) → has_form x f → IsLeaf f
+      → stepped x p e lane under v y w → has_form x g → IsLeaf g
+  pub goes : (x : L) (f : Form) (h : Heard) (y : L) → has_form x f → IsLeaf f → hears x Here h y
+      → FoldsTo (GoesBy stepped) x h y
 
 -- the law of every layer: where it is notified, or put in use, it keeps what it has of its form; each leaf hears what the plan says, in the view that it has of the registry then; and a layer that is a leaf hears it by its own step
-pub record LayerLaws {L : Type 0} (has_form : L → Form → Type 0) (stepped : LayerSteps L) (hears : HearSteps L) (registered : L → L → Type 0) : Type 0 where
-  pub keeps : (x : L) (p : Plan) (e : Notice) (lane : ℕ) (under : FilterSet) (v : RegistryState) (y : L) (w : RegistryState) (f : Form) → stepped x p e lane under v y w → has_form x f → Follows (has_form y) f
-  pub put_in_use : (x y : L) (f : Form) → registered x y → has_form x f → Follows (has_form y) f
+pub record LayerLaws {L : Type 0} (has_form : L → Form → Type 0) (stepped : LayerSteps L)
+    (hears : HearSteps L) (registered : L → L → Type 0) : Type 0 where
+  pub keeps : (x : L) (p : Plan) (e : Notice) (lane : ℕ) (under : FilterSet) (v : RegistryState)
+      (y : L) (w : RegistryState) (f : Form) → stepped x p e lane under v y w → has_form x f
+      → HasKeptForm (has_form y) f
+  pub put_in_use : (x y : L) (f : Form) → registered x y → has_form x f → HasKeptForm (has_form y) f
   pub heard : HearLaws hears
-  pub notified : (x : L) (p : Plan) (e : Notice) (lane : ℕ) (under : FilterSet) (v : RegistryState) (y : L) (w : RegistryState) (place : Place) (f : Form)
-      → stepped x p e lane under v y w → has_form x f → hears x place (heard_by p place (told_in e v.store lane (mask_at f place under))) y
+  pub notified : (x : L) (p : Plan) (e : Notice) (lane : ℕ) (under : FilterSet) (v : RegistryState)
+      (y : L) (w : RegistryState) (position : Position) (f : Form)
+      → stepped x p e lane under v y w → has_form x f
+      → hears x position (heard_by p position (told_in e v.store lane (mask_at f position under))) y
   pub leaf : LeafLaws has_form stepped hears

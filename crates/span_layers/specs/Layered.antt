@@ -3,10 +3,10 @@ use Rattle.std.specs.Prelude.{◌≡◌, ⊤, ℕ}
 use Rattle.span_core.specs.Filters.{FilterSet}
 use Rattle.span_layers.specs.Layer.{LayerSteps}
 use Rattle.span_layers.specs.declared.layered.Layered.{Layered}
-use Rattle.span_registry.specs.Answers.{Notice}
-use Rattle.span_registry.specs.Form.{Form, Joint, Over}
+use Rattle.span_registry.specs.Behaviour.{Notice}
+use Rattle.span_registry.specs.Form.{Form, Arrangement, Parts}
 use Rattle.span_registry.specs.Hooks.{StackSteps, no_filter}
-use Rattle.span_registry.specs.Place.{Heard, HearSteps, Inner, Outer, Place}
+use Rattle.span_registry.specs.Position.{Heard, HearSteps, Inner, Outer, Position}
 use Rattle.span_registry.specs.Plan.{Both, Plan}
 use Rattle.span_registry.specs.Store.{RegistryState}
 use Rattle.span_registry.specs.Subscriber.{SameButExtensions}
@@ -28,24 +28,30 @@ abbrev pub with_inner : {L I : Type 0} → Layered L I → I → Layered L I
 with_inner x i = record x { inner = i }
 
 -- the parts of the form are these parts' forms
-abbrev pub OverForm : Joint → (Form → Type 0) → (Form → Type 0) → Form → Type 0
-OverForm joint outer inner (Over k o i) = (k ≡ joint) × outer o × inner i
-OverForm joint outer inner other = ⊥
+abbrev pub PartsForm : Arrangement → (Form → Type 0) → (Form → Type 0) → Form → Type 0
+PartsForm joint outer inner (Parts k o i) = (k ≡ joint) × outer o × inner i
+PartsForm joint outer inner other = ⊥
 
 -- the inner layer is notified and writes extensions alone, and then the outer one is in what the inner one left
-pub record GoBoth {L I : Type 0} (outer : LayerSteps L) (inner : LayerSteps I) (x : L) (i : I) (p q : Plan) (e : Notice) (lane : ℕ) (under : FilterSet) (v : RegistryState) (y : L) (j : I) (w : RegistryState) : Type 0 where
+pub record GoBoth {L I : Type 0} (outer : LayerSteps L) (inner : LayerSteps I) (x : L) (i : I)
+    (p q : Plan) (e : Notice) (lane : ℕ) (under : FilterSet) (v : RegistryState) (y : L) (j : I)
+    (w : RegistryState) : Type 0 where
   pub between : RegistryState
   pub extensions : SameButExtensions v between
   pub first : inner i q e lane under v j between
   pub second : outer x p e lane under between y w
 
 -- both layers of a pair are notified, each by its plan
-abbrev pub PairSteps : {L I : Type 0} → LayerSteps L → LayerSteps I → L → I → Plan → Notice → ℕ → FilterSet → RegistryState → L → I → RegistryState → Type 0
-PairSteps outer inner x i (Both p q) e lane under v y j w = GoBoth outer inner x i p q e lane under v y j w
+abbrev pub PairSteps : {L I : Type 0} → LayerSteps L → LayerSteps I → L → I → Plan → Notice → ℕ
+    → FilterSet → RegistryState → L → I → RegistryState → Type 0
+PairSteps outer inner x i (Both p q) e lane under v y j w =
+    GoBoth outer inner x i p q e lane under v y j w
 PairSteps outer inner x i other e lane under v y j w = ⊥
 
 -- the inner stack's layers are notified and write extensions alone, and then the layer on it is in what they left, whose hooks leave another registry in the inner stack and nothing else
-pub record GoUp {L I : Type 0} (with_registry : I → RegistryState → I) (outer : LayerSteps L) (inner : StackSteps I) (x : L) (i : I) (p q : Plan) (e : Notice) (lane : ℕ) (v : RegistryState) (y : L) (j : I) (w : RegistryState) : Type 0 where
+pub record GoUp {L I : Type 0} (with_registry : I → RegistryState → I) (outer : LayerSteps L)
+    (inner : StackSteps I) (x : L) (i : I) (p q : Plan) (e : Notice) (lane : ℕ) (v : RegistryState)
+    (y : L) (j : I) (w : RegistryState) : Type 0 where
   pub between : RegistryState
   pub notified : I
   pub extensions : SameButExtensions v between
@@ -54,12 +60,15 @@ pub record GoUp {L I : Type 0} (with_registry : I → RegistryState → I) (oute
   pub rest : j ≡ with_registry notified w
 
 -- a stack's layers are notified, each by its plan
-abbrev pub LayeredSteps : {L I : Type 0} → (I → RegistryState → I) → LayerSteps L → StackSteps I → L → I → Plan → Notice → ℕ → RegistryState → L → I → RegistryState → Type 0
-LayeredSteps with_registry outer inner x i (Both p q) e lane v y j w = GoUp with_registry outer inner x i p q e lane v y j w
+abbrev pub LayeredSteps : {L I : Type 0} → (I → RegistryState → I) → LayerSteps L → StackSteps I → L
+    → I → Plan → Notice → ℕ → RegistryState → L → I → RegistryState → Type 0
+LayeredSteps with_registry outer inner x i (Both p q) e lane v y j w =
+    GoUp with_registry outer inner x i p q e lane v y j w
 LayeredSteps with_registry outer inner x i other e lane v y j w = ⊥
 
--- each part went through its own notices; no leaf stands at another place
-abbrev pub LayeredHears : {L I : Type 0} → HearSteps L → HearSteps I → L → I → Place → Heard → L → I → Type 0
+-- each part went through its own notices; no leaf stands at another position
+abbrev pub LayeredHears : {L I : Type 0} → HearSteps L → HearSteps I → L → I → Position → Heard → L
+    → I → Type 0
 LayeredHears outer inner x i (Outer p) h y j = outer x p h y
 LayeredHears outer inner x i (Inner p) h y j = inner i p h j
 LayeredHears outer inner x i other h y j = ⊤

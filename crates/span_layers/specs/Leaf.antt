@@ -4,17 +4,19 @@ use Rattle.std.specs.List.{FoldsTo}
 use Rattle.std.proofs.Common.{ap, subst, sym}
 use Rattle.span_core.specs.Filters.{FilterSet}
 use Rattle.span_layers.specs.Layer.{GoesBy, HearsBy, IsLeaf, LayerLaws, LayerSteps, LeafLaws}
-use Rattle.span_registry.specs.Answers.{Notice}
-use Rattle.span_registry.specs.Follows.{Follows, kept_form}
+use Rattle.span_registry.specs.Behaviour.{Notice}
+use Rattle.span_registry.specs.KeptForm.{HasKeptForm, kept_form}
 use Rattle.span_registry.specs.Form.{Form, Leaf}
 use Rattle.span_registry.specs.Path.{mask_at}
-use Rattle.span_registry.specs.Place.{HearSteps, Here, Inner, Outer, Place, Told, Under, heard_by, leaf_hear_laws, told_in}
+use Rattle.span_registry.specs.Position.{HearSteps, Here, Inner, Outer, Position, Told, Under, heard_by, leaf_hear_laws, told_in}
 use Rattle.span_registry.specs.Plan.{Itself, Plan}
 use Rattle.span_registry.specs.Store.{RegistryState}
 use Rattle.span_registry.specs.View.{plain_view}
 
 -- no leaf: no form that it has is a leaf's
-pub no_leaf : {L : Type 0} {has_form : L → Form → Type 0} {stepped : LayerSteps L} {hears : HearSteps L} → ((x : L) (f : Form) → has_form x f → IsLeaf f → ⊥) → LeafLaws has_form stepped hears
+pub no_leaf : {L : Type 0} {has_form : L → Form → Type 0} {stepped : LayerSteps L}
+    {hears : HearSteps L} → ((x : L) (f : Form) → has_form x f → IsLeaf f → ⊥)
+    → LeafLaws has_form stepped hears
 no_leaf none = record {
   alone = λ x f p e lane under v y w h l s. absurd (none x f h l);
   kind = λ x f p e lane under v y w g h l s k. absurd (none x f h l);
@@ -26,25 +28,51 @@ pub leaf_mask : (f : Form) (under : FilterSet) → IsLeaf f → mask_at f Here u
 leaf_mask (Leaf still a) under l = refl
 leaf_mask f under l = absurd l
 
-module _ {L : Type 0} (has_form : L → Form → Type 0) (stepped : LayerSteps L) (registered : L → L → Type 0)
-    (alone : (x : L) (p : Plan) (e : Notice) (lane : ℕ) (under : FilterSet) (v : RegistryState) (y : L) (w : RegistryState) → stepped x p e lane under v y w → p ≡ Itself) (leaf : (x : L) (f : Form) → has_form x f → IsLeaf f) where
-  told_alone : (x : L) (e : Notice) (lane : ℕ) (under : FilterSet) (v : RegistryState) (y : L) (w : RegistryState) (place : Place) (f : Form) → stepped x Itself e lane under v y w → has_form x f
-      → HearsBy stepped x place (heard_by Itself place (told_in e v.store lane (mask_at f place under))) y
-  told_alone x e lane under v y w Here f s h = (y, record { under = under; before = v; after = w; shown = ap (plain_view v.store lane) (leaf_mask f under (leaf x f h)); step = s }, refl)
+module _ {L : Type 0} (has_form : L → Form → Type 0) (stepped : LayerSteps L)
+    (registered : L → L → Type 0)
+    (alone : (x : L) (p : Plan) (e : Notice) (lane : ℕ) (under : FilterSet) (v : RegistryState)
+    (y : L) (w : RegistryState) → stepped x p e lane under v y w → p ≡ Itself)
+    (leaf : (x : L) (f : Form) → has_form x f → IsLeaf f) where
+  told_alone : (x : L) (e : Notice) (lane : ℕ) (under : FilterSet) (v : RegistryState) (y : L)
+      (w : RegistryState) (position : Position) (f : Form) → stepped x Itself e lane under v y w
+      → has_form x f
+      → HearsBy stepped x position
+      (heard_by Itself position (told_in e v.store lane (mask_at f position under))) y
+  told_alone x e lane under v y w Here f s h = (
+    y,
+    record {
+      under = under;
+      before = v;
+      after = w;
+      shown = ap (plain_view v.store lane) (leaf_mask f under (leaf x f h));
+      step = s;
+    },
+    refl,
+  )
   told_alone x e lane under v y w (Under q) f s h = tt
   told_alone x e lane under v y w (Outer q) f s h = tt
   told_alone x e lane under v y w (Inner q) f s h = tt
 
-  leaf_told : (x : L) (p : Plan) (e : Notice) (lane : ℕ) (under : FilterSet) (v : RegistryState) (y : L) (w : RegistryState) (place : Place) (f : Form) → stepped x p e lane under v y w → has_form x f
-      → HearsBy stepped x place (heard_by p place (told_in e v.store lane (mask_at f place under))) y
-  leaf_told x p e lane under v y w place f s h =
+  leaf_told : (x : L) (p : Plan) (e : Notice) (lane : ℕ) (under : FilterSet) (v : RegistryState)
+      (y : L) (w : RegistryState) (position : Position) (f : Form) → stepped x p e lane under v y w
+      → has_form x f
+      → HearsBy stepped x position
+      (heard_by p position (told_in e v.store lane (mask_at f position under)))
+      y
+  leaf_told x p e lane under v y w position f s h =
       let own = alone x p e lane under v y w s in
-      subst (λ (q : Plan). HearsBy stepped x place (heard_by q place (told_in e v.store lane (mask_at f place under))) y) (sym own)
-      (told_alone x e lane under v y w place f (subst (λ (q : Plan). stepped x q e lane under v y w) own s) h)
+      subst (λ (q : Plan).
+      HearsBy stepped x position
+      (heard_by q position (told_in e v.store lane (mask_at f position under))) y) (sym own)
+      (told_alone x e lane under v y w position f
+      (subst (λ (q : Plan). stepped x q e lane under v y w) own s) h)
 
   -- such a leaf keeps the law of layers, where it keeps its form
-  pub leaf_layer_laws : ((x : L) (p : Plan) (e : Notice) (lane : ℕ) (under : FilterSet) (v : RegistryState) (y : L) (w : RegistryState) (f : Form) → stepped x p e lane under v y w → has_form x f → Follows (has_form y) f)
-      → ((x y : L) (f : Form) → registered x y → has_form x f → Follows (has_form y) f) → LayerLaws has_form stepped (HearsBy stepped) registered
+  pub leaf_layer_laws : ((x : L) (p : Plan) (e : Notice) (lane : ℕ) (under : FilterSet)
+      (v : RegistryState) (y : L) (w : RegistryState) (f : Form)
+      → stepped x p e lane under v y w → has_form x f → HasKeptForm (has_form y) f)
+      → ((x y : L) (f : Form) → registered x y → has_form x f → HasKeptForm (has_form y) f)
+      → LayerLaws has_form stepped (HearsBy stepped) registered
   leaf_layer_laws keeps used = record {
     keeps = keeps;
     put_in_use = used;
@@ -58,16 +86,21 @@ module _ {L : Type 0} (has_form : L → Form → Type 0) (stepped : LayerSteps L
   }
 
 -- a leaf that always has this one form keeps the law, whatever it does
-pub fixed_laws : {L : Type 0} (form : Form) (stepped : LayerSteps L) (registered : L → L → Type 0) → IsLeaf form
-    → ((x : L) (p : Plan) (e : Notice) (lane : ℕ) (under : FilterSet) (v : RegistryState) (y : L) (w : RegistryState) → stepped x p e lane under v y w → p ≡ Itself)
+pub fixed_laws : {L : Type 0} (form : Form) (stepped : LayerSteps L) (registered : L → L → Type 0)
+    → IsLeaf form
+    → ((x : L) (p : Plan) (e : Notice) (lane : ℕ) (under : FilterSet) (v : RegistryState) (y : L)
+    (w : RegistryState) → stepped x p e lane under v y w → p ≡ Itself)
     → LayerLaws (λ x f. f ≡ form) stepped (HearsBy stepped) registered
 fixed_laws form stepped registered leaf alone =
-    leaf_layer_laws (λ x f. f ≡ form) stepped registered alone (λ x f h. subst IsLeaf (sym h) leaf) (λ x p e lane under v y w f s h. (f, h, kept_form f)) (λ x y f s h. (f, h, kept_form f))
+    leaf_layer_laws (λ x f. f ≡ form) stepped registered alone (λ x f h. subst IsLeaf (sym h) leaf)
+    (λ x p e lane under v y w f s h. (f, h, kept_form f)) (λ x y f s h. (f, h, kept_form f))
 
 -- the plan is a leaf's, and then anything may come of it
 abbrev pub AnySteps : {L : Type 0} → LayerSteps L
 AnySteps x p e lane under v y w = p ≡ Itself
 
 -- a leaf that always has this one form keeps the law, also where nothing is said of what it does
-pub any_laws : {L : Type 0} (form : Form) (registered : L → L → Type 0) → IsLeaf form → LayerLaws (λ (x : L) f. f ≡ form) AnySteps (HearsBy AnySteps) registered
-any_laws form registered leaf = fixed_laws form AnySteps registered leaf (λ x p e lane under v y w s. s)
+pub any_laws : {L : Type 0} (form : Form) (registered : L → L → Type 0) → IsLeaf form
+    → LayerLaws (λ (x : L) f. f ≡ form) AnySteps (HearsBy AnySteps) registered
+any_laws form registered leaf =
+    fixed_laws form AnySteps registered leaf (λ x p e lane under v y w s. s)

@@ -5,7 +5,7 @@ pub mod Boxed
 pub mod Filtered
 pub mod Honest
 pub mod Idle
-pub mod Kept
+pub mod LayeredLaws
 pub mod Layer
 pub mod Layered
 pub mod Leaf

@@ -5,28 +5,29 @@ use Rattle.span_layers.specs.Acts.{FilteredActs, LayeredActs}
 use Rattle.span_layers.specs.Filtered.{FilteredForm, FilteredHears, FilteredSteps, filter_of, id_of, layer_of}
 use Rattle.span_layers.specs.Honest.{HasHonestAnswers, IsHonestStack, is_full, is_missing}
 use Rattle.span_layers.specs.Layer.{LayerSteps}
-use Rattle.span_layers.specs.Layered.{LayeredHears, LayeredSteps, OverForm, inner_of, outer_of}
+use Rattle.span_layers.specs.Layered.{LayeredHears, LayeredSteps, PartsForm, inner_of, outer_of}
 use Rattle.span_layers.specs.Levels.{FilteredLevels, LayeredLevels}
 use Rattle.span_layers.specs.Verdict.{IsOrderly}
 use Rattle.span_layers.specs.declared.filtered.Filtered.{Filtered as FilteredLayer}
 use Rattle.span_layers.specs.declared.layered.Layered.{Layered}
-use Rattle.span_registry.specs.Answers.{Answers, Conduct}
+use Rattle.span_registry.specs.Behaviour.{Behaviour, Conduct}
 use Rattle.span_registry.specs.Conducts.{ActsAt}
-use Rattle.span_registry.specs.Form.{Bare, Base, Form, IsStill, OnSubscriber}
+use Rattle.span_registry.specs.Form.{Terminal, Base, Form, WritesOnlyExtensions, OnSubscriber}
 use Rattle.span_registry.specs.Hooks.{StackSteps}
 use Rattle.span_registry.specs.Levels.{LevelSteps}
-use Rattle.span_registry.specs.Place.{HearSteps}
+use Rattle.span_registry.specs.Position.{HearSteps}
 use Rattle.span_registry.specs.Store.{RegistryState, empty_store}
 
 -- a layer of this form keeps a stack honest: its filters and leaves answer honestly, no leaf of it under a filter or in a list refuses anything, no hook does more than write extensions, and it is absent as a whole, or not at all
 pub record IsHonestLayer (f : Form) : Type 0 where
   pub answers : HasHonestAnswers f
   pub orderly : IsOrderly f
-  pub still : IsStill f
+  pub still : WritesOnlyExtensions f
   pub full : IsTrue (is_missing f || is_full f)
 
 -- a stack of this form, honest, on a registry without spans that handed out this many filters
-pub record Stands {S : Type 0} (registry : S → RegistryState) (has_form : S → Form → Type 0) (f : Form) (n : ℕ) (x : S) : Type 0 where
+pub record Stands {S : Type 0} (registry : S → RegistryState) (has_form : S → Form → Type 0)
+    (f : Form) (n : ℕ) (x : S) : Type 0 where
   pub has : has_form x f
   pub rules : IsHonestStack f n
   pub filters : (registry x).filters ≡ n
@@ -43,8 +44,8 @@ abbrev pub another : RegistryState → RegistryState → RegistryState
 another s w = w
 
 -- its form
-abbrev pub bare_form : RegistryState → Form → Type 0
-bare_form s f = f ≡ Bare Base
+abbrev pub base_form : RegistryState → Form → Type 0
+base_form s f = f ≡ Terminal Base
 
 -- when its stack is notified it stays as it is
 abbrev pub bare_steps : StackSteps RegistryState
@@ -52,29 +53,37 @@ bare_steps x p e lane v y w = w ≡ v
 
 -- no leaf is in it
 abbrev pub bare_hears : HearSteps RegistryState
-bare_hears x place h y = ⊤
+bare_hears x position h y = ⊤
 
 -- ---- what the type of a layer under a filter says, as that of the layer and that of the filter do
 
 -- its form
-abbrev pub filtered_form : {L F : Type 0} → (F → Answers → Type 0) → (L → Form → Type 0) → FilteredLayer L F → Form → Type 0
+abbrev pub filtered_form : {L F : Type 0} → (F → Behaviour → Type 0) → (L → Form → Type 0)
+    → FilteredLayer L F → Form → Type 0
 filtered_form answers form x = FilteredForm (id_of x) (answers (filter_of x)) (form (layer_of x))
 
 -- how it goes on
-abbrev pub filtered_steps : {L F : Type 0} → FilterSteps F → LayerSteps L → LayerSteps (FilteredLayer L F)
-filtered_steps hooked stepped x p e lane under v y w = (id_of y ≡ id_of x) × FilteredSteps hooked stepped (id_of x) (filter_of x) (layer_of x) p e lane under v (filter_of y) (layer_of y) w
+abbrev pub filtered_steps : {L F : Type 0} → FilterSteps F → LayerSteps L
+    → LayerSteps (FilteredLayer L F)
+filtered_steps hooked stepped x p e lane under v y w =
+    (id_of y ≡ id_of x) × FilteredSteps hooked stepped (id_of x) (filter_of x) (layer_of x) p e lane
+    under v (filter_of y) (layer_of y) w
 
 -- what its leaves hear
 abbrev pub filtered_hears : {L F : Type 0} → HearSteps L → HearSteps (FilteredLayer L F)
-filtered_hears hears x place h y = FilteredHears hears (layer_of x) place h (layer_of y)
+filtered_hears hears x position h y = FilteredHears hears (layer_of x) position h (layer_of y)
 
 -- how filters act
-abbrev pub filtered_acts : {L F : Type 0} → (F → Conduct → Type 0) → ActsAt L → ActsAt (FilteredLayer L F)
+abbrev pub filtered_acts : {L F : Type 0} → (F → Conduct → Type 0) → ActsAt L
+    → ActsAt (FilteredLayer L F)
 filtered_acts own inside x = FilteredActs (id_of x) (own (filter_of x)) inside (layer_of x)
 
 -- how levels are set
-abbrev pub filtered_levels : {L F : Type 0} → FilterLevelSteps F → LevelSteps L → LevelSteps (FilteredLayer L F)
-filtered_levels own inside x n l y = (id_of y ≡ id_of x) × FilteredLevels own inside (id_of x) (filter_of x) (layer_of x) n l (filter_of y) (layer_of y)
+abbrev pub filtered_levels : {L F : Type 0} → FilterLevelSteps F → LevelSteps L
+    → LevelSteps (FilteredLayer L F)
+filtered_levels own inside x n l y =
+    (id_of y ≡ id_of x) × FilteredLevels own inside (id_of x) (filter_of x) (layer_of x) n l
+    (filter_of y) (layer_of y)
 
 -- ---- what the type of a layer on a stack says, as that of the layer and that of the stack do
 
@@ -83,16 +92,21 @@ abbrev pub registry_on : {L I : Type 0} → (I → RegistryState) → Layered L 
 registry_on registry x = registry (inner_of x)
 
 -- its form
-abbrev pub stack_form : {L I : Type 0} → (L → Form → Type 0) → (I → Form → Type 0) → Layered L I → Form → Type 0
-stack_form layer below x = OverForm OnSubscriber (layer (outer_of x)) (below (inner_of x))
+abbrev pub stack_form : {L I : Type 0} → (L → Form → Type 0) → (I → Form → Type 0) → Layered L I
+    → Form → Type 0
+stack_form layer below x = PartsForm OnSubscriber (layer (outer_of x)) (below (inner_of x))
 
 -- how it goes on
-abbrev pub stack_steps : {L I : Type 0} → (I → RegistryState → I) → LayerSteps L → StackSteps I → StackSteps (Layered L I)
-stack_steps with_registry layer below x p e lane v y w = LayeredSteps with_registry layer below (outer_of x) (inner_of x) p e lane v (outer_of y) (inner_of y) w
+abbrev pub stack_steps : {L I : Type 0} → (I → RegistryState → I) → LayerSteps L → StackSteps I
+    → StackSteps (Layered L I)
+stack_steps with_registry layer below x p e lane v y w =
+    LayeredSteps with_registry layer below (outer_of x) (inner_of x) p e lane v (outer_of y)
+    (inner_of y) w
 
 -- what its leaves hear
 abbrev pub stack_hears : {L I : Type 0} → HearSteps L → HearSteps I → HearSteps (Layered L I)
-stack_hears layer below x place h y = LayeredHears layer below (outer_of x) (inner_of x) place h (outer_of y) (inner_of y)
+stack_hears layer below x position h y =
+    LayeredHears layer below (outer_of x) (inner_of x) position h (outer_of y) (inner_of y)
 
 -- how filters act
 abbrev pub stack_acts : {L I : Type 0} → ActsAt L → ActsAt I → ActsAt (Layered L I)
@@ -100,4 +114,5 @@ stack_acts layer below x = LayeredActs layer below (outer_of x) (inner_of x)
 
 -- how levels are set
 abbrev pub stack_levels : {L I : Type 0} → LevelSteps L → LevelSteps I → LevelSteps (Layered L I)
-stack_levels layer below x n l y = LayeredLevels layer below (outer_of x) (inner_of x) n l (outer_of y) (inner_of y)
+stack_levels layer below x n l y =
+    LayeredLevels layer below (outer_of x) (inner_of x) n l (outer_of y) (inner_of y)

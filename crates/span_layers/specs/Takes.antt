@@ -2,16 +2,18 @@
 use Rattle.std.specs.Prelude.{◌≡◌, ⊤, ℕ, true, false}
 use Rattle.span_core.specs.declared.level.LevelFilter.{LevelFilter}
 use Rattle.span_layers.specs.Verdict.{HasOwnNumbers}
-use Rattle.span_registry.specs.Form.{Bare, Filtered, Form, Leaf, Over}
+use Rattle.span_registry.specs.Form.{Terminal, Filtered, Form, Leaf, Parts}
 use Rattle.span_registry.specs.Levels.{takes_level}
 
 -- of two parts that stand together, not both have a filter that takes this level under this number
 abbrev pub OneTakes : Form → ℕ → LevelFilter → Type 0
 OneTakes (Leaf still a) n l = ⊤
 OneTakes (Filtered m a f) n l = OneTakes f n l
-OneTakes (Over joint o i) n l = OneTakes o n l × OneTakes i n l × (takes_level o n l ≡ true → takes_level i n l ≡ false)
-OneTakes (Bare v) n l = ⊤
+OneTakes (Parts joint o i) n l =
+    OneTakes o n l × OneTakes i n l × (takes_level o n l ≡ true → takes_level i n l ≡ false)
+OneTakes (Terminal v) n l = ⊤
 
 -- the law: filters that have their own numbers take a level so
 abbrev pub OneFilterTakesALevel : Type 0
-OneFilterTakesALevel = (f : Form) (next n : ℕ) (l : LevelFilter) → HasOwnNumbers f next → OneTakes f n l
+OneFilterTakesALevel =
+    (f : Form) (next n : ℕ) (l : LevelFilter) → HasOwnNumbers f next → OneTakes f n l

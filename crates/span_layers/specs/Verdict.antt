@@ -10,11 +10,11 @@ use Rattle.span_core.specs.declared.span.Id.{Id}
 use Rattle.span_core.specs.declared.filter.TheConstants.FilterId.{LIMIT}
 use Rattle.span_layers.specs.Number.{filters_in, numbered}
 use Rattle.span_registry.specs.Path.{Path, passes_path, path_at}
-use Rattle.span_registry.specs.Answers.{Notice, OnEvent, OnNewSpan}
-use Rattle.span_registry.specs.Follows.{RefusesNothing}
-use Rattle.span_registry.specs.Form.{Bare, Filtered, Form, InList, InPair, Leaf, OnSubscriber, Over}
+use Rattle.span_registry.specs.Behaviour.{Behaviour, Notice, OnEvent, OnNewSpan}
+use Rattle.span_registry.specs.KeptForm.{RefusesNothing}
+use Rattle.span_registry.specs.Form.{Terminal, Filtered, Form, InList, InPair, Leaf, OnSubscriber, Parts}
 use Rattle.span_registry.specs.Hooks.{no_filter}
-use Rattle.span_registry.specs.Place.{Place, is_notified}
+use Rattle.span_registry.specs.Position.{Position, is_notified}
 use Rattle.span_registry.specs.Plan.{asked_afresh, by_pass}
 use Rattle.span_registry.specs.Question.{asked, event_asked, single}
 use Rattle.span_registry.specs.Store.{Spans, Store}
@@ -25,16 +25,17 @@ abbrev pub numbers_of : Form → FilterSet
 numbers_of (Leaf still a) k = false
 numbers_of (Filtered None a f) k = numbers_of f k
 numbers_of (Filtered (Some n) a f) k = (k == n) || numbers_of f k
-numbers_of (Over joint o i) k = numbers_of o k || numbers_of i k
-numbers_of (Bare v) k = false
+numbers_of (Parts joint o i) k = numbers_of o k || numbers_of i k
+numbers_of (Terminal v) k = false
 
 -- no two filters have one number
 abbrev pub AreDistinct : Form → Type 0
 AreDistinct (Leaf still a) = ⊤
 AreDistinct (Filtered None a f) = AreDistinct f
 AreDistinct (Filtered (Some n) a f) = (numbers_of f n ≡ false) × AreDistinct f
-AreDistinct (Over joint o i) = AreDistinct o × AreDistinct i × ((k : ℕ) → numbers_of o k ≡ true → numbers_of i k ≡ false)
-AreDistinct (Bare v) = ⊤
+AreDistinct (Parts joint o i) =
+    AreDistinct o × AreDistinct i × ((k : ℕ) → numbers_of o k ≡ true → numbers_of i k ≡ false)
+AreDistinct (Terminal v) = ⊤
 
 -- its filters have numbers that were handed out before this one, each another
 pub record HasOwnNumbers (f : Form) (next : ℕ) : Type 0 where
@@ -42,50 +43,55 @@ pub record HasOwnNumbers (f : Form) (next : ℕ) : Type 0 where
   pub handed_out : (k : ℕ) → numbers_of f k ≡ true → k < next
 
 -- no leaf of it refuses anything
-abbrev pub IsQuiet : Form → Type 0
-IsQuiet (Leaf still a) = RefusesNothing a
-IsQuiet (Filtered n a f) = IsQuiet f
-IsQuiet (Over joint o i) = IsQuiet o × IsQuiet i
-IsQuiet (Bare v) = ⊤
+abbrev pub LeavesRefuseNothing : Form → Type 0
+LeavesRefuseNothing (Leaf still a) = RefusesNothing a
+LeavesRefuseNothing (Filtered n a f) = LeavesRefuseNothing f
+LeavesRefuseNothing (Parts joint o i) = LeavesRefuseNothing o × LeavesRefuseNothing i
+LeavesRefuseNothing (Terminal v) = ⊤
 
 -- no leaf under a filter, or in a list, refuses anything
 abbrev pub IsOrderly : Form → Type 0
 IsOrderly (Leaf still a) = ⊤
-IsOrderly (Filtered n a f) = IsQuiet f
-IsOrderly (Over OnSubscriber o i) = IsOrderly o × IsOrderly i
-IsOrderly (Over InPair o i) = IsOrderly o × IsOrderly i
-IsOrderly (Over InList o i) = IsQuiet o × IsQuiet i
-IsOrderly (Bare v) = ⊤
+IsOrderly (Filtered n a f) = LeavesRefuseNothing f
+IsOrderly (Parts OnSubscriber o i) = IsOrderly o × IsOrderly i
+IsOrderly (Parts InPair o i) = IsOrderly o × IsOrderly i
+IsOrderly (Parts InList o i) = LeavesRefuseNothing o × LeavesRefuseNothing i
+IsOrderly (Terminal v) = ⊤
+
+-- whether a leaf with no filter round it doesn't let this by
+abbrev pub some_vetoes : Form → (Behaviour → Bool) → Bool
+some_vetoes (Leaf still a) lets = not (lets a)
+some_vetoes (Filtered n a f) lets = false
+some_vetoes (Parts joint o i) lets = some_vetoes o lets || some_vetoes i lets
+some_vetoes (Terminal v) lets = false
 
 -- whether a leaf with no filter round it refuses these metadata, in the view of the lane
 abbrev pub vetoes : Form → Metadata → Store → ℕ → Bool
-vetoes (Leaf still a) m s lane = not (a.enabled m (view_of s lane no_filter))
-vetoes (Filtered n a f) m s lane = false
-vetoes (Over joint o i) m s lane = vetoes o m s lane || vetoes i m s lane
-vetoes (Bare v) m s lane = false
+vetoes f m s lane = some_vetoes f (λ a. a.enabled m (view_of s lane no_filter))
 
--- whether a leaf with no filter round it refuses this event, of which it lets the metadata by
+-- whether a leaf with no filter round it refuses this event
 abbrev pub vetoes_event : Form → Event → Store → ℕ → Bool
-vetoes_event (Leaf still a) e s lane = not (a.event e (view_of s lane no_filter))
-vetoes_event (Filtered n a f) e s lane = false
-vetoes_event (Over joint o i) e s lane = vetoes_event o e s lane || vetoes_event i e s lane
-vetoes_event (Bare v) e s lane = false
+vetoes_event f e s lane = some_vetoes f (λ a. a.event e (view_of s lane no_filter))
 
 -- whether the filter k is in the verdict of a new span: it refuses the metadata, and every filter outside it on its path has a number and passes them
 abbrev pub in_verdict : Form → Metadata → Store → ℕ → FilterSet → FilterSet
 in_verdict (Leaf still a) m s lane under k = false
 in_verdict (Filtered None a f) m s lane under k = false
 in_verdict (Filtered (Some n) a f) m s lane under k =
-    if a.enabled m (view_of s lane (union under (single n))) then in_verdict f m s lane (union under (single n)) k else (k == n)
-in_verdict (Over joint o i) m s lane under k = in_verdict o m s lane under k || in_verdict i m s lane under k
-in_verdict (Bare v) m s lane under k = false
+    if a.enabled m (view_of s lane (union under (single n)))
+    then in_verdict f m s lane (union under (single n)) k else (k == n)
+in_verdict (Parts joint o i) m s lane under k =
+    in_verdict o m s lane under k || in_verdict i m s lane under k
+in_verdict (Terminal v) m s lane under k = false
 
 -- the plan by a pass, whatever spans there are, is the plan where each filter is asked afresh
 abbrev pub IsFresh : Form → Notice → FilterSet → Store → ℕ → Type 0
-IsFresh f e refused s lane = (spans : Spans) → by_pass f e spans no_filter refused ≡ asked_afresh f e s lane no_filter
+IsFresh f e refused s lane =
+    (spans : Spans) → by_pass f e spans no_filter refused ≡ asked_afresh f e s lane no_filter
 
 -- a new span was asked of all with a new pass, and nobody vetoed: who is notified by the pass is who is notified afresh, and the pass holds the verdict
-pub record NewSpanIsFresh (f : Form) (attrs : Attributes) (id : Id) (s : Store) (lane : ℕ) (refused : FilterSet) : Type 0 where
+pub record NewSpanIsFresh (f : Form) (attrs : Attributes) (id : Id) (s : Store) (lane : ℕ)
+    (refused : FilterSet) : Type 0 where
   pub plan : IsFresh f (OnNewSpan attrs id) refused s lane
   pub verdict : (k : ℕ) → refused k ≡ in_verdict f (metadata_of attrs) s lane no_filter k
 
@@ -93,51 +99,70 @@ pub record NewSpanIsFresh (f : Form) (attrs : Attributes) (id : Id) (s : Store) 
 abbrev pub EventIsFresh : Form → Event → Store → ℕ → Type 0
 EventIsFresh f e s lane =
     (asked f (event_metadata e) s lane no_filter no_filter).0 ≡ true
-    → (event_asked f e s lane no_filter (asked f (event_metadata e) s lane no_filter no_filter).1).0 ≡ true
-    → IsFresh f (OnEvent e) (event_asked f e s lane no_filter (asked f (event_metadata e) s lane no_filter no_filter).1).1 s lane
+    → (event_asked f e s lane no_filter (asked f (event_metadata e) s lane no_filter no_filter).1).0
+    ≡ true
+    → IsFresh f (OnEvent e)
+    (event_asked f e s lane no_filter
+    (asked f (event_metadata e) s lane no_filter no_filter).1).1 s lane
 
 -- all other notices say by the verdicts of spans who is notified, and a pass makes no difference
 abbrev pub OthersAreFresh : Form → Store → ℕ → FilterSet → FilterSet → Notice → Type 0
 OthersAreFresh f s lane under refused (OnNewSpan attrs id) = ⊤
 OthersAreFresh f s lane under refused (OnEvent e) = ⊤
-OthersAreFresh f s lane under refused other = by_pass f other s.spans under refused ≡ asked_afresh f other s lane under
+OthersAreFresh f s lane under refused other =
+    by_pass f other s.spans under refused ≡ asked_afresh f other s lane under
 
 -- who is notified afresh is whose path passes the notice
-abbrev pub NotifiesWhosePathPasses : Form → Place → Path → Notice → Store → ℕ → FilterSet → Type 0
-NotifiesWhosePathPasses f place path e s lane under =
-    path_at f place ≡ Some path → is_notified (asked_afresh f e s lane under) place ≡ passes_path path e s lane under
+abbrev pub NotifiesWhosePathPasses : Form → Position → Path → Notice → Store → ℕ → FilterSet
+    → Type 0
+NotifiesWhosePathPasses f position path e s lane under =
+    path_at f position ≡ Some path
+    → is_notified (asked_afresh f e s lane under) position ≡ passes_path path e s lane under
 
 -- where there is room for all its filters, a form that took the next numbers has its own; and so has a stack with the layer of that form on it
 pub record NumbersAreOwn (f : Form) (n : ℕ) : Type 0 where
   pub next : (numbered f n).1 ≡ n + filters_in f
   pub own : HasOwnNumbers (numbered f n).0 (numbered f n).1
-  pub stack : (i : Form) → HasOwnNumbers i n → HasOwnNumbers (Over OnSubscriber (numbered f n).0 i) (numbered f n).1
+  pub stack : (i : Form) → HasOwnNumbers i n
+      → HasOwnNumbers (Parts OnSubscriber (numbered f n).0 i) (numbered f n).1
 
 -- ---- the laws
 
 -- a new span that was asked of all with a new pass, and answered true: who is notified by the pass is who is notified afresh, and the pass holds the verdict
 abbrev pub NewSpansAreFresh : Type 0
-NewSpansAreFresh = (f : Form) (attrs : Attributes) (id : Id) (s : Store) (lane : ℕ) → AreDistinct f → (asked f (metadata_of attrs) s lane no_filter no_filter).0 ≡ true → NewSpanIsFresh f attrs id s lane (asked f (metadata_of attrs) s lane no_filter no_filter).1
+NewSpansAreFresh =
+    (f : Form) (attrs : Attributes) (id : Id) (s : Store) (lane : ℕ) → AreDistinct f
+    → (asked f (metadata_of attrs) s lane no_filter no_filter).0 ≡ true
+    → NewSpanIsFresh f attrs id s lane (asked f (metadata_of attrs) s lane no_filter no_filter).1
 
 -- the same of an event, whose two questions were answered true
 abbrev pub EventsAreFresh : Type 0
-EventsAreFresh = (f : Form) (e : Event) (s : Store) (lane : ℕ) → AreDistinct f → EventIsFresh f e s lane
+EventsAreFresh =
+    (f : Form) (e : Event) (s : Store) (lane : ℕ) → AreDistinct f → EventIsFresh f e s lane
 
 -- all other notices, whatever the pass
 abbrev pub OthersStayFresh : Type 0
-OthersStayFresh = (f : Form) (e : Notice) (s : Store) (lane : ℕ) (under refused : FilterSet) → OthersAreFresh f s lane under refused e
+OthersStayFresh =
+    (f : Form) (e : Notice) (s : Store) (lane : ℕ) (under refused : FilterSet)
+    → OthersAreFresh f s lane under refused e
 
--- who is notified is whose path passes, at each place of each form
+-- who is notified is whose path passes, at each position of each form
 abbrev pub NotifiesByPaths : Type 0
-NotifiesByPaths = (f : Form) (place : Place) (path : Path) (e : Notice) (s : Store) (lane : ℕ) (under : FilterSet) → NotifiesWhosePathPasses f place path e s lane under
+NotifiesByPaths =
+    (f : Form) (position : Position) (path : Path) (e : Notice) (s : Store) (lane : ℕ)
+    (under : FilterSet) → NotifiesWhosePathPasses f position path e s lane under
 
 -- where no leaf under a filter or in a list refuses, metadata are refused exactly where a leaf vetoes
 abbrev pub VetoesAloneRefuse : Type 0
-VetoesAloneRefuse = (f : Form) (m : Metadata) (s : Store) (lane : ℕ) (refused : FilterSet) → IsOrderly f → (asked f m s lane no_filter refused).0 ≡ not (vetoes f m s lane)
+VetoesAloneRefuse =
+    (f : Form) (m : Metadata) (s : Store) (lane : ℕ) (refused : FilterSet) → IsOrderly f
+    → (asked f m s lane no_filter refused).0 ≡ not (vetoes f m s lane)
 
 -- and so is an event
 abbrev pub VetoesAloneRefuseEvents : Type 0
-VetoesAloneRefuseEvents = (f : Form) (e : Event) (s : Store) (lane : ℕ) (refused : FilterSet) → IsOrderly f → (event_asked f e s lane no_filter refused).0 ≡ not (vetoes_event f e s lane)
+VetoesAloneRefuseEvents =
+    (f : Form) (e : Event) (s : Store) (lane : ℕ) (refused : FilterSet) → IsOrderly f
+    → (event_asked f e s lane no_filter refused).0 ≡ not (vetoes_event f e s lane)
 
 -- where there is room, numbers that were taken are each another
 abbrev pub NumbersStayOwn : Type 0

@@ -31,7 +31,9 @@ pub trait SubscriberExt: Subscriber + Sized {
     final fn with<L: Layer<Self>>(self, layer: L) -> Result<Layered<L, Self>, Unattached<L, Self>>
         requires layer { L.usable layer }
         requires subscriber { Self.usable self }
-        ensures attached { IfOk result (Attaches Self.registry Self.with_registry Self.usable L.usable L.has_form L.attached layer self) }
+        ensures attached { IfOk result
+            (Attaches Self.registry Self.with_registry Self.usable L.usable L.has_form L.attached
+            layer self) }
         ensures refused { IfErr result (IsHandedBack Self.registry L.has_form layer self) }
     {
         let mut layer = layer;
@@ -82,7 +84,9 @@ pub trait LayerExt: Sized {
         Self: Layer<S>,
         requires layer { Self.usable self }
         requires subscriber { S.usable subscriber }
-        ensures attached { IfOk result (Attaches S.registry S.with_registry S.usable Self.usable Self.has_form Self.attached self subscriber) }
+        ensures attached { IfOk result
+            (Attaches S.registry S.with_registry S.usable Self.usable Self.has_form Self.attached
+            self subscriber) }
         ensures refused { IfErr result (IsHandedBack S.registry Self.has_form self subscriber) }
     {
         subscriber.with(self)

@@ -6,7 +6,7 @@ ghost use Rattle.span_layers.specs.ActsKept.{filtered_path_laws};
 ghost use Rattle.span_layers.specs.Levels.{FilteredLevels, filtered_levels};
 ghost use Rattle.span_layers.specs.contracts.filtered.Filtered.{the_row};
 ghost use Rattle.span_layers.specs.Filtered.{FilteredForm, FilteredHears, FilteredSteps, IsUnnumbered, filter_of, layer_of, with_filter, with_layer};
-ghost use Rattle.span_layers.specs.Kept.{filtered_laws};
+ghost use Rattle.span_layers.specs.LayeredLaws.{filtered_laws};
 
 use crate::layer::Layer;
 use span_core::{Attributes, Event, FilterId, Id, Interest, LevelFilter, Metadata, Pass, Record};
@@ -44,7 +44,8 @@ impl<L, F> Filtered<L, F> {
 
     /// Its filter, to be changed. What the filter answers then may differ from what is kept of its answers.
     pub fn filter_mut(&mut self) -> &mut F
-        ensures* writes_back { sem 𝓛 (Lends (the_row L.row F.row) F.row self.entry result (with_filter self.old)) }
+        ensures* writes_back { sem 𝓛
+            (Lends (the_row L.row F.row) F.row self.entry result (with_filter self.old)) }
         ensures value { result.now ≡ filter_of self.old }
     {
         &mut self.filter
@@ -59,7 +60,8 @@ impl<L, F> Filtered<L, F> {
 
     /// Its layer, to be changed.
     pub fn inner_mut(&mut self) -> &mut L
-        ensures* writes_back { sem 𝓛 (Lends (the_row L.row F.row) L.row self.entry result (with_layer self.old)) }
+        ensures* writes_back { sem 𝓛
+            (Lends (the_row L.row F.row) L.row self.entry result (with_layer self.old)) }
         ensures value { result.now ≡ layer_of self.old }
     {
         &mut self.layer
@@ -71,15 +73,19 @@ impl<S: Subscriber, L: Layer<S>, F: Filter<S>> Layer<S> for Filtered<L, F> {
 
     ghost has_form = { λ x. FilteredForm x.id (F.has_answers x.filter) (L.has_form x.layer) };
 
-    ghost stepped = { λ x p e lane under v y w. (y.id ≡ x.id) × FilteredSteps F.hooked L.stepped x.id x.filter x.layer p e lane under v y.filter y.layer w };
+    ghost stepped = { λ x p e lane under v y w. (y.id ≡ x.id)
+        × FilteredSteps F.hooked L.stepped x.id x.filter x.layer p e lane under v y.filter y.layer
+        w };
 
     ghost hears = { λ x place h y. FilteredHears L.hears x.layer place h y.layer };
 
     ghost acts_at = { λ x. FilteredActs x.id (F.acts x.filter) L.acts_at x.layer };
 
-    ghost levelled = { λ x n l y. (y.id ≡ x.id) × FilteredLevels F.levelled L.levelled x.id x.filter x.layer n l y.filter y.layer };
+    ghost levelled = { λ x n l y. (y.id ≡ x.id)
+        × FilteredLevels F.levelled L.levelled x.id x.filter x.layer n l y.filter y.layer };
 
-    ghost registered = { λ x y. (y.id ≡ x.id) × (y.filter ≡ x.filter) × L.registered x.layer y.layer };
+    ghost registered = { λ x y. (y.id ≡ x.id) × (y.filter ≡ x.filter)
+        × L.registered x.layer y.layer };
 
     ghost attached = { λ x y. (y.filter ≡ x.filter) × L.attached x.layer y.layer };
 
@@ -87,7 +93,8 @@ impl<S: Subscriber, L: Layer<S>, F: Filter<S>> Layer<S> for Filtered<L, F> {
 
     ghost paths = { filtered_path_laws F.laws L.paths (λ x. x.id) (λ x. x.filter) (λ x. x.layer) };
 
-    ghost levels = { filtered_levels F.laws F.levels L.laws.heard L.levels (λ x. x.id) (λ x. x.filter) (λ x. x.layer) };
+    ghost levels = { filtered_levels F.laws F.levels L.laws.heard L.levels (λ x. x.id)
+        (λ x. x.filter) (λ x. x.layer) };
 
     fn on_register_dispatch(&mut self) {
         self.layer.on_register_dispatch();
@@ -164,7 +171,7 @@ impl<S: Subscriber, L: Layer<S>, F: Filter<S>> Layer<S> for Filtered<L, F> {
         let before = ctx.narrow(self.id);
         self.filter.on_new_span(attrs, id, ctx);
         self.layer.on_new_span(attrs, id, ctx);
-        ctx.widen(before);
+        ctx.restore_mask(before);
     }
 
     fn on_record(&mut self, id: Id, values: &Record<'_>, ctx: &mut ContextMut<'_, S>) {
@@ -174,7 +181,7 @@ impl<S: Subscriber, L: Layer<S>, F: Filter<S>> Layer<S> for Filtered<L, F> {
         let before = ctx.narrow(self.id);
         self.filter.on_record(id, values, ctx);
         self.layer.on_record(id, values, ctx);
-        ctx.widen(before);
+        ctx.restore_mask(before);
     }
 
     fn on_follows_from(&mut self, id: Id, follows: Id, ctx: &mut ContextMut<'_, S>) {
@@ -186,7 +193,7 @@ impl<S: Subscriber, L: Layer<S>, F: Filter<S>> Layer<S> for Filtered<L, F> {
         }
         let before = ctx.narrow(self.id);
         self.layer.on_follows_from(id, follows, ctx);
-        ctx.widen(before);
+        ctx.restore_mask(before);
     }
 
     fn on_event(&mut self, event: &Event<'_>, ctx: &mut ContextMut<'_, S>) {
@@ -195,7 +202,7 @@ impl<S: Subscriber, L: Layer<S>, F: Filter<S>> Layer<S> for Filtered<L, F> {
         }
         let before = ctx.narrow(self.id);
         self.layer.on_event(event, ctx);
-        ctx.widen(before);
+        ctx.restore_mask(before);
     }
 
     fn on_enter(&mut self, id: Id, ctx: &mut ContextMut<'_, S>) {
@@ -205,7 +212,7 @@ impl<S: Subscriber, L: Layer<S>, F: Filter<S>> Layer<S> for Filtered<L, F> {
         let before = ctx.narrow(self.id);
         self.filter.on_enter(id, ctx);
         self.layer.on_enter(id, ctx);
-        ctx.widen(before);
+        ctx.restore_mask(before);
     }
 
     fn on_exit(&mut self, id: Id, ctx: &mut ContextMut<'_, S>) {
@@ -215,7 +222,7 @@ impl<S: Subscriber, L: Layer<S>, F: Filter<S>> Layer<S> for Filtered<L, F> {
         let before = ctx.narrow(self.id);
         self.filter.on_exit(id, ctx);
         self.layer.on_exit(id, ctx);
-        ctx.widen(before);
+        ctx.restore_mask(before);
     }
 
     fn on_id_change(&mut self, id: Id, new: Id, ctx: &mut ContextMut<'_, S>) {
@@ -224,7 +231,7 @@ impl<S: Subscriber, L: Layer<S>, F: Filter<S>> Layer<S> for Filtered<L, F> {
         }
         let before = ctx.narrow(self.id);
         self.layer.on_id_change(id, new, ctx);
-        ctx.widen(before);
+        ctx.restore_mask(before);
     }
 
     fn on_close(&mut self, id: Id, ctx: &mut ContextMut<'_, S>) {
@@ -234,7 +241,7 @@ impl<S: Subscriber, L: Layer<S>, F: Filter<S>> Layer<S> for Filtered<L, F> {
         let before = ctx.narrow(self.id);
         self.filter.on_close(id, ctx);
         self.layer.on_close(id, ctx);
-        ctx.widen(before);
+        ctx.restore_mask(before);
     }
 
     fn set_level(&mut self, number: u32, level: LevelFilter) -> bool {

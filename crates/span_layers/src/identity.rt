@@ -55,7 +55,8 @@ impl<S: Subscriber> Layer<S> for Identity {
 
     ghost paths = { leaf_path_laws (λ x f h. is_leaf h) };
 
-    ghost levels = { leaf_levels (idle_laws (λ x f. f ≡ Leaf true open_answers) (λ x f h. is_leaf h)) };
+    ghost levels = { leaf_levels
+        (idle_laws (λ x f. f ≡ Leaf true open_answers) (λ x f h. is_leaf h)) };
 
     fn on_register_dispatch(&mut self) {
         // It has nothing to do.

@@ -2,7 +2,7 @@
 ghost use Rattle.span_layers.specs.Honest.{HonestyIsKept};
 ghost use Rattle.span_layers.specs.Takes.{OneFilterTakesALevel};
 ghost use Rattle.span_layers.specs.Verdict.{EventsAreFresh, NewSpansAreFresh, NotifiesByPaths, NumbersStayOwn, OthersStayFresh, VetoesAloneRefuse, VetoesAloneRefuseEvents};
-ghost use Rattle.span_layers.specs.Wanted.{AboveIsUnwanted, AlwaysIsWanted, NeverIsUnwanted};
+ghost use Rattle.span_layers.specs.Wanted.{AboveIsUnwanted, AlwaysAsksInVain, AlwaysIsWanted, NeverIsUnwanted};
 
 /// Who is notified by the pass is who is notified where each filter is asked afresh, and what the pass holds of a new span is
 /// its verdict.
@@ -49,8 +49,9 @@ pub fn the_ruled_out_are_unwanted()
     ensures above { AboveIsUnwanted }
 {}
 
-/// Where the interest of an honest stack, asked with a new pass, is `always`, no leaf vetoes, all filters asked pass, and a pass
-/// holds no refusal: if the stack isn't asked whether it wants the metadata, nothing changes for anyone.
+/// Where the interest of an honest stack, asked with a new pass, is `always`, no leaf vetoes, and each path whose filters have
+/// numbers passes: if the stack isn't asked whether it wants the metadata, nothing changes for anyone.
 pub fn always_is_wanted()
-    ensures { AlwaysIsWanted }
+    ensures wanted { AlwaysIsWanted }
+    ensures asked { AlwaysAsksInVain }
 {}

@@ -3,12 +3,12 @@ ghost use Rattle.std.specs.Prelude.{◌≡◌, ⊤, false, min};
 ghost use Rattle.span_layers.specs.Acts.{PathLaws};
 ghost use Rattle.span_layers.specs.Layer.{LayerEnabled, LayerEvent, LayerInterest, LayerLaws, LayerSteps, LeavesAlone, MayAsk, MayNotify, Notified};
 ghost use Rattle.span_layers.specs.Number.{TakesNumbers, filters_in};
-ghost use Rattle.span_registry.specs.Answers.{OnClose, OnEnter, OnEvent, OnExit, OnFollows, OnIdChange, OnNewSpan, OnRecord};
+ghost use Rattle.span_registry.specs.Behaviour.{OnClose, OnEnter, OnEvent, OnExit, OnFollows, OnIdChange, OnNewSpan, OnRecord};
 ghost use Rattle.span_registry.specs.Conducts.{ActsAt};
 ghost use Rattle.span_registry.specs.Context.{HandsOn, HasNoRefusals};
 ghost use Rattle.span_registry.specs.Form.{Form, is_absent, is_marked};
 ghost use Rattle.span_registry.specs.Levels.{LevelLaws, LevelSteps, takes_level};
-ghost use Rattle.span_registry.specs.Place.{HearSteps};
+ghost use Rattle.span_registry.specs.Position.{HearSteps};
 ghost use Rattle.span_registry.specs.Question.{ShowsBy, hint_of};
 
 use span_core::{Attributes, Event, Id, Interest, LevelFilter, Metadata, Pass, Record};
@@ -60,7 +60,8 @@ pub trait Layer<S: Subscriber> {
         ensures layer { usable self.new }
         ensures subscriber { S.usable subscriber.new }
         ensures attached { attached self.old self.new }
-        ensures numbers { TakesNumbers S.registry S.with_registry has_form self.old subscriber.old self.new subscriber.new };
+        ensures numbers { TakesNumbers S.registry S.with_registry has_form self.old subscriber.old
+            self.new subscriber.new };
 
     /// Its interest in what a callsite with this metadata makes. Its filters add their interests to the pass.
     fn register_callsite(&self, meta: &Metadata, pass: &mut Pass) -> Interest
@@ -70,12 +71,14 @@ pub trait Layer<S: Subscriber> {
     /// Whether it wants a span or an event with this metadata. Its filters' answers go into the pass.
     fn enabled(&self, meta: &Metadata, ctx: &Context<'_, S>, pass: &mut Pass) -> bool
         requires { MayAsk usable S.usable self.now ctx.now }
-        ensures { LayerEnabled S.registry has_form self.now meta.now ctx.now pass.old result pass.new };
+        ensures { LayerEnabled S.registry has_form self.now meta.now ctx.now pass.old result
+            pass.new };
 
     /// Whether it wants this event, after `enabled`. Its filters' answers go into the pass.
     fn event_enabled(&self, event: &Event<'_>, ctx: &Context<'_, S>, pass: &mut Pass) -> bool
         requires { MayAsk usable S.usable self.now ctx.now }
-        ensures { LayerEvent S.registry has_form self.now event.now ctx.now pass.old result pass.new };
+        ensures { LayerEvent S.registry has_form self.now event.now ctx.now pass.old result
+            pass.new };
 
     /// The highest level that it may want, if it knows one.
     fn max_level_hint(&self) -> Option<LevelFilter>
@@ -110,7 +113,8 @@ pub trait Layer<S: Subscriber> {
         ensures usable { MayNotify usable S.usable self.new ctx.new }
         ensures rest { HandsOn S.registry ctx.old ctx.new }
         ensures alone { LeavesAlone S.registry S.with_registry has_form self.old ctx.old ctx.new }
-        ensures hook { Notified S.registry has_form stepped (OnNewSpan attrs.now id) self.old ctx.old self.new ctx.new };
+        ensures hook { Notified S.registry has_form stepped (OnNewSpan attrs.now id) self.old
+            ctx.old self.new ctx.new };
 
     /// Notifies of values that a span was given later.
     fn on_record(&mut self, id: Id, values: &Record<'_>, ctx: &mut ContextMut<'_, S>)
@@ -119,7 +123,8 @@ pub trait Layer<S: Subscriber> {
         ensures usable { MayNotify usable S.usable self.new ctx.new }
         ensures rest { HandsOn S.registry ctx.old ctx.new }
         ensures alone { LeavesAlone S.registry S.with_registry has_form self.old ctx.old ctx.new }
-        ensures hook { Notified S.registry has_form stepped (OnRecord id values.now) self.old ctx.old self.new ctx.new };
+        ensures hook { Notified S.registry has_form stepped (OnRecord id values.now) self.old
+            ctx.old self.new ctx.new };
 
     /// Notifies that a span follows from another one.
     fn on_follows_from(&mut self, id: Id, follows: Id, ctx: &mut ContextMut<'_, S>)
@@ -128,7 +133,8 @@ pub trait Layer<S: Subscriber> {
         ensures usable { MayNotify usable S.usable self.new ctx.new }
         ensures rest { HandsOn S.registry ctx.old ctx.new }
         ensures alone { LeavesAlone S.registry S.with_registry has_form self.old ctx.old ctx.new }
-        ensures hook { Notified S.registry has_form stepped (OnFollows id follows) self.old ctx.old self.new ctx.new };
+        ensures hook { Notified S.registry has_form stepped (OnFollows id follows) self.old
+            ctx.old self.new ctx.new };
 
     /// Notifies of an event.
     fn on_event(&mut self, event: &Event<'_>, ctx: &mut ContextMut<'_, S>)
@@ -136,7 +142,8 @@ pub trait Layer<S: Subscriber> {
         ensures usable { MayNotify usable S.usable self.new ctx.new }
         ensures rest { HandsOn S.registry ctx.old ctx.new }
         ensures alone { LeavesAlone S.registry S.with_registry has_form self.old ctx.old ctx.new }
-        ensures hook { Notified S.registry has_form stepped (OnEvent event.now) self.old ctx.old self.new ctx.new };
+        ensures hook { Notified S.registry has_form stepped (OnEvent event.now) self.old ctx.old
+            self.new ctx.new };
 
     /// Notifies that a span is entered.
     fn on_enter(&mut self, id: Id, ctx: &mut ContextMut<'_, S>)
@@ -145,7 +152,8 @@ pub trait Layer<S: Subscriber> {
         ensures usable { MayNotify usable S.usable self.new ctx.new }
         ensures rest { HandsOn S.registry ctx.old ctx.new }
         ensures alone { LeavesAlone S.registry S.with_registry has_form self.old ctx.old ctx.new }
-        ensures hook { Notified S.registry has_form stepped (OnEnter id) self.old ctx.old self.new ctx.new };
+        ensures hook { Notified S.registry has_form stepped (OnEnter id) self.old ctx.old self.new
+            ctx.new };
 
     /// Notifies that a span is left.
     fn on_exit(&mut self, id: Id, ctx: &mut ContextMut<'_, S>)
@@ -154,7 +162,8 @@ pub trait Layer<S: Subscriber> {
         ensures usable { MayNotify usable S.usable self.new ctx.new }
         ensures rest { HandsOn S.registry ctx.old ctx.new }
         ensures alone { LeavesAlone S.registry S.with_registry has_form self.old ctx.old ctx.new }
-        ensures hook { Notified S.registry has_form stepped (OnExit id) self.old ctx.old self.new ctx.new };
+        ensures hook { Notified S.registry has_form stepped (OnExit id) self.old ctx.old self.new
+            ctx.new };
 
     /// Notifies that a span's handle was cloned under another id.
     fn on_id_change(&mut self, id: Id, new: Id, ctx: &mut ContextMut<'_, S>)
@@ -163,7 +172,8 @@ pub trait Layer<S: Subscriber> {
         ensures usable { MayNotify usable S.usable self.new ctx.new }
         ensures rest { HandsOn S.registry ctx.old ctx.new }
         ensures alone { LeavesAlone S.registry S.with_registry has_form self.old ctx.old ctx.new }
-        ensures hook { Notified S.registry has_form stepped (OnIdChange id new) self.old ctx.old self.new ctx.new };
+        ensures hook { Notified S.registry has_form stepped (OnIdChange id new) self.old ctx.old
+            self.new ctx.new };
 
     /// Notifies that a span is closing, while it can still be read.
     fn on_close(&mut self, id: Id, ctx: &mut ContextMut<'_, S>)
@@ -172,7 +182,8 @@ pub trait Layer<S: Subscriber> {
         ensures usable { MayNotify usable S.usable self.new ctx.new }
         ensures rest { HandsOn S.registry ctx.old ctx.new }
         ensures alone { LeavesAlone S.registry S.with_registry has_form self.old ctx.old ctx.new }
-        ensures hook { Notified S.registry has_form stepped (OnClose id) self.old ctx.old self.new ctx.new };
+        ensures hook { Notified S.registry has_form stepped (OnClose id) self.old ctx.old self.new
+            ctx.new };
 
     /// Where it is notified, or put in use, it keeps what it has of its form, and its leaves hear what they are notified of.
     ghost laws: { LayerLaws has_form stepped hears registered };

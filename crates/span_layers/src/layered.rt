@@ -7,8 +7,8 @@ ghost use Rattle.span_layers.specs.Levels.{LayeredLevels, layered_levels};
 ghost use Rattle.span_layers.specs.contracts.layered.Layered.{the_row};
 ghost use Rattle.span_core.specs.Level.{greater_hint};
 ghost use Rattle.span_core.specs.declared.interest.Interest.TheVariants.{Sometimes};
-ghost use Rattle.span_layers.specs.Kept.{pair_laws};
-ghost use Rattle.span_layers.specs.Layered.{LayeredHears, OverForm, PairSteps, inner_of, outer_of, with_inner, with_outer};
+ghost use Rattle.span_layers.specs.LayeredLaws.{pair_laws};
+ghost use Rattle.span_layers.specs.Layered.{LayeredHears, PartsForm, PairSteps, inner_of, outer_of, with_inner, with_outer};
 ghost use Rattle.span_registry.specs.Form.{InPair};
 ghost use Rattle.span_registry.specs.Question.{hint_by, is_never};
 
@@ -35,7 +35,8 @@ impl<L, I> Layered<L, I> {
 
     /// Its outer part, to be changed.
     pub fn layer_mut(&mut self) -> &mut L
-        ensures* writes_back { sem 𝓛 (Lends (the_row L.row I.row) L.row self.entry result (with_outer self.old)) }
+        ensures* writes_back { sem 𝓛
+            (Lends (the_row L.row I.row) L.row self.entry result (with_outer self.old)) }
         ensures value { result.now ≡ outer_of self.old }
     {
         &mut self.layer
@@ -50,10 +51,19 @@ impl<L, I> Layered<L, I> {
 
     /// Its inner part, to be changed.
     pub fn inner_mut(&mut self) -> &mut I
-        ensures* writes_back { sem 𝓛 (Lends (the_row L.row I.row) I.row self.entry result (with_inner self.old)) }
+        ensures* writes_back { sem 𝓛
+            (Lends (the_row L.row I.row) I.row self.entry result (with_inner self.old)) }
         ensures value { result.now ≡ inner_of self.old }
     {
         &mut self.inner
+    }
+
+    /// Its outer part and its inner one, taken apart.
+    pub fn into_parts(self) -> (L, I)
+        ensures outer { result.0 ≡ outer_of self }
+        ensures inner { result.1 ≡ inner_of self }
+    {
+        (self.layer, self.inner)
     }
 }
 
@@ -78,7 +88,8 @@ fn greater_of(h: Option<LevelFilter>, k: Option<LevelFilter>) -> Option<LevelFil
 
 /// The hint of an outer part over an inner one that is no registry: the first rule that fits.
 pub(crate) fn hint_over(outer: Hinted, inner: Hinted) -> Option<LevelFilter>
-    ensures { result ≡ hint_by outer.marked inner.marked outer.absent inner.absent outer.hint inner.hint }
+    ensures { result ≡ hint_by outer.marked inner.marked outer.absent inner.absent outer.hint
+        inner.hint }
 {
     if outer.marked && inner.marked {
         return match (outer.hint, inner.hint) {
@@ -115,15 +126,18 @@ pub(crate) fn calmed(inner: Interest, calm: bool) -> Interest
 impl<S: Subscriber, L: Layer<S>, I: Layer<S>> Layer<S> for Layered<L, I> {
     ghost usable = { λ x. L.usable x.layer × I.usable x.inner };
 
-    ghost has_form = { λ x. OverForm InPair (L.has_form x.layer) (I.has_form x.inner) };
+    ghost has_form = { λ x. PartsForm InPair (L.has_form x.layer) (I.has_form x.inner) };
 
-    ghost stepped = { λ x p e lane under v y w. PairSteps L.stepped I.stepped x.layer x.inner p e lane under v y.layer y.inner w };
+    ghost stepped = { λ x p e lane under v y w.
+        PairSteps L.stepped I.stepped x.layer x.inner p e lane under v y.layer y.inner w };
 
-    ghost hears = { λ x place h y. LayeredHears L.hears I.hears x.layer x.inner place h y.layer y.inner };
+    ghost hears = { λ x place h y.
+        LayeredHears L.hears I.hears x.layer x.inner place h y.layer y.inner };
 
     ghost acts_at = { λ x. LayeredActs L.acts_at I.acts_at x.layer x.inner };
 
-    ghost levelled = { λ x n l y. LayeredLevels L.levelled I.levelled x.layer x.inner n l y.layer y.inner };
+    ghost levelled = { λ x n l y.
+        LayeredLevels L.levelled I.levelled x.layer x.inner n l y.layer y.inner };
 
     ghost registered = { λ x y. L.registered x.layer y.layer × I.registered x.inner y.inner };
 

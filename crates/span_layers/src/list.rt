@@ -58,7 +58,8 @@ fn number<S: Subscriber, L: Layer<S>>(members: &mut [L], subscriber: &mut S)
     ensures members { All L.usable members.new }
     ensures subscriber { S.usable subscriber.new }
     ensures attached { AllZip L.attached members.old members.new }
-    ensures numbers { TakesNumbers S.registry S.with_registry (ListForm L.has_form) members.old subscriber.old members.new subscriber.new }
+    ensures numbers { TakesNumbers S.registry S.with_registry (ListForm L.has_form) members.old
+        subscriber.old members.new subscriber.new }
 {
     for member in members.iter_mut() {
         member.on_layer(subscriber);
@@ -80,7 +81,8 @@ fn set_levels<S: Subscriber, L: Layer<S>>(
 ) -> bool
     requires { All L.usable members.old }
     ensures usable { All L.usable members.new }
-    ensures taken { ShowsBy (ListForm L.has_form members.old) (λ f. takes_level f number level) result }
+    ensures taken { ShowsBy (ListForm L.has_form members.old) (λ f. takes_level f number level)
+        result }
     ensures level { ListLevels L.levelled members.old number level members.new }
     ensures unchanged { result ≡ false → members.new ≡ members.old }
 {
@@ -104,7 +106,8 @@ fn notify<S: Subscriber, L: Layer<S>>(
     ensures usable { MayNotify L.usable S.usable member.new ctx.new }
     ensures rest { HandsOn S.registry ctx.old ctx.new }
     ensures alone { LeavesAlone S.registry S.with_registry L.has_form member.old ctx.old ctx.new }
-    ensures hook { Notified S.registry L.has_form L.stepped (notice_of notice.entry) member.old ctx.old member.new ctx.new }
+    ensures hook { Notified S.registry L.has_form L.stepped (notice_of notice.entry) member.old
+        ctx.old member.new ctx.new }
 {
     match notice {
         Observed::NewSpan(attrs, id) => member.on_new_span(attrs, id, ctx),
@@ -129,8 +132,10 @@ fn notify_all<S: Subscriber, L: Layer<S>>(
     requires refusals { HasNoRefusalsUnlessAsked (notice_of notice) ctx.old }
     ensures usable { MayNotify (All L.usable) S.usable members.new ctx.new }
     ensures rest { HandsOn S.registry ctx.old ctx.new }
-    ensures alone { LeavesAlone S.registry S.with_registry (ListForm L.has_form) members.old ctx.old ctx.new }
-    ensures hook { Notified S.registry (ListForm L.has_form) (ListSteps L.stepped) (notice_of notice.entry) members.old ctx.old members.new ctx.new }
+    ensures alone { LeavesAlone S.registry S.with_registry (ListForm L.has_form) members.old
+        ctx.old ctx.new }
+    ensures hook { Notified S.registry (ListForm L.has_form) (ListSteps L.stepped)
+        (notice_of notice.entry) members.old ctx.old members.new ctx.new }
 {
     for member in members.iter_mut() {
         notify(member, notice, ctx);
@@ -142,7 +147,8 @@ impl<S: Subscriber, L: Layer<S>> Layer<S> for Vec<L> {
 
     ghost has_form = { λ x. ListForm L.has_form x.items };
 
-    ghost stepped = { λ x p e lane under v y w. ListSteps L.stepped x.items p e lane under v y.items w };
+    ghost stepped = { λ x p e lane under v y w.
+        ListSteps L.stepped x.items p e lane under v y.items w };
 
     ghost hears = { λ x place h y. ListHears L.hears x.items place h y.items };
 

@@ -1,10 +1,12 @@
 //! A layer with one method: it refuses nothing, and is notified of everything through it.
+ghost use Rattle.std.specs.Borrow.{Lends, sem};
 ghost use Rattle.std.specs.Prelude.{◌≡◌, ⊤, true};
 ghost use Rattle.span_layers.specs.Acts.{LeafActs};
 ghost use Rattle.span_layers.specs.ActsKept.{is_leaf, leaf_path_laws};
 ghost use Rattle.span_layers.specs.Layer.{HearsBy};
 ghost use Rattle.span_layers.specs.Levels.{leaf_levels};
-ghost use Rattle.span_layers.specs.Observe.{ObserverStep, ObserverSteps, Observes, notice_of, observer_laws, observer_of, open_answers};
+ghost use Rattle.span_layers.specs.Observe.{ObserverStep, ObserverSteps, Observes, notice_of, observer_laws, observer_of, open_answers, with_observer};
+ghost use Rattle.span_layers.specs.contracts.observe.Observer.{the_row};
 ghost use Rattle.span_registry.specs.Context.{HasNoRefusalsUnlessAsked, WritesExtensions, subscriber_lent};
 ghost use Rattle.span_registry.specs.Form.{Leaf};
 ghost use Rattle.span_registry.specs.Levels.{unlevelled};
@@ -72,6 +74,22 @@ impl<T> Observer<T> {
     {
         &self.observer
     }
+
+    /// The observer, to be changed.
+    pub fn observer_mut(&mut self) -> &mut T
+        ensures* writes_back { sem 𝓛
+            (Lends (the_row T.row) T.row self.entry result (with_observer self.old)) }
+        ensures value { result.now ≡ observer_of self.old }
+    {
+        &mut self.observer
+    }
+
+    /// The observer, taken out.
+    pub fn into_observer(self) -> T
+        ensures { result ≡ observer_of self }
+    {
+        self.observer
+    }
 }
 
 impl<S: Subscriber, T: Observe<S>> Layer<S> for Observer<T> {
@@ -79,9 +97,11 @@ impl<S: Subscriber, T: Observe<S>> Layer<S> for Observer<T> {
 
     ghost has_form = { λ x f. f ≡ Leaf true open_answers };
 
-    ghost stepped = { λ x p e lane under v y w. ObserverStep T.observed x.observer p e lane under v y.observer w };
+    ghost stepped = { λ x p e lane under v y w.
+        ObserverStep T.observed x.observer p e lane under v y.observer w };
 
-    ghost hears = { HearsBy (λ x p e lane under v y w. ObserverStep T.observed x.observer p e lane under v y.observer w) };
+    ghost hears = { HearsBy (λ x p e lane under v y w.
+        ObserverStep T.observed x.observer p e lane under v y.observer w) };
 
     ghost acts_at = { LeafActs };
 

@@ -3,8 +3,8 @@ ghost use Rattle.std.specs.Prelude.{◌≡◌, refl};
 ghost use Rattle.std.proofs.Common.{ap};
 ghost use Rattle.span_layers.specs.Acts.{LayeredActs};
 ghost use Rattle.span_layers.specs.ActsKept.{stack_path_laws};
-ghost use Rattle.span_layers.specs.Kept.{stack_laws};
-ghost use Rattle.span_layers.specs.Layered.{LayeredHears, LayeredSteps, OverForm};
+ghost use Rattle.span_layers.specs.LayeredLaws.{stack_laws};
+ghost use Rattle.span_layers.specs.Layered.{LayeredHears, LayeredSteps, PartsForm};
 ghost use Rattle.span_layers.specs.Levels.{LayeredLevels, layered_levels};
 ghost use Rattle.span_registry.specs.Form.{OnSubscriber};
 
@@ -47,21 +47,27 @@ impl<L, I: LookupSpan> LookupSpan for Layered<L, I> {
 impl<I: Subscriber, L: Layer<I>> Subscriber for Layered<L, I> {
     ghost usable = { λ x. L.usable x.layer × I.usable x.inner };
 
-    ghost has_form = { λ x. OverForm OnSubscriber (L.has_form x.layer) (I.has_form x.inner) };
+    ghost has_form = { λ x. PartsForm OnSubscriber (L.has_form x.layer) (I.has_form x.inner) };
 
-    ghost stepped = { λ x p e lane v y w. LayeredSteps I.with_registry L.stepped I.stepped x.layer x.inner p e lane v y.layer y.inner w };
+    ghost stepped = { λ x p e lane v y w.
+        LayeredSteps I.with_registry L.stepped I.stepped x.layer x.inner p e lane v y.layer
+        y.inner w };
 
-    ghost hears = { λ x place h y. LayeredHears L.hears I.hears x.layer x.inner place h y.layer y.inner };
+    ghost hears = { λ x place h y.
+        LayeredHears L.hears I.hears x.layer x.inner place h y.layer y.inner };
 
     ghost acts_at = { λ x. LayeredActs L.acts_at I.acts_at x.layer x.inner };
 
-    ghost levelled = { λ x n l y. LayeredLevels L.levelled I.levelled x.layer x.inner n l y.layer y.inner };
+    ghost levelled = { λ x n l y.
+        LayeredLevels L.levelled I.levelled x.layer x.inner n l y.layer y.inner };
 
     ghost registered = { λ x y. L.registered x.layer y.layer × I.registered x.inner y.inner };
 
-    ghost laws = { stack_laws L.laws I.laws L.usable (λ x. x.layer) (λ x. x.inner) (λ x i. record x { inner = i }) (λ x i. refl) (λ x i. refl) };
+    ghost laws = { stack_laws L.laws I.laws L.usable (λ x. x.layer) (λ x. x.inner)
+        (λ x i. record x { inner = i }) (λ x i. refl) (λ x i. refl) };
 
-    ghost paths = { stack_path_laws L.paths I.paths (λ x. x.layer) (λ x. x.inner) (λ x i. record x { inner = i }) (λ x i. refl) (λ x i. refl) };
+    ghost paths = { stack_path_laws L.paths I.paths (λ x. x.layer) (λ x. x.inner)
+        (λ x i. record x { inner = i }) (λ x i. refl) (λ x i. refl) };
 
     ghost levels = { layered_levels L.levels I.levels OnSubscriber (λ x. x.layer) (λ x. x.inner) };
 

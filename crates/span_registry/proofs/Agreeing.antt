@@ -1,6 +1,7 @@
 -- Stores that agree: they are seen alike, they still agree after a step that both take, and each can be cut down.
 use Rattle.std.proofs.Common.{◌≡◌, ℕ, ◌+◌, ◌-◌, ◌<◌, Bool, true, false, cond, not, ◌&&◌, IsTrue, List, [], ◌∷◌, map, Option, None, Some, IfSome, refl, sym, ap, subst, ◌∙◌, inl, inr}
 use Rattle.std.proofs.lemmas.Bool.{and_parts}
+use Rattle.std.specs.Prelude.{⊤}
 use Rattle.std.specs.Cmp.{nat_cmp_total}
 use Rattle.std.specs.FinMap.{empty, entries, find, from_entries, get, get-entries, get-from_entries, get-insert, get-remove, insert, remove}
 use Rattle.std.specs.FinSet.{FinSet, insert as add}
@@ -17,8 +18,8 @@ use Rattle.span_core.specs.declared.span.Id.{Id}
 use Rattle.span_core.specs.declared.span.Lane.{Lane}
 use Rattle.span_core.specs.declared.span.Parent.TheVariants.{Contextual, Explicit, Root}
 use Rattle.span_core.specs.declared.span.Parent.{Parent}
-use Rattle.span_registry.specs.Agree.{AgreeAt, IsCutDown, PlacesAgree, SpansAgree, VerdictsAgree}
-use Rattle.span_registry.specs.Answers.{AreAlike, unextended}
+use Rattle.span_registry.specs.Agree.{AgreeAt, IsCutDown, known_to}
+use Rattle.span_registry.specs.Behaviour.{AreAlike, unextended}
 use Rattle.span_registry.specs.Closes.{Closes, IsDeeper, IsDeepestFirst, IsUnheld, remove_all, without}
 use Rattle.span_registry.specs.LaneStack.{leave}
 use Rattle.span_registry.specs.Plan.{is_passed}
@@ -31,26 +32,32 @@ use Rattle.span_registry.proofs.Ancestry.{seen_at}
 
 -- ---- what stands at a number in both
 
--- the maps agree at each number
-abbrev MapsAgree : FilterSet → Spans → Spans → Type 0
-MapsAgree numbers m n = (x : ℕ) → PlacesAgree numbers (get m x) (get n x)
+-- of these filters, the same refused
+abbrev pub VerdictsAgree : FilterSet → FilterMap → FilterMap → Type 0
+VerdictsAgree numbers v w = (n : ℕ) → IsTrue (numbers n) → refuses v n ≡ refuses w n
 
-place_itself : (numbers : FilterSet) (a : Option Span) → PlacesAgree numbers a a
-place_itself numbers None = tt
-place_itself numbers (Some r) = record { metadata = refl; parent = refl; handles = refl; verdict = λ n t. refl }
+-- the two are the same but for their verdicts, and of these filters the same refused both
+pub record SpansAgree (numbers : FilterSet) (r q : Span) : Type 0 where
+  pub metadata : r.metadata ≡ q.metadata
+  pub parent : r.parent ≡ q.parent
+  pub handles : r.handles ≡ q.handles
+  pub verdict : VerdictsAgree numbers r.verdict q.verdict
+
+-- neither is there, or both are, and agree
+abbrev pub PlacesAgree : FilterSet → Option Span → Option Span → Type 0
+PlacesAgree numbers None None = ⊤
+PlacesAgree numbers (Some r) (Some q) = SpansAgree numbers r q
+PlacesAgree numbers o other = ⊥
+
+-- the maps agree at each number
+abbrev pub MapsAgree : FilterSet → Spans → Spans → Type 0
+MapsAgree numbers m n = (x : ℕ) → PlacesAgree numbers (get m x) (get n x)
 
 place_back : (numbers : FilterSet) (a b : Option Span) → PlacesAgree numbers a b → PlacesAgree numbers b a
 place_back numbers None None h = tt
 place_back numbers None (Some q) h = absurd h
 place_back numbers (Some r) None h = absurd h
 place_back numbers (Some r) (Some q) h = record { metadata = sym h.metadata; parent = sym h.parent; handles = sym h.handles; verdict = λ n t. sym (h.verdict n t) }
-
-place_further : (numbers : FilterSet) (a b c : Option Span) → PlacesAgree numbers a b → PlacesAgree numbers b c → PlacesAgree numbers a c
-place_further numbers None None c h k = k
-place_further numbers None (Some q) c h k = absurd h
-place_further numbers (Some r) None c h k = absurd h
-place_further numbers (Some r) (Some q) None h k = absurd k
-place_further numbers (Some r) (Some q) (Some w) h k = record { metadata = h.metadata ∙ k.metadata; parent = h.parent ∙ k.parent; handles = h.handles ∙ k.handles; verdict = λ n t. h.verdict n t ∙ k.verdict n t }
 
 maps_back : (numbers : FilterSet) (m n : Spans) → MapsAgree numbers m n → MapsAgree numbers n m
 maps_back numbers m n f = λ x. place_back numbers (get m x) (get n x) (f x)
@@ -62,18 +69,48 @@ found numbers (Some w) (Some q) r h e = let same : w ≡ r = cc in (q, refl, sub
 
 -- ---- agreement
 
+same_member : (a b c : Bool) → (IsTrue a → b ≡ c) → (a && b) ≡ (a && c)
+same_member true b c h = h refl
+same_member false b c h = refl
+
+-- what filters can tell of two spans is the same exactly where these agree
+place_from : (numbers : FilterSet) (a b : Option Span) → option_map (known_to numbers) a ≡ option_map (known_to numbers) b → PlacesAgree numbers a b
+place_from numbers None None e = tt
+place_from numbers None (Some q) e = let not_so : ⊥ = cc in absurd not_so
+place_from numbers (Some r) None e = let not_so : ⊥ = cc in absurd not_so
+place_from numbers (Some r) (Some q) e =
+    let same : known_to numbers r ≡ known_to numbers q = cc in
+    record {
+      metadata = λ i. (same i).0;
+      parent = λ i. (same i).1;
+      handles = λ i. (same i).2;
+      verdict = λ n t. sym (ap (λ (b : Bool). b && refuses r.verdict n) t) ∙ (λ i. (same i).3 n) ∙ ap (λ (b : Bool). b && refuses q.verdict n) t;
+    }
+
+place_so : (numbers : FilterSet) (a b : Option Span) → PlacesAgree numbers a b → option_map (known_to numbers) a ≡ option_map (known_to numbers) b
+place_so numbers None None h = refl
+place_so numbers None (Some q) h = absurd h
+place_so numbers (Some r) None h = absurd h
+place_so numbers (Some r) (Some q) h = λ i. Some (h.metadata i, h.parent i, h.handles i, λ n. same_member (numbers n) (refuses r.verdict n) (refuses q.verdict n) (h.verdict n) i)
+
+pub places_of : (numbers : FilterSet) (s t : Store) → AgreeAt numbers s t → MapsAgree numbers s.spans t.spans
+places_of numbers s t h x = place_from numbers (get s.spans x) (get t.spans x) (h.spans x)
+
+agree_by : (numbers : FilterSet) (s t : Store) → MapsAgree numbers s.spans t.spans → s.issued ≡ t.issued → s.stacks ≡ t.stacks → AgreeAt numbers s t
+agree_by numbers s t f issued stacks = record { spans = λ x. place_so numbers (get s.spans x) (get t.spans x) (f x); issued = issued; stacks = stacks }
+
 -- each store agrees with itself
 pub agree_refl : (numbers : FilterSet) (s : Store) → AgreeAt numbers s s
-agree_refl numbers s = record { spans = λ x. place_itself numbers (get s.spans x); issued = refl; stacks = refl }
+agree_refl numbers s = record { spans = λ x. refl; issued = refl; stacks = refl }
 
 -- it goes both ways
 pub agree_sym : (numbers : FilterSet) (s t : Store) → AgreeAt numbers s t → AgreeAt numbers t s
-agree_sym numbers s t h = record { spans = maps_back numbers s.spans t.spans h.spans; issued = sym h.issued; stacks = sym h.stacks }
+agree_sym numbers s t h = record { spans = λ x. sym (h.spans x); issued = sym h.issued; stacks = sym h.stacks }
 
 -- and on
 pub agree_trans : (numbers : FilterSet) (s t u : Store) → AgreeAt numbers s t → AgreeAt numbers t u → AgreeAt numbers s u
 agree_trans numbers s t u h k = record {
-  spans = λ x. place_further numbers (get s.spans x) (get t.spans x) (get u.spans x) (h.spans x) (k.spans x);
+  spans = λ x. h.spans x ∙ k.spans x;
   issued = h.issued ∙ k.issued;
   stacks = h.stacks ∙ k.stacks;
 }
@@ -81,16 +118,12 @@ agree_trans numbers s t u h k = record {
 -- extensions make no difference
 pub agree_aside : (numbers : FilterSet) (v w : RegistryState) → SameButExtensions v w → AgreeAt numbers v.store w.store
 agree_aside numbers v w h = record {
-  spans = λ x. subst (λ (m : Spans). PlacesAgree numbers (get v.store.spans x) (get m x)) (sym h.spans) (place_itself numbers (get v.store.spans x));
+  spans = λ x. ap (λ (m : Spans). option_map (known_to numbers) (get m x)) (sym h.spans);
   issued = sym h.issued;
   stacks = sym h.stacks;
 }
 
 -- ---- what is seen
-
-same_member : (a b c : Bool) → (IsTrue a → b ≡ c) → (a && b) ≡ (a && c)
-same_member true b c h = h refl
-same_member false b c h = refl
 
 -- filters among these hide the same
 pub same_hidden : (numbers set : FilterSet) (v w : FilterMap) → VerdictsAgree numbers v w → ((n : ℕ) → IsTrue (set n) → IsTrue (numbers n)) → meets set (refuses v) ≡ meets set (refuses w)
@@ -113,7 +146,7 @@ views_alike numbers mask s t lane h i = record {
   stack = ap (λ (m : Stacks). stack_of m lane) h.stacks;
   spans = λ x.
       ap (option_map unextended) (seen_at s mask x)
-      ∙ seen_alike numbers mask (get s.spans x) (get t.spans x) (get s.extensions x) (get t.extensions x) (h.spans x) i
+      ∙ seen_alike numbers mask (get s.spans x) (get t.spans x) (get s.extensions x) (get t.extensions x) (places_of numbers s t h x) i
       ∙ ap (option_map unextended) (sym (seen_at t mask x));
 }
 
@@ -126,7 +159,7 @@ place_passed numbers set (Some r) (Some q) h i = ap not (same_hidden numbers set
 
 -- filters among these pass the same spans
 pub passed_alike : (numbers set : FilterSet) (s t : Store) (id : Id) → AgreeAt numbers s t → ((n : ℕ) → IsTrue (set n) → IsTrue (numbers n)) → is_passed s.spans set id ≡ is_passed t.spans set id
-passed_alike numbers set s t id h i = place_passed numbers set (get s.spans (number_of id)) (get t.spans (number_of id)) (h.spans (number_of id)) i
+passed_alike numbers set s t id h i = place_passed numbers set (get s.spans (number_of id)) (get t.spans (number_of id)) (places_of numbers s t h (number_of id)) i
 
 -- ---- the parent that a new span gets
 
@@ -146,21 +179,21 @@ open_over numbers m n x f h =
 
 -- what is open in the one is open in the other, and so is what isn't
 pub open_alike : (numbers : FilterSet) (s t : Store) (x : ℕ) → AgreeAt numbers s t → IsOpen s.spans x → IsOpen t.spans x
-open_alike numbers s t x h o = open_over numbers s.spans t.spans x h.spans o
+open_alike numbers s t x h o = open_over numbers s.spans t.spans x (places_of numbers s t h) o
 
 pub not_open_alike : (numbers : FilterSet) (s t : Store) (x : ℕ) → AgreeAt numbers s t → ¬ (IsOpen s.spans x) → ¬ (IsOpen t.spans x)
-not_open_alike numbers s t x h k o = k (open_over numbers t.spans s.spans x (maps_back numbers s.spans t.spans h.spans) o)
+not_open_alike numbers s t x h k o = k (open_over numbers t.spans s.spans x (maps_back numbers s.spans t.spans (places_of numbers s t h)) o)
 
 -- what is closing in the one is closing in the other
 pub closing_alike : (numbers : FilterSet) (s t : Store) (x : ℕ) → AgreeAt numbers s t → IsClosing s.spans x → IsClosing t.spans x
 closing_alike numbers s t x h k =
-    let u = found numbers (get s.spans x) (get t.spans x) k.0 (h.spans x) k.1 in
-    (u.0, u.1, sym u.2.handles ∙ k.2, λ c. k.3 (child_over numbers t.spans s.spans x (maps_back numbers s.spans t.spans h.spans) c))
+    let u = found numbers (get s.spans x) (get t.spans x) k.0 (places_of numbers s t h x) k.1 in
+    (u.0, u.1, sym u.2.handles ∙ k.2, λ c. k.3 (child_over numbers t.spans s.spans x (maps_back numbers s.spans t.spans (places_of numbers s t h)) c))
 
 -- what is held in the one is held in the other
 pub held_alike : (numbers : FilterSet) (s t : Store) (x : ℕ) → AgreeAt numbers s t → IsHeld s.spans x → IsHeld t.spans x
 held_alike numbers s t x h k =
-    let u = found numbers (get s.spans x) (get t.spans x) k.0 (h.spans x) k.1 in
+    let u = found numbers (get s.spans x) (get t.spans x) k.0 (places_of numbers s t h x) k.1 in
     (u.0, u.1, subst (λ (n : ℕ). 0 < n) u.2.handles k.2)
 
 last_same : (s t : Store) (lane : ℕ) → s.stacks ≡ t.stacks → entered_last s lane ≡ entered_last t lane
@@ -172,16 +205,16 @@ none_over None (Some y) P Q e f h = let not_so : ⊥ = cc in absurd not_so
 none_over (Some x) (Some y) P Q e f h = let same : x ≡ y = cc in subst Q same (f x h)
 
 context_over : (numbers : FilterSet) (s t : Store) (lane : Lane) (o : Option ℕ) → AgreeAt numbers s t → IsContext s lane o → IsContext t lane o
-context_over numbers s t lane (Some x) h c = (sym (last_same s t lane.0 h.stacks) ∙ c.0, open_over numbers s.spans t.spans x h.spans c.1)
+context_over numbers s t lane (Some x) h c = (sym (last_same s t lane.0 h.stacks) ∙ c.0, open_over numbers s.spans t.spans x (places_of numbers s t h) c.1)
 context_over numbers s t lane None h c =
     none_over (entered_last s lane.0) (entered_last t lane.0) (λ x. IsOpen s.spans x → ⊥) (λ x. IsOpen t.spans x → ⊥) (last_same s t lane.0 h.stacks)
-    (λ x k o. k (open_over numbers t.spans s.spans x (maps_back numbers s.spans t.spans h.spans) o)) c
+    (λ x k o. k (open_over numbers t.spans s.spans x (maps_back numbers s.spans t.spans (places_of numbers s t h)) o)) c
 
 -- what the one gives a new span as its parent, the other gives it too
 pub parent_alike : (numbers : FilterSet) (s t : Store) (lane : Lane) (asked : Parent) (o : Option ℕ) → AgreeAt numbers s t → IsParentFor s lane asked o → IsParentFor t lane asked o
 parent_alike numbers s t lane Root o h c = c
 parent_alike numbers s t lane Contextual o h c = context_over numbers s t lane o h c
-parent_alike numbers s t lane (Explicit x) o h c = (c.0, open_over numbers s.spans t.spans (number_of x) h.spans c.1)
+parent_alike numbers s t lane (Explicit x) o h c = (c.0, open_over numbers s.spans t.spans (number_of x) (places_of numbers s t h) c.1)
 
 -- ---- steps: spans put in and taken out
 
@@ -223,11 +256,10 @@ handles_agree numbers g m n x (Some r) (Some q) h f =
 -- spans that agree are put in, whatever the first store then has of extensions
 pub new_agrees_with : (numbers : FilterSet) (s t u : Store) (x : ℕ) (r q : Span) → AgreeAt numbers s t → SpansAgree numbers r q
     → u.spans ≡ insert s.spans x r → u.issued ≡ add s.issued x → u.stacks ≡ s.stacks → AgreeAt numbers u (record t { spans = insert t.spans x q; issued = add t.issued x })
-new_agrees_with numbers s t u x r q h k spans issued stacks = record {
-  spans = subst (λ (m : Spans). MapsAgree numbers m (insert t.spans x q)) (sym spans) (put_agrees numbers s.spans t.spans x r q k h.spans);
-  issued = issued ∙ ap (λ (ids : FinSet nat_cmp). add ids x) h.issued;
-  stacks = stacks ∙ h.stacks;
-}
+new_agrees_with numbers s t u x r q h k spans issued stacks = agree_by numbers u (record t { spans = insert t.spans x q; issued = add t.issued x })
+    (subst (λ (m : Spans). MapsAgree numbers m (insert t.spans x q)) (sym spans) (put_agrees numbers s.spans t.spans x r q k (places_of numbers s t h)))
+    (issued ∙ ap (λ (ids : FinSet nat_cmp). add ids x) h.issued)
+    (stacks ∙ h.stacks)
 
 -- and where it has what it had
 pub new_agrees : (numbers : FilterSet) (s t : Store) (x : ℕ) (r q : Span) → AgreeAt numbers s t → SpansAgree numbers r q
@@ -241,13 +273,15 @@ pub exited_agrees : (numbers : FilterSet) (s t : Store) (lane x : ℕ) → Agree
 exited_agrees numbers s t lane x h = record { spans = h.spans; issued = h.issued; stacks = ap (λ (m : Stacks). with_stack m lane (leave x (stack_of m lane))) h.stacks }
 
 pub added_agrees : (numbers : FilterSet) (s t : Store) (x : ℕ) → AgreeAt numbers s t → AgreeAt numbers (record s { spans = add_handle s.spans x }) (record t { spans = add_handle t.spans x })
-added_agrees numbers s t x h = record { spans = handles_agree numbers (λ n. n + 1) s.spans t.spans x (get s.spans x) (get t.spans x) (h.spans x) h.spans; issued = h.issued; stacks = h.stacks }
+added_agrees numbers s t x h = agree_by numbers (record s { spans = add_handle s.spans x }) (record t { spans = add_handle t.spans x })
+    (handles_agree numbers (λ n. n + 1) s.spans t.spans x (get s.spans x) (get t.spans x) (places_of numbers s t h x) (places_of numbers s t h)) h.issued h.stacks
 
 pub taken_agrees : (numbers : FilterSet) (s t : Store) (x : ℕ) → AgreeAt numbers s t → AgreeAt numbers (record s { spans = take_handle s.spans x }) (record t { spans = take_handle t.spans x })
-taken_agrees numbers s t x h = record { spans = handles_agree numbers (λ n. n - 1) s.spans t.spans x (get s.spans x) (get t.spans x) (h.spans x) h.spans; issued = h.issued; stacks = h.stacks }
+taken_agrees numbers s t x h = agree_by numbers (record s { spans = take_handle s.spans x }) (record t { spans = take_handle t.spans x })
+    (handles_agree numbers (λ n. n - 1) s.spans t.spans x (get s.spans x) (get t.spans x) (places_of numbers s t h x) (places_of numbers s t h)) h.issued h.stacks
 
 pub without_agrees : (numbers : FilterSet) (s t : Store) (xs : List ℕ) → AgreeAt numbers s t → AgreeAt numbers (without s xs) (without t xs)
-without_agrees numbers s t xs h = record { spans = all_gone_agrees numbers s.spans t.spans xs h.spans; issued = h.issued; stacks = h.stacks }
+without_agrees numbers s t xs h = agree_by numbers (without s xs) (without t xs) (all_gone_agrees numbers s.spans t.spans xs (places_of numbers s t h)) h.issued h.stacks
 
 -- ---- what a drop closes
 
@@ -282,7 +316,7 @@ order_over numbers m n (x ∷ xs) f h = (deeper_over numbers m n x xs f h.0, ord
 -- a drop closes the same spans in both, in the same order
 pub closes_alike : (numbers : FilterSet) (s t : Store) (x : ℕ) (closed : List ℕ) → AgreeAt numbers s t → Closes s.spans x closed → Closes t.spans x closed
 closes_alike numbers s t x closed h c =
-    let f = (taken_agrees numbers s t x h).spans in
+    let f = places_of numbers (record s { spans = take_handle s.spans x }) (record t { spans = take_handle t.spans x }) (taken_agrees numbers s t x h) in
     let g = maps_back numbers (take_handle s.spans x) (take_handle t.spans x) f in
     record {
       each = λ y k. unheld_over numbers (take_handle s.spans x) (take_handle t.spans x) y f (c.each y k);
@@ -300,7 +334,7 @@ place_within numbers set (Some r) (Some q) i h = record { metadata = h.metadata;
 
 -- stores that agree as far as some filters go agree as far as fewer go
 pub agree_within : (numbers set : FilterSet) (s t : Store) → ((n : ℕ) → IsTrue (set n) → IsTrue (numbers n)) → AgreeAt numbers s t → AgreeAt set s t
-agree_within numbers set s t i h = record { spans = λ x. place_within numbers set (get s.spans x) (get t.spans x) i (h.spans x); issued = h.issued; stacks = h.stacks }
+agree_within numbers set s t i h = agree_by set s t (λ x. place_within numbers set (get s.spans x) (get t.spans x) i (places_of numbers s t h x)) h.issued h.stacks
 
 -- ---- a store cut down
 
@@ -348,11 +382,8 @@ pub has_cut : (numbers : FilterSet) (s : Store) → (t : Store) × IsCutDown num
 has_cut numbers s = (
   record s { spans = cut_spans numbers s.spans; extensions = empty },
   record {
-    agree = record {
-      spans = λ x. subst (λ (o : Option Span). PlacesAgree numbers (get s.spans x) o) (sym (cut_at numbers s.spans x)) (place_cut numbers (get s.spans x));
-      issued = refl;
-      stacks = refl;
-    };
+    agree = agree_by numbers s (record s { spans = cut_spans numbers s.spans; extensions = empty })
+        (λ x. subst (λ (o : Option Span). PlacesAgree numbers (get s.spans x) o) (sym (cut_at numbers s.spans x)) (place_cut numbers (get s.spans x))) refl refl;
     verdicts = λ x r n e t. no_other numbers (get s.spans x) r n (sym (cut_at numbers s.spans x) ∙ e) t;
     extensions = refl;
   },

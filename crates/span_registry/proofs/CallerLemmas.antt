@@ -11,7 +11,7 @@ use Rattle.span_core.specs.Span.{number_of}
 use Rattle.span_core.specs.declared.filter.FilterMap.{FilterMap}
 use Rattle.span_core.specs.declared.span.Id.{Id}
 use Rattle.span_core.specs.declared.span.Lane.{Lane}
-use Rattle.span_registry.specs.Closes.{AreUnheld, IsSettled, IsSettledBut, Member}
+use Rattle.span_registry.specs.Closes.{AreUnheld, HasNoClosing, HasNoClosingBut, Member}
 use Rattle.span_registry.specs.Laws.{ClosesAll}
 use Rattle.span_registry.specs.Step.{Clones, Enters, Exits, Removal, Begun, Between, Removed, AskedSpan, Drops, Opens, Releases, Removes, TakesOut, begun}
 use Rattle.span_registry.specs.Form.{Form}
@@ -24,7 +24,7 @@ use Rattle.span_registry.specs.declared.extensions.ExtensionMap.{ExtensionMap}
 use Rattle.span_registry.specs.declared.tag.Tag.{Tag}
 use Rattle.span_registry.specs.Context.{HasNoRefusals, IsLent, LendsOver, LooksAt, LooksAtLent, LooksAtRoot, MasksMore, RefersTo, SameLoan, filters_in, lane_in, store_at, store_in, view_in, view_lent}
 use Rattle.span_registry.specs.LaneStack.{leave, without_duplicates}
-use Rattle.span_registry.specs.Answers.{AreAlike, AreAlikeHistories, History, OfLevel, Notice, OfNotice, notices_of, unextended}
+use Rattle.span_registry.specs.Behaviour.{AreAlike, AreAlikeHistories, History, OfLevel, Notice, OfNotice, notices_of, unextended}
 use Rattle.span_registry.specs.View.{SeenSpans, View, current_among, current_shown, extensions_shown, is_shown, see, shown, view_of}
 use Rattle.span_registry.specs.declared.context.Context.{Context}
 use Rattle.span_registry.specs.declared.context.ContextMut.{ContextMut}
@@ -64,30 +64,30 @@ no_hooks step old new h = record { stepped = new; taken = h; hooks = same_itself
 -- ---- no span is closing between two requests
 
 -- in an empty registry
-pub settled_new : (l : Limits) → IsSettled (new_registry l).store.spans
+pub settled_new : (l : Limits) → HasNoClosing (new_registry l).store.spans
 settled_new l = settled_none _ refl
 
 -- after a span is opened
-pub settled_opened : (lane : Lane) (span : AskedSpan) (id : Id) (old new : RegistryState) → Opens lane span id old new → IsSettled old.store.spans → IsSettled new.store.spans
+pub settled_opened : (lane : Lane) (span : AskedSpan) (id : Id) (old new : RegistryState) → Opens lane span id old new → HasNoClosing old.store.spans → HasNoClosing new.store.spans
 settled_opened lane span id old new o s =
-    subst IsSettled (sym (ap (λ (r : RegistryState). r.store.spans) o.state)) (settled_added old.store.spans (number_of id) (begun span o.parent) o.unused (omega arith) s)
+    subst HasNoClosing (sym (ap (λ (r : RegistryState). r.store.spans) o.state)) (settled_added old.store.spans (number_of id) (begun span o.parent) o.unused (omega arith) s)
 
 -- after a handle is added
-pub settled_cloned : (id : Id) (old new : RegistryState) → Clones id old new → IsSettled old.store.spans → IsSettled new.store.spans
-settled_cloned id old new c s = subst IsSettled (sym (ap (λ (r : RegistryState). r.store.spans) c.state)) (settled_raised old.store.spans (number_of id) s c.is_open)
+pub settled_cloned : (id : Id) (old new : RegistryState) → Clones id old new → HasNoClosing old.store.spans → HasNoClosing new.store.spans
+settled_cloned id old new c s = subst HasNoClosing (sym (ap (λ (r : RegistryState). r.store.spans) c.state)) (settled_raised old.store.spans (number_of id) s c.is_open)
 
 -- after a handle was released by which its span isn't closing
-pub settled_released : (id : Id) (old new : RegistryState) → Releases id StillOpen old new → IsSettled old.store.spans → IsSettled new.store.spans
+pub settled_released : (id : Id) (old new : RegistryState) → Releases id StillOpen old new → HasNoClosing old.store.spans → HasNoClosing new.store.spans
 settled_released id old new r s =
     let m = old.store.spans in
     let x = number_of id in
     let taken = ap (λ (t : RegistryState). t.store.spans) r.state in
-    subst IsSettled (sym taken) (settled_open (take_handle m x) x (settled_taken m x s r.held) (subst (λ (n : Spans). IsOpen n x) taken (r.still_open.0 refl)))
+    subst HasNoClosing (sym taken) (settled_open (take_handle m x) x (settled_taken m x s r.held) (subst (λ (n : Spans). IsOpen n x) taken (r.still_open.0 refl)))
 
 -- ---- what a drop closes
 
 -- such a drop closes nothing
-pub closes_nothing : (id : Id) (old new : RegistryState) → Releases id StillOpen old new → IsForest old.store.spans → IsSettled old.store.spans → Drops old (number_of id) [] new
+pub closes_nothing : (id : Id) (old new : RegistryState) → Releases id StillOpen old new → IsForest old.store.spans → HasNoClosing old.store.spans → Drops old (number_of id) [] new
 closes_nothing id old new r f s =
     let x = number_of id in
     let o = subst (λ (t : RegistryState). IsOpen t.store.spans x) r.state (r.still_open.0 refl) in
@@ -106,7 +106,7 @@ next_is_closing between first id same k (Between {xs} {o} {now} {new} r b) =
 next_is_closing between first id same k (Removed {xs} {o} {next} {now} {new} r e) = if_closing new.store.spans o _ (λ p h. h.1) e.closing
 
 -- where a loop of removals stands, if nothing else happens in between
-progress : (first : RegistryState) (id : Id) → IsForest first.store.spans → IsSettledBut first.store.spans (Some (number_of id)) → IsClosing first.store.spans (number_of id)
+progress : (first : RegistryState) (id : Id) → IsForest first.store.spans → HasNoClosingBut first.store.spans (Some (number_of id)) → IsClosing first.store.spans (number_of id)
     → {xs : List ℕ} {o : Option Id} {now : RegistryState} → Removal (λ _ _. ⊥) first id xs o now → Progress first now (option_map number_of o) xs
 progress first id f s k Begun = progress_first first (number_of id) f s k
 progress first id f s k (Between {xs} {o} {now} {new} r b) = absurd b
@@ -189,7 +189,7 @@ whole between old id xs new s c r =
     let m = old.store.spans in
     let x = number_of id in
     let taken = ap (λ (t : RegistryState). t.store.spans) c.release.state in
-    progress c.released id (subst IsForest (sym taken) (forest_taken m x c.is_forest c.release.held)) (subst (λ (n : Spans). IsSettledBut n (Some x)) (sym taken) (settled_taken m x c.settled c.release.held)) (c.release.closing.0 refl) r
+    progress c.released id (subst IsForest (sym taken) (forest_taken m x c.is_forest c.release.held)) (subst (λ (n : Spans). HasNoClosingBut n (Some x)) (sym taken) (settled_taken m x c.settled c.release.held)) (c.release.closing.0 refl) r
 
 drops : (between : RegistryState → RegistryState → Type 0) (old : RegistryState) (id : Id) (xs : List ℕ) (new s : RegistryState) → (c : ClosesAll between old id xs new) → Progress c.released s None xs → Drops old (number_of id) xs s
 drops between old id xs new s c p = record {
@@ -208,14 +208,14 @@ closes_with_hooks old new id xs c =
     record { stepped = u.0; taken = drops _ old id xs new u.0 c (whole _ old id xs new u.0 c u.1); hooks = u.2 }
 
 -- no span is closing after such a drop
-pub settled_alone : (old new : RegistryState) (id : Id) (xs : List ℕ) → ClosesAll (λ _ _. ⊥) old id xs new → IsSettled new.store.spans
+pub settled_alone : (old new : RegistryState) (id : Id) (xs : List ℕ) → ClosesAll (λ _ _. ⊥) old id xs new → HasNoClosing new.store.spans
 settled_alone old new id xs c = settled_now new.store.spans (whole _ old id xs new new c c.removal).settled
 
 -- the same with hooks
-pub settled_closed : (old new : RegistryState) (id : Id) (xs : List ℕ) → ClosesAll SameButExtensions old id xs new → IsSettled new.store.spans
+pub settled_closed : (old new : RegistryState) (id : Id) (xs : List ℕ) → ClosesAll SameButExtensions old id xs new → HasNoClosing new.store.spans
 settled_closed old new id xs c =
     let u = aside c.released id c.removal in
-    subst IsSettled (sym u.2.spans) (settled_now u.0.store.spans (whole _ old id xs new u.0 c u.1).settled)
+    subst HasNoClosing (sym u.2.spans) (settled_now u.0.store.spans (whole _ old id xs new u.0 c u.1).settled)
 
 -- the dropped span is one of those that close
 pub closes_itself : (id : Id) (old released : RegistryState) (xs : List ℕ) → Releases id Closing old released → AreUnheld (take_handle old.store.spans (number_of id)) xs → Member (number_of id) xs
@@ -237,38 +237,38 @@ pub removed_next : {between : RegistryState → RegistryState → Type 0} {first
 removed_next {between} {first} {now} {new} {id} {next} {xs} {o} {p} r e h = Removed (subst (λ (q : Option Id). Removal between first id xs q now) e r) h
 
 -- what closes by a release and the removals after it
-pub drops_closing : {old released new : RegistryState} {id : Id} {answer : Released} {xs : List ℕ} → IsForest old.store.spans → IsSettled old.store.spans → Releases id answer old released → answer ≡ Closing → Removal (λ _ _. ⊥) released id xs None new → Drops old (number_of id) xs new
+pub drops_closing : {old released new : RegistryState} {id : Id} {answer : Released} {xs : List ℕ} → IsForest old.store.spans → HasNoClosing old.store.spans → Releases id answer old released → answer ≡ Closing → Removal (λ _ _. ⊥) released id xs None new → Drops old (number_of id) xs new
 drops_closing {old} {released} {new} {id} {answer} {xs} f s r e h =
     closes_alone old new id xs (record { released = released; is_forest = f; settled = s; release = subst (λ (a : Released). Releases id a old released) e r; removal = h })
 
 -- and then no span is closing
-pub settled_closing : {old released new : RegistryState} {id : Id} {answer : Released} {xs : List ℕ} → IsForest old.store.spans → IsSettled old.store.spans → Releases id answer old released → answer ≡ Closing → Removal (λ _ _. ⊥) released id xs None new → IsSettled new.store.spans
+pub settled_closing : {old released new : RegistryState} {id : Id} {answer : Released} {xs : List ℕ} → IsForest old.store.spans → HasNoClosing old.store.spans → Releases id answer old released → answer ≡ Closing → Removal (λ _ _. ⊥) released id xs None new → HasNoClosing new.store.spans
 settled_closing {old} {released} {new} {id} {answer} {xs} f s r e h =
     settled_alone old new id xs (record { released = released; is_forest = f; settled = s; release = subst (λ (a : Released). Releases id a old released) e r; removal = h })
 
 -- a release by which the span stays open closes nothing
-pub drops_open : {old new : RegistryState} {id : Id} {answer : Released} → IsForest old.store.spans → IsSettled old.store.spans → Releases id answer old new → answer ≡ StillOpen → Drops old (number_of id) [] new
+pub drops_open : {old new : RegistryState} {id : Id} {answer : Released} → IsForest old.store.spans → HasNoClosing old.store.spans → Releases id answer old new → answer ≡ StillOpen → Drops old (number_of id) [] new
 drops_open {old} {new} {id} {answer} f s r e = closes_nothing id old new (subst (λ (a : Released). Releases id a old new) e r) f s
 
 -- and then no span is closing
-pub settled_still : {old new : RegistryState} {id : Id} {answer : Released} → IsSettled old.store.spans → Releases id answer old new → answer ≡ StillOpen → IsSettled new.store.spans
+pub settled_still : {old new : RegistryState} {id : Id} {answer : Released} → HasNoClosing old.store.spans → Releases id answer old new → answer ≡ StillOpen → HasNoClosing new.store.spans
 settled_still {old} {new} {id} {answer} s r e = settled_released id old new (subst (λ (a : Released). Releases id a old new) e r) s
 
 -- nor in a registry that is the same
-pub settled_same : {old new : RegistryState} → new ≡ old → IsSettled old.store.spans → IsSettled new.store.spans
-settled_same e s = subst (λ (r : RegistryState). IsSettled r.store.spans) (sym e) s
+pub settled_same : {old new : RegistryState} → new ≡ old → HasNoClosing old.store.spans → HasNoClosing new.store.spans
+settled_same e s = subst (λ (r : RegistryState). HasNoClosing r.store.spans) (sym e) s
 
 -- nor in one that is the same, extensions aside
-pub settled_aside : {old new : RegistryState} → SameButExtensions old new → IsSettled old.store.spans → IsSettled new.store.spans
-settled_aside h s = subst IsSettled (sym h.spans) s
+pub settled_aside : {old new : RegistryState} → SameButExtensions old new → HasNoClosing old.store.spans → HasNoClosing new.store.spans
+settled_aside h s = subst HasNoClosing (sym h.spans) s
 
 -- nor after a lane has entered a span
-pub settled_entered : (lane : Lane) (id : Id) (old new : RegistryState) → Enters lane id old new → IsSettled old.store.spans → IsSettled new.store.spans
-settled_entered lane id old new h s = subst IsSettled (sym (ap (λ (r : RegistryState). r.store.spans) h.state)) s
+pub settled_entered : (lane : Lane) (id : Id) (old new : RegistryState) → Enters lane id old new → HasNoClosing old.store.spans → HasNoClosing new.store.spans
+settled_entered lane id old new h s = subst HasNoClosing (sym (ap (λ (r : RegistryState). r.store.spans) h.state)) s
 
 -- nor after a lane has left a span
-pub settled_exited : (lane : Lane) (id : Id) (old new : RegistryState) → Exits lane id old new → IsSettled old.store.spans → IsSettled new.store.spans
-settled_exited lane id old new h s = subst IsSettled (sym (ap (λ (r : RegistryState). r.store.spans) h)) s
+pub settled_exited : (lane : Lane) (id : Id) (old new : RegistryState) → Exits lane id old new → HasNoClosing old.store.spans → HasNoClosing new.store.spans
+settled_exited lane id old new h s = subst HasNoClosing (sym (ap (λ (r : RegistryState). r.store.spans) h)) s
 
 -- ---- what is looked up
 

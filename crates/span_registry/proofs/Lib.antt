@@ -1,7 +1,7 @@
 pub mod CallerLemmas
 mod Added
 pub mod Agreeing
-mod Ancestry
+pub mod Ancestry
 pub mod Chains
 mod Closing
 mod Begins

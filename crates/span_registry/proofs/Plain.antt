@@ -12,18 +12,18 @@ use Rattle.span_core.specs.declared.metadata.Metadata.{Metadata}
 use Rattle.span_core.specs.declared.span.Id.{Id}
 use Rattle.span_core.specs.declared.span.Parent.TheVariants.{Contextual, Explicit, Root}
 use Rattle.span_core.specs.declared.span.Parent.{Parent}
-use Rattle.span_registry.specs.Agree.{AgreeAt, PlacesAgree}
-use Rattle.span_registry.specs.Answers.{Notice, unextended}
+use Rattle.span_registry.specs.Agree.{AgreeAt}
+use Rattle.span_registry.specs.Behaviour.{Notice, unextended}
 use Rattle.span_registry.specs.LaneStack.{newest, without_duplicates}
 use Rattle.span_registry.specs.Laws.{ShowsPlainly}
-use Rattle.span_registry.specs.Place.{Told, told_in}
+use Rattle.span_registry.specs.Position.{Told, told_in}
 use Rattle.span_registry.specs.Plan.{is_passed}
 use Rattle.span_registry.specs.Store.{RegistryState, Span, SpanExtensions, Stacks, Store, stack_of}
 use Rattle.span_registry.specs.Subscriber.{SameButExtensions}
-use Rattle.span_registry.specs.View.{SeenSpan, SeenSpans, View, ancestry, current_among, current_shown, event_shown, is_shown, metadata_shown, nearest_shown, parent_seen, parent_shown, plain_view, scope, see, see_each, seen_spans, shown, view_of}
+use Rattle.span_registry.specs.View.{SeenSpan, SeenSpans, View, ancestry, current_among, current_shown, event_shown, is_shown, metadata_shown, nearest_shown, parent_seen, parent_shown, plain_view, scope, see, seen_spans, shown, view_of}
 use Rattle.span_registry.specs.declared.extensions.ExtensionMap.{ExtensionMap}
-use Rattle.span_registry.proofs.Agreeing.{same_hidden}
-use Rattle.span_registry.proofs.Ancestry.{seen_at}
+use Rattle.span_registry.proofs.Agreeing.{PlacesAgree, places_of, same_hidden}
+use Rattle.span_registry.proofs.Ancestry.{see_each, seen_at}
 
 -- ---- how many spans are seen
 
@@ -165,7 +165,7 @@ pub plain_views_agree : (numbers mask : FilterSet) (s t : Store) (lane : ℕ) �
 plain_views_agree numbers mask s t lane h i =
     let bare : Store = record s { extensions = empty } in
     let other : Store = record t { extensions = empty } in
-    let spans : seen_spans bare mask ≡ seen_spans other mask = same_map nat_cmp_total nat_cmp-IsAntisymmetric _ _ (λ x. seen_at bare mask x ∙ same_seen numbers mask (get s.spans x) (get t.spans x) (get bare.extensions x) (h.spans x) i ∙ sym (seen_at other mask x)) in
+    let spans : seen_spans bare mask ≡ seen_spans other mask = same_map nat_cmp_total nat_cmp-IsAntisymmetric _ _ (λ x. seen_at bare mask x ∙ same_seen numbers mask (get s.spans x) (get t.spans x) (get bare.extensions x) (places_of numbers s t h x) i ∙ sym (seen_at other mask x)) in
     λ j. record { lane = lane; stack = stack_of (h.stacks j) lane; spans = spans j }
 
 -- hooks that write extensions change none

@@ -19,7 +19,7 @@ use Rattle.span_registry.specs.Extensions.{no_values}
 use Rattle.span_core.specs.Span.{number_of}
 use Rattle.span_core.specs.declared.span.Id.{Id}
 use Rattle.span_registry.specs.Slot.{SlotState, TakesSlot}
-use Rattle.span_registry.specs.Kept.{GrowsEmpty, Inserts, KeepsSpans, KeptSpans, found_in, kept_of, with_found, with_record, with_values}
+use Rattle.span_registry.specs.StoreRepr.{GrowsEmpty, Inserts, KeepsSpans, KeptSpans, found_in, kept_of, with_found, with_record, with_values}
 use Rattle.span_registry.specs.declared.extensions.ExtensionMap.{ExtensionMap}
 use Rattle.span_registry.specs.declared.span_record.SpanRecord.{SpanRecord}
 use Rattle.span_registry.specs.declared.span_store.SpanStore.TheInside.{Inside}

@@ -11,7 +11,7 @@ use Rattle.span_core.specs.declared.filter.FilterMap.{FilterMap}
 use Rattle.span_core.specs.declared.metadata.Metadata.{Metadata}
 use Rattle.span_core.specs.declared.span.Id.{Id}
 use Rattle.span_core.specs.declared.span.Lane.{Lane}
-use Rattle.span_registry.specs.Answers.{Notice, OnClose, OnEnter, OnEvent, OnExit, OnFollows, OnIdChange, OnNewSpan, OnRecord}
+use Rattle.span_registry.specs.Behaviour.{Notice, OnClose, OnEnter, OnEvent, OnExit, OnFollows, OnIdChange, OnNewSpan, OnRecord}
 use Rattle.span_registry.specs.Form.{Form}
 use Rattle.span_registry.specs.Hooks.{Notifies, StackSteps, Stays, no_filter}
 use Rattle.span_registry.specs.Question.{ShowsBy, asked}
@@ -29,7 +29,8 @@ use Rattle.span_registry.specs.declared.scope.SpanRef.{SpanRef}
 
 -- whether the id is attached, a span of the store is shown in the view, and none of the id's filters refused it
 abbrev pub is_enabled_in : Store → View → FilterId → ℕ → Bool
-is_enabled_in s v filter x = is_shown v.spans x && option_map_or (λ r. is_enabled r.verdict filter) (get s.spans x) false
+is_enabled_in s v filter x =
+    is_shown v.spans x && option_map_or (λ r. is_enabled r.verdict filter) (get s.spans x) false
 
 -- the store of a subscriber, and an empty one where there is none
 abbrev pub store_at : {S : Type 0} → (S → RegistryState) → Option (Bor S) → Store
@@ -62,7 +63,8 @@ module _ {S : Type 0} where
 
   -- the same look, under these filters too
   abbrev pub Narrows : Context S → FilterSet → Context S → Type 0
-  Narrows old more new = LooksAt new (subscriber_in old) (lane_in old).0 (union (filters_in old) more)
+  Narrows old more new =
+      LooksAt new (subscriber_in old) (lane_in old).0 (union (filters_in old) more)
 
 module _ {S : Type 0} (registry : S → RegistryState) where
   -- the store that is looked at
@@ -84,15 +86,22 @@ module _ {S : Type 0} (registry : S → RegistryState) where
   enabled_in c filter x = is_enabled_in (store_in c) (view_in c) filter x
 
   -- it is the reference to the span that the view shows so, if there is one, in the same subscriber and under the same mask
-  pub record RefersTo (c : Context S) (which : View → Option ℕ) (found : Option (SpanRef S)) : Type 0 where
+  pub record RefersTo (c : Context S) (which : View → Option ℕ) (found : Option (SpanRef S)) : Type
+      0 where
     pub span : option_map (λ r. number_of (id_of_reference r)) found ≡ which (view_in c)
     pub subscriber : IfSome found (λ r. subscriber_in c ≡ Some (subscriber_of r))
-    pub reference : IfSome found (λ r. reference_of r ≡ reference_to registry (subscriber_of r) (filters_in c) (number_of (id_of_reference r)))
+    pub reference : IfSome found
+        (λ r. reference_of r
+        ≡ reference_to registry (subscriber_of r) (filters_in c)
+        (number_of (id_of_reference r)))
 
   -- it is the scope of that span, if there is one, in the same subscriber and under the same mask
-  pub record GivesScope (c : Context S) (which : View → Option ℕ) (found : Option (Scope S)) : Type 0 where
+  pub record GivesScope (c : Context S) (which : View → Option ℕ) (found : Option (Scope S)) : Type
+      0 where
     pub there : is_some found ≡ is_some (which (view_in c))
-    pub scope : IfSome found (λ f. IfSome (subscriber_in c) (λ s. to_give registry f ≡ references_to registry s (filters_in c) (which (view_in c))))
+    pub scope : IfSome found
+        (λ f. IfSome (subscriber_in c)
+        (λ s. to_give registry f ≡ references_to registry s (filters_in c) (which (view_in c))))
 
 module _ {S : Type 0} where
   -- the name of the borrow that a subscriber is lent by
@@ -140,7 +149,8 @@ module _ {S : Type 0} where
   HasNoRefusals c = IsEmpty (refuses (refused_lent c))
 
   -- this subscriber is lent, from this lane, under these filters, and the mask is attached, and with these refusals
-  pub record IsLent (c : ContextMut S) (s : S) (from : ℕ) (under : FilterSet) (refusals : FilterMap) : Type 0 where
+  pub record IsLent (c : ContextMut S) (s : S) (from : ℕ) (under : FilterSet)
+      (refusals : FilterMap) : Type 0 where
     pub subscriber : subscriber_lent c ≡ s
     pub lane : (lane_lent c).0 ≡ from
     pub filters : filters_lent c ≡ under
@@ -180,7 +190,8 @@ module _ {S : Type 0} (registry : S → RegistryState) where
 
   -- the same of what a hook is lent
   abbrev pub enabled_lent : ContextMut S → FilterId → Id → Bool
-  enabled_lent c filter id = is_enabled_in (registry (subscriber_lent c)).store (view_lent c) filter (number_of id)
+  enabled_lent c filter id =
+      is_enabled_in (registry (subscriber_lent c)).store (view_lent c) filter (number_of id)
 
 -- only of a new span and of an event filters are asked: of all else no filter refused
 abbrev pub HasNoRefusalsUnlessAsked : {S : Type 0} → Notice → ContextMut S → Type 0
@@ -195,7 +206,9 @@ HasNoRefusalsUnlessAsked (OnClose id) c = HasNoRefusals c
 
 -- the same is lent, under these filters too
 abbrev pub NarrowsLent : {S : Type 0} → ContextMut S → FilterSet → ContextMut S → Type 0
-NarrowsLent old more new = IsLent new (subscriber_lent old) (lane_lent old).0 (union (filters_lent old) more) (refused_lent old)
+NarrowsLent old more new =
+    IsLent new (subscriber_lent old) (lane_lent old).0 (union (filters_lent old) more)
+    (refused_lent old)
 
 -- this other subscriber is lent, from the same lane, under the same mask and with the same refusals
 pub record LendsOver {S T : Type 0} (c : ContextMut S) (s : T) (d : ContextMut T) : Type 0 where
@@ -209,12 +222,14 @@ abbrev pub LentOn : {S : Type 0} → ContextMut S → ContextMut S → Type 0
 LentOn c d = LendsOver c (subscriber_lent c) d
 
 -- c has become d: its subscriber now stands on this registry, and nothing else of it is another
-pub record Exchanges {S : Type 0} (with_registry : S → RegistryState → S) (root : RegistryState) (c d : ContextMut S) : Type 0 where
+pub record Exchanges {S : Type 0} (with_registry : S → RegistryState → S) (root : RegistryState)
+    (c d : ContextMut S) : Type 0 where
   pub loan : SameLoan c d
   pub subscriber : subscriber_lent d ≡ with_registry (subscriber_lent c) root
 
 -- a hook that was given c has left d: it may have written extensions, and nothing else
-pub record WritesExtensions {S : Type 0} (registry : S → RegistryState) (with_registry : S → RegistryState → S) (c d : ContextMut S) : Type 0 where
+pub record WritesExtensions {S : Type 0} (registry : S → RegistryState)
+    (with_registry : S → RegistryState → S) (c d : ContextMut S) : Type 0 where
   pub loan : SameLoan c d
   pub alone : subscriber_lent d ≡ with_registry (subscriber_lent c) (registry (subscriber_lent d))
   pub extensions : SameButExtensions (registry (subscriber_lent c)) (registry (subscriber_lent d))
@@ -225,10 +240,16 @@ pub record HandsOn {S : Type 0} (registry : S → RegistryState) (c d : ContextM
   pub extensions : SameButExtensions (registry (subscriber_lent c)) (registry (subscriber_lent d))
 
 -- whatever form the subscriber that is looked at has, if there is one, the answer is what that form answers where no filter refused before
-abbrev pub AnswersProbe : {S : Type 0} → (S → RegistryState) → (S → Form → Type 0) → Context S → Metadata → Bool → Type 0
-AnswersProbe registry has_form c m answer = IfSome (subscriber_in c) (λ s. ShowsBy (has_form s) (λ f. (asked f m (registry s).store (lane_in c).0 no_filter no_filter).0) answer)
+abbrev pub AnswersProbe : {S : Type 0} → (S → RegistryState) → (S → Form → Type 0) → Context S
+    → Metadata → Bool → Type 0
+AnswersProbe registry has_form c m answer =
+    IfSome (subscriber_in c)
+    (λ s. ShowsBy (has_form s)
+    (λ f. (asked f m (registry s).store (lane_in c).0 no_filter no_filter).0) answer)
 
 -- c has become d: its subscriber was notified of an event that no filter refused
-pub record SendsEvent {S : Type 0} (registry : S → RegistryState) (has_form : S → Form → Type 0) (stepped : StackSteps S) (e : Event) (c d : ContextMut S) : Type 0 where
+pub record SendsEvent {S : Type 0} (registry : S → RegistryState) (has_form : S → Form → Type 0)
+    (stepped : StackSteps S) (e : Event) (c d : ContextMut S) : Type 0 where
   pub loan : SameLoan c d
-  pub hooks : Notifies registry has_form stepped (lane_lent c) no_filter (OnEvent e) Stays (subscriber_lent c) (subscriber_lent d)
+  pub hooks : Notifies registry has_form stepped (lane_lent c) no_filter (OnEvent e) Stays
+      (subscriber_lent c) (subscriber_lent d)

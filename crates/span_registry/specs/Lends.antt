@@ -19,7 +19,8 @@ use Rattle.span_registry.specs.declared.extensions.ExtensionMap.{ExtensionMap}
 use Rattle.span_registry.specs.declared.tag.Tag.{Tag}
 
 -- once the borrow r ends, what s was is left, but that it stands on the registry that r had last
-abbrev pub lends_registry : (T : RattleType) → (T.Denot → RegistryState → T.Denot) → MutBor T.Denot → MutBor RegistryState → Fml
+abbrev pub lends_registry : (T : RattleType) → (T.Denot → RegistryState → T.Denot) → MutBor T.Denot
+    → MutBor RegistryState → Fml
 lends_registry T with_registry s r = Lends T the_row s r (with_registry s.now)
 
 -- once the borrow r ends, the span has the extensions that r had last; at `None` the registry stays as it is
@@ -31,26 +32,35 @@ abbrev pub context_over : RattleType → RattleType
 context_over T = context_row (record { mir = named 1; lft = [] }) T
 
 -- once what is lent on is given back, the context lends the subscriber as it then was
-abbrev pub lends_subscriber : (T : RattleType) → MutBor (ContextMut T.Denot) → ContextMut T.Denot → Fml
+abbrev pub lends_subscriber : (T : RattleType) → MutBor (ContextMut T.Denot) → ContextMut T.Denot
+    → Fml
 lends_subscriber T c d = Lends (context_over T) T c d.subscriber (with_subscriber c.now)
 
-module _ (T : RattleType) (registry : T.Denot → RegistryState) (with_registry : T.Denot → RegistryState → T.Denot) where
+module _ (T : RattleType) (registry : T.Denot → RegistryState)
+    (with_registry : T.Denot → RegistryState → T.Denot) where
   -- the context, once this span has these extensions
   abbrev pub with_extensions_seen : ContextMut T.Denot → Id → ExtensionMap → ContextMut T.Denot
-  with_extensions_seen c id e = with_subscriber c (with_registry (subscriber_lent c) (with_extensions (registry (subscriber_lent c)) (number_of id) e))
+  with_extensions_seen c id e =
+      with_subscriber c (with_registry (subscriber_lent c)
+      (with_extensions (registry (subscriber_lent c)) (number_of id) e))
 
   -- once the borrow r ends, the span has the extensions that r had last; at `None` the context stays as it is
   abbrev pub lends_seen : MutBor (ContextMut T.Denot) → Id → Option (MutBor ExtensionMap) → Fml
   lends_seen c id r = LendsIf (context_over T) map_row c r (with_extensions_seen c.now id) c.now
 
 -- once the borrow r ends, the tag has the value that r had last; at `None` the extensions stay as they are
-abbrev pub lends_value : (T : RattleType) → Place T.Denot → MutBor ExtensionMap → Tag T.Denot → Option (MutBor T.Denot) → Fml
-lends_value T place s tag r = LendsSo map_row T s r (λ n w. OnSome r (n ≡ with_value place s.now tag w)) (λ n. n ≡ s.now)
+abbrev pub lends_value : (T : RattleType) → Place T.Denot → MutBor ExtensionMap → Tag T.Denot
+    → Option (MutBor T.Denot) → Fml
+lends_value T place s tag r =
+    LendsSo map_row T s r (λ n w. OnSome r (n ≡ with_value place s.now tag w)) (λ n. n ≡ s.now)
 
 -- the same of one table, by the number of a tag
-abbrev pub lends_entry : (T : RattleType) → MutBor (FinMap nat_cmp T.Denot) → ℕ → Option (MutBor T.Denot) → Fml
-lends_entry T s n r = LendsSo (table_row T) T s r (λ m w. OnSome r (m ≡ insert s.now n w)) (λ m. m ≡ s.now)
+abbrev pub lends_entry : (T : RattleType) → MutBor (FinMap nat_cmp T.Denot) → ℕ
+    → Option (MutBor T.Denot) → Fml
+lends_entry T s n r =
+    LendsSo (table_row T) T s r (λ m w. OnSome r (m ≡ insert s.now n w)) (λ m. m ≡ s.now)
 
 -- once the borrow r ends, the extensions have the values of one type that r had last
-abbrev pub lends_table : (T : RattleType) → Place T.Denot → MutBor ExtensionMap → MutBor (FinMap nat_cmp T.Denot) → Fml
+abbrev pub lends_table : (T : RattleType) → Place T.Denot → MutBor ExtensionMap
+    → MutBor (FinMap nat_cmp T.Denot) → Fml
 lends_table T place s r = Lends map_row (table_row T) s r (place.with_values s.now)

@@ -1,14 +1,14 @@
 pub mod Agree
-pub mod Answers
+pub mod Behaviour
 pub mod Bloom
 pub mod Closes
 pub mod Conducts
 pub mod Context
 pub mod Extensions
-pub mod Follows
+pub mod KeptForm
 pub mod Form
 pub mod Hooks
-pub mod Kept
+pub mod StoreRepr
 pub mod LaneStack
 pub mod Laws
 pub mod Lends
@@ -16,7 +16,7 @@ pub mod Levels
 pub mod Marks
 pub mod Mask
 pub mod Path
-pub mod Place
+pub mod Position
 pub mod Plan
 pub mod Question
 pub mod References

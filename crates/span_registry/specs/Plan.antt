@@ -7,8 +7,8 @@ use Rattle.span_core.specs.Event.{event_metadata}
 use Rattle.span_core.specs.Filters.{FilterSet, meets, refuses, union}
 use Rattle.span_core.specs.Span.{metadata_of, number_of}
 use Rattle.span_core.specs.declared.span.Id.{Id}
-use Rattle.span_registry.specs.Answers.{Answers, Notice, OnClose, OnEnter, OnEvent, OnExit, OnFollows, OnIdChange, OnNewSpan, OnRecord}
-use Rattle.span_registry.specs.Form.{Bare, Filtered, Form, Leaf, Over}
+use Rattle.span_registry.specs.Behaviour.{Behaviour, Notice, OnEvent, OnFollows, OnNewSpan, span_in}
+use Rattle.span_registry.specs.Form.{Terminal, Filtered, Form, Leaf, Parts}
 use Rattle.span_registry.specs.Question.{single}
 use Rattle.span_registry.specs.Store.{Spans, Store}
 use Rattle.span_registry.specs.View.{view_of}
@@ -22,44 +22,44 @@ pub data Plan : Type 0 where
 
 -- whether a span is in the store and no filter of the set is in its verdict
 abbrev pub is_passed : Spans → FilterSet → Id → Bool
-is_passed spans set id = option_map_or (λ r. not (meets set (refuses r.verdict))) (get spans (number_of id)) false
+is_passed spans set id =
+    option_map_or (λ r. not (meets set (refuses r.verdict))) (get spans (number_of id)) false
 
 -- whether a filter lets a notice by, as the pass says of a new span and an event, and the verdicts of all else; n is its number, and the set has the filters down to it
 abbrev pub lets_by : ℕ → Notice → Spans → FilterSet → FilterSet → Bool
 lets_by n (OnNewSpan attrs id) spans set refused = not (refused n)
 lets_by n (OnEvent e) spans set refused = not (refused n)
-lets_by n (OnRecord id values) spans set refused = is_passed spans set id
-lets_by n (OnFollows id other) spans set refused = is_passed spans set id && is_passed spans set other
-lets_by n (OnEnter id) spans set refused = is_passed spans set id
-lets_by n (OnExit id) spans set refused = is_passed spans set id
-lets_by n (OnIdChange id other) spans set refused = is_passed spans set id
-lets_by n (OnClose id) spans set refused = is_passed spans set id
+lets_by n (OnFollows id other) spans set refused =
+    is_passed spans set id && is_passed spans set other
+lets_by n e spans set refused = option_map_or (is_passed spans set) (span_in e) false
 
 -- who is notified, as pass and verdicts say, under these filters
 abbrev pub by_pass : Form → Notice → Spans → FilterSet → FilterSet → Plan
 by_pass (Leaf still a) e spans under refused = Itself
 by_pass (Filtered None a f) e spans under refused = Nobody
 by_pass (Filtered (Some n) a f) e spans under refused =
-    if lets_by n e spans (union under (single n)) refused then Through (by_pass f e spans (union under (single n)) refused) else Nobody
-by_pass (Over k o i) e spans under refused = Both (by_pass o e spans under refused) (by_pass i e spans under refused)
-by_pass (Bare v) e spans under refused = Nobody
+    if lets_by n e spans (union under (single n)) refused
+    then Through (by_pass f e spans (union under (single n)) refused) else Nobody
+by_pass (Parts k o i) e spans under refused =
+    Both (by_pass o e spans under refused) (by_pass i e spans under refused)
+by_pass (Terminal v) e spans under refused = Nobody
 
--- whether a filter passes a notice, asked afresh on a lane of a store, in the view under the filters down to it
-abbrev pub passes : Answers → Notice → Store → ℕ → FilterSet → Bool
+-- whether a filter passes a notice, asked afresh on a lane of a store, in the view under the filters down to it: a new
+-- span and an event by what it answers, all else by the verdicts of the spans
+abbrev pub passes : Behaviour → Notice → Store → ℕ → FilterSet → Bool
 passes a (OnNewSpan attrs id) s lane set = a.enabled (metadata_of attrs) (view_of s lane set)
-passes a (OnEvent e) s lane set = a.enabled (event_metadata e) (view_of s lane set) && a.event e (view_of s lane set)
-passes a (OnRecord id values) s lane set = is_passed s.spans set id
+passes a (OnEvent e) s lane set =
+    a.enabled (event_metadata e) (view_of s lane set) && a.event e (view_of s lane set)
 passes a (OnFollows id other) s lane set = is_passed s.spans set id && is_passed s.spans set other
-passes a (OnEnter id) s lane set = is_passed s.spans set id
-passes a (OnExit id) s lane set = is_passed s.spans set id
-passes a (OnIdChange id other) s lane set = is_passed s.spans set id
-passes a (OnClose id) s lane set = is_passed s.spans set id
+passes a e s lane set = option_map_or (is_passed s.spans set) (span_in e) false
 
 -- who is notified where each filter is asked afresh: what every filter round it passes, in the view under the filters from outside down to that one
 abbrev pub asked_afresh : Form → Notice → Store → ℕ → FilterSet → Plan
 asked_afresh (Leaf still a) e s lane under = Itself
 asked_afresh (Filtered None a f) e s lane under = Nobody
 asked_afresh (Filtered (Some n) a f) e s lane under =
-    if passes a e s lane (union under (single n)) then Through (asked_afresh f e s lane (union under (single n))) else Nobody
-asked_afresh (Over k o i) e s lane under = Both (asked_afresh o e s lane under) (asked_afresh i e s lane under)
-asked_afresh (Bare v) e s lane under = Nobody
+    if passes a e s lane (union under (single n))
+    then Through (asked_afresh f e s lane (union under (single n))) else Nobody
+asked_afresh (Parts k o i) e s lane under =
+    Both (asked_afresh o e s lane under) (asked_afresh i e s lane under)
+asked_afresh (Terminal v) e s lane under = Nobody

@@ -45,7 +45,8 @@ pub record TakesSlot (key : ℕ) (id : Id) (old new : SlotState) : Type 0 where
   pub fresh : contains old.issued (number_of id) ≡ false
   pub other : 1 ≤ number_of id
   pub unused : get old.keys (number_of id) ≡ None
-  pub state : new ≡ record old { keys = insert old.keys (number_of id) key; issued = add old.issued (number_of id) }
+  pub state : new ≡ record old
+      { keys = insert old.keys (number_of id) key; issued = add old.issued (number_of id) }
 
 -- a number is held no longer; its slot is retired by that exactly where the number is of the last generation
 pub record GivesBack (id : Id) (old new : SlotState) : Type 0 where
@@ -98,7 +99,12 @@ issued_from i (p ∷ ps) = numbers_at i (issued_at p) ++ issued_from (suc i) ps
 
 -- the state that these fields keep
 abbrev pub slots_of : Inside → SlotState
-slots_of a = record { keys = from_entries (held_from 0 a.slots.items); issued = from_list (issued_from 0 a.slots.items); retired = a.retired; limits = a.limits }
+slots_of a = record {
+  keys = from_entries (held_from 0 a.slots.items);
+  issued = from_list (issued_from 0 a.slots.items);
+  retired = a.retired;
+  limits = a.limits;
+}
 
 -- the slot holds a span
 abbrev pub is_held : Slot → Bool

@@ -2,17 +2,27 @@
 use Rattle.std.specs.Prelude.{◌≡◌}
 use Rattle.std.specs.FinMap.{empty, entries}
 use Rattle.std.specs.FinSet.{len as set_len}
-use Rattle.span_registry.specs.Kept.{IsKept, spans_of, stacks_of}
+use Rattle.span_registry.specs.StoreRepr.{IsKept, spans_of, stacks_of}
 use Rattle.span_registry.specs.Store.{RegistryState, Store}
 use Rattle.span_registry.specs.declared.registry.Registry.TheInside.{Inside}
 
 -- the store that these fields keep
 abbrev pub store_of : Inside → Store
-store_of a = record { spans = spans_of (entries a.spans.records); extensions = a.spans.extensions; issued = a.spans.issued; stacks = stacks_of a.stacks.entries }
+store_of a = record {
+  spans = spans_of (entries a.spans.records);
+  extensions = a.spans.extensions;
+  issued = a.spans.issued;
+  stacks = stacks_of a.stacks.entries;
+}
 
 -- the registry that these fields keep
 abbrev pub state_of : Inside → RegistryState
-state_of a = record { store = store_of a; limits = a.spans.limits; filters = a.filters; retired = a.spans.retired }
+state_of a = record {
+  store = store_of a;
+  limits = a.spans.limits;
+  filters = a.filters;
+  retired = a.spans.retired;
+}
 
 -- what the registry keeps true of its fields: that of its spans, and no lane has a stack before an id is issued
 pub record IsSound (a : Inside) : Type 0 where

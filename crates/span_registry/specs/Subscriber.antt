@@ -16,7 +16,8 @@ pub record SameButExtensions (old : RegistryState) (new : RegistryState) : Type 
   pub retired : new.retired ≡ old.retired
 
 -- the registry takes a step, and then hooks may write extensions
-pub record AndHooks {S : Type 0} (registry : S → RegistryState) (step : RegistryState → RegistryState → Type 0) (old new : S) : Type 0 where
+pub record AndHooks {S : Type 0} (registry : S → RegistryState)
+    (step : RegistryState → RegistryState → Type 0) (old new : S) : Type 0 where
   pub stepped : RegistryState
   pub taken : step (registry old) stepped
   pub hooks : SameButExtensions stepped (registry new)

@@ -7,7 +7,7 @@ ghost use Rattle.span_core.specs.Event.{event_parent};
 ghost use Rattle.span_core.specs.Filters.{has_filter, is_attached, is_enabled};
 ghost use Rattle.span_core.specs.Pass.{refused_of};
 ghost use Rattle.span_core.specs.Span.{number_of};
-ghost use Rattle.span_registry.specs.Context.{Borrows, AnswersProbe, Exchanges, GivesScope, HasNoRefusals, IsLent, LendsOver, LentOn, LooksAt, LooksAtLent, LooksAtRoot, MasksMore, Narrows, NarrowsLent, RefersTo, SendsEvent, enabled_in, enabled_lent, extensions_lent, is_shown_to, lane_in, lane_lent, loan_of, mask_of_loan, refused_lent, store_in, subscriber_in, subscriber_lent, view_in, with_mask};
+ghost use Rattle.span_registry.specs.Context.{Borrows, AnswersProbe, Exchanges, GivesScope, HasNoRefusals, IsLent, LendsOver, LentOn, LooksAt, LooksAtLent, LooksAtRoot, MasksMore, Narrows, NarrowsLent, RefersTo, SendsEvent, enabled_in, enabled_lent, extensions_lent, is_shown_to, lane_in, lane_lent, loan_of, mask_of_loan, refused_lent, store_in, subscriber_in, subscriber_lent, view_in, view_lent, with_mask};
 ghost use Rattle.span_registry.specs.Lends.{lends_seen, lends_subscriber};
 ghost use Rattle.span_registry.specs.Marks.{spans_to_give};
 ghost use Rattle.span_registry.specs.Step.{ShowsCurrent};
@@ -294,7 +294,7 @@ impl<'a, S> ContextMut<'a, S> {
 
     /// Puts the filters of this id, which is attached, into the mask too, and answers the mask that was.
     ///
-    /// `widen` puts that back.
+    /// `restore_mask` puts that back.
     pub fn narrow(&mut self, filter: FilterId) -> Mask
         requires { IsTrue (is_attached filter) }
         ensures before { result ≡ mask_of_loan self.old }
@@ -306,7 +306,7 @@ impl<'a, S> ContextMut<'a, S> {
     }
 
     /// Puts this mask in the place of the one that is there.
-    pub fn widen(&mut self, mask: Mask)
+    pub fn restore_mask(&mut self, mask: Mask)
         ensures { self.new ≡ with_mask self.old mask }
     {
         self.mask = mask;
@@ -372,9 +372,17 @@ impl<'a, S> ContextMut<'a, S> {
 }
 
 impl<'a, S: LookupSpan> ContextMut<'a, S> {
+    /// The span's metadata, if it is in the store and isn't hidden.
+    pub fn metadata(&self, id: Id) -> Option<Metadata>
+        ensures { result ≡ metadata_shown (number_of id) (view_lent S.registry self.now) }
+    {
+        self.ctx().metadata(id)
+    }
+
     /// The extensions of a span that is in the store and isn't hidden, to be read and changed.
     pub fn extensions_mut(&mut self, id: Id) -> Option<ExtensionsMut<'_>>
-        ensures* writes_back { sem 𝓛 (lends_seen S.row S.registry S.with_registry self.entry id result) }
+        ensures* writes_back { sem 𝓛
+            (lends_seen S.row S.registry S.with_registry self.entry id result) }
         ensures value { option_copied_mut result ≡ extensions_lent S.registry self.old id }
         ensures there { is_some result ≡ is_shown_to S.registry self.old id }
     {

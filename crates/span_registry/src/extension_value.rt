@@ -34,15 +34,22 @@ pub trait ExtensionValue: Drop {
 
     ghost begins_empty: { place.values no_values ≡ empty };
 
-    ghost values_with: { (map : ExtensionMap) (values : FinMap nat_cmp Self) → place.values (place.with_values map values) ≡ values };
+    ghost values_with: { (map : ExtensionMap) (values : FinMap nat_cmp Self)
+        → place.values (place.with_values map values) ≡ values };
 
     ghost with_own: { (map : ExtensionMap) → place.with_values map (place.values map) ≡ map };
 
-    ghost with_twice: { (map : ExtensionMap) (first second : FinMap nat_cmp Self) → place.with_values (place.with_values map first) second ≡ place.with_values map second };
+    ghost with_twice: { (map : ExtensionMap) (first second : FinMap nat_cmp Self)
+        → place.with_values (place.with_values map first) second ≡ place.with_values map second };
 
-    ghost reads_own_type: { (map other : ExtensionMap) (number : ℕ) → SameAt value_type number map other → get (place.values map) number ≡ get (place.values other) number };
+    ghost reads_own_type: { (map other : ExtensionMap) (number : ℕ)
+        → SameAt value_type number map other
+        → get (place.values map) number ≡ get (place.values other) number };
 
-    ghost writes_own_type: { (map : ExtensionMap) (values : FinMap nat_cmp Self) (type : ValueType) (number : ℕ) → (type ≡ value_type → get (place.values map) number ≡ get values number) → SameAt type number map (place.with_values map values) };
+    ghost writes_own_type: { (map : ExtensionMap) (values : FinMap nat_cmp Self)
+        (type : ValueType) (number : ℕ)
+        → (type ≡ value_type → get (place.values map) number ≡ get values number)
+        → SameAt type number map (place.with_values map values) };
 }
 
 impl ExtensionValue for u64 {
@@ -50,7 +57,10 @@ impl ExtensionValue for u64 {
 
     ghost value_type = { Unsigned };
 
-    ghost place = { record { values = λ m. m.unsigned_numbers; with_values = λ m t. record m { unsigned_numbers = t } } };
+    ghost place = { record {
+      values = λ m. m.unsigned_numbers;
+      with_values = λ m t. record m { unsigned_numbers = t };
+    } };
 
     ghost begins_empty = { refl };
 
@@ -78,7 +88,10 @@ impl ExtensionValue for i64 {
 
     ghost value_type = { Signed };
 
-    ghost place = { record { values = λ m. m.signed_numbers; with_values = λ m t. record m { signed_numbers = t } } };
+    ghost place = { record {
+      values = λ m. m.signed_numbers;
+      with_values = λ m t. record m { signed_numbers = t };
+    } };
 
     ghost begins_empty = { refl };
 
@@ -190,7 +203,10 @@ impl ExtensionValue for Vec<u64> {
 
     ghost value_type = { NumberList };
 
-    ghost place = { record { values = λ m. m.number_lists; with_values = λ m t. record m { number_lists = t } } };
+    ghost place = { record {
+      values = λ m. m.number_lists;
+      with_values = λ m t. record m { number_lists = t };
+    } };
 
     ghost begins_empty = { refl };
 

@@ -55,7 +55,8 @@ pub trait LookupSpan {
 
     ghost registry_with: { (s : Self) (w : RegistryState) → registry (with_registry s w) ≡ w };
 
-    ghost with_twice: { (s : Self) (v w : RegistryState) → with_registry (with_registry s v) w ≡ with_registry s w };
+    ghost with_twice: { (s : Self) (v w : RegistryState)
+        → with_registry (with_registry s v) w ≡ with_registry s w };
 
     ghost with_own: { (s : Self) → with_registry s (registry s) ≡ s };
 }

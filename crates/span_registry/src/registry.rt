@@ -7,10 +7,10 @@ ghost use Rattle.std.specs.Prelude.{◌≡◌, ◌≤◌, ◌↔◌, ⊤, [], On
 ghost use Rattle.span_core.specs.Pass.{interest_sum, refused_of};
 ghost use Rattle.span_core.specs.Span.{asked_parent, number_of};
 ghost use Rattle.span_registry.specs.Conducts.{no_conducts, registry_path_laws};
-ghost use Rattle.span_registry.specs.Form.{Bare, Base};
+ghost use Rattle.span_registry.specs.Form.{Terminal, Base};
 ghost use Rattle.span_registry.specs.Hooks.{registry_laws};
 ghost use Rattle.span_registry.specs.Levels.{registry_levels, unlevelled};
-ghost use Rattle.span_registry.specs.Kept.{IsChosen};
+ghost use Rattle.span_registry.specs.StoreRepr.{IsChosen};
 ghost use Rattle.span_registry.specs.Lends.{lends_extensions};
 ghost use Rattle.span_registry.specs.Step.{Enters, Exits, IsContext, Opens, RefusesEnter, RefusesNew, RefusesRelease, Releases, Removes, RetiresLate, asked, entered_last};
 ghost use Rattle.span_registry.specs.Store.{AreIssued, IsClosing, IsForest, IsFresh, IsInStore, IsOpen, new_registry, stack_of};
@@ -65,7 +65,15 @@ impl Model for Registry {
 
     ghost Value = { RegistryState };
 
-    ghost coded = { Prim.hlevel (codes, map_code, set_code, metadata.the_row.coded, verdict.the_row.coded, values.the_row.coded, bounds.the_row.coded) };
+    ghost coded = { Prim.hlevel (
+      codes,
+      map_code,
+      set_code,
+      metadata.the_row.coded,
+      verdict.the_row.coded,
+      values.the_row.coded,
+      bounds.the_row.coded,
+    ) };
 
     ghost use Rattle.span_registry.specs.State.{IsSound, state_of};
 
@@ -284,7 +292,7 @@ impl LookupSpan for Registry {
 }
 
 impl Subscriber for Registry {
-    ghost has_form = { λ s f. f ≡ Bare Base };
+    ghost has_form = { λ s f. f ≡ Terminal Base };
 
     ghost stepped = { λ x p e lane v y w. w ≡ v };
 
@@ -349,7 +357,8 @@ impl Subscriber for Registry {
         attrs: &Attributes<'_>,
         pass: &Pass,
     ) -> Result<Id, TraceError>
-        ensures opened { IfOk result (λ id. Opens lane (asked attrs.now pass.now) id self.old self.new) }
+        ensures opened { IfOk result
+            (λ id. Opens lane (asked attrs.now pass.now) id self.old self.new) }
         ensures refused { IfErr result (RefusesNew self.old lane (asked_parent attrs.now)) }
         ensures unchanged { OnErr result (self.new ≡ self.old) }
     {

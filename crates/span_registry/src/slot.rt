@@ -47,7 +47,8 @@ impl Model for Slots {
 
     ghost view = { slots_of };
 
-    ghost invariant = { λ a. IsSound a.slots.items a.free.items (vec_capacity a.free) a.retired a.limits };
+    ghost invariant = { λ a.
+        IsSound a.slots.items a.free.items (vec_capacity a.free) a.retired a.limits };
 }
 
 /// Where the span with this id would stand, and in which generation.

@@ -4,7 +4,7 @@ ghost use Rattle.std.specs.FinSet.{len as set_len};
 ghost use Rattle.std.specs.Option.{option_copied, option_map};
 ghost use Rattle.std.specs.Prelude.{◌≡◌, ◌≤◌, ◌↔◌, IfErr, IfOk, IfSome, None, IsSome, IsTrue, MatchBool, OnErr, OnOk, Some, length, slice_set, ◌<◌};
 ghost use Rattle.span_core.specs.Span.{number_of};
-ghost use Rattle.span_registry.specs.Kept.{AreKeptIssued, HasNoRoom, HasRoom, Inserts, KeepsNothing, RetiresKept, TakesOut, counts_in, with_counts, no_spans, CountsBelow, CountsOneChild, GrowsEmpty, HasRecord, Writes, fewer, more};
+ghost use Rattle.span_registry.specs.StoreRepr.{AreKeptIssued, HasNoRoom, HasRoom, Inserts, KeepsNothing, RetiresKept, TakesOut, counts_in, with_counts, no_spans, CountsBelow, CountsOneChild, GrowsEmpty, HasRecord, Writes, fewer, more};
 ghost use Rattle.span_registry.specs.Extensions.{no_values};
 
 use crate::extensions::ExtensionMap;
@@ -31,14 +31,21 @@ impl Model for SpanStore {
     ghost use Rattle.std.specs.Coded.{codes};
     ghost use Rattle.std.specs.FinMap.{code as map_code};
     ghost use Rattle.std.specs.FinSet.{code as set_code};
-    ghost use Rattle.span_registry.specs.Kept.{KeepsSpans, KeptSpans, kept_of};
+    ghost use Rattle.span_registry.specs.StoreRepr.{KeepsSpans, KeptSpans, kept_of};
     ghost use Rattle.span_registry.specs.contracts.extensions.ExtensionMap as values;
     ghost use Rattle.span_registry.specs.contracts.limits.Limits as bounds;
     ghost use Rattle.span_registry.specs.contracts.span_record.SpanRecord as kept;
 
     ghost Value = { KeptSpans };
 
-    ghost coded = { Prim.hlevel (codes, map_code, set_code, kept.the_row.coded, values.the_row.coded, bounds.the_row.coded) };
+    ghost coded = { Prim.hlevel (
+      codes,
+      map_code,
+      set_code,
+      kept.the_row.coded,
+      values.the_row.coded,
+      bounds.the_row.coded,
+    ) };
 
     ghost view = { kept_of };
 
@@ -109,7 +116,8 @@ impl SpanStore {
     #[inline(always)]
     pub(crate) fn get_both(&self, id: Id) -> Option<(&SpanRecord, &ExtensionMap)>
         ensures record { option_map (λ b. b.0.now) result ≡ get self.now.records (number_of id) }
-        ensures extensions { option_map (λ b. b.1.now) result ≡ get self.now.extensions (number_of id) }
+        ensures extensions { option_map (λ b. b.1.now) result
+            ≡ get self.now.extensions (number_of id) }
     {
         match self.slots.key_of(id) {
             Some(key) => self.records.get(key).zip(self.extensions.get(key)),
@@ -210,7 +218,8 @@ impl SpanStore {
     /// Takes a span out, with its extensions, and answers its parent. It needs no memory.
     pub(crate) fn remove(&mut self, alloc: Global, id: Id) -> Option<Id>
         requires { IsSome (get self.old.records (number_of id)) }
-        ensures parent { option_map (λ r. r.parent) (get self.old.records (number_of id)) ≡ Some result }
+        ensures parent { option_map (λ r. r.parent) (get self.old.records (number_of id))
+            ≡ Some result }
         ensures taken { TakesOut id self.old self.new }
     {
         let key = self.slots.key_of(id)?;

@@ -4,7 +4,7 @@ ghost use Rattle.std.specs.Iterator.{YieldsFirstBy, item_count};
 ghost use Rattle.std.specs.Option.{option_map};
 ghost use Rattle.span_core.specs.Span.{number_of};
 ghost use Rattle.span_registry.specs.LaneStack.{leave, leaves_for_good, newest, stands, without_duplicates};
-ghost use Rattle.span_registry.specs.Kept.{PutsOn, TakesOff};
+ghost use Rattle.span_registry.specs.StoreRepr.{PutsOn, TakesOff};
 ghost use Rattle.span_registry.specs.Marks.{HoldsAll, IsAtLast, ids, numbers_down, spans_to_give};
 
 use crate::bloom::Bloom;

@@ -1,12 +1,12 @@
 //! What a stack is asked and notified of.
 ghost use Rattle.std.specs.Prelude.{◌≡◌, ⊤, false, IfErr, IfOk, OnErr, OnOk};
 ghost use Rattle.span_core.specs.Span.{asked_parent};
-ghost use Rattle.span_registry.specs.Answers.{OnClose, OnEnter, OnEvent, OnExit, OnFollows, OnRecord};
+ghost use Rattle.span_registry.specs.Behaviour.{OnClose, OnEnter, OnEvent, OnExit, OnFollows, OnRecord};
 ghost use Rattle.span_registry.specs.Conducts.{ActsAt, StackPathLaws};
 ghost use Rattle.span_registry.specs.Form.{Form, is_absent, is_base, is_marked};
 ghost use Rattle.span_registry.specs.Hooks.{Notifies, AnswersEnabled, AnswersEvent, AnswersInterest, OpensAndNotifies, StackLaws, StackSteps, Stays, no_filter};
 ghost use Rattle.span_registry.specs.Levels.{LevelLaws, LevelSteps, takes_level};
-ghost use Rattle.span_registry.specs.Place.{HearSteps};
+ghost use Rattle.span_registry.specs.Position.{HearSteps};
 ghost use Rattle.span_registry.specs.Question.{ShowsBy, hint_of, refusals};
 ghost use Rattle.span_registry.specs.Step.{Clones, Enters, Exits, RefusesClone, RefusesEnter, RefusesNew, ShowsCurrent};
 
@@ -20,7 +20,7 @@ use span_core::{
 /// Questions answer by the stack's form and keep what its filters said in the pass. State calls go to the registry first,
 /// and then the layers are notified: of a new span and an event as the pass says, of all else as the verdicts of spans say.
 /// A layer's hook may write extensions, and leaves the rest of the registry alone. Who is notified is promised of stacks in
-/// which no hook sends events (`IsStill`, of the form). A stack without a form may answer
+/// which no hook sends events (`WritesOnlyExtensions`, of the form). A stack without a form may answer
 /// anything.
 ///
 /// Stands for `tracing_core::Subscriber`, with the lane and the pass handed in.
@@ -56,17 +56,20 @@ pub trait Subscriber: LookupSpan {
     /// Whether the stack wants what this callsite makes. The filters add their interests to the pass.
     fn register_callsite(&self, meta: &Metadata, pass: &mut Pass) -> Interest
         requires { usable self.now }
-        ensures { AnswersInterest Self.registry has_form self.now meta.now pass.old result pass.new };
+        ensures { AnswersInterest Self.registry has_form self.now meta.now pass.old result
+            pass.new };
 
     /// Whether the stack wants a span or an event with this metadata. The filters' answers go into the pass.
     fn enabled(&self, lane: Lane, meta: &Metadata, pass: &mut Pass) -> bool
         requires { usable self.now }
-        ensures { AnswersEnabled Self.registry has_form self.now lane meta.now pass.old result pass.new };
+        ensures { AnswersEnabled Self.registry has_form self.now lane meta.now pass.old result
+            pass.new };
 
     /// Whether the stack wants this event, after `enabled`. The filters' answers go into the pass.
     fn event_enabled(&self, lane: Lane, event: &Event<'_>, pass: &mut Pass) -> bool
         requires { usable self.now }
-        ensures { AnswersEvent Self.registry has_form self.now lane event.now pass.old result pass.new };
+        ensures { AnswersEvent Self.registry has_form self.now lane event.now pass.old result
+            pass.new };
 
     /// The highest level that the stack may want, if it knows one.
     fn max_level_hint(&self) -> Option<LevelFilter>
@@ -86,27 +89,33 @@ pub trait Subscriber: LookupSpan {
     ) -> Result<Id, TraceError>
         requires { usable self.old }
         ensures usable { usable self.new }
-        ensures opened { IfOk result (OpensAndNotifies Self.registry has_form stepped lane attrs.now pass.now self.old self.new) }
-        ensures refused { IfErr result (RefusesNew (Self.registry self.old) lane (asked_parent attrs.now)) }
+        ensures opened { IfOk result
+            (OpensAndNotifies Self.registry has_form stepped lane attrs.now pass.now self.old
+            self.new) }
+        ensures refused { IfErr result
+            (RefusesNew (Self.registry self.old) lane (asked_parent attrs.now)) }
         ensures unchanged { OnErr result (self.new ≡ self.old) };
 
     /// Notifies of values that a span was given later.
     fn record(&mut self, lane: Lane, id: Id, values: &Record<'_>)
         requires { usable self.old }
         ensures usable { usable self.new }
-        ensures hooks { Notifies Self.registry has_form stepped lane no_filter (OnRecord id values.now) Stays self.old self.new };
+        ensures hooks { Notifies Self.registry has_form stepped lane no_filter
+            (OnRecord id values.now) Stays self.old self.new };
 
     /// Notifies that a span follows from another one.
     fn record_follows_from(&mut self, lane: Lane, id: Id, follows: Id)
         requires { usable self.old }
         ensures usable { usable self.new }
-        ensures hooks { Notifies Self.registry has_form stepped lane no_filter (OnFollows id follows) Stays self.old self.new };
+        ensures hooks { Notifies Self.registry has_form stepped lane no_filter
+            (OnFollows id follows) Stays self.old self.new };
 
     /// Notifies of an event.
     fn event(&mut self, lane: Lane, event: &Event<'_>, pass: &Pass)
         requires { usable self.old }
         ensures usable { usable self.new }
-        ensures hooks { Notifies Self.registry has_form stepped lane (refusals pass.now) (OnEvent event.now) Stays self.old self.new };
+        ensures hooks { Notifies Self.registry has_form stepped lane (refusals pass.now)
+            (OnEvent event.now) Stays self.old self.new };
 
     /// Enters a span on a lane, whether it stands there already or not.
     ///
@@ -114,7 +123,9 @@ pub trait Subscriber: LookupSpan {
     fn enter(&mut self, lane: Lane, id: Id) -> Result<(), TraceError>
         requires { usable self.old }
         ensures usable { usable self.new }
-        ensures entered { OnOk result (Notifies Self.registry has_form stepped lane no_filter (OnEnter id) (Enters lane id) self.old self.new) }
+        ensures entered { OnOk result
+            (Notifies Self.registry has_form stepped lane no_filter (OnEnter id) (Enters lane id)
+            self.old self.new) }
         ensures refused { IfErr result (RefusesEnter (Self.registry self.old) id) }
         ensures unchanged { OnErr result (self.new ≡ self.old) };
 
@@ -122,7 +133,8 @@ pub trait Subscriber: LookupSpan {
     fn exit(&mut self, lane: Lane, id: Id)
         requires { usable self.old }
         ensures usable { usable self.new }
-        ensures hooks { Notifies Self.registry has_form stepped lane no_filter (OnExit id) (Exits lane id) self.old self.new };
+        ensures hooks { Notifies Self.registry has_form stepped lane no_filter (OnExit id)
+            (Exits lane id) self.old self.new };
 
     /// Adds a handle, and answers the same id. The lane makes no difference, and no layer is notified.
     ///
@@ -144,7 +156,8 @@ pub trait Subscriber: LookupSpan {
     fn close_hooks(&mut self, lane: Lane, id: Id)
         requires { usable self.old }
         ensures usable { usable self.new }
-        ensures hooks { Notifies Self.registry has_form stepped lane no_filter (OnClose id) Stays self.old self.new };
+        ensures hooks { Notifies Self.registry has_form stepped lane no_filter (OnClose id) Stays
+            self.old self.new };
 
     /// Sets the level of the filter with this number, and answers whether there is one that takes it. Else nothing changes.
     ///

@@ -7,11 +7,11 @@ use Rattle.span_dispatch.specs.Recorder.{RecorderState, new_recorder}
 use Rattle.span_filters.specs.Filter.{settled_answers}
 use Rattle.span_filters.specs.Level.{level_answers}
 use Rattle.span_layers.specs.Filtered.{FilteredForm, IsNumber, IsUnnumbered, filter_of, id_of, layer_of}
-use Rattle.span_layers.specs.Layered.{OverForm, inner_of, outer_of, with_inner}
+use Rattle.span_layers.specs.Layered.{PartsForm, inner_of, outer_of, with_inner}
 use Rattle.span_layers.specs.Number.{numbered}
 use Rattle.span_layers.specs.declared.filtered.Filtered.{Filtered as FilteredLayer}
 use Rattle.span_layers.specs.declared.layered.Layered.{Layered}
-use Rattle.span_registry.specs.Form.{Filtered, Form, InPair, Over}
+use Rattle.span_registry.specs.Form.{Filtered, Form, InPair, Parts}
 use Rattle.span_registry.specs.Store.{RegistryState, new_registry}
 use Rattle.span_registry.specs.declared.limits.Limits.{Limits}
 use Rattle.span_runner.specs.Mute.{mute_answers}
@@ -38,7 +38,7 @@ abbrev pub UnderMute : FilteredLayer Levelled Mute → Form → Type 0
 UnderMute x = FilteredForm (id_of x) (settled_answers (λ (f : Mute). mute_answers) (filter_of x)) (UnderLevel (layer_of x))
 
 abbrev pub PairForm : Layered Levelled Levelled → Form → Type 0
-PairForm x = OverForm InPair (UnderLevel (outer_of x)) (UnderLevel (inner_of x))
+PairForm x = PartsForm InPair (UnderLevel (outer_of x)) (UnderLevel (inner_of x))
 
 -- a registry of which filters alone are others
 pub registry_then : (s u t : RegistryState) (n : ℕ) → s ≡ u → t ≡ record s { filters = t.filters } → t.filters ≡ n → t ≡ record u { filters = n }
@@ -54,7 +54,7 @@ abbrev level_form : LevelFilter → Form
 level_form level = Filtered None (level_answers level) leaf
 
 abbrev pair_form : Form
-pair_form = Over InPair (level_form INFO) (level_form TRACE)
+pair_form = Parts InPair (level_form INFO) (level_form TRACE)
 
 abbrev mute_form : Form
 mute_form = Filtered None mute_answers (level_form INFO)

@@ -6,6 +6,7 @@ use Rattle.span_core.specs.declared.level.TheConstants.LevelFilter.{INFO, TRACE,
 use Rattle.span_dispatch.specs.Recorder.{RecorderState}
 use Rattle.span_filters.specs.Filter.{unlevelled}
 use Rattle.span_filters.specs.Level.{level_answers, level_honest, level_taken}
+use Rattle.span_layers.proofs.Built.{honest_by}
 use Rattle.span_layers.specs.Filtered.{IsNumber, filter_of, id_of, layer_of}
 use Rattle.span_layers.specs.Honest.{IsHonestStack}
 use Rattle.span_layers.specs.Layered.{inner_of, outer_of}
@@ -13,9 +14,9 @@ use Rattle.span_layers.specs.Observe.{open_answers}
 use Rattle.span_layers.specs.Optional.{OptionGoes}
 use Rattle.span_layers.specs.declared.filtered.Filtered.{Filtered as FilteredLayer}
 use Rattle.span_layers.specs.declared.layered.Layered.{Layered}
-use Rattle.span_registry.specs.Answers.{AreHonest}
-use Rattle.span_registry.specs.Follows.{RefusesNothing}
-use Rattle.span_registry.specs.Form.{Bare, Base, Filtered, Form, InPair, Leaf, OnSubscriber}
+use Rattle.span_registry.specs.Behaviour.{AreHonest}
+use Rattle.span_registry.specs.KeptForm.{RefusesNothing}
+use Rattle.span_registry.specs.Form.{Terminal, Base, Filtered, Form, InPair, Leaf, OnSubscriber}
 use Rattle.span_registry.specs.Store.{RegistryState}
 use Rattle.span_registry.specs.declared.limits.Limits.{Limits}
 use Rattle.span_runner.proofs.Begins.{AbsentStack, Levelled, VetoStack, Warned}
@@ -33,13 +34,13 @@ quiet : RefusesNothing open_answers
 quiet = record { enabled = λ m v. refl; event = λ e v. refl }
 
 pub honest_plain : IsHonestStack (form_of Plain) 0
-honest_plain = record {
+honest_plain = honest_by (form_of Plain) 0 (record {
   answers = (open_honest, tt);
   numbers = record { distinct = (tt, tt, λ k h. refl); handed_out = λ k h. absurd (false≢true h) };
   orderly = (tt, tt);
   still = (refl, tt);
   stack = refl;
-}
+})
 
 either : (a b : Bool) {A : Type 0} → (a ≡ true → A) → (b ≡ true → A) → (a || b) ≡ true → A
 either true b f g h = f refl
@@ -69,29 +70,29 @@ both_first k h =
     (λ e. either (k == 0) ((k == 1) || false) (λ f. none_below_two k (eqb-true k 0 f)) (λ f. one_below_two k (is_one k 1 f)) e) (λ e. absurd (false≢true e)) h
 
 pub honest_pair : IsHonestStack (form_of Pair) 2
-honest_pair = record {
+honest_pair = honest_by (form_of Pair) 2 (record {
   answers = (((level_honest INFO, open_honest), (level_honest TRACE, open_honest)), tt);
   numbers = record { distinct = (((refl, tt), (refl, tt), apart), tt, λ k h. refl); handed_out = first_two };
   orderly = ((quiet, quiet), tt);
   still = ((refl, refl), tt);
   stack = refl;
-}
+})
 
 pub honest_nested : IsHonestStack (form_of Nested) 2
-honest_nested = record {
+honest_nested = honest_by (form_of Nested) 2 (record {
   answers = ((mute_honest, (level_honest INFO, open_honest)), (open_honest, tt));
   numbers = record { distinct = ((refl, (refl, tt)), (tt, tt, λ k h. refl), λ k h. refl); handed_out = both_first };
   orderly = (quiet, (tt, tt));
   still = (refl, (refl, tt));
   stack = refl;
-}
+})
 
 -- it has the one number
 the_first : (k : ℕ) → (((k == 0) || false) || (false || false)) ≡ true → k < 1
 the_first k h = either ((k == 0) || false) (false || false) (λ e. let x = is_one k 0 e in omega (arith, x)) (λ e. absurd (false≢true e)) h
 
 pub honest_veto : IsHonestStack (form_of Veto) 1
-honest_veto = record {
+honest_veto = honest_by (form_of Veto) 1 (record {
   answers = (level_honest INFO, (mute_honest, ((level_honest WARN, open_honest), (open_honest, tt))));
   numbers = record {
     distinct = (tt, (tt, ((refl, tt), (tt, tt, λ k h. refl), λ k h. refl), λ k h. absurd (false≢true h)), λ k h. absurd (false≢true h));
@@ -100,16 +101,16 @@ honest_veto = record {
   orderly = (tt, (tt, (quiet, (tt, tt))));
   still = (refl, (refl, (refl, (refl, tt))));
   stack = refl;
-}
+})
 
 pub honest_absent : IsHonestStack (form_of Absent) 0
-honest_absent = record {
+honest_absent = honest_by (form_of Absent) 0 (record {
   answers = (open_honest, (tt, tt));
   numbers = record { distinct = (tt, (tt, tt, λ k h. refl), λ k h. absurd (false≢true h)); handed_out = λ k h. absurd (false≢true h) };
   orderly = (tt, (tt, tt));
   still = (refl, (tt, tt));
   stack = refl;
-}
+})
 
 -- ---- what settles their forms
 
@@ -143,7 +144,7 @@ abbrev pub StaysBeside : AbsentStack → Form → Type 0
 StaysBeside = StayBoth OnSubscriber StaysLeaf (StayBoth OnSubscriber StaysAbsent StaysBase)
 
 pub stays_plain : (x : Layered RecorderState RegistryState) → StaysPlain x (form_of Plain)
-stays_plain x = record { over = leaf; below = Bare Base; outer = refl; inner = refl; form = refl }
+stays_plain x = record { over = leaf; below = Terminal Base; outer = refl; inner = refl; form = refl }
 
 stays_levelled : (n : ℕ) (level : LevelFilter) (x : Levelled) → BeginsUnder n level x → StaysLevelled n x (Filtered (Some n) (level_answers level) leaf)
 stays_levelled n level x h = record { number = h.number; below = leaf; inside = refl; form = ap (λ k. Filtered (Some n) (level_answers k) leaf) (sym h.level) }
@@ -152,7 +153,7 @@ pub stays_pair : {limits : Limits} (x : Layered (Layered Levelled Levelled) Regi
 stays_pair x h =
     let b = stays_levelled 0 INFO (outer_of (outer_of x)) h.b in
     let a = stays_levelled 1 TRACE (inner_of (outer_of x)) h.a in
-    record { over = _; below = Bare Base; outer = record { over = _; below = _; outer = b; inner = a; form = refl }; inner = refl; form = refl }
+    record { over = _; below = Terminal Base; outer = record { over = _; below = _; outer = b; inner = a; form = refl }; inner = refl; form = refl }
 
 pub stays_nested : {limits : Limits} (x : Layered (FilteredLayer Levelled Mute) (Layered RecorderState RegistryState)) → BeginsNested limits x → StaysNested x (form_of Nested)
 stays_nested x h =
@@ -172,7 +173,7 @@ stays_veto x h =
     }
 
 pub stays_absent : {limits : Limits} (x : AbsentStack) → BeginsAbsent limits x → StaysBeside x (form_of Absent)
-stays_absent x h = record { over = leaf; below = _; outer = refl; inner = record { over = _; below = Bare Base; outer = (h.absent, refl); inner = refl; form = refl }; form = refl }
+stays_absent x h = record { over = leaf; below = _; outer = refl; inner = record { over = _; below = Terminal Base; outer = (h.absent, refl); inner = refl; form = refl }; form = refl }
 
 -- ---- they begin as they were made, once they are in use
 

@@ -22,20 +22,20 @@ use Rattle.span_layers.specs.Filtered.{FilteredForm, FilteredSteps, Hooked, IsNu
 use Rattle.span_layers.specs.Honest.{IsHonestStack}
 use Rattle.span_layers.specs.Idle.{IdleSteps}
 use Rattle.span_layers.specs.Layer.{HearsBy, LayerSteps}
-use Rattle.span_layers.specs.Layered.{LayeredSteps, OverForm, PairSteps, inner_of, outer_of, with_inner}
+use Rattle.span_layers.specs.Layered.{LayeredSteps, PartsForm, PairSteps, inner_of, outer_of, with_inner}
 use Rattle.span_layers.specs.Levels.{FilteredLevels, LayeredLevels, LevelsIf, OptionLevels}
 use Rattle.span_layers.specs.Optional.{OptionForm, OptionGoes, OptionSteps}
 use Rattle.span_layers.specs.Veto.{VetoForm}
 use Rattle.span_layers.specs.declared.filtered.Filtered.{Filtered as FilteredLayer}
 use Rattle.span_layers.specs.declared.layered.Layered.{Layered}
 use Rattle.span_registry.proofs.CallerLemmas.{settled_new}
-use Rattle.span_registry.specs.Answers.{Answers, Notice, OnClose, OnEnter, OnEvent, OnExit, OnFollows, OnIdChange, OnNewSpan, OnRecord}
-use Rattle.span_registry.specs.Closes.{IsSettled}
+use Rattle.span_registry.specs.Behaviour.{Behaviour, Notice, OnClose, OnEnter, OnEvent, OnExit, OnFollows, OnIdChange, OnNewSpan, OnRecord}
+use Rattle.span_registry.specs.Closes.{HasNoClosing}
 use Rattle.span_registry.specs.Conducts.{ActsAt}
-use Rattle.span_registry.specs.Form.{Absent, Bare, Base, Filtered, Form, InPair, Joint, Leaf, OnSubscriber, Over}
+use Rattle.span_registry.specs.Form.{Absent, Terminal, Base, Filtered, Form, InPair, Arrangement, Leaf, OnSubscriber, Parts}
 use Rattle.span_registry.specs.Hooks.{StackSteps, no_filter}
 use Rattle.span_registry.specs.Levels.{LevelSteps, unlevelled}
-use Rattle.span_registry.specs.Place.{HearSteps, Heard, Here}
+use Rattle.span_registry.specs.Position.{HearSteps, Heard, Here}
 use Rattle.span_registry.specs.Plan.{Both, Itself, Nobody, Plan, Through}
 use Rattle.span_registry.specs.Store.{RegistryState}
 use Rattle.span_registry.specs.declared.limits.Limits.{Limits}
@@ -64,11 +64,11 @@ steady_recorder = record {
 }
 
 -- a leaf that vetoes is by what it answers
-abbrev pub StaysVeto : {L : Type 0} → (L → Answers) → L → Form → Type 0
+abbrev pub StaysVeto : {L : Type 0} → (L → Behaviour) → L → Form → Type 0
 StaysVeto answers x f = f ≡ Leaf true (answers x)
 
 -- one that stays as it is
-pub steady_veto : {L : Type 0} (answers : L → Answers) → IsSteady (λ x. VetoForm (settled_answers answers x)) IdleSteps unlevelled (StaysVeto answers)
+pub steady_veto : {L : Type 0} (answers : L → Behaviour) → IsSteady (λ x. VetoForm (settled_answers answers x)) IdleSteps unlevelled (StaysVeto answers)
 steady_veto answers = record {
   known = λ x f g s h. h.2 ∙ ap (λ b. Leaf true b) h.1 ∙ sym s;
   has = λ x f s. (answers x, refl, s);
@@ -85,7 +85,7 @@ module _ {L : Type 0} (goes : L → L → Type 0) where
 
 -- there is none, and the form says so
 abbrev pub StaysAbsent : {L : Type 0} → Option L → Form → Type 0
-StaysAbsent x f = (x ≡ None) × (f ≡ Bare Absent)
+StaysAbsent x f = (x ≡ None) × (f ≡ Terminal Absent)
 
 module _ {L : Type 0} (has_form : L → Form → Type 0) (stepped : LayerSteps L) (levelled : LevelSteps L) where
   goes_absent : (x : Option L) (p : Plan) (e : Notice) (lane : ℕ) (under : FilterSet) (v : RegistryState) (y : Option L) (w : RegistryState) → OptionSteps stepped x p e lane under v y w → x ≡ None → y ≡ None
@@ -119,17 +119,17 @@ unmoved_filter f (OnIdChange id other) lane under v g w h = h.0
 unmoved_filter f (OnClose id) lane under v g w h = h.0
 
 -- a layer under a filter of this number, by what the filter answers
-pub record StaysUnder {L F : Type 0} (n : ℕ) (answers : F → Answers) (Stays : L → Form → Type 0) (x : FilteredLayer L F) (f : Form) : Type 0 where
+pub record StaysUnder {L F : Type 0} (n : ℕ) (answers : F → Behaviour) (Stays : L → Form → Type 0) (x : FilteredLayer L F) (f : Form) : Type 0 where
   pub number : IsNumber (id_of x) (Some n)
   pub below : Form
   pub inside : Stays (layer_of x) below
   pub form : f ≡ Filtered (Some n) (answers (filter_of x)) below
 
 -- what such a filter answers once it was asked to take a level: it is by level, if it takes one
-abbrev pub IsByLevel : {F : Type 0} → (F → Answers) → FilterLevelSteps F → Type 0
+abbrev pub IsByLevel : {F : Type 0} → (F → Behaviour) → FilterLevelSteps F → Type 0
 IsByLevel {F = F} answers own = (a : F) (l : LevelFilter) (b : F) → own a l b → answers b ≡ (if (answers a).takes l then level_answers l else answers a)
 
-module _ {L F : Type 0} {has_form : L → Form → Type 0} {stepped : LayerSteps L} {levelled : LevelSteps L} {Stays : L → Form → Type 0} {own : FilterLevelSteps F} (n : ℕ) (answers : F → Answers) (by_level : IsByLevel answers own) (inner : IsSteady has_form stepped levelled Stays) where
+module _ {L F : Type 0} {has_form : L → Form → Type 0} {stepped : LayerSteps L} {levelled : LevelSteps L} {Stays : L → Form → Type 0} {own : FilterLevelSteps F} (n : ℕ) (answers : F → Behaviour) (by_level : IsByLevel answers own) (inner : IsSteady has_form stepped levelled Stays) where
   known_under : (x : FilteredLayer L F) (f g : Form) → StaysUnder n answers Stays x f → FilteredForm (id_of x) (settled_answers answers (filter_of x)) (has_form (layer_of x)) g → g ≡ f
   known_under x f (Filtered m b g) s h =
       let number = same_number (id_of x) m n h.0 s.number in
@@ -137,8 +137,8 @@ module _ {L F : Type 0} {has_form : L → Form → Type 0} {stepped : LayerSteps
       let below = inner.known (layer_of x) s.below g s.inside h.2 in
       (λ i. Filtered (number i) (own i) (below i)) ∙ sym s.form
   known_under x f (Leaf still b) s h = absurd h
-  known_under x f (Over k o i) s h = absurd h
-  known_under x f (Bare v) s h = absurd h
+  known_under x f (Parts k o i) s h = absurd h
+  known_under x f (Terminal v) s h = absurd h
 
   goes_under : (i : FilterId) (k : F) (x : L) (f : Form) (p : Plan) (e : Notice) (lane : ℕ) (under : FilterSet) (v : RegistryState) (g : F) (y : L) (w : RegistryState) → FilteredSteps unmoved stepped i k x p e lane under v g y w → (g ≡ k) × (Stays x f → Stays y f)
   goes_under i k x f Nobody e lane under v g y w h = (h.0, λ s. subst (λ z. Stays z f) (sym h.1) s)
@@ -175,26 +175,26 @@ module _ {L F : Type 0} {has_form : L → Form → Type 0} {stepped : LayerSteps
   }
 
 -- two parts
-pub record StayBoth {L I : Type 0} (joint : Joint) (Outer : L → Form → Type 0) (Inner : I → Form → Type 0) (x : Layered L I) (f : Form) : Type 0 where
+pub record StayBoth {L I : Type 0} (joint : Arrangement) (Outer : L → Form → Type 0) (Inner : I → Form → Type 0) (x : Layered L I) (f : Form) : Type 0 where
   pub over : Form
   pub below : Form
   pub outer : Outer (outer_of x) over
   pub inner : Inner (inner_of x) below
-  pub form : f ≡ Over joint over below
+  pub form : f ≡ Parts joint over below
 
 -- the form of two parts is that of their forms
-known_over : (joint : Joint) (outer inner : Form → Type 0) (o i g : Form) → ((k : Form) → outer k → k ≡ o) → ((k : Form) → inner k → k ≡ i) → OverForm joint outer inner g → g ≡ Over joint o i
-known_over joint outer inner o i (Over k p q) a b h =
+known_over : (joint : Arrangement) (outer inner : Form → Type 0) (o i g : Form) → ((k : Form) → outer k → k ≡ o) → ((k : Form) → inner k → k ≡ i) → PartsForm joint outer inner g → g ≡ Parts joint o i
+known_over joint outer inner o i (Parts k p q) a b h =
     let same = h.0 in
     let first = a p h.1 in
     let second = b q h.2 in
-    λ j. Over (same j) (first j) (second j)
+    λ j. Parts (same j) (first j) (second j)
 known_over joint outer inner o i (Leaf still c) a b h = absurd h
 known_over joint outer inner o i (Filtered n c g) a b h = absurd h
-known_over joint outer inner o i (Bare v) a b h = absurd h
+known_over joint outer inner o i (Terminal v) a b h = absurd h
 
 -- a level that is set in both changes the form of both
-set_both : {L I : Type 0} {Outer : L → Form → Type 0} {Inner : I → Form → Type 0} {joint : Joint} (x y : Layered L I) (f : Form) (n : ℕ) (l : LevelFilter)
+set_both : {L I : Type 0} {Outer : L → Form → Type 0} {Inner : I → Form → Type 0} {joint : Arrangement} (x y : Layered L I) (f : Form) (n : ℕ) (l : LevelFilter)
     → ((g : Form) → Outer (outer_of x) g → Outer (outer_of y) (set_at n l g)) → ((g : Form) → Inner (inner_of x) g → Inner (inner_of y) (set_at n l g)) → StayBoth joint Outer Inner x f → StayBoth joint Outer Inner y (set_at n l f)
 set_both x y f n l outer inner s = record { over = set_at n l s.over; below = set_at n l s.below; outer = outer s.over s.outer; inner = inner s.below s.inner; form = ap (set_at n l) s.form }
 
@@ -206,12 +206,12 @@ module _ {L I : Type 0} {outer_form : L → Form → Type 0} {inner_form : I →
   goes_pair x z o i (Through p) e lane under v y u w h = absurd h
 
   -- two steady layers are a steady layer
-  pub steady_pair : IsSteady (λ x. OverForm InPair (outer_form (outer_of x)) (inner_form (inner_of x)))
+  pub steady_pair : IsSteady (λ x. PartsForm InPair (outer_form (outer_of x)) (inner_form (inner_of x)))
       (λ x p e lane under v y w. PairSteps outer_steps inner_steps (outer_of x) (inner_of x) p e lane under v (outer_of y) (inner_of y) w)
       (λ x n l y. LayeredLevels outer_levels inner_levels (outer_of x) (inner_of x) n l (outer_of y) (inner_of y)) (StayBoth InPair Outer Inner)
   steady_pair = record {
     known = λ x f g s h. known_over InPair (outer_form (outer_of x)) (inner_form (inner_of x)) s.over s.below g (λ k t. outer.known (outer_of x) s.over k s.outer t) (λ k t. inner.known (inner_of x) s.below k s.inner t) h ∙ sym s.form;
-    has = λ x f s. subst (OverForm InPair (outer_form (outer_of x)) (inner_form (inner_of x))) (sym s.form) (refl, outer.has (outer_of x) s.over s.outer, inner.has (inner_of x) s.below s.inner);
+    has = λ x f s. subst (PartsForm InPair (outer_form (outer_of x)) (inner_form (inner_of x))) (sym s.form) (refl, outer.has (outer_of x) s.over s.outer, inner.has (inner_of x) s.below s.inner);
     goes = λ x f p e lane under v y w h s.
         let went = goes_pair (outer_of x) (inner_of x) s.over s.below p e lane under v (outer_of y) (inner_of y) w h in
         record { over = s.over; below = s.below; outer = went.0 s.outer; inner = went.1 s.inner; form = s.form };
@@ -230,9 +230,9 @@ pub record IsSteadyStack {S : Type 0} (with_registry : S → RegistryState → S
 
 -- the registry is the base
 abbrev pub StaysBase : RegistryState → Form → Type 0
-StaysBase x f = f ≡ Bare Base
+StaysBase x f = f ≡ Terminal Base
 
-pub steady_registry : IsSteadyStack (λ (s w : RegistryState). w) (λ s f. f ≡ Bare Base) (λ x p e lane v y w. w ≡ v) unlevelled StaysBase
+pub steady_registry : IsSteadyStack (λ (s w : RegistryState). w) (λ s f. f ≡ Terminal Base) (λ x p e lane v y w. w ≡ v) unlevelled StaysBase
 steady_registry = record {
   known = λ x f g s h. h ∙ sym s;
   has = λ x f s. s;
@@ -250,12 +250,12 @@ module _ {L I : Type 0} {with_registry : I → RegistryState → I} {outer_form 
   goes_stack x z o i (Through p) e lane v y u w h = absurd h
 
   -- a steady layer on a steady stack is a steady stack
-  pub steady_stack : IsSteadyStack (λ x w. with_inner x (with_registry (inner_of x) w)) (λ x. OverForm OnSubscriber (outer_form (outer_of x)) (inner_form (inner_of x)))
+  pub steady_stack : IsSteadyStack (λ x w. with_inner x (with_registry (inner_of x) w)) (λ x. PartsForm OnSubscriber (outer_form (outer_of x)) (inner_form (inner_of x)))
       (λ x p e lane v y w. LayeredSteps with_registry outer_steps inner_steps (outer_of x) (inner_of x) p e lane v (outer_of y) (inner_of y) w)
       (λ x n l y. LayeredLevels outer_levels inner_levels (outer_of x) (inner_of x) n l (outer_of y) (inner_of y)) (StayBoth OnSubscriber Outer Inner)
   steady_stack = record {
     known = λ x f g s h. known_over OnSubscriber (outer_form (outer_of x)) (inner_form (inner_of x)) s.over s.below g (λ k t. outer.known (outer_of x) s.over k s.outer t) (λ k t. inner.known (inner_of x) s.below k s.inner t) h ∙ sym s.form;
-    has = λ x f s. subst (OverForm OnSubscriber (outer_form (outer_of x)) (inner_form (inner_of x))) (sym s.form) (refl, outer.has (outer_of x) s.over s.outer, inner.has (inner_of x) s.below s.inner);
+    has = λ x f s. subst (PartsForm OnSubscriber (outer_form (outer_of x)) (inner_form (inner_of x))) (sym s.form) (refl, outer.has (outer_of x) s.over s.outer, inner.has (inner_of x) s.below s.inner);
     goes = λ x f p e lane v y w h s.
         let went = goes_stack (outer_of x) (inner_of x) s.over s.below p e lane v (outer_of y) (inner_of y) w h in
         record { over = s.over; below = s.below; outer = went.0 s.outer; inner = went.1 s.inner; form = s.form };
@@ -272,7 +272,7 @@ module _ {S : Type 0} {with_registry : S → RegistryState → S} {has_form : S 
     f,
     record {
       honest = record { has = steady.has x f stays; rules = subst (λ (s : RegistryState). IsHonestStack f s.filters) (sym first) honest };
-      settled = subst (λ (s : RegistryState). IsSettled s.store.spans) (sym first) (settled_new limits);
+      settled = subst (λ (s : RegistryState). HasNoClosing s.store.spans) (sym first) (settled_new limits);
     },
   )
 

@@ -6,7 +6,7 @@ use Rattle.span_core.specs.Event.{event_values}
 use Rattle.span_core.specs.declared.field.FieldValue.TheVariants as value
 use Rattle.span_core.specs.declared.field.FieldValue.{FieldValue}
 use Rattle.span_core.specs.declared.interest.Interest.TheVariants.{Always}
-use Rattle.span_registry.specs.Answers.{Answers, AreHonest, ArePlain}
+use Rattle.span_registry.specs.Behaviour.{Behaviour, AreHonest, ArePlain}
 
 -- whether a value is `true`
 abbrev pub is_true : FieldValue → Bool
@@ -22,25 +22,23 @@ abbrev pub is_muted : List (Bor (List ℕ) × FieldValue) → Bool
 is_muted values = list_any is_mute values
 
 -- all metadata; the events that aren't muted; it is interested in everything
-abbrev pub mute_answers : Answers
-mute_answers =
-    record {
-      enabled = λ m v. true;
-      event = λ e v. not (is_muted (event_values e));
-      interest = λ m. Always;
-      hint = None;
-      takes = λ l. false;
-    }
+abbrev pub mute_answers : Behaviour
+mute_answers = record {
+  enabled = λ m v. true;
+  event = λ e v. not (is_muted (event_values e));
+  interest = λ m. Always;
+  hint = None;
+  takes = λ l. false;
+}
 
 -- these are honest
 pub mute_honest : AreHonest mute_answers
-mute_honest =
-    record {
-      always = λ m v e. refl;
-      never = λ m v e. absurd (cc);
-      above = λ m v e. absurd (cc);
-      alike = λ m k e. refl;
-    }
+mute_honest = record {
+  always = λ m v e. refl;
+  never = λ m v e. absurd (cc);
+  above = λ m v e. absurd (cc);
+  alike = λ m k e. refl;
+}
 
 -- and plain, since they look at no view
 pub mute_plain : ArePlain mute_answers

@@ -23,8 +23,8 @@ use Rattle.span_layers.specs.Number.{filters_in}
 use Rattle.span_layers.specs.Observe.{open_answers}
 use Rattle.span_layers.specs.declared.filtered.Filtered.{Filtered as FilteredLayer}
 use Rattle.span_layers.specs.declared.layered.Layered.{Layered}
-use Rattle.span_registry.specs.Form.{Absent, Bare, Base, Filtered, Form, InPair, Leaf, OnSubscriber, Over}
-use Rattle.span_registry.specs.Place.{Here, Inner, Outer, Place, Under}
+use Rattle.span_registry.specs.Form.{Absent, Terminal, Base, Filtered, Form, InPair, Leaf, OnSubscriber, Parts}
+use Rattle.span_registry.specs.Position.{Here, Inner, Outer, Position, Under}
 use Rattle.span_registry.specs.Store.{RegistryState, new_registry}
 use Rattle.span_registry.specs.declared.limits.Limits.{Limits}
 use Rattle.span_runner.specs.Mute.{mute_answers}
@@ -39,22 +39,23 @@ leaf = Leaf true open_answers
 
 -- the form of a stack. Plain: a recorder on the registry. Pair: `a`, which every level passes, and outside it `b`, which info and what is less verbose pass. Nested: `base`, and outside it `deep`, which those levels pass, where the event isn't muted. Veto: `base`, outside it `warn`, which warnings and errors pass, and outside these two leaves that veto, one muted events and the outer one what is more verbose than info. Absent: an absent layer, and outside it `base`
 abbrev pub form_of : StackName → Form
-form_of Plain = Over OnSubscriber leaf (Bare Base)
+form_of Plain = Parts OnSubscriber leaf (Terminal Base)
 form_of Pair =
-    Over OnSubscriber (Over InPair (Filtered (Some 0) (level_answers INFO) leaf)
-    (Filtered (Some 1) (level_answers TRACE) leaf)) (Bare Base)
+    Parts OnSubscriber (Parts InPair (Filtered (Some 0) (level_answers INFO) leaf)
+    (Filtered (Some 1) (level_answers TRACE) leaf)) (Terminal Base)
 form_of Nested =
-    Over OnSubscriber (Filtered (Some 0) mute_answers (Filtered (Some 1) (level_answers INFO) leaf))
-    (Over OnSubscriber leaf (Bare Base))
+    Parts OnSubscriber (Filtered (Some 0) mute_answers
+    (Filtered (Some 1) (level_answers INFO) leaf))
+    (Parts OnSubscriber leaf (Terminal Base))
 form_of Veto =
-    Over OnSubscriber (Leaf true (level_answers INFO))
-    (Over OnSubscriber (Leaf true mute_answers)
-    (Over OnSubscriber (Filtered (Some 0) (level_answers WARN) leaf)
-    (Over OnSubscriber leaf (Bare Base))))
-form_of AbsentStack = Over OnSubscriber leaf (Over OnSubscriber (Bare Absent) (Bare Base))
+    Parts OnSubscriber (Leaf true (level_answers INFO))
+    (Parts OnSubscriber (Leaf true mute_answers)
+    (Parts OnSubscriber (Filtered (Some 0) (level_answers WARN) leaf)
+    (Parts OnSubscriber leaf (Terminal Base))))
+form_of AbsentStack = Parts OnSubscriber leaf (Parts OnSubscriber (Terminal Absent) (Terminal Base))
 
 -- where its recorders stand, innermost first
-abbrev pub places_of : StackName → List Place
+abbrev pub places_of : StackName → List Position
 places_of Plain = Outer Here ∷ []
 places_of Pair = Outer (Inner (Under Here)) ∷ Outer (Outer (Under Here)) ∷ []
 places_of Nested = Inner (Outer Here) ∷ Outer (Under (Under Here)) ∷ []

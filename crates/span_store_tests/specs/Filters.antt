@@ -5,38 +5,36 @@ use Rattle.span_core.specs.declared.interest.Interest.TheVariants.{Always}
 use Rattle.span_filters.specs.Closure.{interest_under, unhinted_view_honest, view_answers}
 use Rattle.span_filters.specs.Filter.{FilterLaws, equal_alike, settled_answers, FilterLevelLaws, unlevelled, unlevelled_laws}
 use Rattle.span_registry.specs.Conducts.{after_level}
-use Rattle.span_registry.specs.Answers.{Answers, AreAlikeHistories, AreHonest, ArePlain, Conduct, History, IsPlain, OfLevel, Notice, OnEnter, SameInterestAndHint, OfNotice}
+use Rattle.span_registry.specs.Behaviour.{Behaviour, AreAlikeHistories, AreHonest, ArePlain, Conduct, History, IsPlain, OfLevel, Notice, OnEnter, SameInterestAndHint, OfNotice}
 use Rattle.span_registry.specs.View.{current_shown, view_of}
 
 -- all metadata, and no event
-abbrev pub mute_answers : Answers
-mute_answers =
-    record {
-      enabled = λ m v. true;
-      event = λ e v. false;
-      interest = λ m. Always;
-      hint = None;
-      takes = λ l. false;
-    }
+abbrev pub mute_answers : Behaviour
+mute_answers = record {
+  enabled = λ m v. true;
+  event = λ e v. false;
+  interest = λ m. Always;
+  hint = None;
+  takes = λ l. false;
+}
 
 pub mute_honest : AreHonest mute_answers
-mute_honest =
-    record {
-      always = λ m v e. refl;
-      never = λ m v e. absurd (cc);
-      above = λ m v e. absurd (cc);
-      alike = λ m k e. refl;
-    }
+mute_honest = record {
+  always = λ m v e. refl;
+  never = λ m v e. absurd (cc);
+  above = λ m v e. absurd (cc);
+  alike = λ m k e. refl;
+}
 
 -- what comes in a span that is seen
-abbrev pub in_span_answers : Answers
+abbrev pub in_span_answers : Behaviour
 in_span_answers = view_answers (λ m v. is_some (current_shown v)) (interest_under None) None
 
 pub in_span_honest : AreHonest in_span_answers
 in_span_honest = unhinted_view_honest (λ m v. is_some (current_shown v))
 
 -- everything, or nothing
-abbrev pub if_answers : Bool → Answers
+abbrev pub if_answers : Bool → Behaviour
 if_answers b = view_answers (λ m v. b) (interest_under None) None
 
 pub if_honest : (b : Bool) → AreHonest (if_answers b)

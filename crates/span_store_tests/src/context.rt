@@ -1,4 +1,7 @@
 //! Tests of contexts: what one filter refused is hidden from those that stand under it, and from nobody else.
+ghost use Rattle.span_core.specs.Filters.{is_attached};
+ghost use Rattle.std.specs.Prelude.{IsTrue};
+
 use crate::fixture::{
     Family, LANE, enter, event_at, family_in, name_of, names, open, parent_of, root, shows_scope,
     value_of,
@@ -6,6 +9,7 @@ use crate::fixture::{
 use span_core::{Event, FilterId, Id, Level, Pass, TraceError};
 use span_registry::{Context, ContextMut, LookupSpan, Registry, Subscriber, Tag};
 use std::alloc::Global;
+use std::process::Abort;
 use std::test::Fail;
 
 /// Opens a family of which one filter refuses the child, and enters all of it.
@@ -111,24 +115,30 @@ fn what_a_filter_refused_is_not_enabled_for_it(rt: HostRuntime) -> Result<(), Fa
     Ok(())
 }
 
-#[test]
-fn an_event_is_in_the_span_that_is_shown(rt: HostRuntime) -> Result<(), Fail> {
-    let mut registry = Registry::new(rt.alloc());
-    let info = registry.register_filter()?;
-    let Family { root, child, leaf } = enter_family(&mut registry, info)?;
-    registry.exit(LANE, leaf);
+/// An event is in the span that the lane is in, where that isn't hidden under this filter, as the child is.
+fn events_are_in_what_is_shown(rt: &impl Abort, registry: &Registry, info: FilterId, family: Family)
+    requires { IsTrue (is_attached info) }
+{
     let metadata = event_at(Level::INFO);
-    let all = Context::new(&registry, LANE);
+    let all = Context::new(registry, LANE);
     let filtered = all.with_filter(info);
-
     let event = Event::new(metadata, &[]);
     assert_eq!(rt; span_of(&all, &event), Some("child"));
     assert_eq!(rt; span_of(&filtered, &event), Some("root"));
     assert_eq!(rt; span_of(&all, &Event::new_root(metadata, &[])), None);
-    assert_eq!(rt; filtered.current_span().id(), Some(child));
-    assert_eq!(rt; current_of(&filtered), Some(root));
-    assert_eq!(rt; current_of(&filtered.to_root()), Some(root));
+    assert_eq!(rt; filtered.current_span().id(), Some(family.child));
+    assert_eq!(rt; current_of(&filtered), Some(family.root));
+    assert_eq!(rt; current_of(&filtered.to_root()), Some(family.root));
     assert!(rt; filtered.enabled(&metadata));
+}
+
+#[test]
+fn an_event_is_in_the_span_that_is_shown(rt: HostRuntime) -> Result<(), Fail> {
+    let mut registry = Registry::new(rt.alloc());
+    let info = registry.register_filter()?;
+    let family = enter_family(&mut registry, info)?;
+    registry.exit(LANE, family.leaf);
+    events_are_in_what_is_shown(&rt, &registry, info, family);
     Ok(())
 }
 
@@ -160,21 +170,40 @@ fn write<S: LookupSpan>(
     Ok(())
 }
 
+/// Gives the child a value without a mask, and the leaf one under this filter, from which the child is hidden.
+fn write_to_what_is_seen(
+    rt: &impl Abort,
+    registry: &mut Registry,
+    info: FilterId,
+    family: Family,
+) -> Result<(), Fail>
+    requires { IsTrue (is_attached info) }
+{
+    let size = Tag::<u64>::new(0);
+    let pass = Pass::new();
+    let mut hook = ContextMut::new(registry, LANE, &pass);
+    write(&mut hook, family.child, size, 3)?;
+    assert_eq!(rt;
+        name_of(hook.lend().ctx().span(family.child)),
+        Some("child")
+    );
+    let mut filtered = hook.with_filter(info);
+    assert!(rt; filtered.metadata(family.child).is_none());
+    assert!(rt; filtered.metadata(family.leaf).is_some());
+    assert!(rt; filtered.extensions_mut(family.child).is_none());
+    write(&mut filtered, family.leaf, size, 4)
+}
+
 #[test]
 fn a_hook_writes_what_it_sees(rt: HostRuntime) -> Result<(), Fail> {
     let mut registry = Registry::new(rt.alloc());
     let info = registry.register_filter()?;
-    let Family { child, leaf, .. } = enter_family(&mut registry, info)?;
+    let family = enter_family(&mut registry, info)?;
+    write_to_what_is_seen(&rt, &mut registry, info, family)?;
     let size = Tag::<u64>::new(0);
-    let pass = Pass::new();
-    let mut hook = ContextMut::new(&mut registry, LANE, &pass);
-    write(&mut hook, child, size, 3)?;
-    assert_eq!(rt; name_of(hook.lend().ctx().span(child)), Some("child"));
-    let mut filtered = hook.with_filter(info);
-    assert!(rt; filtered.extensions_mut(child).is_none());
-    write(&mut filtered, leaf, size, 4)?;
-    assert_eq!(rt; value_of(&registry, child, size), Some(3));
-    assert_eq!(rt; value_of(&registry, leaf, size), Some(4));
+    let of_child = value_of(&registry, family.child, size);
+    let of_leaf = value_of(&registry, family.leaf, size);
+    assert_eq!(rt; (of_child, of_leaf), (Some(3), Some(4)));
     Ok(())
 }
 

@@ -1,7 +1,7 @@
 use Rattle.std.proofs.Common.{◌∙◌, [], ◌∷◌, Some, refl, subst, sym}
 use Rattle.span_dispatch.proofs.CallerLemmas.{heard_records}
 use Rattle.span_layers.specs.Filtered.{IsNumber}
-use Rattle.span_registry.specs.Place.{Here, Outer, Under}
+use Rattle.span_registry.specs.Position.{Here, Outer, Under}
 use Rattle.span_examples.proofs.Standing.{finds_room, fits, put_on, records_alone, takes_first}
 use Rattle.span_examples.specs.Kinds.{recorder_under}
 use Rattle.span_examples.proofs.conducts.put_filtered.Goals as goal

@@ -4,7 +4,7 @@ use Rattle.span_filters.proofs.CallerLemmas.{in_a_box}
 use Rattle.span_layers.specs.Layered.{outer_of}
 use Rattle.span_layers.specs.Observe.{open_answers}
 use Rattle.span_registry.specs.Form.{Leaf}
-use Rattle.span_registry.specs.Place.{Here, Outer}
+use Rattle.span_registry.specs.Position.{Here, Outer}
 use Rattle.span_examples.proofs.Standing.{counts_alone, open_fit}
 use Rattle.span_examples.specs.Kinds.{IsCounted}
 use Rattle.span_examples.proofs.kinds.count_over_boxed.OwnLists.{own-1, at-1-1}

@@ -1,5 +1,5 @@
 use Rattle.std.proofs.Common.{◌∙◌, ap}
-use Rattle.span_dispatch.specs.Alone.{seen}
+use Rattle.span_dispatch.specs.Alone.{passed_at}
 use Rattle.span_dispatch.specs.Serve.{flat, stack_of}
 use Rattle.span_layers.specs.Filtered.{layer_of}
 use Rattle.span_layers.specs.Layered.{outer_of}
@@ -23,5 +23,5 @@ returns-clause-served c =
       new = new;
       empty = ap (λ (r : RegistryState). r.store) run.same ∙ starts.empty;
       served = served;
-      text = whole_text (seen outline_place (flat served.made)) (layer_of (outer_of (stack_of run.first))) (layer_of (outer_of (stack_of end))) _ c.in_ok-text.text new.text (served.each outline_place) here c.in_ok-text.ensures.text;
+      text = whole_text (passed_at outline_place (flat served.made)) (layer_of (outer_of (stack_of run.first))) (layer_of (outer_of (stack_of end))) _ c.in_ok-text.text new.text (served.each outline_place) here c.in_ok-text.ensures.text;
     }

@@ -5,7 +5,7 @@ use Rattle.span_layers.proofs.MemberLoops.{here, less_left, none_left, same_here
 use Rattle.span_layers.proofs.MembersNotified.{GoesOn, all_notified, handed_further, handed_same, none_notified, one_notified}
 use Rattle.span_layers.proofs.list.notify_all.Goals as goal
 use Rattle.span_layers.specs.Observe.{notice_of}
-use Rattle.span_registry.specs.Form.{Bare, End, InList, Over}
+use Rattle.span_registry.specs.Form.{Terminal, End, InList, Parts}
 
 pub loop-member-init : goal.loop-member-init
 loop-member-init g c =
@@ -41,7 +41,7 @@ loop-member-preserved g c =
           (λ f o r form before.
           subst (λ done. goes c.notify.new.ctx done (drop (i + 1) all) f r) (sym (take_more_set xs i y within))
           (one_notified g.S.LookupSpan.registry g.S.LookupSpan.with_registry g.L.Layer.has_form g.L.Layer.stepped (notice_of c.args.notice) c.args.ctx.now all g.met.S.LookupSpan.with_twice c.loop-member.ctx c.notify.new.ctx (take i xs) (drop (i + 1) all) x y f o r form h.rest notified.rest notified.alone notified.hook
-          (subst (λ left. goes c.loop-member.ctx (take i xs) left f (Over InList o r)) (here all i x in_all is) before))) h.goes;
+          (subst (λ left. goes c.loop-member.ctx (take i xs) left f (Parts InList o r)) (here all i x in_all is) before))) h.goes;
     }
 
 pub returns-clause-alone : goal.returns-clause-alone
@@ -60,4 +60,4 @@ returns-clause-hook g c =
     none_left g.L.Layer.has_form all (goes (take i xs) (drop i all)) all i _ all_end
     (λ f k.
     all_notified g.S.LookupSpan.registry g.S.LookupSpan.with_registry g.L.Layer.has_form g.L.Layer.stepped (notice_of c.args.notice) c.args.ctx.now all c.loop-member.ctx xs f
-    (subst (λ done. goes done [] f (Bare End)) (take_all i xs end) (subst (λ left. goes (take i xs) left f (Bare End)) (drop_all i all all_end) k))) c.loop-member.invariant.goes
+    (subst (λ done. goes done [] f (Terminal End)) (take_all i xs end) (subst (λ left. goes (take i xs) left f (Terminal End)) (drop_all i all all_end) k))) c.loop-member.invariant.goes

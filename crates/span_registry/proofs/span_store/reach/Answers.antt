@@ -1,5 +1,5 @@
 use Rattle.std.proofs.Common.{sym, subst}
-use Rattle.span_registry.specs.Kept.{GrowsEmpty}
+use Rattle.span_registry.specs.StoreRepr.{GrowsEmpty}
 use Rattle.span_registry.proofs.Stored.{grown_none, grown_more}
 use Rattle.span_registry.proofs.span_store.reach.Goals as goal
 

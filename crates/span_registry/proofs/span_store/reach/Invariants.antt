@@ -1,5 +1,5 @@
 use Rattle.std.proofs.Common.{◌+◌, ◌-◌, length}
-use Rattle.span_registry.specs.Kept.{GrowsEmpty}
+use Rattle.span_registry.specs.StoreRepr.{GrowsEmpty}
 use Rattle.span_registry.proofs.span_store.reach.Given as goal
 
 abbrev pub invariant-loop-alloc : goal.invariant-loop-alloc

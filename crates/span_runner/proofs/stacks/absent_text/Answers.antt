@@ -4,7 +4,7 @@ use Rattle.span_dispatch.specs.Serve.{kept_by, stack_of}
 use Rattle.span_dispatch.specs.declared.notice.Notice.{Notice}
 use Rattle.span_layers.specs.Layered.{inner_of, outer_of}
 use Rattle.span_registry.specs.Levels.{unlevelled}
-use Rattle.span_registry.specs.Place.{Here, Outer}
+use Rattle.span_registry.specs.Position.{Here, Outer}
 use Rattle.span_runner.proofs.Gives.{gives, two_ok}
 use Rattle.span_runner.proofs.Honest.{honest_absent, stays_absent, used_absent}
 use Rattle.span_runner.proofs.Steady.{all_kept, ready_at_first, run_of, steady_absent, steady_recorder, steady_registry, steady_stack}

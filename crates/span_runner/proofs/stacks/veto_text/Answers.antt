@@ -4,7 +4,7 @@ use Rattle.span_dispatch.specs.Serve.{kept_by, stack_of}
 use Rattle.span_filters.specs.Level.{level_answers}
 use Rattle.span_layers.specs.Filtered.{layer_of}
 use Rattle.span_layers.specs.Layered.{inner_of, outer_of}
-use Rattle.span_registry.specs.Place.{Here, Inner, Outer, Under}
+use Rattle.span_registry.specs.Position.{Here, Inner, Outer, Under}
 use Rattle.span_runner.proofs.Gives.{gives, three_ok}
 use Rattle.span_runner.proofs.Honest.{honest_veto, level_set, stays_veto, used_veto}
 use Rattle.span_runner.proofs.Steady.{all_kept, ready_at_first, run_of, steady_recorder, steady_registry, steady_stack, steady_under, steady_veto}

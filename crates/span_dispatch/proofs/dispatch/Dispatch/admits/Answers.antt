@@ -1,3 +1,4 @@
+use Rattle.span_layers.proofs.Built.{rules_of}
 use Rattle.span_dispatch.specs.Admission.{Promises}
 use Rattle.std.proofs.Common.{Ok, refl, subst}
 use Rattle.span_dispatch.proofs.Admits.{admits_always, admits_asked, admits_never, decides_always, decides_asked}
@@ -7,16 +8,16 @@ use Rattle.span_dispatch.proofs.dispatch.Dispatch.admits.Goals as goal
 
 pub returns-in-Ok-Never-clause-admitted : goal.returns-in-Ok-Never-clause-admitted
 returns-in-Ok-Never-clause-admitted g c = λ f h u.
-    admits_never (kept_by c.args.self.now) f (g.S.LookupSpan.registry (stack_of c.args.self.now)) c.args.lane c.args.meta.now (kept_in c.interest.new.self) h.rules c.args.pass.now c.in-Ok-Never.field-0 (c.in-Ok-Never.ensures.by_form f h.has h.rules.answers u) c.in-Ok-Never.field-0-is
+    admits_never (kept_by c.args.self.now) f (g.S.LookupSpan.registry (stack_of c.args.self.now)) c.args.lane c.args.meta.now (kept_in c.interest.new.self) h.rules c.args.pass.now c.in-Ok-Never.field-0 (c.in-Ok-Never.ensures.by_form f h.has (rules_of f _ h.rules).answers u) c.in-Ok-Never.field-0-is
 
 pub returns-in-Ok-Sometimes-clause-admitted : goal.returns-in-Ok-Sometimes-clause-admitted
 returns-in-Ok-Sometimes-clause-admitted g c = λ f h u.
     admits_asked (kept_by c.args.self.now) f (g.S.LookupSpan.registry (stack_of c.args.self.now)) c.args.lane c.args.meta.now (kept_in c.interest.new.self) h.rules g.S.LookupSpan.registry g.S.Subscriber.has_form (stack_of c.args.self.now) c.args.pass.now c.enabled.new.pass c.in-Ok-Sometimes.field-0 c.enabled.result refl h.has
-    (c.in-Ok-Sometimes.ensures.by_form f h.has h.rules.answers u) c.in-Ok-Sometimes.field-0-is c.requires.fresh c.enabled.ensures
+    (c.in-Ok-Sometimes.ensures.by_form f h.has (rules_of f _ h.rules).answers u) c.in-Ok-Sometimes.field-0-is c.requires.fresh c.enabled.ensures
 
 pub returns-in-Ok-Always-clause-admitted : goal.returns-in-Ok-Always-clause-admitted
 returns-in-Ok-Always-clause-admitted g c = λ f h u.
-    admits_always (kept_by c.args.self.now) f (g.S.LookupSpan.registry (stack_of c.args.self.now)) c.args.lane c.args.meta.now (kept_in c.interest.new.self) h.rules c.args.pass.now c.in-Ok-Always.field-0 (c.in-Ok-Always.ensures.by_form f h.has h.rules.answers u) c.in-Ok-Always.field-0-is c.requires.fresh
+    admits_always (kept_by c.args.self.now) f (g.S.LookupSpan.registry (stack_of c.args.self.now)) c.args.lane c.args.meta.now (kept_in c.interest.new.self) h.rules c.args.pass.now c.in-Ok-Always.field-0 (c.in-Ok-Always.ensures.by_form f h.has (rules_of f _ h.rules).answers u) c.in-Ok-Always.field-0-is c.requires.fresh
 
 pub returns-in-Ok-Never-clause-decided : goal.returns-in-Ok-Never-clause-decided
 returns-in-Ok-Never-clause-decided g c = λ f h u. (subst (λ i. Promises f c.args.meta.now (Ok i)) c.in-Ok-Never.field-0-is (c.in-Ok-Never.ensures.safe f h.has h.rules u).0) (g.S.LookupSpan.registry (stack_of c.args.self.now)).store c.args.lane.0
@@ -41,3 +42,8 @@ returns-in-Ok-Always-clause-safe g c = λ f h u. (c.in-Ok-Always.ensures.safe f 
 
 pub returns-in-Err-clause-safe : goal.returns-in-Err-clause-safe
 returns-in-Err-clause-safe g c = λ f h u. (c.in-Err.ensures.safe f h.has h.rules u).1
+
+pub returns-in-Err-clause-admitted : goal.returns-in-Err-clause-admitted
+returns-in-Err-clause-admitted g c = λ f h u.
+    let k = c.in-Err.ensures.by_form f h.has (rules_of f _ h.rules).answers u in
+    (record { hint = k.0; refused = c.in-Err.ensures.refused.1 }, k.1)

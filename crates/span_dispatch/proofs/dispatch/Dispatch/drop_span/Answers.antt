@@ -5,7 +5,7 @@ use Rattle.span_dispatch.proofs.Stores.{closed_taken, still_open_taken}
 use Rattle.span_dispatch.proofs.Stores.{closed_store, still_open_store}
 use Rattle.std.proofs.Common.{ap, refl, subst, sym, ◌∙◌}
 use Rattle.span_core.specs.Span.{number_of}
-use Rattle.span_registry.specs.Closes.{IsSettled}
+use Rattle.span_registry.specs.Closes.{HasNoClosing}
 use Rattle.span_registry.specs.Step.{Releases}
 use Rattle.span_registry.specs.Store.{IsClosing, IsForest, RegistryState}
 use Rattle.span_registry.proofs.CallerLemmas.{closing_now}
@@ -29,7 +29,7 @@ returns-in-Ok-Closing-clause-served g c = λ settled. record { told = λ f h u. 
 
 pub returns-in-Err-clause-settled : goal.returns-in-Err-clause-settled
 returns-in-Err-clause-settled g c = λ h.
-    subst (λ (s : RegistryState). IsSettled s.store.spans) (sym (g.met.S.LookupSpan.registry_with c.args.self.now.stack c.release.new.self ∙ c.in-Err.ensures.unchanged ∙ c.root_mut.ensures.value)) h
+    subst (λ (s : RegistryState). HasNoClosing s.store.spans) (sym (g.met.S.LookupSpan.registry_with c.args.self.now.stack c.release.new.self ∙ c.in-Err.ensures.unchanged ∙ c.root_mut.ensures.value)) h
 
 pub returns-in-Ok-StillOpen-clause-store : goal.returns-in-Ok-StillOpen-clause-store
 returns-in-Ok-StillOpen-clause-store g c = λ h. (still_open_store g.S.LookupSpan.registry g.S.LookupSpan.with_registry g.met.S.LookupSpan.registry_with c.args.id c.in-Ok-StillOpen.field-0 c.args.self.now.stack c.release.new.self (subst (λ (s : RegistryState). Releases c.args.id c.in-Ok-StillOpen.field-0 s c.release.new.self) c.root_mut.ensures.value c.in-Ok-StillOpen.ensures.released) c.in-Ok-StillOpen.field-0-is (subst (λ (s : RegistryState). IsForest s.store.spans) c.root_mut.ensures.value c.in-Ok-StillOpen.ensures.forest) h).0

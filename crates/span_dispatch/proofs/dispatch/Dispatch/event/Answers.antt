@@ -9,7 +9,7 @@ use Rattle.span_dispatch.specs.Call.{SendEvent}
 use Rattle.span_dispatch.specs.Serve.{kept_by, stack_of, with_stack}
 use Rattle.span_dispatch.specs.declared.request.Answer.TheVariants as answer
 use Rattle.span_registry.proofs.CallerLemmas.{and_hooks}
-use Rattle.span_registry.specs.Answers.{OnEvent}
+use Rattle.span_registry.specs.Behaviour.{OnEvent}
 use Rattle.span_registry.specs.Hooks.{AnswersEnabled, AnswersEvent, Notifies, Stays}
 use Rattle.span_registry.specs.Question.{refusals}
 use Rattle.span_registry.specs.Subscriber.{AndHooks}

@@ -1,6 +1,6 @@
 use Rattle.span_layers.proofs.FilteredHooks.{by_verdict, filtered_notified, filtered_skips, handed_on}
 use Rattle.span_layers.proofs.filtered.FilteredLayer.on_record.Goals as goal
-use Rattle.span_registry.specs.Answers.{OnRecord}
+use Rattle.span_registry.specs.Behaviour.{OnRecord}
 
 pub returns-then-not-is_enabled_for-clause-hook : goal.returns-then-not-is_enabled_for-clause-hook
 returns-then-not-is_enabled_for-clause-hook g c =
@@ -10,5 +10,5 @@ returns-then-not-is_enabled_for-clause-hook g c =
 pub returns-clause-hook : goal.returns-clause-hook
 returns-clause-hook g c =
     filtered_notified g.F.Filter.hooked g.L.Layer.stepped g.F.Filter.has_answers g.L.Layer.has_form g.S.LookupSpan.registry
-    (OnRecord c.args.id c.args.values.now) c.args.self.now _ _ c.args.ctx.now c.on_record-2.new.ctx c.widen.new.self _ (by_verdict g.S.LookupSpan.registry c.args.self.now.id c.args.ctx.now c.args.id _ c.if-not-is_enabled_for.ensures)
-    c.narrow-before.ensures.narrowed c.on_record.ensures.hook (handed_on g.S.LookupSpan.registry c.on_record.ensures.written) c.on_record-2.ensures.hook c.widen.ensures
+    (OnRecord c.args.id c.args.values.now) c.args.self.now _ _ c.args.ctx.now c.on_record-2.new.ctx c.restore_mask.new.self _ (by_verdict g.S.LookupSpan.registry c.args.self.now.id c.args.ctx.now c.args.id _ c.if-not-is_enabled_for.ensures)
+    c.narrow-before.ensures.narrowed c.on_record.ensures.hook (handed_on g.S.LookupSpan.registry c.on_record.ensures.written) c.on_record-2.ensures.hook c.restore_mask.ensures

@@ -1,6 +1,6 @@
 use Rattle.std.proofs.Common.{subst, refl}
 use Rattle.span_core.specs.Filters.{FilterSet}
-use Rattle.span_registry.specs.Answers.{OnEvent}
+use Rattle.span_registry.specs.Behaviour.{OnEvent}
 use Rattle.span_registry.specs.Hooks.{Notifies, Stays}
 use Rattle.span_registry.proofs.context.ContextMut.event.Goals as goal
 

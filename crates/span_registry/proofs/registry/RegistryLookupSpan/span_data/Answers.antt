@@ -2,7 +2,7 @@ use Rattle.std.proofs.Common.{refl, sym, ap, ◌∙◌}
 use Rattle.std.specs.FinMap as map
 use Rattle.std.specs.Option.{option_map}
 use Rattle.span_core.specs.Span.{number_of}
-use Rattle.span_registry.specs.Kept.{span_of}
+use Rattle.span_registry.specs.StoreRepr.{span_of}
 use Rattle.span_registry.specs.References.{data_extensions, data_span}
 use Rattle.span_registry.specs.Store.{RegistryState}
 use Rattle.span_registry.proofs.States.{span_got}

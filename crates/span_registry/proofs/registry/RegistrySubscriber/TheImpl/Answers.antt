@@ -2,8 +2,8 @@ use Rattle.std.specs.Prelude.{◌≡◌, refl}
 use Rattle.std.proofs.lemmas.Result.{IfOk-weaker}
 use Rattle.span_core.specs.Filters.{FilterSet}
 use Rattle.span_core.specs.declared.span.Lane.{Lane}
-use Rattle.span_registry.specs.Answers.{Notice, OnEnter, OnNewSpan}
-use Rattle.span_registry.specs.Form.{Bare, Base}
+use Rattle.span_registry.specs.Behaviour.{Notice, OnEnter, OnNewSpan}
+use Rattle.span_registry.specs.Form.{Terminal, Base}
 use Rattle.span_registry.specs.Hooks.{Notifies, OpensAndNotifies, no_filter}
 use Rattle.span_registry.specs.Plan.{Plan}
 use Rattle.span_registry.specs.Question.{refusals}
@@ -14,7 +14,7 @@ use Rattle.span_registry.proofs.registry.RegistrySubscriber.TheImpl.Goals as goa
 
 -- a registry alone has no layer to notify
 alone : (lane : Lane) (refused : FilterSet) (e : Notice) (step : RegistryState → RegistryState → Type 0) (old new : RegistryState) → step old new
-    → Notifies (λ (s : RegistryState). s) (λ s f. f ≡ Bare Base) (λ x (p : Plan) d l v y w. w ≡ v) lane refused e step old new
+    → Notifies (λ (s : RegistryState). s) (λ s f. f ≡ Terminal Base) (λ x (p : Plan) d l v y w. w ≡ v) lane refused e step old new
 alone lane refused e step old new h = record {
   left = new;
   taken = h;
@@ -32,7 +32,7 @@ new_span-tells c =
     record {
       usable = tt;
       opened = IfOk-weaker c.result (λ id. Opens lane (asked attrs pass) id old new)
-          (OpensAndNotifies (λ (s : RegistryState). s) (λ s f. f ≡ Bare Base) (λ x p e l v y w. w ≡ v) lane attrs pass old new)
+          (OpensAndNotifies (λ (s : RegistryState). s) (λ s f. f ≡ Terminal Base) (λ x p e l v y w. w ≡ v) lane attrs pass old new)
           (λ id o. alone lane (refusals pass) (OnNewSpan attrs id) (Opens lane (asked attrs pass) id) old new o) c.ensures.opened;
       refused = c.ensures.refused;
       unchanged = c.ensures.unchanged;

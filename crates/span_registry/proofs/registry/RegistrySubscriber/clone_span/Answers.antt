@@ -3,7 +3,7 @@ use Rattle.std.proofs.lemmas.Bool.{true≢false}
 use Rattle.std.specs.FinMap.{entries}
 use Rattle.std.specs.FinSet.{len as set_len}
 use Rattle.span_core.specs.Span.{number_of}
-use Rattle.span_registry.specs.Kept.{KeptSpans}
+use Rattle.span_registry.specs.StoreRepr.{KeptSpans}
 use Rattle.span_registry.specs.Store.{RegistryState, Spans, add_handle}
 use Rattle.span_registry.specs.declared.limits.Limits.{Limits}
 use Rattle.span_registry.proofs.States.{absent, added_by, counted, counts_written, handles_by, open_by, spans_written, written}

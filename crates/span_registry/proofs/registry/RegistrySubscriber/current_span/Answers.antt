@@ -2,7 +2,7 @@ use Rattle.std.proofs.Common.{◌≡◌, sym, subst, ap, ◌∙◌, ℕ, None, O
 use Rattle.std.specs.FinMap.{entries, get}
 use Rattle.std.specs.Option.{option_map}
 use Rattle.span_core.specs.Span.{number_of}
-use Rattle.span_registry.specs.Kept.{at}
+use Rattle.span_registry.specs.StoreRepr.{at}
 use Rattle.span_registry.specs.Store.{RegistryState, Spans, IsInStore}
 use Rattle.span_registry.proofs.Entries.{at_is}
 use Rattle.span_registry.proofs.Kept.{nowhere, span_at}

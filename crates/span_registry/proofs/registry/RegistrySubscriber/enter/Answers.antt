@@ -1,7 +1,7 @@
 use Rattle.std.proofs.Common.{sym, ap, ◌∙◌, List, ℕ, ◌∷◌}
 use Rattle.std.specs.FinSet.{len as set_len}
 use Rattle.span_core.specs.Span.{number_of}
-use Rattle.span_registry.specs.Kept.{stacks_of}
+use Rattle.span_registry.specs.StoreRepr.{stacks_of}
 use Rattle.span_registry.specs.State.{state_of}
 use Rattle.span_registry.specs.Step.{entered}
 use Rattle.span_registry.specs.Store.{RegistryState, Stacks, with_stack}

@@ -7,7 +7,7 @@ use Rattle.span_core.specs.Span.{number_of}
 use Rattle.span_registry.specs.LaneStack.{leave}
 use Rattle.span_registry.specs.Step.{exited}
 use Rattle.span_registry.specs.Store.{RegistryState, Stacks, with_stack, stack_of}
-use Rattle.span_registry.specs.Kept.{stacks_of}
+use Rattle.span_registry.specs.StoreRepr.{stacks_of}
 use Rattle.span_registry.specs.State.{state_of}
 use Rattle.span_registry.proofs.Begins.{leaves_none}
 use Rattle.span_registry.proofs.Kept.{stack_at, stacks_put, stacks_none, get_stacks, some_stack}

@@ -7,7 +7,7 @@ use Rattle.span_core.specs.Span.{number_of}
 use Rattle.span_core.specs.declared.error.TraceError.TheVariants.{CountFull, OutOfMemory, TooManySpans}
 use Rattle.span_core.specs.declared.span.Id.{Id}
 use Rattle.span_core.specs.declared.span.Parent.{Parent}
-use Rattle.span_registry.specs.Kept.{CountsBelow, KeptSpans}
+use Rattle.span_registry.specs.StoreRepr.{CountsBelow, KeptSpans}
 use Rattle.span_registry.specs.State.{state_of}
 use Rattle.span_registry.specs.Step.{AskedSpan, IsParentFor, Opens, RefusesNew}
 use Rattle.span_registry.specs.Store.{RegistryState, child_count}

@@ -2,7 +2,7 @@ use Rattle.std.proofs.Common.{◌+◌, ◌<◌, ℕ, Result, Ok, Err, Some, OnEr
 use Rattle.std.specs.FinMap.{len}
 use Rattle.std.specs.FinSet.{len as set_len}
 use Rattle.slab.specs.Slab.{Slab, Updates, get as under}
-use Rattle.span_registry.specs.Kept.{Inserts, KeepsSpans, KeptSpans, kept_of}
+use Rattle.span_registry.specs.StoreRepr.{Inserts, KeepsSpans, KeptSpans, kept_of}
 use Rattle.span_registry.specs.Slot.{SlotState}
 use Rattle.span_registry.specs.declared.span_record.SpanRecord.{SpanRecord}
 use Rattle.span_registry.proofs.Stored.{keeps_grown, kept_grown, len-found, puts_in}

@@ -2,7 +2,7 @@ use Rattle.std.proofs.Common.{Option, IsSome, sym, ap, subst, ◌∙◌}
 use Rattle.std.specs.FinMap.{get}
 use Rattle.std.specs.FinSet.{contains}
 use Rattle.slab.specs.Slab.{get as under}
-use Rattle.span_registry.specs.Kept.{KeptSpans}
+use Rattle.span_registry.specs.StoreRepr.{KeptSpans}
 use Rattle.span_registry.specs.declared.span_record.SpanRecord.{SpanRecord}
 use Rattle.span_registry.proofs.Stored.{keyed, seen_record}
 use Rattle.span_registry.proofs.span_store.SpanStore.is_sound.Goals as goal

@@ -4,7 +4,7 @@ use Rattle.std.specs.FinMap.{get, remove}
 use Rattle.std.specs.Option.{option_and_then}
 use Rattle.slab.specs.Slab.{get as under}
 use Rattle.span_core.specs.Span.{number_of}
-use Rattle.span_registry.specs.Kept.{KeptSpans}
+use Rattle.span_registry.specs.StoreRepr.{KeptSpans}
 use Rattle.span_registry.specs.declared.span_record.SpanRecord.{SpanRecord}
 use Rattle.span_registry.proofs.Stored.{keyed, keeps_rest, seen_record, records_rest, extensions_rest, within}
 use Rattle.span_registry.proofs.span_store.SpanStore.remove.Goals as goal

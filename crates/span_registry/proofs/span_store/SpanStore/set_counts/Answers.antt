@@ -3,7 +3,7 @@ use Rattle.std.specs.FinMap.{get}
 use Rattle.std.specs.Option.{option_and_then, option_copied_mut}
 use Rattle.slab.specs.Slab.{get as under, with_value}
 use Rattle.span_core.specs.Span.{number_of}
-use Rattle.span_registry.specs.Kept.{kept_of, with_counts, with_record}
+use Rattle.span_registry.specs.StoreRepr.{kept_of, with_counts, with_record}
 use Rattle.span_registry.specs.declared.span_record.SpanRecord.{SpanRecord}
 use Rattle.span_registry.proofs.Stored.{keyed, record_written, seen_record}
 use Rattle.span_registry.proofs.span_store.SpanStore.set_counts.Goals as goal

@@ -1,5 +1,5 @@
 -- What a filter answers, as functions of what it is asked and of the view that it is asked in; when that is honest, and when plain.
-use Rattle.std.specs.Prelude.{◌≡◌, ⊤, ℕ, Bool, true, false, List, [], ◌∷◌, Option, None}
+use Rattle.std.specs.Prelude.{◌≡◌, ⊤, ℕ, Bool, true, false, List, [], ◌∷◌, Option, None, Some}
 use Rattle.std.specs.FinMap.{get}
 use Rattle.std.specs.Option.{option_map}
 use Rattle.span_core.specs.Filters.{FilterSet}
@@ -17,7 +17,7 @@ use Rattle.span_registry.specs.Store.{Store}
 use Rattle.span_registry.specs.View.{SeenSpan, View, view_of}
 
 -- whether metadata pass; whether an event passes, where its metadata do; the interest in a callsite; the hint; which levels it takes
-pub record Answers : Type 0 where
+pub record Behaviour : Type 0 where
   pub enabled : Metadata → View → Bool
   pub event : Event → View → Bool
   pub interest : Metadata → Interest
@@ -25,19 +25,22 @@ pub record Answers : Type 0 where
   pub takes : LevelFilter → Bool
 
 -- an interest of always: passes in every view; of never, or a level above the hint: in none; and metadata that show the same are of the same interest
-pub record AreHonest (a : Answers) : Type 0 where
+pub record AreHonest (a : Behaviour) : Type 0 where
   pub always : (m : Metadata) (v : View) → a.interest m ≡ Always → a.enabled m v ≡ true
   pub never : (m : Metadata) (v : View) → a.interest m ≡ Never → a.enabled m v ≡ false
-  pub above : (m : Metadata) (v : View) → is_above (level_of m) a.hint ≡ true → a.enabled m v ≡ false
+  pub above : (m : Metadata) (v : View) → is_above (level_of m) a.hint ≡ true
+      → a.enabled m v ≡ false
   pub alike : (m k : Metadata) → ShowSame m k → a.interest m ≡ a.interest k
 
 -- of each store, from each lane and under each mask, the two answer the same
-pub record AnswerAlike (a b : Answers) : Type 0 where
-  pub enabled : (m : Metadata) (s : Store) (lane : ℕ) (mask : FilterSet) → a.enabled m (view_of s lane mask) ≡ b.enabled m (view_of s lane mask)
-  pub event : (e : Event) (s : Store) (lane : ℕ) (mask : FilterSet) → a.event e (view_of s lane mask) ≡ b.event e (view_of s lane mask)
+pub record AnswerAlike (a b : Behaviour) : Type 0 where
+  pub enabled : (m : Metadata) (s : Store) (lane : ℕ) (mask : FilterSet)
+      → a.enabled m (view_of s lane mask) ≡ b.enabled m (view_of s lane mask)
+  pub event : (e : Event) (s : Store) (lane : ℕ) (mask : FilterSet)
+      → a.event e (view_of s lane mask) ≡ b.event e (view_of s lane mask)
 
 -- the two have the same interest and the same hint
-pub record SameInterestAndHint (a b : Answers) : Type 0 where
+pub record SameInterestAndHint (a b : Behaviour) : Type 0 where
   pub interest : b.interest ≡ a.interest
   pub hint : b.hint ≡ a.hint
 
@@ -49,10 +52,11 @@ unextended r = record r { extensions = None }
 pub record AreAlike (v w : View) : Type 0 where
   pub lane : v.lane ≡ w.lane
   pub stack : v.stack ≡ w.stack
-  pub spans : (x : ℕ) → option_map unextended (get v.spans x) ≡ option_map unextended (get w.spans x)
+  pub spans : (x : ℕ) → option_map unextended (get v.spans x)
+      ≡ option_map unextended (get w.spans x)
 
 -- the answers are the same in views that differ in extensions alone
-pub record ArePlain (a : Answers) : Type 0 where
+pub record ArePlain (a : Behaviour) : Type 0 where
   pub enabled : (m : Metadata) (v w : View) → AreAlike v w → a.enabled m v ≡ a.enabled m w
   pub event : (e : Event) (v w : View) → AreAlike v w → a.event e v ≡ a.event e w
 
@@ -67,6 +71,17 @@ pub data Notice : Type 0 where
   OnIdChange : Id → Id → Notice
   OnClose : Id → Notice
 
+-- the span that a notice is of: an event is of none, and of two it is the first, since the other may be gone
+abbrev pub span_in : Notice → Option Id
+span_in (OnNewSpan attrs id) = Some id
+span_in (OnRecord id values) = Some id
+span_in (OnFollows id other) = Some id
+span_in (OnEvent e) = None
+span_in (OnEnter id) = Some id
+span_in (OnExit id) = Some id
+span_in (OnIdChange id other) = Some id
+span_in (OnClose id) = Some id
+
 -- what a filter is given: a notice, with the view that it is then given, or a level to take
 pub data Input : Type 0 where
   OfNotice : Notice → View → Input
@@ -78,12 +93,13 @@ History = List Input
 
 -- how a filter will answer after each history
 abbrev pub Conduct : Type 0
-Conduct = History → Answers
+Conduct = List Input → Behaviour
 
 -- the same notices, in views that differ in extensions alone, and the same levels
 abbrev pub AreAlikeHistories : History → History → Type 0
 AreAlikeHistories [] [] = ⊤
-AreAlikeHistories (OfNotice e v ∷ h) (OfNotice d w ∷ k) = (e ≡ d) × AreAlike v w × AreAlikeHistories h k
+AreAlikeHistories (OfNotice e v ∷ h) (OfNotice d w ∷ k) =
+    (e ≡ d) × AreAlike v w × AreAlikeHistories h k
 AreAlikeHistories (OfLevel l ∷ h) (OfLevel m ∷ k) = (l ≡ m) × AreAlikeHistories h k
 AreAlikeHistories h k = ⊥
 
