@@ -1,4 +1,5 @@
 pub mod FilterLemmas
+pub mod Overlap
 pub mod SameNumberSet
 pub mod SomeBelow
 pub mod Words

@@ -12,6 +12,7 @@ mod metadata;
 mod number_set;
 mod pass;
 mod span;
+mod text;
 
 pub use error::{Rejected, TraceError};
 pub use event::Event;

@@ -5,6 +5,7 @@ ghost use Rattle.span_core.specs.Metadata.{ShowSame, name_of, target_of};
 
 use crate::field::FieldSet;
 use crate::level::Level;
+use crate::text::same_text;
 
 /// Whether a callsite makes spans or events.
 ///
@@ -130,19 +131,12 @@ impl Metadata {
         ensures { IsTrue result ↔ ShowSame self.now other.now }
     {
         self.callsite == other.callsite
-            && same_text(self.name, other.name)
-            && same_text(self.target, other.target)
             && same_level(self.level, other.level)
             && same_kind(self.kind, other.kind)
+            && same_text(self.name, other.name)
+            && same_text(self.target, other.target)
             && self.fields.has_same_names(&other.fields)
     }
-}
-
-/// Both have the same bytes.
-fn same_text(a: &str, b: &str) -> bool
-    ensures { IsTrue result ↔ (a.now ≡ b.now) }
-{
-    a == b
 }
 
 fn same_level(a: Level, b: Level) -> bool

@@ -202,6 +202,64 @@ fn metadata_is_read_back(rt: HostRuntime) -> Result<(), Fail> {
     Ok(())
 }
 
+/// Metadata with this name.
+fn named(name: &'static str) -> Metadata {
+    let fields = FieldSet::new(&[]);
+    Metadata::new(8, name, "shop::web", Level::WARN, Kind::EVENT, fields)
+}
+
+/// Metadata with this target.
+fn aimed_at(target: &'static str) -> Metadata {
+    let fields = FieldSet::new(&[]);
+    Metadata::new(8, "refused", target, Level::WARN, Kind::EVENT, fields)
+}
+
+/// A text, and three that differ from it in a letter: the first, one in the middle, the last.
+const TEXTS: [(&str, [&str; 3]); 8] = [
+    ("r", ["R", "s", "1"]),
+    ("request", ["Request", "reqUest", "requesT"]),
+    ("requests", ["Requests", "reqUests", "requestS"]),
+    ("requested", ["Requested", "requEsted", "requesteD"]),
+    (
+        "request_started",
+        ["Request_started", "request-started", "request_starteD"],
+    ),
+    (
+        "requests_started",
+        ["Requests_started", "requests-started", "requests_starteD"],
+    ),
+    (
+        "shop::web::orders::checkout_v2",
+        [
+            "Shop::web::orders::checkout_v2",
+            "shop::web::ordErs::checkout_v2",
+            "shop::web::orders::checkout_v3",
+        ],
+    ),
+    (
+        "shop::web::orders::checkout_v2_api",
+        [
+            "Shop::web::orders::checkout_v2_api",
+            "shop::web::orders:-checkout_v2_api",
+            "shop::web::orders::checkout_v2_apI",
+        ],
+    ),
+];
+
+#[test]
+fn texts_are_told_apart_by_each_letter(rt: HostRuntime) -> Result<(), Fail> {
+    assert!(rt; named("").shows_same(&named("")) && !named("").shows_same(&named("r")));
+    for (text, others) in TEXTS {
+        assert!(rt; named(text).shows_same(&named(text)));
+        assert!(rt; aimed_at(text).shows_same(&aimed_at(text)));
+        for other in others {
+            assert!(rt; !named(text).shows_same(&named(other)));
+            assert!(rt; !aimed_at(text).shows_same(&aimed_at(other)));
+        }
+    }
+    Ok(())
+}
+
 #[test]
 fn attributes_are_read_back(rt: HostRuntime) -> Result<(), Fail> {
     let values = [
