@@ -50,12 +50,10 @@ further_alike b c d p q = record { plain = p.plain; same = λ h k a. p.same h k 
 pub after_notice_alike : (e : Notice) (v w : View) (b c : Conduct) → AreAlike v w → ActAlike b c → ActAlike (after_notice e v b) (after_notice e w c)
 after_notice_alike (OnNewSpan attrs id) v w b c a p = record { plain = λ h. p.plain (OfNotice (OnNewSpan attrs id) v ∷ h); same = λ h k s. p.same (OfNotice (OnNewSpan attrs id) v ∷ h) (OfNotice (OnNewSpan attrs id) w ∷ k) (refl, a, s) }
 after_notice_alike (OnRecord id values) v w b c a p = record { plain = λ h. p.plain (OfNotice (OnRecord id values) v ∷ h); same = λ h k s. p.same (OfNotice (OnRecord id values) v ∷ h) (OfNotice (OnRecord id values) w ∷ k) (refl, a, s) }
-after_notice_alike (OnFollows id other) v w b c a p = p
-after_notice_alike (OnEvent e) v w b c a p = p
 after_notice_alike (OnEnter id) v w b c a p = record { plain = λ h. p.plain (OfNotice (OnEnter id) v ∷ h); same = λ h k s. p.same (OfNotice (OnEnter id) v ∷ h) (OfNotice (OnEnter id) w ∷ k) (refl, a, s) }
 after_notice_alike (OnExit id) v w b c a p = record { plain = λ h. p.plain (OfNotice (OnExit id) v ∷ h); same = λ h k s. p.same (OfNotice (OnExit id) v ∷ h) (OfNotice (OnExit id) w ∷ k) (refl, a, s) }
-after_notice_alike (OnIdChange id other) v w b c a p = p
 after_notice_alike (OnClose id) v w b c a p = record { plain = λ h. p.plain (OfNotice (OnClose id) v ∷ h); same = λ h k s. p.same (OfNotice (OnClose id) v ∷ h) (OfNotice (OnClose id) w ∷ k) (refl, a, s) }
+after_notice_alike other v w b c a p = p
 
 -- so do they once they took a level
 level_alike : (l : LevelFilter) (b c : Conduct) → ActAlike b c → ActAlike (after_level l b) (after_level l c)
@@ -69,10 +67,9 @@ paths_itself ((n, b) ∷ cs) p = (refl, itself_alike b p.0, paths_itself cs p.1)
 
 pub paths_further : (cs ds es : Conducts) → PathsActAlike cs ds → PathsActAlike ds es → PathsActAlike cs es
 paths_further [] [] es p q = q
-paths_further [] ((m, c) ∷ ds) es p q = absurd p
-paths_further ((n, b) ∷ cs) [] es p q = absurd p
 paths_further ((n, b) ∷ cs) ((m, c) ∷ ds) [] p q = absurd q
 paths_further ((n, b) ∷ cs) ((m, c) ∷ ds) ((l, d) ∷ es) p q = (p.0 ∙ q.0, further_alike b c d p.1 q.1, paths_further cs ds es p.2 q.2)
+paths_further other rest es p q = absurd p
 
 pub number_itself : (n m : ℕ) → Some n ≡ Some m → n ≡ m
 number_itself n m e = cc
@@ -85,12 +82,11 @@ a_number n e = cc
 
 pub same_numbers : (cs ds : Conducts) → PathsActAlike cs ds → numbers_in cs ≡ numbers_in ds
 same_numbers [] [] p = refl
-same_numbers [] ((m, c) ∷ ds) p = absurd p
-same_numbers ((n, b) ∷ cs) [] p = absurd p
 same_numbers ((None, b) ∷ cs) ((None, c) ∷ ds) p = same_numbers cs ds p.2
 same_numbers ((None, b) ∷ cs) ((Some m, c) ∷ ds) p = absurd (a_number m p.0)
 same_numbers ((Some n, b) ∷ cs) ((None, c) ∷ ds) p = absurd (no_number n p.0)
 same_numbers ((Some n, b) ∷ cs) ((Some m, c) ∷ ds) p = λ i. union (single (number_itself n m p.0 i)) (same_numbers cs ds p.2 i)
+same_numbers other rest p = absurd p
 
 -- ---- masks along a path
 
@@ -114,12 +110,11 @@ other_numbers numbers n b cs h k t = h k (or_right (k == n) (numbers_in cs k) t)
 -- the mask that such a path gives
 masks_alike : (cs ds : Conducts) (under : FilterSet) → PathsActAlike cs ds → mask_of (path_now cs) under ≡ mask_of (path_now ds) under
 masks_alike [] [] under p = refl
-masks_alike [] ((m, c) ∷ ds) under p = absurd p
-masks_alike ((n, b) ∷ cs) [] under p = absurd p
 masks_alike ((None, b) ∷ cs) ((None, c) ∷ ds) under p = masks_alike cs ds under p.2
 masks_alike ((None, b) ∷ cs) ((Some m, c) ∷ ds) under p = absurd (a_number m p.0)
 masks_alike ((Some n, b) ∷ cs) ((None, c) ∷ ds) under p = absurd (no_number n p.0)
 masks_alike ((Some n, b) ∷ cs) ((Some m, c) ∷ ds) under p = masks_alike cs ds (union under (single n)) p.2 ∙ ap (λ (k : ℕ). mask_of (path_now ds) (union under (single k))) (number_itself n m p.0)
+masks_alike other rest under p = absurd p
 
 mask_within : (cs : Conducts) (under numbers : FilterSet) → Within (numbers_in cs) numbers → Within under numbers → Within (mask_of (path_now cs) under) numbers
 mask_within [] under numbers all within = within
@@ -161,10 +156,8 @@ module _ (numbers : FilterSet) (s t : Store) (agree : AgreeAt numbers s t) (lane
 
   paths_pass_alike : (cs ds : Conducts) (e : Notice) (under : FilterSet) → PathsActAlike cs ds → Within (numbers_in cs) numbers → Within under numbers
       → passes_path (path_now cs) e s lane under ≡ passes_path (path_now ds) e t lane under
-  paths_pass_alike [] [] e under p all within = refl
   paths_pass_alike [] ((m, c) ∷ ds) e under p all within = absurd p
   paths_pass_alike ((n, b) ∷ cs) [] e under p all within = absurd p
-  paths_pass_alike ((None, b) ∷ cs) ((None, c) ∷ ds) e under p all within = refl
   paths_pass_alike ((None, b) ∷ cs) ((Some m, c) ∷ ds) e under p all within = absurd (a_number m p.0)
   paths_pass_alike ((Some n, b) ∷ cs) ((None, c) ∷ ds) e under p all within = absurd (no_number n p.0)
   paths_pass_alike ((Some n, b) ∷ cs) ((Some m, c) ∷ ds) e under p all within =
@@ -173,13 +166,12 @@ module _ (numbers : FilterSet) (s t : Store) (agree : AgreeAt numbers s t) (lane
       let rest = paths_pass_alike cs ds e (union under (single n)) p.2 (other_numbers numbers n b cs all) inside in
       (λ i. own i && rest i)
       ∙ ap (λ (k : ℕ). passes (c []) e t lane (union under (single k)) && passes_path (path_now ds) e t lane (union under (single k))) (number_itself n m p.0)
+  paths_pass_alike other rest e under p all within = refl
 
   verdicts_alike : (cs ds : Conducts) (meta : Metadata) (under : FilterSet) (k : ℕ) → PathsActAlike cs ds → Within (numbers_in cs) numbers → Within under numbers
       → in_verdict (form_of_path (path_now cs)) meta s lane under k ≡ in_verdict (form_of_path (path_now ds)) meta t lane under k
-  verdicts_alike [] [] meta under k p all within = refl
   verdicts_alike [] ((m, c) ∷ ds) meta under k p all within = absurd p
   verdicts_alike ((n, b) ∷ cs) [] meta under k p all within = absurd p
-  verdicts_alike ((None, b) ∷ cs) ((None, c) ∷ ds) meta under k p all within = refl
   verdicts_alike ((None, b) ∷ cs) ((Some m, c) ∷ ds) meta under k p all within = absurd (a_number m p.0)
   verdicts_alike ((Some n, b) ∷ cs) ((None, c) ∷ ds) meta under k p all within = absurd (no_number n p.0)
   verdicts_alike ((Some n, b) ∷ cs) ((Some m, c) ∷ ds) meta under k p all within =
@@ -191,6 +183,7 @@ module _ (numbers : FilterSet) (s t : Store) (agree : AgreeAt numbers s t) (lane
       let rest = verdicts_alike cs ds meta set k p.2 (other_numbers numbers n b cs all) inside in
       (λ i. if own i then rest i else (k == n))
       ∙ ap (λ (j : ℕ). if (c []).enabled meta (view_of t lane (union under (single j))) then in_verdict (form_of_path (path_now ds)) meta t lane (union under (single j)) k else (k == j)) (number_itself n m p.0)
+  verdicts_alike other rest meta under k p all within = refl
 
 by_test : (p q : Bool) (cs ds es fs : Conducts) → p ≡ q → PathsActAlike cs es → PathsActAlike ds fs → PathsActAlike (if p then cs else ds) (if q then es else fs)
 by_test true true cs ds es fs e a b = a
@@ -201,18 +194,15 @@ by_test false false cs ds es fs e a b = b
 -- what such paths are once a level was set
 pub setting_alike : (n : ℕ) (l : LevelFilter) (cs ds : Conducts) → PathsActAlike cs ds → PathsActAlike (setting n l cs) (setting n l ds)
 setting_alike n l [] [] p = p
-setting_alike n l [] ((m, c) ∷ ds) p = absurd p
-setting_alike n l ((k, b) ∷ cs) [] p = absurd p
 setting_alike n l ((k, b) ∷ cs) ((m, c) ∷ ds) p =
     by_test (filter_numbered k n) (filter_numbered m n) ((k, after_level l b) ∷ cs) ((k, b) ∷ setting n l cs) ((m, after_level l c) ∷ ds) ((m, c) ∷ setting n l ds)
     (ap (λ (o : Option ℕ). filter_numbered o n) p.0) (p.0, level_alike l b c p.1, p.2) (p.0, p.1, setting_alike n l cs ds p.2)
+setting_alike n l other rest p = absurd p
 
 -- what such paths learn from a notice: asked in the stores before it, given in these
 pub learnt_alike : (numbers : FilterSet) (cs ds : Conducts) (e : Notice) (s t u v : Store) (lane : ℕ) (under : FilterSet) → AgreeAt numbers s t → AgreeAt numbers u v → PathsActAlike cs ds → Within (numbers_in cs) numbers → Within under numbers
     → PathsActAlike (learning cs e s u lane under) (learning ds e t v lane under)
 learnt_alike numbers [] [] e s t u v lane under before given p all within = tt
-learnt_alike numbers [] ((m, c) ∷ ds) e s t u v lane under before given p all within = absurd p
-learnt_alike numbers ((n, b) ∷ cs) [] e s t u v lane under before given p all within = absurd p
 learnt_alike numbers ((None, b) ∷ cs) ((None, c) ∷ ds) e s t u v lane under before given p all within = p
 learnt_alike numbers ((None, b) ∷ cs) ((Some m, c) ∷ ds) e s t u v lane under before given p all within = absurd (a_number m p.0)
 learnt_alike numbers ((Some n, b) ∷ cs) ((None, c) ∷ ds) e s t u v lane under before given p all within = absurd (no_number n p.0)
@@ -225,6 +215,7 @@ learnt_alike numbers ((Some n, b) ∷ cs) ((Some m, c) ∷ ds) e s t u v lane un
     let here = by_test (passes (b []) e s lane set) (passes (c []) e t lane set) ((Some n, after_notice e (view_of u lane set) b) ∷ learning cs e s u lane set) ((Some n, b) ∷ cs) ((Some n, after_notice e (view_of v lane set) c) ∷ learning ds e t v lane set) ((Some n, c) ∷ ds)
     own (refl, learnt, rest) (refl, p.1, p.2) in
     subst (λ (k : ℕ). PathsActAlike (learning ((Some n, b) ∷ cs) e s u lane under) (learning ((Some k, c) ∷ ds) e t v lane under)) (number_itself n m p.0) here
+learnt_alike numbers other rest e s t u v lane under before given p all within = absurd p
 
 -- ---- what an outcome leaves of the conducts and of the store
 
@@ -233,11 +224,10 @@ numbers_tested true cs ds set a b = a
 numbers_tested false cs ds set a b = b
 
 learning_numbers : (cs : Conducts) (e : Notice) (s u : Store) (lane : ℕ) (under : FilterSet) → numbers_in (learning cs e s u lane under) ≡ numbers_in cs
-learning_numbers [] e s u lane under = refl
-learning_numbers ((None, b) ∷ cs) e s u lane under = refl
 learning_numbers ((Some n, b) ∷ cs) e s u lane under =
     let set = union under (single n) in
     numbers_tested (passes (b []) e s lane set) ((Some n, after_notice e (view_of u lane set) b) ∷ learning cs e s u lane set) ((Some n, b) ∷ cs) (numbers_in ((Some n, b) ∷ cs)) (λ i. union (single n) (learning_numbers cs e s u lane set i)) refl
+learning_numbers other e s u lane under = refl
 
 -- to set a level makes no difference to the numbers
 setting_numbers : (n : ℕ) (l : LevelFilter) (cs : Conducts) → numbers_in (setting n l cs) ≡ numbers_in cs
@@ -257,14 +247,8 @@ pub none_within : (a : FilterSet) → Within no_filter a
 none_within a n t = absurd (false≢true t)
 
 pub given_alike : (numbers : FilterSet) (e : Notice) (s t u v : Store) → AgreeAt numbers s t → AgreeAt numbers u v → AgreeAt numbers (given_in e s u) (given_in e t v)
-given_alike numbers (OnNewSpan attrs id) s t u v before after = after
-given_alike numbers (OnRecord id values) s t u v before after = after
-given_alike numbers (OnFollows id other) s t u v before after = after
-given_alike numbers (OnEvent e) s t u v before after = after
-given_alike numbers (OnEnter id) s t u v before after = after
-given_alike numbers (OnExit id) s t u v before after = after
-given_alike numbers (OnIdChange id other) s t u v before after = after
 given_alike numbers (OnClose id) s t u v before after = before
+given_alike numbers other s t u v before after = after
 
 acting_alike : (cs ds : Conducts) (o : Outcome) (s t u v : Store) → PathsActAlike cs ds → AgreeAt (numbers_in cs) s t → AgreeAt (numbers_in cs) u v → PathsActAlike (acting cs o s u) (acting ds o t v)
 acting_alike cs ds (Noticed lane e) s t u v p before after =
@@ -280,8 +264,7 @@ passed_both cs ds (Noticed lane e) s t u v p agree after =
     let passes = paths_pass_alike numbers s t agree lane.0 cs ds e no_filter p (itself_within numbers) (none_within numbers) in
     let told = told_alike cs e (given_in e s u) (given_in e t v) lane.0 (given_alike numbers e s t u v agree after) ∙ ap (told_in e (given_in e t v) lane.0) (masks_alike cs ds no_filter p) in
     λ i. if passes i then told i ∷ [] else []
-passed_both cs ds (Quiet c) s t u v p agree after = refl
-passed_both cs ds (LevelSet n l) s t u v p agree after = refl
+passed_both cs ds other s t u v p agree after = refl
 
 -- ---- steps of stores that agree
 
@@ -323,8 +306,6 @@ steps_agree cs ds (Noticed lane (OnNewSpan attrs id)) s t u v p agree h k =
       verdict = λ n m. h.refused n ∙ verdicts_alike numbers s t agree lane.0 cs ds (metadata_of attrs) no_filter n p (itself_within numbers) (none_within numbers) ∙ sym (k.refused n);
     } in
     changed numbers (with_new s (number_of id) first) (with_new t (number_of id) second) u v h.state k.state (new_stores_agree numbers s t (number_of id) first second agree both)
-steps_agree cs ds (Noticed lane (OnRecord id values)) s t u v p agree h k = changed (numbers_in cs) s t u v h.1 k.1 agree
-steps_agree cs ds (Noticed lane (OnFollows id other)) s t u v p agree h k = changed (numbers_in cs) s t u v h.1 k.1 agree
 steps_agree cs ds (Noticed lane (OnEvent e)) s t u v p agree h k = changed (numbers_in cs) s t u v h k agree
 steps_agree cs ds (Noticed lane (OnEnter id)) s t u v p agree h k = changed (numbers_in cs) _ _ u v h.1 k.1 (entered_agrees (numbers_in cs) s t lane.0 (number_of id) agree)
 steps_agree cs ds (Noticed lane (OnExit id)) s t u v p agree h k = changed (numbers_in cs) _ _ u v h.1 k.1 (exited_agrees (numbers_in cs) s t lane.0 (number_of id) agree)
@@ -334,6 +315,7 @@ steps_agree cs ds (Quiet (HandleAdded id)) s t u v p agree h k = changed (number
 steps_agree cs ds (Quiet (HandleTaken id)) s t u v p agree h k = changed (numbers_in cs) _ _ u v h.1 k.1 (taken_agrees (numbers_in cs) s t (number_of id) agree)
 steps_agree cs ds (LevelSet n l) s t u v p agree h k = changed (numbers_in cs) s t u v h k agree
 steps_agree cs ds (Quiet (GoneLeft lane id)) s t u v p agree h k = changed (numbers_in cs) _ _ u v h.1 k.1 (exited_agrees (numbers_in cs) s t lane.0 (number_of id) agree)
+steps_agree cs ds other s t u v p agree h k = changed (numbers_in cs) s t u v h.1 k.1 agree
 
 -- where the one takes a step, so does the other
 pub step_over : (cs ds : Conducts) (o : Outcome) (s t u : Store) → PathsActAlike cs ds → AgreeAt (numbers_in cs) s t → Steps (form_of_path (path_now cs)) o s u → (v : Store) × Steps (form_of_path (path_now ds)) o t v
@@ -353,15 +335,14 @@ step_over cs ds (Noticed lane (OnNewSpan attrs id)) s t u p agree h =
     )
 step_over cs ds (Noticed lane (OnRecord id values)) s t u p agree h = (t, (open_alike (numbers_in cs) s t (number_of id) agree h.0, refl))
 step_over cs ds (Noticed lane (OnFollows id other)) s t u p agree h = (t, (open_alike (numbers_in cs) s t (number_of id) agree h.0, refl))
-step_over cs ds (Noticed lane (OnEvent e)) s t u p agree h = (t, refl)
 step_over cs ds (Noticed lane (OnEnter id)) s t u p agree h = (entered t lane.0 (number_of id), (open_alike (numbers_in cs) s t (number_of id) agree h.0, refl))
 step_over cs ds (Noticed lane (OnExit id)) s t u p agree h = (exited t lane.0 (number_of id), (open_alike (numbers_in cs) s t (number_of id) agree h.0, refl))
 step_over cs ds (Noticed lane (OnIdChange id other)) s t u p agree h = absurd h
 step_over cs ds (Noticed lane (OnClose id)) s t u p agree h = (without t (number_of id ∷ []), (closing_alike (numbers_in cs) s t (number_of id) agree h.0, refl))
 step_over cs ds (Quiet (HandleAdded id)) s t u p agree h = (record t { spans = add_handle t.spans (number_of id) }, (open_alike (numbers_in cs) s t (number_of id) agree h.0, refl))
 step_over cs ds (Quiet (HandleTaken id)) s t u p agree h = (record t { spans = take_handle t.spans (number_of id) }, (held_alike (numbers_in cs) s t (number_of id) agree h.0, refl))
-step_over cs ds (LevelSet n l) s t u p agree h = (t, refl)
 step_over cs ds (Quiet (GoneLeft lane id)) s t u p agree h = (exited t lane.0 (number_of id), (not_open_alike (numbers_in cs) s t (number_of id) agree h.0, refl))
+step_over cs ds other s t u p agree h = (t, refl)
 
 -- ---- what is seen alone
 

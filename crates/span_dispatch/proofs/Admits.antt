@@ -18,7 +18,7 @@ use Rattle.span_core.specs.declared.metadata.Metadata.{Metadata}
 use Rattle.span_core.specs.declared.pass.Pass.{Pass}
 use Rattle.span_core.specs.declared.span.Lane.{Lane}
 use Rattle.span_dispatch.specs.Admission.{Decides, GivesInterest, HasInterestBy, IsAdmitted, IsInterestBy, IsLetBy, KeepsSafely, LosesNothing, MayLearn, Promises, interests_nobody, is_above_hint, learned, learned_if}
-use Rattle.span_dispatch.specs.Cache.{Callsites, MatchesStack, IsKept, IsUpToDate, KeptCallsites, ReadHint, ReadsOnce, RefusesBelow, RefusesInterest, callsites_of, hint_in, is_above_read, kept_in, no_callsite, with_callsite}
+use Rattle.span_dispatch.specs.Cache.{Callsites, MatchesStack, IsUpToDate, KeptCallsites, ReadHint, ReadsOnce, RefusesBelow, RefusesInterest, callsites_of, hint_in, is_above_read, kept_in, no_callsite, with_callsite}
 use Rattle.span_dispatch.specs.declared.cache.Cache.TheVariants.{Empty, Filled, Off}
 use Rattle.span_dispatch.specs.declared.cache.Cache.{Cache}
 use Rattle.span_dispatch.specs.declared.cache.Callsite.{Callsite}
@@ -43,8 +43,7 @@ use Rattle.span_registry.specs.Store.{RegistryState, Store}
 
 is_it_never : (i : Interest) → is_never i ≡ true → i ≡ Never
 is_it_never Never e = refl
-is_it_never Sometimes e = absurd (false≢true e)
-is_it_never Always e = absurd (false≢true e)
+is_it_never other e = absurd (false≢true e)
 
 unwanted_above : (memory : KeptCallsites) (f : Form) (s : RegistryState) (lane : Lane) (m : Metadata) → IsHonestStack f s.filters → is_above_hint memory f m ≡ true → IsUnwanted f m s.store lane.0
 unwanted_above None f s lane m honest e = absurd (false≢true e)
@@ -158,10 +157,9 @@ safely_again f g n (Filled k) e u = record {
 
 -- what is above no hint that is kept afterwards was above none before
 pub below_before : (memory : KeptCallsites) (before after : ReadHint) (m : Metadata) → ReadsOnce memory before after → is_above_read after m ≡ false → is_above_read before m ≡ false
-below_before None None after m r e = refl
-below_before (Some callsites) None after m r e = refl
 below_before None (Some hint) after m r e = subst (λ read. is_above_read read m ≡ false) r e
 below_before (Some callsites) (Some hint) after m r e = subst (λ read. is_above_read read m ≡ false) r e
+below_before other rest after m r e = refl
 
 -- what is let by isn't above it
 pub let_by_below : (above : Bool) (given : Result Bool TraceError) → (above ≡ true → given ≡ Ok false) → given ≡ Ok true → above ≡ false

@@ -15,25 +15,24 @@ use Rattle.span_dispatch.proofs.Acting.{acting_numbers, after_notice_alike, alon
 use Rattle.span_dispatch.proofs.Seen.{beneath, goes_through, some_path}
 use Rattle.span_dispatch.specs.Alone.{Alone, acting, learning, form_of_path, passed, passed_at}
 use Rattle.span_dispatch.specs.Isolation.{ActAlike, PathsActAlike, SeesMade, SeesServed}
-use Rattle.span_dispatch.specs.Outcome.{GoneLeft, HandleAdded, HandleTaken, IsVerdict, LayersGo, LevelSet, OutcomeAt, Makes, Noticed, Outcome, Quiet, SameAside, Steps, given_in, with_new}
+use Rattle.span_dispatch.specs.Outcome.{IsVerdict, LayersGo, LevelSet, OutcomeAt, Makes, Noticed, Outcome, Quiet, SameAside, Steps, given_in, with_new}
 use Rattle.std.specs.FinMap.{get}
-use Rattle.span_dispatch.specs.Serve.{EachSeesAlone, Sees, outcome_of, stack_of}
+use Rattle.span_dispatch.specs.Serve.{Sees, outcome_of, stack_of}
 use Rattle.span_layers.specs.Verdict.{AreDistinct, in_verdict, numbers_of}
 use Rattle.span_registry.proofs.Agreeing.{agree_aside, agree_refl, agree_sym, agree_trans, views_alike}
 use Rattle.span_registry.proofs.Agreeing.{SpansAgree}
 use Rattle.span_registry.specs.Agree.{AgreeAt, known_to}
-use Rattle.span_registry.specs.Behaviour.{AnswerAlike, Behaviour, Conduct, IsPlain, Notice, OnClose, OnEnter, OnEvent, OnExit, OnFollows, OnIdChange, OnNewSpan, OnRecord}
+use Rattle.span_registry.specs.Behaviour.{AnswerAlike, Behaviour, Conduct, IsPlain, Notice, OnEvent, OnIdChange, OnNewSpan}
 use Rattle.span_registry.specs.Conducts.{ActOn, ActsAt, ArePlainConducts, Conducts, ConductAfter, PathsAnswerAlike, StackPathLaws, after_notice, numbers_in, path_now, setting}
 use Rattle.span_registry.specs.Form.{Terminal, Filtered, Form, Leaf, Parts}
 use Rattle.span_registry.specs.Hooks.{StackLaws, StackSteps, no_filter}
 use Rattle.span_registry.specs.Levels.{LevelLaws, LevelSteps}
 use Rattle.span_registry.specs.Path.{Path, mask_of, passes_path, path_at}
-use Rattle.span_registry.specs.Position.{HearSteps, Heard, Here, Inner, Outer, Position, Told, Under, told_in}
+use Rattle.span_registry.specs.Position.{HearSteps, Heard, Here, Inner, Outer, Position, Under, told_in}
 use Rattle.span_registry.specs.Plan.{Itself, Nobody, Plan, Through, asked_afresh, passes}
 use Rattle.span_registry.specs.Question.{single}
 use Rattle.span_registry.specs.Step.{begun}
 use Rattle.span_registry.specs.Store.{RegistryState, Span, Spans, Store}
-use Rattle.span_registry.specs.Subscriber.{SameButExtensions}
 use Rattle.span_registry.specs.View.{view_of}
 
 -- ---- a path that answers as conducts say
@@ -42,44 +41,35 @@ use Rattle.span_registry.specs.View.{view_of}
 passes_same : (a b : Behaviour) (e : Notice) (s : Store) (lane : ℕ) (set : FilterSet) → AnswerAlike a b → passes a e s lane set ≡ passes b e s lane set
 passes_same a b (OnNewSpan attrs id) s lane set h = h.enabled (metadata_of attrs) s lane set
 passes_same a b (OnEvent e) s lane set h = λ i. h.enabled (event_metadata e) s lane set i && h.event e s lane set i
-passes_same a b (OnRecord id values) s lane set h = refl
-passes_same a b (OnFollows id other) s lane set h = refl
-passes_same a b (OnEnter id) s lane set h = refl
-passes_same a b (OnExit id) s lane set h = refl
-passes_same a b (OnIdChange id other) s lane set h = refl
-passes_same a b (OnClose id) s lane set h = refl
+passes_same a b other s lane set h = refl
 
 paths_pass_same : (path other : Path) (e : Notice) (s : Store) (lane : ℕ) (under : FilterSet) → PathsAnswerAlike path other → passes_path path e s lane under ≡ passes_path other e s lane under
 paths_pass_same [] [] e s lane under h = refl
-paths_pass_same [] ((m, b) ∷ other) e s lane under h = absurd h
-paths_pass_same ((n, a) ∷ path) [] e s lane under h = absurd h
 paths_pass_same ((None, a) ∷ path) ((m, b) ∷ other) e s lane under h = ap (λ (k : Option ℕ). passes_path ((k, b) ∷ other) e s lane under) h.0
 paths_pass_same ((Some n, a) ∷ path) ((m, b) ∷ other) e s lane under h =
     let set = union under (single n) in
     (λ i. passes_same a b e s lane set h.1 i && paths_pass_same path other e s lane set h.2 i) ∙ ap (λ (k : Option ℕ). passes_path ((k, b) ∷ other) e s lane under) h.0
+paths_pass_same other rest e s lane under h = absurd h
 
 masks_same : (path other : Path) (under : FilterSet) → PathsAnswerAlike path other → mask_of path under ≡ mask_of other under
 masks_same [] [] under h = refl
-masks_same [] ((m, b) ∷ other) under h = absurd h
-masks_same ((n, a) ∷ path) [] under h = absurd h
 masks_same ((None, a) ∷ path) ((m, b) ∷ other) under h = masks_same path other under h.2 ∙ ap (λ (k : Option ℕ). mask_of ((k, b) ∷ other) under) h.0
 masks_same ((Some n, a) ∷ path) ((m, b) ∷ other) under h = masks_same path other (union under (single n)) h.2 ∙ ap (λ (k : Option ℕ). mask_of ((k, b) ∷ other) under) h.0
+masks_same other rest under h = absurd h
 
 verdicts_same : (path other : Path) (meta : Metadata) (s : Store) (lane : ℕ) (under : FilterSet) (k : ℕ) → PathsAnswerAlike path other → in_verdict (form_of_path path) meta s lane under k ≡ in_verdict (form_of_path other) meta s lane under k
 verdicts_same [] [] meta s lane under k h = refl
-verdicts_same [] ((m, b) ∷ other) meta s lane under k h = absurd h
-verdicts_same ((n, a) ∷ path) [] meta s lane under k h = absurd h
 verdicts_same ((None, a) ∷ path) ((m, b) ∷ other) meta s lane under k h = ap (λ (j : Option ℕ). in_verdict (form_of_path ((j, b) ∷ other)) meta s lane under k) h.0
 verdicts_same ((Some n, a) ∷ path) ((m, b) ∷ other) meta s lane under k h =
     let set = union under (single n) in
     (λ i. if h.1.enabled meta s lane set i then verdicts_same path other meta s lane set k h.2 i else (k == n)) ∙ ap (λ (j : Option ℕ). in_verdict (form_of_path ((j, b) ∷ other)) meta s lane under k) h.0
+verdicts_same other rest meta s lane under k h = absurd h
 
 numbers_same : (path other : Path) → PathsAnswerAlike path other → numbers_of (form_of_path path) ≡ numbers_of (form_of_path other)
 numbers_same [] [] h = refl
-numbers_same [] ((m, b) ∷ other) h = absurd h
-numbers_same ((n, a) ∷ path) [] h = absurd h
 numbers_same ((None, a) ∷ path) ((m, b) ∷ other) h = numbers_same path other h.2 ∙ ap (λ (k : Option ℕ). numbers_of (form_of_path ((k, b) ∷ other))) h.0
 numbers_same ((Some n, a) ∷ path) ((m, b) ∷ other) h = (λ i k. (k == n) || numbers_same path other h.2 i k) ∙ ap (λ (k : Option ℕ). numbers_of (form_of_path ((k, b) ∷ other))) h.0
+numbers_same other rest h = absurd h
 
 lone_numbers : (cs : Conducts) → numbers_of (form_of_path (path_now cs)) ≡ numbers_in cs
 lone_numbers [] = refl
@@ -302,25 +292,15 @@ steps_alone f cs cut_says (Noticed lane (OnNewSpan attrs id)) s t h =
       record { parent = h.parent; chosen = h.chosen; verdict = cut.0; refused = λ k. cut.1 k ∙ cut_says (metadata_of attrs) s lane h.verdict h.refused k; fresh = h.fresh; other = h.other; state = refl },
       subst (λ (v : Store). AgreeAt numbers v (with_new s x own)) (sym h.state) (new_stores_agree numbers s s x whole own (agree_refl numbers s) both),
     )
-steps_alone f cs cut_says (Noticed lane (OnRecord id values)) s t h = (t, h, agree_refl (numbers_in cs) t)
-steps_alone f cs cut_says (Noticed lane (OnFollows id other)) s t h = (t, h, agree_refl (numbers_in cs) t)
-steps_alone f cs cut_says (Noticed lane (OnEvent e)) s t h = (t, h, agree_refl (numbers_in cs) t)
-steps_alone f cs cut_says (Noticed lane (OnEnter id)) s t h = (t, h, agree_refl (numbers_in cs) t)
-steps_alone f cs cut_says (Noticed lane (OnExit id)) s t h = (t, h, agree_refl (numbers_in cs) t)
 steps_alone f cs cut_says (Noticed lane (OnIdChange id other)) s t h = absurd h
-steps_alone f cs cut_says (Noticed lane (OnClose id)) s t h = (t, h, agree_refl (numbers_in cs) t)
-steps_alone f cs cut_says (Quiet (HandleAdded id)) s t h = (t, h, agree_refl (numbers_in cs) t)
-steps_alone f cs cut_says (Quiet (HandleTaken id)) s t h = (t, h, agree_refl (numbers_in cs) t)
-steps_alone f cs cut_says (Quiet (GoneLeft lane id)) s t h = (t, h, agree_refl (numbers_in cs) t)
-steps_alone f cs cut_says (LevelSet n l) s t h = (t, h, agree_refl (numbers_in cs) t)
+steps_alone f cs cut_says other s t h = (t, h, agree_refl (numbers_in cs) t)
 
 -- ---- one outcome, and all that was made
 
 passed_alone : (path : Path) (cs : Conducts) (o : Outcome) (s t : Store) → PathsAnswerAlike path (path_now cs) → passed (Some path) o s t ≡ passed (Some (path_now cs)) o s t
 passed_alone path cs (Noticed lane e) s t alike =
     λ i. if paths_pass_same path (path_now cs) e s lane.0 no_filter alike i then told_in e (given_in e s t) lane.0 (masks_same path (path_now cs) no_filter alike i) ∷ [] else []
-passed_alone path cs (Quiet c) s t alike = refl
-passed_alone path cs (LevelSet n l) s t alike = refl
+passed_alone path cs other s t alike = refl
 
 seen_so : (cs : Conducts) {s t : Store} {outcomes others : List Outcome} {h k : Heard} → s ≡ t → outcomes ≡ others → h ≡ k → Alone cs s outcomes h → Alone cs t others k
 seen_so cs {s} {t} {outcomes} {others} {h} {k} e f g a =
@@ -390,7 +370,8 @@ module _ {S : Type 0} (registry : S → RegistryState) {with_registry : S → Re
       )
 
   -- what a leaf sees of what was made, it sees alone on any store that agrees
-  pub sees_alone : (x : S) (made : List OutcomeAt) (y : S) → FoldsTo (Makes registry with_registry has_form stepped levelled) x made y → EachSeesAlone registry acts_at x made
+  pub sees_alone : (x : S) (made : List OutcomeAt) (y : S) → FoldsTo (Makes registry with_registry has_form stepped levelled) x made y
+      → (position : Position) (cs : Conducts) (s : Store) → acts_at x position cs → AgreeAt (numbers_in cs) (registry x).store s → Alone cs s (map outcome_of made) (passed_at position made)
   sees_alone x made y h position cs s acts agree = alone_over cs cs (registry x).store s (map outcome_of made) (passed_at position made) (paths_itself cs (paths.plain x position cs acts)) agree (sees_own x made y position cs h acts)
 
   -- so whatever is seen in a stack is seen alone

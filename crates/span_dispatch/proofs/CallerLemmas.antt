@@ -75,15 +75,13 @@ module _ {S : Type 0} (registry : S → RegistryState) (with_registry : S → Re
       → ((a : Answer) (rest : List Answer) (ms : List OutcomeAt) (more : List (List OutcomeAt)) (between : KeptCallsites) (z : S) → ServesRequest registry with_registry has_form stepped levelled past r memory x a ms between z
       → RunExactly registry with_registry has_form stepped levelled (past ++ (a ∷ [])) rs rest more between z after y → G (a ∷ rest) (ms ∷ more))
       → RunExactly registry with_registry has_form stepped levelled past (r ∷ rs) answers made memory x after y → G answers made
-  next_served past r rs [] made memory x after y G k h = absurd h
-  next_served past r rs (a ∷ rest) [] memory x after y G k h = absurd h
   next_served past r rs (a ∷ rest) (ms ∷ more) memory x after y G k h = k a rest ms more h.0 h.1 h.2 h.3
+  next_served past r rs other made memory x after y rest k h = absurd h
 
   -- an empty list has no answer, and nothing was made of it
   pub none_served : (past : List Answer) (answers : List Answer) (made : List (List OutcomeAt)) (memory : KeptCallsites) (x : S) (after : KeptCallsites) (y : S) (G : List Answer → List (List OutcomeAt) → Type 0) → G [] [] → RunExactly registry with_registry has_form stepped levelled past [] answers made memory x after y → G answers made
   none_served past [] [] memory x after y G k h = k
-  none_served past [] (m ∷ made) memory x after y G k h = absurd h
-  none_served past (a ∷ answers) made memory x after y G k h = absurd h
+  none_served past other made memory x after y rest k h = absurd h
 
   -- ---- a request for a new span: it was made, and its notice alone came of it; or it was dropped, or refused, and nothing came of it
 
@@ -157,9 +155,7 @@ module _ {S : Type 0} (registry : S → RegistryState) (with_registry : S → Re
   sent past r lane event f memory x answer.Dropped (one ∷ made) after y G new dropped refused asks ready s = let e = s.told.says in absurd (cc)
   sent past r lane event f memory x (answer.Refused e) [] after y G new dropped refused asks ready s = subst (λ z. G (answer.Refused e) [] after z) s.told.goes (refused event e f after asks s.exact.answers s.exact.keeps)
   sent past r lane event f memory x (answer.Refused e) (one ∷ made) after y G new dropped refused asks ready s = let d = s.told.says in absurd (cc)
-  sent past r lane event f memory x (answer.Made id) made after y G new dropped refused asks ready s = absurd s.exact.answers
-  sent past r lane event f memory x (answer.Yes b) made after y G new dropped refused asks ready s = absurd s.exact.answers
-  sent past r lane event f memory x (answer.Current o) made after y G new dropped refused asks ready s = absurd s.exact.answers
+  sent past r lane event f memory x other made after y rest new dropped refused asks ready s = absurd s.exact.answers
 
   pub event_served : (past : List Answer) (lane : Lane) (m : Metadata) (p : WhichParent) (values : _) (memory : KeptCallsites) (x : S) (a : Answer) (made : List OutcomeAt) (after : KeptCallsites) (y : S) (G : Goal)
       → MadeEvent past (request.Event lane m p values) lane memory x G → DroppedEvent past (request.Event lane m p values) lane memory x G → RefusedEvent past (request.Event lane m p values) lane memory x G

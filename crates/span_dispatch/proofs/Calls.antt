@@ -15,15 +15,14 @@ use Rattle.std.specs.Option.{option_map}
 use Rattle.span_core.specs.declared.span.Id.{Id}
 use Rattle.span_core.specs.declared.span.Lane.{Lane}
 use Rattle.span_core.specs.declared.span.Record.{Record}
-use Rattle.span_dispatch.proofs.Goes.{Done, StepsTo, StillReady, aside_further, aside_state, by_call, by_change, by_none, changed, filters_same, honest_after, honest_quietly, its_own, keeps_again, same_aside, settled_aside}
+use Rattle.span_dispatch.proofs.Goes.{Done, StepsTo, StillReady, aside_state, by_call, by_change, by_none, changed, filters_same, honest_after, honest_quietly, its_own, keeps_again, same_aside, settled_aside}
 use Rattle.span_dispatch.specs.Admission.{Decides, IsAdmitted, IsDropped}
 use Rattle.span_dispatch.specs.Cache.{KeptCallsites}
-use Rattle.span_dispatch.specs.Call.{AddHandle, AskCurrent, Call, DropHandle, Enter, Exit, Follow, HasRoomFor, OpenSpan, Probe, RecordValues, SendEvent, closes_of, current_answer, done_answer, vetoes_whole, yes_answer}
+use Rattle.span_dispatch.specs.Call.{AddHandle, AskCurrent, DropHandle, Enter, Exit, Follow, HasRoomFor, OpenSpan, Probe, RecordValues, SendEvent, closes_of, current_answer, done_answer, vetoes_whole, yes_answer}
 use Rattle.span_dispatch.specs.Outcome.{GoneLeft, HandleAdded, HandleTaken, IsHonest, IsVerdict, Ends, OutcomeAt, Makes, Noticed, Notices, Outcome, Quiet, SameAside, Steps, given_in, with_new}
 use Rattle.span_core.specs.declared.filter.FilterMap.{FilterMap}
 use Rattle.span_dispatch.specs.Serve.{AnswersExactly, ClosesEach, IsReady, outcome_of}
 use Rattle.span_dispatch.specs.declared.request.Answer.TheVariants as answer
-use Rattle.span_dispatch.specs.declared.request.Answer.{Answer}
 use Rattle.span_layers.proofs.Built.{rules_of}
 use Rattle.span_layers.proofs.RulesKept.{honesty_is_kept}
 use Rattle.span_layers.specs.Honest.{IsHonestStack}
@@ -124,7 +123,7 @@ module _ {S : Type 0} {registry : S → RegistryState} {with_registry : S → Re
   current_number s lane (Some p) h = h
 
   pub current_so : (lane : Lane) (c : Current) (f : Form) (x : S) → Honest f x → Done laws with_own levelled (AskCurrent lane) (current_answer c) f x x
-  current_so lane c f x h = by_none laws with_own levelled (AskCurrent lane) (current_answer c) f x x h refl refl (λ d. absurd (cc))
+  current_so lane c f x h = by_none laws with_own levelled (AskCurrent lane) (current_answer c) f x x h refl refl tt
 
   pub current_exact : (lane : Lane) (c : Current) (f : Form) (memory : KeptCallsites) (s : RegistryState) → ShowsCurrent s.store lane c → AnswersExactly (AskCurrent lane) f memory s (current_answer c) memory
   current_exact lane c f memory s shown = record { answers = current_number s.store lane.0 (current_span c) shown.span; keeps = refl }
@@ -133,14 +132,14 @@ module _ {S : Type 0} {registry : S → RegistryState} {with_registry : S → Re
   unvetoed : (f : Form) (m : Metadata) (s : Store) (lane : Lane) (pass : Pass) → IsOrderly f → asked f m s lane.0 no_filter no_filter ≡ (true, refusals pass) → vetoes f m s lane.0 ≡ false
   unvetoed f m s lane pass orderly e = not_true _ (sym (asked_unless_vetoed f m s lane.0 no_filter orderly) ∙ ap (λ (p : Bool × FilterSet). p.0) e)
 
-  pub probed : (lane : Lane) (m : Metadata) (said : Result Bool TraceError) (f : Form) (x : S) → Honest f x → Done laws with_own levelled (Probe lane m) (yes_answer said) f x x
-  probed lane m (Ok said) f x h = by_none laws with_own levelled (Probe lane m) (answer.Yes said) f x x h refl refl (λ d. absurd (cc))
-  probed lane m (Err e) f x h = by_none laws with_own levelled (Probe lane m) (answer.Refused e) f x x h refl refl (λ d. absurd (cc))
+  pub probed : (lane : Lane) (m : Metadata) (pass : Pass) (said : Result Bool TraceError) (f : Form) (x : S) → Decides f (registry x).store lane m pass said → Honest f x → Done laws with_own levelled (Probe lane m) (yes_answer said) f x x
+  probed lane m pass (Ok true) f x a h = by_none laws with_own levelled (Probe lane m) (answer.Yes true) f x x h refl refl tt
+  probed lane m pass (Ok false) f x a h = by_none laws with_own levelled (Probe lane m) (answer.Yes false) f x x h refl refl a
+  probed lane m pass (Err e) f x a h = by_none laws with_own levelled (Probe lane m) (answer.Refused e) f x x h refl refl tt
 
   pub probed_exactly : (lane : Lane) (m : Metadata) (pass : Pass) (said : Result Bool TraceError) (f : Form) (memory after : KeptCallsites) (s : RegistryState) → IsOrderly f → IsAdmitted memory f s lane m pass after said → AnswersExactly (Probe lane m) f memory s (yes_answer said) after
   probed_exactly lane m pass (Ok true) f memory after s orderly a = record { answers = (a.0, unvetoed f m s.store lane pass orderly a.1); keeps = a.2 }
-  probed_exactly lane m pass (Ok false) f memory after s orderly a = record { answers = a.0; keeps = a.1 }
-  probed_exactly lane m pass (Err e) f memory after s orderly a = record { answers = a.0; keeps = a.1 }
+  probed_exactly lane m pass other f memory after s orderly a = record { answers = a.0; keeps = a.1 }
 
   -- ---- new spans
 
@@ -152,10 +151,10 @@ module _ {S : Type 0} {registry : S → RegistryState} {with_registry : S → Re
   decided f s lane m meta pass said same a = subst (λ n. Decides f s lane n pass said) same a
 
   pub span_dropped : (lane : Lane) (attrs : Attributes) (m : Metadata) (pass : Pass) (f : Form) (x : S) → m ≡ metadata_of attrs → Decides f (registry x).store lane m pass (Ok false) → Honest f x → Done laws with_own levelled (OpenSpan lane attrs) answer.Dropped f x x
-  span_dropped lane attrs m pass f x same a h = by_none laws with_own levelled (OpenSpan lane attrs) answer.Dropped f x x h refl refl (λ d. decided f (registry x).store lane m (metadata_of attrs) pass (Ok false) same a)
+  span_dropped lane attrs m pass f x same a h = by_none laws with_own levelled (OpenSpan lane attrs) answer.Dropped f x x h refl refl (decided f (registry x).store lane m (metadata_of attrs) pass (Ok false) same a)
 
   pub span_unmade : (lane : Lane) (attrs : Attributes) (e : TraceError) (f : Form) (x y : S) → y ≡ x → Honest f x → Done laws with_own levelled (OpenSpan lane attrs) (answer.Refused e) f x y
-  span_unmade lane attrs e f x y u h = by_none laws with_own levelled (OpenSpan lane attrs) (answer.Refused e) f x y h u refl (λ d. absurd (cc))
+  span_unmade lane attrs e f x y u h = by_none laws with_own levelled (OpenSpan lane attrs) (answer.Refused e) f x y h u refl tt
 
   pub span_made : (lane : Lane) (attrs : Attributes) (m : Metadata) (pass : Pass) (id : Id) (f : Form) (x y : S) → m ≡ metadata_of attrs → Decides f (registry x).store lane m pass (Ok true)
       → OpensAndNotifies registry has_form stepped lane attrs pass x y id → Honest f x → Done laws with_own levelled (OpenSpan lane attrs) (answer.Made id) f x y
@@ -165,7 +164,7 @@ module _ {S : Type 0} {registry : S → RegistryState} {with_registry : S → Re
       let refused = ap (λ (p : Bool × FilterSet). p.1) d in
       let law = new_span_fresh f attrs id s lane.0 h.rules.numbers.distinct (ap (λ (p : Bool × FilterSet). p.0) d) in
       let plan = subst (λ r. by_pass f (OnNewSpan attrs id) n.left.store.spans no_filter r ≡ asked_afresh f (OnNewSpan attrs id) s lane.0 no_filter) refused (law.plan n.left.store.spans) in
-      by_call laws with_own levelled (OpenSpan lane attrs) (answer.Made id) f lane (OnNewSpan attrs id) (refusals pass) _ x y h refl (λ d. absurd (cc))
+      by_call laws with_own levelled (OpenSpan lane attrs) (answer.Made id) f lane (OnNewSpan attrs id) (refusals pass) _ x y h refl tt
       n plan (opens_to f lane attrs id (registry x) n.left (refused_of pass) (λ k. ap (λ (r : FilterSet). r k) (sym refused) ∙ law.verdict k) n.taken)
 
   -- and exactly so
@@ -185,10 +184,10 @@ module _ {S : Type 0} {registry : S → RegistryState} {with_registry : S → Re
   -- ---- events
 
   pub event_dropped : (lane : Lane) (e : Event) (m : Metadata) (pass : Pass) (f : Form) (x : S) → m ≡ event_metadata e → Decides f (registry x).store lane m pass (Ok false) → Honest f x → Done laws with_own levelled (SendEvent lane e) answer.Dropped f x x
-  event_dropped lane e m pass f x same a h = by_none laws with_own levelled (SendEvent lane e) answer.Dropped f x x h refl refl (λ d. inl (decided f (registry x).store lane m (event_metadata e) pass (Ok false) same a))
+  event_dropped lane e m pass f x same a h = by_none laws with_own levelled (SendEvent lane e) answer.Dropped f x x h refl refl (inl (decided f (registry x).store lane m (event_metadata e) pass (Ok false) same a))
 
   pub event_unmade : (lane : Lane) (e : Event) (error : TraceError) (f : Form) (x : S) → Honest f x → Done laws with_own levelled (SendEvent lane e) (answer.Refused error) f x x
-  event_unmade lane e error f x h = by_none laws with_own levelled (SendEvent lane e) (answer.Refused error) f x x h refl refl (λ d. absurd (cc))
+  event_unmade lane e error f x h = by_none laws with_own levelled (SendEvent lane e) (answer.Refused error) f x x h refl refl tt
 
   wanted_or_vetoed : (f : Form) (x : S) (lane : Lane) (e : Event) (before pass : Pass) (said : Bool) → Honest f x → AnswersEvent registry has_form x lane e before said pass → said ≡ not (vetoes_event f e (registry x).store lane.0)
   wanted_or_vetoed f x lane e before pass said h a = (a f h.has).answer ∙ event_unless_vetoed f e (registry x).store lane.0 (refusals before) (rules_of f _ h.rules).orderly
@@ -197,7 +196,7 @@ module _ {S : Type 0} {registry : S → RegistryState} {with_registry : S → Re
   vetoed_so f x lane e first second wanted no_one b h = not_false _ (sym (wanted_or_vetoed f x lane e first second wanted h b) ∙ no_one)
 
   pub event_vetoed : (lane : Lane) (e : Event) (first second : Pass) (wanted : Bool) (f : Form) (x : S) → wanted ≡ false → AnswersEvent registry has_form x lane e first wanted second → Honest f x → Done laws with_own levelled (SendEvent lane e) answer.Dropped f x x
-  event_vetoed lane e first second wanted f x no_one b h = by_none laws with_own levelled (SendEvent lane e) answer.Dropped f x x h refl refl (λ d. inr (vetoed_so f x lane e first second wanted no_one b h))
+  event_vetoed lane e first second wanted f x no_one b h = by_none laws with_own levelled (SendEvent lane e) answer.Dropped f x x h refl refl (inr (vetoed_so f x lane e first second wanted no_one b h))
 
   pub event_made : (lane : Lane) (e : Event) (m : Metadata) (first second : Pass) (wanted : Bool) (f : Form) (x y : S) → m ≡ event_metadata e → Decides f (registry x).store lane m first (Ok true) → wanted ≡ true
       → AnswersEvent registry has_form x lane e first wanted second → Notifies registry has_form stepped lane (refusals second) (OnEvent e) Stays x y → Honest f x → Done laws with_own levelled (SendEvent lane e) answer.Done f x y
@@ -211,7 +210,7 @@ module _ {S : Type 0} {registry : S → RegistryState} {with_registry : S → Re
       let refused : refusals second ≡ (event_asked f e s lane.0 no_filter asked_first).1 =
       (b f h.has).refused ∙ ap (λ r. (event_asked f e s lane.0 no_filter r).1) (sym (ap (λ (p : Bool × FilterSet). p.1) d)) in
       let plan = subst (λ r. by_pass f (OnEvent e) n.left.store.spans no_filter r ≡ asked_afresh f (OnEvent e) s lane.0 no_filter) (sym refused) (law n.left.store.spans) in
-      by_call laws with_own levelled (SendEvent lane e) answer.Done f lane (OnEvent e) (refusals second) _ x y h refl (λ d. absurd (cc)) n plan (stays_to f lane (OnEvent e) (registry x) n.left refl refl (λ r. refl) n.taken)
+      by_call laws with_own levelled (SendEvent lane e) answer.Done f lane (OnEvent e) (refusals second) _ x y h refl tt n plan (stays_to f lane (OnEvent e) (registry x) n.left refl refl (λ r. refl) n.taken)
 
   -- and exactly so
   module _ (f : Form) (memory after : KeptCallsites) (x : S) (lane : Lane) (e : Event) (m : Metadata) (first : Pass) (same : m ≡ event_metadata e) (h : Honest f x) where
@@ -245,9 +244,9 @@ module _ {S : Type 0} {registry : S → RegistryState} {with_registry : S → Re
   pub entered_so : (lane : Lane) (id : Id) (r : Result (Unit {0}) TraceError) (f : Form) (x y : S) → OnOk r (Notifies registry has_form stepped lane no_filter (OnEnter id) (Enters lane id) x y) → IfErr r (RefusesEnter (registry x) id) → OnErr r (y ≡ x)
       → Honest f x → Done laws with_own levelled (Enter lane id) (done_answer r) f x y
   entered_so lane id (Ok u) f x y n r e h =
-      by_call laws with_own levelled (Enter lane id) answer.Done f lane (OnEnter id) no_filter _ x y h refl (λ d. absurd (cc))
+      by_call laws with_own levelled (Enter lane id) answer.Done f lane (OnEnter id) no_filter _ x y h refl tt
       n (kept_plan f (OnEnter id) x lane _ (ap (λ (t : RegistryState). t.store.spans) n.taken.state) (others_afresh f (OnEnter id) (registry x).store lane.0 no_filter no_filter)) (enters_to f lane id (registry x) n.left n.taken)
-  entered_so lane id (Err error) f x y n r e h = by_none laws with_own levelled (Enter lane id) (answer.Refused error) f x y h e refl (λ d. absurd (cc))
+  entered_so lane id (Err error) f x y n r e h = by_none laws with_own levelled (Enter lane id) (answer.Refused error) f x y h e refl tt
 
   pub enter_exactly : {A : Type 0} (lane : Lane) (id : Id) (r : Result A TraceError) (f : Form) (memory : KeptCallsites) (s : RegistryState) → IfErr r (RefusesEnter s id) → AnswersExactly (Enter lane id) f memory s (done_answer r) memory
   enter_exactly lane id (Ok u) f memory s r = record { answers = tt; keeps = refl }
@@ -255,26 +254,26 @@ module _ {S : Type 0} {registry : S → RegistryState} {with_registry : S → Re
 
   pub left_so : (lane : Lane) (id : Id) (f : Form) (x y : S) → IsOpen (registry x).store.spans (number_of id) → Notifies registry has_form stepped lane no_filter (OnExit id) (Exits lane id) x y → Honest f x → Done laws with_own levelled (Exit lane id) answer.Done f x y
   left_so lane id f x y there n h =
-      by_call laws with_own levelled (Exit lane id) answer.Done f lane (OnExit id) no_filter _ x y h (record { there = λ o. refl; gone = λ shut. absurd (shut there) }) (λ d. absurd (cc))
+      by_call laws with_own levelled (Exit lane id) answer.Done f lane (OnExit id) no_filter _ x y h (record { there = λ o. refl; gone = λ shut. absurd (shut there) }) tt
       n (kept_plan f (OnExit id) x lane _ (ap (λ (t : RegistryState). t.store.spans) n.taken) (others_afresh f (OnExit id) (registry x).store lane.0 no_filter no_filter)) (leaves_to f lane id (registry x) n.left there n.taken)
 
   pub gone_so : ((s : S) (w : RegistryState) → registry (with_registry s w) ≡ w) → (lane : Lane) (id : Id) (f : Form) (x : S) (w : RegistryState) → ¬ (IsOpen (registry x).store.spans (number_of id)) → Exits lane id (registry x) w → Honest f x
       → Done laws with_own levelled (Exit lane id) answer.Done f x (with_registry x w)
   gone_so registry_with lane id f x w shut e h =
-      by_change laws with_own levelled (Exit lane id) answer.Done f (GoneLeft lane id) x (with_registry x w) h (record { there = λ o. absurd (shut o); gone = λ s. refl }) (λ d. absurd (cc))
+      by_change laws with_own levelled (Exit lane id) answer.Done f (GoneLeft lane id) x (with_registry x w) h (record { there = λ o. absurd (shut o); gone = λ s. refl }) tt
       (exited (registry x).store lane.0 (number_of id)) (shut, refl) (registry_with x w ∙ e) (its_own laws with_own levelled registry_with x w) (filters_same (registry_with x w ∙ e))
       (λ s. subst (λ (t : RegistryState). HasNoClosing t.store.spans) (sym (registry_with x w)) (subst HasNoClosing (sym (ap (λ (t : RegistryState). t.store.spans) e)) s))
 
   pub recorded_so : (lane : Lane) (id : Id) (values : Record) (f : Form) (x y : S) → IsOpen (registry x).store.spans (number_of id) → Notifies registry has_form stepped lane no_filter (OnRecord id values) Stays x y → Honest f x
       → Done laws with_own levelled (RecordValues lane id values) answer.Done f x y
   recorded_so lane id values f x y there n h =
-      by_call laws with_own levelled (RecordValues lane id values) answer.Done f lane (OnRecord id values) no_filter _ x y h refl (λ d. absurd (cc))
+      by_call laws with_own levelled (RecordValues lane id values) answer.Done f lane (OnRecord id values) no_filter _ x y h refl tt
       n (kept_plan f (OnRecord id values) x lane _ (ap (λ (t : RegistryState). t.store.spans) n.taken) (others_afresh f (OnRecord id values) (registry x).store lane.0 no_filter no_filter)) (stays_to f lane (OnRecord id values) (registry x) n.left (there, refl) refl (λ r. refl) n.taken)
 
   pub followed_so : (lane : Lane) (id other : Id) (f : Form) (x y : S) → IsOpen (registry x).store.spans (number_of id) → Notifies registry has_form stepped lane no_filter (OnFollows id other) Stays x y → Honest f x
       → Done laws with_own levelled (Follow lane id other) answer.Done f x y
   followed_so lane id other f x y there n h =
-      by_call laws with_own levelled (Follow lane id other) answer.Done f lane (OnFollows id other) no_filter _ x y h refl (λ d. absurd (cc))
+      by_call laws with_own levelled (Follow lane id other) answer.Done f lane (OnFollows id other) no_filter _ x y h refl tt
       n (kept_plan f (OnFollows id other) x lane _ (ap (λ (t : RegistryState). t.store.spans) n.taken) (others_afresh f (OnFollows id other) (registry x).store lane.0 no_filter no_filter)) (stays_to f lane (OnFollows id other) (registry x) n.left (there, refl) refl (λ r. refl) n.taken)
 
   -- ---- handles
@@ -282,9 +281,9 @@ module _ {S : Type 0} {registry : S → RegistryState} {with_registry : S → Re
   pub cloned_so : (lane : Lane) (id : Id) (r : Result Id TraceError) (f : Form) (x y : S) → OnOk r (Clones id (registry x) (registry y)) → y ≡ with_registry x (registry y) → IfErr r (RefusesClone (registry x) id) → OnErr r (y ≡ x)
       → Honest f x → Done laws with_own levelled (AddHandle lane id) (done_answer r) f x y
   cloned_so lane id (Ok other) f x y n rest r e h =
-      by_change laws with_own levelled (AddHandle lane id) answer.Done f (HandleAdded id) x y h refl (λ d. absurd (cc))
+      by_change laws with_own levelled (AddHandle lane id) answer.Done f (HandleAdded id) x y h refl tt
       (record (registry x).store { spans = add_handle (registry x).store.spans (number_of id) }) (n.is_open, refl) n.state rest (filters_same n.state) (settled_cloned id (registry x) (registry y) n)
-  cloned_so lane id (Err error) f x y n rest r e h = by_none laws with_own levelled (AddHandle lane id) (answer.Refused error) f x y h e refl (λ d. absurd (cc))
+  cloned_so lane id (Err error) f x y n rest r e h = by_none laws with_own levelled (AddHandle lane id) (answer.Refused error) f x y h e refl tt
 
   pub clone_exactly : (lane : Lane) (id : Id) (r : Result Id TraceError) (f : Form) (memory : KeptCallsites) (s : RegistryState) → IfOk r (λ other. handles_of s.store.spans (number_of id) < s.limits.count) → IfErr r (RefusesClone s id) → AnswersExactly (AddHandle lane id) f memory s (done_answer r) memory
   clone_exactly lane id (Ok other) f memory s room r = record { answers = room; keeps = refl }
@@ -295,7 +294,7 @@ module _ {S : Type 0} {registry : S → RegistryState} {with_registry : S → Re
   still_open_so registry_with lane id a f x w r same forest h =
       let drops = drops_open forest h.settled r same in
       by_change laws with_own levelled (DropHandle lane id) (answer.Yes false) f (HandleTaken id) x (with_registry x w) h.honest
-      (record { closed = []; exact = drops.closes; outcomes = refl; itself = (λ t. absurd (true≢false (sym t)), λ n. absurd n) }) (λ d. absurd (cc))
+      (record { closed = []; exact = drops.closes; outcomes = refl; itself = (λ t. absurd (true≢false (sym t)), λ n. absurd n) }) tt
       (record (registry x).store { spans = take_handle (registry x).store.spans (number_of id) }) (r.held, refl) (registry_with x w ∙ r.state) (its_own laws with_own levelled registry_with x w) (filters_same (registry_with x w ∙ r.state))
       (λ s. subst (λ (t : RegistryState). HasNoClosing t.store.spans) (sym (registry_with x w)) (settled_still s r same))
 
@@ -320,7 +319,7 @@ module _ {S : Type 0} {registry : S → RegistryState} {with_registry : S → Re
           record {
             says = record { closed = k.closed; exact = drops.closes; outcomes = ap (λ os. Quiet (HandleTaken id) ∷ os) notices.2; itself = (λ _. itself, λ _. refl) };
             goes = (z, changed laws with_own levelled f (HandleTaken id) x z t h.honest (r.held, refl) (registry_with x w ∙ r.state) rest, notices.1);
-            loses = λ d. absurd (cc);
+            loses = tt;
           },
         ),
         λ s. (notices.3.0, record { honest = notices.3.1; settled = settled_closed (registry x) (registry y) id k.closed all }, keeps_again f after.0 notices.3.0 after.2 notices.3.2, notices.3.3 ∙ after.3),

@@ -106,13 +106,11 @@ in_effect (SetLevel n l) (answer.Current o) s os = either_way
 
 -- what has outcomes on the one store has the same on one that agrees
 effect_over : (e : Effect) (numbers : FilterSet) (s t : Store) (os : List Outcome) → AgreeAt numbers s t → HasOutcomes e s os → HasOutcomes e t os
-effect_over NoEffect numbers s t os agree h = h
-effect_over NoAnswer numbers s t os agree h = h
-effect_over (OneOutcome o) numbers s t os agree h = h
 effect_over (OfExit lane id) numbers s t os agree h =
     let back = agree_sym numbers s t agree in
     record { there = λ o. h.there (open_alike numbers t s (number_of id) back o); gone = λ n. h.gone (not_open_alike numbers t s (number_of id) back n) }
 effect_over (OfDrop lane id closes) numbers s t os agree h = record { closed = h.closed; exact = closes_alike numbers s t (number_of id) h.closed agree h.exact; outcomes = h.outcomes; itself = h.itself }
+effect_over other numbers s t os agree h = h
 
 -- what the registry's laws say: a span is in the store while it is open or closing, and never both; and what a drop closes is one list
 abbrev pub InStoreWhile : Type 0
@@ -266,14 +264,11 @@ module _ {S : Type 0} (registry : S → RegistryState) (with_registry : S → Re
   pub run_calls : (past : List Answer) (rs : List Request) (answers : List Answer) (made : List (List OutcomeAt)) (x y : S) (numbers : FilterSet) → Run registry with_registry has_form stepped levelled past rs answers made x y
       → OutcomesFrom (registry x).store (made_calls numbers past rs answers) (filter (concerns numbers) (map outcome_of (flat made)))
   run_calls past [] [] [] x y numbers h = refl
-  run_calls past [] [] (m ∷ made) x y numbers h = absurd h
-  run_calls past [] (b ∷ answers) made x y numbers h = absurd h
-  run_calls past (q ∷ rs) [] made x y numbers h = absurd h
-  run_calls past (q ∷ rs) (b ∷ answers) [] x y numbers h = absurd h
   run_calls past (q ∷ rs) (b ∷ answers) (ms ∷ made) x y numbers h =
       let rest = run_calls (past ++ (b ∷ [])) rs answers made h.0 y numbers h.2 in
       subst (λ (os : List Outcome). OutcomesFrom (registry x).store (made_calls numbers past (q ∷ rs) (b ∷ answers)) (filter (concerns numbers) os)) (sym (map-append outcome_of ms (flat made)))
       (asked_calls numbers (call_of past q) x b ms h.0 (map outcome_of (flat made)) (made_calls numbers (past ++ (b ∷ [])) rs answers) h.1 rest)
+  run_calls past other rest made x y numbers h = absurd h
 
 -- ---- what a leaf sees of calls
 

@@ -79,11 +79,8 @@ module _ {S : Type 0} (registry : S → RegistryState) (with_registry : S → Re
   pub runs_by : (past : List Answer) (rs : List Request) (answers : List Answer) (made : List (List OutcomeAt)) (memory : KeptCallsites) (f : Form) (x : S) (after : KeptCallsites) (y : S) → Stays x f → RunExactly registry with_registry has_form stepped levelled past rs answers made memory x after y
       → (g : Form) × Stays y g × RunExactly registry_in with_registry_in has_this steps_in levels_in past rs answers made memory (registry x, f) after (registry y, g)
   runs_by past [] [] [] memory f x after y stays h = (f, subst (λ z. Stays z f) (sym h.1) stays, (h.0, ap (λ z. (registry z, f)) h.1))
-  runs_by past [] [] (m ∷ made) memory f x after y stays h = absurd h
-  runs_by past [] (b ∷ answers) made memory f x after y stays h = absurd h
-  runs_by past (q ∷ rs) [] made memory f x after y stays h = absurd h
-  runs_by past (q ∷ rs) (b ∷ answers) [] memory f x after y stays h = absurd h
   runs_by past (q ∷ rs) (b ∷ answers) (ms ∷ made) memory f x after y stays h =
       let one = asked_in (call_of past q) memory f x b ms h.0 h.1 stays h.2 in
       let rest = runs_by (past ++ (b ∷ [])) rs answers made h.0 one.0 h.1 after y one.1 h.3 in
       (rest.0, rest.1, (h.0, (registry h.1, one.0), one.2, rest.2))
+  runs_by past other rest made memory f x after y stays h = absurd h

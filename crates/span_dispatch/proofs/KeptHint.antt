@@ -42,14 +42,12 @@ yes_refused (Ok b) P e same h = absurd (cc)
 yes_refused (Err x) P e same h = let it : x ≡ e = cc in subst P it h
 
 span_kept : (given : Result (Option Id) TraceError) (P : Type 0) (a : Answer) → a ≡ span_answer given → OnOk given P → IsNoRefusal a → P
-span_kept (Ok None) P a same h n = h
-span_kept (Ok (Some id)) P a same h n = h
 span_kept (Err x) P a same h n = absurd (subst IsNoRefusal same n)
+span_kept other rest a same h n = h
 
 event_kept : (given : Result Bool TraceError) (P : Type 0) (a : Answer) → a ≡ event_answer given → OnOk given P → IsNoRefusal a → P
-event_kept (Ok true) P a same h n = h
-event_kept (Ok false) P a same h n = h
 event_kept (Err x) P a same h n = absurd (subst IsNoRefusal same n)
+event_kept other rest a same h n = h
 
 yes_kept : (given : Result Bool TraceError) (P : Type 0) (a : Answer) → a ≡ yes_answer given → OnOk given P → IsNoRefusal a → P
 yes_kept (Ok b) P a same h n = h
@@ -136,10 +134,9 @@ module _ {S : Type 0} (registry : S → RegistryState) where
   all_more : (past : List Answer) (rs : List Request) (answers : List Answer) (old between : Dispatch S) (r : Request) (a : Answer) (new : Dispatch S) → AllGoByKept registry past rs answers old between → RequestGoesByKept registry (past ++ answers) r a between new
       → AllGoByKept registry past (rs ++ (r ∷ [])) (answers ++ (a ∷ [])) old new
   all_more past [] [] old between r a new h s = (new, subst (λ p. RequestGoesByKept registry p r a old new) (append-nil past) (subst (λ d. RequestGoesByKept registry (past ++ []) r a d new) h s), refl)
-  all_more past [] (b ∷ answers) old between r a new h s = absurd h
-  all_more past (q ∷ rs) [] old between r a new h s = absurd h
   all_more past (q ∷ rs) (b ∷ answers) old between r a new h s =
       (h.0, h.1, all_more (past ++ (b ∷ [])) rs answers h.0 between r a new h.2 (subst (λ p. RequestGoesByKept registry p r a between new) (sym (append_assoc past (b ∷ []) answers)) s))
+  all_more past other rest old between r a new h s = absurd h
 
   pub one_goes : (first now next : Dispatch S) (done all : List Request) (past answers after : List Answer) (a : Answer) (r : Request) → AllGoByKept registry [] done answers first now → past ≡ answers → after ≡ answers ++ (a ∷ []) → all ≡ done ++ (r ∷ [])
       → RequestGoesByKept registry past r a now next → AllGoByKept registry [] all after first next

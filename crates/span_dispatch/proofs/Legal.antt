@@ -37,17 +37,13 @@ module _ (closed_once : (m : Spans) (x : ℕ) (xs ys : List ℕ) → Closes m x 
 
   happens_once : (e : Entry) (s t u : Store) → Happens s e t → Happens s e u → t ≡ u
   happens_once (entry.New lane m asked verdict id) s t u a b = opened_once lane (record { metadata = m; parent = asked; verdict = verdict }) id s t u a b
-  happens_once (entry.Unmade lane m) s t u a b = a ∙ sym b
-  happens_once (entry.Event lane m asked made) s t u a b = a ∙ sym b
-  happens_once (entry.Probe lane m said) s t u a b = a ∙ sym b
   happens_once (entry.Enter lane id) s t u a b = a.1 ∙ sym b.1
-  happens_once (entry.Exit lane id) s t u a b = a ∙ sym b
   happens_once (entry.Record lane id) s t u a b = a.1 ∙ sym b.1
   happens_once (entry.Follows lane id other) s t u a b = a.1 ∙ sym b.1
   happens_once (entry.Clone lane id) s t u a b = a.1 ∙ sym b.1
   happens_once (entry.Drop lane id closes) s t u a b = dropped_once id closes s t u a b
-  happens_once (entry.Level lane number level) s t u a b = a ∙ sym b
   happens_once (entry.Current lane o) s t u a b = a.1 ∙ sym b.1
+  happens_once other s t u a b = a ∙ sym b
 
   -- so a list of entries leaves one store
   pub leaves_once : (es : List Entry) (s t u : Store) → FoldsTo Happens s es t → FoldsTo Happens s es u → t ≡ u

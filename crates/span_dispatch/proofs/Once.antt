@@ -4,21 +4,25 @@ use Rattle.std.proofs.lemmas.Bool.{true≢false, or_right}
 use Rattle.std.specs.Cmp.{nat_cmp_total}
 use Rattle.std.specs.FinMap.{get, insert, remove}
 use Rattle.std.specs.FinSet.{contains, contains-insert}
-use Rattle.std.specs.List.{FoldsTo}
+use Rattle.std.specs.List.{flat_map, FoldsTo}
 use Rattle.std.specs.Ordering.{eq_by_cmp, nat_cmp}
 use Rattle.span_core.specs.Span.{number_of}
 use Rattle.span_core.specs.declared.span.Id.{Id}
 use Rattle.span_core.specs.declared.span.Lane.{Lane}
 use Rattle.span_dispatch.specs.Outcome.{GoneLeft, HandleAdded, HandleTaken, LevelSet, OutcomeAt, Makes, Noticed, Opened, Outcome, Quiet, Steps}
 use Rattle.span_core.specs.declared.span.Attributes.{Attributes}
-use Rattle.span_dispatch.specs.Serve.{StandOnce, closed_by, closed_in}
+use Rattle.span_dispatch.specs.Serve.{StandOnce, closed_by}
 use Rattle.span_registry.proofs.Chains.{get_beside, get_kept, get_removed, same_test, test_same}
-use Rattle.span_registry.specs.Behaviour.{OnClose, OnEnter, OnEvent, OnExit, OnFollows, OnIdChange, OnNewSpan, OnRecord}
+use Rattle.span_registry.specs.Behaviour.{OnClose, OnEnter, OnEvent, OnExit, OnIdChange, OnNewSpan}
 use Rattle.span_registry.specs.Closes.{Member}
 use Rattle.span_registry.specs.Form.{Form}
 use Rattle.span_registry.specs.Hooks.{StackSteps}
 use Rattle.span_registry.specs.Levels.{LevelSteps}
 use Rattle.span_registry.specs.Store.{AreIssued, IsInStore, RegistryState, Span, Spans, Store, with_handles}
+
+-- the spans that close by what was made, in order
+abbrev pub closed_in : List OutcomeAt → List ℕ
+closed_in made = flat_map (λ m. closed_by m.outcome) made
 
 -- from one store to the next: issued ids stay issued, one that isn't in the store stays out of it, and all in it are issued
 pub record Onward (s t : Store) : Type 0 where
@@ -89,8 +93,6 @@ removed_back m x c h = by_test (eq_by_cmp nat_cmp c x) refl
 
 onward_steps : (f : Form) (o : Outcome) (s t : Store) → Steps f o s t → Onward s t
 onward_steps f (Noticed lane (OnNewSpan attrs id)) s t b = onward_opened f lane attrs id s t b
-onward_steps f (Noticed lane (OnRecord id values)) s t b = store_same s t b.1
-onward_steps f (Noticed lane (OnFollows id other)) s t b = store_same s t b.1
 onward_steps f (Noticed lane (OnEvent e)) s t b = store_same s t b
 onward_steps f (Noticed lane (OnEnter id)) s t b = onward_same s t (ap (λ (r : Store). r.issued) b.1) (ap (λ (r : Store). r.spans) b.1)
 onward_steps f (Noticed lane (OnExit id)) s t b = onward_same s t (ap (λ (r : Store). r.issued) b.1) (ap (λ (r : Store). r.spans) b.1)
@@ -103,6 +105,7 @@ onward_steps f (Quiet (HandleTaken id)) s t b =
     onward_shrinks s t (ap (λ (r : Store). r.issued) b.1) (λ y h. handles_back _ s.spans (number_of id) y (get s.spans (number_of id)) refl (subst (λ (m : Spans). IsInStore m y) (ap (λ (r : Store). r.spans) b.1) h))
 onward_steps f (Quiet (GoneLeft lane id)) s t b = onward_same s t (ap (λ (r : Store). r.issued) b.1) (ap (λ (r : Store). r.spans) b.1)
 onward_steps f (LevelSet n l) s t b = store_same s t b
+onward_steps f other s t b = store_same s t b.1
 
 -- ---- lists of closes
 
@@ -113,16 +116,8 @@ member_split (x ∷ xs) ys c (inr h) = elim (member_split xs ys c h) [ inl a ↦
 
 -- at most one span closes by an outcome
 closes_join : (o : Outcome) (ys : List ℕ) → StandOnce ys → ((c : ℕ) → Member c (closed_by o) → Member c ys → ⊥) → StandOnce (closed_by o ++ ys)
-closes_join (Noticed lane (OnNewSpan attrs id)) ys h k = h
-closes_join (Noticed lane (OnRecord id values)) ys h k = h
-closes_join (Noticed lane (OnFollows id other)) ys h k = h
-closes_join (Noticed lane (OnEvent e)) ys h k = h
-closes_join (Noticed lane (OnEnter id)) ys h k = h
-closes_join (Noticed lane (OnExit id)) ys h k = h
-closes_join (Noticed lane (OnIdChange id other)) ys h k = h
 closes_join (Noticed lane (OnClose id)) ys h k = (k (number_of id) (inl refl), h)
-closes_join (Quiet c) ys h k = h
-closes_join (LevelSet n l) ys h k = h
+closes_join other ys h k = h
 
 module _ {S : Type 0} (registry : S → RegistryState) (with_registry : S → RegistryState → S) (has_form : S → Form → Type 0) (stepped : StackSteps S) (levelled : LevelSteps S) where
   onward_on : (x : S) (m : OutcomeAt) (y : S) → Makes registry with_registry has_form stepped levelled x m y → Onward (registry x).store (registry y).store
@@ -132,21 +127,13 @@ module _ {S : Type 0} (registry : S → RegistryState) (with_registry : S → Re
 
   -- what closes by an outcome was in the store, and isn't any more
   closing_step : (f : Form) (o : Outcome) (s t : Store) (c : ℕ) → Steps f o s t → Member c (closed_by o) → IsInStore s.spans c × (IsInStore t.spans c → ⊥)
-  closing_step f (Noticed lane (OnNewSpan attrs id)) s t c g h = absurd h
-  closing_step f (Noticed lane (OnRecord id values)) s t c g h = absurd h
-  closing_step f (Noticed lane (OnFollows id other)) s t c g h = absurd h
-  closing_step f (Noticed lane (OnEvent e)) s t c g h = absurd h
-  closing_step f (Noticed lane (OnEnter id)) s t c g h = absurd h
-  closing_step f (Noticed lane (OnExit id)) s t c g h = absurd h
-  closing_step f (Noticed lane (OnIdChange id other)) s t c g h = absurd h
-  closing_step f (Quiet k) s t c g h = absurd h
-  closing_step f (LevelSet n l) s t c g h = absurd h
   closing_step f (Noticed lane (OnClose id)) s t c g (inr h) = absurd h
   closing_step f (Noticed lane (OnClose id)) s t c g (inl e) =
       let gone : get t.spans (number_of id) ≡ None = ap (λ (u : Store). get u.spans (number_of id)) g.1 ∙ get_removed s.spans (number_of id) in (
         subst (IsInStore s.spans) (sym e) (g.0.0, g.0.1),
         λ h. let there : Some h.0 ≡ None = sym h.1 ∙ ap (get t.spans) e ∙ gone in let no : ⊥ = cc in no,
       )
+  closing_step f other s t c g h = absurd h
 
   closing_on : (x : S) (m : OutcomeAt) (y : S) (c : ℕ) → Makes registry with_registry has_form stepped levelled x m y → Member c (closed_by m.outcome) → IsInStore (registry x).store.spans c × (IsInStore (registry y).store.spans c → ⊥)
   closing_on x m y c h k =

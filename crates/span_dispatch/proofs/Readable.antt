@@ -2,7 +2,7 @@
 use Rattle.std.proofs.Common.{◌≡◌, ℕ, ◌<◌, Bool, true, false, ◌&&◌, ◌||◌, ◌==◌, not, IsTrue, List, [], ◌∷◌, ◌++◌, Option, Some, None, if◌then◌else◌, refl, sym, ap, subst, ◌∙◌, inl, inr}
 use Rattle.std.proofs.lemmas.Bool.{and_parts, both_ways, eq-eqb, eqb-true, false≢true, false_from_ne_true, or_cases, or_left, or_right}
 use Rattle.std.specs.FinMap.{get, insert}
-use Rattle.std.specs.List.{FoldsTo}
+use Rattle.std.specs.List.{AllByRecursion, FoldsTo}
 use Rattle.std.specs.Option.{option_map_or}
 use Rattle.span_core.proofs.SomeBelow.{some_below-found, some_below-none}
 use Rattle.span_core.specs.Filters.{FilterSet, meets, refuses, union}
@@ -15,7 +15,7 @@ use Rattle.span_dispatch.proofs.Alone.{no_verdict, on_path, verdict_of_path}
 use Rattle.span_dispatch.proofs.Seen.{beneath, some_path}
 use Rattle.span_dispatch.specs.Alone.{form_of_path, passed, passed_at}
 use Rattle.span_dispatch.specs.Outcome.{LevelSet, OutcomeAt, Makes, Noticed, Outcome, Quiet, Steps, given_in}
-use Rattle.span_dispatch.specs.Readable.{ClosesAsItOpened, ShowTheirSpans, ShowsItsSpan}
+use Rattle.span_dispatch.specs.Readable.{ClosesAsItOpened, ShowsItsSpan}
 use Rattle.span_layers.specs.Verdict.{AreDistinct, in_verdict, numbers_of}
 use Rattle.span_registry.proofs.Chains.{get_put}
 use Rattle.span_registry.proofs.Plain.{shown_as_passed}
@@ -31,14 +31,14 @@ use Rattle.span_registry.specs.Step.{begun}
 use Rattle.span_registry.specs.Store.{RegistryState, Span, Spans, Store}
 use Rattle.span_registry.specs.View.{is_shown, plain_view, view_of}
 
+-- whoever is told these can read their spans
+abbrev pub ShowTheirSpans : Heard → Type 0
+ShowTheirSpans heard = AllByRecursion ShowsItsSpan heard
+
 -- ---- the filters of a path
 
 path_distinct : (f : Form) (position : Position) (path : Path) → AreDistinct f → path_at f position ≡ Some path → AreDistinct (form_of_path path)
 path_distinct (Leaf still a) Here path d h = subst (λ (p : Path). AreDistinct (form_of_path p)) (some_path [] path h) tt
-path_distinct (Leaf still a) (Under p) path d h = absurd (cc)
-path_distinct (Leaf still a) (Outer p) path d h = absurd (cc)
-path_distinct (Leaf still a) (Inner p) path d h = absurd (cc)
-path_distinct (Terminal v) p path d h = absurd (cc)
 path_distinct (Filtered None a f) Here path d h = subst (λ (p : Path). AreDistinct (form_of_path p)) (some_path ((None, a) ∷ []) path h) tt
 path_distinct (Filtered (Some n) a f) Here path d h = subst (λ (p : Path). AreDistinct (form_of_path p)) (some_path ((Some n, a) ∷ []) path h) (refl, tt)
 path_distinct (Filtered None a f) (Under p) path d h =
@@ -47,12 +47,9 @@ path_distinct (Filtered (Some n) a f) (Under p) path d h =
     let rest = beneath (Some n) a (path_at f p) path h in
     let other : numbers_of (form_of_path rest.0) n ≡ false = false_from_ne_true (numbers_of (form_of_path rest.0) n) (λ x. both_ways (numbers_of f n) d.0 (on_path f p rest.0 n rest.1 x)) in
     subst (λ (r : Path). AreDistinct (form_of_path r)) rest.2 (other, path_distinct f p rest.0 d.1 rest.1)
-path_distinct (Filtered n a f) (Outer p) path d h = absurd (cc)
-path_distinct (Filtered n a f) (Inner p) path d h = absurd (cc)
-path_distinct (Parts j o i) Here path d h = absurd (cc)
-path_distinct (Parts j o i) (Under p) path d h = absurd (cc)
 path_distinct (Parts j o i) (Outer p) path d h = path_distinct o p path d.0 h
 path_distinct (Parts j o i) (Inner p) path d h = path_distinct i p path d.1 h
+path_distinct other p path d h = absurd (cc)
 
 -- the mask of a path has its filters, and those that were there
 in_mask : (path : Path) (under : FilterSet) (k : ℕ) → IsTrue (mask_of path under k) → IsTrue (under k || numbers_of (form_of_path path) k)
@@ -69,12 +66,11 @@ in_mask ((Some n, a) ∷ path) under k t =
 
 -- whom a path passes a new span to, no filter of it refuses that
 none_refuses : (path : Path) (attrs : Attributes) (id : Id) (s : Store) (lane : ℕ) (under : FilterSet) (k : ℕ) → passes_path path (OnNewSpan attrs id) s lane under ≡ true → in_verdict (form_of_path path) (metadata_of attrs) s lane under k ≡ false
-none_refuses [] attrs id s lane under k h = refl
-none_refuses ((None, a) ∷ path) attrs id s lane under k h = refl
 none_refuses ((Some n, a) ∷ path) attrs id s lane under k h =
     let set = union under (single n) in
     let both = and_parts (a.enabled (metadata_of attrs) (view_of s lane set)) (passes_path path (OnNewSpan attrs id) s lane set) h in
     ap (λ (b : Bool). if b then in_verdict (form_of_path path) (metadata_of attrs) s lane set k else (k == n)) both.0 ∙ none_refuses path attrs id s lane set k both.1
+none_refuses other attrs id s lane under k h = refl
 
 -- ---- what a mask hides
 

@@ -1,5 +1,5 @@
 -- How a dispatcher stays ready after a call.
-use Rattle.std.proofs.Common.{◌≡◌, ℕ, refl, sym, ap, subst}
+use Rattle.std.proofs.Common.{◌≡◌, ℕ, sym, ap, subst}
 use Rattle.span_dispatch.proofs.Admits.{current_is_safe, safely_again}
 use Rattle.span_dispatch.proofs.Goes.{by_keeping, by_level, ready_again, same_but, stays_same, up_to_date_again}
 use Rattle.span_dispatch.specs.Admission.{KeepsSafely}

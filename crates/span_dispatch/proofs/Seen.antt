@@ -74,22 +74,15 @@ beneath n a (Some rest) path h = (rest, refl, some_path ((n, a) ∷ rest) path h
 -- whoever stands at a position looks under the filters of its path
 mask_on_path : (f : Form) (position : Position) (path : Path) (under : FilterSet) → path_at f position ≡ Some path → mask_at f position under ≡ mask_of path under
 mask_on_path (Leaf still a) Here path under h = ap (λ (r : Path). mask_of r under) (some_path [] path h)
-mask_on_path (Leaf still a) (Under p) path under h = absurd (cc)
-mask_on_path (Leaf still a) (Outer p) path under h = absurd (cc)
-mask_on_path (Leaf still a) (Inner p) path under h = absurd (cc)
-mask_on_path (Terminal v) p path under h = absurd (cc)
 mask_on_path (Filtered None a f) Here path under h = ap (λ (r : Path). mask_of r under) (some_path ((None, a) ∷ []) path h)
 mask_on_path (Filtered (Some n) a f) Here path under h = ap (λ (r : Path). mask_of r under) (some_path ((Some n, a) ∷ []) path h)
 mask_on_path (Filtered None a f) (Under p) path under h =
     let rest = beneath None a (path_at f p) path h in mask_on_path f p rest.0 under rest.1 ∙ ap (λ (r : Path). mask_of r under) rest.2
 mask_on_path (Filtered (Some n) a f) (Under p) path under h =
     let rest = beneath (Some n) a (path_at f p) path h in mask_on_path f p rest.0 (union under (single n)) rest.1 ∙ ap (λ (r : Path). mask_of r under) rest.2
-mask_on_path (Filtered n a f) (Outer p) path under h = absurd (cc)
-mask_on_path (Filtered n a f) (Inner p) path under h = absurd (cc)
-mask_on_path (Parts j o i) Here path under h = absurd (cc)
-mask_on_path (Parts j o i) (Under p) path under h = absurd (cc)
 mask_on_path (Parts j o i) (Outer p) path under h = mask_on_path o p path under h
 mask_on_path (Parts j o i) (Inner p) path under h = mask_on_path i p path under h
+mask_on_path other p path under h = absurd (cc)
 
 -- ---- what is told
 
@@ -152,12 +145,9 @@ module _ {S : Type 0} (registry : S → RegistryState) (with_registry : S → Re
   pub run_folds : (past : List Answer) (rs : List Request) (answers : List Answer) (made : List (List OutcomeAt)) (x y : S) → Run registry with_registry has_form stepped levelled past rs answers made x y
       → FoldsTo (Makes registry with_registry has_form stepped levelled) x (flat made) y
   run_folds past [] [] [] x y h = sym h
-  run_folds past [] [] (m ∷ made) x y h = absurd h
-  run_folds past [] (b ∷ answers) made x y h = absurd h
-  run_folds past (q ∷ rs) [] made x y h = absurd h
-  run_folds past (q ∷ rs) (b ∷ answers) [] x y h = absurd h
   run_folds past (q ∷ rs) (b ∷ answers) (ms ∷ made) x y h =
       folds_append x ms (flat made) h.0 y (asked_folds (call_of past q) x b ms h.0 h.1) (run_folds (past ++ (b ∷ [])) rs answers made h.0 y h.2)
+  run_folds past other rest made x y h = absurd h
 
   -- one that answers exactly so is a run
   asked_told : (o : Option Call) (memory : KeptCallsites) (x : S) (a : Answer) (ms : List OutcomeAt) (after : KeptCallsites) (y : S) → ServesAsked registry with_registry has_form stepped levelled o memory x a ms after y → TellsAsked registry with_registry has_form stepped levelled o x a ms y
@@ -167,8 +157,5 @@ module _ {S : Type 0} (registry : S → RegistryState) (with_registry : S → Re
   pub run_told : (past : List Answer) (rs : List Request) (answers : List Answer) (made : List (List OutcomeAt)) (memory : KeptCallsites) (x : S) (after : KeptCallsites) (y : S) → RunExactly registry with_registry has_form stepped levelled past rs answers made memory x after y
       → Run registry with_registry has_form stepped levelled past rs answers made x y
   run_told past [] [] [] memory x after y h = h.1
-  run_told past [] [] (m ∷ made) memory x after y h = absurd h
-  run_told past [] (b ∷ answers) made memory x after y h = absurd h
-  run_told past (q ∷ rs) [] made memory x after y h = absurd h
-  run_told past (q ∷ rs) (b ∷ answers) [] memory x after y h = absurd h
   run_told past (q ∷ rs) (b ∷ answers) (ms ∷ made) memory x after y h = (h.1, asked_told (call_of past q) memory x b ms h.0 h.1 h.2, run_told (past ++ (b ∷ [])) rs answers made h.0 h.1 after y h.3)
+  run_told past other rest made memory x after y h = absurd h

@@ -18,12 +18,11 @@ use Rattle.span_dispatch.specs.declared.dispatch.Dispatch.{Dispatch}
 use Rattle.span_dispatch.specs.declared.request.Answer.TheVariants as answer
 use Rattle.span_dispatch.specs.declared.request.Answer.{Answer}
 use Rattle.span_dispatch.specs.declared.request.Request.{Request}
-use Rattle.span_registry.specs.Conducts.{ActsAt, StackPathLaws}
+use Rattle.span_registry.specs.Conducts.{StackPathLaws}
 use Rattle.span_registry.specs.Form.{Form}
-use Rattle.span_registry.specs.Hooks.{StackLaws, StackSteps}
-use Rattle.span_registry.specs.Levels.{KeepsRules, LevelLaws, LevelSteps, own_rules, rules_again}
-use Rattle.span_registry.specs.Position.{HearSteps}
-use Rattle.span_registry.specs.Store.{AreIssued, RegistryState}
+use Rattle.span_registry.specs.Hooks.{StackLaws}
+use Rattle.span_registry.specs.Levels.{KeepsRules, LevelLaws, own_rules, rules_again}
+use Rattle.span_registry.specs.Store.{AreIssued}
 
 -- the span that is named
 pub named : {o p : Option Id} {id : Id} → o ≡ p → o ≡ Some id → p ≡ Some id
@@ -74,25 +73,19 @@ module _ {S : Type 0} (s : SubscriberOf S) where
       → RunsTo past rs answers made x y → TellsRequest (past ++ answers) r y a ms z → RunsTo past (rs ++ (r ∷ [])) (answers ++ (a ∷ [])) (made ++ (ms ∷ [])) x z
   tell_more past [] [] [] x y r a ms z h t =
       let here = subst (λ p. TellsRequest p r y a ms z) (append-nil past) t in (z, subst (λ v. TellsRequest past r v a ms z) h here, refl)
-  tell_more past [] [] (m ∷ made) x y r a ms z h t = absurd h
-  tell_more past [] (b ∷ answers) made x y r a ms z h t = absurd h
-  tell_more past (q ∷ rs) [] made x y r a ms z h t = absurd h
-  tell_more past (q ∷ rs) (b ∷ answers) [] x y r a ms z h t = absurd h
   tell_more past (q ∷ rs) (b ∷ answers) (m ∷ made) x y r a ms z h t =
       let rest = subst (λ p. TellsRequest p r y a ms z) (sym (append_assoc past (b ∷ []) answers)) t in (h.0, h.1, tell_more (past ++ (b ∷ [])) rs answers made h.0 y r a ms z h.2 rest)
+  tell_more past other rest made x y r a ms z h t = absurd h
 
   run_more : (past : List Answer) (rs : List Request) (answers : List Answer) (made : List (List OutcomeAt)) (memory : KeptCallsites) (x : S) (between : KeptCallsites) (y : S) (r : Request) (a : Answer) (ms : List OutcomeAt) (after : KeptCallsites) (z : S)
       → RunsExactly past rs answers made memory x between y → AnswersRequest (past ++ answers) r between y a ms after z → RunsExactly past (rs ++ (r ∷ [])) (answers ++ (a ∷ [])) (made ++ (ms ∷ [])) memory x after z
   run_more past [] [] [] memory x between y r a ms after z h t =
       let here = subst (λ p. AnswersRequest p r between y a ms after z) (append-nil past) t in
       (after, z, subst (λ k. AnswersRequest past r k x a ms after z) h.0 (subst (λ v. AnswersRequest past r between v a ms after z) h.1 here), (refl, refl))
-  run_more past [] [] (m ∷ made) memory x between y r a ms after z h t = absurd h
-  run_more past [] (b ∷ answers) made memory x between y r a ms after z h t = absurd h
-  run_more past (q ∷ rs) [] made memory x between y r a ms after z h t = absurd h
-  run_more past (q ∷ rs) (b ∷ answers) [] memory x between y r a ms after z h t = absurd h
   run_more past (q ∷ rs) (b ∷ answers) (m ∷ made) memory x between y r a ms after z h t =
       let rest = subst (λ p. AnswersRequest p r between y a ms after z) (sym (append_assoc past (b ∷ []) answers)) t in
       (h.0, h.1, h.2, run_more (past ++ (b ∷ [])) rs answers made h.0 h.1 between y r a ms after z h.3 rest)
+  run_more past other rest made memory x between y r a ms after z h t = absurd h
 
   -- these requests were told so far
   pub record ToldSoFar (f : Form) (first now : Dispatch S) (done : List Request) (answers : List Answer) : Type 0 where

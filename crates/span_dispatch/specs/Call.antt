@@ -17,11 +17,11 @@ use Rattle.span_core.specs.declared.span.Parent.{Parent}
 use Rattle.span_core.specs.declared.span.Record.{Record}
 use Rattle.span_dispatch.specs.Admission.{IsDropped, IsAccepted, IsUnknown, Learns, LearnsOfSpan}
 use Rattle.span_dispatch.specs.Cache.{KeptCallsites, no_callsite}
-use Rattle.span_dispatch.specs.Outcome.{HandleAdded, HandleTaken, GoneLeft, LevelSet, Noticed, Outcome, Quiet}
+use Rattle.span_dispatch.specs.Outcome.{HandleTaken, GoneLeft, Noticed, Outcome, Quiet}
 use Rattle.span_dispatch.specs.declared.request.Answer.TheVariants as answer
 use Rattle.span_dispatch.specs.declared.request.Answer.{Answer}
 use Rattle.span_layers.specs.Verdict.{vetoes, vetoes_event}
-use Rattle.span_registry.specs.Behaviour.{OnClose, OnEnter, OnEvent, OnExit, OnFollows, OnNewSpan, OnRecord}
+use Rattle.span_registry.specs.Behaviour.{OnClose, OnExit}
 use Rattle.span_registry.specs.Closes.{AreUnheld, Member}
 use Rattle.span_registry.specs.Form.{Form}
 use Rattle.span_registry.specs.Levels.{takes_level}

@@ -15,7 +15,7 @@ use Rattle.span_registry.specs.Position.{Heard}
 use Rattle.span_registry.specs.Store.{Store}
 
 -- what comes of a call that was answered so, on a store: nothing of what was dropped or refused, of probes and of looks
--- at the current span; no call is answered as another kind of call is
+-- at the current span; no call gets the answer of another kind of call, dropped and refused aside
 abbrev pub OutcomesOf : Call → Answer → Store → List Outcome → Type 0
 OutcomesOf (OpenSpan lane a) (answer.Made id) s os = os ≡ Noticed lane (OnNewSpan a id) ∷ []
 OutcomesOf (SendEvent lane e) answer.Done s os = os ≡ Noticed lane (OnEvent e) ∷ []

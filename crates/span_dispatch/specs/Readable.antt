@@ -1,6 +1,5 @@
 -- What a leaf is told of it can read: its own context shows the span that the notice is of; and it is told of a span's close where it was told of the span.
 use Rattle.std.specs.Prelude.{◌≡◌, ℕ, ◌<◌, true, Some, IfSome}
-use Rattle.std.specs.List.{AllByRecursion}
 use Rattle.std.specs.FinMap.{get}
 use Rattle.span_core.specs.Span.{metadata_of, number_of}
 use Rattle.span_core.specs.declared.filter.TheConstants.FilterId.{LIMIT}
@@ -14,7 +13,7 @@ use Rattle.span_registry.specs.Form.{Form}
 use Rattle.span_registry.specs.Hooks.{no_filter}
 use Rattle.span_registry.specs.Levels.{KeepsRules}
 use Rattle.span_registry.specs.Path.{Path, passes_path, path_at}
-use Rattle.span_registry.specs.Position.{Heard, Position, Told}
+use Rattle.span_registry.specs.Position.{Position, Told}
 use Rattle.span_registry.specs.Store.{Span, Store}
 use Rattle.span_registry.specs.View.{is_shown}
 
@@ -22,10 +21,6 @@ use Rattle.span_registry.specs.View.{is_shown}
 abbrev pub ShowsItsSpan : Told → Type 0
 ShowsItsSpan told =
     IfSome (span_in told.notice) (λ id. is_shown told.view.spans (number_of id) ≡ true)
-
--- so it is of all that a leaf hears: also a span that closes can still be read
-abbrev pub ShowTheirSpans : Heard → Type 0
-ShowTheirSpans heard = AllByRecursion ShowsItsSpan heard
 
 -- a span of these metadata opened under a form, whose verdict that is; where the form's filters kept their numbers, a path passes the span's close exactly if it passed the span
 abbrev pub ClosesAsItOpened : Type 0

@@ -1,5 +1,5 @@
 -- How a dispatcher serves a call, and a list of requests.
-use Rattle.std.specs.Prelude.{◌≡◌, ◌⊎◌, ⊤, ℕ, List, [], ◌∷◌, ◌++◌, map, true, if◌then◌else◌, Option, Some, None, slice_get}
+use Rattle.std.specs.Prelude.{◌≡◌, ◌⊎◌, ⊤, ℕ, List, [], ◌∷◌, ◌++◌, map, true, false, if◌then◌else◌, Option, Some, None, slice_get}
 use Rattle.std.specs.List.{AllByRecursion, FoldsTo, flat_map}
 use Rattle.std.specs.Option.{option_and_then, option_map, option_map_or}
 use Rattle.span_core.specs.Event.{event_metadata, event_of}
@@ -121,25 +121,19 @@ abbrev pub closed_by : Outcome → List ℕ
 closed_by (Noticed lane (OnClose id)) = number_of id ∷ []
 closed_by other = []
 
--- the spans that a run closes, in order
-abbrev pub closed_in : List OutcomeAt → List ℕ
-closed_in made = flat_map (λ m. closed_by m.outcome) made
-
 -- if this is a close, it is given while its span is in the store, with neither a handle nor a child left there
 abbrev pub IsReadableClose : Store → Outcome → Type 0
 IsReadableClose s (Noticed lane (OnClose id)) = IsClosing s.spans (number_of id)
 IsReadableClose s other = ⊤
 
--- each close is: so a child closes before its parent, and what closes can still be read
-abbrev pub AreReadableCloses : List OutcomeAt → Type 0
-AreReadableCloses made = AllByRecursion (λ m. IsReadableClose m.before m.outcome) made
-
--- nobody would have been notified of the new span, or the event, that a call asks for: a leaf vetoes it, or no path passes it
-abbrev pub IsUnwantedCall : Call → Form → Store → Type 0
-IsUnwantedCall (OpenSpan lane a) f s = IsUnwanted f (metadata_of a) s lane.0
-IsUnwantedCall (SendEvent lane e) f s =
+-- what was dropped or denied nobody would be notified of: a new span or an event that is dropped, or that a probe answers no for, is vetoed by a leaf or passes no path; and no other call is dropped
+abbrev pub LosesNothing : Call → Answer → Form → Store → Type 0
+LosesNothing (OpenSpan lane a) answer.Dropped f s = IsUnwanted f (metadata_of a) s lane.0
+LosesNothing (SendEvent lane e) answer.Dropped f s =
     IsUnwanted f (event_metadata e) s lane.0 ⊎ (vetoes_event f e s lane.0 ≡ true)
-IsUnwantedCall call f s = ⊥
+LosesNothing (Probe lane m) (answer.Yes false) f s = IsUnwanted f m s lane.0
+LosesNothing call answer.Dropped f s = ⊥
+LosesNothing call a f s = ⊤
 
 -- none of them stands twice
 abbrev pub StandOnce : List ℕ → Type 0
@@ -150,23 +144,13 @@ StandOnce (x ∷ xs) = ¬ (Member x xs) × StandOnce xs
 abbrev pub flat : List (List OutcomeAt) → List OutcomeAt
 flat made = flat_map (λ ms. ms) made
 
--- the leaf at each position went through what it sees of what was made
-abbrev pub EachSees : {S : Type 0} → HearSteps S → S → List OutcomeAt → S → Type 0
-EachSees hears x made y = (position : Position) → hears x position (passed_at position made) y
-
--- where only plain filters stand round a leaf, what it sees of what was made is what it would see if it stood alone, on any store that differs in extensions and other filters' verdicts alone
-abbrev pub EachSeesAlone : {S : Type 0} → (S → RegistryState) → ActsAt S → S → List OutcomeAt
-    → Type 0
-EachSeesAlone registry acts_at x made =
-    (position : Position) (cs : Conducts) (s : Store) → acts_at x position cs
-    → AgreeAt (numbers_in cs) (registry x).store s
-    → Alone cs s (map outcome_of made) (passed_at position made)
-
--- both
+-- each leaf went through what it sees of what was made; and where only plain filters stand round it, that is what it would see if it stood alone, on any store that differs in extensions and other filters' verdicts alone
 pub record Sees {S : Type 0} (registry : S → RegistryState) (hears : HearSteps S)
     (acts_at : ActsAt S) (x : S) (made : List OutcomeAt) (y : S) : Type 0 where
-  pub each : EachSees hears x made y
-  pub alone : EachSeesAlone registry acts_at x made
+  pub each : (position : Position) → hears x position (passed_at position made) y
+  pub alone : (position : Position) (cs : Conducts) (s : Store) → acts_at x position cs
+      → AgreeAt (numbers_in cs) (registry x).store s
+      → Alone cs s (map outcome_of made) (passed_at position made)
 
 -- a stack of this form on this registry answers a call so, where these callsites are kept, and then these are
 pub record AnswersExactly (call : Call) (f : Form) (kept : KeptCallsites) (s : RegistryState)
@@ -187,12 +171,12 @@ module _ {S : Type 0} (registry : S → RegistryState) (with_registry : S → Re
     pub stack : IsReady f (stack_of d)
     pub kept : Kept f (registry (stack_of d)).filters d.cache
 
-  -- of a call that was answered so this was made, as its answer says, and the stack went through it; where it was dropped nobody would have been told
+  -- of a call that was answered so this was made, as its answer says, and the stack went through it; where it was dropped or denied nobody would have been notified
   pub record Tells (call : Call) (f : Form) (x : S) (a : Answer) (made : List OutcomeAt)
       (y : S) : Type 0 where
     pub says : OutcomesOf call a (registry x).store (map (λ m. m.outcome) made)
     pub goes : FoldsTo (Makes registry with_registry has_form stepped levelled) x made y
-    pub loses : a ≡ answer.Dropped → IsUnwantedCall call f (registry x).store
+    pub loses : LosesNothing call a f (registry x).store
 
   -- something was made so of a call
   abbrev pub IsTold : Call → Form → Answer → S → S → Type 0
@@ -256,7 +240,7 @@ module _ {S : Type 0} (registry : S → RegistryState) (with_registry : S → Re
       (answers : List Answer) (old new : S) : Type 0 where
     -- there is one list of what was made of each request, on any lanes
     pub made : List (List OutcomeAt)
-    -- made is what their answers say, and of a request that hint or kept interest dropped no layer would have been notified
+    -- made is what their answers say, and of what was dropped or denied no layer would have been notified
     pub run : Run [] requests answers made old new
     -- each layer is notified, in order, of exactly the made requests that its own path's filters pass when asked afresh
     pub each : (position : Position) → hears old position (passed_at position (flat made)) new

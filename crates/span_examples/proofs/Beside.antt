@@ -1,5 +1,5 @@
 -- A recorder under a level, on a registry alone and beside another: what it sees is the same.
-use Rattle.std.proofs.Common.{◌<◌, ◌==◌, ◌||◌, arith, nat_lt, ◌≡◌, ◌∙◌, ◌+◌, ◌≤◌, Bool, true, false, List, [], ◌∷◌, Some, ap, map, refl, subst, sym, ℕ}
+use Rattle.std.proofs.Common.{inr, ◌<◌, ◌==◌, ◌||◌, arith, nat_lt, ◌≡◌, ◌∙◌, ◌+◌, ◌≤◌, Bool, true, false, List, [], ◌∷◌, Some, ap, map, refl, subst, sym, ℕ}
 use Rattle.std.proofs.lemmas.Bool.{false≢true}
 use Rattle.std.specs.Prelude.{⊤}
 use Rattle.span_core.specs.declared.filter.TheConstants.FilterId.{LIMIT}
@@ -23,7 +23,8 @@ use Rattle.span_layers.specs.Layer.{HearsBy, LayerSteps}
 use Rattle.span_layers.specs.Layered.{inner_of, outer_of, with_inner}
 use Rattle.span_layers.specs.Number.{TakesNumbers, filters_in}
 use Rattle.span_layers.specs.Observe.{open_answers}
-use Rattle.span_layers.specs.Stands.{IsHonestLayer, Stands, another, base_form, bare_hears, bare_steps, filtered_acts, filtered_form, filtered_hears, filtered_levels, filtered_steps, itself, registry_on, stack_acts, stack_form, stack_hears, stack_levels, stack_steps}
+use Rattle.span_layers.specs.Honest.{IsHonestLayer}
+use Rattle.span_layers.specs.Stands.{Stands, another, base_form, bare_hears, bare_steps, filtered_acts, filtered_form, filtered_hears, filtered_levels, filtered_steps, itself, registry_on, stack_acts, stack_form, stack_hears, stack_levels, stack_steps}
 use Rattle.span_layers.specs.Verdict.{NumbersStayOwn}
 use Rattle.span_layers.specs.declared.filtered.Filtered.{Filtered as FilteredLayer}
 use Rattle.span_layers.specs.declared.layered.Layered.{Layered}
@@ -113,7 +114,7 @@ form_on level n f = Parts OnSubscriber (Filtered (Some n) (level_answers level) 
 
 -- a recorder under a level keeps a stack honest
 level_layer : (level : LevelFilter) → IsHonestLayer (leaf_under (level_answers level))
-level_layer level = record { answers = (level_honest level, open_honest); orderly = open_quiet; still = refl; full = refl }
+level_layer level = inr (level_honest level, (refl, open_honest, λ t. open_quiet))
 
 module _ {I : Type 0} (registry : I → RegistryState) (with_registry : I → RegistryState → I) (has_form : I → Form → Type 0) (shows : (i : I) (w : RegistryState) → registry (with_registry i w) ≡ w) (keeps : (i : I) (w : RegistryState) (f : Form) → has_form i f → has_form (with_registry i w) f) where
   -- what comes of a stack that a recorder under a level was put on

@@ -1,12 +1,11 @@
 -- A layer under a level is put on an honest stack: that stays honest, and the layer's filter takes the next number.
-use Rattle.std.proofs.Common.{◌<◌, arith, nat_lt, ◌≡◌, ◌∙◌, ◌+◌, ◌≤◌, true, Some, ap, refl, subst, sym, ℕ}
+use Rattle.std.proofs.Common.{inr, ◌<◌, arith, nat_lt, ◌≡◌, ◌∙◌, ◌+◌, ◌≤◌, true, Some, ap, refl, subst, sym, ℕ}
 use Rattle.std.proofs.lemmas.Bool.{false≢true}
 use Rattle.span_core.specs.declared.filter.TheConstants.FilterId.{LIMIT}
 use Rattle.span_core.specs.declared.level.LevelFilter.{LevelFilter}
 use Rattle.span_dispatch.specs.Serve.{IsReady}
 use Rattle.span_filters.specs.Filter.{settled_answers}
 use Rattle.span_filters.specs.Level.{level_answers, level_honest}
-use Rattle.span_layers.proofs.Built.{honest_by, rules_of}
 use Rattle.span_layers.specs.Filtered.{FilteredForm, IsNumber, IsUnnumbered, filter_of, id_of, layer_of}
 use Rattle.span_layers.specs.Honest.{IsHonestStack}
 use Rattle.span_layers.specs.Layered.{PartsForm, inner_of, outer_of}
@@ -63,15 +62,7 @@ open_honest : AreHonest open_answers
 open_honest = record { always = λ m v e. refl; never = λ m v e. absurd (cc); above = λ m v e. absurd (false≢true e); alike = λ m k e. refl }
 
 honest_on : (level : LevelFilter) (n : ℕ) (f : Form) → HasOwnNumbers (form_on level n f) (n + 1) → IsHonestStack f n → IsHonestStack (form_on level n f) (n + 1)
-honest_on level n f own h =
-    let rules = rules_of f n h in
-    honest_by (form_on level n f) (n + 1) (record {
-      answers = ((level_honest level, open_honest), rules.answers);
-      numbers = own;
-      orderly = (record { enabled = λ m v. refl; event = λ e v. refl }, rules.orderly);
-      still = (refl, rules.still);
-      stack = rules.stack;
-    })
+honest_on level n f own h = record { numbers = own; built = (inr (level_honest level, (refl, open_honest, λ t. record { enabled = λ m v. refl; event = λ e v. refl })), h.built) }
 
 -- a new registry stands so
 pub bare_stands : (l : Limits) (s : RegistryState) → s ≡ new_registry l → Stands itself bare_form (Terminal Base) 0 s

@@ -1,5 +1,5 @@
 -- A recorder under a level: what it keeps of a list of requests.
-use Rattle.std.proofs.Common.{◌<◌, arith, ◌≡◌, ◌∙◌, Bool, true, false, List, [], ◌∷◌, ◌++◌, None, Some, ap, map, refl, subst, sym, ℕ, ◌+◌, ◌≤◌, ◌&&◌}
+use Rattle.std.proofs.Common.{inr, ◌<◌, arith, ◌≡◌, ◌∙◌, Bool, true, false, List, [], ◌∷◌, ◌++◌, None, Some, ap, map, refl, subst, sym, ℕ, ◌+◌, ◌≤◌, ◌&&◌}
 use Rattle.std.proofs.lemmas.Bool.{false≢true, true≢false}
 use Rattle.std.proofs.lemmas.List.{append-nil, map-append}
 use Rattle.std.specs.Prelude.{if◌then◌else◌, ⊤}
@@ -37,12 +37,12 @@ use Rattle.span_registry.specs.Levels.{LevelSteps, unlevelled}
 use Rattle.span_layers.specs.Filtered.{FilteredSteps, Hooked, IsNumber, IsUnnumbered, filter_of, id_of, layer_of}
 use Rattle.span_layers.proofs.CallerLemmas.{bare_stands, stands_on}
 use Rattle.span_layers.specs.Attach.{Attaches}
-use Rattle.span_layers.specs.Honest.{IsHonestStack}
+use Rattle.span_layers.specs.Honest.{IsHonestLayer, IsHonestStack}
 use Rattle.span_layers.specs.Layer.{HearsBy, LayerSteps}
 use Rattle.span_layers.specs.Layered.{inner_of, outer_of, with_inner}
 use Rattle.span_layers.specs.Number.{TakesNumbers, filters_in}
 use Rattle.span_layers.specs.Observe.{open_answers}
-use Rattle.span_layers.specs.Stands.{IsHonestLayer, another, base_form, bare_hears, bare_steps, filtered_form, filtered_hears, filtered_levels, filtered_steps, itself, stack_form, stack_hears, stack_levels, stack_steps}
+use Rattle.span_layers.specs.Stands.{another, base_form, bare_hears, bare_steps, filtered_form, filtered_hears, filtered_levels, filtered_steps, itself, stack_form, stack_hears, stack_levels, stack_steps}
 use Rattle.span_registry.specs.Path.{path_at}
 use Rattle.span_layers.specs.Verdict.{NumbersStayOwn, vetoes}
 use Rattle.span_layers.specs.declared.filtered.Filtered.{Filtered as FilteredLayer}
@@ -261,7 +261,7 @@ open_honest = record { always = λ m v e. refl; never = λ m v e. absurd (cc); a
 
 -- and so does such a leaf under a level
 level_layer : (level : LevelFilter) → IsHonestLayer (leaf_under (level_answers level))
-level_layer level = record { answers = (level_honest level, open_honest); orderly = record { enabled = λ m v. refl; event = λ e v. refl }; still = refl; full = refl }
+level_layer level = inr (level_honest level, (refl, open_honest, λ t. record { enabled = λ m v. refl; event = λ e v. refl }))
 
 -- it was put on that registry, and took the next number
 pub starts : NumbersStayOwn → (level : LevelFilter) (l : Limits) (s : RegistryState) (recorder : RecorderState) (u : FilteredLayer RecorderState LevelFilter) (x : Recorded) → s ≡ new_registry l → recorder ≡ new_recorder → IsUnnumbered u recorder level

@@ -1,5 +1,5 @@
 -- Honest stacks: that they are ready, and what a recorder in them keeps.
-use Rattle.std.proofs.Common.{arith, ◌≡◌, ◌∙◌, ◌+◌, ◌<◌, ◌≤◌, ℕ, List, [], ◌∷◌, true, Bool, Option, None, Some, Result, Ok, Err, IfOk, ap, map, refl, subst, sym}
+use Rattle.std.proofs.Common.{inl, inr, arith, ◌≡◌, ◌∙◌, ◌+◌, ◌<◌, ◌≤◌, ℕ, List, [], ◌∷◌, true, Bool, Option, None, Some, Result, Ok, Err, IfOk, ap, map, refl, subst, sym}
 use Rattle.std.proofs.lemmas.List.{length-map}
 use Rattle.std.specs.FinMap.{get}
 use Rattle.std.specs.List.{find}
@@ -27,7 +27,7 @@ use Rattle.span_dispatch.specs.Serve.{IsReady, flat, made_calls, stack_of}
 use Rattle.span_dispatch.specs.declared.request.Request.{Request}
 use Rattle.span_layers.proofs.CallerLemmas.{bare_stands, stands_on}
 use Rattle.span_layers.specs.Attach.{Attaches}
-use Rattle.span_layers.specs.Honest.{IsHonestStack}
+use Rattle.span_layers.specs.Honest.{IsBuiltLayer, IsHonestLayer, IsHonestStack}
 use Rattle.span_filters.specs.Closure.{AnswersAll, Computes, GoesByWhatShows, HasTestAnswers, RefusesAbove, TestsBy, interest_under, test_answers, view_answers}
 use Rattle.span_filters.specs.declared.closure.FilterFn.{FilterFn}
 use Rattle.span_filters.specs.Filter.{FilterLaws, FilterSteps}
@@ -36,7 +36,7 @@ use Rattle.span_layers.specs.Layered.{inner_of, outer_of, with_inner}
 use Rattle.span_layers.specs.Members.{ListForm}
 use Rattle.span_layers.specs.Number.{filters_in, numbered}
 use Rattle.span_layers.specs.Observe.{open_answers}
-use Rattle.span_layers.specs.Stands.{IsHonestLayer, Stands, another, base_form, filtered_form, itself, registry_on, stack_form}
+use Rattle.span_layers.specs.Stands.{Stands, another, base_form, filtered_form, itself, registry_on, stack_form}
 use Rattle.span_layers.specs.Verdict.{LeavesRefuseNothing, NumbersStayOwn}
 use Rattle.span_layers.specs.declared.filtered.Filtered.{Filtered as FilteredLayer}
 use Rattle.span_layers.specs.declared.layered.Layered.{Layered}
@@ -71,7 +71,7 @@ pub open_honest : AreHonest open_answers
 open_honest = record { always = λ m v e. refl; never = λ m v e. absurd (cc); above = λ m v e. absurd (false≢true e); alike = λ m k e. refl }
 
 pub open_layer : IsHonestLayer (Leaf true open_answers)
-open_layer = record { answers = open_honest; orderly = tt; still = refl; full = refl }
+open_layer = inr (refl, open_honest, λ t. absurd (false≢true t))
 
 -- so does a layer that is such a leaf
 pub open_fit : {L : Type 0} {has_form : L → Form → Type 0} (x : L) → has_form x (Leaf true open_answers) → IsFit has_form x
@@ -84,11 +84,15 @@ two_open = Parts InList (Leaf true open_answers) (Parts InList (Leaf true open_a
 pub open_quiet : LeavesRefuseNothing (Leaf true open_answers)
 open_quiet = record { enabled = λ m v. refl; event = λ e v. refl }
 
+-- also within a filter or a list
+pub open_within : IsBuiltLayer true (Leaf true open_answers)
+open_within = (refl, open_honest, λ t. open_quiet)
+
 pub two_fit : {L X : Type 0} (has_form : L → Form → Type 0) (items : X → List L) (v : X) (x y : L) → items v ≡ x ∷ y ∷ [] → has_form x (Leaf true open_answers) → has_form y (Leaf true open_answers) → IsFit (λ w. ListForm has_form (items w)) v
 two_fit has_form items v x y e h k = record {
   form = two_open;
   has = subst (λ xs. ListForm has_form xs two_open) (sym e) (refl, h, (refl, k, refl));
-  honest = record { answers = (open_honest, (open_honest, tt)); orderly = (open_quiet, (open_quiet, tt)); still = (refl, (refl, tt)); full = refl };
+  honest = inr (open_within, inr (open_within, inl refl));
   room = omega arith;
 }
 
@@ -171,7 +175,7 @@ module _ {F : Type 0} {has_answers : F → Behaviour → Type 0} {hooked : Filte
   fits = record {
     form = Filtered None answers (Leaf true open_answers);
     has = (unnumbered.id, subst (λ g. has_answers g answers) (sym unnumbered.own) has, refl);
-    honest = record { answers = (laws.honest filter answers has, open_honest); orderly = open_quiet; still = refl; full = refl };
+    honest = inr (laws.honest filter answers has, open_within);
     room = omega arith;
   }
 

@@ -15,7 +15,8 @@ use Rattle.span_dispatch.specs.declared.request.Request.{Request}
 use Rattle.span_layers.specs.Filtered.{layer_of}
 use Rattle.span_layers.specs.Layered.{outer_of}
 use Rattle.span_layers.specs.Number.{filters_in}
-use Rattle.span_layers.specs.Stands.{IsHonestLayer, Stands}
+use Rattle.span_layers.specs.Honest.{IsHonestLayer}
+use Rattle.span_layers.specs.Stands.{Stands}
 use Rattle.span_layers.specs.declared.filtered.Filtered.{Filtered}
 use Rattle.span_layers.specs.declared.layered.Layered.{Layered}
 use Rattle.span_registry.specs.Behaviour.{Behaviour, Conduct, notices_of}

@@ -15,7 +15,7 @@ use Rattle.span_layers.specs.Honest.{IsHonestStack}
 use Rattle.span_registry.specs.Path.{Path, passes_path, path_at}
 use Rattle.span_layers.specs.Verdict.{IsOrderly, LeavesRefuseNothing, vetoes}
 use Rattle.span_layers.specs.Wanted.{HasMetadata, IsWantedByAll, IsWantedByNobody}
-use Rattle.span_registry.specs.Behaviour.{Behaviour, Notice, OnClose, OnEnter, OnEvent, OnExit, OnFollows, OnIdChange, OnNewSpan, OnRecord}
+use Rattle.span_registry.specs.Behaviour.{Behaviour, Notice, OnEvent, OnNewSpan}
 use Rattle.span_registry.specs.Form.{Terminal, Filtered, Form, InList, InPair, Leaf, OnSubscriber, Parts}
 use Rattle.span_registry.specs.Hooks.{no_filter}
 use Rattle.span_registry.specs.Position.{Here, Inner, Outer, Position, Under}
@@ -53,12 +53,7 @@ AllPass (Terminal v) m s l b = ⊤
 refuses_new : (a : Behaviour) (e : Notice) (m : Metadata) (s : Store) (l : ℕ) (b : FilterSet) → HasMetadata e m → a.enabled m (view_of s l b) ≡ false → passes a e s l b ≡ false
 refuses_new a (OnNewSpan t x) m s l b e h = ap (λ z. a.enabled z (view_of s l b)) e ∙ h
 refuses_new a (OnEvent v) m s l b e h = and_left _ _ (ap (λ z. a.enabled z (view_of s l b)) e ∙ h)
-refuses_new a (OnRecord x r) m s l b e h = absurd e
-refuses_new a (OnFollows x y) m s l b e h = absurd e
-refuses_new a (OnEnter x) m s l b e h = absurd e
-refuses_new a (OnExit x) m s l b e h = absurd e
-refuses_new a (OnIdChange x y) m s l b e h = absurd e
-refuses_new a (OnClose x) m s l b e h = absurd e
+refuses_new a other m s l b e h = absurd e
 
 -- the rest of a path that starts with a filter
 data Starts (n : Option ℕ) (a : Behaviour) : Path → Type 0 where
@@ -71,8 +66,7 @@ path_starts n a (Some rest) path e = let same : (n, a) ∷ rest ≡ path = cc in
 starts : (n : Option ℕ) (a : Behaviour) (f : Form) (position : Position) (path : Path) → path_at (Filtered n a f) position ≡ Some path → Starts n a path
 starts n a f Here path e = let same : (n, a) ∷ [] ≡ path = cc in subst (Starts n a) same (StartsSo [])
 starts n a f (Under p) path e = path_starts n a (path_at f p) path e
-starts n a f (Outer p) path e = absurd (cc)
-starts n a f (Inner p) path e = absurd (cc)
+starts n a f other path e = absurd (cc)
 
 unnumbered : (a : Behaviour) (path : Path) (e : Notice) (s : Store) (l : ℕ) (b : FilterSet) → Starts None a path → passes_path path e s l b ≡ false
 unnumbered a path e s l b (StartsSo rest) = refl
@@ -85,11 +79,9 @@ refused_path (Leaf still a) m s l b e position path r h p = absurd r
 refused_path (Filtered None a f) m s l b e position path r h p = unnumbered a path e s l b (starts None a f position path p)
 refused_path (Filtered (Some n) a f) m s l b e position path r h p =
     first_refuses n a path e s l b (refuses_new a e m s l (union b (single n)) h r) (starts (Some n) a f position path p)
-refused_path (Parts k o i) m s l b e Here path r h p = absurd (cc)
-refused_path (Parts k o i) m s l b e (Under q) path r h p = absurd (cc)
 refused_path (Parts k o i) m s l b e (Outer q) path r h p = refused_path o m s l b e q path r.0 h p
 refused_path (Parts k o i) m s l b e (Inner q) path r h p = refused_path i m s l b e q path r.1 h p
-refused_path (Terminal v) m s l b e position path r h p = absurd (cc)
+refused_path other m s l b e position path r h p = absurd (cc)
 
 pub wanted_by_nobody : (f : Form) (m : Metadata) (s : Store) (l : ℕ) → AreRefused f m s l no_filter → IsWantedByNobody f m s l
 wanted_by_nobody f m s l r = λ e position path h p. refused_path f m s l no_filter e position path r h p
@@ -98,9 +90,8 @@ wanted_by_nobody f m s l r = λ e position path h p. refused_path f m s l no_fil
 
 all_vetoes : (f : Form) (m : Metadata) (s : Store) (l : ℕ) → AllPass f m s l no_filter → vetoes f m s l ≡ false
 all_vetoes (Leaf still a) m s l h = ap not h
-all_vetoes (Filtered n a f) m s l h = refl
 all_vetoes (Parts k o i) m s l h = or_from _ _ (all_vetoes o m s l h.0) (all_vetoes i m s l h.1)
-all_vetoes (Terminal v) m s l h = refl
+all_vetoes other m s l h = refl
 
 still_none : (n k : ℕ) → answered no_filter (single n) true k ≡ no_filter k
 still_none n k = by_test (k == n)
@@ -114,14 +105,13 @@ none_answered n = λ i k. still_none n k i
 
 all_asked : (f : Form) (m : Metadata) (s : Store) (l : ℕ) (b : FilterSet) → AllPass f m s l b → asked f m s l b no_filter ≡ (true, no_filter)
 all_asked (Leaf still a) m s l b h = ap (λ c. (c, no_filter)) h
-all_asked (Filtered None a f) m s l b h = refl
 all_asked (Filtered (Some n) a f) m s l b h =
     ap (λ c. if c then asked f m s l (union b (single n)) (answered no_filter (single n) true) else (true, answered no_filter (single n) false)) h.0
     ∙ ap (λ p. asked f m s l (union b (single n)) p) (none_answered n)
     ∙ all_asked f m s l (union b (single n)) h.1
 all_asked (Parts k o i) m s l b h =
     ap (λ (r : Bool × FilterSet). if r.0 then asked i m s l b r.1 else r) (all_asked o m s l b h.0) ∙ all_asked i m s l b h.1
-all_asked (Terminal v) m s l b h = refl
+all_asked other m s l b h = refl
 
 -- each filter of it has a number
 abbrev HasNumbers : Path → Type 0
@@ -146,22 +136,15 @@ all_under n a o t x s l b path h inner (GoesOn rest e) k =
 
 all_path : (f : Form) (t : Attributes) (x : Id) (s : Store) (l : ℕ) (b : FilterSet) (position : Position) (path : Path) → AllPass f (metadata_of t) s l b → path_at f position ≡ Some path → HasNumbers path → passes_path path (OnNewSpan t x) s l b ≡ true
 all_path (Leaf still a) t x s l b Here path h p k = let same : [] ≡ path = cc in subst (λ q. passes_path q (OnNewSpan t x) s l b ≡ true) same refl
-all_path (Leaf still a) t x s l b (Under q) path h p k = absurd (cc)
-all_path (Leaf still a) t x s l b (Outer q) path h p k = absurd (cc)
-all_path (Leaf still a) t x s l b (Inner q) path h p k = absurd (cc)
 all_path (Filtered None a f) t x s l b position path h p k = all_start a path t x s l b (starts None a f position path p) k
 all_path (Filtered (Some n) a f) t x s l b Here path h p k =
     let same : (Some n, a) ∷ [] ≡ path = cc in
     subst (λ q. passes_path q (OnNewSpan t x) s l b ≡ true) same (and_from _ _ h.0 refl)
 all_path (Filtered (Some n) a f) t x s l b (Under q) path h p k =
     all_under n a (path_at f q) t x s l b path h.0 (λ rest e m. all_path f t x s l (union b (single n)) q rest h.1 e m) (path_goes (Some n) a (path_at f q) path p) k
-all_path (Filtered (Some n) a f) t x s l b (Outer q) path h p k = absurd (cc)
-all_path (Filtered (Some n) a f) t x s l b (Inner q) path h p k = absurd (cc)
-all_path (Parts j o i) t x s l b Here path h p k = absurd (cc)
-all_path (Parts j o i) t x s l b (Under q) path h p k = absurd (cc)
 all_path (Parts j o i) t x s l b (Outer q) path h p k = all_path o t x s l b q path h.0 p k
 all_path (Parts j o i) t x s l b (Inner q) path h p k = all_path i t x s l b q path h.1 p k
-all_path (Terminal v) t x s l b position path h p k = absurd (cc)
+all_path other t x s l b position path h p k = absurd (cc)
 
 pub wanted_by_all : (f : Form) (m : Metadata) (s : Store) (l : ℕ) → AllPass f m s l no_filter → IsWantedByAll f m s l
 wanted_by_all f m s l h = record {
@@ -187,12 +170,11 @@ paths_under n a f t x s l b p =
 
 quiet_pass : (f : Form) (t : Attributes) (x : Id) (s : Store) (l : ℕ) (b : FilterSet) → LeavesRefuseNothing f → PathsPass f t x s l b → AllPass f (metadata_of t) s l b
 quiet_pass (Leaf still a) t x s l b q p = q.enabled (metadata_of t) (view_of s l b)
-quiet_pass (Filtered None a f) t x s l b q p = tt
 quiet_pass (Filtered (Some n) a f) t x s l b q p =
     let both = paths_under n a f t x s l b p in
     (both.0, quiet_pass f t x s l (union b (single n)) q both.1)
 quiet_pass (Parts k o i) t x s l b q p = (quiet_pass o t x s l b q.0 (λ position. p (Outer position)), quiet_pass i t x s l b q.1 (λ position. p (Inner position)))
-quiet_pass (Terminal v) t x s l b q p = tt
+quiet_pass other t x s l b q p = tt
 
 passes_unless : (c : Bool) → not c ≡ false → c ≡ true
 passes_unless true e = refl
@@ -200,7 +182,6 @@ passes_unless false e = sym e
 
 orderly_pass : (f : Form) (t : Attributes) (x : Id) (s : Store) (l : ℕ) → IsOrderly f → vetoes f (metadata_of t) s l ≡ false → PathsPass f t x s l no_filter → AllPass f (metadata_of t) s l no_filter
 orderly_pass (Leaf still a) t x s l c v p = passes_unless _ v
-orderly_pass (Filtered None a f) t x s l c v p = tt
 orderly_pass (Filtered (Some n) a f) t x s l c v p =
     let both = paths_under n a f t x s l no_filter p in
     (both.0, quiet_pass f t x s l (union no_filter (single n)) c both.1)
@@ -211,7 +192,7 @@ orderly_pass (Parts InPair o i) t x s l c v p =
     let both = or_parts _ _ v in
     (orderly_pass o t x s l c.0 both.0 (λ position. p (Outer position)), orderly_pass i t x s l c.1 both.1 (λ position. p (Inner position)))
 orderly_pass (Parts InList o i) t x s l c v p = (quiet_pass o t x s l no_filter c.0 (λ position. p (Outer position)), quiet_pass i t x s l no_filter c.1 (λ position. p (Inner position)))
-orderly_pass (Terminal v) t x s l c e p = tt
+orderly_pass other t x s l c v p = tt
 
 -- what all want passes where all are asked, and no filter refuses it
 pub asked_by_all : (f : Form) (filters : ℕ) (m : Metadata) (s : Store) (l : ℕ) → IsHonestStack f filters → IsWantedByAll f m s l → asked f m s l no_filter no_filter ≡ (true, no_filter)

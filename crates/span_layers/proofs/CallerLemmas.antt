@@ -1,5 +1,5 @@
 -- For the proofs of callers: a stack that was asked with a new pass notifies whom the filters let by when they are asked afresh; and an honest layer on an honest stack makes one.
-use Rattle.std.proofs.Common.{◌≡◌, ℕ, ◌+◌, ◌≤◌, nat_lt, ◌&&◌, ◌||◌, Bool, true, false, Some, refl, sym, ap, subst, ◌∙◌}
+use Rattle.std.proofs.Common.{◌≡◌, inl, inr, ℕ, ◌+◌, ◌≤◌, nat_lt, Bool, true, false, Some, refl, sym, ap, subst, ◌∙◌, ⊎_elim}
 use Rattle.std.proofs.lemmas.Bool.{false≢true}
 use Rattle.std.specs.Prelude.{if◌then◌else◌}
 use Rattle.span_core.specs.Event.{event_metadata}
@@ -11,16 +11,15 @@ use Rattle.span_core.specs.declared.metadata.Metadata.{Metadata}
 use Rattle.span_core.specs.declared.pass.Pass.{Pass}
 use Rattle.span_core.specs.declared.span.Attributes.{Attributes}
 use Rattle.span_core.specs.declared.span.Id.{Id}
-use Rattle.span_layers.proofs.Built.{honest_by, rules_of, is_stack}
 use Rattle.span_layers.specs.Attach.{Attaches}
-use Rattle.span_layers.specs.Honest.{HasHonestAnswers, IsHonestStack, both_full, is_full, is_missing}
+use Rattle.span_layers.specs.Honest.{IsBuiltLayer, IsHonestLayer, IsHonestStack}
 use Rattle.span_layers.specs.Layered.{inner_of, outer_of}
 use Rattle.span_layers.specs.Number.{filters_in, numbered}
-use Rattle.span_layers.specs.Stands.{IsHonestLayer, Stands, base_form, itself, registry_on, stack_form}
-use Rattle.span_layers.specs.Verdict.{IsFresh, IsOrderly, LeavesRefuseNothing, NewSpanIsFresh, NumbersStayOwn}
+use Rattle.span_layers.specs.Stands.{Stands, base_form, itself, registry_on, stack_form}
+use Rattle.span_layers.specs.Verdict.{IsFresh, NewSpanIsFresh, NumbersStayOwn}
 use Rattle.span_layers.specs.declared.layered.Layered.{Layered}
 use Rattle.span_registry.specs.Behaviour.{OnEvent, OnNewSpan}
-use Rattle.span_registry.specs.Form.{Terminal, Base, Filtered, Form, InList, InPair, WritesOnlyExtensions, Leaf, OnSubscriber, Parts, is_end}
+use Rattle.span_registry.specs.Form.{Absent, Terminal, Base, End, Filtered, Form, InList, InPair, Leaf, OnSubscriber, Parts}
 use Rattle.span_registry.specs.Hooks.{no_filter}
 use Rattle.span_registry.specs.Question.{AnswersSo, asked, event_asked, refusals}
 use Rattle.span_registry.specs.Store.{RegistryState, Store, new_registry}
@@ -51,63 +50,24 @@ by_room : (P : Form → Type 0) (b : Bool) (x y : Form × ℕ) → P x.0 → P y
 by_room P true x y p q = p
 by_room P false x y p q = q
 
--- filters that took numbers answer as they did
-answers_numbered : (f : Form) (n : ℕ) → HasHonestAnswers f → HasHonestAnswers (numbered f n).0
-answers_numbered (Leaf still a) n h = h
-answers_numbered (Filtered m a f) n h = by_room HasHonestAnswers (nat_lt n LIMIT) (Filtered (Some n) a (numbered f (n + 1)).0, (numbered f (n + 1)).1) (Filtered m a (numbered f n).0, (numbered f n).1) (h.0, answers_numbered f (n + 1) h.1) (h.0, answers_numbered f n h.1)
-answers_numbered (Parts k o i) n h = (answers_numbered o n h.0, answers_numbered i (numbered o n).1 h.1)
-answers_numbered (Terminal v) n h = tt
-
-quiet_numbered : (f : Form) (n : ℕ) → LeavesRefuseNothing f → LeavesRefuseNothing (numbered f n).0
-quiet_numbered (Leaf still a) n h = h
-quiet_numbered (Filtered m a f) n h = by_room LeavesRefuseNothing (nat_lt n LIMIT) (Filtered (Some n) a (numbered f (n + 1)).0, (numbered f (n + 1)).1) (Filtered m a (numbered f n).0, (numbered f n).1) (quiet_numbered f (n + 1) h) (quiet_numbered f n h)
-quiet_numbered (Parts k o i) n h = (quiet_numbered o n h.0, quiet_numbered i (numbered o n).1 h.1)
-quiet_numbered (Terminal v) n h = tt
-
-orderly_numbered : (f : Form) (n : ℕ) → IsOrderly f → IsOrderly (numbered f n).0
-orderly_numbered (Leaf still a) n h = tt
-orderly_numbered (Filtered m a f) n h = by_room IsOrderly (nat_lt n LIMIT) (Filtered (Some n) a (numbered f (n + 1)).0, (numbered f (n + 1)).1) (Filtered m a (numbered f n).0, (numbered f n).1) (quiet_numbered f (n + 1) h) (quiet_numbered f n h)
-orderly_numbered (Parts OnSubscriber o i) n h = (orderly_numbered o n h.0, orderly_numbered i (numbered o n).1 h.1)
-orderly_numbered (Parts InPair o i) n h = (orderly_numbered o n h.0, orderly_numbered i (numbered o n).1 h.1)
-orderly_numbered (Parts InList o i) n h = (quiet_numbered o n h.0, quiet_numbered i (numbered o n).1 h.1)
-orderly_numbered (Terminal v) n h = tt
-
-still_numbered : (f : Form) (n : ℕ) → WritesOnlyExtensions f → WritesOnlyExtensions (numbered f n).0
-still_numbered (Leaf still a) n h = h
-still_numbered (Filtered m a f) n h = by_room WritesOnlyExtensions (nat_lt n LIMIT) (Filtered (Some n) a (numbered f (n + 1)).0, (numbered f (n + 1)).1) (Filtered m a (numbered f n).0, (numbered f n).1) (still_numbered f (n + 1) h) (still_numbered f n h)
-still_numbered (Parts k o i) n h = (still_numbered o n h.0, still_numbered i (numbered o n).1 h.1)
-still_numbered (Terminal v) n h = tt
-
--- and stand where they stood
-end_numbered : (f : Form) (n : ℕ) → is_end (numbered f n).0 ≡ is_end f
-end_numbered (Leaf still a) n = refl
-end_numbered (Filtered m a f) n = by_room (λ g. is_end g ≡ false) (nat_lt n LIMIT) (Filtered (Some n) a (numbered f (n + 1)).0, (numbered f (n + 1)).1) (Filtered m a (numbered f n).0, (numbered f n).1) refl refl
-end_numbered (Parts k o i) n = refl
-end_numbered (Terminal v) n = refl
-
-missing_numbered : (f : Form) (n : ℕ) → is_missing (numbered f n).0 ≡ is_missing f
-missing_numbered (Leaf still a) n = refl
-missing_numbered (Filtered m a f) n = by_room (λ g. is_missing g ≡ false) (nat_lt n LIMIT) (Filtered (Some n) a (numbered f (n + 1)).0, (numbered f (n + 1)).1) (Filtered m a (numbered f n).0, (numbered f n).1) refl refl
-missing_numbered (Parts k o i) n = refl
-missing_numbered (Terminal v) n = refl
-
-full_numbered : (f : Form) (n : ℕ) → is_full (numbered f n).0 ≡ is_full f
-full_numbered (Leaf still a) n = refl
-full_numbered (Filtered m a f) n = by_room (λ g. is_full g ≡ is_full f) (nat_lt n LIMIT) (Filtered (Some n) a (numbered f (n + 1)).0, (numbered f (n + 1)).1) (Filtered m a (numbered f n).0, (numbered f n).1) (full_numbered f (n + 1)) (full_numbered f n)
-full_numbered (Parts k o i) n = λ j. both_full k (full_numbered o n j) (end_numbered i (numbered o n).1 j) (full_numbered i (numbered o n).1 j)
-full_numbered (Terminal v) n = refl
+-- a layer whose filters took numbers is built as it was
+layer_numbered : (within : Bool) (f : Form) (n : ℕ) → IsBuiltLayer within f → IsBuiltLayer within (numbered f n).0
+layer_numbered within (Leaf still a) n h = h
+layer_numbered within (Filtered m a f) n h =
+    by_room (IsBuiltLayer within) (nat_lt n LIMIT) (Filtered (Some n) a (numbered f (n + 1)).0, (numbered f (n + 1)).1) (Filtered m a (numbered f n).0, (numbered f n).1)
+    (h.0, layer_numbered true f (n + 1) h.1) (h.0, layer_numbered true f n h.1)
+layer_numbered within (Parts InPair o i) n h = (layer_numbered within o n h.0, layer_numbered within i (numbered o n).1 h.1)
+layer_numbered within (Parts InList o i) n h =
+    let m = (numbered o n).1 in
+    (layer_numbered true o n h.0, ⊎_elim (λ (e : i ≡ Terminal End). inl (ap (λ z. (numbered z m).0) e)) (λ b. inr (layer_numbered true i m b)) h.1)
+layer_numbered within other n h = absurd h
 
 -- where there is room for its filters, a layer that keeps stacks honest, with the next numbers taken, makes an honest stack
 pub honest_on : NumbersStayOwn → (g f : Form) (n : ℕ) → n + filters_in g ≤ LIMIT → IsHonestLayer g → IsHonestStack f n → IsHonestStack (Parts OnSubscriber (numbered g n).0 f) (numbered g n).1
-honest_on law g f n room layer below =
-    let rules = rules_of f n below in
-    honest_by (Parts OnSubscriber (numbered g n).0 f) (numbered g n).1 (record {
-      answers = (answers_numbered g n layer.answers, rules.answers);
-      numbers = (law g n room).stack f rules.numbers;
-      orderly = (orderly_numbered g n layer.orderly, rules.orderly);
-      still = (still_numbered g n layer.still, rules.still);
-      stack = (λ j. (missing_numbered g n j || full_numbered g n j) && is_stack f) ∙ (λ j. layer.full j && rules.stack j);
-    })
+honest_on law g f n room layer below = record {
+  numbers = (law g n room).stack f below.numbers;
+  built = (⊎_elim (λ (e : g ≡ Terminal Absent). inl (ap (λ z. (numbered z n).0) e)) (λ b. inr (layer_numbered false g n b)) layer, below.built);
+}
 
 -- a new registry stands so
 pub bare_stands : (l : Limits) (s : RegistryState) → s ≡ new_registry l → Stands itself base_form (Terminal Base) 0 s

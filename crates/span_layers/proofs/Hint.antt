@@ -10,9 +10,9 @@ use Rattle.span_core.specs.declared.level.LevelFilter.{LevelFilter}
 use Rattle.span_core.specs.declared.level.TheConstants.LevelFilter.{OFF}
 use Rattle.span_core.specs.declared.metadata.Metadata.{Metadata}
 use Rattle.span_layers.proofs.Asked.{AreRefused, wanted_by_nobody}
-use Rattle.span_layers.proofs.Built.{rules_of, is_stack}
+use Rattle.span_layers.proofs.Built.{is_full, is_missing, is_stack, rules_of}
 use Rattle.span_layers.proofs.Interest.{IsMissing, IsThere, base_refused, full_no_end, stands}
-use Rattle.span_layers.specs.Honest.{HasHonestAnswers, is_full, is_missing}
+use Rattle.span_layers.specs.Honest.{HasHonestAnswers}
 use Rattle.span_layers.specs.Verdict.{vetoes}
 use Rattle.span_layers.specs.Wanted.{AboveIsUnwanted}
 use Rattle.span_registry.specs.Form.{Absent, Terminal, Base, End, Filtered, Form, InList, InPair, Leaf, OnSubscriber, Parts, is_absent, is_base, is_end, is_marked}
@@ -64,9 +64,8 @@ above_first l h (Some k) a = (greater_both l h k a).0
 
 -- above the wider of two is above both
 wider_both : (l : Level) (h k : Hint) → Above l (wider_hint h k) → Above l h × Above l k
-wider_both l None k a = absurd (false≢true a)
-wider_both l (Some h) None a = absurd (false≢true a)
 wider_both l (Some h) (Some k) a = greater_both l h k a
+wider_both l other k a = absurd (false≢true a)
 
 above_off : (l : Level) (h k : Hint) → is_off k ≡ true → Above l h → Above l k
 above_off l None k e a = absurd (false≢true a)
@@ -119,14 +118,12 @@ above_by l false false false ia h k a = by_open l ia h k a
 -- ---- layers
 
 full_present : (f : Form) → is_end f || is_full f ≡ true → is_absent f ≡ false
-full_present (Leaf still a) w = refl
 full_present (Filtered n a f) w = full_present f (or_right _ _ w)
 full_present (Parts OnSubscriber o i) w = absurd (false≢true w)
 full_present (Parts InPair o i) w = let both : (is_full o ≡ true) × (is_full i ≡ true) = and_parts _ _ w in or_from _ _ (full_present o (or_right _ _ both.0)) (full_present i (or_right _ _ both.1))
 full_present (Parts InList o i) w = let both : (is_full o ≡ true) × (is_end i || is_full i ≡ true) = and_parts _ _ w in or_from _ _ (full_present o (or_right _ _ both.0)) (full_present i both.1)
-full_present (Terminal Base) w = refl
 full_present (Terminal Absent) w = absurd (false≢true w)
-full_present (Terminal End) w = refl
+full_present other w = refl
 
 only_marked : (f : Form) → is_full f ≡ true → is_end f || is_marked f ≡ true → is_marked f ≡ true
 only_marked f w h = ⊎_elim (λ (x : is_end f ≡ true). absurd (both_ways _ (full_no_end f w) x)) (λ (x : is_marked f ≡ true). x) (or_cases _ _ h)
@@ -262,13 +259,7 @@ on_stack o i m s l b w h n below a =
 
 -- above the hint: a leaf vetoes, or all are refused
 above_means : (f : Form) (m : Metadata) (s : Store) (l : ℕ) (b : FilterSet) → is_stack f ≡ true → HasHonestAnswers f → Above (level_of m) (hint_of f) → RuledOut f m s l b
-above_means (Leaf still a) m s l b w h e = absurd (false≢true w)
 above_means (Terminal Base) m s l b w h e = absurd (false≢true e)
-above_means (Terminal Absent) m s l b w h e = absurd (false≢true w)
-above_means (Terminal End) m s l b w h e = absurd (false≢true w)
-above_means (Filtered n a f) m s l b w h e = absurd (false≢true w)
-above_means (Parts InPair o i) m s l b w h e = absurd (false≢true w)
-above_means (Parts InList o i) m s l b w h e = absurd (false≢true w)
 above_means (Parts OnSubscriber o i) m s l b w h e =
     let both : (is_missing o || is_full o ≡ true) × (is_stack i ≡ true) = and_parts _ _ w in
     ⊎_elim
@@ -276,6 +267,7 @@ above_means (Parts OnSubscriber o i) m s l b w h e =
     (λ (x : is_base i ≡ false). on_stack o i m s l b both.0 h.0 x (λ y. above_means i m s l b both.1 h.1 y)
     (subst (λ c. Above (level_of m) (if c then hint_of o else hint_by (is_marked o) (is_marked i) (is_absent o) (is_absent i) (hint_of o) (hint_of i))) x e))
     (cases_Bool (is_base i))
+above_means other m s l b w h e = absurd (false≢true w)
 
 pub above_is_unwanted : AboveIsUnwanted
 above_is_unwanted f n m s l honest e =

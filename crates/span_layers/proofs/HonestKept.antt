@@ -24,18 +24,7 @@ kept (Leaf still a) (Leaf quiet b) h = subst (λ z. Kept (Leaf still a) (Leaf z 
 kept (Filtered n a f) (Filtered m b g) h = subst (λ z. Kept (Filtered n a f) (Filtered z b g)) (sym h.0) (KeptFiltered h.1 h.2 (kept f g h.3))
 kept (Parts k o i) (Parts l p j) h = subst (λ z. Kept (Parts k o i) (Parts z p j)) (sym h.0) (KeptOver (kept o p h.1) (kept i j h.2))
 kept (Terminal v) (Terminal w) h = subst (λ z. Kept (Terminal v) (Terminal z)) (sym h) KeptBare
-kept (Leaf still a) (Filtered m b g) h = absurd h
-kept (Leaf still a) (Parts l p j) h = absurd h
-kept (Leaf still a) (Terminal w) h = absurd h
-kept (Filtered n a f) (Leaf quiet b) h = absurd h
-kept (Filtered n a f) (Parts l p j) h = absurd h
-kept (Filtered n a f) (Terminal w) h = absurd h
-kept (Parts k o i) (Leaf quiet b) h = absurd h
-kept (Parts k o i) (Filtered m b g) h = absurd h
-kept (Parts k o i) (Terminal w) h = absurd h
-kept (Terminal v) (Leaf quiet b) h = absurd h
-kept (Terminal v) (Filtered m b g) h = absurd h
-kept (Terminal v) (Parts l p j) h = absurd h
+kept other rest h = absurd h
 
 end_kept : {f g : Form} → Kept f g → is_end g ≡ is_end f
 end_kept (KeptLeaf k) = refl
@@ -46,16 +35,13 @@ end_kept KeptBare = refl
 -- ---- interest and hint
 
 marked_kept : {f g : Form} → Kept f g → is_marked g ≡ is_marked f
-marked_kept (KeptLeaf k) = refl
-marked_kept (KeptFiltered same own k) = refl
 marked_kept (KeptOver {k = joint} k l) = λ i. both_marked joint (marked_kept k i) (end_kept l i) (marked_kept l i)
-marked_kept KeptBare = refl
+marked_kept other = refl
 
 absent_kept : {f g : Form} → Kept f g → is_absent g ≡ is_absent f
-absent_kept (KeptLeaf k) = refl
 absent_kept (KeptFiltered same own k) = absent_kept k
 absent_kept (KeptOver k l) = λ i. absent_kept k i || absent_kept l i
-absent_kept KeptBare = refl
+absent_kept other = refl
 
 base_kept : {f g : Form} → Kept f g → is_base g ≡ is_base f
 base_kept (KeptLeaf k) = refl
@@ -73,18 +59,16 @@ hints_kept KeptBare = refl
 
 calm_kept : (joint : Arrangement) {f g : Form} → Kept f g → is_calm joint g ≡ is_calm joint f
 calm_kept OnSubscriber k = λ i. marked_kept k i || base_kept k i
-calm_kept InPair k = marked_kept k
-calm_kept InList k = marked_kept k
+calm_kept other k = marked_kept k
 
 interests_kept : {f g : Form} → Kept f g → (m : Metadata) (filters : ℕ) (sum : Option Interest) → interest_of g m filters sum ≡ interest_of f m filters sum
 interests_kept (KeptLeaf k) m filters sum = λ i. (k.same.interest i m, sum)
-interests_kept (KeptFiltered {n = None} same own k) m filters sum = refl
 interests_kept (KeptFiltered {n = Some n} same own k) m filters sum =
     λ i. (Always, Some (sum_with (if is_never (same.interest i m) then sum else (interests_kept k m filters sum i).1) (same.interest i m)))
 interests_kept (KeptOver {k = joint} {p = p} k l) m filters sum =
     let first = interests_kept k m filters sum in
     λ i. joint_interest joint (marked_kept k i) (first i).0 (calm_kept joint l i) (interests_kept l m filters (first i).1 i)
-interests_kept KeptBare m filters sum = refl
+interests_kept other m filters sum = refl
 
 -- what keeps what it has keeps its hint
 pub hint_is_kept : (f g : Form) → KeepsForm f g → hint_of g ≡ hint_of f

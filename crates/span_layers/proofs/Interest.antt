@@ -8,9 +8,9 @@ use Rattle.span_core.specs.declared.interest.Interest.TheVariants.{Always, Never
 use Rattle.span_core.specs.declared.interest.Interest.{Interest}
 use Rattle.span_core.specs.declared.metadata.Metadata.{Metadata}
 use Rattle.span_layers.proofs.Asked.{AllPass, AreRefused, FiltersRefuse, wanted_by_all, wanted_by_nobody}
-use Rattle.span_layers.proofs.Built.{rules_of, is_stack}
+use Rattle.span_layers.proofs.Built.{is_full, is_missing, is_stack, rules_of}
 use Rattle.span_layers.proofs.Pass.{quiet_veto}
-use Rattle.span_layers.specs.Honest.{HasHonestAnswers, is_full, is_missing}
+use Rattle.span_layers.specs.Honest.{HasHonestAnswers}
 use Rattle.span_layers.specs.Verdict.{IsOrderly, LeavesRefuseNothing, numbers_of, vetoes}
 use Rattle.span_layers.specs.Wanted.{AlwaysIsWanted, NeverIsUnwanted}
 use Rattle.span_registry.specs.Form.{Absent, Terminal, Base, End, Filtered, Form, InList, InPair, Arrangement, Leaf, OnSubscriber, Parts, is_base, is_end, is_marked}
@@ -49,9 +49,8 @@ rules_sum false Always t r = elim (is_never r.0 && t) as (λ b. ((if b then (Som
 ]
 
 joint_sum : (j : Arrangement) (k : Bool) (o : Interest) (t : Bool) (r : Interest × Sum) → ((joint_interest j k o t r).1 ≡ r.1) ⊎ ((k ≡ false) × (o ≡ Never))
-joint_sum OnSubscriber k o t r = rules_sum k o t r
-joint_sum InPair k o t r = rules_sum k o t r
 joint_sum InList k o t r = inl refl
+joint_sum other k o t r = rules_sum k o t r
 
 data NeverBy (k : Bool) (o : Interest) (t : Bool) (i : Interest) : Type 0 where
   ByInner : k ≡ true → i ≡ Never → NeverBy k o t i
@@ -71,20 +70,16 @@ rules_never false Always false Always u e = absurd (cc)
 
 rules_always : (k : Bool) (o : Interest) (t : Bool) (i : Interest) (u : Sum) → (over_interest k o t (i, u)).0 ≡ Always → ((k ≡ true) ⊎ (o ≡ Always)) × (i ≡ Always)
 rules_always true o t i u e = (inl refl, e)
-rules_always false Never t i u e = absurd (cc)
-rules_always false Sometimes t i u e = absurd (cc)
-rules_always false Always true Never u e = absurd (cc)
-rules_always false Always true Sometimes u e = absurd (cc)
 rules_always false Always true Always u e = (inr refl, refl)
 rules_always false Always false Never u e = absurd (cc)
 rules_always false Always false Sometimes u e = absurd (cc)
 rules_always false Always false Always u e = (inr refl, refl)
+rules_always false other t i u e = absurd (cc)
 
 low_never : (u : Sum) → IsLow (Some (sum_with u Never)) → IsLow u
-low_never None h = tt
-low_never (Some Never) h = tt
 low_never (Some Sometimes) h = h
 low_never (Some Always) h = h
+low_never other h = tt
 
 low_other : (u : Sum) (i : Interest) → is_never i ≡ false → IsLow (Some (sum_with u i)) → ⊥
 low_other u Never e h = absurd (true≢false e)
@@ -99,8 +94,7 @@ low_other (Some Always) Always e h = h
 
 only_never : (i : Interest) → is_never i ≡ true → i ≡ Never
 only_never Never e = refl
-only_never Sometimes e = absurd (false≢true e)
-only_never Always e = absurd (false≢true e)
+only_never other e = absurd (false≢true e)
 
 high_parts : (u : Sum) (i : Interest) → IsHigh (Some (sum_with u i)) → (i ≡ Always) × IsHigh u
 high_parts None Never h = absurd h
@@ -133,18 +127,15 @@ registry_never (suc n) (Some Always) e = absurd (cc)
 -- where the registry handed out no filter, the sum is as it was
 registry_always : (n : ℕ) (u : Sum) → (n ≡ 0 → IsHigh u) → registry_interest n u ≡ Always → IsHigh u
 registry_always zero u z e = z refl
-registry_always (suc n) None z e = tt
 registry_always (suc n) (Some Never) z e = absurd (cc)
 registry_always (suc n) (Some Sometimes) z e = absurd (cc)
-registry_always (suc n) (Some Always) z e = tt
+registry_always other rest z e = tt
 
 -- ---- how parts of a stack stand
 
 pub full_no_end : (f : Form) → is_full f ≡ true → is_end f ≡ false
-full_no_end (Leaf still a) w = refl
-full_no_end (Filtered n a f) w = refl
-full_no_end (Parts k o i) w = refl
 full_no_end (Terminal v) w = absurd (false≢true w)
+full_no_end other w = refl
 
 -- a layer: absent or full, or the end of a list
 abbrev pub is_layer : Form → Bool
@@ -155,25 +146,22 @@ is_layer (Terminal v) = not (is_base (Terminal v))
 
 pub full_layer : (f : Form) → is_full f ≡ true → is_layer f ≡ true
 full_layer (Leaf still a) w = refl
-full_layer (Filtered n a f) w = w
-full_layer (Parts k o i) w = w
 full_layer (Terminal v) w = absurd (false≢true w)
+full_layer other w = w
 
 pub rest_layer : (f : Form) → is_end f || is_full f ≡ true → is_layer f ≡ true
-rest_layer (Leaf still a) w = refl
 rest_layer (Filtered n a f) w = w
 rest_layer (Parts k o i) w = w
 rest_layer (Terminal Base) w = absurd (false≢true w)
 rest_layer (Terminal Absent) w = absurd (false≢true w)
-rest_layer (Terminal End) w = refl
+rest_layer other w = refl
 
 pub outer_layer : (f : Form) → is_missing f || is_full f ≡ true → is_layer f ≡ true
-outer_layer (Leaf still a) w = refl
 outer_layer (Filtered n a f) w = w
 outer_layer (Parts k o i) w = w
 outer_layer (Terminal Base) w = absurd (false≢true w)
-outer_layer (Terminal Absent) w = refl
 outer_layer (Terminal End) w = absurd (false≢true w)
+outer_layer other w = refl
 
 -- what stands directly on the stack is absent, or full
 pub data Stands (f : Form) : Type 0 where
@@ -182,18 +170,15 @@ pub data Stands (f : Form) : Type 0 where
 
 pub stands : (f : Form) → is_missing f || is_full f ≡ true → Stands f
 stands (Leaf still a) w = IsThere refl
-stands (Filtered n a f) w = IsThere w
-stands (Parts k o i) w = IsThere w
 stands (Terminal Base) w = absurd (false≢true w)
 stands (Terminal Absent) w = IsMissing refl
 stands (Terminal End) w = absurd (false≢true w)
+stands other w = IsThere w
 
 -- a stack that isn't a layer on one is the registry
 pub base_refused : (f : Form) (m : Metadata) (s : Store) (l : ℕ) (b : FilterSet) → is_base f ≡ true → AreRefused f m s l b
-base_refused (Leaf still a) m s l b e = absurd (false≢true e)
 base_refused (Terminal v) m s l b e = tt
-base_refused (Filtered n a f) m s l b e = absurd (false≢true e)
-base_refused (Parts k o i) m s l b e = absurd (false≢true e)
+base_refused other m s l b e = absurd (false≢true e)
 
 -- ---- never
 
@@ -237,11 +222,7 @@ low_joint k o i m n u s l b e second first never = ⊎_elim
     (joint_sum k (is_marked o) (interest_of o m n u).0 (is_calm k i) (interest_of i m n (interest_of o m n u).1))
 
 low : (f : Form) (m : Metadata) (n : ℕ) (u : Sum) (s : Store) (l : ℕ) (b : FilterSet) → is_layer f ≡ true → HasHonestAnswers f → IsLow (interest_of f m n u).1 → Lowered f m u s l b
-low (Leaf still a) m n u s l b w h e = inr (e, tt)
 low (Terminal Base) m n u s l b w h e = absurd (false≢true w)
-low (Terminal Absent) m n u s l b w h e = inr (e, tt)
-low (Terminal End) m n u s l b w h e = inr (e, tt)
-low (Filtered None a f) m n u s l b w h e = inr (e, tt)
 low (Filtered (Some k) a f) m n u s l b w h e = ⊎_elim
     (λ (never : is_never (a.interest m) ≡ true).
     let i : a.interest m ≡ Never = only_never (a.interest m) never in
@@ -258,6 +239,7 @@ low (Parts InList o i) m n u s l b w h e =
     let both = and_parts _ _ w in
     low_joint InList o i m n u s l b e (λ x. low i m n (interest_of o m n u).1 s l b (rest_layer i both.1) h.1 x) (λ x. low o m n u s l b (full_layer o both.0) h.0 x)
     (λ x. (never_vetoes o m n u s l both.0 h.0 x).0)
+low other m n u s l b w h e = inr (e, tt)
 
 -- a marked layer has no leaf without a filter
 marked_refused : (f : Form) (m : Metadata) (s : Store) (l : ℕ) (b : FilterSet) → is_layer f ≡ true → is_end f || is_marked f ≡ true → FiltersRefuse f m s l b → AreRefused f m s l b
@@ -278,11 +260,8 @@ marked_refused (Parts InList o i) m s l b w k h =
 -- an unmarked layer that is there has a leaf without a filter
 unmarked_leaf : (f : Form) (m : Metadata) (s : Store) (l : ℕ) (b : FilterSet) → is_end f || is_full f ≡ true → is_end f || is_marked f ≡ false → AreRefused f m s l b → ⊥
 unmarked_leaf (Leaf still a) m s l b w k h = h
-unmarked_leaf (Terminal Base) m s l b w k h = false≢true w
-unmarked_leaf (Terminal Absent) m s l b w k h = false≢true w
 unmarked_leaf (Terminal End) m s l b w k h = true≢false k
 unmarked_leaf (Filtered n a f) m s l b w k h = true≢false k
-unmarked_leaf (Parts OnSubscriber o i) m s l b w k h = false≢true w
 unmarked_leaf (Parts InPair o i) m s l b w k h =
     let both = and_parts _ _ w in
     ⊎_elim
@@ -295,6 +274,7 @@ unmarked_leaf (Parts InList o i) m s l b w k h =
     (λ (x : is_marked o ≡ false). unmarked_leaf o m s l b (or_right _ _ both.0) (or_from _ _ (full_no_end o both.0) x) h.0)
     (λ (x : is_end i || is_marked i ≡ false). unmarked_leaf i m s l b both.1 x h.1)
     (and_cases _ _ k)
+unmarked_leaf other m s l b w k h = false≢true w
 
 -- a stack of absent layers is never of no interest
 hollow_stack : (f : Form) (m : Metadata) (n : ℕ) (u : Sum) (s : Store) (l : ℕ) (b : FilterSet) → is_stack f ≡ true → is_marked f || is_base f ≡ false → AreRefused f m s l b → (interest_of f m n u).0 ≡ Never → ⊥
@@ -349,12 +329,11 @@ never_means (Parts OnSubscriber o i) m n u s l b w h e =
 -- ---- always
 
 quiet_orderly : (f : Form) → LeavesRefuseNothing f → IsOrderly f
-quiet_orderly (Leaf still a) q = tt
-quiet_orderly (Terminal v) q = tt
 quiet_orderly (Filtered n a f) q = q
 quiet_orderly (Parts OnSubscriber o i) q = (quiet_orderly o q.0, quiet_orderly i q.1)
 quiet_orderly (Parts InPair o i) q = (quiet_orderly o q.0, quiet_orderly i q.1)
 quiet_orderly (Parts InList o i) q = q
+quiet_orderly other q = tt
 
 -- why a high sum speaks for a whole layer
 data Speaks (f : Form) (m : Metadata) (n : ℕ) (u : Sum) : Type 0 where
@@ -439,13 +418,7 @@ below_none n k a e = omega (arith, a, e)
 -- always: every filter and leaf passes
 always_means : (f : Form) (m : Metadata) (n : ℕ) (u : Sum) (s : Store) (l : ℕ) (b : FilterSet) → is_stack f ≡ true → HasHonestAnswers f → IsOrderly f → ((k : ℕ) → numbers_of f k ≡ true → k < n) → (n ≡ 0 → IsHigh u)
     → (interest_of f m n u).0 ≡ Always → IsHigh u × AllPass f m s l b
-always_means (Leaf still a) m n u s l b w h c d z e = absurd (false≢true w)
 always_means (Terminal Base) m n u s l b w h c d z e = (registry_always n u z e, tt)
-always_means (Terminal Absent) m n u s l b w h c d z e = absurd (false≢true w)
-always_means (Terminal End) m n u s l b w h c d z e = absurd (false≢true w)
-always_means (Filtered k a f) m n u s l b w h c d z e = absurd (false≢true w)
-always_means (Parts InPair o i) m n u s l b w h c d z e = absurd (false≢true w)
-always_means (Parts InList o i) m n u s l b w h c d z e = absurd (false≢true w)
 always_means (Parts OnSubscriber o i) m n u s l b w h c d z e =
     let both = and_parts _ _ w in
     let why = rules_always _ _ _ _ _ e in
@@ -455,6 +428,7 @@ always_means (Parts OnSubscriber o i) m n u s l b w h c d z e =
     let second : IsHigh (interest_of o m n u).1 × AllPass i m s l b = always_means i m n (interest_of o m n u).1 s l b both.1 h.1 c.1 (λ k y. d k (or_right _ _ y)) clean why.1 in
     let first : IsHigh u × AllPass o m s l b = high o m n u s l b layer h.0 c.0 second.0 outer in
     (first.0, (first.1, second.1))
+always_means other m n u s l b w h c d z e = absurd (false≢true w)
 
 -- ---- the laws
 

@@ -24,61 +24,50 @@ use Rattle.span_registry.specs.View.{view_of}
 -- who is notified of a new span or an event, as a pass says
 abbrev pub pass_plan : Form → FilterSet → Plan
 pass_plan (Leaf still a) p = Itself
-pass_plan (Terminal z) p = Nobody
-pass_plan (Filtered None a f) p = Nobody
 pass_plan (Filtered (Some n) a f) p = if not (p n) then Through (pass_plan f p) else Nobody
 pass_plan (Parts j o i) p = Both (pass_plan o p) (pass_plan i p)
+pass_plan other p = Nobody
 
 -- who is notified where each filter is asked of the metadata alone
 abbrev pub metadata_plan : Form → Metadata → Store → ℕ → FilterSet → Plan
 metadata_plan (Leaf still a) e s l m = Itself
-metadata_plan (Terminal z) e s l m = Nobody
-metadata_plan (Filtered None a f) e s l m = Nobody
 metadata_plan (Filtered (Some n) a f) e s l m = if a.enabled e (view_of s l (union m (single n))) then Through (metadata_plan f e s l (union m (single n))) else Nobody
 metadata_plan (Parts j o i) e s l m = Both (metadata_plan o e s l m) (metadata_plan i e s l m)
+metadata_plan other e s l m = Nobody
 
 -- ---- the plans of a new span and of an event
 
 pub new_by_pass : (f : Form) (t : Attributes) (x : Id) (v : Spans) (m p : FilterSet) → by_pass f (OnNewSpan t x) v m p ≡ pass_plan f p
-new_by_pass (Leaf still a) t x v m p = refl
-new_by_pass (Terminal z) t x v m p = refl
-new_by_pass (Filtered None a f) t x v m p = refl
 new_by_pass (Filtered (Some n) a f) t x v m p = ap (λ (q : Plan). if not (p n) then Through q else Nobody) (new_by_pass f t x v (union m (single n)) p)
 new_by_pass (Parts j o i) t x v m p = λ k. Both (new_by_pass o t x v m p k) (new_by_pass i t x v m p k)
+new_by_pass other t x v m p = refl
 
 pub event_by_pass : (f : Form) (e : Event) (v : Spans) (m p : FilterSet) → by_pass f (OnEvent e) v m p ≡ pass_plan f p
-event_by_pass (Leaf still a) e v m p = refl
-event_by_pass (Terminal z) e v m p = refl
-event_by_pass (Filtered None a f) e v m p = refl
 event_by_pass (Filtered (Some n) a f) e v m p = ap (λ (q : Plan). if not (p n) then Through q else Nobody) (event_by_pass f e v (union m (single n)) p)
 event_by_pass (Parts j o i) e v m p = λ k. Both (event_by_pass o e v m p k) (event_by_pass i e v m p k)
+event_by_pass other e v m p = refl
 
 pub new_afresh : (f : Form) (t : Attributes) (x : Id) (s : Store) (l : ℕ) (m : FilterSet) → asked_afresh f (OnNewSpan t x) s l m ≡ metadata_plan f (metadata_of t) s l m
-new_afresh (Leaf still a) t x s l m = refl
-new_afresh (Terminal z) t x s l m = refl
-new_afresh (Filtered None a f) t x s l m = refl
 new_afresh (Filtered (Some n) a f) t x s l m = ap (λ (q : Plan). if a.enabled (metadata_of t) (view_of s l (union m (single n))) then Through q else Nobody) (new_afresh f t x s l (union m (single n)))
 new_afresh (Parts j o i) t x s l m = λ k. Both (new_afresh o t x s l m k) (new_afresh i t x s l m k)
+new_afresh other t x s l m = refl
 
 -- ---- the plans of all else
 
 -- where verdicts alone decide, a pass makes no difference
 by_verdicts : (f : Form) (e : Notice) (s : Store) (l : ℕ) (m p : FilterSet) → ((n : ℕ) (a : Behaviour) (set : FilterSet) → lets_by n e s.spans set p ≡ passes a e s l set) → by_pass f e s.spans m p ≡ asked_afresh f e s l m
-by_verdicts (Leaf still a) e s l m p h = refl
-by_verdicts (Terminal z) e s l m p h = refl
-by_verdicts (Filtered None a f) e s l m p h = refl
 by_verdicts (Filtered (Some n) a f) e s l m p h = λ k. if h n a (union m (single n)) k then Through (by_verdicts f e s l (union m (single n)) p h k) else Nobody
 by_verdicts (Parts j o i) e s l m p h = λ k. Both (by_verdicts o e s l m p h k) (by_verdicts i e s l m p h k)
+by_verdicts other e s l m p h = refl
 
 pub others_afresh : (f : Form) (e : Notice) (s : Store) (l : ℕ) (m p : FilterSet) → OthersAreFresh f s l m p e
-others_afresh f (OnNewSpan t x) s l m p = tt
-others_afresh f (OnEvent e) s l m p = tt
 others_afresh f (OnRecord x r) s l m p = by_verdicts f (OnRecord x r) s l m p (λ n a set. refl)
 others_afresh f (OnFollows x y) s l m p = by_verdicts f (OnFollows x y) s l m p (λ n a set. refl)
 others_afresh f (OnEnter x) s l m p = by_verdicts f (OnEnter x) s l m p (λ n a set. refl)
 others_afresh f (OnExit x) s l m p = by_verdicts f (OnExit x) s l m p (λ n a set. refl)
 others_afresh f (OnIdChange x y) s l m p = by_verdicts f (OnIdChange x y) s l m p (λ n a set. refl)
 others_afresh f (OnClose x) s l m p = by_verdicts f (OnClose x) s l m p (λ n a set. refl)
+others_afresh f other s l m p = tt
 
 -- ---- a pass after an answer
 
@@ -135,9 +124,6 @@ event_frame (Parts j o i) e s l m p k h =
 
 -- hooks look at the pass only at the numbers of their own part
 pub local : (f : Form) (p q : FilterSet) → ((k : ℕ) → numbers_of f k ≡ true → p k ≡ q k) → pass_plan f p ≡ pass_plan f q
-local (Leaf still a) p q h = refl
-local (Terminal z) p q h = refl
-local (Filtered None a f) p q h = refl
 local (Filtered (Some n) a f) p q h =
     let rest : pass_plan f p ≡ pass_plan f q = local f p q (λ k g. h k (or_right (k == n) (numbers_of f k) g)) in
     let own : p n ≡ q n = h n (or_left (n == n) (numbers_of f n) (eq-eqb n n refl)) in
@@ -146,6 +132,7 @@ local (Parts j o i) p q h =
     let first : pass_plan o p ≡ pass_plan o q = local o p q (λ k g. h k (or_left (numbers_of o k) (numbers_of i k) g)) in
     let second : pass_plan i p ≡ pass_plan i q = local i p q (λ k g. h k (or_right (numbers_of o k) (numbers_of i k) g)) in
     λ k. Both (first k) (second k)
+local other p q h = refl
 
 pub apart : (o i : Form) (k : ℕ) → ((j : ℕ) → numbers_of o j ≡ true → numbers_of i j ≡ false) → numbers_of i k ≡ true → numbers_of o k ≡ false
 apart o i k h g = false_from_ne_true (numbers_of o k) (λ x. both_ways (numbers_of i k) (h k x) g)
@@ -153,9 +140,6 @@ apart o i k h g = false_from_ne_true (numbers_of o k) (λ x. both_ways (numbers_
 -- after the metadata was asked of all, the pass says what the filters answer afresh
 pub answers_meta : (f : Form) (e : Metadata) (s : Store) (l : ℕ) (m p : FilterSet) → AreDistinct f → ((k : ℕ) → numbers_of f k ≡ true → p k ≡ false) → (asked f e s l m p).0 ≡ true
     → pass_plan f (asked f e s l m p).1 ≡ metadata_plan f e s l m
-answers_meta (Leaf still a) e s l m p d h ok = refl
-answers_meta (Terminal z) e s l m p d h ok = refl
-answers_meta (Filtered None a f) e s l m p d h ok = refl
 answers_meta (Filtered (Some n) a f) e s l m p d h ok =
     ⊎_elim
     (λ (passes : a.enabled e (view_of s l (union m (single n))) ≡ true).
@@ -179,6 +163,7 @@ answers_meta (Parts j o i) e s l m p d h ok =
     rw (go, same, first, second) refl)
     (λ (stop : (asked o e s l m p).0 ≡ false). absurd (false≢true (rw stop at ok)))
     (cases_Bool ((asked o e s l m p).0))
+answers_meta other e s l m p d h ok = refl
 
 through_inside : (p q : Plan) → Through p ≡ Through q → p ≡ q
 through_inside p q e = cc
@@ -192,9 +177,6 @@ both_right p q r t e = cc
 -- a pass that is right for the metadata becomes right for the event
 pub answers_event : (f : Form) (e : Event) (s : Store) (l : ℕ) (m p : FilterSet) → AreDistinct f → pass_plan f p ≡ metadata_plan f (event_metadata e) s l m → (event_asked f e s l m p).0 ≡ true
     → pass_plan f (event_asked f e s l m p).1 ≡ asked_afresh f (OnEvent e) s l m
-answers_event (Leaf still a) e s l m p d h ok = refl
-answers_event (Terminal z) e s l m p d h ok = refl
-answers_event (Filtered None a f) e s l m p d h ok = refl
 answers_event (Filtered (Some n) a f) e s l m p d h ok =
     let held_own : answered p (single n) false n ≡ true = at_own p n false in
     ⊎_elim
@@ -230,6 +212,7 @@ answers_event (Parts j o i) e s l m p d h ok =
     rw (go, same, first, second) refl)
     (λ (stop : (event_asked o e s l m p).0 ≡ false). absurd (false≢true (rw stop at ok)))
     (cases_Bool ((event_asked o e s l m p).0))
+answers_event other e s l m p d h ok = refl
 
 -- ---- who refuses for all
 
@@ -247,9 +230,8 @@ quiet_asked (Parts j o i) e s l m p q = rw (quiet_asked o e s l m p q.0) (quiet_
 -- where no leaf refuses, none vetoes
 pub quiet_veto : (f : Form) (e : Metadata) (s : Store) (l : ℕ) → LeavesRefuseNothing f → vetoes f e s l ≡ false
 quiet_veto (Leaf still a) e s l q = ap not (q.enabled e (view_of s l no_filter))
-quiet_veto (Terminal z) e s l q = refl
-quiet_veto (Filtered n a f) e s l q = refl
 quiet_veto (Parts j o i) e s l q = rw (quiet_veto o e s l q.0) (quiet_veto i e s l q.1)
+quiet_veto other e s l q = refl
 
 -- the outer part's answer, and then the inner one's
 asked_over : (j : Arrangement) (o i : Form) (e : Metadata) (s : Store) (l : ℕ) (p : FilterSet) → (asked o e s l no_filter p).0 ≡ not (vetoes o e s l) → ((q : FilterSet) → (asked i e s l no_filter q).0 ≡ not (vetoes i e s l))
@@ -284,9 +266,8 @@ quiet_event (Parts j o i) e s l m p q = rw (quiet_event o e s l m p q.0) (quiet_
 
 quiet_event_veto : (f : Form) (e : Event) (s : Store) (l : ℕ) → LeavesRefuseNothing f → vetoes_event f e s l ≡ false
 quiet_event_veto (Leaf still a) e s l q = ap not (q.event e (view_of s l no_filter))
-quiet_event_veto (Terminal z) e s l q = refl
-quiet_event_veto (Filtered n a f) e s l q = refl
 quiet_event_veto (Parts j o i) e s l q = rw (quiet_event_veto o e s l q.0) (quiet_event_veto i e s l q.1)
+quiet_event_veto other e s l q = refl
 
 event_over : (j : Arrangement) (o i : Form) (e : Event) (s : Store) (l : ℕ) (p : FilterSet) → (event_asked o e s l no_filter p).0 ≡ not (vetoes_event o e s l) → ((q : FilterSet) → (event_asked i e s l no_filter q).0 ≡ not (vetoes_event i e s l))
     → (event_asked (Parts j o i) e s l no_filter p).0 ≡ not (vetoes_event (Parts j o i) e s l)

@@ -5,7 +5,7 @@ use Rattle.std.specs.Prelude.{if◌then◌else◌}
 use Rattle.span_core.specs.declared.level.LevelFilter.{LevelFilter}
 use Rattle.span_layers.specs.Takes.{OneTakes}
 use Rattle.span_layers.specs.Verdict.{AreDistinct, HasOwnNumbers, numbers_of}
-use Rattle.span_registry.specs.Form.{Terminal, Filtered, Form, Leaf, Parts}
+use Rattle.span_registry.specs.Form.{Filtered, Form, Parts}
 use Rattle.span_registry.specs.Levels.{takes_level}
 
 -- the number is the filter's, or that of one under it
@@ -21,20 +21,18 @@ by_part false b false d g h e = h e
 
 -- a level is taken only under a number that the form has
 taken_under : (f : Form) (n : ℕ) (l : LevelFilter) → takes_level f n l ≡ true → numbers_of f n ≡ true
-taken_under (Leaf still a) n l e = absurd (false≢true e)
 taken_under (Filtered None a f) n l e = taken_under f n l e
 taken_under (Filtered (Some m) a f) n l e = by_number (n == m) (a.takes l) (takes_level f n l) (numbers_of f n) (taken_under f n l) e
 taken_under (Parts joint o i) n l e = by_part (takes_level o n l) (takes_level i n l) (numbers_of o n) (numbers_of i n) (taken_under o n l) (taken_under i n l) e
-taken_under (Terminal v) n l e = absurd (false≢true e)
+taken_under other n l e = absurd (false≢true e)
 
 -- so where no two filters have one number, one takes it
 one_takes : (f : Form) (n : ℕ) (l : LevelFilter) → AreDistinct f → OneTakes f n l
-one_takes (Leaf still a) n l d = tt
 one_takes (Filtered None a f) n l d = one_takes f n l d
 one_takes (Filtered (Some m) a f) n l d = one_takes f n l d.1
 one_takes (Parts joint o i) n l d =
     (one_takes o n l d.0, one_takes i n l d.1, λ e. false_from_ne_true (takes_level i n l) (λ g. false≢true (sym (d.2 n (taken_under o n l e)) ∙ taken_under i n l g)))
-one_takes (Terminal v) n l d = tt
+one_takes other n l d = tt
 
 -- and so where they have numbers of their own
 pub own_numbers_take_once : (f : Form) (next n : ℕ) (l : LevelFilter) → HasOwnNumbers f next → OneTakes f n l

@@ -1,5 +1,5 @@
 -- The paths of layers keep their law: a leaf's has no filter, and those of layers that are made of parts keep it since the parts' do.
-use Rattle.std.specs.Prelude.{◌≡◌, ⊤, ℕ, Bool, Box, false, is_some, List, [], ◌∷◌, Option, Some, None, refl}
+use Rattle.std.specs.Prelude.{◌≡◌, ℕ, Bool, Box, false, is_some, List, [], ◌∷◌, Option, Some, None, refl}
 use Rattle.std.specs.List.{AllZip}
 use Rattle.std.specs.Option.{option_map, option_map_or}
 use Rattle.std.proofs.Common.{ap, subst, sym, ◌∙◌}

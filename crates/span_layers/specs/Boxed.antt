@@ -1,12 +1,12 @@
 -- A boxed layer is what the box holds, and only that goes on.
-use Rattle.std.specs.Prelude.{◌≡◌, ℕ, List, [], ◌∷◌, Box, refl}
+use Rattle.std.specs.Prelude.{◌≡◌, [], ◌∷◌, Box, refl}
 use Rattle.std.specs.Box.{with_value}
 use Rattle.std.specs.List.{FoldsTo}
 use Rattle.std.proofs.Common.{ap, sym, ◌∙◌}
 use Rattle.span_layers.specs.Layer.{GoesBy, LayerLaws, LayerSteps}
 use Rattle.span_registry.specs.Form.{Form}
 use Rattle.span_registry.specs.Levels.{LevelSteps}
-use Rattle.span_registry.specs.Position.{HearSteps, Heard, Told}
+use Rattle.span_registry.specs.Position.{HearSteps, Heard}
 
 -- the layer in the box goes on so, and nothing else of the box
 abbrev pub BoxGoes : {L Z : Type 0} → (L → L → Type 0) → Box L Z → Box L Z → Type 0

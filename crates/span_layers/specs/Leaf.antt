@@ -1,6 +1,5 @@
 -- A layer that is a leaf keeps the law of layers, if it is notified as one and hears by its own step; one that is no leaf has nothing to keep of that.
-use Rattle.std.specs.Prelude.{◌≡◌, ⊤, ℕ, ◌∷◌, [], refl}
-use Rattle.std.specs.List.{FoldsTo}
+use Rattle.std.specs.Prelude.{◌≡◌, ℕ, refl}
 use Rattle.std.proofs.Common.{ap, subst, sym}
 use Rattle.span_core.specs.Filters.{FilterSet}
 use Rattle.span_layers.specs.Layer.{GoesBy, HearsBy, IsLeaf, LayerLaws, LayerSteps, LeafLaws}
@@ -8,7 +7,7 @@ use Rattle.span_registry.specs.Behaviour.{Notice}
 use Rattle.span_registry.specs.KeptForm.{HasKeptForm, kept_form}
 use Rattle.span_registry.specs.Form.{Form, Leaf}
 use Rattle.span_registry.specs.Path.{mask_at}
-use Rattle.span_registry.specs.Position.{HearSteps, Here, Inner, Outer, Position, Told, Under, heard_by, leaf_hear_laws, told_in}
+use Rattle.span_registry.specs.Position.{HearSteps, Here, Inner, Outer, Position, Under, heard_by, leaf_hear_laws, told_in}
 use Rattle.span_registry.specs.Plan.{Itself, Plan}
 use Rattle.span_registry.specs.Store.{RegistryState}
 use Rattle.span_registry.specs.View.{plain_view}

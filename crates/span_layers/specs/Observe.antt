@@ -9,7 +9,7 @@ use Rattle.span_layers.specs.declared.observe.Observed.{Observed}
 use Rattle.span_layers.specs.declared.observe.Observer.{Observer}
 use Rattle.span_registry.specs.Behaviour.{Behaviour, Notice, OnClose, OnEnter, OnEvent, OnExit, OnFollows, OnIdChange, OnNewSpan, OnRecord}
 use Rattle.span_registry.specs.Context.{filters_lent, lane_lent, subscriber_lent}
-use Rattle.span_registry.specs.Form.{Form, Leaf}
+use Rattle.span_registry.specs.Form.{Leaf}
 use Rattle.span_registry.specs.Plan.{Itself, Plan}
 use Rattle.span_registry.specs.Store.{RegistryState}
 use Rattle.span_registry.specs.declared.context.ContextMut.{ContextMut}

@@ -8,7 +8,7 @@ use Rattle.span_registry.specs.Behaviour.{Notice}
 use Rattle.span_registry.specs.KeptForm.{HasKeptForm, kept_form}
 use Rattle.span_registry.specs.Form.{Absent, Terminal, Form}
 use Rattle.span_registry.specs.Path.{mask_at}
-use Rattle.span_registry.specs.Position.{HearSteps, Heard, Here, Position, Told, heard_by, told_in}
+use Rattle.span_registry.specs.Position.{HearSteps, Heard, Here, Position, heard_by, told_in}
 use Rattle.span_registry.specs.Plan.{Itself, Nobody, Plan}
 use Rattle.span_registry.specs.Store.{RegistryState}
 

@@ -1,29 +1,21 @@
--- A new stack that is honest, and the layers that keep it so.
-use Rattle.std.specs.Prelude.{◌≡◌, ⊤, ℕ, ◌||◌, IsTrue}
+-- A new stack that is honest; and what the types of stacks and of layers under filters say.
+use Rattle.std.specs.Prelude.{◌≡◌, ⊤, ℕ}
 use Rattle.span_filters.specs.Filter.{FilterLevelSteps, FilterSteps}
 use Rattle.span_layers.specs.Acts.{FilteredActs, LayeredActs}
 use Rattle.span_layers.specs.Filtered.{FilteredForm, FilteredHears, FilteredSteps, filter_of, id_of, layer_of}
-use Rattle.span_layers.specs.Honest.{HasHonestAnswers, IsHonestStack, is_full, is_missing}
+use Rattle.span_layers.specs.Honest.{IsHonestStack}
 use Rattle.span_layers.specs.Layer.{LayerSteps}
 use Rattle.span_layers.specs.Layered.{LayeredHears, LayeredSteps, PartsForm, inner_of, outer_of}
 use Rattle.span_layers.specs.Levels.{FilteredLevels, LayeredLevels}
-use Rattle.span_layers.specs.Verdict.{IsOrderly}
 use Rattle.span_layers.specs.declared.filtered.Filtered.{Filtered as FilteredLayer}
 use Rattle.span_layers.specs.declared.layered.Layered.{Layered}
 use Rattle.span_registry.specs.Behaviour.{Behaviour, Conduct}
 use Rattle.span_registry.specs.Conducts.{ActsAt}
-use Rattle.span_registry.specs.Form.{Terminal, Base, Form, WritesOnlyExtensions, OnSubscriber}
+use Rattle.span_registry.specs.Form.{Terminal, Base, Form, OnSubscriber}
 use Rattle.span_registry.specs.Hooks.{StackSteps}
 use Rattle.span_registry.specs.Levels.{LevelSteps}
 use Rattle.span_registry.specs.Position.{HearSteps}
 use Rattle.span_registry.specs.Store.{RegistryState, empty_store}
-
--- a layer of this form keeps a stack honest: its filters and leaves answer honestly, no leaf of it under a filter or in a list refuses anything, no hook does more than write extensions, and it is absent as a whole, or not at all
-pub record IsHonestLayer (f : Form) : Type 0 where
-  pub answers : HasHonestAnswers f
-  pub orderly : IsOrderly f
-  pub still : WritesOnlyExtensions f
-  pub full : IsTrue (is_missing f || is_full f)
 
 -- a stack of this form, honest, on a registry without spans that handed out this many filters
 pub record Stands {S : Type 0} (registry : S → RegistryState) (has_form : S → Form → Type 0)

@@ -1,8 +1,10 @@
 //! Who is notified: laws over forms, which name no type of layer. The functions make no call: what they ensure is the law.
-ghost use Rattle.span_layers.specs.Honest.{HonestyIsKept};
+ghost use Rattle.std.specs.Prelude.{ℕ};
+ghost use Rattle.span_layers.specs.Honest.{HonestyIsKept, IsHonestStack};
 ghost use Rattle.span_layers.specs.Takes.{OneFilterTakesALevel};
-ghost use Rattle.span_layers.specs.Verdict.{EventsAreFresh, NewSpansAreFresh, NotifiesByPaths, NumbersStayOwn, OthersStayFresh, VetoesAloneRefuse, VetoesAloneRefuseEvents};
+ghost use Rattle.span_layers.specs.Verdict.{EventsAreFresh, HasOwnNumbers, IsOrderly, NewSpansAreFresh, NotifiesByPaths, NumbersStayOwn, OthersStayFresh, VetoesAloneRefuse, VetoesAloneRefuseEvents};
 ghost use Rattle.span_layers.specs.Wanted.{AboveIsUnwanted, AlwaysAsksInVain, AlwaysIsWanted, NeverIsUnwanted};
+ghost use Rattle.span_registry.specs.Form.{Form, WritesOnlyExtensions};
 
 /// Who is notified by the pass is who is notified where each filter is asked afresh, and what the pass holds of a new span is
 /// its verdict.
@@ -35,6 +37,14 @@ pub fn numbers_are_own()
 /// number. So a pair, a list or a stack, which asks all its parts, answers and changes as the first that takes the level does.
 pub fn one_filter_takes_a_level()
     ensures { OneFilterTakesALevel }
+{}
+
+/// What other laws ask of a form holds of an honest stack: its filters have numbers of their own, no leaf under a filter or in a
+/// list refuses anything, and hooks write extensions alone.
+pub fn an_honest_stack_keeps_the_rules()
+    ensures numbers { (f : Form) (n : ℕ) → IsHonestStack f n → HasOwnNumbers f n }
+    ensures orderly { (f : Form) (n : ℕ) → IsHonestStack f n → IsOrderly f }
+    ensures still { (f : Form) (n : ℕ) → IsHonestStack f n → WritesOnlyExtensions f }
 {}
 
 /// An honest stack that was notified, or put in use, is honest.

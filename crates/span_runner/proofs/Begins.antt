@@ -15,7 +15,7 @@ use Rattle.span_registry.specs.Form.{Filtered, Form, InPair, Parts}
 use Rattle.span_registry.specs.Store.{RegistryState, new_registry}
 use Rattle.span_registry.specs.declared.limits.Limits.{Limits}
 use Rattle.span_runner.specs.Mute.{mute_answers}
-use Rattle.span_runner.specs.Stacks.{BeginsAbsent, BeginsNested, BeginsPair, BeginsPlain, BeginsUnder, BeginsVeto, BeginsWarned, HasRoom, leaf}
+use Rattle.span_runner.specs.Stacks.{BeginsAbsent, BeginsNested, BeginsPair, BeginsPlain, BeginsUnder, BeginsWarned, HasRoom, leaf}
 use Rattle.span_runner.specs.declared.mute.Mute.{Mute}
 use Rattle.span_runner.specs.declared.mute_veto.MuteVeto.{MuteVeto}
 

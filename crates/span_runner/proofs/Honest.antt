@@ -1,14 +1,14 @@
 -- The stacks are honest, and stay so.
-use Rattle.std.proofs.Common.{◌≡◌, ℕ, ◌<◌, ◌||◌, ◌==◌, Bool, true, false, Option, None, Some, arith, refl, sym, ap, subst, ◌∙◌}
+use Rattle.std.proofs.Common.{◌≡◌, inl, inr, ℕ, ◌<◌, ◌||◌, ◌==◌, Bool, true, false, Some, arith, refl, sym, ap, subst, ◌∙◌}
+use Rattle.std.specs.Prelude.{IsTrue}
 use Rattle.std.proofs.lemmas.Bool.{eqb-true, false_from_ne_true, false≢true}
 use Rattle.span_core.specs.declared.level.LevelFilter.{LevelFilter}
 use Rattle.span_core.specs.declared.level.TheConstants.LevelFilter.{INFO, TRACE, WARN}
 use Rattle.span_dispatch.specs.Recorder.{RecorderState}
 use Rattle.span_filters.specs.Filter.{unlevelled}
 use Rattle.span_filters.specs.Level.{level_answers, level_honest, level_taken}
-use Rattle.span_layers.proofs.Built.{honest_by}
 use Rattle.span_layers.specs.Filtered.{IsNumber, filter_of, id_of, layer_of}
-use Rattle.span_layers.specs.Honest.{IsHonestStack}
+use Rattle.span_layers.specs.Honest.{IsBuiltLayer, IsHonestStack}
 use Rattle.span_layers.specs.Layered.{inner_of, outer_of}
 use Rattle.span_layers.specs.Observe.{open_answers}
 use Rattle.span_layers.specs.Optional.{OptionGoes}
@@ -33,14 +33,18 @@ open_honest = record { always = λ m v e. refl; never = λ m v e. absurd (cc); a
 quiet : RefusesNothing open_answers
 quiet = record { enabled = λ m v. refl; event = λ e v. refl }
 
+open_layer : {within : Bool} → IsBuiltLayer within (Leaf true open_answers)
+open_layer = (refl, open_honest, λ t. quiet)
+
+-- within no filter and no list a leaf may refuse
+outside : {A : Type 0} → IsTrue false → A
+outside t = absurd (false≢true t)
+
 pub honest_plain : IsHonestStack (form_of Plain) 0
-honest_plain = honest_by (form_of Plain) 0 (record {
-  answers = (open_honest, tt);
+honest_plain = record {
   numbers = record { distinct = (tt, tt, λ k h. refl); handed_out = λ k h. absurd (false≢true h) };
-  orderly = (tt, tt);
-  still = (refl, tt);
-  stack = refl;
-})
+  built = (inr open_layer, tt);
+}
 
 either : (a b : Bool) {A : Type 0} → (a ≡ true → A) → (b ≡ true → A) → (a || b) ≡ true → A
 either true b f g h = f refl
@@ -70,47 +74,35 @@ both_first k h =
     (λ e. either (k == 0) ((k == 1) || false) (λ f. none_below_two k (eqb-true k 0 f)) (λ f. one_below_two k (is_one k 1 f)) e) (λ e. absurd (false≢true e)) h
 
 pub honest_pair : IsHonestStack (form_of Pair) 2
-honest_pair = honest_by (form_of Pair) 2 (record {
-  answers = (((level_honest INFO, open_honest), (level_honest TRACE, open_honest)), tt);
+honest_pair = record {
   numbers = record { distinct = (((refl, tt), (refl, tt), apart), tt, λ k h. refl); handed_out = first_two };
-  orderly = ((quiet, quiet), tt);
-  still = ((refl, refl), tt);
-  stack = refl;
-})
+  built = (inr ((level_honest INFO, open_layer), (level_honest TRACE, open_layer)), tt);
+}
 
 pub honest_nested : IsHonestStack (form_of Nested) 2
-honest_nested = honest_by (form_of Nested) 2 (record {
-  answers = ((mute_honest, (level_honest INFO, open_honest)), (open_honest, tt));
+honest_nested = record {
   numbers = record { distinct = ((refl, (refl, tt)), (tt, tt, λ k h. refl), λ k h. refl); handed_out = both_first };
-  orderly = (quiet, (tt, tt));
-  still = (refl, (refl, tt));
-  stack = refl;
-})
+  built = (inr (mute_honest, (level_honest INFO, open_layer)), (inr open_layer, tt));
+}
 
 -- it has the one number
 the_first : (k : ℕ) → (((k == 0) || false) || (false || false)) ≡ true → k < 1
 the_first k h = either ((k == 0) || false) (false || false) (λ e. let x = is_one k 0 e in omega (arith, x)) (λ e. absurd (false≢true e)) h
 
 pub honest_veto : IsHonestStack (form_of Veto) 1
-honest_veto = honest_by (form_of Veto) 1 (record {
-  answers = (level_honest INFO, (mute_honest, ((level_honest WARN, open_honest), (open_honest, tt))));
+honest_veto = record {
   numbers = record {
     distinct = (tt, (tt, ((refl, tt), (tt, tt, λ k h. refl), λ k h. refl), λ k h. absurd (false≢true h)), λ k h. absurd (false≢true h));
     handed_out = the_first;
   };
-  orderly = (tt, (tt, (quiet, (tt, tt))));
-  still = (refl, (refl, (refl, (refl, tt))));
-  stack = refl;
-})
+  built = (inr (refl, level_honest INFO, outside), (inr (refl, mute_honest, outside), (inr (level_honest WARN, open_layer), (inr open_layer, tt))));
+}
 
 pub honest_absent : IsHonestStack (form_of Absent) 0
-honest_absent = honest_by (form_of Absent) 0 (record {
-  answers = (open_honest, (tt, tt));
+honest_absent = record {
   numbers = record { distinct = (tt, (tt, tt, λ k h. refl), λ k h. absurd (false≢true h)); handed_out = λ k h. absurd (false≢true h) };
-  orderly = (tt, (tt, tt));
-  still = (refl, (tt, tt));
-  stack = refl;
-})
+  built = (inr open_layer, (inl refl, tt));
+}
 
 -- ---- what settles their forms
 

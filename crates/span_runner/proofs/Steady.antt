@@ -36,7 +36,7 @@ use Rattle.span_registry.specs.Form.{Absent, Terminal, Base, Filtered, Form, InP
 use Rattle.span_registry.specs.Hooks.{StackSteps, no_filter}
 use Rattle.span_registry.specs.Levels.{LevelSteps, unlevelled}
 use Rattle.span_registry.specs.Position.{HearSteps, Heard, Here}
-use Rattle.span_registry.specs.Plan.{Both, Itself, Nobody, Plan, Through}
+use Rattle.span_registry.specs.Plan.{Both, Nobody, Plan, Through}
 use Rattle.span_registry.specs.Store.{RegistryState}
 use Rattle.span_registry.specs.declared.limits.Limits.{Limits}
 use Rattle.span_runner.specs.Stacks.{leaf, start_of}
@@ -136,15 +136,12 @@ module _ {L F : Type 0} {has_form : L → Form → Type 0} {stepped : LayerSteps
       let own = h.1 in
       let below = inner.known (layer_of x) s.below g s.inside h.2 in
       (λ i. Filtered (number i) (own i) (below i)) ∙ sym s.form
-  known_under x f (Leaf still b) s h = absurd h
-  known_under x f (Parts k o i) s h = absurd h
-  known_under x f (Terminal v) s h = absurd h
+  known_under x f other s h = absurd h
 
   goes_under : (i : FilterId) (k : F) (x : L) (f : Form) (p : Plan) (e : Notice) (lane : ℕ) (under : FilterSet) (v : RegistryState) (g : F) (y : L) (w : RegistryState) → FilteredSteps unmoved stepped i k x p e lane under v g y w → (g ≡ k) × (Stays x f → Stays y f)
   goes_under i k x f Nobody e lane under v g y w h = (h.0, λ s. subst (λ z. Stays z f) (sym h.1) s)
   goes_under i k x f (Through p) e lane under v g y w h = (unmoved_filter k e lane _ v g h.between h.filter, λ s. inner.goes x f p e lane _ h.between y w h.layer s)
-  goes_under i k x f Itself e lane under v g y w h = absurd h
-  goes_under i k x f (Both p q) e lane under v g y w h = absurd h
+  goes_under i k x f other e lane under v g y w h = absurd h
 
   -- by whether the filter has the number
   set_if : (t : Bool) (k : F) (x : L) (m : ℕ) (l : LevelFilter) (g : F) (y : L) (below : Form) → LevelsIf own levelled t k x m l g y → Stays x below
@@ -189,9 +186,7 @@ known_over joint outer inner o i (Parts k p q) a b h =
     let first = a p h.1 in
     let second = b q h.2 in
     λ j. Parts (same j) (first j) (second j)
-known_over joint outer inner o i (Leaf still c) a b h = absurd h
-known_over joint outer inner o i (Filtered n c g) a b h = absurd h
-known_over joint outer inner o i (Terminal v) a b h = absurd h
+known_over joint outer inner o i other a b h = absurd h
 
 -- a level that is set in both changes the form of both
 set_both : {L I : Type 0} {Outer : L → Form → Type 0} {Inner : I → Form → Type 0} {joint : Arrangement} (x y : Layered L I) (f : Form) (n : ℕ) (l : LevelFilter)
@@ -201,9 +196,7 @@ set_both x y f n l outer inner s = record { over = set_at n l s.over; below = se
 module _ {L I : Type 0} {outer_form : L → Form → Type 0} {inner_form : I → Form → Type 0} {outer_steps : LayerSteps L} {inner_steps : LayerSteps I} {outer_levels : LevelSteps L} {inner_levels : LevelSteps I} {Outer : L → Form → Type 0} {Inner : I → Form → Type 0} (outer : IsSteady outer_form outer_steps outer_levels Outer) (inner : IsSteady inner_form inner_steps inner_levels Inner) where
   goes_pair : (x : L) (z : I) (o i : Form) (p : Plan) (e : Notice) (lane : ℕ) (under : FilterSet) (v : RegistryState) (y : L) (u : I) (w : RegistryState) → PairSteps outer_steps inner_steps x z p e lane under v y u w → (Outer x o → Outer y o) × (Inner z i → Inner u i)
   goes_pair x z o i (Both p q) e lane under v y u w h = ((λ s. outer.goes x o p e lane under h.between y w h.second s), (λ s. inner.goes z i q e lane under v u h.between h.first s))
-  goes_pair x z o i Nobody e lane under v y u w h = absurd h
-  goes_pair x z o i Itself e lane under v y u w h = absurd h
-  goes_pair x z o i (Through p) e lane under v y u w h = absurd h
+  goes_pair x z o i other e lane under v y u w h = absurd h
 
   -- two steady layers are a steady layer
   pub steady_pair : IsSteady (λ x. PartsForm InPair (outer_form (outer_of x)) (inner_form (inner_of x)))
@@ -245,9 +238,7 @@ module _ {L I : Type 0} {with_registry : I → RegistryState → I} {outer_form 
   goes_stack : (x : L) (z : I) (o i : Form) (p : Plan) (e : Notice) (lane : ℕ) (v : RegistryState) (y : L) (u : I) (w : RegistryState) → LayeredSteps with_registry outer_steps inner_steps x z p e lane v y u w → (Outer x o → Outer y o) × (Inner z i → Inner u i)
   goes_stack x z o i (Both p q) e lane v y u w h =
       ((λ s. outer.goes x o p e lane no_filter h.between y w h.second s), (λ s. subst (λ k. Inner k i) (sym h.rest) (inner.aside h.notified i w (inner.goes z i q e lane v h.notified h.between h.first s))))
-  goes_stack x z o i Nobody e lane v y u w h = absurd h
-  goes_stack x z o i Itself e lane v y u w h = absurd h
-  goes_stack x z o i (Through p) e lane v y u w h = absurd h
+  goes_stack x z o i other e lane v y u w h = absurd h
 
   -- a steady layer on a steady stack is a steady stack
   pub steady_stack : IsSteadyStack (λ x w. with_inner x (with_registry (inner_of x) w)) (λ x. PartsForm OnSubscriber (outer_form (outer_of x)) (inner_form (inner_of x)))

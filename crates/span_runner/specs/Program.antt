@@ -1,6 +1,8 @@
 -- What the program prints for a script, and how it ends.
 use Rattle.std.specs.Prelude.{◌≡◌, ◌⊎◌, ◌<◌, ℕ, List, [], ◌∷◌, ◌++◌, ⊤, Option, Some, None, Result, String, IfSome, MatchOption, IsErrAnd, IsSomeAnd, Bool, true, false, flat_map, map, decimal, length, slice_get, string_bytes, codes}
 use Rattle.std.specs.List.{zip}
+use Rattle.std.specs.declared.alloc.Global.{Global}
+use Rattle.std.specs.declared.vec.Vec.{Vec}
 use Rattle.std.specs.Option.{unwrap_or, option_map}
 use Rattle.std.specs.Borrow.{Bor}
 use Rattle.std.specs.BTreeMap as tree
@@ -10,6 +12,9 @@ use Rattle.std.specs.Str.Lossy.{utf8_lossy}
 use Rattle.span_core.specs.Span.{number_of}
 use Rattle.span_core.specs.TraceError.{refusal_number}
 use Rattle.span_core.specs.declared.span.Id.{Id}
+use Rattle.span_dispatch.specs.Contract.{SubscriberOf}
+use Rattle.span_dispatch.specs.Serve.{stack_of}
+use Rattle.span_dispatch.specs.declared.dispatch.Dispatch.{Dispatch}
 use Rattle.span_dispatch.specs.declared.notice.Notice.{Notice}
 use Rattle.span_dispatch.specs.declared.notice.Notice.TheVariants as notice
 use Rattle.span_dispatch.specs.declared.request.Answer.{Answer}
@@ -22,7 +27,7 @@ use Rattle.span_runner.specs.declared.reply.Section.{Section}
 use Rattle.span_runner.specs.declared.reply.Names.{Names}
 use Rattle.span_script.specs.Script.{declared_label, lines_of, recorders_of, requests_of, AskFor, IsSpelled}
 use Rattle.span_script.specs.Fault.{IsWrongLine as IsFirstWrongLine}
-use Rattle.span_runner.specs.Stacks.{Serves}
+use Rattle.span_runner.specs.Stacks.{Serves, ServesInUse}
 use Rattle.span_runner.specs.declared.fault.RunFault.{RunFault}
 use Rattle.span_runner.specs.declared.fault.RunFault.TheVariants.{Line as LineFault, Io, Memory}
 use Rattle.span_script.specs.declared.fault.ReadFault.{ReadFault}
@@ -154,6 +159,15 @@ pub record PrintsServed (Served : Serving) (stack : StackName) (lines : List Lin
 abbrev pub Gives : Limits → StackName → Script → List ℕ → Type 0
 Gives limits stack script output =
     PrintsServed (Serves limits) stack (lines_of script) (requests_of script) output
+
+-- a stack was put in use and served what a script asks for; its recorders kept all, and this is printed of it
+pub record PrintsInUse {S : Type 0} (s : SubscriberOf S)
+    (sections : S → List (List ℕ × List Notice)) (whole : S → Type 0) (script : Script) (x : S)
+    (text : List ℕ) : Type 0 where
+  pub given : Vec Answer Global × Dispatch S
+  pub served : ServesInUse s (requests_of script) x given
+  pub kept : whole (stack_of given.1)
+  pub printed : IsPrinted (lines_of script) given.0.items (sections (stack_of given.1)) text
 
 -- the text spells a stack and lines, these ask for requests, and what comes of serving them so is printed
 pub record PrintsBy (Served : Serving) (text output : List ℕ) : Type 0 where

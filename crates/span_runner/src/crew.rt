@@ -33,11 +33,11 @@ pub fn shared_text(
     ensures fault { IfErr result (λ fault. fault ≡ RunFault.Memory) }
 {
     match script.stack() {
-        StackName::Plain => plain_shared(rt, alloc, script),
-        StackName::Pair => pair_shared(rt, alloc, script),
-        StackName::Nested => nested_shared(rt, alloc, script),
-        StackName::Veto => veto_shared(rt, alloc, script),
-        StackName::Absent => absent_shared(rt, alloc, script),
+        StackName::Plain => shared_by(rt, alloc, script, plain(alloc, Limits::MAX)),
+        StackName::Pair => shared_by(rt, alloc, script, pair(alloc, Limits::MAX)),
+        StackName::Nested => shared_by(rt, alloc, script, nested(alloc, Limits::MAX)),
+        StackName::Veto => shared_by(rt, alloc, script, veto(alloc, Limits::MAX)),
+        StackName::Absent => shared_by(rt, alloc, script, absent(alloc, Limits::MAX)),
     }
 }
 
@@ -220,71 +220,4 @@ fn shared_by<S: ScriptStack + Subscriber + Drop>(
     )?;
     let text = dispatch.stack().text(alloc, script, &answers)?;
     Ok((text, journal))
-}
-
-/// What a script prints, where workers share the stack `plain`.
-fn plain_shared(
-    rt: &impl Wait,
-    alloc: Global,
-    script: &Script<'_>,
-) -> Result<(String, Journal), RunFault>
-    ensures printed { IfOk result (λ r. GivesShared StackName.Plain script.now (string_bytes r.0)) }
-    ensures legal { IfOk result (λ r. IsLegal r.1) }
-    ensures fault { IfErr result (λ fault. fault ≡ RunFault.Memory) }
-{
-    shared_by(rt, alloc, script, plain(alloc, Limits::MAX))
-}
-
-/// What a script prints, where workers share the stack `pair`.
-fn pair_shared(
-    rt: &impl Wait,
-    alloc: Global,
-    script: &Script<'_>,
-) -> Result<(String, Journal), RunFault>
-    ensures printed { IfOk result (λ r. GivesShared StackName.Pair script.now (string_bytes r.0)) }
-    ensures legal { IfOk result (λ r. IsLegal r.1) }
-    ensures fault { IfErr result (λ fault. fault ≡ RunFault.Memory) }
-{
-    shared_by(rt, alloc, script, pair(alloc, Limits::MAX))
-}
-
-/// What a script prints, where workers share the stack `nested`.
-fn nested_shared(
-    rt: &impl Wait,
-    alloc: Global,
-    script: &Script<'_>,
-) -> Result<(String, Journal), RunFault>
-    ensures printed { IfOk result
-        (λ r. GivesShared StackName.Nested script.now (string_bytes r.0)) }
-    ensures legal { IfOk result (λ r. IsLegal r.1) }
-    ensures fault { IfErr result (λ fault. fault ≡ RunFault.Memory) }
-{
-    shared_by(rt, alloc, script, nested(alloc, Limits::MAX))
-}
-
-/// What a script prints, where workers share the stack `veto`.
-fn veto_shared(
-    rt: &impl Wait,
-    alloc: Global,
-    script: &Script<'_>,
-) -> Result<(String, Journal), RunFault>
-    ensures printed { IfOk result (λ r. GivesShared StackName.Veto script.now (string_bytes r.0)) }
-    ensures legal { IfOk result (λ r. IsLegal r.1) }
-    ensures fault { IfErr result (λ fault. fault ≡ RunFault.Memory) }
-{
-    shared_by(rt, alloc, script, veto(alloc, Limits::MAX))
-}
-
-/// What a script prints, where workers share the stack `absent`.
-fn absent_shared(
-    rt: &impl Wait,
-    alloc: Global,
-    script: &Script<'_>,
-) -> Result<(String, Journal), RunFault>
-    ensures printed { IfOk result
-        (λ r. GivesShared StackName.Absent script.now (string_bytes r.0)) }
-    ensures legal { IfOk result (λ r. IsLegal r.1) }
-    ensures fault { IfErr result (λ fault. fault ≡ RunFault.Memory) }
-{
-    shared_by(rt, alloc, script, absent(alloc, Limits::MAX))
 }

@@ -1,5 +1,5 @@
 //! What is printed of the stacks that scripts name.
-ghost use Rattle.std.specs.Prelude.{◌≡◌, ◌∷◌, [], ℕ, List, IfErr, IfOk, codes, map, refl};
+ghost use Rattle.std.specs.Prelude.{◌≡◌, ◌∷◌, [], ℕ, List, IfErr, IfOk, codes, false, map, refl};
 ghost use Rattle.std.specs.Prelude.{string_bytes};
 ghost use Rattle.span_dispatch.specs.declared.notice.Notice.{Notice};
 ghost use Rattle.span_layers.specs.Filtered.{layer_of};
@@ -23,6 +23,9 @@ pub(crate) trait ScriptStack {
     /// What its recorders kept, innermost first, each by its own name.
     ghost sections: { Self → List (List ℕ × List Notice) };
 
+    /// Memory was refused to none of its recorders.
+    ghost whole: { Self → Type 0 };
+
     /// What is printed of these answers and of its recorders, unless memory was refused to one.
     fn text(
         &self,
@@ -32,6 +35,7 @@ pub(crate) trait ScriptStack {
     ) -> Result<String, RunFault>
         ensures printed { IfOk result (λ s.
             IsPrinted (lines_of script.now) answers.now (sections self.now) (string_bytes s)) }
+        ensures whole { IfOk result (λ s. whole self.now) }
         ensures fault { IfErr result (λ fault. fault ≡ RunFault.Memory) };
 
     /// Its recorders have the names that are printed for a stack of its name.
@@ -42,6 +46,8 @@ impl ScriptStack for Plain {
     ghost name = { stack_name.Plain };
 
     ghost sections = { λ x. (codes "base", (outer_of x).notices) ∷ [] };
+
+    ghost whole = { λ x. (outer_of x).failed ≡ false };
 
     ghost named = { λ x. refl };
 
@@ -61,6 +67,10 @@ impl ScriptStack for Pair {
     ghost sections = { λ x.
         (codes "a", (layer_of (inner_of (outer_of x))).notices)
         ∷ (codes "b", (layer_of (outer_of (outer_of x))).notices) ∷ [] };
+
+    ghost whole = { λ x.
+        ((layer_of (inner_of (outer_of x))).failed ≡ false)
+        × ((layer_of (outer_of (outer_of x))).failed ≡ false) };
 
     ghost named = { λ x. refl };
 
@@ -84,6 +94,10 @@ impl ScriptStack for Nested {
         (codes "base", (outer_of (inner_of x)).notices)
         ∷ (codes "deep", (layer_of (layer_of (outer_of x))).notices) ∷ [] };
 
+    ghost whole = { λ x.
+        ((outer_of (inner_of x)).failed ≡ false)
+        × ((layer_of (layer_of (outer_of x))).failed ≡ false) };
+
     ghost named = { λ x. refl };
 
     fn text(
@@ -105,6 +119,10 @@ impl ScriptStack for Veto {
         (codes "base", (outer_of (inner_of (inner_of (inner_of x)))).notices)
         ∷ (codes "warn", (layer_of (outer_of (inner_of (inner_of x)))).notices) ∷ [] };
 
+    ghost whole = { λ x.
+        ((outer_of (inner_of (inner_of (inner_of x)))).failed ≡ false)
+        × ((layer_of (outer_of (inner_of (inner_of x)))).failed ≡ false) };
+
     ghost named = { λ x. refl };
 
     fn text(
@@ -124,6 +142,8 @@ impl ScriptStack for Absent {
     ghost name = { stack_name.Absent };
 
     ghost sections = { λ x. (codes "base", (outer_of x).notices) ∷ [] };
+
+    ghost whole = { λ x. (outer_of x).failed ≡ false };
 
     ghost named = { λ x. refl };
 

@@ -3,7 +3,7 @@ ghost use Rattle.std.specs.Prelude.{◌≡◌, ◌≤◌, ◌∷◌, [], codes, 
 ghost use Rattle.span_core.specs.declared.filter.TheConstants.FilterId.{LIMIT};
 ghost use Rattle.span_core.specs.declared.level.TheConstants.LevelFilter.{INFO};
 ghost use Rattle.span_layers.specs.Layered.{inner_of, outer_of};
-ghost use Rattle.span_runner.specs.Program.{Gives, IsPrinted};
+ghost use Rattle.span_runner.specs.Program.{Gives, IsPrinted, PrintsInUse};
 ghost use Rattle.span_script.specs.Script.{lines_of, stack_of};
 ghost use Rattle.span_runner.specs.Stacks.{ArePositive, BeginsAbsent, BeginsNested, BeginsPair, BeginsPlain, BeginsVeto, BeginsWarned, HasRoom, ServesInUse};
 ghost use Rattle.span_layers.specs.Attach.{Attaches};
@@ -12,6 +12,7 @@ use crate::fault::RunFault;
 use crate::mute::Mute;
 use crate::mute_veto::MuteVeto;
 use crate::reply::{Section, text_of};
+use crate::script_stack::ScriptStack;
 use span_core::LevelFilter;
 use span_dispatch::{Answer, Dispatch, Recorder, Request};
 use span_layers::{Filtered, Layer, LayerExt, Layered, SubscriberExt};
@@ -48,11 +49,11 @@ pub fn served_text(alloc: Global, limits: Limits, script: &Script<'_>) -> Result
     ensures fault { IfErr result (λ fault. fault ≡ RunFault.Memory) }
 {
     match script.stack() {
-        StackName::Plain => plain_text(alloc, limits, script),
-        StackName::Pair => pair_text(alloc, limits, script),
-        StackName::Nested => nested_text(alloc, limits, script),
-        StackName::Veto => veto_text(alloc, limits, script),
-        StackName::Absent => absent_text(alloc, limits, script),
+        StackName::Plain => text_by(alloc, script, plain(alloc, limits)),
+        StackName::Pair => text_by(alloc, script, pair(alloc, limits)),
+        StackName::Nested => text_by(alloc, script, nested(alloc, limits)),
+        StackName::Veto => text_by(alloc, script, veto(alloc, limits)),
+        StackName::Absent => text_by(alloc, script, absent(alloc, limits)),
     }
 }
 
@@ -153,6 +154,21 @@ fn serve<S: Subscriber + Drop>(
     }
 }
 
+/// Puts a stack in use, and gives what a script prints where this stack serves its requests.
+fn text_by<S: ScriptStack + Subscriber + Drop>(
+    alloc: Global,
+    script: &Script<'_>,
+    stack: S,
+) -> Result<String, RunFault>
+    requires { S.usable stack }
+    ensures printed { IfOk result
+        (λ s. PrintsInUse S.Subscriber S.sections S.whole script.now stack (string_bytes s)) }
+    ensures fault { IfErr result (λ fault. fault ≡ RunFault.Memory) }
+{
+    let (answers, dispatch) = serve(alloc, stack, script.requests())?;
+    dispatch.stack().text(alloc, script, &answers)
+}
+
 /// What is printed of these answers and of the recorder `base`, unless memory was refused to it.
 pub(crate) fn text_of_one(
     alloc: Global,
@@ -210,63 +226,4 @@ pub(crate) fn text_of_two(
         },
     ];
     Ok(text_of(alloc, script.lines(), answers, &sections)?)
-}
-
-/// What a script prints, where the stack `plain` serves its requests.
-fn plain_text(alloc: Global, limits: Limits, script: &Script<'_>) -> Result<String, RunFault>
-    requires { ArePositive limits }
-    ensures printed { IfOk result (λ s. Gives limits StackName.Plain script.now (string_bytes s)) }
-    ensures fault { IfErr result (λ fault. fault ≡ RunFault.Memory) }
-{
-    let (answers, dispatch) = serve(alloc, plain(alloc, limits), script.requests())?;
-    text_of_one(alloc, script, &answers, dispatch.stack().layer())
-}
-
-/// What a script prints, where the stack `pair` serves its requests.
-fn pair_text(alloc: Global, limits: Limits, script: &Script<'_>) -> Result<String, RunFault>
-    requires { ArePositive limits }
-    ensures printed { IfOk result (λ s. Gives limits StackName.Pair script.now (string_bytes s)) }
-    ensures fault { IfErr result (λ fault. fault ≡ RunFault.Memory) }
-{
-    let (answers, dispatch) = serve(alloc, pair(alloc, limits), script.requests())?;
-    let both = dispatch.stack().layer();
-    let a = both.inner().inner();
-    let b = both.layer().inner();
-    text_of_two(alloc, script, &answers, ("a", "b"), a, b)
-}
-
-/// What a script prints, where the stack `nested` serves its requests.
-fn nested_text(alloc: Global, limits: Limits, script: &Script<'_>) -> Result<String, RunFault>
-    requires { ArePositive limits }
-    ensures printed { IfOk result (λ s. Gives limits StackName.Nested script.now (string_bytes s)) }
-    ensures fault { IfErr result (λ fault. fault ≡ RunFault.Memory) }
-{
-    let (answers, dispatch) = serve(alloc, nested(alloc, limits), script.requests())?;
-    let stack = dispatch.stack();
-    let base = stack.inner().layer();
-    let deep = stack.layer().inner().inner();
-    text_of_two(alloc, script, &answers, ("base", "deep"), base, deep)
-}
-
-/// What a script prints, where the stack `veto` serves its requests.
-fn veto_text(alloc: Global, limits: Limits, script: &Script<'_>) -> Result<String, RunFault>
-    requires { ArePositive limits }
-    ensures printed { IfOk result (λ s. Gives limits StackName.Veto script.now (string_bytes s)) }
-    ensures fault { IfErr result (λ fault. fault ≡ RunFault.Memory) }
-{
-    let (answers, dispatch) = serve(alloc, veto(alloc, limits), script.requests())?;
-    let warned = dispatch.stack().inner().inner();
-    let base = warned.inner().layer();
-    let warn = warned.layer().inner();
-    text_of_two(alloc, script, &answers, ("base", "warn"), base, warn)
-}
-
-/// What a script prints, where the stack `absent` serves its requests.
-fn absent_text(alloc: Global, limits: Limits, script: &Script<'_>) -> Result<String, RunFault>
-    requires { ArePositive limits }
-    ensures printed { IfOk result (λ s. Gives limits StackName.Absent script.now (string_bytes s)) }
-    ensures fault { IfErr result (λ fault. fault ≡ RunFault.Memory) }
-{
-    let (answers, dispatch) = serve(alloc, absent(alloc, limits), script.requests())?;
-    text_of_one(alloc, script, &answers, dispatch.stack().layer())
 }

@@ -18,7 +18,7 @@ returns-clause-asked g c =
 
 pub returns-clause-served : goal.returns-clause-served
 returns-clause-served g c = record {
-  told = λ f h u. same_stack g.S.LookupSpan.registry g.S.LookupSpan.with_registry g.S.Subscriber.has_form g.S.Subscriber.stepped g.S.Subscriber.levelled (Probe c.args.lane c.args.meta.now) f (yes_answer c.admits.result) c.args.self.now c.admits.new.self c.admits.ensures.stack (probed g.met.S.Subscriber.laws g.met.S.LookupSpan.with_own g.S.Subscriber.levelled c.args.lane c.args.meta.now c.admits.result f (stack_of c.args.self.now) h).0;
+  told = λ f h u. same_stack g.S.LookupSpan.registry g.S.LookupSpan.with_registry g.S.Subscriber.has_form g.S.Subscriber.stepped g.S.Subscriber.levelled (Probe c.args.lane c.args.meta.now) f (yes_answer c.admits.result) c.args.self.now c.admits.new.self c.admits.ensures.stack (probed g.met.S.Subscriber.laws g.met.S.LookupSpan.with_own g.S.Subscriber.levelled c.args.lane c.args.meta.now c.admits.new.pass c.admits.result f (stack_of c.args.self.now) (c.admits.ensures.decided f h u) h).0;
   exact = λ f h u. probed_exactly g.met.S.Subscriber.laws g.met.S.LookupSpan.with_own g.S.Subscriber.levelled c.args.lane c.args.meta.now c.admits.new.pass c.admits.result f (kept_by c.args.self.now) (kept_by c.admits.new.self) (g.S.LookupSpan.registry (stack_of c.args.self.now)) (rules_of f _ h.rules).orderly (c.admits.ensures.admitted f h u);
 }
 

@@ -1,6 +1,6 @@
 use Rattle.span_dispatch.proofs.Ready.{stays_ready, unchanged_ready}
 use Rattle.span_dispatch.proofs.Alone.{sees_what_is_made}
-use Rattle.span_dispatch.specs.Serve.{kept_by, with_stack}
+use Rattle.span_dispatch.specs.Serve.{with_stack}
 use Rattle.span_dispatch.proofs.Stores.{found_store}
 use Rattle.span_registry.proofs.CallerLemmas.{and_hooks}
 use Rattle.std.proofs.Common.{[], refl, subst, sym, ◌∙◌}
@@ -15,7 +15,7 @@ returns-then-not-is_open-clause-refused g c = (refl, (λ o. true≢false (sym (c
 
 pub returns-then-not-is_open-clause-served : goal.returns-then-not-is_open-clause-served
 returns-then-not-is_open-clause-served g c = record {
-  told = λ f h u. ([], record { says = refl; goes = refl; loses = λ d. absurd (cc) });
+  told = λ f h u. ([], record { says = refl; goes = refl; loses = tt });
   exact = λ f h u. record { answers = (refl, (λ o. true≢false (sym (c.is_open.ensures.1 (subst (λ (s : RegistryState). IsOpen s.store.spans (number_of c.args.id)) (sym c.root.ensures) o)) ∙ c.if-not-is_open.true))); keeps = refl };
 }
 

@@ -8,7 +8,7 @@ use Rattle.span_dispatch.proofs.KeptHint.{event_goes, goes_as, kept_same, level_
 use Rattle.span_dispatch.specs.Serve.{resolved, resolved_parent}
 use Rattle.span_dispatch.specs.declared.request.Answer.TheVariants as answer
 use Rattle.span_dispatch.specs.declared.request.Request.TheVariants as request
-use Rattle.span_dispatch.proofs.Served.{named, served_by, served_by_call, served_nothing}
+use Rattle.span_dispatch.proofs.Served.{named, served_by, served_by_call}
 use Rattle.span_dispatch.proofs.dispatch.Dispatch.serve_one.Goals as goal
 
 pub returns-in-NewSpan-clause-served : goal.returns-in-NewSpan-clause-served

@@ -3,7 +3,7 @@ use Rattle.span_dispatch.specs.Admission.{KeepsSafely}
 use Rattle.span_dispatch.proofs.Alone.{sees_what_is_made}
 use Rattle.span_dispatch.proofs.Goes.{forgotten_current, forgotten_kept, forgotten_safe, level_refused, level_told, ready_levelled}
 use Rattle.span_dispatch.specs.Cache.{IsUpToDate, kept_in}
-use Rattle.span_dispatch.specs.Serve.{kept_by, with_stack}
+use Rattle.span_dispatch.specs.Serve.{with_stack}
 use Rattle.span_dispatch.specs.declared.cache.Cache.{Cache}
 use Rattle.span_registry.specs.Levels.{same_levels}
 use Rattle.std.proofs.Common.{ap, refl, subst, sym, ◌∙◌}
