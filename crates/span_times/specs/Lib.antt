@@ -1,0 +1,4 @@
+pub mod Clock
+pub mod Measure
+pub mod Serving
+pub mod Timeline

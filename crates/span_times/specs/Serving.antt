@@ -1,0 +1,80 @@
+-- What a timeline keeps of a list of requests.
+use Rattle.std.specs.Prelude.{◌≡◌, ℕ, false, List, [], ◌∷◌, ◌++◌, length}
+use Rattle.std.specs.List.{FoldsTo}
+use Rattle.std.specs.declared.alloc.Global.{Global}
+use Rattle.std.specs.declared.vec.Vec.{Vec}
+use Rattle.span_dispatch.specs.Alone.{passed_at}
+use Rattle.span_dispatch.specs.Contract.{SubscriberOf}
+use Rattle.span_dispatch.specs.Serve.{IsReadySomehow, Served, flat, stack_of}
+use Rattle.span_dispatch.specs.declared.dispatch.Dispatch.{Dispatch}
+use Rattle.span_dispatch.specs.declared.request.Answer.{Answer}
+use Rattle.span_dispatch.specs.declared.request.Request.{Request}
+use Rattle.span_layers.specs.Layer.{HearsBy}
+use Rattle.span_layers.specs.Layered.{outer_of}
+use Rattle.span_layers.specs.Observe.{ObserverStep, observer_of}
+use Rattle.span_layers.specs.declared.layered.Layered.{Layered}
+use Rattle.span_layers.specs.declared.observe.Observer.{Observer}
+use Rattle.span_registry.specs.Position.{Heard, Here, Outer, Position}
+use Rattle.span_times.specs.Clock.{NeverGoBack, Reads}
+use Rattle.span_times.specs.Timeline.{clock_of, has_failed, point_of, points_of, timeline_steps}
+use Rattle.span_times.specs.declared.happening.Point.{Point}
+use Rattle.span_times.specs.declared.timeline.Timeline.{Timeline}
+
+-- the points of what was told, each at its time
+abbrev pub points_at : List ℕ → Heard → List Point
+points_at (time ∷ times) (told ∷ heard) =
+    point_of time told.lane told.notice ∷ points_at times heard
+points_at times heard = []
+
+-- a timeline was told all this: it read its clock once for each, never going back, and unless it failed it has all their points, in order, behind the others
+pub record KeepsAll {C : Type 0} (latest : C → ℕ) (gives : C → ℕ → C → Type 0) (x : Timeline C)
+    (heard : Heard) (y : Timeline C) : Type 0 where
+  pub times : List ℕ
+  pub one_each : length times ≡ length heard
+  pub read : FoldsTo (Reads latest gives) (clock_of x) times (clock_of y)
+  pub forward : NeverGoBack (latest (clock_of x)) times
+  pub kept : has_failed y ≡ false
+      → (has_failed x ≡ false) × (points_of y ≡ points_of x ++ points_at times heard)
+
+-- what a stack says of a timeline in it that was told of these: it went through them by its own step, one by one
+abbrev pub TimelineHears : {C : Type 0} → (C → ℕ) → (C → ℕ → C → Type 0) → Observer (Timeline C)
+    → Heard → Observer (Timeline C) → Type 0
+TimelineHears latest gives x heard y =
+    HearsBy (λ x p e lane under v y w.
+    ObserverStep (timeline_steps latest gives) (observer_of x) p e lane under v (observer_of y) w) x
+    Here heard y
+
+-- so it is of each timeline that is told of something
+abbrev pub TimelinesKeepAll : {C : Type 0} → (C → ℕ) → (C → ℕ → C → Type 0) → Type 0
+TimelinesKeepAll {C} latest gives =
+    (x y : Observer (Timeline C)) (heard : Heard) → TimelineHears latest gives x heard y
+    → KeepsAll latest gives (observer_of x) heard (observer_of y)
+
+-- a stack, and outside it a timeline
+abbrev pub WithTimeline : Type 0 → Type 0 → Type 0
+WithTimeline S C = Layered (Observer (Timeline C)) S
+
+-- where the timeline stands
+abbrev pub timeline_position : Position
+timeline_position = Outer Here
+
+-- the timeline in such a stack
+abbrev pub timeline_in : {S C : Type 0} → WithTimeline S C → Timeline C
+timeline_in x = observer_of (outer_of x)
+
+module _ {S C : Type 0} (latest : C → ℕ) (gives : C → ℕ → C → Type 0)
+    (s : SubscriberOf (WithTimeline S C)) where
+  -- these requests were served with these answers, and the timeline keeps all that its position was told, in order
+  pub record KeepsServed (requests : List Request) (answers : List Answer)
+      (old new : WithTimeline S C) : Type 0 where
+    pub served : Served s.registry s.with_registry s.has_form s.stepped s.levelled s.hears s.acts_at
+        requests answers old new
+    pub kept : KeepsAll latest gives (timeline_in old)
+        (passed_at timeline_position (flat served.made)) (timeline_in new)
+
+  -- so it is where the dispatcher was ready
+  abbrev pub ServesTimed : List Request → Dispatch (WithTimeline S C)
+      → Dispatch (WithTimeline S C) → Vec Answer Global → Type 0
+  ServesTimed requests old new answers =
+      IsReadySomehow s.registry s.with_registry s.has_form s.stepped s.levelled old
+      → KeepsServed requests answers.items (stack_of old) (stack_of new)

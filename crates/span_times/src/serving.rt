@@ -1,0 +1,32 @@
+//! Lists of requests, served with a timeline outermost.
+ghost use Rattle.std.specs.Prelude.{◌≡◌, IfErr, IfOk, OnErr};
+ghost use Rattle.span_dispatch.specs.Serve.{stack_of};
+ghost use Rattle.span_times.specs.Serving.{ServesTimed};
+
+use crate::clock::Now;
+use crate::timeline::Timeline;
+use span_core::TraceError;
+use span_dispatch::{Answer, Dispatch, Request};
+use span_layers::{Layered, Observer};
+use span_registry::Subscriber;
+use std::alloc::Global;
+
+/// A stack, and outside it a timeline.
+pub type WithTimeline<S, C> = Layered<Observer<Timeline<C>>, S>;
+
+/// Serves requests in order, with one answer for each; the timeline keeps a point for each thing that it is told of.
+pub fn serve_timed<S: Subscriber, C: Now>(
+    alloc: Global,
+    dispatch: &mut Dispatch<WithTimeline<S, C>>,
+    requests: &[Request<'_>],
+) -> Result<Vec<Answer>, TraceError>
+    requires { ⟦<WithTimeline<S, C> as Subscriber>⟧.usable (stack_of dispatch.old) }
+    ensures usable { ⟦<WithTimeline<S, C> as Subscriber>⟧.usable (stack_of dispatch.new) }
+    ensures kept { IfOk result (ServesTimed C.latest C.gives
+        ⟦<WithTimeline<S, C> as Subscriber>⟧ requests.now dispatch.old dispatch.new) }
+    ensures memory { IfErr result (λ e. e ≡ TraceError.OutOfMemory) }
+    ensures unchanged { OnErr result (dispatch.new ≡ dispatch.old) }
+{
+    let answers = dispatch.serve(alloc, requests)?;
+    Ok(answers)
+}

@@ -1,0 +1,71 @@
+//! A layer that keeps what happened, on which lane, and when.
+ghost use Rattle.std.specs.Prelude.{◌≡◌, [], false};
+ghost use Rattle.span_times.specs.Timeline.{TakesPoints, clock_of, has_failed, points_of, timeline_steps};
+
+use crate::clock::Now;
+use crate::happening::{Point, happening_in};
+use span_layers::{Observe, Observed};
+use span_registry::{ContextMut, Subscriber};
+use std::alloc::Global;
+use std::mem;
+
+/// Keeps a point for all that it is told of, up to the first that finds no memory.
+#[derive(Drop)]
+pub struct Timeline<C> {
+    clock: C,
+    alloc: Global,
+    points: Vec<Point>,
+    failed: bool,
+}
+
+impl<C: Now> Timeline<C> {
+    /// Nothing happened yet.
+    pub fn new(alloc: Global, clock: C) -> Timeline<C>
+        ensures points { points_of result ≡ [] }
+        ensures failed { has_failed result ≡ false }
+        ensures clock { clock_of result ≡ clock }
+    {
+        Timeline {
+            clock,
+            alloc,
+            points: Vec::new(alloc),
+            failed: false,
+        }
+    }
+
+    /// What happened, first things first.
+    pub fn points(&self) -> &[Point]
+        ensures { result.now ≡ points_of self.now }
+    {
+        &self.points
+    }
+
+    /// It found no memory for a point, and has kept none since.
+    pub fn failed(&self) -> bool
+        ensures { result ≡ has_failed self.now }
+    {
+        self.failed
+    }
+
+    /// Takes the points out, so that the timeline goes on with none.
+    pub fn take_points(&mut self) -> Vec<Point>
+        ensures { TakesPoints result self.old self.new }
+    {
+        mem::replace(&mut self.points, Vec::new(self.alloc))
+    }
+}
+
+impl<S: Subscriber, C: Now> Observe<S> for Timeline<C> {
+    ghost observed = { timeline_steps C.latest C.gives };
+
+    fn observe(&mut self, notice: Observed<'_, '_>, ctx: &mut ContextMut<'_, S>) {
+        let point = Point {
+            time: self.clock.now(),
+            lane: ctx.lane(),
+            what: happening_in(notice),
+        };
+        if !self.failed {
+            self.failed = self.points.push(point).is_err();
+        }
+    }
+}
