@@ -1,0 +1,5 @@
+mod Lines
+mod OneLine
+mod Scopes
+mod Plain
+mod Told

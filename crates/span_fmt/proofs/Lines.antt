@@ -1,0 +1,42 @@
+-- A line is never empty.
+use Rattle.std.proofs.Common.{◌≡◌, ◌≢◌, ℕ, List, [], ◌∷◌, ◌++◌, Option, Some, Result, Ok, Err, ap, refl, sym, ◌∙◌}
+use Rattle.std.specs.Borrow.{Bor}
+use Rattle.std.specs.Option.{option_map_or}
+use Rattle.std.specs.Prelude.{IfErr, codes, decimal}
+use Rattle.span_core.specs.declared.event.Event.{Event}
+use Rattle.span_core.specs.Event.{event_metadata, event_values}
+use Rattle.span_core.specs.declared.field.FieldValue.{FieldValue}
+use Rattle.span_core.specs.declared.metadata.Metadata.{Metadata}
+use Rattle.span_registry.specs.View.{View, metadata_shown}
+use Rattle.span_fmt.specs.Text.{head_text, indent, tail_text}
+use Rattle.span_fmt.specs.Tree.{event_text, span_text, spans_above, spans_round}
+
+not_empty : (x : ℕ) (xs : List ℕ) → (x ∷ xs) ≢ []
+not_empty x xs e = cc
+
+behind : (front more : List ℕ) → more ≢ [] → (front ++ more) ≢ []
+behind [] more filled e = filled e
+behind (y ∷ ys) more filled e = not_empty y (ys ++ more) e
+
+longer : (front more : List ℕ) → front ≢ [] → (front ++ more) ≢ []
+longer [] more filled e = filled refl
+longer (y ∷ ys) more filled e = not_empty y (ys ++ more) e
+
+-- nor is what it begins with
+begun : {A : Type 0} (lane : ℕ) (spans : List A) (more : List ℕ) → (head_text lane spans ++ more) ≢ []
+begun lane spans more = longer (head_text lane spans) more (longer (decimal lane ++ codes " ") (indent spans) (behind (decimal lane) (codes " ") (not_empty 32 [])))
+
+-- what holds without an error holds at each
+pub at_an_error : {T E P : Type 0} (r : Result T E) → P → IfErr r (λ e. P)
+at_an_error (Ok v) p = tt
+at_an_error (Err e) p = p
+
+-- the line of an event
+pub event_line_filled : (e : Event) (v : View) → event_text e v ≢ []
+event_line_filled e v = begun v.lane (spans_round e v) (tail_text (codes "-") (event_metadata e) (event_values e))
+
+-- the line of a span that is shown
+pub span_line_filled : (mark : List ℕ) (x : ℕ) (values : List (Bor (List ℕ) × FieldValue)) (v : View) (m : Metadata) → metadata_shown x v ≡ Some m → span_text mark x values v ≢ []
+span_line_filled mark x values v m e none =
+    begun v.lane (spans_above x v) (tail_text mark m values)
+    (sym (ap (λ (o : Option Metadata). option_map_or (λ m. head_text v.lane (spans_above x v) ++ tail_text mark m values) o []) e) ∙ none)

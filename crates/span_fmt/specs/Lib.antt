@@ -1,0 +1,5 @@
+pub mod Page
+pub mod Serve
+pub mod Text
+pub mod Told
+pub mod Tree

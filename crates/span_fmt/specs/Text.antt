@@ -1,0 +1,48 @@
+-- The text of fields, and of a line.
+use Rattle.std.specs.Prelude.{◌≡◌, ◌==◌, if◌then◌else◌, ℕ, List, [], ◌∷◌, ◌++◌, String, codes, decimal, flat_map, string_bytes}
+use Rattle.std.specs.Borrow.{Bor}
+use Rattle.span_core.specs.Field.{value_text}
+use Rattle.span_core.specs.Level.{level_text}
+use Rattle.span_core.specs.Metadata.{level_of, name_of, target_of}
+use Rattle.span_core.specs.declared.field.FieldValue.{FieldValue}
+use Rattle.span_core.specs.declared.field.FieldValue.TheVariants as value
+use Rattle.span_core.specs.declared.metadata.Metadata.{Metadata}
+
+-- a text goes on with these bytes
+abbrev pub IsContinued : {A : Type 0} → String A → String A → List ℕ → Type 0
+IsContinued old new bytes = string_bytes new ≡ string_bytes old ++ bytes
+
+-- a byte as it is, and a line feed as \n
+abbrev pub byte_text : ℕ → List ℕ
+byte_text b = if b == 10 then codes "\\n" else b ∷ []
+
+-- a text in one line: each line feed in it is written as \n, all else as it is
+abbrev pub one_line : List ℕ → List ℕ
+one_line bytes = flat_map byte_text bytes
+
+-- a value in one line
+abbrev pub shown_text : FieldValue → List ℕ
+shown_text (value.Text t) = one_line t.now
+shown_text other = value_text other
+
+-- a field behind a space
+abbrev pub field_text : List ℕ → FieldValue → List ℕ
+field_text name value = codes " " ++ one_line name ++ codes "=" ++ shown_text value
+
+-- fields, one after the other
+abbrev pub fields_text : List (Bor (List ℕ) × FieldValue) → List ℕ
+fields_text values = flat_map (λ f. field_text f.0.now f.1) values
+
+-- two spaces for each of these
+abbrev pub indent : {A : Type 0} → List A → List ℕ
+indent xs = flat_map (λ x. codes "  ") xs
+
+-- how a line begins: with its lane, and indented by these spans
+abbrev pub head_text : {A : Type 0} → ℕ → List A → List ℕ
+head_text lane spans = decimal lane ++ codes " " ++ indent spans
+
+-- how it goes on: with a mark, the level, the target and the name, and these values
+abbrev pub tail_text : List ℕ → Metadata → List (Bor (List ℕ) × FieldValue) → List ℕ
+tail_text mark m values =
+    mark ++ codes " " ++ level_text (level_of m) ++ codes " " ++ one_line (target_of m)
+    ++ codes ": " ++ one_line (name_of m) ++ fields_text values ++ codes "\n"

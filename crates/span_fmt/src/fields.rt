@@ -1,0 +1,54 @@
+//! Names and values of fields as text, in one line.
+ghost use Rattle.std.specs.Prelude.{◌≡◌, OnOk};
+ghost use Rattle.span_fmt.specs.Text.{IsContinued, field_text, fields_text, one_line, shown_text};
+
+use span_core::FieldValue;
+use std::alloc::AllocError;
+
+/// Writes each field behind a space, as `name=value`. A line feed in a text is written as `\n`.
+///
+/// Where memory is refused, only a beginning may be written.
+pub fn write_fields(
+    text: &mut String,
+    values: &[(&'static str, FieldValue<'_>)],
+) -> Result<(), AllocError>
+    ensures { OnOk result (IsContinued text.old text.new (fields_text values.now)) }
+{
+    for field in values {
+        write_field(text, field.0, field.1)?;
+    }
+    Ok(())
+}
+
+/// Writes one field behind a space.
+fn write_field(text: &mut String, name: &str, value: FieldValue<'_>) -> Result<(), AllocError>
+    ensures { OnOk result (IsContinued text.old text.new (field_text name.now value.entry)) }
+{
+    text.push_str(" ")?;
+    write_in_one_line(text, name)?;
+    text.push_str("=")?;
+    write_value(text, value)
+}
+
+/// Writes a value.
+fn write_value(text: &mut String, value: FieldValue<'_>) -> Result<(), AllocError>
+    ensures { OnOk result (IsContinued text.old text.new (shown_text value.entry)) }
+{
+    if let FieldValue::Text(words) = value {
+        return write_in_one_line(text, words);
+    }
+    write!(text, "{value}")
+}
+
+/// Writes a text, and each line feed in it as `\n`.
+pub(crate) fn write_in_one_line(text: &mut String, words: &str) -> Result<(), AllocError>
+    ensures { OnOk result (IsContinued text.old text.new (one_line words.now)) }
+{
+    let mut rest = words;
+    while let Some((line, after)) = rest.split_once('\n') {
+        text.push_str(line)?;
+        text.push_str("\\n")?;
+        rest = after;
+    }
+    text.push_str(rest)
+}

@@ -1,0 +1,64 @@
+//! A text that grows by whole pieces, up to the first that finds no memory.
+ghost use Rattle.std.specs.Prelude.{◌≡◌, ◌≢◌, ℕ, List, [], false, IfErr, IfOk, string_bytes};
+ghost use Rattle.span_fmt.specs.Page.{Writes, is_cut, written};
+
+use std::alloc::{AllocError, Global};
+
+/// A text that grows by whole pieces, up to the first that finds no memory.
+#[derive(Drop)]
+pub(crate) struct Page {
+    text: String,
+    cut: bool,
+}
+
+impl Page {
+    /// An empty page.
+    pub(crate) fn new(alloc: Global) -> Page
+        ensures text { written result ≡ [] }
+        ensures cut { is_cut result ≡ false }
+    {
+        Page {
+            text: String::new(alloc),
+            cut: false,
+        }
+    }
+
+    /// What is written.
+    pub(crate) fn text(&self) -> &str
+        ensures { result.now ≡ written self.now }
+    {
+        self.text.as_str()
+    }
+
+    /// It found no memory for a piece, and has written nothing since.
+    pub(crate) fn is_cut(&self) -> bool
+        ensures { result ≡ is_cut self.now }
+    {
+        self.cut
+    }
+
+    /// Writes a piece, if there is memory for it, and was for those before.
+    pub(crate) fn write(&mut self, piece: Result<String, AllocError>)
+        ensures { (bytes : List ℕ) → IfOk piece (λ s. string_bytes s ≡ bytes)
+            → IfErr piece (λ e. bytes ≢ []) → Writes bytes self.old self.new }
+    {
+        if self.cut {
+            return;
+        }
+        match piece {
+            Ok(piece) if piece.is_empty() => {}
+            Ok(piece) => self.cut = self.text.push_str(piece.as_str()).is_err(),
+            Err(_) => self.cut = true,
+        }
+    }
+
+    /// Takes out what is written, and leaves an empty page.
+    pub(crate) fn take(&mut self, alloc: Global) -> String
+        ensures text { string_bytes result ≡ written self.old }
+        ensures empty { written self.new ≡ [] }
+        ensures cut { is_cut self.new ≡ false }
+    {
+        let page = std::mem::replace(self, Page::new(alloc));
+        page.text
+    }
+}

@@ -1,0 +1,185 @@
+//! A line for each span that opens or closes, each record and each event, indented by depth.
+ghost use Rattle.std.specs.Io.KnownBytes.{Appends};
+ghost use Rattle.std.specs.Prelude.{◌≡◌, ◌≢◌, IfErr, IfOk, OnOk, [], drop, false, string_bytes};
+ghost use Rattle.span_core.specs.Span.{number_of};
+ghost use Rattle.span_layers.specs.Observe.{notice_of};
+ghost use Rattle.span_registry.specs.Context.{view_lent};
+ghost use Rattle.span_fmt.specs.Text.{IsContinued, head_text, tail_text};
+ghost use Rattle.span_fmt.specs.Tree.{event_text, given, has_failed, notice_text, span_text, text_of, tree_steps};
+
+use crate::fields::{write_fields, write_in_one_line};
+use crate::page::Page;
+use span_core::{Event, FieldValue, Id, Lane, Metadata};
+use span_layers::{Observe, Observed};
+use span_registry::{ContextMut, LookupSpan, Scope, Subscriber, laws};
+use std::alloc::{AllocError, Global};
+use std::io::{self, Write};
+
+/// Writes a line for each new span, event, record and close that it is told of, up to the first that finds no memory.
+///
+/// A line begins with its lane, and is indented by the spans above that its own context shows.
+#[derive(Drop)]
+pub struct Tree {
+    alloc: Global,
+    page: Page,
+}
+
+impl Tree {
+    /// Nothing is written.
+    pub fn new(alloc: Global) -> Tree
+        ensures text { text_of result ≡ [] }
+        ensures failed { has_failed result ≡ false }
+    {
+        Tree {
+            alloc,
+            page: Page::new(alloc),
+        }
+    }
+
+    /// What is written.
+    pub fn text(&self) -> &str
+        ensures { result.now ≡ text_of self.now }
+    {
+        self.page.text()
+    }
+
+    /// It found no memory for a line, and has written nothing since.
+    pub fn failed(&self) -> bool
+        ensures { result ≡ has_failed self.now }
+    {
+        self.page.is_cut()
+    }
+
+    /// Writes the text to a writer. Where that fails, a beginning of it may be there.
+    pub fn write_to<W: Write>(&self, writer: &mut W) -> io::Result<()>
+        ensures { OnOk result
+            (Appends (W.contents writer.old) (W.contents writer.new) (text_of self.now)) }
+    {
+        writer.write_all(self.text().as_bytes())
+    }
+
+    /// Takes out what is written. It begins anew, also where it had failed: `failed` is asked before.
+    pub fn take_text(&mut self) -> String
+        ensures taken { string_bytes result ≡ text_of self.old }
+        ensures text { text_of self.new ≡ [] }
+        ensures failed { has_failed self.new ≡ false }
+    {
+        self.page.take(self.alloc)
+    }
+}
+
+impl<S: Subscriber> Observe<S> for Tree {
+    ghost observed = { tree_steps };
+
+    fn observe(&mut self, notice: Observed<'_, '_>, ctx: &mut ContextMut<'_, S>) {
+        laws::extensions_change_no_look_up();
+        let due = text_due(self.alloc, notice, ctx);
+        self.page.write(due);
+    }
+}
+
+/// The line of a notice in what a hook sees, or nothing.
+fn text_due<S: Subscriber>(
+    alloc: Global,
+    notice: Observed<'_, '_>,
+    ctx: &ContextMut<'_, S>,
+) -> Result<String, AllocError>
+    ensures text { IfOk result (λ line. string_bytes line
+        ≡ notice_text (notice_of notice.entry) (view_lent S.registry ctx.now)) }
+    ensures refused { IfErr result
+        (λ e. notice_text (notice_of notice.entry) (view_lent S.registry ctx.now) ≢ []) }
+{
+    match notice {
+        Observed::NewSpan(attrs, id) => span_line(alloc, ">", id, attrs.values(), ctx),
+        Observed::Record(id, values) => span_line(alloc, "~", id, values.values(), ctx),
+        Observed::Close(id) => span_line(alloc, "<", id, &[], ctx),
+        Observed::Event(event) => event_line(alloc, event, ctx),
+        _ => Ok(String::new(alloc)),
+    }
+}
+
+/// The line of a span that a hook sees, and nothing of one that it doesn't.
+fn span_line<S: Subscriber>(
+    alloc: Global,
+    mark: &str,
+    id: Id,
+    values: &[(&'static str, FieldValue<'_>)],
+    ctx: &ContextMut<'_, S>,
+) -> Result<String, AllocError>
+    ensures text { IfOk result (λ line. string_bytes line
+        ≡ span_text mark.now (number_of id) values.now (view_lent S.registry ctx.now)) }
+    ensures refused { IfErr result
+        (λ e. span_text mark.now (number_of id) values.now (view_lent S.registry ctx.now) ≢ []) }
+{
+    let Some(metadata) = ctx.metadata(id) else {
+        return Ok(String::new(alloc));
+    };
+    let look = ctx.ctx();
+    let mut line = head(alloc, ctx.lane(), above(look.span_scope(id)))?;
+    write_tail(&mut line, mark, metadata, values)?;
+    Ok(line)
+}
+
+/// The line of an event in what a hook sees.
+fn event_line<S: Subscriber>(
+    alloc: Global,
+    event: &Event<'_>,
+    ctx: &ContextMut<'_, S>,
+) -> Result<String, AllocError>
+    ensures text { IfOk result (λ line. string_bytes line
+        ≡ event_text event.now (view_lent S.registry ctx.now)) }
+    ensures refused { IfErr result (λ e. event_text event.now (view_lent S.registry ctx.now) ≢ []) }
+{
+    let look = ctx.ctx();
+    let mut line = head(alloc, ctx.lane(), look.event_scope(event))?;
+    write_tail(&mut line, "-", event.metadata(), event.values())?;
+    Ok(line)
+}
+
+/// The spans of a scope that are above its first.
+fn above<S: LookupSpan>(spans: Option<Scope<'_, S>>) -> Option<Scope<'_, S>>
+    ensures { given S.registry result ≡ drop 1 (given S.registry spans.entry) }
+{
+    let mut spans = spans?;
+    let _first = spans.next();
+    Some(spans)
+}
+
+/// How a line begins: with its lane, and two spaces for each of these spans.
+fn head<S: LookupSpan>(
+    alloc: Global,
+    lane: Lane,
+    spans: Option<Scope<'_, S>>,
+) -> Result<String, AllocError>
+    ensures { IfOk result (λ line. string_bytes line
+        ≡ head_text lane.0 (given S.registry spans.entry)) }
+{
+    let mut line = String::new(alloc);
+    write!(line, "{} ", lane.0)?;
+    let Some(spans) = spans else {
+        return Ok(line);
+    };
+    for _span in spans {
+        line.push_str("  ")?;
+    }
+    Ok(line)
+}
+
+/// How it goes on: with a mark, the level, the target and the name, and these values.
+fn write_tail(
+    line: &mut String,
+    mark: &str,
+    metadata: Metadata,
+    values: &[(&'static str, FieldValue<'_>)],
+) -> Result<(), AllocError>
+    ensures { OnOk result (IsContinued line.old line.new
+        (tail_text mark.now metadata values.now)) }
+{
+    let level = metadata.level();
+    write!(line, "{mark} {level} ")?;
+    write_in_one_line(line, metadata.target())?;
+    line.push_str(": ")?;
+    write_in_one_line(line, metadata.name())?;
+    write_fields(line, values)?;
+    line.push_str("\n")
+}
