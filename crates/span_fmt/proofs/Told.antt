@@ -40,13 +40,14 @@ in_front : (line more old mid new : List ℕ) → mid ≡ old ++ line → new �
 in_front line more old mid new first then = then ∙ ap (λ (t : List ℕ). t ++ more) first ∙ append_assoc old line more
 
 -- it wrote one line, and then these
-first_written : (told : Told) (heard : Heard) (x z y : Tree) → Goes (notice_text told.notice told.view) x z → WritesAll heard z y → (has_failed z ≡ true → text_of y ≡ text_of z) → WritesAll (told ∷ heard) x y
-first_written told heard x z y one rest none = record {
+first_written : (told : Told) (heard : Heard) (x z y : Tree) → Goes (notice_text told.notice told.view) x z → WritesAll heard z y → (has_failed z ≡ true → text_of y ≡ text_of z) → (has_failed x ≡ true → (has_failed y ≡ true) × (text_of y ≡ text_of x)) → WritesAll (told ∷ heard) x y
+first_written told heard x z y one rest none stays = record {
   whole = λ sound.
       let late = rest.whole sound in
       let early = one.whole late.0 in
       (early.0, in_front (notice_text told.notice told.view) (heard_text heard) (text_of x) (text_of z) (text_of y) early.1 late.1);
   beginning = by_test (has_failed z) refl;
+  stays = stays;
 }
   where
     by_test : (b : Bool) → has_failed z ≡ b → (n : ℕ) × (text_of y ≡ text_of x ++ heard_text (take n (told ∷ heard)))
@@ -59,7 +60,7 @@ first_written told heard x z y one rest none = record {
 pub all_written : (x y : Observer Tree) (heard : Heard) → TreeHears x heard y → WritesAll heard (observer_of x) (observer_of y)
 all_written x y [] a =
     let same : text_of (observer_of y) ≡ text_of (observer_of x) ++ [] = ap (λ (z : Observer Tree). text_of (observer_of z)) (sym a) ∙ sym (append-nil (text_of (observer_of x))) in
-    record { whole = λ sound. (ap (λ (z : Observer Tree). has_failed (observer_of z)) a ∙ sound, same); beginning = (0, same) }
+    record { whole = λ sound. (ap (λ (z : Observer Tree). has_failed (observer_of z)) a ∙ sound, same); beginning = (0, same); stays = nothing_more [] x y a }
 all_written x y (told ∷ heard) a =
     let z = observer_of a.0 in
-    first_written told heard (observer_of x) z (observer_of y) (told_one told heard x y a) (all_written a.0 y heard a.2) (λ failed. (nothing_more heard a.0 y a.2 failed).1)
+    first_written told heard (observer_of x) z (observer_of y) (told_one told heard x y a) (all_written a.0 y heard a.2) (λ failed. (nothing_more heard a.0 y a.2 failed).1) (nothing_more (told ∷ heard) x y a)

@@ -33,7 +33,7 @@ module _ {S : Type 0} where
   tree_in x = observer_of (layer_of (outer_of x))
 
 module _ {S : Type 0} (s : SubscriberOf (WithTree S)) where
-  -- these requests were served with these answers, and the tree wrote a line for all that its position was told, in order
+  -- these requests were served with these answers, and the tree wrote the lines of what its position was told, in order, unless it failed
   pub record WritesServed (requests : List Request) (answers : List Answer)
       (old new : WithTree S) : Type 0 where
     pub served : Served s.registry s.with_registry s.has_form s.stepped s.levelled s.hears

@@ -1,4 +1,4 @@
--- What a tree writes: a line for each notice, a function of it and of what the tree's own context shows.
+-- What a tree writes: a line for each new span, record, close and event, a function of it and of what the tree's own context shows.
 use Rattle.std.specs.Prelude.{◌≡◌, ℕ, Bool, List, [], ◌++◌, Option, codes, drop}
 use Rattle.std.specs.Borrow.{Bor}
 use Rattle.std.specs.Option.{option_map_or}

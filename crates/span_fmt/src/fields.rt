@@ -7,7 +7,7 @@ use std::alloc::AllocError;
 
 /// Writes each field behind a space, as `name=value`. A line feed in a text is written as `\n`.
 ///
-/// Where memory is refused, only a beginning may be written.
+/// Where memory is refused, no clause says what of it is written: throw the text away.
 pub fn write_fields(
     text: &mut String,
     values: &[(&'static str, FieldValue<'_>)],

@@ -68,11 +68,11 @@ spent lies x last (p ∷ ps) =
     if is_about x p.what then gap lies last p + spent lies x (Some p) ps
     else spent lies x last ps
 
--- how long a span was busy
+-- how long a span was busy: the time from each entry to an exit that comes next
 abbrev pub busy_in : List Point → ℕ → ℕ
 busy_in ps x = capped (spent is_busy x None ps)
 
--- how long it was idle
+-- how long it was idle: the time from its opening or each exit to an entry or a close that comes next
 abbrev pub idle_in : List Point → ℕ → ℕ
 idle_in ps x = capped (spent is_idle x None ps)
 

@@ -1,5 +1,5 @@
 -- What a timeline keeps of a list of requests.
-use Rattle.std.specs.Prelude.{◌≡◌, ℕ, false, List, [], ◌∷◌, ◌++◌, length}
+use Rattle.std.specs.Prelude.{◌≡◌, ℕ, false, true, List, [], ◌∷◌, ◌++◌, length, take}
 use Rattle.std.specs.List.{FoldsTo}
 use Rattle.std.specs.declared.alloc.Global.{Global}
 use Rattle.std.specs.declared.vec.Vec.{Vec}
@@ -16,7 +16,7 @@ use Rattle.span_layers.specs.declared.layered.Layered.{Layered}
 use Rattle.span_layers.specs.declared.observe.Observer.{Observer}
 use Rattle.span_registry.specs.Position.{Heard, Here, Outer, Position}
 use Rattle.span_times.specs.Clock.{NeverGoBack, Reads}
-use Rattle.span_times.specs.Timeline.{clock_of, has_failed, point_of, points_of, timeline_steps}
+use Rattle.span_times.specs.Timeline.{IsInOrder, clock_of, has_failed, point_of, points_of, timeline_steps}
 use Rattle.span_times.specs.declared.happening.Point.{Point}
 use Rattle.span_times.specs.declared.timeline.Timeline.{Timeline}
 
@@ -26,7 +26,7 @@ points_at (time ∷ times) (told ∷ heard) =
     point_of time told.lane told.notice ∷ points_at times heard
 points_at times heard = []
 
--- a timeline was told all this: it read its clock once for each, never going back, and unless it failed it has all their points, in order, behind the others
+-- a timeline was told all this: it read its clock once for each, never going back, and has their points, in order, behind the others; where it failed, those of a beginning alone, and none where it had failed before; points that were in order stay so
 pub record KeepsAll {C : Type 0} (latest : C → ℕ) (gives : C → ℕ → C → Type 0) (x : Timeline C)
     (heard : Heard) (y : Timeline C) : Type 0 where
   pub times : List ℕ
@@ -35,6 +35,9 @@ pub record KeepsAll {C : Type 0} (latest : C → ℕ) (gives : C → ℕ → C �
   pub forward : NeverGoBack (latest (clock_of x)) times
   pub kept : has_failed y ≡ false
       → (has_failed x ≡ false) × (points_of y ≡ points_of x ++ points_at times heard)
+  pub beginning : (n : ℕ) × (points_of y ≡ points_of x ++ take n (points_at times heard))
+  pub stays : has_failed x ≡ true → (has_failed y ≡ true) × (points_of y ≡ points_of x)
+  pub order : IsInOrder latest x → IsInOrder latest y
 
 -- what a stack says of a timeline in it that was told of these: it went through them by its own step, one by one
 abbrev pub TimelineHears : {C : Type 0} → (C → ℕ) → (C → ℕ → C → Type 0) → Observer (Timeline C)
@@ -64,7 +67,7 @@ timeline_in x = observer_of (outer_of x)
 
 module _ {S C : Type 0} (latest : C → ℕ) (gives : C → ℕ → C → Type 0)
     (s : SubscriberOf (WithTimeline S C)) where
-  -- these requests were served with these answers, and the timeline keeps all that its position was told, in order
+  -- these requests were served with these answers, and the timeline keeps all that its position was told, in order, unless it failed
   pub record KeepsServed (requests : List Request) (answers : List Answer)
       (old new : WithTimeline S C) : Type 0 where
     pub served : Served s.registry s.with_registry s.has_form s.stepped s.levelled s.hears s.acts_at

@@ -7,7 +7,7 @@ ghost use Rattle.span_times.specs.Measure.{busy_in, capped, closes, count_in, ga
 use crate::happening::{Happening, Point};
 use span_core::Id;
 
-/// The two parts of the time in which a span is open.
+/// Two parts of the time in which a span is open. Where it is entered and left in turns, they are all of it.
 #[derive(Clone, Copy)]
 enum Part {
     Busy,

@@ -1,5 +1,6 @@
 //! Lists of requests, served with a timeline outermost.
-ghost use Rattle.std.specs.Prelude.{◌≡◌, IfErr, IfOk, OnErr};
+ghost use Rattle.std.specs.Prelude.{◌≡◌, IfErr, IfOk, OnErr, length};
+ghost use Rattle.span_dispatch.specs.Contract.{ServesListExactly, StaysReadyByRules};
 ghost use Rattle.span_dispatch.specs.Serve.{stack_of};
 ghost use Rattle.span_times.specs.Serving.{ServesTimed};
 
@@ -14,7 +15,7 @@ use std::alloc::Global;
 /// A stack, and outside it a timeline.
 pub type WithTimeline<S, C> = Layered<Observer<Timeline<C>>, S>;
 
-/// Serves requests in order, with one answer for each; the timeline keeps a point for each thing that it is told of.
+/// Serves requests in order, with one answer for each; the timeline keeps a point for each thing that it is told of, unless it failed.
 pub fn serve_timed<S: Subscriber, C: Now>(
     alloc: Global,
     dispatch: &mut Dispatch<WithTimeline<S, C>>,
@@ -22,8 +23,13 @@ pub fn serve_timed<S: Subscriber, C: Now>(
 ) -> Result<Vec<Answer>, TraceError>
     requires { ⟦<WithTimeline<S, C> as Subscriber>⟧.usable (stack_of dispatch.old) }
     ensures usable { ⟦<WithTimeline<S, C> as Subscriber>⟧.usable (stack_of dispatch.new) }
+    ensures ready { StaysReadyByRules ⟦<WithTimeline<S, C> as Subscriber>⟧ dispatch.old
+        dispatch.new }
     ensures kept { IfOk result (ServesTimed C.latest C.gives
         ⟦<WithTimeline<S, C> as Subscriber>⟧ requests.now dispatch.old dispatch.new) }
+    ensures exact { IfOk result (ServesListExactly ⟦<WithTimeline<S, C> as Subscriber>⟧
+        requests.now dispatch.old dispatch.new) }
+    ensures length { IfOk result (λ a. length a.items ≡ length requests.now) }
     ensures memory { IfErr result (λ e. e ≡ TraceError.OutOfMemory) }
     ensures unchanged { OnErr result (dispatch.new ≡ dispatch.old) }
 {

@@ -1,6 +1,6 @@
 //! A layer that keeps what happened, on which lane, and when.
 ghost use Rattle.std.specs.Prelude.{◌≡◌, [], false};
-ghost use Rattle.span_times.specs.Timeline.{TakesPoints, clock_of, has_failed, points_of, timeline_steps};
+ghost use Rattle.span_times.specs.Timeline.{IsInOrder, TakesPoints, clock_of, has_failed, points_of, timeline_steps};
 
 use crate::clock::Now;
 use crate::happening::{Point, happening_in};
@@ -24,6 +24,7 @@ impl<C: Now> Timeline<C> {
         ensures points { points_of result ≡ [] }
         ensures failed { has_failed result ≡ false }
         ensures clock { clock_of result ≡ clock }
+        ensures order { IsInOrder C.latest result }
     {
         Timeline {
             clock,
@@ -47,10 +48,12 @@ impl<C: Now> Timeline<C> {
         self.failed
     }
 
-    /// Takes the points out, so that the timeline goes on with none.
+    /// Takes the points out. It begins anew, also where it had failed: `failed` is asked before.
     pub fn take_points(&mut self) -> Vec<Point>
-        ensures { TakesPoints result self.old self.new }
+        ensures taken { TakesPoints result self.old self.new }
+        ensures order { IsInOrder C.latest self.new }
     {
+        self.failed = false;
         mem::replace(&mut self.points, Vec::new(self.alloc))
     }
 }
