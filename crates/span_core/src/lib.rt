@@ -23,6 +23,3 @@ pub use level::{Level, LevelFilter};
 pub use metadata::{Kind, Metadata};
 pub use pass::Pass;
 pub use span::{Attributes, Current, Id, Lane, Parent, Record};
-
-#[cfg(test)]
-mod tests;

@@ -46,6 +46,15 @@ boxed_lawfully {I} {V} boxed has inside acts x y same e lane under v z w taken l
     subst (λ (p : (i : I) × V i). StepsLawfully has inside acts (boxed p.0 p.1) e lane under v (boxed x.0 z) w) same
     (record { taken = taken; law = record { answers = law.answers; conduct = law.conduct } })
 
+-- the same, lent on another context, where that has the same lane, the same filters and the same registries
+pub carried_over : {B : Type 0} {has : B → Behaviour → Type 0} {inside : FilterSteps B} {acts : B → Conduct → Type 0} {x y : B} {e : Notice} {lane mid : ℕ} {under down : FilterSet} {v u w r : RegistryState}
+    → StepsLawfully has inside acts x e lane under v y w → lane ≡ mid → under ≡ down → v ≡ u → w ≡ r → StepsLawfully has inside acts x e mid down u y r
+carried_over {has = has} {inside = inside} {acts = acts} {x = x} {y = y} {e = e} {lane = lane} {mid = mid} {under = under} {down = down} {v = v} {u = u} {w = w} {r = r} steps a b c d =
+    subst (λ l. StepsLawfully has inside acts x e l down u y r) a
+    (subst (λ n. StepsLawfully has inside acts x e lane n u y r) b
+    (subst (λ s. StepsLawfully has inside acts x e lane under s y r) c
+    (subst (λ s. StepsLawfully has inside acts x e lane under v y s) d steps)))
+
 -- the same where a level is set
 pub boxed_level : {I : Type 0} {V : I → Type 0} {B : Type 0} (boxed : (i : I) → V i → B) (has : B → Behaviour → Type 0) (inside : FilterLevelSteps B) (acts : B → Conduct → Type 0)
     (x y : (i : I) × V i) → x ≡ y → (l : LevelFilter) (z : V x.0) → inside (boxed x.0 x.1) l (boxed x.0 z)

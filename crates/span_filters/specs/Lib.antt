@@ -1,3 +1,4 @@
+pub mod Always
 pub mod Boxed
 pub mod Closure
 pub mod Combinator

@@ -1,6 +1,7 @@
 //! Filters: which spans and events a layer is notified of.
 #![tactic(auto)]
 
+mod always;
 mod boxed;
 mod closure;
 mod combinator;
@@ -9,6 +10,7 @@ mod function;
 pub mod laws;
 mod level;
 
+pub use always::AlwaysUsableFilter;
 pub use boxed::{BoxedFilter, DynFilter};
 pub use closure::{DynFilterFn, FilterFn, dynamic_filter_fn, filter_fn};
 pub use combinator::{And, FilterExt, Not, Or};

@@ -19,6 +19,7 @@ use span_core::{
 use span_layers::{Filtered, Layer, LayerExt, Layered, Observer, SubscriberExt};
 use span_registry::{Context, ContextMut, LookupSpan, Registry, Subscriber, Tag};
 use std::alloc::Global;
+use std::process::Abort;
 use std::test::Fail;
 
 /// Sends an event at each new span. Its hooks do more than write extensions, and its form says so.
@@ -113,83 +114,90 @@ fn two_watchers(alloc: Global) -> Result<TwoWatchers, TraceError> {
     put(put(Registry::new(alloc), new_watcher(alloc))?, under_info)
 }
 
+/// A watcher saw this.
+fn saw(rt: &impl Abort, watcher: &Observer<Watcher>, seen: &[Seen]) {
+    assert_eq!(rt; watcher.observer().seen.as_slice(), seen);
+}
+
+/// Three spans, each in the one before, and an event in the second, which alone is of level debug.
+fn three_spans<S: Subscriber>(rt: &impl Abort, stack: &mut S) -> Result<[Id; 3], Fail>
+    requires { S.usable stack.old }
+    ensures { S.usable stack.new }
+{
+    let root = open(stack, Level::INFO, None)?;
+    let child = open(stack, Level::DEBUG, Some(root))?;
+    let leaf = open(stack, Level::INFO, Some(child))?;
+    assert!(rt; send_in(stack, Level::INFO, child));
+    Ok([root, child, leaf])
+}
+
 #[test]
 fn one_layers_filter_hides_nothing_from_another(rt: HostRuntime) -> Result<(), Fail> {
     let mut stack = two_watchers(rt.alloc())?;
-    let root = open(&mut stack, Level::INFO, None)?;
-    let child = open(&mut stack, Level::DEBUG, Some(root))?;
-    let leaf = open(&mut stack, Level::INFO, Some(child))?;
-    assert!(rt; send_in(&mut stack, Level::INFO, child));
-    let filtered = stack.layer().inner().observer();
-    let open = stack.inner().layer().observer();
-    assert_eq!(rt;
-        filtered.seen.as_slice(),
-        [
-            Seen::NewSpan(root),
-            Seen::InScope(root),
-            Seen::NewSpan(leaf),
-            Seen::InScope(leaf),
-            Seen::InScope(root),
-            Seen::Event,
-        ]
-        .as_slice()
-    );
-    assert_eq!(rt;
-        open.seen.as_slice(),
-        [
-            Seen::NewSpan(root),
-            Seen::InScope(root),
-            Seen::NewSpan(child),
-            Seen::InScope(child),
-            Seen::InScope(root),
-            Seen::NewSpan(leaf),
-            Seen::InScope(leaf),
-            Seen::InScope(child),
-            Seen::InScope(root),
-            Seen::Event,
-            Seen::InScope(child),
-            Seen::InScope(root),
-        ]
-        .as_slice()
-    );
+    let [root, child, leaf] = three_spans(&rt, &mut stack)?;
+    let under_info = [
+        Seen::NewSpan(root),
+        Seen::InScope(root),
+        Seen::NewSpan(leaf),
+        Seen::InScope(leaf),
+        Seen::InScope(root),
+        Seen::Event,
+    ];
+    saw(&rt, stack.layer().inner(), &under_info);
+    let open = [
+        Seen::NewSpan(root),
+        Seen::InScope(root),
+        Seen::NewSpan(child),
+        Seen::InScope(child),
+        Seen::InScope(root),
+        Seen::NewSpan(leaf),
+        Seen::InScope(leaf),
+        Seen::InScope(child),
+        Seen::InScope(root),
+        Seen::Event,
+        Seen::InScope(child),
+        Seen::InScope(root),
+    ];
+    saw(&rt, stack.inner().layer(), &open);
     Ok(())
+}
+
+/// A span of level info and one of level debug, and all else that comes of the second.
+fn shown_and_hidden<S: Subscriber>(stack: &mut S) -> Result<(Id, Id), Fail>
+    requires { S.usable stack.old }
+    ensures { S.usable stack.new }
+{
+    let shown = open(stack, Level::INFO, None)?;
+    let hidden = open(stack, Level::DEBUG, None)?;
+    notify(stack, hidden, shown)?;
+    Ok((shown, hidden))
 }
 
 #[test]
 fn a_hidden_span_is_hidden_from_its_layer_alone(rt: HostRuntime) -> Result<(), Fail> {
     let mut stack = two_watchers(rt.alloc())?;
-    let shown = open(&mut stack, Level::INFO, None)?;
-    let hidden = open(&mut stack, Level::DEBUG, None)?;
-    notify(&mut stack, hidden, shown)?;
-    let filtered = stack.layer().inner().observer();
-    assert_eq!(rt;
-        filtered.seen.as_slice(),
-        [
-            Seen::NewSpan(shown),
-            Seen::InScope(shown),
-            Seen::Record(shown),
-            Seen::Follows(shown, shown),
-        ]
-        .as_slice()
-    );
-    let open = stack.inner().layer().observer();
-    assert_eq!(rt;
-        open.seen.as_slice(),
-        [
-            Seen::NewSpan(shown),
-            Seen::InScope(shown),
-            Seen::NewSpan(hidden),
-            Seen::InScope(hidden),
-            Seen::Enter(hidden),
-            Seen::Record(hidden),
-            Seen::Follows(shown, hidden),
-            Seen::Exit(hidden),
-            Seen::Record(shown),
-            Seen::Follows(shown, shown),
-            Seen::Close(hidden),
-        ]
-        .as_slice()
-    );
+    let (shown, hidden) = shown_and_hidden(&mut stack)?;
+    let under_info = [
+        Seen::NewSpan(shown),
+        Seen::InScope(shown),
+        Seen::Record(shown),
+        Seen::Follows(shown, shown),
+    ];
+    saw(&rt, stack.layer().inner(), &under_info);
+    let open = [
+        Seen::NewSpan(shown),
+        Seen::InScope(shown),
+        Seen::NewSpan(hidden),
+        Seen::InScope(hidden),
+        Seen::Enter(hidden),
+        Seen::Record(hidden),
+        Seen::Follows(shown, hidden),
+        Seen::Exit(hidden),
+        Seen::Record(shown),
+        Seen::Follows(shown, shown),
+        Seen::Close(hidden),
+    ];
+    saw(&rt, stack.inner().layer(), &open);
     Ok(())
 }
 
@@ -204,33 +212,55 @@ fn open_and_close<S: Subscriber>(stack: &mut S) -> Result<Id, Fail>
     Ok(id)
 }
 
+/// What a watcher saw last.
+fn last_seen(watcher: &Observer<Watcher>) -> Option<Seen> {
+    watcher.observer().seen.last().copied()
+}
+
+/// Two watchers as one layer, and one outside them.
+type ThreeWatchers = Layered<
+    Observer<Watcher>,
+    Layered<Layered<Observer<Watcher>, Observer<Watcher>>, Registry>,
+>;
+
+fn three_watchers(alloc: Global) -> Result<ThreeWatchers, TraceError> {
+    let pair = new_watcher(alloc).and_then(new_watcher(alloc));
+    put_under(new_watcher(alloc), put(Registry::new(alloc), pair)?)
+}
+
 #[test]
 fn every_layer_sees_a_closing_span(rt: HostRuntime) -> Result<(), Fail> {
-    let pair = new_watcher(rt.alloc()).and_then(new_watcher(rt.alloc()));
-    let pair = put(Registry::new(rt.alloc()), pair)?;
-    let mut stack = put_under(new_watcher(rt.alloc()), pair)?;
+    let mut stack = three_watchers(rt.alloc())?;
     let id = open_and_close(&mut stack)?;
-    let closed = Some(Seen::Close(id));
-    assert_eq!(rt; stack.layer().observer().seen.last().copied(), closed);
     let pair = stack.inner().layer();
-    assert_eq!(rt; pair.layer().observer().seen.last().copied(), closed);
-    assert_eq!(rt; pair.inner().observer().seen.last().copied(), closed);
+    let seen = [
+        last_seen(stack.layer()),
+        last_seen(pair.layer()),
+        last_seen(pair.inner()),
+    ];
+    assert_eq!(rt; seen, [Some(Seen::Close(id)); 3]);
     Ok(())
+}
+
+/// A registry that handed out all numbers of filters.
+fn without_numbers(alloc: Global) -> Result<Registry, TraceError> {
+    let mut registry = Registry::new(alloc);
+    for _ in 0..128 {
+        registry.register_filter()?;
+    }
+    Ok(registry)
 }
 
 #[test]
 fn a_registry_has_room_for_128_filters(rt: HostRuntime) -> Result<(), Fail> {
-    let mut registry = Registry::new(rt.alloc());
-    for _ in 0..128 {
-        registry.register_filter()?;
-    }
     let layer = new_watcher(rt.alloc()).with_filter(LevelFilter::INFO);
-    let Err(back) = registry.with(layer) else {
+    let Err(back) = without_numbers(rt.alloc())?.with(layer) else {
         return Err(Fail::from("a 129th filter got a number"));
     };
-    assert_eq!(rt; back.error, TraceError::TooManyFilters);
-    assert_eq!(rt; back.subscriber.filters(), 128);
-    assert_eq!(rt; *back.layer.filter(), LevelFilter::INFO);
+    assert_eq!(rt;
+        (back.error, back.subscriber.filters(), *back.layer.filter()),
+        (TraceError::TooManyFilters, 128, LevelFilter::INFO)
+    );
     // A layer without filters needs no number.
     let stack = put(back.subscriber, new_watcher(rt.alloc()))?;
     assert_eq!(rt; stack.inner().filters(), 128);
@@ -251,6 +281,18 @@ fn an_unattached_filter_keeps_everything_from_its_layer(rt: HostRuntime) -> Resu
     Ok(())
 }
 
+/// Opens a span of level info, and sends an event of each of three levels in it.
+fn three_events<S: Subscriber>(rt: &impl Abort, stack: &mut S) -> Result<Id, Fail>
+    requires { S.usable stack.old }
+    ensures { S.usable stack.new }
+{
+    let id = open(stack, Level::INFO, None)?;
+    for level in [Level::TRACE, Level::DEBUG, Level::INFO] {
+        assert!(rt; send_in(stack, level, id));
+    }
+    Ok(id)
+}
+
 #[test]
 fn nested_filters_must_all_pass(rt: HostRuntime) -> Result<(), Fail> {
     let layer = new_watcher(rt.alloc())
@@ -258,30 +300,30 @@ fn nested_filters_must_all_pass(rt: HostRuntime) -> Result<(), Fail> {
         .with_filter(LevelFilter::INFO)
         .with_filter(LevelFilter::DEBUG);
     let mut stack = put(Registry::new(rt.alloc()), layer)?;
+    let id = three_events(&rt, &mut stack)?;
     assert_eq!(rt; stack.root().filters(), 3);
-    let id = open(&mut stack, Level::INFO, None)?;
-    assert!(rt; send_in(&mut stack, Level::TRACE, id));
-    assert!(rt; send_in(&mut stack, Level::DEBUG, id));
-    assert!(rt; send_in(&mut stack, Level::INFO, id));
-    let seen = stack
-        .layer()
-        .inner()
-        .inner()
-        .inner()
-        .observer()
-        .seen
-        .as_slice();
-    assert_eq!(rt;
-        seen,
-        [
-            Seen::NewSpan(id),
-            Seen::InScope(id),
-            Seen::Event,
-            Seen::InScope(id),
-        ]
-        .as_slice()
-    );
+    let once = [
+        Seen::NewSpan(id),
+        Seen::InScope(id),
+        Seen::Event,
+        Seen::InScope(id),
+    ];
+    saw(&rt, stack.layer().inner().inner().inner(), &once);
     Ok(())
+}
+
+/// The numbers under two tags of a span in which an event of each of three levels was sent.
+fn marks_of_three_events<S: Subscriber>(
+    rt: &impl Abort,
+    stack: &mut S,
+    tags: [Tag<u64>; 2],
+) -> Result<[Option<u64>; 2], Fail>
+    requires { S.usable stack.old }
+    ensures { S.usable stack.new }
+{
+    let id = three_events(rt, stack)?;
+    let [first, second] = tags;
+    Ok([number_at(stack, first, id), number_at(stack, second, id)])
 }
 
 #[test]
@@ -291,12 +333,8 @@ fn hooks_write_extensions_under_their_filters(rt: HostRuntime) -> Result<(), Fai
         .with_filter(LevelFilter::INFO)
         .and_then(new_marker(all).with_filter(LevelFilter::DEBUG));
     let mut stack = put(Registry::new(rt.alloc()), pair)?;
-    let id = open(&mut stack, Level::INFO, None)?;
-    assert!(rt; send_in(&mut stack, Level::INFO, id));
-    assert!(rt; send_in(&mut stack, Level::DEBUG, id));
-    assert!(rt; send_in(&mut stack, Level::TRACE, id));
-    assert_eq!(rt; number_at(&stack, all, id), Some(2));
-    assert_eq!(rt; number_at(&stack, few, id), Some(1));
+    let marks = marks_of_three_events(&rt, &mut stack, [all, few])?;
+    assert_eq!(rt; marks, [Some(2), Some(1)]);
     Ok(())
 }
 
@@ -305,16 +343,13 @@ fn a_hook_may_send_an_event(rt: HostRuntime) -> Result<(), Fail> {
     let stack = put(Registry::new(rt.alloc()), new_watcher(rt.alloc()))?;
     let mut stack = put(stack, Echo)?;
     let id = open(&mut stack, Level::INFO, None)?;
-    assert_eq!(rt;
-        stack.inner().layer().observer().seen.as_slice(),
-        [
-            Seen::NewSpan(id),
-            Seen::InScope(id),
-            Seen::Event,
-            Seen::InScope(id),
-        ]
-        .as_slice()
-    );
+    let echoed = [
+        Seen::NewSpan(id),
+        Seen::InScope(id),
+        Seen::Event,
+        Seen::InScope(id),
+    ];
+    saw(&rt, stack.inner().layer(), &echoed);
     Ok(())
 }
 

@@ -1,10 +1,9 @@
 //! Tests of levels that are set: the filter with the number takes it, and no other does.
 use crate::fixture::put;
-use span_core::LevelFilter;
-use span_layers::{Filtered, Identity, Layer, LayerExt};
+use span_core::{LevelFilter, TraceError};
+use span_layers::{Filtered, Identity, Layer, LayerExt, Layered};
 use span_registry::{Registry, Subscriber};
 use std::alloc::Global;
-use std::process::Abort;
 use std::test::Fail;
 
 /// A layer under a filter by level.
@@ -38,99 +37,155 @@ fn stack_takes<S: Subscriber>(stack: &mut S, number: u32) -> bool
     stack.set_level(number, LevelFilter::TRACE)
 }
 
-/// The levels of two layers are these.
-fn has_levels(rt: &impl Abort, first: &Under, second: &Under, levels: (LevelFilter, LevelFilter)) {
-    assert_eq!(rt; *first.filter(), levels.0);
-    assert_eq!(rt; *second.filter(), levels.1);
+/// What comes of a level that is set to trace: whether it was taken, and the levels of two filters then.
+type Levels = (bool, LevelFilter, LevelFilter);
+
+/// A layer under a level, and outside it another.
+type Pair = Layered<Under, Under>;
+
+/// Of a pair, whose outer part comes first.
+fn pair_after(pair: &mut Pair, number: u32) -> Levels {
+    let taken = takes(pair, number);
+    (taken, *pair.layer().filter(), *pair.inner().filter())
 }
 
 #[test]
 fn a_pair_finds_a_filter_by_its_number(rt: HostRuntime) -> Result<(), Fail> {
     let mut pair = under(LevelFilter::WARN).and_then(under(LevelFilter::INFO));
     number(rt.alloc(), &mut pair);
-    assert!(rt; !takes(&mut pair, 2));
-    has_levels(
-        &rt,
-        pair.layer(),
-        pair.inner(),
-        (LevelFilter::INFO, LevelFilter::WARN),
-    );
-    assert!(rt; takes(&mut pair, 1));
-    has_levels(
-        &rt,
-        pair.layer(),
-        pair.inner(),
-        (LevelFilter::INFO, LevelFilter::TRACE),
-    );
-    assert!(rt; takes(&mut pair, 0));
-    has_levels(
-        &rt,
-        pair.layer(),
-        pair.inner(),
-        (LevelFilter::TRACE, LevelFilter::TRACE),
+    let after = [
+        pair_after(&mut pair, 2),
+        pair_after(&mut pair, 1),
+        pair_after(&mut pair, 0),
+    ];
+    assert_eq!(rt;
+        after,
+        [
+            (false, LevelFilter::INFO, LevelFilter::WARN),
+            (true, LevelFilter::INFO, LevelFilter::TRACE),
+            (true, LevelFilter::TRACE, LevelFilter::TRACE),
+        ]
     );
     Ok(())
+}
+
+/// Of a list of two.
+fn list_after(list: &mut Vec<Under>, number: u32) -> Option<Levels> {
+    let taken = takes(list, number);
+    match list.as_slice() {
+        [first, second] => Some((taken, *first.filter(), *second.filter())),
+        _ => None,
+    }
 }
 
 #[test]
 fn a_list_finds_a_filter_by_its_number(rt: HostRuntime) -> Result<(), Fail> {
     let mut list = vec![in rt.alloc(); under(LevelFilter::WARN), under(LevelFilter::INFO)]?;
     number(rt.alloc(), &mut list);
-    assert!(rt; !takes(&mut list, 2));
-    assert!(rt; takes(&mut list, 0));
-    let [first, second] = list.as_slice() else {
-        return Err(Fail::from("the list has other members"));
-    };
-    has_levels(&rt, first, second, (LevelFilter::TRACE, LevelFilter::INFO));
+    let after = [list_after(&mut list, 2), list_after(&mut list, 0)];
+    assert_eq!(rt;
+        after,
+        [
+            Some((false, LevelFilter::WARN, LevelFilter::INFO)),
+            Some((true, LevelFilter::TRACE, LevelFilter::INFO)),
+        ]
+    );
     Ok(())
+}
+
+/// Of a layer under two levels, of which the outer one comes first.
+fn nested_after(nested: &mut Filtered<Under, LevelFilter>, number: u32) -> Levels {
+    let taken = takes(nested, number);
+    (taken, *nested.filter(), *nested.inner().filter())
 }
 
 #[test]
 fn a_filter_under_another_is_found(rt: HostRuntime) -> Result<(), Fail> {
     let mut nested = under(LevelFilter::WARN).with_filter(LevelFilter::INFO);
-    assert!(rt; !takes(&mut nested, 0));
+    let unnumbered = nested_after(&mut nested, 0);
     number(rt.alloc(), &mut nested);
-    assert!(rt; !takes(&mut nested, 2));
-    assert!(rt; takes(&mut nested, 1));
-    assert_eq!(rt; *nested.filter(), LevelFilter::INFO);
-    assert_eq!(rt; *nested.inner().filter(), LevelFilter::TRACE);
+    let after = [
+        unnumbered,
+        nested_after(&mut nested, 2),
+        nested_after(&mut nested, 1),
+    ];
+    assert_eq!(rt;
+        after,
+        [
+            (false, LevelFilter::INFO, LevelFilter::WARN),
+            (false, LevelFilter::INFO, LevelFilter::WARN),
+            (true, LevelFilter::INFO, LevelFilter::TRACE),
+        ]
+    );
     Ok(())
+}
+
+/// Of a layer that may be absent: its one level.
+fn optional_after(layer: &mut Option<Under>, number: u32) -> (bool, Option<LevelFilter>) {
+    let taken = takes(layer, number);
+    match layer {
+        Some(layer) => (taken, Some(*layer.filter())),
+        None => (taken, None),
+    }
 }
 
 #[test]
 fn a_layer_that_is_there_takes_a_level(rt: HostRuntime) -> Result<(), Fail> {
     let mut some = Some(under(LevelFilter::WARN));
     number(rt.alloc(), &mut some);
-    assert!(rt; !takes(&mut some, 1));
-    assert!(rt; takes(&mut some, 0));
-    let Some(layer) = &some else {
-        return Err(Fail::from("the layer is absent"));
-    };
-    assert_eq!(rt; *layer.filter(), LevelFilter::TRACE);
     let mut none: Option<Under> = None;
-    assert!(rt; !takes(&mut none, 0));
-    assert!(rt; none.is_none());
+    let after = [
+        optional_after(&mut some, 1),
+        optional_after(&mut some, 0),
+        optional_after(&mut none, 0),
+    ];
+    assert_eq!(rt;
+        after,
+        [
+            (false, Some(LevelFilter::WARN)),
+            (true, Some(LevelFilter::TRACE)),
+            (false, None),
+        ]
+    );
     Ok(())
+}
+
+/// Two layers under levels, one on the other, on a stack.
+type Two<S> = Layered<Under, Layered<Under, S>>;
+
+/// Of a stack, whose outer layer comes first.
+fn stack_after<S: Subscriber>(stack: &mut Two<S>, number: u32) -> Levels
+    requires { ⟦<Two<S> as Subscriber>⟧.usable stack.old }
+    ensures { ⟦<Two<S> as Subscriber>⟧.usable stack.new }
+{
+    let taken = stack_takes(stack, number);
+    let inner = *stack.inner().layer().filter();
+    (taken, *stack.layer().filter(), inner)
+}
+
+/// Of two layers on a stack, of which WARN is the inner level and INFO the outer: of a number that no filter has, and of both.
+fn stack_after_each<S: Subscriber + Drop>(stack: S) -> Result<[Levels; 3], TraceError>
+    requires { S.usable stack }
+{
+    let below = put(stack, under(LevelFilter::WARN))?;
+    let mut stack = put(below, under(LevelFilter::INFO))?;
+    Ok([
+        stack_after(&mut stack, 2),
+        stack_after(&mut stack, 0),
+        stack_after(&mut stack, 1),
+    ])
 }
 
 #[test]
 fn a_stack_finds_a_filter_by_its_number(rt: HostRuntime) -> Result<(), Fail> {
-    let stack = put(Registry::new(rt.alloc()), under(LevelFilter::WARN))?;
-    let mut stack = put(stack, under(LevelFilter::INFO))?;
-    assert!(rt; !stack_takes(&mut stack, 2));
-    assert!(rt; stack_takes(&mut stack, 0));
-    has_levels(
-        &rt,
-        stack.layer(),
-        stack.inner().layer(),
-        (LevelFilter::INFO, LevelFilter::TRACE),
-    );
-    assert!(rt; stack_takes(&mut stack, 1));
-    has_levels(
-        &rt,
-        stack.layer(),
-        stack.inner().layer(),
-        (LevelFilter::TRACE, LevelFilter::TRACE),
+    let after = stack_after_each(Registry::new(rt.alloc()))?;
+    assert_eq!(rt;
+        after,
+        [
+            (false, LevelFilter::INFO, LevelFilter::WARN),
+            (true, LevelFilter::INFO, LevelFilter::TRACE),
+            (true, LevelFilter::TRACE, LevelFilter::TRACE),
+        ]
     );
     Ok(())
 }

@@ -1,10 +1,11 @@
 //! Tests of layers that add nothing of their own: one that does nothing, one that may be absent, one in a box.
 use crate::fixture::{LANE, put};
 use crate::signer::Signer;
-use crate::stack::{hint_of, send, shown};
-use span_core::{Id, Interest, Level, LevelFilter, Pass};
+use crate::stack::{Shown, hint_of, send, shown};
+use span_core::{Id, Interest, Level, LevelFilter, Pass, TraceError};
 use span_layers::{Identity, Layer, LayerExt};
 use span_registry::{ContextMut, LookupSpan, Registry, Subscriber};
+use std::alloc::Global;
 use std::process::Abort;
 use std::test::Fail;
 
@@ -12,6 +13,18 @@ fn is_absent<S: Subscriber>(stack: &S) -> bool
     requires { S.usable stack.now }
 {
     stack.is_absent()
+}
+
+/// What a registry under this layer answers of an event of this level, and whether the layer is absent.
+fn shown_and_absent<L: Layer<Registry> + Drop>(
+    alloc: Global,
+    layer: L,
+    level: Level,
+) -> Result<(Shown, bool), TraceError>
+    requires { L.usable layer }
+{
+    let stack = put(Registry::new(alloc), layer)?;
+    Ok((shown(&stack, level), is_absent(&stack)))
 }
 
 /// Whether a layer of a stack is absent once it stands under a layer that does nothing, and the hint that it then has: where the
@@ -40,13 +53,11 @@ fn use_under_info<S: Subscriber>(rt: &impl Abort, stack: &mut S)
 #[test]
 fn an_absent_layer_wants_no_level(rt: HostRuntime) -> Result<(), Fail> {
     let absent: Option<Signer> = None;
-    let stack = put(Registry::new(rt.alloc()), absent)?;
-    assert!(rt; is_absent(&stack));
+    let said = shown_and_absent(rt.alloc(), absent, Level::ERROR)?;
     let hint = Some(LevelFilter::OFF);
-    assert_eq!(rt;
-        shown(&stack, Level::ERROR),
-        (Interest::Always, true, true, hint)
-    );
+    assert_eq!(rt; said, ((Interest::Always, true, true, hint), true));
+    let absent: Option<Signer> = None;
+    let stack = put(Registry::new(rt.alloc()), absent)?;
     assert_eq!(rt; under_identity(stack)?, (true, None));
     Ok(())
 }
@@ -89,13 +100,9 @@ fn a_changed_id_reaches_what_is_held(rt: HostRuntime) -> Result<(), Fail> {
 
 #[test]
 fn a_layer_may_do_nothing(rt: HostRuntime) -> Result<(), Fail> {
-    let stack = put(Registry::new(rt.alloc()), Identity::default())?;
-    assert!(rt; !is_absent(&stack));
-    assert_eq!(rt;
-        shown(&stack, Level::TRACE),
-        (Interest::Always, true, true, None)
-    );
-    let text = format!(in rt.alloc(); "{:?}", stack.layer())?;
+    let said = shown_and_absent(rt.alloc(), Identity::default(), Level::TRACE)?;
+    assert_eq!(rt; said, ((Interest::Always, true, true, None), false));
+    let text = format!(in rt.alloc(); "{:?}", Identity)?;
     assert_eq!(rt; text.as_str(), "Identity");
     Ok(())
 }

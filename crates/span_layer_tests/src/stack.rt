@@ -3,12 +3,13 @@
 ghost use Rattle.std.specs.Prelude.{IfOk};
 ghost use Rattle.span_layers.specs.Layered.{inner_of, outer_of};
 
-use crate::fixture::{LANE, metadata_of};
+use crate::fixture::{LANE, metadata_of, put};
 use span_core::{
     Attributes, Event, Id, Interest, Kind, Level, LevelFilter, Pass, Record, TraceError,
 };
 use span_layers::{Layer, LayerExt, Layered};
-use span_registry::{LookupSpan, Subscriber, Tag};
+use span_registry::{LookupSpan, Registry, Subscriber, Tag};
+use std::alloc::Global;
 use std::test::Fail;
 
 /// Puts a stack under a layer.
@@ -41,12 +42,12 @@ pub(crate) fn interest_in<S: Subscriber>(stack: &S, level: Level) -> Interest
     stack.register_callsite(&metadata_of(1, level, Kind::EVENT), &mut Pass::new())
 }
 
-/// What a stack answers of an event of this level, each time with a new pass: its interest, whether it wants the metadata, and
-/// whether it wants the event once these were let by; and its hint.
-pub(crate) fn shown<S: Subscriber>(
-    stack: &S,
-    level: Level,
-) -> (Interest, bool, bool, Option<LevelFilter>)
+/// What is answered of an event of some level, each time with a new pass: the interest, whether its metadata are wanted, and whether it is
+/// wanted once these were let by; and the hint.
+pub(crate) type Shown = (Interest, bool, bool, Option<LevelFilter>);
+
+/// What a stack answers of an event of this level.
+pub(crate) fn shown<S: Subscriber>(stack: &S, level: Level) -> Shown
     requires { S.usable stack.now }
 {
     let metadata = metadata_of(1, level, Kind::EVENT);
@@ -57,6 +58,19 @@ pub(crate) fn shown<S: Subscriber>(
         stack.event_enabled(LANE, &event, &mut Pass::new()),
         hint_of(stack),
     )
+}
+
+/// The same of a registry under this layer, at two levels.
+pub(crate) fn shown_at<L: Layer<Registry> + Drop>(
+    alloc: Global,
+    layer: L,
+    levels: [Level; 2],
+) -> Result<[Shown; 2], TraceError>
+    requires { L.usable layer }
+{
+    let stack = put(Registry::new(alloc), layer)?;
+    let [first, second] = levels;
+    Ok([shown(&stack, first), shown(&stack, second)])
 }
 
 /// Opens a span in a parent, or a root. Fails where a layer vetoes.

@@ -1,22 +1,21 @@
 //! Tests of filters as layers: they veto.
 use crate::fixture::put;
-use crate::stack::{open_and_enter, shown};
+use crate::stack::{Shown, open_and_enter, shown, shown_at};
 use span_core::{Interest, Level, LevelFilter, Metadata};
 use span_filters::{dynamic_filter_fn, filter_fn};
-use span_registry::{Context, Registry};
+use span_registry::{Context, Registry, Subscriber};
 use std::test::Fail;
 
 #[test]
 fn a_level_as_a_layer_vetoes(rt: HostRuntime) -> Result<(), Fail> {
-    let stack = put(Registry::new(rt.alloc()), LevelFilter::INFO)?;
+    let said = shown_at(rt.alloc(), LevelFilter::INFO, [Level::INFO, Level::DEBUG])?;
     let hint = Some(LevelFilter::INFO);
     assert_eq!(rt;
-        shown(&stack, Level::INFO),
-        (Interest::Always, true, true, hint)
-    );
-    assert_eq!(rt;
-        shown(&stack, Level::DEBUG),
-        (Interest::Never, false, true, hint)
+        said,
+        [
+            (Interest::Always, true, true, hint),
+            (Interest::Never, false, true, hint),
+        ]
     );
     Ok(())
 }
@@ -24,16 +23,24 @@ fn a_level_as_a_layer_vetoes(rt: HostRuntime) -> Result<(), Fail> {
 #[test]
 fn closures_as_layers_veto(rt: HostRuntime) -> Result<(), Fail> {
     let test = filter_fn(|meta: &Metadata| meta.level() == Level::INFO);
-    let stack = put(Registry::new(rt.alloc()), test)?;
+    let said = shown_at(rt.alloc(), test, [Level::INFO, Level::WARN])?;
     assert_eq!(rt;
-        shown(&stack, Level::INFO),
-        (Interest::Always, true, true, None)
-    );
-    assert_eq!(rt;
-        shown(&stack, Level::WARN),
-        (Interest::Never, false, true, None)
+        said,
+        [
+            (Interest::Always, true, true, None),
+            (Interest::Never, false, true, None),
+        ]
     );
     Ok(())
+}
+
+/// What a stack answers of an event outside all spans, and in one.
+fn shown_in_a_span<S: Subscriber>(stack: &mut S) -> Result<[Shown; 2], Fail>
+    requires { S.usable stack.old }
+{
+    let before = shown(stack, Level::TRACE);
+    open_and_enter(stack, Level::INFO)?;
+    Ok([before, shown(stack, Level::TRACE)])
 }
 
 #[test]
@@ -41,15 +48,13 @@ fn closures_with_a_context_as_layers_veto(rt: HostRuntime) -> Result<(), Fail> {
     let outside = dynamic_filter_fn(|_meta: &Metadata, cx: &Context<'_, Registry>| {
         cx.current_span().is_none()
     });
-    let mut stack = put(Registry::new(rt.alloc()), outside)?;
+    let said = shown_in_a_span(&mut put(Registry::new(rt.alloc()), outside)?)?;
     assert_eq!(rt;
-        shown(&stack, Level::TRACE),
-        (Interest::Sometimes, true, true, None)
-    );
-    open_and_enter(&mut stack, Level::INFO)?;
-    assert_eq!(rt;
-        shown(&stack, Level::TRACE),
-        (Interest::Sometimes, false, true, None)
+        said,
+        [
+            (Interest::Sometimes, true, true, None),
+            (Interest::Sometimes, false, true, None),
+        ]
     );
     Ok(())
 }

@@ -70,7 +70,7 @@ impl<S: Subscriber> Observe<S> for Watcher {
             Observed::FollowsFrom(id, other) => self.keep(Seen::Follows(id, other)),
             Observed::IdChange(_, _) => {}
             Observed::Close(id) => {
-                if ctx.ctx().span(id).is_some() {
+                if ctx.span(id).is_some() {
                     self.keep(Seen::Close(id));
                 } else {
                     self.keep(Seen::CloseUnseen(id));

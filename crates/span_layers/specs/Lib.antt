@@ -1,5 +1,6 @@
 pub mod Acts
 pub mod ActsKept
+pub mod Always
 pub mod Attach
 pub mod Boxed
 pub mod Filtered

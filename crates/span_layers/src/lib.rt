@@ -1,6 +1,7 @@
 //! Layers: what is notified of spans and events, each under its own filters.
 #![tactic(auto)]
 
+mod always;
 mod attach;
 mod boxed;
 mod filtered;
@@ -14,6 +15,7 @@ mod optional;
 mod stack;
 mod veto;
 
+pub use always::{AlwaysUsableLayer, AlwaysUsableObserver};
 pub use attach::{LayerExt, SubscriberExt, Unattached};
 pub use filtered::Filtered;
 pub use identity::Identity;

@@ -24,7 +24,7 @@ use Rattle.span_registry.specs.Closes.{Closes, IsDeeper, IsDeepestFirst, IsUnhel
 use Rattle.span_registry.specs.LaneStack.{leave}
 use Rattle.span_registry.specs.Plan.{is_passed}
 use Rattle.span_registry.specs.Step.{IsContext, IsParentFor, entered, entered_last, exited}
-use Rattle.span_registry.specs.Store.{HasChild, IsChain, IsClosing, IsHeld, IsOpen, RegistryState, Span, Spans, Stacks, Store, add_handle, stack_of, take_handle, with_handles, with_stack}
+use Rattle.span_registry.specs.Store.{HasChild, IsChain, IsClosing, IsHeld, IsOpen, RegistryState, Span, Spans, Stacks, Store, add_handle, stack_on, take_handle, with_handles, with_stack_on}
 use Rattle.span_registry.specs.Subscriber.{SameButExtensions}
 use Rattle.span_registry.specs.View.{see, view_of}
 use Rattle.span_registry.specs.declared.extensions.ExtensionMap.{ExtensionMap}
@@ -143,7 +143,7 @@ seen_alike numbers mask (Some r) (Some q) e f h i =
 pub views_alike : (numbers mask : FilterSet) (s t : Store) (lane : ℕ) → AgreeAt numbers s t → ((n : ℕ) → IsTrue (mask n) → IsTrue (numbers n)) → AreAlike (view_of s lane mask) (view_of t lane mask)
 views_alike numbers mask s t lane h i = record {
   lane = refl;
-  stack = ap (λ (m : Stacks). stack_of m lane) h.stacks;
+  stack = ap (λ (m : Stacks). stack_on m lane) h.stacks;
   spans = λ x.
       ap (option_map unextended) (seen_at s mask x)
       ∙ seen_alike numbers mask (get s.spans x) (get t.spans x) (get s.extensions x) (get t.extensions x) (places_of numbers s t h x) i
@@ -267,10 +267,10 @@ pub new_agrees : (numbers : FilterSet) (s t : Store) (x : ℕ) (r q : Span) → 
 new_agrees numbers s t x r q h k = new_agrees_with numbers s t (record s { spans = insert s.spans x r; issued = add s.issued x }) x r q h k refl refl refl
 
 pub entered_agrees : (numbers : FilterSet) (s t : Store) (lane x : ℕ) → AgreeAt numbers s t → AgreeAt numbers (entered s lane x) (entered t lane x)
-entered_agrees numbers s t lane x h = record { spans = h.spans; issued = h.issued; stacks = ap (λ (m : Stacks). with_stack m lane (x ∷ stack_of m lane)) h.stacks }
+entered_agrees numbers s t lane x h = record { spans = h.spans; issued = h.issued; stacks = ap (λ (m : Stacks). with_stack_on m lane (x ∷ stack_on m lane)) h.stacks }
 
 pub exited_agrees : (numbers : FilterSet) (s t : Store) (lane x : ℕ) → AgreeAt numbers s t → AgreeAt numbers (exited s lane x) (exited t lane x)
-exited_agrees numbers s t lane x h = record { spans = h.spans; issued = h.issued; stacks = ap (λ (m : Stacks). with_stack m lane (leave x (stack_of m lane))) h.stacks }
+exited_agrees numbers s t lane x h = record { spans = h.spans; issued = h.issued; stacks = ap (λ (m : Stacks). with_stack_on m lane (leave x (stack_on m lane))) h.stacks }
 
 pub added_agrees : (numbers : FilterSet) (s t : Store) (x : ℕ) → AgreeAt numbers s t → AgreeAt numbers (record s { spans = add_handle s.spans x }) (record t { spans = add_handle t.spans x })
 added_agrees numbers s t x h = agree_by numbers (record s { spans = add_handle s.spans x }) (record t { spans = add_handle t.spans x })

@@ -5,9 +5,9 @@ use Rattle.std.specs.FinMap.{empty, get-empty}
 use Rattle.std.specs.FinSet.{FinSet, contains, contains-insert, contains-remove, insert as add, len as set_len, len-insert as set_insert, nat_cmp-IsAntisymmetric, remove as take, same_set}
 use Rattle.std.specs.Ordering.{eq_by_cmp, nat_cmp}
 use Rattle.span_registry.specs.LaneStack.{leave}
-use Rattle.span_registry.specs.Store.{Stacks, stack_of, with_stack}
+use Rattle.span_registry.specs.Store.{Stacks, stack_on, with_stack_on}
 use Rattle.span_registry.proofs.Chains.{same_test, test_same}
-use Rattle.span_registry.proofs.Kept.{stacks_none}
+use Rattle.span_registry.proofs.LaneStacks.{stacks_none}
 
 -- a set with another member more has one
 pub has_more : (s : FinSet nat_cmp) (x : ℕ) → contains s x ≡ false → set_len (add s x) ≡ 0 → ⊥
@@ -27,5 +27,5 @@ has_some s x within none = has_more (take s x) x (contains-remove nat_cmp_total 
     back = same_set nat_cmp_total nat_cmp-IsAntisymmetric _ _ (λ q. contains-insert nat_cmp_total (take s x) x q ∙ ap (λ (b : Bool). eq_by_cmp nat_cmp q x || b) (contains-remove nat_cmp_total s x q) ∙ by_case q (eq_by_cmp nat_cmp q x) refl)
 
 -- to leave a lane where no lane has a stack changes nothing
-pub leaves_none : (m : Stacks) (k x : ℕ) → m ≡ empty → with_stack m k (leave x (stack_of m k)) ≡ empty
-leaves_none m k x none = ap (λ (m : Stacks). with_stack m k (leave x (stack_of m k))) none ∙ sym (stacks_none empty k x (get-empty nat_cmp k))
+pub leaves_none : (m : Stacks) (k x : ℕ) → m ≡ empty → with_stack_on m k (leave x (stack_on m k)) ≡ empty
+leaves_none m k x none = ap (λ (m : Stacks). with_stack_on m k (leave x (stack_on m k))) none ∙ sym (stacks_none empty k x (get-empty nat_cmp k))

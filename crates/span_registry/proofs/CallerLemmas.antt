@@ -16,19 +16,19 @@ use Rattle.span_registry.specs.Laws.{ClosesAll}
 use Rattle.span_registry.specs.Step.{Clones, Enters, Exits, Removal, Begun, Between, Removed, AskedSpan, Drops, Opens, Releases, Removes, TakesOut, begun}
 use Rattle.span_registry.specs.Form.{Form}
 use Rattle.span_registry.specs.Hooks.{Notifies, StackSteps, Stays}
-use Rattle.span_registry.specs.Store.{IsChain, IsClosing, IsForest, IsOpen, RegistryState, Span, Spans, Stacks, Store, new_registry, parent_of, stack_of, take_handle, with_extensions, with_stack}
+use Rattle.span_registry.specs.Store.{IsChain, IsClosing, IsForest, IsOpen, RegistryState, Span, Spans, Stacks, Store, new_registry, parent_of, stack_on, take_handle, with_extensions, with_stack_on}
 use Rattle.span_registry.specs.declared.limits.Limits.{Limits}
 use Rattle.span_registry.specs.Subscriber.{AndHooks, SameButExtensions}
 use Rattle.span_registry.specs.Extensions.{Place, value_under, with_value}
 use Rattle.span_registry.specs.declared.extensions.ExtensionMap.{ExtensionMap}
 use Rattle.span_registry.specs.declared.tag.Tag.{Tag}
-use Rattle.span_registry.specs.Context.{HasNoRefusals, IsLent, LendsOver, LooksAt, LooksAtLent, LooksAtRoot, MasksMore, RefersTo, SameLoan, filters_in, lane_in, store_at, store_in, view_in, view_lent}
+use Rattle.span_registry.specs.Context.{HasNoRefusals, IsLent, LendsOver, LooksAt, LooksAtLent, LooksAtRoot, MasksMore, RefersTo, RefersToLent, SameLoan, filters_in, filters_lent, lane_in, lane_lent, store_at, store_in, subscriber_lent, view_in, view_lent}
 use Rattle.span_registry.specs.LaneStack.{leave, without_duplicates}
 use Rattle.span_registry.specs.Behaviour.{AreAlike, AreAlikeHistories, History, OfLevel, Notice, OfNotice, notices_of, unextended}
 use Rattle.span_registry.specs.View.{SeenSpans, View, current_among, current_shown, extensions_shown, is_shown, see, shown, view_of}
 use Rattle.span_registry.specs.declared.context.Context.{Context}
 use Rattle.span_registry.specs.declared.context.ContextMut.{ContextMut}
-use Rattle.span_registry.specs.References.{FindsSpan, Reference, extensions_of_reference, id_of_reference, reference_to, references_to, scope_of_reference, subscriber_of}
+use Rattle.span_registry.specs.References.{FindsSpan, Reference, extensions_of_reference, id_of_reference, reference_of, reference_to, references_to, scope_of_reference, subscriber_of}
 use Rattle.span_registry.specs.declared.scope.SpanRef.{SpanRef}
 use Rattle.span_registry.specs.declared.registry.Released.{Released}
 use Rattle.span_registry.specs.declared.registry.Released.TheVariants.{StillOpen, Closing}
@@ -341,6 +341,20 @@ extensions_found {S} registry c which (Some r) shows h =
     ap (λ (t : Store). get t.extensions n) (store_found registry c.subscriber (subscriber_of r) h.subscriber) ∙ sym (ap (λ (q : Reference S). q.extensions) h.reference) in
     sym (ap (option_and_then (λ x. extensions_shown x v)) (sym h.span) ∙ extensions_by (store_in registry c) (lane_in c).0 (filters_in c) n true (shows v n (sym h.span)) ∙ kept)
 
+extensions_referred : {S : Type 0} (registry : S → RegistryState) (c : ContextMut S) (o : Option ℕ) (found : Option (SpanRef S)) → ((x : ℕ) → o ≡ Some x → is_shown (view_lent registry c).spans x ≡ true) → option_map reference_of found ≡ option_map (reference_to registry (subscriber_lent c) (filters_lent c)) o → option_map extensions_of_reference found ≡ option_and_then (λ x. extensions_shown x (view_lent registry c)) o
+extensions_referred registry c None None shows h = refl
+extensions_referred registry c (Some x) None shows h = absurd (cc)
+extensions_referred registry c None (Some r) shows h = absurd (cc)
+extensions_referred {S} registry c (Some x) (Some r) shows h =
+    let same : reference_of r ≡ reference_to registry (subscriber_lent c) (filters_lent c) x = cc in
+    ap (λ (q : Reference S). q.extensions) same
+    ∙ sym (extensions_by (registry (subscriber_lent c)).store (lane_lent c).0 (filters_lent c) x true (shows x refl))
+
+-- and so has what a hook finds through what it is lent
+pub extensions_found_lent : {S : Type 0} (registry : S → RegistryState) (c : ContextMut S) (which : View → Option ℕ) (found : Option (SpanRef S)) → GivesShown which → RefersToLent registry c which found → option_map extensions_of_reference found ≡ option_and_then (λ x. extensions_shown x (view_lent registry c)) (which (view_lent registry c))
+extensions_found_lent registry c which found shows h =
+    extensions_referred registry c (which (view_lent registry c)) found (shows (view_lent registry c)) h
+
 -- where only extensions differ, the views do in extensions alone
 forgotten : (o : Option Span) (under : FilterSet) (e f : Option ExtensionMap) → option_map unextended (option_map (λ r. see under r e) o) ≡ option_map unextended (option_map (λ r. see under r f) o)
 forgotten None under e f = refl
@@ -349,7 +363,7 @@ forgotten (Some r) under e f = refl
 pub views_alike : (v w : RegistryState) (lane : ℕ) (under : FilterSet) → SameButExtensions v w → AreAlike (view_of v.store lane under) (view_of w.store lane under)
 views_alike v w lane under h = record {
   lane = refl;
-  stack = ap (λ (k : Stacks). stack_of k lane) (sym h.stacks);
+  stack = ap (λ (k : Stacks). stack_on k lane) (sym h.stacks);
   spans = λ x.
       ap (option_map unextended) (seen_at v.store under x)
       ∙ forgotten (get v.store.spans x) under (get v.store.extensions x) (get w.store.extensions x)
@@ -392,10 +406,10 @@ hooks_alone {registry = registry} {new = new} h = subst (λ v. SameButExtensions
 -- ---- entering and leaving
 
 -- a lane enters a span and leaves it, and hooks write extensions: each lane has the stack that it had
-pub stacks_restored_after : {S : Type 0} (registry : S → RegistryState) (r s t u : S) (lane : Lane) (id : Id) → AndHooks registry (Enters lane id) r s → SameButExtensions (registry s) (registry t) → AndHooks registry (Exits lane id) t u → (any : ℕ) → stack_of (registry u).store.stacks any ≡ stack_of (registry r).store.stacks any
+pub stacks_restored_after : {S : Type 0} (registry : S → RegistryState) (r s t u : S) (lane : Lane) (id : Id) → AndHooks registry (Enters lane id) r s → SameButExtensions (registry s) (registry t) → AndHooks registry (Exits lane id) t u → (any : ℕ) → stack_on (registry u).store.stacks any ≡ stack_on (registry r).store.stacks any
 stacks_restored_after registry r s t u lane id a b c any =
-    ap (λ (m : Stacks). stack_of m any) (c.hooks.stacks ∙ ap (λ (w : RegistryState). w.store.stacks) c.taken)
-    ∙ ap (λ (m : Stacks). stack_of (with_stack m lane.0 (leave (number_of id) (stack_of m lane.0))) any) (b.stacks ∙ a.hooks.stacks ∙ ap (λ (w : RegistryState). w.store.stacks) a.taken.state)
+    ap (λ (m : Stacks). stack_on m any) (c.hooks.stacks ∙ ap (λ (w : RegistryState). w.store.stacks) c.taken)
+    ∙ ap (λ (m : Stacks). stack_on (with_stack_on m lane.0 (leave (number_of id) (stack_on m lane.0))) any) (b.stacks ∙ a.hooks.stacks ∙ ap (λ (w : RegistryState). w.store.stacks) a.taken.state)
     ∙ stacks_restored (registry r).store lane.0 (number_of id) any
 
 -- ---- lent no refusals

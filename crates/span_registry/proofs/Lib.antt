@@ -12,6 +12,7 @@ pub mod Drops
 mod FromRoot
 mod Itself
 mod Kept
+mod LaneStacks
 mod Lending
 mod LookupLaws
 mod Lost

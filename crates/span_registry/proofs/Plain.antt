@@ -18,7 +18,7 @@ use Rattle.span_registry.specs.LaneStack.{newest, without_duplicates}
 use Rattle.span_registry.specs.Laws.{ShowsPlainly}
 use Rattle.span_registry.specs.Position.{Told, told_in}
 use Rattle.span_registry.specs.Plan.{is_passed}
-use Rattle.span_registry.specs.Store.{RegistryState, Span, SpanExtensions, Stacks, Store, stack_of}
+use Rattle.span_registry.specs.Store.{RegistryState, Span, SpanExtensions, Stacks, Store, stack_on}
 use Rattle.span_registry.specs.Subscriber.{SameButExtensions}
 use Rattle.span_registry.specs.View.{SeenSpan, SeenSpans, View, ancestry, current_among, current_shown, event_shown, is_shown, metadata_shown, nearest_shown, parent_seen, parent_shown, plain_view, scope, see, seen_spans, shown, view_of}
 use Rattle.span_registry.specs.declared.extensions.ExtensionMap.{ExtensionMap}
@@ -115,7 +115,7 @@ module _ (s : Store) (lane : ℕ) (mask : FilterSet) where
   is_shown_plainly = is_shown_alike _ _ (seen_plainly s mask) as_many_plainly
 
   current_plainly : current_shown (view_of s lane mask) ≡ current_shown (plain_view s lane mask)
-  current_plainly = current_alike _ _ (seen_plainly s mask) as_many_plainly (without_duplicates (stack_of s.stacks lane))
+  current_plainly = current_alike _ _ (seen_plainly s mask) as_many_plainly (without_duplicates (stack_on s.stacks lane))
 
   shown_plainly : (x : ℕ) → shown x (view_of s lane mask) ≡ shown x (plain_view s lane mask)
   shown_plainly x = λ i. if is_shown_plainly i x then Some x else None
@@ -166,7 +166,7 @@ plain_views_agree numbers mask s t lane h i =
     let bare : Store = record s { extensions = empty } in
     let other : Store = record t { extensions = empty } in
     let spans : seen_spans bare mask ≡ seen_spans other mask = same_map nat_cmp_total nat_cmp-IsAntisymmetric _ _ (λ x. seen_at bare mask x ∙ same_seen numbers mask (get s.spans x) (get t.spans x) (get bare.extensions x) (places_of numbers s t h x) i ∙ sym (seen_at other mask x)) in
-    λ j. record { lane = lane; stack = stack_of (h.stacks j) lane; spans = spans j }
+    λ j. record { lane = lane; stack = stack_on (h.stacks j) lane; spans = spans j }
 
 -- hooks that write extensions change none
 pub plain_aside : (v w : RegistryState) (lane : ℕ) (mask : FilterSet) → SameButExtensions v w → plain_view w.store lane mask ≡ plain_view v.store lane mask

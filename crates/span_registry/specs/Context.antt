@@ -188,6 +188,12 @@ module _ {S : Type 0} (registry : S → RegistryState) where
   abbrev pub extensions_lent : ContextMut S → Id → Option ExtensionMap
   extensions_lent c id = extensions_shown (number_of id) (view_lent c)
 
+  -- it is the reference to the span that a hook is shown so, if there is one, in the subscriber that is lent and under the same mask
+  abbrev pub RefersToLent : ContextMut S → (View → Option ℕ) → Option (SpanRef S) → Type 0
+  RefersToLent c which found =
+      option_map reference_of found
+      ≡ option_map (reference_to registry (subscriber_lent c) (filters_lent c)) (which (view_lent c))
+
   -- the same of what a hook is lent
   abbrev pub enabled_lent : ContextMut S → FilterId → Id → Bool
   enabled_lent c filter id =

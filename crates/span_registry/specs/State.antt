@@ -2,7 +2,7 @@
 use Rattle.std.specs.Prelude.{◌≡◌}
 use Rattle.std.specs.FinMap.{empty, entries}
 use Rattle.std.specs.FinSet.{len as set_len}
-use Rattle.span_registry.specs.StoreRepr.{IsKept, spans_of, stacks_of}
+use Rattle.span_registry.specs.StoreRepr.{IsKept, spans_of}
 use Rattle.span_registry.specs.Store.{RegistryState, Store}
 use Rattle.span_registry.specs.declared.registry.Registry.TheInside.{Inside}
 
@@ -12,7 +12,7 @@ store_of a = record {
   spans = spans_of (entries a.spans.records);
   extensions = a.spans.extensions;
   issued = a.spans.issued;
-  stacks = stacks_of a.stacks.entries;
+  stacks = a.stacks;
 }
 
 -- the registry that these fields keep
@@ -27,4 +27,4 @@ state_of a = record {
 -- what the registry keeps true of its fields: that of its spans, and no lane has a stack before an id is issued
 pub record IsSound (a : Inside) : Type 0 where
   pub kept : IsKept (entries a.spans.records)
-  pub begins : set_len a.spans.issued ≡ 0 → stacks_of a.stacks.entries ≡ empty
+  pub begins : set_len a.spans.issued ≡ 0 → a.stacks ≡ empty

@@ -7,7 +7,7 @@ ghost use Rattle.span_core.specs.Event.{event_parent};
 ghost use Rattle.span_core.specs.Filters.{has_filter, is_attached, is_enabled};
 ghost use Rattle.span_core.specs.Pass.{refused_of};
 ghost use Rattle.span_core.specs.Span.{number_of};
-ghost use Rattle.span_registry.specs.Context.{Borrows, AnswersProbe, Exchanges, GivesScope, HasNoRefusals, IsLent, LendsOver, LentOn, LooksAt, LooksAtLent, LooksAtRoot, MasksMore, Narrows, NarrowsLent, RefersTo, SendsEvent, enabled_in, enabled_lent, extensions_lent, is_shown_to, lane_in, lane_lent, loan_of, mask_of_loan, refused_lent, store_in, subscriber_in, subscriber_lent, view_in, view_lent, with_mask};
+ghost use Rattle.span_registry.specs.Context.{Borrows, AnswersProbe, Exchanges, GivesScope, HasNoRefusals, IsLent, LendsOver, LentOn, LooksAt, LooksAtLent, LooksAtRoot, MasksMore, Narrows, NarrowsLent, RefersTo, RefersToLent, SendsEvent, enabled_in, enabled_lent, extensions_lent, is_shown_to, lane_in, lane_lent, loan_of, mask_of_loan, refused_lent, store_in, subscriber_in, subscriber_lent, view_in, view_lent, with_mask};
 ghost use Rattle.span_registry.specs.Lends.{lends_seen, lends_subscriber};
 ghost use Rattle.span_registry.specs.Marks.{spans_to_give};
 ghost use Rattle.span_registry.specs.Step.{ShowsCurrent};
@@ -372,6 +372,21 @@ impl<'a, S> ContextMut<'a, S> {
 }
 
 impl<'a, S: LookupSpan> ContextMut<'a, S> {
+    /// The span, if it is in the store and isn't hidden.
+    pub fn span(&self, id: Id) -> Option<SpanRef<'_, S>>
+        ensures { RefersToLent S.registry self.now (shown (number_of id)) result }
+    {
+        self.ctx().span(id)
+    }
+
+    /// The span that the lane is in, as far as the mask lets it be seen. None where the newest entry of the lane's stack
+    /// that is no duplicate isn't in the store; else the newest one that isn't hidden.
+    pub fn lookup_current(&self) -> Option<SpanRef<'_, S>>
+        ensures { RefersToLent S.registry self.now current_shown result }
+    {
+        self.ctx().lookup_current()
+    }
+
     /// The span's metadata, if it is in the store and isn't hidden.
     pub fn metadata(&self, id: Id) -> Option<Metadata>
         ensures { result ≡ metadata_shown (number_of id) (view_lent S.registry self.now) }

@@ -13,23 +13,23 @@ ghost use Rattle.span_registry.specs.Levels.{registry_levels, unlevelled};
 ghost use Rattle.span_registry.specs.StoreRepr.{IsChosen};
 ghost use Rattle.span_registry.specs.Lends.{lends_extensions};
 ghost use Rattle.span_registry.specs.Step.{Enters, Exits, IsContext, Opens, RefusesEnter, RefusesNew, RefusesRelease, Releases, Removes, RetiresLate, asked, entered_last};
-ghost use Rattle.span_registry.specs.Store.{AreIssued, IsClosing, IsForest, IsFresh, IsInStore, IsOpen, new_registry, stack_of};
+ghost use Rattle.span_registry.specs.Store.{AreIssued, IsClosing, IsForest, IsFresh, IsInStore, IsOpen, new_registry, stack_on};
 ghost use Rattle.span_registry.specs.Subscriber.{registry_interest, sum_after};
 
 use crate::extensions::ExtensionsMut;
+use crate::lane::LaneStacks;
 use crate::limits::Limits;
 use crate::lookup::LookupSpan;
 use crate::span_data::Data;
 use crate::span_record::{Counts, SpanRecord};
 use crate::span_store::SpanStore;
-use crate::stack::{SpanStack, pop_from, push_on};
-use crate::subscriber::Subscriber;
+use crate::stack::SpanStack;
+use crate::subscriber::{AlwaysUsable, Subscriber};
 use span_core::{
     Attributes, Current, Event, FilterId, Id, Interest, Lane, LevelFilter, Metadata, Parent, Pass,
     Record, TraceError,
 };
 use std::alloc::Global;
-use std::collections::BTreeMap;
 use std::fmt;
 use std::marker::Model;
 
@@ -49,7 +49,7 @@ pub enum Released {
 pub struct Registry {
     alloc: Global,
     spans: SpanStore,
-    stacks: BTreeMap<u32, SpanStack>,
+    stacks: LaneStacks,
     filters: u32,
 }
 
@@ -100,7 +100,7 @@ impl Registry {
         Registry {
             alloc,
             spans: SpanStore::new(alloc, limits),
-            stacks: BTreeMap::new(alloc),
+            stacks: LaneStacks::new(alloc),
             filters: 0,
         }
     }
@@ -204,9 +204,9 @@ impl Registry {
 
     /// The stack of a lane, if it has one.
     pub(crate) fn stack_on(&self, lane: Lane) -> Option<&SpanStack>
-        ensures { unwrap_or (option_copied result) [] ≡ stack_of self.now.store.stacks lane.0 }
+        ensures { unwrap_or (option_copied result) [] ≡ stack_on self.now.store.stacks lane.0 }
     {
-        self.stacks.get(&lane.0)
+        self.stacks.get(lane)
     }
 
     /// The newest entry of a lane's stack that is no duplicate.
@@ -411,13 +411,13 @@ impl Subscriber for Registry {
             return Err(TraceError::UnknownSpan(id));
         }
         self.is_sound(); // What is open was issued.
-        push_on(self.alloc, &mut self.stacks, lane, id)
+        self.stacks.push(self.alloc, lane, id)
     }
 
     fn exit(&mut self, lane: Lane, id: Id)
         ensures { Exits lane id self.old self.new }
     {
-        pop_from(&mut self.stacks, lane, id);
+        self.stacks.pop(lane, id);
     }
 
     fn set_level(&mut self, _number: u32, _level: LevelFilter) -> bool {
@@ -475,6 +475,10 @@ impl Subscriber for Registry {
     {
         true // No layer stands on it.
     }
+}
+
+impl AlwaysUsable for Registry {
+    ghost always = { λ s. tt };
 }
 
 impl fmt::Debug for Registry {

@@ -4,13 +4,11 @@ ghost use Rattle.std.specs.Iterator.{YieldsFirstBy, item_count};
 ghost use Rattle.std.specs.Option.{option_map};
 ghost use Rattle.span_core.specs.Span.{number_of};
 ghost use Rattle.span_registry.specs.LaneStack.{leave, leaves_for_good, newest, stands, without_duplicates};
-ghost use Rattle.span_registry.specs.StoreRepr.{PutsOn, TakesOff};
 ghost use Rattle.span_registry.specs.Marks.{HoldsAll, IsAtLast, ids, numbers_down, spans_to_give};
 
 use crate::bloom::Bloom;
-use span_core::{Id, Lane, TraceError};
+use span_core::{Id, TraceError};
 use std::alloc::Global;
-use std::collections::BTreeMap;
 use std::marker::Model;
 
 #[derive(Clone, Copy)]
@@ -227,39 +225,5 @@ impl<'a> Iterator for StackIter<'a> {
         let (last, below) = self.0.split_last()?;
         self.0 = below;
         Some(*last)
-    }
-}
-
-/// Enters a span on a lane's stack. Refused for want of memory alone.
-pub(crate) fn push_on(
-    alloc: Global,
-    stacks: &mut BTreeMap<u32, SpanStack>,
-    lane: Lane,
-    id: Id,
-) -> Result<(), TraceError>
-    ensures ok { OnOk result (PutsOn lane id stacks.old stacks.new) }
-    ensures err { OnErr result (stacks.new.entries ≡ stacks.old.entries) }
-    ensures memory { IfErr result (λ e. e ≡ TraceError.OutOfMemory) }
-{
-    match stacks.get_mut(&lane.0) {
-        Some(stack) => {
-            stack.push(id)?;
-            Ok(())
-        }
-        None => {
-            let mut stack = SpanStack::new(alloc);
-            stack.push(id)?;
-            stacks.insert(lane.0, stack)?;
-            Ok(())
-        }
-    }
-}
-
-/// Leaves a span on a lane's stack.
-pub(crate) fn pop_from(stacks: &mut BTreeMap<u32, SpanStack>, lane: Lane, id: Id)
-    ensures { TakesOff lane id stacks.old stacks.new }
-{
-    if let Some(stack) = stacks.get_mut(&lane.0) {
-        stack.pop(id);
     }
 }

@@ -192,3 +192,13 @@ pub trait Subscriber: LookupSpan {
     /// Where a level is set the form's rules are kept, no leaf hears of it, and the paths that hold the filter act by it.
     ghost levels: { LevelLaws has_form levelled hears acts_at };
 }
+
+/// A stack that can be called without a premise, since no closure is in it.
+///
+/// So what shows no premise can call a dispatcher of it: a guard that leaves a span at its end, a cell, a bridge from other code.
+///
+/// Own to this port.
+pub trait AlwaysUsable: Subscriber {
+    /// It may be asked and notified, whatever has become of it.
+    ghost always: { (s : Self) → Self.usable s };
+}

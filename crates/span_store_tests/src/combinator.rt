@@ -3,7 +3,7 @@ ghost use Rattle.std.specs.Prelude.{true};
 ghost use Rattle.span_filters.specs.Filter.{ActsSteadily, settled_answers, settled_laws, steady_levels};
 ghost use Rattle.span_store_tests.specs.Filters.{if_answers, if_honest, mute_answers, mute_honest};
 
-use crate::fixture::{event_at, event_of, hint_of, interest_in, lets_by, wants};
+use crate::fixture::{event_at, event_of, hint_of, lets_by, says, wants};
 use span_core::{Attributes, Event, Id, Interest, Level, LevelFilter, Metadata, Record};
 use span_filters::{Filter, FilterExt, dynamic_filter_fn, filter_fn};
 use span_registry::{Context, ContextMut, LookupSpan, Registry};
@@ -148,16 +148,18 @@ fn what_neither_part_wants_alone(rt: HostRuntime) -> Result<(), Fail> {
 #[test]
 fn both_want_what_each_wants(rt: HostRuntime) -> Result<(), Fail> {
     let both = LevelFilter::INFO.and(LevelFilter::WARN);
-    assert!(rt; wants(&both, event_at(Level::WARN)));
-    assert!(rt; !wants(&both, event_at(Level::INFO)));
-    assert!(rt; interest_in(&both, Level::WARN).is_always());
-    assert!(rt; interest_in(&both, Level::INFO).is_never());
-    assert_eq!(rt; hint_of(&both), Some(LevelFilter::WARN));
+    let rows = [
+        (Level::WARN, true, Interest::Always),
+        (Level::INFO, false, Interest::Never),
+    ];
+    says(&rt, &both, &rows, Some(LevelFilter::WARN));
     let sometimes = dynamic_filter_fn(|_meta: &Metadata, _cx: &Context<'_, Registry>| true);
     let both = sometimes.and(LevelFilter::INFO);
-    assert!(rt; interest_in(&both, Level::INFO).is_sometimes());
-    assert!(rt; interest_in(&both, Level::DEBUG).is_never());
-    assert_eq!(rt; hint_of(&both), None);
+    let rows = [
+        (Level::INFO, true, Interest::Sometimes),
+        (Level::DEBUG, false, Interest::Never),
+    ];
+    says(&rt, &both, &rows, None);
     assert_eq!(rt; hint_of(&LevelFilter::INFO.and(Mute)), None);
     Ok(())
 }
@@ -165,15 +167,18 @@ fn both_want_what_each_wants(rt: HostRuntime) -> Result<(), Fail> {
 #[test]
 fn either_wants_what_one_wants(rt: HostRuntime) -> Result<(), Fail> {
     let either = LevelFilter::INFO.or(LevelFilter::WARN);
-    assert!(rt; wants(&either, event_at(Level::INFO)));
-    assert!(rt; !wants(&either, event_at(Level::DEBUG)));
-    assert!(rt; interest_in(&either, Level::INFO).is_always());
-    assert_eq!(rt; hint_of(&either), Some(LevelFilter::INFO));
+    let rows = [
+        (Level::INFO, true, Interest::Always),
+        (Level::DEBUG, false, Interest::Never),
+    ];
+    says(&rt, &either, &rows, Some(LevelFilter::INFO));
     let sometimes = dynamic_filter_fn(|_meta: &Metadata, _cx: &Context<'_, Registry>| true);
     let either = sometimes.or(LevelFilter::INFO);
-    assert!(rt; interest_in(&either, Level::INFO).is_always());
-    assert!(rt; interest_in(&either, Level::DEBUG).is_sometimes());
-    assert_eq!(rt; hint_of(&either), None);
+    let rows = [
+        (Level::INFO, true, Interest::Always),
+        (Level::DEBUG, true, Interest::Sometimes),
+    ];
+    says(&rt, &either, &rows, None);
     assert_eq!(rt; hint_of(&LevelFilter::INFO.or(Mute)), None);
     Ok(())
 }
@@ -191,18 +196,17 @@ fn a_target_and_a_level(rt: HostRuntime) -> Result<(), Fail> {
 #[test]
 fn what_is_not_wanted(rt: HostRuntime) -> Result<(), Fail> {
     let not = LevelFilter::INFO.not();
-    assert!(rt; wants(&not, event_at(Level::DEBUG)));
-    assert!(rt; lets_by(&not, event_at(Level::DEBUG)) && lets_by(&not, event_at(Level::INFO)));
-    assert!(rt; interest_in(&not, Level::DEBUG).is_always());
-    assert!(rt; interest_in(&not, Level::INFO).is_never());
-    assert_eq!(rt; hint_of(&not), None);
+    let rows = [
+        (Level::DEBUG, true, Interest::Always),
+        (Level::INFO, false, Interest::Never),
+    ];
+    says(&rt, &not, &rows, None);
+    assert!(rt; lets_by(&not, event_at(Level::INFO)));
     let none: Option<LevelFilter> = None;
-    assert!(rt; wants(&none, event_at(Level::TRACE)));
-    assert!(rt; interest_in(&none, Level::TRACE).is_always());
-    assert_eq!(rt; hint_of(&none), None);
+    says(&rt, &none, &[(Level::TRACE, true, Interest::Always)], None);
     let some = Some(LevelFilter::INFO);
-    assert!(rt; !wants(&some, event_at(Level::DEBUG)));
-    assert_eq!(rt; hint_of(&some), Some(LevelFilter::INFO));
+    let rows = [(Level::DEBUG, false, Interest::Never)];
+    says(&rt, &some, &rows, Some(LevelFilter::INFO));
     Ok(())
 }
 

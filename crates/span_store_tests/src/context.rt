@@ -1,6 +1,6 @@
 //! Tests of contexts: what one filter refused is hidden from those that stand under it, and from nobody else.
 ghost use Rattle.span_core.specs.Filters.{is_attached};
-ghost use Rattle.std.specs.Prelude.{IsTrue};
+ghost use Rattle.std.specs.Prelude.{IfOk, IsTrue};
 
 use crate::fixture::{
     Family, LANE, enter, event_at, family_in, name_of, names, open, parent_of, root, shows_scope,
@@ -12,13 +12,17 @@ use std::alloc::Global;
 use std::process::Abort;
 use std::test::Fail;
 
-/// Opens a family of which one filter refuses the child, and enters all of it.
-fn enter_family(registry: &mut Registry, refusing: FilterId) -> Result<Family, TraceError> {
-    let family = family_in(registry, FilterId::none(), refusing)?;
+/// A registry with one filter, and a family of which that refuses the child. The lane has entered all of it.
+fn hidden_child(alloc: Global) -> Result<(Registry, FilterId, Family), TraceError>
+    ensures { IfOk result (λ r. IsTrue (is_attached r.1)) }
+{
+    let mut registry = Registry::new(alloc);
+    let info = registry.register_filter()?;
+    let family = family_in(&mut registry, FilterId::none(), info)?;
     for id in [family.root, family.child, family.leaf] {
-        enter(registry, id)?;
+        enter(&mut registry, id)?;
     }
-    Ok(family)
+    Ok((registry, info, family))
 }
 
 /// An event in this span.
@@ -51,110 +55,156 @@ fn current_of<S: LookupSpan>(ctx: &Context<'_, S>) -> Option<Id> {
 
 #[test]
 fn one_filter_hides_from_its_own_alone(rt: HostRuntime) -> Result<(), Fail> {
-    let mut registry = Registry::new(rt.alloc());
-    let info = registry.register_filter()?;
-    let Family { leaf, .. } = enter_family(&mut registry, info)?;
+    let (registry, info, family) = hidden_child(rt.alloc())?;
     let all = Context::new(&registry, LANE);
-    let filtered = all.with_filter(info);
-    shows_scope(
-        &rt,
-        rt.alloc(),
-        &all,
-        leaf,
-        ("leaf child root ", "root child leaf "),
-    )?;
-    shows_scope(
-        &rt,
-        rt.alloc(),
-        &filtered,
-        leaf,
-        ("leaf root ", "root leaf "),
-    )
+    let (alloc, leaf) = (rt.alloc(), family.leaf);
+    let without = ("leaf child root ", "root child leaf ");
+    shows_scope(&rt, alloc, &all, leaf, without)?;
+    let under = ("leaf root ", "root leaf ");
+    shows_scope(&rt, alloc, &all.with_filter(info), leaf, under)
+}
+
+/// Under the filter an event in the leaf has a scope, and one in the child has none.
+fn scopes_of_events<S: LookupSpan>(
+    rt: &impl Abort,
+    alloc: Global,
+    filtered: &Context<'_, S>,
+    family: Family,
+) -> Result<(), Fail> {
+    let of_leaf = up_of_event(alloc, filtered, &event_in(family.leaf))?.ok_or("no leaf")?;
+    assert_eq!(rt; of_leaf.as_str(), "leaf root ");
+    let of_child = up_of_event(alloc, filtered, &event_in(family.child))?;
+    assert!(rt; of_child.is_none());
+    Ok(())
 }
 
 #[test]
 fn an_event_in_a_hidden_span_has_no_scope(rt: HostRuntime) -> Result<(), Fail> {
-    let mut registry = Registry::new(rt.alloc());
-    let info = registry.register_filter()?;
-    let Family { child, leaf, .. } = enter_family(&mut registry, info)?;
+    let (registry, info, family) = hidden_child(rt.alloc())?;
     let filtered = Context::new(&registry, LANE).with_filter(info);
-    let scope = up_of_event(rt.alloc(), &filtered, &event_in(leaf))?.ok_or("no leaf")?;
-    assert_eq!(rt; scope.as_str(), "leaf root ");
-    assert!(rt; up_of_event(rt.alloc(), &filtered, &event_in(child))?.is_none());
-    Ok(())
+    scopes_of_events(&rt, rt.alloc(), &filtered, family)
+}
+
+/// What a context shows: the span of an event in the child, the leaf's parent, the child's metadata, and whether the child is there.
+fn shown_of<S: LookupSpan>(
+    ctx: &Context<'_, S>,
+    family: Family,
+) -> (Option<&'static str>, Option<&'static str>, bool, bool) {
+    let child = family.child;
+    (
+        span_of(ctx, &event_in(child)),
+        parent_of(ctx, family.leaf),
+        ctx.metadata(child).is_some(),
+        ctx.exists(child),
+    )
+}
+
+/// Without the filter all is shown, and under it nothing of the child but that it is there.
+fn shows_or_hides<S: LookupSpan>(
+    rt: &impl Abort,
+    all: &Context<'_, S>,
+    filtered: &Context<'_, S>,
+    family: Family,
+) {
+    let shown = (Some("child"), Some("child"), true, true);
+    assert_eq!(rt; shown_of(all, family), shown);
+    let hidden = (None, Some("root"), false, true);
+    assert_eq!(rt; shown_of(filtered, family), hidden);
 }
 
 #[test]
 fn what_is_hidden_is_found_by_nobody_under_the_mask(rt: HostRuntime) -> Result<(), Fail> {
-    let mut registry = Registry::new(rt.alloc());
-    let info = registry.register_filter()?;
-    let Family { child, leaf, .. } = enter_family(&mut registry, info)?;
+    let (registry, info, family) = hidden_child(rt.alloc())?;
     let all = Context::new(&registry, LANE);
-    let filtered = all.with_filter(info);
-    assert_eq!(rt; span_of(&all, &event_in(child)), Some("child"));
-    assert_eq!(rt; span_of(&filtered, &event_in(child)), None);
-    assert_eq!(rt; parent_of(&all, leaf), Some("child"));
-    assert_eq!(rt; parent_of(&filtered, leaf), Some("root"));
-    assert!(rt; all.metadata(child).is_some());
-    assert!(rt; filtered.metadata(child).is_none());
-    assert!(rt; filtered.exists(child));
+    shows_or_hides(&rt, &all, &all.with_filter(info), family);
     Ok(())
+}
+
+/// Whether the leaf and the child are enabled for a filter.
+fn enabled_of<S: LookupSpan>(ctx: &Context<'_, S>, family: Family, filter: FilterId) -> [bool; 2] {
+    [
+        ctx.is_enabled_for(family.leaf, filter),
+        ctx.is_enabled_for(family.child, filter),
+    ]
+}
+
+/// By the verdicts, and so by none of a filter without a number.
+fn enables_by_verdicts<S: LookupSpan>(
+    rt: &impl Abort,
+    all: &Context<'_, S>,
+    filtered: &Context<'_, S>,
+    family: Family,
+    info: FilterId,
+) {
+    assert_eq!(rt; enabled_of(filtered, family, info), [true, false]);
+    assert_eq!(rt; enabled_of(all, family, info), [true, false]);
+    let unattached = enabled_of(all, family, FilterId::unattached());
+    assert_eq!(rt; unattached, [false, false]);
 }
 
 #[test]
 fn what_a_filter_refused_is_not_enabled_for_it(rt: HostRuntime) -> Result<(), Fail> {
-    let mut registry = Registry::new(rt.alloc());
-    let info = registry.register_filter()?;
-    let Family { child, leaf, .. } = enter_family(&mut registry, info)?;
+    let (registry, info, family) = hidden_child(rt.alloc())?;
     let all = Context::new(&registry, LANE);
-    let filtered = all.with_filter(info);
-    assert!(rt; filtered.is_enabled_for(leaf, info));
-    assert!(rt; !filtered.is_enabled_for(child, info));
-    assert!(rt; !all.is_enabled_for(child, info));
-    assert!(rt; !all.is_enabled_for(leaf, FilterId::unattached()));
+    enables_by_verdicts(&rt, &all, &all.with_filter(info), family, info);
     Ok(())
 }
 
-/// An event is in the span that the lane is in, where that isn't hidden under this filter, as the child is.
-fn events_are_in_what_is_shown(rt: &impl Abort, registry: &Registry, info: FilterId, family: Family)
-    requires { IsTrue (is_attached info) }
-{
+/// What a context shows of where the lane is: the span of an event there, of one in no span, and the newest.
+fn place_of<S: LookupSpan>(
+    ctx: &Context<'_, S>,
+) -> (Option<&'static str>, Option<&'static str>, Option<Id>) {
     let metadata = event_at(Level::INFO);
-    let all = Context::new(registry, LANE);
-    let filtered = all.with_filter(info);
-    let event = Event::new(metadata, &[]);
-    assert_eq!(rt; span_of(&all, &event), Some("child"));
-    assert_eq!(rt; span_of(&filtered, &event), Some("root"));
-    assert_eq!(rt; span_of(&all, &Event::new_root(metadata, &[])), None);
-    assert_eq!(rt; filtered.current_span().id(), Some(family.child));
-    assert_eq!(rt; current_of(&filtered), Some(family.root));
+    (
+        span_of(ctx, &Event::new(metadata, &[])),
+        span_of(ctx, &Event::new_root(metadata, &[])),
+        current_of(ctx),
+    )
+}
+
+/// The lane is in the child, which is hidden under the filter.
+fn places_of_events<S: Subscriber>(
+    rt: &impl Abort,
+    all: &Context<'_, S>,
+    filtered: &Context<'_, S>,
+    family: Family,
+) {
+    assert_eq!(rt; place_of(all), (Some("child"), None, Some(family.child)));
+    assert_eq!(rt; place_of(filtered), (Some("root"), None, Some(family.root)));
     assert_eq!(rt; current_of(&filtered.to_root()), Some(family.root));
-    assert!(rt; filtered.enabled(&metadata));
+    assert_eq!(rt; filtered.current_span().id(), Some(family.child));
 }
 
 #[test]
 fn an_event_is_in_the_span_that_is_shown(rt: HostRuntime) -> Result<(), Fail> {
-    let mut registry = Registry::new(rt.alloc());
-    let info = registry.register_filter()?;
-    let family = enter_family(&mut registry, info)?;
+    let (mut registry, info, family) = hidden_child(rt.alloc())?;
     registry.exit(LANE, family.leaf);
-    events_are_in_what_is_shown(&rt, &registry, info, family);
+    let all = Context::new(&registry, LANE);
+    let filtered = all.with_filter(info);
+    places_of_events(&rt, &all, &filtered, family);
+    assert!(rt; filtered.enabled(&event_at(Level::INFO)));
     Ok(())
+}
+
+/// A context without a subscriber shows nothing of a span that is open elsewhere, and enables all.
+fn shows_nothing(rt: &impl Abort, nowhere: &Context<'_, Registry>, id: Id) {
+    assert_eq!(rt; nowhere.lane(), LANE);
+    let found = [
+        nowhere.exists(id),
+        nowhere.span(id).is_some(),
+        nowhere.lookup_current().is_some(),
+        nowhere.current_span().id().is_some(),
+        nowhere.enabled(&event_at(Level::INFO)),
+    ];
+    assert_eq!(rt; found, [false, false, false, false, true]);
 }
 
 #[test]
 fn without_a_subscriber_no_span_is_there(rt: HostRuntime) -> Result<(), Fail> {
-    let nowhere: Context<'_, Registry> = Context::none();
-    let metadata = event_at(Level::INFO);
     let mut registry = Registry::new(rt.alloc());
     let root = open(&mut registry, &root())?;
     enter(&mut registry, root)?;
-    assert_eq!(rt; nowhere.lane(), LANE);
-    assert!(rt; !nowhere.exists(root));
-    assert!(rt; nowhere.span(root).is_none());
-    assert!(rt; nowhere.lookup_current().is_none());
-    assert!(rt; nowhere.current_span().id().is_none());
-    assert!(rt; nowhere.enabled(&metadata));
+    shows_nothing(&rt, &Context::none(), root);
     Ok(())
 }
 
@@ -183,11 +233,9 @@ fn write_to_what_is_seen(
     let pass = Pass::new();
     let mut hook = ContextMut::new(registry, LANE, &pass);
     write(&mut hook, family.child, size, 3)?;
-    assert_eq!(rt;
-        name_of(hook.lend().ctx().span(family.child)),
-        Some("child")
-    );
+    assert_eq!(rt; name_of(hook.lend().span(family.child)), Some("child"));
     let mut filtered = hook.with_filter(info);
+    assert!(rt; filtered.span(family.child).is_none());
     assert!(rt; filtered.metadata(family.child).is_none());
     assert!(rt; filtered.metadata(family.leaf).is_some());
     assert!(rt; filtered.extensions_mut(family.child).is_none());
@@ -196,9 +244,7 @@ fn write_to_what_is_seen(
 
 #[test]
 fn a_hook_writes_what_it_sees(rt: HostRuntime) -> Result<(), Fail> {
-    let mut registry = Registry::new(rt.alloc());
-    let info = registry.register_filter()?;
-    let family = enter_family(&mut registry, info)?;
+    let (mut registry, info, family) = hidden_child(rt.alloc())?;
     write_to_what_is_seen(&rt, &mut registry, info, family)?;
     let size = Tag::<u64>::new(0);
     let of_child = value_of(&registry, family.child, size);
@@ -207,36 +253,53 @@ fn a_hook_writes_what_it_sees(rt: HostRuntime) -> Result<(), Fail> {
     Ok(())
 }
 
+/// A hook of which this filter refused the child.
+fn knows_refusals(rt: &impl Abort, hook: ContextMut<'_, Registry>, info: FilterId, family: Family)
+    requires { IsTrue (is_attached info) }
+{
+    let refused = [
+        hook.refuses(info),
+        hook.refuses(FilterId::of(1)),
+        hook.refuses(FilterId::unattached()),
+    ];
+    assert_eq!(rt; refused, [true, false, true]);
+    let filtered = hook.with_filter(info);
+    let enabled = [
+        filtered.is_enabled_for(family.leaf, info),
+        filtered.is_enabled_for(family.child, info),
+    ];
+    assert_eq!(rt; enabled, [true, false]);
+    assert_eq!(rt; filtered.lane(), LANE);
+    assert_eq!(rt; name_of(filtered.lookup_current()), Some("leaf"));
+}
+
 #[test]
 fn a_hook_knows_what_its_filter_refused(rt: HostRuntime) -> Result<(), Fail> {
-    let mut registry = Registry::new(rt.alloc());
-    let info = registry.register_filter()?;
-    let Family { child, leaf, .. } = enter_family(&mut registry, info)?;
+    let (mut registry, info, family) = hidden_child(rt.alloc())?;
     let mut pass = Pass::new();
     pass.set(info, false);
     let hook = ContextMut::new(&mut registry, LANE, &pass);
-    assert!(rt; hook.refuses(info));
-    assert!(rt; !hook.refuses(FilterId::of(1)));
-    assert!(rt; hook.refuses(FilterId::unattached()));
-    let filtered = hook.with_filter(info);
-    assert_eq!(rt; filtered.lane(), LANE);
-    assert!(rt; filtered.is_enabled_for(leaf, info));
-    assert!(rt; !filtered.is_enabled_for(child, info));
+    knows_refusals(&rt, hook, info, family);
     Ok(())
+}
+
+/// While its registry is out, a hook shows nothing of it but over it.
+fn goes_without(rt: &impl Abort, hook: ContextMut<'_, Registry>, leaf: Id) {
+    let mut hook = hook;
+    hook.event(&event_in(leaf));
+    let mut root = hook.take_root();
+    let found = hook.ctx().exists(leaf);
+    let over = hook.over(&mut root).extensions_mut(leaf).is_some();
+    hook.put_root(root);
+    assert_eq!(rt; (found, over), (false, true));
+    assert_eq!(rt; current_of(&hook.ctx()), Some(leaf));
 }
 
 #[test]
 fn a_hook_may_be_without_its_registry(rt: HostRuntime) -> Result<(), Fail> {
-    let mut registry = Registry::new(rt.alloc());
-    let info = registry.register_filter()?;
-    let Family { leaf, .. } = enter_family(&mut registry, info)?;
+    let (mut registry, _, family) = hidden_child(rt.alloc())?;
     let pass = Pass::new();
-    let mut hook = ContextMut::new(&mut registry, LANE, &pass);
-    hook.event(&event_in(leaf));
-    let mut root = hook.take_root();
-    assert!(rt; !hook.ctx().exists(leaf));
-    assert!(rt; hook.over(&mut root).extensions_mut(leaf).is_some());
-    hook.put_root(root);
-    assert_eq!(rt; current_of(&hook.ctx()), Some(leaf));
+    let hook = ContextMut::new(&mut registry, LANE, &pass);
+    goes_without(&rt, hook, family.leaf);
     Ok(())
 }

@@ -1,5 +1,5 @@
 //! Tests of filters, as a layer's filters are asked.
-use crate::fixture::{event_at, hint_of, interest_in, wants};
+use crate::fixture::{event_at, hint_of, says, wants};
 use span_core::{Interest, Level, LevelFilter, Metadata};
 use span_filters::{DynFilterFn, FilterFn, dynamic_filter_fn, filter_fn};
 use span_registry::{Context, Registry};
@@ -7,23 +7,22 @@ use std::test::Fail;
 
 #[test]
 fn a_level_passes_what_is_no_more_verbose(rt: HostRuntime) -> Result<(), Fail> {
-    let info = LevelFilter::INFO;
-    assert!(rt; wants(&info, event_at(Level::INFO)));
-    assert!(rt; !wants(&info, event_at(Level::DEBUG)));
-    assert!(rt; interest_in(&info, Level::INFO).is_always());
-    assert!(rt; interest_in(&info, Level::DEBUG).is_never());
-    assert_eq!(rt; hint_of(&info), Some(LevelFilter::INFO));
+    let rows = [
+        (Level::INFO, true, Interest::Always),
+        (Level::DEBUG, false, Interest::Never),
+    ];
+    says(&rt, &LevelFilter::INFO, &rows, Some(LevelFilter::INFO));
     Ok(())
 }
 
 #[test]
 fn a_test_of_metadata_settles_the_interest(rt: HostRuntime) -> Result<(), Fail> {
     let filter = filter_fn(|meta: &Metadata| meta.level() == Level::INFO);
-    assert!(rt; wants(&filter, event_at(Level::INFO)));
-    assert!(rt; !wants(&filter, event_at(Level::WARN)));
-    assert!(rt; interest_in(&filter, Level::INFO).is_always());
-    assert!(rt; interest_in(&filter, Level::WARN).is_never());
-    assert_eq!(rt; hint_of(&filter), None);
+    let rows = [
+        (Level::INFO, true, Interest::Always),
+        (Level::WARN, false, Interest::Never),
+    ];
+    says(&rt, &filter, &rows, None);
     let filter = filter.with_max_level_hint(LevelFilter::INFO);
     assert_eq!(rt; hint_of(&filter), Some(LevelFilter::INFO));
     Ok(())
@@ -34,13 +33,18 @@ fn a_test_of_the_context_is_asked_each_time(rt: HostRuntime) -> Result<(), Fail>
     let filter = dynamic_filter_fn(|meta: &Metadata, _cx: &Context<'_, Registry>| {
         meta.level() <= Level::INFO
     });
-    assert!(rt; interest_in(&filter, Level::DEBUG).is_sometimes());
+    says(
+        &rt,
+        &filter,
+        &[(Level::DEBUG, false, Interest::Sometimes)],
+        None,
+    );
     let filter = filter.with_max_level_hint(LevelFilter::INFO);
-    assert!(rt; wants(&filter, event_at(Level::INFO)));
-    assert!(rt; !wants(&filter, event_at(Level::DEBUG)));
-    assert!(rt; interest_in(&filter, Level::DEBUG).is_never());
-    assert!(rt; interest_in(&filter, Level::INFO).is_sometimes());
-    assert_eq!(rt; hint_of(&filter), Some(LevelFilter::INFO));
+    let rows = [
+        (Level::INFO, true, Interest::Sometimes),
+        (Level::DEBUG, false, Interest::Never),
+    ];
+    says(&rt, &filter, &rows, Some(LevelFilter::INFO));
     let filter = filter.with_callsite_filter(|meta: &Metadata| {
         if meta.level() == Level::ERROR {
             Interest::Always
@@ -48,8 +52,11 @@ fn a_test_of_the_context_is_asked_each_time(rt: HostRuntime) -> Result<(), Fail>
             Interest::Sometimes
         }
     });
-    assert!(rt; interest_in(&filter, Level::ERROR).is_always());
-    assert!(rt; interest_in(&filter, Level::DEBUG).is_sometimes());
+    let rows = [
+        (Level::ERROR, true, Interest::Always),
+        (Level::DEBUG, false, Interest::Sometimes),
+    ];
+    says(&rt, &filter, &rows, Some(LevelFilter::INFO));
     Ok(())
 }
 

@@ -222,6 +222,25 @@ pub(crate) fn interest_in<F: Filter<Registry>>(filter: &F, level: Level) -> Inte
     filter.callsite_enabled(&event_at(level))
 }
 
+/// A level; whether a filter wants events at it, and its interest in their callsite.
+pub(crate) type Row = (Level, bool, Interest);
+
+/// A filter says this of events at these levels, and has this hint.
+pub(crate) fn says<F: Filter<Registry>>(
+    rt: &impl Abort,
+    filter: &F,
+    rows: &[Row],
+    hint: Option<LevelFilter>,
+)
+    requires { F.usable filter.now }
+{
+    for (level, wanted, interest) in rows {
+        assert_eq!(rt; wants(filter, event_at(*level)), *wanted);
+        assert_eq!(rt; interest_in(filter, *level), *interest);
+    }
+    assert_eq!(rt; hint_of(filter), hint);
+}
+
 /// The highest level that a filter may want, if it knows one.
 pub(crate) fn hint_of<F: Filter<Registry>>(filter: &F) -> Option<LevelFilter>
     requires { F.usable filter.now }

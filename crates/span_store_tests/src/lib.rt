@@ -1,4 +1,4 @@
-//! Tests of the registry and of filters, from outside: each is also a caller of their contracts.
+//! Tests of requests' values, of the registry and of filters, from outside: each is also a caller of their contracts.
 #![tactic(auto)]
 
 #[cfg(test)]
@@ -31,3 +31,5 @@ mod stack;
 mod subscriber;
 #[cfg(test)]
 mod unknown_span;
+#[cfg(test)]
+mod value;

@@ -2,6 +2,7 @@
 use crate::fixture::{child_of, clone_of, drop_handle, open, root};
 use span_core::{FilterId, TraceError};
 use span_registry::{Limits, LookupSpan, Registry};
+use std::alloc::Global;
 use std::process::Abort;
 use std::test::Fail;
 
@@ -30,6 +31,17 @@ fn counts_are_limited(rt: HostRuntime) -> Result<(), Fail> {
     fills_a_count(&rt, &mut Registry::with_limits(rt.alloc(), limits))
 }
 
+/// Makes spans until no place is left, and one more once a span has closed.
+fn fills_two_places(rt: &impl Abort, alloc: Global, registry: &mut Registry) -> Result<(), Fail> {
+    let p = open(registry, &root())?;
+    open(registry, &root())?;
+    let third = open(registry, &root());
+    assert_eq!(rt; third, Err(TraceError::TooManySpans));
+    assert_eq!(rt; drop_handle(registry, p, alloc)?.as_slice(), [p].as_slice());
+    assert!(rt; open(registry, &root()).is_ok());
+    Ok(())
+}
+
 #[test]
 fn places_are_limited(rt: HostRuntime) -> Result<(), Fail> {
     let limits = Limits {
@@ -37,19 +49,17 @@ fn places_are_limited(rt: HostRuntime) -> Result<(), Fail> {
         generations: 9,
         count: 9,
     };
-    let mut registry = Registry::with_limits(rt.alloc(), limits);
-    let p = open(&mut registry, &root())?;
-    open(&mut registry, &root())?;
-    let third = open(&mut registry, &root());
-    assert_eq!(rt; third, Err(TraceError::TooManySpans));
-    assert_eq!(rt;
-        drop_handle(&mut registry, p, rt.alloc())?.as_slice(),
-        [p].as_slice()
-    );
-    assert!(rt; open(&mut registry, &root()).is_ok());
-    assert_eq!(rt; Limits::MAX.places, 4_294_967_295);
-    assert_eq!(rt; Limits::MAX.generations, 4_294_967_295);
-    assert_eq!(rt; Limits::MAX.count, 4_294_967_295);
+    fills_two_places(
+        &rt,
+        rt.alloc(),
+        &mut Registry::with_limits(rt.alloc(), limits),
+    )?;
+    let Limits {
+        places,
+        generations,
+        count,
+    } = Limits::MAX;
+    assert_eq!(rt; [places, generations, count], [4_294_967_295; 3]);
     Ok(())
 }
 

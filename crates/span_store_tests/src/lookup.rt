@@ -13,11 +13,13 @@ fn refused_family(registry: &mut Registry) -> Result<Family, TraceError> {
     family_in(registry, FilterId::of(1), FilterId::of(0))
 }
 
-#[test]
-fn scopes_under_masks(rt: HostRuntime) -> Result<(), Fail> {
-    let mut registry = Registry::new(rt.alloc());
-    let Family { leaf, .. } = refused_family(&mut registry)?;
-    let all = Context::new(&registry, LANE);
+/// The leaf's scope and parent, by each mask.
+fn shows_by_masks<S: LookupSpan>(
+    rt: &impl Abort,
+    alloc: Global,
+    all: Context<'_, S>,
+    leaf: Id,
+) -> Result<(), Fail> {
     let child_hidden = all.with_filter(FilterId::of(0));
     let root_hidden = all.with_filter(FilterId::of(1));
     let both_hidden = child_hidden.with_filter(FilterId::of(1));
@@ -27,28 +29,45 @@ fn scopes_under_masks(rt: HostRuntime) -> Result<(), Fail> {
         (root_hidden, ("leaf child ", "child leaf "), Some("child")),
         (both_hidden, ("leaf ", "leaf "), None),
     ] {
-        shows_scope(&rt, rt.alloc(), &ctx, leaf, named)?;
+        shows_scope(rt, alloc, &ctx, leaf, named)?;
         assert_eq!(rt; parent_of(&ctx, leaf), parent);
     }
     Ok(())
 }
 
 #[test]
-fn scopes_of_ancestors(rt: HostRuntime) -> Result<(), Fail> {
+fn scopes_under_masks(rt: HostRuntime) -> Result<(), Fail> {
     let mut registry = Registry::new(rt.alloc());
-    let Family { root, child, .. } = refused_family(&mut registry)?;
-    let all = Context::new(&registry, LANE);
+    let family = refused_family(&mut registry)?;
+    shows_by_masks(&rt, rt.alloc(), Context::new(&registry, LANE), family.leaf)
+}
+
+/// The scopes and parents of the other two, where the child is shown, and where it isn't.
+fn shows_ancestors<S: LookupSpan>(
+    rt: &impl Abort,
+    alloc: Global,
+    all: Context<'_, S>,
+    family: Family,
+) -> Result<(), Fail> {
+    let Family { root, child, .. } = family;
     let child_hidden = all.with_filter(FilterId::of(0));
     for (span, ctx, leaf_first, parent) in [
         (child, all, "child root ", Some("root")),
         (root, all, "root ", None),
         (root, child_hidden, "root ", None),
     ] {
-        assert_eq!(rt; up(rt.alloc(), &ctx, span)?.as_str(), leaf_first);
+        assert_eq!(rt; up(alloc, &ctx, span)?.as_str(), leaf_first);
         assert_eq!(rt; parent_of(&ctx, span), parent);
     }
     assert!(rt; child_hidden.span_scope(child).is_none());
     Ok(())
+}
+
+#[test]
+fn scopes_of_ancestors(rt: HostRuntime) -> Result<(), Fail> {
+    let mut registry = Registry::new(rt.alloc());
+    let family = refused_family(&mut registry)?;
+    shows_ancestors(&rt, rt.alloc(), Context::new(&registry, LANE), family)
 }
 
 /// The next filter, and how many there are by now, asked of a registry through the trait alone.
@@ -68,15 +87,22 @@ fn shows_the_leaf(rt: &impl Abort, registry: &Registry, family: Family) -> Resul
     Ok(())
 }
 
+/// The leaf has a value, and the child has none.
+fn has_a_value(rt: &impl Abort, registry: &mut Registry) -> Result<Family, Fail> {
+    let family = refused_family(registry)?;
+    let size = Tag::<u64>::new(3);
+    insert(registry, family.leaf, size, 42)?;
+    let of_leaf = value_of(registry, family.leaf, size);
+    let of_child = value_of(registry, family.child, size);
+    assert_eq!(rt; (of_leaf, of_child), (Some(42), None));
+    assert!(rt; registry.span(Id::from_u64(0)).is_none());
+    Ok(family)
+}
+
 #[test]
 fn what_a_reference_shows_of_a_span(rt: HostRuntime) -> Result<(), Fail> {
     let mut registry = Registry::new(rt.alloc());
-    let family = refused_family(&mut registry)?;
-    let size = Tag::<u64>::new(3);
-    insert(&mut registry, family.leaf, size, 42)?;
-    assert!(rt; registry.span(Id::from_u64(0)).is_none());
-    assert_eq!(rt; value_of(&registry, family.leaf, size), Some(42));
-    assert_eq!(rt; value_of(&registry, family.child, size), None);
+    let family = has_a_value(&rt, &mut registry)?;
     shows_the_leaf(&rt, &registry, family)
 }
 
@@ -147,24 +173,37 @@ fn is_so_deep<R: LookupSpan>(
     Ok(())
 }
 
+/// A chain of so many spans is as deep as that.
+fn opens_so_deep(
+    rt: &impl Abort,
+    alloc: Global,
+    registry: &mut Registry,
+    depth: u32,
+) -> Result<(), Fail> {
+    let id = open_chain(registry, depth)?.ok_or("no span")?;
+    let leaf = registry.span(id).ok_or("no leaf")?;
+    is_so_deep(rt, alloc, &leaf, depth as usize)
+}
+
 #[test]
 fn lengths_of_scopes(rt: HostRuntime) -> Result<(), Fail> {
     for depth in [1, 16, 17, 1000] {
-        let mut registry = Registry::new(rt.alloc());
-        let id = open_chain(&mut registry, depth)?.ok_or("no span")?;
-        let leaf = registry.span(id).ok_or("no leaf")?;
-        is_so_deep(&rt, rt.alloc(), &leaf, depth as usize)?;
+        opens_so_deep(&rt, rt.alloc(), &mut Registry::new(rt.alloc()), depth)?;
     }
     Ok(())
 }
 
+/// The text of the leaf's scope, root first.
+fn scope_text(alloc: Global, registry: &mut Registry) -> Result<String, Fail> {
+    let family = refused_family(registry)?;
+    let leaf = registry.span(family.leaf).ok_or("no leaf")?;
+    let scope = leaf.scope().from_root(alloc)?;
+    Ok(format!(in alloc; "{scope:?}")?)
+}
+
 #[test]
 fn text_of_a_scope(rt: HostRuntime) -> Result<(), Fail> {
-    let mut registry = Registry::new(rt.alloc());
-    let Family { leaf, .. } = refused_family(&mut registry)?;
-    let leaf = registry.span(leaf).ok_or("no leaf")?;
-    let scope = leaf.scope().from_root(rt.alloc())?;
-    let shown = format!(in rt.alloc(); "{scope:?}")?;
+    let shown = scope_text(rt.alloc(), &mut Registry::new(rt.alloc()))?;
     assert_eq!(rt; shown.as_str(), "ScopeFromRoot { .. }");
     Ok(())
 }

@@ -1,6 +1,6 @@
 use Rattle.std.proofs.Common.{Some, refl}
 use Rattle.span_registry.specs.LaneStack.{without_duplicates}
-use Rattle.span_registry.specs.Store.{stack_of}
+use Rattle.span_registry.specs.Store.{stack_on}
 use Rattle.span_registry.proofs.Ancestry.{scope_absent, scope_is, seen_at}
 use Rattle.span_registry.proofs.LookupLaws.{chain_descends, current_unhidden, shown_above, whole_chain}
 use Rattle.span_registry.proofs.laws.look_ups_are_of_the_store.Goals as goal
@@ -12,6 +12,6 @@ returns c = λ s mask x. record {
   whole = λ chain none h. whole_chain s mask (Some x) chain none h;
   outside = λ none. scope_absent s mask x none;
   parent = λ above chain. shown_above s mask x above chain;
-  current = λ lane none. current_unhidden s lane mask (without_duplicates (stack_of s.stacks lane)) none refl;
+  current = λ lane none. current_unhidden s lane mask (without_duplicates (stack_on s.stacks lane)) none refl;
   descent = λ chain h. chain_descends s.spans x chain h;
 }

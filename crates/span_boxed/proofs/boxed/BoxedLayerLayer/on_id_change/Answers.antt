@@ -19,3 +19,9 @@ returns-clause-hook g c =
     c.args.ctx.now c.take_root-root.new.self c.put_root.new.self _ _ _ c.over.result c.dyn_on_id_change.new.ctx
     c.take_root-root.ensures.root c.take_root-root.ensures.rest c.over.ensures.lent (search (rules)) c.put_root.ensures
     (λ f h. let s = c.dyn_on_id_change.ensures.1.1 f h in record { taken = (_, refl, s.taken); follows = s.follows; heard = λ place k l. (_, refl, s.heard place k l); acts_on = s.acts_on; alone = s.alone; kind = s.kind })
+
+pub returns-clause-rest : goal.returns-clause-rest
+returns-clause-rest g c = search (rules, c.root-1, c.root-2-1, c.over.ensures, c.put_root.ensures, c.take_root-root.ensures, c.dyn_on_id_change.ensures)
+
+pub returns-clause-alone : goal.returns-clause-alone
+returns-clause-alone g c = search (rules, c.root-1, c.root-2-1, c.over.ensures, c.put_root.ensures, c.take_root-root.ensures, c.dyn_on_id_change.ensures)

@@ -1,6 +1,7 @@
-use Rattle.std.proofs.Common.{refl, rules, subst, sym}
+use Rattle.std.proofs.Common.{refl, rules, subst, sym, ap, ◌∙◌}
+use Rattle.span_core.specs.declared.span.Lane.{Lane}
 use Rattle.span_filters.specs.Boxed.{StepsInside}
-use Rattle.span_filters.proofs.BoxLemmas.{asked_of_object, boxed_lawfully}
+use Rattle.span_filters.proofs.BoxLemmas.{asked_of_object, boxed_lawfully, carried_over}
 use Rattle.span_filters.proofs.boxed.BoxedFilterFilter.on_record.Goals as goal
 use Rattle.span_registry.proofs.CallerLemmas.{unrefused_on, unrefused_over}
 
@@ -18,4 +19,11 @@ returns-clause-hook g c =
     (StepsInside (λ f. (d (f.object.vtable, f.object.value)).dyn_hooked))
     (λ f. (d (f.object.vtable, f.object.value)).dyn_acts f.object.value) _ _ c.deref_box_mut-1.ensures.value.1 _ _ _ _ _ _ (_, refl, c.dyn_on_record.ensures.1.0)
     c.dyn_on_record.ensures.1.1.0 in
-    search (rules, lawfully)
+    carried_over lawfully
+    (ap (λ (l : Lane). l.0) (c.over.ensures.lent.lane ∙ c.take_root-root.ensures.rest.loan.lane))
+    (search (rules, c.over.ensures, c.take_root-root.ensures))
+    (search (rules, c.root-1, c.over.ensures, c.take_root-root.ensures))
+    (search (rules, c.root-2-1, c.put_root.ensures, g.met.S.LookupSpan.registry_with))
+
+pub returns-clause-written : goal.returns-clause-written
+returns-clause-written g c = search (rules, c.root-1, c.root-2-1, c.over.ensures, c.put_root.ensures, c.take_root-root.ensures, c.dyn_on_record.ensures)

@@ -7,7 +7,7 @@ use Rattle.span_core.specs.Span.{number_of}
 use Rattle.span_core.specs.declared.span.Id.{Id}
 use Rattle.span_registry.specs.Context.{filters_in, store_at, store_in, view_in}
 use Rattle.span_registry.specs.LaneStack.{newest, without_duplicates}
-use Rattle.span_registry.specs.Store.{RegistryState, stack_of}
+use Rattle.span_registry.specs.Store.{RegistryState, stack_on}
 use Rattle.span_registry.specs.View.{current_among, current_shown, is_shown, seen_spans, view_of}
 use Rattle.span_registry.specs.declared.context.Context.{Context}
 use Rattle.span_registry.proofs.Finds.{finds_none}
@@ -16,14 +16,14 @@ use Rattle.span_registry.proofs.context.Context.lookup_current.Goals as goal
 
 -- the span that is shown, where this is the lane's stack: by whether its newest entry is in the store
 shown_by_newest : {S : Type 0} (registry : S → RegistryState) (looked : Context S) (subscriber : Bor S) (root : RegistryState) (found : Option (Bor (List ℕ))) (stack : Bor (List ℕ)) (entry : Option Id) (id : Id) (there : Bool)
-    → looked.subscriber ≡ Some subscriber → root ≡ registry subscriber.now → unwrap_or (option_copied found) [] ≡ stack_of root.store.stacks looked.lane.0 → found ≡ Some stack
+    → looked.subscriber ≡ Some subscriber → root ≡ registry subscriber.now → unwrap_or (option_copied found) [] ≡ stack_on root.store.stacks looked.lane.0 → found ≡ Some stack
     → option_map number_of entry ≡ newest (without_duplicates stack.now) → entry ≡ Some id → is_some (get (store_in registry looked).spans (number_of id)) ≡ there
     → current_shown (view_in registry looked) ≡ cond there (find (is_shown (view_in registry looked).spans) (without_duplicates stack.now)) None
 shown_by_newest registry looked subscriber root found stack entry id there looks rooted read is top newest_is known =
     let s = store_in registry looked in
     let lane = looked.lane.0 in
-    let same : stack.now ≡ stack_of s.stacks lane =
-    sym (ap (λ o. unwrap_or (option_copied o) []) is) ∙ read ∙ ap (λ r. stack_of r.store.stacks lane) rooted ∙ ap (λ o. stack_of (store_at registry o).stacks lane) (sym looks) in
+    let same : stack.now ≡ stack_on s.stacks lane =
+    sym (ap (λ o. unwrap_or (option_copied o) []) is) ∙ read ∙ ap (λ r. stack_on r.store.stacks lane) rooted ∙ ap (λ o. stack_on (store_at registry o).stacks lane) (sym looks) in
     ap (λ xs. current_among (seen_spans s (filters_in looked)) (without_duplicates xs)) (sym same)
     ∙ current_by s (filters_in looked) (without_duplicates stack.now) (number_of id) there (sym top ∙ ap (option_map number_of) newest_is) known
 

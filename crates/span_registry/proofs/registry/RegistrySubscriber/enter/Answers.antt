@@ -1,12 +1,10 @@
-use Rattle.std.proofs.Common.{sym, ap, ◌∙◌, List, ℕ, ◌∷◌}
+use Rattle.std.proofs.Common.{sym, ap, ◌∙◌}
 use Rattle.std.specs.FinSet.{len as set_len}
 use Rattle.span_core.specs.Span.{number_of}
-use Rattle.span_registry.specs.StoreRepr.{stacks_of}
 use Rattle.span_registry.specs.State.{state_of}
 use Rattle.span_registry.specs.Step.{entered}
-use Rattle.span_registry.specs.Store.{RegistryState, Stacks, with_stack}
+use Rattle.span_registry.specs.Store.{RegistryState, Stacks}
 use Rattle.span_registry.proofs.Begins.{has_some}
-use Rattle.span_registry.proofs.Kept.{stack_at, stacks_put}
 use Rattle.span_registry.proofs.States.{on_ok_map}
 use Rattle.span_registry.proofs.registry.RegistrySubscriber.enter.Goals as goal
 
@@ -20,12 +18,9 @@ invariant_of-self c =
 
 pub returns-clause-entered : goal.returns-clause-entered
 returns-clause-entered c =
-    let ss = c.self.inside.stacks.entries in
-    let x = number_of c.args.id in
     let before : RegistryState = state_of c.self.inside in
-    on_ok_map c.push_on.result c.push_on.ensures.ok (λ updates. record {
+    on_ok_map c.push.result c.push.ensures.entered (λ put. record {
       is_open = c.is_open.ensures.0 c.if-not-is_open.false;
-      state = ap (λ (m : Stacks). record before { store = record before.store { stacks = m } }) (stacks_put c.self.inside.stacks c.push_on.new.stacks c.args.lane.0 _ updates
-          ∙ ap (λ (xs : List ℕ). with_stack (stacks_of ss) c.args.lane.0 (x ∷ xs)) (sym (stack_at ss c.args.lane.0)))
-          ∙ ap (λ (s : RegistryState). record s { store = entered s.store c.args.lane.0 x }) c.self.view_is;
+      state = ap (λ (m : Stacks). record before { store = record before.store { stacks = m } }) put
+          ∙ ap (λ (s : RegistryState). record s { store = entered s.store c.args.lane.0 (number_of c.args.id) }) c.self.view_is;
     })
