@@ -1,11 +1,8 @@
 -- Which interest a cache gives, and what comes of it.
 use Rattle.std.proofs.Common.{◌≡◌, ℕ, Bool, true, false, not, ◌==◌, if◌then◌else◌, Option, Some, None, Result, Ok, Err, inl, inr, refl, sym, ap, subst, arith, ◌∙◌}
-use Rattle.std.proofs.lemmas.Bool.Decides.{nat_tests}
 use Rattle.std.proofs.lemmas.Bool.{eqb-true, false≢true, true≢false}
 use Rattle.std.specs.Prelude.{IfErr, IsSome, OnOk}
-use Rattle.std.specs.BTreeMap as tree
 use Rattle.std.specs.Option.{option_map, unwrap_or}
-use Rattle.std.specs.Ordering.{is_eq, nat_cmp}
 use Rattle.span_core.specs.Filters.{FilterSet, IsEmpty}
 use Rattle.span_core.specs.Level.{is_above}
 use Rattle.span_core.specs.Metadata.{ShowSame, callsite_of, level_of}
@@ -18,7 +15,7 @@ use Rattle.span_core.specs.declared.metadata.Metadata.{Metadata}
 use Rattle.span_core.specs.declared.pass.Pass.{Pass}
 use Rattle.span_core.specs.declared.span.Lane.{Lane}
 use Rattle.span_dispatch.specs.Admission.{Decides, GivesInterest, HasInterestBy, IsAdmitted, IsInterestBy, IsLetBy, KeepsSafely, LosesNothing, MayLearn, Promises, interests_nobody, is_above_hint, learned, learned_if}
-use Rattle.span_dispatch.specs.Cache.{Callsites, MatchesStack, IsUpToDate, KeptCallsites, ReadHint, ReadsOnce, RefusesBelow, RefusesInterest, callsites_of, hint_in, is_above_read, kept_in, no_callsite, with_callsite}
+use Rattle.span_dispatch.specs.Cache.{Callsites, MatchesStack, IsUpToDate, KeptCallsites, ReadHint, ReadsOnce, RefusesBelow, RefusesInterest, callsites_of, hint_in, is_above_read, kept_in, known_of, no_callsite, with_callsite}
 use Rattle.span_dispatch.specs.declared.cache.Cache.TheVariants.{Empty, Filled, Off}
 use Rattle.span_dispatch.specs.declared.cache.Cache.{Cache}
 use Rattle.span_dispatch.specs.declared.cache.Callsite.{Callsite}
@@ -166,11 +163,6 @@ pub let_by_below : (above : Bool) (given : Result Bool TraceError) → (above �
 let_by_below true given drops e = let dropped = drops refl in absurd (cc)
 let_by_below false given drops e = refl
 
--- two tests of one thing
-same_test : (n m : ℕ) (b : Bool) → is_eq (nat_cmp n m) ≡ b → (n == m) ≡ b
-same_test n m true e = grind (arith, nat_tests)
-same_test n m false e = grind (arith, nat_tests)
-
 -- a level that passes is not above
 pub passes_below : (passes above : Bool) → passes ≡ not above → passes ≡ true → above ≡ false
 passes_below true above e f = not_false above (sym e)
@@ -202,6 +194,7 @@ module _ {S : Type 0} (registry : S → RegistryState) (has_form : S → Form �
     safe = λ f d h u. (tt, tt);
     by_form = λ f d h u. record { above = λ e. absurd (false≢true e); agrees = λ e. tt; never = λ e. refl; always = λ e. absurd (cc); learned = refl };
     kept = λ f d u. tt;
+    lasts = λ n one e. e;
   }
 
   -- the level is above the hint
@@ -225,6 +218,7 @@ module _ {S : Type 0} (registry : S → RegistryState) (has_form : S → Form �
           learned = sym (ap (λ b. learned_if b (Some (callsites_of k)) m) above);
         };
     kept = λ f d u. u;
+    lasts = λ n one e. e;
   }
 
   same_callsite : (n : ℕ) (b : Bool) → (callsite_of m == n) ≡ b → b ≡ true → callsite_of m ≡ n
@@ -241,7 +235,7 @@ module _ {S : Type 0} (registry : S → RegistryState) (has_form : S → Form �
       by_number n false t = refl
 
   -- the callsite is kept with metadata that show the same
-  pub gives_kept : (k : Known) (one : Callsite) → is_above (level_of m) k.hint ≡ false → tree.get nat_cmp k.callsites (callsite_of m) ≡ Some one → ShowSame one.metadata m → GivesInterest registry has_form x m (Ok one.interest) (Filled k) (Filled k)
+  pub gives_kept : (k : Known) (one : Callsite) → is_above (level_of m) k.hint ≡ false → known_of k (callsite_of m) ≡ Some one → ShowSame one.metadata m → GivesInterest registry has_form x m (Ok one.interest) (Filled k) (Filled k)
   gives_kept k one passes at same = record {
     off = λ o. absurd (cc);
     learns = inl refl;
@@ -262,6 +256,7 @@ module _ {S : Type 0} (registry : S → RegistryState) (has_form : S → Form �
           learned = sym (ap (λ c. Some c) (kept_still (callsites_of k) one.metadata there)) ∙ sym (ap (λ b. learned_if b (Some (callsites_of k)) m) below);
         };
     kept = λ f d u. u;
+    lasts = λ n one e. e;
   }
     where
       there : callsites_of k (callsite_of m) ≡ Some one.metadata
@@ -276,7 +271,7 @@ module _ {S : Type 0} (registry : S → RegistryState) (has_form : S → Form �
       shown other e = let which : Some other ≡ Some one.metadata = sym e ∙ there in let it : other ≡ one.metadata = cc in subst (λ z. ShowSame z m) (sym it) same
 
   -- it is kept with other metadata
-  pub gives_mismatch : (k : Known) (one : Callsite) → is_above (level_of m) k.hint ≡ false → tree.get nat_cmp k.callsites (callsite_of m) ≡ Some one → ¬ (ShowSame one.metadata m) → GivesInterest registry has_form x m (Err CallsiteMismatch) (Filled k) (Filled k)
+  pub gives_mismatch : (k : Known) (one : Callsite) → is_above (level_of m) k.hint ≡ false → known_of k (callsite_of m) ≡ Some one → ¬ (ShowSame one.metadata m) → GivesInterest registry has_form x m (Err CallsiteMismatch) (Filled k) (Filled k)
   gives_mismatch k one passes at other = record {
     off = λ o. absurd (cc);
     learns = inl refl;
@@ -288,10 +283,11 @@ module _ {S : Type 0} (registry : S → RegistryState) (has_form : S → Form �
     safe = λ f d h u. (tt, u);
     by_form = λ f d h u. (ap (is_above (level_of m)) (sym u.hint) ∙ passes, refl);
     kept = λ f d u. u;
+    lasts = λ n one e. e;
   }
 
   -- it isn't kept, and memory was refused
-  pub gives_no_memory : (k l : Known) → is_above (level_of m) k.hint ≡ false → tree.get nat_cmp k.callsites (callsite_of m) ≡ None → l.hint ≡ k.hint → ((n : ℕ) → tree.get nat_cmp l.callsites n ≡ tree.get nat_cmp k.callsites n)
+  pub gives_no_memory : (k l : Known) → is_above (level_of m) k.hint ≡ false → known_of k (callsite_of m) ≡ None → l.hint ≡ k.hint → ((n : ℕ) → known_of l n ≡ known_of k n)
       → GivesInterest registry has_form x m (Err OutOfMemory) (Filled k) (Filled l)
   gives_no_memory k l passes at hint same = record {
     off = λ o. absurd (cc);
@@ -311,11 +307,12 @@ module _ {S : Type 0} (registry : S → RegistryState) (has_form : S → Form �
     );
     by_form = λ f d h u. (ap (is_above (level_of m)) (sym u.hint) ∙ passes, λ i. Some (λ n. option_map (λ (c : Callsite). c.metadata) (same n i)));
     kept = λ f d u. record { hint = hint ∙ u.hint; number = λ n one e. u.number n one (sym (same n) ∙ e); interest = λ n one e. u.interest n one (sym (same n) ∙ e) };
+    lasts = λ n one e. same n ∙ e;
   }
 
   -- it isn't kept, is asked for, and is kept then
-  pub gives_asked : (k l : Known) (i : Interest) (fresh pass : Pass) → is_above (level_of m) k.hint ≡ false → tree.get nat_cmp k.callsites (callsite_of m) ≡ None → l.hint ≡ k.hint → interest_sum fresh ≡ None → AnswersInterest registry has_form x m fresh i pass
-      → ((n : ℕ) → tree.get nat_cmp l.callsites n ≡ if is_eq (nat_cmp (callsite_of m) n) then Some (record { metadata = m; interest = i }) else tree.get nat_cmp k.callsites n)
+  pub gives_asked : (k l : Known) (i : Interest) (fresh pass : Pass) → is_above (level_of m) k.hint ≡ false → known_of k (callsite_of m) ≡ None → l.hint ≡ k.hint → interest_sum fresh ≡ None → AnswersInterest registry has_form x m fresh i pass
+      → ((n : ℕ) → known_of l n ≡ if (callsite_of m == n) then Some (record { metadata = m; interest = i }) else known_of k n)
       → GivesInterest registry has_form x m (Ok i) (Filled k) (Filled l)
   gives_asked k l i fresh pass passes at hint none a updates = record {
     off = λ o. absurd (cc);
@@ -347,6 +344,7 @@ module _ {S : Type 0} (registry : S → RegistryState) (has_form : S → Form �
           learned = (λ z. Some (λ n. grown n z)) ∙ sym (ap (λ b. learned_if b (Some (callsites_of k)) m) below);
         };
     kept = λ f d u. record { hint = hint ∙ u.hint; number = λ n one e. numbered f u n one e; interest = λ n one e. answered f d u n one e };
+    lasts = λ n one e. known_still n one e (callsite_of m == n) refl;
   }
     where
       interest : (f : Form) → has_form x f → i ≡ (interest_of f m (registry x).filters None).0
@@ -357,35 +355,37 @@ module _ {S : Type 0} (registry : S → RegistryState) (has_form : S → Form �
       promised f d h Sometimes e = tt
       promised f d h Always e = λ s lane. always_is_wanted f (registry x).filters m s lane h (sym (interest f d) ∙ e)
 
-      is_it : (n : ℕ) (b : Bool) → is_eq (nat_cmp (callsite_of m) n) ≡ b → (callsite_of m == n) ≡ b
-      is_it n b e = same_test (callsite_of m) n b e
-
       grown : (n : ℕ) → callsites_of l n ≡ with_callsite (callsites_of k) m n
-      grown n = ap (option_map (λ (c : Callsite). c.metadata)) (updates n) ∙ by_test (is_eq (nat_cmp (callsite_of m) n)) refl
+      grown n = ap (option_map (λ (c : Callsite). c.metadata)) (updates n) ∙ by_test ((callsite_of m == n)) refl
         where
-          by_test : (b : Bool) → is_eq (nat_cmp (callsite_of m) n) ≡ b
-              → option_map (λ (c : Callsite). c.metadata) (if b then Some (record { metadata = m; interest = i }) else tree.get nat_cmp k.callsites n) ≡ (if (callsite_of m == n) then Some (unwrap_or (callsites_of k n) m) else callsites_of k n)
+          by_test : (b : Bool) → (callsite_of m == n) ≡ b
+              → option_map (λ (c : Callsite). c.metadata) (if b then Some (record { metadata = m; interest = i }) else known_of k n) ≡ (if (callsite_of m == n) then Some (unwrap_or (callsites_of k n) m) else callsites_of k n)
           by_test true e =
-              let it = is_it n true e in
-              let gone : callsites_of k n ≡ None = ap (λ z. option_map (λ (c : Callsite). c.metadata) (tree.get nat_cmp k.callsites z)) (sym (eqb-true (callsite_of m) n it)) ∙ ap (option_map (λ (c : Callsite). c.metadata)) at in
-              ap (λ (o : Option Metadata). Some (unwrap_or o m)) (sym gone) ∙ sym (ap (λ b. if b then Some (unwrap_or (callsites_of k n) m) else callsites_of k n) it)
-          by_test false e = sym (ap (λ b. if b then Some (unwrap_or (callsites_of k n) m) else callsites_of k n) (is_it n false e))
+              let gone : callsites_of k n ≡ None = ap (λ z. option_map (λ (c : Callsite). c.metadata) (known_of k z)) (sym (eqb-true (callsite_of m) n e)) ∙ ap (option_map (λ (c : Callsite). c.metadata)) at in
+              ap (λ (o : Option Metadata). Some (unwrap_or o m)) (sym gone) ∙ sym (ap (λ b. if b then Some (unwrap_or (callsites_of k n) m) else callsites_of k n) e)
+          by_test false e = sym (ap (λ b. if b then Some (unwrap_or (callsites_of k n) m) else callsites_of k n) e)
 
-      entry : (n : ℕ) (one : Callsite) (P : Callsite → Type 0) → (callsite_of m ≡ n → P (record { metadata = m; interest = i })) → (tree.get nat_cmp k.callsites n ≡ Some one → P one) → tree.get nat_cmp l.callsites n ≡ Some one → P one
-      entry n one P new old e = by_test (is_eq (nat_cmp (callsite_of m) n)) refl (sym (updates n) ∙ e)
+      entry : (n : ℕ) (one : Callsite) (P : Callsite → Type 0) → (callsite_of m ≡ n → P (record { metadata = m; interest = i })) → (known_of k n ≡ Some one → P one) → known_of l n ≡ Some one → P one
+      entry n one P new old e = by_test ((callsite_of m == n)) refl (sym (updates n) ∙ e)
         where
-          by_test : (b : Bool) → is_eq (nat_cmp (callsite_of m) n) ≡ b → (if b then Some (record { metadata = m; interest = i }) else tree.get nat_cmp k.callsites n) ≡ Some one → P one
-          by_test true t h = let it : record { metadata = m; interest = i } ≡ one = cc in subst P it (new (eqb-true (callsite_of m) n (is_it n true t)))
+          by_test : (b : Bool) → (callsite_of m == n) ≡ b → (if b then Some (record { metadata = m; interest = i }) else known_of k n) ≡ Some one → P one
+          by_test true t h = let it : record { metadata = m; interest = i } ≡ one = cc in subst P it (new (eqb-true (callsite_of m) n t))
           by_test false t h = old h
 
-      numbered : (f : Form) → MatchesStack f (registry x).filters k → (n : ℕ) (one : Callsite) → tree.get nat_cmp l.callsites n ≡ Some one → callsite_of one.metadata ≡ n
+      known_still : (n : ℕ) (one : Callsite) → known_of k n ≡ Some one → (b : Bool) → (callsite_of m == n) ≡ b → known_of l n ≡ Some one
+      known_still n one e true t =
+          let no : None ≡ Some one = sym at ∙ ap (known_of k) (eqb-true (callsite_of m) n t) ∙ e in
+          absurd (cc)
+      known_still n one e false t = updates n ∙ ap (λ b. if b then Some (record { metadata = m; interest = i }) else known_of k n) t ∙ e
+
+      numbered : (f : Form) → MatchesStack f (registry x).filters k → (n : ℕ) (one : Callsite) → known_of l n ≡ Some one → callsite_of one.metadata ≡ n
       numbered f u n one e = entry n one (λ c. callsite_of c.metadata ≡ n) (λ it. it) (u.number n one) e
 
-      answered : (f : Form) → has_form x f → MatchesStack f (registry x).filters k → (n : ℕ) (one : Callsite) → tree.get nat_cmp l.callsites n ≡ Some one → one.interest ≡ (interest_of f one.metadata (registry x).filters None).0
+      answered : (f : Form) → has_form x f → MatchesStack f (registry x).filters k → (n : ℕ) (one : Callsite) → known_of l n ≡ Some one → one.interest ≡ (interest_of f one.metadata (registry x).filters None).0
       answered f d u n one e = entry n one (λ c. c.interest ≡ (interest_of f c.metadata (registry x).filters None).0) (λ it. interest f d) (u.interest n one) e
 
   -- a cache that was just begun: nothing is in it but the hint
-  pub gives_begun : (k : Known) (new : Cache) (i : Result Interest TraceError) → ((n : ℕ) → tree.get nat_cmp k.callsites n ≡ None) → ((f : Form) → has_form x f → k.hint ≡ hint_of f) → GivesInterest registry has_form x m i (Filled k) new → GivesInterest registry has_form x m i Empty new
+  pub gives_begun : (k : Known) (new : Cache) (i : Result Interest TraceError) → ((n : ℕ) → known_of k n ≡ None) → ((f : Form) → has_form x f → k.hint ≡ hint_of f) → GivesInterest registry has_form x m i (Filled k) new → GivesInterest registry has_form x m i Empty new
   gives_begun k new i nothing hint h =
       let none : callsites_of k ≡ no_callsite = λ z n. option_map (λ (c : Callsite). c.metadata) (nothing n z) in
       let current : (f : Form) → has_form x f → MatchesStack f (registry x).filters k =
@@ -405,6 +405,7 @@ module _ {S : Type 0} (registry : S → RegistryState) (has_form : S → Form �
         refused = begun i (λ e r. subst (λ c. RefusesInterest (Some c) m e) none r.1) h.refused;
         by_form = λ f d g u. subst (λ c. HasInterestBy (Some c) f (registry x).filters m (kept_in new) i) none (h.by_form f d g (current f d));
         kept = λ f d u. h.kept f d (current f d);
+        lasts = λ n one e. let no : None ≡ Some one = e in absurd (cc);
       }
     where
       begun : (r : Result Interest TraceError) → ((e : TraceError) → RefusesBelow (Some k.hint) (Some (callsites_of k)) m e → RefusesInterest (Some no_callsite) m e) → IfErr r (RefusesBelow (Some k.hint) (Some (callsites_of k)) m) → IfErr r (RefusesBelow None (Some no_callsite) m)

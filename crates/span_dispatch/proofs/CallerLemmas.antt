@@ -12,7 +12,10 @@ use Rattle.span_core.specs.declared.span.Id.{Id}
 use Rattle.span_core.specs.declared.span.Lane.{Lane}
 use Rattle.span_core.specs.declared.span.Record.{Record}
 use Rattle.span_dispatch.specs.Admission.{IsDropped, IsUnknown, LearnsOfSpan, learned}
-use Rattle.span_dispatch.specs.Cache.{IsUpToDate, KeptCallsites, forgotten}
+use Rattle.span_dispatch.proofs.Registered.{registered_before, registered_still}
+use Rattle.span_dispatch.specs.Cache.{IsUpToDate, KeptCallsites, entry_in, forgotten}
+use Rattle.span_dispatch.specs.Contract.{ChangesStack}
+use Rattle.span_dispatch.specs.Registration.{KeepsRegistered}
 use Rattle.span_dispatch.specs.Call.{OpenSpan, RecordValues, SendEvent, vetoes_whole}
 use Rattle.span_dispatch.specs.Outcome.{OutcomeAt, Makes, Noticed}
 use Rattle.span_dispatch.specs.Alone.{passed, passed_at}
@@ -193,3 +196,11 @@ forgotten_is_current f n d x = by_cache d.cache
 pub heard_records : (h : Heard) (x y : RecorderState) → HearsBy recorder_steps x Here h y → Records x y (map kept_notice h)
 heard_records [] x y a = subst (λ (z : RecorderState). Records x z []) a (records_nothing x)
 heard_records (one ∷ h) x y a = records_more x a.0 y (kept_notice one ∷ []) (map kept_notice h) a.1.step.1 (heard_records h a.0 y a.2)
+
+-- what was registered stays so where the stack alone changes
+pub registered_by_stack : {S : Type 0} → (old new : Dispatch S) → ChangesStack old new → KeepsRegistered old new
+registered_by_stack {S} old new e = registered_still old new (ap (λ (d : Dispatch S). d.epoch) e) (λ n one k. ap (λ (d : Dispatch S). entry_in d.cache n) e ∙ k)
+
+-- and where what is kept is forgotten
+pub registered_forgetful : {S : Type 0} (d : Dispatch S) (x : S) → KeepsRegistered d (with_stack (forgetful d) x)
+registered_forgetful d x = registered_before d (with_stack (forgetful d) x) refl

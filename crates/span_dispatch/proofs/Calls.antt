@@ -5,6 +5,7 @@ use Rattle.span_core.specs.Event.{event_metadata}
 use Rattle.span_core.specs.Filters.{FilterSet}
 use Rattle.span_core.specs.Pass.{refused_of}
 use Rattle.span_core.specs.Span.{asked_parent, current_span, id_of, metadata_of, number_of}
+use Rattle.span_core.specs.declared.error.TraceError.TheVariants.{NoHandle, OutOfMemory, UnknownSpan}
 use Rattle.span_core.specs.declared.error.TraceError.{TraceError}
 use Rattle.span_core.specs.declared.event.Event.{Event}
 use Rattle.span_core.specs.declared.metadata.Metadata.{Metadata}
@@ -37,8 +38,8 @@ use Rattle.span_registry.specs.Levels.{LevelSteps, kept_rules}
 use Rattle.span_registry.specs.Position.{HearSteps}
 use Rattle.span_registry.specs.Plan.{asked_afresh, by_pass}
 use Rattle.span_registry.specs.Question.{asked, event_asked, refusals}
-use Rattle.span_registry.specs.Step.{Begun, Between, Clones, Enters, Exits, IsCurrent, Opens, ShowsCurrent, begun, entered, exited, RefusesClone, RefusesEnter, RefusesNew, Releases, Removal, Removed, Removes}
-use Rattle.span_registry.specs.Store.{IsClosing, IsForest, IsOpen, RegistryState, Spans, Store, add_handle, handles_of, take_handle}
+use Rattle.span_registry.specs.Step.{Begun, Between, Clones, Enters, Exits, IsCurrent, Opens, ShowsCurrent, begun, entered, exited, RefusesClone, RefusesEnter, RefusesNew, RefusesRelease, Releases, Removal, Removed, Removes}
+use Rattle.span_registry.specs.Store.{IsClosing, IsForest, IsHeld, IsOpen, RegistryState, Spans, Store, add_handle, handles_of, take_handle}
 use Rattle.span_registry.specs.Subscriber.{SameButExtensions}
 use Rattle.span_registry.specs.Laws.{ClosesAll}
 use Rattle.span_registry.specs.declared.registry.Released.{Released}
@@ -65,6 +66,12 @@ or_left_true false b h = absurd (true≢false (sym h))
 or_both_false : (a b : Bool) → a ≡ false → b ≡ false → a || b ≡ false
 or_both_false true b h k = h
 or_both_false false b h k = k
+
+-- a span that no handle is taken from has none
+pub not_held : (s : RegistryState) (id : Id) (e : TraceError) → RefusesRelease s id e → ¬ (IsHeld s.store.spans (number_of id))
+not_held s id (UnknownSpan y) r held = r.1 (held.0, held.1, inl held.2)
+not_held s id (NoHandle y) r held = r.2 held
+not_held s id other r held = absurd r
 
 -- ---- what the registry's own step makes of a notice
 
@@ -122,8 +129,8 @@ module _ {S : Type 0} {registry : S → RegistryState} {with_registry : S → Re
   current_number s lane None h = h
   current_number s lane (Some p) h = h
 
-  pub current_so : (lane : Lane) (c : Current) (f : Form) (x : S) → Honest f x → Done laws with_own levelled (AskCurrent lane) (current_answer c) f x x
-  current_so lane c f x h = by_none laws with_own levelled (AskCurrent lane) (current_answer c) f x x h refl refl tt
+  pub current_so : (lane : Lane) (c : Current) (f : Form) (x : S) → ShowsCurrent (registry x).store lane c → Honest f x → Done laws with_own levelled (AskCurrent lane) (current_answer c) f x x
+  current_so lane c f x shown h = by_none laws with_own levelled (AskCurrent lane) (current_answer c) f x x h refl refl (current_number (registry x).store lane.0 (current_span c) shown.span)
 
   pub current_exact : (lane : Lane) (c : Current) (f : Form) (memory : KeptCallsites) (s : RegistryState) → ShowsCurrent s.store lane c → AnswersExactly (AskCurrent lane) f memory s (current_answer c) memory
   current_exact lane c f memory s shown = record { answers = current_number s.store lane.0 (current_span c) shown.span; keeps = refl }
@@ -133,7 +140,7 @@ module _ {S : Type 0} {registry : S → RegistryState} {with_registry : S → Re
   unvetoed f m s lane pass orderly e = not_true _ (sym (asked_unless_vetoed f m s lane.0 no_filter orderly) ∙ ap (λ (p : Bool × FilterSet). p.0) e)
 
   pub probed : (lane : Lane) (m : Metadata) (pass : Pass) (said : Result Bool TraceError) (f : Form) (x : S) → Decides f (registry x).store lane m pass said → Honest f x → Done laws with_own levelled (Probe lane m) (yes_answer said) f x x
-  probed lane m pass (Ok true) f x a h = by_none laws with_own levelled (Probe lane m) (answer.Yes true) f x x h refl refl tt
+  probed lane m pass (Ok true) f x a h = by_none laws with_own levelled (Probe lane m) (answer.Yes true) f x x h refl refl (unvetoed f m (registry x).store lane pass (rules_of f _ h.rules).orderly a)
   probed lane m pass (Ok false) f x a h = by_none laws with_own levelled (Probe lane m) (answer.Yes false) f x x h refl refl a
   probed lane m pass (Err e) f x a h = by_none laws with_own levelled (Probe lane m) (answer.Refused e) f x x h refl refl tt
 
@@ -164,7 +171,7 @@ module _ {S : Type 0} {registry : S → RegistryState} {with_registry : S → Re
       let refused = ap (λ (p : Bool × FilterSet). p.1) d in
       let law = new_span_fresh f attrs id s lane.0 h.rules.numbers.distinct (ap (λ (p : Bool × FilterSet). p.0) d) in
       let plan = subst (λ r. by_pass f (OnNewSpan attrs id) n.left.store.spans no_filter r ≡ asked_afresh f (OnNewSpan attrs id) s lane.0 no_filter) refused (law.plan n.left.store.spans) in
-      by_call laws with_own levelled (OpenSpan lane attrs) (answer.Made id) f lane (OnNewSpan attrs id) (refusals pass) _ x y h refl tt
+      by_call laws with_own levelled (OpenSpan lane attrs) (answer.Made id) f lane (OnNewSpan attrs id) (refusals pass) _ x y h refl (unvetoed f (metadata_of attrs) s lane pass (rules_of f _ h.rules).orderly d)
       n plan (opens_to f lane attrs id (registry x) n.left (refused_of pass) (λ k. ap (λ (r : FilterSet). r k) (sym refused) ∙ law.verdict k) n.taken)
 
   -- and exactly so
@@ -210,7 +217,7 @@ module _ {S : Type 0} {registry : S → RegistryState} {with_registry : S → Re
       let refused : refusals second ≡ (event_asked f e s lane.0 no_filter asked_first).1 =
       (b f h.has).refused ∙ ap (λ r. (event_asked f e s lane.0 no_filter r).1) (sym (ap (λ (p : Bool × FilterSet). p.1) d)) in
       let plan = subst (λ r. by_pass f (OnEvent e) n.left.store.spans no_filter r ≡ asked_afresh f (OnEvent e) s lane.0 no_filter) (sym refused) (law n.left.store.spans) in
-      by_call laws with_own levelled (SendEvent lane e) answer.Done f lane (OnEvent e) (refusals second) _ x y h refl tt n plan (stays_to f lane (OnEvent e) (registry x) n.left refl refl (λ r. refl) n.taken)
+      by_call laws with_own levelled (SendEvent lane e) answer.Done f lane (OnEvent e) (refusals second) _ x y h refl (or_both_false _ _ (unvetoed f (event_metadata e) s lane first (rules_of f _ h.rules).orderly d) unvetoed_now) n plan (stays_to f lane (OnEvent e) (registry x) n.left refl refl (λ r. refl) n.taken)
 
   -- and exactly so
   module _ (f : Form) (memory after : KeptCallsites) (x : S) (lane : Lane) (e : Event) (m : Metadata) (first : Pass) (same : m ≡ event_metadata e) (h : Honest f x) where
@@ -241,12 +248,18 @@ module _ {S : Type 0} {registry : S → RegistryState} {with_registry : S → Re
       → by_pass f e spans no_filter no_filter ≡ asked_afresh f e (registry x).store lane.0 no_filter
   kept_plan f e x lane spans same law = ap (λ v. by_pass f e v no_filter no_filter) same ∙ law
 
+  -- an open span isn't entered for want of memory alone
+  no_memory : (s : RegistryState) (id : Id) (e : TraceError) → RefusesEnter s id e → IsOpen s.store.spans (number_of id) → e ≡ OutOfMemory
+  no_memory s id OutOfMemory r o = refl
+  no_memory s id (UnknownSpan y) r o = absurd (r.1 o)
+  no_memory s id other r o = absurd r
+
   pub entered_so : (lane : Lane) (id : Id) (r : Result (Unit {0}) TraceError) (f : Form) (x y : S) → OnOk r (Notifies registry has_form stepped lane no_filter (OnEnter id) (Enters lane id) x y) → IfErr r (RefusesEnter (registry x) id) → OnErr r (y ≡ x)
       → Honest f x → Done laws with_own levelled (Enter lane id) (done_answer r) f x y
   entered_so lane id (Ok u) f x y n r e h =
       by_call laws with_own levelled (Enter lane id) answer.Done f lane (OnEnter id) no_filter _ x y h refl tt
       n (kept_plan f (OnEnter id) x lane _ (ap (λ (t : RegistryState). t.store.spans) n.taken.state) (others_afresh f (OnEnter id) (registry x).store lane.0 no_filter no_filter)) (enters_to f lane id (registry x) n.left n.taken)
-  entered_so lane id (Err error) f x y n r e h = by_none laws with_own levelled (Enter lane id) (answer.Refused error) f x y h e refl tt
+  entered_so lane id (Err error) f x y n r e h = by_none laws with_own levelled (Enter lane id) (answer.Refused error) f x y h e refl (λ o. no_memory (registry x) id error r o)
 
   pub enter_exactly : {A : Type 0} (lane : Lane) (id : Id) (r : Result A TraceError) (f : Form) (memory : KeptCallsites) (s : RegistryState) → IfErr r (RefusesEnter s id) → AnswersExactly (Enter lane id) f memory s (done_answer r) memory
   enter_exactly lane id (Ok u) f memory s r = record { answers = tt; keeps = refl }
@@ -319,7 +332,7 @@ module _ {S : Type 0} {registry : S → RegistryState} {with_registry : S → Re
           record {
             says = record { closed = k.closed; exact = drops.closes; outcomes = ap (λ os. Quiet (HandleTaken id) ∷ os) notices.2; itself = (λ _. itself, λ _. refl) };
             goes = (z, changed laws with_own levelled f (HandleTaken id) x z t h.honest (r.held, refl) (registry_with x w ∙ r.state) rest, notices.1);
-            loses = tt;
+            reason = tt;
           },
         ),
         λ s. (notices.3.0, record { honest = notices.3.1; settled = settled_closed (registry x) (registry y) id k.closed all }, keeps_again f after.0 notices.3.0 after.2 notices.3.2, notices.3.3 ∙ after.3),

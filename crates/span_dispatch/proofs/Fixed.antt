@@ -73,7 +73,7 @@ module _ {S : Type 0} (registry : S → RegistryState) (with_registry : S → Re
   asked_in None memory f x a ms after y stays h = (f, subst (λ z. Stays z f) (sym h.3) stays, (h.0, h.1, h.2, ap (λ z. (registry z, f)) h.3))
   asked_in (Some call) memory f x a ms after y stays h =
       let all = through f x ms y stays h.2.told.goes in
-      (all.0, all.1, (h.0, record { honest = honest f h.0 x stays h.1.honest; settled = h.1.settled }, record { told = record { says = h.2.told.says; goes = all.2; loses = h.2.told.loses }; exact = h.2.exact }))
+      (all.0, all.1, (h.0, record { honest = honest f h.0 x stays h.1.honest; settled = h.1.settled }, record { told = record { says = h.2.told.says; goes = all.2; reason = h.2.told.reason }; exact = h.2.exact }))
 
   -- a run of such a stack is a run by its form
   pub runs_by : (past : List Answer) (rs : List Request) (answers : List Answer) (made : List (List OutcomeAt)) (memory : KeptCallsites) (f : Form) (x : S) (after : KeptCallsites) (y : S) → Stays x f → RunExactly registry with_registry has_form stepped levelled past rs answers made memory x after y

@@ -1,5 +1,5 @@
 -- How an honest stack goes on: through a notice or a quiet change, after which it is honest; and how a call is served by one of these.
-use Rattle.std.proofs.Common.{◌≡◌, ℕ, true, [], ◌∷◌, Option, refl, sym, ap, subst, ◌∙◌}
+use Rattle.std.proofs.Common.{false, ◌≡◌, ℕ, true, [], ◌∷◌, Option, refl, sym, ap, subst, ◌∙◌}
 use Rattle.std.specs.Option.{option_map}
 use Rattle.span_core.specs.declared.error.TraceError.TheVariants.{NotSettable}
 use Rattle.span_core.specs.declared.level.LevelFilter.{LevelFilter}
@@ -11,7 +11,7 @@ use Rattle.span_dispatch.specs.Cache.{MatchesStack, IsUpToDate, forgotten, kept_
 use Rattle.span_dispatch.specs.Call.{Call, SetLevel}
 use Rattle.span_dispatch.specs.Effect.{OutcomesOf}
 use Rattle.span_dispatch.specs.Outcome.{Change, Ends, IsHonest, LevelSet, OutcomeAt, Makes, Noticed, Notices, Quiet, SameAside, Steps, given_in}
-use Rattle.span_dispatch.specs.Serve.{IsReady, IsReadyAfter, IsReadyWith, IsTold, LosesNothing, Tells, stack_of}
+use Rattle.span_dispatch.specs.Serve.{IsReady, IsReadyAfter, IsReadyWith, IsTold, HasReason, Tells, stack_of}
 use Rattle.span_dispatch.specs.declared.cache.Cache.TheVariants as cache
 use Rattle.span_dispatch.specs.declared.cache.Cache.{Cache}
 use Rattle.span_dispatch.specs.declared.cache.Known.{Known}
@@ -124,14 +124,14 @@ module _ {S : Type 0} {registry : S → RegistryState} {with_registry : S → Re
   abbrev pub Done : Call → Answer → Form → S → S → Type 0
   Done call a f x y = IsTold registry with_registry has_form stepped levelled call f a x y × (HasNoClosing (registry x).store.spans → StillReady f x y)
 
-  pub by_none : (call : Call) (a : Answer) (f : Form) (x y : S) → Honest f x → y ≡ x → OutcomesOf call a (registry x).store [] → LosesNothing call a f (registry x).store → Done call a f x y
-  by_none call a f x y h e says loses =
-      (([], record { says = says; goes = sym e; loses = loses }), λ s. (f, subst (Ready f) (sym e) (record { honest = h; settled = s }), kept_form f, ap (λ z. (registry z).filters) e))
+  pub by_none : (call : Call) (a : Answer) (f : Form) (x y : S) → Honest f x → y ≡ x → OutcomesOf call a (registry x).store [] → HasReason call a f (registry x).store → Done call a f x y
+  by_none call a f x y h e says reason =
+      (([], record { says = says; goes = sym e; reason = reason }), λ s. (f, subst (Ready f) (sym e) (record { honest = h; settled = s }), kept_form f, ap (λ z. (registry z).filters) e))
 
   -- a call of the stack, which notified by a plan that is the plan asked afresh
-  pub by_call : (call : Call) (a : Answer) (f : Form) (lane : Lane) (e : Notice) (refused : FilterSet) (step : RegistryState → RegistryState → Type 0) (x y : S) → Honest f x → OutcomesOf call a (registry x).store (Noticed lane e ∷ []) → LosesNothing call a f (registry x).store
+  pub by_call : (call : Call) (a : Answer) (f : Form) (lane : Lane) (e : Notice) (refused : FilterSet) (step : RegistryState → RegistryState → Type 0) (x y : S) → Honest f x → OutcomesOf call a (registry x).store (Noticed lane e ∷ []) → HasReason call a f (registry x).store
       → (n : Notifies registry has_form stepped lane refused e step x y) → by_pass f e n.left.store.spans no_filter refused ≡ asked_afresh f e (registry x).store lane.0 no_filter → StepsTo f lane e (registry x) n.left → Done call a f x y
-  by_call call a f lane e refused step x y h says loses n plan to =
+  by_call call a f lane e refused step x y h says reason n plan to =
       let m : OutcomeAt = record { form = f; before = (registry x).store; after = to.after; outcome = Noticed lane e } in
       let notices : Notices registry with_registry has_form stepped levelled f lane e (registry x).store to.after x y = record {
         left = n.left;
@@ -143,7 +143,7 @@ module _ {S : Type 0} {registry : S → RegistryState} {with_registry : S → Re
         rest = sym (with_own y);
       } in
       let next = honest_after f lane e (registry x).store to.after x y h notices (n.extensions.filters ∙ to.filters) in (
-        (m ∷ [], record { says = says; goes = (y, record { honest = h; before = refl; steps = to.steps; after = aside_hooks to.after n.left (registry y) to.left n.extensions; layers = notices }, refl); loses = loses }),
+        (m ∷ [], record { says = says; goes = (y, record { honest = h; before = refl; steps = to.steps; after = aside_hooks to.after n.left (registry y) to.left n.extensions; layers = notices }, refl); reason = reason }),
         λ s. (next.0, record { honest = next.1; settled = subst HasNoClosing (sym n.extensions.spans) (to.settled s) }, next.2, next.3),
       )
 
@@ -152,13 +152,13 @@ module _ {S : Type 0} {registry : S → RegistryState} {with_registry : S → Re
       → Makes registry with_registry has_form stepped levelled x (record { form = f; before = (registry x).store; after = t; outcome = Quiet c }) y
   changed f c x y t h steps store rest = record { honest = h; before = refl; steps = steps; after = same_aside t (registry y).store (ap (λ (r : RegistryState). r.store) store); layers = record { store = store; rest = rest } }
 
-  pub by_change : (call : Call) (a : Answer) (f : Form) (c : Change) (x y : S) → Honest f x → OutcomesOf call a (registry x).store (Quiet c ∷ []) → LosesNothing call a f (registry x).store
+  pub by_change : (call : Call) (a : Answer) (f : Form) (c : Change) (x y : S) → Honest f x → OutcomesOf call a (registry x).store (Quiet c ∷ []) → HasReason call a f (registry x).store
       → (t : Store) → Steps f (Quiet c) (registry x).store t → registry y ≡ record (registry x) { store = t } → y ≡ with_registry x (registry y) → (registry y).filters ≡ (registry x).filters → (HasNoClosing (registry x).store.spans → HasNoClosing (registry y).store.spans)
       → Done call a f x y
-  by_change call a f c x y h says loses t steps store rest filters settled =
+  by_change call a f c x y h says reason t steps store rest filters settled =
       let m : OutcomeAt = record { form = f; before = (registry x).store; after = t; outcome = Quiet c } in
       let next = honest_quietly f x y h rest filters in (
-        (m ∷ [], record { says = says; goes = (y, changed f c x y t h steps store rest, refl); loses = loses }),
+        (m ∷ [], record { says = says; goes = (y, changed f c x y t h steps store rest, refl); reason = reason }),
         λ before. (next.0, record { honest = next.1; settled = settled before }, next.2, next.3),
       )
 
@@ -188,11 +188,11 @@ module _ {S : Type 0} (registry : S → RegistryState) (with_registry : S → Re
       → IsTold registry with_registry has_form stepped levelled (SetLevel n l) f answer.Done x y
   level_told f n l x y h taken goes same =
       let m : OutcomeAt = record { form = f; before = (registry x).store; after = (registry x).store; outcome = LevelSet n l } in
-      (m ∷ [], record { says = refl; goes = (y, record { honest = h; before = refl; steps = refl; after = aside_state (registry x) (registry y) same; layers = record { taken = taken; goes = goes; same = same } }, refl); loses = tt })
+      (m ∷ [], record { says = refl; goes = (y, record { honest = h; before = refl; steps = refl; after = aside_state (registry x) (registry y) same; layers = record { taken = taken; goes = goes; same = same } }, refl); reason = tt })
 
   -- or it wasn't, and nothing changed
-  pub level_refused : (f : Form) (n : ℕ) (l : LevelFilter) (x y : S) → y ≡ x → IsTold registry with_registry has_form stepped levelled (SetLevel n l) f (answer.Refused (NotSettable n)) x y
-  level_refused f n l x y same = ([], record { says = refl; goes = sym same; loses = tt })
+  pub level_refused : (f : Form) (n : ℕ) (l : LevelFilter) (x y : S) → takes_level f n l ≡ false → y ≡ x → IsTold registry with_registry has_form stepped levelled (SetLevel n l) f (answer.Refused (NotSettable n)) x y
+  level_refused f n l x y none same = ([], record { says = refl; goes = sym same; reason = none })
 
 -- a cache that forgot is up to date, and keeps no callsite
 pub forgotten_current : (f : Form) (n : ℕ) (c : Cache) → IsUpToDate f n (forgotten c)

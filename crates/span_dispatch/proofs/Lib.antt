@@ -13,6 +13,7 @@ mod Legal
 mod Once
 mod Readable
 mod Ready
+mod Registered
 pub mod Seen
 mod Served
 mod Stores

@@ -26,7 +26,7 @@ use Rattle.span_registry.specs.Conducts.{ActsAt}
 use Rattle.span_registry.specs.Position.{HearSteps, Heard, Here, Inner, Outer, Position, Under, heard_by, is_notified, told_in}
 use Rattle.span_registry.specs.Plan.{Nobody, Through, asked_afresh, passes}
 use Rattle.span_registry.specs.Question.{single}
-use Rattle.span_registry.specs.Store.{RegistryState, Store, stack_of}
+use Rattle.span_registry.specs.Store.{RegistryState, Store, stack_on}
 
 -- where nothing stands, nobody is notified
 unreached : (f : Form) (position : Position) (e : Notice) (s : Store) (lane : ℕ) (under : FilterSet) → path_at f position ≡ None → is_notified (asked_afresh f e s lane under) position ≡ false
@@ -98,7 +98,7 @@ sees_passed f position lane e s t = by_path (path_at f position) refl
 
 -- extensions make no difference to what is told
 told_aside : (e : Notice) (s t : Store) (lane : ℕ) (mask : FilterSet) → SameAside s t → told_in e t lane mask ≡ told_in e s lane mask
-told_aside e s t lane mask a = λ i. record { lane = lane; notice = e; view = record { lane = lane; stack = stack_of (a.stacks i) lane; spans = seen_spans (record s { spans = a.spans i; extensions = empty }) mask } }
+told_aside e s t lane mask a = λ i. record { lane = lane; notice = e; view = record { lane = lane; stack = stack_on (a.stacks i) lane; spans = seen_spans (record s { spans = a.spans i; extensions = empty }) mask } }
 
 nothing_passed : (o : Option Path) (c : Change) (s given : Store) → passed o (Quiet c) s given ≡ []
 nothing_passed None c s given = refl

@@ -11,7 +11,7 @@ use Rattle.span_core.specs.declared.level.LevelFilter.{LevelFilter}
 use Rattle.span_core.specs.declared.metadata.Metadata.{Metadata}
 use Rattle.span_core.specs.declared.pass.Pass.{Pass}
 use Rattle.span_core.specs.declared.span.Lane.{Lane}
-use Rattle.span_dispatch.specs.Cache.{Agrees, IsKept, IsUpToDate, KeptCallsites, ReadsOnce, RefusesBelow, RefusesInterest, hint_in, is_above_read, kept_in, with_callsite}
+use Rattle.span_dispatch.specs.Cache.{Agrees, IsKept, IsUpToDate, KnowsStill, KeptCallsites, ReadsOnce, RefusesBelow, RefusesInterest, hint_in, is_above_read, kept_in, with_callsite}
 use Rattle.span_dispatch.specs.declared.cache.Cache.TheVariants as cache
 use Rattle.span_dispatch.specs.declared.cache.Cache.{Cache}
 use Rattle.span_dispatch.specs.declared.cache.Callsite.{Callsite}
@@ -158,6 +158,7 @@ pub record GivesInterest {S : Type 0} (registry : S → RegistryState) (has_form
       → HasInterestBy (kept_in old) f (registry x).filters m (kept_in new) i
   pub kept : (f : Form) → has_form x f → IsUpToDate f (registry x).filters old
       → IsUpToDate f (registry x).filters new
+  pub lasts : KnowsStill old new
 
 -- what comes of asking whether metadata are wanted: true, with the pass that a new one becomes where all are asked; false, where they are dropped; or their interest isn't to be had
 abbrev pub IsAdmitted : KeptCallsites → Form → RegistryState → Lane → Metadata → Pass

@@ -1,12 +1,12 @@
 -- What a dispatcher keeps of its stack's answers: the hint, and the interest in the callsites that it was asked of.
-use Rattle.std.specs.Prelude.{◌≡◌, ⊤, ℕ, Bool, false, ◌==◌, if◌then◌else◌, Option, Some, None, IsSome}
-use Rattle.std.specs.BTreeMap as tree
+use Rattle.std.specs.Prelude.{◌≡◌, ⊤, ℕ, Bool, false, ◌==◌, if◌then◌else◌, Option, Some, None, IsSome, nat_eq}
+use Rattle.std.specs.HashMap as hash
 use Rattle.std.specs.Option.{option_map, unwrap_or}
-use Rattle.std.specs.Ordering.{nat_cmp}
 use Rattle.span_core.specs.Level.{is_above}
 use Rattle.span_core.specs.Metadata.{ShowSame, callsite_of, level_of}
 use Rattle.span_core.specs.declared.error.TraceError.TheVariants.{CallsiteMismatch, OutOfMemory}
 use Rattle.span_core.specs.declared.error.TraceError.{TraceError}
+use Rattle.span_core.specs.declared.interest.Interest.{Interest}
 use Rattle.span_core.specs.declared.level.LevelFilter.{LevelFilter}
 use Rattle.span_core.specs.declared.metadata.Metadata.{Metadata}
 use Rattle.span_dispatch.specs.declared.cache.Cache.TheVariants as cache
@@ -65,9 +65,18 @@ ReadsOnce None None after = after ≡ None
 
 -- Below: the cache itself.
 
+-- what is known of the callsite with this number
+abbrev pub known_of : Known → ℕ → Option Callsite
+known_of k n = hash.get nat_eq k.callsites n
+
 -- the callsites that are known
 abbrev pub callsites_of : Known → Callsites
-callsites_of k n = option_map (λ (one : Callsite). one.metadata) (tree.get nat_cmp k.callsites n)
+callsites_of k n = option_map (λ (one : Callsite). one.metadata) (known_of k n)
+
+-- what a cache knows of the callsite with this number
+abbrev pub entry_in : Cache → ℕ → Option Callsite
+entry_in (cache.Filled k) n = known_of k n
+entry_in other n = None
 
 -- what is kept in a cache
 abbrev pub kept_in : Cache → KeptCallsites
@@ -87,15 +96,25 @@ forgotten other = other
 
 -- of the callsite of these metadata this is kept, of metadata that show the same
 pub record IsKept (k : Known) (m : Metadata) (one : Callsite) : Type 0 where
-  pub there : tree.get nat_cmp k.callsites (callsite_of m) ≡ Some one
+  pub there : known_of k (callsite_of m) ≡ Some one
   pub same : ShowSame one.metadata m
+
+-- a cache keeps this interest of metadata that show the same
+pub record KnowsInterest (c : Cache) (m : Metadata) (i : Interest) : Type 0 where
+  pub metadata : Metadata
+  pub there : entry_in c (callsite_of m) ≡ Some (record { metadata = metadata; interest = i })
+  pub same : ShowSame metadata m
+
+-- whatever a cache knew another knows
+abbrev pub KnowsStill : Cache → Cache → Type 0
+KnowsStill old new =
+    (n : ℕ) (one : Callsite) → entry_in old n ≡ Some one → entry_in new n ≡ Some one
 
 -- what is known is what a stack of this form would answer now, on a registry that handed out this many filters
 pub record MatchesStack (f : Form) (filters : ℕ) (k : Known) : Type 0 where
   pub hint : k.hint ≡ hint_of f
-  pub number : (n : ℕ) (one : Callsite) → tree.get nat_cmp k.callsites n ≡ Some one
-      → callsite_of one.metadata ≡ n
-  pub interest : (n : ℕ) (one : Callsite) → tree.get nat_cmp k.callsites n ≡ Some one
+  pub number : (n : ℕ) (one : Callsite) → known_of k n ≡ Some one → callsite_of one.metadata ≡ n
+  pub interest : (n : ℕ) (one : Callsite) → known_of k n ≡ Some one
       → one.interest ≡ (interest_of f one.metadata filters None).0
 
 -- what is kept, if anything, is that

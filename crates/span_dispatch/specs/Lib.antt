@@ -13,5 +13,6 @@ pub mod Outcome
 pub mod Readable
 pub mod Recorder
 pub mod RecorderLaws
+pub mod Registration
 pub mod Serve
 pub mod Worker

@@ -5,14 +5,16 @@ use Rattle.std.specs.Option.{option_and_then, option_map, option_map_or}
 use Rattle.span_core.specs.Event.{event_metadata, event_of}
 use Rattle.span_core.specs.Filters.{FilterSet}
 use Rattle.span_core.specs.Span.{attributes_of, metadata_of, number_of, record_of}
+use Rattle.span_core.specs.declared.error.TraceError.TheVariants.{OutOfMemory}
 use Rattle.span_core.specs.declared.span.Id.{Id}
 use Rattle.span_core.specs.declared.span.Parent.TheVariants as parent
 use Rattle.span_core.specs.declared.span.Parent.{Parent}
 use Rattle.span_dispatch.specs.Alone.{Alone, passed_at}
 use Rattle.span_dispatch.specs.Cache.{IsUpToDate, KeptCallsites, ReadHint, forgotten, hint_in, kept_in}
+use Rattle.span_dispatch.specs.Registration.{next_epoch}
 use Rattle.span_dispatch.specs.Admission.{KeepsSafely}
 use Rattle.span_dispatch.specs.declared.cache.Cache.{Cache}
-use Rattle.span_dispatch.specs.Call.{AddHandle, AnswersWith, AskCurrent, Call, DropHandle, Enter, Exit, Follow, KeepsAfter, OpenSpan, Probe, RecordValues, SendEvent, SetLevel, closes_of}
+use Rattle.span_dispatch.specs.Call.{AddHandle, AnswersWith, AskCurrent, Call, DropHandle, Enter, Exit, Follow, KeepsAfter, OpenSpan, Probe, RecordValues, SendEvent, SetLevel, closes_of, vetoes_whole}
 use Rattle.span_dispatch.specs.Effect.{MadeCall, OutcomesOf, effect_of, is_concern}
 use Rattle.span_dispatch.specs.Outcome.{IsHonest, OutcomeAt, Makes, Noticed, Outcome}
 use Rattle.span_dispatch.specs.Readable.{ShowsItsSpan}
@@ -25,7 +27,7 @@ use Rattle.span_dispatch.specs.declared.request.Which.TheVariants as which
 use Rattle.span_dispatch.specs.declared.request.Which.{Which}
 use Rattle.span_dispatch.specs.declared.request.WhichParent.TheVariants as asked
 use Rattle.span_dispatch.specs.declared.request.WhichParent.{WhichParent}
-use Rattle.span_layers.specs.Verdict.{vetoes_event}
+use Rattle.span_layers.specs.Verdict.{vetoes, vetoes_event}
 use Rattle.span_layers.specs.Wanted.{IsUnwanted}
 use Rattle.span_registry.specs.Behaviour.{OnClose}
 use Rattle.span_registry.specs.Closes.{HasNoClosing, Member}
@@ -35,11 +37,11 @@ use Rattle.span_core.specs.declared.span.Lane.{Lane}
 use Rattle.span_registry.specs.Agree.{AgreeAt}
 use Rattle.span_registry.specs.Conducts.{ActsAt, Conducts, numbers_in}
 use Rattle.span_registry.specs.Hooks.{StackSteps}
-use Rattle.span_registry.specs.Levels.{LevelSteps}
+use Rattle.span_registry.specs.Levels.{LevelSteps, takes_level}
 use Rattle.span_registry.specs.Position.{HearSteps, Position}
-use Rattle.span_registry.specs.Step.{Removal}
+use Rattle.span_registry.specs.Step.{IsCurrent, Removal}
 use Rattle.span_registry.specs.Subscriber.{SameButExtensions}
-use Rattle.span_registry.specs.Store.{IsClosing, RegistryState, Store}
+use Rattle.span_registry.specs.Store.{IsClosing, IsHeld, IsOpen, RegistryState, Store}
 
 -- the stack of a dispatcher
 abbrev pub stack_of : {S : Type 0} → Dispatch S → S
@@ -61,9 +63,9 @@ hint_by d = hint_in d.cache
 abbrev pub KeepsUpToDate : {S : Type 0} → Form → ℕ → Dispatch S → Type 0
 KeepsUpToDate f filters d = IsUpToDate f filters d.cache
 
--- the same dispatcher with nothing kept any more
+-- the same dispatcher with nothing kept any more, in the next epoch
 abbrev pub forgetful : {S : Type 0} → Dispatch S → Dispatch S
-forgetful d = record d { cache = forgotten d.cache }
+forgetful d = record d { cache = forgotten d.cache; epoch = next_epoch d.epoch }
 
 -- the span that an answer gave
 abbrev pub made_by : Option Answer → Option Id
@@ -126,14 +128,27 @@ abbrev pub IsReadableClose : Store → Outcome → Type 0
 IsReadableClose s (Noticed lane (OnClose id)) = IsClosing s.spans (number_of id)
 IsReadableClose s other = ⊤
 
--- what was dropped or denied nobody would be notified of: a new span or an event that is dropped, or that a probe answers no for, is vetoed by a leaf or passes no path; and no other call is dropped
-abbrev pub LosesNothing : Call → Answer → Form → Store → Type 0
-LosesNothing (OpenSpan lane a) answer.Dropped f s = IsUnwanted f (metadata_of a) s lane.0
-LosesNothing (SendEvent lane e) answer.Dropped f s =
+-- why a request may be answered so. What is made, or would be, no leaf vetoes; what is dropped or denied is vetoed by a leaf or
+-- passes no path, and no other call is dropped. An open span can be entered, if there is memory, left, recorded of and followed from; a handle
+-- that is there can be dropped; a level that a filter takes can be set. Of other refusals nothing is said
+abbrev pub HasReason : Call → Answer → Form → Store → Type 0
+HasReason (OpenSpan lane a) (answer.Made id) f s = vetoes f (metadata_of a) s lane.0 ≡ false
+HasReason (OpenSpan lane a) answer.Dropped f s = IsUnwanted f (metadata_of a) s lane.0
+HasReason (SendEvent lane e) answer.Done f s = vetoes_whole f e s lane ≡ false
+HasReason (SendEvent lane e) answer.Dropped f s =
     IsUnwanted f (event_metadata e) s lane.0 ⊎ (vetoes_event f e s lane.0 ≡ true)
-LosesNothing (Probe lane m) (answer.Yes false) f s = IsUnwanted f m s lane.0
-LosesNothing call answer.Dropped f s = ⊥
-LosesNothing call a f s = ⊤
+HasReason (Probe lane m) (answer.Yes true) f s = vetoes f m s lane.0 ≡ false
+HasReason (Probe lane m) (answer.Yes false) f s = IsUnwanted f m s lane.0
+HasReason (AskCurrent lane) (answer.Current o) f s = IsCurrent s lane.0 (option_map number_of o)
+HasReason (Enter lane id) (answer.Refused e) f s =
+    IsOpen s.spans (number_of id) → e ≡ OutOfMemory
+HasReason (Exit lane id) (answer.Refused e) f s = ⊥
+HasReason (RecordValues lane id r) (answer.Refused e) f s = ¬ (IsOpen s.spans (number_of id))
+HasReason (Follow lane id other) (answer.Refused e) f s = ¬ (IsOpen s.spans (number_of id))
+HasReason (DropHandle lane id) (answer.Refused e) f s = ¬ (IsHeld s.spans (number_of id))
+HasReason (SetLevel n l) (answer.Refused e) f s = takes_level f n l ≡ false
+HasReason call answer.Dropped f s = ⊥
+HasReason call a f s = ⊤
 
 -- none of them stands twice
 abbrev pub StandOnce : List ℕ → Type 0
@@ -171,12 +186,12 @@ module _ {S : Type 0} (registry : S → RegistryState) (with_registry : S → Re
     pub stack : IsReady f (stack_of d)
     pub kept : Kept f (registry (stack_of d)).filters d.cache
 
-  -- of a call that was answered so this was made, as its answer says, and the stack went through it; where it was dropped or denied nobody would have been notified
+  -- of a call that was answered so, with reason, this was made, as its answer says, and the stack went through it
   pub record Tells (call : Call) (f : Form) (x : S) (a : Answer) (made : List OutcomeAt)
       (y : S) : Type 0 where
     pub says : OutcomesOf call a (registry x).store (map (λ m. m.outcome) made)
     pub goes : FoldsTo (Makes registry with_registry has_form stepped levelled) x made y
-    pub loses : LosesNothing call a f (registry x).store
+    pub reason : HasReason call a f (registry x).store
 
   -- something was made so of a call
   abbrev pub IsTold : Call → Form → Answer → S → S → Type 0
@@ -240,7 +255,7 @@ module _ {S : Type 0} (registry : S → RegistryState) (with_registry : S → Re
       (answers : List Answer) (old new : S) : Type 0 where
     -- there is one list of what was made of each request, on any lanes
     pub made : List (List OutcomeAt)
-    -- made is what their answers say, and of what was dropped or denied no layer would have been notified
+    -- made is what their answers say, and these have their reasons: of what was dropped or denied no layer would have been notified
     pub run : Run [] requests answers made old new
     -- each layer is notified, in order, of exactly the made requests that its own path's filters pass when asked afresh
     pub each : (position : Position) → hears old position (passed_at position (flat made)) new

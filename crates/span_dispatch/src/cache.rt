@@ -1,14 +1,15 @@
 //! What a dispatcher keeps of its stack's answers.
-ghost use Rattle.std.specs.Prelude.{◌≡◌, not};
+ghost use Rattle.std.specs.Prelude.{◌≡◌, IfSome, None, false, not};
 ghost use Rattle.span_core.specs.Level.{is_above};
+ghost use Rattle.span_core.specs.Metadata.{callsite_of, level_of};
 ghost use Rattle.span_dispatch.specs.Admission.{GivesInterest};
-ghost use Rattle.span_dispatch.specs.Cache.{forgotten};
-ghost use Rattle.span_dispatch.specs.declared.cache.Cache.TheVariants.{Filled};
+ghost use Rattle.span_dispatch.specs.Cache.{KnowsInterest, forgotten, known_of};
+ghost use Rattle.span_dispatch.specs.declared.cache.Cache.TheVariants.{Empty, Filled};
 
 use span_core::{Interest, Level, LevelFilter, Metadata, Pass, TraceError};
 use span_registry::Subscriber;
 use std::alloc::Global;
-use std::collections::BTreeMap;
+use std::collections::HashMap;
 
 /// What is kept of a stack's answers, if anything is.
 #[derive(Debug, Drop)]
@@ -25,7 +26,7 @@ pub(crate) enum Cache {
 #[derive(Debug, Drop)]
 pub(crate) struct Known {
     hint: Option<LevelFilter>,
-    callsites: BTreeMap<u64, Callsite>,
+    callsites: HashMap<u64, Callsite>,
 }
 
 /// The interest in a callsite, with the metadata of which it was asked.
@@ -46,7 +47,7 @@ impl Cache {
     }
 
     /// The interest in a callsite by which its requests are let by: never above the hint, sometimes where nothing is ever kept,
-    /// else the stack's.
+    /// else the stack's, which isn't searched for where it is given as it is kept.
     ///
     /// Refused where the callsite is kept with other metadata (`CallsiteMismatch`), else for want of memory.
     #[inline(always)]
@@ -55,23 +56,51 @@ impl Cache {
         alloc: Global,
         stack: &S,
         meta: &Metadata,
+        kept: Option<Interest>,
     ) -> Result<Interest, TraceError>
-        requires { S.usable stack.now }
+        requires usable { S.usable stack.now }
+        requires kept { IfSome kept (KnowsInterest self.old meta.now) }
         ensures { GivesInterest S.registry S.has_form stack.now meta.now result self.old self.new }
     {
         match self {
+            Cache::Filled(known) => known.interest(stack, meta, kept),
+            Cache::Empty => self.begin(alloc, stack, meta),
             Cache::Off => Ok(Interest::Sometimes),
-            Cache::Empty => {
-                let mut known = Known {
-                    hint: stack.max_level_hint(),
-                    callsites: BTreeMap::new(alloc),
-                };
-                let interest = known.interest(stack, meta);
-                *self = Cache::Filled(known);
-                interest
-            }
-            Cache::Filled(known) => known.interest(stack, meta),
         }
+    }
+
+    /// The interest that is kept of metadata that show the same, if any is.
+    pub(crate) fn kept(&self, meta: &Metadata) -> Option<Interest>
+        ensures { IfSome result (KnowsInterest self.now meta.now) }
+    {
+        let Cache::Filled(known) = self else {
+            return None;
+        };
+        match known.callsites.get(&meta.callsite()) {
+            Some(callsite) if callsite.metadata.shows_same(meta) => Some(callsite.interest),
+            _ => None,
+        }
+    }
+
+    /// The first interest, once the hint was read.
+    #[inline(never)]
+    fn begin<S: Subscriber>(
+        &mut self,
+        alloc: Global,
+        stack: &S,
+        meta: &Metadata,
+    ) -> Result<Interest, TraceError>
+        requires usable { S.usable stack.now }
+        requires empty { self.old ≡ Empty }
+        ensures { GivesInterest S.registry S.has_form stack.now meta.now result self.old self.new }
+    {
+        let mut known = Known {
+            hint: stack.max_level_hint(),
+            callsites: HashMap::new(alloc),
+        };
+        let interest = known.interest(stack, meta, None);
+        *self = Cache::Filled(known);
+        interest
     }
 }
 
@@ -83,19 +112,24 @@ impl Known {
         self.hint
     }
 
-    /// The interest in a callsite: never above the hint, else as it is kept, else it is asked for and kept.
+    /// The interest in a callsite: never above the hint, else as it is given or kept, else it is asked for and kept.
     #[inline(always)]
     fn interest<S: Subscriber>(
         &mut self,
         stack: &S,
         meta: &Metadata,
+        kept: Option<Interest>,
     ) -> Result<Interest, TraceError>
-        requires { S.usable stack.now }
+        requires usable { S.usable stack.now }
+        requires kept { IfSome kept (KnowsInterest (Filled self.old) meta.now) }
         ensures { GivesInterest S.registry S.has_form stack.now meta.now result (Filled self.old)
             (Filled self.new) }
     {
         if !self.passes(meta.level()) {
             return Ok(Interest::Never);
+        }
+        if let Some(interest) = kept {
+            return Ok(interest);
         }
         if let Some(callsite) = self.callsites.get(&meta.callsite()) {
             if callsite.metadata.shows_same(meta) {
@@ -103,6 +137,18 @@ impl Known {
             }
             return Err(TraceError::CallsiteMismatch);
         }
+        self.learn(stack, meta)
+    }
+
+    /// The interest in a callsite that isn't known, by the stack: it is known then, unless memory is refused.
+    #[inline(never)]
+    fn learn<S: Subscriber>(&mut self, stack: &S, meta: &Metadata) -> Result<Interest, TraceError>
+        requires usable { S.usable stack.now }
+        requires below { is_above (level_of meta.now) self.old.hint ≡ false }
+        requires unknown { known_of self.old (callsite_of meta.now) ≡ None }
+        ensures { GivesInterest S.registry S.has_form stack.now meta.now result (Filled self.old)
+            (Filled self.new) }
+    {
         let interest = stack.register_callsite(meta, &mut Pass::new());
         let callsite = Callsite {
             metadata: *meta,

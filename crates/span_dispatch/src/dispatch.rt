@@ -1,6 +1,6 @@
 //! A dispatcher: it takes requests, asks the layers of a stack, and notifies them.
 ghost use Rattle.std.specs.Borrow.{Lends, sem};
-ghost use Rattle.std.specs.Prelude.{◌≡◌, ℕ, None, Ok, Some, true, false, IfErr, IfOk, OnErr, OnOk};
+ghost use Rattle.std.specs.Prelude.{◌≡◌, ℕ, None, Ok, Some, true, false, IfErr, IfOk, IfSome, OnErr, OnOk};
 ghost use Rattle.span_core.specs.Event.{event_metadata};
 ghost use Rattle.span_core.specs.Filters.{IsEmpty};
 ghost use Rattle.span_core.specs.Span.{metadata_of, number_of};
@@ -8,6 +8,7 @@ ghost use Rattle.span_dispatch.specs.Cache.{no_callsite};
 ghost use Rattle.span_dispatch.specs.Call.{FindsOpen, RefusesUnlessOpen};
 ghost use Rattle.span_dispatch.specs.Contract.{Admits, AdmitsSafely, AsksStack, BecomesReady, ChangesLevel, ChangesStack, DropsAbove, DropsSettled, Forgets, GivesLevel, KeepsCallsite, KeepsHint, LearnsOnly, LeavesGone, OpensByPass, OpensIfMade, Refuses, RefusesEvent, RefusesMetadata, RefusesMismatch, RefusesSpan, SameRegistry, SameStack, SeesWhatIsMade, ServesClone, ServesCurrent, ServesDrop, ServesEnabled, ServesEnter, ServesEvent, ServesExit, ServesFollows, ServesLevel, ServesNewSpan, ServesRecord, Shows, ShowsHint, ShowsKept, StaysReady, StaysReadyBut, StaysSafe, StaysWithoutClosing, StaysUpToDate, TakesHandle, TakesLevel, TakesStep, TakesStepAlone, WantsEvent, WantsMetadata, WantsSpan};
 ghost use Rattle.span_dispatch.specs.contracts.dispatch.Dispatch.{the_row};
+ghost use Rattle.span_dispatch.specs.Registration.{IsRegistered, KeepsRegistered, Knows, registered_metadata};
 ghost use Rattle.span_dispatch.specs.Serve.{ClosesEach, KeepsUpToDate, forgetful, hint_by, kept_by, stack_of, with_stack};
 ghost use Rattle.span_registry.specs.Step.{Clones, Enters, Exits, RefusesClone, RefusesEnter, RefusesRelease};
 ghost use Rattle.span_registry.specs.Form.{Form};
@@ -16,6 +17,7 @@ ghost use Rattle.span_registry.specs.Question.{refusals};
 ghost use Rattle.span_registry.specs.Store.{IsClosing};
 
 use crate::cache::Cache;
+use crate::registration::{Epoch, Registration};
 use span_core::{
     Attributes, Current, Event, Id, Interest, Lane, LevelFilter, Metadata, Pass, Record, TraceError,
 };
@@ -31,6 +33,7 @@ pub struct Dispatch<S> {
     stack: S,
     alloc: Global,
     cache: Cache,
+    epoch: Epoch,
 }
 
 impl<S: Subscriber> Dispatch<S> {
@@ -50,6 +53,7 @@ impl<S: Subscriber> Dispatch<S> {
             stack: put_in_use(stack),
             alloc,
             cache: Cache::Empty,
+            epoch: Epoch::first(),
         }
     }
 
@@ -70,6 +74,7 @@ impl<S: Subscriber> Dispatch<S> {
             stack: put_in_use(stack),
             alloc,
             cache: Cache::Off,
+            epoch: Epoch::first(),
         }
     }
 
@@ -95,6 +100,7 @@ impl<S: Subscriber> Dispatch<S> {
         ensures value { result.now ≡ stack_of self.old }
     {
         self.cache.forget();
+        self.epoch = self.epoch.next();
         &mut self.stack
     }
 
@@ -113,10 +119,17 @@ impl<S: Subscriber> Dispatch<S> {
     }
 
     /// Whether a span or an event with this metadata is wanted, as far as metadata decide. The filters' answers go into the
-    /// pass, which is a new one.
+    /// pass, which is a new one. An interest may be given as it is kept.
     #[inline(always)]
-    fn admits(&mut self, lane: Lane, meta: &Metadata, pass: &mut Pass) -> Result<bool, TraceError>
+    fn admits(
+        &mut self,
+        lane: Lane,
+        meta: &Metadata,
+        kept: Option<Interest>,
+        pass: &mut Pass,
+    ) -> Result<bool, TraceError>
         requires usable { S.usable (stack_of self.old) }
+        requires known { IfSome kept (Knows self.old meta.now) }
         requires fresh { IsEmpty (refusals pass.old) }
         ensures stack { SameStack self.old self.new }
         ensures admitted { Admits S.Subscriber lane meta.now self.old pass.new result self.new }
@@ -124,6 +137,7 @@ impl<S: Subscriber> Dispatch<S> {
         ensures kept { StaysUpToDate S.Subscriber self.old self.new }
         ensures safe { StaysSafe S.Subscriber self.old self.new }
         ensures learned { LearnsOnly meta.now self.old self.new }
+        ensures registered { KeepsRegistered self.old self.new }
         ensures afresh { AsksStack S.Subscriber lane meta.now self.old pass.old result pass.new }
         ensures hint { KeepsHint self.old self.new }
         ensures above { DropsAbove meta.now false result self.old self.new }
@@ -131,7 +145,7 @@ impl<S: Subscriber> Dispatch<S> {
         ensures mismatch { RefusesMismatch meta.now result self.old self.new }
         ensures refused { IfErr result (RefusesMetadata meta.now self.old) }
     {
-        match self.cache.interest(self.alloc, &self.stack, meta) {
+        match self.cache.interest(self.alloc, &self.stack, meta, kept) {
             Err(error) => Err(error),
             Ok(Interest::Never) => Ok(false),
             Ok(Interest::Sometimes) => Ok(self.stack.enabled(lane, meta, pass)),
@@ -148,6 +162,7 @@ impl<S: Subscriber> Dispatch<S> {
         requires { S.usable (stack_of self.old) }
         ensures stack { SameStack self.old self.new }
         ensures kept { LearnsOnly meta.now self.old self.new }
+        ensures registered { KeepsRegistered self.old self.new }
         ensures up_to_date { StaysUpToDate S.Subscriber self.old self.new }
         ensures safe { StaysSafe S.Subscriber self.old self.new }
         ensures ready { StaysReady S.Subscriber self.old self.new }
@@ -161,7 +176,32 @@ impl<S: Subscriber> Dispatch<S> {
         ensures refused { IfErr result (RefusesMetadata meta.now self.old) }
     {
         let mut pass = Pass::new();
-        self.admits(lane, meta, &mut pass)
+        self.admits(lane, meta, None, &mut pass)
+    }
+
+    /// A callsite, registered: its interest is asked for and kept, unless its level is above the hint or nothing is ever kept.
+    /// `new_span_by` and `event_by` then find it with no search.
+    ///
+    /// Refused as `enabled` is.
+    pub fn register_callsite(&mut self, meta: &Metadata) -> Result<Registration, TraceError>
+        requires { S.usable (stack_of self.old) }
+        ensures stack { SameStack self.old self.new }
+        ensures kept { LearnsOnly meta.now self.old self.new }
+        ensures registered { KeepsRegistered self.old self.new }
+        ensures metadata { IfOk result (λ r. registered_metadata r ≡ meta.now) }
+        ensures registers { IfOk result (IsRegistered self.new) }
+        ensures up_to_date { StaysUpToDate S.Subscriber self.old self.new }
+        ensures safe { StaysSafe S.Subscriber self.old self.new }
+        ensures ready { StaysReady S.Subscriber self.old self.new }
+        ensures hint { KeepsHint self.old self.new }
+        ensures keeps { KeepsCallsite meta.now result self.old self.new }
+        ensures mismatch { RefusesMismatch meta.now result self.old self.new }
+        ensures refused { IfErr result (RefusesMetadata meta.now self.old) }
+    {
+        match self.cache.interest(self.alloc, &self.stack, meta, None) {
+            Err(error) => Err(error),
+            Ok(_) => Ok(Registration::new(*meta, self.cache.kept(meta), self.epoch)),
+        }
     }
 
     /// Opens a span with one handle and notifies of it, unless hint or interest rule it out or a layer vetoes it: then it answers
@@ -173,6 +213,7 @@ impl<S: Subscriber> Dispatch<S> {
         requires { S.usable (stack_of self.old) }
         ensures usable { S.usable (stack_of self.new) }
         ensures kept { LearnsOnly (metadata_of attrs.now) self.old self.new }
+        ensures registered { KeepsRegistered self.old self.new }
         ensures up_to_date { StaysUpToDate S.Subscriber self.old self.new }
         ensures safe { StaysSafe S.Subscriber self.old self.new }
         ensures ready { StaysReady S.Subscriber self.old self.new }
@@ -188,21 +229,58 @@ impl<S: Subscriber> Dispatch<S> {
         ensures unchanged { OnErr result (SameStack self.old self.new) }
     {
         let mut pass = Pass::new();
-        self.open(lane, attrs, &mut pass)
+        self.open(lane, attrs, None, &mut pass)
     }
 
-    /// The same with a new pass of the caller's, whose refusing filters are then the verdict of the span.
+    /// The same of a callsite that this dispatcher registered.
+    #[inline(always)]
+    pub fn new_span_by(
+        &mut self,
+        lane: Lane,
+        callsite: &Registration,
+        attrs: &Attributes<'_>,
+    ) -> Result<Option<Id>, TraceError>
+        requires usable { S.usable (stack_of self.old) }
+        requires known { IsRegistered self.old callsite.now }
+        requires same { metadata_of attrs.now ≡ registered_metadata callsite.now }
+        ensures usable { S.usable (stack_of self.new) }
+        ensures kept { LearnsOnly (metadata_of attrs.now) self.old self.new }
+        ensures registered { KeepsRegistered self.old self.new }
+        ensures up_to_date { StaysUpToDate S.Subscriber self.old self.new }
+        ensures safe { StaysSafe S.Subscriber self.old self.new }
+        ensures ready { StaysReady S.Subscriber self.old self.new }
+        ensures served { ServesNewSpan S.Subscriber lane attrs.now result self.old self.new }
+        ensures seen { SeesWhatIsMade S.Subscriber self.old self.new }
+        ensures asked { WantsSpan S.Subscriber lane attrs.now self.old result }
+        ensures store { IfOk result (OpensIfMade S.Subscriber lane attrs.now self.old self.new) }
+        ensures hint { KeepsHint self.old self.new }
+        ensures above { DropsAbove (metadata_of attrs.now) None result self.old self.new }
+        ensures keeps { KeepsCallsite (metadata_of attrs.now) result self.old self.new }
+        ensures mismatch { RefusesMismatch (metadata_of attrs.now) result self.old self.new }
+        ensures refused { IfErr result (RefusesSpan S.Subscriber lane attrs.now self.old) }
+        ensures unchanged { OnErr result (SameStack self.old self.new) }
+    {
+        let mut pass = Pass::new();
+        let kept = callsite.interest_in(self.epoch);
+        self.open(lane, attrs, kept, &mut pass)
+    }
+
+    /// The same with a new pass of the caller's, whose refusing filters are then the verdict of the span. An interest may be given
+    /// as it is kept.
     #[inline(always)]
     pub(crate) fn open(
         &mut self,
         lane: Lane,
         attrs: &Attributes<'_>,
+        kept: Option<Interest>,
         pass: &mut Pass,
     ) -> Result<Option<Id>, TraceError>
         requires usable { S.usable (stack_of self.old) }
+        requires known { IfSome kept (Knows self.old (metadata_of attrs.now)) }
         requires fresh { IsEmpty (refusals pass.old) }
         ensures usable { S.usable (stack_of self.new) }
         ensures kept { LearnsOnly (metadata_of attrs.now) self.old self.new }
+        ensures registered { KeepsRegistered self.old self.new }
         ensures up_to_date { StaysUpToDate S.Subscriber self.old self.new }
         ensures safe { StaysSafe S.Subscriber self.old self.new }
         ensures ready { StaysReady S.Subscriber self.old self.new }
@@ -218,7 +296,7 @@ impl<S: Subscriber> Dispatch<S> {
         ensures refused { IfErr result (RefusesSpan S.Subscriber lane attrs.now self.old) }
         ensures unchanged { OnErr result (SameStack self.old self.new) }
     {
-        match self.admits(lane, &attrs.metadata(), pass) {
+        match self.admits(lane, &attrs.metadata(), kept, pass) {
             Err(error) => Err(error),
             Ok(false) => Ok(None),
             Ok(true) => match self.stack.new_span(lane, attrs, pass) {
@@ -230,10 +308,76 @@ impl<S: Subscriber> Dispatch<S> {
 
     /// Notifies of an event, unless hint or interest rule it out or a layer vetoes it: then it answers false. Refused as `enabled`
     /// is.
+    #[inline(always)]
     pub fn event(&mut self, lane: Lane, event: &Event<'_>) -> Result<bool, TraceError>
         requires { S.usable (stack_of self.old) }
         ensures usable { S.usable (stack_of self.new) }
         ensures kept { LearnsOnly (event_metadata event.now) self.old self.new }
+        ensures registered { KeepsRegistered self.old self.new }
+        ensures up_to_date { StaysUpToDate S.Subscriber self.old self.new }
+        ensures safe { StaysSafe S.Subscriber self.old self.new }
+        ensures ready { StaysReady S.Subscriber self.old self.new }
+        ensures served { ServesEvent S.Subscriber lane event.now result self.old self.new }
+        ensures seen { SeesWhatIsMade S.Subscriber self.old self.new }
+        ensures store { TakesStep S.Subscriber Stays self.old self.new }
+        ensures dropped { result ≡ Ok false → SameStack self.old self.new }
+        ensures asked { IfOk result (WantsEvent S.Subscriber lane event.now self.old) }
+        ensures hint { KeepsHint self.old self.new }
+        ensures above { DropsAbove (event_metadata event.now) false result self.old self.new }
+        ensures keeps { KeepsCallsite (event_metadata event.now) result self.old self.new }
+        ensures mismatch { RefusesMismatch (event_metadata event.now) result self.old self.new }
+        ensures refused { IfErr result (RefusesEvent event.now self.old) }
+        ensures unchanged { OnErr result (SameStack self.old self.new) }
+    {
+        self.send(lane, event, None)
+    }
+
+    /// The same of a callsite that this dispatcher registered.
+    #[inline(always)]
+    pub fn event_by(
+        &mut self,
+        lane: Lane,
+        callsite: &Registration,
+        event: &Event<'_>,
+    ) -> Result<bool, TraceError>
+        requires usable { S.usable (stack_of self.old) }
+        requires known { IsRegistered self.old callsite.now }
+        requires same { event_metadata event.now ≡ registered_metadata callsite.now }
+        ensures usable { S.usable (stack_of self.new) }
+        ensures kept { LearnsOnly (event_metadata event.now) self.old self.new }
+        ensures registered { KeepsRegistered self.old self.new }
+        ensures up_to_date { StaysUpToDate S.Subscriber self.old self.new }
+        ensures safe { StaysSafe S.Subscriber self.old self.new }
+        ensures ready { StaysReady S.Subscriber self.old self.new }
+        ensures served { ServesEvent S.Subscriber lane event.now result self.old self.new }
+        ensures seen { SeesWhatIsMade S.Subscriber self.old self.new }
+        ensures store { TakesStep S.Subscriber Stays self.old self.new }
+        ensures dropped { result ≡ Ok false → SameStack self.old self.new }
+        ensures asked { IfOk result (WantsEvent S.Subscriber lane event.now self.old) }
+        ensures hint { KeepsHint self.old self.new }
+        ensures above { DropsAbove (event_metadata event.now) false result self.old self.new }
+        ensures keeps { KeepsCallsite (event_metadata event.now) result self.old self.new }
+        ensures mismatch { RefusesMismatch (event_metadata event.now) result self.old self.new }
+        ensures refused { IfErr result (RefusesEvent event.now self.old) }
+        ensures unchanged { OnErr result (SameStack self.old self.new) }
+    {
+        let kept = callsite.interest_in(self.epoch);
+        self.send(lane, event, kept)
+    }
+
+    /// The same where an interest may be given as it is kept.
+    #[inline(always)]
+    fn send(
+        &mut self,
+        lane: Lane,
+        event: &Event<'_>,
+        kept: Option<Interest>,
+    ) -> Result<bool, TraceError>
+        requires usable { S.usable (stack_of self.old) }
+        requires known { IfSome kept (Knows self.old (event_metadata event.now)) }
+        ensures usable { S.usable (stack_of self.new) }
+        ensures kept { LearnsOnly (event_metadata event.now) self.old self.new }
+        ensures registered { KeepsRegistered self.old self.new }
         ensures up_to_date { StaysUpToDate S.Subscriber self.old self.new }
         ensures safe { StaysSafe S.Subscriber self.old self.new }
         ensures ready { StaysReady S.Subscriber self.old self.new }
@@ -250,7 +394,7 @@ impl<S: Subscriber> Dispatch<S> {
         ensures unchanged { OnErr result (SameStack self.old self.new) }
     {
         let mut pass = Pass::new();
-        match self.admits(lane, &event.metadata(), &mut pass) {
+        match self.admits(lane, &event.metadata(), kept, &mut pass) {
             Err(error) => Err(error),
             Ok(false) => Ok(false),
             Ok(true) => {
@@ -396,6 +540,7 @@ impl<S: Subscriber> Dispatch<S> {
         ensures none { OnErr result (TakesLevel S.Subscriber number level self.old false) }
         ensures rest { ChangesLevel S.Subscriber number self.old self.new }
         ensures forgets { OnOk result (Forgets self.old self.new) }
+        ensures registered { KeepsRegistered self.old self.new }
         ensures refused { IfErr result (λ e. e ≡ TraceError.NotSettable number) }
         ensures unchanged { OnErr result (self.new ≡ self.old) }
     {
@@ -403,6 +548,7 @@ impl<S: Subscriber> Dispatch<S> {
             return Err(TraceError::NotSettable(number));
         }
         Cache::forget(&mut self.cache);
+        self.epoch = self.epoch.next();
         Ok(())
     }
 

@@ -242,7 +242,7 @@ impl<S: Subscriber> Logged<S> {
         let Journal { entries } = journal;
         entries.reserve(1)?;
         let mut pass = Pass::new();
-        let Some(id) = dispatch.open(lane, attrs, &mut pass)? else {
+        let Some(id) = dispatch.open(lane, attrs, None, &mut pass)? else {
             let receipt = noted(entries, Entry::Unmade(lane, attrs.metadata()));
             return Ok((None, receipt));
         };

@@ -12,7 +12,7 @@ ghost use Rattle.span_registry.specs.Levels.{unlevelled};
 
 use crate::notice::Notice;
 use span_core::{Attributes, Event, Id, Interest, LevelFilter, Metadata, Pass, Record};
-use span_layers::Layer;
+use span_layers::{AlwaysUsableLayer, Layer};
 use span_registry::{Context, ContextMut, Subscriber};
 use std::alloc::Global;
 use std::marker::Model;
@@ -170,4 +170,8 @@ impl<S: Subscriber> Layer<S> for Recorder {
     fn on_close(&mut self, id: Id, ctx: &mut ContextMut<'_, S>) {
         self.keep(Notice::Close(ctx.lane(), id));
     }
+}
+
+impl<S: Subscriber> AlwaysUsableLayer<S> for Recorder {
+    ghost always = { λ x. tt };
 }

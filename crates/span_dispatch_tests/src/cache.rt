@@ -2,13 +2,14 @@
 ghost use Rattle.span_dispatch.specs.Serve.{stack_of};
 
 use crate::requests::{
-    TwoOn, event, in_use, in_use_by_layers, made, new_span, plain, serve, serve_by_layers,
+    OneOn, TwoOn, UnderOne, event, in_use, in_use_by_layers, keeps, made, new_span, one_on, plain,
+    serve, serve_by_layers,
 };
 use span_core::{Event, Id, Kind, Level, LevelFilter, Metadata, TraceError};
 use span_dispatch::{Answer, Dispatch, Notice, Recorder, Request, Which, WhichParent};
 use span_filters::{Filter, filter_fn};
 use span_layer_tests::fixture::{LANE, metadata_of, put};
-use span_layers::{Filtered, LayerExt, Layered};
+use span_layers::{Filtered, Layer, LayerExt, Layered};
 use span_registry::{Registry, Subscriber};
 use std::alloc::Global;
 use std::cell::Cell;
@@ -59,6 +60,27 @@ fn kept_by_two(alloc: Global, inner: &Recorder, outer: &Recorder) -> Result<Kept
     ))
 }
 
+/// Serves so many events by a stack under two layers.
+fn serve_events<S, I, O>(
+    alloc: Global,
+    stack: S,
+    inner: I,
+    outer: O,
+    count: usize,
+) -> Result<Dispatch<TwoOn<S, I, O>>, Fail>
+where
+    S: Subscriber + Drop,
+    I: Layer<S> + Drop,
+    O: Layer<Layered<I, S>> + Drop,
+    requires stack { S.usable stack }
+    requires inner { I.usable inner }
+    requires outer { O.usable outer }
+{
+    let requests = events(alloc, count)?;
+    let (dispatch, _) = serve_by_layers(alloc, stack, inner, outer, &requests)?;
+    Ok(dispatch)
+}
+
 /// What recorders keep of so many events, each under a filter of its own.
 fn kept_under<S, I, O>(
     alloc: Global,
@@ -75,10 +97,9 @@ where
     requires inner { I.usable inner }
     requires outer { O.usable outer }
 {
-    let requests = events(alloc, count)?;
     let inner = Recorder::new(alloc).with_filter(inner);
     let outer = Recorder::new(alloc).with_filter(outer);
-    let (dispatch, _) = serve_by_layers(alloc, stack, inner, outer, &requests)?;
+    let dispatch = serve_events(alloc, stack, inner, outer, count)?;
     let stack = dispatch.stack();
     kept_by_two(alloc, stack.inner().layer().inner(), stack.layer().inner())
 }
@@ -126,23 +147,30 @@ fn filters_that_differ_on_a_callsite_are_asked_each_time(rt: HostRuntime) -> Res
     Ok(())
 }
 
+/// Sends an event of level info before the level of its recorder is changed to that, and then.
+fn sent_around_a_change(
+    dispatch: &mut Dispatch<OneOn>,
+) -> [(Result<bool, TraceError>, Option<LevelFilter>); 2] {
+    let before = sent_under(dispatch);
+    *dispatch.stack_mut().layer_mut().filter_mut() = LevelFilter::INFO;
+    [before, sent_under(dispatch)]
+}
+
 #[test]
 fn a_changed_stack_is_asked_again(rt: HostRuntime) -> Result<(), Fail> {
-    let under_warn = Recorder::new(rt.alloc()).with_filter(LevelFilter::WARN);
-    let stack = put(Registry::new(rt.alloc()), under_warn)?;
-    let mut dispatch = in_use(rt.alloc(), stack);
-    assert_eq!(rt;
-        sent_under(&mut dispatch),
-        (Ok(false), Some(LevelFilter::WARN))
-    );
-    *dispatch.stack_mut().layer_mut().filter_mut() = LevelFilter::INFO;
-    assert_eq!(rt;
-        sent_under(&mut dispatch),
-        (Ok(true), Some(LevelFilter::INFO))
+    let mut dispatch = in_use(rt.alloc(), one_on(rt.alloc(), LevelFilter::WARN)?);
+    let sent = sent_around_a_change(&mut dispatch);
+    keeps(
+        &rt,
+        dispatch.stack().layer().inner(),
+        &[Notice::Event(LANE, 5)],
     );
     assert_eq!(rt;
-        dispatch.stack().layer().inner().notices(),
-        [Notice::Event(LANE, 5)].as_slice()
+        sent,
+        [
+            (Ok(false), Some(LevelFilter::WARN)),
+            (Ok(true), Some(LevelFilter::INFO)),
+        ]
     );
     Ok(())
 }
@@ -179,21 +207,24 @@ const ONLY_INFO: [Answer; 11] = [
     Answer::Refused(TraceError::CallsiteMismatch),
 ];
 
-/// A dispatcher, what it answered, and its hint then.
-type Answered<S> = (Dispatch<S>, Vec<Answer>, Option<LevelFilter>);
+/// What a recorder keeps, what was answered, and the hint then.
+type Answered = (Vec<Notice>, Vec<Answer>, Option<LevelFilter>);
 
-/// Puts a stack in use, and serves a list.
-fn answers_and_hint<S: Subscriber + Drop>(
+/// Puts a recorder under a filter on a stack, and serves those events.
+fn answers_under<S: Subscriber + Drop, F: Filter<S> + Drop>(
     alloc: Global,
     stack: S,
-    requests: &[Request<'_>],
-) -> Result<Answered<S>, TraceError>
-    requires { S.usable stack }
+    filter: F,
+) -> Result<Answered, Fail>
+    requires stack { S.usable stack }
+    requires filter { F.usable filter }
 {
-    let mut dispatch = in_use(alloc, stack);
-    let answers = serve(alloc, &mut dispatch, requests)?;
+    let under_filter = Recorder::new(alloc).with_filter(filter);
+    let mut dispatch = in_use(alloc, put(stack, under_filter)?);
+    let answers = serve(alloc, &mut dispatch, &events_of_each_level())?;
     let hint = dispatch.max_level_hint();
-    Ok((dispatch, answers, hint))
+    let kept = dispatch.stack().layer().inner().notices().to_vec(alloc)?;
+    Ok((kept, answers, hint))
 }
 
 #[test]
@@ -204,21 +235,15 @@ fn each_callsite_is_asked_of_once(rt: HostRuntime) -> Result<(), Fail> {
         count_one(&counter);
         meta.level() == Level::INFO
     });
-    let under_counted = Recorder::new(rt.alloc()).with_filter(counted);
-    let requests = events_of_each_level();
-    let stack = put(Registry::new(rt.alloc()), under_counted)?;
-    let (dispatch, answers, hint) = answers_and_hint(rt.alloc(), stack, &requests)?;
+    let registry = Registry::new(rt.alloc());
+    let (kept, answers, hint) = answers_under(rt.alloc(), registry, counted)?;
     let twice = [Notice::Event(LANE, 5), Notice::Event(LANE, 5)];
-    let kept = dispatch.stack().layer().inner().notices();
     assert_eq!(rt;
-        (answers.as_slice(), asked.get(), kept, hint),
+        (answers.as_slice(), asked.get(), kept.as_slice(), hint),
         (ONLY_INFO.as_slice(), 5, twice.as_slice(), None)
     );
     Ok(())
 }
-
-/// A recorder under a level.
-type UnderOne = Filtered<Recorder, LevelFilter>;
 
 /// From the registry outwards: a recorder under a level, and one under two.
 type Nested = TwoOn<Registry, UnderOne, Filtered<UnderOne, LevelFilter>>;
@@ -276,40 +301,41 @@ fn open_one_span<S: Subscriber>(alloc: Global, dispatch: &mut Dispatch<S>) -> Re
     made(&answers, 0)
 }
 
-/// What the recorders of a stack keep, the inner one first.
-fn kept_by_both(stack: &Nested) -> [&[Notice]; 2] {
-    [
-        stack.inner().layer().inner().notices(),
-        stack.layer().inner().inner().notices(),
-    ]
+/// Both recorders of a stack keep this.
+fn both_keep(rt: &impl Abort, stack: &Nested, kept: &[Notice]) {
+    keeps(rt, stack.inner().layer().inner(), kept);
+    keeps(rt, stack.layer().inner().inner(), kept);
+}
+
+/// Serves the requests, with the levels changed between the first and the rest of them. Answers the span.
+fn serve_around_a_change(alloc: Global, dispatch: &mut Dispatch<Nested>) -> Result<Id, Fail> {
+    let span = open_one_span(alloc, dispatch)?;
+    set_levels(dispatch.stack_mut(), LevelFilter::DEBUG);
+    serve(alloc, dispatch, &rest_of(span))?;
+    Ok(span)
 }
 
 #[test]
 fn a_changed_stack_goes_on_with_its_spans(rt: HostRuntime) -> Result<(), Fail> {
     let mut dispatch = nested(rt.alloc())?;
-    let span = open_one_span(rt.alloc(), &mut dispatch)?;
-    set_levels(dispatch.stack_mut(), LevelFilter::DEBUG);
-    serve(rt.alloc(), &mut dispatch, &rest_of(span))?;
-    let kept = kept_over_a_change(span);
-    assert_eq!(rt;
-        kept_by_both(dispatch.stack()),
-        [kept.as_slice(), kept.as_slice()]
-    );
+    let span = serve_around_a_change(rt.alloc(), &mut dispatch)?;
+    both_keep(&rt, dispatch.stack(), &kept_over_a_change(span));
     Ok(())
+}
+
+/// Sends two events from one callsite, of different levels.
+fn send_two_levels<S: Subscriber>(dispatch: &mut Dispatch<S>) -> [Result<bool, TraceError>; 2]
+    requires { S.usable (stack_of dispatch.old) }
+{
+    [send(dispatch, Level::INFO), send(dispatch, Level::DEBUG)]
 }
 
 #[test]
 fn a_callsite_has_one_metadata(rt: HostRuntime) -> Result<(), Fail> {
     let mut dispatch = in_use(rt.alloc(), plain(rt.alloc())?);
-    assert_eq!(rt; send(&mut dispatch, Level::INFO), Ok(true));
-    assert_eq!(rt;
-        send(&mut dispatch, Level::DEBUG),
-        Err(TraceError::CallsiteMismatch)
-    );
-    assert_eq!(rt;
-        dispatch.stack().layer().notices(),
-        [Notice::Event(LANE, 5)].as_slice()
-    );
+    let sent = send_two_levels(&mut dispatch);
+    keeps(&rt, dispatch.stack().layer(), &[Notice::Event(LANE, 5)]);
+    assert_eq!(rt; sent, [Ok(true), Err(TraceError::CallsiteMismatch)]);
     Ok(())
 }
 
@@ -317,10 +343,7 @@ fn a_callsite_has_one_metadata(rt: HostRuntime) -> Result<(), Fail> {
 fn an_absent_layer_alone_wants_nothing(rt: HostRuntime) -> Result<(), Fail> {
     let absent: Option<Recorder> = None;
     let stack = put(Registry::new(rt.alloc()), absent)?;
-    let mut dispatch = in_use(rt.alloc(), stack);
-    assert_eq!(rt;
-        sent_under(&mut dispatch),
-        (Ok(false), Some(LevelFilter::OFF))
-    );
+    let sent = sent_under(&mut in_use(rt.alloc(), stack));
+    assert_eq!(rt; sent, (Ok(false), Some(LevelFilter::OFF)));
     Ok(())
 }

@@ -1,7 +1,9 @@
 //! Tests of a dispatcher, as a program drives it: calls and lists of requests, and what a recorder keeps of them.
 ghost use Rattle.span_dispatch.specs.Serve.{stack_of};
 
-use crate::requests::{Plain, fresh, in_use, made, new_event, new_span, plain, serve, within};
+use crate::requests::{
+    Plain, fresh, in_use, keeps, made, new_event, new_span, plain, serve, within,
+};
 use span_core::{Attributes, Event, Id, Kind, Lane, Level, Metadata, Record, TraceError};
 use span_dispatch::{Answer, Dispatch, Notice, Recorder, Request, Which, WhichParent};
 use span_layer_tests::fixture::{LANE, metadata_of};
@@ -63,27 +65,37 @@ fn drop_handle<S: Subscriber>(dispatch: &mut Dispatch<S>, id: Id) -> Result<bool
 }
 
 /// The parent of an open span.
-fn parent_of(dispatch: &Dispatch<Plain>, id: Id) -> Option<Id> {
-    let parent = dispatch.stack().span(id)?.parent()?;
+fn parent_of<S: LookupSpan>(stack: &S, id: Id) -> Option<Id> {
+    let parent = stack.span(id)?.parent()?;
     Some(parent.id())
+}
+
+/// A span with two handles closes with the second drop.
+fn closes_with_its_last_handle<S: Subscriber>(
+    rt: &impl Abort,
+    dispatch: &mut Dispatch<S>,
+) -> Result<Id, Fail>
+    requires { S.usable (stack_of dispatch.old) }
+{
+    let id = open_root(dispatch)?;
+    assert_eq!(rt; dispatch.clone_span(LANE, id), Ok(id));
+    assert_eq!(rt; drop_handle(dispatch, id), Ok(false));
+    assert_eq!(rt; drop_handle(dispatch, id), Ok(true));
+    assert_eq!(rt; drop_handle(dispatch, id), Err(TraceError::UnknownSpan(id)));
+    Ok(id)
 }
 
 #[test]
 fn a_span_closes_with_its_last_handle(rt: HostRuntime) -> Result<(), Fail> {
     let mut dispatch = fresh_plain(rt.alloc())?;
-    let id = open_root(&mut dispatch)?;
-    assert_eq!(rt; dispatch.clone_span(LANE, id), Ok(id));
-    assert_eq!(rt; drop_handle(&mut dispatch, id), Ok(false));
-    assert_eq!(rt; drop_handle(&mut dispatch, id), Ok(true));
-    assert_eq!(rt;
-        drop_handle(&mut dispatch, id),
-        Err(TraceError::UnknownSpan(id))
+    let id = closes_with_its_last_handle(&rt, &mut dispatch)?;
+    let recorder = dispatch.stack().layer();
+    keeps(
+        &rt,
+        recorder,
+        &[Notice::New(LANE, id), Notice::Close(LANE, id)],
     );
-    assert_eq!(rt;
-        dispatch.stack().layer().notices(),
-        [Notice::New(LANE, id), Notice::Close(LANE, id)].as_slice()
-    );
-    assert!(rt; !dispatch.stack().layer().failed());
+    assert!(rt; !recorder.failed());
     Ok(())
 }
 
@@ -125,27 +137,36 @@ fn made_by_places(rt: &impl Abort, answers: &[Answer], never: Id) -> Result<[Id;
     Ok([root, child, other])
 }
 
+/// Serves them, and answers those spans.
+fn serves_by_places<S: Subscriber>(
+    rt: &impl Abort,
+    alloc: Global,
+    dispatch: &mut Dispatch<S>,
+) -> Result<[Id; 3], Fail>
+    requires { S.usable (stack_of dispatch.old) }
+{
+    let never = Id::from_u64(0);
+    let answers = serve(alloc, dispatch, &requests_by_places(never))?;
+    let [root, child, other] = made_by_places(rt, &answers, never)?;
+    let stack = dispatch.stack();
+    assert_eq!(rt;
+        (parent_of(stack, child), parent_of(stack, other)),
+        (Some(root), None)
+    );
+    Ok([root, child, other])
+}
+
 #[test]
 fn a_list_names_spans_by_their_places(rt: HostRuntime) -> Result<(), Fail> {
     let mut dispatch = fresh_plain(rt.alloc())?;
-    let never = Id::from_u64(0);
-    let requests = requests_by_places(never);
-    let answers = serve(rt.alloc(), &mut dispatch, &requests)?;
-    let [root, child, other] = made_by_places(&rt, &answers, never)?;
-    assert_eq!(rt;
-        (parent_of(&dispatch, child), parent_of(&dispatch, other)),
-        (Some(root), None)
-    );
-    assert_eq!(rt;
-        dispatch.stack().layer().notices(),
-        [
-            Notice::New(LANE, root),
-            Notice::New(LANE, child),
-            Notice::Event(LANE, 7),
-            Notice::New(LANE, other),
-        ]
-        .as_slice()
-    );
+    let [root, child, other] = serves_by_places(&rt, rt.alloc(), &mut dispatch)?;
+    let notices = [
+        Notice::New(LANE, root),
+        Notice::New(LANE, child),
+        Notice::Event(LANE, 7),
+        Notice::New(LANE, other),
+    ];
+    keeps(&rt, dispatch.stack().layer(), &notices);
     Ok(())
 }
 
@@ -169,12 +190,16 @@ fn requests_of_one_span(never: Id) -> [Request<'static>; 13] {
     ]
 }
 
-#[test]
-fn a_list_is_answered_in_its_order(rt: HostRuntime) -> Result<(), Fail> {
-    let mut dispatch = fresh_plain(rt.alloc())?;
-    let never = Id::from_u64(0);
-    let requests = requests_of_one_span(never);
-    let answers = serve(rt.alloc(), &mut dispatch, &requests)?;
+/// Serves them: the span, and what is answered.
+fn answers_in_order<S: Subscriber>(
+    rt: &impl Abort,
+    alloc: Global,
+    dispatch: &mut Dispatch<S>,
+    never: Id,
+) -> Result<Id, Fail>
+    requires { S.usable (stack_of dispatch.old) }
+{
+    let answers = serve(alloc, dispatch, &requests_of_one_span(never))?;
     let id = made(&answers, 0)?;
     assert_eq!(rt;
         answers.as_slice(),
@@ -195,18 +220,23 @@ fn a_list_is_answered_in_its_order(rt: HostRuntime) -> Result<(), Fail> {
         ]
         .as_slice()
     );
-    assert_eq!(rt;
-        dispatch.stack().layer().notices(),
-        [
-            Notice::New(LANE, id),
-            Notice::Enter(LANE, id),
-            Notice::Record(LANE, id),
-            Notice::Follows(LANE, id, never),
-            Notice::Exit(LANE, id),
-            Notice::Close(LANE, id),
-        ]
-        .as_slice()
-    );
+    Ok(id)
+}
+
+#[test]
+fn a_list_is_answered_in_its_order(rt: HostRuntime) -> Result<(), Fail> {
+    let mut dispatch = fresh_plain(rt.alloc())?;
+    let never = Id::from_u64(0);
+    let id = answers_in_order(&rt, rt.alloc(), &mut dispatch, never)?;
+    let notices = [
+        Notice::New(LANE, id),
+        Notice::Enter(LANE, id),
+        Notice::Record(LANE, id),
+        Notice::Follows(LANE, id, never),
+        Notice::Exit(LANE, id),
+        Notice::Close(LANE, id),
+    ];
+    keeps(&rt, dispatch.stack().layer(), &notices);
     Ok(())
 }
 
@@ -260,17 +290,14 @@ fn refuses_all_unknown<S: Subscriber>(
 fn knows_open_spans_alone(rt: &impl Abort, dispatch: Dispatch<Plain>) -> Result<(), Fail> {
     let mut dispatch = dispatch;
     let closed = refuses_all_unknown(rt, &mut dispatch)?;
-    assert_eq!(rt;
-        dispatch.stack().layer().notices(),
-        [
-            Notice::New(LANE, closed),
-            Notice::Close(LANE, closed),
-            Notice::Event(LANE, 7),
-            Notice::Event(LANE, 7),
-            Notice::Event(LANE, 7),
-        ]
-        .as_slice()
-    );
+    let notices = [
+        Notice::New(LANE, closed),
+        Notice::Close(LANE, closed),
+        Notice::Event(LANE, 7),
+        Notice::Event(LANE, 7),
+        Notice::Event(LANE, 7),
+    ];
+    keeps(rt, dispatch.stack().layer(), &notices);
     Ok(())
 }
 
@@ -376,16 +403,21 @@ fn a_refusal_of_memory_changes_nothing(rt: HostRuntime) -> Result<(), Fail> {
     Ok(())
 }
 
+/// Sends an event, and once more where memory is refused: that changes nothing.
+fn send_at_last(rt: &impl Abort, dispatch: &mut Dispatch<Plain>) {
+    let before = seen(dispatch);
+    if let Err(error) = send(dispatch) {
+        assert_eq!(rt; error, TraceError::OutOfMemory);
+        assert_eq!(rt; seen(dispatch), before);
+        assert_eq!(rt; send(dispatch), Ok(true));
+    }
+}
+
 /// It passes too where any one allocation is refused.
 #[test]
 fn a_refused_interest_changes_nothing(rt: HostRuntime) -> Result<(), Fail> {
     let mut dispatch = in_use(rt.alloc(), plain(rt.alloc())?);
-    let before = seen(&dispatch);
-    if let Err(error) = send(&mut dispatch) {
-        assert_eq!(rt; error, TraceError::OutOfMemory);
-        assert_eq!(rt; seen(&dispatch), before);
-        assert_eq!(rt; send(&mut dispatch), Ok(true));
-    }
+    send_at_last(&rt, &mut dispatch);
     let recorder = dispatch.stack().layer();
     assert_eq!(rt; recorder.failed(), recorder.notices().is_empty());
     Ok(())

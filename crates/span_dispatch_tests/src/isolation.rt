@@ -5,10 +5,10 @@ ghost use Rattle.std.specs.Prelude.{◌≡◌, ⊤};
 
 use crate::requests::{event, made, new_span, serve_by_layer, serve_by_layers, within};
 use span_core::{Id, Level, LevelFilter, Metadata, TraceError};
-use span_dispatch::{Answer, Notice, Recorder, Request, Which, WhichParent};
-use span_filters::{FunctionIn, dynamic_filter_fn};
+use span_dispatch::{Answer, Dispatch, Notice, Recorder, Request, Which, WhichParent};
+use span_filters::{Filter, FunctionIn, dynamic_filter_fn};
 use span_layer_tests::fixture::{LANE, put};
-use span_layers::{Filtered, LayerExt, Layered, Observe, Observed, Observer};
+use span_layers::{Filtered, Layer, LayerExt, Layered, Observe, Observed, Observer};
 use span_registry::{Context, ContextMut, ExtensionValue, LookupSpan, Registry, Subscriber, Tag};
 use std::alloc::Global;
 use std::process::Abort;
@@ -98,8 +98,20 @@ fn a_and_b(alloc: Global) -> Result<Two, TraceError> {
 /// of.
 fn a_and_b_beside(rt: &impl Abort, alloc: Global, outermost: LevelFilter) -> Result<(), Fail> {
     let c = Recorder::new(alloc).with_filter(outermost);
-    let (dispatch, answers) = serve_by_layer(alloc, a_and_b(alloc)?, c, &requests())?;
+    let (dispatch, answers) = serve_requests(alloc, a_and_b(alloc)?, c)?;
     a_and_b_kept(rt, dispatch.stack().inner(), &answers)
+}
+
+/// Serves the list with a layer outside a stack.
+fn serve_requests<S: Subscriber + Drop, L: Layer<S> + Drop>(
+    alloc: Global,
+    stack: S,
+    layer: L,
+) -> Result<(Dispatch<Layered<L, S>>, Vec<Answer>), TraceError>
+    requires stack { S.usable stack }
+    requires layer { L.usable layer }
+{
+    serve_by_layer(alloc, stack, layer, &requests())
 }
 
 fn a_and_b_kept(rt: &impl Abort, stack: &Two, answers: &[Answer]) -> Result<(), Fail> {
@@ -178,9 +190,28 @@ fn one_span() -> [Request<'static>; 5] {
 /// keeps of the list.
 fn kept_beside_marker(alloc: Global, outermost: LevelFilter) -> Result<(Id, Vec<Notice>), Fail> {
     let mark = Tag::new(0);
-    let a = Recorder::new(alloc).with_filter(dynamic_filter_fn(InMarked { mark }));
+    let marked = dynamic_filter_fn(InMarked { mark });
     let c = Observer::new(SpanMarker { mark }).with_filter(outermost);
-    let (dispatch, answers) = serve_by_layers(alloc, Registry::new(alloc), a, c, &one_span())?;
+    kept_of_one_span(alloc, Registry::new(alloc), marked, c)
+}
+
+/// The same of a recorder under a filter, on a stack, and a layer outside it.
+fn kept_of_one_span<S, F, O>(
+    alloc: Global,
+    stack: S,
+    filter: F,
+    outer: O,
+) -> Result<(Id, Vec<Notice>), Fail>
+where
+    S: Subscriber + Drop,
+    F: Filter<S> + Drop,
+    O: Layer<Layered<Filtered<Recorder, F>, S>> + Drop,
+    requires stack { S.usable stack }
+    requires filter { F.usable filter }
+    requires outer { O.usable outer }
+{
+    let a = Recorder::new(alloc).with_filter(filter);
+    let (dispatch, answers) = serve_by_layers(alloc, stack, a, outer, &one_span())?;
     first_and_kept(alloc, &answers, dispatch.stack().inner().layer().inner())
 }
 

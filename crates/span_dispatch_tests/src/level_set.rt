@@ -2,12 +2,14 @@
 ghost use Rattle.span_dispatch.specs.Serve.{stack_of};
 
 use crate::cache::{count_one, sent_under};
-use crate::requests::{event, fresh, in_use, made, new_span, serve, serve_by_layers};
+use crate::requests::{
+    UnderOne, event, fresh, in_use, made, new_span, one_on, serve, serve_by_layers,
+};
 use span_core::{Level, LevelFilter, Metadata, TraceError};
 use span_dispatch::{Answer, Dispatch, Notice, Recorder, Request, Which, WhichParent};
-use span_filters::filter_fn;
+use span_filters::{Filter, filter_fn};
 use span_layer_tests::fixture::{LANE, put};
-use span_layers::LayerExt;
+use span_layers::{LayerExt, Layered};
 use span_registry::{Registry, Subscriber};
 use std::alloc::Global;
 use std::cell::Cell;
@@ -70,14 +72,15 @@ fn the_third_event_alone(
     before: Said,
     after: Said,
 ) -> Result<(), Fail> {
-    let under_warn = Recorder::new(alloc).with_filter(LevelFilter::WARN);
-    let mut dispatch = used(alloc, put(Registry::new(alloc), under_warn)?, keeps);
+    let mut dispatch = used(alloc, one_on(alloc, LevelFilter::WARN)?, keeps);
     raised_by_calls(rt, &mut dispatch, before, after)?;
-    assert_eq!(rt;
-        dispatch.stack().layer().inner().notices(),
-        [Notice::Event(LANE, 5)].as_slice()
-    );
+    told_once(rt, dispatch.stack().layer().inner());
     Ok(())
+}
+
+/// A recorder was told of one event.
+fn told_once(rt: &impl Abort, recorder: &Recorder) {
+    assert_eq!(rt; recorder.notices(), [Notice::Event(LANE, 5)].as_slice());
 }
 
 #[test]
@@ -149,19 +152,33 @@ fn the_third_event_beside_a_closure(
         count_one(&counter);
         meta.level() <= Level::WARN
     });
-    let under_warn = put(
-        Registry::new(alloc),
-        Recorder::new(alloc).with_filter(LevelFilter::WARN),
-    )?;
-    let stack = put(under_warn, Recorder::new(alloc).with_filter(counted))?;
-    let mut dispatch = used(alloc, stack, keeps);
-    raised_in_lists(rt, alloc, &mut dispatch, &asked, before, counts)?;
+    let under_warn = Recorder::new(alloc).with_filter(LevelFilter::WARN);
+    let stack = put(Registry::new(alloc), under_warn)?;
+    told_beside(rt, alloc, keeps, stack, counted, (&asked, before, counts))
+}
+
+/// A recorder under WARN on a stack, which a dispatcher has.
+type UnderWarn<S> = Layered<UnderOne, S>;
+
+/// The same with another filter, and a cell that counts how often that is asked.
+fn told_beside<S: Subscriber + Drop, F: Filter<UnderWarn<S>> + Drop>(
+    rt: &impl Abort,
+    alloc: Global,
+    keeps: bool,
+    stack: UnderWarn<S>,
+    other: F,
+    expected: (&Cell<u32>, Answer, [u32; 2]),
+) -> Result<(), Fail>
+    requires stack { ⟦<UnderWarn<S> as Subscriber>⟧.usable stack }
+    requires filter { F.usable other }
+{
+    let under_other = Recorder::new(alloc).with_filter(other);
+    let mut dispatch = used(alloc, put(stack, under_other)?, keeps);
+    let (asked, before, counts) = expected;
+    raised_in_lists(rt, alloc, &mut dispatch, asked, before, counts)?;
     let stack = dispatch.stack();
     assert!(rt; stack.layer().inner().notices().is_empty());
-    assert_eq!(rt;
-        stack.inner().layer().inner().notices(),
-        [Notice::Event(LANE, 5)].as_slice()
-    );
+    told_once(rt, stack.inner().layer().inner());
     Ok(())
 }
 

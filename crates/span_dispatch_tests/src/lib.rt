@@ -12,6 +12,8 @@ mod level_set;
 #[cfg(test)]
 mod nested;
 #[cfg(test)]
+mod registered;
+#[cfg(test)]
 mod requests;
 #[cfg(test)]
 mod scale;

@@ -1,12 +1,13 @@
 //! Requests, and dispatchers of any stack that serve them.
 ghost use Rattle.span_dispatch.specs.Serve.{stack_of};
 
-use span_core::{Id, Kind, Level, TraceError};
-use span_dispatch::{Answer, Dispatch, Recorder, Request, Which, WhichParent};
+use span_core::{Id, Kind, Level, LevelFilter, TraceError};
+use span_dispatch::{Answer, Dispatch, Notice, Recorder, Request, Which, WhichParent};
 use span_layer_tests::fixture::{LANE, metadata_of, put};
-use span_layers::{Layer, Layered};
+use span_layers::{Filtered, Layer, LayerExt, Layered};
 use span_registry::{Registry, Subscriber};
 use std::alloc::Global;
+use std::process::Abort;
 use std::test::Fail;
 
 /// A span of a callsite with this number, without values.
@@ -37,11 +38,30 @@ pub(crate) fn made(answers: &[Answer], place: usize) -> Result<Id, Fail> {
     }
 }
 
+/// A recorder keeps these notices.
+pub(crate) fn keeps(rt: &impl Abort, recorder: &Recorder, notices: &[Notice]) {
+    assert_eq!(rt; recorder.notices(), notices);
+}
+
 /// A recorder on a registry.
 pub(crate) type Plain = Layered<Recorder, Registry>;
 
 pub(crate) fn plain(alloc: Global) -> Result<Plain, TraceError> {
     put(Registry::new(alloc), Recorder::new(alloc))
+}
+
+/// A recorder under a level.
+pub(crate) type UnderOne = Filtered<Recorder, LevelFilter>;
+
+/// A registry under one.
+pub(crate) type OneOn = Layered<UnderOne, Registry>;
+
+/// The level is this.
+pub(crate) fn one_on(alloc: Global, level: LevelFilter) -> Result<OneOn, TraceError> {
+    put(
+        Registry::new(alloc),
+        Recorder::new(alloc).with_filter(level),
+    )
 }
 
 /// Puts a stack in use.

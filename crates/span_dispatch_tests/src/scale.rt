@@ -56,15 +56,27 @@ fn is_told_alone(stack: &Layered<Closed, Plain>) -> bool {
     told && others.all(|layer| layer.inner().notices().is_empty())
 }
 
+/// The open recorder alone is told of an error event.
+fn tells_the_open_one(
+    rt: &impl Abort,
+    alloc: Global,
+    dispatch: &mut Dispatch<Layered<Closed, Plain>>,
+) -> Result<(), Fail> {
+    serve_error(rt, alloc, dispatch)?;
+    assert!(rt; is_told_alone(dispatch.stack()));
+    Ok(())
+}
+
 #[test]
 fn of_129_recorders_the_open_one_is_told(rt: HostRuntime) -> Result<(), Fail> {
     let mut keeps = in_use(rt.alloc(), open_below_closed(rt.alloc())?);
-    serve_error(&rt, rt.alloc(), &mut keeps)?;
-    assert!(rt; is_told_alone(keeps.stack()));
+    tells_the_open_one(&rt, rt.alloc(), &mut keeps)
+}
+
+#[test]
+fn of_129_recorders_it_is_told_where_nothing_is_kept(rt: HostRuntime) -> Result<(), Fail> {
     let mut asks = fresh(rt.alloc(), open_below_closed(rt.alloc())?);
-    serve_error(&rt, rt.alloc(), &mut asks)?;
-    assert!(rt; is_told_alone(asks.stack()));
-    Ok(())
+    tells_the_open_one(&rt, rt.alloc(), &mut asks)
 }
 
 /// Opens a span in a parent, or a root. Fails where a layer vetoes.
@@ -129,10 +141,13 @@ fn told_of(alloc: Global, chain: &[Id]) -> Result<Vec<Notice>, AllocError> {
 }
 
 /// A chain closes with its leaf, leaf first and root last.
-fn closes_a_chain(rt: &impl Abort, alloc: Global, dispatch: Dispatch<Plain>) -> Result<(), Fail> {
-    let mut dispatch = dispatch;
-    let chain = open_chain(alloc, &mut dispatch)?;
-    drop_chain(rt, &mut dispatch, &chain)?;
+fn closes_a_chain(
+    rt: &impl Abort,
+    alloc: Global,
+    dispatch: &mut Dispatch<Plain>,
+) -> Result<(), Fail> {
+    let chain = open_chain(alloc, dispatch)?;
+    drop_chain(rt, dispatch, &chain)?;
     let told = told_of(alloc, &chain)?;
     let stack = dispatch.stack();
     assert!(rt; stack.layer().notices() == told.as_slice());
@@ -143,10 +158,10 @@ fn closes_a_chain(rt: &impl Abort, alloc: Global, dispatch: Dispatch<Plain>) -> 
 
 #[test]
 fn a_chain_of_10000_spans_closes_with_its_leaf(rt: HostRuntime) -> Result<(), Fail> {
-    let keeps = in_use(rt.alloc(), plain(rt.alloc())?);
-    closes_a_chain(&rt, rt.alloc(), keeps)?;
-    let asks = fresh(rt.alloc(), plain(rt.alloc())?);
-    closes_a_chain(&rt, rt.alloc(), asks)
+    let mut keeps = in_use(rt.alloc(), plain(rt.alloc())?);
+    closes_a_chain(&rt, rt.alloc(), &mut keeps)?;
+    let mut asks = fresh(rt.alloc(), plain(rt.alloc())?);
+    closes_a_chain(&rt, rt.alloc(), &mut asks)
 }
 
 /// Enters a span so many times.

@@ -4,10 +4,10 @@ ghost use Rattle.std.specs.Prelude.{⊤};
 use crate::requests::{Plain, event, made, new_event, new_span, serve_by_layers, within};
 use span_core::{Id, Level, LevelFilter, Metadata};
 use span_dispatch::{Answer, Notice, Recorder, Request, Which, WhichParent};
-use span_filters::dynamic_filter_fn;
+use span_filters::{Filter, dynamic_filter_fn};
 use span_layer_tests::fixture::LANE;
 use span_layer_tests::watcher::{Seen, Watcher, new_watcher};
-use span_layers::{LayerExt, Observe, Observed, Observer};
+use span_layers::{LayerExt, Layered, Observe, Observed, Observer};
 use span_registry::{Context, ContextMut, Registry, Scope, SpanRef, Subscriber};
 use std::alloc::Global;
 use std::process::Abort;
@@ -30,19 +30,32 @@ fn a_filter_may_ask_for_the_current_span(rt: HostRuntime) -> Result<(), Fail> {
     let outside = dynamic_filter_fn(|_meta: &Metadata, cx: &Context<'_, Plain>| {
         cx.lookup_current().is_none()
     });
-    let under_outside = Recorder::new(rt.alloc()).with_filter(outside);
-    let base = Recorder::new(rt.alloc());
     let registry = Registry::new(rt.alloc());
+    keep_one_in_another(&rt, rt.alloc(), registry, outside)
+}
+
+/// Of two recorders, the outer one under a filter, the inner one keeps all of the two spans, and the other those outside all spans.
+fn keep_one_in_another<S: Subscriber + Drop, F: Filter<Layered<Recorder, S>> + Drop>(
+    rt: &impl Abort,
+    alloc: Global,
+    stack: S,
+    outside: F,
+) -> Result<(), Fail>
+    requires stack { S.usable stack }
+    requires filter { F.usable outside }
+{
+    let base = Recorder::new(alloc);
+    let under_outside = Recorder::new(alloc).with_filter(outside);
     let (dispatch, answers) = serve_by_layers(
-        rt.alloc(),
-        registry,
+        alloc,
+        stack,
         base,
         under_outside,
         &one_in_another(),
     )?;
     let stack = dispatch.stack();
-    the_outer_span_alone(&rt, stack.layer().inner(), &answers)?;
-    both_spans(&rt, stack.inner().layer(), &answers)
+    the_outer_span_alone(rt, stack.layer().inner(), &answers)?;
+    both_spans(rt, stack.inner().layer(), &answers)
 }
 
 fn the_outer_span_alone(

@@ -1,13 +1,10 @@
-use Rattle.std.proofs.Common.{◌≡◌, ℕ, Some, if◌then◌else◌, refl, sym, ap, subst, ◌∙◌}
-use Rattle.std.specs.BTreeMap as tree
-use Rattle.std.specs.BTreeMap.{is_at}
-use Rattle.std.specs.Map.{lookup}
+use Rattle.std.proofs.Common.{refl, subst, sym, ap, ◌∙◌}
+use Rattle.std.specs.Prelude.{IfSome}
 use Rattle.std.specs.Option.{option_copied}
-use Rattle.std.specs.Ordering.{is_eq, nat_cmp}
-use Rattle.span_dispatch.specs.declared.cache.Callsite.{Callsite}
-use Rattle.span_dispatch.specs.declared.cache.Known.{Known}
 use Rattle.span_core.specs.Level.{is_above}
-use Rattle.span_dispatch.proofs.Admits.{fails_above, gives_above, gives_asked, gives_kept, gives_no_memory, passes_below}
+use Rattle.span_dispatch.specs.Cache.{KnowsInterest, known_of}
+use Rattle.span_dispatch.specs.declared.cache.Cache.TheVariants.{Filled}
+use Rattle.span_dispatch.proofs.Admits.{fails_above, gives_above, gives_kept, gives_mismatch, passes_below}
 use Rattle.span_dispatch.proofs.cache.Known.interest.Goals as goal
 
 pub returns-then-not-passes : goal.returns-then-not-passes
@@ -16,32 +13,30 @@ returns-then-not-passes g c =
     gives_above g.S.LookupSpan.registry g.S.Subscriber.has_form c.args.stack.now c.args.meta.now k
     (ap (λ l. is_above l k.hint) (sym c.level.ensures) ∙ fails_above _ _ c.passes.ensures c.if-not-passes.true)
 
+pub returns-in-Some : goal.returns-in-Some
+returns-in-Some g c =
+    let k = c.args.self.now in
+    let m = c.args.meta.now in
+    let h = subst (λ o. IfSome o (KnowsInterest (Filled k) m)) c.in-Some.is c.requires.kept in
+    gives_kept g.S.LookupSpan.registry g.S.Subscriber.has_form c.args.stack.now m k (record { metadata = h.metadata; interest = c.in-Some.interest })
+    (ap (λ l. is_above l k.hint) (sym c.level.ensures) ∙ passes_below _ _ c.passes.ensures c.if-not-passes.false)
+    h.there h.same
+
 pub returns-then-shows_same : goal.returns-then-shows_same
 returns-then-shows_same g c =
     let k = c.args.self.now in
     let m = c.args.meta.now in
-    gives_kept g.S.LookupSpan.registry g.S.Subscriber.has_form c.args.stack.now m k c.in-Some.callsite.now
+    gives_kept g.S.LookupSpan.registry g.S.Subscriber.has_form c.args.stack.now m k c.in-Some-get.callsite.now
     (ap (λ l. is_above l k.hint) (sym c.level.ensures) ∙ passes_below _ _ c.passes.ensures c.if-not-passes.false)
-    (ap (λ n. tree.get nat_cmp k.callsites n) (sym c.callsite.ensures) ∙ sym c.get.ensures.value ∙ ap option_copied c.in-Some.is)
+    (ap (known_of k) (sym c.callsite.ensures) ∙ sym c.get.ensures.value ∙ ap option_copied c.in-Some-get.is)
     (c.shows_same.ensures.0 c.if-shows_same.true)
 
-pub returns-in-Ok : goal.returns-in-Ok
-returns-in-Ok g c =
+pub learn-requires-clause-below : goal.learn-requires-clause-below
+learn-requires-clause-below g c =
     let k = c.args.self.now in
-    let m = c.args.meta.now in
-    let l : Known = record k { callsites = c.insert.new.self } in
-    let one : Callsite = record { metadata = m; interest = c.register_callsite-interest.result } in
-    gives_asked g.S.LookupSpan.registry g.S.Subscriber.has_form c.args.stack.now m k l c.register_callsite-interest.result c.new.result c.register_callsite-interest.new.pass
-    (ap (λ l. is_above l k.hint) (sym c.level.ensures) ∙ passes_below _ _ c.passes.ensures c.if-not-passes.false)
-    (ap (λ n. tree.get nat_cmp k.callsites n) (sym c.callsite.ensures) ∙ sym c.get.ensures.value ∙ ap option_copied c.in_default.is) refl c.new.ensures.interest c.register_callsite-interest.ensures
-    (subst (λ key. (n : ℕ) → tree.get nat_cmp l.callsites n ≡ if is_eq (nat_cmp key n) then Some one else tree.get nat_cmp k.callsites n) c.callsite-2.ensures c.in-Ok.ensures.updates.0)
+    ap (λ l. is_above l k.hint) (sym c.level.ensures) ∙ passes_below _ _ c.passes.ensures c.if-not-passes.false
 
-pub returns-in-Err : goal.returns-in-Err
-returns-in-Err g c =
+pub learn-requires-clause-unknown : goal.learn-requires-clause-unknown
+learn-requires-clause-unknown g c =
     let k = c.args.self.now in
-    let m = c.args.meta.now in
-    let l : Known = record k { callsites = c.insert.new.self } in
-    gives_no_memory g.S.LookupSpan.registry g.S.Subscriber.has_form c.args.stack.now m k l
-    (ap (λ l. is_above l k.hint) (sym c.level.ensures) ∙ passes_below _ _ c.passes.ensures c.if-not-passes.false)
-    (ap (λ n. tree.get nat_cmp k.callsites n) (sym c.callsite.ensures) ∙ sym c.get.ensures.value ∙ ap option_copied c.in_default.is) refl
-    (λ n. ap (λ es. lookup (is_at (nat_cmp n)) es) c.in-Err.ensures.err)
+    ap (known_of k) (sym c.callsite.ensures) ∙ sym c.get.ensures.value ∙ ap option_copied c.in_default-get.is

@@ -2,6 +2,7 @@ use Rattle.span_layers.proofs.Built.{rules_of}
 use Rattle.span_dispatch.specs.Admission.{Promises}
 use Rattle.std.proofs.Common.{Ok, refl, subst}
 use Rattle.span_dispatch.proofs.Admits.{admits_always, admits_asked, admits_never, decides_always, decides_asked}
+use Rattle.span_dispatch.proofs.Registered.{registered_still}
 use Rattle.span_dispatch.specs.Cache.{kept_in}
 use Rattle.span_dispatch.specs.Serve.{kept_by, stack_of}
 use Rattle.span_dispatch.proofs.dispatch.Dispatch.admits.Goals as goal
@@ -47,3 +48,15 @@ pub returns-in-Err-clause-admitted : goal.returns-in-Err-clause-admitted
 returns-in-Err-clause-admitted g c = λ f h u.
     let k = c.in-Err.ensures.by_form f h.has (rules_of f _ h.rules).answers u in
     (record { hint = k.0; refused = c.in-Err.ensures.refused.1 }, k.1)
+
+pub returns-in-Err-clause-registered : goal.returns-in-Err-clause-registered
+returns-in-Err-clause-registered g c = registered_still c.args.self.now (record c.args.self.now { cache = c.interest.new.self }) refl c.in-Err.ensures.lasts
+
+pub returns-in-Ok-Never-clause-registered : goal.returns-in-Ok-Never-clause-registered
+returns-in-Ok-Never-clause-registered g c = registered_still c.args.self.now (record c.args.self.now { cache = c.interest.new.self }) refl c.in-Ok-Never.ensures.lasts
+
+pub returns-in-Ok-Sometimes-clause-registered : goal.returns-in-Ok-Sometimes-clause-registered
+returns-in-Ok-Sometimes-clause-registered g c = registered_still c.args.self.now (record c.args.self.now { cache = c.interest.new.self }) refl c.in-Ok-Sometimes.ensures.lasts
+
+pub returns-in-Ok-Always-clause-registered : goal.returns-in-Ok-Always-clause-registered
+returns-in-Ok-Always-clause-registered g c = registered_still c.args.self.now (record c.args.self.now { cache = c.interest.new.self }) refl c.in-Ok-Always.ensures.lasts

@@ -5,7 +5,7 @@ use Rattle.span_dispatch.proofs.dispatch.Dispatch.current_span.Goals as goal
 
 pub returns-clause-served : goal.returns-clause-served
 returns-clause-served g c = record {
-  told = λ f h u. (current_so g.met.S.Subscriber.laws g.met.S.LookupSpan.with_own g.S.Subscriber.levelled c.args.lane c.current_span.result f c.args.self.now.stack h).0;
+  told = λ f h u. (current_so g.met.S.Subscriber.laws g.met.S.LookupSpan.with_own g.S.Subscriber.levelled c.args.lane c.current_span.result f c.args.self.now.stack c.current_span.ensures h).0;
   exact = λ f h u. current_exact g.met.S.Subscriber.laws g.met.S.LookupSpan.with_own g.S.Subscriber.levelled c.args.lane c.current_span.result f (kept_by c.args.self.now) (g.S.LookupSpan.registry c.args.self.now.stack) c.current_span.ensures;
 }
 

@@ -3,13 +3,13 @@ use Rattle.span_dispatch.proofs.Alone.{sees_what_is_made}
 use Rattle.span_dispatch.specs.Serve.{with_stack}
 use Rattle.span_dispatch.proofs.Stores.{closed_taken, still_open_taken}
 use Rattle.span_dispatch.proofs.Stores.{closed_store, still_open_store}
-use Rattle.std.proofs.Common.{ap, refl, subst, sym, ◌∙◌}
+use Rattle.std.proofs.Common.{[], ap, refl, subst, sym, ◌∙◌}
 use Rattle.span_core.specs.Span.{number_of}
 use Rattle.span_registry.specs.Closes.{HasNoClosing}
-use Rattle.span_registry.specs.Step.{Releases}
+use Rattle.span_registry.specs.Step.{RefusesRelease, Releases}
 use Rattle.span_registry.specs.Store.{IsClosing, IsForest, RegistryState}
 use Rattle.span_registry.proofs.CallerLemmas.{closing_now}
-use Rattle.span_dispatch.proofs.Calls.{closed_so, still_open_so}
+use Rattle.span_dispatch.proofs.Calls.{closed_so, not_held, still_open_so}
 use Rattle.span_dispatch.proofs.dispatch.Dispatch.drop_span.Goals as goal
 
 pub close_all-requires-clause-closing : goal.close_all-requires-clause-closing
@@ -60,3 +60,12 @@ returns-in-Ok-StillOpen-clause-seen g c = sees_what_is_made g.S.LookupSpan.regis
 
 pub returns-in-Ok-Closing-clause-seen : goal.returns-in-Ok-Closing-clause-seen
 returns-in-Ok-Closing-clause-seen g c = sees_what_is_made g.S.LookupSpan.registry g.met.S.Subscriber.laws g.met.S.Subscriber.paths g.met.S.Subscriber.levels
+
+pub returns-in-Err-clause-served : goal.returns-in-Err-clause-served
+returns-in-Err-clause-served g c = λ settled.
+    let refused = subst (λ (s : RegistryState). RefusesRelease s c.args.id c.in-Err.error) c.root_mut.ensures.value c.in-Err.ensures.refused in
+    let same = ap (λ w. g.S.LookupSpan.with_registry c.args.self.now.stack w) (c.in-Err.ensures.unchanged ∙ c.root_mut.ensures.value) ∙ g.met.S.LookupSpan.with_own c.args.self.now.stack in
+    record {
+      told = λ f h u. ([], record { says = refl; goes = sym same; reason = not_held (g.S.LookupSpan.registry c.args.self.now.stack) c.args.id c.in-Err.error refused });
+      exact = λ f h u. record { answers = refused; keeps = refl };
+    }

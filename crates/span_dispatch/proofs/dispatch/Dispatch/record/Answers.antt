@@ -15,7 +15,7 @@ returns-then-not-is_open-clause-refused g c = (refl, (λ o. true≢false (sym (c
 
 pub returns-then-not-is_open-clause-served : goal.returns-then-not-is_open-clause-served
 returns-then-not-is_open-clause-served g c = record {
-  told = λ f h u. ([], record { says = refl; goes = refl; loses = tt });
+  told = λ f h u. ([], record { says = refl; goes = refl; reason = (λ o. true≢false (sym (c.is_open.ensures.1 (subst (λ (s : RegistryState). IsOpen s.store.spans (number_of c.args.id)) (sym c.root.ensures) o)) ∙ c.if-not-is_open.true)) });
   exact = λ f h u. record { answers = (refl, (λ o. true≢false (sym (c.is_open.ensures.1 (subst (λ (s : RegistryState). IsOpen s.store.spans (number_of c.args.id)) (sym c.root.ensures) o)) ∙ c.if-not-is_open.true))); keeps = refl };
 }
 

@@ -2,6 +2,7 @@ use Rattle.span_dispatch.proofs.Ready.{unset_ready}
 use Rattle.span_dispatch.specs.Admission.{KeepsSafely}
 use Rattle.span_dispatch.proofs.Alone.{sees_what_is_made}
 use Rattle.span_dispatch.proofs.Goes.{forgotten_current, forgotten_kept, forgotten_safe, level_refused, level_told, ready_levelled}
+use Rattle.span_dispatch.proofs.Registered.{registered_before}
 use Rattle.span_dispatch.specs.Cache.{IsUpToDate, kept_in}
 use Rattle.span_dispatch.specs.Serve.{with_stack}
 use Rattle.span_dispatch.specs.declared.cache.Cache.{Cache}
@@ -17,7 +18,7 @@ returns-then-not-set_level-clause-ready g c = unset_ready c.args.number c.args.s
 
 pub returns-then-not-set_level-clause-served : goal.returns-then-not-set_level-clause-served
 returns-then-not-set_level-clause-served g c = record {
-  told = λ f h u. level_refused g.S.LookupSpan.registry g.S.LookupSpan.with_registry g.S.Subscriber.stepped g.met.S.Subscriber.levels f c.args.number c.args.level c.args.self.now.stack c.set_level.new.self (c.set_level.ensures.unchanged c.if-not-set_level.true);
+  told = λ f h u. level_refused g.S.LookupSpan.registry g.S.LookupSpan.with_registry g.S.Subscriber.stepped g.met.S.Subscriber.levels f c.args.number c.args.level c.args.self.now.stack c.set_level.new.self (sym (c.set_level.ensures.taken f h.has) ∙ c.if-not-set_level.true) (c.set_level.ensures.unchanged c.if-not-set_level.true);
   exact = λ f h u. record { answers = (refl, sym (c.set_level.ensures.taken f h.has) ∙ c.if-not-set_level.true); keeps = refl };
 }
 
@@ -26,8 +27,8 @@ returns-then-not-set_level-clause-seen g c = sees_what_is_made g.S.LookupSpan.re
 
 pub returns-clause-ready : goal.returns-clause-ready
 returns-clause-ready g c = record {
-  safe = λ f k. ready_levelled g.S.LookupSpan.registry g.S.LookupSpan.with_registry g.S.Subscriber.stepped g.met.S.Subscriber.levels KeepsSafely f c.args.number c.args.level c.args.self.now (record c.args.self.now { stack = c.set_level.new.self; cache = c.forget.new.self }) k c.set_level.ensures.level c.set_level.ensures.registry (λ h m. subst (λ (k : Cache). KeepsSafely h m k) (sym c.forget.ensures) (forgotten_safe h m c.args.self.now.cache));
-  current = λ f k. ready_levelled g.S.LookupSpan.registry g.S.LookupSpan.with_registry g.S.Subscriber.stepped g.met.S.Subscriber.levels IsUpToDate f c.args.number c.args.level c.args.self.now (record c.args.self.now { stack = c.set_level.new.self; cache = c.forget.new.self }) k c.set_level.ensures.level c.set_level.ensures.registry (λ h m. subst (λ (k : Cache). IsUpToDate h m k) (sym c.forget.ensures) (forgotten_current h m c.args.self.now.cache));
+  safe = λ f k. ready_levelled g.S.LookupSpan.registry g.S.LookupSpan.with_registry g.S.Subscriber.stepped g.met.S.Subscriber.levels KeepsSafely f c.args.number c.args.level c.args.self.now (record c.args.self.now { stack = c.set_level.new.self; cache = c.forget.new.self; epoch = c.next-self.result }) k c.set_level.ensures.level c.set_level.ensures.registry (λ h m. subst (λ (k : Cache). KeepsSafely h m k) (sym c.forget.ensures) (forgotten_safe h m c.args.self.now.cache));
+  current = λ f k. ready_levelled g.S.LookupSpan.registry g.S.LookupSpan.with_registry g.S.Subscriber.stepped g.met.S.Subscriber.levels IsUpToDate f c.args.number c.args.level c.args.self.now (record c.args.self.now { stack = c.set_level.new.self; cache = c.forget.new.self; epoch = c.next-self.result }) k c.set_level.ensures.level c.set_level.ensures.registry (λ h m. subst (λ (k : Cache). IsUpToDate h m k) (sym c.forget.ensures) (forgotten_current h m c.args.self.now.cache));
 }
 
 pub returns-clause-served : goal.returns-clause-served
@@ -40,7 +41,7 @@ pub returns-clause-seen : goal.returns-clause-seen
 returns-clause-seen g c = sees_what_is_made g.S.LookupSpan.registry g.met.S.Subscriber.laws g.met.S.Subscriber.paths g.met.S.Subscriber.levels
 
 pub returns-clause-forgets : goal.returns-clause-forgets
-returns-clause-forgets g c = ap (λ (k : Cache). record c.args.self.now { stack = c.set_level.new.self; cache = k }) c.forget.ensures
+returns-clause-forgets g c = λ i. record c.args.self.now { stack = c.set_level.new.self; cache = c.forget.ensures i; epoch = c.next-self.ensures i }
 
 pub returns-then-not-set_level-clause-none : goal.returns-then-not-set_level-clause-none
 returns-then-not-set_level-clause-none g c = λ f h. sym c.if-not-set_level.true ∙ c.set_level.ensures.taken f h
@@ -54,3 +55,6 @@ returns-then-not-set_level-clause-rest g c = λ f h.
 
 pub returns-clause-rest : goal.returns-clause-rest
 returns-clause-rest g c = λ f h. g.met.S.Subscriber.levels.keeps c.args.self.now.stack c.args.number c.args.level c.set_level.new.self f c.set_level.ensures.level h
+
+pub returns-clause-registered : goal.returns-clause-registered
+returns-clause-registered g c = registered_before c.args.self.now (record c.args.self.now { stack = c.set_level.new.self; cache = c.forget.new.self; epoch = c.next-self.result }) c.next-self.ensures

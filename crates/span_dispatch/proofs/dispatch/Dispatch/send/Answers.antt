@@ -13,7 +13,7 @@ use Rattle.span_registry.specs.Behaviour.{OnEvent}
 use Rattle.span_registry.specs.Hooks.{AnswersEnabled, AnswersEvent, Notifies, Stays}
 use Rattle.span_registry.specs.Question.{refusals}
 use Rattle.span_registry.specs.Subscriber.{AndHooks}
-use Rattle.span_dispatch.proofs.dispatch.Dispatch.event.Goals as goal
+use Rattle.span_dispatch.proofs.dispatch.Dispatch.send.Goals as goal
 
 pub returns-in-Err-clause-ready : goal.returns-in-Err-clause-ready
 returns-in-Err-clause-ready g c = same_ready c.args.self.now c.admits.new.self c.admits.ensures.stack c.admits.ensures.safe c.admits.ensures.kept

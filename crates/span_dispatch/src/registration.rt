@@ -1,0 +1,71 @@
+//! Callsites that a dispatcher knows.
+ghost use Rattle.std.specs.Prelude.{◌≡◌, IfSome};
+ghost use Rattle.span_dispatch.specs.Registration.{IsKeptIn, interest_in, next_epoch, registered_metadata};
+
+use span_core::{Interest, Metadata};
+
+/// How often a dispatcher forgot what it kept. The last epoch never ends.
+#[derive(Clone, Copy, Debug, PartialEq, Eq)]
+pub(crate) struct Epoch(u64);
+
+impl Epoch {
+    /// Nothing was forgotten yet.
+    pub(crate) fn first() -> Epoch {
+        Epoch(0)
+    }
+
+    /// The epoch after this one.
+    pub(crate) fn next(self) -> Epoch
+        ensures { result ≡ next_epoch self }
+    {
+        Epoch(self.0.saturating_add(1))
+    }
+}
+
+/// A callsite that a dispatcher was asked of: by it the dispatcher finds the interest that it keeps with no search.
+///
+/// Stands for `tracing_core::callsite::Registration`. It is one dispatcher's own, and a value that is copied.
+#[derive(Clone, Copy, Debug)]
+pub struct Registration {
+    metadata: Metadata,
+    kept: Option<Kept>,
+}
+
+/// An interest, and the epoch in which it is kept.
+#[derive(Clone, Copy, Debug)]
+struct Kept {
+    interest: Interest,
+    epoch: Epoch,
+}
+
+impl Registration {
+    /// A callsite with these metadata, of which this interest is kept in this epoch.
+    pub(crate) fn new(metadata: Metadata, interest: Option<Interest>, epoch: Epoch) -> Registration
+        ensures metadata { registered_metadata result ≡ metadata }
+        ensures kept { IfSome result.kept (IsKeptIn epoch interest) }
+    {
+        let kept = match interest {
+            Some(interest) if epoch.0 < u64::MAX => Some(Kept { interest, epoch }),
+            _ => None,
+        };
+        Registration { metadata, kept }
+    }
+
+    /// What its spans or events say of themselves.
+    pub fn metadata(&self) -> Metadata
+        ensures { result ≡ registered_metadata self.now }
+    {
+        self.metadata
+    }
+
+    /// The interest that is kept of it in this epoch, if any is.
+    #[inline(always)]
+    pub(crate) fn interest_in(&self, epoch: Epoch) -> Option<Interest>
+        ensures { result ≡ interest_in epoch self.now }
+    {
+        match self.kept {
+            Some(kept) if kept.epoch.0 == epoch.0 => Some(kept.interest),
+            _ => None,
+        }
+    }
+}

@@ -1,0 +1,91 @@
+//! Tests of registered callsites: what is asked by one is answered as it is without, also once a level was set.
+ghost use Rattle.std.specs.Prelude.{◌≡◌};
+ghost use Rattle.span_core.specs.Metadata.{kind_of};
+ghost use Rattle.span_dispatch.specs.Registration.{IsRegistered, KeepsRegistered};
+ghost use Rattle.span_dispatch.specs.Serve.{stack_of};
+
+use crate::requests::{fresh, in_use, one_on};
+use span_core::{Attributes, Event, FieldSet, Kind, Level, LevelFilter, Metadata, TraceError};
+use span_dispatch::{Dispatch, Notice, Recorder, Registration};
+use span_layer_tests::fixture::LANE;
+use span_registry::Subscriber;
+use std::process::Abort;
+use std::test::Fail;
+
+/// A callsite of level info.
+fn callsite(number: u64, kind: Kind) -> Metadata {
+    Metadata::new(number, "read", "app", Level::INFO, kind, FieldSet::new(&[]))
+}
+
+/// Sends an event by a registered callsite.
+fn sent_by<S: Subscriber>(
+    dispatch: &mut Dispatch<S>,
+    callsite: &Registration,
+) -> Result<bool, TraceError>
+    requires usable { S.usable (stack_of dispatch.old) }
+    requires registered { IsRegistered dispatch.old callsite.now }
+    ensures usable { S.usable (stack_of dispatch.new) }
+    ensures registered { KeepsRegistered dispatch.old dispatch.new }
+{
+    dispatch.event_by(LANE, callsite, &Event::new(callsite.metadata(), &[]))
+}
+
+/// Opens a span by a registered callsite, and says whether it was made.
+fn opened_by<S: Subscriber>(
+    dispatch: &mut Dispatch<S>,
+    callsite: &Registration,
+) -> Result<bool, TraceError>
+    requires usable { S.usable (stack_of dispatch.old) }
+    requires registered { IsRegistered dispatch.old callsite.now }
+    ensures usable { S.usable (stack_of dispatch.new) }
+    ensures registered { KeepsRegistered dispatch.old dispatch.new }
+{
+    let attrs = Attributes::new_root(callsite.metadata(), &[]);
+    Ok(dispatch.new_span_by(LANE, callsite, &attrs)?.is_some())
+}
+
+/// Of a stack whose one filter is the level INFO: a span and two events by their callsites, and one more of each while the level is
+/// WARN, which are answered so.
+fn sent_under_levels<S: Subscriber>(
+    rt: &impl Abort,
+    dispatch: &mut Dispatch<S>,
+    under_warn: bool,
+) -> Result<(), Fail>
+    requires { S.usable (stack_of dispatch.old) }
+    ensures { S.usable (stack_of dispatch.new) }
+{
+    let event = dispatch.register_callsite(&callsite(5, Kind::EVENT))?;
+    let span = dispatch.register_callsite(&callsite(6, Kind::SPAN))?;
+    assert_eq!(rt; sent_by(dispatch, &event), Ok(true));
+    assert_eq!(rt; opened_by(dispatch, &span), Ok(true));
+    dispatch.set_level(0, LevelFilter::WARN)?;
+    assert_eq!(rt; sent_by(dispatch, &event), Ok(under_warn));
+    assert_eq!(rt; opened_by(dispatch, &span), Ok(under_warn));
+    dispatch.set_level(0, LevelFilter::INFO)?;
+    assert_eq!(rt; sent_by(dispatch, &event), Ok(true));
+    Ok(())
+}
+
+#[test]
+fn a_registered_callsite_goes_by_the_level_that_is_set(rt: HostRuntime) -> Result<(), Fail> {
+    let mut dispatch = in_use(rt.alloc(), one_on(rt.alloc(), LevelFilter::INFO)?);
+    sent_under_levels(&rt, &mut dispatch, false)?;
+    told_around_a_span(&rt, dispatch.stack().layer().inner());
+    Ok(())
+}
+
+/// A recorder was told of three things, of which the first and the last are events.
+fn told_around_a_span(rt: &impl Abort, recorder: &Recorder) {
+    let notices = recorder.notices();
+    assert_eq!(rt; notices.len(), 3);
+    assert_eq!(rt; notices.first(), Some(&Notice::Event(LANE, 5)));
+    assert_eq!(rt; notices.last(), Some(&Notice::Event(LANE, 5)));
+}
+
+#[test]
+fn it_does_where_nothing_is_kept(rt: HostRuntime) -> Result<(), Fail> {
+    let mut dispatch = fresh(rt.alloc(), one_on(rt.alloc(), LevelFilter::INFO)?);
+    sent_under_levels(&rt, &mut dispatch, true)?;
+    told_around_a_span(&rt, dispatch.stack().layer().inner());
+    Ok(())
+}
