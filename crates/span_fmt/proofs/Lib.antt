@@ -1,4 +1,9 @@
-mod Lines
+mod Around
+mod Bare
+mod Filled
+mod Given
+mod Noticed
+mod Outermost
 mod OneLine
 mod Scopes
 mod Plain

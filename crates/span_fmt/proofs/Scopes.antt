@@ -39,7 +39,7 @@ looked {S} registry look s which (Some f) e h =
     given ∙ ap (λ (st : Store). map (reference_to registry s (filters_in look)) (scope (seen_spans st (filters_in look)) o)) (sym (store_looked_at registry look.subscriber s e))
 
 -- the same of a look at what a hook is lent
-lent : {S : Type 0} (registry : S → RegistryState) (c : ContextMut S) (look : Context S) (which : View → Option ℕ) (found : Option (Scope S)) → LooksAtLent c look → GivesScope registry look which found
+pub lent : {S : Type 0} (registry : S → RegistryState) (c : ContextMut S) (look : Context S) (which : View → Option ℕ) (found : Option (Scope S)) → LooksAtLent c look → GivesScope registry look which found
     → given registry found ≡ map (reference_to registry (subscriber_lent c) (filters_in look)) (scope (view_lent registry c).spans (which (view_lent registry c)))
 lent registry c look which found l h =
     subst (λ (v : View). given registry found ≡ map (reference_to registry (subscriber_lent c) (filters_in look)) (scope v.spans (which v))) (view_lent_on registry c look l) (looked registry look (subscriber_lent c) which found l.subscriber h)

@@ -1,3 +1,5 @@
+pub mod Known
+pub mod Lines
 pub mod Page
 pub mod Serve
 pub mod Text

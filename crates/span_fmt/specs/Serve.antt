@@ -1,10 +1,12 @@
--- A list of requests that is served with a tree outermost, under a level.
-use Rattle.std.specs.Prelude.{List}
+-- A list of requests that is served with a layer that writes outermost, under a level.
+use Rattle.std.specs.Prelude.{◌≡◌, List, Result, IfErr, IfOk, OnErr, length}
 use Rattle.std.specs.declared.alloc.Global.{Global}
 use Rattle.std.specs.declared.vec.Vec.{Vec}
+use Rattle.span_core.specs.declared.error.TraceError.TheVariants.{OutOfMemory}
+use Rattle.span_core.specs.declared.error.TraceError.{TraceError}
 use Rattle.span_core.specs.declared.level.LevelFilter.{LevelFilter}
 use Rattle.span_dispatch.specs.Alone.{passed_at}
-use Rattle.span_dispatch.specs.Contract.{SubscriberOf}
+use Rattle.span_dispatch.specs.Contract.{ServesListExactly, StaysReadyByRules, SubscriberOf}
 use Rattle.span_dispatch.specs.Serve.{IsReadySomehow, Served, flat, stack_of}
 use Rattle.span_dispatch.specs.declared.dispatch.Dispatch.{Dispatch}
 use Rattle.span_dispatch.specs.declared.request.Answer.{Answer}
@@ -15,35 +17,44 @@ use Rattle.span_layers.specs.Observe.{observer_of}
 use Rattle.span_layers.specs.declared.filtered.Filtered.{Filtered}
 use Rattle.span_layers.specs.declared.layered.Layered.{Layered}
 use Rattle.span_layers.specs.declared.observe.Observer.{Observer}
-use Rattle.span_registry.specs.Position.{Here, Outer, Position, Under}
-use Rattle.span_fmt.specs.Told.{WritesAll}
-use Rattle.span_fmt.specs.declared.tree.Tree.{Tree}
+use Rattle.span_registry.specs.Position.{Heard, Here, Outer, Position, Under}
 
--- a stack, and outside it a tree under a level
-abbrev pub WithTree : Type 0 → Type 0
-WithTree S = Layered (Filtered (Observer Tree) LevelFilter) S
+-- a stack, and outside it such an observer under a level
+abbrev pub WithObserver : Type 0 → Type 0 → Type 0
+WithObserver T S = Layered (Filtered (Observer T) LevelFilter) S
 
--- where the tree stands
-abbrev pub tree_position : Position
-tree_position = Outer (Under Here)
+-- where the observer stands
+abbrev pub observer_position : Position
+observer_position = Outer (Under Here)
 
-module _ {S : Type 0} where
-  -- the tree in such a stack
-  abbrev pub tree_in : WithTree S → Tree
-  tree_in x = observer_of (layer_of (outer_of x))
+module _ {T S : Type 0} where
+  -- the observer in such a stack
+  abbrev pub observer_in : WithObserver T S → T
+  observer_in x = observer_of (layer_of (outer_of x))
 
-module _ {S : Type 0} (s : SubscriberOf (WithTree S)) where
-  -- these requests were served with these answers, and the tree wrote the lines of what its position was told, in order, unless it failed
+module _ {T S : Type 0} (writes : Heard → T → T → Type 0)
+    (s : SubscriberOf (WithObserver T S)) where
+  -- these requests were served with these answers, and the observer wrote so of what its position was told
   pub record WritesServed (requests : List Request) (answers : List Answer)
-      (old new : WithTree S) : Type 0 where
+      (old new : WithObserver T S) : Type 0 where
     pub served : Served s.registry s.with_registry s.has_form s.stepped s.levelled s.hears
         s.acts_at requests answers old new
-    pub written : WritesAll (passed_at tree_position (flat served.made)) (tree_in old)
-        (tree_in new)
+    pub written : writes (passed_at observer_position (flat served.made)) (observer_in old)
+        (observer_in new)
 
   -- so it is where the dispatcher was ready
-  abbrev pub ServesTree : List Request → Dispatch (WithTree S) → Dispatch (WithTree S)
-      → Vec Answer Global → Type 0
-  ServesTree requests old new answers =
+  abbrev pub ServesWritten : List Request → Dispatch (WithObserver T S)
+      → Dispatch (WithObserver T S) → Vec Answer Global → Type 0
+  ServesWritten requests old new answers =
       IsReadySomehow s.registry s.with_registry s.has_form s.stepped s.levelled old
       → WritesServed requests answers.items (stack_of old) (stack_of new)
+
+  -- what serving such a list promises, served or refused, beside that the stack may be called again
+  pub record ServesOutermost (requests : List Request) (given : Result (Vec Answer Global) TraceError)
+      (old new : Dispatch (WithObserver T S)) : Type 0 where
+    pub ready : StaysReadyByRules s old new
+    pub written : IfOk given (ServesWritten requests old new)
+    pub exact : IfOk given (ServesListExactly s requests old new)
+    pub length : IfOk given (λ answers. length answers.items ≡ length requests)
+    pub memory : IfErr given (λ e. e ≡ OutOfMemory)
+    pub unchanged : OnErr given (new ≡ old)

@@ -41,8 +41,12 @@ indent xs = flat_map (λ x. codes "  ") xs
 abbrev pub head_text : {A : Type 0} → ℕ → List A → List ℕ
 head_text lane spans = decimal lane ++ codes " " ++ indent spans
 
--- how it goes on: with a mark, the level, the target and the name, and these values
+-- how it ends: with the target and the name, and these values
+abbrev pub rest_text : Metadata → List (Bor (List ℕ) × FieldValue) → List ℕ
+rest_text m values =
+    one_line (target_of m) ++ codes ": " ++ one_line (name_of m) ++ fields_text values ++ codes "\n"
+
+-- how it goes on: with a mark, the level, and the rest
 abbrev pub tail_text : List ℕ → Metadata → List (Bor (List ℕ) × FieldValue) → List ℕ
 tail_text mark m values =
-    mark ++ codes " " ++ level_text (level_of m) ++ codes " " ++ one_line (target_of m)
-    ++ codes ": " ++ one_line (name_of m) ++ fields_text values ++ codes "\n"
+    mark ++ codes " " ++ level_text (level_of m) ++ codes " " ++ rest_text m values

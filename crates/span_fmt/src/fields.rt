@@ -1,8 +1,8 @@
 //! Names and values of fields as text, in one line.
 ghost use Rattle.std.specs.Prelude.{◌≡◌, OnOk};
-ghost use Rattle.span_fmt.specs.Text.{IsContinued, field_text, fields_text, one_line, shown_text};
+ghost use Rattle.span_fmt.specs.Text.{IsContinued, field_text, fields_text, one_line, rest_text, shown_text};
 
-use span_core::FieldValue;
+use span_core::{FieldValue, Metadata};
 use std::alloc::AllocError;
 
 /// Writes each field behind a space, as `name=value`. A line feed in a text is written as `\n`.
@@ -28,6 +28,21 @@ fn write_field(text: &mut String, name: &str, value: FieldValue<'_>) -> Result<(
     write_in_one_line(text, name)?;
     text.push_str("=")?;
     write_value(text, value)
+}
+
+/// Writes how a line ends: with the target and the name, and these values.
+pub(crate) fn write_rest(
+    text: &mut String,
+    metadata: Metadata,
+    values: &[(&'static str, FieldValue<'_>)],
+) -> Result<(), AllocError>
+    ensures { OnOk result (IsContinued text.old text.new (rest_text metadata values.now)) }
+{
+    write_in_one_line(text, metadata.target())?;
+    text.push_str(": ")?;
+    write_in_one_line(text, metadata.name())?;
+    write_fields(text, values)?;
+    text.push_str("\n")
 }
 
 /// Writes a value.

@@ -2,13 +2,14 @@
 #![tactic(auto)]
 
 mod fields;
+mod known;
 pub mod laws;
+mod lines;
 mod page;
 mod serve;
-#[cfg(test)]
-mod tests;
 mod tree;
 
 pub use fields::write_fields;
-pub use serve::{WithTree, serve_tree};
+pub use lines::Lines;
+pub use serve::{WithLines, WithTree, serve_lines, serve_tree};
 pub use tree::Tree;

@@ -1,5 +1,5 @@
 //! A text that grows by whole pieces, up to the first that finds no memory.
-ghost use Rattle.std.specs.Prelude.{◌≡◌, ◌≢◌, ℕ, List, [], false, IfErr, IfOk, string_bytes};
+ghost use Rattle.std.specs.Prelude.{◌≡◌, ◌≢◌, ℕ, List, [], false, true, IfErr, IfOk, string_bytes};
 ghost use Rattle.span_fmt.specs.Page.{Writes, is_cut, written};
 
 use std::alloc::{AllocError, Global};
@@ -50,6 +50,14 @@ impl Page {
             Ok(piece) => self.cut = self.text.push_str(piece.as_str()).is_err(),
             Err(_) => self.cut = true,
         }
+    }
+
+    /// There was no memory for what should be written of later.
+    pub(crate) fn cut(&mut self)
+        ensures text { written self.new ≡ written self.old }
+        ensures cut { is_cut self.new ≡ true }
+    {
+        self.cut = true;
     }
 
     /// Takes out what is written, and leaves an empty page.

@@ -7,10 +7,10 @@ ghost use Rattle.span_registry.specs.Context.{view_lent};
 ghost use Rattle.span_fmt.specs.Text.{IsContinued, head_text, tail_text};
 ghost use Rattle.span_fmt.specs.Tree.{event_text, given, has_failed, notice_text, span_text, text_of, tree_steps};
 
-use crate::fields::{write_fields, write_in_one_line};
+use crate::fields::write_rest;
 use crate::page::Page;
 use span_core::{Event, FieldValue, Id, Lane, Metadata};
-use span_layers::{Observe, Observed};
+use span_layers::{AlwaysUsableObserver, Observe, Observed};
 use span_registry::{ContextMut, LookupSpan, Scope, Subscriber, laws};
 use std::alloc::{AllocError, Global};
 use std::io::{self, Write};
@@ -50,7 +50,7 @@ impl Tree {
         self.page.is_cut()
     }
 
-    /// Writes the text to a writer. Where that fails, a beginning of it may be there.
+    /// Writes the text to a writer. Where that fails, no clause says what is there.
     pub fn write_to<W: Write>(&self, writer: &mut W) -> io::Result<()>
         ensures { OnOk result
             (Appends (W.contents writer.old) (W.contents writer.new) (text_of self.now)) }
@@ -165,7 +165,7 @@ fn head<S: LookupSpan>(
     Ok(line)
 }
 
-/// How it goes on: with a mark, the level, the target and the name, and these values.
+/// How it goes on: with a mark, the level, and the rest.
 fn write_tail(
     line: &mut String,
     mark: &str,
@@ -177,9 +177,9 @@ fn write_tail(
 {
     let level = metadata.level();
     write!(line, "{mark} {level} ")?;
-    write_in_one_line(line, metadata.target())?;
-    line.push_str(": ")?;
-    write_in_one_line(line, metadata.name())?;
-    write_fields(line, values)?;
-    line.push_str("\n")
+    write_rest(line, metadata, values)
+}
+
+impl<S: Subscriber> AlwaysUsableObserver<S> for Tree {
+    ghost always = { λ x. tt };
 }

@@ -5,6 +5,7 @@ use Rattle.std.proofs.lemmas.List.{append-nil, map-append}
 use Rattle.span_layers.specs.Observe.{observer_of}
 use Rattle.span_layers.specs.declared.observe.Observer.{Observer}
 use Rattle.span_registry.specs.Position.{Heard, Told}
+use Rattle.span_registry.specs.View.{View}
 use Rattle.span_times.specs.Clock.{NeverGoBack}
 use Rattle.span_times.specs.Serving.{KeepsAll, TimelinesKeepAll, points_at}
 use Rattle.span_times.specs.Timeline.{IsInOrder, Traces, clock_of, has_failed, point_of, points_of}
@@ -23,7 +24,7 @@ module _ {C : Type 0} (latest : C → ℕ) (gives : C → ℕ → C → Type 0) 
   twice from (x ∷ ts) t h = (h.0, twice x ts t h.1)
 
   -- points in order stay so where one is kept, or none
-  stays_in_order : (told : Told) (x y : Timeline C) → Traces latest gives x told.notice told.lane y → IsInOrder latest x → (b : Bool) → has_failed y ≡ b → IsInOrder latest y
+  stays_in_order : (told : Told) (x y : Timeline C) → Traces latest gives x told.notice told.lane told.view y → IsInOrder latest x → (b : Bool) → has_failed y ≡ b → IsInOrder latest y
   stays_in_order told x y one order true e =
       let times = map (λ (p : Point). p.time) (points_of x) in
       let next = later 0 times (latest (clock_of x)) one.time order one.read.forward in
@@ -31,24 +32,24 @@ module _ {C : Type 0} (latest : C → ℕ) (gives : C → ℕ → C → Type 0) 
   stays_in_order told x y one order false e =
       let times = map (λ (p : Point). p.time) (points_of x) in
       let next = twice 0 times one.time (later 0 times (latest (clock_of x)) one.time order one.read.forward) in
-      let point = point_of one.time told.lane told.notice in
+      let point = point_of one.time told.lane told.notice told.view in
       subst (λ (ps : List Point). NeverGoBack 0 (map (λ p. p.time) ps ++ latest (clock_of y) ∷ [])) (sym (one.kept e).1)
       (subst (λ (ts : List ℕ). NeverGoBack 0 (ts ++ latest (clock_of y) ∷ [])) (sym (map-append (λ (p : Point). p.time) (points_of x) (point ∷ [])))
       (subst (λ (n : ℕ). NeverGoBack 0 ((times ++ one.time ∷ []) ++ n ∷ [])) (sym one.read.kept) next))
 
   -- memory that was refused stays so
-  stays_failed : (told : Told) (x y : Timeline C) → Traces latest gives x told.notice told.lane y → has_failed x ≡ true → (b : Bool) → has_failed y ≡ b → (has_failed y ≡ true) × (points_of y ≡ points_of x)
+  stays_failed : (told : Told) (x y : Timeline C) → Traces latest gives x told.notice told.lane told.view y → has_failed x ≡ true → (b : Bool) → has_failed y ≡ b → (has_failed y ≡ true) × (points_of y ≡ points_of x)
   stays_failed told x y one failed true e = (e, one.lost e)
   stays_failed told x y one failed false e = absurd (true≢false (sym failed ∙ (one.kept e).0))
 
   -- one point, and a beginning of those after it, or none
-  begun : (told : Told) (h : Heard) (x z y : Timeline C) (one : Traces latest gives x told.notice told.lane z) (rest : KeepsAll latest gives z h y) (b : Bool) → has_failed z ≡ b
+  begun : (told : Told) (h : Heard) (x z y : Timeline C) (one : Traces latest gives x told.notice told.lane told.view z) (rest : KeepsAll latest gives z h y) (b : Bool) → has_failed z ≡ b
       → (n : ℕ) × (points_of y ≡ points_of x ++ take n (points_at (one.time ∷ rest.times) (told ∷ h)))
   begun told h x z y one rest true e = (0, (rest.stays e).1 ∙ one.lost e ∙ sym (append-nil (points_of x)))
   begun told h x z y one rest false e =
       let some = rest.beginning in
       let more = take some.0 (points_at rest.times h) in
-      (suc some.0, some.1 ∙ ap (λ ps. ps ++ more) (one.kept e).1 ∙ append_assoc (points_of x) (point_of one.time told.lane told.notice ∷ []) more)
+      (suc some.0, some.1 ∙ ap (λ ps. ps ++ more) (one.kept e).1 ∙ append_assoc (points_of x) (point_of one.time told.lane told.notice told.view ∷ []) more)
 
   -- what it was told it keeps
   pub keeps_told : TimelinesKeepAll latest gives
@@ -65,7 +66,7 @@ module _ {C : Type 0} (latest : C → ℕ) (gives : C → ℕ → C → Type 0) 
         stays = λ failed. (ap (λ (t : Timeline C). has_failed t) (sym here) ∙ failed, ap (λ (t : Timeline C). points_of t) (sym here));
       }
   keeps_told x y (told ∷ h) a =
-      let one : Traces latest gives (observer_of x) told.notice told.lane (observer_of a.0) = a.1.step.1.0 in
+      let one = subst (λ (v : View). Traces latest gives (observer_of x) told.notice told.lane v (observer_of a.0)) (sym a.1.shown) a.1.step.1.0 in
       let rest = keeps_told a.0 y h a.2 in
       record {
         times = one.time ∷ rest.times;
@@ -75,7 +76,7 @@ module _ {C : Type 0} (latest : C → ℕ) (gives : C → ℕ → C → Type 0) 
         kept = λ whole.
             let later = rest.kept whole in
             let now = one.kept later.0 in
-            (now.0, later.1 ∙ ap (λ ps. ps ++ points_at rest.times h) now.1 ∙ append_assoc (points_of (observer_of x)) (point_of one.time told.lane told.notice ∷ []) (points_at rest.times h));
+            (now.0, later.1 ∙ ap (λ ps. ps ++ points_at rest.times h) now.1 ∙ append_assoc (points_of (observer_of x)) (point_of one.time told.lane told.notice told.view ∷ []) (points_at rest.times h));
         beginning = begun told h (observer_of x) (observer_of a.0) (observer_of y) one rest (has_failed (observer_of a.0)) refl;
         order = λ order. rest.order (stays_in_order told (observer_of x) (observer_of a.0) one order (has_failed (observer_of a.0)) refl);
         stays = λ failed.

@@ -1,3 +1,4 @@
 pub mod CallerLemmas
+mod Found
 mod Sums
 mod Turns

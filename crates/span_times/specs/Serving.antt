@@ -20,10 +20,10 @@ use Rattle.span_times.specs.Timeline.{IsInOrder, clock_of, has_failed, point_of,
 use Rattle.span_times.specs.declared.happening.Point.{Point}
 use Rattle.span_times.specs.declared.timeline.Timeline.{Timeline}
 
--- the points of what was told, each at its time
+-- the points of what was told, each at its time and in what was shown then
 abbrev pub points_at : List ℕ → Heard → List Point
 points_at (time ∷ times) (told ∷ heard) =
-    point_of time told.lane told.notice ∷ points_at times heard
+    point_of time told.lane told.notice told.view ∷ points_at times heard
 points_at times heard = []
 
 -- a timeline was told all this: it read its clock once for each, never going back, and has their points, in order, behind the others; where it failed, those of a beginning alone, and none where it had failed before; points that were in order stay so

@@ -1,32 +1,47 @@
 -- What a timeline keeps of what it is told.
-use Rattle.std.specs.Prelude.{◌≡◌, ℕ, Bool, true, false, List, [], ◌∷◌, ◌++◌, Vec, map}
+use Rattle.std.specs.Prelude.{◌≡◌, ◌≤◌, ℕ, Bool, true, false, List, [], ◌∷◌, ◌++◌, Option, Vec, map}
+use Rattle.std.specs.Option.{option_and_then, option_map}
+use Rattle.std.specs.Vec.{vec_capacity, vec_len}
 use Rattle.std.specs.declared.alloc.Global.{Global}
 use Rattle.span_core.specs.Event.{event_metadata, event_parent}
 use Rattle.span_core.specs.Metadata.{callsite_of}
-use Rattle.span_core.specs.Span.{asked_parent, metadata_of}
+use Rattle.span_core.specs.Span.{id_of, metadata_of, number_of}
+use Rattle.span_core.specs.declared.span.Id.{Id}
+use Rattle.span_core.specs.declared.span.Parent.{Parent}
 use Rattle.span_layers.specs.Observe.{ObserverSteps}
 use Rattle.span_registry.specs.Behaviour.{Notice, OnClose, OnEnter, OnEvent, OnExit, OnFollows, OnIdChange, OnNewSpan, OnRecord}
+use Rattle.span_registry.specs.View.{View, event_shown, parent_shown, plain_view, shown}
 use Rattle.span_times.specs.Clock.{NeverGoBack, Reads}
 use Rattle.span_times.specs.declared.happening.Happening.TheVariants.{Closed, Entered, Followed, Left, Opened, Recorded, Renamed, Sent}
 use Rattle.span_times.specs.declared.happening.Happening.{Happening}
 use Rattle.span_times.specs.declared.happening.Point.{Point}
 use Rattle.span_times.specs.declared.timeline.Timeline.{Timeline}
 
--- what a notice tells of
-abbrev pub happening_of : Notice → Happening
-happening_of (OnNewSpan attrs id) = Opened id (callsite_of (metadata_of attrs)) (asked_parent attrs)
-happening_of (OnRecord id values) = Recorded id
-happening_of (OnFollows id other) = Followed id other
-happening_of (OnEvent e) = Sent (callsite_of (event_metadata e)) (event_parent e)
-happening_of (OnEnter id) = Entered id
-happening_of (OnExit id) = Left id
-happening_of (OnIdChange id other) = Renamed id other
-happening_of (OnClose id) = Closed id
+-- the parent of a span that a view shows: the nearest span above it that isn't hidden
+abbrev pub parent_found : ℕ → View → Option Id
+parent_found x v = option_map id_of (option_and_then (parent_shown v.spans) (shown x v))
 
--- the point of a notice on a lane at a time
-abbrev pub point_of : ℕ → ℕ → Notice → Point
-point_of time lane e =
-    record { time = time; lane = record { 0 = lane }; what = happening_of e }
+-- the span of an event that asks for this one, as a view shows it
+abbrev pub span_found : Parent → View → Option Id
+span_found asked v = option_map id_of (event_shown asked v)
+
+-- what a notice tells of, in what a view shows
+abbrev pub happening_of : Notice → View → Happening
+happening_of (OnNewSpan attrs id) v =
+    Opened id (callsite_of (metadata_of attrs)) (parent_found (number_of id) v)
+happening_of (OnRecord id values) v = Recorded id
+happening_of (OnFollows id other) v = Followed id other
+happening_of (OnEvent e) v =
+    Sent (callsite_of (event_metadata e)) (span_found (event_parent e) v)
+happening_of (OnEnter id) v = Entered id
+happening_of (OnExit id) v = Left id
+happening_of (OnIdChange id other) v = Renamed id other
+happening_of (OnClose id) v = Closed id
+
+-- the point of a notice on a lane at a time, in what a view shows
+abbrev pub point_of : ℕ → ℕ → Notice → View → Point
+point_of time lane e v =
+    record { time = time; lane = record { 0 = lane }; what = happening_of e v }
 
 -- the points that it keeps
 abbrev pub points_of : {C : Type 0} → Timeline C → List Point
@@ -44,19 +59,25 @@ clock_of x = x.clock
 abbrev pub IsInOrder : {C : Type 0} → (C → ℕ) → Timeline C → Type 0
 IsInOrder latest x = NeverGoBack 0 (map (λ p. p.time) (points_of x) ++ latest (clock_of x) ∷ [])
 
--- a timeline is told of something: it reads its clock once, and keeps the point of that reading behind the others, unless memory is refused, or was
+-- its list has no room for a further point without more memory
+abbrev pub IsFull : {C : Type 0} → Timeline C → Type 0
+IsFull x = vec_capacity x.points ≤ vec_len x.points
+
+-- a timeline is told of something in a view: it reads its clock once, and keeps the point of that reading behind the others, unless memory is refused, which it asks for only where its list is full, or was
 pub record Traces {C : Type 0} (latest : C → ℕ) (gives : C → ℕ → C → Type 0) (x : Timeline C)
-    (e : Notice) (lane : ℕ) (y : Timeline C) : Type 0 where
+    (e : Notice) (lane : ℕ) (v : View) (y : Timeline C) : Type 0 where
   pub time : ℕ
   pub read : Reads latest gives (clock_of x) time (clock_of y)
   pub kept : has_failed y ≡ false
-      → (has_failed x ≡ false) × (points_of y ≡ points_of x ++ point_of time lane e ∷ [])
+      → (has_failed x ≡ false) × (points_of y ≡ points_of x ++ point_of time lane e v ∷ [])
   pub lost : has_failed y ≡ true → points_of y ≡ points_of x
+  pub full : has_failed x ≡ false → has_failed y ≡ true → IsFull x
 
--- it takes down what it is told of, and leaves the registry alone
+-- it takes down what it is told of in what its context shows, extensions aside, and leaves the registry alone
 abbrev pub timeline_steps : {C : Type 0} → (C → ℕ) → (C → ℕ → C → Type 0)
     → ObserverSteps (Timeline C)
-timeline_steps latest gives x e lane under v y w = Traces latest gives x e lane y × (w ≡ v)
+timeline_steps latest gives x e lane under v y w =
+    Traces latest gives x e lane (plain_view v.store lane under) y × (w ≡ v)
 
 -- the points are taken out, and it begins anew on its clock
 pub record TakesPoints {C : Type 0} (points : Vec Point Global) (x y : Timeline C) : Type 0 where

@@ -6,8 +6,6 @@ mod happening;
 pub mod laws;
 mod measure;
 mod serving;
-#[cfg(test)]
-mod tests;
 mod timeline;
 
 pub use clock::{Counted, Now, Wall};

@@ -4,8 +4,8 @@ ghost use Rattle.span_times.specs.Timeline.{IsInOrder, TakesPoints, clock_of, ha
 
 use crate::clock::Now;
 use crate::happening::{Point, happening_in};
-use span_layers::{Observe, Observed};
-use span_registry::{ContextMut, Subscriber};
+use span_layers::{AlwaysUsableObserver, Observe, Observed};
+use span_registry::{ContextMut, Subscriber, laws};
 use std::alloc::Global;
 use std::mem;
 
@@ -62,13 +62,18 @@ impl<S: Subscriber, C: Now> Observe<S> for Timeline<C> {
     ghost observed = { timeline_steps C.latest C.gives };
 
     fn observe(&mut self, notice: Observed<'_, '_>, ctx: &mut ContextMut<'_, S>) {
+        laws::extensions_change_no_look_up();
         let point = Point {
             time: self.clock.now(),
             lane: ctx.lane(),
-            what: happening_in(notice),
+            what: happening_in(notice, ctx),
         };
         if !self.failed {
             self.failed = self.points.push(point).is_err();
         }
     }
+}
+
+impl<S: Subscriber, C: Now> AlwaysUsableObserver<S> for Timeline<C> {
+    ghost always = { λ x. tt };
 }

@@ -7,7 +7,7 @@ use Rattle.span_core.specs.declared.metadata.Metadata.{Metadata}
 use Rattle.span_core.specs.declared.span.Lane.{Lane}
 use Rattle.span_registry.specs.Context.{view_lent}
 use Rattle.span_registry.specs.View.{event_shown}
-use Rattle.span_fmt.proofs.Lines.{at_an_error, event_line_filled}
+use Rattle.span_fmt.proofs.Filled.{at_an_error, event_line_filled}
 use Rattle.span_fmt.proofs.Scopes.{head_round}
 use Rattle.span_fmt.specs.Text.{head_text, tail_text}
 use Rattle.span_fmt.specs.Tree.{spans_round}
@@ -31,3 +31,7 @@ returns-clause-text g c =
 pub returns-in_err-write_tail-clause-refused : goal.returns-in_err-write_tail-clause-refused
 returns-in_err-write_tail-clause-refused g c =
     at_an_error c.from_residual-in_err-write_tail.result (event_line_filled c.args.event.now (view_lent g.S.LookupSpan.registry c.args.ctx.now))
+
+pub returns-in_err-line-clause-refused : goal.returns-in_err-line-clause-refused
+returns-in_err-line-clause-refused g c =
+    at_an_error c.from_residual.result (event_line_filled c.args.event.now (view_lent g.S.LookupSpan.registry c.args.ctx.now))

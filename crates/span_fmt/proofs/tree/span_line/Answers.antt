@@ -5,7 +5,7 @@ use Rattle.span_core.specs.declared.metadata.Metadata.{Metadata}
 use Rattle.span_core.specs.declared.span.Lane.{Lane}
 use Rattle.span_registry.specs.Context.{view_lent}
 use Rattle.span_registry.specs.View.{shown}
-use Rattle.span_fmt.proofs.Lines.{at_an_error, span_line_filled}
+use Rattle.span_fmt.proofs.Filled.{at_an_error, span_line_filled}
 use Rattle.span_fmt.proofs.Scopes.{head_above}
 use Rattle.span_fmt.specs.Text.{head_text, tail_text}
 use Rattle.span_fmt.specs.Tree.{spans_above}

@@ -1,14 +1,19 @@
 -- A line is never empty.
-use Rattle.std.proofs.Common.{◌≡◌, ◌≢◌, ℕ, List, [], ◌∷◌, ◌++◌, Option, Some, Result, Ok, Err, ap, refl, sym, ◌∙◌}
+use Rattle.std.proofs.Common.{false, length, ◌≡◌, ◌≢◌, ℕ, List, [], ◌∷◌, ◌++◌, Option, Some, Result, Ok, Err, ap, refl, sym, ◌∙◌}
 use Rattle.std.specs.Borrow.{Bor}
 use Rattle.std.specs.Option.{option_map_or}
-use Rattle.std.specs.Prelude.{IfErr, codes, decimal}
+use Rattle.std.specs.Prelude.{◌==◌, IfErr, OnErr, codes, decimal}
 use Rattle.span_core.specs.declared.event.Event.{Event}
 use Rattle.span_core.specs.Event.{event_metadata, event_values}
 use Rattle.span_core.specs.declared.field.FieldValue.{FieldValue}
 use Rattle.span_core.specs.declared.metadata.Metadata.{Metadata}
 use Rattle.span_registry.specs.View.{View, metadata_shown}
-use Rattle.span_fmt.specs.Text.{head_text, indent, tail_text}
+use Rattle.std.proofs.lemmas.Bool.{true≢false}
+use Rattle.span_core.specs.Level.{level_text}
+use Rattle.span_core.specs.Metadata.{level_of}
+use Rattle.span_fmt.specs.Known.{SpanTexts}
+use Rattle.span_fmt.specs.Lines.{around_text, begun_text, event_line, spaced}
+use Rattle.span_fmt.specs.Text.{field_text, fields_text, head_text, indent, one_line, rest_text, shown_text, tail_text}
 use Rattle.span_fmt.specs.Tree.{event_text, span_text, spans_above, spans_round}
 
 not_empty : (x : ℕ) (xs : List ℕ) → (x ∷ xs) ≢ []
@@ -31,6 +36,16 @@ pub at_an_error : {T E P : Type 0} (r : Result T E) → P → IfErr r (λ e. P)
 at_an_error (Ok v) p = tt
 at_an_error (Err e) p = p
 
+-- values are written as some text
+pub fields_filled : (values : List (Bor (List ℕ) × FieldValue)) → (length values == 0) ≡ false → fields_text values ≢ []
+fields_filled [] filled = absurd (true≢false filled)
+fields_filled (f ∷ fs) filled = longer (field_text f.0.now f.1) (fields_text fs) (not_empty 32 (one_line f.0.now ++ codes "=" ++ shown_text f.1))
+
+-- what holds anyway holds where memory is refused
+pub without_error : {T E P : Type 0} (r : Result T E) → P → OnErr r P
+without_error (Ok v) p = tt
+without_error (Err e) p = p
+
 -- the line of an event
 pub event_line_filled : (e : Event) (v : View) → event_text e v ≢ []
 event_line_filled e v = begun v.lane (spans_round e v) (tail_text (codes "-") (event_metadata e) (event_values e))
@@ -40,3 +55,11 @@ pub span_line_filled : (mark : List ℕ) (x : ℕ) (values : List (Bor (List ℕ
 span_line_filled mark x values v m e none =
     begun v.lane (spans_above x v) (tail_text mark m values)
     (sym (ap (λ (o : Option Metadata). option_map_or (λ m. head_text v.lane (spans_above x v) ++ tail_text mark m values) o []) e) ∙ none)
+
+-- the line of an event as `Lines` has it
+pub line_filled : (e : Event) (v : View) (known : SpanTexts) → event_line e v known ≢ []
+line_filled e v known =
+    let level = level_of (event_metadata e) in
+    let start = behind (decimal v.lane ++ codes " " ++ level_text level) (codes " ") (not_empty 32 []) in
+    let around = spaced (around_text e v known) in
+    longer (begun_text v.lane level ++ around) (rest_text (event_metadata e) (event_values e)) (longer (begun_text v.lane level) around start)
