@@ -1,0 +1,14 @@
+mod AllTime
+mod Depth
+mod Ended
+mod Joined
+mod Kept
+mod Names
+mod Openings
+mod Phases
+mod Replaced
+mod Requests
+mod Stacks
+mod Style
+mod Summing
+mod Sums

@@ -1,0 +1,89 @@
+-- Points as folded stacks, of which flame graphs are made.
+use Rattle.std.specs.Prelude.{◌≡◌, ◌<◌, ◌+◌, ◌-◌, ◌^◌, ◌==◌, ℕ, if◌then◌else◌, List, [], ◌∷◌, ◌++◌, codes, decimal, flat_map, fold, map, reverse, sum_by}
+use Rattle.std.specs.Cmp.Lexicographic.{slice_cmp}
+use Rattle.std.specs.Ordering.{match_ordering, nat_cmp}
+use Rattle.span_registry.specs.LaneStack.{without_duplicates}
+use Rattle.span_times.specs.Measure.{capped}
+use Rattle.span_times.specs.declared.happening.Point.{Point}
+use Rattle.span_export.specs.Escape.{replace}
+use Rattle.span_export.specs.Lanes.{stack_on}
+use Rattle.span_export.specs.Site.{name_in}
+use Rattle.span_export.specs.declared.site.Site.{Site}
+
+-- names with semicolons between
+abbrev pub frames_text : List (List ℕ) → List ℕ
+frames_text [] = []
+frames_text (name ∷ names) = name ++ flat_map (λ n. codes ";" ++ n) names
+
+-- a name as a frame: a semicolon in it is written as a colon, a space and a line feed as _
+abbrev pub frame : List ℕ → List ℕ
+frame name = replace 10 (codes "_") (replace 32 (codes "_") (replace 59 (codes ":") name))
+
+-- a stack as text: the names of its spans, outermost first, each span once
+abbrev pub stack_text : List Site → List Point → List ℕ → List ℕ
+stack_text sites ps stack =
+    frames_text (map (λ x. frame (name_in sites ps x)) (reverse (without_duplicates stack)))
+
+-- when the last point of a lane was
+abbrev pub last_time : ℕ → List Point → ℕ
+last_time lane ps = fold (λ time p. if p.lane.0 == lane then p.time else time) 0 ps
+
+-- how long a lane stood as it was, up to this point of it
+abbrev pub stood : List Point → Point → ℕ
+stood before p = p.time - last_time p.lane.0 before
+
+-- stacks as texts, in the order of these, and how long lanes stood so
+abbrev pub Sums : Type 0
+Sums = List (List ℕ × ℕ)
+
+-- so much more at this stack
+abbrev pub add : List ℕ → ℕ → Sums → Sums
+add stack time [] = (stack, capped time) ∷ []
+add stack time (s ∷ sums) =
+    match_ordering (slice_cmp nat_cmp stack s.0) ((stack, capped time) ∷ s ∷ sums)
+    ((s.0, capped (s.1 + time)) ∷ sums) (s ∷ add stack time sums)
+
+-- so much more at the stack of a lane, if it is in some span
+abbrev pub stood_in : List Site → List Point → List ℕ → ℕ → Sums → Sums
+stood_in sites ps [] time sums = sums
+stood_in sites ps (x ∷ stack) time sums = add (stack_text sites ps (x ∷ stack)) time sums
+
+-- each of these points adds how long its lane stood in its stack up to there; these stand before them
+abbrev pub sums_from : List Site → List Point → Sums → List Point → List Point → Sums
+sums_from sites ps sums before [] = sums
+sums_from sites ps sums before (p ∷ rest) =
+    sums_from sites ps (stood_in sites ps (stack_on p.lane.0 before) (stood before p) sums)
+    (before ++ p ∷ []) rest
+
+-- how long lanes stood in each stack
+abbrev pub sums_of : List Site → List Point → Sums
+sums_of sites ps = sums_from sites ps [] [] ps
+
+-- a stack, and behind a space how long
+abbrev pub line_text : List ℕ × ℕ → List ℕ
+line_text s = s.0 ++ codes " " ++ decimal s.1 ++ codes "\n"
+
+-- a line for each stack
+abbrev pub folded : List Site → List Point → List ℕ
+folded sites ps = flat_map line_text (sums_of sites ps)
+
+-- a time that counts where a lane is in some span
+abbrev pub in_spans : List ℕ → ℕ → ℕ
+in_spans [] time = 0
+in_spans (x ∷ stack) time = time
+
+-- how long lanes were in some span, whichever, up to each of these points from the one of its lane before; these stand before them
+abbrev pub time_from : List Point → List Point → ℕ
+time_from before [] = 0
+time_from before (p ∷ rest) =
+    in_spans (stack_on p.lane.0 before) (stood before p) + time_from (before ++ p ∷ []) rest
+
+-- how long lanes were in some span
+abbrev pub time_in_spans : List Point → ℕ
+time_in_spans ps = time_from [] ps
+
+-- all lines together have all the time that lanes were in spans, whatever these are called, if it fits
+abbrev pub LinesHaveAllTime : Type 0
+LinesHaveAllTime =
+    (sites : List Site) (ps : List Point) → time_in_spans ps < 2 ^ 64
+    → sum_by (λ s. s.1) (sums_of sites ps) ≡ time_in_spans ps

@@ -1,0 +1,31 @@
+-- JSON by its members.
+use Rattle.std.specs.Prelude.{◌≡◌, ℕ, List, [], ◌∷◌, Some, map}
+use Rattle.json.specs.Lex.{tokens}
+use Rattle.json.specs.Print.{print}
+use Rattle.serde_json.specs.Data.{Data, Members, no_members, number, object, put, unsigned}
+use Rattle.serde_json.specs.Read.{read}
+
+-- the members of an object
+abbrev pub members : List (List ℕ × Data) → Members
+members [] = no_members
+members (m ∷ ms) = put m.0 m.1 (members ms)
+
+-- an object with these members
+abbrev pub object_of : List (List ℕ × Data) → Data
+object_of ms = object (members ms)
+
+-- a whole number
+abbrev pub whole : ℕ → Data
+whole n = number (unsigned n)
+
+-- the text is JSON, and means this
+abbrev pub Means : List ℕ → Data → Type 0
+Means text value = read text ≡ Some value
+
+-- the tokens of a text, printed with nothing between them
+abbrev pub reprinted : List ℕ → List ℕ
+reprinted text = print (tokens text)
+
+-- there is nothing between the tokens of these texts: so each is one line
+abbrev pub AreCompact : List (List ℕ) → Type 0
+AreCompact texts = map reprinted texts ≡ texts

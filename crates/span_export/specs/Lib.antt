@@ -1,0 +1,11 @@
+pub mod Chrome
+pub mod Escape
+pub mod Folded
+pub mod Frame
+pub mod Json
+pub mod Lanes
+pub mod Otlp
+pub mod Picture
+pub mod Scale
+pub mod Site
+pub mod Sums

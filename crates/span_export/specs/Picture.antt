@@ -1,0 +1,132 @@
+-- Points as a picture: a box for each time that a lane is in a span.
+use Rattle.std.specs.Prelude.{◌≡◌, ◌≤◌, ◌+◌, ◌-◌, ◌*◌, ◌/◌, ◌&&◌, ◌==◌, ℕ, Bool, if◌then◌else◌, max, nat_le, List, [], ◌∷◌, ◌++◌, Option, None, Some, codes, decimal, flat_map, fold, is_none, length, unwrap_or}
+use Rattle.std.specs.BTreeMap.{BTreeMap, get}
+use Rattle.std.specs.List.{AllByRecursion, list_any}
+use Rattle.std.specs.Ordering.{nat_cmp}
+use Rattle.span_core.specs.Span.{number_of}
+use Rattle.span_times.specs.Measure.{capped}
+use Rattle.span_times.specs.declared.happening.Happening.TheVariants.{Closed, Entered, Left, Sent}
+use Rattle.span_times.specs.declared.happening.Happening.{Happening}
+use Rattle.span_times.specs.declared.happening.Point.{Point}
+use Rattle.span_export.specs.Escape.{escaped}
+use Rattle.span_export.specs.Frame.{frame_text}
+use Rattle.span_export.specs.Scale.{scale_of, x_at}
+use Rattle.span_export.specs.Site.{called, leveled, site_at}
+use Rattle.span_export.specs.declared.frame.Plan.{Plan}
+use Rattle.span_export.specs.declared.picture.Area.{Area}
+use Rattle.span_export.specs.declared.picture.Scale.{Scale}
+use Rattle.span_export.specs.declared.site.Site.{Site}
+use Rattle.span_export.specs.declared.stay.Stay.{Stay}
+
+-- a stay on this lane that isn't over
+abbrev pub lasts : ℕ → Stay → Bool
+lasts lane s = s.lane.0 == lane && is_none s.left
+
+-- a stay of this span there
+abbrev pub lasts_in : ℕ → ℕ → Stay → Bool
+lasts_in lane x s = lasts lane s && number_of s.span == x
+
+-- below the newest stay of a lane that isn't over
+abbrev pub depth_on : ℕ → List Stay → ℕ
+depth_on lane stays = fold (λ depth s. if lasts lane s then capped (s.depth + 1) else depth) 0 stays
+
+-- the newest stay of a span on a lane that isn't over ends
+abbrev pub ended : ℕ → ℕ → ℕ → List Stay → List Stay
+ended lane x time [] = []
+ended lane x time (s ∷ stays) =
+    if list_any (lasts_in lane x) stays then s ∷ ended lane x time stays
+    else if lasts_in lane x s then record s { left = Some time } ∷ stays else s ∷ stays
+
+-- what a point makes of the stays so far
+abbrev pub stays_after : List Stay → Point → Happening → List Stay
+stays_after stays p (Entered id) =
+    stays ++ record { lane = p.lane; depth = depth_on p.lane.0 stays; span = id; entered = p.time; left = None } ∷ []
+stays_after stays p (Left id) = ended p.lane.0 (number_of id) p.time stays
+stays_after stays p (Closed id) = ended p.lane.0 (number_of id) p.time stays
+stays_after stays p other = stays
+
+-- the stays of lanes in spans, in the order in which they began
+abbrev pub stays_of : List Point → List Stay
+stays_of ps = fold (λ stays p. stays_after stays p p.what) [] ps
+
+-- where a stay ends: where it is left, or else at the last point
+abbrev pub until : Scale → Stay → ℕ
+until scale s = x_at scale (unwrap_or s.left scale.finish)
+
+-- where the box of a stay is, on a lane with this top: at least 1 wide, and below the top by its depth
+abbrev pub area_of : Scale → ℕ → Stay → Area
+area_of scale top s =
+    record {
+      x = x_at scale s.entered;
+      y = capped (top + capped (capped (s.depth * 24) + 16));
+      width = max (until scale s - x_at scale s.entered) 1;
+    }
+
+-- there is room for a name: 7 for each byte, and 10 beside
+abbrev pub has_room : List ℕ → Area → Bool
+has_room name area = nat_le (length name) ((area.width - 10) / 7)
+
+-- a name in a box
+abbrev pub name_text : List ℕ → Area → List ℕ
+name_text name area =
+    codes "<text x=\"" ++ decimal (capped (area.x + 5)) ++ codes "\" y=\""
+    ++ decimal (capped (area.y + 14)) ++ codes "\">" ++ name ++ codes "</text>"
+
+-- a name in a box, if there is room for it
+abbrev pub label_text : List ℕ → Area → List ℕ
+label_text name area = if has_room name area then name_text name area else []
+
+-- a box with this title, at this level, here, with this label
+abbrev pub box_text : List ℕ → List ℕ → Area → List ℕ → List ℕ
+box_text name level area label =
+    codes "<g><title>" ++ name ++ codes "</title><rect class=\"" ++ level ++ codes "\" x=\""
+    ++ decimal area.x ++ codes "\" y=\"" ++ decimal area.y ++ codes "\" width=\""
+    ++ decimal area.width ++ codes "\" height=\"20\"/>" ++ label ++ codes "</g>\n"
+
+-- the box of a stay in a span with this site, on a lane with this top
+abbrev pub box_of : Scale → ℕ → Option Site → Stay → List ℕ
+box_of scale top site s =
+    let name = escaped (called site) in
+    let area = area_of scale top s in
+    box_text name (leveled site) area (label_text name area)
+
+-- the boxes of stays
+abbrev pub boxes_text : List Site → List Point → Scale → (ℕ → ℕ) → List Stay → List ℕ
+boxes_text sites ps scale top stays =
+    flat_map (λ s. box_of scale (top s.lane.0) (site_at sites ps (Entered s.span)) s) stays
+
+-- a circle with this title, at this level, here
+abbrev pub circle_text : List ℕ → List ℕ → ℕ → ℕ → List ℕ
+circle_text name level x y =
+    codes "<circle class=\"" ++ level ++ codes "\" cx=\"" ++ decimal x ++ codes "\" cy=\""
+    ++ decimal y ++ codes "\" r=\"4\"><title>" ++ name ++ codes "</title></circle>\n"
+
+-- the mark of a point on a lane with this top, if it is an event with this site
+abbrev pub mark_of : Scale → ℕ → Option Site → Point → Happening → List ℕ
+mark_of scale top site p (Sent callsite parent) =
+    circle_text (escaped (called site)) (leveled site) (x_at scale p.time) (capped (top + 8))
+mark_of scale top site p other = []
+
+-- the marks of points
+abbrev pub marks_text : List Site → List Point → Scale → (ℕ → ℕ) → List Point → List ℕ
+marks_text sites all scale top ps =
+    flat_map (λ p. mark_of scale (top p.lane.0) (site_at sites all p.what) p p.what) ps
+
+-- the tops that a map has
+abbrev pub top_in : BTreeMap ℕ ℕ → ℕ → ℕ
+top_in tops lane = unwrap_or (get nat_cmp tops lane) 0
+
+-- a box is within this width
+abbrev pub IsInside : ℕ → Area → Type 0
+IsInside width area = area.x + area.width ≤ width
+
+-- a text is a picture of points: in the frame of some plan the boxes of all stays, each within the width, and the marks of all events
+pub record IsPicture (text : List ℕ) (sites : List Site) (ps : List Point) (width : ℕ)
+    : Type 0 where
+  pub plan : Plan
+  pub shows : text
+      ≡ frame_text (scale_of ps width) plan
+      ++ boxes_text sites ps (scale_of ps width) (top_in plan.tops) (stays_of ps)
+      ++ marks_text sites ps (scale_of ps width) (top_in plan.tops) ps ++ codes "</svg>\n"
+  pub inside : AllByRecursion (λ s. IsInside (max width 320)
+      (area_of (scale_of ps width) (top_in plan.tops s.lane.0) s)) (stays_of ps)

@@ -1,0 +1,63 @@
+//! Texts in which characters are written in another way.
+ghost use Rattle.std.specs.Prelude.{◌≡◌, ◌<◌, ◌++◌, IfOk, OnOk, string_bytes};
+ghost use Rattle.span_export.specs.Escape.{escape, escaped, is_in_xml, replace};
+
+use std::alloc::{AllocError, Global};
+
+/// A text within XML: no character in it begins or ends a tag, or begins an entity, and XML has each of them.
+pub(crate) fn escaped(alloc: Global, text: &str) -> Result<String, AllocError>
+    ensures { IfOk result (λ new. string_bytes new ≡ escaped text.now) }
+{
+    let mut new = String::new(alloc);
+    for character in text.chars() {
+        write_escaped(&mut new, character)?;
+    }
+    Ok(new)
+}
+
+/// Writes a character as it stands within XML.
+fn write_escaped(text: &mut String, character: char) -> Result<(), AllocError>
+    ensures { OnOk result
+        (string_bytes text.new ≡ string_bytes text.old ++ escape character) }
+{
+    match character {
+        '&' => text.push_str("&amp;"),
+        '<' => text.push_str("&lt;"),
+        '>' => text.push_str("&gt;"),
+        _ if is_in_xml(character) => text.push(character),
+        _ => text.push('\u{FFFD}'),
+    }
+}
+
+/// XML has this character: it has no control characters but the tab, the line feed and the carriage return, nor the two that stand
+/// for none.
+fn is_in_xml(character: char) -> bool
+    ensures { result ≡ is_in_xml character }
+{
+    match character {
+        '\t' | '\n' | '\r' => true,
+        '\u{FFFE}' | '\u{FFFF}' => false,
+        _ => character >= ' ',
+    }
+}
+
+/// A text in which this character is written so.
+pub(crate) fn replaced(
+    alloc: Global,
+    text: &str,
+    character: char,
+    so: &str,
+) -> Result<String, AllocError>
+    requires { character < 128 }
+    ensures { IfOk result (λ new. string_bytes new ≡ replace character so.now text.now) }
+{
+    let mut new = String::new(alloc);
+    let mut rest = text;
+    while let Some((front, back)) = rest.split_once(character) {
+        new.push_str(front)?;
+        new.push_str(so)?;
+        rest = back;
+    }
+    new.push_str(rest)?;
+    Ok(new)
+}

@@ -1,0 +1,19 @@
+//! What happened, in the formats of other tools: functions of points and of what callsites are called.
+#![tactic(auto)]
+
+mod chrome;
+mod escape;
+mod folded;
+mod frame;
+mod lanes;
+pub mod laws;
+mod otlp;
+mod picture;
+mod site;
+mod stay;
+
+pub use chrome::chrome_text;
+pub use folded::folded_text;
+pub use otlp::{Trace, otlp_lines};
+pub use picture::timeline_svg;
+pub use site::Site;

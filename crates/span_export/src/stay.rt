@@ -1,0 +1,83 @@
+//! Stays of lanes in spans.
+ghost use Rattle.std.specs.Prelude.{◌≡◌, IfOk};
+ghost use Rattle.span_core.specs.Span.{number_of};
+ghost use Rattle.span_export.specs.Picture.{depth_on, ended, lasts, lasts_in, stays_of};
+
+use span_core::{Id, Lane};
+use span_times::{Happening, Point};
+use std::alloc::{AllocError, Global};
+
+/// A time for which a lane is in a span.
+#[derive(Clone, Copy)]
+pub(crate) struct Stay {
+    pub(crate) lane: Lane,
+    /// Above how many others it is shown: more than each that it began in.
+    pub(crate) depth: u64,
+    pub(crate) span: Id,
+    pub(crate) entered: u64,
+    pub(crate) left: Option<u64>,
+}
+
+impl Stay {
+    /// It is on this lane, and isn't over.
+    fn lasts(&self, lane: Lane) -> bool
+        ensures { result ≡ lasts lane.0 self.now }
+    {
+        self.lane == lane && self.left.is_none()
+    }
+
+    /// It is of this span, too.
+    fn lasts_in(&self, lane: Lane, span: Id) -> bool
+        ensures { result ≡ lasts_in lane.0 (number_of span) self.now }
+    {
+        self.lasts(lane) && self.span == span
+    }
+}
+
+/// The stays of lanes in spans, in the order in which they began. One ends where its span is left, or closes there.
+pub(crate) fn stays(alloc: Global, points: &[Point]) -> Result<Vec<Stay>, AllocError>
+    ensures { IfOk result (λ stays. stays.items ≡ stays_of points.now) }
+{
+    let mut stays = Vec::new(alloc);
+    for point in points {
+        match point.what {
+            Happening::Entered(span) => stays.push(Stay {
+                lane: point.lane,
+                depth: depth_on(&stays, point.lane),
+                span,
+                entered: point.time,
+                left: None,
+            })?,
+            Happening::Left(span) | Happening::Closed(span) => {
+                end(&mut stays, point.lane, span, point.time);
+            }
+            _ => {}
+        }
+    }
+    Ok(stays)
+}
+
+/// Below the newest stay of a lane that isn't over.
+fn depth_on(stays: &[Stay], lane: Lane) -> u64
+    ensures { result ≡ depth_on lane.0 stays.now }
+{
+    let mut depth = 0u64;
+    for stay in stays {
+        if stay.lasts(lane) {
+            depth = stay.depth.saturating_add(1);
+        }
+    }
+    depth
+}
+
+/// Ends the newest stay of a span on a lane that isn't over.
+fn end(stays: &mut [Stay], lane: Lane, span: Id, time: u64)
+    ensures { stays.new ≡ ended lane.0 (number_of span) time stays.old }
+{
+    for place in (0..stays.len()).rev() {
+        if stays[place].lasts_in(lane, span) {
+            stays[place].left = Some(time);
+            return;
+        }
+    }
+}
