@@ -1,0 +1,57 @@
+//! A layer that hands events to a logger.
+ghost use Rattle.std.specs.Prelude.{◌≡◌};
+ghost use Rattle.span_log.specs.Layer.{log_steps, logger_of};
+
+use crate::record::event_record;
+use log::Log;
+use span_layers::{AlwaysUsableObserver, Observe, Observed};
+use span_registry::{ContextMut, Subscriber};
+
+/// A layer that hands each event to a logger that is enabled for it.
+///
+/// Stands for what the feature `log` of `tracing` does with events.
+#[derive(Debug, Drop)]
+pub struct LogLayer<L> {
+    log: L,
+}
+
+impl<L: Log> LogLayer<L> {
+    /// Hands events to this logger.
+    pub fn new(log: L) -> LogLayer<L>
+        ensures { logger_of result ≡ log }
+    {
+        LogLayer { log }
+    }
+
+    /// The logger.
+    pub fn log(&self) -> &L
+        ensures { result.now ≡ logger_of self.now }
+    {
+        &self.log
+    }
+
+    /// The logger, taken out.
+    pub fn into_log(self) -> L
+        ensures { result ≡ logger_of self }
+    {
+        self.log
+    }
+}
+
+impl<S: Subscriber, L: Log> Observe<S> for LogLayer<L> {
+    ghost observed = { log_steps };
+
+    fn observe(&mut self, notice: Observed<'_, '_>, _ctx: &mut ContextMut<'_, S>) {
+        let Observed::Event(event) = notice else {
+            return;
+        };
+        let record = event_record(event);
+        if self.log.enabled(record.metadata()) {
+            self.log.log(&record);
+        }
+    }
+}
+
+impl<S: Subscriber, L: Log> AlwaysUsableObserver<S> for LogLayer<L> {
+    ghost always = { λ x. tt };
+}

@@ -1,0 +1,5 @@
+pub mod CallerLemmas
+mod Kept
+mod Opened
+mod Settled
+mod Steps

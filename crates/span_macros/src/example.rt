@@ -1,0 +1,81 @@
+//! Each macro in a function that says what it comes to, for callers to copy.
+ghost use Rattle.std.specs.Prelude.{[]};
+ghost use Rattle.span_dispatch.specs.Contract.{StaysReady};
+ghost use Rattle.span_dispatch.specs.Serve.{stack_of};
+ghost use Rattle.span_macros.specs.Asked.{Opens, RunsInSpan, Sends};
+ghost use Rattle.span_macros.specs.Example.{copied_site, copy_site, copy_values, done_site, done_values, idle_site, read_site};
+ghost use Rattle.span_macros.specs.Made.{IsEventAt, IsSpanAt, ShowsCallsite};
+
+use crate::{event, in_span, metadata, new_span};
+use span_core::{Id, Lane, Metadata, TraceError};
+use span_dispatch::Dispatch;
+use span_registry::Subscriber;
+
+/// The metadata of an event that tells of bytes.
+pub fn read_metadata() -> Metadata
+    ensures { ShowsCallsite read_site result }
+{
+    metadata!(EVENT, INFO, "read", bytes, ok)
+}
+
+/// Sends an event with a field of each kind.
+pub fn report<S: Subscriber>(
+    dispatch: &mut Dispatch<S>,
+    lane: Lane,
+    count: u8,
+    change: i32,
+    by: &str,
+) -> Result<bool, TraceError>
+    requires { S.usable (stack_of dispatch.old) }
+    ensures usable { S.usable (stack_of dispatch.new) }
+    ensures ready { StaysReady S.Subscriber dispatch.old dispatch.new }
+    ensures sent { Sends S.Subscriber (IsEventAt done_site (done_values count change by.entry))
+        lane result dispatch.old dispatch.new }
+{
+    event!(dispatch, lane; WARN, "done"; count = count, change = change, ok = true, by = by)
+}
+
+/// Opens a span without fields.
+pub fn rest<S: Subscriber>(dispatch: &mut Dispatch<S>, lane: Lane) -> Result<Option<Id>, TraceError>
+    requires { S.usable (stack_of dispatch.old) }
+    ensures usable { S.usable (stack_of dispatch.new) }
+    ensures ready { StaysReady S.Subscriber dispatch.old dispatch.new }
+    ensures opened { Opens S.Subscriber (IsSpanAt idle_site []) lane result dispatch.old
+        dispatch.new }
+{
+    new_span!(dispatch, lane; DEBUG, "idle")
+}
+
+/// Opens a span with two fields.
+pub fn open_copy<S: Subscriber>(
+    dispatch: &mut Dispatch<S>,
+    lane: Lane,
+    from: u64,
+    to: u64,
+) -> Result<Option<Id>, TraceError>
+    requires { S.usable (stack_of dispatch.old) }
+    ensures usable { S.usable (stack_of dispatch.new) }
+    ensures ready { StaysReady S.Subscriber dispatch.old dispatch.new }
+    ensures opened { Opens S.Subscriber (IsSpanAt copy_site (copy_values from to)) lane result
+        dispatch.old dispatch.new }
+{
+    new_span!(dispatch, lane; INFO, "copy"; from = from, to = to)
+}
+
+/// Sends an event in a span with two fields, and leaves it.
+pub fn copy<S: Subscriber>(
+    dispatch: &mut Dispatch<S>,
+    lane: Lane,
+    from: u64,
+    to: u64,
+) -> Result<bool, TraceError>
+    requires { S.usable (stack_of dispatch.old) }
+    ensures usable { S.usable (stack_of dispatch.new) }
+    ensures ready { StaysReady S.Subscriber dispatch.old dispatch.new }
+    ensures sent { RunsInSpan S.Subscriber (Sends S.Subscriber (IsEventAt copied_site []) lane)
+        (IsSpanAt copy_site (copy_values from to)) lane result dispatch.old dispatch.new }
+{
+    in_span!(dispatch, lane; INFO, "copy"; from = from, to = to => {
+        event!(dispatch, lane; TRACE, "copied")
+    })
+}
