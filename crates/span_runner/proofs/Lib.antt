@@ -1,6 +1,1 @@
-mod Begins
-mod Gives
-mod Honest
-mod Naming
-mod Steady
 mod Written

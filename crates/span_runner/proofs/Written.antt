@@ -1,9 +1,9 @@
 -- What was read, printed and written.
-use Rattle.std.proofs.Common.{◌≡◌, ◌∙◌, ◌⊎◌, ℕ, List, Option, Some, None, Result, Ok, Err, IfSome, IfErr, IsErrAnd, OnOk, ap, inr, subst}
+use Rattle.std.proofs.Common.{◌≡◌, ◌∙◌, ◌⊎◌, ℕ, List, Option, Some, None, Result, Ok, Err, IfSome, IfErr, IfOk, IsErrAnd, OnOk, ap, inr, subst}
 use Rattle.std.specs.Io.KnownBytes.{Appends}
 use Rattle.std.specs.Str.Lossy.{utf8_lossy}
-use Rattle.span_runner.specs.declared.fault.RunFault.{RunFault}
-use Rattle.span_runner.specs.declared.fault.RunFault.TheVariants.{Io}
+use Rattle.span_stacks.specs.declared.fault.RunFault.{RunFault}
+use Rattle.span_stacks.specs.declared.fault.RunFault.TheVariants.{Io}
 
 module _ (prints : List ℕ → List ℕ → Type 0) where
   -- what was read is the text, and what is printed for it was written
@@ -19,6 +19,11 @@ module _ (prints : List ℕ → List ℕ → Type 0) where
       → IfSome known (λ bytes. (out : List ℕ) × prints (utf8_lossy bytes) out)
   printable None items text output read is printed = tt
   printable (Some given) items text output read is printed = (output, subst (λ t. prints t output) (is ∙ ap (λ xs. utf8_lossy xs) read) printed)
+
+-- one fact of what came of a call
+pub one_ok : {X Y : Type 0} (r : Result X Y) (P Q : X → Type 0) → IfOk r P → ((x : X) → P x → Q x) → IfOk r Q
+one_ok (Ok x) P Q p f = f x p
+one_ok (Err e) P Q p f = tt
 
 -- where writing failed, the script was right
 pub refused : {A : Type 0} (P : Type 0) (Q : Type 0) (r : Result A RunFault) → IfErr r (λ fault. fault ≡ Io) → Q → IfErr r (λ fault. P ⊎ ((fault ≡ Io) × Q))

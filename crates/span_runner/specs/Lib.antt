@@ -1,3 +1,1 @@
-pub mod Mute
 pub mod Program
-pub mod Stacks

@@ -1,0 +1,4 @@
+mod Answered
+mod New
+mod Read
+mod Sites

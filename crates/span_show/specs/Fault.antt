@@ -1,0 +1,36 @@
+-- Why nothing is shown.
+use Rattle.std.specs.Prelude.{ℕ, ⊤, List, Option, IfSome}
+use Rattle.std.specs.Str.Lossy.{utf8_lossy}
+use Rattle.span_script.specs.Fault.{IsWrongLine}
+use Rattle.span_script.specs.declared.fault.ReadFault.TheVariants as read
+use Rattle.span_script.specs.declared.fault.ReadFault.{ReadFault}
+use Rattle.span_script.specs.declared.fault.ScriptFault.TheVariants as script
+use Rattle.span_script.specs.declared.fault.ScriptFault.{ScriptFault}
+use Rattle.span_show.specs.declared.fault.ShowFault.TheVariants.{Input, Memory, Output, Usage, Wrong}
+use Rattle.span_show.specs.declared.fault.ShowFault.{ShowFault}
+
+-- a wrong line ends with 2, all else with 1
+abbrev pub status_of : ShowFault → ℕ
+status_of (Wrong w) = 2
+status_of fault = 1
+
+-- the fault where a script can't be read
+abbrev pub read_fault : ReadFault → ShowFault
+read_fault read.Io = Input
+read_fault read.Memory = Memory
+
+-- the fault where it is wrong
+abbrev pub script_fault : ScriptFault → ShowFault
+script_fault (script.Wrong w) = Wrong w
+script_fault script.Memory = Memory
+
+-- why a text isn't shown: a line that is said to be wrong is the first that is, and wrong for that reason; else it couldn't be read, or memory was refused
+abbrev pub IsFault : List ℕ → ShowFault → Type 0
+IsFault text (Wrong w) = IsWrongLine text w
+IsFault text Usage = ⊥
+IsFault text Output = ⊥
+IsFault text fault = ⊤
+
+-- the same of the bytes that a reader gives, if they are known
+abbrev pub IsFaultOf : Option (List ℕ) → ShowFault → Type 0
+IsFaultOf given fault = IfSome given (λ bytes. IsFault (utf8_lossy bytes) fault)

@@ -1,0 +1,121 @@
+-- How requests are served on a new registry, with a tree, lines or a timeline outside it.
+use Rattle.std.specs.Prelude.{◌≡◌, ◌≤◌, ⊤, ℕ, List, [], Some}
+use Rattle.std.specs.List.{AllByRecursion}
+use Rattle.span_core.specs.declared.error.TraceError.TheVariants.{OutOfMemory}
+use Rattle.span_core.specs.declared.filter.TheConstants.FilterId.{LIMIT}
+use Rattle.span_core.specs.declared.level.TheConstants.LevelFilter.{TRACE}
+use Rattle.span_dispatch.specs.Alone.{passed_at}
+use Rattle.span_dispatch.specs.Cache.{no_callsite}
+use Rattle.span_dispatch.specs.Contract.{SubscriberOf}
+use Rattle.span_dispatch.specs.Serve.{IsReady, Served, ServedExactly, flat, kept_by, stack_of}
+use Rattle.span_dispatch.specs.declared.dispatch.Dispatch.{Dispatch}
+use Rattle.span_dispatch.specs.declared.request.Answer.TheVariants.{Refused}
+use Rattle.span_dispatch.specs.declared.request.Answer.{Answer}
+use Rattle.span_dispatch.specs.declared.request.Request.{Request}
+use Rattle.span_fmt.specs.Known.{nothing_known}
+use Rattle.span_fmt.specs.Lines as lines
+use Rattle.span_fmt.specs.Serve.{WithObserver, observer_in, observer_position}
+use Rattle.span_fmt.specs.Told.{heard_lines, heard_text}
+use Rattle.span_fmt.specs.Tree as tree
+use Rattle.span_fmt.specs.declared.lines.Lines.{Lines}
+use Rattle.span_fmt.specs.declared.tree.Tree.{Tree}
+use Rattle.span_layers.specs.Filtered.{filter_of}
+use Rattle.span_layers.specs.Honest.{IsHonestLayer}
+use Rattle.span_layers.specs.Layered.{inner_of, outer_of}
+use Rattle.span_layers.specs.Number.{filters_in}
+use Rattle.span_registry.specs.Form.{Form}
+use Rattle.span_registry.specs.Position.{Heard}
+use Rattle.span_registry.specs.Store.{RegistryState, empty_store}
+use Rattle.span_registry.specs.declared.limits.TheConstants.Limits.{MAX}
+use Rattle.span_times.specs.Clock.{counts_on, latest_counted}
+use Rattle.span_times.specs.Serving.{KeepsServed, WithTimeline, points_at, timeline_in, timeline_position}
+use Rattle.span_times.specs.Timeline.{clock_of, points_of}
+use Rattle.span_times.specs.declared.clock.Counted.{Counted}
+use Rattle.span_times.specs.declared.happening.Point.{Point}
+
+-- an honest layer, with no more filters than a registry has numbers for
+pub record HasRoomOnNew {L : Type 0} (has_form : L → Form → Type 0) (layer : L) : Type 0 where
+  pub form : Form
+  pub has : has_form layer form
+  pub honest : IsHonestLayer form
+  pub room : filters_in form ≤ LIMIT
+
+-- a stack is ready by some form
+abbrev pub IsReadyStack : {S : Type 0} → SubscriberOf S → S → Type 0
+IsReadyStack s x =
+    (f : Form) × IsReady s.registry s.with_registry s.has_form s.stepped s.levelled f x
+
+-- a registry without spans, with limits as high as they go
+pub record HasAllRoom (s : RegistryState) : Type 0 where
+  pub empty : s.store ≡ empty_store
+  pub limits : s.limits ≡ MAX
+
+-- such a registry, and outside it an observer that begins so, under the level that lets all by
+pub record IsNewUnder {T : Type 0} (Begins : T → Type 0) (x : WithObserver T RegistryState) : Type
+    0 where
+  pub registry : HasAllRoom (inner_of x)
+  pub level : filter_of (outer_of x) ≡ TRACE
+  pub observer : Begins (observer_in x)
+
+-- a tree wrote nothing yet
+abbrev pub IsNewTree : Tree → Type 0
+IsNewTree x = tree.text_of x ≡ []
+
+-- a `Lines` wrote nothing yet, and knows no span's values
+pub record AreNewLines (x : Lines) : Type 0 where
+  pub text : lines.text_of x ≡ []
+  pub known : lines.known_of x ≡ nothing_known
+
+-- such a registry, and outside it a timeline of nothing yet, whose clock counts from 0
+pub record IsNewTimeline (x : WithTimeline RegistryState Counted) : Type 0 where
+  pub registry : HasAllRoom (inner_of x)
+  pub points : points_of (timeline_in x) ≡ []
+  pub clock : latest_counted (clock_of (timeline_in x)) ≡ 0
+
+-- a request wasn't refused for want of memory
+abbrev pub FoundMemory : Answer → Type 0
+FoundMemory (Refused OutOfMemory) = ⊥
+FoundMemory a = ⊤
+
+-- a dispatcher that kept nothing yet answered each of these requests exactly as it should, and memory was refused to none
+pub record AnswersAll {S : Type 0} (s : SubscriberOf S) (requests : List Request)
+    (answers : List Answer) (old new : Dispatch S) : Type 0 where
+  pub unasked : kept_by old ≡ Some no_callsite
+  pub exact : ServedExactly s.registry s.with_registry s.has_form s.stepped s.levelled s.hears
+      s.acts_at requests answers old new
+  pub memory : AllByRecursion FoundMemory answers
+
+-- such an observer stood outermost while these requests were served, and the text is what is due of all that it was told
+pub record IsTextOf {T : Type 0} (Begins : T → Type 0) (due : Heard → List ℕ)
+    (s : SubscriberOf (WithObserver T RegistryState)) (requests : List Request)
+    (text : List ℕ) : Type 0 where
+  pub answers : List Answer
+  pub old : Dispatch (WithObserver T RegistryState)
+  pub new : Dispatch (WithObserver T RegistryState)
+  pub begun : IsNewUnder Begins (stack_of old)
+  pub answered : AnswersAll s requests answers old new
+  pub served : Served s.registry s.with_registry s.has_form s.stepped s.levelled s.hears s.acts_at
+      requests answers (stack_of old) (stack_of new)
+  pub written : text ≡ due (passed_at observer_position (flat served.made))
+
+-- of a tree the lines of all this, in order
+abbrev pub IsTreeOf : SubscriberOf (WithObserver Tree RegistryState) → List Request → List ℕ
+    → Type 0
+IsTreeOf s = IsTextOf IsNewTree heard_text s
+
+-- of `Lines` the lines of the events among this, in order
+abbrev pub AreLinesOf : SubscriberOf (WithObserver Lines RegistryState) → List Request → List ℕ
+    → Type 0
+AreLinesOf s = IsTextOf AreNewLines (heard_lines nothing_known) s
+
+-- such a timeline stood outermost while these requests were served, and there is a point for each thing that it was told, in order
+pub record ArePointsOf (s : SubscriberOf (WithTimeline RegistryState Counted))
+    (requests : List Request) (points : List Point) : Type 0 where
+  pub answers : List Answer
+  pub old : Dispatch (WithTimeline RegistryState Counted)
+  pub new : Dispatch (WithTimeline RegistryState Counted)
+  pub begun : IsNewTimeline (stack_of old)
+  pub answered : AnswersAll s requests answers old new
+  pub served : KeepsServed latest_counted counts_on s requests answers (stack_of old) (stack_of new)
+  pub each : points
+      ≡ points_at served.kept.times (passed_at timeline_position (flat served.served.made))

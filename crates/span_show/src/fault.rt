@@ -1,0 +1,78 @@
+//! Why nothing is shown.
+ghost use Rattle.std.specs.Prelude.{◌≡◌};
+ghost use Rattle.span_show.specs.Fault.{read_fault, script_fault, status_of};
+ghost use Rattle.span_show.specs.declared.fault.ShowFault.TheVariants.{Memory};
+
+use span_script::{ReadFault, ScriptFault, WrongLine};
+use std::alloc::{AllocError, AllocFailed};
+use thiserror::Error;
+
+/// Why nothing is shown.
+#[derive(Clone, Copy, Debug, PartialEq, Eq, Error)]
+pub enum ShowFault {
+    /// The arguments aren't a format and a script.
+    #[error("usage: span_show tree|lines|chrome|otlp|folded|svg SCRIPT")]
+    Usage,
+    /// This line of the script is the first that is wrong.
+    #[error("{0}")]
+    Wrong(WrongLine),
+    /// The script can't be read, or is too long.
+    #[error("input failed")]
+    Input,
+    /// What is shown can't be written.
+    #[error("output failed")]
+    Output,
+    /// Memory was refused.
+    #[error("out of memory")]
+    Memory,
+}
+
+impl ShowFault {
+    /// The status that the program ends with.
+    pub fn status(&self) -> u8
+        ensures { result ≡ status_of self.now }
+    {
+        match self {
+            ShowFault::Wrong(_) => 2,
+            ShowFault::Usage | ShowFault::Input | ShowFault::Output | ShowFault::Memory => 1,
+        }
+    }
+}
+
+impl From<ReadFault> for ShowFault {
+    ghost from_gives = { λ read fault. fault ≡ read_fault read };
+
+    fn from(fault: ReadFault) -> ShowFault {
+        match fault {
+            ReadFault::Io => ShowFault::Input,
+            ReadFault::Memory => ShowFault::Memory,
+        }
+    }
+}
+
+impl From<ScriptFault> for ShowFault {
+    ghost from_gives = { λ script fault. fault ≡ script_fault script };
+
+    fn from(fault: ScriptFault) -> ShowFault {
+        match fault {
+            ScriptFault::Wrong(wrong) => ShowFault::Wrong(wrong),
+            ScriptFault::Memory => ShowFault::Memory,
+        }
+    }
+}
+
+impl From<AllocError> for ShowFault {
+    ghost from_gives = { λ _ fault. fault ≡ Memory };
+
+    fn from(_error: AllocError) -> ShowFault {
+        ShowFault::Memory
+    }
+}
+
+impl<T: Drop> From<AllocFailed<T>> for ShowFault {
+    ghost from_gives = { λ _ fault. fault ≡ Memory };
+
+    fn from(_failed: AllocFailed<T>) -> ShowFault {
+        ShowFault::Memory
+    }
+}

@@ -1,0 +1,5 @@
+mod Begins
+mod Gives
+mod Honest
+mod Naming
+mod Steady

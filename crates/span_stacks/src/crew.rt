@@ -1,0 +1,223 @@
+//! Scripts that ten workers serve through one lock, in one thread.
+ghost use Rattle.std.specs.Prelude.{◌≡◌, ◌+◌, ◌-◌, ◌<◌, ◌≤◌, ◌^◌, IfErr, IfOk, length, string_bytes, vec_len};
+ghost use Rattle.span_dispatch.specs.Journal.{IsLegal};
+ghost use Rattle.span_registry.specs.Store.{IsFresh};
+ghost use Rattle.span_stacks.specs.Printed.{GivesShared};
+ghost use Rattle.span_stacks.specs.Stacks.{AreCalled};
+ghost use Rattle.span_script.specs.Script.{stack_of};
+
+use crate::fault::RunFault;
+use crate::script_stack::ScriptStack;
+use crate::stacks::{absent, nested, pair, plain, veto};
+use span_core::{Id, Record, TraceError};
+use span_dispatch::{Answer, Crew, Dispatch, Journal, Receipt, Request, Shared, Worker};
+use span_registry::{Limits, Subscriber};
+use span_script::{Script, StackName};
+use std::alloc::Global;
+use std::marker::Brand;
+use std::sync::Wait;
+use std::sync::ledger::Blank;
+
+/// How many workers there are: one for each lane that a script names.
+const WORKERS: u32 = 10;
+
+/// What a script prints, where workers share the stack that it names, and the journal of its requests.
+pub fn shared_text(
+    rt: &impl Wait,
+    alloc: Global,
+    script: &Script<'_>,
+) -> Result<(String, Journal), RunFault>
+    ensures printed { IfOk result (λ r.
+        GivesShared (stack_of script.now) script.now (string_bytes r.0)) }
+    ensures legal { IfOk result (λ r. IsLegal r.1) }
+    ensures fault { IfErr result (λ fault. fault ≡ RunFault.Memory) }
+{
+    match script.stack() {
+        StackName::Plain => shared_by(rt, alloc, script, plain(alloc, Limits::MAX)),
+        StackName::Pair => shared_by(rt, alloc, script, pair(alloc, Limits::MAX)),
+        StackName::Nested => shared_by(rt, alloc, script, nested(alloc, Limits::MAX)),
+        StackName::Veto => shared_by(rt, alloc, script, veto(alloc, Limits::MAX)),
+        StackName::Absent => shared_by(rt, alloc, script, absent(alloc, Limits::MAX)),
+    }
+}
+
+/// Has ten workers share a stack and serve requests by it, each on its lane.
+fn serve<S: Subscriber + Drop, L: Crew>(
+    rt: &impl Wait,
+    alloc: Global,
+    blank: Blank,
+    stack: S,
+    requests: &[Request<'_>],
+) -> Result<(Vec<Answer>, Dispatch<S>, Journal), RunFault>
+    requires name { blank.name ≡ L.name }
+    requires parts { (blank.parts ≡ L.parts) × (L.parts ≡ 10) × (L.workers ≡ 10) }
+    requires usable { S.usable stack }
+    requires fresh { IsFresh (S.registry stack) }
+    ensures each { IfOk result (λ r. length r.0.items ≡ length requests.now) }
+    ensures legal { IfOk result (λ r. IsLegal r.2) }
+    ensures fault { IfErr result (λ fault. fault ≡ RunFault.Memory) }
+{
+    let dispatch = Dispatch::new(alloc, stack);
+    let (book, all) = blank.open::<L>();
+    let Ok((shared, workers)) = Shared::new(alloc, book, all, dispatch, WORKERS) else {
+        return Err(RunFault::Memory);
+    };
+    let mut workers = workers;
+    let mut answers = Vec::with_capacity(alloc, requests.len())?;
+    for request in requests {
+        let answer = ask_by_lane(rt, &shared, &mut workers, &answers, request);
+        answers.push_reserved(answer);
+    }
+    let Ok((dispatch, journal)) = shared.finish(workers) else {
+        unreachable!() // No worker is missing.
+    };
+    Ok((answers, dispatch, journal))
+}
+
+/// One request, by the worker of its lane, where these are the answers so far.
+fn ask_by_lane<S: Subscriber, L: Crew>(
+    rt: &impl Wait,
+    shared: &Shared<S, L>,
+    workers: &mut Vec<Worker<L>>,
+    past: &[Answer],
+    request: &Request<'_>,
+) -> Answer
+    requires room { length past.now < 2 ^ 64 - 1 }
+    requires calls { AreCalled (length past.now) workers.old.items }
+    ensures workers { vec_len workers.new ≡ vec_len workers.old }
+    ensures calls { AreCalled (length past.now + 1) workers.new.items }
+{
+    let number = worker_for(request) as usize;
+    if number >= workers.len() {
+        return Answer::Dropped; // A script names no other lane.
+    }
+    ask(rt, shared, &mut workers[number], past, request)
+}
+
+/// The number of the worker that asks for this: that of its lane, and 0 where it has none.
+fn worker_for(request: &Request<'_>) -> u32 {
+    match request {
+        Request::NewSpan(lane, _, _, _) => lane.0,
+        Request::Event(lane, _, _, _) => lane.0,
+        Request::Enter(lane, _) => lane.0,
+        Request::Exit(lane, _) => lane.0,
+        Request::Record(lane, _, _) => lane.0,
+        Request::Follows(lane, _, _) => lane.0,
+        Request::Clone(lane, _) => lane.0,
+        Request::Drop(lane, _) => lane.0,
+        Request::Enabled(lane, _) => lane.0,
+        Request::Current(lane) => lane.0,
+        Request::SetLevel(_, _) => 0,
+    }
+}
+
+/// One request by a worker, where these are the answers so far.
+fn ask<S: Subscriber, L: Crew>(
+    rt: &impl Wait,
+    shared: &Shared<S, L>,
+    worker: &mut Worker<L>,
+    past: &[Answer],
+    request: &Request<'_>,
+) -> Answer
+    requires { worker.old.calls < 2 ^ 64 - 1 }
+    ensures { worker.new.calls ≤ worker.old.calls + 1 }
+{
+    match request {
+        Request::NewSpan(_, metadata, parent, values) => {
+            let attributes = parent.attributes(past, *metadata, values);
+            Answer::of_span(given(shared.new_span(rt, worker, &attributes)))
+        }
+        Request::Event(_, metadata, parent, values) => {
+            let event = parent.event(past, *metadata, values);
+            Answer::of_event(given(shared.event(rt, worker, &event)))
+        }
+        Request::Enabled(_, metadata) => {
+            Answer::of_yes(given(shared.enabled(rt, worker, metadata)))
+        }
+        Request::Current(_) => match shared.current_span(rt, worker) {
+            Ok((current, _)) => Answer::of_current(current),
+            Err(error) => Answer::Refused(error),
+        },
+        Request::SetLevel(number, level) => {
+            Answer::of_done(given(shared.set_level(rt, worker, *number, *level)))
+        }
+        _ => match span_of(past, request) {
+            Some(id) => ask_of_span(rt, shared, worker, past, request, id),
+            None => Answer::Dropped,
+        },
+    }
+}
+
+/// The span of which a request asks, where these are the answers so far.
+fn span_of(past: &[Answer], request: &Request<'_>) -> Option<Id> {
+    match request {
+        Request::Enter(_, which) => which.span_of(past),
+        Request::Exit(_, which) => which.span_of(past),
+        Request::Record(_, which, _) => which.span_of(past),
+        Request::Follows(_, which, _) => which.span_of(past),
+        Request::Clone(_, which) => which.span_of(past),
+        Request::Drop(_, which) => which.span_of(past),
+        _ => None,
+    }
+}
+
+/// One request of this span by a worker, where these are the answers so far.
+fn ask_of_span<S: Subscriber, L: Crew>(
+    rt: &impl Wait,
+    shared: &Shared<S, L>,
+    worker: &mut Worker<L>,
+    past: &[Answer],
+    request: &Request<'_>,
+    id: Id,
+) -> Answer
+    requires { worker.old.calls < 2 ^ 64 - 1 }
+    ensures { worker.new.calls ≤ worker.old.calls + 1 }
+{
+    match request {
+        Request::Enter(_, _) => Answer::of_done(given(shared.enter(rt, worker, id))),
+        Request::Exit(_, _) => Answer::of_done(given(shared.exit(rt, worker, id))),
+        Request::Record(_, _, values) => {
+            Answer::of_done(given(shared.record(rt, worker, id, &Record::new(values))))
+        }
+        Request::Follows(_, _, other) => match other.span_of(past) {
+            Some(follows) => Answer::of_done(given(shared.follows_from(rt, worker, id, follows))),
+            None => Answer::Dropped,
+        },
+        Request::Clone(_, _) => Answer::of_clone(given(shared.clone_span(rt, worker, id))),
+        Request::Drop(_, _) => Answer::of_yes(given(shared.drop_span(rt, worker, id))),
+        _ => Answer::Dropped, // It asks of no span.
+    }
+}
+
+/// An answer without its receipt.
+fn given<A: Drop>(answered: Result<(A, Receipt), TraceError>) -> Result<A, TraceError> {
+    match answered {
+        Ok((answer, _)) => Ok(answer),
+        Err(error) => Err(error),
+    }
+}
+
+/// What a script prints, where workers share this stack of scripts.
+fn shared_by<S: ScriptStack + Subscriber + Drop>(
+    rt: &impl Wait,
+    alloc: Global,
+    script: &Script<'_>,
+    stack: S,
+) -> Result<(String, Journal), RunFault>
+    requires usable { S.usable stack }
+    requires fresh { IsFresh (S.registry stack) }
+    ensures printed { IfOk result (λ r. GivesShared S.name script.now (string_bytes r.0)) }
+    ensures legal { IfOk result (λ r. IsLegal r.1) }
+    ensures fault { IfErr result (λ fault. fault ≡ RunFault.Memory) }
+{
+    let blank = Blank::new(u64::from(WORKERS));
+    let (answers, dispatch, journal) = serve::<S, Brand>(
+        rt,
+        alloc,
+        blank,
+        stack,
+        script.requests(),
+    )?;
+    let text = dispatch.stack().text(alloc, script, &answers)?;
+    Ok((text, journal))
+}
