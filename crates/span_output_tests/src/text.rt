@@ -1,0 +1,225 @@
+//! Texts worked by hand: of one run on two lanes, by a tree of everything and by one under a level.
+ghost use Rattle.std.specs.Prelude.{IfOk};
+ghost use Rattle.span_layers.specs.Layered.{inner_of, outer_of};
+
+use span_core::{FieldSet, FieldValue, Kind, Lane, Level, LevelFilter, Metadata, TraceError};
+use span_dispatch::{Dispatch, Request, Which, WhichParent};
+use span_fmt::{Lines, Tree, serve_lines, serve_tree, write_fields};
+use span_layers::{Layer, LayerExt, Layered, Observer, SubscriberExt};
+use span_registry::{Registry, Subscriber};
+use std::alloc::Global;
+use std::process::Abort;
+use std::test::Fail;
+
+const LANE: Lane = Lane(0);
+
+const OTHER_LANE: Lane = Lane(3);
+
+const NOTHING: &[(&str, FieldValue<'static>)] = &[];
+
+const USER: &[(&str, FieldValue<'static>)] = &[("user", FieldValue::U64(7))];
+
+const TRIES: &[(&str, FieldValue<'static>)] = &[("try", FieldValue::I64(-2))];
+
+const SAID: &[(&str, FieldValue<'static>)] = &[
+    ("what", FieldValue::Text("a\nb")),
+    ("ok", FieldValue::Bool(true)),
+];
+
+const LATE: &[(&str, FieldValue<'static>)] = &[("late", FieldValue::Bool(false))];
+
+const OF_ALL: &str = "0 > INFO app: outer user=7
+0   > TRACE app: step
+0     > DEBUG app::net: inner try=-2
+0       - WARN app::net: said what=a\\nb ok=true
+3 ~ INFO app: outer late=false
+3 - INFO app: heard
+3     < DEBUG app::net: inner
+0     - INFO app: heard
+0   < TRACE app: step
+0 < INFO app: outer
+";
+
+/// The span `step` is hidden, so it counts for no depth.
+const UNDER_DEBUG: &str = "0 > INFO app: outer user=7
+0   > DEBUG app::net: inner try=-2
+0     - WARN app::net: said what=a\\nb ok=true
+3 ~ INFO app: outer late=false
+3 - INFO app: heard
+3   < DEBUG app::net: inner
+0   - INFO app: heard
+0 < INFO app: outer
+";
+
+/// The span `step` is hidden here too.
+const OF_EVENTS: &str = "0 WARN outer{user=7}:inner{try=-2}: app::net: said what=a\\nb ok=true
+3 INFO app: heard
+0 INFO outer{user=7 late=false}: app: heard
+";
+
+/// Puts a layer on a stack.
+fn put<S: Subscriber + Drop, L: Layer<S> + Drop>(
+    stack: S,
+    layer: L,
+) -> Result<Layered<L, S>, TraceError>
+    requires layer { L.usable layer }
+    requires stack { S.usable stack }
+    ensures layer { IfOk result (λ made. L.usable (outer_of made)) }
+    ensures stack { IfOk result (λ made. S.usable (inner_of made)) }
+{
+    match stack.with(layer) {
+        Ok(made) => Ok(made),
+        Err(back) => Err(back.error),
+    }
+}
+
+fn site(
+    callsite: u64,
+    name: &'static str,
+    target: &'static str,
+    level: Level,
+    kind: Kind,
+) -> Metadata {
+    Metadata::new(callsite, name, target, level, kind, FieldSet::new(&[]))
+}
+
+/// Opens a span in the span that the lane is in.
+fn open<'a>(metadata: Metadata, values: &'a [(&'static str, FieldValue<'a>)]) -> Request<'a> {
+    Request::NewSpan(LANE, metadata, WhichParent::Contextual, values)
+}
+
+/// An event without values, in the span that the lane is in.
+fn heard(lane: Lane) -> Request<'static> {
+    let metadata = site(5, "heard", "app", Level::INFO, Kind::EVENT);
+    Request::Event(lane, metadata, WhichParent::Contextual, NOTHING)
+}
+
+/// Puts a stack in use, serves the requests of the worked run, and gives it back.
+fn worked<S: Subscriber + Drop>(alloc: Global, stack: S) -> Result<S, TraceError>
+    requires { S.usable stack }
+{
+    let said = site(4, "said", "app::net", Level::WARN, Kind::EVENT);
+    let (outer, step, inner) = (Which::Made(0), Which::Made(2), Which::Made(4));
+    let requests = [
+        open(site(1, "outer", "app", Level::INFO, Kind::SPAN), USER),
+        Request::Enter(LANE, outer),
+        open(site(2, "step", "app", Level::TRACE, Kind::SPAN), &[]),
+        Request::Enter(LANE, step),
+        open(
+            site(3, "inner", "app::net", Level::DEBUG, Kind::SPAN),
+            TRIES,
+        ),
+        Request::Enter(LANE, inner),
+        Request::Event(LANE, said, WhichParent::Contextual, SAID),
+        Request::Record(OTHER_LANE, outer, LATE),
+        heard(OTHER_LANE),
+        Request::Exit(LANE, inner),
+        Request::Drop(OTHER_LANE, inner),
+        heard(LANE),
+        Request::Exit(LANE, step),
+        Request::Drop(LANE, step),
+        Request::Exit(LANE, outer),
+        Request::Drop(LANE, outer),
+    ];
+    let mut dispatch = Dispatch::new(alloc, stack);
+    dispatch.serve(alloc, &requests)?;
+    Ok(dispatch.into_stack())
+}
+
+/// A tree wrote this.
+fn wrote(rt: &impl Abort, tree: &Tree, text: &str) {
+    assert_eq!(rt; tree.text(), text);
+}
+
+#[test]
+fn a_line_for_each_notice(rt: HostRuntime) -> Result<(), Fail> {
+    let alloc = rt.alloc();
+    let all = put(Registry::new(alloc), Observer::new(Tree::new(alloc)))?;
+    let under = Observer::new(Tree::new(alloc)).with_filter(LevelFilter::DEBUG);
+    let stack = worked(alloc, put(all, under)?)?;
+    wrote(&rt, stack.layer().inner().observer(), UNDER_DEBUG);
+    wrote(&rt, stack.inner().layer().observer(), OF_ALL);
+    Ok(())
+}
+
+/// A tree's text is written elsewhere, and then taken out.
+fn takes_its_text(rt: &impl Abort, alloc: Global, tree: &mut Tree) -> Result<(), Fail> {
+    assert!(rt; !tree.failed());
+    let mut bytes: Vec<u8> = Vec::new(alloc);
+    tree.write_to(&mut bytes)?;
+    assert_eq!(rt; bytes.as_slice(), OF_ALL.as_bytes());
+    assert_eq!(rt; tree.take_text().as_str(), OF_ALL);
+    assert_eq!(rt; tree.text(), "");
+    Ok(())
+}
+
+#[test]
+fn a_text_is_taken_out(rt: HostRuntime) -> Result<(), Fail> {
+    let alloc = rt.alloc();
+    let stack = put(Registry::new(alloc), Observer::new(Tree::new(alloc)))?;
+    let (layer, _registry) = worked(alloc, stack)?.into_parts();
+    takes_its_text(&rt, alloc, &mut layer.into_observer())
+}
+
+#[test]
+fn a_tree_under_a_level_is_served(rt: HostRuntime) -> Result<(), Fail> {
+    let alloc = rt.alloc();
+    let layer = Observer::new(Tree::new(alloc)).with_filter(LevelFilter::WARN);
+    let mut dispatch = Dispatch::new(alloc, put(Registry::new(alloc), layer)?);
+    let event = site(4, "said", "app::net", Level::WARN, Kind::EVENT);
+    let unheard = site(5, "unheard", "app::net", Level::INFO, Kind::EVENT);
+    let requests = [
+        Request::Event(LANE, event, WhichParent::Contextual, &[]),
+        Request::Event(LANE, unheard, WhichParent::Contextual, &[]),
+    ];
+    serve_tree(alloc, &mut dispatch, &requests)?;
+    let tree = dispatch.stack().layer().inner().observer();
+    assert_eq!(rt; tree.text(), "0 - WARN app::net: said\n");
+    Ok(())
+}
+
+/// The same of lines.
+fn takes_its_lines(rt: &impl Abort, alloc: Global, lines: &mut Lines) -> Result<(), Fail> {
+    assert!(rt; !lines.failed());
+    let mut bytes: Vec<u8> = Vec::new(alloc);
+    lines.write_to(&mut bytes)?;
+    assert_eq!(rt; bytes.as_slice(), OF_EVENTS.as_bytes());
+    assert_eq!(rt; lines.take_text().as_str(), OF_EVENTS);
+    assert_eq!(rt; lines.text(), "");
+    Ok(())
+}
+
+#[test]
+fn a_line_for_each_event(rt: HostRuntime) -> Result<(), Fail> {
+    let alloc = rt.alloc();
+    let layer = Observer::new(Lines::new(alloc)).with_filter(LevelFilter::DEBUG);
+    let mut stack = worked(alloc, put(Registry::new(alloc), layer)?)?;
+    takes_its_lines(&rt, alloc, stack.layer_mut().inner_mut().observer_mut())
+}
+
+#[test]
+fn lines_under_a_level_are_served(rt: HostRuntime) -> Result<(), Fail> {
+    let alloc = rt.alloc();
+    let layer = Observer::new(Lines::new(alloc)).with_filter(LevelFilter::INFO);
+    let mut dispatch = Dispatch::new(alloc, put(Registry::new(alloc), layer)?);
+    serve_lines(alloc, &mut dispatch, &[heard(LANE)])?;
+    let lines = dispatch.stack().layer().inner().observer();
+    assert_eq!(rt; lines.text(), "0 INFO app: heard\n");
+    Ok(())
+}
+
+#[test]
+fn fields_in_one_line(rt: HostRuntime) -> Result<(), Fail> {
+    let mut text = String::from_str(rt.alloc(), "begun")?;
+    let values = [
+        ("first", FieldValue::Text("\nx\n\n")),
+        ("second", FieldValue::Text("")),
+        ("most", FieldValue::U64(u64::MAX)),
+        ("least", FieldValue::I64(i64::MIN)),
+    ];
+    write_fields(&mut text, &values)?;
+    let whole =
+        "begun first=\\nx\\n\\n second= most=18446744073709551615 least=-9223372036854775808";
+    assert_eq!(rt; text.as_str(), whole);
+    Ok(())
+}

@@ -1,0 +1,235 @@
+//! Timelines that were worked out by hand.
+ghost use Rattle.span_dispatch.specs.Serve.{stack_of};
+
+use span_core::{
+    Attributes, Event, FieldSet, Id, Kind, Lane, Level, LevelFilter, Metadata, Parent,
+};
+use span_dispatch::{Dispatch, Request, WhichParent};
+use span_layers::{LayerExt, Observer, SubscriberExt};
+use span_registry::{Registry, Subscriber};
+use span_times::{
+    Counted, Counts, Happening, Now, Point, Timeline, Wall, busy_time, idle_time, open_time,
+    serve_timed,
+};
+use std::cell::Cell;
+use std::io;
+use std::process::Abort;
+use std::test::Fail;
+use std::time::{Clock, Duration};
+
+const LANE: Lane = Lane(3);
+
+/// Opens a span, is in it twice, the first time with an event, and drops it.
+fn live<S: Subscriber>(dispatch: &mut Dispatch<S>) -> Result<Id, Fail>
+    requires { S.usable (stack_of dispatch.old) }
+{
+    let fetch = Metadata::new(
+        1,
+        "fetch",
+        "app",
+        Level::INFO,
+        Kind::SPAN,
+        FieldSet::new(&[]),
+    );
+    let done = Metadata::new(
+        2,
+        "done",
+        "app",
+        Level::INFO,
+        Kind::EVENT,
+        FieldSet::new(&[]),
+    );
+    let Some(id) = dispatch.new_span(LANE, &Attributes::new_root(fetch, &[]))? else {
+        return Err(Fail::from("dropped"));
+    };
+    dispatch.enter(LANE, id)?;
+    dispatch.event(LANE, &Event::new_root(done, &[]))?;
+    dispatch.exit(LANE, id);
+    dispatch.enter(LANE, id)?;
+    dispatch.exit(LANE, id);
+    dispatch.drop_span(LANE, id)?;
+    Ok(id)
+}
+
+#[test]
+fn a_span_is_timed(rt: HostRuntime) -> Result<(), Fail> {
+    let alloc = rt.alloc();
+    let layer = Observer::new(Timeline::new(alloc, Counted::new()));
+    let Ok(stack) = Registry::new(alloc).with(layer) else {
+        return Err(Fail::from("no room for the layer"));
+    };
+    let mut dispatch = Dispatch::new(alloc, stack);
+    let id = live(&mut dispatch)?;
+    is_timed(&rt, dispatch.into_stack().layer().observer(), id);
+    Ok(())
+}
+
+/// A span was open for 6 µs, half of them busy, and nothing else happened.
+fn is_timed(rt: &impl Abort, timeline: &Timeline<Counted>, id: Id) {
+    let points = timeline.points();
+    assert!(rt; !timeline.failed());
+    assert_eq!(rt; points.len(), 7);
+    assert!(rt; points[3] == at(4000, Happening::Left(id)));
+    assert_eq!(rt; busy_time(points, id), 3000);
+    assert_eq!(rt; idle_time(points, id), 3000);
+    assert_eq!(rt; open_time(points, id), Some(6000));
+    let counts = Counts::of(points);
+    assert_eq!(rt; (counts.opened, counts.closed, counts.events), (1, 1, 1));
+}
+
+#[test]
+fn a_list_is_timed(rt: HostRuntime) -> Result<(), Fail> {
+    let alloc = rt.alloc();
+    let layer = Observer::new(Timeline::new(alloc, Counted::new()));
+    let Ok(stack) = Registry::new(alloc).with(layer) else {
+        return Err(Fail::from("no room for the layer"));
+    };
+    let mut dispatch = Dispatch::new(alloc, stack);
+    let ping = Metadata::new(
+        5,
+        "ping",
+        "app",
+        Level::INFO,
+        Kind::EVENT,
+        FieldSet::new(&[]),
+    );
+    let requests = [Request::Event(LANE, ping, WhichParent::Root, &[])];
+    serve_timed(alloc, &mut dispatch, &requests)?;
+    let (layer, _registry) = dispatch.into_stack().into_parts();
+    takes_its_point(&rt, &mut layer.into_observer());
+    Ok(())
+}
+
+/// A timeline's one point is taken out.
+fn takes_its_point(rt: &impl Abort, timeline: &mut Timeline<Counted>) {
+    let points = timeline.take_points();
+    assert_eq!(rt; points.len(), 1);
+    assert!(rt; points[0] == at(1000, Happening::Sent(5, None)));
+    assert!(rt; timeline.points().is_empty());
+}
+
+/// Opens three spans, each in the one before, the second at a lower level; sends an event on the lane that is in the second, and
+/// another that asks for it.
+fn nested<S: Subscriber>(dispatch: &mut Dispatch<S>) -> Result<[Id; 3], Fail>
+    requires { S.usable (stack_of dispatch.old) }
+{
+    let fields = FieldSet::new(&[]);
+    let outer = Metadata::new(1, "outer", "app", Level::INFO, Kind::SPAN, fields);
+    let middle = Metadata::new(2, "middle", "app", Level::DEBUG, Kind::SPAN, fields);
+    let inner = Metadata::new(3, "inner", "app", Level::INFO, Kind::SPAN, fields);
+    let said = Metadata::new(4, "said", "app", Level::INFO, Kind::EVENT, fields);
+    let Some(a) = dispatch.new_span(LANE, &Attributes::new(outer, &[]))? else {
+        return Err(Fail::from("dropped"));
+    };
+    dispatch.enter(LANE, a)?;
+    let Some(b) = dispatch.new_span(LANE, &Attributes::new(middle, &[]))? else {
+        return Err(Fail::from("dropped"));
+    };
+    dispatch.enter(LANE, b)?;
+    let Some(c) = dispatch.new_span(LANE, &Attributes::new(inner, &[]))? else {
+        return Err(Fail::from("dropped"));
+    };
+    dispatch.event(LANE, &Event::new(said, &[]))?;
+    dispatch.event(LANE, &Event::new_child_of(b, said, &[]))?;
+    Ok([a, b, c])
+}
+
+#[test]
+fn parents_are_those_that_it_sees(rt: HostRuntime) -> Result<(), Fail> {
+    let alloc = rt.alloc();
+    let whole = Observer::new(Timeline::new(alloc, Counted::new()));
+    let part = Observer::new(Timeline::new(alloc, Counted::new())).with_filter(LevelFilter::INFO);
+    let Ok(stack) = Registry::new(alloc).with(whole.and_then(part)) else {
+        return Err(Fail::from("no room for the layers"));
+    };
+    let mut dispatch = Dispatch::new(alloc, stack);
+    let [a, b, c] = nested(&mut dispatch)?;
+    let both = dispatch.stack().layer();
+    let of_all = [
+        at(1000, Happening::Opened(a, 1, None)),
+        at(2000, Happening::Entered(a)),
+        at(3000, Happening::Opened(b, 2, Some(a))),
+        at(4000, Happening::Entered(b)),
+        at(5000, Happening::Opened(c, 3, Some(b))),
+        at(6000, Happening::Sent(4, Some(b))),
+        at(7000, Happening::Sent(4, Some(b))),
+    ];
+    has_points(&rt, both.inner().observer(), &of_all);
+    let of_part = [
+        at(1000, Happening::Opened(a, 1, None)),
+        at(2000, Happening::Entered(a)),
+        at(3000, Happening::Opened(c, 3, Some(a))),
+        at(4000, Happening::Sent(4, Some(a))),
+        at(5000, Happening::Sent(4, None)),
+    ];
+    has_points(&rt, both.layer().inner().observer(), &of_part);
+    Ok(())
+}
+
+/// A timeline has these points.
+fn has_points(rt: &impl Abort, timeline: &Timeline<Counted>, points: &[Point]) {
+    assert!(rt; timeline.points() == points);
+}
+
+/// At this time, on one lane.
+fn at(time: u64, what: Happening) -> Point {
+    Point {
+        time,
+        lane: LANE,
+        what,
+    }
+}
+
+#[test]
+fn times_of_points(rt: HostRuntime) {
+    let a = Id::from_u64(1);
+    let b = Id::from_u64(2);
+    let points = [
+        at(5, Happening::Entered(a)),
+        at(7, Happening::Entered(b)),
+        at(9, Happening::Entered(a)),
+        at(12, Happening::Left(a)),
+        at(20, Happening::Left(a)),
+        at(21, Happening::Closed(a)),
+        at(22, Happening::Left(b)),
+    ];
+    assert_eq!(rt;
+        busy_time(&points, a),
+        3,
+        "the later entry counts, and each exit once"
+    );
+    assert_eq!(rt; idle_time(&points, a), 1, "the later exit counts");
+    assert_eq!(rt; open_time(&points, a), None, "it wasn't seen to open");
+    assert_eq!(rt; busy_time(&points, b), 15);
+}
+
+/// A clock that goes back after its first reading, can't be read then, and goes on.
+#[derive(Drop)]
+struct Faulty {
+    read: Cell<u64>,
+}
+
+impl Clock for Faulty {
+    fn monotonic(&self) -> io::Result<Duration> {
+        let read = self.read.get();
+        self.read.set(read.saturating_add(1));
+        match read {
+            0 => Ok(Duration::new(5, 1)),
+            1 => Ok(Duration::new(3, 0)),
+            2 => Err(io::Error::from(io::ErrorKind::Other)),
+            _ => Ok(Duration::new(9, 0)),
+        }
+    }
+
+    fn since_1970(&self) -> io::Result<Duration> {
+        self.monotonic()
+    }
+}
+
+#[test]
+fn the_wall_clock_never_goes_back(rt: HostRuntime) {
+    let mut wall = Wall::new(Faulty { read: Cell::new(0) });
+    for want in [5_000_000_001, 5_000_000_001, 5_000_000_001, 9_000_000_000] {
+        assert_eq!(rt; wall.now(), want);
+    }
+}
