@@ -1,5 +1,6 @@
 mod Beside
 mod Counter
+mod Guards
 mod Level
 mod Lines
 mod Parents

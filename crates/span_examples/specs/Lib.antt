@@ -1,6 +1,7 @@
 pub mod Chain
 pub mod Dispatches
 pub mod Filters
+pub mod Guard
 pub mod Isolation
 pub mod Kinds
 pub mod Law

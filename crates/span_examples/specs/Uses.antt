@@ -12,7 +12,7 @@ use Rattle.span_core.specs.declared.span.Id.{Id}
 use Rattle.span_core.specs.declared.span.Lane.{Lane}
 use Rattle.span_registry.specs.Extensions.{Place, value_under}
 use Rattle.span_registry.specs.Step.{Drops, Enters, Opens, Removal, asked, exited}
-use Rattle.span_registry.specs.Store.{IsChain, RegistryState, parent_of, stack_of}
+use Rattle.span_registry.specs.Store.{IsChain, RegistryState, parent_of, stack_on}
 use Rattle.span_registry.specs.declared.tag.Tag.{Tag}
 
 -- a span is opened and then entered
@@ -41,7 +41,7 @@ IsChainOf s id xs = IsChain s.store.spans (Some (number_of id)) xs
 
 -- the stack of a lane
 abbrev pub stack_in : RegistryState → ℕ → List ℕ
-stack_in s lane = stack_of s.store.stacks lane
+stack_in s lane = stack_on s.store.stacks lane
 
 -- the registry, where a lane has left a span
 abbrev pub left : RegistryState → Lane → Id → RegistryState

@@ -9,7 +9,7 @@ ghost use Rattle.span_examples.specs.Filters.{is_marked, view_on};
 ghost use Rattle.span_examples.specs.Filters.{goes_by_target, target_answers, wanted_by, wants_target};
 
 use span_core::{Attributes, Event, Id, Interest, Lane, LevelFilter, Metadata, Record};
-use span_filters::{BoxedFilter, DynFilter, Filter, dynamic_filter_fn};
+use span_filters::{AlwaysUsableFilter, BoxedFilter, DynFilter, Filter, dynamic_filter_fn};
 use span_registry::{Context, ContextMut, ExtensionValue, LookupSpan, Registry, Tag};
 use std::alloc::{AllocError, Global};
 
@@ -79,6 +79,10 @@ impl<S: LookupSpan> Filter<S> for Targets {
     fn on_exit(&mut self, _id: Id, _ctx: &mut ContextMut<'_, S>) {}
 
     fn on_close(&mut self, _id: Id, _ctx: &mut ContextMut<'_, S>) {}
+}
+
+impl<S: LookupSpan> AlwaysUsableFilter<S> for Targets {
+    ghost always = { λ f. tt };
 }
 
 /// Whether metadata pass a filter that wants what comes in a marked span: one with a value under this tag.

@@ -17,6 +17,7 @@ pub mod chain;
 pub mod conducts;
 pub mod dispatch;
 pub mod filter;
+pub mod guard;
 pub mod isolation;
 pub mod kinds;
 pub mod law;

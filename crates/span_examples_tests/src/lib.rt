@@ -4,6 +4,8 @@
 #[cfg(test)]
 mod asked;
 #[cfg(test)]
+mod guard;
+#[cfg(test)]
 mod law;
 #[cfg(test)]
 mod receiver;

@@ -1,0 +1,75 @@
+-- Guards, which leave a span when they are let go.
+use Rattle.std.specs.Prelude.{◌≡◌, ◌⊎◌, ℕ, Bool, Ok, Result}
+use Rattle.std.specs.Borrow.{GName}
+use Rattle.span_core.specs.declared.error.TraceError.{TraceError}
+use Rattle.span_core.specs.declared.event.Event.{Event}
+use Rattle.span_core.specs.declared.span.Id.{Id}
+use Rattle.span_core.specs.declared.span.Lane.{Lane}
+use Rattle.span_dispatch.specs.Contract.{AnswersCall, ChangesStack, Refuses, RefusesEvent, ServesEvent, ServesExit, SubscriberOf, TakesStep, registry_of}
+use Rattle.span_dispatch.specs.Call.{Enter}
+use Rattle.span_dispatch.specs.declared.request.Answer.TheVariants.{Done}
+use Rattle.span_dispatch.specs.declared.dispatch.Dispatch.{Dispatch}
+use Rattle.span_registry.specs.Hooks.{Stays}
+use Rattle.span_registry.specs.Step.{Enters, Exits, RefusesEnter}
+use Rattle.span_examples.specs.Uses.{stack_in}
+use Rattle.span_examples.specs.declared.guard.Entered.{Entered}
+
+module _ {S : Type 0} where
+  -- the name of the borrow that its dispatcher is lent by
+  abbrev pub loan_of : Entered S → GName
+  loan_of g = g.dispatch.ghost_name
+
+  -- its dispatcher, as it now is
+  abbrev pub dispatch_of : Entered S → Dispatch S
+  dispatch_of g = g.dispatch.now
+
+  -- the lane that is in its span
+  abbrev pub lane_of : Entered S → Lane
+  lane_of g = g.lane
+
+  -- its span
+  abbrev pub span_of : Entered S → Id
+  span_of g = g.id
+
+  -- it is over this dispatcher, for this lane and span
+  pub record IsOver (lane : Lane) (id : Id) (d : Dispatch S) (g : Entered S) : Type 0 where
+    pub lane_is : lane_of g ≡ lane
+    pub span_is : span_of g ≡ id
+    pub dispatch_is : dispatch_of g ≡ d
+
+module _ {S : Type 0} (s : SubscriberOf S) where
+  -- the same loan, lane and span; hooks may have written extensions
+  pub record KeepsSpan (old new : Entered S) : Type 0 where
+    pub loan : loan_of new ≡ loan_of old
+    pub lane : lane_of new ≡ lane_of old
+    pub span : span_of new ≡ span_of old
+    pub hooks : TakesStep s Stays (dispatch_of old) (dispatch_of new)
+
+  -- its dispatcher serves an event so, on its lane
+  abbrev pub SendsBy : Event → Result Bool TraceError → Entered S → Entered S → Type 0
+  SendsBy e given old new = ServesEvent s (lane_of old) e given (dispatch_of old) (dispatch_of new)
+
+  -- its lane has left its span, by a call that was served so, and of the dispatcher nothing changed but the stack
+  pub record IsLeft (g : Entered S) (new : Dispatch S) : Type 0 where
+    pub left : TakesStep s (Exits (lane_of g) (span_of g)) (dispatch_of g) new
+    pub served : ServesExit s (lane_of g) (span_of g) (dispatch_of g) new
+    pub rest : ChangesStack (dispatch_of g) new
+
+  -- each lane has the stack that it had
+  abbrev pub KeepsStacks : Dispatch S → Dispatch S → Type 0
+  KeepsStacks old new = (n : ℕ) → stack_in (registry_of s new) n ≡ stack_in (registry_of s old) n
+
+  -- a span is entered, an event is served with this answer, and the span is left: three calls, each served so
+  pub record SendsWithin (lane : Lane) (id : Id) (e : Event) (old new : Dispatch S)
+      (sent : Bool) : Type 0 where
+    pub first : Dispatch S
+    pub last : Dispatch S
+    pub enters : TakesStep s (Enters lane id) old first
+    pub entered : AnswersCall s (Enter lane id) Done old first
+    pub serves : ServesEvent s lane e (Ok sent) first last
+    pub leaves : TakesStep s (Exits lane id) last new
+    pub left : ServesExit s lane id last new
+
+  -- why that is refused: the span can't be entered, or the event is refused
+  abbrev pub RefusesWithin : Id → Event → Dispatch S → TraceError → Type 0
+  RefusesWithin id e old error = Refuses s RefusesEnter id old error ⊎ RefusesEvent e old error
