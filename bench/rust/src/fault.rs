@@ -4,7 +4,7 @@ use std::{fmt, io};
 
 #[derive(Clone, Copy)]
 pub enum Fault {
-    /// A line is not `WORKLOAD FILTERS ROUNDS`.
+    /// A line is not `WORKLOAD STACK SIZE ROUNDS`.
     Line,
     /// A step of a round didn't do what it should.
     Undone,
@@ -25,7 +25,7 @@ impl Fault {
 impl fmt::Display for Fault {
     fn fmt(&self, f: &mut fmt::Formatter<'_>) -> fmt::Result {
         match self {
-            Fault::Line => f.write_str("a line is not WORKLOAD FILTERS ROUNDS"),
+            Fault::Line => f.write_str("a line is not WORKLOAD STACK SIZE ROUNDS"),
             Fault::Undone => f.write_str("a round was not done in full"),
             Fault::Io => f.write_str("input or output failed"),
         }

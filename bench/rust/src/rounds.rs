@@ -1,33 +1,37 @@
 //! The rounds of each workload. A round that isn't done in full ends the run.
 
 use crate::fault::Fault;
-use crate::site::{self, admits};
+use crate::site::{self, admits, Site};
 use tracing_core::span::{Attributes, Id};
 use tracing_core::{Event, Subscriber};
 use tracing_subscriber::registry::LookupSpan;
 
-/// How many spans a chain has.
-const DEPTH: u32 = 100;
+/// How many callsites the spans of a workload have.
+const CALLSITES: u32 = 10;
 
 /// A registry, or layers on one.
-pub trait Stack: Subscriber + for<'a> LookupSpan<'a> {}
+pub trait Stack: Subscriber + for<'a> LookupSpan<'a> + Send + Sync + 'static {}
 
-impl<S: Subscriber + for<'a> LookupSpan<'a>> Stack for S {}
+impl<S: Subscriber + for<'a> LookupSpan<'a> + Send + Sync + 'static> Stack for S {}
 
-/// Each round opens a span and drops it.
-pub fn new_and_drop<S: Stack>(stack: &S, rounds: u32) -> Result<u32, Fault> {
+/// Each round opens a span and drops it. So many others are open.
+pub fn new_and_drop<S: Stack>(stack: &S, others: u32, rounds: u32) -> Result<u32, Fault> {
+    open_all(stack, others)?;
+    let mut turn = 0;
     let mut done = 0;
     for _ in 0..rounds {
-        let id = contextual(stack)?;
+        let site = site::SPANS.get(turn as usize).ok_or(Fault::Undone)?;
+        let id = contextual(stack, site)?;
         close(stack, id)?;
+        turn = after(turn, CALLSITES);
         done += 1;
     }
     Ok(done)
 }
 
-/// Each round enters a span and leaves it.
+/// Each round enters a span and leaves it. (a thread has one stack of entered spans)
 pub fn enter_and_exit<S: Stack>(stack: &S, rounds: u32) -> Result<u32, Fault> {
-    let id = contextual(stack)?;
+    let id = contextual(stack, &site::SPANS[0])?;
     let mut done = 0;
     for _ in 0..rounds {
         stack.enter(&id);
@@ -37,35 +41,39 @@ pub fn enter_and_exit<S: Stack>(stack: &S, rounds: u32) -> Result<u32, Fault> {
     Ok(done)
 }
 
-/// Each round sends an event.
-pub fn event<S: Stack>(stack: &S, rounds: u32) -> Result<u32, Fault> {
+/// Each round sends an event from the next of so many callsites.
+pub fn event<S: Stack>(stack: &S, callsites: u32, rounds: u32) -> Result<u32, Fault> {
+    let table = site::events(callsites);
+    let mut turn = 0;
     let mut done = 0;
     for _ in 0..rounds {
-        if !sent(stack) {
+        let site = table.get(turn as usize).ok_or(Fault::Undone)?;
+        if !sent(stack, site) {
             return Err(Fault::Undone);
         }
+        turn = after(turn, callsites);
         done += 1;
     }
     Ok(done)
 }
 
-/// Each round opens a chain of spans, and drops their handles, the deepest span's last.
-pub fn cascade<S: Stack>(stack: &S, rounds: u32) -> Result<u32, Fault> {
+/// Each round opens a chain of so many spans, and drops their handles, the deepest span's last.
+pub fn cascade<S: Stack>(stack: &S, depth: u32, rounds: u32) -> Result<u32, Fault> {
     let mut done = 0;
     for _ in 0..rounds {
-        let chain = chain(stack)?;
+        let chain = chain(stack, depth)?;
         drop_all(stack, &chain)?;
         done += 1;
     }
     Ok(done)
 }
 
-/// Each round walks through a chain of spans, the deepest first.
-pub fn scope<S: Stack>(stack: &S, rounds: u32) -> Result<u32, Fault> {
-    let deepest = deepest_of(&chain(stack)?)?;
+/// Each round walks through a chain of so many spans, the deepest first.
+pub fn scope<S: Stack>(stack: &S, depth: u32, rounds: u32) -> Result<u32, Fault> {
+    let deepest = deepest_of(&chain(stack, depth)?)?;
     let mut done = 0;
     for _ in 0..rounds {
-        if walked(stack, &deepest) != DEPTH {
+        if walked(stack, &deepest) != depth {
             return Err(Fault::Undone);
         }
         done += 1;
@@ -73,12 +81,12 @@ pub fn scope<S: Stack>(stack: &S, rounds: u32) -> Result<u32, Fault> {
     Ok(done)
 }
 
-/// Each round walks through a chain of spans, the root first.
-pub fn from_root<S: Stack>(stack: &S, rounds: u32) -> Result<u32, Fault> {
-    let deepest = deepest_of(&chain(stack)?)?;
+/// Each round walks through a chain of so many spans, the root first.
+pub fn from_root<S: Stack>(stack: &S, depth: u32, rounds: u32) -> Result<u32, Fault> {
+    let deepest = deepest_of(&chain(stack, depth)?)?;
     let mut done = 0;
     for _ in 0..rounds {
-        if walked_from_root(stack, &deepest) != DEPTH {
+        if walked_from_root(stack, &deepest) != depth {
             return Err(Fault::Undone);
         }
         done += 1;
@@ -86,42 +94,68 @@ pub fn from_root<S: Stack>(stack: &S, rounds: u32) -> Result<u32, Fault> {
     Ok(done)
 }
 
-/// Each round keeps a number with a span, in place of the one before.
-pub fn replace<S: Stack>(stack: &S, rounds: u32) -> Result<u32, Fault> {
-    let id = contextual(stack)?;
-    replaced(stack, &id, 0)?;
+/// Each round keeps a number with the next of so many spans, in place of the one before.
+pub fn replace<S: Stack>(stack: &S, spans: u32, rounds: u32) -> Result<u32, Fault> {
+    let chain = chain(stack, spans)?;
+    for id in &chain {
+        replaced(stack, id, 0)?;
+    }
+    let mut turn = 0;
     let mut done = 0;
     for round in 0..rounds {
-        if replaced(stack, &id, u64::from(round))?.is_none() {
+        let id = chain.get(turn as usize).ok_or(Fault::Undone)?;
+        if replaced(stack, id, u64::from(round))?.is_none() {
             return Err(Fault::Undone);
         }
+        turn = after(turn, spans);
         done += 1;
     }
     Ok(done)
+}
+
+/// The turn after this one, of so many.
+#[inline(always)]
+fn after(turn: u32, turns: u32) -> u32 {
+    match turn.checked_add(1) {
+        Some(next) if next < turns => next,
+        _ => 0,
+    }
+}
+
+/// Opens so many spans, from the callsites of a table in turn.
+fn open_all<S: Stack>(stack: &S, count: u32) -> Result<(), Fault> {
+    let mut turn = 0;
+    for _ in 0..count {
+        let site = site::SPANS.get(turn as usize).ok_or(Fault::Undone)?;
+        contextual(stack, site)?;
+        turn = after(turn, CALLSITES);
+    }
+    Ok(())
 }
 
 /// Opens a span in the one that the thread is in.
-fn contextual<S: Stack>(stack: &S) -> Result<Id, Fault> {
-    let values = site::SPAN_METADATA.fields().value_set(&[]);
-    opened(stack, &Attributes::new(&site::SPAN_METADATA, &values))
+#[inline(always)]
+fn contextual<S: Stack>(stack: &S, site: &Site) -> Result<Id, Fault> {
+    let values = site.metadata.fields().value_set(&[]);
+    opened(stack, site, &Attributes::new(site.metadata, &values))
 }
 
 /// Opens a span, unless nobody wants it.
 #[inline(always)]
-fn opened<S: Stack>(stack: &S, attrs: &Attributes<'_>) -> Result<Id, Fault> {
-    if !admits(stack, &site::SPAN, &site::SPAN_METADATA) {
+fn opened<S: Stack>(stack: &S, site: &Site, attrs: &Attributes<'_>) -> Result<Id, Fault> {
+    if !admits(stack, site) {
         return Err(Fault::Undone);
     }
     Ok(stack.new_span(attrs))
 }
 
 /// Sends an event, unless nobody wants it, as the macros and `Dispatch::event` do.
-fn sent<S: Stack>(stack: &S) -> bool {
-    if !admits(stack, &site::EVENT, &site::EVENT_METADATA) {
+fn sent<S: Stack>(stack: &S, site: &Site) -> bool {
+    if !admits(stack, site) {
         return false;
     }
-    let values = site::EVENT_METADATA.fields().value_set(&[]);
-    let event = Event::new(&site::EVENT_METADATA, &values);
+    let values = site.metadata.fields().value_set(&[]);
+    let event = Event::new(site.metadata, &values);
     if !stack.event_enabled(&event) {
         return false;
     }
@@ -138,17 +172,20 @@ fn close<S: Stack>(stack: &S, id: Id) -> Result<(), Fault> {
     Err(Fault::Undone)
 }
 
-/// Opens a chain of spans, each in the one before.
-fn chain<S: Stack>(stack: &S) -> Result<Vec<Id>, Fault> {
-    let values = site::SPAN_METADATA.fields().value_set(&[]);
+/// Opens a chain of so many spans, each in the one before, from the callsites of a table in turn.
+fn chain<S: Stack>(stack: &S, depth: u32) -> Result<Vec<Id>, Fault> {
+    let root = site::SPANS.first().ok_or(Fault::Undone)?;
+    let values = root.metadata.fields().value_set(&[]);
+    let mut last = opened(stack, root, &Attributes::new_root(root.metadata, &values))?;
     let mut chain = Vec::new();
-    let mut last = opened(stack, &Attributes::new_root(&site::SPAN_METADATA, &values))?;
     chain.push(last.clone());
-    for _ in 1..DEPTH {
-        last = opened(
-            stack,
-            &Attributes::child_of(last, &site::SPAN_METADATA, &values),
-        )?;
+    let mut turn = 0;
+    for _ in 1..depth {
+        turn = after(turn, CALLSITES);
+        let site = site::SPANS.get(turn as usize).ok_or(Fault::Undone)?;
+        let values = site.metadata.fields().value_set(&[]);
+        let attrs = Attributes::child_of(last, site.metadata, &values);
+        last = opened(stack, site, &attrs)?;
         chain.push(last.clone());
     }
     Ok(chain)

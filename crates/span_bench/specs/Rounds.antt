@@ -2,9 +2,15 @@
 use Rattle.std.specs.Prelude.{◌≡◌, ℕ, List, Option, Some, length, min}
 use Rattle.std.below.core.specs.declared.int.u32.TheConstants.{MAX}
 use Rattle.std.specs.FinMap.{get}
+use Rattle.std.specs.List.{All}
 use Rattle.std.specs.Option.{option_and_then}
+use Rattle.std.specs.declared.alloc.Global.{Global}
+use Rattle.std.specs.declared.vec.Vec.{Vec}
 use Rattle.span_core.specs.Span.{number_of}
 use Rattle.span_core.specs.declared.span.Id.{Id}
+use Rattle.span_dispatch.specs.Registration.{IsRegistered}
+use Rattle.span_dispatch.specs.declared.dispatch.Dispatch.{Dispatch}
+use Rattle.span_dispatch.specs.declared.registration.Registration.{Registration}
 use Rattle.span_registry.specs.Extensions.{Place, value_under}
 use Rattle.span_registry.specs.Store.{IsChain, RegistryState}
 use Rattle.span_registry.specs.declared.tag.Tag.{Tag}
@@ -18,3 +24,7 @@ IsDepth s id n =
 abbrev pub value_in : {T : Type 0} → Place T → RegistryState → Id → Tag T → Option T
 value_in place s id tag =
     option_and_then (λ m. value_under place m tag) (get s.store.extensions (number_of id))
+
+-- a dispatcher registered all of these
+abbrev pub AreRegistered : {S : Type 0} → Dispatch S → Vec Registration Global → Type 0
+AreRegistered d table = All (IsRegistered d) table.items

@@ -10,8 +10,8 @@ use thiserror::Error;
 /// Why a run ends early.
 #[derive(Clone, Copy, Debug, PartialEq, Eq, Error)]
 pub enum Fault {
-    /// A line names no workload, or no filters, or no rounds.
-    #[error("a line is not WORKLOAD FILTERS ROUNDS")]
+    /// A line names no workload, no stack, no size or no rounds.
+    #[error("a line is not WORKLOAD STACK SIZE ROUNDS")]
     Line,
     /// A step of a round was refused, or a layer can't be put on a registry.
     #[error("refused: {0}")]

@@ -3,13 +3,12 @@
 
 mod counter;
 mod fault;
+mod keeper;
+mod layers;
 mod order;
 mod rounds;
 mod run;
 mod site;
-mod stacks;
-#[cfg(test)]
-mod tests;
 mod workload;
 
 use std::process::ExitCode;

@@ -2,36 +2,36 @@
 ghost use Rattle.std.specs.Prelude.{◌≡◌, IfOk};
 
 use crate::fault::Fault;
-use crate::order::Order;
-use crate::rounds;
-use crate::stacks::{plain, under};
+use crate::keeper::Keeper;
+use crate::order::{Order, Stack};
 use crate::workload::Workload;
+use crate::{layers, rounds};
 use span_dispatch::Dispatch;
-use span_registry::Subscriber;
+use span_layers::{Identity, Layer, LayerExt, Observer, SubscriberExt};
+use span_registry::{Registry, Subscriber};
 use std::alloc::Global;
 use std::io::{Read, Write};
 
-/// A few rounds of each workload.
+/// A few rounds of each workload, and of some on each stack.
 const SMALL: &str = "\
-new_and_drop 0 3
-new_and_drop 1 3
-new_and_drop 4 3
-new_and_drop 64 3
-enter_and_exit 0 3
-enter_and_exit 1 3
-enter_and_exit 4 3
-enter_and_exit 64 3
-event 0 3
-event 1 3
-event 4 3
-event 64 3
-cascade 0 3
-scope 0 3
-from_root 0 3
-replace 0 3
+new_and_drop plain 2 3
+enter_and_exit plain 2 3
+event plain 2 3
+event_by plain 2 3
+cascade plain 2 3
+scope plain 2 3
+from_root plain 2 3
+replace plain 2 3
+new_and_drop filters=1 0 3
+event filters=64 2 3
+enter_and_exit list=4 2 3
+event list=16 2 3
+cascade nested=4 2 3
+event nested=16 2 3
+new_and_drop keeper 0 3
 ";
 
-/// Does what each line asks for, and prints how many rounds were done.
+/// Does what each line asks for, and prints it with how many rounds were done.
 ///
 /// Where there is no line at all, a few rounds of each workload. A line that is wrong ends the run.
 pub fn run<R: Read, W: Write>(alloc: Global, reader: &mut R, writer: &mut W) -> Result<(), Fault> {
@@ -47,12 +47,7 @@ pub fn run<R: Read, W: Write>(alloc: Global, reader: &mut R, writer: &mut W) -> 
             return Err(Fault::Line);
         };
         let done = done(alloc, order)?;
-        writeln!(
-            writer,
-            "{} {}: {done}",
-            order.workload.name(),
-            order.filters
-        )?;
+        writeln!(writer, "{line}: {done}")?;
     }
     Ok(())
 }
@@ -61,10 +56,49 @@ pub fn run<R: Read, W: Write>(alloc: Global, reader: &mut R, writer: &mut W) -> 
 pub fn done(alloc: Global, order: Order) -> Result<u32, Fault>
     ensures { IfOk result (λ done. done ≡ order.rounds) }
 {
-    if order.filters == 0 {
-        return done_on(alloc, plain(alloc)?, order);
+    match order.stack {
+        Stack::Plain => done_with(alloc, Identity::new(), order),
+        Stack::Filters(count) => done_with(alloc, layers::filtered(alloc, count)?, order),
+        Stack::List(count) => done_with(alloc, layers::listed(alloc, count)?, order),
+        Stack::Nested(4) => {
+            let two = (layers::counting(), layers::counting());
+            done_nested(alloc, two, (layers::counting(), layers::counting()), order)
+        }
+        Stack::Nested(16) => {
+            let eight = (layers::four(), layers::four());
+            done_nested(alloc, eight, (layers::four(), layers::four()), order)
+        }
+        Stack::Nested(_) => Err(Fault::Line),
+        Stack::Keeper => done_with(alloc, Observer::new(Keeper), order),
     }
-    done_on(alloc, under(alloc, order.filters)?, order)
+}
+
+/// Does the rounds with these four on a registry: each pair is made one layer, and then both.
+fn done_nested<L: Layer<Registry> + Drop>(
+    alloc: Global,
+    inner: (L, L),
+    outer: (L, L),
+    order: Order,
+) -> Result<u32, Fault>
+    requires inner { L.usable inner.0 × L.usable inner.1 }
+    requires outer { L.usable outer.0 × L.usable outer.1 }
+    ensures { IfOk result (λ done. done ≡ order.rounds) }
+{
+    let (first, second) = inner;
+    let (third, fourth) = outer;
+    let layer = first.and_then(second).and_then(third.and_then(fourth));
+    done_with(alloc, layer, order)
+}
+
+/// Does the rounds with this layer on a registry.
+fn done_with<L: Layer<Registry> + Drop>(alloc: Global, layer: L, order: Order) -> Result<u32, Fault>
+    requires { L.usable layer }
+    ensures { IfOk result (λ done. done ≡ order.rounds) }
+{
+    match Registry::new(alloc).with(layer) {
+        Ok(stack) => done_on(alloc, stack, order),
+        Err(back) => Err(Fault::Refused(back.error)),
+    }
 }
 
 /// Does the rounds on this stack.
@@ -73,14 +107,15 @@ fn done_on<S: Subscriber + Drop>(alloc: Global, stack: S, order: Order) -> Resul
     ensures { IfOk result (λ done. done ≡ order.rounds) }
 {
     let mut dispatch = Dispatch::new(alloc, stack);
-    let rounds = order.rounds;
+    let Order { size, rounds, .. } = order;
     match order.workload {
-        Workload::NewAndDrop => rounds::new_and_drop(&mut dispatch, rounds),
-        Workload::EnterAndExit => rounds::enter_and_exit(&mut dispatch, rounds),
-        Workload::Event => rounds::event(&mut dispatch, rounds),
-        Workload::Cascade => rounds::cascade(alloc, &mut dispatch, rounds),
-        Workload::Scope => rounds::scope(alloc, &mut dispatch, rounds),
-        Workload::FromRoot => rounds::from_root(alloc, &mut dispatch, rounds),
-        Workload::Replace => rounds::replace(&mut dispatch, rounds),
+        Workload::NewAndDrop => rounds::new_and_drop(alloc, &mut dispatch, size, rounds),
+        Workload::EnterAndExit => rounds::enter_and_exit(alloc, &mut dispatch, size, rounds),
+        Workload::Event => rounds::event(alloc, &mut dispatch, size, rounds),
+        Workload::EventBy => rounds::event_by(alloc, &mut dispatch, size, rounds),
+        Workload::Cascade => rounds::cascade(alloc, &mut dispatch, size, rounds),
+        Workload::Scope => rounds::scope(alloc, &mut dispatch, size, rounds),
+        Workload::FromRoot => rounds::from_root(alloc, &mut dispatch, size, rounds),
+        Workload::Replace => rounds::replace(alloc, &mut dispatch, size, rounds),
     }
 }

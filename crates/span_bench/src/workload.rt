@@ -2,22 +2,24 @@
 ghost use Rattle.std.specs.Prelude.{◌≡◌, IfSome};
 ghost use Rattle.span_bench.specs.Workload.{name_of};
 
-/// What one round does.
+/// What one round does. Each has a size.
 #[derive(Clone, Copy, Debug, PartialEq, Eq)]
 pub enum Workload {
-    /// A span is opened, and closes as its handle is dropped.
+    /// A span is opened, and closes as its handle is dropped. So many others are open.
     NewAndDrop,
-    /// A span is entered and left.
+    /// A span is entered and left, on one of so many lanes.
     EnterAndExit,
-    /// An event is sent.
+    /// An event is sent, from one of so many callsites.
     Event,
-    /// A chain of spans is opened. Their handles are dropped, the deepest span's last, and all close.
+    /// The same, from one that was registered.
+    EventBy,
+    /// A chain of so many spans is opened. Their handles are dropped, the deepest span's last, and all close.
     Cascade,
-    /// A span and its ancestors are walked through.
+    /// A span and its ancestors are walked through, so many in all.
     Scope,
     /// The same, the root first.
     FromRoot,
-    /// A value is kept with a span, in place of the one before.
+    /// A value is kept with one of so many spans, in place of the one before.
     Replace,
 }
 
@@ -30,26 +32,12 @@ impl Workload {
             "new_and_drop" => Some(Workload::NewAndDrop),
             "enter_and_exit" => Some(Workload::EnterAndExit),
             "event" => Some(Workload::Event),
+            "event_by" => Some(Workload::EventBy),
             "cascade" => Some(Workload::Cascade),
             "scope" => Some(Workload::Scope),
             "from_root" => Some(Workload::FromRoot),
             "replace" => Some(Workload::Replace),
             _ => None,
-        }
-    }
-
-    /// Its name.
-    pub fn name(self) -> &'static str
-        ensures { result.now ≡ name_of self }
-    {
-        match self {
-            Workload::NewAndDrop => "new_and_drop",
-            Workload::EnterAndExit => "enter_and_exit",
-            Workload::Event => "event",
-            Workload::Cascade => "cascade",
-            Workload::Scope => "scope",
-            Workload::FromRoot => "from_root",
-            Workload::Replace => "replace",
         }
     }
 }

@@ -3,7 +3,7 @@
 //! Each function answers how many requests it made.
 
 use crate::fault::Fault;
-use crate::site::{self, admits};
+use crate::site::{self, admits, Site};
 use tracing_core::callsite::DefaultCallsite;
 use tracing_core::span::Attributes;
 use tracing_core::{metadata, Event, Kind, Level, LevelFilter, Metadata, Subscriber};
@@ -22,8 +22,10 @@ static PAST_HINT_METADATA: Metadata<'static> = metadata! {
 
 /// Each round sends an event.
 pub fn event<S: Subscriber>(stack: &S, rounds: u32) -> Result<u64, Fault> {
+    let sites = site::events(1);
+    let site = sites.first().ok_or(Fault::Undone)?;
     for _ in 0..rounds {
-        if !sent(stack) {
+        if !sent(stack, site) {
             return Err(Fault::Undone);
         }
     }
@@ -32,12 +34,13 @@ pub fn event<S: Subscriber>(stack: &S, rounds: u32) -> Result<u64, Fault> {
 
 /// Each round opens a span and drops it.
 pub fn new_and_drop<S: Subscriber>(stack: &S, rounds: u32) -> Result<u64, Fault> {
+    let site = &site::SPANS[0];
     for _ in 0..rounds {
-        if !admits(stack, &site::SPAN, &site::SPAN_METADATA) {
+        if !admits(stack, site) {
             return Err(Fault::Undone);
         }
-        let values = site::SPAN_METADATA.fields().value_set(&[]);
-        let id = stack.new_span(&Attributes::new(&site::SPAN_METADATA, &values));
+        let values = site.metadata.fields().value_set(&[]);
+        let id = stack.new_span(&Attributes::new(site.metadata, &values));
         if !stack.try_close(id) {
             return Err(Fault::Undone);
         }
@@ -67,12 +70,12 @@ pub fn passes_hint(rounds: u32) -> Result<u64, Fault> {
 
 /// Sends an event, unless nobody wants it, as the macros and `Dispatch::event` do.
 #[inline(always)]
-fn sent<S: Subscriber>(stack: &S) -> bool {
-    if !admits(stack, &site::EVENT, &site::EVENT_METADATA) {
+fn sent<S: Subscriber>(stack: &S, site: &Site) -> bool {
+    if !admits(stack, site) {
         return false;
     }
-    let values = site::EVENT_METADATA.fields().value_set(&[]);
-    let event = Event::new(&site::EVENT_METADATA, &values);
+    let values = site.metadata.fields().value_set(&[]);
+    let event = Event::new(site.metadata, &values);
     if !stack.event_enabled(&event) {
         return false;
     }

@@ -1,0 +1,5 @@
+use Rattle.span_dispatch.specs.Serve.{stack_of}
+use Rattle.span_bench.proofs.rounds.open_all.Given as goal
+
+abbrev pub invariant-loop : goal.invariant-loop
+invariant-loop g l = g.S.Subscriber.usable (stack_of l.dispatch)

@@ -1,0 +1,54 @@
+//! The layers that workloads run on.
+ghost use Rattle.std.specs.Prelude.{◌≡◌, IfOk, vec_len};
+ghost use Rattle.span_bench.specs.Counter.{AreNew, IsNew};
+ghost use Rattle.span_layers.specs.Layered.{inner_of, outer_of};
+
+use crate::counter::Counter;
+use crate::fault::Fault;
+use span_core::LevelFilter;
+use span_layers::{Filtered, LayerExt, Layered, Observer};
+use std::alloc::Global;
+
+/// A layer that counts.
+pub type Counting = Observer<Counter>;
+
+/// Two layers that count.
+pub type Pair = Layered<Counting, Counting>;
+
+/// A list of layers that count, each under a level. Each passes what the workloads make.
+pub fn filtered(alloc: Global, count: u32) -> Result<Vec<Filtered<Counting, LevelFilter>>, Fault>
+    ensures { IfOk result (λ layers. vec_len layers ≡ count) }
+{
+    let mut layers = Vec::new(alloc);
+    for _ in 0..count {
+        layers.push(counting().with_filter(LevelFilter::INFO))?;
+    }
+    Ok(layers)
+}
+
+/// A list of layers that count.
+pub fn listed(alloc: Global, count: u32) -> Result<Vec<Counting>, Fault>
+    ensures { IfOk result (λ layers. vec_len layers ≡ count) }
+{
+    let mut layers = Vec::new(alloc);
+    for _ in 0..count {
+        layers.push(counting())?;
+    }
+    Ok(layers)
+}
+
+/// Four layers that count.
+pub fn four() -> Layered<Pair, Pair>
+    ensures inner { AreNew (inner_of result) }
+    ensures outer { AreNew (outer_of result) }
+{
+    let two = counting().and_then(counting());
+    two.and_then(counting().and_then(counting()))
+}
+
+/// A layer that counts.
+pub fn counting() -> Counting
+    ensures { IsNew result }
+{
+    Observer::new(Counter::new())
+}
