@@ -1,8 +1,8 @@
 -- The spans that the store keeps: what is found under the keys of their numbers.
 use Rattle.std.specs.Prelude.{◌≡◌, ◌≢◌, ℕ, ◌+◌, ◌<◌, zero, suc, T, List, [], ◌∷◌, ◌++◌, Option, None, Some, Bool, true, false, cond, ◌&&◌, length, IsSome, is_some, slice_get, slice_index_or, slice_set}
-use Rattle.std.specs.Borrow.{Bor}
+use Rattle.std.specs.Borrow.{Bor, MutBor}
 use Rattle.std.specs.List.{ItemBy, count_by}
-use Rattle.std.specs.Option.{option_and_then, option_copied}
+use Rattle.std.specs.Option.{IsSomeAnd, option_and_then, option_copied, option_copied_mut}
 use Rattle.std.specs.Ordering.{nat_cmp, eq_by_cmp, is_eq, is_lt}
 use Rattle.std.specs.Cmp.{nat_cmp_total, eq_by_cmp_equiv}
 use Rattle.std.specs.FinMap.Entries.{below_all}
@@ -14,12 +14,13 @@ use Rattle.std.specs.declared.cmp.Ordering.{Ordering}
 use Rattle.std.specs.declared.cmp.Ordering.TheVariants.{Less, Equal, Greater}
 use Rattle.std.proofs.Common.{Vec, Global, ◌⊎◌, arith, refl, sym, ap, subst, ◌∙◌, add-one, inl, inr}
 use Rattle.std.proofs.lemmas.Bool.{cases_eq, true≢false}
+use Rattle.std.proofs.lemmas.List.Sums.{sum_by-cons}
 use Rattle.std.proofs.lemmas.Option.{same_Some, slice_get-get_or, slice_get_past}
 use Rattle.span_registry.specs.Extensions.{no_values}
 use Rattle.span_core.specs.Span.{number_of}
 use Rattle.span_core.specs.declared.span.Id.{Id}
 use Rattle.span_registry.specs.Slot.{SlotState, TakesSlot}
-use Rattle.span_registry.specs.StoreRepr.{GrowsEmpty, Inserts, KeepsSpans, KeptSpans, found_in, kept_of, with_found, with_record, with_values}
+use Rattle.span_registry.specs.StoreRepr.{GrowsEmpty, Inserts, KeepsSpans, KeptSpans, Writes, found_in, kept_of, with_found, with_record, with_values}
 use Rattle.span_registry.specs.declared.extensions.ExtensionMap.{ExtensionMap}
 use Rattle.span_registry.specs.declared.span_record.SpanRecord.{SpanRecord}
 use Rattle.span_registry.specs.declared.span_store.SpanStore.TheInside.{Inside}
@@ -239,6 +240,62 @@ values_written a s e x key w keeps view_is has is =
     let here = ap (λ (l : List ExtensionMap). slice_get l key) is ∙ get-set_here a.extensions.items key w (keeps.extended x key has) in
     let new = found_written (slice_get a.extensions.items) (slice_get e.items) a.slots.keys x key w has here (λ q k differs at. ap (λ (l : List ExtensionMap). slice_get l k) is ∙ get-set_beside a.extensions.items key k w (other_key a x q key k keeps has differs at)) in
     (λ i. record (kept_of a) { extensions = new i }) ∙ ap (λ (s : KeptSpans). with_values s x w) view_is
+
+-- a number without a key has no record
+pub unseen_record : (a : Inside) (s : KeptSpans) (x : ℕ) → kept_of a ≡ s → get a.slots.keys x ≡ None → get s.records x ≡ None
+unseen_record a s x view_is none = sym (seen_record a s x view_is) ∙ ap (option_and_then (under a.records)) none
+
+-- so a number with a record has a key
+pub has_key : (P : SpanRecord → Type 0) (a : Inside) (s : KeptSpans) (x : ℕ) → kept_of a ≡ s → IsSomeAnd (get s.records x) P → get a.slots.keys x ≡ None → ⊥
+has_key P a s x view_is there none = subst (λ (o : Option SpanRecord). IsSomeAnd o P) (unseen_record a s x view_is none) there
+
+-- where a number has a key, a record is lent
+pub lends_some : (a : Inside) (x key : ℕ) (o : Option (MutBor SpanRecord)) → KeepsSpans a → get a.slots.keys x ≡ Some key → option_copied_mut o ≡ under a.records key → o ≡ None → ⊥
+lends_some a x key o keeps has lent none =
+    true≢false (sym (keeps.recorded x key has) ∙ ap (λ (o : Option SpanRecord). is_some o) (sym lent ∙ ap (λ (o : Option (MutBor SpanRecord)). option_copied_mut o) none))
+
+-- and it is the number's
+pub lent_record : (a : Inside) (s : KeptSpans) (x key : ℕ) (o : Option (MutBor SpanRecord)) (b : MutBor SpanRecord) → kept_of a ≡ s → get a.slots.keys x ≡ Some key → option_copied_mut o ≡ under a.records key → o ≡ Some b → get s.records x ≡ Some b.now
+lent_record a s x key o b view_is has lent is = sym (seen_record a s x view_is) ∙ ap (option_and_then (under a.records)) has ∙ sym lent ∙ ap (λ (o : Option (MutBor SpanRecord)). option_copied_mut o) is
+
+-- what is written through it changes the number's record
+pub writes_record : (f : SpanRecord → SpanRecord) (a : Inside) (s : KeptSpans) (id : Id) (key : ℕ) (r : SpanRecord) → KeepsSpans a → kept_of a ≡ s → get a.slots.keys (number_of id) ≡ Some key → get s.records (number_of id) ≡ Some r
+    → Writes id f s (kept_of (record a { records = with_value a.records key (f r) }))
+writes_record f a s id key r keeps view_is has is =
+    subst (λ (o : Option SpanRecord). IsSomeAnd o (λ w. kept_of (record a { records = with_value a.records key (f r) }) ≡ with_record s (number_of id) (f w))) (sym is) (record_written a s (number_of id) key (f r) keeps view_is has)
+
+-- as many values stand in a list after a write over one of them
+values_set : {X : Type 0} (xs : List (Option X)) (i : ℕ) (v : X) → IsSome (slice_index_or xs i None) → count_by is_some (slice_set xs i (Some v)) ≡ count_by is_some xs
+values_set [] i v there = refl
+values_set {X} (o ∷ xs) zero v there =
+    sum_by-cons (λ (o : Option X). cond {A = ℕ} (is_some o) 1 0) (Some v) xs
+    ∙ ap (λ (b : Bool). cond {A = ℕ} b 1 0 + count_by is_some xs) (sym there)
+    ∙ sym (sum_by-cons (λ (o : Option X). cond {A = ℕ} (is_some o) 1 0) o xs)
+values_set {X} (o ∷ xs) (suc i) v there =
+    sum_by-cons (λ (o : Option X). cond {A = ℕ} (is_some o) 1 0) o (slice_set xs i (Some v))
+    ∙ ap (λ (n : ℕ). cond {A = ℕ} (is_some o) 1 0 + n) (values_set xs i v there)
+    ∙ sym (sum_by-cons (λ (o : Option X). cond {A = ℕ} (is_some o) 1 0) o xs)
+
+-- another record under the key of a number keeps what the store keeps true
+pub keeps_written : (a : Inside) (x key : ℕ) (v : SpanRecord) → KeepsSpans a → get a.slots.keys x ≡ Some key → KeepsSpans (record a { records = with_value a.records key v })
+keeps_written a x key v keeps has =
+    let there : IsSome (under a.records key) = keeps.recorded x key has in
+    let updates = Updates-with_value a.records key v there in
+    let written = with_value a.records key v in
+    let same : (k : ℕ) → is_some (under written k) ≡ is_some (under a.records k) = λ k. elim (cases_eq k key) [
+      | inl at ↦ ap (λ (j : ℕ). is_some (under written j)) at ∙ ap (λ (o : Option SpanRecord). is_some o) updates.changed ∙ sym there ∙ ap (λ (j : ℕ). is_some (under a.records j)) (sym at)
+      | inr differs ↦ ap (λ (o : Option SpanRecord). is_some o) (updates.others k differs)
+    ] in
+    record {
+      recorded = λ y k at. same k ∙ keeps.recorded y k at;
+      extended = keeps.extended;
+      apart = keeps.apart;
+      all = values_set a.records.slots key v there ∙ keeps.all;
+      idle = λ k e none at. elim (cases_eq k key) [
+        | inl here ↦ absurd (true≢false (sym (same k ∙ ap (λ (j : ℕ). is_some (under a.records j)) here ∙ there) ∙ ap (λ (o : Option SpanRecord). is_some o) none))
+        | inr differs ↦ keeps.idle k e (sym (updates.others k differs) ∙ none) at
+      ];
+    }
 
 -- as many numbers are held as are put in and not taken out
 pub len_put : (m : FinMap nat_cmp ℕ) (x k : ℕ) → get m x ≡ None → len (insert m x k) ≡ len m + 1

@@ -174,13 +174,10 @@ impl SpanStore {
         ensures closing { IfSome result (λ p. (p ≡ id) × HasRecord self.old id CountsOneChild) }
         ensures still_open { result ≡ None → HasRecord self.old id (λ r. ¬ (CountsOneChild r)) }
     {
-        let counts = self.counts_of(id)?;
-        let left = Counts {
-            children: counts.children - 1,
-            ..counts
-        };
-        self.set_counts(id, left);
-        match left.state() {
+        let key = self.slots.key_of(id)?;
+        let found = self.records.get_mut(key)?;
+        found.children -= 1;
+        match found.counts().state() {
             Released::Closing => Some(id),
             Released::StillOpen => None,
         }
@@ -191,12 +188,10 @@ impl SpanStore {
         requires { HasRecord self.old id (λ r. r.children < count) }
         ensures { Writes id more self.old self.new }
     {
-        if let Some(counts) = self.counts_of(id) {
-            let grown = Counts {
-                children: counts.children + 1,
-                ..counts
-            };
-            self.set_counts(id, grown);
+        if let Some(key) = self.slots.key_of(id) {
+            if let Some(found) = self.records.get_mut(key) {
+                found.children += 1;
+            }
         }
     }
 
