@@ -1,5 +1,5 @@
 -- The spans that the store keeps: what is found under the keys of their numbers.
-use Rattle.std.specs.Prelude.{◌≡◌, ◌≢◌, ℕ, ◌+◌, ◌<◌, zero, suc, T, List, [], ◌∷◌, ◌++◌, Option, None, Some, Bool, true, false, cond, ◌&&◌, length, IsSome, is_some, slice_get, slice_index_or, slice_set}
+use Rattle.std.specs.Prelude.{◌≡◌, ◌≢◌, ℕ, ◌+◌, ◌<◌, zero, suc, T, List, [], ◌∷◌, ◌++◌, Option, None, Some, Bool, true, false, cond, ◌&&◌, length, IfSome, IsSome, is_some, slice_get, slice_index_or, slice_set}
 use Rattle.std.specs.Borrow.{Bor, MutBor}
 use Rattle.std.specs.List.{ItemBy, count_by}
 use Rattle.std.specs.Option.{IsSomeAnd, option_and_then, option_copied, option_copied_mut}
@@ -20,7 +20,7 @@ use Rattle.span_registry.specs.Extensions.{no_values}
 use Rattle.span_core.specs.Span.{number_of}
 use Rattle.span_core.specs.declared.span.Id.{Id}
 use Rattle.span_registry.specs.Slot.{SlotState, TakesSlot}
-use Rattle.span_registry.specs.StoreRepr.{GrowsEmpty, Inserts, KeepsSpans, KeptSpans, Writes, found_in, kept_of, with_found, with_record, with_values}
+use Rattle.span_registry.specs.StoreRepr.{CountsAny, GrowsEmpty, Inserts, KeepsSpans, KeptSpans, Writes, counts_in, found_in, kept_of, with_found, with_record, with_values}
 use Rattle.span_registry.specs.declared.extensions.ExtensionMap.{ExtensionMap}
 use Rattle.span_registry.specs.declared.span_record.SpanRecord.{SpanRecord}
 use Rattle.span_registry.specs.declared.span_store.SpanStore.TheInside.{Inside}
@@ -245,7 +245,11 @@ values_written a s e x key w keeps view_is has is =
 pub unseen_record : (a : Inside) (s : KeptSpans) (x : ℕ) → kept_of a ≡ s → get a.slots.keys x ≡ None → get s.records x ≡ None
 unseen_record a s x view_is none = sym (seen_record a s x view_is) ∙ ap (option_and_then (under a.records)) none
 
--- so a number with a record has a key
+-- and so nothing is counted for it
+pub counts_nothing : (o : Option SpanRecord) → o ≡ None → IfSome o (λ r. CountsAny (counts_in r) → ⊥)
+counts_nothing o none = subst (λ (o : Option SpanRecord). IfSome o (λ r. CountsAny (counts_in r) → ⊥)) (sym none) tt
+
+-- a number with a record has a key
 pub has_key : (P : SpanRecord → Type 0) (a : Inside) (s : KeptSpans) (x : ℕ) → kept_of a ≡ s → IsSomeAnd (get s.records x) P → get a.slots.keys x ≡ None → ⊥
 has_key P a s x view_is there none = subst (λ (o : Option SpanRecord). IsSomeAnd o P) (unseen_record a s x view_is none) there
 

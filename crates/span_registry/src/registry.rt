@@ -21,7 +21,7 @@ use crate::lane::LaneStacks;
 use crate::limits::Limits;
 use crate::lookup::LookupSpan;
 use crate::span_data::Data;
-use crate::span_record::{Counts, SpanRecord};
+use crate::span_record::SpanRecord;
 use crate::span_store::SpanStore;
 use crate::stack::SpanStack;
 use crate::subscriber::{AlwaysUsable, Subscriber};
@@ -174,21 +174,7 @@ impl Registry {
         ensures unchanged { OnErr result (self.new ≡ self.old) }
         ensures forest { IsForest self.old.store.spans }
     {
-        let Some(counts) = self.spans.counts_of(id) else {
-            return Err(TraceError::UnknownSpan(id));
-        };
-        if !counts.is_open() {
-            return Err(TraceError::UnknownSpan(id));
-        }
-        if counts.handles == 0 {
-            return Err(TraceError::NoHandle(id));
-        }
-        let left = Counts {
-            handles: counts.handles - 1,
-            ..counts
-        };
-        self.spans.set_counts(id, left);
-        Ok(left.state())
+        self.spans.release(id)
     }
 
     /// Takes a closing span out. Answers its parent, if that is closing by this.
@@ -425,20 +411,7 @@ impl Subscriber for Registry {
     }
 
     fn clone_span(&mut self, _lane: Lane, id: Id) -> Result<Id, TraceError> {
-        let Some(counts) = self.spans.counts_of(id) else {
-            return Err(TraceError::UnknownSpan(id));
-        };
-        if !counts.is_open() {
-            return Err(TraceError::UnknownSpan(id));
-        }
-        if counts.handles >= self.spans.limits().count {
-            return Err(TraceError::CountFull(id));
-        }
-        let more = Counts {
-            handles: counts.handles + 1,
-            ..counts
-        };
-        self.spans.set_counts(id, more);
+        self.spans.add_handle(id)?;
         Ok(id)
     }
 

@@ -4,7 +4,7 @@ ghost use Rattle.std.specs.FinSet.{len as set_len};
 ghost use Rattle.std.specs.Option.{option_copied, option_map};
 ghost use Rattle.std.specs.Prelude.{◌≡◌, ◌≤◌, ◌↔◌, IfErr, IfOk, IfSome, None, IsSome, IsTrue, MatchBool, OnErr, OnOk, Some, length, slice_set, ◌<◌};
 ghost use Rattle.span_core.specs.Span.{number_of};
-ghost use Rattle.span_registry.specs.StoreRepr.{AreKeptIssued, HasNoRoom, HasRoom, Inserts, KeepsNothing, RetiresKept, TakesOut, counts_in, with_counts, no_spans, CountsBelow, CountsOneChild, GrowsEmpty, HasRecord, Writes, fewer, more};
+ghost use Rattle.span_registry.specs.StoreRepr.{AreKeptIssued, CountsBelow, CountsOneChild, GainsHandle, GrowsEmpty, HasNoRoom, HasRecord, HasRoom, Inserts, KeepsNothing, LosesHandle, RefusesGain, RefusesLoss, RetiresKept, TakesOut, Writes, counts_in, fewer, more, no_spans};
 ghost use Rattle.span_registry.specs.Extensions.{no_values};
 
 use crate::extensions::ExtensionMap;
@@ -136,19 +136,6 @@ impl SpanStore {
         }
     }
 
-    /// Writes how many handles and children a span has.
-    pub(crate) fn set_counts(&mut self, id: Id, counts: Counts)
-        requires { IsSome (get self.old.records (number_of id)) }
-        ensures { Writes id (with_counts counts) self.old self.new }
-    {
-        if let Some(key) = self.slots.key_of(id) {
-            if let Some(found) = self.records.get_mut(key) {
-                found.handles = counts.handles;
-                found.children = counts.children;
-            }
-        }
-    }
-
     /// The parent of a new span, if it can count no further child.
     pub(crate) fn full_parent(&self, parent: Option<Id>, count: u32) -> Option<Id>
         ensures same { IfSome result (λ p. parent ≡ Some p) }
@@ -193,6 +180,55 @@ impl SpanStore {
                 found.children += 1;
             }
         }
+    }
+
+    /// Takes a handle from a span, and answers whether that is closing by this.
+    ///
+    /// Refused where it isn't open (`UnknownSpan`), else where it has no handle (`NoHandle`).
+    pub(crate) fn release(&mut self, id: Id) -> Result<Released, TraceError>
+        ensures released { IfOk result (λ answer. LosesHandle id answer self.old self.new) }
+        ensures refused { IfErr result (RefusesLoss self.old id) }
+        ensures unchanged { OnErr result (self.new ≡ self.old) }
+    {
+        let Some(key) = self.slots.key_of(id) else {
+            return Err(TraceError::UnknownSpan(id));
+        };
+        let Some(found) = self.records.get_mut(key) else {
+            return Err(TraceError::UnknownSpan(id));
+        };
+        if !found.counts().is_open() {
+            return Err(TraceError::UnknownSpan(id));
+        }
+        if found.handles == 0 {
+            return Err(TraceError::NoHandle(id));
+        }
+        found.handles -= 1;
+        Ok(found.counts().state())
+    }
+
+    /// Gives a span a handle more.
+    ///
+    /// Refused where it isn't open (`UnknownSpan`), else where its handles are at the limit (`CountFull`).
+    pub(crate) fn add_handle(&mut self, id: Id) -> Result<(), TraceError>
+        ensures added { OnOk result (GainsHandle id self.old self.new) }
+        ensures refused { IfErr result (RefusesGain self.old id) }
+        ensures unchanged { OnErr result (self.new ≡ self.old) }
+    {
+        let count = self.limits().count;
+        let Some(key) = self.slots.key_of(id) else {
+            return Err(TraceError::UnknownSpan(id));
+        };
+        let Some(found) = self.records.get_mut(key) else {
+            return Err(TraceError::UnknownSpan(id));
+        };
+        if !found.counts().is_open() {
+            return Err(TraceError::UnknownSpan(id));
+        }
+        if found.handles >= count {
+            return Err(TraceError::CountFull(id));
+        }
+        found.handles += 1;
+        Ok(())
     }
 
     /// Puts a span in the store, under an id that was never issued. Refused for want of memory alone.
