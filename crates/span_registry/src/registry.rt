@@ -10,9 +10,9 @@ ghost use Rattle.span_registry.specs.Conducts.{no_conducts, registry_path_laws};
 ghost use Rattle.span_registry.specs.Form.{Terminal, Base};
 ghost use Rattle.span_registry.specs.Hooks.{registry_laws};
 ghost use Rattle.span_registry.specs.Levels.{registry_levels, unlevelled};
-ghost use Rattle.span_registry.specs.StoreRepr.{IsChosen};
+ghost use Rattle.span_registry.specs.StoreRepr.{HasParent, IsParentAt, RefusesParentAt};
 ghost use Rattle.span_registry.specs.Lends.{lends_extensions};
-ghost use Rattle.span_registry.specs.Step.{Enters, Exits, IsContext, Opens, RefusesEnter, RefusesNew, RefusesRelease, Releases, Removes, RetiresLate, asked, entered_last};
+ghost use Rattle.span_registry.specs.Step.{Enters, Exits, Opens, RefusesEnter, RefusesNew, RefusesRelease, Releases, Removes, RetiresLate, asked, entered_last};
 ghost use Rattle.span_registry.specs.Store.{AreIssued, IsClosing, IsForest, IsFresh, IsInStore, IsOpen, new_registry, stack_on};
 ghost use Rattle.span_registry.specs.Subscriber.{registry_interest, sum_after};
 
@@ -205,36 +205,46 @@ impl Registry {
         }
     }
 
+    /// The span as a parent, or none where it isn't open. Refused where it counts no child more (`CountFull`).
+    fn open_parent(&self, id: Id) -> Result<Option<Id>, TraceError>
+        ensures found { IfOk result (IsParentAt self.now id) }
+        ensures refused { IfErr result (RefusesParentAt self.now id) }
+    {
+        let Some(counts) = self.spans.counts_of(id) else {
+            return Ok(None);
+        };
+        if !counts.is_open() {
+            return Ok(None);
+        }
+        if counts.children >= self.spans.limits().count {
+            return Err(TraceError::CountFull(id));
+        }
+        Ok(Some(id))
+    }
+
     /// The parent of a contextual span.
-    fn context(&self, lane: Lane) -> Option<Id>
-        ensures { IsContext self.now.store lane (option_map number_of result) }
+    fn context(&self, lane: Lane) -> Result<Option<Id>, TraceError>
+        ensures found { IfOk result (HasParent self.now lane Parent.Contextual) }
+        ensures refused { IfErr result (RefusesNew self.now lane Parent.Contextual) }
     {
         match self.entered_last(lane) {
-            Some(id) => {
-                if self.is_open(id) {
-                    return Some(id);
-                }
-                None
-            }
-            None => None,
+            Some(id) => self.open_parent(id),
+            None => Ok(None),
         }
     }
 
     /// The parent that a new span gets.
     fn parent_for(&self, lane: Lane, asked: Parent) -> Result<Option<Id>, TraceError>
-        ensures chosen { IfOk result (IsChosen self.now.store lane asked) }
+        ensures found { IfOk result (HasParent self.now lane asked) }
         ensures refused { IfErr result (RefusesNew self.now lane asked) }
     {
         match asked {
             Parent::Root => Ok(None),
-            Parent::Contextual => Ok(self.context(lane)),
-            Parent::Explicit(id) => {
-                if self.is_open(id) {
-                    Ok(Some(id))
-                } else {
-                    Err(TraceError::UnknownParent(id))
-                }
-            }
+            Parent::Contextual => self.context(lane),
+            Parent::Explicit(id) => match self.open_parent(id)? {
+                Some(parent) => Ok(Some(parent)),
+                None => Err(TraceError::UnknownParent(id)),
+            },
         }
     }
 }
@@ -349,10 +359,6 @@ impl Subscriber for Registry {
         ensures unchanged { OnErr result (self.new ≡ self.old) }
     {
         let parent = self.parent_for(lane, attrs.asked_parent())?;
-        let count = self.spans.limits().count;
-        if let Some(id) = self.spans.full_parent(parent, count) {
-            return Err(TraceError::CountFull(id));
-        }
         if self.spans.is_full() {
             return Err(TraceError::TooManySpans);
         }
@@ -363,6 +369,7 @@ impl Subscriber for Registry {
             children: 0,
             verdict: pass.refused(),
         };
+        let count = self.spans.limits().count;
         let id = self.spans.insert(self.alloc, span)?;
         if let Some(above) = parent {
             self.spans.gain_child(above, count);

@@ -4,7 +4,7 @@ ghost use Rattle.std.specs.FinSet.{len as set_len};
 ghost use Rattle.std.specs.Option.{option_copied, option_map};
 ghost use Rattle.std.specs.Prelude.{◌≡◌, ◌≤◌, ◌↔◌, IfErr, IfOk, IfSome, None, IsSome, IsTrue, MatchBool, OnErr, OnOk, Some, length, slice_set, ◌<◌};
 ghost use Rattle.span_core.specs.Span.{number_of};
-ghost use Rattle.span_registry.specs.StoreRepr.{AreKeptIssued, CountsBelow, CountsOneChild, GainsHandle, GrowsEmpty, HasNoRoom, HasRecord, HasRoom, Inserts, KeepsNothing, LosesHandle, RefusesGain, RefusesLoss, RetiresKept, TakesOut, Writes, counts_in, fewer, more, no_spans};
+ghost use Rattle.span_registry.specs.StoreRepr.{AreKeptIssued, CountsOneChild, GainsHandle, GrowsEmpty, HasNoRoom, HasRecord, HasRoom, Inserts, KeepsNothing, LosesHandle, RefusesGain, RefusesLoss, RetiresKept, TakesOut, Writes, counts_in, fewer, more, no_spans};
 ghost use Rattle.span_registry.specs.Extensions.{no_values};
 
 use crate::extensions::ExtensionMap;
@@ -132,24 +132,6 @@ impl SpanStore {
     {
         match self.get(id) {
             Some(found) => Some(found.counts()),
-            None => None,
-        }
-    }
-
-    /// The parent of a new span, if it can count no further child.
-    pub(crate) fn full_parent(&self, parent: Option<Id>, count: u32) -> Option<Id>
-        ensures same { IfSome result (λ p. parent ≡ Some p) }
-        ensures full { IfSome result (λ p. HasRecord self.now p (λ r. count ≤ r.children)) }
-        ensures room { result ≡ None → CountsBelow count self.now parent }
-    {
-        let id = parent?;
-        match self.counts_of(id) {
-            Some(counts) => {
-                if counts.children >= count {
-                    return Some(id);
-                }
-                None
-            }
             None => None,
         }
     }
