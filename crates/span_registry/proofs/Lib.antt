@@ -30,5 +30,6 @@ mod SlotCounts
 mod SlotSteps
 mod Slotting
 mod Stored
+mod Tabled
 mod StoreLaws
 mod View

@@ -11,6 +11,7 @@ use Rattle.span_registry.specs.Context.{subscriber_lent, with_subscriber}
 use Rattle.span_registry.specs.Extensions.{with_value, Place}
 use Rattle.span_registry.specs.Store.{RegistryState, with_extensions}
 use Rattle.span_registry.specs.contracts.context.ContextMut.{the_row as context_row}
+use Rattle.span_registry.specs.contracts.extension_tables.ExtensionTables.{the_row as tables_row}
 use Rattle.span_registry.specs.contracts.extensions.ExtensionMap.{the_row as map_row}
 use Rattle.span_registry.specs.contracts.registry.Registry.{the_row}
 use Rattle.span_registry.specs.contracts.table.Table.{the_row as table_row}
@@ -54,6 +55,12 @@ abbrev pub lends_value : (T : RattleType) → Place T.Denot → MutBor Extension
 lends_value T place s tag r =
     LendsSo map_row T s r (λ n w. OnSome r (n ≡ with_value place s.now tag w)) (λ n. n ≡ s.now)
 
+-- the same of the tables that hold the extensions
+abbrev pub lends_tabled : (T : RattleType) → Place T.Denot → MutBor ExtensionMap → Tag T.Denot
+    → Option (MutBor T.Denot) → Fml
+lends_tabled T place s tag r =
+    LendsSo tables_row T s r (λ n w. OnSome r (n ≡ with_value place s.now tag w)) (λ n. n ≡ s.now)
+
 -- the same of one table, by the number of a tag
 abbrev pub lends_entry : (T : RattleType) → MutBor (FinMap nat_cmp T.Denot) → ℕ
     → Option (MutBor T.Denot) → Fml
@@ -63,4 +70,4 @@ lends_entry T s n r =
 -- once the borrow r ends, the extensions have the values of one type that r had last
 abbrev pub lends_table : (T : RattleType) → Place T.Denot → MutBor ExtensionMap
     → MutBor (FinMap nat_cmp T.Denot) → Fml
-lends_table T place s r = Lends map_row (table_row T) s r (place.with_values s.now)
+lends_table T place s r = Lends tables_row (table_row T) s r (place.with_values s.now)

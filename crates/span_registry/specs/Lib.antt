@@ -20,6 +20,7 @@ pub mod Position
 pub mod Plan
 pub mod Question
 pub mod References
+pub mod Shown
 pub mod Slot
 pub mod State
 pub mod Step

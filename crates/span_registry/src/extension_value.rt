@@ -3,7 +3,7 @@ ghost use Rattle.std.specs.Prelude.{◌≡◌, refl};
 ghost use Rattle.std.specs.Borrow.{sem};
 ghost use Rattle.span_registry.specs.Lends.{lends_table};
 
-use crate::extensions::ExtensionMap;
+use crate::extension_tables::ExtensionTables;
 use crate::table::Table;
 
 /// What a call of a table takes: only this library can make it, so no one else reaches a table.
@@ -12,8 +12,7 @@ pub struct Internal;
 
 /// A type that the value of an extension may have: u64, i64, bool, `String`, `Vec<u8>` or `Vec<u64>`, and no other.
 pub trait ExtensionValue: Drop {
-    ghost use Rattle.span_registry.specs.Extensions.{Place, ValueType, SameAt};
-    ghost use Rattle.span_registry.specs.declared.extensions.ExtensionMap.{ExtensionMap};
+    ghost use Rattle.span_registry.specs.Extensions.{ExtensionMap, Place, ValueType, SameAt};
     ghost use Rattle.std.specs.Prelude.{ℕ};
     ghost use Rattle.span_registry.specs.Extensions.{no_values};
     ghost use Rattle.std.specs.FinMap.{FinMap, empty, get};
@@ -24,13 +23,13 @@ pub trait ExtensionValue: Drop {
     ghost place: { Place Self };
 
     /// The values of this type.
-    fn table(map: &ExtensionMap, _internal: Internal) -> &Table<Self>
-        ensures { result.now ≡ place.values map.now };
+    fn table(tables: &ExtensionTables, _internal: Internal) -> &Table<Self>
+        ensures { result.now ≡ place.values tables.now };
 
     /// The values of this type, to be changed.
-    fn table_mut(map: &mut ExtensionMap, _internal: Internal) -> &mut Table<Self>
-        ensures* writes_back { sem 𝓛 (lends_table Self.row place map.entry result) }
-        ensures value { result.now ≡ place.values map.old };
+    fn table_mut(tables: &mut ExtensionTables, _internal: Internal) -> &mut Table<Self>
+        ensures* writes_back { sem 𝓛 (lends_table Self.row place tables.entry result) }
+        ensures value { result.now ≡ place.values tables.old };
 
     ghost begins_empty: { place.values no_values ≡ empty };
 
@@ -74,12 +73,12 @@ impl ExtensionValue for u64 {
 
     ghost writes_own_type = { writes_unsigned };
 
-    fn table(map: &ExtensionMap, _internal: Internal) -> &Table<u64> {
-        &map.unsigned_numbers
+    fn table(tables: &ExtensionTables, _internal: Internal) -> &Table<u64> {
+        &tables.unsigned_numbers
     }
 
-    fn table_mut(map: &mut ExtensionMap, _internal: Internal) -> &mut Table<u64> {
-        &mut map.unsigned_numbers
+    fn table_mut(tables: &mut ExtensionTables, _internal: Internal) -> &mut Table<u64> {
+        &mut tables.unsigned_numbers
     }
 }
 
@@ -105,12 +104,12 @@ impl ExtensionValue for i64 {
 
     ghost writes_own_type = { writes_signed };
 
-    fn table(map: &ExtensionMap, _internal: Internal) -> &Table<i64> {
-        &map.signed_numbers
+    fn table(tables: &ExtensionTables, _internal: Internal) -> &Table<i64> {
+        &tables.signed_numbers
     }
 
-    fn table_mut(map: &mut ExtensionMap, _internal: Internal) -> &mut Table<i64> {
-        &mut map.signed_numbers
+    fn table_mut(tables: &mut ExtensionTables, _internal: Internal) -> &mut Table<i64> {
+        &mut tables.signed_numbers
     }
 }
 
@@ -133,12 +132,12 @@ impl ExtensionValue for bool {
 
     ghost writes_own_type = { writes_flag };
 
-    fn table(map: &ExtensionMap, _internal: Internal) -> &Table<bool> {
-        &map.flags
+    fn table(tables: &ExtensionTables, _internal: Internal) -> &Table<bool> {
+        &tables.flags
     }
 
-    fn table_mut(map: &mut ExtensionMap, _internal: Internal) -> &mut Table<bool> {
-        &mut map.flags
+    fn table_mut(tables: &mut ExtensionTables, _internal: Internal) -> &mut Table<bool> {
+        &mut tables.flags
     }
 }
 
@@ -161,12 +160,12 @@ impl ExtensionValue for String {
 
     ghost writes_own_type = { writes_text };
 
-    fn table(map: &ExtensionMap, _internal: Internal) -> &Table<String> {
-        &map.texts
+    fn table(tables: &ExtensionTables, _internal: Internal) -> &Table<String> {
+        &tables.texts
     }
 
-    fn table_mut(map: &mut ExtensionMap, _internal: Internal) -> &mut Table<String> {
-        &mut map.texts
+    fn table_mut(tables: &mut ExtensionTables, _internal: Internal) -> &mut Table<String> {
+        &mut tables.texts
     }
 }
 
@@ -189,12 +188,12 @@ impl ExtensionValue for Vec<u8> {
 
     ghost writes_own_type = { writes_bytes };
 
-    fn table(map: &ExtensionMap, _internal: Internal) -> &Table<Vec<u8>> {
-        &map.bytes
+    fn table(tables: &ExtensionTables, _internal: Internal) -> &Table<Vec<u8>> {
+        &tables.bytes
     }
 
-    fn table_mut(map: &mut ExtensionMap, _internal: Internal) -> &mut Table<Vec<u8>> {
-        &mut map.bytes
+    fn table_mut(tables: &mut ExtensionTables, _internal: Internal) -> &mut Table<Vec<u8>> {
+        &mut tables.bytes
     }
 }
 
@@ -220,11 +219,11 @@ impl ExtensionValue for Vec<u64> {
 
     ghost writes_own_type = { writes_number_list };
 
-    fn table(map: &ExtensionMap, _internal: Internal) -> &Table<Vec<u64>> {
-        &map.number_lists
+    fn table(tables: &ExtensionTables, _internal: Internal) -> &Table<Vec<u64>> {
+        &tables.number_lists
     }
 
-    fn table_mut(map: &mut ExtensionMap, _internal: Internal) -> &mut Table<Vec<u64>> {
-        &mut map.number_lists
+    fn table_mut(tables: &mut ExtensionTables, _internal: Internal) -> &mut Table<Vec<u64>> {
+        &mut tables.number_lists
     }
 }

@@ -3,6 +3,7 @@
 
 mod bloom;
 mod context;
+mod extension_tables;
 mod extension_value;
 mod extensions;
 mod lane;

@@ -182,7 +182,7 @@ impl Registry {
         requires { IsClosing self.old.store.spans (number_of id) }
         ensures { Removes id result self.old self.new }
     {
-        match self.spans.remove(self.alloc, id) {
+        match self.spans.remove(id) {
             Some(parent) => self.spans.lose_child(parent),
             None => None,
         }

@@ -24,7 +24,7 @@ pub struct SpanRef<'a, R> {
 impl<'a, R> SpanRef<'a, R> {
     ghost use Rattle.std.specs.Prelude.{◌≡◌};
     ghost use Rattle.span_core.specs.Metadata.{fields_of, name_of};
-    ghost use Rattle.span_registry.specs.Extensions.{shown_map};
+    ghost use Rattle.span_registry.specs.Shown.{shown_map};
     ghost use Rattle.span_registry.specs.Mask.{filters_of};
     ghost use Rattle.span_registry.specs.References.{extensions_of_reference, id_of_reference, mask_of, span_of_reference, subscriber_of};
     ghost use Rattle.span_registry.specs.References.{data_extensions, data_id, data_span};

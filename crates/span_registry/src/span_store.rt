@@ -229,7 +229,7 @@ impl SpanStore {
     }
 
     /// Takes a span out, with its extensions, and answers its parent. It needs no memory.
-    pub(crate) fn remove(&mut self, alloc: Global, id: Id) -> Option<Id>
+    pub(crate) fn remove(&mut self, id: Id) -> Option<Id>
         requires { IsSome (get self.old.records (number_of id)) }
         ensures parent { option_map (λ r. r.parent) (get self.old.records (number_of id))
             ≡ Some result }
@@ -237,7 +237,7 @@ impl SpanStore {
     {
         let key = self.slots.key_of(id)?;
         self.slots.give_back(id);
-        forget(&mut self.extensions, alloc, key);
+        forget(&mut self.extensions, key);
         let span = self.records.remove(key);
         span.parent
     }
@@ -255,12 +255,10 @@ fn reach(extensions: &mut Vec<ExtensionMap>, alloc: Global, key: usize) -> Resul
     Ok(())
 }
 
-/// Takes all values under this key out.
-fn forget(extensions: &mut Vec<ExtensionMap>, alloc: Global, key: usize)
+/// Takes all values under this key out. Tables that were made there stay.
+fn forget(extensions: &mut Vec<ExtensionMap>, key: usize)
     requires { key < length extensions.old.items }
     ensures { extensions.new.items ≡ slice_set extensions.old.items key no_values }
 {
-    if !extensions[key].is_empty() {
-        extensions[key] = ExtensionMap::new(alloc);
-    }
+    extensions[key].clear();
 }

@@ -1,0 +1,9 @@
+use Rattle.std.proofs.Common.{◌≡◌, refl, ap, ◌∙◌}
+use Rattle.span_registry.proofs.Lending.{on_some}
+use Rattle.span_registry.proofs.extension_tables.ExtensionTables.get_mut.Goals as goal
+
+pub returns : goal.returns
+returns g c =
+    let place = g.T.ExtensionValue.place in
+    let own : c.get_mut.follows.lender-at-none ≡ place.values c.args.self.now = c.get_mut.follows.holds-at-none ∙ c.table_mut.ensures.value in
+    ((refl, λ w. on_some c.get_mut.result (λ e. ap (place.with_values c.args.self.now) (e ∙ cc)) (c.get_mut.follows.holds w), ap (place.with_values c.args.self.now) own ∙ g.met.T.ExtensionValue.with_own c.args.self.now), record { writes_back = tt; value = cc })
