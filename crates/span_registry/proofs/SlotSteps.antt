@@ -118,17 +118,16 @@ module _ (ps : List Slot) (free : List ℕ) (room gone : ℕ) (l : Limits) (h : 
   sound_again rest i key x e read = sound_taken ps free room gone l h rest i x.generation key e (free_there rest i x e read) (read_free rest i x e read).1
 
   -- the slot freed last holds another span
-  pub takes_again : (rest : List ℕ) (i key : ℕ) (x y : Slot) (id : Id) → free ≡ rest ++ i ∷ [] → x ≡ get_or ps i x → y ≡ get_or ps i y → number_of id ≡ number_at i x.generation
-      → TakesSlot key id (state_of ps gone l) (state_of (slice_set ps i (slot_at y.generation (Some key))) gone l)
-  takes_again rest i key x y id e read again is =
-      let n = y.generation in
-      let was = free_there rest i y e again in
+  pub takes_again : (rest : List ℕ) (i key : ℕ) (x : Slot) (id : Id) → free ≡ rest ++ i ∷ [] → x ≡ get_or ps i x → number_of id ≡ number_at i x.generation
+      → TakesSlot key id (state_of ps gone l) (state_of (slice_set ps i (slot_at x.generation (Some key))) gone l)
+  takes_again rest i key x id e read is =
+      let n = x.generation in
+      let was = free_there rest i x e read in
       let few = few_slots ps free room gone l h in
       let within = free_within rest i e in
       let size = length-set ps i (slot_at n (Some key)) in
-      let same : x.generation ≡ n = ap (λ (p : Slot). p.generation) (read ∙ get_or_from_slice_get ps i (slot_at n None) x was) in
       takes ps (slice_set ps i (slot_at n (Some key))) i n key gone l id few (omega arith) (omega arith) (ap issued_in was ∙ (let z : n + 0 ≡ n = omega arith in z)) (keyless n (slice_get ps i) was)
-      (changes_set ps i (slot_at n None) (slot_at n (Some key)) was) (is ∙ ap (number_at i) same)
+      (changes_set ps i (slot_at n None) (slot_at n (Some key)) was) is
 
   -- a new slot holds its first span
   pub sound_new : (qs : List Slot) (more rest : List ℕ) (larger key : ℕ) → length ps < l.places → qs ≡ ps ++ first_held key ∷ [] → more ≡ rest → free ≡ rest ++ [] → length qs ≤ larger → IsSound qs more larger gone l

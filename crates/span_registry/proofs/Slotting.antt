@@ -8,7 +8,7 @@ use Rattle.std.specs.FinMap.{FinMap, find, from_entries, get, insert, remove, le
 use Rattle.std.specs.FinSet.{FinSet, contains, from_list, insert as add, len as set_len, contains-from_list, contains-insert, len-empty as set_empty, len-insert as set_insert, same_set}
 use Rattle.std.specs.List.{list_any}
 use Rattle.std.specs.Ordering.{nat_cmp, eq_by_cmp}
-use Rattle.span_registry.specs.Slot.{number_at, issued_at, with_key, held_from, numbers_at, issued_from, is_held}
+use Rattle.span_registry.specs.Slot.{number_at, key_of_slot, issued_at, with_key, held_from, numbers_at, issued_from, is_held}
 use Rattle.span_registry.specs.declared.slot.Slot.{Slot}
 use Rattle.span_registry.proofs.Chains.{same_test, other_test}
 
@@ -30,7 +30,7 @@ number_cases (suc n) = inr (n % 4294967296, n / 4294967296, omega arith, omega a
 -- the key that a slot has in a generation
 abbrev pub key_in : Option Slot → ℕ → Option ℕ
 key_in None g = None
-key_in (Some p) g = cond (nat_eq p.generation g) p.key None
+key_in (Some p) g = key_of_slot p g
 
 abbrev pub keys_of : List Slot → FinMap nat_cmp ℕ
 keys_of ps = from_entries (held_from 0 ps)

@@ -22,6 +22,7 @@ pub mod Question
 pub mod References
 pub mod Shown
 pub mod Slot
+pub mod SlotValue
 pub mod State
 pub mod Step
 pub mod Store

@@ -73,6 +73,10 @@ IsOfNoSlot x = (i g : ℕ) → i < 4294967295 → x ≡ number_at i g → ⊥
 abbrev pub first_held : ℕ → Slot
 first_held key = record { generation = 0; key = Some key }
 
+-- the key that a slot has in generation g
+abbrev pub key_of_slot : Slot → ℕ → Option ℕ
+key_of_slot p g = cond (nat_eq p.generation g) p.key None
+
 -- how many numbers were issued at a slot
 abbrev pub issued_at : Slot → ℕ
 issued_at p = p.generation + cond (is_some p.key) 1 0

@@ -1,9 +1,9 @@
 //! The registry's places: each is kept as a slot, which holds one span after another.
 ghost use Rattle.std.specs.FinMap.{get};
 ghost use Rattle.std.specs.FinSet.{len as set_len};
-ghost use Rattle.std.specs.Prelude.{◌≡◌, ◌≤◌, ◌<◌, ◌↔◌, IfErr, IfOk, IfSome, IsSome, IsTrue, MatchBool, None, OnErr, length, vec_capacity, ◌++◌, ◌∷◌, [], OnOk};
+ghost use Rattle.std.specs.Prelude.{◌≡◌, ◌≤◌, ◌<◌, ◌↔◌, IfErr, IfOk, IfSome, IsSome, IsTrue, MatchBool, None, OnErr, Some, length, vec_capacity, ◌++◌, ◌∷◌, [], OnOk};
 ghost use Rattle.span_core.specs.Span.{number_of};
-ghost use Rattle.span_registry.specs.Slot.{AreHeldIssued, AreUnused, GivesBack, HasNoSlot, HasSlot, IsOfNoSlot, RetiresInTime, TakesSlot, first_held, no_slots, number_at};
+ghost use Rattle.span_registry.specs.Slot.{AreHeldIssued, AreUnused, GivesBack, HasNoSlot, HasSlot, IsOfNoSlot, RetiresInTime, TakesSlot, first_held, key_of_slot, no_slots, number_at};
 
 use crate::limits::Limits;
 use span_core::{Id, TraceError};
@@ -13,13 +13,47 @@ use std::marker::Model;
 /// How far apart the ids of two generations of a slot are: an id is `generation * GENERATION + slot + 1`.
 const GENERATION: u64 = 4294967296;
 
-/// What holds one span after another.
-#[derive(Clone, Copy)]
+/// What holds one span after another, seen as its generation and, where it holds a span, that one's key.
+#[derive(Drop)]
 pub(crate) struct Slot {
+    /// Where the span that it holds is kept. It says nothing where it holds none.
+    key: usize,
     /// How many spans it held before.
     generation: u32,
-    /// Where the span that it holds is kept.
-    key: Option<usize>,
+    /// It holds a span.
+    is_held: bool,
+}
+
+impl Model for Slot {
+    ghost use Rattle.std.specs.Prelude.{cond, None, Some};
+    ghost use Rattle.span_registry.specs.SlotValue.{SlotValue};
+
+    ghost Value = { SlotValue };
+
+    ghost view = { λ a. record { generation = a.generation; key = cond a.is_held (Some a.key) None } };
+}
+
+impl Slot {
+    /// Where the span that it holds in this generation is kept.
+    #[inline(always)]
+    fn key_in(&self, generation: u32) -> Option<usize>
+        ensures { result ≡ key_of_slot self.now generation }
+    {
+        if self.is_held && self.generation == generation {
+            return Some(self.key);
+        }
+        None
+    }
+
+    /// It holds the span that is kept under this key, in the generation that is answered.
+    fn hold(&mut self, key: usize) -> u32
+        ensures held { self.new ≡ record self.old { key = Some key } }
+        ensures generation { result ≡ self.old.generation }
+    {
+        self.key = key;
+        self.is_held = true;
+        self.generation
+    }
 }
 
 /// The slots, seen as the map from the numbers of the spans that they hold to the keys under which these are kept.
@@ -86,8 +120,9 @@ fn make(slots: &mut Vec<Slot>, free: &mut Vec<u32>, key: usize) -> Result<(), Tr
 {
     free.reserve(slots.len() + 1)?;
     slots.push(Slot {
+        key,
         generation: 0,
-        key: Some(key),
+        is_held: true,
     })?;
     Ok(())
 }
@@ -144,10 +179,7 @@ impl Slots {
         let slots = &self.slots;
         let (slot, generation) = parts_of(id)?;
         let found = slots.get(slot as usize)?;
-        if found.generation == generation {
-            return found.key;
-        }
-        None
+        found.key_in(generation)
     }
 
     /// Each slot holds a span or is retired, and no more may be made.
@@ -166,8 +198,7 @@ impl Slots {
     {
         match self.free.pop() {
             Some(slot) => {
-                let generation = self.slots[slot as usize].generation;
-                self.slots[slot as usize].key = Some(key);
+                let generation = self.slots[slot as usize].hold(key);
                 Ok(id_at(slot, generation))
             }
             None => {
@@ -186,8 +217,9 @@ impl Slots {
         if let Some((slot, generation)) = parts_of(id) {
             let next = generation + 1;
             self.slots[slot as usize] = Slot {
+                key: 0,
                 generation: next,
-                key: None,
+                is_held: false,
             };
             if next < self.limits.generations {
                 self.free.push_reserved(slot);

@@ -1,5 +1,5 @@
-use Rattle.std.proofs.Common.{Bool, cond, List, get_or, length, None, sym, ap, ◌∙◌, arith, refl}
-use Rattle.std.proofs.lemmas.Bool.{eq-eqb, ne_eqb, ltb-true}
+use Rattle.std.proofs.Common.{List, get_or, length, sym, ap, ◌∙◌, arith, refl}
+use Rattle.std.proofs.lemmas.Bool.{ltb-true}
 use Rattle.std.proofs.lemmas.Option.{slice_get_read}
 use Rattle.std.specs.FinMap.{get}
 use Rattle.span_core.specs.Span.{number_of}
@@ -19,16 +19,6 @@ returns-in_err-found c =
     let none = key_past c.self.inside.slots.items (number_of c.args.id) c.in_ok-slot.slot c.in_ok-slot.generation (few_slots _ _ _ _ _ c.self.invariant) c.in_ok-slot.ensures.slot c.in_ok-slot.ensures.at (let m = c.in_err-found.ensures.lookup.3 in omega arith) in
     c.from_residual-in_err-found.ensures ∙ sym (ap (λ (s : SlotState). get s.keys (number_of c.args.id)) (sym c.self.view_is) ∙ none)
 
-pub returns-then-found-generation : goal.returns-then-found-generation
-returns-then-found-generation c =
-    let e = ap length c.deref.ensures.value in
-    let l = ltb-true c.in_ok-slot.slot (length c.deref.result.now) (sym c.in_ok-found.ensures.lookup.0) in
-    let found = slice_get_read c.self.inside.slots.items (length c.self.inside.slots.items) c.in_ok-slot.slot c.in_ok-found.found.now refl (omega arith)
-    (c.in_ok-found.ensures.lookup.1 ∙ ap (λ (ps : List Slot). get_or ps c.in_ok-slot.slot c.in_ok-found.found.now) c.deref.ensures.value) in
-    let some = key_there c.self.inside.slots.items (number_of c.args.id) c.in_ok-slot.slot c.in_ok-slot.generation c.in_ok-found.found.now (few_slots _ _ _ _ _ c.self.invariant) c.in_ok-slot.ensures.slot c.in_ok-slot.ensures.at found in
-    sym (ap (λ (s : SlotState). get s.keys (number_of c.args.id)) (sym c.self.view_is) ∙ some
-    ∙ ap (λ (b : Bool). cond b c.in_ok-found.found.now.key None) (eq-eqb c.in_ok-found.found.now.generation c.in_ok-slot.generation c.if-found-generation.true))
-
 pub returns : goal.returns
 returns c =
     let e = ap length c.deref.ensures.value in
@@ -36,5 +26,4 @@ returns c =
     let found = slice_get_read c.self.inside.slots.items (length c.self.inside.slots.items) c.in_ok-slot.slot c.in_ok-found.found.now refl (omega arith)
     (c.in_ok-found.ensures.lookup.1 ∙ ap (λ (ps : List Slot). get_or ps c.in_ok-slot.slot c.in_ok-found.found.now) c.deref.ensures.value) in
     let some = key_there c.self.inside.slots.items (number_of c.args.id) c.in_ok-slot.slot c.in_ok-slot.generation c.in_ok-found.found.now (few_slots _ _ _ _ _ c.self.invariant) c.in_ok-slot.ensures.slot c.in_ok-slot.ensures.at found in
-    sym (ap (λ (s : SlotState). get s.keys (number_of c.args.id)) (sym c.self.view_is) ∙ some
-    ∙ ap (λ (b : Bool). cond b c.in_ok-found.found.now.key None) (ne_eqb c.in_ok-found.found.now.generation c.in_ok-slot.generation c.if-found-generation.false))
+    c.key_in.ensures ∙ sym (ap (λ (s : SlotState). get s.keys (number_of c.args.id)) (sym c.self.view_is) ∙ some)

@@ -1,10 +1,8 @@
-use Rattle.std.proofs.Common.{arith}
+use Rattle.std.proofs.Common.{ap, ◌∙◌, arith}
+use Rattle.span_registry.specs.Slot.{number_at}
 use Rattle.span_registry.proofs.SlotChanges.{sound_room}
 use Rattle.span_registry.proofs.SlotSteps.{free_within, may_make_at, sound_again, sound_new, takes_again, takes_from, takes_new}
 use Rattle.span_registry.proofs.slot.Slots.take.Goals as goal
-
-pub index-requires : goal.index-requires
-index-requires c = omega (arith, free_within _ _ _ _ _ c.self.invariant c.pop.new.self.items c.in-Some.slot c.in-Some.ensures.items)
 
 pub index_mut-requires : goal.index_mut-requires
 index_mut-requires c = omega (arith, free_within _ _ _ _ _ c.self.invariant c.pop.new.self.items c.in-Some.slot c.in-Some.ensures.items)
@@ -14,8 +12,9 @@ id_at-requires c = omega (arith, free_within _ _ _ _ _ c.self.invariant c.pop.ne
 
 pub invariant_of-self : goal.invariant_of-self
 invariant_of-self c =
-    sound_room _ _ _ _ _ (sound_again _ _ _ _ _ c.self.invariant c.pop.new.self.items c.in-Some.slot c.args.key c.index_mut.result.now c.in-Some.ensures.items c.index_mut.ensures.value) _
-    (let e = c.pop.ensures.capacity in omega arith)
+    rw c.hold-generation.ensures.held
+    (sound_room _ _ _ _ _ (sound_again _ _ _ _ _ c.self.invariant c.pop.new.self.items c.in-Some.slot c.args.key c.index_mut.result.now c.in-Some.ensures.items c.index_mut.ensures.value) _
+    (let e = c.pop.ensures.capacity in omega arith))
 
 pub make-requires : goal.make-requires
 make-requires c =
@@ -36,7 +35,8 @@ invariant_of-self-in-None c =
 pub returns-in-Some-clause-taken : goal.returns-in-Some-clause-taken
 returns-in-Some-clause-taken c =
     takes_from _ _ _ _ _ c.self.view_is
-    (takes_again _ _ _ _ _ c.self.invariant c.pop.new.self.items c.in-Some.slot c.args.key c.index.result.now c.index_mut.result.now c.id_at.result c.in-Some.ensures.items c.index.ensures c.index_mut.ensures.value c.id_at.ensures)
+    (rw c.hold-generation.ensures.held
+    (takes_again _ _ _ _ _ c.self.invariant c.pop.new.self.items c.in-Some.slot c.args.key c.index_mut.result.now c.id_at.result c.in-Some.ensures.items c.index_mut.ensures.value (c.id_at.ensures ∙ ap (number_at c.in-Some.slot) c.hold-generation.ensures.generation)))
 
 pub returns-in_ok-make-in-None-clause-taken : goal.returns-in_ok-make-in-None-clause-taken
 returns-in_ok-make-in-None-clause-taken c =
