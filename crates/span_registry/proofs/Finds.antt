@@ -1,5 +1,5 @@
 -- What a context finds, by what the store that it looks at has.
-use Rattle.std.proofs.Common.{◌≡◌, ℕ, Bool, false, cond, not, ◌&&◌, List, [], Option, None, Some, sym, ap, ◌∙◌}
+use Rattle.std.proofs.Common.{◌≡◌, ℕ, Bool, false, cond, not, ◌&&◌, List, [], Option, None, Some, refl, sym, ap, ◌∙◌}
 use Rattle.std.specs.Borrow.{Bor}
 use Rattle.std.specs.FinMap.{get, get-empty}
 use Rattle.std.specs.Option.{option_and_then, option_copied, option_map, option_map_or, unwrap_or}
@@ -7,6 +7,7 @@ use Rattle.std.specs.Ordering.{nat_cmp}
 use Rattle.span_core.specs.Filters.{FilterSet, is_enabled, meets, refuses}
 use Rattle.span_core.specs.Span.{number_of}
 use Rattle.span_core.specs.declared.filter.FilterId.{FilterId}
+use Rattle.span_core.specs.declared.filter.FilterMap.{FilterMap}
 use Rattle.span_registry.specs.Context.{RefersTo, filters_in, store_at, store_in, view_in}
 use Rattle.span_registry.specs.LaneStack.{newest, without_duplicates}
 use Rattle.span_registry.specs.References.{Reference, id_of_reference, span_of_reference, subscriber_of}
@@ -31,6 +32,10 @@ enabled_found s mask filter x r e =
     ap (λ (b : Bool). b && option_map_or (λ t. is_enabled t.verdict filter) (get s.spans x) false) (shown_some s mask x r e)
     ∙ ap (λ (o : Option Span). not (meets mask (refuses r.verdict)) && option_map_or (λ t. is_enabled t.verdict filter) o false) e
 
+-- whether a verdict, if there is one, is of a span that the mask shows and of whose filters none of these is
+abbrev pub passed_by : FilterSet → FilterId → Option FilterMap → Bool
+passed_by mask filter verdict = option_map_or (λ v. not (meets mask (refuses v)) && is_enabled v filter) verdict false
+
 -- where nothing was entered, a lane is in no span
 pub entered_nowhere : (lane : ℕ) → entered_last empty_store lane ≡ None
 entered_nowhere lane = ap (λ (o : Option (List ℕ)). newest (without_duplicates (unwrap_or o []))) (get-empty nat_cmp lane)
@@ -50,11 +55,15 @@ module _ {S : Type 0} (registry : S → RegistryState) where
       → one_shown (store_at registry o) mask x ≡ cond hidden None (Some x)
   found o b mask x r hidden is e h = ap (λ (q : Option (Bor S)). one_shown (store_at registry q) mask x) is ∙ shown_by (registry b.now).store mask x r hidden e h
 
-  pub enabled_kept : (o : Option (Bor S)) (b : Bor S) (mask : FilterSet) (filter : FilterId) (x : ℕ) (r : Span) (hidden : Bool) → o ≡ Some b → get (registry b.now).store.spans x ≡ Some r → meets mask (refuses r.verdict) ≡ hidden
-      → enabled_at (store_at registry o) mask filter x ≡ not hidden && is_enabled r.verdict filter
-  enabled_kept o b mask filter x r hidden is e h =
-      ap (λ (q : Option (Bor S)). enabled_at (store_at registry q) mask filter x) is ∙ enabled_found (registry b.now).store mask filter x r e
-      ∙ ap (λ (c : Bool). not c && is_enabled r.verdict filter) h
+  -- by the verdict, if the span is there
+  pub enabled_by : (o : Option (Bor S)) (b : Bor S) (mask : FilterSet) (filter : FilterId) (x : ℕ) (verdict : Option FilterMap) → o ≡ Some b → verdict ≡ option_map (λ (r : Span). r.verdict) (get (registry b.now).store.spans x)
+      → enabled_at (store_at registry o) mask filter x ≡ passed_by mask filter verdict
+  enabled_by o b mask filter x verdict is e =
+      ap (λ (q : Option (Bor S)). enabled_at (store_at registry q) mask filter x) is ∙ by_span (get (registry b.now).store.spans x) refl ∙ ap (passed_by mask filter) (sym e)
+    where
+      by_span : (r : Option Span) → get (registry b.now).store.spans x ≡ r → enabled_at (registry b.now).store mask filter x ≡ passed_by mask filter (option_map (λ (t : Span). t.verdict) (get (registry b.now).store.spans x))
+      by_span None h = enabled_absent (registry b.now).store mask filter x h ∙ ap (λ (q : Option Span). passed_by mask filter (option_map (λ (t : Span). t.verdict) q)) (sym h)
+      by_span (Some r) h = enabled_found (registry b.now).store mask filter x r h ∙ ap (λ (q : Option Span). passed_by mask filter (option_map (λ (t : Span). t.verdict) q)) (sym h)
 
   pub store_found : (o : Option (Bor S)) (s : S) → option_copied o ≡ Some s → store_at registry o ≡ (registry s).store
   store_found None s e = let no : None ≡ Some s = e in absurd (cc)

@@ -38,7 +38,7 @@ mask_at (Parts k o i) (Outer p) under = mask_at o p under
 mask_at (Parts k o i) (Inner p) under = mask_at i p under
 mask_at other p under = under
 
--- the filters of a path that have a number, below these
+-- these filters, and those of a path that have a number
 abbrev pub mask_of : Path → FilterSet → FilterSet
 mask_of [] under = under
 mask_of ((Some n, a) ∷ path) under = mask_of path (union under (single n))

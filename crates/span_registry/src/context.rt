@@ -207,9 +207,9 @@ impl<'a, S: LookupSpan> Context<'a, S> {
     {
         match self.subscriber {
             None => false,
-            Some(subscriber) => match subscriber.span_data(id) {
+            Some(subscriber) => match subscriber.root().verdict_of(id) {
                 None => false,
-                Some(found) => !found.is_hidden(self.mask) && found.is_enabled_for(filter),
+                Some(verdict) => self.mask.passes(verdict, filter),
             },
         }
     }

@@ -13,8 +13,8 @@ pub struct Mask {
 }
 
 impl Mask {
-    ghost use Rattle.std.specs.Prelude.{◌≡◌, false};
-    ghost use Rattle.span_core.specs.Filters.{has_filter, meets, refuses, union};
+    ghost use Rattle.std.specs.Prelude.{◌≡◌, ◌&&◌, false, not};
+    ghost use Rattle.span_core.specs.Filters.{has_filter, is_enabled, meets, refuses, union};
     ghost use Rattle.span_registry.specs.Mask.{filters_of};
 
     /// No filter.
@@ -34,6 +34,14 @@ impl Mask {
         Mask {
             filters: self.filters.and(filter),
         }
+    }
+
+    /// The id is attached, and neither one of its filters nor one of these refused.
+    pub(crate) fn passes(self, verdict: FilterMap, filter: FilterId) -> bool
+        ensures { result
+            ≡ (not (meets (filters_of self) (refuses verdict)) && is_enabled verdict filter) }
+    {
+        verdict.is_enabled(self.filters.and(filter))
     }
 
     /// One of these filters refused.

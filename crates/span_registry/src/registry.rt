@@ -26,8 +26,8 @@ use crate::span_store::SpanStore;
 use crate::stack::SpanStack;
 use crate::subscriber::{AlwaysUsable, Subscriber};
 use span_core::{
-    Attributes, Current, Event, FilterId, Id, Interest, Lane, LevelFilter, Metadata, Parent, Pass,
-    Record, TraceError,
+    Attributes, Current, Event, FilterId, FilterMap, Id, Interest, Lane, LevelFilter, Metadata,
+    Parent, Pass, Record, TraceError,
 };
 use std::alloc::Global;
 use std::fmt;
@@ -127,6 +127,18 @@ impl Registry {
         match self.spans.counts_of(id) {
             Some(counts) => counts.is_open(),
             None => false,
+        }
+    }
+
+    /// The verdict of a span that is in the store, closing or not.
+    #[inline(always)]
+    pub(crate) fn verdict_of(&self, id: Id) -> Option<FilterMap>
+        ensures { result
+            ≡ option_map (λ r. r.verdict) (get self.now.store.spans (number_of id)) }
+    {
+        match self.spans.get(id) {
+            Some(found) => Some(found.verdict),
+            None => None,
         }
     }
 
