@@ -104,7 +104,7 @@ rules_again (Parts k o i) (Parts l p j) h q r = absurd r
 rules_again (Terminal v) (Terminal w) h p q = absurd q
 rules_again f g h p q = absurd p
 
--- how a layer or a stack goes on when a level is set: which becomes which, once the filter with this number took this level
+-- how a layer or a stack goes on when a level is set: which becomes which, where the filter with this number was to take this level
 abbrev pub LevelSteps : Type 0 → Type 1
 LevelSteps T = T → ℕ → LevelFilter → T → Type 0
 

@@ -255,7 +255,7 @@ fn reach(extensions: &mut Vec<ExtensionMap>, alloc: Global, key: usize) -> Resul
     Ok(())
 }
 
-/// Takes all values under this key out. Tables that were made there stay.
+/// Takes all values under this key out. The box that was made there stays.
 fn forget(extensions: &mut Vec<ExtensionMap>, key: usize)
     requires { key < length extensions.old.items }
     ensures { extensions.new.items ≡ slice_set extensions.old.items key no_values }
