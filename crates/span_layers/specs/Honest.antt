@@ -33,7 +33,7 @@ IsBuiltStack (Terminal Base) = ⊤
 IsBuiltStack (Parts OnSubscriber o i) = IsHonestLayer o × IsBuiltStack i
 IsBuiltStack other = ⊥
 
--- an honest stack, on a registry that handed out this many filters: filters have numbers of their own, and it is a registry with such layers
+-- an honest stack, on a registry that handed out this many filters: its filters' numbers are of these, no two the same, and it is a registry with such layers
 pub record IsHonestStack (f : Form) (filters : ℕ) : Type 0 where
   pub numbers : HasOwnNumbers f filters
   pub built : IsBuiltStack f

@@ -37,7 +37,7 @@ AreDistinct (Parts joint o i) =
     AreDistinct o × AreDistinct i × ((k : ℕ) → numbers_of o k ≡ true → numbers_of i k ≡ false)
 AreDistinct (Terminal v) = ⊤
 
--- its filters have numbers that were handed out before this one, each another
+-- no two of its filters have one number, and all numbers were handed out before this one
 pub record HasOwnNumbers (f : Form) (next : ℕ) : Type 0 where
   pub distinct : AreDistinct f
   pub handed_out : (k : ℕ) → numbers_of f k ≡ true → k < next
