@@ -1,7 +1,7 @@
 -- Which interest a cache gives, and what comes of it.
-use Rattle.std.proofs.Common.{◌≡◌, ℕ, Bool, true, false, not, ◌==◌, if◌then◌else◌, Option, Some, None, Result, Ok, Err, inl, inr, refl, sym, ap, subst, arith, ◌∙◌}
+use Rattle.std.proofs.Common.{◌≡◌, ℕ, Bool, true, false, not, ◌==◌, if◌then◌else◌, Option, Some, None, Result, Ok, Err, inl, inr, refl, sym, ap, subst, ◌∙◌}
 use Rattle.std.proofs.lemmas.Bool.{eqb-true, false≢true, true≢false}
-use Rattle.std.specs.Prelude.{IfErr, IsSome, OnOk}
+use Rattle.std.specs.Prelude.{IfErr, IsSome, OnErr, OnOk}
 use Rattle.std.specs.Option.{option_map, unwrap_or}
 use Rattle.span_core.specs.Filters.{FilterSet, IsEmpty}
 use Rattle.span_core.specs.Level.{is_above}
@@ -187,6 +187,7 @@ module _ {S : Type 0} (registry : S → RegistryState) (has_form : S → Form �
     off = λ e. refl;
     learns = inl refl;
     keeps = refl;
+    leaves = tt;
     reads = refl;
     above = λ e. absurd (false≢true e);
     mismatch = λ r. absurd r.1;
@@ -203,6 +204,7 @@ module _ {S : Type 0} (registry : S → RegistryState) (has_form : S → Form �
     off = λ o. absurd (cc);
     learns = inl refl;
     keeps = sym (ap (λ b. learned_if b (Some (callsites_of k)) m) e);
+    leaves = tt;
     reads = refl;
     above = λ a. refl;
     mismatch = λ r. absurd (false≢true (sym r.0 ∙ e));
@@ -240,6 +242,7 @@ module _ {S : Type 0} (registry : S → RegistryState) (has_form : S → Form �
     off = λ o. absurd (cc);
     learns = inl refl;
     keeps = sym (ap (λ c. Some c) (kept_still (callsites_of k) one.metadata there)) ∙ sym (ap (λ b. learned_if b (Some (callsites_of k)) m) passes);
+    leaves = tt;
     reads = refl;
     above = λ a. absurd (false≢true (sym passes ∙ a));
     mismatch = λ r. absurd (r.1.2 (shown r.1.0 r.1.1));
@@ -276,6 +279,7 @@ module _ {S : Type 0} (registry : S → RegistryState) (has_form : S → Form �
     off = λ o. absurd (cc);
     learns = inl refl;
     keeps = tt;
+    leaves = refl;
     reads = refl;
     above = λ a. absurd (false≢true (sym passes ∙ a));
     mismatch = λ r. refl;
@@ -293,6 +297,7 @@ module _ {S : Type 0} (registry : S → RegistryState) (has_form : S → Form �
     off = λ o. absurd (cc);
     learns = inl (λ i. Some (λ n. option_map (λ (c : Callsite). c.metadata) (same n i)));
     keeps = tt;
+    leaves = λ i. Some (λ n. option_map (λ (c : Callsite). c.metadata) (same n i));
     reads = ap (λ h. Some h) hint;
     above = λ a. absurd (false≢true (sym passes ∙ ap (is_above (level_of m)) (sym hint) ∙ a));
     mismatch = λ r. let no : Some r.1.0 ≡ None = sym r.1.1 ∙ ap (option_map (λ (c : Callsite). c.metadata)) at in absurd (cc);
@@ -318,6 +323,7 @@ module _ {S : Type 0} (registry : S → RegistryState) (has_form : S → Form �
     off = λ o. absurd (cc);
     learns = inr (λ z. Some (λ n. grown n z));
     keeps = (λ z. Some (λ n. grown n z)) ∙ sym (ap (λ b. learned_if b (Some (callsites_of k)) m) (ap (is_above (level_of m)) hint ∙ passes));
+    leaves = tt;
     reads = ap (λ h. Some h) hint;
     above = λ a. absurd (false≢true (sym passes ∙ ap (is_above (level_of m)) (sym hint) ∙ a));
     mismatch = λ r. let no : Some r.1.0 ≡ None = sym r.1.1 ∙ ap (option_map (λ (c : Callsite). c.metadata)) at in absurd (cc);
@@ -394,6 +400,7 @@ module _ {S : Type 0} (registry : S → RegistryState) (has_form : S → Form �
         off = λ o. absurd (cc);
         learns = subst (λ c. MayLearn (Some c) m (kept_in new)) none h.learns;
         keeps = subst (λ c. OnOk i (kept_in new ≡ learned_if (is_above_read (hint_in new) m) (Some c) m)) none h.keeps;
+        leaves = subst (λ c. OnErr i (kept_in new ≡ Some c)) none h.leaves;
         reads = subst IsSome (sym h.reads) refl;
         above = h.above;
         mismatch = λ r. let no : Some r.1.0 ≡ None = sym r.1.1 in absurd (cc);

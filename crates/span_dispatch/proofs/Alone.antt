@@ -10,12 +10,12 @@ use Rattle.span_core.specs.Span.{asked_parent, metadata_of, number_of}
 use Rattle.span_core.specs.declared.filter.FilterMap.{FilterMap}
 use Rattle.span_core.specs.declared.metadata.Metadata.{Metadata}
 use Rattle.span_core.specs.declared.span.Lane.{Lane}
-use Rattle.span_dispatch.proofs.Goes.{same_aside}
+use Rattle.span_dispatch.proofs.Goes.{SameAside, left_aside, same_aside}
 use Rattle.span_dispatch.proofs.Acting.{acting_numbers, after_notice_alike, alone_over, given_alike, itself_within, learnt_alike, new_stores_agree, none_within, passed_both, paths_further, paths_itself, same_numbers}
 use Rattle.span_dispatch.proofs.Seen.{beneath, goes_through, some_path}
 use Rattle.span_dispatch.specs.Alone.{Alone, acting, learning, form_of_path, passed, passed_at}
 use Rattle.span_dispatch.specs.Isolation.{ActAlike, PathsActAlike, SeesMade, SeesServed}
-use Rattle.span_dispatch.specs.Outcome.{IsVerdict, LayersGo, LevelSet, OutcomeAt, Makes, Noticed, Outcome, Quiet, SameAside, Steps, given_in, with_new}
+use Rattle.span_dispatch.specs.Outcome.{IsVerdict, LayersGo, LevelSet, OutcomeAt, Makes, Noticed, Outcome, Quiet, Steps, given_in, with_new}
 use Rattle.std.specs.FinMap.{get}
 use Rattle.span_dispatch.specs.Serve.{Sees, outcome_of, stack_of}
 use Rattle.span_layers.specs.Verdict.{AreDistinct, in_verdict, numbers_of}
@@ -355,7 +355,7 @@ module _ {S : Type 0} (registry : S → RegistryState) {with_registry : S → Re
   sees_own x (m ∷ ms) y position cs h acts =
       let made = h.1 in
       let s = m.before in
-      let step = leaves_alone m.form m.outcome s m.after x h.0 position cs made.honest.has made.honest.rules.numbers.distinct acts made.steps made.after made.layers in
+      let step = leaves_alone m.form m.outcome s m.after x h.0 position cs made.honest.has made.honest.rules.numbers.distinct acts made.steps (left_aside registry with_registry has_form stepped levelled x m h.0 made) made.layers in
       let rest = sees_own h.0 ms y position step.3 h.2 step.4 in
       let same : numbers_in cs ≡ numbers_in step.3 = sym (same_numbers step.3 (acting cs m.outcome s step.0) step.5 ∙ acting_numbers cs m.outcome s step.0) in
       let agree = subst (λ (numbers : FilterSet). AgreeAt numbers (registry h.0).store step.0) same step.2 in

@@ -16,11 +16,11 @@ use Rattle.std.specs.Option.{option_map}
 use Rattle.span_core.specs.declared.span.Id.{Id}
 use Rattle.span_core.specs.declared.span.Lane.{Lane}
 use Rattle.span_core.specs.declared.span.Record.{Record}
-use Rattle.span_dispatch.proofs.Goes.{Done, StepsTo, StillReady, aside_state, by_call, by_change, by_none, changed, filters_same, honest_after, honest_quietly, its_own, keeps_again, same_aside, settled_aside}
+use Rattle.span_dispatch.proofs.Goes.{Done, SameAside, StepsTo, StillReady, aside_state, by_call, by_change, by_none, changed, ended_by, filters_same, honest_after, honest_quietly, its_own, keeps_again, same_aside, settled_aside}
 use Rattle.span_dispatch.specs.Admission.{Decides, IsAdmitted, IsDropped}
 use Rattle.span_dispatch.specs.Cache.{KeptCallsites}
 use Rattle.span_dispatch.specs.Call.{AddHandle, AskCurrent, DropHandle, Enter, Exit, Follow, HasRoomFor, OpenSpan, Probe, RecordValues, SendEvent, closes_of, current_answer, done_answer, vetoes_whole, yes_answer}
-use Rattle.span_dispatch.specs.Outcome.{GoneLeft, HandleAdded, HandleTaken, IsHonest, IsVerdict, Ends, OutcomeAt, Makes, Noticed, Notices, Outcome, Quiet, SameAside, Steps, given_in, with_new}
+use Rattle.span_dispatch.specs.Outcome.{GoneLeft, HandleAdded, HandleTaken, IsHonest, IsVerdict, Ends, OutcomeAt, Makes, Noticed, Notices, Outcome, Quiet, Steps, given_in, with_new, without_span}
 use Rattle.span_core.specs.declared.filter.FilterMap.{FilterMap}
 use Rattle.span_dispatch.specs.Serve.{AnswersExactly, ClosesEach, IsReady, outcome_of}
 use Rattle.span_dispatch.specs.declared.request.Answer.TheVariants as answer
@@ -30,7 +30,7 @@ use Rattle.span_layers.specs.Honest.{IsHonestStack}
 use Rattle.span_layers.proofs.Pass.{asked_unless_vetoed, event_fresh, event_unless_vetoed, new_span_fresh, others_afresh}
 use Rattle.span_layers.specs.Verdict.{IsOrderly, vetoes, vetoes_event}
 use Rattle.span_registry.specs.Behaviour.{Notice, OnClose, OnEnter, OnEvent, OnExit, OnFollows, OnNewSpan, OnRecord}
-use Rattle.span_registry.specs.Closes.{HasNoClosing, remove_all, without}
+use Rattle.span_registry.specs.Closes.{HasNoClosing}
 use Rattle.span_registry.specs.KeptForm.{KeepsForm, kept_form}
 use Rattle.span_registry.specs.Form.{Form}
 use Rattle.span_registry.specs.Hooks.{AnswersEvent, Notifies, OpensAndNotifies, StackLaws, StackSteps, Stays, no_filter}
@@ -81,7 +81,6 @@ stays_to f lane e s t steps given ends same = record {
   after = s.store;
   steps = steps;
   given = same ∙ sym (ap (λ (u : Store). record s { store = u }) given);
-  left = aside_state s t same;
   ends = ends;
   filters = filters_same same;
   settled = settled_aside s.store t.store (aside_state s t same);
@@ -91,13 +90,13 @@ enters_to : (f : Form) (lane : Lane) (id : Id) (s t : RegistryState) → Enters 
 enters_to f lane id s t n =
     let u = entered s.store lane.0 (number_of id) in
     let same : SameAside u t.store = same_aside u t.store (ap (λ (r : RegistryState). r.store) n.state) in
-    record { after = u; steps = (n.is_open, refl); given = n.state; left = same; ends = λ r. refl; filters = filters_same n.state; settled = λ h. subst HasNoClosing (sym same.spans) h }
+    record { after = u; steps = (n.is_open, refl); given = n.state; ends = λ r. refl; filters = filters_same n.state; settled = λ h. subst HasNoClosing (sym same.spans) h }
 
 leaves_to : (f : Form) (lane : Lane) (id : Id) (s t : RegistryState) → IsOpen s.store.spans (number_of id) → Exits lane id s t → StepsTo f lane (OnExit id) s t
 leaves_to f lane id s t there n =
     let u = exited s.store lane.0 (number_of id) in
     let same : SameAside u t.store = same_aside u t.store (ap (λ (r : RegistryState). r.store) n) in
-    record { after = u; steps = (there, refl); given = n; left = same; ends = λ r. refl; filters = filters_same n; settled = λ h. subst HasNoClosing (sym same.spans) h }
+    record { after = u; steps = (there, refl); given = n; ends = λ r. refl; filters = filters_same n; settled = λ h. subst HasNoClosing (sym same.spans) h }
 
 opens_to : (f : Form) (lane : Lane) (attrs : Attributes) (id : Id) (s t : RegistryState) (v : FilterMap) → IsVerdict f (metadata_of attrs) s.store lane v
     → Opens lane (record { metadata = metadata_of attrs; parent = asked_parent attrs; verdict = v }) id s t → StepsTo f lane (OnNewSpan attrs id) s t
@@ -109,7 +108,6 @@ opens_to f lane attrs id s t v said o =
       after = u;
       steps = record { parent = o.parent; chosen = o.finds.chosen; verdict = v; refused = said; fresh = o.fresh; other = o.other; state = refl };
       given = o.state;
-      left = same;
       ends = λ r. refl;
       filters = filters_same o.state;
       settled = settled_opened lane _ id s t o;
@@ -377,25 +375,20 @@ module _ {S : Type 0} {registry : S → RegistryState} {with_registry : S → Re
             let before = c.notices f h in
             let g = before.3.0 in
             let plan = ap (λ v. by_pass g (OnClose span) v no_filter no_filter) (ap (λ (t : RegistryState). t.store.spans) n.taken) ∙ others_afresh g (OnClose span) (registry y).store lane.0 no_filter no_filter in
-            let t = without (registry y).store (number_of span ∷ []) in
+            let t = without_span (registry y).store (number_of span) in
             let notice : Notices registry with_registry has_form stepped levelled g lane (OnClose span) (registry y).store t y u = record {
               left = n.left;
               given = n.taken;
               notified = z;
               layers = subst (λ p. stepped y p (OnClose span) lane.0 n.left z (registry z)) plan (n.notified g before.3.1.has (rules_of g _ before.3.1.rules).still);
               hooks = n.extensions;
-              ends = removes.taken;
+              ends = ended_by span (registry z) (registry u) removes.taken;
               rest = ap (λ t. with_registry z t) (sym (registry_with z w));
             } in
             let last = honest_after laws with_own levelled g lane (OnClose span) (registry y).store t y u before.3.1 notice (removes.taken.filters ∙ aside.filters) in
-            let gone : SameAside t (registry u).store = record {
-              spans = ap (λ (v : Store). v.spans) removes.taken.store ∙ ap (λ (v : Spans). remove_all v (number_of span ∷ [])) aside.spans;
-              issued = ap (λ (v : Store). v.issued) removes.taken.store ∙ aside.issued;
-              stacks = ap (λ (v : Store). v.stacks) removes.taken.store ∙ aside.stacks;
-            } in
             let m : OutcomeAt = record { form = g; before = (registry y).store; after = t; outcome = Noticed lane (OnClose span) } in (
               before.0 ++ (m ∷ []),
-              folds_more x before.0 y m u before.1 (record { honest = before.3.1; before = refl; steps = (closing, refl); after = gone; layers = notice }),
+              folds_more x before.0 y m u before.1 (record { honest = before.3.1; before = refl; steps = (closing, refl); layers = notice }),
               outcomes_more before.0 m ∙ ap (λ os. os ++ (m.outcome ∷ [])) before.2 ∙ sym (closes_more lane xs (number_of span)),
               (last.0, last.1, keeps_again f g last.0 before.3.2 last.2, last.3 ∙ before.3.3),
             );

@@ -11,6 +11,7 @@ use Rattle.span_core.specs.declared.level.LevelFilter.{LevelFilter}
 use Rattle.span_core.specs.declared.span.Lane.{Lane}
 use Rattle.span_dispatch.proofs.Acting.{acting_numbers, none_within, one_alone, step_over, steps_agree}
 use Rattle.span_dispatch.proofs.Alone.{agree_same, steps_alone}
+use Rattle.span_dispatch.proofs.Goes.{left_aside}
 use Rattle.span_dispatch.specs.Alone.{Alone, acting, form_of_path, passed_at}
 use Rattle.span_dispatch.specs.Call.{AddHandle, AskCurrent, Call, DropHandle, Enter, Exit, Follow, OpenSpan, Probe, RecordValues, SendEvent, SetLevel, closes_of}
 use Rattle.span_dispatch.specs.Effect.{AloneOf, Effect, GoesThrough, HasOutcomes, MadeCall, NoAnswer, NoEffect, OfDrop, OfExit, OneOutcome, OutcomesFrom, OutcomesOf, concerns, effect_of, is_concern}
@@ -227,7 +228,7 @@ module _ {S : Type 0} (registry : S → RegistryState) (with_registry : S → Re
       let step = steps_alone m.form [] (λ meta s q v said k. refl) m.outcome m.before m.after h.steps in (
         step.0,
         subst (λ (u : Store). Steps (form_of_path []) m.outcome u step.0) h.before step.1,
-        agree_trans no_filter (registry y).store m.after step.0 (agree_sym no_filter m.after (registry y).store (agree_same no_filter m.after (registry y).store h.after)) step.2,
+        agree_trans no_filter (registry y).store m.after step.0 (agree_sym no_filter m.after (registry y).store (agree_same no_filter m.after (registry y).store (left_aside registry with_registry has_form stepped levelled x m y h))) step.2,
       )
 
   folds_bare : (x : S) (ms : List OutcomeAt) (y : S) → FoldsTo (Makes registry with_registry has_form stepped levelled) x ms y → (t : Store) × GoesThrough (registry x).store (map outcome_of ms) t × AgreeAt no_filter (registry y).store t

@@ -64,7 +64,7 @@ module _ {S : Type 0} (registry : S → RegistryState) (with_registry : S → Re
   through f x (m ∷ ms) y stays h =
       let one = stays_on m.form m.outcome m.before m.after f x h.0 stays h.1.layers in
       let rest = through one.0 h.0 ms y one.1 h.2 in
-      (rest.0, rest.1, ((registry h.0, one.0), record { honest = honest f m.form x stays h.1.honest; before = h.1.before; steps = h.1.steps; after = h.1.after; layers = one.2 }, rest.2))
+      (rest.0, rest.1, ((registry h.0, one.0), record { honest = honest f m.form x stays h.1.honest; before = h.1.before; steps = h.1.steps; layers = one.2 }, rest.2))
 
   abbrev AskedIn : Option Call → KeptCallsites → Form → S → Answer → List OutcomeAt → KeptCallsites → S → Type 0
   AskedIn o memory f x a ms after y = (h : Form) × Stays y h × ServesAsked registry_in with_registry_in has_this steps_in levels_in o memory (registry x, f) a ms after (registry y, h)

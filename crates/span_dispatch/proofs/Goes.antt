@@ -1,16 +1,19 @@
 -- How an honest stack goes on: through a notice or a quiet change, after which it is honest; and how a call is served by one of these.
 use Rattle.std.proofs.Common.{false, ◌≡◌, ℕ, true, [], ◌∷◌, Option, refl, sym, ap, subst, ◌∙◌}
+use Rattle.std.specs.FinMap.{remove}
 use Rattle.std.specs.Option.{option_map}
 use Rattle.span_core.specs.declared.error.TraceError.TheVariants.{NotSettable}
 use Rattle.span_core.specs.declared.level.LevelFilter.{LevelFilter}
 use Rattle.span_core.specs.Filters.{FilterSet}
+use Rattle.span_core.specs.Span.{number_of}
 use Rattle.span_core.specs.declared.interest.Interest.{Interest}
+use Rattle.span_core.specs.declared.span.Id.{Id}
 use Rattle.span_core.specs.declared.span.Lane.{Lane}
 use Rattle.span_dispatch.specs.Admission.{KeepsSafely}
 use Rattle.span_dispatch.specs.Cache.{MatchesStack, IsUpToDate, forgotten, kept_in, no_callsite}
 use Rattle.span_dispatch.specs.Call.{Call, SetLevel}
 use Rattle.span_dispatch.specs.Effect.{OutcomesOf}
-use Rattle.span_dispatch.specs.Outcome.{Change, Ends, IsHonest, LevelSet, OutcomeAt, Makes, Noticed, Notices, Quiet, SameAside, Steps, given_in}
+use Rattle.span_dispatch.specs.Outcome.{Change, Ends, IsHonest, LayersGo, LevelSet, OutcomeAt, Makes, Noticed, Notices, Outcome, Quiet, Steps, given_in}
 use Rattle.span_dispatch.specs.Serve.{IsReady, IsReadyAfter, IsReadyWith, IsTold, HasReason, Tells, stack_of}
 use Rattle.span_dispatch.specs.declared.cache.Cache.TheVariants as cache
 use Rattle.span_dispatch.specs.declared.cache.Cache.{Cache}
@@ -22,7 +25,7 @@ use Rattle.span_layers.proofs.Built.{rules_of}
 use Rattle.span_layers.proofs.HonestKept.{hint_is_kept, interest_is_kept}
 use Rattle.span_layers.proofs.RulesKept.{honesty_is_kept}
 use Rattle.span_layers.specs.Honest.{IsHonestStack}
-use Rattle.span_registry.specs.Behaviour.{Behaviour, Notice}
+use Rattle.span_registry.specs.Behaviour.{Behaviour, Notice, OnClose}
 use Rattle.span_registry.specs.Closes.{HasNoClosing}
 use Rattle.span_registry.specs.KeptForm.{AnswersKeep, HasKeptForm, KeepsForm, kept_form}
 use Rattle.span_registry.specs.Form.{Terminal, Filtered, Form, Leaf, Parts}
@@ -31,7 +34,8 @@ use Rattle.span_registry.specs.Levels.{KeepsRules, LevelLaws, LevelSteps, Levels
 use Rattle.span_registry.specs.Conducts.{ActsAt}
 use Rattle.span_registry.specs.Position.{HearSteps}
 use Rattle.span_registry.specs.Plan.{asked_afresh, by_pass}
-use Rattle.span_registry.specs.Store.{RegistryState, Store}
+use Rattle.span_registry.specs.Step.{TakesOut}
+use Rattle.span_registry.specs.Store.{RegistryState, Spans, Store}
 use Rattle.span_registry.specs.Subscriber.{SameButExtensions}
 
 -- ---- what is kept of what was kept is kept
@@ -57,15 +61,42 @@ keeps_again f g h p q = absurd p
 
 -- ---- stores that are the same, extensions aside
 
+-- the two are the same, extensions aside
+pub record SameAside (s t : Store) : Type 0 where
+  pub spans : t.spans ≡ s.spans
+  pub issued : t.issued ≡ s.issued
+  pub stacks : t.stacks ≡ s.stacks
+
 pub same_aside : (s t : Store) → t ≡ s → SameAside s t
 same_aside s t e = record { spans = ap (λ (u : Store). u.spans) e; issued = ap (λ (u : Store). u.issued) e; stacks = ap (λ (u : Store). u.stacks) e }
 
-pub aside_further : (s t u : Store) → SameAside s t → SameAside t u → SameAside s u
-aside_further s t u a b = record { spans = b.spans ∙ a.spans; issued = b.issued ∙ a.issued; stacks = b.stacks ∙ a.stacks }
+-- a notice ends in the store after its step, which hooks gave other extensions
+ended : (f : Form) (lane : Lane) (e : Notice) (s t : Store) (u v w : RegistryState) → Steps f (Noticed lane e) s t → u.store ≡ given_in e s t → SameButExtensions u v → Ends e v w → SameAside t w.store
+ended f lane (OnClose id) s t u v w steps given hooks ends =
+    let x = number_of id in record {
+      spans = ap (λ (r : RegistryState). r.store.spans) ends.0 ∙ ap (λ (m : Spans). remove m x) (hooks.spans ∙ ap (λ (r : Store). r.spans) given) ∙ sym (ap (λ (r : Store). r.spans) steps.1);
+      issued = ap (λ (r : RegistryState). r.store.issued) ends.0 ∙ hooks.issued ∙ ap (λ (r : Store). r.issued) given ∙ sym (ap (λ (r : Store). r.issued) steps.1);
+      stacks = ap (λ (r : RegistryState). r.store.stacks) ends.0 ∙ hooks.stacks ∙ ap (λ (r : Store). r.stacks) given ∙ sym (ap (λ (r : Store). r.stacks) steps.1);
+    }
+ended f lane other s t u v w steps given hooks ends = record {
+  spans = ap (λ (r : RegistryState). r.store.spans) ends ∙ hooks.spans ∙ ap (λ (r : Store). r.spans) given;
+  issued = ap (λ (r : RegistryState). r.store.issued) ends ∙ hooks.issued ∙ ap (λ (r : Store). r.issued) given;
+  stacks = ap (λ (r : RegistryState). r.store.stacks) ends ∙ hooks.stacks ∙ ap (λ (r : Store). r.stacks) given;
+}
 
--- hooks write extensions alone
-pub aside_hooks : (s : Store) (t u : RegistryState) → SameAside s t.store → SameButExtensions t u → SameAside s u.store
-aside_hooks s t u a b = record { spans = b.spans ∙ a.spans; issued = b.issued ∙ a.issued; stacks = b.stacks ∙ a.stacks }
+-- one that takes a span out ends so
+pub ended_by : (id : Id) (s t : RegistryState) → TakesOut s (number_of id ∷ []) t → Ends (OnClose id) s t
+ended_by id s t h = ((λ i. record { store = h.store i; limits = h.limits i; filters = h.filters i; retired = t.retired }), h.retired, h.no_other, h.late)
+
+module _ {S : Type 0} (registry : S → RegistryState) (with_registry : S → RegistryState → S) (has_form : S → Form → Type 0) (stepped : StackSteps S) (levelled : LevelSteps S) where
+  -- what was made leaves its store, extensions aside
+  pub left_aside : (x : S) (m : OutcomeAt) (y : S) → Makes registry with_registry has_form stepped levelled x m y → SameAside m.after (registry y).store
+  left_aside x m y h = by_outcome m.outcome m.before m.after h.before h.steps h.layers
+    where
+      by_outcome : (o : Outcome) (s t : Store) → s ≡ (registry x).store → Steps m.form o s t → LayersGo registry with_registry has_form stepped levelled m.form o s t x y → SameAside t (registry y).store
+      by_outcome (Noticed lane e) s t before steps n = ended m.form lane e s t n.left (registry n.notified) (registry y) steps (ap (λ (r : RegistryState). r.store) n.given) n.hooks n.ends
+      by_outcome (Quiet c) s t before steps quiet = same_aside t (registry y).store (ap (λ (r : RegistryState). r.store) quiet.store)
+      by_outcome (LevelSet n l) s t before steps set = same_aside t (registry y).store (ap (λ (r : RegistryState). r.store) set.same ∙ sym before ∙ sym steps)
 
 -- a registry that took a step to this one
 pub aside_state : (s t : RegistryState) → t ≡ s → SameAside s.store t.store
@@ -82,7 +113,6 @@ pub record StepsTo (f : Form) (lane : Lane) (e : Notice) (s t : RegistryState) :
   pub after : Store
   pub steps : Steps f (Noticed lane e) s.store after
   pub given : t ≡ record s { store = given_in e s.store after }
-  pub left : SameAside after t.store
   pub ends : (u : RegistryState) → Ends e u u
   pub filters : t.filters ≡ s.filters
   pub settled : HasNoClosing s.store.spans → HasNoClosing t.store.spans
@@ -143,14 +173,14 @@ module _ {S : Type 0} {registry : S → RegistryState} {with_registry : S → Re
         rest = sym (with_own y);
       } in
       let next = honest_after f lane e (registry x).store to.after x y h notices (n.extensions.filters ∙ to.filters) in (
-        (m ∷ [], record { says = says; goes = (y, record { honest = h; before = refl; steps = to.steps; after = aside_hooks to.after n.left (registry y) to.left n.extensions; layers = notices }, refl); reason = reason }),
+        (m ∷ [], record { says = says; goes = (y, record { honest = h; before = refl; steps = to.steps; layers = notices }, refl); reason = reason }),
         λ s. (next.0, record { honest = next.1; settled = subst HasNoClosing (sym n.extensions.spans) (to.settled s) }, next.2, next.3),
       )
 
   -- this was made by a quiet change
   pub changed : (f : Form) (c : Change) (x y : S) (t : Store) → Honest f x → Steps f (Quiet c) (registry x).store t → registry y ≡ record (registry x) { store = t } → y ≡ with_registry x (registry y)
       → Makes registry with_registry has_form stepped levelled x (record { form = f; before = (registry x).store; after = t; outcome = Quiet c }) y
-  changed f c x y t h steps store rest = record { honest = h; before = refl; steps = steps; after = same_aside t (registry y).store (ap (λ (r : RegistryState). r.store) store); layers = record { store = store; rest = rest } }
+  changed f c x y t h steps store rest = record { honest = h; before = refl; steps = steps; layers = record { store = store; rest = rest } }
 
   pub by_change : (call : Call) (a : Answer) (f : Form) (c : Change) (x y : S) → Honest f x → OutcomesOf call a (registry x).store (Quiet c ∷ []) → HasReason call a f (registry x).store
       → (t : Store) → Steps f (Quiet c) (registry x).store t → registry y ≡ record (registry x) { store = t } → y ≡ with_registry x (registry y) → (registry y).filters ≡ (registry x).filters → (HasNoClosing (registry x).store.spans → HasNoClosing (registry y).store.spans)
@@ -188,7 +218,7 @@ module _ {S : Type 0} (registry : S → RegistryState) (with_registry : S → Re
       → IsTold registry with_registry has_form stepped levelled (SetLevel n l) f answer.Done x y
   level_told f n l x y h taken goes same =
       let m : OutcomeAt = record { form = f; before = (registry x).store; after = (registry x).store; outcome = LevelSet n l } in
-      (m ∷ [], record { says = refl; goes = (y, record { honest = h; before = refl; steps = refl; after = aside_state (registry x) (registry y) same; layers = record { taken = taken; goes = goes; same = same } }, refl); reason = tt })
+      (m ∷ [], record { says = refl; goes = (y, record { honest = h; before = refl; steps = refl; layers = record { taken = taken; goes = goes; same = same } }, refl); reason = tt })
 
   -- or it wasn't, and nothing changed
   pub level_refused : (f : Form) (n : ℕ) (l : LevelFilter) (x y : S) → takes_level f n l ≡ false → y ≡ x → IsTold registry with_registry has_form stepped levelled (SetLevel n l) f (answer.Refused (NotSettable n)) x y

@@ -9,6 +9,7 @@ use Rattle.std.specs.Ordering.{eq_by_cmp, nat_cmp}
 use Rattle.span_core.specs.Span.{number_of}
 use Rattle.span_core.specs.declared.span.Id.{Id}
 use Rattle.span_core.specs.declared.span.Lane.{Lane}
+use Rattle.span_dispatch.proofs.Goes.{left_aside}
 use Rattle.span_dispatch.specs.Outcome.{GoneLeft, HandleAdded, HandleTaken, LevelSet, OutcomeAt, Makes, Noticed, Opened, Outcome, Quiet, Steps}
 use Rattle.span_core.specs.declared.span.Attributes.{Attributes}
 use Rattle.span_dispatch.specs.Serve.{StandOnce, closed_by}
@@ -122,8 +123,9 @@ closes_join other ys h k = h
 module _ {S : Type 0} (registry : S → RegistryState) (with_registry : S → RegistryState → S) (has_form : S → Form → Type 0) (stepped : StackSteps S) (levelled : LevelSteps S) where
   onward_on : (x : S) (m : OutcomeAt) (y : S) → Makes registry with_registry has_form stepped levelled x m y → Onward (registry x).store (registry y).store
   onward_on x m y h =
+      let aside = left_aside registry with_registry has_form stepped levelled x m y h in
       subst (λ (u : Store). Onward u (registry y).store) h.before
-      (onward_further m.before m.after (registry y).store (onward_steps m.form m.outcome m.before m.after h.steps) (onward_same m.after (registry y).store h.after.issued h.after.spans))
+      (onward_further m.before m.after (registry y).store (onward_steps m.form m.outcome m.before m.after h.steps) (onward_same m.after (registry y).store aside.issued aside.spans))
 
   -- what closes by an outcome was in the store, and isn't any more
   closing_step : (f : Form) (o : Outcome) (s t : Store) (c : ℕ) → Steps f o s t → Member c (closed_by o) → IsInStore s.spans c × (IsInStore t.spans c → ⊥)
@@ -138,7 +140,7 @@ module _ {S : Type 0} (registry : S → RegistryState) (with_registry : S → Re
   closing_on : (x : S) (m : OutcomeAt) (y : S) (c : ℕ) → Makes registry with_registry has_form stepped levelled x m y → Member c (closed_by m.outcome) → IsInStore (registry x).store.spans c × (IsInStore (registry y).store.spans c → ⊥)
   closing_on x m y c h k =
       let both = closing_step m.form m.outcome m.before m.after c h.steps k in
-      (subst (λ (u : Store). IsInStore u.spans c) h.before both.0, λ there. both.1 (subst (λ (v : Spans). IsInStore v c) h.after.spans there))
+      (subst (λ (u : Store). IsInStore u.spans c) h.before both.0, λ there. both.1 (subst (λ (v : Spans). IsInStore v c) (left_aside registry with_registry has_form stepped levelled x m y h).spans there))
 
   -- an issued id that isn't in the store closes no more
   never_again : (x : S) (ms : List OutcomeAt) (y : S) (c : ℕ) → FoldsTo (Makes registry with_registry has_form stepped levelled) x ms y → contains (registry x).store.issued c ≡ true → (IsInStore (registry x).store.spans c → ⊥) → Member c (closed_in ms) → ⊥

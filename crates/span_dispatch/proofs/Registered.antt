@@ -1,13 +1,11 @@
 -- What was registered stays so.
-use Rattle.std.proofs.Common.{◌≡◌, ◌≤◌, ◌<◌, ◌+◌, ◌-◌, ◌^◌, ℕ, Bool, true, false, ◌==◌, if◌then◌else◌, Option, Some, None, refl, sym, ap, subst, arith, min, ◌∙◌}
+use Rattle.std.proofs.Common.{◌≡◌, ◌≤◌, ◌<◌, ◌+◌, ℕ, Bool, true, false, ◌==◌, if◌then◌else◌, Option, Some, None, refl, sym, ap, subst, arith, min, ◌∙◌}
 use Rattle.std.proofs.lemmas.Bool.{eqb-true}
 use Rattle.std.specs.Prelude.{IfSome}
 use Rattle.span_core.specs.declared.interest.Interest.{Interest}
 use Rattle.span_core.specs.declared.metadata.Metadata.{Metadata}
 use Rattle.span_dispatch.specs.Cache.{KnowsInterest, KnowsStill}
-use Rattle.span_dispatch.specs.Contract.{ChangesStack, Forgets}
 use Rattle.span_dispatch.specs.Registration.{HoldsStill, IsKeptIn, IsRegistered, KeepsRegistered, Knows, interest_in, kept_interest, last_epoch, next_epoch, registered_metadata}
-use Rattle.span_dispatch.specs.Serve.{forgetful}
 use Rattle.span_dispatch.specs.declared.cache.Cache.{Cache}
 use Rattle.span_dispatch.specs.declared.dispatch.Dispatch.{Dispatch}
 use Rattle.span_dispatch.specs.declared.registration.Epoch.{Epoch}

@@ -6,10 +6,10 @@ use Rattle.std.specs.Option.{option_map}
 use Rattle.span_core.specs.Filters.{FilterSet, union}
 use Rattle.span_core.specs.declared.level.LevelFilter.{LevelFilter}
 use Rattle.span_core.specs.declared.span.Lane.{Lane}
-use Rattle.span_dispatch.proofs.Goes.{same_aside}
+use Rattle.span_dispatch.proofs.Goes.{SameAside, same_aside}
 use Rattle.span_dispatch.specs.Cache.{KeptCallsites}
 use Rattle.span_dispatch.specs.Call.{Call}
-use Rattle.span_dispatch.specs.Outcome.{Change, LayersGo, LevelSet, OutcomeAt, Makes, Noticed, Outcome, Quiet, SameAside, given_in}
+use Rattle.span_dispatch.specs.Outcome.{Change, LayersGo, LevelSet, OutcomeAt, Makes, Noticed, Outcome, Quiet, given_in}
 use Rattle.std.specs.FinMap.{empty}
 use Rattle.span_registry.specs.View.{seen_spans}
 use Rattle.span_dispatch.specs.Alone.{passed, passed_at}

@@ -1,5 +1,5 @@
 -- Which new spans, events and probes a dispatcher lets by. One that keeps the hint and interests goes by these first; one that keeps nothing asks everything.
-use Rattle.std.specs.Prelude.{◌≡◌, ◌⊎◌, ⊤, ℕ, Bool, true, false, Option, Some, None, Result, Ok, Err, IfErr, OnOk}
+use Rattle.std.specs.Prelude.{◌≡◌, ◌⊎◌, ⊤, ℕ, Bool, true, false, Option, Some, None, Result, Ok, Err, IfErr, OnErr, OnOk}
 use Rattle.std.specs.Option.{option_map}
 use Rattle.span_core.specs.Level.{is_above}
 use Rattle.span_core.specs.Metadata.{level_of}
@@ -139,12 +139,13 @@ HasInterestBy memory f filters m after (Ok i) = IsInterestBy memory f filters m 
 HasInterestBy memory f filters m after (Err e) =
     (is_above_hint memory f m ≡ false) × (after ≡ memory)
 
--- a cache gives an interest. Of any stack: never above the hint that is kept then, and a callsite that is kept with other metadata is refused below it. Which one it is else is said of an honest stack, where the cache is up to date, and it stays so
+-- a cache gives an interest. Of any stack: never above the hint that is kept then, and a callsite that is kept with other metadata is refused below it; what is refused leaves what is kept. Which one it is else is said of an honest stack, where the cache is up to date, and it stays so
 pub record GivesInterest {S : Type 0} (registry : S → RegistryState) (has_form : S → Form → Type 0)
     (x : S) (m : Metadata) (i : Result Interest TraceError) (old new : Cache) : Type 0 where
   pub off : kept_in old ≡ None → i ≡ Ok Sometimes
   pub learns : MayLearn (kept_in old) m (kept_in new)
   pub keeps : OnOk i (kept_in new ≡ learned_if (is_above_read (hint_in new) m) (kept_in old) m)
+  pub leaves : OnErr i (kept_in new ≡ kept_in old)
   pub reads : ReadsOnce (kept_in old) (hint_in old) (hint_in new)
   pub above : is_above_read (hint_in new) m ≡ true → i ≡ Ok Never
   pub mismatch : RefusesBelow (hint_in old) (kept_in old) m CallsiteMismatch

@@ -1,12 +1,11 @@
 -- What a leaf sees of what was made; and what it would see if it and the filters round it stood alone, with no other layer or filter beside them.
-use Rattle.std.specs.Prelude.{◌≡◌, ℕ, true, if◌then◌else◌, List, [], ◌∷◌, ◌++◌, Option, Some, None}
+use Rattle.std.specs.Prelude.{◌≡◌, ℕ, if◌then◌else◌, List, [], ◌∷◌, ◌++◌, Option, Some, None}
 use Rattle.std.specs.List.{flat_map}
 use Rattle.span_core.specs.Filters.{FilterSet, union}
 use Rattle.span_dispatch.specs.Outcome.{LevelSet, OutcomeAt, Noticed, Outcome, Quiet, Steps, given_in}
-use Rattle.span_layers.specs.Observe.{open_answers}
 use Rattle.span_registry.specs.Behaviour.{Notice}
 use Rattle.span_registry.specs.Conducts.{Conducts, after_notice, path_now, setting}
-use Rattle.span_registry.specs.Form.{Filtered, Form, Leaf}
+use Rattle.span_registry.specs.Form.{End, Filtered, Form, Terminal}
 use Rattle.span_registry.specs.Hooks.{no_filter}
 use Rattle.span_registry.specs.Path.{Path, mask_of, passes_path, path_at}
 use Rattle.span_registry.specs.Position.{Heard, Position, told_in}
@@ -29,9 +28,9 @@ passed_at position made =
 
 -- Below: nothing names another layer or filter than those of one path.
 
--- the form of a leaf that refuses nothing, with the filters of this path round it
+-- the form of the filters of this path, one in another, with nothing in the innermost: a leaf is in no verdict
 abbrev pub form_of_path : Path → Form
-form_of_path [] = Leaf true open_answers
+form_of_path [] = Terminal End
 form_of_path ((n, a) ∷ path) = Filtered n a (form_of_path path)
 
 -- the filters' conducts after a notice: a filter learns of what it passes itself, and all filters round it pass, asked in the store before it; u is the store that it is given in

@@ -28,7 +28,7 @@ use Rattle.span_registry.specs.Levels.{takes_level}
 use Rattle.span_registry.specs.Step.{Drops, FindsParent, HasPlace, IsCurrent, Opens, RefusesClone, RefusesEnter, RefusesNew, RefusesRelease}
 use Rattle.span_registry.specs.Store.{IsHeld, IsOpen, RegistryState, Store, handles_of, take_handle}
 
--- what a dispatcher is asked, from a lane
+-- what a dispatcher is asked, from a lane; a level is set from none
 pub data Call : Type 0 where
   OpenSpan : Lane → Attributes → Call
   SendEvent : Lane → Event → Call

@@ -1,5 +1,5 @@
 -- What the contract of each call of a dispatcher says. A word takes what the type of a stack says of it as one value, and dispatchers whole.
-use Rattle.std.specs.Prelude.{◌≡◌, ◌⊎◌, ◌&&◌, ℕ, Bool, true, false, List, Option, None, Result, Ok, Err, IfOk, IfSome, MatchOption, OnOk, is_some}
+use Rattle.std.specs.Prelude.{◌≡◌, ◌⊎◌, ◌&&◌, ℕ, Bool, true, false, List, Option, None, Result, Ok, Err, IfErr, IfOk, IfSome, MatchOption, OnErr, OnOk, is_some}
 use Rattle.std.specs.List.{FoldsTo}
 use Rattle.std.specs.declared.alloc.Global.{Global}
 use Rattle.std.specs.declared.vec.Vec.{Vec}
@@ -21,7 +21,7 @@ use Rattle.span_dispatch.specs.Admission.{Decides, IsAdmitted, KeepsSafely, MayL
 use Rattle.span_dispatch.specs.Cache.{IsUpToDate, ReadsOnce, RefusesBelow, RefusesInterest, is_above_read}
 use Rattle.span_dispatch.specs.Call.{AddHandle, AskCurrent, Call, DropHandle, DropsSpan, Enter, Exit, Follow, OpenSpan, OpensFor, Probe, RecordValues, SendEvent, SetLevel, current_answer, done_answer, event_answer, span_answer, yes_answer}
 use Rattle.span_dispatch.specs.Outcome.{IsHonest, OutcomeAt, Makes}
-use Rattle.span_dispatch.specs.Serve.{AnswersExactly, IsCurrentSomehow, IsReady, IsReadyAfter, IsReadySomehow, IsReadyWith, IsTold, KeepsUpToDate, Sees, Served, ServedExactly, ServesRequest, TellsAsked, call_of, forgetful, hint_by, kept_by, stack_of, with_stack}
+use Rattle.span_dispatch.specs.Serve.{AnswersExactly, IsUpToDateSomehow, IsReady, IsReadyAfter, IsReadySomehow, IsReadyWith, IsTold, KeepsUpToDate, Sees, Served, ServedExactly, ServesRequest, TellsAsked, call_of, forgetful, hint_by, kept_by, stack_of, with_stack}
 use Rattle.span_dispatch.specs.declared.cache.Cache.{Cache}
 use Rattle.span_dispatch.specs.declared.dispatch.Dispatch.{Dispatch}
 use Rattle.span_dispatch.specs.declared.request.Answer.TheVariants.{Done}
@@ -30,7 +30,7 @@ use Rattle.span_dispatch.specs.declared.request.Request.{Request}
 use Rattle.span_registry.specs.Closes.{HasNoClosing}
 use Rattle.span_registry.specs.Conducts.{ActsAt}
 use Rattle.span_registry.specs.Form.{Form}
-use Rattle.span_registry.specs.Hooks.{AnswersEnabled, StackSteps, no_filter}
+use Rattle.span_registry.specs.Hooks.{AnswersEnabled, StackSteps, Stays, no_filter}
 use Rattle.span_registry.specs.KeptForm.{KeepsForm}
 use Rattle.span_registry.specs.Levels.{FollowsLevel, KeepsRules, LevelSteps, LevelsForm, takes_level}
 use Rattle.span_registry.specs.Position.{HearSteps}
@@ -41,7 +41,7 @@ use Rattle.span_registry.specs.Store.{IsOpen, RegistryState}
 use Rattle.span_registry.specs.Subscriber.{AndHooks, SameButExtensions}
 use Rattle.span_registry.specs.declared.registry.Released.TheVariants.{Closing, StillOpen}
 
--- what the type of a stack says of it: where its registry is, whether it may be called, which form it has, how its layers go on when they are notified, what leaves hear, how filters act, how they take levels, and how its layers are put in use
+-- what the type of a stack says of it: where its registry is, what it is on another one, whether it may be called, which form it has, how its layers go on when they are notified, what leaves hear, how filters act, how they take levels, and how its layers are put in use
 abbrev pub SubscriberOf : Type 0 → Type 1
 SubscriberOf S = record {
   registry : S → RegistryState;
@@ -103,6 +103,10 @@ SameStack old new = stack_of new ≡ stack_of old
 -- nothing changes but the stack
 abbrev pub ChangesStack : {S : Type 0} → Dispatch S → Dispatch S → Type 0
 ChangesStack old new = new ≡ with_stack old (stack_of new)
+
+-- nothing changes but what is kept
+abbrev pub ChangesKept : {S : Type 0} → Dispatch S → Dispatch S → Type 0
+ChangesKept old new = new ≡ record old { cache = new.cache }
 
 -- nothing changes but the stack, and all that was kept of callsites is forgotten
 abbrev pub Forgets : {S : Type 0} → Dispatch S → Dispatch S → Type 0
@@ -271,7 +275,7 @@ module _ {S : Type 0} (s : SubscriberOf S) where
         → (made : List OutcomeAt)
         × TellsAsked s.registry s.with_registry s.has_form s.stepped s.levelled (call_of past r)
         (stack_of old) a made (stack_of new)
-    pub exact : IsCurrentSomehow s.registry s.with_registry s.has_form s.stepped s.levelled old
+    pub exact : IsUpToDateSomehow s.registry s.with_registry s.has_form s.stepped s.levelled old
         → (made : List OutcomeAt)
         × ServesRequest s.registry s.with_registry s.has_form s.stepped s.levelled past r
         (kept_by old) (stack_of old) a made (kept_by new) (stack_of new)
@@ -286,7 +290,7 @@ module _ {S : Type 0} (s : SubscriberOf S) where
   -- and answers each request of it exactly so, where what it keeps is what its stack would answer now
   abbrev pub ServesListExactly : List Request → Dispatch S → Dispatch S → Vec Answer Global → Type 0
   ServesListExactly requests old new answers =
-      IsCurrentSomehow s.registry s.with_registry s.has_form s.stepped s.levelled old
+      IsUpToDateSomehow s.registry s.with_registry s.has_form s.stepped s.levelled old
       → ServedExactly s.registry s.with_registry s.has_form s.stepped s.levelled s.hears s.acts_at
       requests answers.items old new
 
@@ -409,3 +413,40 @@ module _ {S : Type 0} (s : SubscriberOf S) where
   abbrev pub StaysWithoutClosing : Dispatch S → Dispatch S → Type 0
   StaysWithoutClosing old new =
       HasNoClosing (registry_of old).store.spans → HasNoClosing (registry_of new).store.spans
+
+  -- ---- all of it, for calls that hand on
+
+  -- what `event` promises, beside `usable`, `ready` and `registered`
+  pub record SendsEvent (lane : Lane) (e : Event) (given : Result Bool TraceError)
+      (old new : Dispatch S) : Type 0 where
+    pub kept : LearnsOnly (event_metadata e) old new
+    pub up_to_date : StaysUpToDate old new
+    pub safe : StaysSafe old new
+    pub served : ServesEvent lane e given old new
+    pub seen : SeesWhatIsMade old new
+    pub store : TakesStep Stays old new
+    pub dropped : given ≡ Ok false → SameStack old new
+    pub asked : IfOk given (WantsEvent lane e old)
+    pub hint : KeepsHint old new
+    pub above : DropsAbove (event_metadata e) false given old new
+    pub keeps : KeepsCallsite (event_metadata e) given old new
+    pub mismatch : RefusesMismatch (event_metadata e) given old new
+    pub refused : IfErr given (RefusesEvent e old)
+    pub unchanged : OnErr given (SameStack old new)
+
+  -- what `new_span` promises, beside `usable`, `ready` and `registered`
+  pub record OpensSpan (lane : Lane) (attrs : Attributes) (given : Result (Option Id) TraceError)
+      (old new : Dispatch S) : Type 0 where
+    pub kept : LearnsOnly (metadata_of attrs) old new
+    pub up_to_date : StaysUpToDate old new
+    pub safe : StaysSafe old new
+    pub served : ServesNewSpan lane attrs given old new
+    pub seen : SeesWhatIsMade old new
+    pub asked : WantsSpan lane attrs old given
+    pub store : IfOk given (OpensIfMade lane attrs old new)
+    pub hint : KeepsHint old new
+    pub above : DropsAbove (metadata_of attrs) None given old new
+    pub keeps : KeepsCallsite (metadata_of attrs) given old new
+    pub mismatch : RefusesMismatch (metadata_of attrs) given old new
+    pub refused : IfErr given (RefusesSpan lane attrs old)
+    pub unchanged : OnErr given (SameStack old new)

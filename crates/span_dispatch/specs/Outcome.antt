@@ -1,5 +1,5 @@
 -- What comes of a request: notices, changes of the store of which nobody is told, and levels that filters take; and what each does to a store, and to a stack.
-use Rattle.std.specs.Prelude.{◌≡◌, ℕ, true, false, [], ◌∷◌, Option}
+use Rattle.std.specs.Prelude.{◌≡◌, ◌≤◌, ◌+◌, ℕ, true, false, Option}
 use Rattle.std.specs.FinMap.{insert, remove}
 use Rattle.std.specs.FinSet.{contains, insert as add}
 use Rattle.span_core.specs.Filters.{refuses}
@@ -18,7 +18,7 @@ use Rattle.span_registry.specs.Hooks.{StackSteps, no_filter}
 use Rattle.span_registry.specs.Levels.{LevelSteps, takes_level}
 use Rattle.span_registry.specs.Plan.{asked_afresh}
 use Rattle.span_registry.specs.Extensions.{no_values}
-use Rattle.span_registry.specs.Step.{IsParentFor, TakesOut, entered, exited}
+use Rattle.span_registry.specs.Step.{IsParentFor, RetiresLate, entered, exited}
 use Rattle.span_registry.specs.Subscriber.{SameButExtensions}
 use Rattle.span_registry.specs.Store.{IsClosing, IsHeld, IsOpen, RegistryState, Span, Store, add_handle, take_handle}
 
@@ -38,7 +38,7 @@ pub data Outcome : Type 0 where
 abbrev pub IsVerdict : Form → Metadata → Store → Lane → FilterMap → Type 0
 IsVerdict f m s lane v = (k : ℕ) → refuses v k ≡ in_verdict f m s lane.0 no_filter k
 
--- the store with one span more, without extensions
+-- the store with one span more, without extensions, whose number is issued by that
 abbrev pub with_new : Store → ℕ → Span → Store
 with_new s x r = record s {
   spans = insert s.spans x r;
@@ -46,7 +46,7 @@ with_new s x r = record s {
   issued = add s.issued x;
 }
 
--- a new span is in the store: under an id that was never issued, nor is 0, with the parent that it gets there and the verdict of this form
+-- a new span is in the store: under an id that was never issued, nor is 0, with its metadata, one handle, the parent that it gets there and the verdict of this form
 pub record Opened (f : Form) (lane : Lane) (attrs : Attributes) (id : Id) (s t : Store) : Type
     0 where
   pub parent : Option ℕ
@@ -59,6 +59,10 @@ pub record Opened (f : Form) (lane : Lane) (attrs : Attributes) (id : Id) (s t :
   pub state : t ≡ with_new s (number_of id)
       (record { metadata = metadata_of attrs; parent = parent; handles = 1; verdict = verdict })
 
+-- the store without this span and its extensions
+abbrev pub without_span : Store → ℕ → Store
+without_span s x = record s { spans = remove s.spans x; extensions = remove s.extensions x }
+
 -- what an outcome makes of the store of a stack of this form
 abbrev pub Steps : Form → Outcome → Store → Store → Type 0
 Steps f (Noticed lane (OnNewSpan attrs id)) s t = Opened f lane attrs id s t
@@ -70,10 +74,8 @@ Steps f (Noticed lane (OnEnter id)) s t =
 Steps f (Noticed lane (OnExit id)) s t =
     IsOpen s.spans (number_of id) × (t ≡ exited s lane.0 (number_of id))
 Steps f (Noticed lane (OnIdChange id other)) s t = ⊥
-Steps f (Noticed lane (OnClose id)) s t = IsClosing s.spans (number_of id) × (t ≡ record s {
-  spans = remove s.spans (number_of id);
-  extensions = remove s.extensions (number_of id);
-})
+Steps f (Noticed lane (OnClose id)) s t =
+    IsClosing s.spans (number_of id) × (t ≡ without_span s (number_of id))
 Steps f (Quiet (HandleAdded id)) s t =
     IsOpen s.spans (number_of id) × (t ≡ record s { spans = add_handle s.spans (number_of id) })
 Steps f (Quiet (HandleTaken id)) s t =
@@ -87,12 +89,6 @@ abbrev pub given_in : Notice → Store → Store → Store
 given_in (OnClose id) s t = s
 given_in e s t = t
 
--- the two are the same, extensions aside
-pub record SameAside (s t : Store) : Type 0 where
-  pub spans : t.spans ≡ s.spans
-  pub issued : t.issued ≡ s.issued
-  pub stacks : t.stacks ≡ s.stacks
-
 -- what was made: an outcome of a stack that had this form; the store before it, and the one after
 pub record OutcomeAt : Type 0 where
   pub form : Form
@@ -100,9 +96,11 @@ pub record OutcomeAt : Type 0 where
   pub after : Store
   pub outcome : Outcome
 
--- what the registry does at the end of a notice: a span that was closing is taken out, and else nothing changes
+-- what the registry does at the end of a notice: of a close, the span is taken out, and one place may be retired by that, but no more than their generations allow, if that held before; else nothing changes
 abbrev pub Ends : Notice → RegistryState → RegistryState → Type 0
-Ends (OnClose id) s t = TakesOut s (number_of id ∷ []) t
+Ends (OnClose id) s t =
+    (t ≡ record s { store = without_span s.store (number_of id); retired = t.retired })
+    × (s.retired ≤ t.retired) × (t.retired ≤ s.retired + 1) × (RetiresLate s → RetiresLate t)
 Ends e s t = t ≡ s
 
 module _ {S : Type 0} (registry : S → RegistryState) (with_registry : S → RegistryState → S)
@@ -123,7 +121,7 @@ module _ {S : Type 0} (registry : S → RegistryState) (with_registry : S → Re
     pub store : registry y ≡ record (registry x) { store = t }
     pub rest : y ≡ with_registry x (registry y)
 
-  -- the filter with this number takes this level: it alone goes on
+  -- the filter with this number takes this level, and the layers go on by that; the registry is as it was
   pub record SetsLevel (f : Form) (n : ℕ) (l : LevelFilter) (x y : S) : Type 0 where
     pub taken : takes_level f n l ≡ true
     pub goes : levelled x n l y
@@ -145,5 +143,4 @@ module _ {S : Type 0} (registry : S → RegistryState) (with_registry : S → Re
     pub honest : IsHonest m.form x
     pub before : m.before ≡ (registry x).store
     pub steps : Steps m.form m.outcome m.before m.after
-    pub after : SameAside m.after (registry y).store
     pub layers : LayersGo m.form m.outcome m.before m.after x y

@@ -129,8 +129,9 @@ IsReadableClose s (Noticed lane (OnClose id)) = IsClosing s.spans (number_of id)
 IsReadableClose s other = ⊤
 
 -- why a request may be answered so. What is made, or would be, no leaf vetoes; what is dropped or denied is vetoed by a leaf or
--- passes no path, and no other call is dropped. An open span can be entered, if there is memory, left, recorded of and followed from; a handle
--- that is there can be dropped; a level that a filter takes can be set. Of other refusals nothing is said
+-- passes no path, and no other call is dropped. The current span is the one that the lane is in. Any span can be left; an open one can be
+-- entered, if there is memory, recorded of and followed from; a handle that is there can be dropped; a level that a filter takes can be
+-- set. Of other refusals nothing is said
 abbrev pub HasReason : Call → Answer → Form → Store → Type 0
 HasReason (OpenSpan lane a) (answer.Made id) f s = vetoes f (metadata_of a) s lane.0 ≡ false
 HasReason (OpenSpan lane a) answer.Dropped f s = IsUnwanted f (metadata_of a) s lane.0
@@ -207,8 +208,8 @@ module _ {S : Type 0} (registry : S → RegistryState) (with_registry : S → Re
   IsReadySomehow d = (f : Form) × IsReadyWith KeepsSafely f d
 
   -- ready by some form, with what its stack would answer now
-  abbrev pub IsCurrentSomehow : Dispatch S → Type 0
-  IsCurrentSomehow d = (f : Form) × IsReadyWith IsUpToDate f d
+  abbrev pub IsUpToDateSomehow : Dispatch S → Type 0
+  IsUpToDateSomehow d = (f : Form) × IsReadyWith IsUpToDate f d
 
   -- the same as is told of a call, and it is answered exactly so by a stack of this form, where these callsites are kept, and then these are
   pub record Serves (call : Call) (f : Form) (kept : KeptCallsites) (x : S) (a : Answer)

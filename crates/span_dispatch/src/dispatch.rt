@@ -6,7 +6,7 @@ ghost use Rattle.span_core.specs.Filters.{IsEmpty};
 ghost use Rattle.span_core.specs.Span.{metadata_of, number_of};
 ghost use Rattle.span_dispatch.specs.Cache.{no_callsite};
 ghost use Rattle.span_dispatch.specs.Call.{FindsOpen, RefusesUnlessOpen};
-ghost use Rattle.span_dispatch.specs.Contract.{Admits, AdmitsSafely, AsksStack, BecomesReady, ChangesLevel, ChangesStack, DropsAbove, DropsSettled, Forgets, GivesLevel, KeepsCallsite, KeepsHint, LearnsOnly, LeavesGone, OpensByPass, OpensIfMade, Refuses, RefusesEvent, RefusesMetadata, RefusesMismatch, RefusesSpan, SameRegistry, SameStack, SeesWhatIsMade, ServesClone, ServesCurrent, ServesDrop, ServesEnabled, ServesEnter, ServesEvent, ServesExit, ServesFollows, ServesLevel, ServesNewSpan, ServesRecord, Shows, ShowsHint, ShowsKept, StaysReady, StaysReadyBut, StaysSafe, StaysWithoutClosing, StaysUpToDate, TakesHandle, TakesLevel, TakesStep, TakesStepAlone, WantsEvent, WantsMetadata, WantsSpan};
+ghost use Rattle.span_dispatch.specs.Contract.{Admits, AdmitsSafely, AsksStack, BecomesReady, ChangesKept, ChangesLevel, ChangesStack, DropsAbove, DropsSettled, Forgets, GivesLevel, KeepsCallsite, KeepsHint, LearnsOnly, LeavesGone, OpensByPass, OpensIfMade, PassesKept, Refuses, RefusesEvent, RefusesMetadata, RefusesMismatch, RefusesSpan, SameRegistry, SameStack, SeesWhatIsMade, ServesClone, ServesCurrent, ServesDrop, ServesEnabled, ServesEnter, ServesEvent, ServesExit, ServesFollows, ServesLevel, ServesNewSpan, ServesRecord, Shows, ShowsHint, ShowsKept, StaysReady, StaysReadyBut, StaysSafe, StaysWithoutClosing, StaysUpToDate, TakesHandle, TakesLevel, TakesStep, TakesStepAlone, WantsEvent, WantsMetadata, WantsSpan};
 ghost use Rattle.span_dispatch.specs.contracts.dispatch.Dispatch.{the_row};
 ghost use Rattle.span_dispatch.specs.Registration.{IsRegistered, KeepsRegistered, Knows, registered_metadata};
 ghost use Rattle.span_dispatch.specs.Serve.{ClosesEach, KeepsUpToDate, forgetful, hint_by, kept_by, stack_of, with_stack};
@@ -132,6 +132,7 @@ impl<S: Subscriber> Dispatch<S> {
         requires known { IfSome kept (Knows self.old meta.now) }
         requires fresh { IsEmpty (refusals pass.old) }
         ensures stack { SameStack self.old self.new }
+        ensures rest { ChangesKept self.old self.new }
         ensures admitted { Admits S.Subscriber lane meta.now self.old pass.new result self.new }
         ensures decided { AdmitsSafely S.Subscriber lane meta.now self.old pass.new result }
         ensures kept { StaysUpToDate S.Subscriber self.old self.new }
@@ -161,6 +162,7 @@ impl<S: Subscriber> Dispatch<S> {
     pub fn enabled(&mut self, lane: Lane, meta: &Metadata) -> Result<bool, TraceError>
         requires { S.usable (stack_of self.old) }
         ensures stack { SameStack self.old self.new }
+        ensures rest { ChangesKept self.old self.new }
         ensures kept { LearnsOnly meta.now self.old self.new }
         ensures registered { KeepsRegistered self.old self.new }
         ensures up_to_date { StaysUpToDate S.Subscriber self.old self.new }
@@ -179,13 +181,14 @@ impl<S: Subscriber> Dispatch<S> {
         self.admits(lane, meta, None, &mut pass)
     }
 
-    /// A callsite, registered: its interest is asked for and kept, unless its level is above the hint or nothing is ever kept.
-    /// `new_span_by` and `event_by` then find it with no search.
+    /// A callsite, registered: its interest is kept, and asked for if it wasn't, unless its level is above the hint or nothing
+    /// is ever kept. `new_span_by` and `event_by` then find it with no search, until what is kept is forgotten.
     ///
     /// Refused as `enabled` is.
     pub fn register_callsite(&mut self, meta: &Metadata) -> Result<Registration, TraceError>
         requires { S.usable (stack_of self.old) }
         ensures stack { SameStack self.old self.new }
+        ensures rest { ChangesKept self.old self.new }
         ensures kept { LearnsOnly meta.now self.old self.new }
         ensures registered { KeepsRegistered self.old self.new }
         ensures metadata { IfOk result (λ r. registered_metadata r ≡ meta.now) }
@@ -194,9 +197,11 @@ impl<S: Subscriber> Dispatch<S> {
         ensures safe { StaysSafe S.Subscriber self.old self.new }
         ensures ready { StaysReady S.Subscriber self.old self.new }
         ensures hint { KeepsHint self.old self.new }
+        ensures above { IfErr result (λ e. PassesKept meta.now self.new) }
         ensures keeps { KeepsCallsite meta.now result self.old self.new }
         ensures mismatch { RefusesMismatch meta.now result self.old self.new }
         ensures refused { IfErr result (RefusesMetadata meta.now self.old) }
+        ensures unchanged { OnErr result (kept_by self.new ≡ kept_by self.old) }
     {
         match self.cache.interest(self.alloc, &self.stack, meta, None) {
             Err(error) => Err(error),

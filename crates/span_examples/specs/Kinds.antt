@@ -8,7 +8,7 @@ use Rattle.span_dispatch.specs.Alone.{passed_at}
 use Rattle.span_dispatch.specs.Contract.{SubscriberOf}
 use Rattle.span_dispatch.specs.Effect.{AloneOf}
 use Rattle.span_dispatch.specs.Recorder.{RecorderState, Records, kept_notice, new_recorder}
-use Rattle.span_dispatch.specs.Serve.{IsCurrentSomehow, Served, flat, made_calls, stack_of}
+use Rattle.span_dispatch.specs.Serve.{IsUpToDateSomehow, Served, flat, made_calls, stack_of}
 use Rattle.span_dispatch.specs.declared.dispatch.Dispatch.{Dispatch}
 use Rattle.span_dispatch.specs.declared.request.Answer.{Answer}
 use Rattle.span_dispatch.specs.declared.request.Request.{Request}
@@ -46,7 +46,7 @@ SeesAlone cs requests answers heard =
 module _ {S : Type 0} (s : SubscriberOf S) where
   -- the dispatcher is ready, and keeps what its stack would answer now
   abbrev pub IsReadyNow : Dispatch S → Type 0
-  IsReadyNow d = IsCurrentSomehow s.registry s.with_registry s.has_form s.stepped s.levelled d
+  IsReadyNow d = IsUpToDateSomehow s.registry s.with_registry s.has_form s.stepped s.levelled d
 
   -- a list was served, with these answers
   abbrev pub ServedList : List Request → List Answer → Dispatch S → Dispatch S → Type 0

@@ -1,10 +1,10 @@
-use Rattle.std.proofs.Common.{refl, subst, sym, ap, ◌∙◌}
+use Rattle.std.proofs.Common.{subst, sym, ap, ◌∙◌}
 use Rattle.std.specs.Prelude.{IfSome}
 use Rattle.std.specs.Option.{option_copied}
 use Rattle.span_core.specs.Level.{is_above}
 use Rattle.span_dispatch.specs.Cache.{KnowsInterest, known_of}
 use Rattle.span_dispatch.specs.declared.cache.Cache.TheVariants.{Filled}
-use Rattle.span_dispatch.proofs.Admits.{fails_above, gives_above, gives_kept, gives_mismatch, passes_below}
+use Rattle.span_dispatch.proofs.Admits.{fails_above, gives_above, gives_kept, passes_below}
 use Rattle.span_dispatch.proofs.cache.Known.interest.Goals as goal
 
 pub returns-then-not-passes : goal.returns-then-not-passes
