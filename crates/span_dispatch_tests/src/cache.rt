@@ -115,10 +115,7 @@ fn asked_once(rt: &impl Abort, alloc: Global, count: usize) -> Result<(), Fail> 
     let absent: Option<LevelFilter> = None;
     let registry = Registry::new(alloc);
     let (other, counted) = kept_under(alloc, registry, absent, counted, count)?;
-    assert_eq!(rt;
-        (counted.len(), other.len(), asked.get()),
-        (count, count, 1)
-    );
+    assert!(rt; (counted.len(), other.len(), asked.get()) == (count, count, 1));
     Ok(())
 }
 
@@ -140,9 +137,9 @@ fn filters_that_differ_on_a_callsite_are_asked_each_time(rt: HostRuntime) -> Res
     let (other, counted) = kept_under(rt.alloc(), registry, LevelFilter::INFO, counted, 3)?;
     let notice = Notice::Event(LANE, 5);
     // It is asked once for the interest, and once for each event.
-    assert_eq!(rt;
-        (counted.as_slice(), other.as_slice(), asked.get()),
-        ([].as_slice(), [notice, notice, notice].as_slice(), 4)
+    assert!(rt;
+        (counted.as_slice(), other.as_slice(), asked.get())
+            == ([].as_slice(), [notice, notice, notice].as_slice(), 4)
     );
     Ok(())
 }
@@ -165,9 +162,8 @@ fn a_changed_stack_is_asked_again(rt: HostRuntime) -> Result<(), Fail> {
         dispatch.stack().layer().inner(),
         &[Notice::Event(LANE, 5)],
     );
-    assert_eq!(rt;
-        sent,
-        [
+    assert!(rt;
+        sent == [
             (Ok(false), Some(LevelFilter::WARN)),
             (Ok(true), Some(LevelFilter::INFO)),
         ]
@@ -238,9 +234,9 @@ fn each_callsite_is_asked_of_once(rt: HostRuntime) -> Result<(), Fail> {
     let registry = Registry::new(rt.alloc());
     let (kept, answers, hint) = answers_under(rt.alloc(), registry, counted)?;
     let twice = [Notice::Event(LANE, 5), Notice::Event(LANE, 5)];
-    assert_eq!(rt;
-        (answers.as_slice(), asked.get(), kept.as_slice(), hint),
-        (ONLY_INFO.as_slice(), 5, twice.as_slice(), None)
+    assert!(rt;
+        (answers.as_slice(), asked.get(), kept.as_slice(), hint)
+            == (ONLY_INFO.as_slice(), 5, twice.as_slice(), None)
     );
     Ok(())
 }
@@ -335,7 +331,7 @@ fn a_callsite_has_one_metadata(rt: HostRuntime) -> Result<(), Fail> {
     let mut dispatch = in_use(rt.alloc(), plain(rt.alloc())?);
     let sent = send_two_levels(&mut dispatch);
     keeps(&rt, dispatch.stack().layer(), &[Notice::Event(LANE, 5)]);
-    assert_eq!(rt; sent, [Ok(true), Err(TraceError::CallsiteMismatch)]);
+    assert!(rt; sent == [Ok(true), Err(TraceError::CallsiteMismatch)]);
     Ok(())
 }
 
@@ -344,6 +340,6 @@ fn an_absent_layer_alone_wants_nothing(rt: HostRuntime) -> Result<(), Fail> {
     let absent: Option<Recorder> = None;
     let stack = put(Registry::new(rt.alloc()), absent)?;
     let sent = sent_under(&mut in_use(rt.alloc(), stack));
-    assert_eq!(rt; sent, (Ok(false), Some(LevelFilter::OFF)));
+    assert!(rt; sent == (Ok(false), Some(LevelFilter::OFF)));
     Ok(())
 }

@@ -78,10 +78,10 @@ fn closes_with_its_last_handle<S: Subscriber>(
     requires { S.usable (stack_of dispatch.old) }
 {
     let id = open_root(dispatch)?;
-    assert_eq!(rt; dispatch.clone_span(LANE, id), Ok(id));
-    assert_eq!(rt; drop_handle(dispatch, id), Ok(false));
-    assert_eq!(rt; drop_handle(dispatch, id), Ok(true));
-    assert_eq!(rt; drop_handle(dispatch, id), Err(TraceError::UnknownSpan(id)));
+    assert!(rt; dispatch.clone_span(LANE, id) == Ok(id));
+    assert!(rt; drop_handle(dispatch, id) == Ok(false));
+    assert!(rt; drop_handle(dispatch, id) == Ok(true));
+    assert!(rt; drop_handle(dispatch, id) == Err(TraceError::UnknownSpan(id)));
     Ok(id)
 }
 
@@ -119,20 +119,20 @@ fn made_by_places(rt: &impl Abort, answers: &[Answer], never: Id) -> Result<[Id;
     let root = made(answers, 0)?;
     let child = made(answers, 1)?;
     let other = made(answers, 4)?;
-    assert_eq!(rt;
-        answers,
-        [
-            Answer::Made(root),
-            Answer::Made(child),
-            Answer::Done,
-            Answer::Dropped,
-            Answer::Made(other),
-            Answer::Dropped,
-            Answer::Dropped,
-            Answer::Refused(TraceError::UnknownSpan(never)),
-            Answer::Refused(TraceError::UnknownParent(never)),
-        ]
-        .as_slice()
+    assert!(rt;
+        answers
+            == [
+                Answer::Made(root),
+                Answer::Made(child),
+                Answer::Done,
+                Answer::Dropped,
+                Answer::Made(other),
+                Answer::Dropped,
+                Answer::Dropped,
+                Answer::Refused(TraceError::UnknownSpan(never)),
+                Answer::Refused(TraceError::UnknownParent(never)),
+            ]
+            .as_slice()
     );
     Ok([root, child, other])
 }
@@ -149,10 +149,7 @@ fn serves_by_places<S: Subscriber>(
     let answers = serve(alloc, dispatch, &requests_by_places(never))?;
     let [root, child, other] = made_by_places(rt, &answers, never)?;
     let stack = dispatch.stack();
-    assert_eq!(rt;
-        (parent_of(stack, child), parent_of(stack, other)),
-        (Some(root), None)
-    );
+    assert!(rt; (parent_of(stack, child), parent_of(stack, other)) == (Some(root), None));
     Ok([root, child, other])
 }
 
@@ -201,24 +198,24 @@ fn answers_in_order<S: Subscriber>(
 {
     let answers = serve(alloc, dispatch, &requests_of_one_span(never))?;
     let id = made(&answers, 0)?;
-    assert_eq!(rt;
-        answers.as_slice(),
-        [
-            Answer::Made(id),
-            Answer::Done,
-            Answer::Done,
-            Answer::Current(Some(id)),
-            Answer::Current(None),
-            Answer::Done,
-            Answer::Done,
-            Answer::Done,
-            Answer::Current(None),
-            Answer::Yes(true),
-            Answer::Yes(false),
-            Answer::Yes(true),
-            Answer::Refused(TraceError::UnknownSpan(id)),
-        ]
-        .as_slice()
+    assert!(rt;
+        answers.as_slice()
+            == [
+                Answer::Made(id),
+                Answer::Done,
+                Answer::Done,
+                Answer::Current(Some(id)),
+                Answer::Current(None),
+                Answer::Done,
+                Answer::Done,
+                Answer::Done,
+                Answer::Current(None),
+                Answer::Yes(true),
+                Answer::Yes(false),
+                Answer::Yes(true),
+                Answer::Refused(TraceError::UnknownSpan(id)),
+            ]
+            .as_slice()
     );
     Ok(id)
 }
@@ -253,17 +250,14 @@ fn refuses_unknown<S: Subscriber>(
     let child = Attributes::child_of(id, span_metadata(), &[]);
     let event = Event::new_child_of(id, event_metadata(), &[]);
     let values = Record::new(&[]);
-    assert_eq!(rt; dispatch.enter(LANE, id), Err(unknown));
-    assert_eq!(rt; dispatch.record(LANE, id, &values), Err(unknown));
-    assert_eq!(rt; dispatch.follows_from(LANE, id, id), Err(unknown));
-    assert_eq!(rt; dispatch.clone_span(LANE, id), Err(unknown));
-    assert_eq!(rt; dispatch.drop_span(LANE, id), Err(unknown));
-    assert_eq!(rt;
-        dispatch.new_span(LANE, &child),
-        Err(TraceError::UnknownParent(id))
-    );
+    assert!(rt; dispatch.enter(LANE, id) == Err(unknown));
+    assert!(rt; dispatch.record(LANE, id, &values) == Err(unknown));
+    assert!(rt; dispatch.follows_from(LANE, id, id) == Err(unknown));
+    assert!(rt; dispatch.clone_span(LANE, id) == Err(unknown));
+    assert!(rt; dispatch.drop_span(LANE, id) == Err(unknown));
+    assert!(rt; dispatch.new_span(LANE, &child) == Err(TraceError::UnknownParent(id)));
     dispatch.exit(LANE, id);
-    assert_eq!(rt; dispatch.event(LANE, &event), Ok(true));
+    assert!(rt; dispatch.event(LANE, &event) == Ok(true));
     let found = Context::new(dispatch.stack(), LANE).event_span(&event);
     assert!(rt; found.is_none());
     Ok(())
@@ -279,7 +273,7 @@ fn refuses_all_unknown<S: Subscriber>(
     ensures { S.usable (stack_of dispatch.new) }
 {
     let closed = open_root(dispatch)?;
-    assert_eq!(rt; drop_handle(dispatch, closed), Ok(true));
+    assert!(rt; drop_handle(dispatch, closed) == Ok(true));
     refuses_unknown(rt, dispatch, Id::from_u64(0))?;
     refuses_unknown(rt, dispatch, Id::from_u64(u64::MAX))?;
     refuses_unknown(rt, dispatch, closed)?;
@@ -335,7 +329,7 @@ fn open_at_last(rt: &impl Abort, dispatch: &mut Dispatch<Plain>) -> Result<Id, F
     let before = seen(dispatch);
     let opened = open(dispatch);
     if opened == Err(TraceError::OutOfMemory) {
-        assert_eq!(rt; seen(dispatch), before);
+        assert!(rt; seen(dispatch) == before);
         return open_root(dispatch);
     }
     Ok(opened?.ok_or("a layer vetoes")?)
@@ -345,8 +339,8 @@ fn open_at_last(rt: &impl Abort, dispatch: &mut Dispatch<Plain>) -> Result<Id, F
 fn enter_at_last(rt: &impl Abort, dispatch: &mut Dispatch<Plain>, id: Id) -> Result<(), Fail> {
     let before = seen(dispatch);
     if let Err(error) = enter(dispatch, id) {
-        assert_eq!(rt; error, TraceError::OutOfMemory);
-        assert_eq!(rt; seen(dispatch), before);
+        assert!(rt; error == TraceError::OutOfMemory);
+        assert!(rt; seen(dispatch) == before);
         enter(dispatch, id)?;
     }
     Ok(())
@@ -362,8 +356,8 @@ fn serve_at_last(
     let before = seen(dispatch);
     match serve(alloc, dispatch, requests) {
         Err(error) => {
-            assert_eq!(rt; error, TraceError::OutOfMemory);
-            assert_eq!(rt; seen(dispatch), before);
+            assert!(rt; error == TraceError::OutOfMemory);
+            assert!(rt; seen(dispatch) == before);
             Ok(serve(alloc, dispatch, requests)?)
         }
         Ok(answers) => Ok(answers),
@@ -374,7 +368,7 @@ fn serve_at_last(
 fn send_in_span_at_last(rt: &impl Abort, dispatch: &mut Dispatch<Plain>) -> Result<Id, Fail> {
     let id = open_at_last(rt, dispatch)?;
     enter_at_last(rt, dispatch, id)?;
-    assert_eq!(rt; (current(dispatch), send(dispatch)), (Some(id), Ok(true)));
+    assert!(rt; (current(dispatch), send(dispatch)) == (Some(id), Ok(true)));
     Ok(id)
 }
 
@@ -388,7 +382,7 @@ fn keeps_what_fits(rt: &impl Abort, recorder: &Recorder, id: Id) {
         Notice::Close(LANE, id),
     ];
     assert!(rt; told.as_slice().starts_with(recorder.notices()));
-    assert_eq!(rt; recorder.failed(), recorder.notices().len() < 4);
+    assert!(rt; recorder.failed() == recorder.notices().len() < 4);
 }
 
 /// It passes too where any one allocation is refused, as `rt try --test --fail-alloc N` does.
@@ -398,7 +392,7 @@ fn a_refusal_of_memory_changes_nothing(rt: HostRuntime) -> Result<(), Fail> {
     let id = send_in_span_at_last(&rt, &mut dispatch)?;
     let requests = [Request::Drop(LANE, Which::Known(id))];
     let answers = serve_at_last(&rt, rt.alloc(), &mut dispatch, &requests)?;
-    assert_eq!(rt; answers.as_slice(), [Answer::Yes(true)].as_slice());
+    assert!(rt; answers.as_slice() == [Answer::Yes(true)].as_slice());
     keeps_what_fits(&rt, dispatch.stack().layer(), id);
     Ok(())
 }
@@ -407,9 +401,9 @@ fn a_refusal_of_memory_changes_nothing(rt: HostRuntime) -> Result<(), Fail> {
 fn send_at_last(rt: &impl Abort, dispatch: &mut Dispatch<Plain>) {
     let before = seen(dispatch);
     if let Err(error) = send(dispatch) {
-        assert_eq!(rt; error, TraceError::OutOfMemory);
-        assert_eq!(rt; seen(dispatch), before);
-        assert_eq!(rt; send(dispatch), Ok(true));
+        assert!(rt; error == TraceError::OutOfMemory);
+        assert!(rt; seen(dispatch) == before);
+        assert!(rt; send(dispatch) == Ok(true));
     }
 }
 
@@ -419,7 +413,7 @@ fn a_refused_interest_changes_nothing(rt: HostRuntime) -> Result<(), Fail> {
     let mut dispatch = in_use(rt.alloc(), plain(rt.alloc())?);
     send_at_last(&rt, &mut dispatch);
     let recorder = dispatch.stack().layer();
-    assert_eq!(rt; recorder.failed(), recorder.notices().is_empty());
+    assert!(rt; recorder.failed() == recorder.notices().is_empty());
     Ok(())
 }
 
@@ -429,9 +423,6 @@ fn a_stack_is_taken_out(rt: HostRuntime) -> Result<(), Fail> {
     let id = open_root(&mut dispatch)?;
     let (recorder, registry) = dispatch.into_stack().into_parts();
     let kept = [Notice::New(LANE, id)];
-    assert_eq!(rt;
-        (registry.is_open(id), recorder.notices()),
-        (true, kept.as_slice())
-    );
+    assert!(rt; (registry.is_open(id), recorder.notices()) == (true, kept.as_slice()));
     Ok(())
 }

@@ -53,14 +53,11 @@ fn raised_by_calls<S: Subscriber>(
     requires { S.usable (stack_of dispatch.old) }
     ensures { S.usable (stack_of dispatch.new) }
 {
-    assert_eq!(rt; sent_under(dispatch), before);
-    assert_eq!(rt;
-        set(dispatch, 1, LevelFilter::INFO),
-        Err(TraceError::NotSettable(1))
-    );
-    assert_eq!(rt; sent_under(dispatch), before);
-    assert_eq!(rt; set(dispatch, 0, LevelFilter::INFO), Ok(()));
-    assert_eq!(rt; sent_under(dispatch), after);
+    assert!(rt; sent_under(dispatch) == before);
+    assert!(rt; set(dispatch, 1, LevelFilter::INFO) == Err(TraceError::NotSettable(1)));
+    assert!(rt; sent_under(dispatch) == before);
+    assert!(rt; set(dispatch, 0, LevelFilter::INFO) == Ok(()));
+    assert!(rt; sent_under(dispatch) == after);
     Ok(())
 }
 
@@ -80,7 +77,7 @@ fn the_third_event_alone(
 
 /// A recorder was told of one event.
 fn told_once(rt: &impl Abort, recorder: &Recorder) {
-    assert_eq!(rt; recorder.notices(), [Notice::Event(LANE, 5)].as_slice());
+    assert!(rt; recorder.notices() == [Notice::Event(LANE, 5)].as_slice());
 }
 
 #[test]
@@ -126,15 +123,15 @@ fn raised_in_lists<S: Subscriber>(
     ensures { S.usable (stack_of dispatch.new) }
 {
     let answers = serve(alloc, dispatch, &refused_levels())?;
-    assert_eq!(rt; answers.as_slice(), refused_around(before).as_slice());
+    assert!(rt; answers.as_slice() == refused_around(before).as_slice());
     let asked_before = asked.get();
     let raised = [
         Request::SetLevel(0, LevelFilter::INFO),
         event(5, Level::INFO),
     ];
     let answers = serve(alloc, dispatch, &raised)?;
-    assert_eq!(rt; answers.as_slice(), [Answer::Done, Answer::Done].as_slice());
-    assert_eq!(rt; [asked_before, asked.get()], counts);
+    assert!(rt; answers.as_slice() == [Answer::Done, Answer::Done].as_slice());
+    assert!(rt; [asked_before, asked.get()] == counts);
     Ok(())
 }
 
@@ -219,17 +216,17 @@ fn spans_between_levels() -> [Request<'static>; 13] {
 /// A recorder that began under INFO: of the first span it is told nothing, and of the other two all but what no level lets by.
 fn told_of_its_own(rt: &impl Abort, recorder: &Recorder, answers: &[Answer]) -> Result<(), Fail> {
     let (info, debug) = (made(answers, 1)?, made(answers, 4)?);
-    assert_eq!(rt;
-        recorder.notices(),
-        [
-            Notice::New(LANE, info),
-            Notice::New(LANE, debug),
-            Notice::Enter(LANE, info),
-            Notice::Exit(LANE, info),
-            Notice::Close(LANE, info),
-            Notice::Close(LANE, debug),
-        ]
-        .as_slice()
+    assert!(rt;
+        recorder.notices()
+            == [
+                Notice::New(LANE, info),
+                Notice::New(LANE, debug),
+                Notice::Enter(LANE, info),
+                Notice::Exit(LANE, info),
+                Notice::Close(LANE, info),
+                Notice::Close(LANE, debug),
+            ]
+            .as_slice()
     );
     Ok(())
 }
@@ -237,22 +234,22 @@ fn told_of_its_own(rt: &impl Abort, recorder: &Recorder, answers: &[Answer]) -> 
 /// The recorder without a filter.
 fn told_of_all(rt: &impl Abort, recorder: &Recorder, answers: &[Answer]) -> Result<(), Fail> {
     let (first, info, debug) = (made(answers, 0)?, made(answers, 1)?, made(answers, 4)?);
-    assert_eq!(rt;
-        recorder.notices(),
-        [
-            Notice::New(LANE, first),
-            Notice::New(LANE, info),
-            Notice::Enter(LANE, first),
-            Notice::New(LANE, debug),
-            Notice::Enter(LANE, info),
-            Notice::Event(LANE, 5),
-            Notice::Exit(LANE, info),
-            Notice::Exit(LANE, first),
-            Notice::Close(LANE, first),
-            Notice::Close(LANE, info),
-            Notice::Close(LANE, debug),
-        ]
-        .as_slice()
+    assert!(rt;
+        recorder.notices()
+            == [
+                Notice::New(LANE, first),
+                Notice::New(LANE, info),
+                Notice::Enter(LANE, first),
+                Notice::New(LANE, debug),
+                Notice::Enter(LANE, info),
+                Notice::Event(LANE, 5),
+                Notice::Exit(LANE, info),
+                Notice::Exit(LANE, first),
+                Notice::Close(LANE, first),
+                Notice::Close(LANE, info),
+                Notice::Close(LANE, debug),
+            ]
+            .as_slice()
     );
     Ok(())
 }

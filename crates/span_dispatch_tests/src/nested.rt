@@ -17,7 +17,7 @@ use std::sync::ledger::Blank;
 use std::test::Fail;
 
 /// Which dispatcher opens a span.
-#[derive(Clone, Copy, Debug, PartialEq, Eq)]
+#[derive(Clone, Copy, PartialEq, Eq)]
 enum By {
     /// One that keeps hint and interests.
     Keeping,
@@ -29,7 +29,7 @@ enum By {
 
 /// A span that was opened, as the registry shows it: the numbers of the filters that refused it,
 /// and whether the innermost layer marked it. And its verdict as a word, where there is a journal.
-#[derive(Drop, Debug, PartialEq)]
+#[derive(Drop, PartialEq)]
 struct Opened {
     refused_by: Vec<u32>,
     is_marked: bool,
@@ -149,7 +149,7 @@ fn on_stack<S: Subscriber + Drop, L: Layer<S> + Drop>(
     requires layer { L.usable layer }
 {
     let stack = put(stack, layer)?;
-    assert_eq!(rt; stack.root().filters(), 8);
+    assert!(rt; stack.root().filters() == 8);
     match by {
         By::Keeping => by_dispatcher(alloc, &mut in_use(alloc, stack), level),
         By::Asking => by_dispatcher(alloc, &mut fresh(alloc, stack), level),
@@ -230,10 +230,9 @@ fn of_eight_filters_number_3_refuses(rt: HostRuntime) -> Result<(), Fail> {
         (By::Sharing, Some(0b1000)),
     ] {
         let opened = in_eight(&rt, rt.alloc(), by, Level::INFO)?;
-        assert_eq!(rt; opened.refused_by.as_slice(), [3].as_slice(), "{by:?}");
-        assert_eq!(rt;
-            (opened.is_marked, opened.verdict),
-            (false, verdict),
+        assert!(rt; opened.refused_by.as_slice() == [3].as_slice(), "{by:?}");
+        assert!(rt;
+            (opened.is_marked, opened.verdict) == (false, verdict),
             "{by:?}"
         );
     }
@@ -250,9 +249,8 @@ fn eight_filters_pass(rt: HostRuntime) -> Result<(), Fail> {
     ] {
         let opened = in_eight(&rt, rt.alloc(), by, Level::ERROR)?;
         assert!(rt; opened.refused_by.is_empty(), "{by:?}");
-        assert_eq!(rt;
-            (opened.is_marked, opened.verdict),
-            (true, verdict),
+        assert!(rt;
+            (opened.is_marked, opened.verdict) == (true, verdict),
             "{by:?}"
         );
     }

@@ -56,13 +56,13 @@ fn sent_under_levels<S: Subscriber>(
 {
     let event = dispatch.register_callsite(&callsite(5, Kind::EVENT))?;
     let span = dispatch.register_callsite(&callsite(6, Kind::SPAN))?;
-    assert_eq!(rt; sent_by(dispatch, &event), Ok(true));
-    assert_eq!(rt; opened_by(dispatch, &span), Ok(true));
+    assert!(rt; sent_by(dispatch, &event) == Ok(true));
+    assert!(rt; opened_by(dispatch, &span) == Ok(true));
     dispatch.set_level(0, LevelFilter::WARN)?;
-    assert_eq!(rt; sent_by(dispatch, &event), Ok(under_warn));
-    assert_eq!(rt; opened_by(dispatch, &span), Ok(under_warn));
+    assert!(rt; sent_by(dispatch, &event) == Ok(under_warn));
+    assert!(rt; opened_by(dispatch, &span) == Ok(under_warn));
     dispatch.set_level(0, LevelFilter::INFO)?;
-    assert_eq!(rt; sent_by(dispatch, &event), Ok(true));
+    assert!(rt; sent_by(dispatch, &event) == Ok(true));
     Ok(())
 }
 
@@ -77,9 +77,9 @@ fn a_registered_callsite_goes_by_the_level_that_is_set(rt: HostRuntime) -> Resul
 /// A recorder was told of three things, of which the first and the last are events.
 fn told_around_a_span(rt: &impl Abort, recorder: &Recorder) {
     let notices = recorder.notices();
-    assert_eq!(rt; notices.len(), 3);
-    assert_eq!(rt; notices.first(), Some(&Notice::Event(LANE, 5)));
-    assert_eq!(rt; notices.last(), Some(&Notice::Event(LANE, 5)));
+    assert!(rt; notices.len() == 3);
+    assert!(rt; notices.first() == Some(&Notice::Event(LANE, 5)));
+    assert!(rt; notices.last() == Some(&Notice::Event(LANE, 5)));
 }
 
 #[test]

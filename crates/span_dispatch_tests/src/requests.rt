@@ -40,7 +40,7 @@ pub(crate) fn made(answers: &[Answer], place: usize) -> Result<Id, Fail> {
 
 /// A recorder keeps these notices.
 pub(crate) fn keeps(rt: &impl Abort, recorder: &Recorder, notices: &[Notice]) {
-    assert_eq!(rt; recorder.notices(), notices);
+    assert!(rt; recorder.notices() == notices);
 }
 
 /// A recorder on a registry.

@@ -45,7 +45,7 @@ fn serve_error<S: Subscriber>(
     ensures { S.usable (stack_of dispatch.new) }
 {
     let answers = serve(alloc, dispatch, &[event(1, Level::ERROR)])?;
-    assert_eq!(rt; answers.as_slice(), [Answer::Done].as_slice());
+    assert!(rt; answers.as_slice() == [Answer::Done].as_slice());
     Ok(())
 }
 
@@ -123,7 +123,7 @@ fn drop_chain<S: Subscriber>(
     let mut left = chain.len();
     for id in chain {
         left = left.saturating_sub(1);
-        assert_eq!(rt; dispatch.drop_span(LANE, *id)?, left == 0);
+        assert!(rt; dispatch.drop_span(LANE, *id)? == left == 0);
     }
     Ok(())
 }
@@ -193,9 +193,9 @@ fn leaves_as_often<S: Subscriber>(rt: &impl Abort, dispatch: &mut Dispatch<S>) -
     let id = open(dispatch, None)?;
     enter_often(dispatch, id)?;
     leave_often(dispatch, id, ENTRIES - 1);
-    assert_eq!(rt; dispatch.current_span(LANE).id(), Some(id));
+    assert!(rt; dispatch.current_span(LANE).id() == Some(id));
     leave_often(dispatch, id, 1);
-    assert_eq!(rt; dispatch.current_span(LANE).id(), None);
+    assert!(rt; dispatch.current_span(LANE).id() == None);
     Ok(())
 }
 

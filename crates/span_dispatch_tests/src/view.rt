@@ -64,32 +64,32 @@ fn the_outer_span_alone(
     answers: &[Answer],
 ) -> Result<(), Fail> {
     let p = made(answers, 0)?;
-    assert_eq!(rt;
-        recorder.notices(),
-        [
-            Notice::New(LANE, p),
-            Notice::Enter(LANE, p),
-            Notice::Exit(LANE, p),
-            Notice::Close(LANE, p),
-        ]
-        .as_slice()
+    assert!(rt;
+        recorder.notices()
+            == [
+                Notice::New(LANE, p),
+                Notice::Enter(LANE, p),
+                Notice::Exit(LANE, p),
+                Notice::Close(LANE, p),
+            ]
+            .as_slice()
     );
     Ok(())
 }
 
 fn both_spans(rt: &impl Abort, recorder: &Recorder, answers: &[Answer]) -> Result<(), Fail> {
     let (p, q) = (made(answers, 0)?, made(answers, 2)?);
-    assert_eq!(rt;
-        recorder.notices(),
-        [
-            Notice::New(LANE, p),
-            Notice::Enter(LANE, p),
-            Notice::New(LANE, q),
-            Notice::Close(LANE, q),
-            Notice::Exit(LANE, p),
-            Notice::Close(LANE, p),
-        ]
-        .as_slice()
+    assert!(rt;
+        recorder.notices()
+            == [
+                Notice::New(LANE, p),
+                Notice::Enter(LANE, p),
+                Notice::New(LANE, q),
+                Notice::Close(LANE, q),
+                Notice::Exit(LANE, p),
+                Notice::Close(LANE, p),
+            ]
+            .as_slice()
     );
     Ok(())
 }
@@ -189,57 +189,48 @@ fn reads_what_info_passes(
     answers: &[Answer],
 ) -> Result<(), Fail> {
     let (root, leaf) = (made(answers, 0)?, made(answers, 2)?);
-    assert_eq!(rt;
-        reader.up.as_slice(),
-        [Some(leaf), Some(root), None, Some(root)].as_slice()
-    );
-    assert_eq!(rt; reader.down.as_slice(), [root, leaf, root].as_slice());
-    assert_eq!(rt; reader.parents.as_slice(), [Some(root), None].as_slice());
+    assert!(rt; reader.up.as_slice() == [Some(leaf), Some(root), None, Some(root)].as_slice());
+    assert!(rt; reader.down.as_slice() == [root, leaf, root].as_slice());
+    assert!(rt; reader.parents.as_slice() == [Some(root), None].as_slice());
     Ok(())
 }
 
 fn reads_all(rt: &impl Abort, reader: &Reader, answers: &[Answer]) -> Result<(), Fail> {
     let (root, child, leaf) = (made(answers, 0)?, made(answers, 1)?, made(answers, 2)?);
-    assert_eq!(rt;
-        reader.up.as_slice(),
-        [
-            Some(leaf),
-            Some(child),
-            Some(root),
-            Some(child),
-            Some(root),
-            Some(child),
-            Some(root),
-        ]
-        .as_slice()
+    assert!(rt;
+        reader.up.as_slice()
+            == [
+                Some(leaf),
+                Some(child),
+                Some(root),
+                Some(child),
+                Some(root),
+                Some(child),
+                Some(root),
+            ]
+            .as_slice()
     );
-    assert_eq!(rt;
-        reader.down.as_slice(),
-        [root, child, leaf, root, child, root, child].as_slice()
-    );
-    assert_eq!(rt;
-        reader.parents.as_slice(),
-        [Some(child), Some(root), Some(root)].as_slice()
-    );
+    assert!(rt; reader.down.as_slice() == [root, child, leaf, root, child, root, child].as_slice());
+    assert!(rt; reader.parents.as_slice() == [Some(child), Some(root), Some(root)].as_slice());
     Ok(())
 }
 
 /// What a watcher without a filter sees of one span in another: it finds both while they close.
 fn sees_both_close(rt: &impl Abort, watcher: &Watcher, answers: &[Answer]) -> Result<(), Fail> {
     let (p, q) = (made(answers, 0)?, made(answers, 2)?);
-    assert_eq!(rt;
-        watcher.seen.as_slice(),
-        [
-            Seen::NewSpan(p),
-            Seen::InScope(p),
-            Seen::Enter(p),
-            Seen::NewSpan(q),
-            Seen::InScope(q),
-            Seen::Close(q),
-            Seen::Exit(p),
-            Seen::Close(p),
-        ]
-        .as_slice()
+    assert!(rt;
+        watcher.seen.as_slice()
+            == [
+                Seen::NewSpan(p),
+                Seen::InScope(p),
+                Seen::Enter(p),
+                Seen::NewSpan(q),
+                Seen::InScope(q),
+                Seen::Close(q),
+                Seen::Exit(p),
+                Seen::Close(p),
+            ]
+            .as_slice()
     );
     Ok(())
 }

@@ -129,8 +129,8 @@ fn asked_of_an_error(
 
 #[test]
 fn a_layer_is_asked_once_of_an_event_whose_metadata_pass(rt: HostRuntime) -> Result<(), Fail> {
-    assert_eq!(rt; asked_of_an_error(rt.alloc(), true, true)?, (1, 1, 1));
-    assert_eq!(rt; asked_of_an_error(rt.alloc(), false, true)?, (1, 0, 0));
-    assert_eq!(rt; asked_of_an_error(rt.alloc(), true, false)?, (1, 1, 0));
+    assert!(rt; asked_of_an_error(rt.alloc(), true, true)? == (1, 1, 1));
+    assert!(rt; asked_of_an_error(rt.alloc(), false, true)? == (1, 0, 0));
+    assert!(rt; asked_of_an_error(rt.alloc(), true, false)? == (1, 1, 0));
     Ok(())
 }

@@ -25,12 +25,12 @@ fn finds_the_way(rt: &impl Abort, alloc: Global, registry: &mut Registry) -> Res
     enter_and_leave(registry, LANE, child)?;
     assert!(rt; registry.current_span(LANE).is_none());
     let above_child = (open_parent(registry, child), root_of(registry, child));
-    assert_eq!(rt; above_child, (Some(root), Some(root)));
+    assert!(rt; above_child == (Some(root), Some(root)));
     let mut ids = Vec::new(alloc);
     for span in way_down(registry, child, alloc)? {
         ids.push(span.id())?;
     }
-    assert_eq!(rt; ids.as_slice(), [root, child].as_slice());
+    assert!(rt; ids.as_slice() == [root, child].as_slice());
     Ok(())
 }
 

@@ -183,8 +183,8 @@ fn a_receiver_of_five(rt: HostRuntime) -> Result<(), Fail> {
     ];
     let (dispatch, answers) = serve_by(alloc, Registry::new(alloc), layers, &requests)?;
     let id = first_made(&answers)?;
-    assert_eq!(rt; answers.get(1).copied(), Some(Answer::Dropped));
-    assert_eq!(rt; counted(dispatch.stack(), id), Some(3));
+    assert!(rt; answers.get(1).copied() == Some(Answer::Dropped));
+    assert!(rt; counted(dispatch.stack(), id) == Some(3));
     each_heard_what_passes(&rt, dispatch.stack().layer().inner().inner(), id)
 }
 
@@ -198,14 +198,14 @@ fn each_heard_what_passes(rt: &impl Abort, layers: &Recordings, id: Id) -> Resul
     let info = Notice::Event(LANE, 3);
     let warn = Notice::Event(LANE, 4);
     let base = layers.inner().inner();
-    assert_eq!(rt; base.notices(), [new, debug, info, warn].as_slice());
+    assert!(rt; base.notices() == [new, debug, info, warn].as_slice());
     let list = layers.inner().layer();
-    assert_eq!(rt; notices_at(list, 0), [new, info, warn].as_slice());
-    assert_eq!(rt; notices_at(list, 1), [warn].as_slice());
+    assert!(rt; notices_at(list, 0) == [new, info, warn].as_slice());
+    assert!(rt; notices_at(list, 1) == [warn].as_slice());
     let Some(optional) = layers.layer() else {
         return Err(Fail::from("the layer is absent"));
     };
-    assert_eq!(rt; optional.inner().notices(), [warn].as_slice());
+    assert!(rt; optional.inner().notices() == [warn].as_slice());
     Ok(())
 }
 
@@ -262,12 +262,12 @@ fn a_registry_full_of_filters(rt: HostRuntime) -> Result<(), Fail> {
     let Some(back) = no_room_for(rt.alloc(), stack, silent, warn)? else {
         return Err(Fail::from("a 129th filter got a number"));
     };
-    assert_eq!(rt; back.error, TraceError::TooManyFilters);
-    assert_eq!(rt; *back.layer.filter(), LevelFilter::WARN);
-    assert_eq!(rt; back.filters, 128);
+    assert!(rt; back.error == TraceError::TooManyFilters);
+    assert!(rt; *back.layer.filter() == LevelFilter::WARN);
+    assert!(rt; back.filters == 128);
     let stack = back.dispatch.stack();
     let kept = stack.inner().layer().notices();
-    assert_eq!(rt; kept, [Notice::Event(LANE, 7)].as_slice());
+    assert!(rt; kept == [Notice::Event(LANE, 7)].as_slice());
     for member in stack.layer().iter() {
         assert!(rt; member.inner().notices().is_empty());
     }
@@ -312,9 +312,9 @@ fn hint_of<S: Subscriber + Drop, L: Layer<S> + Drop>(
 fn what_one_filter_wants_is_of_interest(rt: HostRuntime) -> Result<(), Fail> {
     let all = recording(rt.alloc(), LevelFilter::TRACE);
     let nothing = recording(rt.alloc(), LevelFilter::OFF);
-    assert_eq!(rt;
-        interests_of(Registry::new(rt.alloc()), all, nothing)?,
-        (Interest::Always, Interest::Sometimes)
+    assert!(rt;
+        interests_of(Registry::new(rt.alloc()), all, nothing)?
+            == (Interest::Always, Interest::Sometimes)
     );
     Ok(())
 }
@@ -322,13 +322,12 @@ fn what_one_filter_wants_is_of_interest(rt: HostRuntime) -> Result<(), Fail> {
 #[test]
 fn what_a_layer_without_a_filter_may_want_is_of_interest(rt: HostRuntime) -> Result<(), Fail> {
     let nothing = recording(rt.alloc(), LevelFilter::OFF);
-    assert_eq!(rt;
+    assert!(rt;
         interests_of(
             Registry::new(rt.alloc()),
             Recorder::new(rt.alloc()),
             nothing
-        )?,
-        (Interest::Always, Interest::Sometimes)
+        )? == (Interest::Always, Interest::Sometimes)
     );
     Ok(())
 }
@@ -337,10 +336,7 @@ fn what_a_layer_without_a_filter_may_want_is_of_interest(rt: HostRuntime) -> Res
 fn a_pair_under_filters_has_the_wider_hint(rt: HostRuntime) -> Result<(), Fail> {
     let all = recording(rt.alloc(), LevelFilter::TRACE);
     let few = recording(rt.alloc(), LevelFilter::INFO);
-    assert_eq!(rt;
-        hint_of(Registry::new(rt.alloc()), all.and_then(few))?,
-        Some(LevelFilter::TRACE)
-    );
+    assert!(rt; hint_of(Registry::new(rt.alloc()), all.and_then(few))? == Some(LevelFilter::TRACE));
     Ok(())
 }
 
@@ -356,9 +352,9 @@ fn a_recorder_keeps_the_same_alone_and_beside_another(rt: HostRuntime) -> Result
     let ((alone, answers), (beside, others)) = (one, two);
     assert!(rt; answers == others);
     let kept = alone.stack().layer().inner().notices();
-    assert_eq!(rt; kept.len(), 2);
-    assert_eq!(rt; beside.stack().inner().layer().inner().notices(), kept);
-    assert_eq!(rt; beside.stack().layer().inner().notices().len(), 3);
+    assert!(rt; kept.len() == 2);
+    assert!(rt; beside.stack().inner().layer().inner().notices() == kept);
+    assert!(rt; beside.stack().layer().inner().notices().len() == 3);
     Ok(())
 }
 
@@ -372,11 +368,11 @@ fn a_level_is_set_between_requests(rt: HostRuntime) -> Result<(), Fail> {
     ];
     let dispatch = reload(rt.alloc(), &requests, &requests)?;
     let kept = dispatch.stack().layer().inner().notices();
-    assert_eq!(rt; kept.len(), 4);
-    assert_eq!(rt; kept.first().copied(), Some(Notice::Event(LANE, 1)));
+    assert!(rt; kept.len() == 4);
+    assert!(rt; kept.first().copied() == Some(Notice::Event(LANE, 1)));
     assert!(rt; matches!(kept.get(1), Some(Notice::New(_, _))));
-    assert_eq!(rt; kept.get(2).copied(), Some(Notice::Event(LANE, 1)));
-    assert_eq!(rt; kept.get(3).copied(), Some(Notice::Event(LANE, 2)));
+    assert!(rt; kept.get(2).copied() == Some(Notice::Event(LANE, 1)));
+    assert!(rt; kept.get(3).copied() == Some(Notice::Event(LANE, 2)));
     Ok(())
 }
 
@@ -413,7 +409,7 @@ fn an_outline_goes_by_what_its_own_level_shows(rt: HostRuntime) -> Result<(), Fa
     ];
     let (level, other) = (LevelFilter::INFO, LevelFilter::TRACE);
     let (answers, text) = serve_outlined(rt.alloc(), level, other, &requests)?;
-    assert_eq!(rt; answers.len(), 9);
-    assert_eq!(rt; text.as_str(), "apart\n  outer\nhidden\n    inner\n");
+    assert!(rt; answers.len() == 9);
+    assert!(rt; text.as_str() == "apart\n  outer\nhidden\n    inner\n");
     Ok(())
 }

@@ -59,7 +59,7 @@ fn refusals_seen<S: Subscriber + Drop>(stack: S) -> Result<(bool, u64, u64), Fai
 #[test]
 fn a_pass_ends_with_its_request(rt: HostRuntime) -> Result<(), Fail> {
     let seen = refusals_seen(Registry::new(rt.alloc()))?;
-    assert_eq!(rt; seen, (true, 2, 0));
+    assert!(rt; seen == (true, 2, 0));
     Ok(())
 }
 
@@ -69,9 +69,9 @@ fn parts_have_texts(rt: HostRuntime) -> Result<(), Fail> {
     let layer = Observer::new(Refusals { asked: 0, other: 0 }).with_filter(LevelFilter::INFO);
     let stack = put(Registry::new(alloc), layer)?;
     let text = format!(in alloc; "{stack:?}")?;
-    assert_eq!(rt;
-        text.as_str(),
-        "Layered { layer: Filtered { filter: LevelFilter::INFO, layer: Observer { observer: Refusals { asked: 0, other: 0 } }, id: FilterId({0}) }, inner: Registry { .. } }"
+    assert!(rt;
+        text.as_str()
+            == "Layered { layer: Filtered { filter: LevelFilter::INFO, layer: Observer { observer: Refusals { asked: 0, other: 0 } }, id: FilterId({0}) }, inner: Registry { .. } }"
     );
     Ok(())
 }

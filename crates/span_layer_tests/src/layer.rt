@@ -116,7 +116,7 @@ fn two_watchers(alloc: Global) -> Result<TwoWatchers, TraceError> {
 
 /// A watcher saw this.
 fn saw(rt: &impl Abort, watcher: &Observer<Watcher>, seen: &[Seen]) {
-    assert_eq!(rt; watcher.observer().seen.as_slice(), seen);
+    assert!(rt; watcher.observer().seen.as_slice() == seen);
 }
 
 /// Three spans, each in the one before, and an event in the second, which alone is of level debug.
@@ -238,7 +238,7 @@ fn every_layer_sees_a_closing_span(rt: HostRuntime) -> Result<(), Fail> {
         last_seen(pair.layer()),
         last_seen(pair.inner()),
     ];
-    assert_eq!(rt; seen, [Some(Seen::Close(id)); 3]);
+    assert!(rt; seen == [Some(Seen::Close(id)); 3]);
     Ok(())
 }
 
@@ -257,13 +257,13 @@ fn a_registry_has_room_for_128_filters(rt: HostRuntime) -> Result<(), Fail> {
     let Err(back) = without_numbers(rt.alloc())?.with(layer) else {
         return Err(Fail::from("a 129th filter got a number"));
     };
-    assert_eq!(rt;
-        (back.error, back.subscriber.filters(), *back.layer.filter()),
-        (TraceError::TooManyFilters, 128, LevelFilter::INFO)
+    assert!(rt;
+        (back.error, back.subscriber.filters(), *back.layer.filter())
+            == (TraceError::TooManyFilters, 128, LevelFilter::INFO)
     );
     // A layer without filters needs no number.
     let stack = put(back.subscriber, new_watcher(rt.alloc()))?;
-    assert_eq!(rt; stack.inner().filters(), 128);
+    assert!(rt; stack.inner().filters() == 128);
     Ok(())
 }
 
@@ -301,7 +301,7 @@ fn nested_filters_must_all_pass(rt: HostRuntime) -> Result<(), Fail> {
         .with_filter(LevelFilter::DEBUG);
     let mut stack = put(Registry::new(rt.alloc()), layer)?;
     let id = three_events(&rt, &mut stack)?;
-    assert_eq!(rt; stack.root().filters(), 3);
+    assert!(rt; stack.root().filters() == 3);
     let once = [
         Seen::NewSpan(id),
         Seen::InScope(id),
@@ -334,7 +334,7 @@ fn hooks_write_extensions_under_their_filters(rt: HostRuntime) -> Result<(), Fai
         .and_then(new_marker(all).with_filter(LevelFilter::DEBUG));
     let mut stack = put(Registry::new(rt.alloc()), pair)?;
     let marks = marks_of_three_events(&rt, &mut stack, [all, few])?;
-    assert_eq!(rt; marks, [Some(2), Some(1)]);
+    assert!(rt; marks == [Some(2), Some(1)]);
     Ok(())
 }
 
@@ -360,9 +360,6 @@ fn what_an_observer_gathered_is_taken_out(rt: HostRuntime) -> Result<(), Fail> {
     let stack = put(Registry::new(rt.alloc()), watcher)?;
     let (layer, registry) = stack.into_parts();
     let watcher = layer.into_observer();
-    assert_eq!(rt;
-        (registry.filters(), watcher.seen.as_slice()),
-        (0, [Seen::Event].as_slice())
-    );
+    assert!(rt; (registry.filters(), watcher.seen.as_slice()) == (0, [Seen::Event].as_slice()));
     Ok(())
 }

@@ -58,13 +58,13 @@ fn a_pair_finds_a_filter_by_its_number(rt: HostRuntime) -> Result<(), Fail> {
         pair_after(&mut pair, 1),
         pair_after(&mut pair, 0),
     ];
-    assert_eq!(rt;
-        after,
-        [
-            (false, LevelFilter::INFO, LevelFilter::WARN),
-            (true, LevelFilter::INFO, LevelFilter::TRACE),
-            (true, LevelFilter::TRACE, LevelFilter::TRACE),
-        ]
+    assert!(rt;
+        after
+            == [
+                (false, LevelFilter::INFO, LevelFilter::WARN),
+                (true, LevelFilter::INFO, LevelFilter::TRACE),
+                (true, LevelFilter::TRACE, LevelFilter::TRACE),
+            ]
     );
     Ok(())
 }
@@ -83,12 +83,12 @@ fn a_list_finds_a_filter_by_its_number(rt: HostRuntime) -> Result<(), Fail> {
     let mut list = vec![in rt.alloc(); under(LevelFilter::WARN), under(LevelFilter::INFO)]?;
     number(rt.alloc(), &mut list);
     let after = [list_after(&mut list, 2), list_after(&mut list, 0)];
-    assert_eq!(rt;
-        after,
-        [
-            Some((false, LevelFilter::WARN, LevelFilter::INFO)),
-            Some((true, LevelFilter::TRACE, LevelFilter::INFO)),
-        ]
+    assert!(rt;
+        after
+            == [
+                Some((false, LevelFilter::WARN, LevelFilter::INFO)),
+                Some((true, LevelFilter::TRACE, LevelFilter::INFO)),
+            ]
     );
     Ok(())
 }
@@ -109,13 +109,13 @@ fn a_filter_under_another_is_found(rt: HostRuntime) -> Result<(), Fail> {
         nested_after(&mut nested, 2),
         nested_after(&mut nested, 1),
     ];
-    assert_eq!(rt;
-        after,
-        [
-            (false, LevelFilter::INFO, LevelFilter::WARN),
-            (false, LevelFilter::INFO, LevelFilter::WARN),
-            (true, LevelFilter::INFO, LevelFilter::TRACE),
-        ]
+    assert!(rt;
+        after
+            == [
+                (false, LevelFilter::INFO, LevelFilter::WARN),
+                (false, LevelFilter::INFO, LevelFilter::WARN),
+                (true, LevelFilter::INFO, LevelFilter::TRACE),
+            ]
     );
     Ok(())
 }
@@ -139,13 +139,13 @@ fn a_layer_that_is_there_takes_a_level(rt: HostRuntime) -> Result<(), Fail> {
         optional_after(&mut some, 0),
         optional_after(&mut none, 0),
     ];
-    assert_eq!(rt;
-        after,
-        [
-            (false, Some(LevelFilter::WARN)),
-            (true, Some(LevelFilter::TRACE)),
-            (false, None),
-        ]
+    assert!(rt;
+        after
+            == [
+                (false, Some(LevelFilter::WARN)),
+                (true, Some(LevelFilter::TRACE)),
+                (false, None),
+            ]
     );
     Ok(())
 }
@@ -179,13 +179,13 @@ fn stack_after_each<S: Subscriber + Drop>(stack: S) -> Result<[Levels; 3], Trace
 #[test]
 fn a_stack_finds_a_filter_by_its_number(rt: HostRuntime) -> Result<(), Fail> {
     let after = stack_after_each(Registry::new(rt.alloc()))?;
-    assert_eq!(rt;
-        after,
-        [
-            (false, LevelFilter::INFO, LevelFilter::WARN),
-            (true, LevelFilter::INFO, LevelFilter::TRACE),
-            (true, LevelFilter::TRACE, LevelFilter::TRACE),
-        ]
+    assert!(rt;
+        after
+            == [
+                (false, LevelFilter::INFO, LevelFilter::WARN),
+                (true, LevelFilter::INFO, LevelFilter::TRACE),
+                (true, LevelFilter::TRACE, LevelFilter::TRACE),
+            ]
     );
     Ok(())
 }

@@ -17,7 +17,7 @@ fn an_empty_list_wants_nothing(rt: HostRuntime) -> Result<(), Fail> {
     let nothing = Vec::<Signer>::new(rt.alloc());
     let said = shown_at(rt.alloc(), nothing, [Level::ERROR, Level::TRACE])?;
     let hint = Some(LevelFilter::OFF);
-    assert_eq!(rt; said, [(Interest::Never, true, true, hint); 2]);
+    assert!(rt; said == [(Interest::Never, true, true, hint); 2]);
     Ok(())
 }
 
@@ -37,7 +37,7 @@ fn hint_under<S: Subscriber + Drop, L: Layer<S> + Drop>(
 fn an_empty_list_leaves_the_hint_to_what_is_below(rt: HostRuntime) -> Result<(), Fail> {
     let stack = put(Registry::new(rt.alloc()), LevelFilter::INFO)?;
     let hint = hint_under(stack, Vec::<Signer>::new(rt.alloc()))?;
-    assert_eq!(rt; hint, Some(LevelFilter::INFO));
+    assert!(rt; hint == Some(LevelFilter::INFO));
     Ok(())
 }
 
@@ -46,9 +46,8 @@ fn a_list_wants_what_a_member_wants(rt: HostRuntime) -> Result<(), Fail> {
     let levels = vec![in rt.alloc(); LevelFilter::WARN, LevelFilter::DEBUG]?;
     let said = shown_at(rt.alloc(), levels, [Level::INFO, Level::WARN])?;
     let hint = Some(LevelFilter::DEBUG);
-    assert_eq!(rt;
-        said,
-        [
+    assert!(rt;
+        said == [
             (Interest::Always, false, true, hint),
             (Interest::Always, true, true, hint),
         ]
@@ -73,7 +72,7 @@ fn a_list_wants_what_a_filtered_member_wants(rt: HostRuntime) -> Result<(), Fail
     let none = Signer::new(2).with_filter(LevelFilter::OFF);
     let members = vec![in rt.alloc(); all, none]?;
     let said = filters_and_interest(rt.alloc(), members)?;
-    assert_eq!(rt; said, (2, Interest::Sometimes));
+    assert!(rt; said == (2, Interest::Sometimes));
     Ok(())
 }
 
@@ -90,9 +89,9 @@ fn signed_in_use<S: Subscriber>(stack: &mut S) -> Result<Option<u64>, Fail>
 #[test]
 fn members_go_by_index(rt: HostRuntime) -> Result<(), Fail> {
     let mut stack = put(Registry::new(rt.alloc()), three_members(rt.alloc())?)?;
-    assert_eq!(rt; signed_in_use(&mut stack)?, Some(123123));
+    assert!(rt; signed_in_use(&mut stack)? == Some(123123));
     for member in stack.layer().iter() {
-        assert_eq!(rt; member.in_use, 1);
+        assert!(rt; member.in_use == 1);
     }
     Ok(())
 }
@@ -105,7 +104,7 @@ fn each_member_hears_of_a_changed_id(rt: HostRuntime) -> Result<(), Fail> {
     let pass = Pass::new();
     members.on_id_change(old, new, &mut ContextMut::new(&mut registry, LANE, &pass));
     for member in members.iter() {
-        assert_eq!(rt; member.changes, 1);
+        assert!(rt; member.changes == 1);
     }
     Ok(())
 }

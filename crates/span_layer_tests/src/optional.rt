@@ -44,10 +44,10 @@ fn use_under_info<S: Subscriber>(rt: &impl Abort, stack: &mut S)
     stack.on_register_dispatch();
     send(stack, Level::INFO);
     send(stack, Level::DEBUG);
-    assert_eq!(rt; stack.root().filters(), 1);
+    assert!(rt; stack.root().filters() == 1);
     assert!(rt; stack.is_filtered());
     assert!(rt; !stack.is_absent());
-    assert_eq!(rt; stack.max_level_hint(), Some(LevelFilter::INFO));
+    assert!(rt; stack.max_level_hint() == Some(LevelFilter::INFO));
 }
 
 #[test]
@@ -55,10 +55,10 @@ fn an_absent_layer_wants_no_level(rt: HostRuntime) -> Result<(), Fail> {
     let absent: Option<Signer> = None;
     let said = shown_and_absent(rt.alloc(), absent, Level::ERROR)?;
     let hint = Some(LevelFilter::OFF);
-    assert_eq!(rt; said, ((Interest::Always, true, true, hint), true));
+    assert!(rt; said == ((Interest::Always, true, true, hint), true));
     let absent: Option<Signer> = None;
     let stack = put(Registry::new(rt.alloc()), absent)?;
-    assert_eq!(rt; under_identity(stack)?, (true, None));
+    assert!(rt; under_identity(stack)? == (true, None));
     Ok(())
 }
 
@@ -70,8 +70,8 @@ fn a_layer_that_is_there_is_what_it_is(rt: HostRuntime) -> Result<(), Fail> {
     let Some(layer) = stack.layer() else {
         return Err(Fail::from("the layer is absent"));
     };
-    assert_eq!(rt; layer.inner().in_use, 1);
-    assert_eq!(rt; layer.inner().events, 1);
+    assert!(rt; layer.inner().in_use == 1);
+    assert!(rt; layer.inner().events == 1);
     Ok(())
 }
 
@@ -80,8 +80,8 @@ fn a_boxed_layer_is_what_it_holds(rt: HostRuntime) -> Result<(), Fail> {
     let layer = Box::new(rt.alloc(), Signer::new(1).with_filter(LevelFilter::INFO))?;
     let mut stack = put(Registry::new(rt.alloc()), layer)?;
     use_under_info(&rt, &mut stack);
-    assert_eq!(rt; stack.layer().inner().in_use, 1);
-    assert_eq!(rt; stack.layer().inner().events, 1);
+    assert!(rt; stack.layer().inner().in_use == 1);
+    assert!(rt; stack.layer().inner().events == 1);
     Ok(())
 }
 
@@ -94,15 +94,15 @@ fn a_changed_id_reaches_what_is_held(rt: HostRuntime) -> Result<(), Fail> {
     let Some(signer) = &*layer else {
         return Err(Fail::from("the layer is absent"));
     };
-    assert_eq!(rt; signer.changes, 1);
+    assert!(rt; signer.changes == 1);
     Ok(())
 }
 
 #[test]
 fn a_layer_may_do_nothing(rt: HostRuntime) -> Result<(), Fail> {
     let said = shown_and_absent(rt.alloc(), Identity::default(), Level::TRACE)?;
-    assert_eq!(rt; said, ((Interest::Always, true, true, None), false));
+    assert!(rt; said == ((Interest::Always, true, true, None), false));
     let text = format!(in rt.alloc(); "{:?}", Identity)?;
-    assert_eq!(rt; text.as_str(), "Identity");
+    assert!(rt; text.as_str() == "Identity");
     Ok(())
 }

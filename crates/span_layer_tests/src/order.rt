@@ -150,8 +150,8 @@ fn layers_are_put_in_use_inner_first(rt: HostRuntime) -> Result<(), Fail> {
     // Of the pair 2 is the outer part.
     let pair = beside(&first, 3)?.and_then(beside(&first, 2)?);
     let mut stack = put(put(put(Registry::new(rt.alloc()), first)?, pair)?, list)?;
-    assert_eq!(rt; (put_on.get(), in_use.get()), (12345, 0));
+    assert!(rt; (put_on.get(), in_use.get()) == (12345, 0));
     put_in_use(&mut stack);
-    assert_eq!(rt; (put_on.get(), in_use.get()), (12345, 12345));
+    assert!(rt; (put_on.get(), in_use.get()) == (12345, 12345));
     Ok(())
 }

@@ -10,9 +10,8 @@ use std::test::Fail;
 fn a_level_as_a_layer_vetoes(rt: HostRuntime) -> Result<(), Fail> {
     let said = shown_at(rt.alloc(), LevelFilter::INFO, [Level::INFO, Level::DEBUG])?;
     let hint = Some(LevelFilter::INFO);
-    assert_eq!(rt;
-        said,
-        [
+    assert!(rt;
+        said == [
             (Interest::Always, true, true, hint),
             (Interest::Never, false, true, hint),
         ]
@@ -24,9 +23,8 @@ fn a_level_as_a_layer_vetoes(rt: HostRuntime) -> Result<(), Fail> {
 fn closures_as_layers_veto(rt: HostRuntime) -> Result<(), Fail> {
     let test = filter_fn(|meta: &Metadata| meta.level() == Level::INFO);
     let said = shown_at(rt.alloc(), test, [Level::INFO, Level::WARN])?;
-    assert_eq!(rt;
-        said,
-        [
+    assert!(rt;
+        said == [
             (Interest::Always, true, true, None),
             (Interest::Never, false, true, None),
         ]
@@ -49,9 +47,8 @@ fn closures_with_a_context_as_layers_veto(rt: HostRuntime) -> Result<(), Fail> {
         cx.current_span().is_none()
     });
     let said = shown_in_a_span(&mut put(Registry::new(rt.alloc()), outside)?)?;
-    assert_eq!(rt;
-        said,
-        [
+    assert!(rt;
+        said == [
             (Interest::Sometimes, true, true, None),
             (Interest::Sometimes, false, true, None),
         ]

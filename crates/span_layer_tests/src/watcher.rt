@@ -8,7 +8,7 @@ use span_registry::{ContextMut, Subscriber};
 use std::alloc::Global;
 
 /// What a watcher saw.
-#[derive(Clone, Copy, Debug, PartialEq, Eq)]
+#[derive(Clone, Copy, PartialEq, Eq)]
 pub enum Seen {
     /// A new span; its scope follows, leaf first.
     NewSpan(Id),

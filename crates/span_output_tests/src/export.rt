@@ -66,7 +66,7 @@ const TRACE: &str = "{\"traceEvents\":[\
 fn a_trace_for_perfetto(rt: HostRuntime) -> Result<(), Fail> {
     let alloc = rt.alloc();
     let text = chrome_text(alloc, &sites(alloc)?, &points())?;
-    assert_eq!(rt; text.as_str(), TRACE);
+    assert!(rt; text.as_str() == TRACE);
     Ok(())
 }
 
@@ -79,7 +79,7 @@ outer;inner 3000
 fn stacks_for_a_flame_graph(rt: HostRuntime) -> Result<(), Fail> {
     let alloc = rt.alloc();
     let text = folded_text(alloc, &sites(alloc)?, &points())?;
-    assert_eq!(rt; text.as_str(), FOLDED);
+    assert!(rt; text.as_str() == FOLDED);
     Ok(())
 }
 
@@ -95,7 +95,7 @@ fn a_name_stays_one_frame(rt: HostRuntime) -> Result<(), Fail> {
         at(9, 0, Happening::Left(id)),
     ];
     let text = folded_text(alloc, &[Site::of(alloc, odd)?], &points)?;
-    assert_eq!(rt; text.as_str(), "a:b_c_2 7\n");
+    assert!(rt; text.as_str() == "a:b_c_2 7\n");
     Ok(())
 }
 
@@ -112,7 +112,7 @@ fn a_closed_span_is_left(rt: HostRuntime) -> Result<(), Fail> {
         at(7, 0, Happening::Left(outer)),
     ];
     let text = folded_text(alloc, &sites(alloc)?, &points)?;
-    assert_eq!(rt; text.as_str(), "outer 2\nouter;inner 5\n");
+    assert!(rt; text.as_str() == "outer 2\nouter;inner 5\n");
     Ok(())
 }
 
@@ -145,9 +145,9 @@ fn spans_for_opentelemetry(rt: HostRuntime) -> Result<(), Fail> {
         began: 1_700_000_000_000_000_000,
     };
     let lines = otlp_lines(alloc, &trace, &sites(alloc)?, &points())?;
-    assert_eq!(rt; lines.len(), 2, "the span of the other lane isn't closed");
-    assert_eq!(rt; lines[0].as_str(), INNER);
-    assert_eq!(rt; lines[1].as_str(), OUTER);
+    assert!(rt; lines.len() == 2, "the span of the other lane isn't closed");
+    assert!(rt; lines[0].as_str() == INNER);
+    assert!(rt; lines[1].as_str() == OUTER);
     Ok(())
 }
 

@@ -64,9 +64,9 @@ fn records_and_events_are_logged(rt: HostRuntime) -> Result<(), Fail> {
     send(alloc, &mut dispatch)?;
     let (layer, _registry) = dispatch.into_stack().into_parts();
     let lines = layer.into_observer().into_log().into_lines();
-    assert_eq!(rt; lines.len(), 3);
+    assert!(rt; lines.len() == 3);
     for (line, want) in lines.as_slice().iter().zip(LINES) {
-        assert_eq!(rt; line.as_str(), want);
+        assert!(rt; line.as_str() == want);
     }
     Ok(())
 }
@@ -84,15 +84,15 @@ fn a_logger_is_asked_first(rt: HostRuntime) -> Result<(), Fail> {
     let (layer, _registry) = dispatch.into_stack().into_parts();
     let (_rt, memory) = layer.into_observer().into_log().into_parts();
     let lines = memory.into_lines();
-    assert_eq!(rt; lines.len(), 1);
+    assert!(rt; lines.len() == 1);
     Ok(())
 }
 
 #[test]
 fn levels_are_the_same(rt: HostRuntime) {
-    assert_eq!(rt; log::Level::Error.as_trace(), Level::ERROR);
-    assert_eq!(rt; Level::TRACE.as_log(), log::Level::Trace);
-    assert_eq!(rt; log::LevelFilter::Off.as_trace(), LevelFilter::OFF);
-    assert_eq!(rt; LevelFilter::DEBUG.as_log(), log::LevelFilter::Debug);
-    assert_eq!(rt; record_metadata(log::Level::Trace).callsite(), u64::MAX);
+    assert!(rt; log::Level::Error.as_trace() == Level::ERROR);
+    assert!(rt; Level::TRACE.as_log() == log::Level::Trace);
+    assert!(rt; log::LevelFilter::Off.as_trace() == LevelFilter::OFF);
+    assert!(rt; LevelFilter::DEBUG.as_log() == log::LevelFilter::Debug);
+    assert!(rt; record_metadata(log::Level::Trace).callsite() == u64::MAX);
 }

@@ -117,7 +117,7 @@ fn a_layer_is_told_of_fields(rt: HostRuntime) -> Result<(), Fail> {
     asks_by_each(&rt, &mut dispatch)?;
     let lines = dispatch.stack().layer().observer();
     assert!(rt; !lines.failed);
-    assert_eq!(rt; lines.text.as_str(), TOLD);
+    assert!(rt; lines.text.as_str() == TOLD);
     Ok(())
 }
 
@@ -127,14 +127,14 @@ fn asks_by_each<S: Subscriber>(rt: &impl Abort, dispatch: &mut Dispatch<S>) -> R
 {
     assert!(rt; report(dispatch, 255, "me")?);
     assert!(rt; open(dispatch)?.is_some());
-    assert_eq!(rt; double(dispatch, 21)?, 42);
+    assert!(rt; double(dispatch, 21)? == 42);
     Ok(())
 }
 
 #[test]
 fn a_number_is_of_all_that_is_shown(rt: HostRuntime) {
     let here = metadata!(EVENT, INFO, "read", bytes);
-    assert_eq!(rt; here.target(), "span_output_tests::macros");
+    assert!(rt; here.target() == "span_output_tests::macros");
     assert!(rt;
         here == numbered_metadata(
             Kind::EVENT,

@@ -128,7 +128,7 @@ fn worked<S: Subscriber + Drop>(alloc: Global, stack: S) -> Result<S, TraceError
 
 /// A tree wrote this.
 fn wrote(rt: &impl Abort, tree: &Tree, text: &str) {
-    assert_eq!(rt; tree.text(), text);
+    assert!(rt; tree.text() == text);
 }
 
 #[test]
@@ -147,9 +147,9 @@ fn takes_its_text(rt: &impl Abort, alloc: Global, tree: &mut Tree) -> Result<(),
     assert!(rt; !tree.failed());
     let mut bytes: Vec<u8> = Vec::new(alloc);
     tree.write_to(&mut bytes)?;
-    assert_eq!(rt; bytes.as_slice(), OF_ALL.as_bytes());
-    assert_eq!(rt; tree.take_text().as_str(), OF_ALL);
-    assert_eq!(rt; tree.text(), "");
+    assert!(rt; bytes.as_slice() == OF_ALL.as_bytes());
+    assert!(rt; tree.take_text().as_str() == OF_ALL);
+    assert!(rt; tree.text() == "");
     Ok(())
 }
 
@@ -174,7 +174,7 @@ fn a_tree_under_a_level_is_served(rt: HostRuntime) -> Result<(), Fail> {
     ];
     serve_tree(alloc, &mut dispatch, &requests)?;
     let tree = dispatch.stack().layer().inner().observer();
-    assert_eq!(rt; tree.text(), "0 - WARN app::net: said\n");
+    assert!(rt; tree.text() == "0 - WARN app::net: said\n");
     Ok(())
 }
 
@@ -183,9 +183,9 @@ fn takes_its_lines(rt: &impl Abort, alloc: Global, lines: &mut Lines) -> Result<
     assert!(rt; !lines.failed());
     let mut bytes: Vec<u8> = Vec::new(alloc);
     lines.write_to(&mut bytes)?;
-    assert_eq!(rt; bytes.as_slice(), OF_EVENTS.as_bytes());
-    assert_eq!(rt; lines.take_text().as_str(), OF_EVENTS);
-    assert_eq!(rt; lines.text(), "");
+    assert!(rt; bytes.as_slice() == OF_EVENTS.as_bytes());
+    assert!(rt; lines.take_text().as_str() == OF_EVENTS);
+    assert!(rt; lines.text() == "");
     Ok(())
 }
 
@@ -204,7 +204,7 @@ fn lines_under_a_level_are_served(rt: HostRuntime) -> Result<(), Fail> {
     let mut dispatch = Dispatch::new(alloc, put(Registry::new(alloc), layer)?);
     serve_lines(alloc, &mut dispatch, &[heard(LANE)])?;
     let lines = dispatch.stack().layer().inner().observer();
-    assert_eq!(rt; lines.text(), "0 INFO app: heard\n");
+    assert!(rt; lines.text() == "0 INFO app: heard\n");
     Ok(())
 }
 
@@ -220,6 +220,6 @@ fn fields_in_one_line(rt: HostRuntime) -> Result<(), Fail> {
     write_fields(&mut text, &values)?;
     let whole =
         "begun first=\\nx\\n\\n second= most=18446744073709551615 least=-9223372036854775808";
-    assert_eq!(rt; text.as_str(), whole);
+    assert!(rt; text.as_str() == whole);
     Ok(())
 }

@@ -68,13 +68,13 @@ fn a_span_is_timed(rt: HostRuntime) -> Result<(), Fail> {
 fn is_timed(rt: &impl Abort, timeline: &Timeline<Counted>, id: Id) {
     let points = timeline.points();
     assert!(rt; !timeline.failed());
-    assert_eq!(rt; points.len(), 7);
+    assert!(rt; points.len() == 7);
     assert!(rt; points[3] == at(4000, Happening::Left(id)));
-    assert_eq!(rt; busy_time(points, id), 3000);
-    assert_eq!(rt; idle_time(points, id), 3000);
-    assert_eq!(rt; open_time(points, id), Some(6000));
+    assert!(rt; busy_time(points, id) == 3000);
+    assert!(rt; idle_time(points, id) == 3000);
+    assert!(rt; open_time(points, id) == Some(6000));
     let counts = Counts::of(points);
-    assert_eq!(rt; (counts.opened, counts.closed, counts.events), (1, 1, 1));
+    assert!(rt; (counts.opened, counts.closed, counts.events) == (1, 1, 1));
 }
 
 #[test]
@@ -103,7 +103,7 @@ fn a_list_is_timed(rt: HostRuntime) -> Result<(), Fail> {
 /// A timeline's one point is taken out.
 fn takes_its_point(rt: &impl Abort, timeline: &mut Timeline<Counted>) {
     let points = timeline.take_points();
-    assert_eq!(rt; points.len(), 1);
+    assert!(rt; points.len() == 1);
     assert!(rt; points[0] == at(1000, Happening::Sent(5, None)));
     assert!(rt; timeline.points().is_empty());
 }
@@ -193,14 +193,13 @@ fn times_of_points(rt: HostRuntime) {
         at(21, Happening::Closed(a)),
         at(22, Happening::Left(b)),
     ];
-    assert_eq!(rt;
-        busy_time(&points, a),
-        3,
+    assert!(rt;
+        busy_time(&points, a) == 3,
         "the later entry counts, and each exit once"
     );
-    assert_eq!(rt; idle_time(&points, a), 1, "the later exit counts");
-    assert_eq!(rt; open_time(&points, a), None, "it wasn't seen to open");
-    assert_eq!(rt; busy_time(&points, b), 15);
+    assert!(rt; idle_time(&points, a) == 1, "the later exit counts");
+    assert!(rt; open_time(&points, a) == None, "it wasn't seen to open");
+    assert!(rt; busy_time(&points, b) == 15);
 }
 
 /// A clock that goes back after its first reading, can't be read then, and goes on.
@@ -230,6 +229,6 @@ impl Clock for Faulty {
 fn the_wall_clock_never_goes_back(rt: HostRuntime) {
     let mut wall = Wall::new(Faulty { read: Cell::new(0) });
     for want in [5_000_000_001, 5_000_000_001, 5_000_000_001, 9_000_000_000] {
-        assert_eq!(rt; wall.now(), want);
+        assert!(rt; wall.now() == want);
     }
 }

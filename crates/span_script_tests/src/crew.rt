@@ -82,7 +82,7 @@ fn workers_print_what_one_prints(rt: HostRuntime) -> Result<(), Fail> {
     for (script, wanted) in ROWS {
         let (output, _) = shared(&rt, rt.alloc(), script)?;
         let wanted = lines(rt.alloc(), wanted)?;
-        assert_eq!(rt; output.as_slice(), wanted.as_bytes(), "{script}");
+        assert!(rt; output.as_slice() == wanted.as_bytes(), "{script}");
     }
     Ok(())
 }
@@ -94,7 +94,7 @@ fn journals_of_scripts(rt: HostRuntime) -> Result<(), Fail> {
         let (_, journal) = shared(&rt, rt.alloc(), script)?;
         let entries = entries_of(rt.alloc(), &journal)?;
         let wanted = lines(rt.alloc(), wanted)?;
-        assert_eq!(rt; entries.as_str(), wanted.as_str(), "{script}");
+        assert!(rt; entries.as_str() == wanted.as_str(), "{script}");
     }
     Ok(())
 }
@@ -106,7 +106,7 @@ fn the_current_span_is_the_first(rt: HostRuntime) -> Result<(), Fail> {
     let Some(Entry::New(_, _, _, _, first)) = journal.get(0) else {
         return Err("the first entry is of a span".into());
     };
-    assert_eq!(rt; journal.get(7), Some(Entry::Current(Lane(0), Some(first))));
+    assert!(rt; journal.get(7) == Some(Entry::Current(Lane(0), Some(first))));
     Ok(())
 }
 
@@ -116,10 +116,10 @@ fn workers_serve_a_long_script(rt: HostRuntime) -> Result<(), Fail> {
     let replies = chain_replies(rt.alloc())?;
     let (output, journal) = served_by_workers(&rt, rt.alloc(), script.as_str())?;
     assert!(rt; output.as_slice() == replies.as_bytes());
-    assert_eq!(rt; journal.len(), 20_000);
-    assert_eq!(rt; journal.get(0).map(named), Some("new"));
-    assert_eq!(rt; journal.get(9_999).map(named), Some("new"));
-    assert_eq!(rt; journal.get(10_000).map(named), Some("drop"));
-    assert_eq!(rt; journal.get(19_999).map(named), Some("drop closes"));
+    assert!(rt; journal.len() == 20_000);
+    assert!(rt; journal.get(0).map(named) == Some("new"));
+    assert!(rt; journal.get(9_999).map(named) == Some("new"));
+    assert!(rt; journal.get(10_000).map(named) == Some("drop"));
+    assert!(rt; journal.get(19_999).map(named) == Some("drop closes"));
     Ok(())
 }

@@ -31,7 +31,7 @@ fn rows(rt: HostRuntime) -> Result<(), Fail> {
         let input = lines(rt.alloc(), script)?;
         let output = printed(rt.alloc(), input.as_bytes())?;
         let wanted = lines(rt.alloc(), wanted)?;
-        assert_eq!(rt; output.as_slice(), wanted.as_bytes(), "{script}");
+        assert!(rt; output.as_slice() == wanted.as_bytes(), "{script}");
     }
     Ok(())
 }
@@ -53,7 +53,7 @@ fn printed_with_one_place(alloc: Global, row: &str) -> Result<Vec<u8>, RunFault>
 fn an_open_span_keeps_its_place(rt: HostRuntime) -> Result<(), Fail> {
     let output = printed_with_one_place(rt.alloc(), "stack plain / new 0 2 a / new 0 2 b")?;
     let wanted = lines(rt.alloc(), "a / refused 8 / == base / new a")?;
-    assert_eq!(rt; output.as_slice(), wanted.as_bytes());
+    assert!(rt; output.as_slice() == wanted.as_bytes());
     Ok(())
 }
 
@@ -62,7 +62,7 @@ fn a_place_retires(rt: HostRuntime) -> Result<(), Fail> {
     let script = "stack plain / new 0 2 a / drop 0 a / new 0 2 b / drop 0 b / new 0 2 c";
     let wanted = "a / ok / b / ok / refused 8 / == base / new a / close a / new b / close b";
     let output = printed_with_one_place(rt.alloc(), script)?;
-    assert_eq!(rt; output.as_slice(), lines(rt.alloc(), wanted)?.as_bytes());
+    assert!(rt; output.as_slice() == lines(rt.alloc(), wanted)?.as_bytes());
     Ok(())
 }
 
@@ -121,7 +121,7 @@ fn replies_by_lines(rt: HostRuntime) -> Result<(), Fail> {
         },
     ];
     let printed = text_of(rt.alloc(), script.lines(), &answers(made, other), &sections)?;
-    assert_eq!(rt; printed.as_str(), lines(rt.alloc(), REPLIED)?.as_str());
+    assert!(rt; printed.as_str() == lines(rt.alloc(), REPLIED)?.as_str());
     Ok(())
 }
 
@@ -133,8 +133,8 @@ fn fault_texts_and_statuses(rt: HostRuntime) -> Result<(), Fail> {
         (RunFault::Memory, "out of memory", 1),
     ];
     for (fault, text, status) in rows {
-        assert_eq!(rt; format!(in rt.alloc(); "{fault}")?.as_str(), text);
-        assert_eq!(rt; fault.status(), status);
+        assert!(rt; format!(in rt.alloc(); "{fault}")?.as_str() == text);
+        assert!(rt; fault.status() == status);
     }
     Ok(())
 }
@@ -146,10 +146,10 @@ fn size_limit(rt: HostRuntime) -> Result<(), Fail> {
         script.push(b'\n')?;
     }
     let output = printed(rt.alloc(), script.as_slice())?;
-    assert_eq!(rt; output.as_slice(), b"== base\n".as_slice());
+    assert!(rt; output.as_slice() == b"== base\n".as_slice());
     script.push(b'\n')?;
     let ended = printed(rt.alloc(), script.as_slice());
-    assert_eq!(rt; ended, Err(RunFault::Io));
+    assert!(rt; ended == Err(RunFault::Io));
     Ok(())
 }
 
@@ -203,7 +203,7 @@ fn an_interrupted_reader_is_read_on(rt: HostRuntime) -> Result<(), Fail> {
     let mut output = Vec::new(rt.alloc());
     let mut reader = reader_of([b"stack pl", b"ain\nnew 0 2 p"], false);
     ends(rt.alloc(), &mut reader, &mut output)?;
-    assert_eq!(rt; output.as_slice(), b"p\n== base\nnew p\n".as_slice());
+    assert!(rt; output.as_slice() == b"p\n== base\nnew p\n".as_slice());
     Ok(())
 }
 
@@ -213,11 +213,11 @@ fn a_failing_reader_is_a_fault(rt: HostRuntime) {
     // A wrong line is not named, as the reader fails after it.
     let mut reader = reader_of([b"stack", b"plain\n"], true);
     let ended = ends(rt.alloc(), &mut reader, &mut output);
-    assert_eq!(rt; ended, Err(RunFault::Io));
+    assert!(rt; ended == Err(RunFault::Io));
     reader.reads = 4;
     let ended = ends(rt.alloc(), &mut reader, &mut output);
-    assert_eq!(rt; ended, Err(RunFault::Io));
-    assert_eq!(rt; reader.reads, 5);
+    assert!(rt; ended == Err(RunFault::Io));
+    assert!(rt; reader.reads == 5);
 }
 
 #[test]
@@ -225,7 +225,7 @@ fn an_endless_reader_is_a_fault(rt: HostRuntime) {
     let mut output = Vec::new(rt.alloc());
     let mut endless = Endless { given: 0 };
     let ended = ends(rt.alloc(), &mut endless, &mut output);
-    assert_eq!(rt; ended, Err(RunFault::Io));
+    assert!(rt; ended == Err(RunFault::Io));
     assert!(rt; endless.given < 1_048_576 + 65_536);
 }
 
@@ -264,13 +264,13 @@ fn writers(rt: HostRuntime) {
             flushes: true,
         };
         let ended = ends(rt.alloc(), &mut input, &mut full);
-        assert_eq!(rt; ended, Err(RunFault::Io));
+        assert!(rt; ended == Err(RunFault::Io));
     }
     for flushes in [true, false] {
         let mut input = script;
         let mut full = Full { room: 16, flushes };
         let ended = ends(rt.alloc(), &mut input, &mut full);
-        assert_eq!(rt; ended.is_ok(), flushes);
+        assert!(rt; ended.is_ok() == flushes);
     }
 }
 

@@ -101,7 +101,7 @@ fn wrong_lines(rt: HostRuntime) -> Result<(), Fail> {
     for (script, line) in WRONG {
         let text = String::from_utf8_lossy(rt.alloc(), script)?;
         let found = wrong_line(rt.alloc(), text.as_str()).map(|wrong| wrong.line);
-        assert_eq!(rt; found, Some(line), "{script:?}");
+        assert!(rt; found == Some(line), "{script:?}");
     }
     Ok(())
 }
@@ -176,7 +176,7 @@ fn reasons(rt: HostRuntime) {
             column,
             reason,
         };
-        assert_eq!(rt; wrong_line(rt.alloc(), text), Some(wanted), "{text:?}");
+        assert!(rt; wrong_line(rt.alloc(), text) == Some(wanted), "{text:?}");
     }
 }
 
@@ -188,9 +188,9 @@ fn texts_of_reasons(rt: HostRuntime) -> Result<(), Fail> {
         reason: Reason::TooManyWords,
     };
     let wanted = "line 12, column 3: the line has too many words";
-    assert_eq!(rt; format!(in rt.alloc(); "{wrong}")?.as_str(), wanted);
+    assert!(rt; format!(in rt.alloc(); "{wrong}")?.as_str() == wanted);
     let fault = ScriptFault::Wrong(wrong);
-    assert_eq!(rt; format!(in rt.alloc(); "{fault}")?.as_str(), wanted);
+    assert!(rt; format!(in rt.alloc(); "{fault}")?.as_str() == wanted);
     Ok(())
 }
 
@@ -204,8 +204,8 @@ fn muted_events(rt: &impl Abort, requests: &[Request<'_>]) -> usize {
     for request in requests {
         match request {
             Request::Clone(lane, which) => {
-                assert_eq!(rt; *lane, Lane(0));
-                assert_eq!(rt; *which, Which::Made(1));
+                assert!(rt; *lane == Lane(0));
+                assert!(rt; *which == Which::Made(1));
             }
             Request::SetLevel(number, level) => {
                 let wanted = if *number == 0 {
@@ -213,12 +213,12 @@ fn muted_events(rt: &impl Abort, requests: &[Request<'_>]) -> usize {
                 } else {
                     LevelFilter::TRACE
                 };
-                assert_eq!(rt; *level, wanted);
+                assert!(rt; *level == wanted);
                 assert!(rt; *number == 0 || *number == 9);
             }
             Request::Event(_, _, _, [(name, value)]) => {
-                assert_eq!(rt; *name, "mute");
-                assert_eq!(rt; *value, FieldValue::Bool(true));
+                assert!(rt; *name == "mute");
+                assert!(rt; *value == FieldValue::Bool(true));
                 muted = muted.saturating_add(1);
             }
             _ => {}
@@ -231,9 +231,9 @@ fn muted_events(rt: &impl Abort, requests: &[Request<'_>]) -> usize {
 fn every_line(rt: HostRuntime) -> Result<(), Fail> {
     let text = lines(rt.alloc(), EVERY_LINE)?;
     let script = Script::parse(rt.alloc(), text.as_str())?;
-    assert_eq!(rt; script.stack(), StackName::Nested);
-    assert_eq!(rt; script.lines().len(), 21);
-    assert_eq!(rt; script.requests().len(), 21);
-    assert_eq!(rt; muted_events(&rt, script.requests()), 3);
+    assert!(rt; script.stack() == StackName::Nested);
+    assert!(rt; script.lines().len() == 21);
+    assert!(rt; script.requests().len() == 21);
+    assert!(rt; muted_events(&rt, script.requests()) == 3);
     Ok(())
 }

@@ -115,22 +115,10 @@ fn times_asked<F: Filter<Registry>>(filter: &F, hints: &Cell<u32>) -> Option<u32
 #[test]
 fn the_second_part_is_asked_for_a_hint(rt: HostRuntime) -> Result<(), Fail> {
     let hints = Cell::new(0u32);
-    assert_eq!(rt;
-        times_asked(&LevelFilter::INFO.or(Asked { hints: &hints }), &hints),
-        Some(1)
-    );
-    assert_eq!(rt;
-        times_asked(&Mute.or(Asked { hints: &hints }), &hints),
-        Some(0)
-    );
-    assert_eq!(rt;
-        times_asked(&LevelFilter::INFO.and(Asked { hints: &hints }), &hints),
-        Some(1)
-    );
-    assert_eq!(rt;
-        times_asked(&Mute.and(Asked { hints: &hints }), &hints),
-        Some(1)
-    );
+    assert!(rt; times_asked(&LevelFilter::INFO.or(Asked { hints: &hints }), &hints) == Some(1));
+    assert!(rt; times_asked(&Mute.or(Asked { hints: &hints }), &hints) == Some(0));
+    assert!(rt; times_asked(&LevelFilter::INFO.and(Asked { hints: &hints }), &hints) == Some(1));
+    assert!(rt; times_asked(&Mute.and(Asked { hints: &hints }), &hints) == Some(1));
     Ok(())
 }
 
@@ -160,7 +148,7 @@ fn both_want_what_each_wants(rt: HostRuntime) -> Result<(), Fail> {
         (Level::DEBUG, false, Interest::Never),
     ];
     says(&rt, &both, &rows, None);
-    assert_eq!(rt; hint_of(&LevelFilter::INFO.and(Mute)), None);
+    assert!(rt; hint_of(&LevelFilter::INFO.and(Mute)) == None);
     Ok(())
 }
 
@@ -179,7 +167,7 @@ fn either_wants_what_one_wants(rt: HostRuntime) -> Result<(), Fail> {
         (Level::DEBUG, true, Interest::Sometimes),
     ];
     says(&rt, &either, &rows, None);
-    assert_eq!(rt; hint_of(&LevelFilter::INFO.or(Mute)), None);
+    assert!(rt; hint_of(&LevelFilter::INFO.or(Mute)) == None);
     Ok(())
 }
 
@@ -214,19 +202,16 @@ fn what_is_not_wanted(rt: HostRuntime) -> Result<(), Fail> {
 fn texts_and_copies(rt: HostRuntime) -> Result<(), Fail> {
     let alloc = rt.alloc();
     let both = LevelFilter::INFO.and(LevelFilter::WARN);
-    assert_eq!(rt;
-        format!(in alloc; "{:?}", both.clone()?)?.as_str(),
-        "And { a: LevelFilter::INFO, b: LevelFilter::WARN }"
+    assert!(rt;
+        format!(in alloc; "{:?}", both.clone()?)?.as_str()
+            == "And { a: LevelFilter::INFO, b: LevelFilter::WARN }"
     );
     let either = LevelFilter::INFO.or(LevelFilter::WARN);
-    assert_eq!(rt;
-        format!(in alloc; "{:?}", either.clone()?)?.as_str(),
-        "Or { a: LevelFilter::INFO, b: LevelFilter::WARN }"
+    assert!(rt;
+        format!(in alloc; "{:?}", either.clone()?)?.as_str()
+            == "Or { a: LevelFilter::INFO, b: LevelFilter::WARN }"
     );
     let not = LevelFilter::INFO.not();
-    assert_eq!(rt;
-        format!(in alloc; "{:?}", not.clone()?)?.as_str(),
-        "Not(LevelFilter::INFO)"
-    );
+    assert!(rt; format!(in alloc; "{:?}", not.clone()?)?.as_str() == "Not(LevelFilter::INFO)");
     Ok(())
 }

@@ -72,7 +72,7 @@ fn scopes_of_events<S: LookupSpan>(
     family: Family,
 ) -> Result<(), Fail> {
     let of_leaf = up_of_event(alloc, filtered, &event_in(family.leaf))?.ok_or("no leaf")?;
-    assert_eq!(rt; of_leaf.as_str(), "leaf root ");
+    assert!(rt; of_leaf.as_str() == "leaf root ");
     let of_child = up_of_event(alloc, filtered, &event_in(family.child))?;
     assert!(rt; of_child.is_none());
     Ok(())
@@ -107,9 +107,9 @@ fn shows_or_hides<S: LookupSpan>(
     family: Family,
 ) {
     let shown = (Some("child"), Some("child"), true, true);
-    assert_eq!(rt; shown_of(all, family), shown);
+    assert!(rt; shown_of(all, family) == shown);
     let hidden = (None, Some("root"), false, true);
-    assert_eq!(rt; shown_of(filtered, family), hidden);
+    assert!(rt; shown_of(filtered, family) == hidden);
 }
 
 #[test]
@@ -136,10 +136,10 @@ fn enables_by_verdicts<S: LookupSpan>(
     family: Family,
     info: FilterId,
 ) {
-    assert_eq!(rt; enabled_of(filtered, family, info), [true, false]);
-    assert_eq!(rt; enabled_of(all, family, info), [true, false]);
+    assert!(rt; enabled_of(filtered, family, info) == [true, false]);
+    assert!(rt; enabled_of(all, family, info) == [true, false]);
     let unattached = enabled_of(all, family, FilterId::unattached());
-    assert_eq!(rt; unattached, [false, false]);
+    assert!(rt; unattached == [false, false]);
 }
 
 #[test]
@@ -169,10 +169,10 @@ fn places_of_events<S: Subscriber>(
     filtered: &Context<'_, S>,
     family: Family,
 ) {
-    assert_eq!(rt; place_of(all), (Some("child"), None, Some(family.child)));
-    assert_eq!(rt; place_of(filtered), (Some("root"), None, Some(family.root)));
-    assert_eq!(rt; current_of(&filtered.to_root()), Some(family.root));
-    assert_eq!(rt; filtered.current_span().id(), Some(family.child));
+    assert!(rt; place_of(all) == (Some("child"), None, Some(family.child)));
+    assert!(rt; place_of(filtered) == (Some("root"), None, Some(family.root)));
+    assert!(rt; current_of(&filtered.to_root()) == Some(family.root));
+    assert!(rt; filtered.current_span().id() == Some(family.child));
 }
 
 #[test]
@@ -188,7 +188,7 @@ fn an_event_is_in_the_span_that_is_shown(rt: HostRuntime) -> Result<(), Fail> {
 
 /// A context without a subscriber shows nothing of a span that is open elsewhere, and enables all.
 fn shows_nothing(rt: &impl Abort, nowhere: &Context<'_, Registry>, id: Id) {
-    assert_eq!(rt; nowhere.lane(), LANE);
+    assert!(rt; nowhere.lane() == LANE);
     let found = [
         nowhere.exists(id),
         nowhere.span(id).is_some(),
@@ -196,7 +196,7 @@ fn shows_nothing(rt: &impl Abort, nowhere: &Context<'_, Registry>, id: Id) {
         nowhere.current_span().id().is_some(),
         nowhere.enabled(&event_at(Level::INFO)),
     ];
-    assert_eq!(rt; found, [false, false, false, false, true]);
+    assert!(rt; found == [false, false, false, false, true]);
 }
 
 #[test]
@@ -233,7 +233,7 @@ fn write_to_what_is_seen(
     let pass = Pass::new();
     let mut hook = ContextMut::new(registry, LANE, &pass);
     write(&mut hook, family.child, size, 3)?;
-    assert_eq!(rt; name_of(hook.lend().span(family.child)), Some("child"));
+    assert!(rt; name_of(hook.lend().span(family.child)) == Some("child"));
     let mut filtered = hook.with_filter(info);
     assert!(rt; filtered.span(family.child).is_none());
     assert!(rt; filtered.metadata(family.child).is_none());
@@ -249,7 +249,7 @@ fn a_hook_writes_what_it_sees(rt: HostRuntime) -> Result<(), Fail> {
     let size = Tag::<u64>::new(0);
     let of_child = value_of(&registry, family.child, size);
     let of_leaf = value_of(&registry, family.leaf, size);
-    assert_eq!(rt; (of_child, of_leaf), (Some(3), Some(4)));
+    assert!(rt; (of_child, of_leaf) == (Some(3), Some(4)));
     Ok(())
 }
 
@@ -262,15 +262,15 @@ fn knows_refusals(rt: &impl Abort, hook: ContextMut<'_, Registry>, info: FilterI
         hook.refuses(FilterId::of(1)),
         hook.refuses(FilterId::unattached()),
     ];
-    assert_eq!(rt; refused, [true, false, true]);
+    assert!(rt; refused == [true, false, true]);
     let filtered = hook.with_filter(info);
     let enabled = [
         filtered.is_enabled_for(family.leaf, info),
         filtered.is_enabled_for(family.child, info),
     ];
-    assert_eq!(rt; enabled, [true, false]);
-    assert_eq!(rt; filtered.lane(), LANE);
-    assert_eq!(rt; name_of(filtered.lookup_current()), Some("leaf"));
+    assert!(rt; enabled == [true, false]);
+    assert!(rt; filtered.lane() == LANE);
+    assert!(rt; name_of(filtered.lookup_current()) == Some("leaf"));
 }
 
 #[test]
@@ -291,8 +291,8 @@ fn goes_without(rt: &impl Abort, hook: ContextMut<'_, Registry>, leaf: Id) {
     let found = hook.ctx().exists(leaf);
     let over = hook.over(&mut root).extensions_mut(leaf).is_some();
     hook.put_root(root);
-    assert_eq!(rt; (found, over), (false, true));
-    assert_eq!(rt; current_of(&hook.ctx()), Some(leaf));
+    assert!(rt; (found, over) == (false, true));
+    assert!(rt; current_of(&hook.ctx()) == Some(leaf));
 }
 
 #[test]

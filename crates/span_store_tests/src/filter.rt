@@ -24,7 +24,7 @@ fn a_test_of_metadata_settles_the_interest(rt: HostRuntime) -> Result<(), Fail> 
     ];
     says(&rt, &filter, &rows, None);
     let filter = filter.with_max_level_hint(LevelFilter::INFO);
-    assert_eq!(rt; hint_of(&filter), Some(LevelFilter::INFO));
+    assert!(rt; hint_of(&filter) == Some(LevelFilter::INFO));
     Ok(())
 }
 
@@ -86,21 +86,21 @@ fn copies_of_filters(rt: HostRuntime) -> Result<(), Fail> {
 fn texts_of_filters(rt: HostRuntime) -> Result<(), Fail> {
     let alloc = rt.alloc();
     let filter = filter_fn(|meta: &Metadata| meta.is_span());
-    assert_eq!(rt;
-        format!(in alloc; "{filter:?}")?.as_str(),
-        "FilterFn { enabled: .., max_level_hint: None }"
+    assert!(rt;
+        format!(in alloc; "{filter:?}")?.as_str()
+            == "FilterFn { enabled: .., max_level_hint: None }"
     );
     let filter = dynamic_filter_fn(|meta: &Metadata, _cx: &Context<'_, Registry>| meta.is_span());
-    assert_eq!(rt;
-        format!(in alloc; "{filter:?}")?.as_str(),
-        "DynFilterFn { enabled: .., register_callsite: None, max_level_hint: None }"
+    assert!(rt;
+        format!(in alloc; "{filter:?}")?.as_str()
+            == "DynFilterFn { enabled: .., register_callsite: None, max_level_hint: None }"
     );
     let filter = filter
         .with_max_level_hint(LevelFilter::INFO)
         .with_callsite_filter(|_meta: &Metadata| Interest::Sometimes);
-    assert_eq!(rt;
-        format!(in alloc; "{filter:?}")?.as_str(),
-        "DynFilterFn { enabled: .., register_callsite: Some(..), max_level_hint: Some(LevelFilter::INFO) }"
+    assert!(rt;
+        format!(in alloc; "{filter:?}")?.as_str()
+            == "DynFilterFn { enabled: .., register_callsite: Some(..), max_level_hint: Some(LevelFilter::INFO) }"
     );
     Ok(())
 }

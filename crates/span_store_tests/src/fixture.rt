@@ -190,8 +190,8 @@ pub(crate) fn shows_scope<S: LookupSpan>(
     id: Id,
     named: (&'static str, &'static str),
 ) -> Result<(), Fail> {
-    assert_eq!(rt; up(alloc, ctx, id)?.as_str(), named.0);
-    assert_eq!(rt; down(alloc, ctx, id)?.as_str(), named.1);
+    assert!(rt; up(alloc, ctx, id)?.as_str() == named.0);
+    assert!(rt; down(alloc, ctx, id)?.as_str() == named.1);
     Ok(())
 }
 
@@ -235,10 +235,10 @@ pub(crate) fn says<F: Filter<Registry>>(
     requires { F.usable filter.now }
 {
     for (level, wanted, interest) in rows {
-        assert_eq!(rt; wants(filter, event_at(*level)), *wanted);
-        assert_eq!(rt; interest_in(filter, *level), *interest);
+        assert!(rt; wants(filter, event_at(*level)) == *wanted);
+        assert!(rt; interest_in(filter, *level) == *interest);
     }
-    assert_eq!(rt; hint_of(filter), hint);
+    assert!(rt; hint_of(filter) == hint);
 }
 
 /// The highest level that a filter may want, if it knows one.

@@ -22,21 +22,21 @@ fn takes_no_level<F: Filter<Registry>>(rt: &impl Abort, filter: &mut F, wanted: 
     requires { F.usable filter.old }
     ensures { F.usable filter.new }
 {
-    assert_eq!(rt; wants(filter, event_at(Level::INFO)), wanted);
+    assert!(rt; wants(filter, event_at(Level::INFO)) == wanted);
     assert!(rt; !filter.set_level(LevelFilter::TRACE));
-    assert_eq!(rt; wants(filter, event_at(Level::INFO)), wanted);
+    assert!(rt; wants(filter, event_at(Level::INFO)) == wanted);
     assert!(rt; !filter.set_level(LevelFilter::OFF));
-    assert_eq!(rt; wants(filter, event_at(Level::INFO)), wanted);
+    assert!(rt; wants(filter, event_at(Level::INFO)) == wanted);
 }
 
 #[test]
 fn a_level_is_taken(rt: HostRuntime) -> Result<(), Fail> {
     let mut level = LevelFilter::WARN;
     takes_a_level(&rt, &mut level);
-    assert_eq!(rt; level, LevelFilter::INFO);
+    assert!(rt; level == LevelFilter::INFO);
     let mut some = Some(LevelFilter::WARN);
     takes_a_level(&rt, &mut some);
-    assert_eq!(rt; some, Some(LevelFilter::INFO));
+    assert!(rt; some == Some(LevelFilter::INFO));
     Ok(())
 }
 
@@ -55,22 +55,19 @@ fn no_level_is_taken(rt: HostRuntime) -> Result<(), Fail> {
     takes_no_level(&rt, &mut none, true);
     let mut both = LevelFilter::INFO.and(LevelFilter::WARN);
     takes_no_level(&rt, &mut both, false);
-    assert_eq!(rt;
-        format!(in alloc; "{both:?}")?.as_str(),
-        "And { a: LevelFilter::INFO, b: LevelFilter::WARN }"
+    assert!(rt;
+        format!(in alloc; "{both:?}")?.as_str()
+            == "And { a: LevelFilter::INFO, b: LevelFilter::WARN }"
     );
     let mut either = LevelFilter::INFO.or(LevelFilter::WARN);
     takes_no_level(&rt, &mut either, true);
-    assert_eq!(rt;
-        format!(in alloc; "{either:?}")?.as_str(),
-        "Or { a: LevelFilter::INFO, b: LevelFilter::WARN }"
+    assert!(rt;
+        format!(in alloc; "{either:?}")?.as_str()
+            == "Or { a: LevelFilter::INFO, b: LevelFilter::WARN }"
     );
     let mut not = LevelFilter::INFO.not();
     takes_no_level(&rt, &mut not, false);
-    assert_eq!(rt;
-        format!(in alloc; "{not:?}")?.as_str(),
-        "Not(LevelFilter::INFO)"
-    );
+    assert!(rt; format!(in alloc; "{not:?}")?.as_str() == "Not(LevelFilter::INFO)");
     Ok(())
 }
 

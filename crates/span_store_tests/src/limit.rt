@@ -11,13 +11,13 @@ fn fills_a_count(rt: &impl Abort, registry: &mut Registry) -> Result<(), Fail> {
     assert!(rt; registry.is_fresh());
     let p = open(registry, &root())?;
     assert!(rt; !registry.is_fresh());
-    assert_eq!(rt; clone_of(registry, p), Ok(p));
-    assert_eq!(rt; clone_of(registry, p), Err(TraceError::CountFull(p)));
+    assert!(rt; clone_of(registry, p) == Ok(p));
+    assert!(rt; clone_of(registry, p) == Err(TraceError::CountFull(p)));
     open(registry, &child_of(p))?;
     open(registry, &child_of(p))?;
     let third = open(registry, &child_of(p));
-    assert_eq!(rt; third, Err(TraceError::CountFull(p)));
-    assert_eq!(rt; registry.retired(), 0);
+    assert!(rt; third == Err(TraceError::CountFull(p)));
+    assert!(rt; registry.retired() == 0);
     Ok(())
 }
 
@@ -36,8 +36,8 @@ fn fills_two_places(rt: &impl Abort, alloc: Global, registry: &mut Registry) -> 
     let p = open(registry, &root())?;
     open(registry, &root())?;
     let third = open(registry, &root());
-    assert_eq!(rt; third, Err(TraceError::TooManySpans));
-    assert_eq!(rt; drop_handle(registry, p, alloc)?.as_slice(), [p].as_slice());
+    assert!(rt; third == Err(TraceError::TooManySpans));
+    assert!(rt; drop_handle(registry, p, alloc)?.as_slice() == [p].as_slice());
     assert!(rt; open(registry, &root()).is_ok());
     Ok(())
 }
@@ -59,7 +59,7 @@ fn places_are_limited(rt: HostRuntime) -> Result<(), Fail> {
         generations,
         count,
     } = Limits::MAX;
-    assert_eq!(rt; [places, generations, count], [4_294_967_295; 3]);
+    assert!(rt; [places, generations, count] == [4_294_967_295; 3]);
     Ok(())
 }
 
@@ -67,11 +67,11 @@ fn places_are_limited(rt: HostRuntime) -> Result<(), Fail> {
 fn filters_are_handed_out_in_order(rt: HostRuntime) -> Result<(), Fail> {
     let mut registry = Registry::new(rt.alloc());
     for number in 0..128 {
-        assert_eq!(rt; registry.filters(), number);
-        assert_eq!(rt; registry.register_filter(), Ok(FilterId::of(number)));
+        assert!(rt; registry.filters() == number);
+        assert!(rt; registry.register_filter() == Ok(FilterId::of(number)));
     }
-    assert_eq!(rt; registry.register_filter(), Err(TraceError::TooManyFilters));
-    assert_eq!(rt; registry.filters(), 128);
+    assert!(rt; registry.register_filter() == Err(TraceError::TooManyFilters));
+    assert!(rt; registry.filters() == 128);
     Ok(())
 }
 
@@ -81,8 +81,8 @@ fn a_65th_filter_has_the_number_64(rt: HostRuntime) -> Result<(), Fail> {
     for _ in 0..64 {
         registry.register_filter()?;
     }
-    assert_eq!(rt; registry.filters(), 64);
-    assert_eq!(rt; registry.register_filter(), Ok(FilterId::of(64)));
-    assert_eq!(rt; registry.filters(), 65);
+    assert!(rt; registry.filters() == 64);
+    assert!(rt; registry.register_filter() == Ok(FilterId::of(64)));
+    assert!(rt; registry.filters() == 65);
     Ok(())
 }

@@ -30,7 +30,7 @@ fn shows_by_masks<S: LookupSpan>(
         (both_hidden, ("leaf ", "leaf "), None),
     ] {
         shows_scope(rt, alloc, &ctx, leaf, named)?;
-        assert_eq!(rt; parent_of(&ctx, leaf), parent);
+        assert!(rt; parent_of(&ctx, leaf) == parent);
     }
     Ok(())
 }
@@ -56,8 +56,8 @@ fn shows_ancestors<S: LookupSpan>(
         (root, all, "root ", None),
         (root, child_hidden, "root ", None),
     ] {
-        assert_eq!(rt; up(alloc, &ctx, span)?.as_str(), leaf_first);
-        assert_eq!(rt; parent_of(&ctx, span), parent);
+        assert!(rt; up(alloc, &ctx, span)?.as_str() == leaf_first);
+        assert!(rt; parent_of(&ctx, span) == parent);
     }
     assert!(rt; child_hidden.span_scope(child).is_none());
     Ok(())
@@ -79,11 +79,11 @@ fn first_filter<R: LookupSpan>(subscriber: &mut R) -> Result<(FilterId, u32), Tr
 /// What a reference shows of the leaf of a family.
 fn shows_the_leaf(rt: &impl Abort, registry: &Registry, family: Family) -> Result<(), Fail> {
     let found = registry.span(family.leaf).ok_or("no leaf")?;
-    assert_eq!(rt; found.id(), family.leaf);
-    assert_eq!(rt; found.metadata(), span_named("leaf"));
-    assert_eq!(rt; found.name(), "leaf");
-    assert_eq!(rt; found.fields(), FieldSet::new(&["size"]));
-    assert_eq!(rt; found.parent().ok_or("no child")?.id(), family.child);
+    assert!(rt; found.id() == family.leaf);
+    assert!(rt; found.metadata() == span_named("leaf"));
+    assert!(rt; found.name() == "leaf");
+    assert!(rt; found.fields() == FieldSet::new(&["size"]));
+    assert!(rt; found.parent().ok_or("no child")?.id() == family.child);
     Ok(())
 }
 
@@ -94,7 +94,7 @@ fn has_a_value(rt: &impl Abort, registry: &mut Registry) -> Result<Family, Fail>
     insert(registry, family.leaf, size, 42)?;
     let of_leaf = value_of(registry, family.leaf, size);
     let of_child = value_of(registry, family.child, size);
-    assert_eq!(rt; (of_leaf, of_child), (Some(42), None));
+    assert!(rt; (of_leaf, of_child) == (Some(42), None));
     assert!(rt; registry.span(Id::from_u64(0)).is_none());
     Ok(family)
 }
@@ -111,9 +111,9 @@ fn finds_the_child(rt: &impl Abort, registry: &Registry, family: Family) -> Resu
     let leaf = registry.root().span_data(family.leaf).ok_or("no leaf")?;
     let child = leaf.parent().ok_or("no child")?;
     let found = registry.span_data(child).ok_or("no child")?;
-    assert_eq!(rt; found.id(), family.child);
-    assert_eq!(rt; found.metadata().name(), "child");
-    assert_eq!(rt; found.parent(), Some(family.root));
+    assert!(rt; found.id() == family.child);
+    assert!(rt; found.metadata().name() == "child");
+    assert!(rt; found.parent() == Some(family.root));
     assert!(rt; !found.is_enabled_for(FilterId::of(0)));
     assert!(rt; found.is_enabled_for(FilterId::of(1)));
     assert!(rt; !found.is_enabled_for(FilterId::unattached()));
@@ -123,7 +123,7 @@ fn finds_the_child(rt: &impl Abort, registry: &Registry, family: Family) -> Resu
 #[test]
 fn what_is_found_of_a_span(rt: HostRuntime) -> Result<(), Fail> {
     let mut registry = Registry::new(rt.alloc());
-    assert_eq!(rt; first_filter(&mut registry)?, (FilterId::of(0), 1));
+    assert!(rt; first_filter(&mut registry)? == (FilterId::of(0), 1));
     let family = refused_family(registry.root_mut())?;
     finds_the_child(&rt, &registry, family)
 }
@@ -162,14 +162,14 @@ fn is_so_deep<R: LookupSpan>(
     leaf: &SpanRef<'_, R>,
     depth: usize,
 ) -> Result<(), Fail> {
-    assert_eq!(rt; ids(alloc, leaf.scope())?.len(), depth);
+    assert!(rt; ids(alloc, leaf.scope())?.len() == depth);
     let mut scope = leaf.scope().from_root(alloc)?;
-    assert_eq!(rt; scope.size_hint(), (depth, Some(depth)));
+    assert!(rt; scope.size_hint() == (depth, Some(depth)));
     let root = scope.next().ok_or("no root")?;
     assert!(rt; root.parent().is_none());
     let rest = depth.saturating_sub(1);
-    assert_eq!(rt; scope.size_hint(), (rest, Some(rest)));
-    assert_eq!(rt; last_of(scope, root.id()), leaf.id());
+    assert!(rt; scope.size_hint() == (rest, Some(rest)));
+    assert!(rt; last_of(scope, root.id()) == leaf.id());
     Ok(())
 }
 
@@ -204,6 +204,6 @@ fn scope_text(alloc: Global, registry: &mut Registry) -> Result<String, Fail> {
 #[test]
 fn text_of_a_scope(rt: HostRuntime) -> Result<(), Fail> {
     let shown = scope_text(rt.alloc(), &mut Registry::new(rt.alloc()))?;
-    assert_eq!(rt; shown.as_str(), "ScopeFromRoot { .. }");
+    assert!(rt; shown.as_str() == "ScopeFromRoot { .. }");
     Ok(())
 }

@@ -40,14 +40,14 @@ fn retires_a_place(rt: &impl Abort, alloc: Global, registry: &mut Registry) -> R
     let b = new_root(registry)?;
     drop_handle(registry, a, alloc)?;
     let c = come_and_gone(registry, alloc)?;
-    assert_eq!(rt; registry.retired(), 0);
+    assert!(rt; registry.retired() == 0);
     let d = come_and_gone(registry, alloc)?;
-    assert_eq!(rt; registry.retired(), 1);
+    assert!(rt; registry.retired() == 1);
     for id in [a, c, d] {
-        assert_eq!(rt; enter(registry, id), Err(TraceError::UnknownSpan(id)));
+        assert!(rt; enter(registry, id) == Err(TraceError::UnknownSpan(id)));
         assert!(rt; registry.span_data(id).is_none());
     }
-    assert_eq!(rt; new_root(registry), Err(TraceError::TooManySpans));
+    assert!(rt; new_root(registry) == Err(TraceError::TooManySpans));
     drop_handle(registry, b, alloc)?;
     assert!(rt; new_root(registry).is_ok());
     Ok(())
@@ -68,11 +68,11 @@ fn leaves_the_next_alone(
     enter(registry, a)?;
     drop_handle(registry, a, alloc)?;
     let c = new_root(registry)?;
-    assert_eq!(rt; (a.into_u64(), c.into_u64()), (1, 4_294_967_297));
+    assert!(rt; (a.into_u64(), c.into_u64()) == (1, 4_294_967_297));
     let before = current(registry);
     registry.exit(LANE, a);
     registry.exit(LANE, a);
-    assert_eq!(rt; (before, current(registry)), (None, None));
+    assert!(rt; (before, current(registry)) == (None, None));
     assert!(rt; registry.is_open(c));
     Ok(())
 }
@@ -90,8 +90,8 @@ fn retires_its_one_place(
 ) -> Result<(), Fail> {
     let a = come_and_gone(registry, alloc)?;
     let b = come_and_gone(registry, alloc)?;
-    assert_eq!(rt; registry.retired(), 1);
-    assert_eq!(rt; new_root(registry), Err(TraceError::TooManySpans));
+    assert!(rt; registry.retired() == 1);
+    assert!(rt; new_root(registry) == Err(TraceError::TooManySpans));
     for id in [a, b] {
         refuses_unknown(rt, registry, id);
     }
@@ -112,16 +112,13 @@ fn uses_the_last_first(
     let first = new_root(registry)?;
     let second = new_root(registry)?;
     let third = new_root(registry)?;
-    assert_eq!(rt;
-        (first.into_u64(), second.into_u64(), third.into_u64()),
-        (1, 2, 3)
-    );
+    assert!(rt; (first.into_u64(), second.into_u64(), third.into_u64()) == (1, 2, 3));
     drop_handle(registry, first, alloc)?;
     drop_handle(registry, second, alloc)?;
-    assert_eq!(rt; new_root(registry), Ok(Id::from_u64(4_294_967_298)));
-    assert_eq!(rt; new_root(registry), Ok(Id::from_u64(4_294_967_297)));
-    assert_eq!(rt; new_root(registry), Ok(Id::from_u64(4)));
-    assert_eq!(rt; new_root(registry), Err(TraceError::TooManySpans));
+    assert!(rt; new_root(registry) == Ok(Id::from_u64(4_294_967_298)));
+    assert!(rt; new_root(registry) == Ok(Id::from_u64(4_294_967_297)));
+    assert!(rt; new_root(registry) == Ok(Id::from_u64(4)));
+    assert!(rt; new_root(registry) == Err(TraceError::TooManySpans));
     Ok(())
 }
 
@@ -138,7 +135,7 @@ fn forgets_values(rt: &impl Abort, alloc: Global, registry: &mut Registry) -> Re
     drop_handle(registry, a, alloc)?;
     let b = new_root(registry)?;
     let value = value_of(registry, b, tag);
-    assert_eq!(rt; (b, value), (Id::from_u64(2), None));
+    assert!(rt; (b, value) == (Id::from_u64(2), None));
     Ok(())
 }
 

@@ -12,18 +12,18 @@ fn a_second_entry_is_a_duplicate(rt: HostRuntime) -> Result<(), Fail> {
     for id in [one, two, one] {
         stack.push(id)?;
     }
-    assert_eq!(rt; stack.current(), Some(two));
+    assert!(rt; stack.current() == Some(two));
     assert!(rt; !stack.pop(one));
-    assert_eq!(rt; stack.current(), Some(two));
+    assert!(rt; stack.current() == Some(two));
     let mut spans = stack.iter();
-    assert_eq!(rt; spans.next(), Some(two));
-    assert_eq!(rt; spans.next(), Some(one));
-    assert_eq!(rt; spans.next(), None);
+    assert!(rt; spans.next() == Some(two));
+    assert!(rt; spans.next() == Some(one));
+    assert!(rt; spans.next() == None);
     assert!(rt; stack.pop(one));
-    assert_eq!(rt; stack.current(), Some(two));
+    assert!(rt; stack.current() == Some(two));
     assert!(rt; !stack.pop(Id::from_u64(7)));
     assert!(rt; stack.pop(two));
-    assert_eq!(rt; stack.current(), None);
+    assert!(rt; stack.current() == None);
     Ok(())
 }
 
@@ -35,16 +35,16 @@ fn ids_that_are_64_apart_are_no_duplicates(rt: HostRuntime) -> Result<(), Fail> 
     for id in [low, high] {
         stack.push(id)?;
     }
-    assert_eq!(rt; stack.current(), Some(high));
+    assert!(rt; stack.current() == Some(high));
     assert!(rt; stack.pop(low));
     stack.push(low)?;
-    assert_eq!(rt; stack.current(), Some(low));
+    assert!(rt; stack.current() == Some(low));
     stack.push(low)?;
     assert!(rt; !stack.pop(low));
     assert!(rt; stack.pop(low));
     assert!(rt; !stack.pop(low));
     assert!(rt; stack.pop(high));
-    assert_eq!(rt; stack.current(), None);
+    assert!(rt; stack.current() == None);
     Ok(())
 }
 
@@ -57,10 +57,10 @@ fn a_span_is_entered_1000_times(rt: HostRuntime) -> Result<(), Fail> {
     }
     for _ in 0..999 {
         registry.exit(LANE, p);
-        assert_eq!(rt; current(&registry), Some(p));
+        assert!(rt; current(&registry) == Some(p));
     }
     registry.exit(LANE, p);
-    assert_eq!(rt; current(&registry), None);
+    assert!(rt; current(&registry) == None);
     assert!(rt; registry.is_open(p));
     Ok(())
 }

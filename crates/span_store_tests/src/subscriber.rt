@@ -46,10 +46,10 @@ fn ask<S: Subscriber>(rt: &impl Abort, stack: &S) -> Result<(), Fail>
     let meta = span_named("span");
     let event = Event::new(event_at(Level::INFO), &[]);
     let mut pass = Pass::new();
-    assert_eq!(rt; stack.register_callsite(&meta, &mut pass), Interest::Always);
+    assert!(rt; stack.register_callsite(&meta, &mut pass) == Interest::Always);
     assert!(rt; stack.enabled(LANE, &meta, &mut pass));
     assert!(rt; stack.event_enabled(LANE, &event, &mut pass));
-    assert_eq!(rt; stack.max_level_hint(), None);
+    assert!(rt; stack.max_level_hint() == None);
     assert!(rt; stack.is_registry());
     assert!(rt; !stack.is_filtered());
     assert!(rt; !stack.is_absent());
@@ -65,7 +65,7 @@ fn notify<S: Subscriber>(rt: &impl Abort, stack: &mut S) -> Result<(), Fail>
     stack.on_register_dispatch();
     let id = open_twice(stack, LANE, &attrs, &pass)?;
     stack.enter(LANE, id)?;
-    assert_eq!(rt; stack.current_span(LANE).id(), Some(id));
+    assert!(rt; stack.current_span(LANE).id() == Some(id));
     stack.record(LANE, id, &Record::new(&[]));
     stack.record_follows_from(LANE, id, id);
     stack.event(LANE, &Event::new(event_at(Level::INFO), &[]), &pass);
@@ -83,8 +83,8 @@ fn refuses_unknown<S: Subscriber>(rt: &impl Abort, stack: &mut S)
 {
     let id = Id::from_u64(u64::MAX);
     let unknown = TraceError::UnknownSpan(id);
-    assert_eq!(rt; stack.enter(LANE, id), Err(unknown));
-    assert_eq!(rt; stack.clone_span(LANE, id), Err(unknown));
+    assert!(rt; stack.enter(LANE, id) == Err(unknown));
+    assert!(rt; stack.clone_span(LANE, id) == Err(unknown));
 }
 
 #[test]
@@ -102,18 +102,9 @@ fn callsites_under_filters(rt: HostRuntime) -> Result<(), Fail> {
     let meta = span_named("span");
     let mut pass = Pass::new();
     pass.add_interest(Interest::Never);
-    assert_eq!(rt;
-        registry.register_callsite(&meta, &mut pass),
-        Interest::Always
-    );
+    assert!(rt; registry.register_callsite(&meta, &mut pass) == Interest::Always);
     registry.register_filter()?;
-    assert_eq!(rt;
-        registry.register_callsite(&meta, &mut pass),
-        Interest::Never
-    );
-    assert_eq!(rt;
-        registry.register_callsite(&meta, &mut pass),
-        Interest::Always
-    );
+    assert!(rt; registry.register_callsite(&meta, &mut pass) == Interest::Never);
+    assert!(rt; registry.register_callsite(&meta, &mut pass) == Interest::Always);
     Ok(())
 }

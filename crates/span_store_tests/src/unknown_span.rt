@@ -12,11 +12,11 @@ use std::test::Fail;
 pub(crate) fn refuses_unknown(rt: &impl Abort, registry: &mut Registry, id: Id) {
     let unknown = TraceError::UnknownSpan(id);
     assert!(rt; !registry.is_open(id));
-    assert_eq!(rt; enter(registry, id), Err(unknown));
-    assert_eq!(rt; registry.release(id), Err(unknown));
-    assert_eq!(rt; clone_of(registry, id), Err(unknown));
+    assert!(rt; enter(registry, id) == Err(unknown));
+    assert!(rt; registry.release(id) == Err(unknown));
+    assert!(rt; clone_of(registry, id) == Err(unknown));
     let child = open(registry, &child_of(id));
-    assert_eq!(rt; child, Err(TraceError::UnknownParent(id)));
+    assert!(rt; child == Err(TraceError::UnknownParent(id)));
 }
 
 /// Notifies a registry of a span that isn't there. It has nothing to refuse.
@@ -55,11 +55,11 @@ fn knows_open_spans_alone(
         assert!(rt; registry.extensions_mut(id).is_none());
         assert!(rt; registry.span_data(id).is_none());
         finds_nothing(rt, &Context::new(registry, LANE), id);
-        assert_eq!(rt; current(registry), Some(p));
+        assert!(rt; current(registry) == Some(p));
     }
     registry.exit(LANE, p);
-    assert_eq!(rt; current(registry), None);
-    assert_eq!(rt; drop_handle(registry, p, alloc)?.as_slice(), [p].as_slice());
+    assert!(rt; current(registry) == None);
+    assert!(rt; drop_handle(registry, p, alloc)?.as_slice() == [p].as_slice());
     Ok(())
 }
 
@@ -87,17 +87,14 @@ fn a_closing_span_is_unknown(rt: HostRuntime) -> Result<(), Fail> {
     let mut registry = Registry::new(rt.alloc());
     let p = open(&mut registry, &root())?;
     enter(&mut registry, p)?;
-    assert_eq!(rt; registry.release(p), Ok(Released::Closing));
+    assert!(rt; registry.release(p) == Ok(Released::Closing));
     refuses_unknown(&rt, &mut registry, p);
     assert!(rt; registry.extensions_mut(p).is_some());
     let shown = registry.current_span(LANE);
-    assert_eq!(rt; shown.id(), Some(p));
-    assert_eq!(rt; shown.metadata(), Some(span_named("root")));
+    assert!(rt; shown.id() == Some(p));
+    assert!(rt; shown.metadata() == Some(span_named("root")));
     let q = open(&mut registry, &Attributes::new(span_named("q"), &[]))?;
-    assert_eq!(rt;
-        drop_handle(&mut registry, q, rt.alloc())?.as_slice(),
-        [q].as_slice()
-    );
-    assert_eq!(rt; current(&registry), Some(p));
+    assert!(rt; drop_handle(&mut registry, q, rt.alloc())?.as_slice() == [q].as_slice());
+    assert!(rt; current(&registry) == Some(p));
     Ok(())
 }

@@ -49,18 +49,18 @@ fn binary<T: fmt::Binary + Drop>(alloc: Global, value: T) -> Result<String, Allo
 #[test]
 fn interests_are_summed(rt: HostRuntime) -> Result<(), Fail> {
     let mut pass = Pass::new();
-    assert_eq!(rt; pass.take_interest(), None);
+    assert!(rt; pass.take_interest() == None);
     pass.add_interest(Interest::always());
     pass.add_interest(Interest::always());
-    assert_eq!(rt; pass.take_interest(), Some(Interest::Always));
-    assert_eq!(rt; pass.take_interest(), None);
+    assert!(rt; pass.take_interest() == Some(Interest::Always));
+    assert!(rt; pass.take_interest() == None);
     pass.add_interest(Interest::always());
     pass.add_interest(Interest::never());
     pass.add_interest(Interest::always());
-    assert_eq!(rt; pass.take_interest(), Some(Interest::Sometimes));
+    assert!(rt; pass.take_interest() == Some(Interest::Sometimes));
     pass.add_interest(Interest::sometimes());
     pass.clear_interest();
-    assert_eq!(rt; pass.take_interest(), None);
+    assert!(rt; pass.take_interest() == None);
     assert!(rt; Interest::Never.is_never() && !Interest::Always.is_never());
     assert!(rt; Interest::Sometimes.is_sometimes() && !Interest::Never.is_sometimes());
     assert!(rt; Interest::Always.is_always() && !Interest::Sometimes.is_always());
@@ -70,26 +70,14 @@ fn interests_are_summed(rt: HostRuntime) -> Result<(), Fail> {
 #[test]
 fn ids_of_filters_are_written(rt: HostRuntime) -> Result<(), Fail> {
     let joined = FilterId::of(0).and(FilterId::of(3));
-    assert_eq!(rt;
-        format!(in rt.alloc(); "{joined:?}")?.as_str(),
-        "FilterId({0, 3})"
-    );
-    assert_eq!(rt; binary(rt.alloc(), joined)?.as_str(), "FilterId(1001)");
+    assert!(rt; format!(in rt.alloc(); "{joined:?}")?.as_str() == "FilterId({0, 3})");
+    assert!(rt; binary(rt.alloc(), joined)?.as_str() == "FilterId(1001)");
     let none = FilterId::none();
-    assert_eq!(rt;
-        format!(in rt.alloc(); "{none:?}")?.as_str(),
-        "FilterId({})"
-    );
-    assert_eq!(rt; binary(rt.alloc(), none)?.as_str(), "FilterId(0)");
+    assert!(rt; format!(in rt.alloc(); "{none:?}")?.as_str() == "FilterId({})");
+    assert!(rt; binary(rt.alloc(), none)?.as_str() == "FilterId(0)");
     let unattached = FilterId::unattached();
-    assert_eq!(rt;
-        format!(in rt.alloc(); "{unattached:?}")?.as_str(),
-        "FilterId(DISABLED)"
-    );
-    assert_eq!(rt;
-        binary(rt.alloc(), unattached)?.as_str(),
-        "FilterId(DISABLED)"
-    );
+    assert!(rt; format!(in rt.alloc(); "{unattached:?}")?.as_str() == "FilterId(DISABLED)");
+    assert!(rt; binary(rt.alloc(), unattached)?.as_str() == "FilterId(DISABLED)");
     Ok(())
 }
 
@@ -98,14 +86,8 @@ fn maps_of_filters_are_written(rt: HostRuntime) -> Result<(), Fail> {
     let mut pass = Pass::new();
     pass.set(FilterId::of(0).and(FilterId::of(3)), false);
     let map = pass.refused();
-    assert_eq!(rt;
-        format!(in rt.alloc(); "{map:?}")?.as_str(),
-        "FilterMap { disabled_by: {0, 3} }"
-    );
-    assert_eq!(rt;
-        binary(rt.alloc(), map)?.as_str(),
-        "FilterMap { bits: 1001 }"
-    );
+    assert!(rt; format!(in rt.alloc(); "{map:?}")?.as_str() == "FilterMap { disabled_by: {0, 3} }");
+    assert!(rt; binary(rt.alloc(), map)?.as_str() == "FilterMap { bits: 1001 }");
     Ok(())
 }
 
@@ -117,7 +99,7 @@ fn filters_refuse(rt: HostRuntime) -> Result<(), Fail> {
     assert!(rt; both.contains(0) && both.contains(127));
     assert!(rt; !both.contains(1) && !both.contains(128));
     assert!(rt; !both.is_unattached() && both.and(FilterId::unattached()).is_unattached());
-    assert_eq!(rt; FilterId::unattached().and(last), last);
+    assert!(rt; FilterId::unattached().and(last) == last);
     let mut pass = Pass::new();
     pass.set(both, false);
     pass.set(first, true);
@@ -133,25 +115,22 @@ fn filters_refuse(rt: HostRuntime) -> Result<(), Fail> {
 fn words_of_filters_end_at_127(rt: HostRuntime) -> Result<(), Fail> {
     let last = FilterId::of(127);
     let both = FilterId::of(0).and(last);
-    assert_eq!(rt;
-        format!(in rt.alloc(); "{both:?}")?.as_str(),
-        "FilterId({0, 127})"
-    );
+    assert!(rt; format!(in rt.alloc(); "{both:?}")?.as_str() == "FilterId({0, 127})");
     let mut pass = Pass::new();
-    assert_eq!(rt; pass.refused().word(), 0);
+    assert!(rt; pass.refused().word() == 0);
     pass.set(last, false);
     let map = pass.refused();
     for n in 0..127 {
         assert!(rt; map.is_enabled(FilterId::of(n)));
     }
     assert!(rt; !map.is_enabled(last));
-    assert_eq!(rt; map.word(), 1 << 127);
+    assert!(rt; map.word() == 1 << 127);
     for n in 0..FilterId::LIMIT {
         pass.set(FilterId::of(n), false);
     }
     let map = pass.refused();
     assert!(rt; map.is_enabled(FilterId::none()) && !map.is_enabled(both));
-    assert_eq!(rt; map.word(), u128::MAX);
+    assert!(rt; map.word() == u128::MAX);
     Ok(())
 }
 
@@ -173,11 +152,8 @@ fn levels_pass(rt: HostRuntime) -> Result<(), Fail> {
         (LevelFilter::TRACE, 5, "LevelFilter::TRACE"),
     ];
     for (filter, passed, text) in filters {
-        assert_eq!(rt;
-            levels.iter().filter(|level| filter.passes(**level)).count(),
-            passed
-        );
-        assert_eq!(rt; format!(in rt.alloc(); "{filter:?}")?.as_str(), text);
+        assert!(rt; levels.iter().filter(|level| filter.passes(**level)).count() == passed);
+        assert!(rt; format!(in rt.alloc(); "{filter:?}")?.as_str() == text);
     }
     assert!(rt; Level::ERROR < Level::WARN && Level::DEBUG < Level::TRACE);
     assert!(rt; LevelFilter::OFF < LevelFilter::ERROR && LevelFilter::INFO < LevelFilter::DEBUG);
@@ -187,16 +163,16 @@ fn levels_pass(rt: HostRuntime) -> Result<(), Fail> {
 #[test]
 fn metadata_is_read_back(rt: HostRuntime) -> Result<(), Fail> {
     let metadata = span_metadata();
-    assert_eq!(rt; metadata.callsite(), 7);
-    assert_eq!(rt; metadata.name(), "request");
-    assert_eq!(rt; metadata.target(), "shop::web");
-    assert_eq!(rt; metadata.level(), Level::INFO);
-    assert_eq!(rt; metadata.kind(), Kind::SPAN);
+    assert!(rt; metadata.callsite() == 7);
+    assert!(rt; metadata.name() == "request");
+    assert!(rt; metadata.target() == "shop::web");
+    assert!(rt; metadata.level() == Level::INFO);
+    assert!(rt; metadata.kind() == Kind::SPAN);
     assert!(rt; metadata.is_span() && !metadata.is_event());
     assert!(rt; event_metadata().is_event() && !event_metadata().is_span());
     let fields = metadata.fields();
-    assert_eq!(rt; fields.names().len(), 2);
-    assert_eq!(rt; fields.len(), 2);
+    assert!(rt; fields.names().len() == 2);
+    assert!(rt; fields.len() == 2);
     assert!(rt; !fields.is_empty() && event_metadata().fields().is_empty());
     assert!(rt; fields.contains("retries") && !fields.contains("retry"));
     Ok(())
@@ -270,14 +246,14 @@ fn attributes_are_read_back(rt: HostRuntime) -> Result<(), Fail> {
     let contextual = Attributes::new(metadata, &values);
     let root = Attributes::new_root(metadata, &values);
     let child = Attributes::child_of(Id::from_u64(5), metadata, &values);
-    assert_eq!(rt; contextual.metadata(), metadata);
-    assert_eq!(rt; contextual.values().len(), 2);
+    assert!(rt; contextual.metadata() == metadata);
+    assert!(rt; contextual.values().len() == 2);
     assert!(rt; contextual.is_contextual() && !contextual.is_root());
     assert!(rt; root.is_root() && !root.is_contextual());
-    assert_eq!(rt; root.parent(), None);
-    assert_eq!(rt; child.parent(), Some(Id::from_u64(5)));
-    assert_eq!(rt; child.asked_parent(), Parent::Explicit(Id::from_u64(5)));
-    assert_eq!(rt; Record::new(&values).values().len(), 2);
+    assert!(rt; root.parent() == None);
+    assert!(rt; child.parent() == Some(Id::from_u64(5)));
+    assert!(rt; child.asked_parent() == Parent::Explicit(Id::from_u64(5)));
+    assert!(rt; Record::new(&values).values().len() == 2);
     Ok(())
 }
 
@@ -291,23 +267,23 @@ fn events_are_read_back(rt: HostRuntime) -> Result<(), Fail> {
     let contextual = Event::new(metadata, &values);
     let root = Event::new_root(metadata, &values);
     let child = Event::new_child_of(Id::from_u64(5), metadata, &values);
-    assert_eq!(rt; contextual.metadata(), metadata);
-    assert_eq!(rt; contextual.values().len(), 2);
+    assert!(rt; contextual.metadata() == metadata);
+    assert!(rt; contextual.values().len() == 2);
     assert!(rt; contextual.is_contextual() && !contextual.is_root());
     assert!(rt; root.is_root() && !root.is_contextual());
-    assert_eq!(rt; root.parent(), None);
-    assert_eq!(rt; child.parent(), Some(Id::from_u64(5)));
-    assert_eq!(rt; child.asked_parent(), Parent::Explicit(Id::from_u64(5)));
+    assert!(rt; root.parent() == None);
+    assert!(rt; child.parent() == Some(Id::from_u64(5)));
+    assert!(rt; child.asked_parent() == Parent::Explicit(Id::from_u64(5)));
     Ok(())
 }
 
 #[test]
 fn current_span_is_read_back(rt: HostRuntime) -> Result<(), Fail> {
     let current = Current::new(Id::from_u64(9), span_metadata());
-    assert_eq!(rt; current.id().map(|id| id.into_u64()), Some(9));
-    assert_eq!(rt; current.metadata(), Some(span_metadata()));
+    assert!(rt; current.id().map(|id| id.into_u64()) == Some(9));
+    assert!(rt; current.metadata() == Some(span_metadata()));
     assert!(rt; !current.is_none() && Current::none().is_none());
-    assert_eq!(rt; Current::none().id(), None);
+    assert!(rt; Current::none().id() == None);
     assert!(rt; Lane(0) < Lane(1) && Parent::Root != Parent::Contextual);
     Ok(())
 }
@@ -331,15 +307,15 @@ fn refusals_are_written(rt: HostRuntime) -> Result<(), Fail> {
         (TraceError::OutOfMemory, 9, "out of memory"),
     ];
     for (refusal, number, text) in refusals {
-        assert_eq!(rt; refusal.number(), number);
-        assert_eq!(rt; format!(in rt.alloc(); "{refusal}")?.as_str(), text);
+        assert!(rt; refusal.number() == number);
+        assert!(rt; format!(in rt.alloc(); "{refusal}")?.as_str() == text);
     }
     let rejected = Rejected {
         value: 11,
         error: TraceError::TagTaken,
     };
-    assert_eq!(rt; rejected.value, 11);
-    assert_eq!(rt; rejected.error.number(), 5);
+    assert!(rt; rejected.value == 11);
+    assert!(rt; rejected.error.number() == 5);
     Ok(())
 }
 
@@ -362,20 +338,19 @@ fn laws_can_be_called() {
 
 #[test]
 fn levels_and_values_are_written(rt: HostRuntime) -> Result<(), Fail> {
-    assert_eq!(rt; Level::WARN.as_str(), "WARN");
+    assert!(rt; Level::WARN.as_str() == "WARN");
     let (error, warn, info) = (Level::ERROR, Level::WARN, Level::INFO);
     let (debug, trace) = (Level::DEBUG, Level::TRACE);
-    assert_eq!(rt;
-        format!(in rt.alloc(); "{error} {warn} {info} {debug} {trace}")?.as_str(),
-        "ERROR WARN INFO DEBUG TRACE"
+    assert!(rt;
+        format!(in rt.alloc(); "{error} {warn} {info} {debug} {trace}")?.as_str()
+            == "ERROR WARN INFO DEBUG TRACE"
     );
     let count = FieldValue::from(7u64);
     let change = FieldValue::from(-3i64);
     let is_new = FieldValue::from(true);
     let user = FieldValue::from("me");
-    assert_eq!(rt;
-        format!(in rt.alloc(); "{count} {change} {is_new} {user}")?.as_str(),
-        "7 -3 true me"
+    assert!(rt;
+        format!(in rt.alloc(); "{count} {change} {is_new} {user}")?.as_str() == "7 -3 true me"
     );
     Ok(())
 }

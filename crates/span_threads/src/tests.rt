@@ -150,13 +150,10 @@ where
     let (one, other) = in_two_threads(rt, &shared, first, second)?;
     assert!(rt; one.own && one.seen);
     assert!(rt; other.own && other.seen);
-    assert_eq!(rt;
-        (one.worker.lane(), other.worker.lane()),
-        (Lane(0), Lane(1))
-    );
+    assert!(rt; (one.worker.lane(), other.worker.lane()) == (Lane(0), Lane(1)));
     let calls = one.worker.calls().wrapping_add(other.worker.calls());
     let journal = finished(shared, one.worker, other.worker, alloc)?;
-    assert_eq!(rt; (calls, journal.len()), (2, 2));
+    assert!(rt; (calls, journal.len()) == (2, 2));
     for receipt in [one.receipt, other.receipt] {
         let receipt = receipt.ok_or("a receipt")?;
         assert!(rt; journal.holds(&receipt));
@@ -243,9 +240,9 @@ fn journal_of<S: Subscriber + Drop>(rt: &impl Abort, alloc: Global, stack: S) ->
     let (p, q) = make_each(&mut logged)?;
     let (_, journal) = logged.into_parts();
     let entries = entries_of(p, q);
-    assert_eq!(rt; journal.len(), entries.len() as u64);
+    assert!(rt; journal.len() == entries.len() as u64);
     for (place, entry) in entries.iter().enumerate() {
-        assert_eq!(rt; journal.get(place as u64), Some(*entry));
+        assert!(rt; journal.get(place as u64) == Some(*entry));
     }
     Ok(())
 }
@@ -359,6 +356,6 @@ fn a_layer_is_handed_the_values(rt: HostRuntime) -> Result<(), Fail> {
         stack,
     )?;
     let numbers = dispatch.stack().layer().observer();
-    assert_eq!(rt; (numbers.made, numbers.recorded), (Some(7), Some(9)));
+    assert!(rt; (numbers.made, numbers.recorded) == (Some(7), Some(9)));
     Ok(())
 }
