@@ -382,7 +382,7 @@ fn keeps_what_fits(rt: &impl Abort, recorder: &Recorder, id: Id) {
         Notice::Close(LANE, id),
     ];
     assert!(rt; told.as_slice().starts_with(recorder.notices()));
-    assert!(rt; recorder.failed() == recorder.notices().len() < 4);
+    assert!(rt; recorder.failed() == (recorder.notices().len() < 4));
 }
 
 /// It passes too where any one allocation is refused, as `rt try --test --fail-alloc N` does.

@@ -17,7 +17,7 @@ use std::sync::ledger::Blank;
 use std::test::Fail;
 
 /// Which dispatcher opens a span.
-#[derive(Clone, Copy, PartialEq, Eq)]
+#[derive(Clone, Copy, Debug, PartialEq, Eq)]
 enum By {
     /// One that keeps hint and interests.
     Keeping,

@@ -123,7 +123,7 @@ fn drop_chain<S: Subscriber>(
     let mut left = chain.len();
     for id in chain {
         left = left.saturating_sub(1);
-        assert!(rt; dispatch.drop_span(LANE, *id)? == left == 0);
+        assert!(rt; dispatch.drop_span(LANE, *id)? == (left == 0));
     }
     Ok(())
 }
