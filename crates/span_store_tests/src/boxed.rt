@@ -3,10 +3,11 @@ ghost use Rattle.span_filters.specs.Filter.{ActsSteadily, settled_answers, settl
 ghost use Rattle.span_store_tests.specs.Filters.{if_answers, in_span_answers, in_span_honest, since_entered, since_laws, since_levels, wanted_after};
 ghost use Rattle.std.specs.Prelude.{◌≡◌};
 
-use crate::fixture::{LANE, enter, event_at, open, open_named, root};
+use crate::fixture::{LANE, enter, event_at, is_shown_as, open, open_named, root};
 use span_core::{Attributes, Event, Id, Interest, Level, LevelFilter, Metadata, Pass, Record};
 use span_filters::{And, BoxedFilter, DynFilter, Filter, FilterExt, Not, Or};
 use span_registry::{Context, ContextMut, LookupSpan, Registry};
+use std::process::Abort;
 use std::test::Fail;
 
 /// All that a filter says of an event.
@@ -38,10 +39,10 @@ fn two_levels() -> Or<And<LevelFilter, Not<LevelFilter>>, LevelFilter> {
         .or(LevelFilter::ERROR)
 }
 
-#[test]
-fn a_boxed_chain_answers_as_the_chain(rt: HostRuntime) -> Result<(), Fail> {
-    let object: Box<dyn DynFilter + Send> = Box::new(rt.alloc(), two_levels())?;
-    let boxed = BoxedFilter::new(object);
+/// A filter answers as those two levels do.
+fn answers_as_two_levels<F: Filter<Registry>>(rt: &impl Abort, filter: &F)
+    requires { F.usable filter.now }
+{
     let nowhere: Context<'_, Registry> = Context::none();
     for (level, wanted) in [
         (Level::ERROR, true),
@@ -49,12 +50,36 @@ fn a_boxed_chain_answers_as_the_chain(rt: HostRuntime) -> Result<(), Fail> {
         (Level::INFO, true),
         (Level::DEBUG, false),
     ] {
-        let said = answers_of(&boxed, level, &nowhere);
+        let said = answers_of(filter, level, &nowhere);
         assert!(rt; said == answers_of(&two_levels(), level, &nowhere));
         assert!(rt; said.enabled == wanted);
     }
-    assert!(rt; format!(in rt.alloc(); "{boxed:?}")?.as_str() == "BoxedFilter { .. }");
-    Ok(())
+}
+
+#[test]
+fn a_boxed_chain_answers_as_the_chain(rt: HostRuntime) -> Result<(), Fail> {
+    let object: Box<dyn DynFilter + Send> = Box::new(rt.alloc(), two_levels())?;
+    let boxed = BoxedFilter::new(object);
+    answers_as_two_levels(&rt, &boxed);
+    is_shown_as(&rt, rt.alloc(), &boxed, "BoxedFilter { .. }")
+}
+
+/// A filter wants errors and what is at debug, and nothing at the levels between.
+fn wants_errors_and_debug<F: Filter<Registry>>(rt: &impl Abort, filter: &F)
+    requires { F.usable filter.now }
+{
+    let nowhere: Context<'_, Registry> = Context::none();
+    for (level, wanted) in [
+        (Level::ERROR, true),
+        (Level::INFO, false),
+        (Level::DEBUG, true),
+        (Level::TRACE, false),
+    ] {
+        let said = answers_of(filter, level, &nowhere);
+        assert!(rt; said.enabled == wanted);
+        assert!(rt; said.interest.is_always() == wanted);
+        assert!(rt; said.hint == None);
+    }
 }
 
 #[test]
@@ -64,18 +89,7 @@ fn a_chain_with_a_box_in_it(rt: HostRuntime) -> Result<(), Fail> {
         .not()
         .and(LevelFilter::DEBUG)
         .or(LevelFilter::ERROR);
-    let nowhere: Context<'_, Registry> = Context::none();
-    for (level, wanted) in [
-        (Level::ERROR, true),
-        (Level::INFO, false),
-        (Level::DEBUG, true),
-        (Level::TRACE, false),
-    ] {
-        let said = answers_of(&chain, level, &nowhere);
-        assert!(rt; said.enabled == wanted);
-        assert!(rt; said.interest.is_always() == wanted);
-        assert!(rt; said.hint == None);
-    }
+    wants_errors_and_debug(&rt, &chain);
     Ok(())
 }
 
@@ -123,20 +137,30 @@ impl<S: LookupSpan> Filter<S> for InSpan {
     }
 }
 
+/// A filter wants what comes in a span, but not under a mask that hides the span.
+fn wants_in_what_is_shown<F: Filter<Registry>>(
+    rt: &impl Abort,
+    filter: &F,
+    registry: &mut Registry,
+) -> Result<(), Fail>
+    requires { F.usable filter.now }
+{
+    let hiding = registry.register_filter()?;
+    let id = open_named(registry, "hidden", None, hiding)?;
+    enter(registry, id)?;
+
+    let all = Context::new(registry, LANE);
+    assert!(rt; answers_of(filter, Level::INFO, &all).enabled);
+    let filtered = all.with_filter(hiding);
+    assert!(rt; !answers_of(filter, Level::INFO, &filtered).enabled);
+    Ok(())
+}
+
 #[test]
 fn a_box_sees_what_its_mask_shows(rt: HostRuntime) -> Result<(), Fail> {
     let object: Box<dyn DynFilter + Send> = Box::new(rt.alloc(), InSpan)?;
     let boxed = BoxedFilter::new(object);
-    let mut registry = Registry::new(rt.alloc());
-    let hiding = registry.register_filter()?;
-    let id = open_named(&mut registry, "hidden", None, hiding)?;
-    enter(&mut registry, id)?;
-
-    let all = Context::new(&registry, LANE);
-    assert!(rt; answers_of(&boxed, Level::INFO, &all).enabled);
-    let filtered = all.with_filter(hiding);
-    assert!(rt; !answers_of(&boxed, Level::INFO, &filtered).enabled);
-    Ok(())
+    wants_in_what_is_shown(&rt, &boxed, &mut Registry::new(rt.alloc()))
 }
 
 /// Wants everything from the first span on that is entered, and nothing before.
@@ -197,16 +221,26 @@ fn enters<F: Filter<Registry>>(filter: &mut F, registry: &mut Registry, id: Id)
     filter.on_enter(id, &mut ContextMut::new(registry, LANE, &Pass::new()));
 }
 
-#[test]
-fn a_box_hands_a_notice_on(rt: HostRuntime) -> Result<(), Fail> {
-    let mut registry = Registry::new(rt.alloc());
-    let id = open(&mut registry, &root())?;
-    let object: Box<dyn DynFilter + Send> = Box::new(rt.alloc(), SinceEntered { entered: false })?;
-    let mut boxed = BoxedFilter::new(object);
+/// A filter wants an event after it is notified that a span is entered, and none before.
+fn wants_since_entered<F: Filter<Registry>>(
+    rt: &impl Abort,
+    filter: &mut F,
+    registry: &mut Registry,
+) -> Result<(), Fail>
+    requires { F.usable filter.old }
+{
+    let id = open(registry, &root())?;
     let nowhere: Context<'_, Registry> = Context::none();
-    assert!(rt; !answers_of(&boxed, Level::INFO, &nowhere).enabled);
-    enters(&mut boxed, &mut registry, id);
-    assert!(rt; answers_of(&boxed, Level::INFO, &nowhere).enabled);
+    assert!(rt; !answers_of(filter, Level::INFO, &nowhere).enabled);
+    enters(filter, registry, id);
+    assert!(rt; answers_of(filter, Level::INFO, &nowhere).enabled);
     assert!(rt; registry.is_open(id));
     Ok(())
+}
+
+#[test]
+fn a_box_hands_a_notice_on(rt: HostRuntime) -> Result<(), Fail> {
+    let object: Box<dyn DynFilter + Send> = Box::new(rt.alloc(), SinceEntered { entered: false })?;
+    let mut boxed = BoxedFilter::new(object);
+    wants_since_entered(&rt, &mut boxed, &mut Registry::new(rt.alloc()))
 }

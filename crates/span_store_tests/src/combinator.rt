@@ -3,11 +3,12 @@ ghost use Rattle.std.specs.Prelude.{true};
 ghost use Rattle.span_filters.specs.Filter.{ActsSteadily, settled_answers, settled_laws, steady_levels};
 ghost use Rattle.span_store_tests.specs.Filters.{if_answers, if_honest, mute_answers, mute_honest};
 
-use crate::fixture::{event_at, event_of, hint_of, lets_by, says, wants};
+use crate::fixture::{event_at, event_of, hint_of, is_shown_as, lets_by, says, wants};
 use span_core::{Attributes, Event, Id, Interest, Level, LevelFilter, Metadata, Record};
 use span_filters::{Filter, FilterExt, dynamic_filter_fn, filter_fn};
 use span_registry::{Context, ContextMut, LookupSpan, Registry};
 use std::cell::Cell;
+use std::process::Abort;
 use std::test::Fail;
 
 /// Wants all metadata, and no event.
@@ -101,35 +102,41 @@ impl<S: LookupSpan> Filter<S> for Asked<'_> {
     }
 }
 
-/// How often the second part of a filter is asked when that filter is asked for its hint. It has none.
-fn times_asked<F: Filter<Registry>>(filter: &F, hints: &Cell<u32>) -> Option<u32>
+/// The second part of a filter is asked so often when that filter is asked for its hint. It has none.
+fn asks_the_second<F: Filter<Registry>>(rt: &impl Abort, filter: &F, hints: &Cell<u32>, times: u32)
     requires { F.usable filter.now }
 {
     hints.set(0);
-    match hint_of(filter) {
-        None => Some(hints.get()),
-        Some(_) => None,
-    }
+    assert!(rt; hint_of(filter) == None);
+    assert!(rt; hints.get() == times);
 }
 
 #[test]
 fn the_second_part_is_asked_for_a_hint(rt: HostRuntime) -> Result<(), Fail> {
     let hints = Cell::new(0u32);
-    assert!(rt; times_asked(&LevelFilter::INFO.or(Asked { hints: &hints }), &hints) == Some(1));
-    assert!(rt; times_asked(&Mute.or(Asked { hints: &hints }), &hints) == Some(0));
-    assert!(rt; times_asked(&LevelFilter::INFO.and(Asked { hints: &hints }), &hints) == Some(1));
-    assert!(rt; times_asked(&Mute.and(Asked { hints: &hints }), &hints) == Some(1));
+    let info = LevelFilter::INFO;
+    asks_the_second(&rt, &info.or(Asked { hints: &hints }), &hints, 1);
+    asks_the_second(&rt, &Mute.or(Asked { hints: &hints }), &hints, 0);
+    asks_the_second(&rt, &info.and(Asked { hints: &hints }), &hints, 1);
+    asks_the_second(&rt, &Mute.and(Asked { hints: &hints }), &hints, 1);
     Ok(())
+}
+
+/// A filter wants an event at info, or doesn't.
+fn wants_info<F: Filter<Registry>>(rt: &impl Abort, filter: &F, wanted: bool)
+    requires { F.usable filter.now }
+{
+    assert!(rt; wants(filter, event_at(Level::INFO)) == wanted);
 }
 
 #[test]
 fn what_neither_part_wants_alone(rt: HostRuntime) -> Result<(), Fail> {
-    assert!(rt; !wants(&Mute, event_at(Level::INFO)));
-    assert!(rt; !wants(&LevelFilter::ERROR, event_at(Level::INFO)));
-    assert!(rt; wants(&Mute.or(LevelFilter::ERROR), event_at(Level::INFO)));
-    assert!(rt; !wants(&Mute.and(LevelFilter::TRACE), event_at(Level::INFO)));
+    wants_info(&rt, &Mute, false);
+    wants_info(&rt, &LevelFilter::ERROR, false);
+    wants_info(&rt, &Mute.or(LevelFilter::ERROR), true);
+    wants_info(&rt, &Mute.and(LevelFilter::TRACE), false);
     assert!(rt; !lets_by(&Mute.and(LevelFilter::TRACE), event_at(Level::INFO)));
-    assert!(rt; wants(&LevelFilter::ERROR.not(), event_at(Level::INFO)));
+    wants_info(&rt, &LevelFilter::ERROR.not(), true);
     Ok(())
 }
 
@@ -202,16 +209,11 @@ fn what_is_not_wanted(rt: HostRuntime) -> Result<(), Fail> {
 fn texts_and_copies(rt: HostRuntime) -> Result<(), Fail> {
     let alloc = rt.alloc();
     let both = LevelFilter::INFO.and(LevelFilter::WARN);
-    assert!(rt;
-        format!(in alloc; "{:?}", both.clone()?)?.as_str()
-            == "And { a: LevelFilter::INFO, b: LevelFilter::WARN }"
-    );
+    let text = "And { a: LevelFilter::INFO, b: LevelFilter::WARN }";
+    is_shown_as(&rt, alloc, &both.clone()?, text)?;
     let either = LevelFilter::INFO.or(LevelFilter::WARN);
-    assert!(rt;
-        format!(in alloc; "{:?}", either.clone()?)?.as_str()
-            == "Or { a: LevelFilter::INFO, b: LevelFilter::WARN }"
-    );
+    let text = "Or { a: LevelFilter::INFO, b: LevelFilter::WARN }";
+    is_shown_as(&rt, alloc, &either.clone()?, text)?;
     let not = LevelFilter::INFO.not();
-    assert!(rt; format!(in alloc; "{:?}", not.clone()?)?.as_str() == "Not(LevelFilter::INFO)");
-    Ok(())
+    is_shown_as(&rt, alloc, &not.clone()?, "Not(LevelFilter::INFO)")
 }

@@ -12,17 +12,16 @@ use std::alloc::Global;
 use std::process::Abort;
 use std::test::Fail;
 
-/// A registry with one filter, and a family of which that refuses the child. The lane has entered all of it.
-fn hidden_child(alloc: Global) -> Result<(Registry, FilterId, Family), TraceError>
-    ensures { IfOk result (λ r. IsTrue (is_attached r.1)) }
+/// Registers a filter, and opens a family of which that refuses the child. The lane has entered all of it.
+fn hide_child(registry: &mut Registry) -> Result<(FilterId, Family), TraceError>
+    ensures { IfOk result (λ r. IsTrue (is_attached r.0)) }
 {
-    let mut registry = Registry::new(alloc);
     let info = registry.register_filter()?;
-    let family = family_in(&mut registry, FilterId::none(), info)?;
+    let family = family_in(registry, FilterId::none(), info)?;
     for id in [family.root, family.child, family.leaf] {
-        enter(&mut registry, id)?;
+        enter(registry, id)?;
     }
-    Ok((registry, info, family))
+    Ok((info, family))
 }
 
 /// An event in this span.
@@ -53,15 +52,32 @@ fn current_of<S: LookupSpan>(ctx: &Context<'_, S>) -> Option<Id> {
     Some(span.id())
 }
 
+/// The child is in the leaf's scope without the filter, and isn't under it.
+fn hides_from_its_own(rt: &impl Abort, alloc: Global, registry: &mut Registry) -> Result<(), Fail> {
+    let (info, family) = hide_child(registry)?;
+    let all = Context::new(registry, LANE);
+    let without = ("leaf child root ", "root child leaf ");
+    shows_scope(rt, alloc, &all, family.leaf, without)?;
+    let under = ("leaf root ", "root leaf ");
+    shows_scope(rt, alloc, &all.with_filter(info), family.leaf, under)
+}
+
 #[test]
 fn one_filter_hides_from_its_own_alone(rt: HostRuntime) -> Result<(), Fail> {
-    let (registry, info, family) = hidden_child(rt.alloc())?;
-    let all = Context::new(&registry, LANE);
-    let (alloc, leaf) = (rt.alloc(), family.leaf);
-    let without = ("leaf child root ", "root child leaf ");
-    shows_scope(&rt, alloc, &all, leaf, without)?;
-    let under = ("leaf root ", "root leaf ");
-    shows_scope(&rt, alloc, &all.with_filter(info), leaf, under)
+    hides_from_its_own(&rt, rt.alloc(), &mut Registry::new(rt.alloc()))
+}
+
+/// An event in a span has a scope of these names, leaf first.
+fn has_a_scope<S: LookupSpan>(
+    rt: &impl Abort,
+    alloc: Global,
+    ctx: &Context<'_, S>,
+    id: Id,
+    named: &str,
+) -> Result<(), Fail> {
+    let shown = up_of_event(alloc, ctx, &event_in(id))?.ok_or("no scope")?;
+    assert!(rt; shown.as_str() == named);
+    Ok(())
 }
 
 /// Under the filter an event in the leaf has a scope, and one in the child has none.
@@ -71,18 +87,22 @@ fn scopes_of_events<S: LookupSpan>(
     filtered: &Context<'_, S>,
     family: Family,
 ) -> Result<(), Fail> {
-    let of_leaf = up_of_event(alloc, filtered, &event_in(family.leaf))?.ok_or("no leaf")?;
-    assert!(rt; of_leaf.as_str() == "leaf root ");
+    has_a_scope(rt, alloc, filtered, family.leaf, "leaf root ")?;
     let of_child = up_of_event(alloc, filtered, &event_in(family.child))?;
     assert!(rt; of_child.is_none());
     Ok(())
 }
 
+/// A registry hides the child from events under its filter.
+fn hides_from_events(rt: &impl Abort, alloc: Global, registry: &mut Registry) -> Result<(), Fail> {
+    let (info, family) = hide_child(registry)?;
+    let filtered = Context::new(registry, LANE).with_filter(info);
+    scopes_of_events(rt, alloc, &filtered, family)
+}
+
 #[test]
 fn an_event_in_a_hidden_span_has_no_scope(rt: HostRuntime) -> Result<(), Fail> {
-    let (registry, info, family) = hidden_child(rt.alloc())?;
-    let filtered = Context::new(&registry, LANE).with_filter(info);
-    scopes_of_events(&rt, rt.alloc(), &filtered, family)
+    hides_from_events(&rt, rt.alloc(), &mut Registry::new(rt.alloc()))
 }
 
 /// What a context shows: the span of an event in the child, the leaf's parent, the child's metadata, and whether the child is there.
@@ -112,12 +132,17 @@ fn shows_or_hides<S: LookupSpan>(
     assert!(rt; shown_of(filtered, family) == hidden);
 }
 
+/// A registry shows its child without the filter, and hides it under that.
+fn hides_its_child(rt: &impl Abort, registry: &mut Registry) -> Result<(), Fail> {
+    let (info, family) = hide_child(registry)?;
+    let all = Context::new(registry, LANE);
+    shows_or_hides(rt, &all, &all.with_filter(info), family);
+    Ok(())
+}
+
 #[test]
 fn what_is_hidden_is_found_by_nobody_under_the_mask(rt: HostRuntime) -> Result<(), Fail> {
-    let (registry, info, family) = hidden_child(rt.alloc())?;
-    let all = Context::new(&registry, LANE);
-    shows_or_hides(&rt, &all, &all.with_filter(info), family);
-    Ok(())
+    hides_its_child(&rt, &mut Registry::new(rt.alloc()))
 }
 
 /// Whether the leaf and the child are enabled for a filter.
@@ -142,12 +167,17 @@ fn enables_by_verdicts<S: LookupSpan>(
     assert!(rt; unattached == [false, false]);
 }
 
+/// A registry enables the family for a filter by what that refused.
+fn enables_its_family(rt: &impl Abort, registry: &mut Registry) -> Result<(), Fail> {
+    let (info, family) = hide_child(registry)?;
+    let all = Context::new(registry, LANE);
+    enables_by_verdicts(rt, &all, &all.with_filter(info), family, info);
+    Ok(())
+}
+
 #[test]
 fn what_a_filter_refused_is_not_enabled_for_it(rt: HostRuntime) -> Result<(), Fail> {
-    let (registry, info, family) = hidden_child(rt.alloc())?;
-    let all = Context::new(&registry, LANE);
-    enables_by_verdicts(&rt, &all, &all.with_filter(info), family, info);
-    Ok(())
+    enables_its_family(&rt, &mut Registry::new(rt.alloc()))
 }
 
 /// What a context shows of where the lane is: the span of an event there, of one in no span, and the newest.
@@ -175,15 +205,20 @@ fn places_of_events<S: Subscriber>(
     assert!(rt; filtered.current_span().id() == Some(family.child));
 }
 
-#[test]
-fn an_event_is_in_the_span_that_is_shown(rt: HostRuntime) -> Result<(), Fail> {
-    let (mut registry, info, family) = hidden_child(rt.alloc())?;
+/// The lane leaves the leaf, and so events are in the span round it that is shown.
+fn puts_events_in_what_is_shown(rt: &impl Abort, registry: &mut Registry) -> Result<(), Fail> {
+    let (info, family) = hide_child(registry)?;
     registry.exit(LANE, family.leaf);
-    let all = Context::new(&registry, LANE);
+    let all = Context::new(registry, LANE);
     let filtered = all.with_filter(info);
-    places_of_events(&rt, &all, &filtered, family);
+    places_of_events(rt, &all, &filtered, family);
     assert!(rt; filtered.enabled(&event_at(Level::INFO)));
     Ok(())
+}
+
+#[test]
+fn an_event_is_in_the_span_that_is_shown(rt: HostRuntime) -> Result<(), Fail> {
+    puts_events_in_what_is_shown(&rt, &mut Registry::new(rt.alloc()))
 }
 
 /// A context without a subscriber shows nothing of a span that is open elsewhere, and enables all.
@@ -199,13 +234,17 @@ fn shows_nothing(rt: &impl Abort, nowhere: &Context<'_, Registry>, id: Id) {
     assert!(rt; found == [false, false, false, false, true]);
 }
 
+/// A span is opened and entered that is shown nowhere else.
+fn is_shown_nowhere(rt: &impl Abort, registry: &mut Registry) -> Result<(), Fail> {
+    let root = open(registry, &root())?;
+    enter(registry, root)?;
+    shows_nothing(rt, &Context::none(), root);
+    Ok(())
+}
+
 #[test]
 fn without_a_subscriber_no_span_is_there(rt: HostRuntime) -> Result<(), Fail> {
-    let mut registry = Registry::new(rt.alloc());
-    let root = open(&mut registry, &root())?;
-    enter(&mut registry, root)?;
-    shows_nothing(&rt, &Context::none(), root);
-    Ok(())
+    is_shown_nowhere(&rt, &mut Registry::new(rt.alloc()))
 }
 
 /// Gives a span a value under a tag, if a hook sees it.
@@ -242,15 +281,20 @@ fn write_to_what_is_seen(
     write(&mut filtered, family.leaf, size, 4)
 }
 
-#[test]
-fn a_hook_writes_what_it_sees(rt: HostRuntime) -> Result<(), Fail> {
-    let (mut registry, info, family) = hidden_child(rt.alloc())?;
-    write_to_what_is_seen(&rt, &mut registry, info, family)?;
+/// The child and the leaf have the values that a hook gave them.
+fn has_what_is_written(rt: &impl Abort, registry: &mut Registry) -> Result<(), Fail> {
+    let (info, family) = hide_child(registry)?;
+    write_to_what_is_seen(rt, registry, info, family)?;
     let size = Tag::<u64>::new(0);
-    let of_child = value_of(&registry, family.child, size);
-    let of_leaf = value_of(&registry, family.leaf, size);
+    let of_child = value_of(registry, family.child, size);
+    let of_leaf = value_of(registry, family.leaf, size);
     assert!(rt; (of_child, of_leaf) == (Some(3), Some(4)));
     Ok(())
+}
+
+#[test]
+fn a_hook_writes_what_it_sees(rt: HostRuntime) -> Result<(), Fail> {
+    has_what_is_written(&rt, &mut Registry::new(rt.alloc()))
 }
 
 /// A hook of which this filter refused the child.
@@ -273,14 +317,19 @@ fn knows_refusals(rt: &impl Abort, hook: ContextMut<'_, Registry>, info: FilterI
     assert!(rt; name_of(filtered.lookup_current()) == Some("leaf"));
 }
 
-#[test]
-fn a_hook_knows_what_its_filter_refused(rt: HostRuntime) -> Result<(), Fail> {
-    let (mut registry, info, family) = hidden_child(rt.alloc())?;
+/// A registry has a hook that knows what the filter refused.
+fn has_a_knowing_hook(rt: &impl Abort, registry: &mut Registry) -> Result<(), Fail> {
+    let (info, family) = hide_child(registry)?;
     let mut pass = Pass::new();
     pass.set(info, false);
-    let hook = ContextMut::new(&mut registry, LANE, &pass);
-    knows_refusals(&rt, hook, info, family);
+    let hook = ContextMut::new(registry, LANE, &pass);
+    knows_refusals(rt, hook, info, family);
     Ok(())
+}
+
+#[test]
+fn a_hook_knows_what_its_filter_refused(rt: HostRuntime) -> Result<(), Fail> {
+    has_a_knowing_hook(&rt, &mut Registry::new(rt.alloc()))
 }
 
 /// While its registry is out, a hook shows nothing of it but over it.
@@ -295,11 +344,16 @@ fn goes_without(rt: &impl Abort, hook: ContextMut<'_, Registry>, leaf: Id) {
     assert!(rt; current_of(&hook.ctx()) == Some(leaf));
 }
 
+/// A registry has a hook that goes without it.
+fn is_gone_without(rt: &impl Abort, registry: &mut Registry) -> Result<(), Fail> {
+    let (_, family) = hide_child(registry)?;
+    let pass = Pass::new();
+    let hook = ContextMut::new(registry, LANE, &pass);
+    goes_without(rt, hook, family.leaf);
+    Ok(())
+}
+
 #[test]
 fn a_hook_may_be_without_its_registry(rt: HostRuntime) -> Result<(), Fail> {
-    let (mut registry, _, family) = hidden_child(rt.alloc())?;
-    let pass = Pass::new();
-    let hook = ContextMut::new(&mut registry, LANE, &pass);
-    goes_without(&rt, hook, family.leaf);
-    Ok(())
+    is_gone_without(&rt, &mut Registry::new(rt.alloc()))
 }

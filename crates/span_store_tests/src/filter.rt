@@ -1,5 +1,5 @@
 //! Tests of filters, as a layer's filters are asked.
-use crate::fixture::{event_at, hint_of, says, wants};
+use crate::fixture::{event_at, hint_of, is_shown_as, says, wants};
 use span_core::{Interest, Level, LevelFilter, Metadata};
 use span_filters::{DynFilterFn, FilterFn, dynamic_filter_fn, filter_fn};
 use span_registry::{Context, Registry};
@@ -86,21 +86,15 @@ fn copies_of_filters(rt: HostRuntime) -> Result<(), Fail> {
 fn texts_of_filters(rt: HostRuntime) -> Result<(), Fail> {
     let alloc = rt.alloc();
     let filter = filter_fn(|meta: &Metadata| meta.is_span());
-    assert!(rt;
-        format!(in alloc; "{filter:?}")?.as_str()
-            == "FilterFn { enabled: .., max_level_hint: None }"
-    );
+    let text = "FilterFn { enabled: .., max_level_hint: None }";
+    is_shown_as(&rt, alloc, &filter, text)?;
     let filter = dynamic_filter_fn(|meta: &Metadata, _cx: &Context<'_, Registry>| meta.is_span());
-    assert!(rt;
-        format!(in alloc; "{filter:?}")?.as_str()
-            == "DynFilterFn { enabled: .., register_callsite: None, max_level_hint: None }"
-    );
+    let text = "DynFilterFn { enabled: .., register_callsite: None, max_level_hint: None }";
+    is_shown_as(&rt, alloc, &filter, text)?;
     let filter = filter
         .with_max_level_hint(LevelFilter::INFO)
         .with_callsite_filter(|_meta: &Metadata| Interest::Sometimes);
-    assert!(rt;
-        format!(in alloc; "{filter:?}")?.as_str()
-            == "DynFilterFn { enabled: .., register_callsite: Some(..), max_level_hint: Some(LevelFilter::INFO) }"
-    );
-    Ok(())
+    let text =
+        "DynFilterFn { enabled: .., register_callsite: Some(..), max_level_hint: Some(LevelFilter::INFO) }";
+    is_shown_as(&rt, alloc, &filter, text)
 }

@@ -6,6 +6,7 @@ use span_core::{
 use span_filters::Filter;
 use span_registry::{Context, LookupSpan, Registry, Released, Scope, SpanRef, Subscriber, Tag};
 use std::alloc::{AllocError, Global};
+use std::fmt;
 use std::process::Abort;
 use std::test::Fail;
 
@@ -81,7 +82,7 @@ pub(crate) fn current(registry: &Registry) -> Option<Id> {
 }
 
 /// Drops a handle, and answers the spans that are closed and taken out by that, in their order.
-pub(crate) fn drop_handle(registry: &mut Registry, id: Id, alloc: Global) -> Result<Vec<Id>, Fail> {
+fn drop_handle(registry: &mut Registry, id: Id, alloc: Global) -> Result<Vec<Id>, Fail> {
     let mut closed = Vec::new(alloc);
     let mut next = match registry.release(id)? {
         Released::StillOpen => None,
@@ -92,6 +93,37 @@ pub(crate) fn drop_handle(registry: &mut Registry, id: Id, alloc: Global) -> Res
         closed.push(span)?;
     }
     Ok(closed)
+}
+
+/// Drops a handle, whatever is closed by that.
+pub(crate) fn let_go(registry: &mut Registry, id: Id, alloc: Global) -> Result<(), Fail> {
+    drop_handle(registry, id, alloc)?;
+    Ok(())
+}
+
+/// Drops a handle, by which these spans close, in their order.
+pub(crate) fn closes(
+    rt: &impl Abort,
+    alloc: Global,
+    registry: &mut Registry,
+    id: Id,
+    expected: &[Id],
+) -> Result<(), Fail> {
+    let closed = drop_handle(registry, id, alloc)?;
+    assert!(rt; closed.as_slice() == expected);
+    Ok(())
+}
+
+/// The debug text of a value is this.
+pub(crate) fn is_shown_as<T: fmt::Debug>(
+    rt: &impl Abort,
+    alloc: Global,
+    value: &T,
+    text: &str,
+) -> Result<(), Fail> {
+    let shown = format!(in alloc; "{value:?}")?;
+    assert!(rt; shown.as_str() == text);
+    Ok(())
 }
 
 /// Gives a span a value under a tag.
@@ -167,11 +199,7 @@ pub(crate) fn names_from_root<S: LookupSpan>(
 }
 
 /// The names of a span and of those round it, leaf first, as a context shows them.
-pub(crate) fn up<S: LookupSpan>(
-    alloc: Global,
-    ctx: &Context<'_, S>,
-    id: Id,
-) -> Result<String, Fail> {
+fn up<S: LookupSpan>(alloc: Global, ctx: &Context<'_, S>, id: Id) -> Result<String, Fail> {
     let scope = ctx.span_scope(id).ok_or("no span")?;
     Ok(names(alloc, scope)?)
 }
@@ -182,6 +210,32 @@ fn down<S: LookupSpan>(alloc: Global, ctx: &Context<'_, S>, id: Id) -> Result<St
     Ok(names_from_root(alloc, scope)?)
 }
 
+/// A context shows these names of a span and of those round it, leaf first.
+pub(crate) fn shows_up<S: LookupSpan>(
+    rt: &impl Abort,
+    alloc: Global,
+    ctx: &Context<'_, S>,
+    id: Id,
+    named: &str,
+) -> Result<(), Fail> {
+    let shown = up(alloc, ctx, id)?;
+    assert!(rt; shown.as_str() == named);
+    Ok(())
+}
+
+/// The same, root first.
+fn shows_down<S: LookupSpan>(
+    rt: &impl Abort,
+    alloc: Global,
+    ctx: &Context<'_, S>,
+    id: Id,
+    named: &str,
+) -> Result<(), Fail> {
+    let shown = down(alloc, ctx, id)?;
+    assert!(rt; shown.as_str() == named);
+    Ok(())
+}
+
 /// A context shows these names of a span and of those round it, leaf first and root first.
 pub(crate) fn shows_scope<S: LookupSpan>(
     rt: &impl Abort,
@@ -190,9 +244,8 @@ pub(crate) fn shows_scope<S: LookupSpan>(
     id: Id,
     named: (&'static str, &'static str),
 ) -> Result<(), Fail> {
-    assert!(rt; up(alloc, ctx, id)?.as_str() == named.0);
-    assert!(rt; down(alloc, ctx, id)?.as_str() == named.1);
-    Ok(())
+    shows_up(rt, alloc, ctx, id, named.0)?;
+    shows_down(rt, alloc, ctx, id, named.1)
 }
 
 /// The name of a span's parent, if a context shows one.

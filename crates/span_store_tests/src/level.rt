@@ -1,5 +1,5 @@
 //! Tests of filters whose level is set: which of them take one.
-use crate::fixture::{event_at, wants};
+use crate::fixture::{event_at, is_shown_as, wants};
 use span_core::{Level, LevelFilter, Metadata};
 use span_filters::{BoxedFilter, DynFilter, Filter, FilterExt, dynamic_filter_fn, filter_fn};
 use span_registry::{Context, Registry};
@@ -55,20 +55,15 @@ fn no_level_is_taken(rt: HostRuntime) -> Result<(), Fail> {
     takes_no_level(&rt, &mut none, true);
     let mut both = LevelFilter::INFO.and(LevelFilter::WARN);
     takes_no_level(&rt, &mut both, false);
-    assert!(rt;
-        format!(in alloc; "{both:?}")?.as_str()
-            == "And { a: LevelFilter::INFO, b: LevelFilter::WARN }"
-    );
+    let text = "And { a: LevelFilter::INFO, b: LevelFilter::WARN }";
+    is_shown_as(&rt, alloc, &both, text)?;
     let mut either = LevelFilter::INFO.or(LevelFilter::WARN);
     takes_no_level(&rt, &mut either, true);
-    assert!(rt;
-        format!(in alloc; "{either:?}")?.as_str()
-            == "Or { a: LevelFilter::INFO, b: LevelFilter::WARN }"
-    );
+    let text = "Or { a: LevelFilter::INFO, b: LevelFilter::WARN }";
+    is_shown_as(&rt, alloc, &either, text)?;
     let mut not = LevelFilter::INFO.not();
     takes_no_level(&rt, &mut not, false);
-    assert!(rt; format!(in alloc; "{not:?}")?.as_str() == "Not(LevelFilter::INFO)");
-    Ok(())
+    is_shown_as(&rt, alloc, &not, "Not(LevelFilter::INFO)")
 }
 
 #[test]

@@ -1,5 +1,5 @@
 //! Tests of limits: counts, places and filters.
-use crate::fixture::{child_of, clone_of, drop_handle, open, root};
+use crate::fixture::{child_of, clone_of, closes, open, root};
 use span_core::{FilterId, TraceError};
 use span_registry::{Limits, LookupSpan, Registry};
 use std::alloc::Global;
@@ -37,7 +37,7 @@ fn fills_two_places(rt: &impl Abort, alloc: Global, registry: &mut Registry) -> 
     open(registry, &root())?;
     let third = open(registry, &root());
     assert!(rt; third == Err(TraceError::TooManySpans));
-    assert!(rt; drop_handle(registry, p, alloc)?.as_slice() == [p].as_slice());
+    closes(rt, alloc, registry, p, &[p])?;
     assert!(rt; open(registry, &root()).is_ok());
     Ok(())
 }
@@ -63,21 +63,24 @@ fn places_are_limited(rt: HostRuntime) -> Result<(), Fail> {
     Ok(())
 }
 
-#[test]
-fn filters_are_handed_out_in_order(rt: HostRuntime) -> Result<(), Fail> {
-    let mut registry = Registry::new(rt.alloc());
+/// Registers filters until there is no more room for one.
+fn hands_out_in_order(rt: &impl Abort, registry: &mut Registry) {
     for number in 0..128 {
         assert!(rt; registry.filters() == number);
         assert!(rt; registry.register_filter() == Ok(FilterId::of(number)));
     }
     assert!(rt; registry.register_filter() == Err(TraceError::TooManyFilters));
     assert!(rt; registry.filters() == 128);
-    Ok(())
 }
 
 #[test]
-fn a_65th_filter_has_the_number_64(rt: HostRuntime) -> Result<(), Fail> {
-    let mut registry = Registry::new(rt.alloc());
+fn filters_are_handed_out_in_order(rt: HostRuntime) -> Result<(), Fail> {
+    hands_out_in_order(&rt, &mut Registry::new(rt.alloc()));
+    Ok(())
+}
+
+/// Registers 64 filters, and one more.
+fn hands_out_a_65th(rt: &impl Abort, registry: &mut Registry) -> Result<(), Fail> {
     for _ in 0..64 {
         registry.register_filter()?;
     }
@@ -85,4 +88,9 @@ fn a_65th_filter_has_the_number_64(rt: HostRuntime) -> Result<(), Fail> {
     assert!(rt; registry.register_filter() == Ok(FilterId::of(64)));
     assert!(rt; registry.filters() == 65);
     Ok(())
+}
+
+#[test]
+fn a_65th_filter_has_the_number_64(rt: HostRuntime) -> Result<(), Fail> {
+    hands_out_a_65th(&rt, &mut Registry::new(rt.alloc()))
 }

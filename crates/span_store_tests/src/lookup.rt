@@ -1,6 +1,7 @@
 //! Tests of the look-ups: spans by their ids, parents and scopes under masks.
 use crate::fixture::{
-    Family, LANE, family_in, insert, open_named, parent_of, shows_scope, span_named, up, value_of,
+    Family, LANE, family_in, insert, is_shown_as, open_named, parent_of, shows_scope, shows_up,
+    span_named, value_of,
 };
 use span_core::{FieldSet, FilterId, Id, TraceError};
 use span_registry::{Context, LookupSpan, Registry, Scope, ScopeFromRoot, SpanData, SpanRef, Tag};
@@ -35,11 +36,15 @@ fn shows_by_masks<S: LookupSpan>(
     Ok(())
 }
 
+/// A registry shows its family by each mask.
+fn shows_a_family(rt: &impl Abort, alloc: Global, registry: &mut Registry) -> Result<(), Fail> {
+    let family = refused_family(registry)?;
+    shows_by_masks(rt, alloc, Context::new(registry, LANE), family.leaf)
+}
+
 #[test]
 fn scopes_under_masks(rt: HostRuntime) -> Result<(), Fail> {
-    let mut registry = Registry::new(rt.alloc());
-    let family = refused_family(&mut registry)?;
-    shows_by_masks(&rt, rt.alloc(), Context::new(&registry, LANE), family.leaf)
+    shows_a_family(&rt, rt.alloc(), &mut Registry::new(rt.alloc()))
 }
 
 /// The scopes and parents of the other two, where the child is shown, and where it isn't.
@@ -56,18 +61,26 @@ fn shows_ancestors<S: LookupSpan>(
         (root, all, "root ", None),
         (root, child_hidden, "root ", None),
     ] {
-        assert!(rt; up(alloc, &ctx, span)?.as_str() == leaf_first);
+        shows_up(rt, alloc, &ctx, span, leaf_first)?;
         assert!(rt; parent_of(&ctx, span) == parent);
     }
     assert!(rt; child_hidden.span_scope(child).is_none());
     Ok(())
 }
 
+/// A registry shows its family but the leaf.
+fn shows_all_but_the_leaf(
+    rt: &impl Abort,
+    alloc: Global,
+    registry: &mut Registry,
+) -> Result<(), Fail> {
+    let family = refused_family(registry)?;
+    shows_ancestors(rt, alloc, Context::new(registry, LANE), family)
+}
+
 #[test]
 fn scopes_of_ancestors(rt: HostRuntime) -> Result<(), Fail> {
-    let mut registry = Registry::new(rt.alloc());
-    let family = refused_family(&mut registry)?;
-    shows_ancestors(&rt, rt.alloc(), Context::new(&registry, LANE), family)
+    shows_all_but_the_leaf(&rt, rt.alloc(), &mut Registry::new(rt.alloc()))
 }
 
 /// The next filter, and how many there are by now, asked of a registry through the trait alone.
@@ -77,8 +90,11 @@ fn first_filter<R: LookupSpan>(subscriber: &mut R) -> Result<(FilterId, u32), Tr
 }
 
 /// What a reference shows of the leaf of a family.
-fn shows_the_leaf(rt: &impl Abort, registry: &Registry, family: Family) -> Result<(), Fail> {
-    let found = registry.span(family.leaf).ok_or("no leaf")?;
+fn is_the_leaf<S: LookupSpan>(
+    rt: &impl Abort,
+    found: &SpanRef<'_, S>,
+    family: Family,
+) -> Result<(), Fail> {
     assert!(rt; found.id() == family.leaf);
     assert!(rt; found.metadata() == span_named("leaf"));
     assert!(rt; found.name() == "leaf");
@@ -87,8 +103,14 @@ fn shows_the_leaf(rt: &impl Abort, registry: &Registry, family: Family) -> Resul
     Ok(())
 }
 
-/// The leaf has a value, and the child has none.
-fn has_a_value(rt: &impl Abort, registry: &mut Registry) -> Result<Family, Fail> {
+/// A registry finds the leaf of a family.
+fn shows_the_leaf(rt: &impl Abort, registry: &Registry, family: Family) -> Result<(), Fail> {
+    let found = registry.span(family.leaf).ok_or("no leaf")?;
+    is_the_leaf(rt, &found, family)
+}
+
+/// The leaf has a value, and the child has none. A reference shows the rest of the leaf.
+fn has_a_value(rt: &impl Abort, registry: &mut Registry) -> Result<(), Fail> {
     let family = refused_family(registry)?;
     let size = Tag::<u64>::new(3);
     insert(registry, family.leaf, size, 42)?;
@@ -96,14 +118,12 @@ fn has_a_value(rt: &impl Abort, registry: &mut Registry) -> Result<Family, Fail>
     let of_child = value_of(registry, family.child, size);
     assert!(rt; (of_leaf, of_child) == (Some(42), None));
     assert!(rt; registry.span(Id::from_u64(0)).is_none());
-    Ok(family)
+    shows_the_leaf(rt, registry, family)
 }
 
 #[test]
 fn what_a_reference_shows_of_a_span(rt: HostRuntime) -> Result<(), Fail> {
-    let mut registry = Registry::new(rt.alloc());
-    let family = has_a_value(&rt, &mut registry)?;
-    shows_the_leaf(&rt, &registry, family)
+    has_a_value(&rt, &mut Registry::new(rt.alloc()))
 }
 
 /// What is found of the child of a family, from its leaf on.
@@ -120,12 +140,16 @@ fn finds_the_child(rt: &impl Abort, registry: &Registry, family: Family) -> Resu
     Ok(())
 }
 
+/// A registry hands out its first filter and has a family, whose child is found.
+fn finds_in_a_family(rt: &impl Abort, registry: &mut Registry) -> Result<(), Fail> {
+    assert!(rt; first_filter(registry)? == (FilterId::of(0), 1));
+    let family = refused_family(registry.root_mut())?;
+    finds_the_child(rt, registry, family)
+}
+
 #[test]
 fn what_is_found_of_a_span(rt: HostRuntime) -> Result<(), Fail> {
-    let mut registry = Registry::new(rt.alloc());
-    assert!(rt; first_filter(&mut registry)? == (FilterId::of(0), 1));
-    let family = refused_family(registry.root_mut())?;
-    finds_the_child(&rt, &registry, family)
+    finds_in_a_family(&rt, &mut Registry::new(rt.alloc()))
 }
 
 /// Opens so many spans, each in the one before, and answers the last.
@@ -155,6 +179,20 @@ fn last_of<R: LookupSpan>(scope: ScopeFromRoot<'_, R>, first: Id) -> Id {
     last
 }
 
+/// How long a scope is from the root on, before and after the root comes. Answers the root.
+fn begins_at_the_root<R: LookupSpan>(
+    rt: &impl Abort,
+    scope: &mut ScopeFromRoot<'_, R>,
+    depth: usize,
+) -> Result<Id, Fail> {
+    assert!(rt; scope.size_hint() == (depth, Some(depth)));
+    let root = scope.next().ok_or("no root")?;
+    assert!(rt; root.parent().is_none());
+    let rest = depth.saturating_sub(1);
+    assert!(rt; scope.size_hint() == (rest, Some(rest)));
+    Ok(root.id())
+}
+
 /// How long a span's scope is, in both orders: the root comes first in one of them, and the span last.
 fn is_so_deep<R: LookupSpan>(
     rt: &impl Abort,
@@ -164,12 +202,8 @@ fn is_so_deep<R: LookupSpan>(
 ) -> Result<(), Fail> {
     assert!(rt; ids(alloc, leaf.scope())?.len() == depth);
     let mut scope = leaf.scope().from_root(alloc)?;
-    assert!(rt; scope.size_hint() == (depth, Some(depth)));
-    let root = scope.next().ok_or("no root")?;
-    assert!(rt; root.parent().is_none());
-    let rest = depth.saturating_sub(1);
-    assert!(rt; scope.size_hint() == (rest, Some(rest)));
-    assert!(rt; last_of(scope, root.id()) == leaf.id());
+    let root = begins_at_the_root(rt, &mut scope, depth)?;
+    assert!(rt; last_of(scope, root) == leaf.id());
     Ok(())
 }
 
@@ -194,16 +228,14 @@ fn lengths_of_scopes(rt: HostRuntime) -> Result<(), Fail> {
 }
 
 /// The text of the leaf's scope, root first.
-fn scope_text(alloc: Global, registry: &mut Registry) -> Result<String, Fail> {
+fn shows_a_scope(rt: &impl Abort, alloc: Global, registry: &mut Registry) -> Result<(), Fail> {
     let family = refused_family(registry)?;
     let leaf = registry.span(family.leaf).ok_or("no leaf")?;
     let scope = leaf.scope().from_root(alloc)?;
-    Ok(format!(in alloc; "{scope:?}")?)
+    is_shown_as(rt, alloc, &scope, "ScopeFromRoot { .. }")
 }
 
 #[test]
 fn text_of_a_scope(rt: HostRuntime) -> Result<(), Fail> {
-    let shown = scope_text(rt.alloc(), &mut Registry::new(rt.alloc()))?;
-    assert!(rt; shown.as_str() == "ScopeFromRoot { .. }");
-    Ok(())
+    shows_a_scope(&rt, rt.alloc(), &mut Registry::new(rt.alloc()))
 }

@@ -1,7 +1,7 @@
 //! Tests of places that hold one span after another, and of ids that are never issued again.
 ghost use Rattle.std.specs.Prelude.{◌≤◌};
 
-use crate::fixture::{LANE, current, drop_handle, enter, insert, open, root, value_of};
+use crate::fixture::{LANE, current, enter, insert, let_go, open, root, value_of};
 use crate::unknown_span::refuses_unknown;
 use span_core::{Id, TraceError};
 use span_registry::{Limits, LookupSpan, Registry, Subscriber, Tag};
@@ -30,7 +30,7 @@ fn new_root(registry: &mut Registry) -> Result<Id, TraceError> {
 /// Makes a root and drops it.
 fn come_and_gone(registry: &mut Registry, alloc: Global) -> Result<Id, Fail> {
     let id = new_root(registry)?;
-    drop_handle(registry, id, alloc)?;
+    let_go(registry, id, alloc)?;
     Ok(id)
 }
 
@@ -38,7 +38,7 @@ fn come_and_gone(registry: &mut Registry, alloc: Global) -> Result<Id, Fail> {
 fn retires_a_place(rt: &impl Abort, alloc: Global, registry: &mut Registry) -> Result<(), Fail> {
     let a = new_root(registry)?;
     let b = new_root(registry)?;
-    drop_handle(registry, a, alloc)?;
+    let_go(registry, a, alloc)?;
     let c = come_and_gone(registry, alloc)?;
     assert!(rt; registry.retired() == 0);
     let d = come_and_gone(registry, alloc)?;
@@ -48,7 +48,7 @@ fn retires_a_place(rt: &impl Abort, alloc: Global, registry: &mut Registry) -> R
         assert!(rt; registry.span_data(id).is_none());
     }
     assert!(rt; new_root(registry) == Err(TraceError::TooManySpans));
-    drop_handle(registry, b, alloc)?;
+    let_go(registry, b, alloc)?;
     assert!(rt; new_root(registry).is_ok());
     Ok(())
 }
@@ -66,7 +66,7 @@ fn leaves_the_next_alone(
 ) -> Result<(), Fail> {
     let a = new_root(registry)?;
     enter(registry, a)?;
-    drop_handle(registry, a, alloc)?;
+    let_go(registry, a, alloc)?;
     let c = new_root(registry)?;
     assert!(rt; (a.into_u64(), c.into_u64()) == (1, 4_294_967_297));
     let before = current(registry);
@@ -113,8 +113,8 @@ fn uses_the_last_first(
     let second = new_root(registry)?;
     let third = new_root(registry)?;
     assert!(rt; (first.into_u64(), second.into_u64(), third.into_u64()) == (1, 2, 3));
-    drop_handle(registry, first, alloc)?;
-    drop_handle(registry, second, alloc)?;
+    let_go(registry, first, alloc)?;
+    let_go(registry, second, alloc)?;
     assert!(rt; new_root(registry) == Ok(Id::from_u64(4_294_967_298)));
     assert!(rt; new_root(registry) == Ok(Id::from_u64(4_294_967_297)));
     assert!(rt; new_root(registry) == Ok(Id::from_u64(4)));
@@ -132,7 +132,7 @@ fn forgets_values(rt: &impl Abort, alloc: Global, registry: &mut Registry) -> Re
     let tag: Tag<u64> = Tag::new(0);
     let a = new_root(registry)?;
     insert(registry, a, tag, 7)?;
-    drop_handle(registry, a, alloc)?;
+    let_go(registry, a, alloc)?;
     let b = new_root(registry)?;
     let value = value_of(registry, b, tag);
     assert!(rt; (b, value) == (Id::from_u64(2), None));

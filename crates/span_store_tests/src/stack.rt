@@ -2,13 +2,13 @@
 use crate::fixture::{LANE, current, enter, open, root};
 use span_core::Id;
 use span_registry::{Registry, SpanStack, Subscriber};
+use std::process::Abort;
 use std::test::Fail;
 
-#[test]
-fn a_second_entry_is_a_duplicate(rt: HostRuntime) -> Result<(), Fail> {
+/// A span that is entered twice is on a stack twice, and is current by its first entry alone.
+fn has_a_duplicate(rt: &impl Abort, stack: &mut SpanStack) -> Result<(), Fail> {
     let one = Id::from_u64(1);
     let two = Id::from_u64(2);
-    let mut stack = SpanStack::new(rt.alloc());
     for id in [one, two, one] {
         stack.push(id)?;
     }
@@ -28,10 +28,14 @@ fn a_second_entry_is_a_duplicate(rt: HostRuntime) -> Result<(), Fail> {
 }
 
 #[test]
-fn ids_that_are_64_apart_are_no_duplicates(rt: HostRuntime) -> Result<(), Fail> {
+fn a_second_entry_is_a_duplicate(rt: HostRuntime) -> Result<(), Fail> {
+    has_a_duplicate(&rt, &mut SpanStack::new(rt.alloc()))
+}
+
+/// Two ids that are 64 apart are told apart on a stack.
+fn tells_apart(rt: &impl Abort, stack: &mut SpanStack) -> Result<(), Fail> {
     let low = Id::from_u64(3);
     let high = Id::from_u64(67);
-    let mut stack = SpanStack::new(rt.alloc());
     for id in [low, high] {
         stack.push(id)?;
     }
@@ -49,18 +53,27 @@ fn ids_that_are_64_apart_are_no_duplicates(rt: HostRuntime) -> Result<(), Fail> 
 }
 
 #[test]
-fn a_span_is_entered_1000_times(rt: HostRuntime) -> Result<(), Fail> {
-    let mut registry = Registry::new(rt.alloc());
-    let p = open(&mut registry, &root())?;
+fn ids_that_are_64_apart_are_no_duplicates(rt: HostRuntime) -> Result<(), Fail> {
+    tells_apart(&rt, &mut SpanStack::new(rt.alloc()))
+}
+
+/// A span that is entered 1000 times is current until it is left as often.
+fn is_left_at_last(rt: &impl Abort, registry: &mut Registry) -> Result<(), Fail> {
+    let p = open(registry, &root())?;
     for _ in 0..1000 {
-        enter(&mut registry, p)?;
+        enter(registry, p)?;
     }
     for _ in 0..999 {
         registry.exit(LANE, p);
-        assert!(rt; current(&registry) == Some(p));
+        assert!(rt; current(registry) == Some(p));
     }
     registry.exit(LANE, p);
-    assert!(rt; current(&registry) == None);
+    assert!(rt; current(registry) == None);
     assert!(rt; registry.is_open(p));
     Ok(())
+}
+
+#[test]
+fn a_span_is_entered_1000_times(rt: HostRuntime) -> Result<(), Fail> {
+    is_left_at_last(&rt, &mut Registry::new(rt.alloc()))
 }

@@ -1,6 +1,6 @@
 //! Tests of calls with ids of which no open span is known: ids that were never handed out, of closed spans, of a closing one.
 use crate::fixture::{
-    LANE, child_of, clone_of, current, drop_handle, enter, event_at, open, root, span_named,
+    LANE, child_of, clone_of, closes, current, enter, event_at, let_go, open, root, span_named,
 };
 use span_core::{Attributes, Event, FilterId, Id, Level, Record, TraceError};
 use span_registry::{Context, Limits, LookupSpan, Registry, Released, Subscriber};
@@ -47,7 +47,7 @@ fn knows_open_spans_alone(
 ) -> Result<(), Fail> {
     let p = open(registry, &root())?;
     let closed = open(registry, &root())?;
-    drop_handle(registry, closed, alloc)?;
+    let_go(registry, closed, alloc)?;
     enter(registry, p)?;
     for id in [Id::from_u64(0), Id::from_u64(u64::MAX), closed] {
         refuses_unknown(rt, registry, id);
@@ -59,8 +59,7 @@ fn knows_open_spans_alone(
     }
     registry.exit(LANE, p);
     assert!(rt; current(registry) == None);
-    assert!(rt; drop_handle(registry, p, alloc)?.as_slice() == [p].as_slice());
-    Ok(())
+    closes(rt, alloc, registry, p, &[p])
 }
 
 #[test]
@@ -76,25 +75,33 @@ fn closed_spans_are_unknown_where_places_are_few(rt: HostRuntime) -> Result<(), 
             generations,
             count: 1,
         };
-        let mut registry = Registry::with_limits(rt.alloc(), limits);
-        knows_open_spans_alone(&rt, &mut registry, rt.alloc())?;
+        let registry = &mut Registry::with_limits(rt.alloc(), limits);
+        knows_open_spans_alone(&rt, registry, rt.alloc())?;
     }
+    Ok(())
+}
+
+/// A span that closes while the lane is in it is unknown, and is still the one that the lane is in.
+fn is_unknown_while_closing(
+    rt: &impl Abort,
+    registry: &mut Registry,
+    alloc: Global,
+) -> Result<(), Fail> {
+    let p = open(registry, &root())?;
+    enter(registry, p)?;
+    assert!(rt; registry.release(p) == Ok(Released::Closing));
+    refuses_unknown(rt, registry, p);
+    assert!(rt; registry.extensions_mut(p).is_some());
+    let shown = registry.current_span(LANE);
+    assert!(rt; shown.id() == Some(p));
+    assert!(rt; shown.metadata() == Some(span_named("root")));
+    let q = open(registry, &Attributes::new(span_named("q"), &[]))?;
+    closes(rt, alloc, registry, q, &[q])?;
+    assert!(rt; current(registry) == Some(p));
     Ok(())
 }
 
 #[test]
 fn a_closing_span_is_unknown(rt: HostRuntime) -> Result<(), Fail> {
-    let mut registry = Registry::new(rt.alloc());
-    let p = open(&mut registry, &root())?;
-    enter(&mut registry, p)?;
-    assert!(rt; registry.release(p) == Ok(Released::Closing));
-    refuses_unknown(&rt, &mut registry, p);
-    assert!(rt; registry.extensions_mut(p).is_some());
-    let shown = registry.current_span(LANE);
-    assert!(rt; shown.id() == Some(p));
-    assert!(rt; shown.metadata() == Some(span_named("root")));
-    let q = open(&mut registry, &Attributes::new(span_named("q"), &[]))?;
-    assert!(rt; drop_handle(&mut registry, q, rt.alloc())?.as_slice() == [q].as_slice());
-    assert!(rt; current(&registry) == Some(p));
-    Ok(())
+    is_unknown_while_closing(&rt, &mut Registry::new(rt.alloc()), rt.alloc())
 }

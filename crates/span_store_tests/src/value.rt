@@ -1,10 +1,12 @@
 //! Tests of the values that requests are made of: worked values, and each public call once.
+use crate::fixture::is_shown_as;
 use span_core::{
     Attributes, Current, Event, FieldSet, FieldValue, FilterId, Id, Interest, Kind, Lane, Level,
     LevelFilter, Metadata, Parent, Pass, Record, Rejected, TraceError, laws,
 };
-use std::alloc::{AllocError, Global};
+use std::alloc::Global;
 use std::fmt;
+use std::process::Abort;
 use std::test::Fail;
 
 const FIELDS: [&str; 2] = ["user", "retries"];
@@ -41,9 +43,26 @@ impl<T: fmt::Binary> fmt::Display for InBinary<T> {
     }
 }
 
-fn binary<T: fmt::Binary + Drop>(alloc: Global, value: T) -> Result<String, AllocError> {
-    let value = InBinary(value);
-    format!(in alloc; "{value}")
+/// A value is written so.
+fn is_written_as<T: fmt::Display>(
+    rt: &impl Abort,
+    alloc: Global,
+    value: &T,
+    text: &str,
+) -> Result<(), Fail> {
+    let shown = format!(in alloc; "{value}")?;
+    assert!(rt; shown.as_str() == text);
+    Ok(())
+}
+
+/// A value is written so in binary.
+fn is_in_binary<T: fmt::Binary + Drop>(
+    rt: &impl Abort,
+    alloc: Global,
+    value: T,
+    text: &str,
+) -> Result<(), Fail> {
+    is_written_as(rt, alloc, &InBinary(value), text)
 }
 
 #[test]
@@ -70,15 +89,14 @@ fn interests_are_summed(rt: HostRuntime) -> Result<(), Fail> {
 #[test]
 fn ids_of_filters_are_written(rt: HostRuntime) -> Result<(), Fail> {
     let joined = FilterId::of(0).and(FilterId::of(3));
-    assert!(rt; format!(in rt.alloc(); "{joined:?}")?.as_str() == "FilterId({0, 3})");
-    assert!(rt; binary(rt.alloc(), joined)?.as_str() == "FilterId(1001)");
+    is_shown_as(&rt, rt.alloc(), &joined, "FilterId({0, 3})")?;
+    is_in_binary(&rt, rt.alloc(), joined, "FilterId(1001)")?;
     let none = FilterId::none();
-    assert!(rt; format!(in rt.alloc(); "{none:?}")?.as_str() == "FilterId({})");
-    assert!(rt; binary(rt.alloc(), none)?.as_str() == "FilterId(0)");
+    is_shown_as(&rt, rt.alloc(), &none, "FilterId({})")?;
+    is_in_binary(&rt, rt.alloc(), none, "FilterId(0)")?;
     let unattached = FilterId::unattached();
-    assert!(rt; format!(in rt.alloc(); "{unattached:?}")?.as_str() == "FilterId(DISABLED)");
-    assert!(rt; binary(rt.alloc(), unattached)?.as_str() == "FilterId(DISABLED)");
-    Ok(())
+    is_shown_as(&rt, rt.alloc(), &unattached, "FilterId(DISABLED)")?;
+    is_in_binary(&rt, rt.alloc(), unattached, "FilterId(DISABLED)")
 }
 
 #[test]
@@ -86,9 +104,8 @@ fn maps_of_filters_are_written(rt: HostRuntime) -> Result<(), Fail> {
     let mut pass = Pass::new();
     pass.set(FilterId::of(0).and(FilterId::of(3)), false);
     let map = pass.refused();
-    assert!(rt; format!(in rt.alloc(); "{map:?}")?.as_str() == "FilterMap { disabled_by: {0, 3} }");
-    assert!(rt; binary(rt.alloc(), map)?.as_str() == "FilterMap { bits: 1001 }");
-    Ok(())
+    is_shown_as(&rt, rt.alloc(), &map, "FilterMap { disabled_by: {0, 3} }")?;
+    is_in_binary(&rt, rt.alloc(), map, "FilterMap { bits: 1001 }")
 }
 
 #[test]
@@ -115,7 +132,7 @@ fn filters_refuse(rt: HostRuntime) -> Result<(), Fail> {
 fn words_of_filters_end_at_127(rt: HostRuntime) -> Result<(), Fail> {
     let last = FilterId::of(127);
     let both = FilterId::of(0).and(last);
-    assert!(rt; format!(in rt.alloc(); "{both:?}")?.as_str() == "FilterId({0, 127})");
+    is_shown_as(&rt, rt.alloc(), &both, "FilterId({0, 127})")?;
     let mut pass = Pass::new();
     assert!(rt; pass.refused().word() == 0);
     pass.set(last, false);
@@ -153,7 +170,7 @@ fn levels_pass(rt: HostRuntime) -> Result<(), Fail> {
     ];
     for (filter, passed, text) in filters {
         assert!(rt; levels.iter().filter(|level| filter.passes(**level)).count() == passed);
-        assert!(rt; format!(in rt.alloc(); "{filter:?}")?.as_str() == text);
+        is_shown_as(&rt, rt.alloc(), &filter, text)?;
     }
     assert!(rt; Level::ERROR < Level::WARN && Level::DEBUG < Level::TRACE);
     assert!(rt; LevelFilter::OFF < LevelFilter::ERROR && LevelFilter::INFO < LevelFilter::DEBUG);
@@ -222,16 +239,21 @@ const TEXTS: [(&str, [&str; 3]); 8] = [
     ),
 ];
 
+/// Metadata with this text show the same as others with it, and not as those with the others.
+fn shows_itself_alone(rt: &impl Abort, text: &'static str, others: [&'static str; 3]) {
+    assert!(rt; named(text).shows_same(&named(text)));
+    assert!(rt; aimed_at(text).shows_same(&aimed_at(text)));
+    for other in others {
+        assert!(rt; !named(text).shows_same(&named(other)));
+        assert!(rt; !aimed_at(text).shows_same(&aimed_at(other)));
+    }
+}
+
 #[test]
 fn texts_are_told_apart_by_each_letter(rt: HostRuntime) -> Result<(), Fail> {
     assert!(rt; named("").shows_same(&named("")) && !named("").shows_same(&named("r")));
     for (text, others) in TEXTS {
-        assert!(rt; named(text).shows_same(&named(text)));
-        assert!(rt; aimed_at(text).shows_same(&aimed_at(text)));
-        for other in others {
-            assert!(rt; !named(text).shows_same(&named(other)));
-            assert!(rt; !aimed_at(text).shows_same(&aimed_at(other)));
-        }
+        shows_itself_alone(&rt, text, others);
     }
     Ok(())
 }
@@ -308,7 +330,7 @@ fn refusals_are_written(rt: HostRuntime) -> Result<(), Fail> {
     ];
     for (refusal, number, text) in refusals {
         assert!(rt; refusal.number() == number);
-        assert!(rt; format!(in rt.alloc(); "{refusal}")?.as_str() == text);
+        is_written_as(&rt, rt.alloc(), &refusal, text)?;
     }
     let rejected = Rejected {
         value: 11,

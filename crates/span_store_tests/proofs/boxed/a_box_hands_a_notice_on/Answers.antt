@@ -2,8 +2,5 @@ use Rattle.span_filters.proofs.CallerLemmas.{in_a_box}
 use Rattle.span_store_tests.proofs.boxed.a_box_hands_a_notice_on.OwnLists.{own-1, at-1-1}
 use Rattle.span_store_tests.proofs.boxed.a_box_hands_a_notice_on.Goals as goal
 
-pub answers_of-requires : goal.answers_of-requires
-answers_of-requires g c = rw c.new-boxed.ensures (in_a_box own-1 at-1-1 (λ j f. j.1.dyn_usable f) c.into_dyn_box.ensures.1 tt)
-
-pub enters-requires : goal.enters-requires
-enters-requires g c = rw c.new-boxed.ensures (in_a_box own-1 at-1-1 (λ j f. j.1.dyn_usable f) c.into_dyn_box.ensures.1 tt)
+pub wants_since_entered-requires : goal.wants_since_entered-requires
+wants_since_entered-requires g c = rw c.new-boxed.ensures (in_a_box own-1 at-1-1 (λ j f. j.1.dyn_usable f) c.into_dyn_box.ensures.1 tt)
