@@ -4,7 +4,7 @@ use crate::site::request_named;
 use span_dispatch::Request;
 
 /// A call, and what it is made of.
-#[derive(Clone, Copy, Debug)]
+#[derive(Clone, Copy)]
 pub enum Call {
     /// A call of a lane's stack.
     Stack(StackCall),
@@ -29,7 +29,7 @@ pub enum Call {
 }
 
 /// What was served before a call.
-#[derive(Clone, Copy, Debug, PartialEq, Eq)]
+#[derive(Clone, Copy)]
 pub enum State {
     /// The preparation, by a dispatcher that keeps hint and interests.
     Kept,
@@ -40,7 +40,7 @@ pub enum State {
 }
 
 /// A call of a lane's stack.
-#[derive(Clone, Copy, Debug, PartialEq, Eq)]
+#[derive(Clone, Copy)]
 pub enum StackCall {
     /// `push` of a span that isn't on it.
     Push,
@@ -51,7 +51,7 @@ pub enum StackCall {
 }
 
 /// A call of a registry, of its spans' extensions, or of their scopes.
-#[derive(Clone, Copy, Debug, PartialEq, Eq)]
+#[derive(Clone, Copy)]
 pub enum RegistryCall {
     /// `new_span` in the last span.
     NewSpan,
@@ -98,7 +98,7 @@ pub enum RegistryCall {
 }
 
 /// A filter that is cloned.
-#[derive(Clone, Copy, Debug, PartialEq, Eq)]
+#[derive(Clone, Copy)]
 pub enum FilterKind {
     /// `FilterFn`.
     Function,
@@ -113,7 +113,7 @@ pub enum FilterKind {
 }
 
 /// How a layer is put on a registry.
-#[derive(Clone, Copy, Debug, PartialEq, Eq)]
+#[derive(Clone, Copy)]
 pub enum Attachment {
     /// `SubscriberExt::with`.
     With,

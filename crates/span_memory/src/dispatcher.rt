@@ -10,7 +10,7 @@ use crate::site::{
     preparation, sparing,
 };
 use crate::tried::Tried;
-use span_core::{Event, Record};
+use span_core::{Event, LevelFilter, Record};
 use span_dispatch::{Answer, Dispatch, Request, Which, WhichParent};
 use span_registry::Subscriber;
 use std::alloc::Global;
@@ -61,8 +61,7 @@ pub(crate) fn make<S: Tried, W: Write>(
     write_dispatcher(writer, dispatcher::<S>(alloc, state)?)?;
     let mut dispatch = dispatcher::<S>(alloc, state)?;
     write_start(writer)?;
-    let ended = asked(&mut dispatch, request);
-    write_answer(writer, ended)?;
+    ask(writer, &mut dispatch, request)?;
     write_dispatcher(writer, dispatch)
 }
 
@@ -133,16 +132,21 @@ pub(crate) fn write_dispatcher<S: Tried, W: Write>(
     requires { S.usable (stack_of dispatch) }
 {
     let mut dispatch = dispatch;
-    let level = dispatch.stack().level();
-    writeln!(
-        writer,
-        "level {level:?}, hint {:?}",
-        dispatch.max_level_hint()
-    )?;
+    write_levels(writer, dispatch.stack().level(), dispatch.max_level_hint())?;
     write_answers(writer, &mut dispatch)?;
     write_all_of(writer, &mut dispatch)?;
     let recorder = dispatch.stack().recorder();
     write_notices(writer, recorder.notices(), recorder.failed())
+}
+
+/// Writes the level of a stack and its hint.
+fn write_levels<W: Write>(
+    writer: &mut W,
+    level: LevelFilter,
+    hint: Option<LevelFilter>,
+) -> Result<(), Fault> {
+    writeln!(writer, "level {level:?}, hint {hint:?}")?;
+    Ok(())
 }
 
 /// Writes what becomes of an event and of a span of callsites that weren't asked of, and of an event of one that is kept with other
@@ -154,20 +158,26 @@ fn write_answers<S: Subscriber, W: Write>(
     requires { S.usable (stack_of dispatch.old) }
     ensures { S.usable (stack_of dispatch.new) }
 {
-    let requests = [
-        event(UNKNOWN_EVENT),
-        new_span(UNKNOWN_SPAN, WhichParent::Root),
-        other_event(),
-    ];
-    for request in &requests {
-        let answer = asked(dispatch, *request);
-        write_answer(writer, answer)?;
-    }
-    Ok(())
+    ask(writer, dispatch, event(UNKNOWN_EVENT))?;
+    ask(writer, dispatch, new_span(UNKNOWN_SPAN, WhichParent::Root))?;
+    ask(writer, dispatch, other_event())
+}
+
+/// Makes a request, and writes how it ends.
+pub(crate) fn ask<S: Subscriber, W: Write>(
+    writer: &mut W,
+    dispatch: &mut Dispatch<S>,
+    request: Request<'_>,
+) -> Result<(), Fault>
+    requires { S.usable (stack_of dispatch.old) }
+    ensures { S.usable (stack_of dispatch.new) }
+{
+    let ended = asked(dispatch, request);
+    write_answer(writer, ended)
 }
 
 /// How a request ends.
-pub(crate) fn asked<S: Subscriber>(dispatch: &mut Dispatch<S>, request: Request<'_>) -> Answer
+fn asked<S: Subscriber>(dispatch: &mut Dispatch<S>, request: Request<'_>) -> Answer
     requires { S.usable (stack_of dispatch.old) }
     ensures { S.usable (stack_of dispatch.new) }
 {

@@ -25,10 +25,20 @@ pub(crate) fn make<W: Write>(
 ) -> Result<(), Fault> {
     write_registry(alloc, writer, prepared(alloc, call)?)?;
     let mut registry = prepared(alloc, call)?;
-    write_start(writer)?;
-    let ended = called(alloc, &mut registry, call);
-    write_answer(writer, Answer::of_done(ended))?;
+    write_called(alloc, writer, &mut registry, call)?;
     write_registry(alloc, writer, registry)
+}
+
+/// Makes a call of a registry, and writes how it ended.
+fn write_called<W: Write>(
+    alloc: Global,
+    writer: &mut W,
+    registry: &mut Registry,
+    call: RegistryCall,
+) -> Result<(), Fault> {
+    write_start(writer)?;
+    let ended = called(alloc, registry, call);
+    write_answer(writer, Answer::of_done(ended))
 }
 
 /// Closes a chain of spans, and writes the same.
@@ -36,10 +46,22 @@ pub(crate) fn close_chain<W: Write>(alloc: Global, writer: &mut W) -> Result<(),
     let call = RegistryCall::CloseChain;
     write_registry(alloc, writer, prepared(alloc, call)?)?;
     let mut dispatch = Dispatch::fresh(alloc, prepared(alloc, call)?);
+    write_closed(writer, &mut dispatch, spans_of(call))
+}
+
+/// Drops the handles of a chain, and writes how that ended, and what is left.
+fn write_closed<S: Subscriber, W: Write>(
+    writer: &mut W,
+    dispatch: &mut Dispatch<S>,
+    spans: u64,
+) -> Result<(), Fault>
+    requires { S.usable (stack_of dispatch.old) }
+    ensures { S.usable (stack_of dispatch.new) }
+{
     write_start(writer)?;
-    let ended = drop_each(&mut dispatch, spans_of(call));
+    let ended = drop_each(dispatch, spans);
     write_answer(writer, Answer::of_yes(ended))?;
-    write_all_of(writer, &mut dispatch)
+    write_all_of(writer, dispatch)
 }
 
 /// Drops the handles of a chain from the root on, and answers whether the last one closes it.
@@ -105,14 +127,19 @@ const ROOM: Limits = Limits {
 /// A registry with spans each in the one before, of which lanes are in some. The first has values.
 fn prepared(alloc: Global, call: RegistryCall) -> Result<Registry, Fault> {
     let mut registry = Registry::with_limits(alloc, limits_of(call));
+    prepare(&mut registry, call)?;
+    Ok(registry)
+}
+
+/// Opens those spans, has the lanes enter them, and puts the values in.
+fn prepare(registry: &mut Registry, call: RegistryCall) -> Result<(), Fault> {
     for number in 1..=spans_of(call) {
-        open(&mut registry, number)?;
+        open(registry, number)?;
     }
     for lane in 0..lanes_of(call) {
-        enter_some(&mut registry, Lane(lane))?;
+        enter_some(registry, Lane(lane))?;
     }
-    insert_values(&mut registry)?;
-    Ok(registry)
+    insert_values(registry)
 }
 
 /// Opens the next span, in the one before, if there is one.

@@ -66,17 +66,39 @@ pub(crate) fn share<S: Tried, W: Write>(alloc: Global, writer: &mut W) -> Result
 fn write_finished<S: Tried, W: Write>(writer: &mut W, finished: Finished<S>) -> Result<(), Fault>
     requires { S.usable (stack_of finished.dispatch) }
 {
-    for place in 0..finished.journal.len() {
-        if let Some(entry) = finished.journal.get(place) {
+    write_journal(writer, &finished.journal)?;
+    write_receipts(
+        writer,
+        &finished.journal,
+        &finished.receipts,
+        finished.accepted,
+    )?;
+    write_dispatcher(writer, finished.dispatch)
+}
+
+/// Writes the entries of a journal.
+fn write_journal<W: Write>(writer: &mut W, journal: &Journal) -> Result<(), Fault> {
+    for place in 0..journal.len() {
+        if let Some(entry) = journal.get(place) {
             writeln!(writer, "{entry:?}")?;
         }
     }
-    for receipt in &finished.receipts {
-        let held = finished.journal.holds(receipt);
+    Ok(())
+}
+
+/// Writes whether a journal holds receipts, and how many calls of their worker were accepted.
+fn write_receipts<W: Write>(
+    writer: &mut W,
+    journal: &Journal,
+    receipts: &[Receipt],
+    accepted: u64,
+) -> Result<(), Fault> {
+    for receipt in receipts {
+        let held = journal.holds(receipt);
         writeln!(writer, "receipt of {} held {held}", receipt.place())?;
     }
-    writeln!(writer, "accepted {}", finished.accepted)?;
-    write_dispatcher(writer, finished.dispatch)
+    writeln!(writer, "accepted {accepted}")?;
+    Ok(())
 }
 
 /// Shares a dispatcher with one worker, and writes how that ended. Where it was refused, what came back is shared. Answers the

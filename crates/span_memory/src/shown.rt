@@ -3,9 +3,9 @@ ghost use Rattle.span_dispatch.specs.Serve.{stack_of};
 
 use crate::fault::Fault;
 use crate::site::{KEPT_SPAN, LANE, OTHER_LANE, nth, span_metadata};
-use span_core::{Attributes, Id, Lane};
+use span_core::{Attributes, Id, Lane, TraceError};
 use span_dispatch::{Answer, Dispatch, Notice};
-use span_registry::{LookupSpan, Registry, Subscriber, Tag};
+use span_registry::{Extensions, LookupSpan, Registry, Subscriber, Tag};
 use std::io::Write;
 
 /// The spans that are looked up: more than a state has.
@@ -17,6 +17,17 @@ const TAGS: u32 = 16;
 /// The most entries of a lane that are left.
 const ENTRIES: u32 = 20;
 
+/// Writes a text.
+fn write_text<W: Write>(writer: &mut W, text: &str) -> Result<(), Fault> {
+    Ok(writer.write_all(text.as_bytes())?)
+}
+
+/// Writes a text and a number after it.
+fn write_number<W: Write>(writer: &mut W, text: &str, number: u64) -> Result<(), Fault> {
+    write!(writer, "{text}{number}")?;
+    Ok(())
+}
+
 /// Writes that the call begins, by one write and without memory: `tests/each_call_refused` refuses memory from here to the next write.
 pub(crate) fn write_start<W: Write>(writer: &mut W) -> Result<(), Fault> {
     Ok(writer.write_all(b"call\n")?)
@@ -24,14 +35,23 @@ pub(crate) fn write_start<W: Write>(writer: &mut W) -> Result<(), Fault> {
 
 /// Writes how a call ended, in a line.
 pub(crate) fn write_answer<W: Write>(writer: &mut W, answer: Answer) -> Result<(), Fault> {
-    match answer {
-        Answer::Made(_) => writeln!(writer, "made")?,
-        Answer::Dropped => writeln!(writer, "dropped")?,
-        Answer::Done => writeln!(writer, "done")?,
-        Answer::Yes(said) => writeln!(writer, "{said}")?,
-        Answer::Current(span) => writeln!(writer, "current {}", span.is_some())?,
-        Answer::Refused(error) => writeln!(writer, "refused {}", error.number())?,
-    }
+    let text = match answer {
+        Answer::Made(_) => "made",
+        Answer::Dropped => "dropped",
+        Answer::Done => "done",
+        Answer::Yes(true) => "true",
+        Answer::Yes(false) => "false",
+        Answer::Current(Some(_)) => "current true",
+        Answer::Current(None) => "current false",
+        Answer::Refused(error) => return write_refused(writer, error),
+    };
+    write_text(writer, text)?;
+    write_text(writer, "\n")
+}
+
+/// Writes that a call was refused, and with which number.
+fn write_refused<W: Write>(writer: &mut W, error: TraceError) -> Result<(), Fault> {
+    writeln!(writer, "refused {}", error.number())?;
     Ok(())
 }
 
@@ -54,19 +74,37 @@ fn write_span<W: Write>(writer: &mut W, registry: &Registry, id: Id) -> Result<(
     let Some(span) = registry.span(id) else {
         return Ok(());
     };
-    write!(writer, "span {}", id.into_u64())?;
-    if let Some(parent) = span.parent() {
-        write!(writer, " in {}", parent.id().into_u64())?;
+    let parent = match span.parent() {
+        Some(parent) => Some(parent.id()),
+        None => None,
+    };
+    write_origin(writer, id, parent, span.metadata().callsite())?;
+    write_values(writer, span.extensions())
+}
+
+/// Writes the ids of a span and of its parent, if it has one, and its callsite.
+fn write_origin<W: Write>(
+    writer: &mut W,
+    id: Id,
+    parent: Option<Id>,
+    callsite: u64,
+) -> Result<(), Fault> {
+    write_number(writer, "span ", id.into_u64())?;
+    if let Some(parent) = parent {
+        write_number(writer, " in ", parent.into_u64())?;
     }
-    let callsite = span.metadata().callsite();
-    write!(writer, " of callsite {callsite}, values")?;
+    write_number(writer, " of callsite ", callsite)?;
+    write_text(writer, ", values")
+}
+
+/// Writes the values of a span, and ends the line.
+fn write_values<W: Write>(writer: &mut W, values: Extensions<'_>) -> Result<(), Fault> {
     for tag in 0..TAGS {
-        if let Some(value) = span.extensions().get(Tag::<u64>::new(tag)) {
+        if let Some(value) = values.get(Tag::<u64>::new(tag)) {
             write!(writer, " {tag}: {value}")?;
         }
     }
-    writeln!(writer, "")?;
-    Ok(())
+    write_text(writer, "\n")
 }
 
 /// Writes what look-ups, stacks and handles show, and whether there is room for one span more. So lanes leave their spans, all
@@ -110,16 +148,16 @@ fn write_stack<S: Subscriber, W: Write>(
     requires { S.usable (stack_of dispatch.old) }
     ensures { S.usable (stack_of dispatch.new) }
 {
-    write!(writer, "lane {} in", lane.0)?;
+    write_number(writer, "lane ", u64::from(lane.0))?;
+    write_text(writer, " in")?;
     for _ in 0..ENTRIES {
         let Some(id) = dispatch.current_span(lane).id() else {
             break;
         };
-        write!(writer, " {}", id.into_u64())?;
+        write_number(writer, " ", id.into_u64())?;
         dispatch.exit(lane, id);
     }
-    writeln!(writer, "")?;
-    Ok(())
+    write_text(writer, "\n")
 }
 
 /// Writes what each handle of an open span answers as it is dropped, and why there is none more.
@@ -134,13 +172,15 @@ fn write_handles<S: Subscriber, W: Write>(
     if !dispatch.stack().root().is_open(id) {
         return Ok(());
     }
-    write!(writer, "drops of {}:", id.into_u64())?;
+    write_number(writer, "drops of ", id.into_u64())?;
+    write_text(writer, ":")?;
     for _ in 0..ENTRIES {
         match dispatch.drop_span(LANE, id) {
-            Ok(closes) => write!(writer, " {closes}")?,
+            Ok(true) => write_text(writer, " true")?,
+            Ok(false) => write_text(writer, " false")?,
             Err(error) => {
-                writeln!(writer, " refused {}", error.number())?;
-                break;
+                write_text(writer, " ")?;
+                return write_refused(writer, error);
             }
         }
     }

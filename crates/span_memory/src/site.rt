@@ -146,38 +146,23 @@ pub(crate) fn sparing() -> [Request<'static>; 6] {
 /// The requests that prepare a dispatcher: spans each in the one before, of which the lane is in some, an event, and what takes no more
 /// memory. Their journal has 32 entries, and 15 callsites are kept: so many that the next needs memory.
 pub(crate) fn preparation() -> [Request<'static>; 32] {
-    [
-        new_span(1, WhichParent::Root),
-        new_span(2, WhichParent::Explicit(known(1))),
-        new_span(3, WhichParent::Explicit(known(2))),
-        new_span(4, WhichParent::Explicit(known(3))),
-        new_span(5, WhichParent::Explicit(known(4))),
-        new_span(6, WhichParent::Explicit(known(5))),
-        new_span(7, WhichParent::Explicit(known(6))),
-        new_span(8, WhichParent::Explicit(known(7))),
-        new_span(9, WhichParent::Explicit(known(8))),
-        new_span(10, WhichParent::Explicit(known(9))),
-        new_span(11, WhichParent::Explicit(known(10))),
-        new_span(12, WhichParent::Explicit(known(11))),
-        new_span(13, WhichParent::Explicit(known(12))),
-        new_span(14, WhichParent::Explicit(known(13))),
-        new_span(14, WhichParent::Explicit(known(14))),
-        new_span(14, WhichParent::Explicit(known(15))),
-        Request::Enter(LANE, known(1)),
-        Request::Enter(LANE, known(2)),
-        Request::Enter(LANE, known(3)),
-        Request::Enter(LANE, known(4)),
-        Request::Enter(LANE, known(5)),
-        Request::Enter(LANE, known(6)),
-        Request::Enter(LANE, known(7)),
-        Request::Enter(LANE, known(8)),
-        event(15),
-        Request::Clone(LANE, known(1)),
-        Request::Record(LANE, known(1), &[]),
-        Request::Follows(LANE, known(1), known(2)),
-        Request::Enabled(LANE, span_metadata(1)),
-        Request::Enabled(LANE, span_metadata(2)),
-        Request::Enabled(LANE, span_metadata(3)),
-        Request::Enabled(LANE, span_metadata(4)),
-    ]
+    let mut requests = [new_span(1, WhichParent::Root); 32];
+    for place in 1..32 {
+        requests[place] = request_at(place as u64);
+    }
+    requests
+}
+
+/// The request at a place of the preparation, but for the first. The last spans are of one callsite.
+fn request_at(place: u64) -> Request<'static> {
+    match place {
+        ..=13 => new_span(place + 1, WhichParent::Explicit(known(place))),
+        14 | 15 => new_span(14, WhichParent::Explicit(known(place))),
+        16..=23 => Request::Enter(LANE, known(place - 15)),
+        24 => event(KEPT_EVENT),
+        25 => Request::Clone(LANE, known(1)),
+        26 => Request::Record(LANE, known(1), &[]),
+        27 => Request::Follows(LANE, known(1), known(2)),
+        _ => Request::Enabled(LANE, span_metadata(place - 27)),
+    }
 }

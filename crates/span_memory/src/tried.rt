@@ -1,10 +1,11 @@
 //! The stack that calls of dispatchers are tried on.
+ghost use Rattle.span_layers.specs.Layered.{inner_of, outer_of};
 ghost use Rattle.std.specs.Prelude.{IfOk};
 
 use crate::fault::Fault;
 use span_core::LevelFilter;
 use span_dispatch::Recorder;
-use span_layers::{Filtered, LayerExt, Layered, SubscriberExt};
+use span_layers::{Filtered, Layer, LayerExt, Layered, SubscriberExt};
 use span_registry::{Registry, Subscriber};
 use std::alloc::Global;
 
@@ -27,17 +28,24 @@ type Recording = Layered<Filtered<Recorder, LevelFilter>, Registry>;
 /// Outside it that level as a layer, which vetoes what is above it.
 pub(crate) type Stack = Layered<LevelFilter, Recording>;
 
+/// A layer on a subscriber.
+fn put<S: Subscriber + Drop, L: Layer<S> + Drop>(stack: S, layer: L) -> Result<Layered<L, S>, Fault>
+    requires layer { L.usable layer }
+    requires stack { S.usable stack }
+    ensures layer { IfOk result (λ made. L.usable (outer_of made)) }
+    ensures stack { IfOk result (λ made. S.usable (inner_of made)) }
+{
+    match stack.with(layer) {
+        Ok(made) => Ok(made),
+        Err(back) => Err(Fault::Refused(back.error)),
+    }
+}
+
 impl Tried for Stack {
     fn made(alloc: Global) -> Result<Stack, Fault> {
         let layer = Recorder::new(alloc).with_filter(LevelFilter::INFO);
-        let recording = match Registry::new(alloc).with(layer) {
-            Ok(made) => made,
-            Err(back) => return Err(Fault::Refused(back.error)),
-        };
-        match recording.with(LevelFilter::INFO) {
-            Ok(made) => Ok(made),
-            Err(back) => Err(Fault::Refused(back.error)),
-        }
+        let recording = put(Registry::new(alloc), layer)?;
+        put(recording, LevelFilter::INFO)
     }
 
     fn level(&self) -> LevelFilter {

@@ -1,13 +1,13 @@
 //! Calls of a dispatcher of which a layer vetoes everything.
 ghost use Rattle.span_dispatch.specs.Serve.{stack_of};
 
-use crate::dispatcher::asked;
+use crate::dispatcher::ask;
 use crate::fault::Fault;
 use crate::named::Named;
-use crate::shown::{write_answer, write_start};
+use crate::shown::write_start;
 use span_dispatch::{Dispatch, Request};
 use span_filters::dynamic_filter_fn;
-use span_layers::SubscriberExt;
+use span_layers::{Layer, SubscriberExt};
 use span_registry::{Registry, Subscriber};
 use std::alloc::Global;
 use std::io::Write;
@@ -19,24 +19,35 @@ pub(crate) fn make<W: Write>(
     request: Request<'_>,
 ) -> Result<(), Fault> {
     let veto = dynamic_filter_fn(Named::new(alloc, "no such name")?);
-    match Registry::new(alloc).with(veto) {
-        Ok(stack) => make_twice(writer, Dispatch::new(alloc, stack), request),
+    put(alloc, writer, Registry::new(alloc), veto, request)
+}
+
+/// Puts a layer on a subscriber, and makes a request of that.
+fn put<S: Subscriber + Drop, L: Layer<S> + Drop, W: Write>(
+    alloc: Global,
+    writer: &mut W,
+    subscriber: S,
+    layer: L,
+    request: Request<'_>,
+) -> Result<(), Fault>
+    requires subscriber { S.usable subscriber }
+    requires layer { L.usable layer }
+{
+    match subscriber.with(layer) {
+        Ok(stack) => make_twice(writer, &mut Dispatch::new(alloc, stack), request),
         Err(back) => Err(Fault::Refused(back.error)),
     }
 }
 
 /// Makes a request twice, and writes how it ends each time.
-fn make_twice<S: Subscriber + Drop, W: Write>(
+fn make_twice<S: Subscriber, W: Write>(
     writer: &mut W,
-    dispatch: Dispatch<S>,
+    dispatch: &mut Dispatch<S>,
     request: Request<'_>,
 ) -> Result<(), Fault>
-    requires { S.usable (stack_of dispatch) }
+    requires { S.usable (stack_of dispatch.old) }
 {
-    let mut dispatch = dispatch;
-    let first = asked(&mut dispatch, request);
-    write_answer(writer, first)?;
+    ask(writer, dispatch, request)?;
     write_start(writer)?;
-    let second = asked(&mut dispatch, request);
-    write_answer(writer, second)
+    ask(writer, dispatch, request)
 }
