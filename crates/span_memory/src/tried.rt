@@ -41,11 +41,23 @@ fn put<S: Subscriber + Drop, L: Layer<S> + Drop>(stack: S, layer: L) -> Result<L
     }
 }
 
+/// A layer on a subscriber, and outside it a level.
+fn under_level<S: Subscriber + Drop, L: Layer<S> + Drop>(
+    stack: S,
+    layer: L,
+) -> Result<Layered<LevelFilter, Layered<L, S>>, Fault>
+    requires layer { L.usable layer }
+    requires stack { S.usable stack }
+    ensures layer { IfOk result (λ made. L.usable (outer_of (inner_of made))) }
+    ensures stack { IfOk result (λ made. S.usable (inner_of (inner_of made))) }
+{
+    put(put(stack, layer)?, LevelFilter::INFO)
+}
+
 impl Tried for Stack {
     fn made(alloc: Global) -> Result<Stack, Fault> {
         let layer = Recorder::new(alloc).with_filter(LevelFilter::INFO);
-        let recording = put(Registry::new(alloc), layer)?;
-        put(recording, LevelFilter::INFO)
+        under_level(Registry::new(alloc), layer)
     }
 
     fn level(&self) -> LevelFilter {
