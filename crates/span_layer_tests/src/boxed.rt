@@ -2,13 +2,14 @@
 use crate::fixture::{LANE, put};
 use crate::marker::new_marker;
 use crate::signer::{Signer, signed};
-use crate::stack::{hint_of, interest_in, number_at, open, open_and_enter, send};
+use crate::stack::{hint_of, interest_in, is_text, number_at, open, open_and_enter, send};
 use span_boxed::{BoxedLayer, DynLayer};
 use span_core::{Id, Interest, Level, LevelFilter, Metadata, Pass};
 use span_filters::{Filter, dynamic_filter_fn};
 use span_layers::{Layer, LayerExt};
 use span_registry::{Context, ContextMut, LookupSpan, Registry, Subscriber, Tag};
 use std::alloc::Global;
+use std::process::Abort;
 use std::test::Fail;
 
 /// The tag of the marks.
@@ -26,6 +27,18 @@ fn marks_of_two_events<S: Subscriber>(stack: &mut S) -> Result<Option<u64>, Fail
     Ok(number_at(stack, tag(), id))
 }
 
+/// How often a layer on a stack marks the span of two events.
+fn marks_on<S: Subscriber + Drop, L: Layer<S> + Drop>(
+    stack: S,
+    layer: L,
+) -> Result<Option<u64>, Fail>
+    requires layer { L.usable layer }
+    requires stack { S.usable stack }
+{
+    let mut stack = put(stack, layer)?;
+    marks_of_two_events(&mut stack)
+}
+
 /// How often a layer marks the span of two events, under a filter.
 fn marks_under<L: Layer<Registry> + Drop, F: Filter<Registry> + Drop>(
     alloc: Global,
@@ -35,8 +48,7 @@ fn marks_under<L: Layer<Registry> + Drop, F: Filter<Registry> + Drop>(
     requires layer { L.usable layer }
     requires filter { F.usable filter }
 {
-    let mut stack = put(Registry::new(alloc), layer.with_filter(filter))?;
-    marks_of_two_events(&mut stack)
+    marks_on(Registry::new(alloc), layer.with_filter(filter))
 }
 
 /// The same of a boxed layer, under a filter that passes spans, events, both or neither.
@@ -67,13 +79,41 @@ fn a_boxed_layer_under_a_filter_that_passes_all(rt: HostRuntime) -> Result<(), F
     Ok(())
 }
 
-#[test]
-fn a_box_answers_as_the_layer_in_it(rt: HostRuntime) -> Result<(), Fail> {
-    let inside = new_marker(tag()).with_filter(LevelFilter::INFO);
-    let object: Box<dyn DynLayer + Send> = Box::new(rt.alloc(), inside)?;
-    let layer = BoxedLayer::new(object);
-    assert!(rt; format!(in rt.alloc(); "{layer:?}")?.as_str() == "BoxedLayer { .. }");
-    let said = said_by(rt.alloc(), layer)?;
+/// What a stack says of itself, and its interest in events of two levels.
+#[derive(Drop, PartialEq)]
+struct Said {
+    filters: u32,
+    is_filtered: bool,
+    is_absent: bool,
+    hint: Option<LevelFilter>,
+    of_info: Interest,
+    of_debug: Interest,
+}
+
+/// Says it.
+fn said_by<S: Subscriber>(stack: &S) -> Said
+    requires { S.usable stack.now }
+{
+    Said {
+        filters: stack.root().filters(),
+        is_filtered: stack.is_filtered(),
+        is_absent: stack.is_absent(),
+        hint: hint_of(stack),
+        of_info: interest_in(stack, Level::INFO),
+        of_debug: interest_in(stack, Level::DEBUG),
+    }
+}
+
+/// A layer on a stack answers as one under INFO.
+fn answers_as_under_info<S: Subscriber + Drop, L: Layer<S> + Drop>(
+    rt: &impl Abort,
+    stack: S,
+    layer: L,
+) -> Result<(), Fail>
+    requires layer { L.usable layer }
+    requires stack { S.usable stack }
+{
+    let said = said_by(&put(stack, layer)?);
     assert!(rt;
         said == Said {
             filters: 1,
@@ -87,30 +127,23 @@ fn a_box_answers_as_the_layer_in_it(rt: HostRuntime) -> Result<(), Fail> {
     Ok(())
 }
 
-/// What a stack says of itself, and its interest in events of two levels.
-#[derive(Drop, PartialEq)]
-struct Said {
-    filters: u32,
-    is_filtered: bool,
-    is_absent: bool,
-    hint: Option<LevelFilter>,
-    of_info: Interest,
-    of_debug: Interest,
+/// A box shows nothing of the layer in it.
+fn shows_a_box(rt: &impl Abort, alloc: Global, layer: &BoxedLayer) -> Result<(), Fail> {
+    is_text(
+        rt,
+        format!(in alloc; "{layer:?}")?.as_str(),
+        "BoxedLayer { .. }",
+    );
+    Ok(())
 }
 
-/// The same of a layer on a registry.
-fn said_by<L: Layer<Registry> + Drop>(alloc: Global, layer: L) -> Result<Said, Fail>
-    requires { L.usable layer }
-{
-    let stack = put(Registry::new(alloc), layer)?;
-    Ok(Said {
-        filters: stack.root().filters(),
-        is_filtered: stack.is_filtered(),
-        is_absent: stack.is_absent(),
-        hint: hint_of(&stack),
-        of_info: interest_in(&stack, Level::INFO),
-        of_debug: interest_in(&stack, Level::DEBUG),
-    })
+#[test]
+fn a_box_answers_as_the_layer_in_it(rt: HostRuntime) -> Result<(), Fail> {
+    let inside = new_marker(tag()).with_filter(LevelFilter::INFO);
+    let object: Box<dyn DynLayer + Send> = Box::new(rt.alloc(), inside)?;
+    let layer = BoxedLayer::new(object);
+    shows_a_box(&rt, rt.alloc(), &layer)?;
+    answers_as_under_info(&rt, Registry::new(rt.alloc()), layer)
 }
 
 /// Notifies a layer that a span has another id, the same: what do signers write of that?
@@ -136,32 +169,48 @@ fn count_and_use<L: Layer<Registry>>(layer: &mut L) -> u32
     count
 }
 
-#[test]
-fn a_box_hands_everything_on(rt: HostRuntime) -> Result<(), Fail> {
-    let mut registry = Registry::new(rt.alloc());
-    let id = open(&mut registry, Level::INFO, None)?;
-    let object: Box<dyn DynLayer + Send> = Box::new(rt.alloc(), Signer::new(1))?;
-    let mut layer = BoxedLayer::new(object);
-    assert!(rt; signed_at_a_change(&mut layer, &mut registry, id) == None);
-    assert!(rt; count_and_use(&mut layer) == 0);
-    assert!(rt; signed_at_a_change(&mut layer, &mut registry, id) == Some(1));
+/// What signers in a layer write of a changed id, before it is put in use and then.
+fn signs_once_in_use<L: Layer<Registry>>(
+    rt: &impl Abort,
+    layer: &mut L,
+    registry: &mut Registry,
+) -> Result<(), Fail>
+    requires { L.usable layer.old }
+{
+    let id = open(registry, Level::INFO, None)?;
+    assert!(rt; signed_at_a_change(layer, registry, id) == None);
+    assert!(rt; count_and_use(layer) == 0);
+    assert!(rt; signed_at_a_change(layer, registry, id) == Some(1));
     Ok(())
 }
 
-/// Gives a layer's filters the numbers from 0 on, and sets the level of the filter with number 1 to debug, and then that of the
-/// filter with number 0: is it taken, and which hint has the layer then?
-fn hints_by_level<L: Layer<Registry>>(
-    alloc: Global,
-    layer: &mut L,
-) -> [(bool, Option<LevelFilter>); 2]
+#[test]
+fn a_box_hands_everything_on(rt: HostRuntime) -> Result<(), Fail> {
+    let object: Box<dyn DynLayer + Send> = Box::new(rt.alloc(), Signer::new(1))?;
+    let mut layer = BoxedLayer::new(object);
+    signs_once_in_use(&rt, &mut layer, &mut Registry::new(rt.alloc()))
+}
+
+/// Sets the level of the filter with number 1 to debug, and then that of the filter with number 0: is it taken, and which hint has the
+/// layer then?
+fn hints_by_level<L: Layer<Registry>>(layer: &mut L) -> [(bool, Option<LevelFilter>); 2]
     requires { L.usable layer.old }
     ensures { L.usable layer.new }
 {
-    layer.on_layer(&mut Registry::new(alloc));
     let other = layer.set_level(1, LevelFilter::DEBUG);
     let before = layer.max_level_hint();
     let own = layer.set_level(0, LevelFilter::DEBUG);
     [(other, before), (own, layer.max_level_hint())]
+}
+
+/// A layer under INFO has one filter, which gets the number 0 and takes another level.
+fn takes_a_level<L: Layer<Registry>>(rt: &impl Abort, layer: &mut L, registry: &mut Registry)
+    requires { L.usable layer.old }
+{
+    layer.on_layer(registry);
+    let [other, own] = hints_by_level(layer);
+    assert!(rt; other == (false, Some(LevelFilter::INFO)));
+    assert!(rt; own == (true, Some(LevelFilter::DEBUG)));
 }
 
 #[test]
@@ -169,8 +218,6 @@ fn a_box_passes_a_level_on(rt: HostRuntime) -> Result<(), Fail> {
     let inside = new_marker(tag()).with_filter(LevelFilter::INFO);
     let object: Box<dyn DynLayer + Send> = Box::new(rt.alloc(), inside)?;
     let mut layer = BoxedLayer::new(object);
-    let [other, own] = hints_by_level(rt.alloc(), &mut layer);
-    assert!(rt; other == (false, Some(LevelFilter::INFO)));
-    assert!(rt; own == (true, Some(LevelFilter::DEBUG)));
+    takes_a_level(&rt, &mut layer, &mut Registry::new(rt.alloc()));
     Ok(())
 }

@@ -2,10 +2,12 @@
 ghost use Rattle.std.specs.Prelude.{⊤};
 
 use crate::fixture::put;
-use crate::stack::{notify, open, send_in};
+use crate::stack::{is_text, notify, open, send_in};
 use span_core::{FilterId, Level, LevelFilter};
-use span_layers::{LayerExt, Observe, Observed, Observer};
+use span_layers::{Filtered, LayerExt, Layered, Observe, Observed, Observer};
 use span_registry::{ContextMut, Registry, Subscriber};
+use std::alloc::Global;
+use std::process::Abort;
 use std::test::Fail;
 
 /// How often the first filter had refused, of new spans and events, and of all else.
@@ -43,35 +45,58 @@ fn notify_of_all<S: Subscriber>(stack: &mut S) -> Result<bool, Fail>
     Ok(is_sent)
 }
 
-/// What comes of a span on a stack under two layers, the outer one without a filter, and the other under one that refuses all: whether
-/// an event was sent, and how often the outer layer saw that the first filter had refused.
-fn refusals_seen<S: Subscriber + Drop>(stack: S) -> Result<(bool, u64, u64), Fail>
-    requires { S.usable stack }
+/// A layer under a level.
+type Under = Filtered<Observer<Refusals>, LevelFilter>;
+
+/// Two layers, the outer one without a filter, and the other under a level.
+type Pair = Layered<Observer<Refusals>, Under>;
+
+/// What comes of a span on a stack under a pair: whether an event was sent, and how often the outer layer saw that the first filter had
+/// refused.
+fn refusals_seen<S: Subscriber>(stack: &mut Layered<Pair, S>) -> Result<(bool, u64, u64), Fail>
+    requires { ⟦<Layered<Pair, S> as Subscriber>⟧.usable stack.old }
 {
-    let refused = Observer::new(Refusals { asked: 0, other: 0 }).with_filter(LevelFilter::OFF);
-    let watching = Observer::new(Refusals { asked: 0, other: 0 });
-    let mut stack = put(stack, refused.and_then(watching))?;
-    let is_sent = notify_of_all(&mut stack)?;
+    let is_sent = notify_of_all(stack)?;
     let watched = stack.layer().layer().observer();
     Ok((is_sent, watched.asked, watched.other))
 }
 
-#[test]
-fn a_pass_ends_with_its_request(rt: HostRuntime) -> Result<(), Fail> {
-    let seen = refusals_seen(Registry::new(rt.alloc()))?;
+/// The outer layer of a pair whose level refuses all saw that of a new span and an event alone.
+fn refusals_end_with_a_pass<S: Subscriber + Drop>(
+    rt: &impl Abort,
+    stack: S,
+    pair: Pair,
+) -> Result<(), Fail>
+    requires { S.usable stack }
+{
+    let seen = refusals_seen(&mut put(stack, pair)?)?;
     assert!(rt; seen == (true, 2, 0));
     Ok(())
 }
 
 #[test]
-fn parts_have_texts(rt: HostRuntime) -> Result<(), Fail> {
-    let alloc = rt.alloc();
-    let layer = Observer::new(Refusals { asked: 0, other: 0 }).with_filter(LevelFilter::INFO);
-    let stack = put(Registry::new(alloc), layer)?;
-    let text = format!(in alloc; "{stack:?}")?;
-    assert!(rt;
-        text.as_str()
-            == "Layered { layer: Filtered { filter: LevelFilter::INFO, layer: Observer { observer: Refusals { asked: 0, other: 0 } }, id: FilterId({0}) }, inner: Registry { .. } }"
+fn a_pass_ends_with_its_request(rt: HostRuntime) -> Result<(), Fail> {
+    let refused = Observer::new(Refusals { asked: 0, other: 0 }).with_filter(LevelFilter::OFF);
+    let watching = Observer::new(Refusals { asked: 0, other: 0 });
+    refusals_end_with_a_pass(&rt, Registry::new(rt.alloc()), refused.and_then(watching))
+}
+
+/// A stack's text tells its layer, and nothing of its registry.
+fn tells_its_layer(
+    rt: &impl Abort,
+    alloc: Global,
+    stack: &Layered<Under, Registry>,
+) -> Result<(), Fail> {
+    is_text(
+        rt,
+        format!(in alloc; "{stack:?}")?.as_str(),
+        "Layered { layer: Filtered { filter: LevelFilter::INFO, layer: Observer { observer: Refusals { asked: 0, other: 0 } }, id: FilterId({0}) }, inner: Registry { .. } }",
     );
     Ok(())
+}
+
+#[test]
+fn parts_have_texts(rt: HostRuntime) -> Result<(), Fail> {
+    let layer = Observer::new(Refusals { asked: 0, other: 0 }).with_filter(LevelFilter::INFO);
+    tells_its_layer(&rt, rt.alloc(), &put(Registry::new(rt.alloc()), layer)?)
 }

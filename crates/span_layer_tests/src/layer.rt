@@ -16,9 +16,9 @@ use crate::watcher::{Seen, Watcher, new_watcher};
 use span_core::{
     Attributes, Event, Id, Interest, Kind, Level, LevelFilter, Metadata, Pass, Record, TraceError,
 };
-use span_layers::{Filtered, Layer, LayerExt, Layered, Observer, SubscriberExt};
+use span_layers::{Filtered, Layer, LayerExt, Layered, Observer, SubscriberExt, Unattached};
 use span_registry::{Context, ContextMut, LookupSpan, Registry, Subscriber, Tag};
-use std::alloc::Global;
+use std::alloc::{AllocError, Global};
 use std::process::Abort;
 use std::test::Fail;
 
@@ -103,16 +103,11 @@ impl<S: Subscriber> Layer<S> for Echo {
     }
 }
 
-/// An open watcher, and outside it one under INFO.
-type TwoWatchers = Layered<
+/// An open watcher on a stack, and outside it one under INFO.
+type TwoWatchers<S> = Layered<
     Filtered<Observer<Watcher>, LevelFilter>,
-    Layered<Observer<Watcher>, Registry>,
+    Layered<Observer<Watcher>, S>,
 >;
-
-fn two_watchers(alloc: Global) -> Result<TwoWatchers, TraceError> {
-    let under_info = new_watcher(alloc).with_filter(LevelFilter::INFO);
-    put(put(Registry::new(alloc), new_watcher(alloc))?, under_info)
-}
 
 /// A watcher saw this.
 fn saw(rt: &impl Abort, watcher: &Observer<Watcher>, seen: &[Seen]) {
@@ -131,11 +126,9 @@ fn three_spans<S: Subscriber>(rt: &impl Abort, stack: &mut S) -> Result<[Id; 3],
     Ok([root, child, leaf])
 }
 
-#[test]
-fn one_layers_filter_hides_nothing_from_another(rt: HostRuntime) -> Result<(), Fail> {
-    let mut stack = two_watchers(rt.alloc())?;
-    let [root, child, leaf] = three_spans(&rt, &mut stack)?;
-    let under_info = [
+/// A watcher saw the first and the last of three spans, each in the one before, and an event.
+fn saw_two_spans(rt: &impl Abort, watcher: &Observer<Watcher>, root: Id, leaf: Id) {
+    let two = [
         Seen::NewSpan(root),
         Seen::InScope(root),
         Seen::NewSpan(leaf),
@@ -143,8 +136,12 @@ fn one_layers_filter_hides_nothing_from_another(rt: HostRuntime) -> Result<(), F
         Seen::InScope(root),
         Seen::Event,
     ];
-    saw(&rt, stack.layer().inner(), &under_info);
-    let open = [
+    saw(rt, watcher, &two);
+}
+
+/// A watcher saw three spans, each in the one before, and an event in the second.
+fn saw_three_spans(rt: &impl Abort, watcher: &Observer<Watcher>, [root, child, leaf]: [Id; 3]) {
+    let three = [
         Seen::NewSpan(root),
         Seen::InScope(root),
         Seen::NewSpan(child),
@@ -158,8 +155,29 @@ fn one_layers_filter_hides_nothing_from_another(rt: HostRuntime) -> Result<(), F
         Seen::InScope(child),
         Seen::InScope(root),
     ];
-    saw(&rt, stack.inner().layer(), &open);
+    saw(rt, watcher, &three);
+}
+
+/// The watcher under INFO sees nothing of the second of three spans, and the open one sees all.
+fn hides_from_one_alone<S: Subscriber>(
+    rt: &impl Abort,
+    stack: &mut TwoWatchers<S>,
+) -> Result<(), Fail>
+    requires { ⟦<TwoWatchers<S> as Subscriber>⟧.usable stack.old }
+{
+    let spans = three_spans(rt, stack)?;
+    let [root, _, leaf] = spans;
+    saw_two_spans(rt, stack.layer().inner(), root, leaf);
+    saw_three_spans(rt, stack.inner().layer(), spans);
     Ok(())
+}
+
+#[test]
+fn one_layers_filter_hides_nothing_from_another(rt: HostRuntime) -> Result<(), Fail> {
+    let alloc = rt.alloc();
+    let stack = put(Registry::new(alloc), new_watcher(alloc))?;
+    let under_info = new_watcher(alloc).with_filter(LevelFilter::INFO);
+    hides_from_one_alone(&rt, &mut put(stack, under_info)?)
 }
 
 /// A span of level info and one of level debug, and all else that comes of the second.
@@ -173,18 +191,20 @@ fn shown_and_hidden<S: Subscriber>(stack: &mut S) -> Result<(Id, Id), Fail>
     Ok((shown, hidden))
 }
 
-#[test]
-fn a_hidden_span_is_hidden_from_its_layer_alone(rt: HostRuntime) -> Result<(), Fail> {
-    let mut stack = two_watchers(rt.alloc())?;
-    let (shown, hidden) = shown_and_hidden(&mut stack)?;
-    let under_info = [
+/// A watcher saw a span, and all else that came of it.
+fn saw_a_span(rt: &impl Abort, watcher: &Observer<Watcher>, shown: Id) {
+    let one = [
         Seen::NewSpan(shown),
         Seen::InScope(shown),
         Seen::Record(shown),
         Seen::Follows(shown, shown),
     ];
-    saw(&rt, stack.layer().inner(), &under_info);
-    let open = [
+    saw(rt, watcher, &one);
+}
+
+/// A watcher saw two spans, and all else that came of them.
+fn saw_both(rt: &impl Abort, watcher: &Observer<Watcher>, shown: Id, hidden: Id) {
+    let both = [
         Seen::NewSpan(shown),
         Seen::InScope(shown),
         Seen::NewSpan(hidden),
@@ -197,8 +217,28 @@ fn a_hidden_span_is_hidden_from_its_layer_alone(rt: HostRuntime) -> Result<(), F
         Seen::Follows(shown, shown),
         Seen::Close(hidden),
     ];
-    saw(&rt, stack.inner().layer(), &open);
+    saw(rt, watcher, &both);
+}
+
+/// The watcher under INFO sees nothing of a span of level debug, and the open one sees all.
+fn see_all_but_the_hidden<S: Subscriber>(
+    rt: &impl Abort,
+    stack: &mut TwoWatchers<S>,
+) -> Result<(), Fail>
+    requires { ⟦<TwoWatchers<S> as Subscriber>⟧.usable stack.old }
+{
+    let (shown, hidden) = shown_and_hidden(stack)?;
+    saw_a_span(rt, stack.layer().inner(), shown);
+    saw_both(rt, stack.inner().layer(), shown, hidden);
     Ok(())
+}
+
+#[test]
+fn a_hidden_span_is_hidden_from_its_layer_alone(rt: HostRuntime) -> Result<(), Fail> {
+    let alloc = rt.alloc();
+    let stack = put(Registry::new(alloc), new_watcher(alloc))?;
+    let under_info = new_watcher(alloc).with_filter(LevelFilter::INFO);
+    see_all_but_the_hidden(&rt, &mut put(stack, under_info)?)
 }
 
 /// Puts a stack in use, and notifies it of a new span and of its close.
@@ -218,20 +258,16 @@ fn last_seen(watcher: &Observer<Watcher>) -> Option<Seen> {
 }
 
 /// Two watchers as one layer, and one outside them.
-type ThreeWatchers = Layered<
+type ThreeWatchers<S> = Layered<
     Observer<Watcher>,
-    Layered<Layered<Observer<Watcher>, Observer<Watcher>>, Registry>,
+    Layered<Layered<Observer<Watcher>, Observer<Watcher>>, S>,
 >;
 
-fn three_watchers(alloc: Global) -> Result<ThreeWatchers, TraceError> {
-    let pair = new_watcher(alloc).and_then(new_watcher(alloc));
-    put_under(new_watcher(alloc), put(Registry::new(alloc), pair)?)
-}
-
-#[test]
-fn every_layer_sees_a_closing_span(rt: HostRuntime) -> Result<(), Fail> {
-    let mut stack = three_watchers(rt.alloc())?;
-    let id = open_and_close(&mut stack)?;
+/// Each of three watchers sees last that a span is closing.
+fn all_see_a_close<S: Subscriber>(rt: &impl Abort, stack: &mut ThreeWatchers<S>) -> Result<(), Fail>
+    requires { ⟦<ThreeWatchers<S> as Subscriber>⟧.usable stack.old }
+{
+    let id = open_and_close(stack)?;
     let pair = stack.inner().layer();
     let seen = [
         last_seen(stack.layer()),
@@ -240,6 +276,14 @@ fn every_layer_sees_a_closing_span(rt: HostRuntime) -> Result<(), Fail> {
     ];
     assert!(rt; seen == [Some(Seen::Close(id)); 3]);
     Ok(())
+}
+
+#[test]
+fn every_layer_sees_a_closing_span(rt: HostRuntime) -> Result<(), Fail> {
+    let alloc = rt.alloc();
+    let pair = new_watcher(alloc).and_then(new_watcher(alloc));
+    let stack = put(Registry::new(alloc), pair)?;
+    all_see_a_close(&rt, &mut put_under(new_watcher(alloc), stack)?)
 }
 
 /// A registry that handed out all numbers of filters.
@@ -251,33 +295,66 @@ fn without_numbers(alloc: Global) -> Result<Registry, TraceError> {
     Ok(registry)
 }
 
-#[test]
-fn a_registry_has_room_for_128_filters(rt: HostRuntime) -> Result<(), Fail> {
-    let layer = new_watcher(rt.alloc()).with_filter(LevelFilter::INFO);
-    let Err(back) = without_numbers(rt.alloc())?.with(layer) else {
-        return Err(Fail::from("a 129th filter got a number"));
-    };
+/// A layer that a stack refuses, with that stack.
+fn refused<S: Subscriber + Drop, L: Layer<S> + Drop>(
+    stack: S,
+    layer: L,
+) -> Result<Unattached<L, S>, Fail>
+    requires layer { L.usable layer }
+    requires stack { S.usable stack }
+{
+    match stack.with(layer) {
+        Ok(_) => Err(Fail::from("a 129th filter got a number")),
+        Err(back) => Ok(back),
+    }
+}
+
+/// A layer under INFO was refused, since all numbers were handed out.
+fn is_the_129th<L>(rt: &impl Abort, back: &Unattached<Filtered<L, LevelFilter>, Registry>) {
     assert!(rt;
         (back.error, back.subscriber.filters(), *back.layer.filter())
             == (TraceError::TooManyFilters, 128, LevelFilter::INFO)
     );
+}
+
+/// How many filters a registry has under a layer.
+fn filters_under<L: Layer<Registry> + Drop>(registry: Registry, layer: L) -> Result<u32, TraceError>
+    requires { L.usable layer }
+{
+    let stack = put(registry, layer)?;
+    Ok(stack.inner().filters())
+}
+
+#[test]
+fn a_registry_has_room_for_128_filters(rt: HostRuntime) -> Result<(), Fail> {
+    let full = without_numbers(rt.alloc())?;
+    let back = refused(full, new_watcher(rt.alloc()).with_filter(LevelFilter::INFO))?;
+    is_the_129th(&rt, &back);
     // A layer without filters needs no number.
-    let stack = put(back.subscriber, new_watcher(rt.alloc()))?;
-    assert!(rt; stack.inner().filters() == 128);
+    let count = filters_under(back.subscriber, new_watcher(rt.alloc()))?;
+    assert!(rt; count == 128);
     Ok(())
+}
+
+/// A layer under a filter without a number is asked of an event, and is then notified of it: it lets it by, and doesn't hear of it.
+fn lets_by_and_keeps(
+    rt: &impl Abort,
+    layer: &mut Filtered<Observer<Watcher>, LevelFilter>,
+    registry: &mut Registry,
+) {
+    let metadata = metadata_of(1, Level::ERROR, Kind::EVENT);
+    let event = Event::new(metadata, &[]);
+    let mut pass = Pass::new();
+    assert!(rt; layer.enabled(&metadata, &Context::new(registry, LANE), &mut pass));
+    assert!(rt; layer.event_enabled(&event, &Context::new(registry, LANE), &mut pass));
+    layer.on_event(&event, &mut ContextMut::new(registry, LANE, &pass));
+    assert!(rt; layer.inner().observer().seen.as_slice().is_empty());
 }
 
 #[test]
 fn an_unattached_filter_keeps_everything_from_its_layer(rt: HostRuntime) -> Result<(), Fail> {
-    let mut registry = Registry::new(rt.alloc());
     let mut layer = Filtered::new(new_watcher(rt.alloc()), LevelFilter::TRACE);
-    let metadata = metadata_of(1, Level::ERROR, Kind::EVENT);
-    let event = Event::new(metadata, &[]);
-    let mut pass = Pass::new();
-    assert!(rt; layer.enabled(&metadata, &Context::new(&registry, LANE), &mut pass));
-    assert!(rt; layer.event_enabled(&event, &Context::new(&registry, LANE), &mut pass));
-    layer.on_event(&event, &mut ContextMut::new(&mut registry, LANE, &pass));
-    assert!(rt; layer.inner().observer().seen.as_slice().is_empty());
+    lets_by_and_keeps(&rt, &mut layer, &mut Registry::new(rt.alloc()));
     Ok(())
 }
 
@@ -293,37 +370,59 @@ fn three_events<S: Subscriber>(rt: &impl Abort, stack: &mut S) -> Result<Id, Fai
     Ok(id)
 }
 
-#[test]
-fn nested_filters_must_all_pass(rt: HostRuntime) -> Result<(), Fail> {
-    let layer = new_watcher(rt.alloc())
-        .with_filter(LevelFilter::TRACE)
-        .with_filter(LevelFilter::INFO)
-        .with_filter(LevelFilter::DEBUG);
-    let mut stack = put(Registry::new(rt.alloc()), layer)?;
-    let id = three_events(&rt, &mut stack)?;
-    assert!(rt; stack.root().filters() == 3);
+/// A watcher saw one span, and one event in it.
+fn saw_one_event(rt: &impl Abort, watcher: &Observer<Watcher>, id: Id) {
     let once = [
         Seen::NewSpan(id),
         Seen::InScope(id),
         Seen::Event,
         Seen::InScope(id),
     ];
-    saw(&rt, stack.layer().inner().inner().inner(), &once);
+    saw(rt, watcher, &once);
+}
+
+/// A layer under a level.
+type Under<L> = Filtered<L, LevelFilter>;
+
+/// A watcher under three levels on a stack.
+type UnderThree<S> = Layered<Under<Under<Under<Observer<Watcher>>>>, S>;
+
+/// The watcher sees what all three levels pass.
+fn sees_what_three_pass<S: Subscriber>(
+    rt: &impl Abort,
+    stack: &mut UnderThree<S>,
+) -> Result<(), Fail>
+    requires { ⟦<UnderThree<S> as Subscriber>⟧.usable stack.old }
+{
+    let id = three_events(rt, stack)?;
+    assert!(rt; stack.root().filters() == 3);
+    saw_one_event(rt, stack.layer().inner().inner().inner(), id);
     Ok(())
 }
 
-/// The numbers under two tags of a span in which an event of each of three levels was sent.
-fn marks_of_three_events<S: Subscriber>(
+#[test]
+fn nested_filters_must_all_pass(rt: HostRuntime) -> Result<(), Fail> {
+    let layer = new_watcher(rt.alloc())
+        .with_filter(LevelFilter::TRACE)
+        .with_filter(LevelFilter::INFO)
+        .with_filter(LevelFilter::DEBUG);
+    sees_what_three_pass(&rt, &mut put(Registry::new(rt.alloc()), layer)?)
+}
+
+/// Of three events in a span two are marked under the first tag, and one under the second.
+fn marks_two_and_one<S: Subscriber>(
     rt: &impl Abort,
     stack: &mut S,
     tags: [Tag<u64>; 2],
-) -> Result<[Option<u64>; 2], Fail>
+) -> Result<(), Fail>
     requires { S.usable stack.old }
     ensures { S.usable stack.new }
 {
     let id = three_events(rt, stack)?;
     let [first, second] = tags;
-    Ok([number_at(stack, first, id), number_at(stack, second, id)])
+    let marks = [number_at(stack, first, id), number_at(stack, second, id)];
+    assert!(rt; marks == [Some(2), Some(1)]);
+    Ok(())
 }
 
 #[test]
@@ -332,34 +431,43 @@ fn hooks_write_extensions_under_their_filters(rt: HostRuntime) -> Result<(), Fai
     let pair = new_marker(few)
         .with_filter(LevelFilter::INFO)
         .and_then(new_marker(all).with_filter(LevelFilter::DEBUG));
-    let mut stack = put(Registry::new(rt.alloc()), pair)?;
-    let marks = marks_of_three_events(&rt, &mut stack, [all, few])?;
-    assert!(rt; marks == [Some(2), Some(1)]);
+    marks_two_and_one(&rt, &mut put(Registry::new(rt.alloc()), pair)?, [all, few])
+}
+
+/// A watcher on a stack and, outside it, what sends an event at each new span.
+type EchoAndWatcher<S> = Layered<Echo, Layered<Observer<Watcher>, S>>;
+
+/// A new span sends an event, which the watcher sees.
+fn sees_the_echo<S: Subscriber>(rt: &impl Abort, stack: &mut EchoAndWatcher<S>) -> Result<(), Fail>
+    requires { ⟦<EchoAndWatcher<S> as Subscriber>⟧.usable stack.old }
+{
+    let id = open(stack, Level::INFO, None)?;
+    saw_one_event(rt, stack.inner().layer(), id);
     Ok(())
 }
 
 #[test]
 fn a_hook_may_send_an_event(rt: HostRuntime) -> Result<(), Fail> {
     let stack = put(Registry::new(rt.alloc()), new_watcher(rt.alloc()))?;
-    let mut stack = put(stack, Echo)?;
-    let id = open(&mut stack, Level::INFO, None)?;
-    let echoed = [
-        Seen::NewSpan(id),
-        Seen::InScope(id),
-        Seen::Event,
-        Seen::InScope(id),
-    ];
-    saw(&rt, stack.inner().layer(), &echoed);
-    Ok(())
+    sees_the_echo(&rt, &mut put(stack, Echo)?)
+}
+
+/// A watcher that saw an event.
+fn watcher_of_an_event(alloc: Global) -> Result<Observer<Watcher>, AllocError> {
+    let mut watcher = new_watcher(alloc);
+    watcher.observer_mut().seen.push(Seen::Event)?;
+    Ok(watcher)
+}
+
+/// What is taken out of an observer on a registry without filters has seen an event.
+fn gathered_an_event(rt: &impl Abort, registry: &Registry, watcher: &Watcher) {
+    assert!(rt; (registry.filters(), watcher.seen.as_slice()) == (0, [Seen::Event].as_slice()));
 }
 
 #[test]
 fn what_an_observer_gathered_is_taken_out(rt: HostRuntime) -> Result<(), Fail> {
-    let mut watcher = new_watcher(rt.alloc());
-    watcher.observer_mut().seen.push(Seen::Event)?;
-    let stack = put(Registry::new(rt.alloc()), watcher)?;
-    let (layer, registry) = stack.into_parts();
-    let watcher = layer.into_observer();
-    assert!(rt; (registry.filters(), watcher.seen.as_slice()) == (0, [Seen::Event].as_slice()));
+    let watcher = watcher_of_an_event(rt.alloc())?;
+    let (layer, registry) = put(Registry::new(rt.alloc()), watcher)?.into_parts();
+    gathered_an_event(&rt, &registry, &layer.into_observer());
     Ok(())
 }

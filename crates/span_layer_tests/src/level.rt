@@ -4,6 +4,7 @@ use span_core::{LevelFilter, TraceError};
 use span_layers::{Filtered, Identity, Layer, LayerExt, Layered};
 use span_registry::{Registry, Subscriber};
 use std::alloc::Global;
+use std::process::Abort;
 use std::test::Fail;
 
 /// A layer under a filter by level.
@@ -49,14 +50,12 @@ fn pair_after(pair: &mut Pair, number: u32) -> Levels {
     (taken, *pair.layer().filter(), *pair.inner().filter())
 }
 
-#[test]
-fn a_pair_finds_a_filter_by_its_number(rt: HostRuntime) -> Result<(), Fail> {
-    let mut pair = under(LevelFilter::WARN).and_then(under(LevelFilter::INFO));
-    number(rt.alloc(), &mut pair);
+/// A pair of WARN and, outside it, INFO takes what its numbers 0 and 1 name.
+fn pair_takes_its_own(rt: &impl Abort, pair: &mut Pair) {
     let after = [
-        pair_after(&mut pair, 2),
-        pair_after(&mut pair, 1),
-        pair_after(&mut pair, 0),
+        pair_after(pair, 2),
+        pair_after(pair, 1),
+        pair_after(pair, 0),
     ];
     assert!(rt;
         after
@@ -66,6 +65,13 @@ fn a_pair_finds_a_filter_by_its_number(rt: HostRuntime) -> Result<(), Fail> {
                 (true, LevelFilter::TRACE, LevelFilter::TRACE),
             ]
     );
+}
+
+#[test]
+fn a_pair_finds_a_filter_by_its_number(rt: HostRuntime) -> Result<(), Fail> {
+    let mut pair = under(LevelFilter::WARN).and_then(under(LevelFilter::INFO));
+    number(rt.alloc(), &mut pair);
+    pair_takes_its_own(&rt, &mut pair);
     Ok(())
 }
 
@@ -78,11 +84,9 @@ fn list_after(list: &mut Vec<Under>, number: u32) -> Option<Levels> {
     }
 }
 
-#[test]
-fn a_list_finds_a_filter_by_its_number(rt: HostRuntime) -> Result<(), Fail> {
-    let mut list = vec![in rt.alloc(); under(LevelFilter::WARN), under(LevelFilter::INFO)]?;
-    number(rt.alloc(), &mut list);
-    let after = [list_after(&mut list, 2), list_after(&mut list, 0)];
+/// A list of WARN and INFO takes what its number 0 names.
+fn list_takes_its_own(rt: &impl Abort, list: &mut Vec<Under>) {
+    let after = [list_after(list, 2), list_after(list, 0)];
     assert!(rt;
         after
             == [
@@ -90,25 +94,30 @@ fn a_list_finds_a_filter_by_its_number(rt: HostRuntime) -> Result<(), Fail> {
                 Some((true, LevelFilter::TRACE, LevelFilter::INFO)),
             ]
     );
+}
+
+#[test]
+fn a_list_finds_a_filter_by_its_number(rt: HostRuntime) -> Result<(), Fail> {
+    let mut list = vec![in rt.alloc(); under(LevelFilter::WARN), under(LevelFilter::INFO)]?;
+    number(rt.alloc(), &mut list);
+    list_takes_its_own(&rt, &mut list);
     Ok(())
 }
 
+/// A layer under a level, and under another outside it.
+type Nested = Filtered<Under, LevelFilter>;
+
 /// Of a layer under two levels, of which the outer one comes first.
-fn nested_after(nested: &mut Filtered<Under, LevelFilter>, number: u32) -> Levels {
+fn nested_after(nested: &mut Nested, number: u32) -> Levels {
     let taken = takes(nested, number);
     (taken, *nested.filter(), *nested.inner().filter())
 }
 
-#[test]
-fn a_filter_under_another_is_found(rt: HostRuntime) -> Result<(), Fail> {
-    let mut nested = under(LevelFilter::WARN).with_filter(LevelFilter::INFO);
-    let unnumbered = nested_after(&mut nested, 0);
-    number(rt.alloc(), &mut nested);
-    let after = [
-        unnumbered,
-        nested_after(&mut nested, 2),
-        nested_after(&mut nested, 1),
-    ];
+/// A layer under WARN and, outside it, INFO takes what its number 1 names, once it has that.
+fn nested_takes_its_own(rt: &impl Abort, alloc: Global, nested: &mut Nested) {
+    let unnumbered = nested_after(nested, 0);
+    number(alloc, nested);
+    let after = [unnumbered, nested_after(nested, 2), nested_after(nested, 1)];
     assert!(rt;
         after
             == [
@@ -117,6 +126,12 @@ fn a_filter_under_another_is_found(rt: HostRuntime) -> Result<(), Fail> {
                 (true, LevelFilter::INFO, LevelFilter::TRACE),
             ]
     );
+}
+
+#[test]
+fn a_filter_under_another_is_found(rt: HostRuntime) -> Result<(), Fail> {
+    let mut nested = under(LevelFilter::WARN).with_filter(LevelFilter::INFO);
+    nested_takes_its_own(&rt, rt.alloc(), &mut nested);
     Ok(())
 }
 
@@ -129,15 +144,12 @@ fn optional_after(layer: &mut Option<Under>, number: u32) -> (bool, Option<Level
     }
 }
 
-#[test]
-fn a_layer_that_is_there_takes_a_level(rt: HostRuntime) -> Result<(), Fail> {
-    let mut some = Some(under(LevelFilter::WARN));
-    number(rt.alloc(), &mut some);
-    let mut none: Option<Under> = None;
+/// A layer under WARN takes what its number 0 names, and an absent one takes nothing.
+fn optional_takes_its_own(rt: &impl Abort, some: &mut Option<Under>, none: &mut Option<Under>) {
     let after = [
-        optional_after(&mut some, 1),
-        optional_after(&mut some, 0),
-        optional_after(&mut none, 0),
+        optional_after(some, 1),
+        optional_after(some, 0),
+        optional_after(none, 0),
     ];
     assert!(rt;
         after
@@ -147,6 +159,13 @@ fn a_layer_that_is_there_takes_a_level(rt: HostRuntime) -> Result<(), Fail> {
                 (false, None),
             ]
     );
+}
+
+#[test]
+fn a_layer_that_is_there_takes_a_level(rt: HostRuntime) -> Result<(), Fail> {
+    let mut some = Some(under(LevelFilter::WARN));
+    number(rt.alloc(), &mut some);
+    optional_takes_its_own(&rt, &mut some, &mut None);
     Ok(())
 }
 

@@ -1,11 +1,10 @@
 //! Tests of layers that add nothing of their own: one that does nothing, one that may be absent, one in a box.
 use crate::fixture::{LANE, put};
 use crate::signer::Signer;
-use crate::stack::{Shown, hint_of, send, shown};
+use crate::stack::{Shown, hint_of, is_text, send, shown};
 use span_core::{Id, Interest, Level, LevelFilter, Pass, TraceError};
-use span_layers::{Identity, Layer, LayerExt};
+use span_layers::{Filtered, Identity, Layer, LayerExt, Layered};
 use span_registry::{ContextMut, LookupSpan, Registry, Subscriber};
-use std::alloc::Global;
 use std::process::Abort;
 use std::test::Fail;
 
@@ -15,15 +14,16 @@ fn is_absent<S: Subscriber>(stack: &S) -> bool
     stack.is_absent()
 }
 
-/// What a registry under this layer answers of an event of this level, and whether the layer is absent.
-fn shown_and_absent<L: Layer<Registry> + Drop>(
-    alloc: Global,
+/// What a stack under this layer answers of an event of this level, and whether the layer is absent.
+fn shown_and_absent<S: Subscriber + Drop, L: Layer<S> + Drop>(
+    stack: S,
     layer: L,
     level: Level,
 ) -> Result<(Shown, bool), TraceError>
-    requires { L.usable layer }
+    requires layer { L.usable layer }
+    requires stack { S.usable stack }
 {
-    let stack = put(Registry::new(alloc), layer)?;
+    let stack = put(stack, layer)?;
     Ok((shown(&stack, level), is_absent(&stack)))
 }
 
@@ -53,7 +53,7 @@ fn use_under_info<S: Subscriber>(rt: &impl Abort, stack: &mut S)
 #[test]
 fn an_absent_layer_wants_no_level(rt: HostRuntime) -> Result<(), Fail> {
     let absent: Option<Signer> = None;
-    let said = shown_and_absent(rt.alloc(), absent, Level::ERROR)?;
+    let said = shown_and_absent(Registry::new(rt.alloc()), absent, Level::ERROR)?;
     let hint = Some(LevelFilter::OFF);
     assert!(rt; said == ((Interest::Always, true, true, hint), true));
     let absent: Option<Signer> = None;
@@ -62,17 +62,29 @@ fn an_absent_layer_wants_no_level(rt: HostRuntime) -> Result<(), Fail> {
     Ok(())
 }
 
-#[test]
-fn a_layer_that_is_there_is_what_it_is(rt: HostRuntime) -> Result<(), Fail> {
-    let layer = Some(Signer::new(1).with_filter(LevelFilter::INFO));
-    let mut stack = put(Registry::new(rt.alloc()), layer)?;
-    use_under_info(&rt, &mut stack);
+/// A signer was put in use once, and heard of one event.
+fn is_used_once(rt: &impl Abort, signer: &Signer) {
+    assert!(rt; signer.in_use == 1);
+    assert!(rt; signer.events == 1);
+}
+
+/// A signer under INFO that may be absent, on a registry.
+type MaySign = Layered<Option<Filtered<Signer, LevelFilter>>, Registry>;
+
+/// The signer is there, and is what it is.
+fn has_a_signer(rt: &impl Abort, stack: &mut MaySign) -> Result<(), Fail> {
+    use_under_info(rt, stack);
     let Some(layer) = stack.layer() else {
         return Err(Fail::from("the layer is absent"));
     };
-    assert!(rt; layer.inner().in_use == 1);
-    assert!(rt; layer.inner().events == 1);
+    is_used_once(rt, layer.inner());
     Ok(())
+}
+
+#[test]
+fn a_layer_that_is_there_is_what_it_is(rt: HostRuntime) -> Result<(), Fail> {
+    let layer = Some(Signer::new(1).with_filter(LevelFilter::INFO));
+    has_a_signer(&rt, &mut put(Registry::new(rt.alloc()), layer)?)
 }
 
 #[test]
@@ -80,18 +92,19 @@ fn a_boxed_layer_is_what_it_holds(rt: HostRuntime) -> Result<(), Fail> {
     let layer = Box::new(rt.alloc(), Signer::new(1).with_filter(LevelFilter::INFO))?;
     let mut stack = put(Registry::new(rt.alloc()), layer)?;
     use_under_info(&rt, &mut stack);
-    assert!(rt; stack.layer().inner().in_use == 1);
-    assert!(rt; stack.layer().inner().events == 1);
+    is_used_once(&rt, stack.layer().inner());
     Ok(())
 }
 
-#[test]
-fn a_changed_id_reaches_what_is_held(rt: HostRuntime) -> Result<(), Fail> {
-    let mut registry = Registry::new(rt.alloc());
-    let mut layer = Box::new(rt.alloc(), Some(Signer::new(1)))?;
+/// Notifies a signer that may be absent, in its box, that a span has another id: it is there, and hears of that once.
+fn hears_of_a_changed_id(
+    rt: &impl Abort,
+    layer: &mut Box<Option<Signer>>,
+    registry: &mut Registry,
+) -> Result<(), Fail> {
     let (pass, id) = (Pass::new(), Id::from_u64(1));
-    layer.on_id_change(id, id, &mut ContextMut::new(&mut registry, LANE, &pass));
-    let Some(signer) = &*layer else {
+    layer.on_id_change(id, id, &mut ContextMut::new(registry, LANE, &pass));
+    let Some(signer) = &**layer else {
         return Err(Fail::from("the layer is absent"));
     };
     assert!(rt; signer.changes == 1);
@@ -99,10 +112,20 @@ fn a_changed_id_reaches_what_is_held(rt: HostRuntime) -> Result<(), Fail> {
 }
 
 #[test]
+fn a_changed_id_reaches_what_is_held(rt: HostRuntime) -> Result<(), Fail> {
+    let mut layer = Box::new(rt.alloc(), Some(Signer::new(1)))?;
+    hears_of_a_changed_id(&rt, &mut layer, &mut Registry::new(rt.alloc()))
+}
+
+#[test]
 fn a_layer_may_do_nothing(rt: HostRuntime) -> Result<(), Fail> {
-    let said = shown_and_absent(rt.alloc(), Identity::default(), Level::TRACE)?;
+    let registry = Registry::new(rt.alloc());
+    let said = shown_and_absent(registry, Identity::default(), Level::TRACE)?;
     assert!(rt; said == ((Interest::Always, true, true, None), false));
-    let text = format!(in rt.alloc(); "{:?}", Identity)?;
-    assert!(rt; text.as_str() == "Identity");
+    is_text(
+        &rt,
+        format!(in rt.alloc(); "{:?}", Identity)?.as_str(),
+        "Identity",
+    );
     Ok(())
 }

@@ -11,15 +11,30 @@ ghost use Rattle.span_registry.specs.Levels.{unlevelled};
 
 use crate::fixture::put;
 use span_core::{Attributes, Event, Id, Interest, LevelFilter, Metadata, Pass, Record};
-use span_layers::{Layer, LayerExt};
+use span_layers::{Layer, LayerExt, Layered};
 use span_registry::{Context, ContextMut, Registry, Subscriber};
 use std::alloc::{AllocError, Global};
 use std::cell::Cell;
+use std::process::Abort;
 use std::rc::Rc;
 use std::test::Fail;
 
 /// Digits, in the order in which they were written.
 type Digits = Rc<Cell<u64>>;
+
+/// What newcomers write when they are put on a registry, and when they are put in use.
+#[derive(Drop)]
+struct Written {
+    put_on: Digits,
+    in_use: Digits,
+}
+
+/// Nothing is written yet.
+fn nothing_written(alloc: Global) -> Result<Written, AllocError> {
+    let put_on = Rc::new(alloc, Cell::new(0))?;
+    let in_use = Rc::new(alloc, Cell::new(0))?;
+    Ok(Written { put_on, in_use })
+}
 
 /// Writes its digit behind those of others when it is put on a registry, and when it is put in use.
 #[derive(Drop)]
@@ -29,12 +44,12 @@ struct Newcomer {
     in_use: Digits,
 }
 
-/// A newcomer that writes where this one does.
-fn beside(first: &Newcomer, digit: u64) -> Result<Newcomer, AllocError> {
+/// A newcomer that writes there.
+fn make_newcomer(written: &Written, digit: u64) -> Result<Newcomer, AllocError> {
     Ok(Newcomer {
         digit,
-        put_on: first.put_on.clone()?,
-        in_use: first.in_use.clone()?,
+        put_on: written.put_on.clone()?,
+        in_use: written.in_use.clone()?,
     })
 }
 
@@ -129,29 +144,62 @@ fn put_in_use<S: Subscriber>(stack: &mut S)
     stack.on_register_dispatch();
 }
 
+/// Two newcomers as one layer.
+type Pair = Layered<Newcomer, Newcomer>;
+
+/// Of which 2 is the outer part.
+fn pair_of_newcomers(written: &Written) -> Result<Pair, AllocError> {
+    let inner = make_newcomer(written, 3)?;
+    Ok(inner.and_then(make_newcomer(written, 2)?))
+}
+
+/// Puts a newcomer behind others in a list.
+fn push_newcomer(
+    members: &mut Vec<Newcomer>,
+    written: &Written,
+    digit: u64,
+) -> Result<(), AllocError> {
+    members.push(make_newcomer(written, digit)?)?;
+    Ok(())
+}
+
 /// Two members of a list.
-fn two_beside(alloc: Global, first: &Newcomer) -> Result<Vec<Newcomer>, AllocError> {
+fn two_members(alloc: Global, written: &Written) -> Result<Vec<Newcomer>, AllocError> {
     let mut members = Vec::new(alloc);
-    members.push(beside(first, 4)?)?;
-    members.push(beside(first, 5)?)?;
+    push_newcomer(&mut members, written, 4)?;
+    push_newcomer(&mut members, written, 5)?;
     Ok(members)
+}
+
+/// Newcomers wrote these digits when they were put on a registry, and in use.
+fn wrote(rt: &impl Abort, written: &Written, put_on: u64, in_use: u64) {
+    assert!(rt; (written.put_on.get(), written.in_use.get()) == (put_on, in_use));
+}
+
+/// Puts a list on a stack, and then that in use.
+fn use_in_order<S: Subscriber + Drop>(
+    rt: &impl Abort,
+    written: &Written,
+    stack: S,
+    list: Vec<Newcomer>,
+) -> Result<(), Fail>
+    requires { S.usable stack }
+{
+    let mut stack = put(stack, list)?;
+    wrote(rt, written, 12345, 0);
+    put_in_use(&mut stack);
+    wrote(rt, written, 12345, 12345);
+    Ok(())
+}
+
+/// Puts a newcomer, a pair and a list on a registry.
+fn put_on_and_use(rt: &impl Abort, alloc: Global, written: &Written) -> Result<(), Fail> {
+    let stack = put(Registry::new(alloc), make_newcomer(written, 1)?)?;
+    let stack = put(stack, pair_of_newcomers(written)?)?;
+    use_in_order(rt, written, stack, two_members(alloc, written)?)
 }
 
 #[test]
 fn layers_are_put_in_use_inner_first(rt: HostRuntime) -> Result<(), Fail> {
-    let put_on = Rc::new(rt.alloc(), Cell::new(0))?;
-    let in_use = Rc::new(rt.alloc(), Cell::new(0))?;
-    let first = Newcomer {
-        digit: 1,
-        put_on: put_on.clone()?,
-        in_use: in_use.clone()?,
-    };
-    let list = two_beside(rt.alloc(), &first)?;
-    // Of the pair 2 is the outer part.
-    let pair = beside(&first, 3)?.and_then(beside(&first, 2)?);
-    let mut stack = put(put(put(Registry::new(rt.alloc()), first)?, pair)?, list)?;
-    assert!(rt; (put_on.get(), in_use.get()) == (12345, 0));
-    put_in_use(&mut stack);
-    assert!(rt; (put_on.get(), in_use.get()) == (12345, 12345));
-    Ok(())
+    put_on_and_use(&rt, rt.alloc(), &nothing_written(rt.alloc())?)
 }

@@ -8,9 +8,14 @@ use span_core::{
     Attributes, Event, Id, Interest, Kind, Level, LevelFilter, Pass, Record, TraceError,
 };
 use span_layers::{Layer, LayerExt, Layered};
-use span_registry::{LookupSpan, Registry, Subscriber, Tag};
-use std::alloc::Global;
+use span_registry::{LookupSpan, Subscriber, Tag};
+use std::process::Abort;
 use std::test::Fail;
+
+/// A text is this one.
+pub(crate) fn is_text(rt: &impl Abort, text: &str, wanted: &str) {
+    assert!(rt; text == wanted);
+}
 
 /// Puts a stack under a layer.
 pub(crate) fn put_under<S: Subscriber + Drop, L: Layer<S> + Drop>(
@@ -60,15 +65,16 @@ pub(crate) fn shown<S: Subscriber>(stack: &S, level: Level) -> Shown
     )
 }
 
-/// The same of a registry under this layer, at two levels.
-pub(crate) fn shown_at<L: Layer<Registry> + Drop>(
-    alloc: Global,
+/// The same of a stack under this layer, at two levels.
+pub(crate) fn shown_at<S: Subscriber + Drop, L: Layer<S> + Drop>(
+    stack: S,
     layer: L,
     levels: [Level; 2],
 ) -> Result<[Shown; 2], TraceError>
-    requires { L.usable layer }
+    requires layer { L.usable layer }
+    requires stack { S.usable stack }
 {
-    let stack = put(Registry::new(alloc), layer)?;
+    let stack = put(stack, layer)?;
     let [first, second] = levels;
     Ok([shown(&stack, first), shown(&stack, second)])
 }

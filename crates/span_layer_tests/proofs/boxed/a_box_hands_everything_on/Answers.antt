@@ -2,5 +2,5 @@ use Rattle.span_filters.proofs.CallerLemmas.{in_a_box}
 use Rattle.span_layer_tests.proofs.boxed.a_box_hands_everything_on.OwnLists.{own-1, at-1-1}
 use Rattle.span_layer_tests.proofs.boxed.a_box_hands_everything_on.Goals as goal
 
-pub signed_at_a_change-requires : goal.signed_at_a_change-requires
-signed_at_a_change-requires g c = rw c.new-layer.ensures (in_a_box own-1 at-1-1 (λ j f. j.1.dyn_usable f) c.into_dyn_box.ensures.1 tt)
+pub signs_once_in_use-requires : goal.signs_once_in_use-requires
+signs_once_in_use-requires g c = rw c.new-layer.ensures (in_a_box own-1 at-1-1 (λ j f. j.1.dyn_usable f) c.into_dyn_box.ensures.1 tt)

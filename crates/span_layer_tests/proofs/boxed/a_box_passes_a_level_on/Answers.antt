@@ -2,5 +2,5 @@ use Rattle.span_filters.proofs.CallerLemmas.{in_a_box}
 use Rattle.span_layer_tests.proofs.boxed.a_box_passes_a_level_on.OwnLists.{own-1, at-1-1}
 use Rattle.span_layer_tests.proofs.boxed.a_box_passes_a_level_on.Goals as goal
 
-pub hints_by_level-requires : goal.hints_by_level-requires
-hints_by_level-requires g c = rw c.new-layer.ensures (in_a_box own-1 at-1-1 (λ j f. j.1.dyn_usable f) c.into_dyn_box.ensures.1 (tt, tt))
+pub takes_a_level-requires : goal.takes_a_level-requires
+takes_a_level-requires g c = rw c.new-layer.ensures (in_a_box own-1 at-1-1 (λ j f. j.1.dyn_usable f) c.into_dyn_box.ensures.1 (tt, tt))
