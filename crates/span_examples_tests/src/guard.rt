@@ -4,7 +4,7 @@ use span_core::{
 };
 use span_dispatch::{Dispatch, Notice, Recorder};
 use span_examples::guard::send_within;
-use span_filters::{And, FilterExt, Not};
+use span_filters::{AlwaysUsableFilter, And, FilterExt, Not};
 use span_layers::{AlwaysUsableLayer, Filtered, Identity, LayerExt, Layered, SubscriberExt};
 use span_registry::{AlwaysUsable, Registry};
 use std::alloc::Global;
@@ -21,21 +21,15 @@ fn event_from(callsite: u64, level: Level) -> Event<'static> {
     Event::new(metadata_of(callsite, level, Kind::EVENT), &[])
 }
 
-/// A recorder under a filter made of others.
-type Filtering = Filtered<Recorder, Option<And<LevelFilter, Not<Not<LevelFilter>>>>>;
+/// What is up to level info, by a filter made of others.
+fn up_to_info() -> Option<And<LevelFilter, Not<Not<LevelFilter>>>> {
+    Some(LevelFilter::INFO.and(LevelFilter::TRACE.not().not()))
+}
 
-/// Layers in a list on it.
-type Layers = Layered<Vec<Option<Box<Identity>>>, Filtering>;
-
-/// The recorder wants what is up to level info.
-fn layers(alloc: Global) -> Result<Layers, Fail> {
-    let filter = LevelFilter::INFO.and(LevelFilter::TRACE.not().not());
-    let list = vec![in alloc; Some(Box::new(alloc, Identity::new())?), None]?;
-    Ok(
-        Recorder::new(alloc)
-            .with_filter(Some(filter))
-            .and_then(list),
-    )
+/// Layers in a list.
+fn layers(alloc: Global) -> Result<Vec<Option<Box<Identity>>>, Fail> {
+    let boxed = Box::new(alloc, Identity::new())?;
+    Ok(vec![in alloc; Some(boxed), None]?)
 }
 
 /// Puts a layer on a stack, and that in use.
@@ -48,6 +42,22 @@ fn dispatch_of<S: AlwaysUsable + Drop, L: AlwaysUsableLayer<S> + Drop>(
         Ok(made) => Ok(Dispatch::new(alloc, made)),
         Err(back) => Err(back.error),
     }
+}
+
+/// The same of a layer round a recorder under a filter.
+fn in_use<S, F, L>(
+    alloc: Global,
+    stack: S,
+    filter: F,
+    outer: L,
+) -> Result<Dispatch<Layered<Layered<L, Filtered<Recorder, F>>, S>>, TraceError>
+where
+    S: AlwaysUsable + Drop,
+    F: AlwaysUsableFilter<S> + Drop,
+    L: AlwaysUsableLayer<S> + Drop,
+{
+    let layer = Recorder::new(alloc).with_filter(filter).and_then(outer);
+    dispatch_of(alloc, stack, layer)
 }
 
 /// Opens a span.
@@ -68,19 +78,46 @@ fn sends_within<S: AlwaysUsable>(rt: &impl Abort, dispatch: &mut Dispatch<S>) ->
     Ok(id)
 }
 
-#[test]
-fn a_guard_leaves_its_span(rt: HostRuntime) -> Result<(), Fail> {
-    let mut dispatch = dispatch_of(rt.alloc(), Registry::new(rt.alloc()), layers(rt.alloc())?)?;
-    let id = sends_within(&rt, &mut dispatch)?;
-    let kept = dispatch.stack().layer().inner().inner().notices();
+/// A recorder was told of a span that is entered and left, and of an event in it.
+fn was_told_of_all(rt: &impl Abort, recorder: &Recorder, id: Id) {
     let expected = [
         Notice::New(LANE, id),
         Notice::Enter(LANE, id),
         Notice::Event(LANE, 1),
         Notice::Exit(LANE, id),
     ];
-    assert!(rt; kept == expected.as_slice());
+    assert!(rt; recorder.notices() == expected.as_slice());
+}
+
+/// So a recorder under a filter is told.
+fn is_left<S, F, L>(
+    rt: &impl Abort,
+    alloc: Global,
+    stack: S,
+    filter: F,
+    outer: L,
+) -> Result<(), Fail>
+where
+    S: AlwaysUsable + Drop,
+    F: AlwaysUsableFilter<S> + Drop,
+    L: AlwaysUsableLayer<S> + Drop,
+{
+    let mut dispatch = in_use(alloc, stack, filter, outer)?;
+    let id = sends_within(rt, &mut dispatch)?;
+    was_told_of_all(rt, dispatch.stack().layer().inner().inner(), id);
     Ok(())
+}
+
+#[test]
+fn a_guard_leaves_its_span(rt: HostRuntime) -> Result<(), Fail> {
+    let outer = layers(rt.alloc())?;
+    is_left(
+        &rt,
+        rt.alloc(),
+        Registry::new(rt.alloc()),
+        up_to_info(),
+        outer,
+    )
 }
 
 /// The same of an event that is refused.
@@ -96,8 +133,31 @@ fn is_refused_within<S: AlwaysUsable>(
     Ok(())
 }
 
+/// The same where a recorder is under a filter.
+fn is_refused<S, F, L>(
+    rt: &impl Abort,
+    alloc: Global,
+    stack: S,
+    filter: F,
+    outer: L,
+) -> Result<(), Fail>
+where
+    S: AlwaysUsable + Drop,
+    F: AlwaysUsableFilter<S> + Drop,
+    L: AlwaysUsableLayer<S> + Drop,
+{
+    let mut dispatch = in_use(alloc, stack, filter, outer)?;
+    is_refused_within(rt, &mut dispatch)
+}
+
 #[test]
 fn a_refused_event_ends_the_guard(rt: HostRuntime) -> Result<(), Fail> {
-    let mut dispatch = dispatch_of(rt.alloc(), Registry::new(rt.alloc()), layers(rt.alloc())?)?;
-    is_refused_within(&rt, &mut dispatch)
+    let outer = layers(rt.alloc())?;
+    is_refused(
+        &rt,
+        rt.alloc(),
+        Registry::new(rt.alloc()),
+        up_to_info(),
+        outer,
+    )
 }

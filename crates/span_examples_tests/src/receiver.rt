@@ -1,5 +1,6 @@
 //! Tests over all crates: layers of many kinds in one receiver, a registry full of filters, and what a stack says of itself.
 ghost use Rattle.std.specs.Prelude.{⊤, IfOk};
+ghost use Rattle.span_dispatch.specs.Serve.{stack_of};
 ghost use Rattle.span_layers.specs.Layered.{inner_of, outer_of};
 ghost use Rattle.span_registry.specs.Context.{WritesExtensions};
 
@@ -8,7 +9,8 @@ use span_core::{
     Event, FieldSet, Id, Interest, Kind, Lane, Level, LevelFilter, Metadata, Pass, TraceError,
 };
 use span_dispatch::{Answer, Dispatch, Notice, Recorder, Request, Which, WhichParent};
-use span_examples::isolation::record_alone_and_beside;
+use span_examples::dispatch::Recorded;
+use span_examples::isolation::{Beside, WithAnswers, record_alone_and_beside};
 use span_examples::outline::serve_outlined;
 use span_examples::reload::reload;
 use span_layers::{Filtered, Layer, LayerExt, Layered, Observe, Observed, Observer, SubscriberExt};
@@ -57,19 +59,18 @@ pub(crate) fn sent_to_layer<S: Subscriber + Drop, L: Layer<S> + Drop>(
     sent_to(alloc, put(stack, layer)?)
 }
 
-/// Puts a layer on a stack, puts that in use, and serves a list.
-fn serve_by<S: Subscriber + Drop, L: Layer<S> + Drop>(
+/// Puts a layer on a stack, and that in use.
+fn in_use<S: Subscriber + Drop, L: Layer<S> + Drop>(
     alloc: Global,
     stack: S,
     layer: L,
-    requests: &[Request<'_>],
-) -> Result<(Dispatch<Layered<L, S>>, Vec<Answer>), TraceError>
+) -> Result<Dispatch<Layered<L, S>>, TraceError>
     requires stack { S.usable stack }
     requires layer { L.usable layer }
+    ensures { IfOk result (λ made. ⟦<Layered<L, S> as Subscriber>⟧.usable (stack_of made)) }
 {
-    let mut dispatch = Dispatch::new(alloc, put(stack, layer)?);
-    let answers = dispatch.serve(alloc, requests)?;
-    Ok((dispatch, answers))
+    let made = put(stack, layer)?;
+    Ok(Dispatch::new(alloc, made))
 }
 
 fn metadata_of(callsite: u64, level: Level, kind: Kind) -> Metadata {
@@ -161,6 +162,43 @@ fn notices_at(list: &[Recording], place: usize) -> &[Notice] {
     }
 }
 
+/// Serves a span and an event of each level but the first in it: the trace event is dropped, and three are counted. Answers the span.
+fn counts_three<S: Subscriber>(
+    rt: &impl Abort,
+    alloc: Global,
+    dispatch: &mut Dispatch<S>,
+) -> Result<Id, Fail>
+    requires { S.usable (stack_of dispatch.old) }
+{
+    let requests = [
+        root_from(0, Level::INFO),
+        event_from(1, Level::TRACE),
+        event_from(2, Level::DEBUG),
+        event_from(3, Level::INFO),
+        event_from(4, Level::WARN),
+    ];
+    let answers = dispatch.serve(alloc, &requests)?;
+    let id = first_made(&answers)?;
+    assert!(rt; answers.get(1).copied() == Some(Answer::Dropped));
+    assert!(rt; counted(dispatch.stack(), id) == Some(3));
+    Ok(id)
+}
+
+/// The same of a layer on a stack, which is put in use.
+fn in_use_counts_three<S: Subscriber + Drop, L: Layer<S> + Drop>(
+    rt: &impl Abort,
+    alloc: Global,
+    stack: S,
+    layer: L,
+) -> Result<(Dispatch<Layered<L, S>>, Id), Fail>
+    requires stack { S.usable stack }
+    requires layer { L.usable layer }
+{
+    let mut dispatch = in_use(alloc, stack, layer)?;
+    let id = counts_three(rt, alloc, &mut dispatch)?;
+    Ok((dispatch, id))
+}
+
 #[test]
 fn a_receiver_of_five(rt: HostRuntime) -> Result<(), Fail> {
     let alloc = rt.alloc();
@@ -174,17 +212,7 @@ fn a_receiver_of_five(rt: HostRuntime) -> Result<(), Fail> {
         .and_then(Some(recording(alloc, LevelFilter::WARN)))
         .and_then(BoxedLayer::new(object))
         .and_then(LevelFilter::DEBUG);
-    let requests = [
-        root_from(0, Level::INFO),
-        event_from(1, Level::TRACE),
-        event_from(2, Level::DEBUG),
-        event_from(3, Level::INFO),
-        event_from(4, Level::WARN),
-    ];
-    let (dispatch, answers) = serve_by(alloc, Registry::new(alloc), layers, &requests)?;
-    let id = first_made(&answers)?;
-    assert!(rt; answers.get(1).copied() == Some(Answer::Dropped));
-    assert!(rt; counted(dispatch.stack(), id) == Some(3));
+    let (dispatch, id) = in_use_counts_three(&rt, alloc, Registry::new(alloc), layers)?;
     each_heard_what_passes(&rt, dispatch.stack().layer().inner().inner(), id)
 }
 
@@ -218,6 +246,34 @@ fn silent_recorders(alloc: Global) -> Result<Vec<Recording>, Fail> {
     Ok(members)
 }
 
+/// A recorder on a registry.
+type Plain = Layered<Recorder, Registry>;
+
+/// Puts two layers on a stack.
+fn put_two<S, I, O>(stack: S, inner: I, outer: O) -> Result<Layered<O, Layered<I, S>>, TraceError>
+where
+    S: Subscriber + Drop,
+    I: Layer<S> + Drop,
+    O: Layer<Layered<I, S>> + Drop,
+    requires stack { S.usable stack }
+    requires inner { I.usable inner }
+    requires outer { O.usable outer }
+    ensures { IfOk result ⟦<Layered<O, Layered<I, S>> as Subscriber>⟧.usable }
+{
+    let below = put(stack, inner)?;
+    put(below, outer)
+}
+
+/// Such a list on one.
+type Full = Layered<Vec<Recording>, Plain>;
+
+fn full(alloc: Global) -> Result<Full, Fail>
+    ensures { IfOk result ⟦<Full as Subscriber>⟧.usable }
+{
+    let silent = silent_recorders(alloc)?;
+    Ok(put_two(Registry::new(alloc), Recorder::new(alloc), silent)?)
+}
+
 /// A layer that a stack has no room for: what comes back, and the number of filters that were handed out before.
 #[derive(Drop)]
 struct NoRoom<S, O> {
@@ -227,22 +283,16 @@ struct NoRoom<S, O> {
     dispatch: Dispatch<S>,
 }
 
-/// Puts a layer on a stack, and then another one that there is no room for. An error event is sent to the rest.
-fn no_room_for<S, L, O>(
+/// Puts a layer on a stack that has no room for it. An error event is sent to the rest.
+fn no_room_for<S: Subscriber + Drop, O: Layer<S> + Drop>(
     alloc: Global,
     stack: S,
-    layer: L,
     more: O,
-) -> Result<Option<NoRoom<Layered<L, S>, O>>, TraceError>
-where
-    S: Subscriber + Drop,
-    L: Layer<S> + Drop,
-    O: Layer<Layered<L, S>> + Drop,
+) -> Result<Option<NoRoom<S, O>>, TraceError>
     requires stack { S.usable stack }
-    requires layer { L.usable layer }
     requires more { O.usable more }
 {
-    let Err(back) = put(stack, layer)?.with(more) else {
+    let Err(back) = stack.with(more) else {
         return Ok(None);
     };
     let filters = back.subscriber.root().filters();
@@ -254,22 +304,29 @@ where
     }))
 }
 
-#[test]
-fn a_registry_full_of_filters(rt: HostRuntime) -> Result<(), Fail> {
-    let warn = recording(rt.alloc(), LevelFilter::WARN);
-    let stack = put(Registry::new(rt.alloc()), Recorder::new(rt.alloc()))?;
-    let silent = silent_recorders(rt.alloc())?;
-    let Some(back) = no_room_for(rt.alloc(), stack, silent, warn)? else {
-        return Err(Fail::from("a 129th filter got a number"));
-    };
-    assert!(rt; back.error == TraceError::TooManyFilters);
-    assert!(rt; *back.layer.filter() == LevelFilter::WARN);
-    assert!(rt; back.filters == 128);
-    let stack = back.dispatch.stack();
+/// The recorder was told of the error event, and of the list nobody was.
+fn plain_is_told_alone(rt: &impl Abort, stack: &Full) {
     let kept = stack.inner().layer().notices();
     assert!(rt; kept == [Notice::Event(LANE, 7)].as_slice());
     for member in stack.layer().iter() {
         assert!(rt; member.inner().notices().is_empty());
+    }
+}
+
+/// What is refused, and what comes back.
+fn comes_back(rt: &impl Abort, back: &NoRoom<Full, Recording>) {
+    assert!(rt; back.error == TraceError::TooManyFilters);
+    assert!(rt; *back.layer.filter() == LevelFilter::WARN);
+    assert!(rt; back.filters == 128);
+    plain_is_told_alone(rt, back.dispatch.stack());
+}
+
+#[test]
+fn a_registry_full_of_filters(rt: HostRuntime) -> Result<(), Fail> {
+    let full = full(rt.alloc())?;
+    match no_room_for(rt.alloc(), full, recording(rt.alloc(), LevelFilter::WARN))? {
+        Some(back) => comes_back(&rt, &back),
+        None => return Err(Fail::from("a 129th filter got a number")),
     }
     Ok(())
 }
@@ -312,23 +369,17 @@ fn hint_of<S: Subscriber + Drop, L: Layer<S> + Drop>(
 fn what_one_filter_wants_is_of_interest(rt: HostRuntime) -> Result<(), Fail> {
     let all = recording(rt.alloc(), LevelFilter::TRACE);
     let nothing = recording(rt.alloc(), LevelFilter::OFF);
-    assert!(rt;
-        interests_of(Registry::new(rt.alloc()), all, nothing)?
-            == (Interest::Always, Interest::Sometimes)
-    );
+    let found = interests_of(Registry::new(rt.alloc()), all, nothing)?;
+    assert!(rt; found == (Interest::Always, Interest::Sometimes));
     Ok(())
 }
 
 #[test]
 fn what_a_layer_without_a_filter_may_want_is_of_interest(rt: HostRuntime) -> Result<(), Fail> {
+    let all = Recorder::new(rt.alloc());
     let nothing = recording(rt.alloc(), LevelFilter::OFF);
-    assert!(rt;
-        interests_of(
-            Registry::new(rt.alloc()),
-            Recorder::new(rt.alloc()),
-            nothing
-        )? == (Interest::Always, Interest::Sometimes)
-    );
+    let found = interests_of(Registry::new(rt.alloc()), all, nothing)?;
+    assert!(rt; found == (Interest::Always, Interest::Sometimes));
     Ok(())
 }
 
@@ -336,8 +387,19 @@ fn what_a_layer_without_a_filter_may_want_is_of_interest(rt: HostRuntime) -> Res
 fn a_pair_under_filters_has_the_wider_hint(rt: HostRuntime) -> Result<(), Fail> {
     let all = recording(rt.alloc(), LevelFilter::TRACE);
     let few = recording(rt.alloc(), LevelFilter::INFO);
-    assert!(rt; hint_of(Registry::new(rt.alloc()), all.and_then(few))? == Some(LevelFilter::TRACE));
+    let hint = hint_of(Registry::new(rt.alloc()), all.and_then(few))?;
+    assert!(rt; hint == Some(LevelFilter::TRACE));
     Ok(())
+}
+
+/// Answers and notices of a recorder are the same alone and beside another, which keeps one notice more.
+fn are_the_same(rt: &impl Abort, alone: &WithAnswers<Recorded>, beside: &WithAnswers<Beside>) {
+    assert!(rt; alone.1 == beside.1);
+    let kept = alone.0.stack().layer().inner().notices();
+    assert!(rt; kept.len() == 2);
+    let stack = beside.0.stack();
+    assert!(rt; stack.inner().layer().inner().notices() == kept);
+    assert!(rt; stack.layer().inner().notices().len() == 3);
 }
 
 #[test]
@@ -348,14 +410,18 @@ fn a_recorder_keeps_the_same_alone_and_beside_another(rt: HostRuntime) -> Result
         event_from(2, Level::WARN),
     ];
     let (level, other) = (LevelFilter::INFO, LevelFilter::TRACE);
-    let (one, two) = record_alone_and_beside(rt.alloc(), level, other, &requests)?;
-    let ((alone, answers), (beside, others)) = (one, two);
-    assert!(rt; answers == others);
-    let kept = alone.stack().layer().inner().notices();
-    assert!(rt; kept.len() == 2);
-    assert!(rt; beside.stack().inner().layer().inner().notices() == kept);
-    assert!(rt; beside.stack().layer().inner().notices().len() == 3);
+    let (alone, beside) = record_alone_and_beside(rt.alloc(), level, other, &requests)?;
+    are_the_same(&rt, &alone, &beside);
     Ok(())
+}
+
+/// A warning, and, once the level is DEBUG, a span, the warning, and an event of level debug.
+fn are_let_by(rt: &impl Abort, kept: &[Notice]) {
+    assert!(rt; kept.len() == 4);
+    assert!(rt; kept.first().copied() == Some(Notice::Event(LANE, 1)));
+    assert!(rt; matches!(kept.get(1), Some(Notice::New(_, _))));
+    assert!(rt; kept.get(2).copied() == Some(Notice::Event(LANE, 1)));
+    assert!(rt; kept.get(3).copied() == Some(Notice::Event(LANE, 2)));
 }
 
 #[test]
@@ -367,12 +433,7 @@ fn a_level_is_set_between_requests(rt: HostRuntime) -> Result<(), Fail> {
         event_from(3, Level::TRACE),
     ];
     let dispatch = reload(rt.alloc(), &requests, &requests)?;
-    let kept = dispatch.stack().layer().inner().notices();
-    assert!(rt; kept.len() == 4);
-    assert!(rt; kept.first().copied() == Some(Notice::Event(LANE, 1)));
-    assert!(rt; matches!(kept.get(1), Some(Notice::New(_, _))));
-    assert!(rt; kept.get(2).copied() == Some(Notice::Event(LANE, 1)));
-    assert!(rt; kept.get(3).copied() == Some(Notice::Event(LANE, 2)));
+    are_let_by(&rt, dispatch.stack().layer().inner().notices());
     Ok(())
 }
 

@@ -136,15 +136,20 @@ const OUTER: &str = "{\"resourceSpans\":[{\
 \"spanId\":\"0000000000000001\",\"startTimeUnixNano\":\"1700000000000001000\",\
 \"traceId\":\"000000000000000000000000000000ab\"}]}]}]}";
 
-#[test]
-fn spans_for_opentelemetry(rt: HostRuntime) -> Result<(), Fail> {
-    let alloc = rt.alloc();
-    let trace = Trace {
+/// The trace of a service.
+fn trace_of_shop(alloc: Global) -> Result<Trace, Fail> {
+    Ok(Trace {
         id: 0xab,
         service: String::from_str(alloc, "shop")?,
         began: 1_700_000_000_000_000_000,
-    };
-    let lines = otlp_lines(alloc, &trace, &sites(alloc)?, &points())?;
+    })
+}
+
+#[test]
+fn spans_for_opentelemetry(rt: HostRuntime) -> Result<(), Fail> {
+    let sites = sites(rt.alloc())?;
+    let trace = trace_of_shop(rt.alloc())?;
+    let lines = otlp_lines(rt.alloc(), &trace, &sites, &points())?;
     assert!(rt; lines.len() == 2, "the span of the other lane isn't closed");
     assert!(rt; lines[0].as_str() == INNER);
     assert!(rt; lines[1].as_str() == OUTER);

@@ -4,6 +4,8 @@
 #[cfg(test)]
 mod export;
 #[cfg(test)]
+mod fixture;
+#[cfg(test)]
 mod logger;
 #[cfg(test)]
 mod macros;

@@ -1,16 +1,18 @@
 //! Tests of records of `log` that become events, and of events that are logged.
 ghost use Rattle.span_dispatch.specs.Serve.{stack_of};
 
+use crate::fixture::in_use;
 use log::sink::Memory;
 use log::{Log, Logged, Record};
 use span_core::{
     Event, FieldSet, FieldValue, Kind, Lane, Level, LevelFilter, Metadata, TraceError,
 };
 use span_dispatch::Dispatch;
-use span_layers::{Observer, SubscriberExt};
+use span_layers::Observer;
 use span_log::{AsLog, AsTrace, LogLayer, forward, record_metadata};
 use span_registry::{Registry, Subscriber};
 use std::alloc::Global;
+use std::process::Abort;
 use std::test::Fail;
 
 const LANE: Lane = Lane(0);
@@ -55,20 +57,21 @@ fn site(callsite: u64, name: &'static str, level: Level) -> Metadata {
 
 #[test]
 fn records_and_events_are_logged(rt: HostRuntime) -> Result<(), Fail> {
-    let alloc = rt.alloc();
-    let layer = Observer::new(LogLayer::new(Memory::new(alloc)));
-    let Ok(stack) = Registry::new(alloc).with(layer) else {
-        return Err(Fail::from("no room for the layer"));
-    };
-    let mut dispatch = Dispatch::new(alloc, stack);
-    send(alloc, &mut dispatch)?;
+    let layer = Observer::new(LogLayer::new(Memory::new(rt.alloc())));
+    let mut dispatch = in_use(rt.alloc(), Registry::new(rt.alloc()), layer)?;
+    send(rt.alloc(), &mut dispatch)?;
     let (layer, _registry) = dispatch.into_stack().into_parts();
     let lines = layer.into_observer().into_log().into_lines();
+    are_the_three(&rt, lines.as_slice());
+    Ok(())
+}
+
+/// Of the record and the two events there is a line each.
+fn are_the_three(rt: &impl Abort, lines: &[String]) {
     assert!(rt; lines.len() == 3);
-    for (line, want) in lines.as_slice().iter().zip(LINES) {
+    for (line, want) in lines.iter().zip(LINES) {
         assert!(rt; line.as_str() == want);
     }
-    Ok(())
 }
 
 /// A logger that wants warnings alone is handed nothing else.
@@ -76,10 +79,11 @@ fn records_and_events_are_logged(rt: HostRuntime) -> Result<(), Fail> {
 fn a_logger_is_asked_first(rt: HostRuntime) -> Result<(), Fail> {
     let alloc = rt.alloc();
     let logger = Logged::new(rt, log::Level::Warn, Memory::new(alloc));
-    let Ok(stack) = Registry::new(alloc).with(Observer::new(LogLayer::new(logger))) else {
-        return Err(Fail::from("no room for the layer"));
-    };
-    let mut dispatch = Dispatch::new(alloc, stack);
+    let mut dispatch = in_use(
+        alloc,
+        Registry::new(alloc),
+        Observer::new(LogLayer::new(logger)),
+    )?;
     send(alloc, &mut dispatch)?;
     let (layer, _registry) = dispatch.into_stack().into_parts();
     let (_rt, memory) = layer.into_observer().into_log().into_parts();

@@ -3,9 +3,10 @@ ghost use Rattle.std.specs.Prelude.{⊤};
 ghost use Rattle.span_dispatch.specs.Contract.{StaysReady};
 ghost use Rattle.span_dispatch.specs.Serve.{stack_of};
 
+use crate::fixture::in_use;
 use span_core::{Event, FieldSet, FieldValue, Id, Kind, Lane, Level, Metadata, TraceError};
 use span_dispatch::Dispatch;
-use span_layers::{Observe, Observed, Observer, SubscriberExt};
+use span_layers::{Observe, Observed, Observer};
 use span_macros::{event, example, in_span, metadata, new_span, numbered_metadata};
 use span_registry::{ContextMut, Registry, Subscriber};
 use std::alloc::AllocError;
@@ -103,21 +104,21 @@ exit
 close
 ";
 
-#[test]
-fn a_layer_is_told_of_fields(rt: HostRuntime) -> Result<(), Fail> {
-    let alloc = rt.alloc();
-    let lines = Lines {
-        text: String::new(alloc),
-        failed: false,
-    };
-    let Ok(stack) = Registry::new(alloc).with(Observer::new(lines)) else {
-        return Err(Fail::from("no room for the layer"));
-    };
-    let mut dispatch = Dispatch::new(alloc, stack);
-    asks_by_each(&rt, &mut dispatch)?;
-    let lines = dispatch.stack().layer().observer();
+/// All is written down.
+fn hold_what_is_told(rt: &impl Abort, lines: &Lines) {
     assert!(rt; !lines.failed);
     assert!(rt; lines.text.as_str() == TOLD);
+}
+
+#[test]
+fn a_layer_is_told_of_fields(rt: HostRuntime) -> Result<(), Fail> {
+    let lines = Lines {
+        text: String::new(rt.alloc()),
+        failed: false,
+    };
+    let mut dispatch = in_use(rt.alloc(), Registry::new(rt.alloc()), Observer::new(lines))?;
+    asks_by_each(&rt, &mut dispatch)?;
+    hold_what_is_told(&rt, dispatch.stack().layer().observer());
     Ok(())
 }
 

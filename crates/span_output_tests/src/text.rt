@@ -1,11 +1,9 @@
 //! Texts worked by hand: of one run on two lanes, by a tree of everything and by one under a level.
-ghost use Rattle.std.specs.Prelude.{IfOk};
-ghost use Rattle.span_layers.specs.Layered.{inner_of, outer_of};
-
+use crate::fixture::{in_use, put};
 use span_core::{FieldSet, FieldValue, Kind, Lane, Level, LevelFilter, Metadata, TraceError};
 use span_dispatch::{Dispatch, Request, Which, WhichParent};
 use span_fmt::{Lines, Tree, serve_lines, serve_tree, write_fields};
-use span_layers::{Layer, LayerExt, Layered, Observer, SubscriberExt};
+use span_layers::{Layer, LayerExt, Layered, Observer};
 use span_registry::{Registry, Subscriber};
 use std::alloc::Global;
 use std::process::Abort;
@@ -56,22 +54,6 @@ const OF_EVENTS: &str = "0 WARN outer{user=7}:inner{try=-2}: app::net: said what
 3 INFO app: heard
 0 INFO outer{user=7 late=false}: app: heard
 ";
-
-/// Puts a layer on a stack.
-fn put<S: Subscriber + Drop, L: Layer<S> + Drop>(
-    stack: S,
-    layer: L,
-) -> Result<Layered<L, S>, TraceError>
-    requires layer { L.usable layer }
-    requires stack { S.usable stack }
-    ensures layer { IfOk result (λ made. L.usable (outer_of made)) }
-    ensures stack { IfOk result (λ made. S.usable (inner_of made)) }
-{
-    match stack.with(layer) {
-        Ok(made) => Ok(made),
-        Err(back) => Err(back.error),
-    }
-}
 
 fn site(
     callsite: u64,
@@ -131,12 +113,27 @@ fn wrote(rt: &impl Abort, tree: &Tree, text: &str) {
     assert!(rt; tree.text() == text);
 }
 
+/// Puts a layer on a stack, has that serve the worked run, and gives it back.
+fn worked_on<S: Subscriber + Drop, L: Layer<S> + Drop>(
+    alloc: Global,
+    stack: S,
+    layer: L,
+) -> Result<Layered<L, S>, TraceError>
+    requires stack { S.usable stack }
+    requires layer { L.usable layer }
+{
+    let made = put(stack, layer)?;
+    worked(alloc, made)
+}
+
 #[test]
 fn a_line_for_each_notice(rt: HostRuntime) -> Result<(), Fail> {
-    let alloc = rt.alloc();
-    let all = put(Registry::new(alloc), Observer::new(Tree::new(alloc)))?;
-    let under = Observer::new(Tree::new(alloc)).with_filter(LevelFilter::DEBUG);
-    let stack = worked(alloc, put(all, under)?)?;
+    let all = put(
+        Registry::new(rt.alloc()),
+        Observer::new(Tree::new(rt.alloc())),
+    )?;
+    let under = Observer::new(Tree::new(rt.alloc())).with_filter(LevelFilter::DEBUG);
+    let stack = worked_on(rt.alloc(), all, under)?;
     wrote(&rt, stack.layer().inner().observer(), UNDER_DEBUG);
     wrote(&rt, stack.inner().layer().observer(), OF_ALL);
     Ok(())
@@ -155,26 +152,28 @@ fn takes_its_text(rt: &impl Abort, alloc: Global, tree: &mut Tree) -> Result<(),
 
 #[test]
 fn a_text_is_taken_out(rt: HostRuntime) -> Result<(), Fail> {
-    let alloc = rt.alloc();
-    let stack = put(Registry::new(alloc), Observer::new(Tree::new(alloc)))?;
-    let (layer, _registry) = worked(alloc, stack)?.into_parts();
-    takes_its_text(&rt, alloc, &mut layer.into_observer())
+    let layer = Observer::new(Tree::new(rt.alloc()));
+    let mut stack = worked_on(rt.alloc(), Registry::new(rt.alloc()), layer)?;
+    takes_its_text(&rt, rt.alloc(), stack.layer_mut().observer_mut())
+}
+
+/// A warning, and an event that isn't one.
+fn said_and_unheard() -> [Request<'static>; 2] {
+    let said = site(4, "said", "app::net", Level::WARN, Kind::EVENT);
+    let unheard = site(5, "unheard", "app::net", Level::INFO, Kind::EVENT);
+    [
+        Request::Event(LANE, said, WhichParent::Contextual, &[]),
+        Request::Event(LANE, unheard, WhichParent::Contextual, &[]),
+    ]
 }
 
 #[test]
 fn a_tree_under_a_level_is_served(rt: HostRuntime) -> Result<(), Fail> {
-    let alloc = rt.alloc();
-    let layer = Observer::new(Tree::new(alloc)).with_filter(LevelFilter::WARN);
-    let mut dispatch = Dispatch::new(alloc, put(Registry::new(alloc), layer)?);
-    let event = site(4, "said", "app::net", Level::WARN, Kind::EVENT);
-    let unheard = site(5, "unheard", "app::net", Level::INFO, Kind::EVENT);
-    let requests = [
-        Request::Event(LANE, event, WhichParent::Contextual, &[]),
-        Request::Event(LANE, unheard, WhichParent::Contextual, &[]),
-    ];
-    serve_tree(alloc, &mut dispatch, &requests)?;
+    let layer = Observer::new(Tree::new(rt.alloc())).with_filter(LevelFilter::WARN);
+    let mut dispatch = in_use(rt.alloc(), Registry::new(rt.alloc()), layer)?;
+    serve_tree(rt.alloc(), &mut dispatch, &said_and_unheard())?;
     let tree = dispatch.stack().layer().inner().observer();
-    assert!(rt; tree.text() == "0 - WARN app::net: said\n");
+    wrote(&rt, tree, "0 - WARN app::net: said\n");
     Ok(())
 }
 
@@ -191,18 +190,20 @@ fn takes_its_lines(rt: &impl Abort, alloc: Global, lines: &mut Lines) -> Result<
 
 #[test]
 fn a_line_for_each_event(rt: HostRuntime) -> Result<(), Fail> {
-    let alloc = rt.alloc();
-    let layer = Observer::new(Lines::new(alloc)).with_filter(LevelFilter::DEBUG);
-    let mut stack = worked(alloc, put(Registry::new(alloc), layer)?)?;
-    takes_its_lines(&rt, alloc, stack.layer_mut().inner_mut().observer_mut())
+    let layer = Observer::new(Lines::new(rt.alloc())).with_filter(LevelFilter::DEBUG);
+    let mut stack = worked_on(rt.alloc(), Registry::new(rt.alloc()), layer)?;
+    takes_its_lines(
+        &rt,
+        rt.alloc(),
+        stack.layer_mut().inner_mut().observer_mut(),
+    )
 }
 
 #[test]
 fn lines_under_a_level_are_served(rt: HostRuntime) -> Result<(), Fail> {
-    let alloc = rt.alloc();
-    let layer = Observer::new(Lines::new(alloc)).with_filter(LevelFilter::INFO);
-    let mut dispatch = Dispatch::new(alloc, put(Registry::new(alloc), layer)?);
-    serve_lines(alloc, &mut dispatch, &[heard(LANE)])?;
+    let layer = Observer::new(Lines::new(rt.alloc())).with_filter(LevelFilter::INFO);
+    let mut dispatch = in_use(rt.alloc(), Registry::new(rt.alloc()), layer)?;
+    serve_lines(rt.alloc(), &mut dispatch, &[heard(LANE)])?;
     let lines = dispatch.stack().layer().inner().observer();
     assert!(rt; lines.text() == "0 INFO app: heard\n");
     Ok(())

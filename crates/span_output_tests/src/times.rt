@@ -1,11 +1,12 @@
 //! Timelines that were worked out by hand.
 ghost use Rattle.span_dispatch.specs.Serve.{stack_of};
 
+use crate::fixture::in_use;
 use span_core::{
     Attributes, Event, FieldSet, Id, Kind, Lane, Level, LevelFilter, Metadata, Parent,
 };
 use span_dispatch::{Dispatch, Request, WhichParent};
-use span_layers::{LayerExt, Observer, SubscriberExt};
+use span_layers::{LayerExt, Observer};
 use span_registry::{Registry, Subscriber};
 use span_times::{
     Counted, Counts, Happening, Now, Point, Timeline, Wall, busy_time, idle_time, open_time,
@@ -53,12 +54,8 @@ fn live<S: Subscriber>(dispatch: &mut Dispatch<S>) -> Result<Id, Fail>
 
 #[test]
 fn a_span_is_timed(rt: HostRuntime) -> Result<(), Fail> {
-    let alloc = rt.alloc();
-    let layer = Observer::new(Timeline::new(alloc, Counted::new()));
-    let Ok(stack) = Registry::new(alloc).with(layer) else {
-        return Err(Fail::from("no room for the layer"));
-    };
-    let mut dispatch = Dispatch::new(alloc, stack);
+    let layer = Observer::new(Timeline::new(rt.alloc(), Counted::new()));
+    let mut dispatch = in_use(rt.alloc(), Registry::new(rt.alloc()), layer)?;
     let id = live(&mut dispatch)?;
     is_timed(&rt, dispatch.into_stack().layer().observer(), id);
     Ok(())
@@ -79,12 +76,8 @@ fn is_timed(rt: &impl Abort, timeline: &Timeline<Counted>, id: Id) {
 
 #[test]
 fn a_list_is_timed(rt: HostRuntime) -> Result<(), Fail> {
-    let alloc = rt.alloc();
-    let layer = Observer::new(Timeline::new(alloc, Counted::new()));
-    let Ok(stack) = Registry::new(alloc).with(layer) else {
-        return Err(Fail::from("no room for the layer"));
-    };
-    let mut dispatch = Dispatch::new(alloc, stack);
+    let layer = Observer::new(Timeline::new(rt.alloc(), Counted::new()));
+    let mut dispatch = in_use(rt.alloc(), Registry::new(rt.alloc()), layer)?;
     let ping = Metadata::new(
         5,
         "ping",
@@ -94,7 +87,7 @@ fn a_list_is_timed(rt: HostRuntime) -> Result<(), Fail> {
         FieldSet::new(&[]),
     );
     let requests = [Request::Event(LANE, ping, WhichParent::Root, &[])];
-    serve_timed(alloc, &mut dispatch, &requests)?;
+    serve_timed(rt.alloc(), &mut dispatch, &requests)?;
     let (layer, _registry) = dispatch.into_stack().into_parts();
     takes_its_point(&rt, &mut layer.into_observer());
     Ok(())
@@ -134,18 +127,9 @@ fn nested<S: Subscriber>(dispatch: &mut Dispatch<S>) -> Result<[Id; 3], Fail>
     Ok([a, b, c])
 }
 
-#[test]
-fn parents_are_those_that_it_sees(rt: HostRuntime) -> Result<(), Fail> {
-    let alloc = rt.alloc();
-    let whole = Observer::new(Timeline::new(alloc, Counted::new()));
-    let part = Observer::new(Timeline::new(alloc, Counted::new())).with_filter(LevelFilter::INFO);
-    let Ok(stack) = Registry::new(alloc).with(whole.and_then(part)) else {
-        return Err(Fail::from("no room for the layers"));
-    };
-    let mut dispatch = Dispatch::new(alloc, stack);
-    let [a, b, c] = nested(&mut dispatch)?;
-    let both = dispatch.stack().layer();
-    let of_all = [
+/// A timeline of all has the points of these spans.
+fn shows_all(rt: &impl Abort, timeline: &Timeline<Counted>, [a, b, c]: [Id; 3]) {
+    let points = [
         at(1000, Happening::Opened(a, 1, None)),
         at(2000, Happening::Entered(a)),
         at(3000, Happening::Opened(b, 2, Some(a))),
@@ -154,21 +138,32 @@ fn parents_are_those_that_it_sees(rt: HostRuntime) -> Result<(), Fail> {
         at(6000, Happening::Sent(4, Some(b))),
         at(7000, Happening::Sent(4, Some(b))),
     ];
-    has_points(&rt, both.inner().observer(), &of_all);
-    let of_part = [
+    assert!(rt; timeline.points() == points.as_slice());
+}
+
+/// One under INFO has those of the first and the third.
+fn shows_part(rt: &impl Abort, timeline: &Timeline<Counted>, [a, _, c]: [Id; 3]) {
+    let points = [
         at(1000, Happening::Opened(a, 1, None)),
         at(2000, Happening::Entered(a)),
         at(3000, Happening::Opened(c, 3, Some(a))),
         at(4000, Happening::Sent(4, Some(a))),
         at(5000, Happening::Sent(4, None)),
     ];
-    has_points(&rt, both.layer().inner().observer(), &of_part);
-    Ok(())
+    assert!(rt; timeline.points() == points.as_slice());
 }
 
-/// A timeline has these points.
-fn has_points(rt: &impl Abort, timeline: &Timeline<Counted>, points: &[Point]) {
-    assert!(rt; timeline.points() == points);
+#[test]
+fn parents_are_those_that_it_sees(rt: HostRuntime) -> Result<(), Fail> {
+    let alloc = rt.alloc();
+    let whole = Observer::new(Timeline::new(alloc, Counted::new()));
+    let part = Observer::new(Timeline::new(alloc, Counted::new())).with_filter(LevelFilter::INFO);
+    let mut dispatch = in_use(alloc, Registry::new(alloc), whole.and_then(part))?;
+    let spans = nested(&mut dispatch)?;
+    let both = dispatch.stack().layer();
+    shows_all(&rt, both.inner().observer(), spans);
+    shows_part(&rt, both.layer().inner().observer(), spans);
+    Ok(())
 }
 
 /// At this time, on one lane.

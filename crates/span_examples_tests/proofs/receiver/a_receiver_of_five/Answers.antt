@@ -4,8 +4,8 @@ use Rattle.span_examples_tests.proofs.Optional.{if_some_of_all}
 use Rattle.span_examples_tests.proofs.receiver.a_receiver_of_five.OwnLists.{own-1, at-1-1}
 use Rattle.span_examples_tests.proofs.receiver.a_receiver_of_five.Goals as goal
 
-pub serve_by-requires-clause-layer : goal.serve_by-requires-clause-layer
-serve_by-requires-clause-layer g c = (
+pub in_use_counts_three-requires-clause-layer : goal.in_use_counts_three-requires-clause-layer
+in_use_counts_three-requires-clause-layer g c = (
   tt,
   (
     rw c.and_then-layers.ensures.below (rw c.and_then-3.ensures.layer (rw c.new-4.ensures (in_a_box own-1 at-1-1 (λ j x. j.1.dyn_usable x) c.into_dyn_box.ensures.1 tt))),
