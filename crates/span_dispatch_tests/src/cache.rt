@@ -1,10 +1,7 @@
 //! Tests of a dispatcher that keeps its stack's hint and interests: what it asks of filters once, and what each time.
 ghost use Rattle.span_dispatch.specs.Serve.{stack_of};
 
-use crate::requests::{
-    OneOn, TwoOn, UnderOne, event, in_use, in_use_by_layers, keeps, made, new_span, one_on, plain,
-    serve, serve_by_layers,
-};
+use crate::requests::{Shows, ShowsTwo, UnderOne, event, in_use, keeps, made, new_span, serve};
 use span_core::{Event, Id, Kind, Level, LevelFilter, Metadata, TraceError};
 use span_dispatch::{Answer, Dispatch, Notice, Recorder, Request, Which, WhichParent};
 use span_filters::{Filter, filter_fn};
@@ -50,58 +47,68 @@ pub(crate) fn count_one(asked: &Cell<u32>) {
     asked.set(asked.get().saturating_add(1));
 }
 
-/// What two recorders keep, the inner one first.
-type KeptByTwo = (Vec<Notice>, Vec<Notice>);
+/// Serves so many events.
+fn serve_events<S: Subscriber>(
+    alloc: Global,
+    dispatch: &mut Dispatch<S>,
+    count: usize,
+) -> Result<(), Fail>
+    requires { S.usable (stack_of dispatch.old) }
+    ensures { S.usable (stack_of dispatch.new) }
+{
+    serve(alloc, dispatch, &events(alloc, count)?)?;
+    Ok(())
+}
 
-fn kept_by_two(alloc: Global, inner: &Recorder, outer: &Recorder) -> Result<KeptByTwo, Fail> {
+/// How many of so many events two recorders keep, the inner one first.
+fn kept_by_two<S: Subscriber + Drop + Shows<Recorder>, L: Layer<S> + Drop + Shows<Recorder>>(
+    alloc: Global,
+    stack: S,
+    layer: L,
+    count: usize,
+) -> Result<(usize, usize), Fail>
+    requires stack { S.usable stack }
+    requires layer { L.usable layer }
+{
+    let mut dispatch = in_use(alloc, put(stack, layer)?);
+    serve_events(alloc, &mut dispatch, count)?;
+    let stack = dispatch.stack();
     Ok((
-        inner.notices().to_vec(alloc)?,
-        outer.notices().to_vec(alloc)?,
+        stack.inner_shown().notices().len(),
+        stack.outer_shown().notices().len(),
     ))
 }
 
-/// Serves so many events by a stack under two layers.
-fn serve_events<S, I, O>(
+/// The same where the outer one is under a filter.
+fn kept_below<S: Subscriber + Drop + Shows<Recorder>, F: Filter<S> + Drop>(
     alloc: Global,
     stack: S,
-    inner: I,
-    outer: O,
+    filter: F,
     count: usize,
-) -> Result<Dispatch<TwoOn<S, I, O>>, Fail>
-where
-    S: Subscriber + Drop,
-    I: Layer<S> + Drop,
-    O: Layer<Layered<I, S>> + Drop,
+) -> Result<(usize, usize), Fail>
     requires stack { S.usable stack }
-    requires inner { I.usable inner }
-    requires outer { O.usable outer }
+    requires filter { F.usable filter }
 {
-    let requests = events(alloc, count)?;
-    let (dispatch, _) = serve_by_layers(alloc, stack, inner, outer, &requests)?;
-    Ok(dispatch)
+    let under_filter = Recorder::new(alloc).with_filter(filter);
+    kept_by_two(alloc, stack, under_filter, count)
 }
 
-/// What recorders keep of so many events, each under a filter of its own.
-fn kept_under<S, I, O>(
+/// A recorder under a filter that is absent.
+type UnderNone = Filtered<Recorder, Option<LevelFilter>>;
+
+/// The same where the inner one is under no filter.
+fn kept_outside<S: Subscriber + Drop, F: Filter<Layered<UnderNone, S>> + Drop>(
     alloc: Global,
     stack: S,
-    inner: I,
-    outer: O,
+    filter: F,
     count: usize,
-) -> Result<KeptByTwo, Fail>
-where
-    S: Subscriber + Drop,
-    I: Filter<S> + Drop,
-    O: Filter<Layered<Filtered<Recorder, I>, S>> + Drop,
+) -> Result<(usize, usize), Fail>
     requires stack { S.usable stack }
-    requires inner { I.usable inner }
-    requires outer { O.usable outer }
+    requires filter { F.usable filter }
 {
-    let inner = Recorder::new(alloc).with_filter(inner);
-    let outer = Recorder::new(alloc).with_filter(outer);
-    let dispatch = serve_events(alloc, stack, inner, outer, count)?;
-    let stack = dispatch.stack();
-    kept_by_two(alloc, stack.inner().layer().inner(), stack.layer().inner())
+    let absent: Option<LevelFilter> = None;
+    let under_none = Recorder::new(alloc).with_filter(absent);
+    kept_below(alloc, put(stack, under_none)?, filter, count)
 }
 
 /// So many events under no filter, and under one that wants them: it is asked once.
@@ -112,10 +119,8 @@ fn asked_once(rt: &impl Abort, alloc: Global, count: usize) -> Result<(), Fail> 
         count_one(&counter);
         true
     });
-    let absent: Option<LevelFilter> = None;
-    let registry = Registry::new(alloc);
-    let (other, counted) = kept_under(alloc, registry, absent, counted, count)?;
-    assert!(rt; (counted.len(), other.len(), asked.get()) == (count, count, 1));
+    let (other, counted) = kept_outside(alloc, Registry::new(alloc), counted, count)?;
+    assert!(rt; (counted, other, asked.get()) == (count, count, 1));
     Ok(())
 }
 
@@ -123,6 +128,53 @@ fn asked_once(rt: &impl Abort, alloc: Global, count: usize) -> Result<(), Fail> 
 fn filters_that_want_a_callsite_are_asked_of_it_once(rt: HostRuntime) -> Result<(), Fail> {
     asked_once(&rt, rt.alloc(), 2)?;
     asked_once(&rt, rt.alloc(), 10_000)
+}
+
+/// Of two recorders the outer one keeps none of three events, and the inner one all.
+fn keeps_none<S: Subscriber + Drop + Shows<Recorder>, L: Layer<S> + Drop + Shows<Recorder>>(
+    rt: &impl Abort,
+    alloc: Global,
+    stack: S,
+    layer: L,
+) -> Result<(), Fail>
+    requires stack { S.usable stack }
+    requires layer { L.usable layer }
+{
+    let mut dispatch = in_use(alloc, put(stack, layer)?);
+    serve_events(alloc, &mut dispatch, 3)?;
+    let stack = dispatch.stack();
+    keeps(rt, stack.outer_shown(), &[]);
+    let notice = Notice::Event(LANE, 5);
+    keeps(rt, stack.inner_shown(), &[notice, notice, notice]);
+    Ok(())
+}
+
+/// The same where the outer one is under a filter.
+fn keeps_none_below<S: Subscriber + Drop + Shows<Recorder>, F: Filter<S> + Drop>(
+    rt: &impl Abort,
+    alloc: Global,
+    stack: S,
+    filter: F,
+) -> Result<(), Fail>
+    requires stack { S.usable stack }
+    requires filter { F.usable filter }
+{
+    let under_filter = Recorder::new(alloc).with_filter(filter);
+    keeps_none(rt, alloc, stack, under_filter)
+}
+
+/// The same where the inner one is under INFO.
+fn keeps_none_outside<S: Subscriber + Drop, F: Filter<Layered<UnderOne, S>> + Drop>(
+    rt: &impl Abort,
+    alloc: Global,
+    stack: S,
+    filter: F,
+) -> Result<(), Fail>
+    requires stack { S.usable stack }
+    requires filter { F.usable filter }
+{
+    let under_info = Recorder::new(alloc).with_filter(LevelFilter::INFO);
+    keeps_none_below(rt, alloc, put(stack, under_info)?, filter)
 }
 
 #[test]
@@ -133,42 +185,67 @@ fn filters_that_differ_on_a_callsite_are_asked_each_time(rt: HostRuntime) -> Res
         count_one(&counter);
         meta.level() <= Level::WARN
     });
-    let registry = Registry::new(rt.alloc());
-    let (other, counted) = kept_under(rt.alloc(), registry, LevelFilter::INFO, counted, 3)?;
-    let notice = Notice::Event(LANE, 5);
+    keeps_none_outside(&rt, rt.alloc(), Registry::new(rt.alloc()), counted)?;
     // It is asked once for the interest, and once for each event.
-    assert!(rt;
-        (counted.as_slice(), other.as_slice(), asked.get())
-            == ([].as_slice(), [notice, notice, notice].as_slice(), 4)
-    );
+    assert!(rt; asked.get() == 4);
     Ok(())
 }
 
-/// Sends an event of level info before the level of its recorder is changed to that, and then.
-fn sent_around_a_change(
-    dispatch: &mut Dispatch<OneOn>,
-) -> [(Result<bool, TraceError>, Option<LevelFilter>); 2] {
+/// A stack of which levels can be set past its dispatcher.
+trait Levels: Subscriber {
+    /// Sets the level next to each recorder.
+    fn set_levels(&mut self, level: LevelFilter)
+        requires { Self.usable self.old }
+        ensures { Self.usable self.new };
+}
+
+impl<S: Subscriber> Levels for Layered<UnderOne, S> {
+    fn set_levels(&mut self, level: LevelFilter) {
+        *self.layer_mut().filter_mut() = level;
+    }
+}
+
+/// Changes the levels of a stack in use.
+fn change_levels<S: Levels>(dispatch: &mut Dispatch<S>, level: LevelFilter)
+    requires { S.usable (stack_of dispatch.old) }
+    ensures { S.usable (stack_of dispatch.new) }
+{
+    dispatch.stack_mut().set_levels(level);
+}
+
+/// A recorder under WARN is sent an event of level info, and, its level changed to that, once more.
+fn sends_around_a_change<S: Levels + Shows<Recorder>>(rt: &impl Abort, dispatch: &mut Dispatch<S>)
+    requires { S.usable (stack_of dispatch.old) }
+{
     let before = sent_under(dispatch);
-    *dispatch.stack_mut().layer_mut().filter_mut() = LevelFilter::INFO;
-    [before, sent_under(dispatch)]
+    change_levels(dispatch, LevelFilter::INFO);
+    let after = sent_under(dispatch);
+    keeps(rt, dispatch.stack().shown(), &[Notice::Event(LANE, 5)]);
+    assert!(rt;
+        [before, after]
+            == [
+                (Ok(false), Some(LevelFilter::WARN)),
+                (Ok(true), Some(LevelFilter::INFO)),
+            ]
+    );
+}
+
+/// Puts that recorder on a stack.
+fn sends_under_warn<S: Subscriber + Drop>(
+    rt: &impl Abort,
+    alloc: Global,
+    stack: S,
+) -> Result<(), Fail>
+    requires { S.usable stack }
+{
+    let under_warn = Recorder::new(alloc).with_filter(LevelFilter::WARN);
+    sends_around_a_change(rt, &mut in_use(alloc, put(stack, under_warn)?));
+    Ok(())
 }
 
 #[test]
 fn a_changed_stack_is_asked_again(rt: HostRuntime) -> Result<(), Fail> {
-    let mut dispatch = in_use(rt.alloc(), one_on(rt.alloc(), LevelFilter::WARN)?);
-    let sent = sent_around_a_change(&mut dispatch);
-    keeps(
-        &rt,
-        dispatch.stack().layer().inner(),
-        &[Notice::Event(LANE, 5)],
-    );
-    assert!(rt;
-        sent == [
-            (Ok(false), Some(LevelFilter::WARN)),
-            (Ok(true), Some(LevelFilter::INFO)),
-        ]
-    );
-    Ok(())
+    sends_under_warn(&rt, rt.alloc(), Registry::new(rt.alloc()))
 }
 
 /// An event of each level, from a callsite of its own, each of them again, and one from a callsite that has another level.
@@ -203,24 +280,37 @@ const ONLY_INFO: [Answer; 11] = [
     Answer::Refused(TraceError::CallsiteMismatch),
 ];
 
-/// What a recorder keeps, what was answered, and the hint then.
-type Answered = (Vec<Notice>, Vec<Answer>, Option<LevelFilter>);
+/// Serves those events, of which info alone is wanted, by a stack without a hint.
+fn answers_each_level<S: Subscriber>(
+    rt: &impl Abort,
+    alloc: Global,
+    dispatch: &mut Dispatch<S>,
+) -> Result<(), Fail>
+    requires { S.usable (stack_of dispatch.old) }
+    ensures { S.usable (stack_of dispatch.new) }
+{
+    let answers = serve(alloc, dispatch, &events_of_each_level())?;
+    assert!(rt; answers.as_slice() == ONLY_INFO.as_slice());
+    assert!(rt; dispatch.max_level_hint() == None);
+    Ok(())
+}
 
-/// Puts a recorder under a filter on a stack, and serves those events.
-fn answers_under<S: Subscriber + Drop, F: Filter<S> + Drop>(
+/// Puts a recorder under a filter on a stack, and serves those events: it keeps those that are wanted.
+fn keeps_info_alone<S: Subscriber + Drop, F: Filter<S> + Drop>(
+    rt: &impl Abort,
     alloc: Global,
     stack: S,
     filter: F,
-) -> Result<Answered, Fail>
+) -> Result<(), Fail>
     requires stack { S.usable stack }
     requires filter { F.usable filter }
 {
     let under_filter = Recorder::new(alloc).with_filter(filter);
     let mut dispatch = in_use(alloc, put(stack, under_filter)?);
-    let answers = serve(alloc, &mut dispatch, &events_of_each_level())?;
-    let hint = dispatch.max_level_hint();
-    let kept = dispatch.stack().layer().inner().notices().to_vec(alloc)?;
-    Ok((kept, answers, hint))
+    answers_each_level(rt, alloc, &mut dispatch)?;
+    let twice = [Notice::Event(LANE, 5), Notice::Event(LANE, 5)];
+    keeps(rt, dispatch.stack().shown(), &twice);
+    Ok(())
 }
 
 #[test]
@@ -231,32 +321,19 @@ fn each_callsite_is_asked_of_once(rt: HostRuntime) -> Result<(), Fail> {
         count_one(&counter);
         meta.level() == Level::INFO
     });
-    let registry = Registry::new(rt.alloc());
-    let (kept, answers, hint) = answers_under(rt.alloc(), registry, counted)?;
-    let twice = [Notice::Event(LANE, 5), Notice::Event(LANE, 5)];
-    assert!(rt;
-        (answers.as_slice(), asked.get(), kept.as_slice(), hint)
-            == (ONLY_INFO.as_slice(), 5, twice.as_slice(), None)
-    );
+    keeps_info_alone(&rt, rt.alloc(), Registry::new(rt.alloc()), counted)?;
+    assert!(rt; asked.get() == 5);
     Ok(())
 }
 
-/// From the registry outwards: a recorder under a level, and one under two.
-type Nested = TwoOn<Registry, UnderOne, Filtered<UnderOne, LevelFilter>>;
+/// A recorder under two levels.
+type UnderTwo = Filtered<UnderOne, LevelFilter>;
 
-/// The levels next to the recorders are INFO.
-fn nested(alloc: Global) -> Result<Dispatch<Nested>, TraceError> {
-    let under_one = Recorder::new(alloc).with_filter(LevelFilter::INFO);
-    let under_two = Recorder::new(alloc)
-        .with_filter(LevelFilter::INFO)
-        .with_filter(LevelFilter::TRACE);
-    in_use_by_layers(alloc, Registry::new(alloc), under_one, under_two)
-}
-
-/// Sets the levels next to the recorders.
-fn set_levels(stack: &mut Nested, level: LevelFilter) {
-    *stack.inner_mut().layer_mut().filter_mut() = level;
-    *stack.layer_mut().inner_mut().filter_mut() = level;
+impl<S: Levels> Levels for Layered<UnderTwo, S> {
+    fn set_levels(&mut self, level: LevelFilter) {
+        self.inner_mut().set_levels(level);
+        *self.layer_mut().inner_mut().filter_mut() = level;
+    }
 }
 
 /// A span, entered, and an event of level debug in it.
@@ -297,26 +374,62 @@ fn open_one_span<S: Subscriber>(alloc: Global, dispatch: &mut Dispatch<S>) -> Re
     made(&answers, 0)
 }
 
-/// Both recorders of a stack keep this.
-fn both_keep(rt: &impl Abort, stack: &Nested, kept: &[Notice]) {
-    keeps(rt, stack.inner().layer().inner(), kept);
-    keeps(rt, stack.layer().inner().inner(), kept);
+/// Serves the rest of the requests.
+fn close_one_span<S: Subscriber>(
+    alloc: Global,
+    dispatch: &mut Dispatch<S>,
+    span: Id,
+) -> Result<(), Fail>
+    requires { S.usable (stack_of dispatch.old) }
+    ensures { S.usable (stack_of dispatch.new) }
+{
+    serve(alloc, dispatch, &rest_of(span))?;
+    Ok(())
 }
 
-/// Serves the requests, with the levels changed between the first and the rest of them. Answers the span.
-fn serve_around_a_change(alloc: Global, dispatch: &mut Dispatch<Nested>) -> Result<Id, Fail> {
+/// Serves the requests, with the levels changed between the first and the rest of them.
+fn serves_around_a_change<S: Levels + ShowsTwo<Recorder>>(
+    rt: &impl Abort,
+    alloc: Global,
+    dispatch: &mut Dispatch<S>,
+) -> Result<(), Fail>
+    requires { S.usable (stack_of dispatch.old) }
+{
     let span = open_one_span(alloc, dispatch)?;
-    set_levels(dispatch.stack_mut(), LevelFilter::DEBUG);
-    serve(alloc, dispatch, &rest_of(span))?;
-    Ok(span)
+    change_levels(dispatch, LevelFilter::DEBUG);
+    close_one_span(alloc, dispatch, span)?;
+    let stack = dispatch.stack();
+    let kept = kept_over_a_change(span);
+    keeps(rt, stack.inner_shown(), &kept);
+    keeps(rt, stack.outer_shown(), &kept);
+    Ok(())
+}
+
+/// Puts a recorder under two levels outside another. The level next to it is INFO at first.
+fn serve_below_two<S: Levels + Drop + Shows<Recorder>>(
+    rt: &impl Abort,
+    alloc: Global,
+    stack: S,
+) -> Result<(), Fail>
+    requires { S.usable stack }
+{
+    let under_two = Recorder::new(alloc)
+        .with_filter(LevelFilter::INFO)
+        .with_filter(LevelFilter::TRACE);
+    serves_around_a_change(rt, alloc, &mut in_use(alloc, put(stack, under_two)?))
+}
+
+/// The same where the inner one is under INFO.
+fn serve_nested<S: Subscriber + Drop>(rt: &impl Abort, alloc: Global, stack: S) -> Result<(), Fail>
+    requires { S.usable stack }
+{
+    let under_info = Recorder::new(alloc).with_filter(LevelFilter::INFO);
+    serve_below_two(rt, alloc, put(stack, under_info)?)
 }
 
 #[test]
 fn a_changed_stack_goes_on_with_its_spans(rt: HostRuntime) -> Result<(), Fail> {
-    let mut dispatch = nested(rt.alloc())?;
-    let span = serve_around_a_change(rt.alloc(), &mut dispatch)?;
-    both_keep(&rt, dispatch.stack(), &kept_over_a_change(span));
-    Ok(())
+    serve_nested(&rt, rt.alloc(), Registry::new(rt.alloc()))
 }
 
 /// Sends two events from one callsite, of different levels.
@@ -326,20 +439,61 @@ fn send_two_levels<S: Subscriber>(dispatch: &mut Dispatch<S>) -> [Result<bool, T
     [send(dispatch, Level::INFO), send(dispatch, Level::DEBUG)]
 }
 
+/// The one is sent, and the other refused.
+fn sends_the_first_level<S: Subscriber + Shows<Recorder>>(
+    rt: &impl Abort,
+    dispatch: &mut Dispatch<S>,
+)
+    requires { S.usable (stack_of dispatch.old) }
+{
+    let sent = send_two_levels(dispatch);
+    keeps(rt, dispatch.stack().shown(), &[Notice::Event(LANE, 5)]);
+    assert!(rt; sent == [Ok(true), Err(TraceError::CallsiteMismatch)]);
+}
+
+/// The same of a stack under a layer.
+fn sends_the_first<S: Subscriber + Drop, L: Layer<S> + Drop + Shows<Recorder>>(
+    rt: &impl Abort,
+    alloc: Global,
+    stack: S,
+    layer: L,
+) -> Result<(), Fail>
+    requires stack { S.usable stack }
+    requires layer { L.usable layer }
+{
+    sends_the_first_level(rt, &mut in_use(alloc, put(stack, layer)?));
+    Ok(())
+}
+
 #[test]
 fn a_callsite_has_one_metadata(rt: HostRuntime) -> Result<(), Fail> {
-    let mut dispatch = in_use(rt.alloc(), plain(rt.alloc())?);
-    let sent = send_two_levels(&mut dispatch);
-    keeps(&rt, dispatch.stack().layer(), &[Notice::Event(LANE, 5)]);
-    assert!(rt; sent == [Ok(true), Err(TraceError::CallsiteMismatch)]);
+    let recorder = Recorder::new(rt.alloc());
+    sends_the_first(&rt, rt.alloc(), Registry::new(rt.alloc()), recorder)
+}
+
+/// A stack of an absent layer is sent nothing.
+fn sends_nothing<S: Subscriber>(rt: &impl Abort, dispatch: &mut Dispatch<S>)
+    requires { S.usable (stack_of dispatch.old) }
+{
+    assert!(rt; sent_under(dispatch) == (Ok(false), Some(LevelFilter::OFF)));
+}
+
+/// The same of a stack under a layer.
+fn sends_nothing_under<S: Subscriber + Drop, L: Layer<S> + Drop>(
+    rt: &impl Abort,
+    alloc: Global,
+    stack: S,
+    layer: L,
+) -> Result<(), Fail>
+    requires stack { S.usable stack }
+    requires layer { L.usable layer }
+{
+    sends_nothing(rt, &mut in_use(alloc, put(stack, layer)?));
     Ok(())
 }
 
 #[test]
 fn an_absent_layer_alone_wants_nothing(rt: HostRuntime) -> Result<(), Fail> {
     let absent: Option<Recorder> = None;
-    let stack = put(Registry::new(rt.alloc()), absent)?;
-    let sent = sent_under(&mut in_use(rt.alloc(), stack));
-    assert!(rt; sent == (Ok(false), Some(LevelFilter::OFF)));
-    Ok(())
+    sends_nothing_under(&rt, rt.alloc(), Registry::new(rt.alloc()), absent)
 }

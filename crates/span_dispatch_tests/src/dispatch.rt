@@ -2,12 +2,13 @@
 ghost use Rattle.span_dispatch.specs.Serve.{stack_of};
 
 use crate::requests::{
-    Plain, fresh, in_use, keeps, made, new_event, new_span, plain, serve, within,
+    Plain, Shows, fresh, in_use, keeps, made, new_event, new_span, plain, serve, used, within,
 };
 use span_core::{Attributes, Event, Id, Kind, Lane, Level, Metadata, Record, TraceError};
 use span_dispatch::{Answer, Dispatch, Notice, Recorder, Request, Which, WhichParent};
-use span_layer_tests::fixture::{LANE, metadata_of};
-use span_registry::{Context, LookupSpan, Subscriber};
+use span_layer_tests::fixture::{LANE, metadata_of, put};
+use span_layers::Layer;
+use span_registry::{Context, LookupSpan, Registry, Subscriber};
 use std::alloc::Global;
 use std::process::Abort;
 use std::test::Fail;
@@ -85,18 +86,32 @@ fn closes_with_its_last_handle<S: Subscriber>(
     Ok(id)
 }
 
-#[test]
-fn a_span_closes_with_its_last_handle(rt: HostRuntime) -> Result<(), Fail> {
-    let mut dispatch = fresh_plain(rt.alloc())?;
-    let id = closes_with_its_last_handle(&rt, &mut dispatch)?;
-    let recorder = dispatch.stack().layer();
+/// A recorder hears of that span.
+fn tells_of_one_span<S: Subscriber + Drop, L: Layer<S> + Drop + Shows<Recorder>>(
+    rt: &impl Abort,
+    alloc: Global,
+    stack: S,
+    layer: L,
+) -> Result<(), Fail>
+    requires stack { S.usable stack }
+    requires layer { L.usable layer }
+{
+    let mut dispatch = fresh(alloc, put(stack, layer)?);
+    let id = closes_with_its_last_handle(rt, &mut dispatch)?;
+    let recorder = dispatch.stack().shown();
     keeps(
-        &rt,
+        rt,
         recorder,
         &[Notice::New(LANE, id), Notice::Close(LANE, id)],
     );
     assert!(rt; !recorder.failed());
     Ok(())
+}
+
+#[test]
+fn a_span_closes_with_its_last_handle(rt: HostRuntime) -> Result<(), Fail> {
+    let recorder = Recorder::new(rt.alloc());
+    tells_of_one_span(&rt, rt.alloc(), Registry::new(rt.alloc()), recorder)
 }
 
 /// Requests that name spans by the places of those that make them.
@@ -153,18 +168,32 @@ fn serves_by_places<S: Subscriber>(
     Ok([root, child, other])
 }
 
-#[test]
-fn a_list_names_spans_by_their_places(rt: HostRuntime) -> Result<(), Fail> {
-    let mut dispatch = fresh_plain(rt.alloc())?;
-    let [root, child, other] = serves_by_places(&rt, rt.alloc(), &mut dispatch)?;
+/// A recorder hears of what they name.
+fn tells_of_places<S: Subscriber + Drop, L: Layer<S> + Drop + Shows<Recorder>>(
+    rt: &impl Abort,
+    alloc: Global,
+    stack: S,
+    layer: L,
+) -> Result<(), Fail>
+    requires stack { S.usable stack }
+    requires layer { L.usable layer }
+{
+    let mut dispatch = fresh(alloc, put(stack, layer)?);
+    let [root, child, other] = serves_by_places(rt, alloc, &mut dispatch)?;
     let notices = [
         Notice::New(LANE, root),
         Notice::New(LANE, child),
         Notice::Event(LANE, 7),
         Notice::New(LANE, other),
     ];
-    keeps(&rt, dispatch.stack().layer(), &notices);
+    keeps(rt, dispatch.stack().shown(), &notices);
     Ok(())
+}
+
+#[test]
+fn a_list_names_spans_by_their_places(rt: HostRuntime) -> Result<(), Fail> {
+    let recorder = Recorder::new(rt.alloc());
+    tells_of_places(&rt, rt.alloc(), Registry::new(rt.alloc()), recorder)
 }
 
 /// Requests of each kind, for one span.
@@ -220,11 +249,19 @@ fn answers_in_order<S: Subscriber>(
     Ok(id)
 }
 
-#[test]
-fn a_list_is_answered_in_its_order(rt: HostRuntime) -> Result<(), Fail> {
-    let mut dispatch = fresh_plain(rt.alloc())?;
+/// A recorder hears of them in the same order.
+fn tells_in_order<S: Subscriber + Drop, L: Layer<S> + Drop + Shows<Recorder>>(
+    rt: &impl Abort,
+    alloc: Global,
+    stack: S,
+    layer: L,
+) -> Result<(), Fail>
+    requires stack { S.usable stack }
+    requires layer { L.usable layer }
+{
+    let mut dispatch = fresh(alloc, put(stack, layer)?);
     let never = Id::from_u64(0);
-    let id = answers_in_order(&rt, rt.alloc(), &mut dispatch, never)?;
+    let id = answers_in_order(rt, alloc, &mut dispatch, never)?;
     let notices = [
         Notice::New(LANE, id),
         Notice::Enter(LANE, id),
@@ -233,8 +270,14 @@ fn a_list_is_answered_in_its_order(rt: HostRuntime) -> Result<(), Fail> {
         Notice::Exit(LANE, id),
         Notice::Close(LANE, id),
     ];
-    keeps(&rt, dispatch.stack().layer(), &notices);
+    keeps(rt, dispatch.stack().shown(), &notices);
     Ok(())
+}
+
+#[test]
+fn a_list_is_answered_in_its_order(rt: HostRuntime) -> Result<(), Fail> {
+    let recorder = Recorder::new(rt.alloc());
+    tells_in_order(&rt, rt.alloc(), Registry::new(rt.alloc()), recorder)
 }
 
 /// Makes each call with a span that isn't open.
@@ -281,8 +324,17 @@ fn refuses_all_unknown<S: Subscriber>(
 }
 
 /// A recorder hears of the closed span, and of the events that have an unknown parent.
-fn knows_open_spans_alone(rt: &impl Abort, dispatch: Dispatch<Plain>) -> Result<(), Fail> {
-    let mut dispatch = dispatch;
+fn knows_open_spans_alone<S: Subscriber + Drop, L: Layer<S> + Drop + Shows<Recorder>>(
+    rt: &impl Abort,
+    alloc: Global,
+    stack: S,
+    layer: L,
+    keeps_interests: bool,
+) -> Result<(), Fail>
+    requires stack { S.usable stack }
+    requires layer { L.usable layer }
+{
+    let mut dispatch = used(alloc, put(stack, layer)?, keeps_interests);
     let closed = refuses_all_unknown(rt, &mut dispatch)?;
     let notices = [
         Notice::New(LANE, closed),
@@ -291,14 +343,16 @@ fn knows_open_spans_alone(rt: &impl Abort, dispatch: Dispatch<Plain>) -> Result<
         Notice::Event(LANE, 7),
         Notice::Event(LANE, 7),
     ];
-    keeps(rt, dispatch.stack().layer(), &notices);
+    keeps(rt, dispatch.stack().shown(), &notices);
     Ok(())
 }
 
 #[test]
 fn spans_may_be_unknown(rt: HostRuntime) -> Result<(), Fail> {
-    knows_open_spans_alone(&rt, fresh_plain(rt.alloc())?)?;
-    knows_open_spans_alone(&rt, in_use(rt.alloc(), plain(rt.alloc())?))
+    let recorder = Recorder::new(rt.alloc());
+    knows_open_spans_alone(&rt, rt.alloc(), Registry::new(rt.alloc()), recorder, false)?;
+    let recorder = Recorder::new(rt.alloc());
+    knows_open_spans_alone(&rt, rt.alloc(), Registry::new(rt.alloc()), recorder, true)
 }
 
 /// The span that the lane is in.
@@ -315,8 +369,8 @@ fn enter<S: Subscriber>(dispatch: &mut Dispatch<S>, id: Id) -> Result<(), TraceE
 }
 
 /// What a program sees of a dispatcher: the span that the lane is in, and how many notices its recorder keeps.
-fn seen(dispatch: &Dispatch<Plain>) -> (Option<Id>, usize, bool) {
-    let recorder = dispatch.stack().layer();
+fn seen<S: Subscriber + Shows<Recorder>>(dispatch: &Dispatch<S>) -> (Option<Id>, usize, bool) {
+    let recorder = dispatch.stack().shown();
     (
         current(dispatch),
         recorder.notices().len(),
@@ -325,7 +379,13 @@ fn seen(dispatch: &Dispatch<Plain>) -> (Option<Id>, usize, bool) {
 }
 
 /// Opens a span, and once more where memory is refused: that changes nothing.
-fn open_at_last(rt: &impl Abort, dispatch: &mut Dispatch<Plain>) -> Result<Id, Fail> {
+fn open_at_last<S: Subscriber + Shows<Recorder>>(
+    rt: &impl Abort,
+    dispatch: &mut Dispatch<S>,
+) -> Result<Id, Fail>
+    requires { S.usable (stack_of dispatch.old) }
+    ensures { S.usable (stack_of dispatch.new) }
+{
     let before = seen(dispatch);
     let opened = open(dispatch);
     if opened == Err(TraceError::OutOfMemory) {
@@ -336,7 +396,14 @@ fn open_at_last(rt: &impl Abort, dispatch: &mut Dispatch<Plain>) -> Result<Id, F
 }
 
 /// Enters a span, and once more where memory is refused: that changes nothing.
-fn enter_at_last(rt: &impl Abort, dispatch: &mut Dispatch<Plain>, id: Id) -> Result<(), Fail> {
+fn enter_at_last<S: Subscriber + Shows<Recorder>>(
+    rt: &impl Abort,
+    dispatch: &mut Dispatch<S>,
+    id: Id,
+) -> Result<(), Fail>
+    requires { S.usable (stack_of dispatch.old) }
+    ensures { S.usable (stack_of dispatch.new) }
+{
     let before = seen(dispatch);
     if let Err(error) = enter(dispatch, id) {
         assert!(rt; error == TraceError::OutOfMemory);
@@ -347,12 +414,15 @@ fn enter_at_last(rt: &impl Abort, dispatch: &mut Dispatch<Plain>, id: Id) -> Res
 }
 
 /// Serves requests, and once more where memory is refused before: that changes nothing.
-fn serve_at_last(
+fn serve_at_last<S: Subscriber + Shows<Recorder>>(
     rt: &impl Abort,
     alloc: Global,
-    dispatch: &mut Dispatch<Plain>,
+    dispatch: &mut Dispatch<S>,
     requests: &[Request<'_>],
-) -> Result<Vec<Answer>, Fail> {
+) -> Result<Vec<Answer>, Fail>
+    requires { S.usable (stack_of dispatch.old) }
+    ensures { S.usable (stack_of dispatch.new) }
+{
     let before = seen(dispatch);
     match serve(alloc, dispatch, requests) {
         Err(error) => {
@@ -365,7 +435,13 @@ fn serve_at_last(
 }
 
 /// Opens a span, enters it, and sends an event in it.
-fn send_in_span_at_last(rt: &impl Abort, dispatch: &mut Dispatch<Plain>) -> Result<Id, Fail> {
+fn send_in_span_at_last<S: Subscriber + Shows<Recorder>>(
+    rt: &impl Abort,
+    dispatch: &mut Dispatch<S>,
+) -> Result<Id, Fail>
+    requires { S.usable (stack_of dispatch.old) }
+    ensures { S.usable (stack_of dispatch.new) }
+{
     let id = open_at_last(rt, dispatch)?;
     enter_at_last(rt, dispatch, id)?;
     assert!(rt; (current(dispatch), send(dispatch)) == (Some(id), Ok(true)));
@@ -385,36 +461,86 @@ fn keeps_what_fits(rt: &impl Abort, recorder: &Recorder, id: Id) {
     assert!(rt; recorder.failed() == (recorder.notices().len() < 4));
 }
 
-/// It passes too where any one allocation is refused, as `rt try --test --fail-alloc N` does.
-#[test]
-fn a_refusal_of_memory_changes_nothing(rt: HostRuntime) -> Result<(), Fail> {
-    let mut dispatch = fresh_plain(rt.alloc())?;
-    let id = send_in_span_at_last(&rt, &mut dispatch)?;
+/// Drops the handle of that span, and so closes it.
+fn drop_at_last<S: Subscriber + Shows<Recorder>>(
+    rt: &impl Abort,
+    alloc: Global,
+    dispatch: &mut Dispatch<S>,
+    id: Id,
+) -> Result<(), Fail>
+    requires { S.usable (stack_of dispatch.old) }
+    ensures { S.usable (stack_of dispatch.new) }
+{
     let requests = [Request::Drop(LANE, Which::Known(id))];
-    let answers = serve_at_last(&rt, rt.alloc(), &mut dispatch, &requests)?;
+    let answers = serve_at_last(rt, alloc, dispatch, &requests)?;
     assert!(rt; answers.as_slice() == [Answer::Yes(true)].as_slice());
-    keeps_what_fits(&rt, dispatch.stack().layer(), id);
     Ok(())
 }
 
-/// Sends an event, and once more where memory is refused: that changes nothing.
-fn send_at_last(rt: &impl Abort, dispatch: &mut Dispatch<Plain>) {
+/// Does all this with one span, and looks at its recorder.
+fn serves_one_span_at_last<S: Subscriber + Drop, L: Layer<S> + Drop + Shows<Recorder>>(
+    rt: &impl Abort,
+    alloc: Global,
+    stack: S,
+    layer: L,
+) -> Result<(), Fail>
+    requires stack { S.usable stack }
+    requires layer { L.usable layer }
+{
+    let mut dispatch = fresh(alloc, put(stack, layer)?);
+    let id = send_in_span_at_last(rt, &mut dispatch)?;
+    drop_at_last(rt, alloc, &mut dispatch, id)?;
+    keeps_what_fits(rt, dispatch.stack().shown(), id);
+    Ok(())
+}
+
+/// It passes too where any one allocation is refused, as `rt try --test --fail-alloc N` does.
+#[test]
+fn a_refusal_of_memory_changes_nothing(rt: HostRuntime) -> Result<(), Fail> {
+    let recorder = Recorder::new(rt.alloc());
+    serves_one_span_at_last(&rt, rt.alloc(), Registry::new(rt.alloc()), recorder)
+}
+
+/// Sends an event, and once more where memory is refused: that changes nothing. The recorder keeps
+/// it, or says that there was no memory.
+fn send_at_last<S: Subscriber + Shows<Recorder>>(rt: &impl Abort, dispatch: &mut Dispatch<S>)
+    requires { S.usable (stack_of dispatch.old) }
+{
     let before = seen(dispatch);
     if let Err(error) = send(dispatch) {
         assert!(rt; error == TraceError::OutOfMemory);
         assert!(rt; seen(dispatch) == before);
         assert!(rt; send(dispatch) == Ok(true));
     }
+    let recorder = dispatch.stack().shown();
+    assert!(rt; recorder.failed() == recorder.notices().is_empty());
+}
+
+/// The same of a stack under a layer.
+fn sends_at_last<S: Subscriber + Drop, L: Layer<S> + Drop + Shows<Recorder>>(
+    rt: &impl Abort,
+    alloc: Global,
+    stack: S,
+    layer: L,
+) -> Result<(), Fail>
+    requires stack { S.usable stack }
+    requires layer { L.usable layer }
+{
+    send_at_last(rt, &mut in_use(alloc, put(stack, layer)?));
+    Ok(())
 }
 
 /// It passes too where any one allocation is refused.
 #[test]
 fn a_refused_interest_changes_nothing(rt: HostRuntime) -> Result<(), Fail> {
-    let mut dispatch = in_use(rt.alloc(), plain(rt.alloc())?);
-    send_at_last(&rt, &mut dispatch);
-    let recorder = dispatch.stack().layer();
-    assert!(rt; recorder.failed() == recorder.notices().is_empty());
-    Ok(())
+    let recorder = Recorder::new(rt.alloc());
+    sends_at_last(&rt, rt.alloc(), Registry::new(rt.alloc()), recorder)
+}
+
+/// A recorder and a registry have this span alone.
+fn have_one_span(rt: &impl Abort, recorder: &Recorder, registry: &Registry, id: Id) {
+    let kept = [Notice::New(LANE, id)];
+    assert!(rt; (registry.is_open(id), recorder.notices()) == (true, kept.as_slice()));
 }
 
 #[test]
@@ -422,7 +548,6 @@ fn a_stack_is_taken_out(rt: HostRuntime) -> Result<(), Fail> {
     let mut dispatch = fresh_plain(rt.alloc())?;
     let id = open_root(&mut dispatch)?;
     let (recorder, registry) = dispatch.into_stack().into_parts();
-    let kept = [Notice::New(LANE, id)];
-    assert!(rt; (registry.is_open(id), recorder.notices()) == (true, kept.as_slice()));
+    have_one_span(&rt, &recorder, &registry, id);
     Ok(())
 }

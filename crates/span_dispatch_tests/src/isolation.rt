@@ -1,29 +1,19 @@
 //! Tests of what other layers' filters make no difference to, and of what they do where a filter reads extensions.
+ghost use Rattle.span_dispatch.specs.Serve.{stack_of};
 ghost use Rattle.span_dispatch_tests.specs.Marked.{in_marked, is_marked};
 ghost use Rattle.span_registry.specs.Context.{view_in};
 ghost use Rattle.std.specs.Prelude.{◌≡◌, ⊤};
 
-use crate::requests::{event, made, new_span, serve_by_layer, serve_by_layers, within};
-use span_core::{Id, Level, LevelFilter, Metadata, TraceError};
-use span_dispatch::{Answer, Dispatch, Notice, Recorder, Request, Which, WhichParent};
-use span_filters::{Filter, FunctionIn, dynamic_filter_fn};
+use crate::requests::{Shows, ShowsTwo, event, in_use, keeps, made, new_span, serve, within};
+use span_core::{Id, Level, LevelFilter, Metadata};
+use span_dispatch::{Dispatch, Notice, Recorder, Request, Which, WhichParent};
+use span_filters::{FunctionIn, dynamic_filter_fn};
 use span_layer_tests::fixture::{LANE, put};
-use span_layers::{Filtered, Layer, LayerExt, Layered, Observe, Observed, Observer};
+use span_layers::{Layer, LayerExt, Observe, Observed, Observer};
 use span_registry::{Context, ContextMut, ExtensionValue, LookupSpan, Registry, Subscriber, Tag};
 use std::alloc::Global;
 use std::process::Abort;
 use std::test::Fail;
-
-/// From the registry outwards: B without a filter, and A under INFO.
-type Two = Layered<Filtered<Recorder, LevelFilter>, Layered<Recorder, Registry>>;
-
-fn kept_by_a(stack: &Two) -> &[Notice] {
-    stack.layer().inner().notices()
-}
-
-fn kept_by_b(stack: &Two) -> &[Notice] {
-    stack.inner().layer().notices()
-}
 
 /// Three spans at info, debug, info, each in the one before, all entered; an event of each level where the lane is; then all are
 /// left and dropped.
@@ -89,44 +79,90 @@ fn due_to_b(p: Id, q: Id, r: Id) -> [Notice; 17] {
     ]
 }
 
-fn a_and_b(alloc: Global) -> Result<Two, TraceError> {
-    let b = put(Registry::new(alloc), Recorder::new(alloc))?;
-    put(b, Recorder::new(alloc).with_filter(LevelFilter::INFO))
+/// Serves the list. Answers the three spans.
+fn serve_requests<S: Subscriber>(alloc: Global, dispatch: &mut Dispatch<S>) -> Result<[Id; 3], Fail>
+    requires { S.usable (stack_of dispatch.old) }
+{
+    let answers = serve(alloc, dispatch, &requests())?;
+    Ok([made(&answers, 0)?, made(&answers, 1)?, made(&answers, 2)?])
 }
 
-/// Serves the list with C, under this level, outside A and B, and looks at what these were notified
-/// of.
-fn a_and_b_beside(rt: &impl Abort, alloc: Global, outermost: LevelFilter) -> Result<(), Fail> {
-    let c = Recorder::new(alloc).with_filter(outermost);
-    let (dispatch, answers) = serve_requests(alloc, a_and_b(alloc)?, c)?;
-    a_and_b_kept(rt, dispatch.stack().inner(), &answers)
-}
-
-/// Serves the list with a layer outside a stack.
-fn serve_requests<S: Subscriber + Drop, L: Layer<S> + Drop>(
+/// Serves the list by a stack of A and B, C outside them, and looks at what A and B were notified of.
+fn tells_a_and_b<S: Subscriber + Drop + ShowsTwo<Recorder>, L: Layer<S> + Drop>(
+    rt: &impl Abort,
     alloc: Global,
     stack: S,
-    layer: L,
-) -> Result<(Dispatch<Layered<L, S>>, Vec<Answer>), TraceError>
+    c: L,
+) -> Result<(), Fail>
     requires stack { S.usable stack }
-    requires layer { L.usable layer }
+    requires layer { L.usable c }
 {
-    serve_by_layer(alloc, stack, layer, &requests())
+    let mut dispatch = in_use(alloc, put(stack, c)?);
+    let [p, q, r] = serve_requests(alloc, &mut dispatch)?;
+    let a_and_b = dispatch.stack().inner();
+    keeps(rt, a_and_b.outer_shown(), &due_to_a(p, r));
+    keeps(rt, a_and_b.inner_shown(), &due_to_b(p, q, r));
+    Ok(())
 }
 
-fn a_and_b_kept(rt: &impl Abort, stack: &Two, answers: &[Answer]) -> Result<(), Fail> {
-    let p = made(answers, 0)?;
-    let q = made(answers, 1)?;
-    let r = made(answers, 2)?;
-    assert!(rt; kept_by_a(stack) == due_to_a(p, r).as_slice());
-    assert!(rt; kept_by_b(stack) == due_to_b(p, q, r).as_slice());
-    Ok(())
+/// The same where C is a recorder under this level.
+fn tells_below_c<S: Subscriber + Drop + ShowsTwo<Recorder>>(
+    rt: &impl Abort,
+    alloc: Global,
+    stack: S,
+    outermost: LevelFilter,
+) -> Result<(), Fail>
+    requires { S.usable stack }
+{
+    let c = Recorder::new(alloc).with_filter(outermost);
+    tells_a_and_b(rt, alloc, stack, c)
+}
+
+/// The same of a stack of B: A, under INFO, comes outside it.
+fn tells_beside<S: Subscriber + Drop + Shows<Recorder>>(
+    rt: &impl Abort,
+    alloc: Global,
+    stack: S,
+    outermost: LevelFilter,
+) -> Result<(), Fail>
+    requires { S.usable stack }
+{
+    let a = Recorder::new(alloc).with_filter(LevelFilter::INFO);
+    tells_below_c(rt, alloc, put(stack, a)?, outermost)
+}
+
+/// The same of B and a stack without it.
+fn tells_with_b<S: Subscriber + Drop, L: Layer<S> + Drop + Shows<Recorder>>(
+    rt: &impl Abort,
+    alloc: Global,
+    stack: S,
+    b: L,
+    outermost: LevelFilter,
+) -> Result<(), Fail>
+    requires stack { S.usable stack }
+    requires layer { L.usable b }
+{
+    tells_beside(rt, alloc, put(stack, b)?, outermost)
 }
 
 #[test]
 fn another_layers_filter_makes_no_difference(rt: HostRuntime) -> Result<(), Fail> {
-    a_and_b_beside(&rt, rt.alloc(), LevelFilter::TRACE)?;
-    a_and_b_beside(&rt, rt.alloc(), LevelFilter::OFF)
+    let b = Recorder::new(rt.alloc());
+    tells_with_b(
+        &rt,
+        rt.alloc(),
+        Registry::new(rt.alloc()),
+        b,
+        LevelFilter::TRACE,
+    )?;
+    let b = Recorder::new(rt.alloc());
+    tells_with_b(
+        &rt,
+        rt.alloc(),
+        Registry::new(rt.alloc()),
+        b,
+        LevelFilter::OFF,
+    )
 }
 
 /// The test of a filter: it passes spans, and of events those in a marked span, one with a value under this tag. It reads
@@ -186,68 +222,77 @@ fn one_span() -> [Request<'static>; 5] {
     ]
 }
 
-/// From the registry outwards: A under a filter by marks, and C, which makes them, under a level. Answers the span, and what A
-/// keeps of the list.
-fn kept_beside_marker(alloc: Global, outermost: LevelFilter) -> Result<(Id, Vec<Notice>), Fail> {
-    let mark = Tag::new(0);
-    let marked = dynamic_filter_fn(InMarked { mark });
-    let c = Observer::new(SpanMarker { mark }).with_filter(outermost);
-    kept_of_one_span(alloc, Registry::new(alloc), marked, c)
+/// Serves that list. Answers the span.
+fn serve_one_span<S: Subscriber>(alloc: Global, dispatch: &mut Dispatch<S>) -> Result<Id, Fail>
+    requires { S.usable (stack_of dispatch.old) }
+{
+    let answers = serve(alloc, dispatch, &one_span())?;
+    made(&answers, 0)
 }
 
-/// The same of a recorder under a filter, on a stack, and a layer outside it.
-fn kept_of_one_span<S, F, O>(
+/// A is notified of that span, and of the event in it too or not.
+fn told_of_one_span(rt: &impl Abort, recorder: &Recorder, p: Id, of_event: bool) {
+    let (new, enter) = (Notice::New(LANE, p), Notice::Enter(LANE, p));
+    let (exit, close) = (Notice::Exit(LANE, p), Notice::Close(LANE, p));
+    if of_event {
+        let event = Notice::Event(LANE, 5);
+        keeps(rt, recorder, &[new, enter, event, exit, close]);
+    } else {
+        keeps(rt, recorder, &[new, enter, exit, close]);
+    }
+}
+
+/// Serves that list by a stack of A, C outside it, and looks at what A is notified of.
+fn tells_a<S: Subscriber + Drop + Shows<Recorder>, L: Layer<S> + Drop>(
+    rt: &impl Abort,
     alloc: Global,
     stack: S,
-    filter: F,
-    outer: O,
-) -> Result<(Id, Vec<Notice>), Fail>
-where
-    S: Subscriber + Drop,
-    F: Filter<S> + Drop,
-    O: Layer<Layered<Filtered<Recorder, F>, S>> + Drop,
+    c: L,
+    of_event: bool,
+) -> Result<(), Fail>
     requires stack { S.usable stack }
-    requires filter { F.usable filter }
-    requires outer { O.usable outer }
+    requires layer { L.usable c }
 {
-    let a = Recorder::new(alloc).with_filter(filter);
-    let (dispatch, answers) = serve_by_layers(alloc, stack, a, outer, &one_span())?;
-    first_and_kept(alloc, &answers, dispatch.stack().inner().layer().inner())
+    let mut dispatch = in_use(alloc, put(stack, c)?);
+    let p = serve_one_span(alloc, &mut dispatch)?;
+    told_of_one_span(rt, dispatch.stack().inner().shown(), p, of_event);
+    Ok(())
 }
 
-/// The span that the first request made, and what a recorder keeps.
-fn first_and_kept(
+/// The same where C marks spans, under this level.
+fn tells_beside_marker<S: Subscriber + Drop + Shows<Recorder>>(
+    rt: &impl Abort,
     alloc: Global,
-    answers: &[Answer],
-    recorder: &Recorder,
-) -> Result<(Id, Vec<Notice>), Fail> {
-    Ok((made(answers, 0)?, recorder.notices().to_vec(alloc)?))
+    stack: S,
+    mark: Tag<bool>,
+    outermost: LevelFilter,
+    of_event: bool,
+) -> Result<(), Fail>
+    requires { S.usable stack }
+{
+    let c = Observer::new(SpanMarker { mark }).with_filter(outermost);
+    tells_a(rt, alloc, stack, c, of_event)
+}
+
+/// The same of A under a filter by marks, on a stack.
+fn tells_by_marks<S: Subscriber + Drop>(
+    rt: &impl Abort,
+    alloc: Global,
+    stack: S,
+    outermost: LevelFilter,
+    of_event: bool,
+) -> Result<(), Fail>
+    requires { S.usable stack }
+{
+    let mark = Tag::new(0);
+    let a = Recorder::new(alloc).with_filter(dynamic_filter_fn(InMarked { mark }));
+    tells_beside_marker(rt, alloc, put(stack, a)?, mark, outermost, of_event)
 }
 
 #[test]
 fn another_layer_makes_a_difference_to_a_filter_by_marks(rt: HostRuntime) -> Result<(), Fail> {
-    let (p, kept) = kept_beside_marker(rt.alloc(), LevelFilter::TRACE)?;
-    assert!(rt;
-        kept.as_slice()
-            == [
-                Notice::New(LANE, p),
-                Notice::Enter(LANE, p),
-                Notice::Event(LANE, 5),
-                Notice::Exit(LANE, p),
-                Notice::Close(LANE, p),
-            ]
-            .as_slice()
-    );
-    let (p, kept) = kept_beside_marker(rt.alloc(), LevelFilter::OFF)?;
-    assert!(rt;
-        kept.as_slice()
-            == [
-                Notice::New(LANE, p),
-                Notice::Enter(LANE, p),
-                Notice::Exit(LANE, p),
-                Notice::Close(LANE, p),
-            ]
-            .as_slice()
-    );
-    Ok(())
+    let registry = Registry::new(rt.alloc());
+    tells_by_marks(&rt, rt.alloc(), registry, LevelFilter::TRACE, true)?;
+    let registry = Registry::new(rt.alloc());
+    tells_by_marks(&rt, rt.alloc(), registry, LevelFilter::OFF, false)
 }

@@ -2,31 +2,18 @@
 ghost use Rattle.span_dispatch.specs.Serve.{stack_of};
 
 use crate::cache::{count_one, sent_under};
-use crate::requests::{
-    UnderOne, event, fresh, in_use, made, new_span, one_on, serve, serve_by_layers,
-};
-use span_core::{Level, LevelFilter, Metadata, TraceError};
+use crate::requests::{Shows, ShowsTwo, UnderOne, event, in_use, made, new_span, serve, used};
+use span_core::{Id, Level, LevelFilter, Metadata, TraceError};
 use span_dispatch::{Answer, Dispatch, Notice, Recorder, Request, Which, WhichParent};
 use span_filters::{Filter, filter_fn};
 use span_layer_tests::fixture::{LANE, put};
-use span_layers::{LayerExt, Layered};
+use span_layers::{Layer, LayerExt, Layered};
 use span_registry::{Registry, Subscriber};
 use std::alloc::Global;
 use std::cell::Cell;
 use std::process::Abort;
 use std::rc::Rc;
 use std::test::Fail;
-
-/// Puts a stack in use by a dispatcher that keeps hint and interests, or by one that keeps nothing.
-fn used<S: Subscriber>(alloc: Global, stack: S, keeps: bool) -> Dispatch<S>
-    requires { S.usable stack }
-    ensures { S.usable (stack_of result) }
-{
-    if keeps {
-        return in_use(alloc, stack);
-    }
-    fresh(alloc, stack)
-}
 
 /// Sets a level.
 fn set<S: Subscriber>(
@@ -61,32 +48,50 @@ fn raised_by_calls<S: Subscriber>(
     Ok(())
 }
 
-/// A recorder under WARN is notified of the third of three events: by then its level is INFO.
-fn the_third_event_alone(
-    rt: &impl Abort,
-    alloc: Global,
-    keeps: bool,
-    before: Said,
-    after: Said,
-) -> Result<(), Fail> {
-    let mut dispatch = used(alloc, one_on(alloc, LevelFilter::WARN)?, keeps);
-    raised_by_calls(rt, &mut dispatch, before, after)?;
-    told_once(rt, dispatch.stack().layer().inner());
-    Ok(())
-}
-
 /// A recorder was told of one event.
 fn told_once(rt: &impl Abort, recorder: &Recorder) {
     assert!(rt; recorder.notices() == [Notice::Event(LANE, 5)].as_slice());
 }
 
+/// A recorder under WARN is notified of the third of three events: by then its level is INFO.
+fn the_third_event_alone<S: Subscriber + Drop, L: Layer<S> + Drop + Shows<Recorder>>(
+    rt: &impl Abort,
+    alloc: Global,
+    stack: S,
+    layer: L,
+    keeps: bool,
+    said: [Said; 2],
+) -> Result<(), Fail>
+    requires stack { S.usable stack }
+    requires layer { L.usable layer }
+{
+    let [before, after] = said;
+    let mut dispatch = used(alloc, put(stack, layer)?, keeps);
+    raised_by_calls(rt, &mut dispatch, before, after)?;
+    told_once(rt, dispatch.stack().shown());
+    Ok(())
+}
+
 #[test]
 fn a_level_is_set_by_a_call(rt: HostRuntime) -> Result<(), Fail> {
-    let dropped = (Ok(false), Some(LevelFilter::WARN));
-    let sent = (Ok(true), Some(LevelFilter::INFO));
-    the_third_event_alone(&rt, rt.alloc(), true, dropped, sent)?;
-    let asked_each_time = (Ok(true), None);
-    the_third_event_alone(&rt, rt.alloc(), false, asked_each_time, asked_each_time)
+    let said = [
+        (Ok(false), Some(LevelFilter::WARN)),
+        (Ok(true), Some(LevelFilter::INFO)),
+    ];
+    let under_warn = Recorder::new(rt.alloc()).with_filter(LevelFilter::WARN);
+    let registry = Registry::new(rt.alloc());
+    the_third_event_alone(&rt, rt.alloc(), registry, under_warn, true, said)?;
+    let asked_each_time = [(Ok(true), None); 2];
+    let under_warn = Recorder::new(rt.alloc()).with_filter(LevelFilter::WARN);
+    let registry = Registry::new(rt.alloc());
+    the_third_event_alone(
+        &rt,
+        rt.alloc(),
+        registry,
+        under_warn,
+        false,
+        asked_each_time,
+    )
 }
 
 /// An event of level info, two levels that no filter takes, and the event again.
@@ -149,33 +154,82 @@ fn the_third_event_beside_a_closure(
         count_one(&counter);
         meta.level() <= Level::WARN
     });
-    let under_warn = Recorder::new(alloc).with_filter(LevelFilter::WARN);
-    let stack = put(Registry::new(alloc), under_warn)?;
-    told_beside(rt, alloc, keeps, stack, counted, (&asked, before, counts))
+    let registry = Registry::new(alloc);
+    told_beside(
+        rt,
+        alloc,
+        keeps,
+        registry,
+        counted,
+        (&asked, before, counts),
+    )
 }
 
-/// A recorder under WARN on a stack, which a dispatcher has.
-type UnderWarn<S> = Layered<UnderOne, S>;
+/// A cell that counts how often a filter is asked, what an event is answered at first, and the counts.
+type Expected<'a> = (&'a Cell<u32>, Answer, [u32; 2]);
 
-/// The same with another filter, and a cell that counts how often that is asked.
-fn told_beside<S: Subscriber + Drop, F: Filter<UnderWarn<S>> + Drop>(
+/// The same with another filter, and the cell that counts how often that is asked.
+fn told_beside<S: Subscriber + Drop, F: Filter<Layered<UnderOne, S>> + Drop>(
     rt: &impl Abort,
     alloc: Global,
     keeps: bool,
-    stack: UnderWarn<S>,
+    stack: S,
     other: F,
-    expected: (&Cell<u32>, Answer, [u32; 2]),
+    expected: Expected<'_>,
 ) -> Result<(), Fail>
-    requires stack { ⟦<UnderWarn<S> as Subscriber>⟧.usable stack }
+    requires stack { S.usable stack }
+    requires filter { F.usable other }
+{
+    let under_warn = Recorder::new(alloc).with_filter(LevelFilter::WARN);
+    told_outside(rt, alloc, keeps, put(stack, under_warn)?, other, expected)
+}
+
+/// The same of a recorder under that filter, outside the one under WARN.
+fn told_outside<S: Subscriber + Drop + Shows<Recorder>, F: Filter<S> + Drop>(
+    rt: &impl Abort,
+    alloc: Global,
+    keeps: bool,
+    stack: S,
+    other: F,
+    expected: Expected<'_>,
+) -> Result<(), Fail>
+    requires stack { S.usable stack }
     requires filter { F.usable other }
 {
     let under_other = Recorder::new(alloc).with_filter(other);
-    let mut dispatch = used(alloc, put(stack, under_other)?, keeps);
+    told_under(rt, alloc, keeps, stack, under_other, expected)
+}
+
+/// The same of a stack under the layer that has the outer recorder.
+fn told_under<S: Subscriber + Drop + Shows<Recorder>, L: Layer<S> + Drop + Shows<Recorder>>(
+    rt: &impl Abort,
+    alloc: Global,
+    keeps: bool,
+    stack: S,
+    layer: L,
+    expected: Expected<'_>,
+) -> Result<(), Fail>
+    requires stack { S.usable stack }
+    requires layer { L.usable layer }
+{
+    let stack = put(stack, layer)?;
+    raised_beside(rt, alloc, &mut used(alloc, stack, keeps), expected)
+}
+
+/// The inner recorder alone is told.
+fn raised_beside<S: Subscriber + ShowsTwo<Recorder>>(
+    rt: &impl Abort,
+    alloc: Global,
+    dispatch: &mut Dispatch<S>,
+    expected: Expected<'_>,
+) -> Result<(), Fail>
+    requires { S.usable (stack_of dispatch.old) }
+{
     let (asked, before, counts) = expected;
-    raised_in_lists(rt, alloc, &mut dispatch, asked, before, counts)?;
+    raised_in_lists(rt, alloc, dispatch, asked, before, counts)?;
     let stack = dispatch.stack();
-    assert!(rt; stack.layer().inner().notices().is_empty());
-    told_once(rt, stack.inner().layer().inner());
+    assert!(rt; stack.outer_shown().notices().is_empty());
+    told_once(rt, stack.inner_shown());
     Ok(())
 }
 
@@ -213,9 +267,19 @@ fn spans_between_levels() -> [Request<'static>; 13] {
     ]
 }
 
+/// Serves them. Answers the three spans.
+fn serve_between_levels<S: Subscriber>(
+    alloc: Global,
+    dispatch: &mut Dispatch<S>,
+) -> Result<[Id; 3], Fail>
+    requires { S.usable (stack_of dispatch.old) }
+{
+    let answers = serve(alloc, dispatch, &spans_between_levels())?;
+    Ok([made(&answers, 0)?, made(&answers, 1)?, made(&answers, 4)?])
+}
+
 /// A recorder that began under INFO: of the first span it is told nothing, and of the other two all but what no level lets by.
-fn told_of_its_own(rt: &impl Abort, recorder: &Recorder, answers: &[Answer]) -> Result<(), Fail> {
-    let (info, debug) = (made(answers, 1)?, made(answers, 4)?);
+fn told_of_its_own(rt: &impl Abort, recorder: &Recorder, [_, info, debug]: [Id; 3]) {
     assert!(rt;
         recorder.notices()
             == [
@@ -228,12 +292,10 @@ fn told_of_its_own(rt: &impl Abort, recorder: &Recorder, answers: &[Answer]) -> 
             ]
             .as_slice()
     );
-    Ok(())
 }
 
 /// The recorder without a filter.
-fn told_of_all(rt: &impl Abort, recorder: &Recorder, answers: &[Answer]) -> Result<(), Fail> {
-    let (first, info, debug) = (made(answers, 0)?, made(answers, 1)?, made(answers, 4)?);
+fn told_of_all(rt: &impl Abort, recorder: &Recorder, [first, info, debug]: [Id; 3]) {
     assert!(rt;
         recorder.notices()
             == [
@@ -251,21 +313,63 @@ fn told_of_all(rt: &impl Abort, recorder: &Recorder, answers: &[Answer]) -> Resu
             ]
             .as_slice()
     );
+}
+
+/// Each of two recorders is told of its own.
+fn tells_between_levels<S: Subscriber + ShowsTwo<Recorder>>(
+    rt: &impl Abort,
+    alloc: Global,
+    dispatch: &mut Dispatch<S>,
+) -> Result<(), Fail>
+    requires { S.usable (stack_of dispatch.old) }
+{
+    let spans = serve_between_levels(alloc, dispatch)?;
+    let stack = dispatch.stack();
+    told_of_its_own(rt, stack.outer_shown(), spans);
+    told_of_all(rt, stack.inner_shown(), spans);
     Ok(())
+}
+
+/// Puts a recorder under INFO outside one that is in a layer.
+fn tells_outside<S: Subscriber + Drop, L: Layer<S> + Drop + Shows<Recorder>>(
+    rt: &impl Abort,
+    alloc: Global,
+    stack: S,
+    layer: L,
+) -> Result<(), Fail>
+    requires stack { S.usable stack }
+    requires layer { L.usable layer }
+{
+    tells_under_info(rt, alloc, put(stack, layer)?)
+}
+
+/// The same of a stack with that one.
+fn tells_under_info<S: Subscriber + Drop + Shows<Recorder>>(
+    rt: &impl Abort,
+    alloc: Global,
+    stack: S,
+) -> Result<(), Fail>
+    requires { S.usable stack }
+{
+    let under_info = Recorder::new(alloc).with_filter(LevelFilter::INFO);
+    tells_under(rt, alloc, stack, under_info)
+}
+
+/// The same of a stack under the layer that has the outer recorder.
+fn tells_under<S: Subscriber + Drop + Shows<Recorder>, L: Layer<S> + Drop + Shows<Recorder>>(
+    rt: &impl Abort,
+    alloc: Global,
+    stack: S,
+    layer: L,
+) -> Result<(), Fail>
+    requires stack { S.usable stack }
+    requires layer { L.usable layer }
+{
+    tells_between_levels(rt, alloc, &mut in_use(alloc, put(stack, layer)?))
 }
 
 #[test]
 fn open_spans_keep_their_verdicts(rt: HostRuntime) -> Result<(), Fail> {
-    let plain = Recorder::new(rt.alloc());
-    let under_info = Recorder::new(rt.alloc()).with_filter(LevelFilter::INFO);
-    let (dispatch, answers) = serve_by_layers(
-        rt.alloc(),
-        Registry::new(rt.alloc()),
-        plain,
-        under_info,
-        &spans_between_levels(),
-    )?;
-    let stack = dispatch.stack();
-    told_of_its_own(&rt, stack.layer().inner(), &answers)?;
-    told_of_all(&rt, stack.inner().layer(), &answers)
+    let recorder = Recorder::new(rt.alloc());
+    tells_outside(&rt, rt.alloc(), Registry::new(rt.alloc()), recorder)
 }

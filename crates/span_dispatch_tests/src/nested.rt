@@ -5,9 +5,9 @@ ghost use Rattle.std.specs.Prelude.{◌≡◌};
 use crate::isolation::SpanMarker;
 use crate::requests::{fresh, in_use};
 use span_core::{Attributes, FilterId, Id, Kind, Level, LevelFilter};
-use span_dispatch::{Crew, Dispatch, Entry, EntryWith, Shared};
+use span_dispatch::{Crew, Dispatch, Entry, EntryWith, Shared, Worker};
 use span_layer_tests::fixture::{LANE, metadata_of, put};
-use span_layers::{Layer, LayerExt, Layered, Observer};
+use span_layers::{Layer, LayerExt, Observer};
 use span_registry::{LookupSpan, Registry, SpanData, Subscriber, Tag};
 use std::alloc::Global;
 use std::marker::Brand;
@@ -27,11 +27,13 @@ enum By {
     Sharing,
 }
 
-/// A span that was opened, as the registry shows it: the numbers of the filters that refused it,
-/// and whether the innermost layer marked it. And its verdict as a word, where there is a journal.
-#[derive(Drop, PartialEq)]
-struct Opened {
-    refused_by: Vec<u32>,
+/// A span that a dispatcher opens, and what is to be seen of it: the numbers of the filters that refused
+/// it, whether the innermost layer marked it, and its verdict as a word, where there is a journal.
+#[derive(Clone, Copy)]
+struct Case<'a> {
+    by: By,
+    level: Level,
+    refused_by: &'a [u32],
     is_marked: bool,
     verdict: Option<u128>,
 }
@@ -67,49 +69,71 @@ fn is_marked<S: LookupSpan>(stack: &S, id: Id) -> bool {
     }
 }
 
-/// What a stack shows of a span with this verdict.
-fn shown<S: LookupSpan>(
+/// A stack shows of a span with this verdict what is to be seen.
+fn shows<S: LookupSpan>(
+    rt: &impl Abort,
     alloc: Global,
+    case: Case<'_>,
     stack: &S,
     id: Id,
     verdict: Option<u128>,
-) -> Result<Opened, Fail> {
-    Ok(Opened {
-        refused_by: refused_by(alloc, stack, id)?,
-        is_marked: is_marked(stack, id),
-        verdict,
-    })
+) -> Result<(), Fail> {
+    let by = case.by;
+    let numbers = refused_by(alloc, stack, id)?;
+    assert!(rt; numbers.as_slice() == case.refused_by, "{by:?}");
+    assert!(rt;
+        (is_marked(stack, id), verdict) == (case.is_marked, case.verdict),
+        "{by:?}"
+    );
+    Ok(())
 }
 
-/// Has a dispatcher open a span.
+/// Has a dispatcher open a span, and looks at it.
 fn by_dispatcher<S: Subscriber>(
+    rt: &impl Abort,
     alloc: Global,
+    case: Case<'_>,
     dispatch: &mut Dispatch<S>,
-    level: Level,
-) -> Result<Opened, Fail>
+) -> Result<(), Fail>
     requires { S.usable (stack_of dispatch.old) }
 {
-    let made = dispatch.new_span(LANE, &root_of(level))?;
+    let made = dispatch.new_span(LANE, &root_of(case.level))?;
     let id = made.ok_or("a layer vetoes")?;
-    shown(alloc, dispatch.stack(), id, None)
+    shows(rt, alloc, case, dispatch.stack(), id, None)
 }
 
-/// The span of an entry, and its verdict as a word.
-fn new_span_of(entry: Entry) -> Result<(Id, u128), Fail> {
+/// The span that an entry says was made, and its verdict as a word.
+fn new_span_of(entry: Entry) -> Option<(Id, u128)> {
     match entry {
-        EntryWith::New(_, _, _, verdict, id) => Ok((id, verdict.word())),
-        _ => Err(Fail::from("no span was made")),
+        EntryWith::New(_, _, _, verdict, id) => Some((id, verdict.word())),
+        _ => None,
     }
 }
 
-/// Has one worker of a dispatcher that threads can share open a span.
-fn by_worker<S: Subscriber + Drop, C: Crew>(
+/// Has the first worker of a dispatcher that threads share open a span. Answers it, and its verdict as
+/// a word.
+fn opened_by_first<S: Subscriber, C: Crew>(
     rt: &impl Wait,
+    shared: &Shared<S, C>,
+    workers: &mut Vec<Worker<C>>,
+    level: Level,
+) -> Result<(Id, u128), Fail> {
+    let worker = workers.first_mut().ok_or("no worker")?;
+    if worker.calls() > 0 {
+        return Err(Fail::from("the worker isn't new"));
+    }
+    let (_, receipt) = shared.new_span(rt, worker, &root_of(level))?;
+    Ok(new_span_of(receipt.entry()).ok_or("no span was made")?)
+}
+
+/// Has one worker of a dispatcher that threads can share open a span, and looks at it.
+fn by_worker<S: Subscriber + Drop, C: Crew>(
+    rt: &(impl Abort + Wait),
     alloc: Global,
     blank: Blank,
+    case: Case<'_>,
     stack: S,
-    level: Level,
-) -> Result<Opened, Fail>
+) -> Result<(), Fail>
     requires name { blank.name ≡ C.name }
     requires parts { (blank.parts ≡ C.parts) × (C.parts ≡ 1) × (C.workers ≡ 1) }
     requires usable { S.usable stack }
@@ -122,57 +146,59 @@ fn by_worker<S: Subscriber + Drop, C: Crew>(
     let Ok((shared, mut workers)) = Shared::new(alloc, book, all, dispatch, 1) else {
         return Err(Fail::from("no memory"));
     };
-    let mut worker = workers.pop().ok_or("no worker")?;
-    if worker.calls() > 0 {
-        return Err(Fail::from("the worker isn't new"));
-    }
-    let (_, receipt) = shared.new_span(rt, &mut worker, &root_of(level))?;
-    let (id, verdict) = new_span_of(receipt.entry())?;
-    workers.push(worker)?;
+    let (id, verdict) = opened_by_first(rt, &shared, &mut workers, case.level)?;
     match shared.finish(workers) {
-        Ok((dispatch, _)) => shown(alloc, dispatch.stack(), id, Some(verdict)),
+        Ok((dispatch, _)) => shows(rt, alloc, case, dispatch.stack(), id, Some(verdict)),
         Err(_) => Err(Fail::from("a worker is missing")),
     }
 }
 
-/// Puts a layer with eight filters on a stack without any, and has a dispatcher open a span of this
-/// level.
+/// Has a dispatcher of a stack with eight filters open a span, and looks at it.
+fn by_case<S: Subscriber + Drop>(
+    rt: &(impl Abort + Wait),
+    alloc: Global,
+    case: Case<'_>,
+    stack: S,
+) -> Result<(), Fail>
+    requires { S.usable stack }
+{
+    assert!(rt; stack.root().filters() == 8);
+    match case.by {
+        By::Keeping => by_dispatcher(rt, alloc, case, &mut in_use(alloc, stack)),
+        By::Asking => by_dispatcher(rt, alloc, case, &mut fresh(alloc, stack)),
+        By::Sharing => by_worker::<S, Brand>(rt, alloc, Blank::new(1), case, stack),
+    }
+}
+
+/// Puts a layer with eight filters on a stack without any, and has a dispatcher open a span.
 fn on_stack<S: Subscriber + Drop, L: Layer<S> + Drop>(
     rt: &(impl Abort + Wait),
     alloc: Global,
-    by: By,
-    level: Level,
+    case: Case<'_>,
     stack: S,
     layer: L,
-) -> Result<Opened, Fail>
+) -> Result<(), Fail>
     requires stack { S.usable stack }
     requires layer { L.usable layer }
 {
-    let stack = put(stack, layer)?;
-    assert!(rt; stack.root().filters() == 8);
-    match by {
-        By::Keeping => by_dispatcher(alloc, &mut in_use(alloc, stack), level),
-        By::Asking => by_dispatcher(alloc, &mut fresh(alloc, stack), level),
-        By::Sharing => { by_worker::<Layered<L, S>, Brand>(rt, alloc, Blank::new(1), stack, level) }
-    }
+    by_case(rt, alloc, case, put(stack, layer)?)
 }
 
 /// The same of a layer with six filters, under two that pass all.
 fn in_two_more<S: Subscriber + Drop, L: Layer<S> + Drop>(
     rt: &(impl Abort + Wait),
     alloc: Global,
-    by: By,
-    level: Level,
+    case: Case<'_>,
     stack: S,
     layer: L,
-) -> Result<Opened, Fail>
+) -> Result<(), Fail>
     requires stack { S.usable stack }
     requires layer { L.usable layer }
 {
     let under_two = layer
         .with_filter(LevelFilter::TRACE)
         .with_filter(LevelFilter::TRACE);
-    on_stack(rt, alloc, by, level, stack, under_two)
+    on_stack(rt, alloc, case, stack, under_two)
 }
 
 /// The same of a layer with four filters. Numbers are given from the outermost filter on, from 0,
@@ -180,44 +206,42 @@ fn in_two_more<S: Subscriber + Drop, L: Layer<S> + Drop>(
 fn in_four_more<S: Subscriber + Drop, L: Layer<S> + Drop>(
     rt: &(impl Abort + Wait),
     alloc: Global,
-    by: By,
-    level: Level,
+    case: Case<'_>,
     stack: S,
     layer: L,
-) -> Result<Opened, Fail>
+) -> Result<(), Fail>
     requires stack { S.usable stack }
     requires layer { L.usable layer }
 {
     let under_two = layer
         .with_filter(LevelFilter::ERROR)
         .with_filter(LevelFilter::TRACE);
-    in_two_more(rt, alloc, by, level, stack, under_two)
+    in_two_more(rt, alloc, case, stack, under_two)
 }
 
 /// The same of a layer with two filters.
 fn in_six_more<S: Subscriber + Drop, L: Layer<S> + Drop>(
     rt: &(impl Abort + Wait),
     alloc: Global,
-    by: By,
-    level: Level,
+    case: Case<'_>,
     stack: S,
     layer: L,
-) -> Result<Opened, Fail>
+) -> Result<(), Fail>
     requires stack { S.usable stack }
     requires layer { L.usable layer }
 {
     let under_two = layer
         .with_filter(LevelFilter::TRACE)
         .with_filter(LevelFilter::TRACE);
-    in_four_more(rt, alloc, by, level, stack, under_two)
+    in_four_more(rt, alloc, case, stack, under_two)
 }
 
 /// The same of a layer without filters on a registry, which marks the spans that it is told of.
-fn in_eight(rt: &(impl Abort + Wait), alloc: Global, by: By, level: Level) -> Result<Opened, Fail> {
+fn in_eight(rt: &(impl Abort + Wait), alloc: Global, case: Case<'_>) -> Result<(), Fail> {
     let under_two = Observer::new(SpanMarker { mark: mark() })
         .with_filter(LevelFilter::TRACE)
         .with_filter(LevelFilter::TRACE);
-    in_six_more(rt, alloc, by, level, Registry::new(alloc), under_two)
+    in_six_more(rt, alloc, case, Registry::new(alloc), under_two)
 }
 
 /// An info span is refused by number 3 alone. It is in the registry all the same, and the innermost
@@ -229,12 +253,14 @@ fn of_eight_filters_number_3_refuses(rt: HostRuntime) -> Result<(), Fail> {
         (By::Asking, None),
         (By::Sharing, Some(0b1000)),
     ] {
-        let opened = in_eight(&rt, rt.alloc(), by, Level::INFO)?;
-        assert!(rt; opened.refused_by.as_slice() == [3].as_slice(), "{by:?}");
-        assert!(rt;
-            (opened.is_marked, opened.verdict) == (false, verdict),
-            "{by:?}"
-        );
+        let case = Case {
+            by,
+            level: Level::INFO,
+            refused_by: &[3],
+            is_marked: false,
+            verdict,
+        };
+        in_eight(&rt, rt.alloc(), case)?;
     }
     Ok(())
 }
@@ -247,12 +273,14 @@ fn eight_filters_pass(rt: HostRuntime) -> Result<(), Fail> {
         (By::Asking, None),
         (By::Sharing, Some(0)),
     ] {
-        let opened = in_eight(&rt, rt.alloc(), by, Level::ERROR)?;
-        assert!(rt; opened.refused_by.is_empty(), "{by:?}");
-        assert!(rt;
-            (opened.is_marked, opened.verdict) == (true, verdict),
-            "{by:?}"
-        );
+        let case = Case {
+            by,
+            level: Level::ERROR,
+            refused_by: &[],
+            is_marked: true,
+            verdict,
+        };
+        in_eight(&rt, rt.alloc(), case)?;
     }
     Ok(())
 }

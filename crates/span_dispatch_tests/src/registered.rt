@@ -4,11 +4,13 @@ ghost use Rattle.span_core.specs.Metadata.{kind_of};
 ghost use Rattle.span_dispatch.specs.Registration.{IsRegistered, KeepsRegistered};
 ghost use Rattle.span_dispatch.specs.Serve.{stack_of};
 
-use crate::requests::{fresh, in_use, one_on};
+use crate::requests::{Shows, used};
 use span_core::{Attributes, Event, FieldSet, Kind, Level, LevelFilter, Metadata, TraceError};
 use span_dispatch::{Dispatch, Notice, Recorder, Registration};
-use span_layer_tests::fixture::LANE;
-use span_registry::Subscriber;
+use span_layer_tests::fixture::{LANE, put};
+use span_layers::{Layer, LayerExt};
+use span_registry::{Registry, Subscriber};
+use std::alloc::Global;
 use std::process::Abort;
 use std::test::Fail;
 
@@ -66,14 +68,6 @@ fn sent_under_levels<S: Subscriber>(
     Ok(())
 }
 
-#[test]
-fn a_registered_callsite_goes_by_the_level_that_is_set(rt: HostRuntime) -> Result<(), Fail> {
-    let mut dispatch = in_use(rt.alloc(), one_on(rt.alloc(), LevelFilter::INFO)?);
-    sent_under_levels(&rt, &mut dispatch, false)?;
-    told_around_a_span(&rt, dispatch.stack().layer().inner());
-    Ok(())
-}
-
 /// A recorder was told of three things, of which the first and the last are events.
 fn told_around_a_span(rt: &impl Abort, recorder: &Recorder) {
     let notices = recorder.notices();
@@ -82,10 +76,38 @@ fn told_around_a_span(rt: &impl Abort, recorder: &Recorder) {
     assert!(rt; notices.last() == Some(&Notice::Event(LANE, 5)));
 }
 
+/// A recorder under INFO is told of what passes its levels. While the level is WARN, an answer says that
+/// something was made where nothing is kept.
+fn tells_by_levels<S: Subscriber + Drop, L: Layer<S> + Drop + Shows<Recorder>>(
+    rt: &impl Abort,
+    alloc: Global,
+    stack: S,
+    layer: L,
+    keeps: bool,
+) -> Result<(), Fail>
+    requires stack { S.usable stack }
+    requires layer { L.usable layer }
+{
+    let mut dispatch = used(alloc, put(stack, layer)?, keeps);
+    sent_under_levels(rt, &mut dispatch, !keeps)?;
+    told_around_a_span(rt, dispatch.stack().shown());
+    Ok(())
+}
+
+#[test]
+fn a_registered_callsite_goes_by_the_level_that_is_set(rt: HostRuntime) -> Result<(), Fail> {
+    let under_info = Recorder::new(rt.alloc()).with_filter(LevelFilter::INFO);
+    tells_by_levels(&rt, rt.alloc(), Registry::new(rt.alloc()), under_info, true)
+}
+
 #[test]
 fn it_does_where_nothing_is_kept(rt: HostRuntime) -> Result<(), Fail> {
-    let mut dispatch = fresh(rt.alloc(), one_on(rt.alloc(), LevelFilter::INFO)?);
-    sent_under_levels(&rt, &mut dispatch, true)?;
-    told_around_a_span(&rt, dispatch.stack().layer().inner());
-    Ok(())
+    let under_info = Recorder::new(rt.alloc()).with_filter(LevelFilter::INFO);
+    tells_by_levels(
+        &rt,
+        rt.alloc(),
+        Registry::new(rt.alloc()),
+        under_info,
+        false,
+    )
 }

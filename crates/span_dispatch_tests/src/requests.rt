@@ -4,7 +4,7 @@ ghost use Rattle.span_dispatch.specs.Serve.{stack_of};
 use span_core::{Id, Kind, Level, LevelFilter, TraceError};
 use span_dispatch::{Answer, Dispatch, Notice, Recorder, Request, Which, WhichParent};
 use span_layer_tests::fixture::{LANE, metadata_of, put};
-use span_layers::{Filtered, Layer, LayerExt, Layered};
+use span_layers::{Filtered, Layered};
 use span_registry::{Registry, Subscriber};
 use std::alloc::Global;
 use std::process::Abort;
@@ -38,6 +38,46 @@ pub(crate) fn made(answers: &[Answer], place: usize) -> Result<Id, Fail> {
     }
 }
 
+/// What has a layer of this kind to look at: where it has several, the outermost.
+pub(crate) trait Shows<T> {
+    fn shown(&self) -> &T;
+}
+
+impl Shows<Recorder> for Recorder {
+    fn shown(&self) -> &Recorder {
+        self
+    }
+}
+
+impl<T, L: Shows<T>, F> Shows<T> for Filtered<L, F> {
+    fn shown(&self) -> &T {
+        self.inner().shown()
+    }
+}
+
+impl<T, L: Shows<T>, S> Shows<T> for Layered<L, S> {
+    fn shown(&self) -> &T {
+        self.layer().shown()
+    }
+}
+
+/// What has two layers of this kind to look at.
+pub(crate) trait ShowsTwo<T> {
+    fn outer_shown(&self) -> &T;
+
+    fn inner_shown(&self) -> &T;
+}
+
+impl<T, L: Shows<T>, S: Shows<T>> ShowsTwo<T> for Layered<L, S> {
+    fn outer_shown(&self) -> &T {
+        self.layer().shown()
+    }
+
+    fn inner_shown(&self) -> &T {
+        self.inner().shown()
+    }
+}
+
 /// A recorder keeps these notices.
 pub(crate) fn keeps(rt: &impl Abort, recorder: &Recorder, notices: &[Notice]) {
     assert!(rt; recorder.notices() == notices);
@@ -52,17 +92,6 @@ pub(crate) fn plain(alloc: Global) -> Result<Plain, TraceError> {
 
 /// A recorder under a level.
 pub(crate) type UnderOne = Filtered<Recorder, LevelFilter>;
-
-/// A registry under one.
-pub(crate) type OneOn = Layered<UnderOne, Registry>;
-
-/// The level is this.
-pub(crate) fn one_on(alloc: Global, level: LevelFilter) -> Result<OneOn, TraceError> {
-    put(
-        Registry::new(alloc),
-        Recorder::new(alloc).with_filter(level),
-    )
-}
 
 /// Puts a stack in use.
 pub(crate) fn in_use<S: Subscriber>(alloc: Global, stack: S) -> Dispatch<S>
@@ -80,6 +109,17 @@ pub(crate) fn fresh<S: Subscriber>(alloc: Global, stack: S) -> Dispatch<S>
     Dispatch::fresh(alloc, stack)
 }
 
+/// Puts a stack in use by a dispatcher that keeps hint and interests, or by one that keeps nothing.
+pub(crate) fn used<S: Subscriber>(alloc: Global, stack: S, keeps: bool) -> Dispatch<S>
+    requires { S.usable stack }
+    ensures { S.usable (stack_of result) }
+{
+    if keeps {
+        return in_use(alloc, stack);
+    }
+    fresh(alloc, stack)
+}
+
 /// Serves a list.
 pub(crate) fn serve<S: Subscriber>(
     alloc: Global,
@@ -90,72 +130,4 @@ pub(crate) fn serve<S: Subscriber>(
     ensures { S.usable (stack_of dispatch.new) }
 {
     dispatch.serve(alloc, requests)
-}
-
-/// Puts a stack in use, and serves a list.
-fn serve_by<S: Subscriber + Drop>(
-    alloc: Global,
-    stack: S,
-    requests: &[Request<'_>],
-) -> Result<(Dispatch<S>, Vec<Answer>), TraceError>
-    requires { S.usable stack }
-{
-    let mut dispatch = in_use(alloc, stack);
-    let answers = serve(alloc, &mut dispatch, requests)?;
-    Ok((dispatch, answers))
-}
-
-/// Puts a stack under a layer in use, and serves a list.
-pub(crate) fn serve_by_layer<S: Subscriber + Drop, L: Layer<S> + Drop>(
-    alloc: Global,
-    stack: S,
-    layer: L,
-    requests: &[Request<'_>],
-) -> Result<(Dispatch<Layered<L, S>>, Vec<Answer>), TraceError>
-    requires stack { S.usable stack }
-    requires layer { L.usable layer }
-{
-    serve_by(alloc, put(stack, layer)?, requests)
-}
-
-/// Two layers on a stack.
-pub(crate) type TwoOn<S, I, O> = Layered<O, Layered<I, S>>;
-
-/// Puts a stack under two layers in use.
-pub(crate) fn in_use_by_layers<S, I, O>(
-    alloc: Global,
-    stack: S,
-    inner: I,
-    outer: O,
-) -> Result<Dispatch<TwoOn<S, I, O>>, TraceError>
-where
-    S: Subscriber + Drop,
-    I: Layer<S> + Drop,
-    O: Layer<Layered<I, S>> + Drop,
-    requires stack { S.usable stack }
-    requires inner { I.usable inner }
-    requires outer { O.usable outer }
-{
-    let below = put(stack, inner)?;
-    Ok(in_use(alloc, put(below, outer)?))
-}
-
-/// Puts a stack under two layers in use, and serves a list.
-pub(crate) fn serve_by_layers<S, I, O>(
-    alloc: Global,
-    stack: S,
-    inner: I,
-    outer: O,
-    requests: &[Request<'_>],
-) -> Result<(Dispatch<TwoOn<S, I, O>>, Vec<Answer>), TraceError>
-where
-    S: Subscriber + Drop,
-    I: Layer<S> + Drop,
-    O: Layer<Layered<I, S>> + Drop,
-    requires stack { S.usable stack }
-    requires inner { I.usable inner }
-    requires outer { O.usable outer }
-{
-    let below = put(stack, inner)?;
-    serve_by_layer(alloc, below, outer, requests)
 }

@@ -1,11 +1,11 @@
 //! Many filters, long chains and many entries, each by a dispatcher that keeps hint and interests and by one that keeps nothing.
 ghost use Rattle.span_dispatch.specs.Serve.{stack_of};
 
-use crate::requests::{Plain, event, fresh, in_use, plain, serve};
+use crate::requests::{Shows, event, keeps, serve, used};
 use span_core::{Attributes, FilterId, Id, Kind, Level, LevelFilter, TraceError};
 use span_dispatch::{Answer, Dispatch, Notice, Recorder};
 use span_layer_tests::fixture::{LANE, metadata_of, put};
-use span_layers::{Filtered, LayerExt, Layered};
+use span_layers::{Filtered, Layer, LayerExt, Layered};
 use span_registry::{LookupSpan, Registry, Subscriber};
 use std::alloc::{AllocError, Global};
 use std::process::Abort;
@@ -29,12 +29,6 @@ fn closed(alloc: Global) -> Result<Closed, AllocError> {
     Ok(layers)
 }
 
-/// An open recorder, and outside it those under OFF.
-fn open_below_closed(alloc: Global) -> Result<Layered<Closed, Plain>, Fail> {
-    let closed = closed(alloc)?;
-    Ok(put(plain(alloc)?, closed)?)
-}
-
 /// Serves an error event.
 fn serve_error<S: Subscriber>(
     rt: &impl Abort,
@@ -50,50 +44,129 @@ fn serve_error<S: Subscriber>(
 }
 
 /// The open recorder alone was told of the event.
-fn is_told_alone(stack: &Layered<Closed, Plain>) -> bool {
-    let told = stack.inner().layer().notices() == [Notice::Event(LANE, 1)].as_slice();
-    let mut others = stack.layer().iter();
+fn is_told_alone(open: &Recorder, closed: &Closed) -> bool {
+    let told = open.notices() == [Notice::Event(LANE, 1)].as_slice();
+    let mut others = closed.iter();
     told && others.all(|layer| layer.inner().notices().is_empty())
 }
 
+/// Recorders under OFF, as a layer has them.
+trait HasClosed {
+    fn closed(&self) -> &Closed;
+}
+
+impl HasClosed for Closed {
+    fn closed(&self) -> &Closed {
+        self
+    }
+}
+
+/// Has an open recorder and, outside it, those under OFF.
+trait OpenBelowClosed {
+    fn open(&self) -> &Recorder;
+
+    fn outside(&self) -> &Closed;
+}
+
+impl<L: HasClosed, S: Shows<Recorder>> OpenBelowClosed for Layered<L, S> {
+    fn open(&self) -> &Recorder {
+        self.inner().shown()
+    }
+
+    fn outside(&self) -> &Closed {
+        self.layer().closed()
+    }
+}
+
 /// The open recorder alone is told of an error event.
-fn tells_the_open_one(
+fn tells_the_open_one<S: Subscriber + OpenBelowClosed>(
     rt: &impl Abort,
     alloc: Global,
-    dispatch: &mut Dispatch<Layered<Closed, Plain>>,
-) -> Result<(), Fail> {
+    dispatch: &mut Dispatch<S>,
+) -> Result<(), Fail>
+    requires { S.usable (stack_of dispatch.old) }
+{
     serve_error(rt, alloc, dispatch)?;
-    assert!(rt; is_told_alone(dispatch.stack()));
+    let stack = dispatch.stack();
+    assert!(rt; is_told_alone(stack.open(), stack.outside()));
     Ok(())
+}
+
+/// The same of a stack under the layer that has those under OFF.
+fn tells_under<S: Subscriber + Drop + Shows<Recorder>, L: Layer<S> + Drop + HasClosed>(
+    rt: &impl Abort,
+    alloc: Global,
+    stack: S,
+    layer: L,
+    keeps: bool,
+) -> Result<(), Fail>
+    requires stack { S.usable stack }
+    requires layer { L.usable layer }
+{
+    let stack = put(stack, layer)?;
+    tells_the_open_one(rt, alloc, &mut used(alloc, stack, keeps))
+}
+
+/// The same of an open recorder on a stack.
+fn tells_below_closed<S: Subscriber + Drop + Shows<Recorder>>(
+    rt: &impl Abort,
+    alloc: Global,
+    stack: S,
+    keeps: bool,
+) -> Result<(), Fail>
+    requires { S.usable stack }
+{
+    tells_under(rt, alloc, stack, closed(alloc)?, keeps)
+}
+
+/// The same where it isn't yet on the stack.
+fn tells_an_open_one<S: Subscriber + Drop, L: Layer<S> + Drop + Shows<Recorder>>(
+    rt: &impl Abort,
+    alloc: Global,
+    stack: S,
+    layer: L,
+    keeps: bool,
+) -> Result<(), Fail>
+    requires stack { S.usable stack }
+    requires layer { L.usable layer }
+{
+    tells_below_closed(rt, alloc, put(stack, layer)?, keeps)
 }
 
 #[test]
 fn of_129_recorders_the_open_one_is_told(rt: HostRuntime) -> Result<(), Fail> {
-    let mut keeps = in_use(rt.alloc(), open_below_closed(rt.alloc())?);
-    tells_the_open_one(&rt, rt.alloc(), &mut keeps)
+    let open = Recorder::new(rt.alloc());
+    tells_an_open_one(&rt, rt.alloc(), Registry::new(rt.alloc()), open, true)
 }
 
 #[test]
 fn of_129_recorders_it_is_told_where_nothing_is_kept(rt: HostRuntime) -> Result<(), Fail> {
-    let mut asks = fresh(rt.alloc(), open_below_closed(rt.alloc())?);
-    tells_the_open_one(&rt, rt.alloc(), &mut asks)
+    let open = Recorder::new(rt.alloc());
+    tells_an_open_one(&rt, rt.alloc(), Registry::new(rt.alloc()), open, false)
 }
 
-/// Opens a span in a parent, or a root. Fails where a layer vetoes.
+/// Opens a span with these attributes. Fails where a layer vetoes.
+fn open_by<S: Subscriber>(
+    dispatch: &mut Dispatch<S>,
+    attributes: &Attributes<'_>,
+) -> Result<Id, Fail>
+    requires { S.usable (stack_of dispatch.old) }
+    ensures { S.usable (stack_of dispatch.new) }
+{
+    let opened = dispatch.new_span(LANE, attributes)?;
+    Ok(opened.ok_or("a layer vetoes")?)
+}
+
+/// Opens a span in a parent, or a root.
 fn open<S: Subscriber>(dispatch: &mut Dispatch<S>, parent: Option<Id>) -> Result<Id, Fail>
     requires { S.usable (stack_of dispatch.old) }
     ensures { S.usable (stack_of dispatch.new) }
 {
     let metadata = metadata_of(2, Level::INFO, Kind::SPAN);
-    let attributes = match parent {
-        Some(id) => Attributes::child_of(id, metadata, &[]),
-        None => Attributes::new_root(metadata, &[]),
-    };
-    Ok(
-        dispatch
-            .new_span(LANE, &attributes)?
-            .ok_or("a layer vetoes")?,
-    )
+    match parent {
+        Some(id) => open_by(dispatch, &Attributes::child_of(id, metadata, &[])),
+        None => open_by(dispatch, &Attributes::new_root(metadata, &[])),
+    }
 }
 
 /// Opens a chain of spans, each in the one before.
@@ -140,28 +213,69 @@ fn told_of(alloc: Global, chain: &[Id]) -> Result<Vec<Notice>, AllocError> {
     Ok(notices)
 }
 
-/// A chain closes with its leaf, leaf first and root last.
-fn closes_a_chain(
+/// Opens a chain, and drops its handles from the root on.
+fn close_chain<S: Subscriber>(
     rt: &impl Abort,
     alloc: Global,
-    dispatch: &mut Dispatch<Plain>,
-) -> Result<(), Fail> {
+    dispatch: &mut Dispatch<S>,
+) -> Result<Vec<Id>, Fail>
+    requires { S.usable (stack_of dispatch.old) }
+{
     let chain = open_chain(alloc, dispatch)?;
     drop_chain(rt, dispatch, &chain)?;
-    let told = told_of(alloc, &chain)?;
-    let stack = dispatch.stack();
-    assert!(rt; stack.layer().notices() == told.as_slice());
+    Ok(chain)
+}
+
+/// A recorder is told of such a chain.
+fn told_of_chain(
+    rt: &impl Abort,
+    alloc: Global,
+    recorder: &Recorder,
+    chain: &[Id],
+) -> Result<(), Fail> {
+    let told = told_of(alloc, chain)?;
+    keeps(rt, recorder, told.as_slice());
+    Ok(())
+}
+
+/// No span of a chain is open.
+fn is_closed<S: LookupSpan>(rt: &impl Abort, stack: &S, chain: &[Id]) {
     let mut closed = chain.iter();
     assert!(rt; closed.all(|id| stack.span(*id).is_none()));
-    Ok(())
+}
+
+/// A chain closes with its leaf, leaf first and root last.
+fn closes_a_chain<S: Subscriber + Drop, L: Layer<S> + Drop + Shows<Recorder>>(
+    rt: &impl Abort,
+    alloc: Global,
+    stack: S,
+    layer: L,
+    keeps: bool,
+) -> Result<(), Fail>
+    requires stack { S.usable stack }
+    requires layer { L.usable layer }
+{
+    let mut dispatch = used(alloc, put(stack, layer)?, keeps);
+    let chain = close_chain(rt, alloc, &mut dispatch)?;
+    let stack = dispatch.stack();
+    is_closed(rt, stack, &chain);
+    told_of_chain(rt, alloc, stack.shown(), &chain)
 }
 
 #[test]
 fn a_chain_of_10000_spans_closes_with_its_leaf(rt: HostRuntime) -> Result<(), Fail> {
-    let mut keeps = in_use(rt.alloc(), plain(rt.alloc())?);
-    closes_a_chain(&rt, rt.alloc(), &mut keeps)?;
-    let mut asks = fresh(rt.alloc(), plain(rt.alloc())?);
-    closes_a_chain(&rt, rt.alloc(), &mut asks)
+    let recorder = Recorder::new(rt.alloc());
+    closes_a_chain(&rt, rt.alloc(), Registry::new(rt.alloc()), recorder, true)?;
+    let recorder = Recorder::new(rt.alloc());
+    closes_a_chain(&rt, rt.alloc(), Registry::new(rt.alloc()), recorder, false)
+}
+
+/// Enters a span.
+fn enter<S: Subscriber>(dispatch: &mut Dispatch<S>, id: Id) -> Result<(), TraceError>
+    requires { S.usable (stack_of dispatch.old) }
+    ensures { S.usable (stack_of dispatch.new) }
+{
+    dispatch.enter(LANE, id)
 }
 
 /// Enters a span so many times.
@@ -170,7 +284,7 @@ fn enter_often<S: Subscriber>(dispatch: &mut Dispatch<S>, id: Id) -> Result<(), 
     ensures { S.usable (stack_of dispatch.new) }
 {
     for _ in 0..ENTRIES {
-        dispatch.enter(LANE, id)?;
+        enter(dispatch, id)?;
     }
     Ok(())
 }
@@ -199,8 +313,24 @@ fn leaves_as_often<S: Subscriber>(rt: &impl Abort, dispatch: &mut Dispatch<S>) -
     Ok(())
 }
 
+/// The same of a stack under a layer.
+fn leaves_under<S: Subscriber + Drop, L: Layer<S> + Drop>(
+    rt: &impl Abort,
+    alloc: Global,
+    stack: S,
+    layer: L,
+    keeps: bool,
+) -> Result<(), Fail>
+    requires stack { S.usable stack }
+    requires layer { L.usable layer }
+{
+    leaves_as_often(rt, &mut used(alloc, put(stack, layer)?, keeps))
+}
+
 #[test]
 fn a_span_is_entered_1000_times(rt: HostRuntime) -> Result<(), Fail> {
-    leaves_as_often(&rt, &mut in_use(rt.alloc(), plain(rt.alloc())?))?;
-    leaves_as_often(&rt, &mut fresh(rt.alloc(), plain(rt.alloc())?))
+    let recorder = Recorder::new(rt.alloc());
+    leaves_under(&rt, rt.alloc(), Registry::new(rt.alloc()), recorder, true)?;
+    let recorder = Recorder::new(rt.alloc());
+    leaves_under(&rt, rt.alloc(), Registry::new(rt.alloc()), recorder, false)
 }

@@ -1,13 +1,16 @@
 //! Tests of what filters and layers under a dispatcher can read: what one layer's filter hides is hidden from that layer alone.
+ghost use Rattle.span_dispatch.specs.Serve.{stack_of};
 ghost use Rattle.std.specs.Prelude.{⊤};
 
-use crate::requests::{Plain, event, made, new_event, new_span, serve_by_layers, within};
+use crate::requests::{
+    Plain, Shows, ShowsTwo, event, in_use, made, new_event, new_span, serve, within,
+};
 use span_core::{Id, Level, LevelFilter, Metadata};
-use span_dispatch::{Answer, Notice, Recorder, Request, Which, WhichParent};
+use span_dispatch::{Dispatch, Notice, Recorder, Request, Which, WhichParent};
 use span_filters::{Filter, dynamic_filter_fn};
-use span_layer_tests::fixture::LANE;
+use span_layer_tests::fixture::{LANE, put};
 use span_layer_tests::watcher::{Seen, Watcher, new_watcher};
-use span_layers::{LayerExt, Layered, Observe, Observed, Observer};
+use span_layers::{Layer, LayerExt, Layered, Observe, Observed, Observer};
 use span_registry::{Context, ContextMut, Registry, Scope, SpanRef, Subscriber};
 use std::alloc::Global;
 use std::process::Abort;
@@ -25,6 +28,17 @@ fn one_in_another() -> [Request<'static>; 6] {
     ]
 }
 
+/// Serves them. Answers the two spans.
+fn serve_one_in_another<S: Subscriber>(
+    alloc: Global,
+    dispatch: &mut Dispatch<S>,
+) -> Result<[Id; 2], Fail>
+    requires { S.usable (stack_of dispatch.old) }
+{
+    let answers = serve(alloc, dispatch, &one_in_another())?;
+    Ok([made(&answers, 0)?, made(&answers, 2)?])
+}
+
 #[test]
 fn a_filter_may_ask_for_the_current_span(rt: HostRuntime) -> Result<(), Fail> {
     let outside = dynamic_filter_fn(|_meta: &Metadata, cx: &Context<'_, Plain>| {
@@ -34,7 +48,7 @@ fn a_filter_may_ask_for_the_current_span(rt: HostRuntime) -> Result<(), Fail> {
     keep_one_in_another(&rt, rt.alloc(), registry, outside)
 }
 
-/// Of two recorders, the outer one under a filter, the inner one keeps all of the two spans, and the other those outside all spans.
+/// The same of a recorder under that filter, outside another recorder on a stack.
 fn keep_one_in_another<S: Subscriber + Drop, F: Filter<Layered<Recorder, S>> + Drop>(
     rt: &impl Abort,
     alloc: Global,
@@ -44,26 +58,52 @@ fn keep_one_in_another<S: Subscriber + Drop, F: Filter<Layered<Recorder, S>> + D
     requires stack { S.usable stack }
     requires filter { F.usable outside }
 {
-    let base = Recorder::new(alloc);
-    let under_outside = Recorder::new(alloc).with_filter(outside);
-    let (dispatch, answers) = serve_by_layers(
-        alloc,
-        stack,
-        base,
-        under_outside,
-        &one_in_another(),
-    )?;
-    let stack = dispatch.stack();
-    the_outer_span_alone(rt, stack.layer().inner(), &answers)?;
-    both_spans(rt, stack.inner().layer(), &answers)
+    keep_below(rt, alloc, put(stack, Recorder::new(alloc))?, outside)
 }
 
-fn the_outer_span_alone(
+/// The same of a stack with that one.
+fn keep_below<S: Subscriber + Drop + Shows<Recorder>, F: Filter<S> + Drop>(
     rt: &impl Abort,
-    recorder: &Recorder,
-    answers: &[Answer],
-) -> Result<(), Fail> {
-    let p = made(answers, 0)?;
+    alloc: Global,
+    stack: S,
+    outside: F,
+) -> Result<(), Fail>
+    requires stack { S.usable stack }
+    requires filter { F.usable outside }
+{
+    let under_outside = Recorder::new(alloc).with_filter(outside);
+    keep_under(rt, alloc, stack, under_outside)
+}
+
+/// The same of a stack under that layer.
+fn keep_under<S: Subscriber + Drop + Shows<Recorder>, L: Layer<S> + Drop + Shows<Recorder>>(
+    rt: &impl Abort,
+    alloc: Global,
+    stack: S,
+    layer: L,
+) -> Result<(), Fail>
+    requires stack { S.usable stack }
+    requires layer { L.usable layer }
+{
+    keeps_one_in_another(rt, alloc, &mut in_use(alloc, put(stack, layer)?))
+}
+
+/// Of two recorders, the outer one under a filter, the inner one keeps all of the two spans, and the other those outside all spans.
+fn keeps_one_in_another<S: Subscriber + ShowsTwo<Recorder>>(
+    rt: &impl Abort,
+    alloc: Global,
+    dispatch: &mut Dispatch<S>,
+) -> Result<(), Fail>
+    requires { S.usable (stack_of dispatch.old) }
+{
+    let [p, q] = serve_one_in_another(alloc, dispatch)?;
+    let stack = dispatch.stack();
+    the_outer_span_alone(rt, stack.outer_shown(), p);
+    both_spans(rt, stack.inner_shown(), [p, q]);
+    Ok(())
+}
+
+fn the_outer_span_alone(rt: &impl Abort, recorder: &Recorder, p: Id) {
     assert!(rt;
         recorder.notices()
             == [
@@ -74,11 +114,9 @@ fn the_outer_span_alone(
             ]
             .as_slice()
     );
-    Ok(())
 }
 
-fn both_spans(rt: &impl Abort, recorder: &Recorder, answers: &[Answer]) -> Result<(), Fail> {
-    let (p, q) = (made(answers, 0)?, made(answers, 2)?);
+fn both_spans(rt: &impl Abort, recorder: &Recorder, [p, q]: [Id; 2]) {
     assert!(rt;
         recorder.notices()
             == [
@@ -91,7 +129,6 @@ fn both_spans(rt: &impl Abort, recorder: &Recorder, answers: &[Answer]) -> Resul
             ]
             .as_slice()
     );
-    Ok(())
 }
 
 /// Reads the span of each event, as far as there is memory: its scope, leaf first and root first, and its parent.
@@ -172,31 +209,21 @@ fn family() -> [Request<'static>; 8] {
     ]
 }
 
-#[test]
-fn scopes_leave_out_what_a_layers_own_filter_refused(rt: HostRuntime) -> Result<(), Fail> {
-    let under_info = new_reader(rt.alloc()).with_filter(LevelFilter::INFO);
-    let open = new_reader(rt.alloc());
-    let registry = Registry::new(rt.alloc());
-    let (dispatch, answers) = serve_by_layers(rt.alloc(), registry, open, under_info, &family())?;
-    let stack = dispatch.stack();
-    reads_what_info_passes(&rt, stack.layer().inner().observer(), &answers)?;
-    reads_all(&rt, stack.inner().layer().observer(), &answers)
+/// Serves them. Answers the three spans.
+fn serve_family<S: Subscriber>(alloc: Global, dispatch: &mut Dispatch<S>) -> Result<[Id; 3], Fail>
+    requires { S.usable (stack_of dispatch.old) }
+{
+    let answers = serve(alloc, dispatch, &family())?;
+    Ok([made(&answers, 0)?, made(&answers, 1)?, made(&answers, 2)?])
 }
 
-fn reads_what_info_passes(
-    rt: &impl Abort,
-    reader: &Reader,
-    answers: &[Answer],
-) -> Result<(), Fail> {
-    let (root, leaf) = (made(answers, 0)?, made(answers, 2)?);
+fn reads_what_info_passes(rt: &impl Abort, reader: &Reader, [root, _, leaf]: [Id; 3]) {
     assert!(rt; reader.up.as_slice() == [Some(leaf), Some(root), None, Some(root)].as_slice());
     assert!(rt; reader.down.as_slice() == [root, leaf, root].as_slice());
     assert!(rt; reader.parents.as_slice() == [Some(root), None].as_slice());
-    Ok(())
 }
 
-fn reads_all(rt: &impl Abort, reader: &Reader, answers: &[Answer]) -> Result<(), Fail> {
-    let (root, child, leaf) = (made(answers, 0)?, made(answers, 1)?, made(answers, 2)?);
+fn reads_all(rt: &impl Abort, reader: &Reader, [root, child, leaf]: [Id; 3]) {
     assert!(rt;
         reader.up.as_slice()
             == [
@@ -212,12 +239,68 @@ fn reads_all(rt: &impl Abort, reader: &Reader, answers: &[Answer]) -> Result<(),
     );
     assert!(rt; reader.down.as_slice() == [root, child, leaf, root, child, root, child].as_slice());
     assert!(rt; reader.parents.as_slice() == [Some(child), Some(root), Some(root)].as_slice());
+}
+
+impl Shows<Reader> for Observer<Reader> {
+    fn shown(&self) -> &Reader {
+        self.observer()
+    }
+}
+
+/// Of two readers, each reads the family's scopes as far as its own filter passes them: INFO the outer one.
+fn read_the_family<S: Subscriber + ShowsTwo<Reader>>(
+    rt: &impl Abort,
+    alloc: Global,
+    dispatch: &mut Dispatch<S>,
+) -> Result<(), Fail>
+    requires { S.usable (stack_of dispatch.old) }
+{
+    let spans = serve_family(alloc, dispatch)?;
+    let stack = dispatch.stack();
+    reads_what_info_passes(rt, stack.outer_shown(), spans);
+    reads_all(rt, stack.inner_shown(), spans);
     Ok(())
 }
 
+/// The same of a stack under a layer.
+fn read_under<S: Subscriber + Drop + Shows<Reader>, L: Layer<S> + Drop + Shows<Reader>>(
+    rt: &impl Abort,
+    alloc: Global,
+    stack: S,
+    layer: L,
+) -> Result<(), Fail>
+    requires stack { S.usable stack }
+    requires layer { L.usable layer }
+{
+    read_the_family(rt, alloc, &mut in_use(alloc, put(stack, layer)?))
+}
+
+/// The same of a stack with the inner one.
+fn read_below<S: Subscriber + Drop + Shows<Reader>>(
+    rt: &impl Abort,
+    alloc: Global,
+    stack: S,
+) -> Result<(), Fail>
+    requires { S.usable stack }
+{
+    let under_info = new_reader(alloc).with_filter(LevelFilter::INFO);
+    read_under(rt, alloc, stack, under_info)
+}
+
+/// The same of a stack without both.
+fn read_on<S: Subscriber + Drop>(rt: &impl Abort, alloc: Global, stack: S) -> Result<(), Fail>
+    requires { S.usable stack }
+{
+    read_below(rt, alloc, put(stack, new_reader(alloc))?)
+}
+
+#[test]
+fn scopes_leave_out_what_a_layers_own_filter_refused(rt: HostRuntime) -> Result<(), Fail> {
+    read_on(&rt, rt.alloc(), Registry::new(rt.alloc()))
+}
+
 /// What a watcher without a filter sees of one span in another: it finds both while they close.
-fn sees_both_close(rt: &impl Abort, watcher: &Watcher, answers: &[Answer]) -> Result<(), Fail> {
-    let (p, q) = (made(answers, 0)?, made(answers, 2)?);
+fn sees_both_close(rt: &impl Abort, watcher: &Watcher, [p, q]: [Id; 2]) {
     assert!(rt;
         watcher.seen.as_slice()
             == [
@@ -232,24 +315,70 @@ fn sees_both_close(rt: &impl Abort, watcher: &Watcher, answers: &[Answer]) -> Re
             ]
             .as_slice()
     );
+}
+
+impl Shows<Watcher> for Observer<Watcher> {
+    fn shown(&self) -> &Watcher {
+        self.observer()
+    }
+}
+
+/// A stack whose outermost layer is of two watchers.
+trait EndsInPair {
+    fn outer_of_pair(&self) -> &Watcher;
+
+    fn inner_of_pair(&self) -> &Watcher;
+}
+
+impl<L: ShowsTwo<Watcher>, S> EndsInPair for Layered<L, S> {
+    fn outer_of_pair(&self) -> &Watcher {
+        self.layer().outer_shown()
+    }
+
+    fn inner_of_pair(&self) -> &Watcher {
+        self.layer().inner_shown()
+    }
+}
+
+/// Three watchers see the same: two in one layer, and one outside it.
+fn watch_under<S: Subscriber + Drop + EndsInPair, L: Layer<S> + Drop + Shows<Watcher>>(
+    rt: &impl Abort,
+    alloc: Global,
+    stack: S,
+    layer: L,
+) -> Result<(), Fail>
+    requires stack { S.usable stack }
+    requires layer { L.usable layer }
+{
+    let mut dispatch = in_use(alloc, put(stack, layer)?);
+    let spans = serve_one_in_another(alloc, &mut dispatch)?;
+    let stack = dispatch.stack();
+    sees_both_close(rt, stack.shown(), spans);
+    sees_both_close(rt, stack.inner().outer_of_pair(), spans);
+    sees_both_close(rt, stack.inner().inner_of_pair(), spans);
     Ok(())
+}
+
+/// The same of a stack with the two.
+fn watch_below<S: Subscriber + Drop + EndsInPair>(
+    rt: &impl Abort,
+    alloc: Global,
+    stack: S,
+) -> Result<(), Fail>
+    requires { S.usable stack }
+{
+    watch_under(rt, alloc, stack, new_watcher(alloc))
+}
+
+/// The same of a stack without them.
+fn watch_on<S: Subscriber + Drop>(rt: &impl Abort, alloc: Global, stack: S) -> Result<(), Fail>
+    requires { S.usable stack }
+{
+    let pair = new_watcher(alloc).and_then(new_watcher(alloc));
+    watch_below(rt, alloc, put(stack, pair)?)
 }
 
 #[test]
 fn every_layer_finds_a_closing_span(rt: HostRuntime) -> Result<(), Fail> {
-    let pair = new_watcher(rt.alloc()).and_then(new_watcher(rt.alloc()));
-    let outer = new_watcher(rt.alloc());
-    let registry = Registry::new(rt.alloc());
-    let (dispatch, answers) = serve_by_layers(
-        rt.alloc(),
-        registry,
-        pair,
-        outer,
-        &one_in_another(),
-    )?;
-    let stack = dispatch.stack();
-    let pair = stack.inner().layer();
-    sees_both_close(&rt, stack.layer().observer(), &answers)?;
-    sees_both_close(&rt, pair.layer().observer(), &answers)?;
-    sees_both_close(&rt, pair.inner().observer(), &answers)
+    watch_on(&rt, rt.alloc(), Registry::new(rt.alloc()))
 }

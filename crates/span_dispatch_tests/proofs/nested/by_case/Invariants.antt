@@ -1,4 +1,4 @@
-use Rattle.span_dispatch_tests.proofs.nested.on_stack.Given as goal
+use Rattle.span_dispatch_tests.proofs.nested.by_case.Given as goal
 
 abbrev pub ghosts-by_worker-C-Crew : goal.ghosts-by_worker-C-Crew
 ghosts-by_worker-C-Crew g a = record { workers = a.blank.parts }
