@@ -28,12 +28,23 @@ use std::alloc::Global;
 ///
 /// Stands for `tracing_core::Dispatch`. What `tracing_subscriber` keeps of filters' answers in a thread local is a `Pass` here,
 /// which ends with its request. What it keeps of callsites is kept here, for each dispatcher by itself.
-#[derive(Debug, Drop)]
+#[derive(Debug)]
 pub struct Dispatch<S> {
     stack: S,
     alloc: Global,
     cache: Cache,
     epoch: Epoch,
+}
+
+impl<S: Drop> Drop for Dispatch<S> {
+    fn drop(self) {
+        let Dispatch {
+            stack,
+            alloc,
+            cache,
+            epoch,
+        } = self;
+    }
 }
 
 impl<S: Subscriber> Dispatch<S> {
@@ -89,7 +100,12 @@ impl<S: Subscriber> Dispatch<S> {
     pub fn into_stack(self) -> S
         ensures { result ≡ stack_of self }
     {
-        let Dispatch { stack, .. } = self;
+        let Dispatch {
+            stack,
+            alloc,
+            cache,
+            epoch,
+        } = self;
         stack
     }
 

@@ -24,9 +24,15 @@ use std::marker::Model;
 /// The accepted requests, in order. Contracts see it as the list of them.
 ///
 /// Own to this port.
-#[derive(Drop, Debug)]
+#[derive(Debug)]
 pub struct Journal {
     entries: Vec<Entry>,
+}
+
+impl Drop for Journal {
+    fn drop(self) {
+        let Journal { entries } = self;
+    }
 }
 
 impl Model for Journal {

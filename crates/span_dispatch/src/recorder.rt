@@ -20,10 +20,16 @@ use std::marker::Model;
 /// A layer that wants everything, and keeps a notice of each hook, up to the first that found no memory.
 ///
 /// Own to this port.
-#[derive(Debug, Drop)]
+#[derive(Debug)]
 pub struct Recorder {
     notices: Vec<Notice>,
     failed: bool,
+}
+
+impl Drop for Recorder {
+    fn drop(self) {
+        let Recorder { notices, failed } = self;
+    }
 }
 
 impl Model for Recorder {

@@ -129,13 +129,22 @@ struct Whole<L: Crew> {
 }
 
 /// A dispatcher that workers share.
-#[derive(Drop)]
 pub struct Shared<S: Subscriber, L: Crew> {
     lock: Mutex<Locked<S, L>>,
     workers: u32,
     whole: Whole<L>,
     ghost crew: { workers ≡ L.workers },
     ghost some: { 0 < workers },
+}
+
+impl<S: Subscriber + Drop, L: Crew> Drop for Shared<S, L> {
+    fn drop(self) {
+        let Shared {
+            lock,
+            workers,
+            whole,
+        } = self;
+    }
 }
 
 /// A `Shared` of which a worker is missing, and the workers that are not.
@@ -474,8 +483,8 @@ impl<S: Subscriber, L: Crew> Shared<S, L> {
         };
         let Shared {
             lock,
-            workers: _,
-            whole: _,
+            workers,
+            whole,
         } = self;
         let Locked { logged, mut calls } = lock.into_inner();
         calls.audit(&mut all);

@@ -1,7 +1,7 @@
 //! Tests of a dispatcher that keeps its stack's hint and interests: what it asks of filters once, and what each time.
 ghost use Rattle.span_dispatch.specs.Serve.{stack_of};
 
-use crate::requests::{Shows, ShowsTwo, UnderOne, event, in_use, keeps, made, new_span, serve};
+use crate::requests::{AsLayer, AsLayers, UnderOne, event, in_use, keeps, made, new_span, serve};
 use span_core::{Event, Id, Kind, Level, LevelFilter, Metadata, TraceError};
 use span_dispatch::{Answer, Dispatch, Notice, Recorder, Request, Which, WhichParent};
 use span_filters::{Filter, filter_fn};
@@ -61,7 +61,7 @@ fn serve_events<S: Subscriber>(
 }
 
 /// How many of so many events two recorders keep, the inner one first.
-fn kept_by_two<S: Subscriber + Drop + Shows<Recorder>, L: Layer<S> + Drop + Shows<Recorder>>(
+fn kept_by_two<S: Subscriber + Drop + AsLayer<Recorder>, L: Layer<S> + Drop + AsLayer<Recorder>>(
     alloc: Global,
     stack: S,
     layer: L,
@@ -74,13 +74,13 @@ fn kept_by_two<S: Subscriber + Drop + Shows<Recorder>, L: Layer<S> + Drop + Show
     serve_events(alloc, &mut dispatch, count)?;
     let stack = dispatch.stack();
     Ok((
-        stack.inner_shown().notices().len(),
-        stack.outer_shown().notices().len(),
+        stack.as_inner().notices().len(),
+        stack.as_outer().notices().len(),
     ))
 }
 
-/// The same where the outer one is under a filter.
-fn kept_below<S: Subscriber + Drop + Shows<Recorder>, F: Filter<S> + Drop>(
+/// Puts a recorder under a filter outside another, and counts what both keep of so many events.
+fn kept_below<S: Subscriber + Drop + AsLayer<Recorder>, F: Filter<S> + Drop>(
     alloc: Global,
     stack: S,
     filter: F,
@@ -96,7 +96,7 @@ fn kept_below<S: Subscriber + Drop + Shows<Recorder>, F: Filter<S> + Drop>(
 /// A recorder under a filter that is absent.
 type UnderNone = Filtered<Recorder, Option<LevelFilter>>;
 
-/// The same where the inner one is under no filter.
+/// Puts a recorder under no filter on a stack, and one under a filter outside it, and counts what both keep.
 fn kept_outside<S: Subscriber + Drop, F: Filter<Layered<UnderNone, S>> + Drop>(
     alloc: Global,
     stack: S,
@@ -131,7 +131,7 @@ fn filters_that_want_a_callsite_are_asked_of_it_once(rt: HostRuntime) -> Result<
 }
 
 /// Of two recorders the outer one keeps none of three events, and the inner one all.
-fn keeps_none<S: Subscriber + Drop + Shows<Recorder>, L: Layer<S> + Drop + Shows<Recorder>>(
+fn keeps_none<S: Subscriber + Drop + AsLayer<Recorder>, L: Layer<S> + Drop + AsLayer<Recorder>>(
     rt: &impl Abort,
     alloc: Global,
     stack: S,
@@ -143,14 +143,14 @@ fn keeps_none<S: Subscriber + Drop + Shows<Recorder>, L: Layer<S> + Drop + Shows
     let mut dispatch = in_use(alloc, put(stack, layer)?);
     serve_events(alloc, &mut dispatch, 3)?;
     let stack = dispatch.stack();
-    keeps(rt, stack.outer_shown(), &[]);
+    keeps(rt, stack.as_outer(), &[]);
     let notice = Notice::Event(LANE, 5);
-    keeps(rt, stack.inner_shown(), &[notice, notice, notice]);
+    keeps(rt, stack.as_inner(), &[notice, notice, notice]);
     Ok(())
 }
 
-/// The same where the outer one is under a filter.
-fn keeps_none_below<S: Subscriber + Drop + Shows<Recorder>, F: Filter<S> + Drop>(
+/// Puts a recorder under a filter outside another: it keeps none of three events, and the other all.
+fn keeps_none_below<S: Subscriber + Drop + AsLayer<Recorder>, F: Filter<S> + Drop>(
     rt: &impl Abort,
     alloc: Global,
     stack: S,
@@ -163,7 +163,7 @@ fn keeps_none_below<S: Subscriber + Drop + Shows<Recorder>, F: Filter<S> + Drop>
     keeps_none(rt, alloc, stack, under_filter)
 }
 
-/// The same where the inner one is under INFO.
+/// Puts a recorder under INFO on a stack, and one under a filter outside it, which keeps nothing.
 fn keeps_none_outside<S: Subscriber + Drop, F: Filter<Layered<UnderOne, S>> + Drop>(
     rt: &impl Abort,
     alloc: Global,
@@ -214,13 +214,13 @@ fn change_levels<S: Levels>(dispatch: &mut Dispatch<S>, level: LevelFilter)
 }
 
 /// A recorder under WARN is sent an event of level info, and, its level changed to that, once more.
-fn sends_around_a_change<S: Levels + Shows<Recorder>>(rt: &impl Abort, dispatch: &mut Dispatch<S>)
+fn sends_around_a_change<S: Levels + AsLayer<Recorder>>(rt: &impl Abort, dispatch: &mut Dispatch<S>)
     requires { S.usable (stack_of dispatch.old) }
 {
     let before = sent_under(dispatch);
     change_levels(dispatch, LevelFilter::INFO);
     let after = sent_under(dispatch);
-    keeps(rt, dispatch.stack().shown(), &[Notice::Event(LANE, 5)]);
+    keeps(rt, dispatch.stack().as_layer(), &[Notice::Event(LANE, 5)]);
     assert!(rt;
         [before, after]
             == [
@@ -309,7 +309,7 @@ fn keeps_info_alone<S: Subscriber + Drop, F: Filter<S> + Drop>(
     let mut dispatch = in_use(alloc, put(stack, under_filter)?);
     answers_each_level(rt, alloc, &mut dispatch)?;
     let twice = [Notice::Event(LANE, 5), Notice::Event(LANE, 5)];
-    keeps(rt, dispatch.stack().shown(), &twice);
+    keeps(rt, dispatch.stack().as_layer(), &twice);
     Ok(())
 }
 
@@ -388,7 +388,7 @@ fn close_one_span<S: Subscriber>(
 }
 
 /// Serves the requests, with the levels changed between the first and the rest of them.
-fn serves_around_a_change<S: Levels + ShowsTwo<Recorder>>(
+fn serves_around_a_change<S: Levels + AsLayers<Recorder>>(
     rt: &impl Abort,
     alloc: Global,
     dispatch: &mut Dispatch<S>,
@@ -400,13 +400,13 @@ fn serves_around_a_change<S: Levels + ShowsTwo<Recorder>>(
     close_one_span(alloc, dispatch, span)?;
     let stack = dispatch.stack();
     let kept = kept_over_a_change(span);
-    keeps(rt, stack.inner_shown(), &kept);
-    keeps(rt, stack.outer_shown(), &kept);
+    keeps(rt, stack.as_inner(), &kept);
+    keeps(rt, stack.as_outer(), &kept);
     Ok(())
 }
 
 /// Puts a recorder under two levels outside another. The level next to it is INFO at first.
-fn serve_below_two<S: Levels + Drop + Shows<Recorder>>(
+fn serve_below_two<S: Levels + Drop + AsLayer<Recorder>>(
     rt: &impl Abort,
     alloc: Global,
     stack: S,
@@ -419,7 +419,7 @@ fn serve_below_two<S: Levels + Drop + Shows<Recorder>>(
     serves_around_a_change(rt, alloc, &mut in_use(alloc, put(stack, under_two)?))
 }
 
-/// The same where the inner one is under INFO.
+/// Puts a recorder under INFO on a stack, and serves around a change with two outside it.
 fn serve_nested<S: Subscriber + Drop>(rt: &impl Abort, alloc: Global, stack: S) -> Result<(), Fail>
     requires { S.usable stack }
 {
@@ -440,19 +440,19 @@ fn send_two_levels<S: Subscriber>(dispatch: &mut Dispatch<S>) -> [Result<bool, T
 }
 
 /// The one is sent, and the other refused.
-fn sends_the_first_level<S: Subscriber + Shows<Recorder>>(
+fn sends_the_first_level<S: Subscriber + AsLayer<Recorder>>(
     rt: &impl Abort,
     dispatch: &mut Dispatch<S>,
 )
     requires { S.usable (stack_of dispatch.old) }
 {
     let sent = send_two_levels(dispatch);
-    keeps(rt, dispatch.stack().shown(), &[Notice::Event(LANE, 5)]);
+    keeps(rt, dispatch.stack().as_layer(), &[Notice::Event(LANE, 5)]);
     assert!(rt; sent == [Ok(true), Err(TraceError::CallsiteMismatch)]);
 }
 
-/// The same of a stack under a layer.
-fn sends_the_first<S: Subscriber + Drop, L: Layer<S> + Drop + Shows<Recorder>>(
+/// Puts a layer on a stack, and sends two levels from one callsite.
+fn sends_the_first<S: Subscriber + Drop, L: Layer<S> + Drop + AsLayer<Recorder>>(
     rt: &impl Abort,
     alloc: Global,
     stack: S,
@@ -478,7 +478,7 @@ fn sends_nothing<S: Subscriber>(rt: &impl Abort, dispatch: &mut Dispatch<S>)
     assert!(rt; sent_under(dispatch) == (Ok(false), Some(LevelFilter::OFF)));
 }
 
-/// The same of a stack under a layer.
+/// Puts an absent layer on a stack, which then is sent nothing.
 fn sends_nothing_under<S: Subscriber + Drop, L: Layer<S> + Drop>(
     rt: &impl Abort,
     alloc: Global,

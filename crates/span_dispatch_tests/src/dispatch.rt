@@ -2,7 +2,7 @@
 ghost use Rattle.span_dispatch.specs.Serve.{stack_of};
 
 use crate::requests::{
-    Plain, Shows, fresh, in_use, keeps, made, new_event, new_span, plain, serve, used, within,
+    AsLayer, Plain, fresh, in_use, keeps, made, new_event, new_span, plain, serve, used, within,
 };
 use span_core::{Attributes, Event, Id, Kind, Lane, Level, Metadata, Record, TraceError};
 use span_dispatch::{Answer, Dispatch, Notice, Recorder, Request, Which, WhichParent};
@@ -41,7 +41,7 @@ fn open<S: Subscriber>(dispatch: &mut Dispatch<S>) -> Result<Option<Id>, TraceEr
     dispatch.new_span(LANE, &Attributes::new_root(span_metadata(), &[]))
 }
 
-/// The same. Fails where a layer vetoes.
+/// Opens a root. Fails where a layer vetoes.
 fn open_root<S: Subscriber>(dispatch: &mut Dispatch<S>) -> Result<Id, Fail>
     requires { S.usable (stack_of dispatch.old) }
     ensures { S.usable (stack_of dispatch.new) }
@@ -87,7 +87,7 @@ fn closes_with_its_last_handle<S: Subscriber>(
 }
 
 /// A recorder hears of that span.
-fn tells_of_one_span<S: Subscriber + Drop, L: Layer<S> + Drop + Shows<Recorder>>(
+fn tells_of_one_span<S: Subscriber + Drop, L: Layer<S> + Drop + AsLayer<Recorder>>(
     rt: &impl Abort,
     alloc: Global,
     stack: S,
@@ -98,7 +98,7 @@ fn tells_of_one_span<S: Subscriber + Drop, L: Layer<S> + Drop + Shows<Recorder>>
 {
     let mut dispatch = fresh(alloc, put(stack, layer)?);
     let id = closes_with_its_last_handle(rt, &mut dispatch)?;
-    let recorder = dispatch.stack().shown();
+    let recorder = dispatch.stack().as_layer();
     keeps(
         rt,
         recorder,
@@ -169,7 +169,7 @@ fn serves_by_places<S: Subscriber>(
 }
 
 /// A recorder hears of what they name.
-fn tells_of_places<S: Subscriber + Drop, L: Layer<S> + Drop + Shows<Recorder>>(
+fn tells_of_places<S: Subscriber + Drop, L: Layer<S> + Drop + AsLayer<Recorder>>(
     rt: &impl Abort,
     alloc: Global,
     stack: S,
@@ -186,7 +186,7 @@ fn tells_of_places<S: Subscriber + Drop, L: Layer<S> + Drop + Shows<Recorder>>(
         Notice::Event(LANE, 7),
         Notice::New(LANE, other),
     ];
-    keeps(rt, dispatch.stack().shown(), &notices);
+    keeps(rt, dispatch.stack().as_layer(), &notices);
     Ok(())
 }
 
@@ -250,7 +250,7 @@ fn answers_in_order<S: Subscriber>(
 }
 
 /// A recorder hears of them in the same order.
-fn tells_in_order<S: Subscriber + Drop, L: Layer<S> + Drop + Shows<Recorder>>(
+fn tells_in_order<S: Subscriber + Drop, L: Layer<S> + Drop + AsLayer<Recorder>>(
     rt: &impl Abort,
     alloc: Global,
     stack: S,
@@ -270,7 +270,7 @@ fn tells_in_order<S: Subscriber + Drop, L: Layer<S> + Drop + Shows<Recorder>>(
         Notice::Exit(LANE, id),
         Notice::Close(LANE, id),
     ];
-    keeps(rt, dispatch.stack().shown(), &notices);
+    keeps(rt, dispatch.stack().as_layer(), &notices);
     Ok(())
 }
 
@@ -324,7 +324,7 @@ fn refuses_all_unknown<S: Subscriber>(
 }
 
 /// A recorder hears of the closed span, and of the events that have an unknown parent.
-fn knows_open_spans_alone<S: Subscriber + Drop, L: Layer<S> + Drop + Shows<Recorder>>(
+fn knows_open_spans_alone<S: Subscriber + Drop, L: Layer<S> + Drop + AsLayer<Recorder>>(
     rt: &impl Abort,
     alloc: Global,
     stack: S,
@@ -343,7 +343,7 @@ fn knows_open_spans_alone<S: Subscriber + Drop, L: Layer<S> + Drop + Shows<Recor
         Notice::Event(LANE, 7),
         Notice::Event(LANE, 7),
     ];
-    keeps(rt, dispatch.stack().shown(), &notices);
+    keeps(rt, dispatch.stack().as_layer(), &notices);
     Ok(())
 }
 
@@ -369,8 +369,8 @@ fn enter<S: Subscriber>(dispatch: &mut Dispatch<S>, id: Id) -> Result<(), TraceE
 }
 
 /// What a program sees of a dispatcher: the span that the lane is in, and how many notices its recorder keeps.
-fn seen<S: Subscriber + Shows<Recorder>>(dispatch: &Dispatch<S>) -> (Option<Id>, usize, bool) {
-    let recorder = dispatch.stack().shown();
+fn seen<S: Subscriber + AsLayer<Recorder>>(dispatch: &Dispatch<S>) -> (Option<Id>, usize, bool) {
+    let recorder = dispatch.stack().as_layer();
     (
         current(dispatch),
         recorder.notices().len(),
@@ -379,7 +379,7 @@ fn seen<S: Subscriber + Shows<Recorder>>(dispatch: &Dispatch<S>) -> (Option<Id>,
 }
 
 /// Opens a span, and once more where memory is refused: that changes nothing.
-fn open_at_last<S: Subscriber + Shows<Recorder>>(
+fn open_at_last<S: Subscriber + AsLayer<Recorder>>(
     rt: &impl Abort,
     dispatch: &mut Dispatch<S>,
 ) -> Result<Id, Fail>
@@ -396,7 +396,7 @@ fn open_at_last<S: Subscriber + Shows<Recorder>>(
 }
 
 /// Enters a span, and once more where memory is refused: that changes nothing.
-fn enter_at_last<S: Subscriber + Shows<Recorder>>(
+fn enter_at_last<S: Subscriber + AsLayer<Recorder>>(
     rt: &impl Abort,
     dispatch: &mut Dispatch<S>,
     id: Id,
@@ -414,7 +414,7 @@ fn enter_at_last<S: Subscriber + Shows<Recorder>>(
 }
 
 /// Serves requests, and once more where memory is refused before: that changes nothing.
-fn serve_at_last<S: Subscriber + Shows<Recorder>>(
+fn serve_at_last<S: Subscriber + AsLayer<Recorder>>(
     rt: &impl Abort,
     alloc: Global,
     dispatch: &mut Dispatch<S>,
@@ -435,7 +435,7 @@ fn serve_at_last<S: Subscriber + Shows<Recorder>>(
 }
 
 /// Opens a span, enters it, and sends an event in it.
-fn send_in_span_at_last<S: Subscriber + Shows<Recorder>>(
+fn send_in_span_at_last<S: Subscriber + AsLayer<Recorder>>(
     rt: &impl Abort,
     dispatch: &mut Dispatch<S>,
 ) -> Result<Id, Fail>
@@ -462,7 +462,7 @@ fn keeps_what_fits(rt: &impl Abort, recorder: &Recorder, id: Id) {
 }
 
 /// Drops the handle of that span, and so closes it.
-fn drop_at_last<S: Subscriber + Shows<Recorder>>(
+fn drop_at_last<S: Subscriber + AsLayer<Recorder>>(
     rt: &impl Abort,
     alloc: Global,
     dispatch: &mut Dispatch<S>,
@@ -478,7 +478,7 @@ fn drop_at_last<S: Subscriber + Shows<Recorder>>(
 }
 
 /// Does all this with one span, and looks at its recorder.
-fn serves_one_span_at_last<S: Subscriber + Drop, L: Layer<S> + Drop + Shows<Recorder>>(
+fn serves_one_span_at_last<S: Subscriber + Drop, L: Layer<S> + Drop + AsLayer<Recorder>>(
     rt: &impl Abort,
     alloc: Global,
     stack: S,
@@ -490,7 +490,7 @@ fn serves_one_span_at_last<S: Subscriber + Drop, L: Layer<S> + Drop + Shows<Reco
     let mut dispatch = fresh(alloc, put(stack, layer)?);
     let id = send_in_span_at_last(rt, &mut dispatch)?;
     drop_at_last(rt, alloc, &mut dispatch, id)?;
-    keeps_what_fits(rt, dispatch.stack().shown(), id);
+    keeps_what_fits(rt, dispatch.stack().as_layer(), id);
     Ok(())
 }
 
@@ -503,7 +503,7 @@ fn a_refusal_of_memory_changes_nothing(rt: HostRuntime) -> Result<(), Fail> {
 
 /// Sends an event, and once more where memory is refused: that changes nothing. The recorder keeps
 /// it, or says that there was no memory.
-fn send_at_last<S: Subscriber + Shows<Recorder>>(rt: &impl Abort, dispatch: &mut Dispatch<S>)
+fn send_at_last<S: Subscriber + AsLayer<Recorder>>(rt: &impl Abort, dispatch: &mut Dispatch<S>)
     requires { S.usable (stack_of dispatch.old) }
 {
     let before = seen(dispatch);
@@ -512,12 +512,12 @@ fn send_at_last<S: Subscriber + Shows<Recorder>>(rt: &impl Abort, dispatch: &mut
         assert!(rt; seen(dispatch) == before);
         assert!(rt; send(dispatch) == Ok(true));
     }
-    let recorder = dispatch.stack().shown();
+    let recorder = dispatch.stack().as_layer();
     assert!(rt; recorder.failed() == recorder.notices().is_empty());
 }
 
-/// The same of a stack under a layer.
-fn sends_at_last<S: Subscriber + Drop, L: Layer<S> + Drop + Shows<Recorder>>(
+/// Puts a layer on a stack, and sends an event until there is memory for all of it.
+fn sends_at_last<S: Subscriber + Drop, L: Layer<S> + Drop + AsLayer<Recorder>>(
     rt: &impl Abort,
     alloc: Global,
     stack: S,

@@ -4,7 +4,7 @@ ghost use Rattle.span_dispatch_tests.specs.Marked.{in_marked, is_marked};
 ghost use Rattle.span_registry.specs.Context.{view_in};
 ghost use Rattle.std.specs.Prelude.{◌≡◌, ⊤};
 
-use crate::requests::{Shows, ShowsTwo, event, in_use, keeps, made, new_span, serve, within};
+use crate::requests::{AsLayer, AsLayers, event, in_use, keeps, made, new_span, serve, within};
 use span_core::{Id, Level, LevelFilter, Metadata};
 use span_dispatch::{Dispatch, Notice, Recorder, Request, Which, WhichParent};
 use span_filters::{FunctionIn, dynamic_filter_fn};
@@ -88,7 +88,7 @@ fn serve_requests<S: Subscriber>(alloc: Global, dispatch: &mut Dispatch<S>) -> R
 }
 
 /// Serves the list by a stack of A and B, C outside them, and looks at what A and B were notified of.
-fn tells_a_and_b<S: Subscriber + Drop + ShowsTwo<Recorder>, L: Layer<S> + Drop>(
+fn tells_a_and_b<S: Subscriber + Drop + AsLayers<Recorder>, L: Layer<S> + Drop>(
     rt: &impl Abort,
     alloc: Global,
     stack: S,
@@ -100,13 +100,13 @@ fn tells_a_and_b<S: Subscriber + Drop + ShowsTwo<Recorder>, L: Layer<S> + Drop>(
     let mut dispatch = in_use(alloc, put(stack, c)?);
     let [p, q, r] = serve_requests(alloc, &mut dispatch)?;
     let a_and_b = dispatch.stack().inner();
-    keeps(rt, a_and_b.outer_shown(), &due_to_a(p, r));
-    keeps(rt, a_and_b.inner_shown(), &due_to_b(p, q, r));
+    keeps(rt, a_and_b.as_outer(), &due_to_a(p, r));
+    keeps(rt, a_and_b.as_inner(), &due_to_b(p, q, r));
     Ok(())
 }
 
-/// The same where C is a recorder under this level.
-fn tells_below_c<S: Subscriber + Drop + ShowsTwo<Recorder>>(
+/// Puts C, a recorder under this level, on a stack of A and B, which are told the same of the list.
+fn tells_below_c<S: Subscriber + Drop + AsLayers<Recorder>>(
     rt: &impl Abort,
     alloc: Global,
     stack: S,
@@ -118,8 +118,8 @@ fn tells_below_c<S: Subscriber + Drop + ShowsTwo<Recorder>>(
     tells_a_and_b(rt, alloc, stack, c)
 }
 
-/// The same of a stack of B: A, under INFO, comes outside it.
-fn tells_beside<S: Subscriber + Drop + Shows<Recorder>>(
+/// Puts A, under INFO, on a stack of B, and C outside it.
+fn tells_beside<S: Subscriber + Drop + AsLayer<Recorder>>(
     rt: &impl Abort,
     alloc: Global,
     stack: S,
@@ -131,8 +131,8 @@ fn tells_beside<S: Subscriber + Drop + Shows<Recorder>>(
     tells_below_c(rt, alloc, put(stack, a)?, outermost)
 }
 
-/// The same of B and a stack without it.
-fn tells_with_b<S: Subscriber + Drop, L: Layer<S> + Drop + Shows<Recorder>>(
+/// Puts B on a stack, and A and C outside it.
+fn tells_with_b<S: Subscriber + Drop, L: Layer<S> + Drop + AsLayer<Recorder>>(
     rt: &impl Abort,
     alloc: Global,
     stack: S,
@@ -243,7 +243,7 @@ fn told_of_one_span(rt: &impl Abort, recorder: &Recorder, p: Id, of_event: bool)
 }
 
 /// Serves that list by a stack of A, C outside it, and looks at what A is notified of.
-fn tells_a<S: Subscriber + Drop + Shows<Recorder>, L: Layer<S> + Drop>(
+fn tells_a<S: Subscriber + Drop + AsLayer<Recorder>, L: Layer<S> + Drop>(
     rt: &impl Abort,
     alloc: Global,
     stack: S,
@@ -255,12 +255,12 @@ fn tells_a<S: Subscriber + Drop + Shows<Recorder>, L: Layer<S> + Drop>(
 {
     let mut dispatch = in_use(alloc, put(stack, c)?);
     let p = serve_one_span(alloc, &mut dispatch)?;
-    told_of_one_span(rt, dispatch.stack().inner().shown(), p, of_event);
+    told_of_one_span(rt, dispatch.stack().inner().as_layer(), p, of_event);
     Ok(())
 }
 
-/// The same where C marks spans, under this level.
-fn tells_beside_marker<S: Subscriber + Drop + Shows<Recorder>>(
+/// Puts C, which marks spans under this level, on a stack of A.
+fn tells_beside_marker<S: Subscriber + Drop + AsLayer<Recorder>>(
     rt: &impl Abort,
     alloc: Global,
     stack: S,
@@ -274,7 +274,7 @@ fn tells_beside_marker<S: Subscriber + Drop + Shows<Recorder>>(
     tells_a(rt, alloc, stack, c, of_event)
 }
 
-/// The same of A under a filter by marks, on a stack.
+/// Puts A, under a filter by marks, on a stack, and C outside it.
 fn tells_by_marks<S: Subscriber + Drop>(
     rt: &impl Abort,
     alloc: Global,

@@ -2,7 +2,7 @@
 ghost use Rattle.span_dispatch.specs.Serve.{stack_of};
 
 use crate::cache::{count_one, sent_under};
-use crate::requests::{Shows, ShowsTwo, UnderOne, event, in_use, made, new_span, serve, used};
+use crate::requests::{AsLayer, AsLayers, UnderOne, event, in_use, made, new_span, serve, used};
 use span_core::{Id, Level, LevelFilter, Metadata, TraceError};
 use span_dispatch::{Answer, Dispatch, Notice, Recorder, Request, Which, WhichParent};
 use span_filters::{Filter, filter_fn};
@@ -54,7 +54,7 @@ fn told_once(rt: &impl Abort, recorder: &Recorder) {
 }
 
 /// A recorder under WARN is notified of the third of three events: by then its level is INFO.
-fn the_third_event_alone<S: Subscriber + Drop, L: Layer<S> + Drop + Shows<Recorder>>(
+fn the_third_event_alone<S: Subscriber + Drop, L: Layer<S> + Drop + AsLayer<Recorder>>(
     rt: &impl Abort,
     alloc: Global,
     stack: S,
@@ -68,7 +68,7 @@ fn the_third_event_alone<S: Subscriber + Drop, L: Layer<S> + Drop + Shows<Record
     let [before, after] = said;
     let mut dispatch = used(alloc, put(stack, layer)?, keeps);
     raised_by_calls(rt, &mut dispatch, before, after)?;
-    told_once(rt, dispatch.stack().shown());
+    told_once(rt, dispatch.stack().as_layer());
     Ok(())
 }
 
@@ -168,7 +168,7 @@ fn the_third_event_beside_a_closure(
 /// A cell that counts how often a filter is asked, what an event is answered at first, and the counts.
 type Expected<'a> = (&'a Cell<u32>, Answer, [u32; 2]);
 
-/// The same with another filter, and the cell that counts how often that is asked.
+/// Puts a recorder under WARN on a stack, and one under another filter outside it, and looks at what both are told.
 fn told_beside<S: Subscriber + Drop, F: Filter<Layered<UnderOne, S>> + Drop>(
     rt: &impl Abort,
     alloc: Global,
@@ -184,8 +184,8 @@ fn told_beside<S: Subscriber + Drop, F: Filter<Layered<UnderOne, S>> + Drop>(
     told_outside(rt, alloc, keeps, put(stack, under_warn)?, other, expected)
 }
 
-/// The same of a recorder under that filter, outside the one under WARN.
-fn told_outside<S: Subscriber + Drop + Shows<Recorder>, F: Filter<S> + Drop>(
+/// Puts a recorder under another filter outside the one under WARN, and looks at what both are told.
+fn told_outside<S: Subscriber + Drop + AsLayer<Recorder>, F: Filter<S> + Drop>(
     rt: &impl Abort,
     alloc: Global,
     keeps: bool,
@@ -200,8 +200,8 @@ fn told_outside<S: Subscriber + Drop + Shows<Recorder>, F: Filter<S> + Drop>(
     told_under(rt, alloc, keeps, stack, under_other, expected)
 }
 
-/// The same of a stack under the layer that has the outer recorder.
-fn told_under<S: Subscriber + Drop + Shows<Recorder>, L: Layer<S> + Drop + Shows<Recorder>>(
+/// Puts the outer recorder's layer on a stack, and looks at what both recorders are told.
+fn told_under<S: Subscriber + Drop + AsLayer<Recorder>, L: Layer<S> + Drop + AsLayer<Recorder>>(
     rt: &impl Abort,
     alloc: Global,
     keeps: bool,
@@ -217,7 +217,7 @@ fn told_under<S: Subscriber + Drop + Shows<Recorder>, L: Layer<S> + Drop + Shows
 }
 
 /// The inner recorder alone is told.
-fn raised_beside<S: Subscriber + ShowsTwo<Recorder>>(
+fn raised_beside<S: Subscriber + AsLayers<Recorder>>(
     rt: &impl Abort,
     alloc: Global,
     dispatch: &mut Dispatch<S>,
@@ -228,8 +228,8 @@ fn raised_beside<S: Subscriber + ShowsTwo<Recorder>>(
     let (asked, before, counts) = expected;
     raised_in_lists(rt, alloc, dispatch, asked, before, counts)?;
     let stack = dispatch.stack();
-    assert!(rt; stack.outer_shown().notices().is_empty());
-    told_once(rt, stack.inner_shown());
+    assert!(rt; stack.as_outer().notices().is_empty());
+    told_once(rt, stack.as_inner());
     Ok(())
 }
 
@@ -316,7 +316,7 @@ fn told_of_all(rt: &impl Abort, recorder: &Recorder, [first, info, debug]: [Id; 
 }
 
 /// Each of two recorders is told of its own.
-fn tells_between_levels<S: Subscriber + ShowsTwo<Recorder>>(
+fn tells_between_levels<S: Subscriber + AsLayers<Recorder>>(
     rt: &impl Abort,
     alloc: Global,
     dispatch: &mut Dispatch<S>,
@@ -325,13 +325,13 @@ fn tells_between_levels<S: Subscriber + ShowsTwo<Recorder>>(
 {
     let spans = serve_between_levels(alloc, dispatch)?;
     let stack = dispatch.stack();
-    told_of_its_own(rt, stack.outer_shown(), spans);
-    told_of_all(rt, stack.inner_shown(), spans);
+    told_of_its_own(rt, stack.as_outer(), spans);
+    told_of_all(rt, stack.as_inner(), spans);
     Ok(())
 }
 
 /// Puts a recorder under INFO outside one that is in a layer.
-fn tells_outside<S: Subscriber + Drop, L: Layer<S> + Drop + Shows<Recorder>>(
+fn tells_outside<S: Subscriber + Drop, L: Layer<S> + Drop + AsLayer<Recorder>>(
     rt: &impl Abort,
     alloc: Global,
     stack: S,
@@ -343,8 +343,8 @@ fn tells_outside<S: Subscriber + Drop, L: Layer<S> + Drop + Shows<Recorder>>(
     tells_under_info(rt, alloc, put(stack, layer)?)
 }
 
-/// The same of a stack with that one.
-fn tells_under_info<S: Subscriber + Drop + Shows<Recorder>>(
+/// Puts a recorder under INFO on a stack of another, and sets levels while spans are open.
+fn tells_under_info<S: Subscriber + Drop + AsLayer<Recorder>>(
     rt: &impl Abort,
     alloc: Global,
     stack: S,
@@ -355,8 +355,8 @@ fn tells_under_info<S: Subscriber + Drop + Shows<Recorder>>(
     tells_under(rt, alloc, stack, under_info)
 }
 
-/// The same of a stack under the layer that has the outer recorder.
-fn tells_under<S: Subscriber + Drop + Shows<Recorder>, L: Layer<S> + Drop + Shows<Recorder>>(
+/// Puts the outer recorder's layer on a stack of another, and sets levels while spans are open.
+fn tells_under<S: Subscriber + Drop + AsLayer<Recorder>, L: Layer<S> + Drop + AsLayer<Recorder>>(
     rt: &impl Abort,
     alloc: Global,
     stack: S,

@@ -184,7 +184,7 @@ fn on_stack<S: Subscriber + Drop, L: Layer<S> + Drop>(
     by_case(rt, alloc, case, put(stack, layer)?)
 }
 
-/// The same of a layer with six filters, under two that pass all.
+/// Puts two filters that pass all round a layer with six, and the layer on a stack.
 fn in_two_more<S: Subscriber + Drop, L: Layer<S> + Drop>(
     rt: &(impl Abort + Wait),
     alloc: Global,
@@ -201,7 +201,7 @@ fn in_two_more<S: Subscriber + Drop, L: Layer<S> + Drop>(
     on_stack(rt, alloc, case, stack, under_two)
 }
 
-/// The same of a layer with four filters. Numbers are given from the outermost filter on, from 0,
+/// Puts two filters round a layer with four, of which the inner one refuses. Numbers are given from the outermost filter on, from 0,
 /// and two filters more will stand outside these: so the inner one here is number 3, which refuses.
 fn in_four_more<S: Subscriber + Drop, L: Layer<S> + Drop>(
     rt: &(impl Abort + Wait),
@@ -219,7 +219,7 @@ fn in_four_more<S: Subscriber + Drop, L: Layer<S> + Drop>(
     in_two_more(rt, alloc, case, stack, under_two)
 }
 
-/// The same of a layer with two filters.
+/// Puts two filters that pass all round a layer with two, and then four more.
 fn in_six_more<S: Subscriber + Drop, L: Layer<S> + Drop>(
     rt: &(impl Abort + Wait),
     alloc: Global,
@@ -236,7 +236,7 @@ fn in_six_more<S: Subscriber + Drop, L: Layer<S> + Drop>(
     in_four_more(rt, alloc, case, stack, under_two)
 }
 
-/// The same of a layer without filters on a registry, which marks the spans that it is told of.
+/// Puts eight filters round a layer that marks the spans that it is told of, on a registry.
 fn in_eight(rt: &(impl Abort + Wait), alloc: Global, case: Case<'_>) -> Result<(), Fail> {
     let under_two = Observer::new(SpanMarker { mark: mark() })
         .with_filter(LevelFilter::TRACE)

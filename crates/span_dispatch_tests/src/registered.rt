@@ -4,7 +4,7 @@ ghost use Rattle.span_core.specs.Metadata.{kind_of};
 ghost use Rattle.span_dispatch.specs.Registration.{IsRegistered, KeepsRegistered};
 ghost use Rattle.span_dispatch.specs.Serve.{stack_of};
 
-use crate::requests::{Shows, used};
+use crate::requests::{AsLayer, used};
 use span_core::{Attributes, Event, FieldSet, Kind, Level, LevelFilter, Metadata, TraceError};
 use span_dispatch::{Dispatch, Notice, Recorder, Registration};
 use span_layer_tests::fixture::{LANE, put};
@@ -78,7 +78,7 @@ fn told_around_a_span(rt: &impl Abort, recorder: &Recorder) {
 
 /// A recorder under INFO is told of what passes its levels. While the level is WARN, an answer says that
 /// something was made where nothing is kept.
-fn tells_by_levels<S: Subscriber + Drop, L: Layer<S> + Drop + Shows<Recorder>>(
+fn tells_by_levels<S: Subscriber + Drop, L: Layer<S> + Drop + AsLayer<Recorder>>(
     rt: &impl Abort,
     alloc: Global,
     stack: S,
@@ -90,7 +90,7 @@ fn tells_by_levels<S: Subscriber + Drop, L: Layer<S> + Drop + Shows<Recorder>>(
 {
     let mut dispatch = used(alloc, put(stack, layer)?, keeps);
     sent_under_levels(rt, &mut dispatch, !keeps)?;
-    told_around_a_span(rt, dispatch.stack().shown());
+    told_around_a_span(rt, dispatch.stack().as_layer());
     Ok(())
 }
 

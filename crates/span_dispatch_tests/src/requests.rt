@@ -20,7 +20,7 @@ pub(crate) fn new_event(callsite: u64, level: Level, parent: WhichParent) -> Req
     Request::Event(LANE, metadata_of(callsite, level, Kind::EVENT), parent, &[])
 }
 
-/// The same where the lane is.
+/// An event where the lane is.
 pub(crate) fn event(callsite: u64, level: Level) -> Request<'static> {
     new_event(callsite, level, WhichParent::Contextual)
 }
@@ -39,42 +39,42 @@ pub(crate) fn made(answers: &[Answer], place: usize) -> Result<Id, Fail> {
 }
 
 /// What has a layer of this kind to look at: where it has several, the outermost.
-pub(crate) trait Shows<T> {
-    fn shown(&self) -> &T;
+pub(crate) trait AsLayer<T> {
+    fn as_layer(&self) -> &T;
 }
 
-impl Shows<Recorder> for Recorder {
-    fn shown(&self) -> &Recorder {
+impl AsLayer<Recorder> for Recorder {
+    fn as_layer(&self) -> &Recorder {
         self
     }
 }
 
-impl<T, L: Shows<T>, F> Shows<T> for Filtered<L, F> {
-    fn shown(&self) -> &T {
-        self.inner().shown()
+impl<T, L: AsLayer<T>, F> AsLayer<T> for Filtered<L, F> {
+    fn as_layer(&self) -> &T {
+        self.inner().as_layer()
     }
 }
 
-impl<T, L: Shows<T>, S> Shows<T> for Layered<L, S> {
-    fn shown(&self) -> &T {
-        self.layer().shown()
+impl<T, L: AsLayer<T>, S> AsLayer<T> for Layered<L, S> {
+    fn as_layer(&self) -> &T {
+        self.layer().as_layer()
     }
 }
 
 /// What has two layers of this kind to look at.
-pub(crate) trait ShowsTwo<T> {
-    fn outer_shown(&self) -> &T;
+pub(crate) trait AsLayers<T> {
+    fn as_outer(&self) -> &T;
 
-    fn inner_shown(&self) -> &T;
+    fn as_inner(&self) -> &T;
 }
 
-impl<T, L: Shows<T>, S: Shows<T>> ShowsTwo<T> for Layered<L, S> {
-    fn outer_shown(&self) -> &T {
-        self.layer().shown()
+impl<T, L: AsLayer<T>, S: AsLayer<T>> AsLayers<T> for Layered<L, S> {
+    fn as_outer(&self) -> &T {
+        self.layer().as_layer()
     }
 
-    fn inner_shown(&self) -> &T {
-        self.inner().shown()
+    fn as_inner(&self) -> &T {
+        self.inner().as_layer()
     }
 }
 

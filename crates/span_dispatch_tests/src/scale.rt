@@ -1,7 +1,7 @@
 //! Many filters, long chains and many entries, each by a dispatcher that keeps hint and interests and by one that keeps nothing.
 ghost use Rattle.span_dispatch.specs.Serve.{stack_of};
 
-use crate::requests::{Shows, event, keeps, serve, used};
+use crate::requests::{AsLayer, event, keeps, serve, used};
 use span_core::{Attributes, FilterId, Id, Kind, Level, LevelFilter, TraceError};
 use span_dispatch::{Answer, Dispatch, Notice, Recorder};
 use span_layer_tests::fixture::{LANE, metadata_of, put};
@@ -68,9 +68,9 @@ trait OpenBelowClosed {
     fn outside(&self) -> &Closed;
 }
 
-impl<L: HasClosed, S: Shows<Recorder>> OpenBelowClosed for Layered<L, S> {
+impl<L: HasClosed, S: AsLayer<Recorder>> OpenBelowClosed for Layered<L, S> {
     fn open(&self) -> &Recorder {
-        self.inner().shown()
+        self.inner().as_layer()
     }
 
     fn outside(&self) -> &Closed {
@@ -92,8 +92,8 @@ fn tells_the_open_one<S: Subscriber + OpenBelowClosed>(
     Ok(())
 }
 
-/// The same of a stack under the layer that has those under OFF.
-fn tells_under<S: Subscriber + Drop + Shows<Recorder>, L: Layer<S> + Drop + HasClosed>(
+/// Puts the layer that has the recorders under OFF on a stack, and sends it events.
+fn tells_under<S: Subscriber + Drop + AsLayer<Recorder>, L: Layer<S> + Drop + HasClosed>(
     rt: &impl Abort,
     alloc: Global,
     stack: S,
@@ -107,8 +107,8 @@ fn tells_under<S: Subscriber + Drop + Shows<Recorder>, L: Layer<S> + Drop + HasC
     tells_the_open_one(rt, alloc, &mut used(alloc, stack, keeps))
 }
 
-/// The same of an open recorder on a stack.
-fn tells_below_closed<S: Subscriber + Drop + Shows<Recorder>>(
+/// Puts recorders under OFF outside an open one on a stack.
+fn tells_below_closed<S: Subscriber + Drop + AsLayer<Recorder>>(
     rt: &impl Abort,
     alloc: Global,
     stack: S,
@@ -119,8 +119,8 @@ fn tells_below_closed<S: Subscriber + Drop + Shows<Recorder>>(
     tells_under(rt, alloc, stack, closed(alloc)?, keeps)
 }
 
-/// The same where it isn't yet on the stack.
-fn tells_an_open_one<S: Subscriber + Drop, L: Layer<S> + Drop + Shows<Recorder>>(
+/// Puts an open recorder on a stack, and recorders under OFF outside it.
+fn tells_an_open_one<S: Subscriber + Drop, L: Layer<S> + Drop + AsLayer<Recorder>>(
     rt: &impl Abort,
     alloc: Global,
     stack: S,
@@ -245,7 +245,7 @@ fn is_closed<S: LookupSpan>(rt: &impl Abort, stack: &S, chain: &[Id]) {
 }
 
 /// A chain closes with its leaf, leaf first and root last.
-fn closes_a_chain<S: Subscriber + Drop, L: Layer<S> + Drop + Shows<Recorder>>(
+fn closes_a_chain<S: Subscriber + Drop, L: Layer<S> + Drop + AsLayer<Recorder>>(
     rt: &impl Abort,
     alloc: Global,
     stack: S,
@@ -259,7 +259,7 @@ fn closes_a_chain<S: Subscriber + Drop, L: Layer<S> + Drop + Shows<Recorder>>(
     let chain = close_chain(rt, alloc, &mut dispatch)?;
     let stack = dispatch.stack();
     is_closed(rt, stack, &chain);
-    told_of_chain(rt, alloc, stack.shown(), &chain)
+    told_of_chain(rt, alloc, stack.as_layer(), &chain)
 }
 
 #[test]
@@ -313,7 +313,7 @@ fn leaves_as_often<S: Subscriber>(rt: &impl Abort, dispatch: &mut Dispatch<S>) -
     Ok(())
 }
 
-/// The same of a stack under a layer.
+/// Puts a layer on a stack, in which a lane leaves a span as often as it entered it.
 fn leaves_under<S: Subscriber + Drop, L: Layer<S> + Drop>(
     rt: &impl Abort,
     alloc: Global,

@@ -3,7 +3,7 @@ ghost use Rattle.span_dispatch.specs.Serve.{stack_of};
 ghost use Rattle.std.specs.Prelude.{⊤};
 
 use crate::requests::{
-    Plain, Shows, ShowsTwo, event, in_use, made, new_event, new_span, serve, within,
+    AsLayer, AsLayers, Plain, event, in_use, made, new_event, new_span, serve, within,
 };
 use span_core::{Id, Level, LevelFilter, Metadata};
 use span_dispatch::{Dispatch, Notice, Recorder, Request, Which, WhichParent};
@@ -48,7 +48,7 @@ fn a_filter_may_ask_for_the_current_span(rt: HostRuntime) -> Result<(), Fail> {
     keep_one_in_another(&rt, rt.alloc(), registry, outside)
 }
 
-/// The same of a recorder under that filter, outside another recorder on a stack.
+/// Puts a recorder on a stack, and one under this filter outside it.
 fn keep_one_in_another<S: Subscriber + Drop, F: Filter<Layered<Recorder, S>> + Drop>(
     rt: &impl Abort,
     alloc: Global,
@@ -61,8 +61,8 @@ fn keep_one_in_another<S: Subscriber + Drop, F: Filter<Layered<Recorder, S>> + D
     keep_below(rt, alloc, put(stack, Recorder::new(alloc))?, outside)
 }
 
-/// The same of a stack with that one.
-fn keep_below<S: Subscriber + Drop + Shows<Recorder>, F: Filter<S> + Drop>(
+/// Puts a recorder under this filter outside another on a stack.
+fn keep_below<S: Subscriber + Drop + AsLayer<Recorder>, F: Filter<S> + Drop>(
     rt: &impl Abort,
     alloc: Global,
     stack: S,
@@ -75,8 +75,8 @@ fn keep_below<S: Subscriber + Drop + Shows<Recorder>, F: Filter<S> + Drop>(
     keep_under(rt, alloc, stack, under_outside)
 }
 
-/// The same of a stack under that layer.
-fn keep_under<S: Subscriber + Drop + Shows<Recorder>, L: Layer<S> + Drop + Shows<Recorder>>(
+/// Puts the outer recorder's layer on a stack of another, and serves one span in another.
+fn keep_under<S: Subscriber + Drop + AsLayer<Recorder>, L: Layer<S> + Drop + AsLayer<Recorder>>(
     rt: &impl Abort,
     alloc: Global,
     stack: S,
@@ -89,7 +89,7 @@ fn keep_under<S: Subscriber + Drop + Shows<Recorder>, L: Layer<S> + Drop + Shows
 }
 
 /// Of two recorders, the outer one under a filter, the inner one keeps all of the two spans, and the other those outside all spans.
-fn keeps_one_in_another<S: Subscriber + ShowsTwo<Recorder>>(
+fn keeps_one_in_another<S: Subscriber + AsLayers<Recorder>>(
     rt: &impl Abort,
     alloc: Global,
     dispatch: &mut Dispatch<S>,
@@ -98,8 +98,8 @@ fn keeps_one_in_another<S: Subscriber + ShowsTwo<Recorder>>(
 {
     let [p, q] = serve_one_in_another(alloc, dispatch)?;
     let stack = dispatch.stack();
-    the_outer_span_alone(rt, stack.outer_shown(), p);
-    both_spans(rt, stack.inner_shown(), [p, q]);
+    the_outer_span_alone(rt, stack.as_outer(), p);
+    both_spans(rt, stack.as_inner(), [p, q]);
     Ok(())
 }
 
@@ -241,14 +241,14 @@ fn reads_all(rt: &impl Abort, reader: &Reader, [root, child, leaf]: [Id; 3]) {
     assert!(rt; reader.parents.as_slice() == [Some(child), Some(root), Some(root)].as_slice());
 }
 
-impl Shows<Reader> for Observer<Reader> {
-    fn shown(&self) -> &Reader {
+impl AsLayer<Reader> for Observer<Reader> {
+    fn as_layer(&self) -> &Reader {
         self.observer()
     }
 }
 
 /// Of two readers, each reads the family's scopes as far as its own filter passes them: INFO the outer one.
-fn read_the_family<S: Subscriber + ShowsTwo<Reader>>(
+fn read_the_family<S: Subscriber + AsLayers<Reader>>(
     rt: &impl Abort,
     alloc: Global,
     dispatch: &mut Dispatch<S>,
@@ -257,13 +257,13 @@ fn read_the_family<S: Subscriber + ShowsTwo<Reader>>(
 {
     let spans = serve_family(alloc, dispatch)?;
     let stack = dispatch.stack();
-    reads_what_info_passes(rt, stack.outer_shown(), spans);
-    reads_all(rt, stack.inner_shown(), spans);
+    reads_what_info_passes(rt, stack.as_outer(), spans);
+    reads_all(rt, stack.as_inner(), spans);
     Ok(())
 }
 
-/// The same of a stack under a layer.
-fn read_under<S: Subscriber + Drop + Shows<Reader>, L: Layer<S> + Drop + Shows<Reader>>(
+/// Puts the outer reader's layer on a stack of another, and has both read.
+fn read_under<S: Subscriber + Drop + AsLayer<Reader>, L: Layer<S> + Drop + AsLayer<Reader>>(
     rt: &impl Abort,
     alloc: Global,
     stack: S,
@@ -275,8 +275,8 @@ fn read_under<S: Subscriber + Drop + Shows<Reader>, L: Layer<S> + Drop + Shows<R
     read_the_family(rt, alloc, &mut in_use(alloc, put(stack, layer)?))
 }
 
-/// The same of a stack with the inner one.
-fn read_below<S: Subscriber + Drop + Shows<Reader>>(
+/// Puts a reader under INFO on a stack of another.
+fn read_below<S: Subscriber + Drop + AsLayer<Reader>>(
     rt: &impl Abort,
     alloc: Global,
     stack: S,
@@ -287,7 +287,7 @@ fn read_below<S: Subscriber + Drop + Shows<Reader>>(
     read_under(rt, alloc, stack, under_info)
 }
 
-/// The same of a stack without both.
+/// Puts a reader on a stack, and one under INFO outside it.
 fn read_on<S: Subscriber + Drop>(rt: &impl Abort, alloc: Global, stack: S) -> Result<(), Fail>
     requires { S.usable stack }
 {
@@ -317,8 +317,8 @@ fn sees_both_close(rt: &impl Abort, watcher: &Watcher, [p, q]: [Id; 2]) {
     );
 }
 
-impl Shows<Watcher> for Observer<Watcher> {
-    fn shown(&self) -> &Watcher {
+impl AsLayer<Watcher> for Observer<Watcher> {
+    fn as_layer(&self) -> &Watcher {
         self.observer()
     }
 }
@@ -330,18 +330,18 @@ trait EndsInPair {
     fn inner_of_pair(&self) -> &Watcher;
 }
 
-impl<L: ShowsTwo<Watcher>, S> EndsInPair for Layered<L, S> {
+impl<L: AsLayers<Watcher>, S> EndsInPair for Layered<L, S> {
     fn outer_of_pair(&self) -> &Watcher {
-        self.layer().outer_shown()
+        self.layer().as_outer()
     }
 
     fn inner_of_pair(&self) -> &Watcher {
-        self.layer().inner_shown()
+        self.layer().as_inner()
     }
 }
 
 /// Three watchers see the same: two in one layer, and one outside it.
-fn watch_under<S: Subscriber + Drop + EndsInPair, L: Layer<S> + Drop + Shows<Watcher>>(
+fn watch_under<S: Subscriber + Drop + EndsInPair, L: Layer<S> + Drop + AsLayer<Watcher>>(
     rt: &impl Abort,
     alloc: Global,
     stack: S,
@@ -353,13 +353,13 @@ fn watch_under<S: Subscriber + Drop + EndsInPair, L: Layer<S> + Drop + Shows<Wat
     let mut dispatch = in_use(alloc, put(stack, layer)?);
     let spans = serve_one_in_another(alloc, &mut dispatch)?;
     let stack = dispatch.stack();
-    sees_both_close(rt, stack.shown(), spans);
+    sees_both_close(rt, stack.as_layer(), spans);
     sees_both_close(rt, stack.inner().outer_of_pair(), spans);
     sees_both_close(rt, stack.inner().inner_of_pair(), spans);
     Ok(())
 }
 
-/// The same of a stack with the two.
+/// Puts a watcher outside two on a stack.
 fn watch_below<S: Subscriber + Drop + EndsInPair>(
     rt: &impl Abort,
     alloc: Global,
@@ -370,7 +370,7 @@ fn watch_below<S: Subscriber + Drop + EndsInPair>(
     watch_under(rt, alloc, stack, new_watcher(alloc))
 }
 
-/// The same of a stack without them.
+/// Puts two watchers as one layer on a stack, and one outside them.
 fn watch_on<S: Subscriber + Drop>(rt: &impl Abort, alloc: Global, stack: S) -> Result<(), Fail>
     requires { S.usable stack }
 {

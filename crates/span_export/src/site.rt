@@ -14,7 +14,7 @@ use std::alloc::{AllocError, Global};
 use std::collections::BTreeMap;
 
 /// What a callsite is called. Points have its number alone.
-#[derive(Debug, Drop)]
+#[derive(Debug)]
 pub struct Site {
     /// The number of the callsite.
     pub callsite: u64,
@@ -24,6 +24,17 @@ pub struct Site {
     pub name: String,
     /// Its target.
     pub target: String,
+}
+
+impl Drop for Site {
+    fn drop(self) {
+        let Site {
+            callsite,
+            level,
+            name,
+            target,
+        } = self;
+    }
 }
 
 impl Site {

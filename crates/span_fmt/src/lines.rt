@@ -22,11 +22,16 @@ use std::io::{self, Write};
 /// A line names the spans around the event that its own context shows, from the root on, each with the values that it was given.
 ///
 /// Stands for `tracing_subscriber::fmt::Layer`, without time stamps, threads' names and colours.
-#[derive(Drop)]
 pub struct Lines {
     alloc: Global,
     page: Page,
     known: Known,
+}
+
+impl Drop for Lines {
+    fn drop(self) {
+        let Lines { alloc, page, known } = self;
+    }
 }
 
 impl Lines {

@@ -18,10 +18,15 @@ use std::io::{self, Write};
 /// Writes a line for each new span, event, record and close that it is told of, up to the first that finds no memory.
 ///
 /// A line begins with its lane, and is indented by the spans above that its own context shows.
-#[derive(Drop)]
 pub struct Tree {
     alloc: Global,
     page: Page,
+}
+
+impl Drop for Tree {
+    fn drop(self) {
+        let Tree { alloc, page } = self;
+    }
 }
 
 impl Tree {

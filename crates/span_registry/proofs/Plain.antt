@@ -1,8 +1,8 @@
 -- Views, extensions aside: what they show, and where two are the same.
-use Rattle.std.proofs.Common.{◌≡◌, ℕ, zero, suc, Bool, true, false, not, if◌then◌else◌, is_some, IsTrue, T, ◌&&◌, List, [], ◌∷◌, length, Option, None, Some, refl, sym, ap, subst, ◌∙◌}
+use Rattle.std.proofs.Common.{◌≡◌, ℕ, zero, suc, Bool, false, not, if◌then◌else◌, is_some, IsTrue, T, ◌&&◌, List, [], ◌∷◌, length, Option, None, Some, refl, sym, ap, subst, ◌∙◌}
 use Rattle.std.specs.Cmp.{nat_cmp_total}
 use Rattle.std.specs.FinMap.Entries.{below_all}
-use Rattle.std.specs.FinMap.{FinMap, empty, entries, entries_sorted, entries-from_sorted, from_entries, from_sorted, get, get-from_entries, get-from_sorted, is_sorted, len, len-entries, nat_cmp-IsAntisymmetric, same_map}
+use Rattle.std.specs.FinMap.{empty, entries, entries_sorted, entries-from_sorted, from_entries, from_sorted, get, get-from_entries, get-from_sorted, is_sorted, len, len-entries, nat_cmp-IsAntisymmetric, same_map}
 use Rattle.std.specs.List.{filter, find}
 use Rattle.std.specs.Option.{option_and_then, option_map, option_map_or}
 use Rattle.std.specs.Ordering.{is_lt, nat_cmp}
@@ -16,11 +16,11 @@ use Rattle.span_registry.specs.Agree.{AgreeAt}
 use Rattle.span_registry.specs.Behaviour.{Notice, unextended}
 use Rattle.span_registry.specs.LaneStack.{newest, without_duplicates}
 use Rattle.span_registry.specs.Laws.{ShowsPlainly}
-use Rattle.span_registry.specs.Position.{Told, told_in}
+use Rattle.span_registry.specs.Position.{told_in}
 use Rattle.span_registry.specs.Plan.{is_passed}
-use Rattle.span_registry.specs.Store.{RegistryState, Span, SpanExtensions, Stacks, Store, stack_on}
+use Rattle.span_registry.specs.Store.{RegistryState, Span, SpanExtensions, Store, stack_on}
 use Rattle.span_registry.specs.Subscriber.{SameButExtensions}
-use Rattle.span_registry.specs.View.{SeenSpan, SeenSpans, View, ancestry, current_among, current_shown, event_shown, is_shown, metadata_shown, nearest_shown, parent_seen, parent_shown, plain_view, scope, see, seen_spans, shown, view_of}
+use Rattle.span_registry.specs.View.{SeenSpan, SeenSpans, View, ancestry, current_among, current_shown, event_shown, is_shown, metadata_shown, parent_seen, parent_shown, plain_view, scope, see, seen_spans, shown, view_of}
 use Rattle.span_registry.specs.declared.extensions.ExtensionMap.{ExtensionMap}
 use Rattle.span_registry.proofs.Agreeing.{PlacesAgree, places_of, same_hidden}
 use Rattle.span_registry.proofs.Ancestry.{see_each, seen_at}

@@ -45,12 +45,22 @@ pub enum Released {
 /// The store of spans, with the lanes' stacks.
 ///
 /// Stands for `tracing_subscriber::registry::Registry`, owned and without locks.
-#[derive(Drop)]
 pub struct Registry {
     alloc: Global,
     spans: SpanStore,
     stacks: LaneStacks,
     filters: u32,
+}
+
+impl Drop for Registry {
+    fn drop(self) {
+        let Registry {
+            alloc,
+            spans,
+            stacks,
+            filters,
+        } = self;
+    }
 }
 
 impl Model for Registry {

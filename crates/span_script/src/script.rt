@@ -22,12 +22,22 @@ const MUTED: &[(&str, FieldValue<'static>)] = &[("mute", FieldValue::Bool(true))
 
 /// A script: the stack that its first line names, the lines after that, the request that each asks
 /// for, and the places of those that declare a label.
-#[derive(Drop)]
 pub struct Script<'a> {
     stack: StackName,
     lines: Vec<Line<'a>>,
     requests: Vec<Request<'static>>,
     labels: BTreeMap<&'a str, usize>,
+}
+
+impl Drop for Script<'_> {
+    fn drop(self) {
+        let Script {
+            stack,
+            lines,
+            requests,
+            labels,
+        } = self;
+    }
 }
 
 impl<'a> Script<'a> {

@@ -10,12 +10,22 @@ use std::alloc::Global;
 use std::mem;
 
 /// Keeps a point for all that it is told of, up to the first that finds no memory.
-#[derive(Drop)]
 pub struct Timeline<C> {
     clock: C,
     alloc: Global,
     points: Vec<Point>,
     failed: bool,
+}
+
+impl<C: Drop> Drop for Timeline<C> {
+    fn drop(self) {
+        let Timeline {
+            clock,
+            alloc,
+            points,
+            failed,
+        } = self;
+    }
 }
 
 impl<C: Now> Timeline<C> {

@@ -1,4 +1,4 @@
-use Rattle.std.proofs.Common.{sym, ap, ◌∙◌}
+use Rattle.std.proofs.Common.{ap, ◌∙◌}
 use Rattle.span_core.specs.Span.{number_of}
 use Rattle.span_registry.specs.State.{state_of}
 use Rattle.span_registry.specs.Step.{exited}
