@@ -1,17 +1,16 @@
 //! Workers in threads, and the receiver that they share.
-ghost use Rattle.span_dispatch.specs.Serve.{stack_of};
 ghost use Rattle.span_registry.specs.Store.{IsFresh};
 ghost use Rattle.span_thread_bench.specs.Order.{all_requests};
 ghost use Rattle.std.specs.Prelude.{◌≡◌, ◌<◌, IfOk};
 
 use crate::fault::Fault;
 use crate::order::Order;
-use crate::receiver::receiver;
+use crate::receiver::{Counting, Vetoing, counting, vetoing};
 use crate::rounds;
 use crate::workload::Workload;
 use span_core::TraceError;
 use span_dispatch::{Crew, Dispatch, Shared, Worker};
-use span_registry::Subscriber;
+use span_registry::{Registry, Subscriber};
 use std::alloc::Global;
 use std::marker::Brand;
 use std::sync::Wait;
@@ -42,9 +41,55 @@ pub fn done<R: Threads + Wait + Sync>(rt: &R, alloc: Global, order: Order) -> Re
     if order.threads == 0 {
         return Err(Fault::Line);
     }
-    let dispatch = receiver(alloc)?;
     let blank = Blank::new(u64::from(order.threads));
-    let (dispatch, requests) = shared_by::<_, Brand, R>(rt, alloc, blank, dispatch, order)?;
+    done_by_vetoing::<Registry, Brand, R>(rt, alloc, blank, Registry::new(alloc), order)
+}
+
+/// Does an order on this stack, with the layer that vetoes and the one that counts outside it.
+fn done_by_vetoing<S, L, R>(
+    rt: &R,
+    alloc: Global,
+    blank: Blank,
+    stack: S,
+    order: Order,
+) -> Result<Tally, Fault>
+where
+    S: Subscriber + Send + Drop,
+    L: Crew + Send + Sync,
+    R: Threads + Wait + Sync,
+    requires name { blank.name ≡ L.name }
+    requires parts { (blank.parts ≡ L.parts) × (L.parts ≡ order.threads)
+        × (L.workers ≡ order.threads) }
+    requires some { 0 < order.threads }
+    requires usable { S.usable stack }
+    requires fresh { IsFresh (S.registry stack) }
+    ensures { IfOk result (λ t. t.requests ≡ all_requests order) }
+{
+    done_by_counting::<Vetoing<S>, L, R>(rt, alloc, blank, vetoing(stack)?, order)
+}
+
+/// Does an order on this stack, with the layer that counts outside it.
+fn done_by_counting<S, L, R>(
+    rt: &R,
+    alloc: Global,
+    blank: Blank,
+    stack: S,
+    order: Order,
+) -> Result<Tally, Fault>
+where
+    S: Subscriber + Send + Drop,
+    L: Crew + Send + Sync,
+    R: Threads + Wait + Sync,
+    requires name { blank.name ≡ L.name }
+    requires parts { (blank.parts ≡ L.parts) × (L.parts ≡ order.threads)
+        × (L.workers ≡ order.threads) }
+    requires some { 0 < order.threads }
+    requires usable { S.usable stack }
+    requires fresh { IsFresh (S.registry stack) }
+    ensures { IfOk result (λ t. t.requests ≡ all_requests order) }
+{
+    let stack = counting(stack)?;
+    let (dispatch, requests) = shared_by::<Counting<S>, L, R>(rt, alloc, blank, stack, order)?;
     Ok(Tally {
         requests,
         notices: dispatch.stack().layer().observer().notices(),
@@ -56,7 +101,7 @@ fn shared_by<S, L, R>(
     rt: &R,
     alloc: Global,
     blank: Blank,
-    dispatch: Dispatch<S>,
+    stack: S,
     order: Order,
 ) -> Result<(Dispatch<S>, u64), Fault>
 where
@@ -67,15 +112,27 @@ where
     requires parts { (blank.parts ≡ L.parts) × (L.parts ≡ order.threads)
         × (L.workers ≡ order.threads) }
     requires some { 0 < order.threads }
-    requires usable { S.usable (stack_of dispatch) }
-    requires fresh { IsFresh (S.registry (stack_of dispatch)) }
+    requires usable { S.usable stack }
+    requires fresh { IsFresh (S.registry stack) }
     ensures { IfOk result (λ r. r.1 ≡ all_requests order) }
 {
+    let dispatch = Dispatch::new(alloc, stack);
     let (book, all) = blank.open::<L>();
     let Ok((shared, workers)) = Shared::new(alloc, book, all, dispatch, order.threads) else {
         return Err(Fault::Refused(TraceError::OutOfMemory));
     };
     let workers = at_work(rt, alloc, &shared, workers, order)?;
+    finished(shared, workers, order)
+}
+
+/// Takes a receiver apart, whose journal has the requests of this order. Answers the dispatcher, and how many they are.
+fn finished<S: Subscriber + Drop, L: Crew>(
+    shared: Shared<S, L>,
+    workers: Vec<Worker<L>>,
+    order: Order,
+) -> Result<(Dispatch<S>, u64), Fault>
+    ensures { IfOk result (λ r. r.1 ≡ all_requests order) }
+{
     let Ok((dispatch, journal)) = shared.finish(workers) else {
         return Err(Fault::Undone);
     };

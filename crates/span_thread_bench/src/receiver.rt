@@ -1,28 +1,42 @@
-//! The receiver that the threads share.
-ghost use Rattle.span_dispatch.specs.Serve.{stack_of};
+//! The receiver that the threads share: a layer that counts, over one that vetoes what is less severe than info, over a registry.
+ghost use Rattle.span_layers.specs.Layered.{inner_of};
 ghost use Rattle.span_registry.specs.Store.{IsFresh};
 ghost use Rattle.std.specs.Prelude.{◌≡◌, IfOk};
 
 use crate::counter::Counter;
 use crate::fault::Fault;
 use span_core::LevelFilter;
-use span_dispatch::Dispatch;
 use span_layers::{Layered, Observer, SubscriberExt};
-use span_registry::Registry;
-use std::alloc::Global;
+use span_registry::Subscriber;
 
-/// A layer that counts, over one that vetoes what is less severe than info, over a registry.
-pub type Stack = Layered<Observer<Counter>, Layered<LevelFilter, Registry>>;
+/// A layer that counts, over a stack.
+pub type Counting<S> = Layered<Observer<Counter>, S>;
 
-/// A dispatcher with such a stack. Its hint is info.
-pub fn receiver(alloc: Global) -> Result<Dispatch<Stack>, Fault>
-    ensures fresh { IfOk result (λ d. IsFresh (stack_of d).inner.inner) }
+/// A layer that vetoes what is less severe than info, over a stack.
+pub type Vetoing<S> = Layered<LevelFilter, S>;
+
+/// Puts a layer that counts on a stack.
+pub fn counting<S: Subscriber + Drop>(stack: S) -> Result<Counting<S>, Fault>
+    requires usable { S.usable stack }
+    requires fresh { IsFresh (S.registry stack) }
+    ensures usable { IfOk result (λ made. ⟦<Counting<S> as Subscriber>⟧.usable made) }
+    ensures fresh { IfOk result (λ made. IsFresh (S.registry (inner_of made))) }
 {
-    let Ok(vetoing) = Registry::new(alloc).with(LevelFilter::INFO) else {
-        return Err(Fault::Undone);
-    };
-    match vetoing.with(Observer::new(Counter::new())) {
-        Ok(stack) => Ok(Dispatch::new(alloc, stack)),
+    match stack.with(Observer::new(Counter::new())) {
+        Ok(made) => Ok(made),
         Err(back) => Err(Fault::Refused(back.error)),
+    }
+}
+
+/// Puts a layer on a stack that vetoes what is less severe than info. Then its hint is info.
+pub fn vetoing<S: Subscriber + Drop>(stack: S) -> Result<Vetoing<S>, Fault>
+    requires usable { S.usable stack }
+    requires fresh { IsFresh (S.registry stack) }
+    ensures usable { IfOk result (λ made. ⟦<Vetoing<S> as Subscriber>⟧.usable made) }
+    ensures fresh { IfOk result (λ made. IsFresh (S.registry (inner_of made))) }
+{
+    match stack.with(LevelFilter::INFO) {
+        Ok(made) => Ok(made),
+        Err(_) => Err(Fault::Undone),
     }
 }
