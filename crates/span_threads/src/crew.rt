@@ -1,7 +1,6 @@
 //! Two workers in two threads, and the receiver that they share.
-ghost use Rattle.span_dispatch.specs.Serve.{stack_of};
 ghost use Rattle.span_registry.specs.Store.{IsFresh};
-ghost use Rattle.std.specs.Prelude.{◌≡◌, ◌+◌, IfOk};
+ghost use Rattle.std.specs.Prelude.{◌≡◌, ◌+◌, IfOk, vec_len};
 
 use crate::work::{Worked, work};
 use span_core::TraceError;
@@ -48,68 +47,55 @@ pub enum Fault {
     NoThread,
 }
 
-/// A recorder on a fresh registry, behind a dispatcher.
-fn receiver(alloc: Global) -> Result<Dispatch<Layered<Recorder, Registry>>, Fault>
-    ensures fresh { IfOk result (λ d. IsFresh (stack_of d).inner) }
-{
-    match Registry::new(alloc).with(Recorder::new(alloc)) {
-        Ok(stack) => Ok(Dispatch::new(alloc, stack)),
-        Err(back) => Err(Fault::Refused(back.error)),
-    }
-}
-
-/// Each worker at work in a thread of its own.
+/// Each worker at work in a thread of its own. Answers both, where all of their requests were accepted.
 fn at_work<S: Subscriber + Send, L: Crew + Send + Sync, R: Threads + Wait + Sync>(
     rt: &R,
     shared: &Shared<S, L>,
     first: Worker<L>,
     second: Worker<L>,
-) -> Result<(Worked<L>, Worked<L>), Fault> {
+) -> Result<(Worker<L>, Worker<L>), Fault> {
     thread::scope(
         thread::scope_env(),
         rt,
-        move |scope| -> Result<(Worked<L>, Worked<L>), Fault> {
+        move |scope| -> Result<(Worker<L>, Worker<L>), Fault> {
             let Ok(one) = scope.spawn(move || work(rt, shared, first)) else {
                 return Err(Fault::NoThread);
             };
             let Ok(other) = scope.spawn(move || work(rt, shared, second)) else {
                 return Err(Fault::NoThread);
             };
-            Ok((one.join(rt), other.join(rt)))
+            let (one, other) = (one.join(rt), other.join(rt));
+            Ok((accepted(one)?, accepted(other)?))
         },
     )
 }
 
-/// Opens the ledger of two workers, lets both work, and takes the receiver apart again.
-fn share<S: Subscriber + Send + Drop, L: Crew + Send + Sync, R: Threads + Wait + Sync>(
+/// The worker that comes back from a thread, if all of its requests were accepted.
+fn accepted<L: Crew>(worked: Worked<L>) -> Result<Worker<L>, Fault> {
+    let Worked { worker, done } = worked;
+    match done {
+        Ok(()) => Ok(worker),
+        Err(error) => Err(Fault::Refused(error)),
+    }
+}
+
+/// Lets two workers work, and takes the receiver apart again.
+fn work_and_finish<S: Subscriber + Send + Drop, L: Crew + Send + Sync, R: Threads + Wait + Sync>(
     rt: &R,
-    alloc: Global,
-    blank: Blank,
-    dispatch: Dispatch<S>,
+    shared: Shared<S, L>,
+    workers: Vec<Worker<L>>,
 ) -> Result<Traced, Fault>
-    requires name { blank.name ≡ L.name }
-    requires parts { (blank.parts ≡ L.parts) × (L.parts ≡ 2) × (L.workers ≡ 2) }
-    requires usable { S.usable (stack_of dispatch) }
-    requires fresh { IsFresh (S.registry (stack_of dispatch)) }
+    requires { (vec_len workers ≡ 2) × (L.workers ≡ 2) }
     ensures { IfOk result (λ t. t.requests ≡ t.first + t.second) }
 {
-    let (book, all) = blank.open::<L>();
-    let Ok((shared, mut workers)) = Shared::new(alloc, book, all, dispatch, 2) else {
-        return Err(Fault::Refused(TraceError::OutOfMemory));
-    };
+    let mut workers = workers;
     let (Some(second), Some(first)) = (workers.pop(), workers.pop()) else {
         unreachable!()
     };
     let (first, second) = at_work(rt, &shared, first, second)?;
-    if let Err(error) = first.done {
-        return Err(Fault::Refused(error));
-    }
-    if let Err(error) = second.done {
-        return Err(Fault::Refused(error));
-    }
-    let (one, other) = (first.worker.calls(), second.worker.calls());
-    workers.push_reserved(first.worker);
-    workers.push_reserved(second.worker);
+    let (one, other) = (first.calls(), second.calls());
+    workers.push_reserved(first);
+    workers.push_reserved(second);
     let Ok((_, journal)) = shared.finish(workers) else {
         unreachable!()
     };
@@ -120,6 +106,46 @@ fn share<S: Subscriber + Send + Drop, L: Crew + Send + Sync, R: Threads + Wait +
     })
 }
 
+/// Opens the ledger of two workers, who trace through a receiver with this stack.
+fn share<S: Subscriber + Send + Drop, L: Crew + Send + Sync, R: Threads + Wait + Sync>(
+    rt: &R,
+    alloc: Global,
+    blank: Blank,
+    stack: S,
+) -> Result<Traced, Fault>
+    requires name { blank.name ≡ L.name }
+    requires parts { (blank.parts ≡ L.parts) × (L.parts ≡ 2) × (L.workers ≡ 2) }
+    requires usable { S.usable stack }
+    requires fresh { IsFresh (S.registry stack) }
+    ensures { IfOk result (λ t. t.requests ≡ t.first + t.second) }
+{
+    let dispatch = Dispatch::new(alloc, stack);
+    let (book, all) = blank.open::<L>();
+    let Ok((shared, workers)) = Shared::new(alloc, book, all, dispatch, 2) else {
+        return Err(Fault::Refused(TraceError::OutOfMemory));
+    };
+    work_and_finish(rt, shared, workers)
+}
+
+/// Puts a recorder on a stack, and lets two workers trace through it.
+fn share_recorded<S: Subscriber + Send + Drop, L: Crew + Send + Sync, R: Threads + Wait + Sync>(
+    rt: &R,
+    alloc: Global,
+    blank: Blank,
+    stack: S,
+) -> Result<Traced, Fault>
+    requires name { blank.name ≡ L.name }
+    requires parts { (blank.parts ≡ L.parts) × (L.parts ≡ 2) × (L.workers ≡ 2) }
+    requires usable { S.usable stack }
+    requires fresh { IsFresh (S.registry stack) }
+    ensures { IfOk result (λ t. t.requests ≡ t.first + t.second) }
+{
+    match stack.with(Recorder::new(alloc)) {
+        Ok(stack) => share::<Layered<Recorder, S>, L, R>(rt, alloc, blank, stack),
+        Err(back) => Err(Fault::Refused(back.error)),
+    }
+}
+
 /// Two threads trace through one receiver: a recorder on a registry.
 pub fn trace_in_two_threads<R: Threads + Wait + Sync>(
     rt: &R,
@@ -127,6 +153,6 @@ pub fn trace_in_two_threads<R: Threads + Wait + Sync>(
 ) -> Result<Traced, Fault>
     ensures { IfOk result (λ t. t.requests ≡ t.first + t.second) }
 {
-    let dispatch = receiver(alloc)?;
-    share::<Layered<Recorder, Registry>, Brand, R>(rt, alloc, Blank::new(2), dispatch)
+    let registry = Registry::new(alloc);
+    share_recorded::<Registry, Brand, R>(rt, alloc, Blank::new(2), registry)
 }

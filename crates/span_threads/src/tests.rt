@@ -106,65 +106,124 @@ fn in_two_threads<S: Subscriber + Send, L: Crew + Send + Sync, R: Threads + Wait
     )
 }
 
-/// With one worker missing everything comes back, and then with both the receiver is taken apart.
+/// With one worker missing everything comes back.
+fn one_missing<S: Subscriber + Drop, L: Crew>(
+    alloc: Global,
+    shared: Shared<S, L>,
+    worker: Worker<L>,
+) -> Result<Unfinished<S, L>, Fail> {
+    let mut workers = Vec::with_capacity(alloc, 2)?;
+    workers.push(worker)?;
+    match shared.finish(workers) {
+        Ok(_) => Err("a worker is missing".into()),
+        Err(unfinished) => Ok(unfinished),
+    }
+}
+
+/// With all workers the receiver is taken apart.
 fn finished<S: Subscriber + Drop, L: Crew>(
+    shared: Shared<S, L>,
+    workers: Vec<Worker<L>>,
+) -> Result<(Dispatch<S>, Journal), Fail> {
+    match shared.finish(workers) {
+        Ok(parts) => Ok(parts),
+        Err(_) => Err("no worker is missing".into()),
+    }
+}
+
+/// The first worker is handed in alone, and then both are.
+fn one_then_both<S: Subscriber + Drop, L: Crew>(
+    alloc: Global,
     shared: Shared<S, L>,
     first: Worker<L>,
     second: Worker<L>,
-    alloc: Global,
 ) -> Result<Journal, Fail> {
-    let mut workers = Vec::with_capacity(alloc, 2)?;
-    workers.push(first)?;
-    let Err(unfinished) = shared.finish(workers) else {
-        return Err("a worker is missing".into());
-    };
     let Unfinished {
         shared,
         mut workers,
-    } = unfinished;
+    } = one_missing(alloc, shared, first)?;
     workers.push(second)?;
-    let Ok((_, journal)) = shared.finish(workers) else {
-        return Err("no worker is missing".into());
-    };
+    let (_, journal) = finished(shared, workers)?;
     Ok(journal)
 }
 
-/// Two workers meet, and their receipts are held.
-fn two_meet<S, L, R>(rt: &R, alloc: Global, blank: Blank, dispatch: Dispatch<S>) -> Result<(), Fail>
-where
-    S: Subscriber + Send + Drop,
-    L: Crew + Send + Sync,
-    R: Threads + Wait + Abort + Sync,
-    requires name { blank.name ≡ L.name }
-    requires parts { (blank.parts ≡ L.parts) × (L.parts ≡ 2) × (L.workers ≡ 2) }
-    requires usable { S.usable (stack_of dispatch) }
-    requires fresh { IsFresh (S.registry (stack_of dispatch)) }
-{
-    let (book, all) = blank.open::<L>();
-    let Ok((shared, mut workers)) = Shared::new(alloc, book, all, dispatch, 2) else {
-        return Err("no memory".into());
-    };
+/// Two workers of a receiver meet.
+fn both_meet<S: Subscriber + Send, L: Crew + Send + Sync, R: Threads + Wait + Sync>(
+    rt: &R,
+    shared: &Shared<S, L>,
+    workers: Vec<Worker<L>>,
+) -> Result<(Met<L>, Met<L>), Fail> {
+    let mut workers = workers;
     let (Some(second), Some(first)) = (workers.pop(), workers.pop()) else {
         return Err("two workers".into());
     };
-    let (one, other) = in_two_threads(rt, &shared, first, second)?;
+    in_two_threads(rt, shared, first, second)
+}
+
+/// Each saw its own entry and the other's, on lanes that follow each other.
+fn assert_met<L: Crew>(rt: &impl Abort, one: &Met<L>, other: &Met<L>) {
     assert!(rt; one.own && one.seen);
     assert!(rt; other.own && other.seen);
     assert!(rt; (one.worker.lane(), other.worker.lane()) == (Lane(0), Lane(1)));
-    let calls = one.worker.calls().wrapping_add(other.worker.calls());
-    let journal = finished(shared, one.worker, other.worker, alloc)?;
+}
+
+/// A journal of two calls holds both receipts.
+fn assert_held(
+    rt: &impl Abort,
+    journal: &Journal,
+    calls: u64,
+    receipts: [Option<Receipt>; 2],
+) -> Result<(), Fail> {
     assert!(rt; (calls, journal.len()) == (2, 2));
-    for receipt in [one.receipt, other.receipt] {
+    for receipt in receipts {
         let receipt = receipt.ok_or("a receipt")?;
         assert!(rt; journal.holds(&receipt));
     }
     Ok(())
 }
 
+/// Two workers meet, and their receipts are held.
+fn meet_and_finish<S, L, R>(
+    rt: &R,
+    alloc: Global,
+    shared: Shared<S, L>,
+    workers: Vec<Worker<L>>,
+) -> Result<(), Fail>
+where
+    S: Subscriber + Send + Drop,
+    L: Crew + Send + Sync,
+    R: Threads + Wait + Abort + Sync,
+{
+    let (one, other) = both_meet(rt, &shared, workers)?;
+    assert_met(rt, &one, &other);
+    let calls = one.worker.calls().wrapping_add(other.worker.calls());
+    let receipts = [one.receipt, other.receipt];
+    let journal = one_then_both(alloc, shared, one.worker, other.worker)?;
+    assert_held(rt, &journal, calls, receipts)
+}
+
+/// Two workers share a dispatcher.
+fn two_meet<S, L, R>(rt: &R, alloc: Global, blank: Blank, stack: S) -> Result<(), Fail>
+where
+    S: Subscriber + Send + Drop,
+    L: Crew + Send + Sync,
+    R: Threads + Wait + Abort + Sync,
+    requires name { blank.name ≡ L.name }
+    requires parts { (blank.parts ≡ L.parts) × (L.parts ≡ 2) × (L.workers ≡ 2) }
+    requires usable { S.usable stack }
+    requires fresh { IsFresh (S.registry stack) }
+{
+    let (book, all) = blank.open::<L>();
+    match Shared::new(alloc, book, all, Dispatch::new(alloc, stack), 2) {
+        Ok((shared, workers)) => meet_and_finish(rt, alloc, shared, workers),
+        Err(_) => Err("no memory".into()),
+    }
+}
+
 #[test]
 fn both_lanes_meet(rt: HostRuntime) -> Result<(), Fail> {
-    let dispatch = Dispatch::new(rt.alloc(), Registry::new(rt.alloc()));
-    two_meet::<Registry, Brand, HostRuntime>(&rt, rt.alloc(), Blank::new(2), dispatch)
+    let registry = Registry::new(rt.alloc());
+    two_meet::<Registry, Brand, HostRuntime>(&rt, rt.alloc(), Blank::new(2), registry)
 }
 
 fn event_metadata() -> Metadata {
@@ -230,39 +289,63 @@ fn entries_of(p: Id, q: Id) -> [Entry; 16] {
     ]
 }
 
+/// Makes each request of a receiver whose journal is empty.
+fn make_first<S: Subscriber>(rt: &impl Abort, logged: &mut Logged<S>) -> Result<(Id, Id), Fail> {
+    assert!(rt; logged.journal().is_empty());
+    make_each(logged)
+}
+
+/// A journal has these entries alone, in order.
+fn assert_entries(rt: &impl Abort, journal: &Journal, entries: &[Entry]) {
+    assert!(rt; journal.len() == entries.len() as u64);
+    for (place, entry) in entries.iter().enumerate() {
+        assert!(rt; journal.get(place as u64) == Some(*entry));
+    }
+}
+
 /// A receiver's journal, once each request was made of it.
 fn journal_of<S: Subscriber + Drop>(rt: &impl Abort, alloc: Global, stack: S) -> Result<(), Fail>
     requires usable { S.usable stack }
     requires fresh { IsFresh (S.registry stack) }
 {
     let mut logged = Logged::new(alloc, Dispatch::new(alloc, stack));
-    assert!(rt; logged.journal().is_empty());
-    let (p, q) = make_each(&mut logged)?;
+    let (p, q) = make_first(rt, &mut logged)?;
     let (_, journal) = logged.into_parts();
-    let entries = entries_of(p, q);
-    assert!(rt; journal.len() == entries.len() as u64);
-    for (place, entry) in entries.iter().enumerate() {
-        assert!(rt; journal.get(place as u64) == Some(*entry));
-    }
+    assert_entries(rt, &journal, &entries_of(p, q));
     Ok(())
 }
 
-/// A layer on a fresh registry.
-fn put<L: Layer<Registry> + Drop>(alloc: Global, layer: L) -> Result<Layered<L, Registry>, Fail>
-    requires { L.usable layer }
-    ensures fresh { IfOk result (λ made. IsFresh (inner_of made)) }
+/// A layer on a stack with a fresh registry.
+fn put<S: Subscriber + Drop, L: Layer<S> + Drop>(stack: S, layer: L) -> Result<Layered<L, S>, Fail>
+    requires layer { L.usable layer }
+    requires stack { S.usable stack }
+    requires fresh { IsFresh (S.registry stack) }
     ensures layer { IfOk result (λ made. L.usable (outer_of made)) }
+    ensures stack { IfOk result (λ made. S.usable (inner_of made)) }
+    ensures fresh { IfOk result (λ made. IsFresh (S.registry (inner_of made))) }
 {
-    match Registry::new(alloc).with(layer) {
+    match stack.with(layer) {
         Ok(made) => Ok(made),
         Err(_) => Err("no room for a filter".into()),
     }
 }
 
+/// The journal of such a stack with a recorder under a level.
+fn journal_under_info<S: Subscriber + Drop>(
+    rt: &impl Abort,
+    alloc: Global,
+    stack: S,
+) -> Result<(), Fail>
+    requires usable { S.usable stack }
+    requires fresh { IsFresh (S.registry stack) }
+{
+    let layer = Recorder::new(alloc).with_filter(LevelFilter::INFO);
+    journal_of(rt, alloc, put(stack, layer)?)
+}
+
 #[test]
 fn each_request_adds_its_entry(rt: HostRuntime) -> Result<(), Fail> {
-    let layer = Recorder::new(rt.alloc()).with_filter(LevelFilter::INFO);
-    journal_of(&rt, rt.alloc(), put(rt.alloc(), layer)?)
+    journal_under_info(&rt, rt.alloc(), Registry::new(rt.alloc()))
 }
 
 /// A layer that keeps the first number that a new span was given, and the first that was recorded of it.
@@ -313,6 +396,22 @@ fn hand_in<S: Subscriber, L: Crew>(
     Ok(())
 }
 
+/// A new worker hands values in, and comes back.
+fn handed_by_new<S: Subscriber, L: Crew>(
+    rt: &impl Wait,
+    shared: &Shared<S, L>,
+    workers: Vec<Worker<L>>,
+) -> Result<Vec<Worker<L>>, Fail> {
+    let mut workers = workers;
+    let mut worker = workers.pop().ok_or("a worker")?;
+    if worker.calls() > 0 {
+        return Err("a new worker".into());
+    }
+    hand_in(rt, shared, &mut worker)?;
+    workers.push(worker)?;
+    Ok(workers)
+}
+
 /// One worker hands values in. Answers the dispatcher.
 fn handed_in<S: Subscriber + Drop, L: Crew>(
     rt: &impl Wait,
@@ -325,37 +424,49 @@ fn handed_in<S: Subscriber + Drop, L: Crew>(
     requires usable { S.usable stack }
     requires fresh { IsFresh (S.registry stack) }
 {
-    let dispatch = Dispatch::new(alloc, stack);
     let (book, all) = blank.open::<L>();
-    let Ok((shared, mut workers)) = Shared::new(alloc, book, all, dispatch, 1) else {
-        return Err("no memory".into());
-    };
-    let mut worker = workers.pop().ok_or("a worker")?;
-    if worker.calls() > 0 {
-        return Err("a new worker".into());
-    }
-    hand_in(rt, &shared, &mut worker)?;
-    workers.push(worker)?;
-    match shared.finish(workers) {
-        Ok((dispatch, _)) => Ok(dispatch),
-        Err(_) => Err("no worker is missing".into()),
+    match Shared::new(alloc, book, all, Dispatch::new(alloc, stack), 1) {
+        Ok((shared, workers)) => {
+            let workers = handed_by_new(rt, &shared, workers)?;
+            Ok(finished(shared, workers)?.0)
+        }
+        Err(_) => Err("no memory".into()),
     }
 }
 
-#[test]
-fn a_layer_is_handed_the_values(rt: HostRuntime) -> Result<(), Fail> {
+/// The numbers that such a layer outermost keeps.
+fn numbers_kept<S: Subscriber>(
+    dispatch: &Dispatch<Layered<Observer<Numbers>, S>>,
+) -> (Option<u64>, Option<u64>) {
+    let numbers = dispatch.stack().layer().observer();
+    (numbers.made, numbers.recorded)
+}
+
+/// Puts such a layer on a stack. Answers the numbers that it was handed.
+fn numbers_handed<S: Subscriber + Drop, L: Crew>(
+    rt: &impl Wait,
+    alloc: Global,
+    blank: Blank,
+    stack: S,
+) -> Result<(Option<u64>, Option<u64>), Fail>
+    requires name { blank.name ≡ L.name }
+    requires parts { (blank.parts ≡ L.parts) × (L.parts ≡ 1) × (L.workers ≡ 1) }
+    requires usable { S.usable stack }
+    requires fresh { IsFresh (S.registry stack) }
+{
     let layer = Observer::new(Numbers {
         made: None,
         recorded: None,
     });
-    let stack = put(rt.alloc(), layer)?;
-    let dispatch = handed_in::<Layered<Observer<Numbers>, Registry>, Brand>(
-        &rt,
-        rt.alloc(),
-        Blank::new(1),
-        stack,
-    )?;
-    let numbers = dispatch.stack().layer().observer();
-    assert!(rt; (numbers.made, numbers.recorded) == (Some(7), Some(9)));
+    let stack = put(stack, layer)?;
+    let dispatch = handed_in::<Layered<Observer<Numbers>, S>, L>(rt, alloc, blank, stack)?;
+    Ok(numbers_kept(&dispatch))
+}
+
+#[test]
+fn a_layer_is_handed_the_values(rt: HostRuntime) -> Result<(), Fail> {
+    let registry = Registry::new(rt.alloc());
+    let numbers = numbers_handed::<Registry, Brand>(&rt, rt.alloc(), Blank::new(1), registry)?;
+    assert!(rt; numbers == (Some(7), Some(9)));
     Ok(())
 }
