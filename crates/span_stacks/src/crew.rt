@@ -7,12 +7,12 @@ ghost use Rattle.span_stacks.specs.Stacks.{AreCalled};
 ghost use Rattle.span_script.specs.Script.{stack_of};
 
 use crate::fault::RunFault;
-use crate::script_stack::ScriptStack;
-use crate::stacks::{absent, nested, pair, plain, veto};
+use crate::stacks::text_by;
+use crate::way::Way;
 use span_core::{Id, Record, TraceError};
 use span_dispatch::{Answer, Crew, Dispatch, Journal, Receipt, Request, Shared, Worker};
 use span_registry::{Limits, Subscriber};
-use span_script::{Script, StackName};
+use span_script::Script;
 use std::alloc::Global;
 use std::marker::Brand;
 use std::sync::Wait;
@@ -32,13 +32,47 @@ pub fn shared_text(
     ensures legal { IfOk result (λ r. IsLegal r.1) }
     ensures fault { IfErr result (λ fault. fault ≡ RunFault.Memory) }
 {
-    match script.stack() {
-        StackName::Plain => shared_by(rt, alloc, script, plain(alloc, Limits::MAX)),
-        StackName::Pair => shared_by(rt, alloc, script, pair(alloc, Limits::MAX)),
-        StackName::Nested => shared_by(rt, alloc, script, nested(alloc, Limits::MAX)),
-        StackName::Veto => shared_by(rt, alloc, script, veto(alloc, Limits::MAX)),
-        StackName::Absent => shared_by(rt, alloc, script, absent(alloc, Limits::MAX)),
+    text_by(ByWorkers { rt }, alloc, Limits::MAX, script)
+}
+
+/// Ten workers that share the stack, each on its lane. It leaves the journal of their requests.
+struct ByWorkers<'a, T> {
+    rt: &'a T,
+}
+
+impl<T: Wait> Way for ByWorkers<'_, T> {
+    type Left = Journal;
+
+    ghost alone = { ⊥ };
+
+    ghost is_left = { IsLegal };
+
+    fn serve<S: Subscriber + Drop>(
+        self,
+        alloc: Global,
+        stack: S,
+        requests: &[Request<'_>],
+    ) -> Result<(Vec<Answer>, Dispatch<S>, Journal), RunFault> {
+        let ByWorkers { rt } = self;
+        serve_shared(rt, alloc, stack, requests)
     }
+}
+
+/// Has ten workers share a stack and serve requests by it.
+fn serve_shared<S: Subscriber + Drop>(
+    rt: &impl Wait,
+    alloc: Global,
+    stack: S,
+    requests: &[Request<'_>],
+) -> Result<(Vec<Answer>, Dispatch<S>, Journal), RunFault>
+    requires usable { S.usable stack }
+    requires fresh { IsFresh (S.registry stack) }
+    ensures each { IfOk result (λ r. length r.0.items ≡ length requests.now) }
+    ensures legal { IfOk result (λ r. IsLegal r.2) }
+    ensures fault { IfErr result (λ fault. fault ≡ RunFault.Memory) }
+{
+    let blank = Blank::new(u64::from(WORKERS));
+    serve::<S, Brand>(rt, alloc, blank, stack, requests)
 }
 
 /// Has ten workers share a stack and serve requests by it, each on its lane.
@@ -195,29 +229,4 @@ fn given<A: Drop>(answered: Result<(A, Receipt), TraceError>) -> Result<A, Trace
         Ok((answer, _)) => Ok(answer),
         Err(error) => Err(error),
     }
-}
-
-/// What a script prints, where workers share this stack of scripts.
-fn shared_by<S: ScriptStack + Subscriber + Drop>(
-    rt: &impl Wait,
-    alloc: Global,
-    script: &Script<'_>,
-    stack: S,
-) -> Result<(String, Journal), RunFault>
-    requires usable { S.usable stack }
-    requires fresh { IsFresh (S.registry stack) }
-    ensures printed { IfOk result (λ r. GivesShared S.name script.now (string_bytes r.0)) }
-    ensures legal { IfOk result (λ r. IsLegal r.1) }
-    ensures fault { IfErr result (λ fault. fault ≡ RunFault.Memory) }
-{
-    let blank = Blank::new(u64::from(WORKERS));
-    let (answers, dispatch, journal) = serve::<S, Brand>(
-        rt,
-        alloc,
-        blank,
-        stack,
-        script.requests(),
-    )?;
-    let text = dispatch.stack().text(alloc, script, &answers)?;
-    Ok((text, journal))
 }

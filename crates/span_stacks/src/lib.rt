@@ -6,6 +6,7 @@ mod fault;
 mod reply;
 mod script_stack;
 mod stacks;
+mod way;
 
 pub use crew::shared_text;
 pub use fault::RunFault;

@@ -18,9 +18,14 @@ pub struct Section<'a> {
 }
 
 /// The labels of the spans that were made, by the numbers of their ids.
-#[derive(Drop)]
 struct Names<'a> {
     labels: BTreeMap<u64, &'a str>,
+}
+
+impl Drop for Names<'_> {
+    fn drop(self) {
+        let Names { labels } = self;
+    }
 }
 
 impl<'a> Names<'a> {

@@ -3,16 +3,18 @@ ghost use Rattle.std.specs.Prelude.{◌≡◌, ◌≤◌, ◌∷◌, [], codes, 
 ghost use Rattle.span_core.specs.declared.filter.TheConstants.FilterId.{LIMIT};
 ghost use Rattle.span_core.specs.declared.level.TheConstants.LevelFilter.{INFO};
 ghost use Rattle.span_layers.specs.Layered.{inner_of, outer_of};
-ghost use Rattle.span_stacks.specs.Printed.{Gives, IsPrinted, PrintsInUse};
+ghost use Rattle.span_stacks.specs.Printed.{Gives, GivesShared, IsPrinted, PrintsInUse};
 ghost use Rattle.span_script.specs.Script.{lines_of, stack_of};
-ghost use Rattle.span_stacks.specs.Stacks.{ArePositive, BeginsAbsent, BeginsNested, BeginsPair, BeginsPlain, BeginsVeto, BeginsWarned, HasRoom, ServesInUse};
+ghost use Rattle.span_stacks.specs.Stacks.{ArePositive, BeginsAbsent, BeginsNested, BeginsPair, BeginsPlain, BeginsVeto, BeginsWarned, HasRoom};
 ghost use Rattle.span_layers.specs.Attach.{Attaches};
+ghost use Rattle.span_registry.specs.Store.{IsFresh};
 
 use crate::fault::RunFault;
 use crate::reply::{Section, text_of};
 use crate::script_stack::ScriptStack;
+use crate::way::{Alone, Way};
 use span_core::LevelFilter;
-use span_dispatch::{Answer, Dispatch, Recorder, Request};
+use span_dispatch::{Answer, Recorder};
 use span_layers::{Filtered, Layer, LayerExt, Layered, SubscriberExt};
 use span_mute::{Mute, MuteVeto};
 use span_registry::{Limits, Registry, Subscriber};
@@ -47,12 +49,31 @@ pub fn served_text(alloc: Global, limits: Limits, script: &Script<'_>) -> Result
         Gives limits (stack_of script.now) script.now (string_bytes s)) }
     ensures fault { IfErr result (λ fault. fault ≡ RunFault.Memory) }
 {
+    let (text, ()) = text_by(Alone, alloc, limits, script)?;
+    Ok(text)
+}
+
+/// What a script prints, where the stack that it names serves its requests in this way.
+pub(crate) fn text_by<W: Way>(
+    way: W,
+    alloc: Global,
+    limits: Limits,
+    script: &Script<'_>,
+) -> Result<(String, W::Left), RunFault>
+    requires { ArePositive limits }
+    ensures alone { IfOk result (λ r.
+        W.alone → Gives limits (stack_of script.now) script.now (string_bytes r.0)) }
+    ensures shared { IfOk result (λ r.
+        GivesShared (stack_of script.now) script.now (string_bytes r.0)) }
+    ensures left { IfOk result (λ r. W.is_left r.1) }
+    ensures fault { IfErr result (λ fault. fault ≡ RunFault.Memory) }
+{
     match script.stack() {
-        StackName::Plain => text_by(alloc, script, plain(alloc, limits)),
-        StackName::Pair => text_by(alloc, script, pair(alloc, limits)),
-        StackName::Nested => text_by(alloc, script, nested(alloc, limits)),
-        StackName::Veto => text_by(alloc, script, veto(alloc, limits)),
-        StackName::Absent => text_by(alloc, script, absent(alloc, limits)),
+        StackName::Plain => text_of_stack(way, alloc, script, plain(alloc, limits)),
+        StackName::Pair => text_of_stack(way, alloc, script, pair(alloc, limits)),
+        StackName::Nested => text_of_stack(way, alloc, script, nested(alloc, limits)),
+        StackName::Veto => text_of_stack(way, alloc, script, veto(alloc, limits)),
+        StackName::Absent => text_of_stack(way, alloc, script, absent(alloc, limits)),
     }
 }
 
@@ -136,36 +157,24 @@ pub(crate) fn absent(alloc: Global, limits: Limits) -> Absent
     put(below, Recorder::new(alloc))
 }
 
-/// Puts a stack in use, and serves requests with it.
-fn serve<S: Subscriber + Drop>(
-    alloc: Global,
-    stack: S,
-    requests: &[Request<'_>],
-) -> Result<(Vec<Answer>, Dispatch<S>), RunFault>
-    requires { S.usable stack }
-    ensures served { IfOk result (ServesInUse S.Subscriber requests.now stack) }
-    ensures fault { IfErr result (λ fault. fault ≡ RunFault.Memory) }
-{
-    let mut dispatch = Dispatch::new(alloc, stack);
-    match dispatch.serve(alloc, requests) {
-        Ok(answers) => Ok((answers, dispatch)),
-        Err(_) => Err(RunFault::Memory), // It is refused for nothing else.
-    }
-}
-
-/// Puts a stack in use, and gives what a script prints where this stack serves its requests.
-fn text_by<S: ScriptStack + Subscriber + Drop>(
+/// What a script prints, where this stack serves its requests in this way.
+fn text_of_stack<W: Way, S: ScriptStack + Subscriber + Drop>(
+    way: W,
     alloc: Global,
     script: &Script<'_>,
     stack: S,
-) -> Result<String, RunFault>
-    requires { S.usable stack }
-    ensures printed { IfOk result
-        (λ s. PrintsInUse S.Subscriber S.sections S.whole script.now stack (string_bytes s)) }
+) -> Result<(String, W::Left), RunFault>
+    requires usable { S.usable stack }
+    requires fresh { IsFresh (S.registry stack) }
+    ensures alone { IfOk result (λ r. W.alone →
+        PrintsInUse S.Subscriber S.sections S.whole script.now stack (string_bytes r.0)) }
+    ensures shared { IfOk result (λ r. GivesShared S.name script.now (string_bytes r.0)) }
+    ensures left { IfOk result (λ r. W.is_left r.1) }
     ensures fault { IfErr result (λ fault. fault ≡ RunFault.Memory) }
 {
-    let (answers, dispatch) = serve(alloc, stack, script.requests())?;
-    dispatch.stack().text(alloc, script, &answers)
+    let (answers, dispatch, left) = way.serve(alloc, stack, script.requests())?;
+    let text = dispatch.stack().text(alloc, script, &answers)?;
+    Ok((text, left))
 }
 
 /// What is printed of these answers and of the recorder `base`, unless memory was refused to it.

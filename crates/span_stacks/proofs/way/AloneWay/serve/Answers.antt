@@ -1,7 +1,7 @@
-use Rattle.span_stacks.proofs.stacks.serve.Goals as goal
+use Rattle.span_stacks.proofs.way.AloneWay.serve.Goals as goal
 
-pub returns-in-Ok-clause-served : goal.returns-in-Ok-clause-served
-returns-in-Ok-clause-served g c = record {
+pub returns-in-Ok-clause-alone : goal.returns-in-Ok-clause-alone
+returns-in-Ok-clause-alone g c = λ alone. record {
   begun = c.new-dispatch.result;
   in_use = c.new-dispatch.ensures.registered;
   same = c.new-dispatch.ensures.registry;
