@@ -43,12 +43,27 @@ fn prepared<S: Subscriber + Drop>(
     ensures { IfOk result (λ served. S.usable (stack_of served)) }
 {
     let mut dispatch = dispatch;
-    for answer in &dispatch.serve(alloc, &preparation())? {
+    prepare(alloc, &mut dispatch)?;
+    Ok(dispatch)
+}
+
+/// Has a dispatcher serve the preparation, of which nothing may be refused.
+fn prepare<S: Subscriber>(alloc: Global, dispatch: &mut Dispatch<S>) -> Result<(), Fault>
+    requires { S.usable (stack_of dispatch.old) }
+    ensures { S.usable (stack_of dispatch.new) }
+{
+    let answers = dispatch.serve(alloc, &preparation())?;
+    are_accepted(&answers)
+}
+
+/// Fails at the first answer that is a refusal.
+fn are_accepted(answers: &[Answer]) -> Result<(), Fault> {
+    for answer in answers {
         if let Answer::Refused(error) = answer {
             return Err(Fault::Refused(*error));
         }
     }
-    Ok(dispatch)
+    Ok(())
 }
 
 /// Makes a request of a dispatcher, and writes what it shows without the request and after it.
@@ -58,19 +73,39 @@ pub(crate) fn make<S: Tried, W: Write>(
     state: State,
     request: Request<'_>,
 ) -> Result<(), Fault> {
-    write_dispatcher(writer, dispatcher::<S>(alloc, state)?)?;
-    let mut dispatch = dispatcher::<S>(alloc, state)?;
+    write_dispatcher(writer, &mut dispatcher::<S>(alloc, state)?)?;
+    write_asked(writer, &mut dispatcher::<S>(alloc, state)?, request)
+}
+
+/// Makes a request, and writes how it ends and what its dispatcher shows after it.
+fn write_asked<S: Tried, W: Write>(
+    writer: &mut W,
+    dispatch: &mut Dispatch<S>,
+    request: Request<'_>,
+) -> Result<(), Fault>
+    requires { S.usable (stack_of dispatch.old) }
+{
     write_start(writer)?;
-    ask(writer, &mut dispatch, request)?;
+    ask(writer, dispatch, request)?;
     write_dispatcher(writer, dispatch)
 }
 
 /// Serves a list whose requests take no memory, and writes the same.
 pub(crate) fn serve<S: Tried, W: Write>(alloc: Global, writer: &mut W) -> Result<(), Fault> {
-    write_dispatcher(writer, dispatcher::<S>(alloc, State::Kept)?)?;
-    let mut dispatch = dispatcher::<S>(alloc, State::Kept)?;
+    write_dispatcher(writer, &mut dispatcher::<S>(alloc, State::Kept)?)?;
+    write_served(alloc, writer, &mut dispatcher::<S>(alloc, State::Kept)?)
+}
+
+/// Serves that list, and writes how it ends and what its dispatcher shows after it.
+fn write_served<S: Tried, W: Write>(
+    alloc: Global,
+    writer: &mut W,
+    dispatch: &mut Dispatch<S>,
+) -> Result<(), Fault>
+    requires { S.usable (stack_of dispatch.old) }
+{
     write_start(writer)?;
-    let ended = served(alloc, &mut dispatch, &sparing());
+    let ended = served(alloc, dispatch, &sparing());
     write_answer(writer, ended)?;
     write_dispatcher(writer, dispatch)
 }
@@ -95,10 +130,19 @@ fn full<S: Tried>(alloc: Global) -> Result<Dispatch<S>, Fault>
     ensures { IfOk result (λ filled. S.usable (stack_of filled)) }
 {
     let mut dispatch = dispatcher::<S>(alloc, State::Kept)?;
-    for _ in NOTICES..ROOM {
-        send(&mut dispatch)?;
-    }
+    fill(&mut dispatch)?;
     Ok(dispatch)
+}
+
+/// Sends as many events as the recorder has room for.
+fn fill<S: Subscriber>(dispatch: &mut Dispatch<S>) -> Result<(), Fault>
+    requires { S.usable (stack_of dispatch.old) }
+    ensures { S.usable (stack_of dispatch.new) }
+{
+    for _ in NOTICES..ROOM {
+        send(dispatch)?;
+    }
+    Ok(())
 }
 
 /// Sends an event of a callsite that is kept.
@@ -115,26 +159,31 @@ fn send<S: Subscriber>(dispatch: &mut Dispatch<S>) -> Result<(), Fault>
 
 /// Sends an event that the recorder has no room for, and then another; and writes the same, both after the second.
 pub(crate) fn record<S: Tried, W: Write>(alloc: Global, writer: &mut W) -> Result<(), Fault> {
-    write_dispatcher(writer, full::<S>(alloc)?)?;
-    let mut dispatch = full::<S>(alloc)?;
+    write_dispatcher(writer, &mut full::<S>(alloc)?)?;
+    write_sent(writer, &mut full::<S>(alloc)?)
+}
+
+/// Sends those two events, and writes what the dispatcher shows after the second.
+fn write_sent<S: Tried, W: Write>(writer: &mut W, dispatch: &mut Dispatch<S>) -> Result<(), Fault>
+    requires { S.usable (stack_of dispatch.old) }
+{
     write_start(writer)?;
-    send(&mut dispatch)?;
+    send(dispatch)?;
     write_answer(writer, Answer::Done)?;
-    send(&mut dispatch)?;
+    send(dispatch)?;
     write_dispatcher(writer, dispatch)
 }
 
 /// Writes all that a dispatcher shows and answers, and what its recorder was notified of.
 pub(crate) fn write_dispatcher<S: Tried, W: Write>(
     writer: &mut W,
-    dispatch: Dispatch<S>,
+    dispatch: &mut Dispatch<S>,
 ) -> Result<(), Fault>
-    requires { S.usable (stack_of dispatch) }
+    requires { S.usable (stack_of dispatch.old) }
 {
-    let mut dispatch = dispatch;
     write_levels(writer, dispatch.stack().level(), dispatch.max_level_hint())?;
-    write_answers(writer, &mut dispatch)?;
-    write_all_of(writer, &mut dispatch)?;
+    write_answers(writer, dispatch)?;
+    write_all_of(writer, dispatch)?;
     let recorder = dispatch.stack().recorder();
     write_notices(writer, recorder.notices(), recorder.failed())
 }

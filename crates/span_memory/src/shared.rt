@@ -19,13 +19,23 @@ use std::sync::Wait;
 use std::sync::ledger::Blank;
 
 /// What is left of a shared dispatcher when its worker is back.
-#[derive(Drop)]
 struct Finished<S> {
     dispatch: Dispatch<S>,
     journal: Journal,
     receipts: Vec<Receipt>,
     /// How many of the worker's calls were accepted.
     accepted: u64,
+}
+
+impl<S: Drop> Drop for Finished<S> {
+    fn drop(self) {
+        let Finished {
+            dispatch,
+            journal,
+            receipts,
+            accepted,
+        } = self;
+    }
 }
 
 /// Makes a request of a shared dispatcher, and writes what it shows without the request and after it.
@@ -35,10 +45,19 @@ pub(crate) fn make<S: Tried, W: Write>(
     writer: &mut W,
     request: Request<'_>,
 ) -> Result<(), Fault> {
-    let without = after::<S, W>(rt, alloc, writer, None)?;
-    write_finished(writer, without)?;
-    let with = after::<S, W>(rt, alloc, writer, Some(request))?;
-    write_finished(writer, with)
+    write_after::<S, W>(rt, alloc, writer, None)?;
+    write_after::<S, W>(rt, alloc, writer, Some(request))
+}
+
+/// Writes what a shared dispatcher shows after the preparation and this request, if there is one.
+fn write_after<S: Tried, W: Write>(
+    rt: &impl Wait,
+    alloc: Global,
+    writer: &mut W,
+    request: Option<Request<'_>>,
+) -> Result<(), Fault> {
+    let mut finished = after::<S, W>(rt, alloc, writer, request)?;
+    write_finished(writer, &mut finished)
 }
 
 /// What is left of a dispatcher that was shared with a worker, after the preparation and this request, if there is one.
@@ -56,15 +75,18 @@ fn after<S: Tried, W: Write>(
 
 /// Shares a dispatcher, and writes what it shows without that and after it.
 pub(crate) fn share<S: Tried, W: Write>(alloc: Global, writer: &mut W) -> Result<(), Fault> {
-    write_dispatcher(writer, dispatcher::<S>(alloc, State::Begun)?)?;
+    write_dispatcher(writer, &mut dispatcher::<S>(alloc, State::Begun)?)?;
     let dispatch = dispatcher::<S>(alloc, State::Begun)?;
-    let dispatch = shared_once::<S, Brand, W>(alloc, writer, Blank::new(1), dispatch)?;
-    write_dispatcher(writer, dispatch)
+    let mut dispatch = shared_once::<S, Brand, W>(alloc, writer, Blank::new(1), dispatch)?;
+    write_dispatcher(writer, &mut dispatch)
 }
 
 /// Writes all that a dispatcher that was shared shows: its journal, and whether that holds its receipts, too.
-fn write_finished<S: Tried, W: Write>(writer: &mut W, finished: Finished<S>) -> Result<(), Fault>
-    requires { S.usable (stack_of finished.dispatch) }
+fn write_finished<S: Tried, W: Write>(
+    writer: &mut W,
+    finished: &mut Finished<S>,
+) -> Result<(), Fault>
+    requires { S.usable (stack_of finished.old.dispatch) }
 {
     write_journal(writer, &finished.journal)?;
     write_receipts(
@@ -73,7 +95,7 @@ fn write_finished<S: Tried, W: Write>(writer: &mut W, finished: Finished<S>) -> 
         &finished.receipts,
         finished.accepted,
     )?;
-    write_dispatcher(writer, finished.dispatch)
+    write_dispatcher(writer, &mut finished.dispatch)
 }
 
 /// Writes the entries of a journal.
