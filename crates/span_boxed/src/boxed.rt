@@ -14,10 +14,15 @@ use std::fmt;
 ///
 /// A layer of a concrete type is boxed, one without closures and without boxes. Stands for
 /// `Box<dyn tracing_subscriber::Layer<S> + Send + Sync>` where that is a layer.
-#[derive(Drop)]
 pub struct BoxedLayer {
     /// The layer in its box.
     pub object: Box<dyn DynLayer + Send>,
+}
+
+impl Drop for BoxedLayer {
+    fn drop(self) {
+        let BoxedLayer { object } = self;
+    }
 }
 
 impl BoxedLayer {

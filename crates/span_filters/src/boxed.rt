@@ -177,10 +177,15 @@ impl<F: Filter<Registry> + Drop> DynFilter for F {
 ///
 /// A filter of a concrete type is boxed, one without closures and without boxes. Stands for
 /// `Box<dyn tracing_subscriber::layer::Filter<S> + Send + Sync>` where that is a filter.
-#[derive(Drop)]
 pub struct BoxedFilter {
     /// The filter in its box.
     pub object: Box<dyn DynFilter + Send>,
+}
+
+impl Drop for BoxedFilter {
+    fn drop(self) {
+        let BoxedFilter { object } = self;
+    }
 }
 
 impl BoxedFilter {

@@ -159,12 +159,18 @@ impl<'a, R: LookupSpan> Iterator for Scope<'a, R> {
 /// A span and its ancestors, the root first, those that a mask hides left out.
 ///
 /// Stands for `tracing_subscriber::registry::ScopeFromRoot`.
-#[derive(Drop)]
 pub struct ScopeFromRoot<'a, R> {
     /// Leaf first. Each place holds a span: it may be empty since a place without one needs a value too.
     spans: SmallVec<Option<SpanRef<'a, R>>, 16>,
 
     ghost full: { IsTrue (list_all is_some spans.items) },
+}
+
+// (the lifetime has a name: under '_ a loop over it gets no proof)
+impl<'a, R> Drop for ScopeFromRoot<'a, R> {
+    fn drop(self) {
+        let ScopeFromRoot { spans } = self;
+    }
 }
 
 impl<'a, R: LookupSpan> Scope<'a, R> {
