@@ -103,11 +103,45 @@ impl<S: Subscriber> Layer<S> for Echo {
     }
 }
 
-/// An open watcher on a stack, and outside it one under INFO.
-type TwoWatchers<S> = Layered<
-    Filtered<Observer<Watcher>, LevelFilter>,
-    Layered<Observer<Watcher>, S>,
->;
+/// What has a watcher to look at: where it has several, the outermost.
+trait AsWatcher {
+    fn as_watcher(&self) -> &Observer<Watcher>;
+}
+
+impl AsWatcher for Observer<Watcher> {
+    fn as_watcher(&self) -> &Observer<Watcher> {
+        self
+    }
+}
+
+impl<L: AsWatcher, F> AsWatcher for Filtered<L, F> {
+    fn as_watcher(&self) -> &Observer<Watcher> {
+        self.inner().as_watcher()
+    }
+}
+
+impl<L: AsWatcher, S> AsWatcher for Layered<L, S> {
+    fn as_watcher(&self) -> &Observer<Watcher> {
+        self.layer().as_watcher()
+    }
+}
+
+/// What has two watchers to look at.
+trait AsWatchers {
+    fn as_outer(&self) -> &Observer<Watcher>;
+
+    fn as_inner(&self) -> &Observer<Watcher>;
+}
+
+impl<L: AsWatcher, S: AsWatcher> AsWatchers for Layered<L, S> {
+    fn as_outer(&self) -> &Observer<Watcher> {
+        self.layer().as_watcher()
+    }
+
+    fn as_inner(&self) -> &Observer<Watcher> {
+        self.inner().as_watcher()
+    }
+}
 
 /// A watcher saw this.
 fn saw(rt: &impl Abort, watcher: &Observer<Watcher>, seen: &[Seen]) {
@@ -158,26 +192,36 @@ fn saw_three_spans(rt: &impl Abort, watcher: &Observer<Watcher>, [root, child, l
     saw(rt, watcher, &three);
 }
 
-/// The watcher under INFO sees nothing of the second of three spans, and the open one sees all.
-fn hides_from_one_alone<S: Subscriber>(
+/// The outer watcher, under INFO, sees nothing of the second of three spans, and the open one sees all.
+fn hides_from_one_alone<S: Subscriber + AsWatchers>(
     rt: &impl Abort,
-    stack: &mut TwoWatchers<S>,
+    stack: &mut S,
 ) -> Result<(), Fail>
-    requires { ⟦<TwoWatchers<S> as Subscriber>⟧.usable stack.old }
+    requires { S.usable stack.old }
 {
     let spans = three_spans(rt, stack)?;
     let [root, _, leaf] = spans;
-    saw_two_spans(rt, stack.layer().inner(), root, leaf);
-    saw_three_spans(rt, stack.inner().layer(), spans);
+    saw_two_spans(rt, stack.as_outer(), root, leaf);
+    saw_three_spans(rt, stack.as_inner(), spans);
     Ok(())
+}
+
+/// Puts a watcher under INFO on a stack with an open one, which alone sees all of three spans.
+fn hides_outside<S: Subscriber + Drop + AsWatcher>(
+    rt: &impl Abort,
+    alloc: Global,
+    stack: S,
+) -> Result<(), Fail>
+    requires { S.usable stack }
+{
+    let under_info = new_watcher(alloc).with_filter(LevelFilter::INFO);
+    hides_from_one_alone(rt, &mut put(stack, under_info)?)
 }
 
 #[test]
 fn one_layers_filter_hides_nothing_from_another(rt: HostRuntime) -> Result<(), Fail> {
-    let alloc = rt.alloc();
-    let stack = put(Registry::new(alloc), new_watcher(alloc))?;
-    let under_info = new_watcher(alloc).with_filter(LevelFilter::INFO);
-    hides_from_one_alone(&rt, &mut put(stack, under_info)?)
+    let open = put(Registry::new(rt.alloc()), new_watcher(rt.alloc()))?;
+    hides_outside(&rt, rt.alloc(), open)
 }
 
 /// A span of level info and one of level debug, and all else that comes of the second.
@@ -220,25 +264,35 @@ fn saw_both(rt: &impl Abort, watcher: &Observer<Watcher>, shown: Id, hidden: Id)
     saw(rt, watcher, &both);
 }
 
-/// The watcher under INFO sees nothing of a span of level debug, and the open one sees all.
-fn see_all_but_the_hidden<S: Subscriber>(
+/// The outer watcher, under INFO, sees nothing of a span of level debug, and the open one sees all.
+fn see_all_but_the_hidden<S: Subscriber + AsWatchers>(
     rt: &impl Abort,
-    stack: &mut TwoWatchers<S>,
+    stack: &mut S,
 ) -> Result<(), Fail>
-    requires { ⟦<TwoWatchers<S> as Subscriber>⟧.usable stack.old }
+    requires { S.usable stack.old }
 {
     let (shown, hidden) = shown_and_hidden(stack)?;
-    saw_a_span(rt, stack.layer().inner(), shown);
-    saw_both(rt, stack.inner().layer(), shown, hidden);
+    saw_a_span(rt, stack.as_outer(), shown);
+    saw_both(rt, stack.as_inner(), shown, hidden);
     Ok(())
+}
+
+/// Puts a watcher under INFO on a stack with an open one, which alone sees a span of level debug.
+fn see_outside<S: Subscriber + Drop + AsWatcher>(
+    rt: &impl Abort,
+    alloc: Global,
+    stack: S,
+) -> Result<(), Fail>
+    requires { S.usable stack }
+{
+    let under_info = new_watcher(alloc).with_filter(LevelFilter::INFO);
+    see_all_but_the_hidden(rt, &mut put(stack, under_info)?)
 }
 
 #[test]
 fn a_hidden_span_is_hidden_from_its_layer_alone(rt: HostRuntime) -> Result<(), Fail> {
-    let alloc = rt.alloc();
-    let stack = put(Registry::new(alloc), new_watcher(alloc))?;
-    let under_info = new_watcher(alloc).with_filter(LevelFilter::INFO);
-    see_all_but_the_hidden(&rt, &mut put(stack, under_info)?)
+    let open = put(Registry::new(rt.alloc()), new_watcher(rt.alloc()))?;
+    see_outside(&rt, rt.alloc(), open)
 }
 
 /// Puts a stack in use, and notifies it of a new span and of its close.
@@ -257,33 +311,49 @@ fn last_seen(watcher: &Observer<Watcher>) -> Option<Seen> {
     watcher.observer().seen.last().copied()
 }
 
-/// Two watchers as one layer, and one outside them.
-type ThreeWatchers<S> = Layered<
-    Observer<Watcher>,
-    Layered<Layered<Observer<Watcher>, Observer<Watcher>>, S>,
->;
+/// What each of three watchers saw last.
+trait LastSeen {
+    fn last_seen(&self) -> [Option<Seen>; 3];
+}
+
+impl<O: AsWatcher, L: AsWatchers, S> LastSeen for Layered<O, Layered<L, S>> {
+    fn last_seen(&self) -> [Option<Seen>; 3] {
+        let pair = self.inner().layer();
+        [
+            last_seen(self.as_watcher()),
+            last_seen(pair.as_outer()),
+            last_seen(pair.as_inner()),
+        ]
+    }
+}
 
 /// Each of three watchers sees last that a span is closing.
-fn all_see_a_close<S: Subscriber>(rt: &impl Abort, stack: &mut ThreeWatchers<S>) -> Result<(), Fail>
-    requires { ⟦<ThreeWatchers<S> as Subscriber>⟧.usable stack.old }
+fn all_see_a_close<S: Subscriber + LastSeen>(rt: &impl Abort, stack: &mut S) -> Result<(), Fail>
+    requires { S.usable stack.old }
 {
     let id = open_and_close(stack)?;
-    let pair = stack.inner().layer();
-    let seen = [
-        last_seen(stack.layer()),
-        last_seen(pair.layer()),
-        last_seen(pair.inner()),
-    ];
-    assert!(rt; seen == [Some(Seen::Close(id)); 3]);
+    assert!(rt; stack.last_seen() == [Some(Seen::Close(id)); 3]);
     Ok(())
+}
+
+/// Puts a watcher outside two that are one layer of a stack: all three see a span close.
+fn all_see_under<S: Subscriber + Drop, L: Layer<S> + Drop + AsWatchers>(
+    rt: &impl Abort,
+    alloc: Global,
+    stack: S,
+    pair: L,
+) -> Result<(), Fail>
+    requires stack { S.usable stack }
+    requires pair { L.usable pair }
+{
+    let two = put(stack, pair)?;
+    all_see_a_close(rt, &mut put_under(new_watcher(alloc), two)?)
 }
 
 #[test]
 fn every_layer_sees_a_closing_span(rt: HostRuntime) -> Result<(), Fail> {
-    let alloc = rt.alloc();
-    let pair = new_watcher(alloc).and_then(new_watcher(alloc));
-    let stack = put(Registry::new(alloc), pair)?;
-    all_see_a_close(&rt, &mut put_under(new_watcher(alloc), stack)?)
+    let pair = new_watcher(rt.alloc()).and_then(new_watcher(rt.alloc()));
+    all_see_under(&rt, rt.alloc(), Registry::new(rt.alloc()), pair)
 }
 
 /// A registry that handed out all numbers of filters.
@@ -381,32 +451,38 @@ fn saw_one_event(rt: &impl Abort, watcher: &Observer<Watcher>, id: Id) {
     saw(rt, watcher, &once);
 }
 
-/// A layer under a level.
-type Under<L> = Filtered<L, LevelFilter>;
-
-/// A watcher under three levels on a stack.
-type UnderThree<S> = Layered<Under<Under<Under<Observer<Watcher>>>>, S>;
-
-/// The watcher sees what all three levels pass.
-fn sees_what_three_pass<S: Subscriber>(
+/// A watcher under three levels sees what all of them pass.
+fn sees_what_three_pass<S: Subscriber + AsWatcher>(
     rt: &impl Abort,
-    stack: &mut UnderThree<S>,
+    stack: &mut S,
 ) -> Result<(), Fail>
-    requires { ⟦<UnderThree<S> as Subscriber>⟧.usable stack.old }
+    requires { S.usable stack.old }
 {
     let id = three_events(rt, stack)?;
     assert!(rt; stack.root().filters() == 3);
-    saw_one_event(rt, stack.layer().inner().inner().inner(), id);
+    saw_one_event(rt, stack.as_watcher(), id);
     Ok(())
+}
+
+/// Puts a watcher under one level under two more.
+fn sees_under_three<S: Subscriber + Drop, L: Layer<S> + Drop + AsWatcher>(
+    rt: &impl Abort,
+    stack: S,
+    layer: L,
+) -> Result<(), Fail>
+    requires stack { S.usable stack }
+    requires layer { L.usable layer }
+{
+    let nested = layer
+        .with_filter(LevelFilter::INFO)
+        .with_filter(LevelFilter::DEBUG);
+    sees_what_three_pass(rt, &mut put(stack, nested)?)
 }
 
 #[test]
 fn nested_filters_must_all_pass(rt: HostRuntime) -> Result<(), Fail> {
-    let layer = new_watcher(rt.alloc())
-        .with_filter(LevelFilter::TRACE)
-        .with_filter(LevelFilter::INFO)
-        .with_filter(LevelFilter::DEBUG);
-    sees_what_three_pass(&rt, &mut put(Registry::new(rt.alloc()), layer)?)
+    let under_trace = new_watcher(rt.alloc()).with_filter(LevelFilter::TRACE);
+    sees_under_three(&rt, Registry::new(rt.alloc()), under_trace)
 }
 
 /// Of three events in a span two are marked under the first tag, and one under the second.
@@ -425,31 +501,60 @@ fn marks_two_and_one<S: Subscriber>(
     Ok(())
 }
 
+/// Puts two layers as one on a stack: the inner marks under the second tag, and the outer under the first.
+fn marks_in_a_pair<S: Subscriber + Drop, I: Layer<S> + Drop, O: Layer<S> + Drop>(
+    rt: &impl Abort,
+    stack: S,
+    pair: (I, O),
+    tags: [Tag<u64>; 2],
+) -> Result<(), Fail>
+    requires stack { S.usable stack }
+    requires inner { I.usable pair.0 }
+    requires outer { O.usable pair.1 }
+{
+    let (inner, outer) = pair;
+    marks_two_and_one(rt, &mut put(stack, inner.and_then(outer))?, tags)
+}
+
 #[test]
 fn hooks_write_extensions_under_their_filters(rt: HostRuntime) -> Result<(), Fail> {
     let (all, few) = (Tag::new(0), Tag::new(1));
-    let pair = new_marker(few)
-        .with_filter(LevelFilter::INFO)
-        .and_then(new_marker(all).with_filter(LevelFilter::DEBUG));
-    marks_two_and_one(&rt, &mut put(Registry::new(rt.alloc()), pair)?, [all, few])
+    let inner = new_marker(few).with_filter(LevelFilter::INFO);
+    let outer = new_marker(all).with_filter(LevelFilter::DEBUG);
+    marks_in_a_pair(&rt, Registry::new(rt.alloc()), (inner, outer), [all, few])
 }
 
-/// A watcher on a stack and, outside it, what sends an event at each new span.
-type EchoAndWatcher<S> = Layered<Echo, Layered<Observer<Watcher>, S>>;
+/// The watcher that a layer stands on.
+trait WatcherBelow {
+    fn watcher_below(&self) -> &Observer<Watcher>;
+}
+
+impl<L, S: AsWatcher> WatcherBelow for Layered<L, S> {
+    fn watcher_below(&self) -> &Observer<Watcher> {
+        self.inner().as_watcher()
+    }
+}
 
 /// A new span sends an event, which the watcher sees.
-fn sees_the_echo<S: Subscriber>(rt: &impl Abort, stack: &mut EchoAndWatcher<S>) -> Result<(), Fail>
-    requires { ⟦<EchoAndWatcher<S> as Subscriber>⟧.usable stack.old }
+fn sees_the_echo<S: Subscriber + WatcherBelow>(rt: &impl Abort, stack: &mut S) -> Result<(), Fail>
+    requires { S.usable stack.old }
 {
     let id = open(stack, Level::INFO, None)?;
-    saw_one_event(rt, stack.inner().layer(), id);
+    saw_one_event(rt, stack.watcher_below(), id);
     Ok(())
+}
+
+/// Puts what sends an event at each new span on a stack, whose watcher sees that.
+fn sees_below<S: Subscriber + Drop + AsWatcher>(rt: &impl Abort, stack: S) -> Result<(), Fail>
+    requires { S.usable stack }
+{
+    sees_the_echo(rt, &mut put(stack, Echo)?)
 }
 
 #[test]
 fn a_hook_may_send_an_event(rt: HostRuntime) -> Result<(), Fail> {
     let stack = put(Registry::new(rt.alloc()), new_watcher(rt.alloc()))?;
-    sees_the_echo(&rt, &mut put(stack, Echo)?)
+    sees_below(&rt, stack)
 }
 
 /// A watcher that saw an event.
