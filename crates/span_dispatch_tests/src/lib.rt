@@ -19,3 +19,5 @@ mod requests;
 mod scale;
 #[cfg(test)]
 mod view;
+#[cfg(test)]
+mod worker;

@@ -2,8 +2,6 @@
 #![tactic(auto)]
 
 mod crew;
-#[cfg(test)]
-mod tests;
 mod work;
 
 use std::process::ExitCode;

@@ -10,7 +10,7 @@ use std::sync::Wait;
 const REQUESTS: u64 = 5;
 
 /// The callsite of the threads' spans.
-pub(crate) fn span_metadata() -> Metadata {
+fn span_metadata() -> Metadata {
     Metadata::new(
         0,
         "job",

@@ -1,4 +1,4 @@
-use Rattle.span_threads.proofs.tests.both_lanes_meet.Given as goal
+use Rattle.span_dispatch_tests.proofs.worker.both_lanes_meet.Given as goal
 
 abbrev pub ghosts-two_meet-L-Crew : goal.ghosts-two_meet-L-Crew
 ghosts-two_meet-L-Crew g a = record { workers = a.blank.parts }

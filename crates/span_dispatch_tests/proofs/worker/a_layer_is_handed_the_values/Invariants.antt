@@ -1,4 +1,4 @@
-use Rattle.span_threads.proofs.tests.a_layer_is_handed_the_values.Given as goal
+use Rattle.span_dispatch_tests.proofs.worker.a_layer_is_handed_the_values.Given as goal
 
 abbrev pub ghosts-numbers_handed-L-Crew : goal.ghosts-numbers_handed-L-Crew
 ghosts-numbers_handed-L-Crew g a = record { workers = a.blank.parts }

@@ -4,14 +4,14 @@ ghost use Rattle.span_layers.specs.Layered.{inner_of, outer_of};
 ghost use Rattle.span_registry.specs.Store.{IsFresh};
 ghost use Rattle.std.specs.Prelude.{◌≡◌, ◌-◌, ◌<◌, ◌^◌, ⊤, IfOk};
 
-use crate::work::span_metadata;
 use span_core::{
-    Attributes, Event, FieldSet, FieldValue, Id, Kind, Lane, Level, LevelFilter, Metadata, Parent,
-    Pass, Record, TraceError,
+    Attributes, Event, FieldValue, Id, Kind, Lane, Level, LevelFilter, Metadata, Parent, Pass,
+    Record,
 };
 use span_dispatch::{
     Crew, Dispatch, Entry, Journal, Logged, Receipt, Recorder, Shared, Unfinished, Worker,
 };
+use span_layer_tests::fixture::{LANE, metadata_of};
 use span_layers::{Layer, LayerExt, Layered, Observe, Observed, Observer, SubscriberExt};
 use span_registry::{ContextMut, Registry, Subscriber};
 use std::alloc::Global;
@@ -26,7 +26,15 @@ use std::thread::Threads;
 /// How often a lane looks for the other's entry.
 const TURNS: u32 = 1_000_000;
 
-const LANE: Lane = Lane(0);
+/// The callsite of all spans.
+fn span_metadata() -> Metadata {
+    metadata_of(0, Level::INFO, Kind::SPAN)
+}
+
+/// The callsite of all events.
+fn event_metadata() -> Metadata {
+    metadata_of(1, Level::INFO, Kind::EVENT)
+}
 
 /// What a lane brings back: its worker, its receipt, whether its own entry stood at the receipt's place, and whether it saw the
 /// other lane's.
@@ -224,17 +232,6 @@ where
 fn both_lanes_meet(rt: HostRuntime) -> Result<(), Fail> {
     let registry = Registry::new(rt.alloc());
     two_meet::<Registry, Brand, HostRuntime>(&rt, rt.alloc(), Blank::new(2), registry)
-}
-
-fn event_metadata() -> Metadata {
-    Metadata::new(
-        1,
-        "e1",
-        "tests",
-        Level::INFO,
-        Kind::EVENT,
-        FieldSet::new(&[]),
-    )
 }
 
 /// Opens a root span.
