@@ -1,6 +1,9 @@
 //! One accepted request, as a journal keeps it.
 
+ghost use Rattle.std.specs.Prelude.{◌≡◌, ⊤};
+
 use span_core::{FilterMap, Id, Lane, LevelFilter, Metadata, Parent};
+use std::alloc::AllocError;
 
 /// One accepted request, with its lane and its answer.
 ///
@@ -9,7 +12,7 @@ pub type Entry = EntryWith<Metadata, FilterMap>;
 
 /// An entry by the types of its metadata and its verdict.
 // No proof follows an enum that holds both itself: metadata hold references, and a verdict has a ghost field.
-#[derive(Clone, Copy, Debug, PartialEq, Eq)]
+#[derive(Copy, Debug, PartialEq, Eq)]
 pub enum EntryWith<M, V> {
     /// A span was made: its metadata, the parent that it asked for, its verdict and its id.
     New(Lane, M, Parent, V, Id),
@@ -35,4 +38,15 @@ pub enum EntryWith<M, V> {
     Level(Lane, u32, LevelFilter),
     /// The span that the lane was in.
     Current(Lane, Option<Id>),
+}
+
+// By hand: the derived one is proved variant by variant, each with all its parts.
+impl<M: Copy, V: Copy> Clone for EntryWith<M, V> {
+    ghost is_clone = { λ entry copy. copy ≡ entry };
+
+    ghost is_infallible = { λ entry. ⊤ };
+
+    fn clone(&self) -> Result<Self, AllocError> {
+        Ok(*self)
+    }
 }
