@@ -1,7 +1,9 @@
 //! Tests of a dispatcher that keeps its stack's hint and interests: what it asks of filters once, and what each time.
 ghost use Rattle.span_dispatch.specs.Serve.{stack_of};
 
-use crate::requests::{AsLayer, AsLayers, UnderOne, event, in_use, keeps, made, new_span, serve};
+use crate::requests::{
+    AsLayer, AsLayers, UnderOne, event, keeps, made, new_span, put_in_use, serve,
+};
 use span_core::{Event, Id, Kind, Level, LevelFilter, Metadata, TraceError};
 use span_dispatch::{Answer, Dispatch, Notice, Recorder, Request, Which, WhichParent};
 use span_filters::{Filter, filter_fn};
@@ -70,7 +72,7 @@ fn kept_by_two<S: Subscriber + Drop + AsLayer<Recorder>, L: Layer<S> + Drop + As
     requires stack { S.usable stack }
     requires layer { L.usable layer }
 {
-    let mut dispatch = in_use(alloc, put(stack, layer)?);
+    let mut dispatch = put_in_use(alloc, stack, layer)?;
     serve_events(alloc, &mut dispatch, count)?;
     let stack = dispatch.stack();
     Ok((
@@ -140,7 +142,7 @@ fn keeps_none<S: Subscriber + Drop + AsLayer<Recorder>, L: Layer<S> + Drop + AsL
     requires stack { S.usable stack }
     requires layer { L.usable layer }
 {
-    let mut dispatch = in_use(alloc, put(stack, layer)?);
+    let mut dispatch = put_in_use(alloc, stack, layer)?;
     serve_events(alloc, &mut dispatch, 3)?;
     let stack = dispatch.stack();
     keeps(rt, stack.as_outer(), &[]);
@@ -239,7 +241,7 @@ fn sends_under_warn<S: Subscriber + Drop>(
     requires { S.usable stack }
 {
     let under_warn = Recorder::new(alloc).with_filter(LevelFilter::WARN);
-    sends_around_a_change(rt, &mut in_use(alloc, put(stack, under_warn)?));
+    sends_around_a_change(rt, &mut put_in_use(alloc, stack, under_warn)?);
     Ok(())
 }
 
@@ -306,7 +308,7 @@ fn keeps_info_alone<S: Subscriber + Drop, F: Filter<S> + Drop>(
     requires filter { F.usable filter }
 {
     let under_filter = Recorder::new(alloc).with_filter(filter);
-    let mut dispatch = in_use(alloc, put(stack, under_filter)?);
+    let mut dispatch = put_in_use(alloc, stack, under_filter)?;
     answers_each_level(rt, alloc, &mut dispatch)?;
     let twice = [Notice::Event(LANE, 5), Notice::Event(LANE, 5)];
     keeps(rt, dispatch.stack().as_layer(), &twice);
@@ -416,7 +418,7 @@ fn serve_below_two<S: Levels + Drop + AsLayer<Recorder>>(
     let under_two = Recorder::new(alloc)
         .with_filter(LevelFilter::INFO)
         .with_filter(LevelFilter::TRACE);
-    serves_around_a_change(rt, alloc, &mut in_use(alloc, put(stack, under_two)?))
+    serves_around_a_change(rt, alloc, &mut put_in_use(alloc, stack, under_two)?)
 }
 
 /// Puts a recorder under INFO on a stack, and serves around a change with two outside it.
@@ -461,7 +463,7 @@ fn sends_the_first<S: Subscriber + Drop, L: Layer<S> + Drop + AsLayer<Recorder>>
     requires stack { S.usable stack }
     requires layer { L.usable layer }
 {
-    sends_the_first_level(rt, &mut in_use(alloc, put(stack, layer)?));
+    sends_the_first_level(rt, &mut put_in_use(alloc, stack, layer)?);
     Ok(())
 }
 
@@ -488,7 +490,7 @@ fn sends_nothing_under<S: Subscriber + Drop, L: Layer<S> + Drop>(
     requires stack { S.usable stack }
     requires layer { L.usable layer }
 {
-    sends_nothing(rt, &mut in_use(alloc, put(stack, layer)?));
+    sends_nothing(rt, &mut put_in_use(alloc, stack, layer)?);
     Ok(())
 }
 

@@ -2,11 +2,12 @@
 ghost use Rattle.span_dispatch.specs.Serve.{stack_of};
 
 use crate::requests::{
-    AsLayer, Plain, fresh, in_use, keeps, made, new_event, new_span, plain, serve, used, within,
+    AsLayer, Plain, fresh, keeps, made, new_event, new_span, plain, put_fresh, put_in_use,
+    put_used, serve, within,
 };
 use span_core::{Attributes, Event, Id, Kind, Lane, Level, Metadata, Record, TraceError};
 use span_dispatch::{Answer, Dispatch, Notice, Recorder, Request, Which, WhichParent};
-use span_layer_tests::fixture::{LANE, metadata_of, put};
+use span_layer_tests::fixture::{LANE, metadata_of};
 use span_layers::Layer;
 use span_registry::{Context, LookupSpan, Registry, Subscriber};
 use std::alloc::Global;
@@ -96,7 +97,7 @@ fn tells_of_one_span<S: Subscriber + Drop, L: Layer<S> + Drop + AsLayer<Recorder
     requires stack { S.usable stack }
     requires layer { L.usable layer }
 {
-    let mut dispatch = fresh(alloc, put(stack, layer)?);
+    let mut dispatch = put_fresh(alloc, stack, layer)?;
     let id = closes_with_its_last_handle(rt, &mut dispatch)?;
     let recorder = dispatch.stack().as_layer();
     keeps(
@@ -178,7 +179,7 @@ fn tells_of_places<S: Subscriber + Drop, L: Layer<S> + Drop + AsLayer<Recorder>>
     requires stack { S.usable stack }
     requires layer { L.usable layer }
 {
-    let mut dispatch = fresh(alloc, put(stack, layer)?);
+    let mut dispatch = put_fresh(alloc, stack, layer)?;
     let [root, child, other] = serves_by_places(rt, alloc, &mut dispatch)?;
     let notices = [
         Notice::New(LANE, root),
@@ -259,7 +260,7 @@ fn tells_in_order<S: Subscriber + Drop, L: Layer<S> + Drop + AsLayer<Recorder>>(
     requires stack { S.usable stack }
     requires layer { L.usable layer }
 {
-    let mut dispatch = fresh(alloc, put(stack, layer)?);
+    let mut dispatch = put_fresh(alloc, stack, layer)?;
     let never = Id::from_u64(0);
     let id = answers_in_order(rt, alloc, &mut dispatch, never)?;
     let notices = [
@@ -334,7 +335,7 @@ fn knows_open_spans_alone<S: Subscriber + Drop, L: Layer<S> + Drop + AsLayer<Rec
     requires stack { S.usable stack }
     requires layer { L.usable layer }
 {
-    let mut dispatch = used(alloc, put(stack, layer)?, keeps_interests);
+    let mut dispatch = put_used(alloc, stack, layer, keeps_interests)?;
     let closed = refuses_all_unknown(rt, &mut dispatch)?;
     let notices = [
         Notice::New(LANE, closed),
@@ -487,7 +488,7 @@ fn serves_one_span_at_last<S: Subscriber + Drop, L: Layer<S> + Drop + AsLayer<Re
     requires stack { S.usable stack }
     requires layer { L.usable layer }
 {
-    let mut dispatch = fresh(alloc, put(stack, layer)?);
+    let mut dispatch = put_fresh(alloc, stack, layer)?;
     let id = send_in_span_at_last(rt, &mut dispatch)?;
     drop_at_last(rt, alloc, &mut dispatch, id)?;
     keeps_what_fits(rt, dispatch.stack().as_layer(), id);
@@ -526,7 +527,7 @@ fn sends_at_last<S: Subscriber + Drop, L: Layer<S> + Drop + AsLayer<Recorder>>(
     requires stack { S.usable stack }
     requires layer { L.usable layer }
 {
-    send_at_last(rt, &mut in_use(alloc, put(stack, layer)?));
+    send_at_last(rt, &mut put_in_use(alloc, stack, layer)?);
     Ok(())
 }
 

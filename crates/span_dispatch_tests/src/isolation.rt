@@ -4,7 +4,7 @@ ghost use Rattle.span_dispatch_tests.specs.Marked.{in_marked, is_marked};
 ghost use Rattle.span_registry.specs.Context.{view_in};
 ghost use Rattle.std.specs.Prelude.{◌≡◌, ⊤};
 
-use crate::requests::{AsLayer, AsLayers, event, in_use, keeps, made, new_span, serve, within};
+use crate::requests::{AsLayer, AsLayers, event, keeps, made, new_span, put_in_use, serve, within};
 use span_core::{Id, Level, LevelFilter, Metadata};
 use span_dispatch::{Dispatch, Notice, Recorder, Request, Which, WhichParent};
 use span_filters::{FunctionIn, dynamic_filter_fn};
@@ -97,7 +97,7 @@ fn tells_a_and_b<S: Subscriber + Drop + AsLayers<Recorder>, L: Layer<S> + Drop>(
     requires stack { S.usable stack }
     requires layer { L.usable c }
 {
-    let mut dispatch = in_use(alloc, put(stack, c)?);
+    let mut dispatch = put_in_use(alloc, stack, c)?;
     let [p, q, r] = serve_requests(alloc, &mut dispatch)?;
     let a_and_b = dispatch.stack().inner();
     keeps(rt, a_and_b.as_outer(), &due_to_a(p, r));
@@ -253,7 +253,7 @@ fn tells_a<S: Subscriber + Drop + AsLayer<Recorder>, L: Layer<S> + Drop>(
     requires stack { S.usable stack }
     requires layer { L.usable c }
 {
-    let mut dispatch = in_use(alloc, put(stack, c)?);
+    let mut dispatch = put_in_use(alloc, stack, c)?;
     let p = serve_one_span(alloc, &mut dispatch)?;
     told_of_one_span(rt, dispatch.stack().inner().as_layer(), p, of_event);
     Ok(())

@@ -2,7 +2,9 @@
 ghost use Rattle.span_dispatch.specs.Serve.{stack_of};
 
 use crate::cache::{count_one, sent_under};
-use crate::requests::{AsLayer, AsLayers, UnderOne, event, in_use, made, new_span, serve, used};
+use crate::requests::{
+    AsLayer, AsLayers, UnderOne, event, made, new_span, put_in_use, put_used, serve, used,
+};
 use span_core::{Id, Level, LevelFilter, Metadata, TraceError};
 use span_dispatch::{Answer, Dispatch, Notice, Recorder, Request, Which, WhichParent};
 use span_filters::{Filter, filter_fn};
@@ -66,7 +68,7 @@ fn the_third_event_alone<S: Subscriber + Drop, L: Layer<S> + Drop + AsLayer<Reco
     requires layer { L.usable layer }
 {
     let [before, after] = said;
-    let mut dispatch = used(alloc, put(stack, layer)?, keeps);
+    let mut dispatch = put_used(alloc, stack, layer, keeps)?;
     raised_by_calls(rt, &mut dispatch, before, after)?;
     told_once(rt, dispatch.stack().as_layer());
     Ok(())
@@ -365,7 +367,7 @@ fn tells_under<S: Subscriber + Drop + AsLayer<Recorder>, L: Layer<S> + Drop + As
     requires stack { S.usable stack }
     requires layer { L.usable layer }
 {
-    tells_between_levels(rt, alloc, &mut in_use(alloc, put(stack, layer)?))
+    tells_between_levels(rt, alloc, &mut put_in_use(alloc, stack, layer)?)
 }
 
 #[test]

@@ -4,10 +4,10 @@ ghost use Rattle.span_core.specs.Metadata.{kind_of};
 ghost use Rattle.span_dispatch.specs.Registration.{IsRegistered, KeepsRegistered};
 ghost use Rattle.span_dispatch.specs.Serve.{stack_of};
 
-use crate::requests::{AsLayer, used};
+use crate::requests::{AsLayer, put_used};
 use span_core::{Attributes, Event, FieldSet, Kind, Level, LevelFilter, Metadata, TraceError};
 use span_dispatch::{Dispatch, Notice, Recorder, Registration};
-use span_layer_tests::fixture::{LANE, put};
+use span_layer_tests::fixture::LANE;
 use span_layers::{Layer, LayerExt};
 use span_registry::{Registry, Subscriber};
 use std::alloc::Global;
@@ -88,7 +88,7 @@ fn tells_by_levels<S: Subscriber + Drop, L: Layer<S> + Drop + AsLayer<Recorder>>
     requires stack { S.usable stack }
     requires layer { L.usable layer }
 {
-    let mut dispatch = used(alloc, put(stack, layer)?, keeps);
+    let mut dispatch = put_used(alloc, stack, layer, keeps)?;
     sent_under_levels(rt, &mut dispatch, !keeps)?;
     told_around_a_span(rt, dispatch.stack().as_layer());
     Ok(())

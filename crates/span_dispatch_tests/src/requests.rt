@@ -1,10 +1,11 @@
 //! Requests, and dispatchers of any stack that serve them.
+ghost use Rattle.std.specs.Prelude.{IfOk};
 ghost use Rattle.span_dispatch.specs.Serve.{stack_of};
 
 use span_core::{Id, Kind, Level, LevelFilter, TraceError};
 use span_dispatch::{Answer, Dispatch, Notice, Recorder, Request, Which, WhichParent};
 use span_layer_tests::fixture::{LANE, metadata_of, put};
-use span_layers::{Filtered, Layered};
+use span_layers::{Filtered, Layer, Layered};
 use span_registry::{Registry, Subscriber};
 use std::alloc::Global;
 use std::process::Abort;
@@ -118,6 +119,47 @@ pub(crate) fn used<S: Subscriber>(alloc: Global, stack: S, keeps: bool) -> Dispa
         return in_use(alloc, stack);
     }
     fresh(alloc, stack)
+}
+
+/// Puts a layer on a stack, and that in use.
+// One call, since each at a known layer takes the prover six seconds.
+pub(crate) fn put_in_use<S: Subscriber + Drop, L: Layer<S> + Drop>(
+    alloc: Global,
+    stack: S,
+    layer: L,
+) -> Result<Dispatch<Layered<L, S>>, TraceError>
+    requires layer { L.usable layer }
+    requires stack { S.usable stack }
+    ensures { IfOk result (λ made. ⟦<Layered<L, S> as Subscriber>⟧.usable (stack_of made)) }
+{
+    Ok(in_use(alloc, put(stack, layer)?))
+}
+
+/// Puts a layer on a stack, and that in use by a dispatcher that keeps nothing.
+pub(crate) fn put_fresh<S: Subscriber + Drop, L: Layer<S> + Drop>(
+    alloc: Global,
+    stack: S,
+    layer: L,
+) -> Result<Dispatch<Layered<L, S>>, TraceError>
+    requires layer { L.usable layer }
+    requires stack { S.usable stack }
+    ensures { IfOk result (λ made. ⟦<Layered<L, S> as Subscriber>⟧.usable (stack_of made)) }
+{
+    Ok(fresh(alloc, put(stack, layer)?))
+}
+
+/// Puts a layer on a stack, and that in use as `used` does.
+pub(crate) fn put_used<S: Subscriber + Drop, L: Layer<S> + Drop>(
+    alloc: Global,
+    stack: S,
+    layer: L,
+    keeps: bool,
+) -> Result<Dispatch<Layered<L, S>>, TraceError>
+    requires layer { L.usable layer }
+    requires stack { S.usable stack }
+    ensures { IfOk result (λ made. ⟦<Layered<L, S> as Subscriber>⟧.usable (stack_of made)) }
+{
+    Ok(used(alloc, put(stack, layer)?, keeps))
 }
 
 /// Serves a list.

@@ -1,7 +1,7 @@
 //! Many filters, long chains and many entries, each by a dispatcher that keeps hint and interests and by one that keeps nothing.
 ghost use Rattle.span_dispatch.specs.Serve.{stack_of};
 
-use crate::requests::{AsLayer, event, keeps, serve, used};
+use crate::requests::{AsLayer, event, keeps, put_used, serve, used};
 use span_core::{Attributes, FilterId, Id, Kind, Level, LevelFilter, TraceError};
 use span_dispatch::{Answer, Dispatch, Notice, Recorder};
 use span_layer_tests::fixture::{LANE, metadata_of, put};
@@ -255,7 +255,7 @@ fn closes_a_chain<S: Subscriber + Drop, L: Layer<S> + Drop + AsLayer<Recorder>>(
     requires stack { S.usable stack }
     requires layer { L.usable layer }
 {
-    let mut dispatch = used(alloc, put(stack, layer)?, keeps);
+    let mut dispatch = put_used(alloc, stack, layer, keeps)?;
     let chain = close_chain(rt, alloc, &mut dispatch)?;
     let stack = dispatch.stack();
     is_closed(rt, stack, &chain);
@@ -324,7 +324,7 @@ fn leaves_under<S: Subscriber + Drop, L: Layer<S> + Drop>(
     requires stack { S.usable stack }
     requires layer { L.usable layer }
 {
-    leaves_as_often(rt, &mut used(alloc, put(stack, layer)?, keeps))
+    leaves_as_often(rt, &mut put_used(alloc, stack, layer, keeps)?)
 }
 
 #[test]

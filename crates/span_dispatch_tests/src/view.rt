@@ -3,7 +3,7 @@ ghost use Rattle.span_dispatch.specs.Serve.{stack_of};
 ghost use Rattle.std.specs.Prelude.{⊤};
 
 use crate::requests::{
-    AsLayer, AsLayers, Plain, event, in_use, made, new_event, new_span, serve, within,
+    AsLayer, AsLayers, Plain, event, made, new_event, new_span, put_in_use, serve, within,
 };
 use span_core::{Id, Level, LevelFilter, Metadata};
 use span_dispatch::{Dispatch, Notice, Recorder, Request, Which, WhichParent};
@@ -85,7 +85,7 @@ fn keep_under<S: Subscriber + Drop + AsLayer<Recorder>, L: Layer<S> + Drop + AsL
     requires stack { S.usable stack }
     requires layer { L.usable layer }
 {
-    keeps_one_in_another(rt, alloc, &mut in_use(alloc, put(stack, layer)?))
+    keeps_one_in_another(rt, alloc, &mut put_in_use(alloc, stack, layer)?)
 }
 
 /// Of two recorders, the outer one under a filter, the inner one keeps all of the two spans, and the other those outside all spans.
@@ -272,7 +272,7 @@ fn read_under<S: Subscriber + Drop + AsLayer<Reader>, L: Layer<S> + Drop + AsLay
     requires stack { S.usable stack }
     requires layer { L.usable layer }
 {
-    read_the_family(rt, alloc, &mut in_use(alloc, put(stack, layer)?))
+    read_the_family(rt, alloc, &mut put_in_use(alloc, stack, layer)?)
 }
 
 /// Puts a reader under INFO on a stack of another.
@@ -350,7 +350,7 @@ fn watch_under<S: Subscriber + Drop + EndsInPair, L: Layer<S> + Drop + AsLayer<W
     requires stack { S.usable stack }
     requires layer { L.usable layer }
 {
-    let mut dispatch = in_use(alloc, put(stack, layer)?);
+    let mut dispatch = put_in_use(alloc, stack, layer)?;
     let spans = serve_one_in_another(alloc, &mut dispatch)?;
     let stack = dispatch.stack();
     sees_both_close(rt, stack.as_layer(), spans);
