@@ -47,6 +47,29 @@ impl<S: Drop> Drop for Dispatch<S> {
     }
 }
 
+// Without a bound, so that a proof of a caller needs no stack's whole implementation to read one.
+impl<S> Dispatch<S> {
+    /// The stack, as it now is.
+    pub fn stack(&self) -> &S
+        ensures { result.now ≡ stack_of self.now }
+    {
+        &self.stack
+    }
+
+    /// The stack, taken out. Layers stay in use, and a new dispatcher puts them in use once more.
+    pub fn into_stack(self) -> S
+        ensures { result ≡ stack_of self }
+    {
+        let Dispatch {
+            stack,
+            alloc,
+            cache,
+            epoch,
+        } = self;
+        stack
+    }
+}
+
 impl<S: Subscriber> Dispatch<S> {
     /// Puts all layers of the stack in use, once each. The dispatcher goes by the stack's hint, and keeps its interest in each
     /// callsite that it is asked of.
@@ -87,26 +110,6 @@ impl<S: Subscriber> Dispatch<S> {
             cache: Cache::Off,
             epoch: Epoch::first(),
         }
-    }
-
-    /// The stack, as it now is.
-    pub fn stack(&self) -> &S
-        ensures { result.now ≡ stack_of self.now }
-    {
-        &self.stack
-    }
-
-    /// The stack, taken out. Layers stay in use, and a new dispatcher puts them in use once more.
-    pub fn into_stack(self) -> S
-        ensures { result ≡ stack_of self }
-    {
-        let Dispatch {
-            stack,
-            alloc,
-            cache,
-            epoch,
-        } = self;
-        stack
     }
 
     /// The stack, to be changed. Whatever was kept of its answers is forgotten.
