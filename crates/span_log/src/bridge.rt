@@ -44,17 +44,17 @@ pub fn forward<S: Subscriber, D: Display, K: Source, P: Spans>(
     alloc: Global,
     dispatch: &mut Dispatch<S>,
     lane: Lane,
-    record: &Record<'_, D, K, P>,
+    logged: &Record<'_, D, K, P>,
 ) -> Result<bool, TraceError>
     requires { S.usable (stack_of dispatch.old) }
     ensures usable { S.usable (stack_of dispatch.new) }
     ensures ready { StaysReady S.Subscriber dispatch.old dispatch.new }
     ensures registered { KeepsRegistered dispatch.old dispatch.new }
-    ensures sent { Forwards S.Subscriber D.output lane record.now result dispatch.old dispatch.new }
+    ensures sent { Forwards S.Subscriber D.output lane logged.now result dispatch.old dispatch.new }
 {
-    let message = format!(in alloc; "{}", record.args())?;
-    let values = record_fields(message.as_str(), record.target());
-    let event = Event::new(record_metadata(record.level()), &values);
+    let message = format!(in alloc; "{}", logged.args())?;
+    let values = record_fields(message.as_str(), logged.target());
+    let event = Event::new(record_metadata(logged.level()), &values);
     dispatch.event(lane, &event)
 }
 
