@@ -2,7 +2,7 @@
 ghost use Rattle.span_dispatch.specs.Serve.{stack_of};
 
 use crate::requests::{
-    AsLayer, AsLayers, UnderOne, event, keeps, made, new_span, put_in_use, serve,
+    AsLayer, AsLayers, Keeping, UnderOne, event, keeps, made, new_span, put_in_use, serve,
 };
 use span_core::{Event, Id, Kind, Level, LevelFilter, Metadata, TraceError};
 use span_dispatch::{Answer, Dispatch, Notice, Recorder, Request, Which, WhichParent};
@@ -72,7 +72,7 @@ fn kept_by_two<S: Subscriber + Drop + AsLayer<Recorder>, L: Layer<S> + Drop + As
     requires stack { S.usable stack }
     requires layer { L.usable layer }
 {
-    let mut dispatch = put_in_use(alloc, stack, layer)?;
+    let mut dispatch = put_in_use(alloc, stack, layer, Keeping::Answers)?;
     serve_events(alloc, &mut dispatch, count)?;
     let stack = dispatch.stack();
     Ok((
@@ -81,18 +81,18 @@ fn kept_by_two<S: Subscriber + Drop + AsLayer<Recorder>, L: Layer<S> + Drop + As
     ))
 }
 
-/// Puts a recorder under a filter outside another, and counts what both keep of so many events.
-fn kept_below<S: Subscriber + Drop + AsLayer<Recorder>, F: Filter<S> + Drop>(
-    alloc: Global,
-    stack: S,
-    filter: F,
-    count: usize,
-) -> Result<(usize, usize), Fail>
+/// Puts a recorder's layer on a stack, and one under a filter outside it, and counts what both keep of so many events.
+fn kept_below<
+    S: Subscriber + Drop,
+    L: Layer<S> + Drop + AsLayer<Recorder>,
+    F: Filter<Layered<L, S>> + Drop,
+>(alloc: Global, stack: S, inner: L, filter: F, count: usize) -> Result<(usize, usize), Fail>
     requires stack { S.usable stack }
+    requires layer { L.usable inner }
     requires filter { F.usable filter }
 {
     let under_filter = Recorder::new(alloc).with_filter(filter);
-    kept_by_two(alloc, stack, under_filter, count)
+    kept_by_two(alloc, put(stack, inner)?, under_filter, count)
 }
 
 /// A recorder under a filter that is absent.
@@ -110,7 +110,7 @@ fn kept_outside<S: Subscriber + Drop, F: Filter<Layered<UnderNone, S>> + Drop>(
 {
     let absent: Option<LevelFilter> = None;
     let under_none = Recorder::new(alloc).with_filter(absent);
-    kept_below(alloc, put(stack, under_none)?, filter, count)
+    kept_below(alloc, stack, under_none, filter, count)
 }
 
 /// So many events under no filter, and under one that wants them: it is asked once.
@@ -142,7 +142,7 @@ fn keeps_none<S: Subscriber + Drop + AsLayer<Recorder>, L: Layer<S> + Drop + AsL
     requires stack { S.usable stack }
     requires layer { L.usable layer }
 {
-    let mut dispatch = put_in_use(alloc, stack, layer)?;
+    let mut dispatch = put_in_use(alloc, stack, layer, Keeping::Answers)?;
     serve_events(alloc, &mut dispatch, 3)?;
     let stack = dispatch.stack();
     keeps(rt, stack.as_outer(), &[]);
@@ -151,18 +151,18 @@ fn keeps_none<S: Subscriber + Drop + AsLayer<Recorder>, L: Layer<S> + Drop + AsL
     Ok(())
 }
 
-/// Puts a recorder under a filter outside another: it keeps none of three events, and the other all.
-fn keeps_none_below<S: Subscriber + Drop + AsLayer<Recorder>, F: Filter<S> + Drop>(
-    rt: &impl Abort,
-    alloc: Global,
-    stack: S,
-    filter: F,
-) -> Result<(), Fail>
+/// Puts a recorder's layer on a stack, and one under a filter outside it: that keeps none of three events, and the other all.
+fn keeps_none_below<
+    S: Subscriber + Drop,
+    L: Layer<S> + Drop + AsLayer<Recorder>,
+    F: Filter<Layered<L, S>> + Drop,
+>(rt: &impl Abort, alloc: Global, stack: S, inner: L, filter: F) -> Result<(), Fail>
     requires stack { S.usable stack }
+    requires layer { L.usable inner }
     requires filter { F.usable filter }
 {
     let under_filter = Recorder::new(alloc).with_filter(filter);
-    keeps_none(rt, alloc, stack, under_filter)
+    keeps_none(rt, alloc, put(stack, inner)?, under_filter)
 }
 
 /// Puts a recorder under INFO on a stack, and one under a filter outside it, which keeps nothing.
@@ -176,7 +176,7 @@ fn keeps_none_outside<S: Subscriber + Drop, F: Filter<Layered<UnderOne, S>> + Dr
     requires filter { F.usable filter }
 {
     let under_info = Recorder::new(alloc).with_filter(LevelFilter::INFO);
-    keeps_none_below(rt, alloc, put(stack, under_info)?, filter)
+    keeps_none_below(rt, alloc, stack, under_info, filter)
 }
 
 #[test]
@@ -241,7 +241,10 @@ fn sends_under_warn<S: Subscriber + Drop>(
     requires { S.usable stack }
 {
     let under_warn = Recorder::new(alloc).with_filter(LevelFilter::WARN);
-    sends_around_a_change(rt, &mut put_in_use(alloc, stack, under_warn)?);
+    sends_around_a_change(
+        rt,
+        &mut put_in_use(alloc, stack, under_warn, Keeping::Answers)?,
+    );
     Ok(())
 }
 
@@ -297,7 +300,7 @@ fn answers_each_level<S: Subscriber>(
     Ok(())
 }
 
-/// Puts a recorder under a filter on a stack, and serves those events: it keeps those that are wanted.
+/// Puts a recorder under a filter on a stack, and serves those events.
 fn keeps_info_alone<S: Subscriber + Drop, F: Filter<S> + Drop>(
     rt: &impl Abort,
     alloc: Global,
@@ -308,7 +311,20 @@ fn keeps_info_alone<S: Subscriber + Drop, F: Filter<S> + Drop>(
     requires filter { F.usable filter }
 {
     let under_filter = Recorder::new(alloc).with_filter(filter);
-    let mut dispatch = put_in_use(alloc, stack, under_filter)?;
+    keeps_info_under(rt, alloc, stack, under_filter)
+}
+
+/// Puts that recorder's layer on a stack, and serves those events: it keeps those that are wanted.
+fn keeps_info_under<S: Subscriber + Drop, L: Layer<S> + Drop + AsLayer<Recorder>>(
+    rt: &impl Abort,
+    alloc: Global,
+    stack: S,
+    layer: L,
+) -> Result<(), Fail>
+    requires stack { S.usable stack }
+    requires layer { L.usable layer }
+{
+    let mut dispatch = put_in_use(alloc, stack, layer, Keeping::Answers)?;
     answers_each_level(rt, alloc, &mut dispatch)?;
     let twice = [Notice::Event(LANE, 5), Notice::Event(LANE, 5)];
     keeps(rt, dispatch.stack().as_layer(), &twice);
@@ -418,7 +434,11 @@ fn serve_below_two<S: Levels + Drop + AsLayer<Recorder>>(
     let under_two = Recorder::new(alloc)
         .with_filter(LevelFilter::INFO)
         .with_filter(LevelFilter::TRACE);
-    serves_around_a_change(rt, alloc, &mut put_in_use(alloc, stack, under_two)?)
+    serves_around_a_change(
+        rt,
+        alloc,
+        &mut put_in_use(alloc, stack, under_two, Keeping::Answers)?,
+    )
 }
 
 /// Puts a recorder under INFO on a stack, and serves around a change with two outside it.
@@ -463,7 +483,7 @@ fn sends_the_first<S: Subscriber + Drop, L: Layer<S> + Drop + AsLayer<Recorder>>
     requires stack { S.usable stack }
     requires layer { L.usable layer }
 {
-    sends_the_first_level(rt, &mut put_in_use(alloc, stack, layer)?);
+    sends_the_first_level(rt, &mut put_in_use(alloc, stack, layer, Keeping::Answers)?);
     Ok(())
 }
 
@@ -490,7 +510,7 @@ fn sends_nothing_under<S: Subscriber + Drop, L: Layer<S> + Drop>(
     requires stack { S.usable stack }
     requires layer { L.usable layer }
 {
-    sends_nothing(rt, &mut put_in_use(alloc, stack, layer)?);
+    sends_nothing(rt, &mut put_in_use(alloc, stack, layer, Keeping::Answers)?);
     Ok(())
 }
 

@@ -2,8 +2,8 @@
 ghost use Rattle.span_dispatch.specs.Serve.{stack_of};
 
 use crate::requests::{
-    AsLayer, Plain, fresh, keeps, made, new_event, new_span, plain, put_fresh, put_in_use,
-    put_used, serve, within,
+    AsLayer, Keeping, Plain, in_use, keeps, made, new_event, new_span, plain, put_in_use, serve,
+    within,
 };
 use span_core::{Attributes, Event, Id, Kind, Lane, Level, Metadata, Record, TraceError};
 use span_dispatch::{Answer, Dispatch, Notice, Recorder, Request, Which, WhichParent};
@@ -16,7 +16,7 @@ use std::test::Fail;
 
 /// A recorder on a registry, in use by a dispatcher that keeps nothing.
 fn fresh_plain(alloc: Global) -> Result<Dispatch<Plain>, TraceError> {
-    Ok(fresh(alloc, plain(alloc)?))
+    Ok(in_use(alloc, plain(alloc)?, Keeping::Nothing))
 }
 
 /// What the one callsite for spans makes.
@@ -97,7 +97,7 @@ fn tells_of_one_span<S: Subscriber + Drop, L: Layer<S> + Drop + AsLayer<Recorder
     requires stack { S.usable stack }
     requires layer { L.usable layer }
 {
-    let mut dispatch = put_fresh(alloc, stack, layer)?;
+    let mut dispatch = put_in_use(alloc, stack, layer, Keeping::Nothing)?;
     let id = closes_with_its_last_handle(rt, &mut dispatch)?;
     let recorder = dispatch.stack().as_layer();
     keeps(
@@ -179,7 +179,7 @@ fn tells_of_places<S: Subscriber + Drop, L: Layer<S> + Drop + AsLayer<Recorder>>
     requires stack { S.usable stack }
     requires layer { L.usable layer }
 {
-    let mut dispatch = put_fresh(alloc, stack, layer)?;
+    let mut dispatch = put_in_use(alloc, stack, layer, Keeping::Nothing)?;
     let [root, child, other] = serves_by_places(rt, alloc, &mut dispatch)?;
     let notices = [
         Notice::New(LANE, root),
@@ -260,7 +260,7 @@ fn tells_in_order<S: Subscriber + Drop, L: Layer<S> + Drop + AsLayer<Recorder>>(
     requires stack { S.usable stack }
     requires layer { L.usable layer }
 {
-    let mut dispatch = put_fresh(alloc, stack, layer)?;
+    let mut dispatch = put_in_use(alloc, stack, layer, Keeping::Nothing)?;
     let never = Id::from_u64(0);
     let id = answers_in_order(rt, alloc, &mut dispatch, never)?;
     let notices = [
@@ -330,12 +330,12 @@ fn knows_open_spans_alone<S: Subscriber + Drop, L: Layer<S> + Drop + AsLayer<Rec
     alloc: Global,
     stack: S,
     layer: L,
-    keeps_interests: bool,
+    kept: Keeping,
 ) -> Result<(), Fail>
     requires stack { S.usable stack }
     requires layer { L.usable layer }
 {
-    let mut dispatch = put_used(alloc, stack, layer, keeps_interests)?;
+    let mut dispatch = put_in_use(alloc, stack, layer, kept)?;
     let closed = refuses_all_unknown(rt, &mut dispatch)?;
     let notices = [
         Notice::New(LANE, closed),
@@ -351,9 +351,21 @@ fn knows_open_spans_alone<S: Subscriber + Drop, L: Layer<S> + Drop + AsLayer<Rec
 #[test]
 fn spans_may_be_unknown(rt: HostRuntime) -> Result<(), Fail> {
     let recorder = Recorder::new(rt.alloc());
-    knows_open_spans_alone(&rt, rt.alloc(), Registry::new(rt.alloc()), recorder, false)?;
+    knows_open_spans_alone(
+        &rt,
+        rt.alloc(),
+        Registry::new(rt.alloc()),
+        recorder,
+        Keeping::Nothing,
+    )?;
     let recorder = Recorder::new(rt.alloc());
-    knows_open_spans_alone(&rt, rt.alloc(), Registry::new(rt.alloc()), recorder, true)
+    knows_open_spans_alone(
+        &rt,
+        rt.alloc(),
+        Registry::new(rt.alloc()),
+        recorder,
+        Keeping::Answers,
+    )
 }
 
 /// The span that the lane is in.
@@ -488,7 +500,7 @@ fn serves_one_span_at_last<S: Subscriber + Drop, L: Layer<S> + Drop + AsLayer<Re
     requires stack { S.usable stack }
     requires layer { L.usable layer }
 {
-    let mut dispatch = put_fresh(alloc, stack, layer)?;
+    let mut dispatch = put_in_use(alloc, stack, layer, Keeping::Nothing)?;
     let id = send_in_span_at_last(rt, &mut dispatch)?;
     drop_at_last(rt, alloc, &mut dispatch, id)?;
     keeps_what_fits(rt, dispatch.stack().as_layer(), id);
@@ -527,7 +539,7 @@ fn sends_at_last<S: Subscriber + Drop, L: Layer<S> + Drop + AsLayer<Recorder>>(
     requires stack { S.usable stack }
     requires layer { L.usable layer }
 {
-    send_at_last(rt, &mut put_in_use(alloc, stack, layer)?);
+    send_at_last(rt, &mut put_in_use(alloc, stack, layer, Keeping::Answers)?);
     Ok(())
 }
 

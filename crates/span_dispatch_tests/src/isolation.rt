@@ -4,7 +4,9 @@ ghost use Rattle.span_dispatch_tests.specs.Marked.{in_marked, is_marked};
 ghost use Rattle.span_registry.specs.Context.{view_in};
 ghost use Rattle.std.specs.Prelude.{◌≡◌, ⊤};
 
-use crate::requests::{AsLayer, AsLayers, event, keeps, made, new_span, put_in_use, serve, within};
+use crate::requests::{
+    AsLayer, AsLayers, Keeping, event, keeps, made, new_span, put_in_use, serve, within,
+};
 use span_core::{Id, Level, LevelFilter, Metadata};
 use span_dispatch::{Dispatch, Notice, Recorder, Request, Which, WhichParent};
 use span_filters::{FunctionIn, dynamic_filter_fn};
@@ -97,7 +99,7 @@ fn tells_a_and_b<S: Subscriber + Drop + AsLayers<Recorder>, L: Layer<S> + Drop>(
     requires stack { S.usable stack }
     requires layer { L.usable c }
 {
-    let mut dispatch = put_in_use(alloc, stack, c)?;
+    let mut dispatch = put_in_use(alloc, stack, c, Keeping::Answers)?;
     let [p, q, r] = serve_requests(alloc, &mut dispatch)?;
     let a_and_b = dispatch.stack().inner();
     keeps(rt, a_and_b.as_outer(), &due_to_a(p, r));
@@ -105,17 +107,19 @@ fn tells_a_and_b<S: Subscriber + Drop + AsLayers<Recorder>, L: Layer<S> + Drop>(
     Ok(())
 }
 
-/// Puts C, a recorder under this level, on a stack of A and B, which are told the same of the list.
-fn tells_below_c<S: Subscriber + Drop + AsLayers<Recorder>>(
+/// Puts A on a stack of B, and outside it C, a recorder under this level: A and B are told the same of the list.
+fn tells_below_c<S: Subscriber + Drop + AsLayer<Recorder>, L: Layer<S> + Drop + AsLayer<Recorder>>(
     rt: &impl Abort,
     alloc: Global,
     stack: S,
+    a: L,
     outermost: LevelFilter,
 ) -> Result<(), Fail>
-    requires { S.usable stack }
+    requires stack { S.usable stack }
+    requires layer { L.usable a }
 {
     let c = Recorder::new(alloc).with_filter(outermost);
-    tells_a_and_b(rt, alloc, stack, c)
+    tells_a_and_b(rt, alloc, put(stack, a)?, c)
 }
 
 /// Puts A, under INFO, on a stack of B, and C outside it.
@@ -128,7 +132,7 @@ fn tells_beside<S: Subscriber + Drop + AsLayer<Recorder>>(
     requires { S.usable stack }
 {
     let a = Recorder::new(alloc).with_filter(LevelFilter::INFO);
-    tells_below_c(rt, alloc, put(stack, a)?, outermost)
+    tells_below_c(rt, alloc, stack, a, outermost)
 }
 
 /// Puts B on a stack, and A and C outside it.
@@ -253,25 +257,27 @@ fn tells_a<S: Subscriber + Drop + AsLayer<Recorder>, L: Layer<S> + Drop>(
     requires stack { S.usable stack }
     requires layer { L.usable c }
 {
-    let mut dispatch = put_in_use(alloc, stack, c)?;
+    let mut dispatch = put_in_use(alloc, stack, c, Keeping::Answers)?;
     let p = serve_one_span(alloc, &mut dispatch)?;
     told_of_one_span(rt, dispatch.stack().inner().as_layer(), p, of_event);
     Ok(())
 }
 
-/// Puts C, which marks spans under this level, on a stack of A.
-fn tells_beside_marker<S: Subscriber + Drop + AsLayer<Recorder>>(
+/// Puts A on a stack, and outside it C, which marks spans under this level.
+fn tells_beside_marker<S: Subscriber + Drop, L: Layer<S> + Drop + AsLayer<Recorder>>(
     rt: &impl Abort,
     alloc: Global,
     stack: S,
+    a: L,
     mark: Tag<bool>,
     outermost: LevelFilter,
     of_event: bool,
 ) -> Result<(), Fail>
-    requires { S.usable stack }
+    requires stack { S.usable stack }
+    requires layer { L.usable a }
 {
     let c = Observer::new(SpanMarker { mark }).with_filter(outermost);
-    tells_a(rt, alloc, stack, c, of_event)
+    tells_a(rt, alloc, put(stack, a)?, c, of_event)
 }
 
 /// Puts A, under a filter by marks, on a stack, and C outside it.
@@ -286,7 +292,7 @@ fn tells_by_marks<S: Subscriber + Drop>(
 {
     let mark = Tag::new(0);
     let a = Recorder::new(alloc).with_filter(dynamic_filter_fn(InMarked { mark }));
-    tells_beside_marker(rt, alloc, put(stack, a)?, mark, outermost, of_event)
+    tells_beside_marker(rt, alloc, stack, a, mark, outermost, of_event)
 }
 
 #[test]

@@ -3,7 +3,7 @@ ghost use Rattle.span_dispatch.specs.Serve.{stack_of};
 
 use crate::cache::{count_one, sent_under};
 use crate::requests::{
-    AsLayer, AsLayers, UnderOne, event, made, new_span, put_in_use, put_used, serve, used,
+    AsLayer, AsLayers, Keeping, UnderOne, event, made, new_span, put_in_use, serve,
 };
 use span_core::{Id, Level, LevelFilter, Metadata, TraceError};
 use span_dispatch::{Answer, Dispatch, Notice, Recorder, Request, Which, WhichParent};
@@ -61,14 +61,14 @@ fn the_third_event_alone<S: Subscriber + Drop, L: Layer<S> + Drop + AsLayer<Reco
     alloc: Global,
     stack: S,
     layer: L,
-    keeps: bool,
+    keeps: Keeping,
     said: [Said; 2],
 ) -> Result<(), Fail>
     requires stack { S.usable stack }
     requires layer { L.usable layer }
 {
     let [before, after] = said;
-    let mut dispatch = put_used(alloc, stack, layer, keeps)?;
+    let mut dispatch = put_in_use(alloc, stack, layer, keeps)?;
     raised_by_calls(rt, &mut dispatch, before, after)?;
     told_once(rt, dispatch.stack().as_layer());
     Ok(())
@@ -82,7 +82,14 @@ fn a_level_is_set_by_a_call(rt: HostRuntime) -> Result<(), Fail> {
     ];
     let under_warn = Recorder::new(rt.alloc()).with_filter(LevelFilter::WARN);
     let registry = Registry::new(rt.alloc());
-    the_third_event_alone(&rt, rt.alloc(), registry, under_warn, true, said)?;
+    the_third_event_alone(
+        &rt,
+        rt.alloc(),
+        registry,
+        under_warn,
+        Keeping::Answers,
+        said,
+    )?;
     let asked_each_time = [(Ok(true), None); 2];
     let under_warn = Recorder::new(rt.alloc()).with_filter(LevelFilter::WARN);
     let registry = Registry::new(rt.alloc());
@@ -91,7 +98,7 @@ fn a_level_is_set_by_a_call(rt: HostRuntime) -> Result<(), Fail> {
         rt.alloc(),
         registry,
         under_warn,
-        false,
+        Keeping::Nothing,
         asked_each_time,
     )
 }
@@ -146,7 +153,7 @@ fn raised_in_lists<S: Subscriber>(
 fn the_third_event_beside_a_closure(
     rt: &impl Abort,
     alloc: Global,
-    keeps: bool,
+    keeps: Keeping,
     before: Answer,
     counts: [u32; 2],
 ) -> Result<(), Fail> {
@@ -174,7 +181,7 @@ type Expected<'a> = (&'a Cell<u32>, Answer, [u32; 2]);
 fn told_beside<S: Subscriber + Drop, F: Filter<Layered<UnderOne, S>> + Drop>(
     rt: &impl Abort,
     alloc: Global,
-    keeps: bool,
+    keeps: Keeping,
     stack: S,
     other: F,
     expected: Expected<'_>,
@@ -183,22 +190,29 @@ fn told_beside<S: Subscriber + Drop, F: Filter<Layered<UnderOne, S>> + Drop>(
     requires filter { F.usable other }
 {
     let under_warn = Recorder::new(alloc).with_filter(LevelFilter::WARN);
-    told_outside(rt, alloc, keeps, put(stack, under_warn)?, other, expected)
+    told_outside(rt, alloc, keeps, stack, under_warn, other, expected)
 }
 
-/// Puts a recorder under another filter outside the one under WARN, and looks at what both are told.
-fn told_outside<S: Subscriber + Drop + AsLayer<Recorder>, F: Filter<S> + Drop>(
+/// Puts the recorder under WARN on a stack, and one under another filter outside it, and looks at what both are told.
+fn told_outside<
+    S: Subscriber + Drop,
+    L: Layer<S> + Drop + AsLayer<Recorder>,
+    F: Filter<Layered<L, S>> + Drop,
+>(
     rt: &impl Abort,
     alloc: Global,
-    keeps: bool,
+    keeps: Keeping,
     stack: S,
+    under_warn: L,
     other: F,
     expected: Expected<'_>,
 ) -> Result<(), Fail>
     requires stack { S.usable stack }
+    requires layer { L.usable under_warn }
     requires filter { F.usable other }
 {
     let under_other = Recorder::new(alloc).with_filter(other);
+    let stack = put(stack, under_warn)?;
     told_under(rt, alloc, keeps, stack, under_other, expected)
 }
 
@@ -206,7 +220,7 @@ fn told_outside<S: Subscriber + Drop + AsLayer<Recorder>, F: Filter<S> + Drop>(
 fn told_under<S: Subscriber + Drop + AsLayer<Recorder>, L: Layer<S> + Drop + AsLayer<Recorder>>(
     rt: &impl Abort,
     alloc: Global,
-    keeps: bool,
+    keeps: Keeping,
     stack: S,
     layer: L,
     expected: Expected<'_>,
@@ -214,8 +228,8 @@ fn told_under<S: Subscriber + Drop + AsLayer<Recorder>, L: Layer<S> + Drop + AsL
     requires stack { S.usable stack }
     requires layer { L.usable layer }
 {
-    let stack = put(stack, layer)?;
-    raised_beside(rt, alloc, &mut used(alloc, stack, keeps), expected)
+    let mut dispatch = put_in_use(alloc, stack, layer, keeps)?;
+    raised_beside(rt, alloc, &mut dispatch, expected)
 }
 
 /// The inner recorder alone is told.
@@ -240,8 +254,8 @@ fn raised_beside<S: Subscriber + AsLayers<Recorder>>(
 /// kept, it is asked of each event.
 #[test]
 fn a_level_is_set_in_a_list(rt: HostRuntime) -> Result<(), Fail> {
-    the_third_event_beside_a_closure(&rt, rt.alloc(), true, Answer::Dropped, [1, 3])?;
-    the_third_event_beside_a_closure(&rt, rt.alloc(), false, Answer::Done, [2, 3])
+    the_third_event_beside_a_closure(&rt, rt.alloc(), Keeping::Answers, Answer::Dropped, [1, 3])?;
+    the_third_event_beside_a_closure(&rt, rt.alloc(), Keeping::Nothing, Answer::Done, [2, 3])
 }
 
 /// A span of this level, in none.
@@ -367,7 +381,11 @@ fn tells_under<S: Subscriber + Drop + AsLayer<Recorder>, L: Layer<S> + Drop + As
     requires stack { S.usable stack }
     requires layer { L.usable layer }
 {
-    tells_between_levels(rt, alloc, &mut put_in_use(alloc, stack, layer)?)
+    tells_between_levels(
+        rt,
+        alloc,
+        &mut put_in_use(alloc, stack, layer, Keeping::Answers)?,
+    )
 }
 
 #[test]

@@ -3,7 +3,7 @@ ghost use Rattle.span_dispatch.specs.Serve.{stack_of};
 ghost use Rattle.std.specs.Prelude.{◌≡◌};
 
 use crate::isolation::SpanMarker;
-use crate::requests::{fresh, in_use};
+use crate::requests::{Keeping, in_use};
 use span_core::{Attributes, FilterId, Id, Kind, Level, LevelFilter};
 use span_dispatch::{Crew, Dispatch, Entry, EntryWith, Shared, Worker};
 use span_layer_tests::fixture::{LANE, metadata_of, put};
@@ -19,12 +19,10 @@ use std::test::Fail;
 /// Which dispatcher opens a span.
 #[derive(Clone, Copy, Debug, PartialEq, Eq)]
 enum By {
-    /// One that keeps hint and interests.
-    Keeping,
-    /// One that keeps nothing.
-    Asking,
+    /// One of its own, which keeps this.
+    Own(Keeping),
     /// One that threads can share.
-    Sharing,
+    Shared,
 }
 
 /// A span that a dispatcher opens, and what is to be seen of it: the numbers of the filters that refused
@@ -164,9 +162,8 @@ fn by_case<S: Subscriber + Drop>(
 {
     assert!(rt; stack.root().filters() == 8);
     match case.by {
-        By::Keeping => by_dispatcher(rt, alloc, case, &mut in_use(alloc, stack)),
-        By::Asking => by_dispatcher(rt, alloc, case, &mut fresh(alloc, stack)),
-        By::Sharing => by_worker::<S, Brand>(rt, alloc, Blank::new(1), case, stack),
+        By::Own(keeps) => by_dispatcher(rt, alloc, case, &mut in_use(alloc, stack, keeps)),
+        By::Shared => by_worker::<S, Brand>(rt, alloc, Blank::new(1), case, stack),
     }
 }
 
@@ -249,9 +246,9 @@ fn in_eight(rt: &(impl Abort + Wait), alloc: Global, case: Case<'_>) -> Result<(
 #[test]
 fn of_eight_filters_number_3_refuses(rt: HostRuntime) -> Result<(), Fail> {
     for (by, verdict) in [
-        (By::Keeping, None),
-        (By::Asking, None),
-        (By::Sharing, Some(0b1000)),
+        (By::Own(Keeping::Answers), None),
+        (By::Own(Keeping::Nothing), None),
+        (By::Shared, Some(0b1000)),
     ] {
         let case = Case {
             by,
@@ -269,9 +266,9 @@ fn of_eight_filters_number_3_refuses(rt: HostRuntime) -> Result<(), Fail> {
 #[test]
 fn eight_filters_pass(rt: HostRuntime) -> Result<(), Fail> {
     for (by, verdict) in [
-        (By::Keeping, None),
-        (By::Asking, None),
-        (By::Sharing, Some(0)),
+        (By::Own(Keeping::Answers), None),
+        (By::Own(Keeping::Nothing), None),
+        (By::Shared, Some(0)),
     ] {
         let case = Case {
             by,

@@ -4,7 +4,7 @@ ghost use Rattle.span_core.specs.Metadata.{kind_of};
 ghost use Rattle.span_dispatch.specs.Registration.{IsRegistered, KeepsRegistered};
 ghost use Rattle.span_dispatch.specs.Serve.{stack_of};
 
-use crate::requests::{AsLayer, put_used};
+use crate::requests::{AsLayer, Keeping, put_in_use};
 use span_core::{Attributes, Event, FieldSet, Kind, Level, LevelFilter, Metadata, TraceError};
 use span_dispatch::{Dispatch, Notice, Recorder, Registration};
 use span_layer_tests::fixture::LANE;
@@ -83,13 +83,13 @@ fn tells_by_levels<S: Subscriber + Drop, L: Layer<S> + Drop + AsLayer<Recorder>>
     alloc: Global,
     stack: S,
     layer: L,
-    keeps: bool,
+    keeps: Keeping,
 ) -> Result<(), Fail>
     requires stack { S.usable stack }
     requires layer { L.usable layer }
 {
-    let mut dispatch = put_used(alloc, stack, layer, keeps)?;
-    sent_under_levels(rt, &mut dispatch, !keeps)?;
+    let mut dispatch = put_in_use(alloc, stack, layer, keeps)?;
+    sent_under_levels(rt, &mut dispatch, keeps == Keeping::Nothing)?;
     told_around_a_span(rt, dispatch.stack().as_layer());
     Ok(())
 }
@@ -97,7 +97,13 @@ fn tells_by_levels<S: Subscriber + Drop, L: Layer<S> + Drop + AsLayer<Recorder>>
 #[test]
 fn a_registered_callsite_goes_by_the_level_that_is_set(rt: HostRuntime) -> Result<(), Fail> {
     let under_info = Recorder::new(rt.alloc()).with_filter(LevelFilter::INFO);
-    tells_by_levels(&rt, rt.alloc(), Registry::new(rt.alloc()), under_info, true)
+    tells_by_levels(
+        &rt,
+        rt.alloc(),
+        Registry::new(rt.alloc()),
+        under_info,
+        Keeping::Answers,
+    )
 }
 
 #[test]
@@ -108,6 +114,6 @@ fn it_does_where_nothing_is_kept(rt: HostRuntime) -> Result<(), Fail> {
         rt.alloc(),
         Registry::new(rt.alloc()),
         under_info,
-        false,
+        Keeping::Nothing,
     )
 }

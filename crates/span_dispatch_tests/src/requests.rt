@@ -94,72 +94,39 @@ pub(crate) fn plain(alloc: Global) -> Result<Plain, TraceError> {
 /// A recorder under a level.
 pub(crate) type UnderOne = Filtered<Recorder, LevelFilter>;
 
-/// Puts a stack in use.
-pub(crate) fn in_use<S: Subscriber>(alloc: Global, stack: S) -> Dispatch<S>
-    requires { S.usable stack }
-    ensures { S.usable (stack_of result) }
-{
-    Dispatch::new(alloc, stack)
+/// What a dispatcher keeps of what its stack answers.
+#[derive(Clone, Copy, Debug, PartialEq, Eq)]
+pub(crate) enum Keeping {
+    /// The hint, and the interests in callsites.
+    Answers,
+    /// Nothing: it asks each time.
+    Nothing,
 }
 
-/// Puts a stack in use by a dispatcher that keeps nothing.
-pub(crate) fn fresh<S: Subscriber>(alloc: Global, stack: S) -> Dispatch<S>
+/// Puts a stack in use by a dispatcher that keeps this.
+pub(crate) fn in_use<S: Subscriber>(alloc: Global, stack: S, keeps: Keeping) -> Dispatch<S>
     requires { S.usable stack }
     ensures { S.usable (stack_of result) }
 {
-    Dispatch::fresh(alloc, stack)
-}
-
-/// Puts a stack in use by a dispatcher that keeps hint and interests, or by one that keeps nothing.
-pub(crate) fn used<S: Subscriber>(alloc: Global, stack: S, keeps: bool) -> Dispatch<S>
-    requires { S.usable stack }
-    ensures { S.usable (stack_of result) }
-{
-    if keeps {
-        return in_use(alloc, stack);
+    match keeps {
+        Keeping::Answers => Dispatch::new(alloc, stack),
+        Keeping::Nothing => Dispatch::fresh(alloc, stack),
     }
-    fresh(alloc, stack)
 }
 
-/// Puts a layer on a stack, and that in use.
+/// Puts a layer on a stack, and that in use by a dispatcher that keeps this.
 // One call, since each at a known layer takes the prover six seconds.
 pub(crate) fn put_in_use<S: Subscriber + Drop, L: Layer<S> + Drop>(
     alloc: Global,
     stack: S,
     layer: L,
+    keeps: Keeping,
 ) -> Result<Dispatch<Layered<L, S>>, TraceError>
     requires layer { L.usable layer }
     requires stack { S.usable stack }
     ensures { IfOk result (λ made. ⟦<Layered<L, S> as Subscriber>⟧.usable (stack_of made)) }
 {
-    Ok(in_use(alloc, put(stack, layer)?))
-}
-
-/// Puts a layer on a stack, and that in use by a dispatcher that keeps nothing.
-pub(crate) fn put_fresh<S: Subscriber + Drop, L: Layer<S> + Drop>(
-    alloc: Global,
-    stack: S,
-    layer: L,
-) -> Result<Dispatch<Layered<L, S>>, TraceError>
-    requires layer { L.usable layer }
-    requires stack { S.usable stack }
-    ensures { IfOk result (λ made. ⟦<Layered<L, S> as Subscriber>⟧.usable (stack_of made)) }
-{
-    Ok(fresh(alloc, put(stack, layer)?))
-}
-
-/// Puts a layer on a stack, and that in use as `used` does.
-pub(crate) fn put_used<S: Subscriber + Drop, L: Layer<S> + Drop>(
-    alloc: Global,
-    stack: S,
-    layer: L,
-    keeps: bool,
-) -> Result<Dispatch<Layered<L, S>>, TraceError>
-    requires layer { L.usable layer }
-    requires stack { S.usable stack }
-    ensures { IfOk result (λ made. ⟦<Layered<L, S> as Subscriber>⟧.usable (stack_of made)) }
-{
-    Ok(used(alloc, put(stack, layer)?, keeps))
+    Ok(in_use(alloc, put(stack, layer)?, keeps))
 }
 
 /// Serves a list.

@@ -1,7 +1,7 @@
 //! Many filters, long chains and many entries, each by a dispatcher that keeps hint and interests and by one that keeps nothing.
 ghost use Rattle.span_dispatch.specs.Serve.{stack_of};
 
-use crate::requests::{AsLayer, event, keeps, put_used, serve, used};
+use crate::requests::{AsLayer, Keeping, event, keeps, put_in_use, serve};
 use span_core::{Attributes, FilterId, Id, Kind, Level, LevelFilter, TraceError};
 use span_dispatch::{Answer, Dispatch, Notice, Recorder};
 use span_layer_tests::fixture::{LANE, metadata_of, put};
@@ -98,13 +98,12 @@ fn tells_under<S: Subscriber + Drop + AsLayer<Recorder>, L: Layer<S> + Drop + Ha
     alloc: Global,
     stack: S,
     layer: L,
-    keeps: bool,
+    keeps: Keeping,
 ) -> Result<(), Fail>
     requires stack { S.usable stack }
     requires layer { L.usable layer }
 {
-    let stack = put(stack, layer)?;
-    tells_the_open_one(rt, alloc, &mut used(alloc, stack, keeps))
+    tells_the_open_one(rt, alloc, &mut put_in_use(alloc, stack, layer, keeps)?)
 }
 
 /// Puts recorders under OFF outside an open one on a stack.
@@ -112,7 +111,7 @@ fn tells_below_closed<S: Subscriber + Drop + AsLayer<Recorder>>(
     rt: &impl Abort,
     alloc: Global,
     stack: S,
-    keeps: bool,
+    keeps: Keeping,
 ) -> Result<(), Fail>
     requires { S.usable stack }
 {
@@ -125,7 +124,7 @@ fn tells_an_open_one<S: Subscriber + Drop, L: Layer<S> + Drop + AsLayer<Recorder
     alloc: Global,
     stack: S,
     layer: L,
-    keeps: bool,
+    keeps: Keeping,
 ) -> Result<(), Fail>
     requires stack { S.usable stack }
     requires layer { L.usable layer }
@@ -136,13 +135,25 @@ fn tells_an_open_one<S: Subscriber + Drop, L: Layer<S> + Drop + AsLayer<Recorder
 #[test]
 fn of_129_recorders_the_open_one_is_told(rt: HostRuntime) -> Result<(), Fail> {
     let open = Recorder::new(rt.alloc());
-    tells_an_open_one(&rt, rt.alloc(), Registry::new(rt.alloc()), open, true)
+    tells_an_open_one(
+        &rt,
+        rt.alloc(),
+        Registry::new(rt.alloc()),
+        open,
+        Keeping::Answers,
+    )
 }
 
 #[test]
 fn of_129_recorders_it_is_told_where_nothing_is_kept(rt: HostRuntime) -> Result<(), Fail> {
     let open = Recorder::new(rt.alloc());
-    tells_an_open_one(&rt, rt.alloc(), Registry::new(rt.alloc()), open, false)
+    tells_an_open_one(
+        &rt,
+        rt.alloc(),
+        Registry::new(rt.alloc()),
+        open,
+        Keeping::Nothing,
+    )
 }
 
 /// Opens a span with these attributes. Fails where a layer vetoes.
@@ -250,12 +261,12 @@ fn closes_a_chain<S: Subscriber + Drop, L: Layer<S> + Drop + AsLayer<Recorder>>(
     alloc: Global,
     stack: S,
     layer: L,
-    keeps: bool,
+    keeps: Keeping,
 ) -> Result<(), Fail>
     requires stack { S.usable stack }
     requires layer { L.usable layer }
 {
-    let mut dispatch = put_used(alloc, stack, layer, keeps)?;
+    let mut dispatch = put_in_use(alloc, stack, layer, keeps)?;
     let chain = close_chain(rt, alloc, &mut dispatch)?;
     let stack = dispatch.stack();
     is_closed(rt, stack, &chain);
@@ -265,9 +276,21 @@ fn closes_a_chain<S: Subscriber + Drop, L: Layer<S> + Drop + AsLayer<Recorder>>(
 #[test]
 fn a_chain_of_10000_spans_closes_with_its_leaf(rt: HostRuntime) -> Result<(), Fail> {
     let recorder = Recorder::new(rt.alloc());
-    closes_a_chain(&rt, rt.alloc(), Registry::new(rt.alloc()), recorder, true)?;
+    closes_a_chain(
+        &rt,
+        rt.alloc(),
+        Registry::new(rt.alloc()),
+        recorder,
+        Keeping::Answers,
+    )?;
     let recorder = Recorder::new(rt.alloc());
-    closes_a_chain(&rt, rt.alloc(), Registry::new(rt.alloc()), recorder, false)
+    closes_a_chain(
+        &rt,
+        rt.alloc(),
+        Registry::new(rt.alloc()),
+        recorder,
+        Keeping::Nothing,
+    )
 }
 
 /// Enters a span.
@@ -319,18 +342,30 @@ fn leaves_under<S: Subscriber + Drop, L: Layer<S> + Drop>(
     alloc: Global,
     stack: S,
     layer: L,
-    keeps: bool,
+    keeps: Keeping,
 ) -> Result<(), Fail>
     requires stack { S.usable stack }
     requires layer { L.usable layer }
 {
-    leaves_as_often(rt, &mut put_used(alloc, stack, layer, keeps)?)
+    leaves_as_often(rt, &mut put_in_use(alloc, stack, layer, keeps)?)
 }
 
 #[test]
 fn a_span_is_entered_1000_times(rt: HostRuntime) -> Result<(), Fail> {
     let recorder = Recorder::new(rt.alloc());
-    leaves_under(&rt, rt.alloc(), Registry::new(rt.alloc()), recorder, true)?;
+    leaves_under(
+        &rt,
+        rt.alloc(),
+        Registry::new(rt.alloc()),
+        recorder,
+        Keeping::Answers,
+    )?;
     let recorder = Recorder::new(rt.alloc());
-    leaves_under(&rt, rt.alloc(), Registry::new(rt.alloc()), recorder, false)
+    leaves_under(
+        &rt,
+        rt.alloc(),
+        Registry::new(rt.alloc()),
+        recorder,
+        Keeping::Nothing,
+    )
 }

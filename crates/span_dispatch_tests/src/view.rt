@@ -3,7 +3,7 @@ ghost use Rattle.span_dispatch.specs.Serve.{stack_of};
 ghost use Rattle.std.specs.Prelude.{⊤};
 
 use crate::requests::{
-    AsLayer, AsLayers, Plain, event, made, new_event, new_span, put_in_use, serve, within,
+    AsLayer, AsLayers, Keeping, Plain, event, made, new_event, new_span, put_in_use, serve, within,
 };
 use span_core::{Id, Level, LevelFilter, Metadata};
 use span_dispatch::{Dispatch, Notice, Recorder, Request, Which, WhichParent};
@@ -58,21 +58,21 @@ fn keep_one_in_another<S: Subscriber + Drop, F: Filter<Layered<Recorder, S>> + D
     requires stack { S.usable stack }
     requires filter { F.usable outside }
 {
-    keep_below(rt, alloc, put(stack, Recorder::new(alloc))?, outside)
+    keep_below(rt, alloc, stack, Recorder::new(alloc), outside)
 }
 
-/// Puts a recorder under this filter outside another on a stack.
-fn keep_below<S: Subscriber + Drop + AsLayer<Recorder>, F: Filter<S> + Drop>(
-    rt: &impl Abort,
-    alloc: Global,
-    stack: S,
-    outside: F,
-) -> Result<(), Fail>
+/// Puts a recorder's layer on a stack, and one under this filter outside it.
+fn keep_below<
+    S: Subscriber + Drop,
+    L: Layer<S> + Drop + AsLayer<Recorder>,
+    F: Filter<Layered<L, S>> + Drop,
+>(rt: &impl Abort, alloc: Global, stack: S, inner: L, outside: F) -> Result<(), Fail>
     requires stack { S.usable stack }
+    requires layer { L.usable inner }
     requires filter { F.usable outside }
 {
     let under_outside = Recorder::new(alloc).with_filter(outside);
-    keep_under(rt, alloc, stack, under_outside)
+    keep_under(rt, alloc, put(stack, inner)?, under_outside)
 }
 
 /// Puts the outer recorder's layer on a stack of another, and serves one span in another.
@@ -85,7 +85,11 @@ fn keep_under<S: Subscriber + Drop + AsLayer<Recorder>, L: Layer<S> + Drop + AsL
     requires stack { S.usable stack }
     requires layer { L.usable layer }
 {
-    keeps_one_in_another(rt, alloc, &mut put_in_use(alloc, stack, layer)?)
+    keeps_one_in_another(
+        rt,
+        alloc,
+        &mut put_in_use(alloc, stack, layer, Keeping::Answers)?,
+    )
 }
 
 /// Of two recorders, the outer one under a filter, the inner one keeps all of the two spans, and the other those outside all spans.
@@ -272,26 +276,32 @@ fn read_under<S: Subscriber + Drop + AsLayer<Reader>, L: Layer<S> + Drop + AsLay
     requires stack { S.usable stack }
     requires layer { L.usable layer }
 {
-    read_the_family(rt, alloc, &mut put_in_use(alloc, stack, layer)?)
+    read_the_family(
+        rt,
+        alloc,
+        &mut put_in_use(alloc, stack, layer, Keeping::Answers)?,
+    )
 }
 
-/// Puts a reader under INFO on a stack of another.
-fn read_below<S: Subscriber + Drop + AsLayer<Reader>>(
+/// Puts a reader's layer on a stack, and one under INFO outside it.
+fn read_below<S: Subscriber + Drop, L: Layer<S> + Drop + AsLayer<Reader>>(
     rt: &impl Abort,
     alloc: Global,
     stack: S,
+    inner: L,
 ) -> Result<(), Fail>
-    requires { S.usable stack }
+    requires stack { S.usable stack }
+    requires layer { L.usable inner }
 {
     let under_info = new_reader(alloc).with_filter(LevelFilter::INFO);
-    read_under(rt, alloc, stack, under_info)
+    read_under(rt, alloc, put(stack, inner)?, under_info)
 }
 
 /// Puts a reader on a stack, and one under INFO outside it.
 fn read_on<S: Subscriber + Drop>(rt: &impl Abort, alloc: Global, stack: S) -> Result<(), Fail>
     requires { S.usable stack }
 {
-    read_below(rt, alloc, put(stack, new_reader(alloc))?)
+    read_below(rt, alloc, stack, new_reader(alloc))
 }
 
 #[test]
@@ -350,7 +360,7 @@ fn watch_under<S: Subscriber + Drop + EndsInPair, L: Layer<S> + Drop + AsLayer<W
     requires stack { S.usable stack }
     requires layer { L.usable layer }
 {
-    let mut dispatch = put_in_use(alloc, stack, layer)?;
+    let mut dispatch = put_in_use(alloc, stack, layer, Keeping::Answers)?;
     let spans = serve_one_in_another(alloc, &mut dispatch)?;
     let stack = dispatch.stack();
     sees_both_close(rt, stack.as_layer(), spans);
@@ -359,15 +369,17 @@ fn watch_under<S: Subscriber + Drop + EndsInPair, L: Layer<S> + Drop + AsLayer<W
     Ok(())
 }
 
-/// Puts a watcher outside two on a stack.
-fn watch_below<S: Subscriber + Drop + EndsInPair>(
+/// Puts the layer of two watchers on a stack, and one outside it.
+fn watch_below<S: Subscriber + Drop, L: Layer<S> + Drop + AsLayers<Watcher>>(
     rt: &impl Abort,
     alloc: Global,
     stack: S,
+    pair: L,
 ) -> Result<(), Fail>
-    requires { S.usable stack }
+    requires stack { S.usable stack }
+    requires layer { L.usable pair }
 {
-    watch_under(rt, alloc, stack, new_watcher(alloc))
+    watch_under(rt, alloc, put(stack, pair)?, new_watcher(alloc))
 }
 
 /// Puts two watchers as one layer on a stack, and one outside them.
@@ -375,7 +387,7 @@ fn watch_on<S: Subscriber + Drop>(rt: &impl Abort, alloc: Global, stack: S) -> R
     requires { S.usable stack }
 {
     let pair = new_watcher(alloc).and_then(new_watcher(alloc));
-    watch_below(rt, alloc, put(stack, pair)?)
+    watch_below(rt, alloc, stack, pair)
 }
 
 #[test]

@@ -6,7 +6,7 @@ use crate::stack::{hint_of, interest_in, is_text, number_at, open, open_and_ente
 use span_boxed::{BoxedLayer, DynLayer};
 use span_core::{Id, Interest, Level, LevelFilter, Metadata, Pass};
 use span_filters::{Filter, dynamic_filter_fn};
-use span_layers::{Layer, LayerExt};
+use span_layers::{Filtered, Identity, Layer, LayerExt};
 use span_registry::{Context, ContextMut, LookupSpan, Registry, Subscriber, Tag};
 use std::alloc::Global;
 use std::process::Abort;
@@ -115,7 +115,7 @@ fn shows_a_box(rt: &impl Abort, alloc: Global, layer: &BoxedLayer) -> Result<(),
 
 #[test]
 fn a_box_answers_as_the_layer_in_it(rt: HostRuntime) -> Result<(), Fail> {
-    let inside = new_marker(tag()).with_filter(LevelFilter::INFO);
+    let inside = Filtered::new(Identity, LevelFilter::INFO);
     let object: Box<dyn DynLayer + Send> = Box::new(rt.alloc(), inside)?;
     let layer = BoxedLayer::new(object);
     shows_a_box(&rt, rt.alloc(), &layer)?;
@@ -191,7 +191,7 @@ fn takes_a_level<L: Layer<Registry>>(rt: &impl Abort, layer: &mut L, registry: &
 
 #[test]
 fn a_box_passes_a_level_on(rt: HostRuntime) -> Result<(), Fail> {
-    let inside = new_marker(tag()).with_filter(LevelFilter::INFO);
+    let inside = Filtered::new(Identity, LevelFilter::INFO);
     let object: Box<dyn DynLayer + Send> = Box::new(rt.alloc(), inside)?;
     let mut layer = BoxedLayer::new(object);
     takes_a_level(&rt, &mut layer, &mut Registry::new(rt.alloc()));

@@ -4,7 +4,7 @@ ghost use Rattle.std.specs.Prelude.{⊤};
 use crate::fixture::put;
 use crate::stack::{is_text, notify, open, send_in};
 use span_core::{FilterId, Level, LevelFilter};
-use span_layers::{Filtered, LayerExt, Layered, Observe, Observed, Observer};
+use span_layers::{Filtered, Layer, LayerExt, Layered, Observe, Observed, Observer};
 use span_registry::{ContextMut, Registry, Subscriber};
 use std::alloc::Global;
 use std::process::Abort;
@@ -48,26 +48,40 @@ fn notify_of_all<S: Subscriber>(stack: &mut S) -> Result<bool, Fail>
 /// A layer under a level.
 type Under = Filtered<Observer<Refusals>, LevelFilter>;
 
-/// Two layers, the outer one without a filter, and the other under a level.
-type Pair = Layered<Observer<Refusals>, Under>;
+/// What has refusals to look at: where it has several, the outermost.
+trait AsRefusals {
+    fn as_refusals(&self) -> &Refusals;
+}
 
-/// What comes of a span on a stack under a pair: whether an event was sent, and how often the outer layer saw that the first filter had
-/// refused.
-fn refusals_seen<S: Subscriber>(stack: &mut Layered<Pair, S>) -> Result<(bool, u64, u64), Fail>
-    requires { ⟦<Layered<Pair, S> as Subscriber>⟧.usable stack.old }
+impl AsRefusals for Observer<Refusals> {
+    fn as_refusals(&self) -> &Refusals {
+        self.observer()
+    }
+}
+
+impl<L: AsRefusals, S> AsRefusals for Layered<L, S> {
+    fn as_refusals(&self) -> &Refusals {
+        self.layer().as_refusals()
+    }
+}
+
+/// What comes of a span on a stack: whether an event was sent, and how often the outermost layer saw that the first filter had refused.
+fn refusals_seen<S: Subscriber + AsRefusals>(stack: &mut S) -> Result<(bool, u64, u64), Fail>
+    requires { S.usable stack.old }
 {
     let is_sent = notify_of_all(stack)?;
-    let watched = stack.layer().layer().observer();
+    let watched = stack.as_refusals();
     Ok((is_sent, watched.asked, watched.other))
 }
 
 /// The outer layer of a pair whose level refuses all saw that of a new span and an event alone.
-fn refusals_end_with_a_pass<S: Subscriber + Drop>(
+fn refusals_end_with_a_pass<S: Subscriber + Drop, L: Layer<S> + Drop + AsRefusals>(
     rt: &impl Abort,
     stack: S,
-    pair: Pair,
+    pair: L,
 ) -> Result<(), Fail>
-    requires { S.usable stack }
+    requires stack { S.usable stack }
+    requires layer { L.usable pair }
 {
     let seen = refusals_seen(&mut put(stack, pair)?)?;
     assert!(rt; seen == (true, 2, 0));

@@ -206,24 +206,6 @@ fn hides_from_one_alone<S: Subscriber + AsWatchers>(
     Ok(())
 }
 
-/// Puts a watcher under INFO on a stack with an open one, which alone sees all of three spans.
-fn hides_outside<S: Subscriber + Drop + AsWatcher>(
-    rt: &impl Abort,
-    alloc: Global,
-    stack: S,
-) -> Result<(), Fail>
-    requires { S.usable stack }
-{
-    let under_info = new_watcher(alloc).with_filter(LevelFilter::INFO);
-    hides_from_one_alone(rt, &mut put(stack, under_info)?)
-}
-
-#[test]
-fn one_layers_filter_hides_nothing_from_another(rt: HostRuntime) -> Result<(), Fail> {
-    let open = put(Registry::new(rt.alloc()), new_watcher(rt.alloc()))?;
-    hides_outside(&rt, rt.alloc(), open)
-}
-
 /// A span of level info and one of level debug, and all else that comes of the second.
 fn shown_and_hidden<S: Subscriber>(stack: &mut S) -> Result<(Id, Id), Fail>
     requires { S.usable stack.old }
@@ -277,22 +259,79 @@ fn see_all_but_the_hidden<S: Subscriber + AsWatchers>(
     Ok(())
 }
 
-/// Puts a watcher under INFO on a stack with an open one, which alone sees a span of level debug.
-fn see_outside<S: Subscriber + Drop + AsWatcher>(
+/// Which spans come to two watchers, the outer one under INFO and the inner one open.
+#[derive(Clone, Copy)]
+enum Spans {
+    /// Three, each in the one before, of which the second is of level debug.
+    Nested,
+    /// One of level info and one of level debug, and all else that comes of the second.
+    Apart,
+}
+
+/// The outer watcher sees nothing of the span of level debug, and the open one sees all.
+fn hides_from_one<S: Subscriber + AsWatchers>(
+    rt: &impl Abort,
+    stack: &mut S,
+    spans: Spans,
+) -> Result<(), Fail>
+    requires { S.usable stack.old }
+{
+    match spans {
+        Spans::Nested => hides_from_one_alone(rt, stack),
+        Spans::Apart => see_all_but_the_hidden(rt, stack),
+    }
+}
+
+/// Puts the outer watcher's layer on a stack with an open one.
+fn hides_under<S: Subscriber + Drop + AsWatcher, L: Layer<S> + Drop + AsWatcher>(
+    rt: &impl Abort,
+    stack: S,
+    layer: L,
+    spans: Spans,
+) -> Result<(), Fail>
+    requires stack { S.usable stack }
+    requires layer { L.usable layer }
+{
+    hides_from_one(rt, &mut put(stack, layer)?, spans)
+}
+
+/// Puts an open watcher on a stack, and one under INFO outside it.
+fn hides_outside<S: Subscriber + Drop, L: Layer<S> + Drop + AsWatcher>(
     rt: &impl Abort,
     alloc: Global,
     stack: S,
+    inner: L,
+    spans: Spans,
 ) -> Result<(), Fail>
-    requires { S.usable stack }
+    requires stack { S.usable stack }
+    requires layer { L.usable inner }
 {
     let under_info = new_watcher(alloc).with_filter(LevelFilter::INFO);
-    see_all_but_the_hidden(rt, &mut put(stack, under_info)?)
+    hides_under(rt, put(stack, inner)?, under_info, spans)
+}
+
+#[test]
+fn one_layers_filter_hides_nothing_from_another(rt: HostRuntime) -> Result<(), Fail> {
+    let open = new_watcher(rt.alloc());
+    hides_outside(
+        &rt,
+        rt.alloc(),
+        Registry::new(rt.alloc()),
+        open,
+        Spans::Nested,
+    )
 }
 
 #[test]
 fn a_hidden_span_is_hidden_from_its_layer_alone(rt: HostRuntime) -> Result<(), Fail> {
-    let open = put(Registry::new(rt.alloc()), new_watcher(rt.alloc()))?;
-    see_outside(&rt, rt.alloc(), open)
+    let open = new_watcher(rt.alloc());
+    hides_outside(
+        &rt,
+        rt.alloc(),
+        Registry::new(rt.alloc()),
+        open,
+        Spans::Apart,
+    )
 }
 
 /// Puts a stack in use, and notifies it of a new span and of its close.
@@ -336,24 +375,37 @@ fn all_see_a_close<S: Subscriber + LastSeen>(rt: &impl Abort, stack: &mut S) -> 
     Ok(())
 }
 
-/// Puts a watcher outside two that are one layer of a stack: all three see a span close.
-fn all_see_under<S: Subscriber + Drop, L: Layer<S> + Drop + AsWatchers>(
+/// Puts a watcher's layer outside two that are one layer of a stack: all three see a span close.
+fn all_see_under<
+    S: Subscriber + Drop,
+    L: Layer<S> + Drop + AsWatchers,
+    O: Layer<Layered<L, S>> + Drop + AsWatcher,
+>(rt: &impl Abort, two: Layered<L, S>, outer: O) -> Result<(), Fail>
+    requires two { ⟦<Layered<L, S> as Subscriber>⟧.usable two }
+    requires outer { O.usable outer }
+{
+    all_see_a_close(rt, &mut put_under(outer, two)?)
+}
+
+/// Puts two watchers on a stack as one layer, and one outside them: all three see a span close.
+fn all_see<S: Subscriber + Drop, L: Layer<S> + Drop + AsWatcher>(
     rt: &impl Abort,
     alloc: Global,
     stack: S,
-    pair: L,
+    pair: (L, L),
 ) -> Result<(), Fail>
     requires stack { S.usable stack }
-    requires pair { L.usable pair }
+    requires inner { L.usable pair.0 }
+    requires outer { L.usable pair.1 }
 {
-    let two = put(stack, pair)?;
-    all_see_a_close(rt, &mut put_under(new_watcher(alloc), two)?)
+    let (inner, outer) = pair;
+    all_see_under(rt, put(stack, inner.and_then(outer))?, new_watcher(alloc))
 }
 
 #[test]
 fn every_layer_sees_a_closing_span(rt: HostRuntime) -> Result<(), Fail> {
-    let pair = new_watcher(rt.alloc()).and_then(new_watcher(rt.alloc()));
-    all_see_under(&rt, rt.alloc(), Registry::new(rt.alloc()), pair)
+    let pair = (new_watcher(rt.alloc()), new_watcher(rt.alloc()));
+    all_see(&rt, rt.alloc(), Registry::new(rt.alloc()), pair)
 }
 
 /// A registry that handed out all numbers of filters.
@@ -395,30 +447,49 @@ fn filters_under<L: Layer<Registry> + Drop>(registry: Registry, layer: L) -> Res
     Ok(stack.inner().filters())
 }
 
-#[test]
-fn a_registry_has_room_for_128_filters(rt: HostRuntime) -> Result<(), Fail> {
-    let full = without_numbers(rt.alloc())?;
-    let back = refused(full, new_watcher(rt.alloc()).with_filter(LevelFilter::INFO))?;
-    is_the_129th(&rt, &back);
-    // A layer without filters needs no number.
-    let count = filters_under(back.subscriber, new_watcher(rt.alloc()))?;
+/// A full registry refuses the first of two layers under a level, and takes the second without: it needs no number.
+fn takes_no_filter<L: Layer<Registry> + Drop>(
+    rt: &impl Abort,
+    full: Registry,
+    layers: (L, L),
+) -> Result<(), Fail>
+    requires first { L.usable layers.0 }
+    requires second { L.usable layers.1 }
+{
+    let (first, second) = layers;
+    let back = refused(full, first.with_filter(LevelFilter::INFO))?;
+    is_the_129th(rt, &back);
+    let count = filters_under(back.subscriber, second)?;
     assert!(rt; count == 128);
     Ok(())
 }
 
+#[test]
+fn a_registry_has_room_for_128_filters(rt: HostRuntime) -> Result<(), Fail> {
+    let full = without_numbers(rt.alloc())?;
+    takes_no_filter(
+        &rt,
+        full,
+        (new_watcher(rt.alloc()), new_watcher(rt.alloc())),
+    )
+}
+
 /// A layer under a filter without a number is asked of an event, and is then notified of it: it lets it by, and doesn't hear of it.
-fn lets_by_and_keeps(
+fn lets_by_and_keeps<S: Subscriber, L: Layer<S> + AsWatcher>(
     rt: &impl Abort,
-    layer: &mut Filtered<Observer<Watcher>, LevelFilter>,
-    registry: &mut Registry,
-) {
+    layer: &mut L,
+    stack: &mut S,
+)
+    requires layer { L.usable layer.old }
+    requires stack { S.usable stack.old }
+{
     let metadata = metadata_of(1, Level::ERROR, Kind::EVENT);
     let event = Event::new(metadata, &[]);
     let mut pass = Pass::new();
-    assert!(rt; layer.enabled(&metadata, &Context::new(registry, LANE), &mut pass));
-    assert!(rt; layer.event_enabled(&event, &Context::new(registry, LANE), &mut pass));
-    layer.on_event(&event, &mut ContextMut::new(registry, LANE, &pass));
-    assert!(rt; layer.inner().observer().seen.as_slice().is_empty());
+    assert!(rt; layer.enabled(&metadata, &Context::new(stack, LANE), &mut pass));
+    assert!(rt; layer.event_enabled(&event, &Context::new(stack, LANE), &mut pass));
+    layer.on_event(&event, &mut ContextMut::new(stack, LANE, &pass));
+    saw(rt, layer.as_watcher(), &[]);
 }
 
 #[test]
@@ -464,6 +535,18 @@ fn sees_what_three_pass<S: Subscriber + AsWatcher>(
     Ok(())
 }
 
+/// Puts a watcher under three levels on a stack.
+fn sees_on<S: Subscriber + Drop, L: Layer<S> + Drop + AsWatcher>(
+    rt: &impl Abort,
+    stack: S,
+    layer: L,
+) -> Result<(), Fail>
+    requires stack { S.usable stack }
+    requires layer { L.usable layer }
+{
+    sees_what_three_pass(rt, &mut put(stack, layer)?)
+}
+
 /// Puts a watcher under one level under two more.
 fn sees_under_three<S: Subscriber + Drop, L: Layer<S> + Drop + AsWatcher>(
     rt: &impl Abort,
@@ -476,7 +559,7 @@ fn sees_under_three<S: Subscriber + Drop, L: Layer<S> + Drop + AsWatcher>(
     let nested = layer
         .with_filter(LevelFilter::INFO)
         .with_filter(LevelFilter::DEBUG);
-    sees_what_three_pass(rt, &mut put(stack, nested)?)
+    sees_on(rt, stack, nested)
 }
 
 #[test]
@@ -501,19 +584,32 @@ fn marks_two_and_one<S: Subscriber>(
     Ok(())
 }
 
-/// Puts two layers as one on a stack: the inner marks under the second tag, and the outer under the first.
-fn marks_in_a_pair<S: Subscriber + Drop, I: Layer<S> + Drop, O: Layer<S> + Drop>(
+/// Puts a layer on a stack, where it marks two of three events under the first tag, and one under the second.
+fn marks_on<S: Subscriber + Drop, L: Layer<S> + Drop>(
     rt: &impl Abort,
     stack: S,
-    pair: (I, O),
+    layer: L,
     tags: [Tag<u64>; 2],
 ) -> Result<(), Fail>
     requires stack { S.usable stack }
-    requires inner { I.usable pair.0 }
-    requires outer { O.usable pair.1 }
+    requires layer { L.usable layer }
+{
+    marks_two_and_one(rt, &mut put(stack, layer)?, tags)
+}
+
+/// Puts two layers as one on a stack: the inner marks under the second tag, and the outer under the first.
+fn marks_in_a_pair<S: Subscriber + Drop, L: Layer<S> + Drop>(
+    rt: &impl Abort,
+    stack: S,
+    pair: (L, L),
+    tags: [Tag<u64>; 2],
+) -> Result<(), Fail>
+    requires stack { S.usable stack }
+    requires inner { L.usable pair.0 }
+    requires outer { L.usable pair.1 }
 {
     let (inner, outer) = pair;
-    marks_two_and_one(rt, &mut put(stack, inner.and_then(outer))?, tags)
+    marks_on(rt, stack, inner.and_then(outer), tags)
 }
 
 #[test]
@@ -545,16 +641,32 @@ fn sees_the_echo<S: Subscriber + WatcherBelow>(rt: &impl Abort, stack: &mut S) -
 }
 
 /// Puts what sends an event at each new span on a stack, whose watcher sees that.
-fn sees_below<S: Subscriber + Drop + AsWatcher>(rt: &impl Abort, stack: S) -> Result<(), Fail>
-    requires { S.usable stack }
+fn sees_under<S: Subscriber + Drop + AsWatcher, L: Layer<S> + Drop>(
+    rt: &impl Abort,
+    stack: S,
+    echo: L,
+) -> Result<(), Fail>
+    requires stack { S.usable stack }
+    requires layer { L.usable echo }
 {
-    sees_the_echo(rt, &mut put(stack, Echo)?)
+    sees_the_echo(rt, &mut put(stack, echo)?)
+}
+
+/// Puts a watcher on a stack, and an echo outside it.
+fn sees_below<S: Subscriber + Drop, L: Layer<S> + Drop + AsWatcher>(
+    rt: &impl Abort,
+    stack: S,
+    watcher: L,
+) -> Result<(), Fail>
+    requires stack { S.usable stack }
+    requires layer { L.usable watcher }
+{
+    sees_under(rt, put(stack, watcher)?, Echo)
 }
 
 #[test]
 fn a_hook_may_send_an_event(rt: HostRuntime) -> Result<(), Fail> {
-    let stack = put(Registry::new(rt.alloc()), new_watcher(rt.alloc()))?;
-    sees_below(&rt, stack)
+    sees_below(&rt, Registry::new(rt.alloc()), new_watcher(rt.alloc()))
 }
 
 /// A watcher that saw an event.

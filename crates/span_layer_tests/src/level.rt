@@ -169,25 +169,53 @@ fn a_layer_that_is_there_takes_a_level(rt: HostRuntime) -> Result<(), Fail> {
     Ok(())
 }
 
-/// Two layers under levels, one on the other, on a stack.
-type Two<S> = Layered<Under, Layered<Under, S>>;
-
-/// Of a stack, whose outer layer comes first.
-fn stack_after<S: Subscriber>(stack: &mut Two<S>, number: u32) -> Levels
-    requires { ⟦<Two<S> as Subscriber>⟧.usable stack.old }
-    ensures { ⟦<Two<S> as Subscriber>⟧.usable stack.new }
-{
-    let taken = stack_takes(stack, number);
-    let inner = *stack.inner().layer().filter();
-    (taken, *stack.layer().filter(), inner)
+/// What is under a level: where it is under several, the outermost.
+trait HasLevel {
+    fn level(&self) -> LevelFilter;
 }
 
-/// Of two layers on a stack, of which WARN is the inner level and INFO the outer: of a number that no filter has, and of both.
-fn stack_after_each<S: Subscriber + Drop>(stack: S) -> Result<[Levels; 3], TraceError>
-    requires { S.usable stack }
+impl<L> HasLevel for Filtered<L, LevelFilter> {
+    fn level(&self) -> LevelFilter {
+        *self.filter()
+    }
+}
+
+impl<L: HasLevel, S> HasLevel for Layered<L, S> {
+    fn level(&self) -> LevelFilter {
+        self.layer().level()
+    }
+}
+
+/// What is under two levels, of which the outer one comes first.
+trait HasLevels {
+    fn levels(&self) -> (LevelFilter, LevelFilter);
+}
+
+impl<L: HasLevel, S: HasLevel> HasLevels for Layered<L, S> {
+    fn levels(&self) -> (LevelFilter, LevelFilter) {
+        (self.layer().level(), self.inner().level())
+    }
+}
+
+/// Of a stack under two levels.
+fn stack_after<S: Subscriber + HasLevels>(stack: &mut S, number: u32) -> Levels
+    requires { S.usable stack.old }
+    ensures { S.usable stack.new }
 {
-    let below = put(stack, under(LevelFilter::WARN))?;
-    let mut stack = put(below, under(LevelFilter::INFO))?;
+    let taken = stack_takes(stack, number);
+    let (outer, inner) = stack.levels();
+    (taken, outer, inner)
+}
+
+/// Of a stack under a level, and a layer under another on it: of a number that no filter has, and of both.
+fn stack_after_each<S: Subscriber + Drop + HasLevel, L: Layer<S> + Drop + HasLevel>(
+    stack: S,
+    outer: L,
+) -> Result<[Levels; 3], TraceError>
+    requires stack { S.usable stack }
+    requires layer { L.usable outer }
+{
+    let mut stack = put(stack, outer)?;
     Ok([
         stack_after(&mut stack, 2),
         stack_after(&mut stack, 0),
@@ -195,9 +223,20 @@ fn stack_after_each<S: Subscriber + Drop>(stack: S) -> Result<[Levels; 3], Trace
     ])
 }
 
+/// Of a layer under a level on a stack, and one under INFO outside it.
+fn after_each_below_info<S: Subscriber + Drop, L: Layer<S> + Drop + HasLevel>(
+    stack: S,
+    inner: L,
+) -> Result<[Levels; 3], TraceError>
+    requires stack { S.usable stack }
+    requires layer { L.usable inner }
+{
+    stack_after_each(put(stack, inner)?, under(LevelFilter::INFO))
+}
+
 #[test]
 fn a_stack_finds_a_filter_by_its_number(rt: HostRuntime) -> Result<(), Fail> {
-    let after = stack_after_each(Registry::new(rt.alloc()))?;
+    let after = after_each_below_info(Registry::new(rt.alloc()), under(LevelFilter::WARN))?;
     assert!(rt;
         after
             == [

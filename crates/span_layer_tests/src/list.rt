@@ -38,10 +38,22 @@ fn hint_under<S: Subscriber + Drop, L: Layer<S> + Drop>(
     Ok(hint_of(&stack))
 }
 
+/// The hint of a stack and a layer on it, under an empty list.
+fn hint_under_nothing<S: Subscriber + Drop, L: Layer<S> + Drop>(
+    alloc: Global,
+    stack: S,
+    layer: L,
+) -> Result<Option<LevelFilter>, TraceError>
+    requires layer { L.usable layer }
+    requires stack { S.usable stack }
+{
+    hint_under(put(stack, layer)?, Vec::<Signer>::new(alloc))
+}
+
 #[test]
 fn an_empty_list_leaves_the_hint_to_what_is_below(rt: HostRuntime) -> Result<(), Fail> {
-    let stack = put(Registry::new(rt.alloc()), LevelFilter::INFO)?;
-    let hint = hint_under(stack, Vec::<Signer>::new(rt.alloc()))?;
+    let registry = Registry::new(rt.alloc());
+    let hint = hint_under_nothing(rt.alloc(), registry, LevelFilter::INFO)?;
     assert!(rt; hint == Some(LevelFilter::INFO));
     Ok(())
 }

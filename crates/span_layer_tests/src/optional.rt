@@ -27,13 +27,28 @@ fn shown_and_absent<S: Subscriber + Drop, L: Layer<S> + Drop>(
     Ok((shown(&stack, level), is_absent(&stack)))
 }
 
-/// Whether a layer of a stack is absent once it stands under a layer that does nothing, and the hint that it then has: where the
-/// stack's own layer is absent, the hint is what it would be without that.
-fn under_identity<S: Subscriber + Drop>(stack: S) -> Result<(bool, Option<LevelFilter>), Fail>
-    requires { S.usable stack }
+/// Whether a stack under this layer is absent, and its hint.
+fn absent_under<S: Subscriber + Drop, L: Layer<S> + Drop>(
+    stack: S,
+    layer: L,
+) -> Result<(bool, Option<LevelFilter>), Fail>
+    requires layer { L.usable layer }
+    requires stack { S.usable stack }
 {
-    let stack = put(stack, Identity)?;
+    let stack = put(stack, layer)?;
     Ok((is_absent(&stack), hint_of(&stack)))
+}
+
+/// Whether a layer is absent once it stands under one that does nothing, and the hint that the stack then has: where the
+/// layer is absent, the hint is what it would be without that.
+fn under_identity<S: Subscriber + Drop, L: Layer<S> + Drop>(
+    stack: S,
+    layer: L,
+) -> Result<(bool, Option<LevelFilter>), Fail>
+    requires layer { L.usable layer }
+    requires stack { S.usable stack }
+{
+    absent_under(put(stack, layer)?, Identity)
 }
 
 /// Puts a stack with a layer under INFO in use, and sends an event that INFO passes and one that it doesn't.
@@ -57,8 +72,7 @@ fn an_absent_layer_wants_no_level(rt: HostRuntime) -> Result<(), Fail> {
     let hint = Some(LevelFilter::OFF);
     assert!(rt; said == ((Interest::Always, true, true, hint), true));
     let absent: Option<Signer> = None;
-    let stack = put(Registry::new(rt.alloc()), absent)?;
-    assert!(rt; under_identity(stack)? == (true, None));
+    assert!(rt; under_identity(Registry::new(rt.alloc()), absent)? == (true, None));
     Ok(())
 }
 

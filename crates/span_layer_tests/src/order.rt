@@ -177,13 +177,14 @@ fn wrote(rt: &impl Abort, written: &Written, put_on: u64, in_use: u64) {
 }
 
 /// Puts a list on a stack, and then that in use.
-fn use_in_order<S: Subscriber + Drop>(
+fn use_in_order<S: Subscriber + Drop, L: Layer<S> + Drop>(
     rt: &impl Abort,
     written: &Written,
     stack: S,
-    list: Vec<Newcomer>,
+    list: L,
 ) -> Result<(), Fail>
-    requires { S.usable stack }
+    requires stack { S.usable stack }
+    requires layer { L.usable list }
 {
     let mut stack = put(stack, list)?;
     wrote(rt, written, 12345, 0);
@@ -192,11 +193,40 @@ fn use_in_order<S: Subscriber + Drop>(
     Ok(())
 }
 
+/// Puts a pair on a stack, and a list outside it.
+fn use_a_list<S: Subscriber + Drop, L: Layer<S> + Drop>(
+    rt: &impl Abort,
+    alloc: Global,
+    written: &Written,
+    stack: S,
+    pair: L,
+) -> Result<(), Fail>
+    requires stack { S.usable stack }
+    requires layer { L.usable pair }
+{
+    let members = two_members(alloc, written)?;
+    use_in_order(rt, written, put(stack, pair)?, members)
+}
+
+/// Puts a newcomer on a stack, and outside it a pair and a list.
+fn use_a_pair<S: Subscriber + Drop, L: Layer<S> + Drop>(
+    rt: &impl Abort,
+    alloc: Global,
+    written: &Written,
+    stack: S,
+    first: L,
+) -> Result<(), Fail>
+    requires stack { S.usable stack }
+    requires layer { L.usable first }
+{
+    let pair = pair_of_newcomers(written)?;
+    use_a_list(rt, alloc, written, put(stack, first)?, pair)
+}
+
 /// Puts a newcomer, a pair and a list on a registry.
 fn put_on_and_use(rt: &impl Abort, alloc: Global, written: &Written) -> Result<(), Fail> {
-    let stack = put(Registry::new(alloc), make_newcomer(written, 1)?)?;
-    let stack = put(stack, pair_of_newcomers(written)?)?;
-    use_in_order(rt, written, stack, two_members(alloc, written)?)
+    let first = make_newcomer(written, 1)?;
+    use_a_pair(rt, alloc, written, Registry::new(alloc), first)
 }
 
 #[test]
