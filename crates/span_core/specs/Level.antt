@@ -73,8 +73,7 @@ greater f g = if nat_le (filter_number f) (filter_number g) then g else f
 -- the greater hint, and none where either is none
 abbrev pub wider_hint : Option LevelFilter → Option LevelFilter → Option LevelFilter
 wider_hint (Some f) (Some g) = Some (greater f g)
-wider_hint (Some f) None = None
-wider_hint None h = None
+wider_hint h k = None
 
 -- the greater hint, where none is below every other
 abbrev pub greater_hint : Option LevelFilter → Option LevelFilter → Option LevelFilter

@@ -1,8 +1,7 @@
 -- Every view is shown by some context: of any store, on any lane, under any mask.
 use Rattle.std.proofs.Common.{◌≡◌, ◌∙◌, ⊎_elim, ℕ, zero, suc, ◌+◌, ◌-◌, ◌*◌, ◌<◌, ◌≤◌, ◌^◌, ◌==◌, ◌&&◌, Bool, true, false, List, [], ◌∷◌, None, Some, arith, pow-suc, ap, refl, sym}
 use Rattle.std.proofs.lemmas.Bool.{cases_lt}
-use Rattle.std.proofs.lemmas.Nat.Bits.{bit_at-zero, bit_at_cat_high, bit_at_cat_low}
-use Rattle.std.specs.Borrow.{Bor}
+use Rattle.std.proofs.lemmas.Nat.Bits.{bit_at_cat_high, bit_at_cat_low}
 use Rattle.std.specs.FinMap.{entries, from_entries, get}
 use Rattle.std.specs.Int.{bit_at}
 use Rattle.std.specs.Prelude.{if◌then◌else◌}
@@ -10,14 +9,11 @@ use Rattle.span_core.proofs.SomeBelow.{some_below-same}
 use Rattle.span_core.specs.Filters.{FilterSet, SameMembers, has_filter, meets, refuses}
 use Rattle.span_core.specs.declared.filter.FilterId.{FilterId}
 use Rattle.span_core.specs.declared.filter.FilterMap.{FilterMap}
-use Rattle.span_core.specs.declared.number_set.NumberSet.{NumberSet}
-use Rattle.span_core.specs.declared.span.Lane.{Lane}
 use Rattle.span_registry.proofs.Ancestry.{see_each}
 use Rattle.span_registry.specs.Context.{view_in}
 use Rattle.span_registry.specs.Store.{RegistryState, Span, SpanExtensions, Store}
-use Rattle.span_registry.specs.View.{see, seen_spans, view_of}
+use Rattle.span_registry.specs.View.{view_of}
 use Rattle.span_registry.specs.declared.context.Context.{Context}
-use Rattle.span_registry.specs.declared.mask.Mask.{Mask}
 
 -- ---- a word for any set of numbers
 

@@ -14,7 +14,7 @@ HasHonestAnswers (Parts joint o i) = HasHonestAnswers o × HasHonestAnswers i
 HasHonestAnswers (Terminal v) = ⊤
 
 -- a layer, in which nothing is absent and no list empty: all answer honestly, hooks write extensions alone, and within a
--- filter or a list no leaf refuses anything; the truth value says whether it stands within one
+-- filter or a list no leaf refuses anything; the rest of a list may be any such layer; the truth value says whether it stands within one
 abbrev pub IsBuiltLayer : Bool → Form → Type 0
 IsBuiltLayer within (Leaf still a) = IsTrue still × AreHonest a × (IsTrue within → RefusesNothing a)
 IsBuiltLayer within (Filtered n a f) = AreHonest a × IsBuiltLayer true f

@@ -22,20 +22,18 @@ use Rattle.span_registry.specs.View.{view_of}
 
 -- whether k is the number of a filter of the form
 abbrev pub numbers_of : Form → FilterSet
-numbers_of (Leaf still a) k = false
 numbers_of (Filtered None a f) k = numbers_of f k
 numbers_of (Filtered (Some n) a f) k = (k == n) || numbers_of f k
 numbers_of (Parts joint o i) k = numbers_of o k || numbers_of i k
-numbers_of (Terminal v) k = false
+numbers_of other k = false
 
 -- no two filters have one number
 abbrev pub AreDistinct : Form → Type 0
-AreDistinct (Leaf still a) = ⊤
 AreDistinct (Filtered None a f) = AreDistinct f
 AreDistinct (Filtered (Some n) a f) = (numbers_of f n ≡ false) × AreDistinct f
 AreDistinct (Parts joint o i) =
     AreDistinct o × AreDistinct i × ((k : ℕ) → numbers_of o k ≡ true → numbers_of i k ≡ false)
-AreDistinct (Terminal v) = ⊤
+AreDistinct other = ⊤
 
 -- no two of its filters have one number, and all numbers were handed out before this one
 pub record HasOwnNumbers (f : Form) (next : ℕ) : Type 0 where
@@ -61,9 +59,8 @@ IsOrderly (Terminal v) = ⊤
 -- whether a leaf with no filter round it doesn't let this by
 abbrev pub some_vetoes : Form → (Behaviour → Bool) → Bool
 some_vetoes (Leaf still a) lets = not (lets a)
-some_vetoes (Filtered n a f) lets = false
 some_vetoes (Parts joint o i) lets = some_vetoes o lets || some_vetoes i lets
-some_vetoes (Terminal v) lets = false
+some_vetoes other lets = false
 
 -- whether a leaf with no filter round it refuses these metadata, in the view of the lane
 abbrev pub vetoes : Form → Metadata → Store → ℕ → Bool
@@ -75,14 +72,12 @@ vetoes_event f e s lane = some_vetoes f (λ a. a.event e (view_of s lane no_filt
 
 -- whether the filter k is in the verdict of a new span: it refuses the metadata, and every filter outside it on its path has a number and passes them
 abbrev pub in_verdict : Form → Metadata → Store → ℕ → FilterSet → FilterSet
-in_verdict (Leaf still a) m s lane under k = false
-in_verdict (Filtered None a f) m s lane under k = false
 in_verdict (Filtered (Some n) a f) m s lane under k =
     if a.enabled m (view_of s lane (union under (single n)))
     then in_verdict f m s lane (union under (single n)) k else (k == n)
 in_verdict (Parts joint o i) m s lane under k =
     in_verdict o m s lane under k || in_verdict i m s lane under k
-in_verdict (Terminal v) m s lane under k = false
+in_verdict other m s lane under k = false
 
 -- the plan by a pass, whatever spans there are, is the plan where each filter is asked afresh
 abbrev pub IsFresh : Form → Notice → FilterSet → Store → ℕ → Type 0

@@ -34,8 +34,8 @@ IsWantedByNobody f m s lane = (e : Notice) (position : Position) (path : Path)
 abbrev pub IsUnwanted : Form → Metadata → Store → ℕ → Type 0
 IsUnwanted f m s lane = (vetoes f m s lane ≡ true) ⊎ IsWantedByNobody f m s lane
 
--- all want them: no leaf vetoes, and each path whose filters have numbers passes a new span with them. So no harm is done
--- if nobody is asked
+-- all want new spans with these metadata: no leaf vetoes, and each path whose filters have numbers passes one. So no harm is done
+-- if nobody is asked; an event is asked for itself still
 pub record IsWantedByAll (f : Form) (m : Metadata) (s : Store) (lane : ℕ) : Type 0 where
   pub veto : vetoes f m s lane ≡ false
   pub paths : (attrs : Attributes) (id : Id) (position : Position) (path : Path)

@@ -20,7 +20,7 @@ use Rattle.span_core.specs.declared.span.Parent.TheVariants.{Contextual, Explici
 use Rattle.span_core.specs.declared.span.Parent.{Parent}
 use Rattle.span_registry.specs.Agree.{AgreeAt, IsCutDown, known_to}
 use Rattle.span_registry.specs.Behaviour.{AreAlike, unextended}
-use Rattle.span_registry.specs.Closes.{Closes, IsDeeper, IsDeepestFirst, IsUnheld, remove_all, without}
+use Rattle.span_registry.specs.Closes.{Closes, IsDeepestFirst, IsUnheld, remove_all, without}
 use Rattle.span_registry.specs.LaneStack.{leave}
 use Rattle.span_registry.specs.Plan.{is_passed}
 use Rattle.span_registry.specs.Step.{IsContext, IsParentFor, entered, entered_last, exited}
@@ -28,6 +28,7 @@ use Rattle.span_registry.specs.Store.{HasChild, IsChain, IsClosing, IsHeld, IsOp
 use Rattle.span_registry.specs.Subscriber.{SameButExtensions}
 use Rattle.span_registry.specs.View.{see, view_of}
 use Rattle.span_registry.specs.declared.extensions.ExtensionMap.{ExtensionMap}
+use Rattle.span_registry.proofs.Closing.{IsBelow}
 use Rattle.span_registry.proofs.Ancestry.{seen_at}
 
 -- ---- what stands at a number in both
@@ -303,15 +304,15 @@ unheld_over numbers m n x f h =
           back.2.handles ∙ h.1 y back.0 (w.0, chain_over numbers n m (Some y) w.0 g w.1, w.2) back.1,
     )
 
-deeper_over : (numbers : FilterSet) (m n : Spans) (x : ℕ) (ys : List ℕ) → MapsAgree numbers m n → AllByRecursion (IsDeeper m x) ys → AllByRecursion (IsDeeper n x) ys
-deeper_over numbers m n x [] f h = h
-deeper_over numbers m n x (y ∷ ys) f h =
-    let d = h.0 in
-    ((d.0, d.1, chain_over numbers m n (Some x) d.0 f d.2, chain_over numbers m n (Some y) d.1 f d.3, d.4), deeper_over numbers m n x ys f h.1)
+below_over : (numbers : FilterSet) (m n : Spans) (x : ℕ) (ys : List ℕ) → MapsAgree numbers m n → AllByRecursion (IsBelow m x) ys → AllByRecursion (IsBelow n x) ys
+below_over numbers m n x [] f h = h
+below_over numbers m n x (y ∷ ys) f h =
+    let w = h.0.0 in
+    (((w.0, chain_over numbers m n (Some x) w.0 f w.1, w.2), h.0.1), below_over numbers m n x ys f h.1)
 
 order_over : (numbers : FilterSet) (m n : Spans) (xs : List ℕ) → MapsAgree numbers m n → IsDeepestFirst m xs → IsDeepestFirst n xs
 order_over numbers m n [] f h = h
-order_over numbers m n (x ∷ xs) f h = (deeper_over numbers m n x xs f h.0, order_over numbers m n xs f h.1)
+order_over numbers m n (x ∷ xs) f h = (below_over numbers m n x xs f h.0, order_over numbers m n xs f h.1)
 
 -- a drop closes the same spans in both, in the same order
 pub closes_alike : (numbers : FilterSet) (s t : Store) (x : ℕ) (closed : List ℕ) → AgreeAt numbers s t → Closes s.spans x closed → Closes t.spans x closed
@@ -319,8 +320,10 @@ closes_alike numbers s t x closed h c =
     let f = places_of numbers (record s { spans = take_handle s.spans x }) (record t { spans = take_handle t.spans x }) (taken_agrees numbers s t x h) in
     let g = maps_back numbers (take_handle s.spans x) (take_handle t.spans x) f in
     record {
-      each = λ y k. unheld_over numbers (take_handle s.spans x) (take_handle t.spans x) y f (c.each y k);
-      all = λ y u. c.all y (unheld_over numbers (take_handle t.spans x) (take_handle s.spans x) y g u);
+      exact = λ y. (
+        λ k. unheld_over numbers (take_handle s.spans x) (take_handle t.spans x) y f ((c.exact y).0 k),
+        λ u. (c.exact y).1 (unheld_over numbers (take_handle t.spans x) (take_handle s.spans x) y g u),
+      );
       order = order_over numbers (take_handle s.spans x) (take_handle t.spans x) closed f c.order;
     }
 

@@ -44,7 +44,7 @@ use Rattle.span_registry.proofs.Drops.{Progress, begins, forest_taken, none_drop
 
 -- a registry that nobody wrote to is the same
 pub same_itself : (s : RegistryState) → SameButExtensions s s
-same_itself s = record { spans = refl; issued = refl; stacks = refl; limits = refl; filters = refl; retired = refl }
+same_itself s = record { spans = refl; issued = refl; stacks = refl; limits = refl; filters = refl; retired = refl; reserved = refl }
 
 -- what two hooks leave, one after the other
 pub same_further : (s t u : RegistryState) → SameButExtensions s t → SameButExtensions t u → SameButExtensions s u
@@ -55,6 +55,7 @@ same_further s t u a b = record {
   limits = b.limits ∙ a.limits;
   filters = b.filters ∙ a.filters;
   retired = b.retired ∙ a.retired;
+  reserved = b.reserved ∙ a.reserved;
 }
 
 -- a step that no hook follows
@@ -127,6 +128,7 @@ removes_aside id o aside now new h r =
           store = λ i. record { spans = spans i; extensions = remove aside.store.extensions x; issued = issued i; stacks = stacks i };
           limits = gone.limits ∙ h.limits;
           filters = gone.filters ∙ h.filters;
+          reserved = gone.reserved ∙ h.reserved;
           retired = (let a = gone.retired in let b = h.retired in omega arith);
           no_other = (let a = gone.no_other in let b = h.retired in omega arith);
           late = λ _. r.late;
@@ -136,7 +138,7 @@ removes_aside id o aside now new h r =
         closing = subst (λ (m : Spans). IfSome o (λ p. (parent_of m x ≡ Some (number_of p)) × IsClosing new.store.spans (number_of p))) h.spans r.closing;
         still_open = subst (λ (m : Spans). o ≡ None → (p : ℕ) → parent_of m x ≡ Some p → IsOpen new.store.spans p) h.spans r.still_open;
       },
-      record { spans = refl; issued = refl; stacks = refl; limits = refl; filters = refl; retired = refl },
+      record { spans = refl; issued = refl; stacks = refl; limits = refl; filters = refl; retired = refl; reserved = refl },
     )
 
 -- a loop of removals without the hooks in between
@@ -149,7 +151,7 @@ aside first id (Removed {xs} {o} {next} {now} {new} r e) =
     (v.0, Removed u.1 v.1, v.2)
 
 pub nothing_taken : (s : RegistryState) → TakesOut s [] s
-nothing_taken s = record { store = refl; limits = refl; filters = refl; retired = omega arith; no_other = omega arith; late = λ h. h }
+nothing_taken s = record { store = refl; limits = refl; filters = refl; reserved = refl; retired = omega arith; no_other = omega arith; late = λ h. h }
 
 taken_alone : (first : RegistryState) (id : Id) {xs : List ℕ} {o : Option Id} {now : RegistryState} → Removal (λ _ _. ⊥) first id xs o now → TakesOut first xs now
 taken_alone first id Begun = nothing_taken first

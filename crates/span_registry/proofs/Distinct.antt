@@ -1,14 +1,15 @@
 -- The distinct spans of a stack: what its calls make of them.
-use Rattle.std.proofs.Common.{◌≡◌, ℕ, ◌+◌, ◌<◌, List, [], ◌∷◌, ◌++◌, length, reverse, map, take, drop, get_or, refl, sym, ap, subst, ◌∙◌, Bool, true, false, cond, append_assoc, ◌||◌, nat_eq, ⊎_elim, add-one}
+use Rattle.std.proofs.Common.{◌≡◌, ℕ, suc, ◌+◌, ◌<◌, ◌≤◌, arith, List, [], ◌∷◌, ◌++◌, length, reverse, map, take, drop, get_or, refl, sym, ap, subst, ◌∙◌, Bool, true, false, cond, append_assoc, ◌||◌, nat_eq, ⊎_elim, add-one}
 use Rattle.std.proofs.lemmas.Bool.{cases_Bool, eq-eqb, eqb-true}
-use Rattle.std.proofs.lemmas.List.{map-append, reverse-append, take-append-drop}
+use Rattle.std.proofs.lemmas.List.{length-map, length-reverse, map-append, reverse-append, take-append-drop}
 use Rattle.std.proofs.lemmas.List.Sorted.{IsPermutation-reverse, list_any-IsPermutation}
 use Rattle.std.proofs.lemmas.Grind.{reverse_onto}
 use Rattle.std.proofs.Math.Seq.{drop-cons}
 use Rattle.std.specs.List.{list_any}
+use Rattle.std.specs.Prelude.{Some, if◌then◌else◌}
 use Rattle.span_core.specs.Span.{number_of}
 use Rattle.span_core.specs.declared.span.Id.{Id}
-use Rattle.span_registry.specs.LaneStack.{stands, leave, leaves_for_good, without_duplicates}
+use Rattle.span_registry.specs.LaneStack.{stands, last_entered, leave, leaves_for_good, newest, without_duplicates}
 use Rattle.span_registry.specs.Marks.{numbers_down}
 use Rattle.span_registry.proofs.Marks.{flip, leave_apart, leave_split}
 
@@ -114,3 +115,29 @@ taken x i xs d h is apart = taken_of x (take i xs) (drop (i + 1) xs) (get_or xs 
 -- x isn't among them
 pub none_taken : (x : ℕ) (xs : List Id) → stands x (map number_of xs) ≡ false → numbers_down xs ≡ leave x (numbers_down xs)
 none_taken x xs h = sym (leave_apart x (numbers_down xs) (stands_down x xs ∙ h))
+
+-- there are no more distinct spans than entries
+few : (xs : List ℕ) → length (without_duplicates xs) ≤ length xs
+few [] = omega arith
+few (x ∷ xs) = by_test (stands x xs) refl (few xs)
+  where
+    by_test : (b : Bool) → stands x xs ≡ b → length (without_duplicates xs) ≤ length xs → length (without_duplicates (x ∷ xs)) ≤ suc (length xs)
+    by_test true t rest = rw t (omega arith)
+    by_test false t rest = rw t (omega arith)
+
+pub few_distinct : (xs : List ℕ) (ids : List Id) → numbers_down ids ≡ without_duplicates xs → length ids ≤ length xs
+few_distinct xs ids e =
+    let a = length-map (reverse ids) number_of in
+    let b = length-reverse ids in
+    let c = ap length e in
+    let d = few xs in
+    omega arith
+
+-- the newest of the distinct spans is the newest entry that is no duplicate
+pub newest_is : (xs : List ℕ) → newest (without_duplicates xs) ≡ last_entered xs
+newest_is [] = refl
+newest_is (x ∷ xs) = by_test (stands x xs) (newest_is xs)
+  where
+    by_test : (b : Bool) → newest (without_duplicates xs) ≡ last_entered xs → newest (if b then without_duplicates xs else (x ∷ without_duplicates xs)) ≡ (if b then last_entered xs else Some x)
+    by_test true rest = rest
+    by_test false rest = refl

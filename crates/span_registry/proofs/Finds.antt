@@ -9,7 +9,7 @@ use Rattle.span_core.specs.Span.{number_of}
 use Rattle.span_core.specs.declared.filter.FilterId.{FilterId}
 use Rattle.span_core.specs.declared.filter.FilterMap.{FilterMap}
 use Rattle.span_registry.specs.Context.{RefersTo, filters_in, store_at, store_in, view_in}
-use Rattle.span_registry.specs.LaneStack.{newest, without_duplicates}
+use Rattle.span_registry.specs.LaneStack.{last_entered}
 use Rattle.span_registry.specs.References.{Reference, id_of_reference, span_of_reference, subscriber_of}
 use Rattle.span_registry.specs.Step.{entered_last}
 use Rattle.span_registry.specs.Store.{RegistryState, Span, Store, empty_store}
@@ -38,7 +38,7 @@ passed_by mask filter verdict = option_map_or (λ v. not (meets mask (refuses v)
 
 -- where nothing was entered, a lane is in no span
 pub entered_nowhere : (lane : ℕ) → entered_last empty_store lane ≡ None
-entered_nowhere lane = ap (λ (o : Option (List ℕ)). newest (without_duplicates (unwrap_or o []))) (get-empty nat_cmp lane)
+entered_nowhere lane = ap (λ (o : Option (List ℕ)). last_entered (unwrap_or o [])) (get-empty nat_cmp lane)
 
 module _ {S : Type 0} (registry : S → RegistryState) where
   -- of no span nothing is found

@@ -12,8 +12,10 @@ pub mod Drops
 mod FromRoot
 mod Itself
 mod Kept
+mod LaneMaps
 mod LaneStacks
 mod Lending
+mod Linked
 mod LookupLaws
 mod Lost
 mod Marks

@@ -137,13 +137,13 @@ held_issued ps x l k = elim (number_cases x) [
 
 -- ---- answers
 
-abbrev pub state_of : List Slot → ℕ → Limits → SlotState
-state_of ps gone l = record { keys = keys_of ps; issued = issued_of ps; retired = gone; limits = l }
+abbrev pub state_of : List Slot → ℕ → ℕ → Limits → SlotState
+state_of ps gone r l = record { keys = keys_of ps; issued = issued_of ps; retired = gone; reserved = r; limits = l }
 
-pub full_by : (ps : List Slot) (free : List ℕ) (room gone : ℕ) (l : Limits) → IsSound ps free room gone l → (b : Bool) → (b ≡ true → (length free ≡ 0) × (l.places ≤ length ps))
-    → (b ≡ false → (0 < length free) ⊎ (length ps < l.places)) → MatchBool b (HasNoSlot (state_of ps gone l)) (HasSlot (state_of ps gone l))
-full_by ps free room gone l h true none some = full ps free room gone l h (none refl).0 (none refl).1
-full_by ps free room gone l h false none some = record { place = left ps free room gone l h (some refl); id = let k = ids_left ps free room gone l h in omega arith }
+pub full_by : (ps : List Slot) (free : List ℕ) (room gone r : ℕ) (l : Limits) → IsSound ps free room gone l → (b : Bool) → (b ≡ true → (length free ≡ 0) × (l.places ≤ length ps))
+    → (b ≡ false → (0 < length free) ⊎ (length ps < l.places)) → MatchBool b (HasNoSlot (state_of ps gone r l)) (HasSlot (state_of ps gone r l))
+full_by ps free room gone r l h true none some = full ps free room gone l h (none refl).0 (none refl).1
+full_by ps free room gone r l h false none some = record { place = left ps free room gone l h (some refl); id = let k = ids_left ps free room gone l h in omega arith }
 
 pub key_is : (ps : List Slot) (x i g : ℕ) → length ps ≤ 4294967295 → i < 4294967296 → x ≡ number_at i g → get (keys_of ps) x ≡ key_in (slice_get ps i) g
 key_is ps x i g l m e = ap (get (keys_of ps)) e ∙ get_held ps i g l m

@@ -8,7 +8,7 @@ use Rattle.std.specs.FinSet.{contains, insert as add}
 use Rattle.std.specs.Prelude.{vec_capacity}
 use Rattle.span_core.specs.Span.{number_of}
 use Rattle.span_core.specs.declared.span.Id.{Id}
-use Rattle.span_registry.specs.Slot.{SlotState, HasSlot, TakesSlot, GivesBack, IsSound, first_held, number_at, slots_of}
+use Rattle.span_registry.specs.Slot.{SlotState, HasNoSlotReserved, HasSlot, KeepsSlots, TakesSlot, GivesBack, IsSound, first_held, number_at, slots_of}
 use Rattle.span_registry.specs.declared.limits.Limits.{Limits}
 use Rattle.span_registry.specs.declared.slot.Slot.{Slot}
 use Rattle.span_registry.specs.declared.slot.Slots.TheInside.{Inside}
@@ -46,9 +46,9 @@ pub keyless : (n : ℕ) (o : Option Slot) → o ≡ Some (slot_at n None) → (h
 keyless n o e h = ap (λ (r : Option Slot). key_in r h) e ∙ no_key_in (nat_eq n h)
 
 -- a slot without a key is given one
-pub takes : (ps qs : List Slot) (i n key gone : ℕ) (l : Limits) (id : Id) → length ps ≤ 4294967295 → length qs ≤ 4294967295 → i < 4294967295 → issued_in (slice_get ps i) ≡ n → ((h : ℕ) → key_in (slice_get ps i) h ≡ None)
-    → ChangesAt ps qs i (slot_at n (Some key)) → number_of id ≡ number_at i n → TakesSlot key id (state_of ps gone l) (state_of qs gone l)
-takes ps qs i n key gone l id few fews below was none ch e =
+pub takes : {r : ℕ} (ps qs : List Slot) (i n key gone : ℕ) (l : Limits) (id : Id) → length ps ≤ 4294967295 → length qs ≤ 4294967295 → i < 4294967295 → issued_in (slice_get ps i) ≡ n → ((h : ℕ) → key_in (slice_get ps i) h ≡ None)
+    → ChangesAt ps qs i (slot_at n (Some key)) → number_of id ≡ number_at i n → TakesSlot key id (state_of ps gone r l) (state_of qs gone r l)
+takes {r} ps qs i n key gone l id few fews below was none ch e =
     let x = number_of id in
     let a : keys_of qs ≡ insert (keys_of ps) x key = keys_taken ps qs i n key few fews (omega arith) none ch ∙ ap (λ (y : ℕ). insert (keys_of ps) y key) (sym e) in
     let b : issued_of qs ≡ add (issued_of ps) x = issued_taken ps qs i n (slot_at n (Some key)) few fews (omega arith) was (omega arith) ch ∙ ap (add (issued_of ps)) (sym e) in
@@ -56,7 +56,7 @@ takes ps qs i n key gone l id few fews below was none ch e =
       fresh = ap (contains (issued_of ps)) e ∙ was_issued ps i n few (omega arith) ∙ le-ltb n (issued_in (slice_get ps i)) (omega arith);
       other = omega arith;
       unused = key_is ps x i n few (omega arith) e ∙ none n;
-      state = λ j. record { keys = a j; issued = b j; retired = gone; limits = l };
+      state = λ j. record { keys = a j; issued = b j; retired = gone; reserved = r; limits = l };
     }
 
 module _ (ps : List Slot) (free : List ℕ) (room gone : ℕ) (l : Limits) (h : IsSound ps free room gone l) (id : Id) (i n key : ℕ) (below : i < 4294967295) (e : number_of id ≡ number_at i n) (was : slice_get ps i ≡ Some (slot_at n (Some key))) where
@@ -78,22 +78,24 @@ module _ (ps : List Slot) (free : List ℕ) (room gone : ℕ) (l : Limits) (h : 
       (changes_set ps i (slot_at n (Some key)) (slot_at (n + 1) None) was)
 
   -- the slot may hold another span
-  pub gives_free : (more : List ℕ) → more ≡ free ++ i ∷ [] → n + 1 < l.generations → GivesBack id (state_of ps gone l) (state_of left_at gone l)
+  pub gives_free : {r : ℕ} (more : List ℕ) → more ≡ free ++ i ∷ [] → n + 1 < l.generations → GivesBack id (state_of ps gone r l) (state_of left_at gone r l)
   gives_free more end short = record {
     keys = keys_left;
     issued = issued_left;
     limits = refl;
+    reserved = refl;
     last = λ k. absurd (omega arith);
     not_last = λ k. refl;
     late = late left_at more room gone l (sound_freed ps free room gone l h more i n key end was short);
   }
 
   -- the slot held its last span
-  pub gives_retired : l.generations ≤ n + 1 → GivesBack id (state_of ps gone l) (state_of left_at (gone + 1) l)
+  pub gives_retired : {r : ℕ} → l.generations ≤ n + 1 → GivesBack id (state_of ps gone r l) (state_of left_at (gone + 1) r l)
   gives_retired over = record {
     keys = keys_left;
     issued = issued_left;
     limits = refl;
+    reserved = refl;
     last = λ k. refl;
     not_last = λ k. absurd (omega arith);
     late = late left_at free room (gone + 1) l (sound_retired ps free room gone l h i n key was over);
@@ -118,8 +120,8 @@ module _ (ps : List Slot) (free : List ℕ) (room gone : ℕ) (l : Limits) (h : 
   sound_again rest i key x e read = sound_taken ps free room gone l h rest i x.generation key e (free_there rest i x e read) (read_free rest i x e read).1
 
   -- the slot freed last holds another span
-  pub takes_again : (rest : List ℕ) (i key : ℕ) (x : Slot) (id : Id) → free ≡ rest ++ i ∷ [] → x ≡ get_or ps i x → number_of id ≡ number_at i x.generation
-      → TakesSlot key id (state_of ps gone l) (state_of (slice_set ps i (slot_at x.generation (Some key))) gone l)
+  pub takes_again : {r : ℕ} (rest : List ℕ) (i key : ℕ) (x : Slot) (id : Id) → free ≡ rest ++ i ∷ [] → x ≡ get_or ps i x → number_of id ≡ number_at i x.generation
+      → TakesSlot key id (state_of ps gone r l) (state_of (slice_set ps i (slot_at x.generation (Some key))) gone r l)
   takes_again rest i key x id e read is =
       let n = x.generation in
       let was = free_there rest i x e read in
@@ -137,13 +139,13 @@ module _ (ps : List Slot) (free : List ℕ) (room gone : ℕ) (l : Limits) (h : 
       (subst (λ (xs : List ℕ). IsSound (ps ++ first_held key ∷ []) xs larger gone l) f
       (sound_made ps free room gone l h larger key below (subst (λ (rs : List Slot). length rs ≤ larger) made fits)))
 
-  pub takes_new : (qs : List Slot) (i key : ℕ) (id : Id) → length ps < l.places → qs ≡ ps ++ first_held key ∷ [] → i ≡ length ps → number_of id ≡ number_at i 0 → TakesSlot key id (state_of ps gone l) (state_of qs gone l)
-  takes_new qs i key id below made end is =
+  pub takes_new : {r : ℕ} (qs : List Slot) (i key : ℕ) (id : Id) → length ps < l.places → qs ≡ ps ++ first_held key ∷ [] → i ≡ length ps → number_of id ≡ number_at i 0 → TakesSlot key id (state_of ps gone r l) (state_of qs gone r l)
+  takes_new {r} qs i key id below made end is =
       let few = few_slots ps free room gone l h in
       let p = h.places in
       let none : slice_get ps (length ps) ≡ None = slice_get_past ps (length ps) (omega arith) in
       let size = length_push ps (first_held key) in
-      subst (λ (rs : List Slot). TakesSlot key id (state_of ps gone l) (state_of rs gone l)) (sym made)
+      subst (λ (rs : List Slot). TakesSlot key id (state_of ps gone r l) (state_of rs gone r l)) (sym made)
       (takes ps (ps ++ first_held key ∷ []) (length ps) 0 key gone l id few (omega arith) (omega arith) (ap issued_in none) (λ g. ap (λ (o : Option Slot). key_in o g) none) (changes_push ps (first_held key)) (is ∙ ap (λ (k : ℕ). number_at k 0) end))
 
   -- with no free slot, one may be made where places are left
@@ -154,6 +156,19 @@ module _ (ps : List Slot) (free : List ℕ) (room gone : ℕ) (l : Limits) (h : 
       let c = h.freed in
       let d = h.retired in
       omega arith
+
+-- where no slot is free and there is memory for no other, as many as that are held or retired
+pub none_reserved : (a : Inside) (s : SlotState) → slots_of a ≡ s → KeepsSlots a → length a.free.items ≡ 0 → a.reserved ≤ length a.slots.items → HasNoSlotReserved s
+none_reserved a s e h none most = subst HasNoSlotReserved e (
+    let l = a.limits in
+    let ps = a.slots.items in
+    let b = all_slots l.generations ps in
+    let c = held_count ps a.free.items (vec_capacity a.free) a.retired l h.sound in
+    let d = h.sound.freed in
+    let f = h.sound.retired in
+    let g : a.reserved ≤ len (keys_of ps) + a.retired = omega arith in
+    g
+    )
 
 -- where a slot is left and none is free, one may be made
 pub may_make_at : (a : Inside) (s : SlotState) → slots_of a ≡ s → IsSound a.slots.items a.free.items (vec_capacity a.free) a.retired a.limits → length a.free.items ≡ 0 → HasSlot s → length a.slots.items < a.limits.places

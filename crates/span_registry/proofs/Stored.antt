@@ -1,5 +1,5 @@
 -- The spans that the store keeps: what is found under the keys of their numbers.
-use Rattle.std.specs.Prelude.{◌≡◌, ◌≢◌, ℕ, ◌+◌, ◌<◌, zero, suc, T, List, [], ◌∷◌, ◌++◌, Option, None, Some, Bool, true, false, cond, ◌&&◌, length, IfSome, IsSome, is_some, slice_get, slice_index_or, slice_set}
+use Rattle.std.specs.Prelude.{◌≡◌, ◌≢◌, ℕ, ◌+◌, ◌<◌, ◌≤◌, max, zero, suc, T, List, [], ◌∷◌, ◌++◌, Option, None, Some, Bool, true, false, cond, ◌&&◌, length, IfSome, IsSome, is_some, slice_get, slice_index_or, slice_set}
 use Rattle.std.specs.Borrow.{Bor, MutBor}
 use Rattle.std.specs.List.{ItemBy, count_by}
 use Rattle.std.specs.Option.{IsSomeAnd, option_and_then, option_copied, option_copied_mut}
@@ -12,7 +12,7 @@ use Rattle.slab.specs.Slab.{Slab, Updates, get as under, slab_len, with_value}
 use Rattle.slab.proofs.SlabLemmas.{Updates-with_value}
 use Rattle.std.specs.declared.cmp.Ordering.{Ordering}
 use Rattle.std.specs.declared.cmp.Ordering.TheVariants.{Less, Equal, Greater}
-use Rattle.std.proofs.Common.{Vec, Global, ◌⊎◌, arith, refl, sym, ap, subst, ◌∙◌, add-one, inl, inr}
+use Rattle.std.proofs.Common.{Vec, Global, ◌⊎◌, arith, length-set, refl, sym, ap, subst, ◌∙◌, add-one, inl, inr}
 use Rattle.std.proofs.lemmas.Bool.{cases_eq, true≢false}
 use Rattle.std.proofs.lemmas.List.Sums.{sum_by-cons}
 use Rattle.std.proofs.lemmas.Option.{same_Some, slice_get-get_or, slice_get_past}
@@ -20,7 +20,7 @@ use Rattle.span_registry.specs.Extensions.{no_values}
 use Rattle.span_core.specs.Span.{number_of}
 use Rattle.span_core.specs.declared.span.Id.{Id}
 use Rattle.span_registry.specs.Slot.{SlotState, TakesSlot}
-use Rattle.span_registry.specs.StoreRepr.{CountsAny, GrowsEmpty, Inserts, KeepsSpans, KeptSpans, Writes, counts_in, found_in, kept_of, with_found, with_record, with_values}
+use Rattle.span_registry.specs.StoreRepr.{CountsAny, GrowsEmpty, HasNoneReserved, Inserts, KeepsSpans, KeptSpans, Writes, counts_in, found_in, kept_of, with_found, with_record, with_values}
 use Rattle.span_registry.specs.declared.extensions.ExtensionMap.{ExtensionMap}
 use Rattle.span_registry.specs.declared.span_record.SpanRecord.{SpanRecord}
 use Rattle.span_registry.specs.declared.span_store.SpanStore.TheInside.{Inside}
@@ -149,6 +149,11 @@ grown_more [] (y ∷ ys) e is h = (h.0, grown_more [] ys e is h.1)
 grown_more (x ∷ xs) [] e is h = absurd h
 grown_more (x ∷ xs) (y ∷ ys) e is h = (h.0, grown_more xs ys e is h.1)
 
+pub grown_longer : (xs ys : List ExtensionMap) → GrowsEmpty xs ys → length xs ≤ length ys
+grown_longer [] ys h = omega arith
+grown_longer (x ∷ xs) [] h = absurd h
+grown_longer (x ∷ xs) (y ∷ ys) h = let rest = grown_longer xs ys h.1 in omega arith
+
 -- what is there stays, and what is new has no value
 pub grown_kept : (xs ys : List ExtensionMap) (i : ℕ) → GrowsEmpty xs ys → IsSome (slice_get xs i) → slice_get ys i ≡ slice_get xs i
 grown_kept [] ys i h there = absurd (true≢false (sym there))
@@ -233,6 +238,9 @@ keeps_values a e x key w keeps has is =
       idle = λ k v none at.
           let beside : k ≢ key = λ same. true≢false (sym (keeps.recorded x key has) ∙ ap (λ (j : ℕ). is_some (under a.records j)) (sym same) ∙ ap (λ (o : Option SpanRecord). is_some o) none) in
           keeps.idle k v none (sym (get-set_beside a.extensions.items key k w beside) ∙ ap (λ (l : List ExtensionMap). slice_get l k) (sym is) ∙ at);
+      covered = (let long = ap length is in let set = length-set a.extensions.items key w in let kept = keeps.covered in omega arith);
+      room = keeps.room;
+      reached = (let long = ap length is in let set = length-set a.extensions.items key w in let kept = keeps.reached in omega arith);
     }
 
 pub values_written : (a : Inside) (s : KeptSpans) (e : Vec ExtensionMap Global) (x key : ℕ) (w : ExtensionMap) → KeepsSpans a → kept_of a ≡ s → get a.slots.keys x ≡ Some key → e.items ≡ slice_set a.extensions.items key w → kept_of (record a { extensions = e }) ≡ with_values s x w
@@ -299,6 +307,9 @@ keeps_written a x key v keeps has =
         | inl here ↦ absurd (true≢false (sym (same k ∙ ap (λ (j : ℕ). is_some (under a.records j)) here ∙ there) ∙ ap (λ (o : Option SpanRecord). is_some o) none))
         | inr differs ↦ keeps.idle k e (sym (updates.others k differs) ∙ none) at
       ];
+      covered = (let set = length-set a.records.slots key (Some v) in let kept = keeps.covered in omega arith);
+      room = keeps.room;
+      reached = keeps.reached;
     }
 
 -- as many numbers are held as are put in and not taken out
@@ -309,8 +320,8 @@ pub len_gone : (m : FinMap nat_cmp ℕ) (x k : ℕ) → get m x ≡ Some k → l
 len_gone m x k is = sym (len_put (remove m x) x k (get_removed m x)) ∙ ap len (put_back m x k is)
 
 -- room for a span more changes nothing that is seen
-pub keeps_grown : (a : Inside) (r : Slab SpanRecord) (e : Vec ExtensionMap Global) → KeepsSpans a → r.slots ≡ a.records.slots → GrowsEmpty a.extensions.items e.items → KeepsSpans (record a { records = r; extensions = e })
-keeps_grown a r e keeps same grown =
+pub keeps_grown : (a : Inside) (r : Slab SpanRecord) (e : Vec ExtensionMap Global) → KeepsSpans a → r.slots ≡ a.records.slots → a.records.capacity ≤ r.capacity → GrowsEmpty a.extensions.items e.items → KeepsSpans (record a { records = r; extensions = e })
+keeps_grown a r e keeps same more grown =
     let read : (k : ℕ) → under r k ≡ under a.records k = λ k. ap (λ (l : List (Option SpanRecord)). slice_index_or l k None) same in
     record {
       recorded = λ y k at. ap (λ (o : Option SpanRecord). is_some o) (read k) ∙ keeps.recorded y k at;
@@ -318,6 +329,9 @@ keeps_grown a r e keeps same grown =
       apart = keeps.apart;
       all = ap (count_by is_some) same ∙ keeps.all;
       idle = λ k v none at. grown_idle a.extensions.items e.items k v grown (λ was. keeps.idle k v (sym (read k) ∙ none) was) at;
+      covered = (let as_long = ap length same in let longer = grown_longer a.extensions.items e.items grown in let kept = keeps.covered in omega arith);
+      room = (let kept = keeps.room in omega arith);
+      reached = (let longer = grown_longer a.extensions.items e.items grown in let kept = keeps.reached in omega arith);
     }
 
 pub kept_grown : (a : Inside) (r : Slab SpanRecord) (e : Vec ExtensionMap Global) → KeepsSpans a → r.slots ≡ a.records.slots → GrowsEmpty a.extensions.items e.items → kept_of (record a { records = r; extensions = e }) ≡ kept_of a
@@ -325,6 +339,37 @@ kept_grown a r e keeps same grown =
     let records = found_same (under a.records) (under r) a.slots.keys (λ q k at. ap (λ (l : List (Option SpanRecord)). slice_index_or l k None) same) in
     let extensions = found_same (slice_get a.extensions.items) (slice_get e.items) a.slots.keys (λ q k at. grown_kept a.extensions.items e.items k grown (keeps.extended q k at)) in
     λ i. record (kept_of a) { records = records i; extensions = extensions i }
+
+-- memory is held for more spans, and nothing else changes
+pub reserves : (a : Inside) (s : KeptSpans) (slots : SlotState) (r : Slab SpanRecord) (e : Vec ExtensionMap Global) (count : ℕ) → KeepsSpans a → kept_of a ≡ s → r.slots ≡ a.records.slots → a.records.capacity ≤ r.capacity → GrowsEmpty a.extensions.items e.items
+    → slots ≡ record a.slots { reserved = max a.slots.reserved count } → count ≤ r.capacity → count ≤ length e.items
+    → KeepsSpans (record { slots = slots; records = r; extensions = e }) × (kept_of (record { slots = slots; records = r; extensions = e }) ≡ record s { reserved = max s.reserved count })
+reserves a s slots r e count keeps view_is same more grown is held reached =
+    let kept : KeepsSpans (record a { records = r; extensions = e }) = keeps_grown a r e keeps same more grown in
+    let new : Inside = record { slots = record a.slots { reserved = max a.slots.reserved count }; records = r; extensions = e } in
+    let keeps_new : KeepsSpans new = record {
+      recorded = kept.recorded;
+      extended = kept.extended;
+      apart = kept.apart;
+      all = kept.all;
+      idle = kept.idle;
+      covered = kept.covered;
+      room = (let before = kept.room in omega arith);
+      reached = (let before = kept.reached in omega arith);
+    } in (
+      subst (λ (t : SlotState). KeepsSpans (record { slots = t; records = r; extensions = e })) (sym is) keeps_new,
+      ap (λ (t : SlotState). kept_of (record { slots = t; records = r; extensions = e })) is
+          ∙ ap (λ (t : KeptSpans). record t { reserved = max a.slots.reserved count }) (kept_grown a r e keeps same grown)
+          ∙ ap (λ (t : KeptSpans). record t { reserved = max t.reserved count }) view_is,
+    )
+
+-- memory is held for no span more where there are as many as were reserved
+pub none_reserved : (a : Inside) (s : KeptSpans) → KeepsSpans a → kept_of a ≡ s → a.slots.reserved ≤ len a.slots.keys + a.slots.retired → HasNoneReserved s
+none_reserved a s keeps view_is most = subst HasNoneReserved view_is (
+    let many = len-found (under a.records) a.slots.keys keeps.recorded in
+    let out : a.slots.reserved ≤ len (found (under a.records) a.slots.keys) + a.slots.retired = omega arith in
+    out
+    )
 
 -- a number of which something is found after one was put in is this one, or was there
 put_in : (m : FinMap nat_cmp ℕ) (x key y k : ℕ) → get (insert m x key) y ≡ Some k → ((x ≡ y) × (k ≡ key)) ⊎ ((x ≢ y) × (get m y ≡ Some k))
@@ -342,7 +387,7 @@ taken_out m x y k is =
       | inr differs ↦ (differs, sym (get_beside_removed m x y differs) ∙ is)
     ]
 
-module _ (a : Inside) (keeps : KeepsSpans a) (x key : ℕ) (span : SpanRecord) (r : Slab SpanRecord) (updates : Updates a.records r key (Some span)) (vacant : under a.records key ≡ None) (room : key < length a.extensions.items) (unused : get a.slots.keys x ≡ None) (longer : slab_len r ≡ slab_len a.records + 1) where
+module _ (a : Inside) (keeps : KeepsSpans a) (x key : ℕ) (span : SpanRecord) (r : Slab SpanRecord) (updates : Updates a.records r key (Some span)) (vacant : under a.records key ≡ None) (room : key < length a.extensions.items) (unused : get a.slots.keys x ≡ None) (longer : slab_len r ≡ slab_len a.records + 1) (few : length r.slots ≤ max (length a.records.slots) (key + 1)) (capacity : r.capacity ≡ a.records.capacity) where
   fresh_key : (y k : ℕ) → get a.slots.keys y ≡ Some k → k ≢ key
   fresh_key y k at same = true≢false (sym (keeps.recorded y k at) ∙ ap (λ (j : ℕ). is_some (under a.records j)) same ∙ ap (λ (o : Option SpanRecord). is_some o) vacant)
 
@@ -374,6 +419,9 @@ module _ (a : Inside) (keeps : KeepsSpans a) (x key : ℕ) (span : SpanRecord) (
         idle = λ k v none at.
             let beside : k ≢ key = λ same. true≢false (sym (ap (λ (o : Option SpanRecord). is_some o) updates.changed) ∙ ap (λ (j : ℕ). is_some (under r j)) (sym same) ∙ ap (λ (o : Option SpanRecord). is_some o) none) in
             keeps.idle k v (sym (updates.others k beside) ∙ none) at;
+        covered = (let kept = keeps.covered in omega arith);
+        room = (let kept = keeps.room in omega arith);
+        reached = keeps.reached;
       }
 
   no_value : (o : Option ExtensionMap) → slice_get a.extensions.items key ≡ o → IsSome o → o ≡ Some no_values
@@ -384,28 +432,29 @@ module _ (a : Inside) (keeps : KeepsSpans a) (x key : ℕ) (span : SpanRecord) (
   kept_span =
       let records = found_inserted (under a.records) (under r) a.slots.keys x key span updates.changed (λ q k differs at. updates.others k (fresh_key q k at)) in
       let extensions = found_inserted (slice_get a.extensions.items) (slice_get a.extensions.items) a.slots.keys x key no_values (no_value (slice_get a.extensions.items key) refl (stands a.extensions.items key room)) (λ q k differs at. refl) in
-      λ i. record { records = records i; extensions = extensions i; issued = add a.slots.issued x; retired = a.slots.retired; limits = a.slots.limits }
+      λ i. record { records = records i; extensions = extensions i; issued = add a.slots.issued x; retired = a.slots.retired; reserved = a.slots.reserved; limits = a.slots.limits }
 
 -- a span that is put in under a vacant key, once there is room for its record and its extensions
-pub puts_in : (a : Inside) (s : KeptSpans) (id : Id) (key : ℕ) (span : SpanRecord) (slots : SlotState) (b r : Slab SpanRecord) (e : Vec ExtensionMap Global) → KeepsSpans a → kept_of a ≡ s → b.slots ≡ a.records.slots → GrowsEmpty a.extensions.items e.items → key < length e.items → under b key ≡ None → Updates b r key (Some span) → slab_len r ≡ slab_len b + 1 → TakesSlot key id a.slots slots
+pub puts_in : (a : Inside) (s : KeptSpans) (id : Id) (key : ℕ) (span : SpanRecord) (slots : SlotState) (b r : Slab SpanRecord) (e : Vec ExtensionMap Global) → KeepsSpans a → kept_of a ≡ s → b.slots ≡ a.records.slots → a.records.capacity ≤ b.capacity → GrowsEmpty a.extensions.items e.items → key < length e.items → under b key ≡ None → Updates b r key (Some span) → slab_len r ≡ slab_len b + 1
+    → length r.slots ≤ max (length b.slots) (key + 1) → r.capacity ≡ b.capacity → TakesSlot key id a.slots slots
     → KeepsSpans (record { slots = slots; records = r; extensions = e }) × Inserts id span s (kept_of (record { slots = slots; records = r; extensions = e }))
-puts_in a s id key span slots b r e keeps view_is same grown room vacant updates longer taken =
+puts_in a s id key span slots b r e keeps view_is same more grown room vacant updates longer few capacity taken =
     let roomy : Inside = record a { records = b; extensions = e } in
-    let kept : KeepsSpans roomy = keeps_grown a b e keeps same grown in
+    let kept : KeepsSpans roomy = keeps_grown a b e keeps same more grown in
     let x = number_of id in
     let before : kept_of roomy ≡ s = kept_grown a b e keeps same grown ∙ view_is in
-    let new : Inside = with_span roomy kept x key span r updates vacant room taken.unused longer in
+    let new : Inside = with_span roomy kept x key span r updates vacant room taken.unused longer few capacity in
     let inserts : Inserts id span (kept_of roomy) (kept_of new) = record {
       fresh = taken.fresh;
       other = taken.other;
       unused = get-found (under b) a.slots.keys x ∙ ap (option_and_then (under b)) taken.unused;
-      state = kept_span roomy kept x key span r updates vacant room taken.unused longer;
+      state = kept_span roomy kept x key span r updates vacant room taken.unused longer few capacity;
     } in (
-      subst (λ (t : SlotState). KeepsSpans (record { slots = t; records = r; extensions = e })) (sym taken.state) (keeps_span roomy kept x key span r updates vacant room taken.unused longer),
+      subst (λ (t : SlotState). KeepsSpans (record { slots = t; records = r; extensions = e })) (sym taken.state) (keeps_span roomy kept x key span r updates vacant room taken.unused longer few capacity),
       subst (λ (t : SlotState). Inserts id span s (kept_of (record { slots = t; records = r; extensions = e }))) (sym taken.state) (subst (λ (o : KeptSpans). Inserts id span o (kept_of new)) before inserts),
     )
 
-module _ (a : Inside) (keeps : KeepsSpans a) (x key : ℕ) (has : get a.slots.keys x ≡ Some key) (s : SlotState) (given : s.keys ≡ remove a.slots.keys x) (r : Slab SpanRecord) (updates : Updates a.records r key None) (e : Vec ExtensionMap Global) (is : e.items ≡ slice_set a.extensions.items key no_values) (shorter : slab_len r + 1 ≡ slab_len a.records) where
+module _ (a : Inside) (keeps : KeepsSpans a) (x key : ℕ) (has : get a.slots.keys x ≡ Some key) (s : SlotState) (given : s.keys ≡ remove a.slots.keys x) (still : s.reserved ≡ a.slots.reserved) (r : Slab SpanRecord) (updates : Updates a.records r key None) (e : Vec ExtensionMap Global) (is : e.items ≡ slice_set a.extensions.items key no_values) (shorter : slab_len r + 1 ≡ slab_len a.records) (slots : r.slots ≡ slice_set a.records.slots key None) (capacity : r.capacity ≡ a.records.capacity) where
   abbrev pub without_span : Inside
   without_span = record { slots = s; records = r; extensions = e }
 
@@ -428,6 +477,9 @@ module _ (a : Inside) (keeps : KeepsSpans a) (x key : ℕ) (has : get a.slots.ke
               | inl same ↦ same_Some v no_values (sym read ∙ ap (λ (j : ℕ). slice_get (slice_set a.extensions.items key no_values) j) same ∙ get-set_here a.extensions.items key no_values (keeps.extended x key has))
               | inr differs ↦ keeps.idle k v (sym (updates.others k differs) ∙ none) (sym (get-set_beside a.extensions.items key k no_values differs) ∙ read)
             ];
+        covered = (let long = ap length is in let set = length-set a.extensions.items key no_values in let wide = ap length slots in let put = length-set a.records.slots key None in let kept = keeps.covered in omega arith);
+        room = (let kept = keeps.room in omega arith);
+        reached = (let long = ap length is in let set = length-set a.extensions.items key no_values in let kept = keeps.reached in omega arith);
       }
 
   pub records_rest : (kept_of without_span).records ≡ remove (kept_of a).records x

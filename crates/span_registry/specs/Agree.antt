@@ -6,11 +6,11 @@ use Rattle.span_core.specs.Filters.{FilterSet, refuses}
 use Rattle.span_core.specs.declared.metadata.Metadata.{Metadata}
 use Rattle.span_registry.specs.Store.{Span, Store}
 
--- what these filters can tell of a span: its metadata, its parent, its handles, and which of them refused it
+-- what of a span makes a difference to these filters: its metadata, its parent, and which of them refused it, as they are shown it; and its handles, since by these it closes
 abbrev pub known_to : FilterSet → Span → Metadata × Option ℕ × ℕ × FilterSet
 known_to numbers r = (r.metadata, r.parent, r.handles, λ n. numbers n && refuses r.verdict n)
 
--- the two stores have the same spans, as far as these filters can tell, ids issued and stacks; of extensions nothing is said
+-- the two stores have the same spans, as far as that goes, ids issued and stacks; of extensions nothing is said
 pub record AgreeAt (numbers : FilterSet) (s t : Store) : Type 0 where
   pub spans : (x : ℕ)
       → option_map (known_to numbers) (get s.spans x)

@@ -39,18 +39,16 @@ both_marked InList first last second = first && (last || second)
 
 -- whether it is marked: it is a layer under a filter, or made of such, as its parts stand together
 abbrev pub is_marked : Form → Bool
-is_marked (Leaf still a) = false
 is_marked (Filtered n a f) = true
 is_marked (Parts k o i) = both_marked k (is_marked o) (is_end i) (is_marked i)
-is_marked (Terminal v) = false
+is_marked other = false
 
 -- whether a layer in it is absent
 abbrev pub is_absent : Form → Bool
-is_absent (Leaf still a) = false
 is_absent (Filtered n a f) = is_absent f
 is_absent (Parts k o i) = is_absent o || is_absent i
 is_absent (Terminal Absent) = true
-is_absent (Terminal v) = false
+is_absent other = false
 
 -- no hook of a leaf in it does more than write extensions
 abbrev pub WritesOnlyExtensions : Form → Type 0

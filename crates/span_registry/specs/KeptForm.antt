@@ -18,7 +18,7 @@ pub record AnswersKeep (a b : Behaviour) : Type 0 where
   pub quiet : RefusesNothing a → RefusesNothing b
 
 -- the form g, where the form was f: parts stand together as they did, filters have the numbers that they had, all have the
--- interest and the hint that they had, and what was honest, and what refused nothing, is and does so still
+-- interest and the hint that they had, what was honest is so still, and a leaf that refused nothing refuses nothing still
 abbrev pub KeepsForm : Form → Form → Type 0
 KeepsForm (Leaf still a) (Leaf quiet b) = (quiet ≡ still) × AnswersKeep a b
 KeepsForm (Filtered n a f) (Filtered m b g) =

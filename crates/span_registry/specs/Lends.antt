@@ -5,6 +5,7 @@ use Rattle.std.specs.Borrow.{Fml, Lends, LendsIf, LendsSo, MutBor, RattleType}
 use Rattle.std.specs.FinMap.{FinMap, insert}
 use Rattle.std.specs.Option.{OnSome}
 use Rattle.std.specs.Ordering.{nat_cmp}
+use Rattle.slab.specs.Slab.{Slab, with_value as with_kept}
 use Rattle.span_core.specs.Span.{number_of}
 use Rattle.span_core.specs.declared.span.Id.{Id}
 use Rattle.span_registry.specs.Context.{subscriber_lent, with_subscriber}
@@ -13,6 +14,7 @@ use Rattle.span_registry.specs.Store.{RegistryState, with_extensions}
 use Rattle.span_registry.specs.contracts.context.ContextMut.{the_row as context_row}
 use Rattle.span_registry.specs.contracts.extension_tables.ExtensionTables.{the_row as tables_row}
 use Rattle.span_registry.specs.contracts.extensions.ExtensionMap.{the_row as map_row}
+use Rattle.span_registry.specs.contracts.keyed.Keyed.{the_row as keyed_row}
 use Rattle.span_registry.specs.contracts.registry.Registry.{the_row}
 use Rattle.span_registry.specs.contracts.table.Table.{the_row as table_row}
 use Rattle.span_registry.specs.declared.context.ContextMut.{ContextMut}
@@ -71,3 +73,11 @@ lends_entry T s n r =
 abbrev pub lends_table : (T : RattleType) → Place T.Denot → MutBor ExtensionMap
     → MutBor (FinMap nat_cmp T.Denot) → Fml
 lends_table T place s r = Lends tables_row (table_row T) s r (place.with_values s.now)
+
+-- once the borrow r ends, the key has the value that r had last
+abbrev pub lends_kept_value : (T : RattleType) → MutBor (Slab T.Denot) → ℕ → MutBor T.Denot → Fml
+lends_kept_value T s key r = Lends (keyed_row T) T s r (with_kept s.now key)
+
+-- the same where r is a reference; at `None` the values stay as they are
+abbrev pub lends_kept : (T : RattleType) → MutBor (Slab T.Denot) → ℕ → Option (MutBor T.Denot) → Fml
+lends_kept T s key r = LendsIf (keyed_row T) T s r (with_kept s.now key) s.now

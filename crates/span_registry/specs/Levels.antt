@@ -11,10 +11,9 @@ use Rattle.span_registry.specs.Store.{RegistryState}
 
 -- whether a filter with this number takes a level: each part is asked, but what stands under that filter isn't
 abbrev pub takes_level : Form → ℕ → LevelFilter → Bool
-takes_level (Leaf still a) n l = false
 takes_level (Filtered m a f) n l = if filter_numbered m n then a.takes l else takes_level f n l
 takes_level (Parts k o i) n l = takes_level o n l || takes_level i n l
-takes_level (Terminal v) n l = false
+takes_level other n l = false
 
 -- the form g, where the form was f and levels may have been set: the parts stand together as they did, filters have the numbers that they had and answer honestly where they did, and leaves keep what they answer
 abbrev pub KeepsRules : Form → Form → Type 0

@@ -6,6 +6,7 @@ pub mod Conducts
 pub mod Context
 pub mod Extensions
 pub mod KeptForm
+pub mod Keyed
 pub mod Form
 pub mod Hooks
 pub mod StoreRepr

@@ -56,10 +56,9 @@ passes a e s lane set = option_map_or (is_passed s.spans set) (span_in e) false
 -- who is notified where each filter is asked afresh: what every filter round it passes, in the view under the filters from outside down to that one
 abbrev pub asked_afresh : Form → Notice → Store → ℕ → FilterSet → Plan
 asked_afresh (Leaf still a) e s lane under = Itself
-asked_afresh (Filtered None a f) e s lane under = Nobody
 asked_afresh (Filtered (Some n) a f) e s lane under =
     if passes a e s lane (union under (single n))
     then Through (asked_afresh f e s lane (union under (single n))) else Nobody
 asked_afresh (Parts k o i) e s lane under =
     Both (asked_afresh o e s lane under) (asked_afresh i e s lane under)
-asked_afresh (Terminal v) e s lane under = Nobody
+asked_afresh other e s lane under = Nobody

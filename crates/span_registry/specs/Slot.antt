@@ -1,26 +1,30 @@
 -- How spans have slots: the key of each number that a slot holds. No public contract cites this.
-use Rattle.std.specs.Prelude.{◌≡◌, ℕ, ◌+◌, ◌-◌, ◌*◌, ◌<◌, ◌≤◌, ◌^◌, max, Bool, true, false, cond, not, ◌&&◌, is_some, nat_eq, nat_lt, List, [], ◌∷◌, ◌++◌, length, Option, Some, None, zero, suc, slice_get, IsSome}
+use Rattle.std.specs.Prelude.{◌≡◌, ℕ, ◌+◌, ◌-◌, ◌*◌, ◌<◌, ◌≤◌, ◌⊎◌, ◌^◌, max, vec_capacity, Bool, true, false, cond, not, ◌&&◌, is_some, nat_eq, nat_lt, List, [], ◌∷◌, ◌++◌, length, Option, Some, None, zero, suc, slice_get, IsSome}
 use Rattle.std.specs.FinMap.{FinMap, empty, from_entries, get, insert, len, remove}
 use Rattle.std.specs.FinSet.{FinSet, contains, empty as no_items, from_list, insert as add, len as set_len}
 use Rattle.std.specs.List.{count_by}
 use Rattle.std.specs.Option.{option_map_or}
 use Rattle.std.specs.Ordering.{nat_cmp}
+use Rattle.std.specs.declared.alloc.Global.{Global}
+use Rattle.std.specs.declared.vec.Vec.{Vec}
 use Rattle.span_core.specs.Span.{number_of}
 use Rattle.span_core.specs.declared.span.Id.{Id}
 use Rattle.span_registry.specs.declared.limits.Limits.{Limits}
 use Rattle.span_registry.specs.declared.slot.Slot.{Slot}
 use Rattle.span_registry.specs.declared.slot.Slots.TheInside.{Inside}
 
--- the key of each number that a slot holds, the numbers issued so far, how many slots are retired, and what limits them
+-- the key of each number that a slot holds, the numbers issued so far, how many slots are retired, how many there is memory for, and what limits them
 pub record SlotState : Type 0 where
   pub keys : FinMap nat_cmp ℕ
   pub issued : FinSet nat_cmp
   pub retired : ℕ
+  pub reserved : ℕ
   pub limits : Limits
 
 -- slots as they begin
 abbrev pub no_slots : Limits → SlotState
-no_slots l = record { keys = empty; issued = no_items; retired = 0; limits = l }
+no_slots l =
+    record { keys = empty; issued = no_items; retired = 0; reserved = 0; limits = l }
 
 -- no number is held, and none was issued
 pub record AreUnused (s : SlotState) : Type 0 where
@@ -35,6 +39,16 @@ pub record HasSlot (s : SlotState) : Type 0 where
 -- every slot that there may be holds a span or is retired
 abbrev pub HasNoSlot : SlotState → Type 0
 HasNoSlot s = s.limits.places ≤ len s.keys + s.retired
+
+-- memory is held for no slot more: as many as were reserved hold a span or are retired
+abbrev pub HasNoSlotReserved : SlotState → Type 0
+HasNoSlotReserved s = s.reserved ≤ len s.keys + s.retired
+
+-- a slot more needs memory, or room for it among the free ones does
+abbrev pub WantsMemory : Vec Slot Global → Vec ℕ Global → Type 0
+WantsMemory slots free =
+    (vec_capacity slots ≤ length slots.items)
+    ⊎ (vec_capacity free ≤ length free.items + length slots.items)
 
 -- no more slots are retired than all their generations allow
 abbrev pub RetiresInTime : SlotState → Type 0
@@ -53,6 +67,7 @@ pub record GivesBack (id : Id) (old new : SlotState) : Type 0 where
   pub keys : new.keys ≡ remove old.keys (number_of id)
   pub issued : new.issued ≡ old.issued
   pub limits : new.limits ≡ old.limits
+  pub reserved : new.reserved ≡ old.reserved
   pub last : old.limits.generations * 2 ^ 32 < number_of id + 2 ^ 32 → new.retired ≡ old.retired + 1
   pub not_last : number_of id + 2 ^ 32 ≤ old.limits.generations * 2 ^ 32 → new.retired ≡ old.retired
   pub late : RetiresInTime new
@@ -107,6 +122,7 @@ slots_of a = record {
   keys = from_entries (held_from 0 a.slots.items);
   issued = from_list (issued_from 0 a.slots.items);
   retired = a.retired;
+  reserved = a.reserved;
   limits = a.limits;
 }
 
@@ -137,3 +153,9 @@ pub record IsSound (ps : List Slot) (free : List ℕ) (room gone : ℕ) (l : Lim
   pub few : length ps ≤ l.places
   pub places : l.places ≤ 4294967295
   pub generations : l.generations ≤ 4294967295
+
+-- the same of these fields, and that there is memory for the slots that were reserved, also among the free ones
+pub record KeepsSlots (a : Inside) : Type 0 where
+  pub sound : IsSound a.slots.items a.free.items (vec_capacity a.free) a.retired a.limits
+  pub made : a.reserved ≤ vec_capacity a.slots
+  pub freed : a.reserved ≤ vec_capacity a.free

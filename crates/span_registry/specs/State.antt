@@ -12,7 +12,7 @@ store_of a = record {
   spans = spans_of (entries a.spans.records);
   extensions = a.spans.extensions;
   issued = a.spans.issued;
-  stacks = a.stacks;
+  stacks = a.stacks.stacks;
 }
 
 -- the registry that these fields keep
@@ -22,9 +22,10 @@ state_of a = record {
   limits = a.spans.limits;
   filters = a.filters;
   retired = a.spans.retired;
+  reserved = record { places = a.spans.reserved; entries = a.stacks.rooms };
 }
 
 -- what the registry keeps true of its fields: that of its spans, and no lane has a stack before an id is issued
 pub record IsSound (a : Inside) : Type 0 where
   pub kept : IsKept (entries a.spans.records)
-  pub begins : set_len a.spans.issued ≡ 0 → a.stacks ≡ empty
+  pub begins : set_len a.spans.issued ≡ 0 → a.stacks.stacks ≡ empty

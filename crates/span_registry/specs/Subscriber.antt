@@ -14,6 +14,7 @@ pub record SameButExtensions (old : RegistryState) (new : RegistryState) : Type 
   pub limits : new.limits ≡ old.limits
   pub filters : new.filters ≡ old.filters
   pub retired : new.retired ≡ old.retired
+  pub reserved : new.reserved ≡ old.reserved
 
 -- the registry takes a step, and then hooks may write extensions
 pub record AndHooks {S : Type 0} (registry : S → RegistryState)

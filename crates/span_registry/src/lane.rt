@@ -1,54 +1,54 @@
 //! The stacks of all lanes.
-ghost use Rattle.std.specs.FinMap.{empty};
-ghost use Rattle.std.specs.Option.{option_copied, unwrap_or};
-ghost use Rattle.std.specs.Prelude.{◌≡◌, ◌∷◌, [], IfErr, OnErr, OnOk};
+ghost use Rattle.std.specs.Option.{option_map, unwrap_or};
+ghost use Rattle.std.specs.Prelude.{◌≡◌, ◌≤◌, ◌∷◌, [], IfErr, OnErr, OnOk, length, max};
 ghost use Rattle.span_core.specs.Span.{number_of};
-ghost use Rattle.span_registry.specs.LaneStack.{leave};
-ghost use Rattle.span_registry.specs.Store.{stack_on, with_stack_on};
-ghost use Rattle.span_registry.specs.StoreRepr.{PutsOn, TakesOff};
+ghost use Rattle.span_registry.specs.LaneStack.{leave, with_entry, with_room};
+ghost use Rattle.span_registry.specs.Marks.{WantsEntry};
+ghost use Rattle.span_registry.specs.Store.{room_on, stack_on, with_room_on, with_stack_on};
+ghost use Rattle.span_registry.specs.StoreRepr.{ChangesStack, TakesOff, held_on, no_stacks};
 
-use crate::stack::SpanStack;
+use crate::stack::LaneStack;
 use span_core::{Id, Lane, TraceError};
 use std::alloc::Global;
 use std::collections::HashMap;
 use std::marker::Model;
 
-/// The lanes' stacks, seen as the map of those that aren't empty.
+/// The lanes' stacks, seen as the map of those that aren't empty, and that of the room for entries.
 #[derive(Drop)]
 pub(crate) struct LaneStacks {
     /// The stack of lane 0, which is found without a search: a program with one lane has no other.
-    first: SpanStack,
+    first: LaneStack,
     /// The stacks of the other lanes.
-    others: HashMap<u32, SpanStack>,
+    others: HashMap<u32, LaneStack>,
 }
 
 impl Model for LaneStacks {
     ghost use Rattle.std.specs.Coded.{codes};
     ghost use Rattle.std.specs.FinMap.{code as map_code};
-    ghost use Rattle.span_registry.specs.Store.{Stacks, with_stack_on};
-    ghost use Rattle.span_registry.specs.StoreRepr.{stacks_of};
+    ghost use Rattle.span_registry.specs.StoreRepr.{KeptStacks, stacks_with};
 
-    ghost Value = { Stacks };
+    ghost Value = { KeptStacks };
 
     ghost coded = { Prim.hlevel (codes, map_code) };
 
-    ghost view = { λ a. with_stack_on (stacks_of a.others.entries) 0 a.first };
+    ghost view = { λ a. stacks_with a.first a.others.entries };
 }
 
 impl LaneStacks {
     /// No lane entered anything. It takes no memory.
     pub(crate) fn new(alloc: Global) -> Self
-        ensures { result ≡ empty }
+        ensures { result ≡ no_stacks }
     {
         LaneStacks {
-            first: SpanStack::new(alloc),
+            first: LaneStack::new(alloc),
             others: HashMap::new(alloc),
         }
     }
 
     /// The stack of a lane, if it has one.
-    pub(crate) fn get(&self, lane: Lane) -> Option<&SpanStack>
-        ensures { unwrap_or (option_copied result) [] ≡ stack_on self.now lane.0 }
+    pub(crate) fn get(&self, lane: Lane) -> Option<&LaneStack>
+        ensures { unwrap_or (option_map (λ s. s.now.spans) result) []
+            ≡ stack_on self.now.stacks lane.0 }
     {
         if lane.0 == 0 {
             return Some(&self.first);
@@ -56,12 +56,38 @@ impl LaneStacks {
         self.others.get(&lane.0)
     }
 
-    /// Enters a span on a lane. Refused for want of memory alone.
-    pub(crate) fn push(&mut self, alloc: Global, lane: Lane, id: Id) -> Result<(), TraceError>
-        ensures entered { OnOk result
-            (self.new ≡ with_stack_on self.old lane.0 (number_of id ∷ stack_on self.old lane.0)) }
+    /// Holds memory for so many entries on a lane, with those that there are.
+    ///
+    /// Refused for want of memory alone.
+    pub(crate) fn reserve(
+        &mut self,
+        alloc: Global,
+        lane: Lane,
+        depth: usize,
+    ) -> Result<(), TraceError>
+        ensures reserved { OnOk result (self.new ≡ record self.old {
+          rooms = with_room_on self.old.rooms lane.0 (max (room_on self.old.rooms lane.0) depth);
+        }) }
         ensures unchanged { OnErr result (self.new ≡ self.old) }
         ensures memory { IfErr result (λ e. e ≡ TraceError.OutOfMemory) }
+    {
+        if lane.0 == 0 {
+            return self.first.reserve(depth);
+        }
+        reserve_on(alloc, &mut self.others, lane, depth)
+    }
+
+    /// Enters a span on a lane.
+    ///
+    /// Refused for want of memory alone, where none is reserved for an entry more.
+    pub(crate) fn push(&mut self, alloc: Global, lane: Lane, id: Id) -> Result<(), TraceError>
+        ensures entered { OnOk result (self.new ≡ record self.old {
+          stacks = with_stack_on self.old.stacks lane.0
+              (number_of id ∷ stack_on self.old.stacks lane.0);
+        }) }
+        ensures unchanged { OnErr result (self.new ≡ self.old) }
+        ensures memory { IfErr result (λ e. (e ≡ TraceError.OutOfMemory)
+            × (room_on self.old.rooms lane.0 ≤ length (stack_on self.old.stacks lane.0))) }
     {
         if lane.0 == 0 {
             return self.first.push(id);
@@ -71,8 +97,10 @@ impl LaneStacks {
 
     /// Leaves a span on a lane.
     pub(crate) fn pop(&mut self, lane: Lane, id: Id)
-        ensures { self.new
-            ≡ with_stack_on self.old lane.0 (leave (number_of id) (stack_on self.old lane.0)) }
+        ensures { self.new ≡ record self.old {
+          stacks = with_stack_on self.old.stacks lane.0
+              (leave (number_of id) (stack_on self.old.stacks lane.0));
+        } }
     {
         if lane.0 == 0 {
             self.first.pop(id);
@@ -82,28 +110,49 @@ impl LaneStacks {
     }
 }
 
-/// Enters a span on one of these lanes. Refused for want of memory alone.
-fn push_on(
+/// Holds memory for so many entries on one of these lanes. Refused for want of memory alone.
+fn reserve_on(
     alloc: Global,
-    stacks: &mut HashMap<u32, SpanStack>,
+    stacks: &mut HashMap<u32, LaneStack>,
     lane: Lane,
-    id: Id,
+    depth: usize,
 ) -> Result<(), TraceError>
-    ensures entered { OnOk result (PutsOn lane id stacks.old stacks.new) }
+    ensures reserved { OnOk result (ChangesStack lane (with_room depth) stacks.old stacks.new) }
     ensures unchanged { OnErr result (stacks.new.entries ≡ stacks.old.entries) }
     ensures memory { IfErr result (λ e. e ≡ TraceError.OutOfMemory) }
 {
     if let Some(stack) = stacks.get_mut(&lane.0) {
+        return stack.reserve(depth);
+    }
+    let mut stack = LaneStack::new(alloc);
+    stack.reserve(depth)?;
+    stacks.insert(lane.0, stack)?;
+    Ok(())
+}
+
+/// Enters a span on one of these lanes. Refused for want of memory alone, where there is no room.
+fn push_on(
+    alloc: Global,
+    stacks: &mut HashMap<u32, LaneStack>,
+    lane: Lane,
+    id: Id,
+) -> Result<(), TraceError>
+    ensures entered { OnOk result
+        (ChangesStack lane (with_entry (number_of id)) stacks.old stacks.new) }
+    ensures unchanged { OnErr result (stacks.new.entries ≡ stacks.old.entries) }
+    ensures memory { IfErr result (WantsEntry (held_on stacks.old lane)) }
+{
+    if let Some(stack) = stacks.get_mut(&lane.0) {
         return stack.push(id);
     }
-    let mut stack = SpanStack::new(alloc);
+    let mut stack = LaneStack::new(alloc);
     stack.push(id)?;
     stacks.insert(lane.0, stack)?;
     Ok(())
 }
 
 /// Leaves a span on one of these lanes.
-fn pop_from(stacks: &mut HashMap<u32, SpanStack>, lane: Lane, id: Id)
+fn pop_from(stacks: &mut HashMap<u32, LaneStack>, lane: Lane, id: Id)
     ensures { TakesOff lane id stacks.old stacks.new }
 {
     if let Some(stack) = stacks.get_mut(&lane.0) {

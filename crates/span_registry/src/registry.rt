@@ -2,7 +2,7 @@
 ghost use Rattle.std.specs.Borrow.{sem};
 ghost use Rattle.std.specs.FinMap.{get};
 ghost use Rattle.std.specs.FinSet as set;
-ghost use Rattle.std.specs.Option.{option_copied, option_copied_mut, option_map, unwrap_or};
+ghost use Rattle.std.specs.Option.{option_copied_mut, option_map, unwrap_or};
 ghost use Rattle.std.specs.Prelude.{◌≡◌, ◌≤◌, ◌↔◌, ⊤, [], OnErr, OnOk, IfErr, IfOk, IsSome, IsTrue, None, false, refl, true};
 ghost use Rattle.span_core.specs.Pass.{interest_sum, refused_of};
 ghost use Rattle.span_core.specs.Span.{asked_parent, number_of};
@@ -12,7 +12,7 @@ ghost use Rattle.span_registry.specs.Hooks.{registry_laws};
 ghost use Rattle.span_registry.specs.Levels.{registry_levels, unlevelled};
 ghost use Rattle.span_registry.specs.StoreRepr.{HasParent, IsParentAt, RefusesParentAt};
 ghost use Rattle.span_registry.specs.Lends.{lends_extensions};
-ghost use Rattle.span_registry.specs.Step.{Enters, Exits, Opens, RefusesEnter, RefusesNew, RefusesRelease, Releases, Removes, RetiresLate, asked, entered_last};
+ghost use Rattle.span_registry.specs.Step.{Enters, Exits, Opens, RefusesEnter, RefusesNew, RefusesRelease, Releases, Removes, RetiresLate, asked, entered_last, with_entries_reserved, with_places_reserved};
 ghost use Rattle.span_registry.specs.Store.{AreIssued, IsClosing, IsForest, IsFresh, IsInStore, IsOpen, new_registry, stack_on};
 ghost use Rattle.span_registry.specs.Subscriber.{registry_interest, sum_after};
 
@@ -23,7 +23,7 @@ use crate::lookup::LookupSpan;
 use crate::span_data::Data;
 use crate::span_record::SpanRecord;
 use crate::span_store::SpanStore;
-use crate::stack::SpanStack;
+use crate::stack::LaneStack;
 use crate::subscriber::{AlwaysUsable, Subscriber};
 use span_core::{
     Attributes, Current, Event, FilterId, FilterMap, Id, Interest, Lane, LevelFilter, Metadata,
@@ -167,6 +167,30 @@ impl Registry {
         self.spans.retired()
     }
 
+    /// Holds memory for so many places, those that hold a span or are retired among them. Until as
+    /// many do, a new span isn't refused for want of memory.
+    ///
+    /// Refused for want of memory alone.
+    pub fn reserve(&mut self, places: u32) -> Result<(), TraceError>
+        ensures reserved { OnOk result (self.new ≡ with_places_reserved self.old places) }
+        ensures memory { IfErr result (λ e. e ≡ TraceError.OutOfMemory) }
+        ensures unchanged { OnErr result (self.new ≡ self.old) }
+    {
+        self.spans.reserve(self.alloc, places)
+    }
+
+    /// Holds memory for so many entries on a lane's stack, those that are there among them. Until it
+    /// has as many, the lane isn't refused a span for want of memory.
+    ///
+    /// Refused for want of memory alone.
+    pub fn reserve_entries(&mut self, lane: Lane, entries: usize) -> Result<(), TraceError>
+        ensures reserved { OnOk result (self.new ≡ with_entries_reserved self.old lane entries) }
+        ensures memory { IfErr result (λ e. e ≡ TraceError.OutOfMemory) }
+        ensures unchanged { OnErr result (self.new ≡ self.old) }
+    {
+        self.stacks.reserve(self.alloc, lane, entries)
+    }
+
     /// Each chain of parents ends at a root, and every span in the store was issued.
     pub(crate) fn is_sound(&self)
         ensures forest { IsForest self.now.store.spans }
@@ -211,8 +235,9 @@ impl Registry {
     }
 
     /// The stack of a lane, if it has one.
-    pub(crate) fn stack_on(&self, lane: Lane) -> Option<&SpanStack>
-        ensures { unwrap_or (option_copied result) [] ≡ stack_on self.now.store.stacks lane.0 }
+    pub(crate) fn stack_on(&self, lane: Lane) -> Option<&LaneStack>
+        ensures { unwrap_or (option_map (λ s. s.now.spans) result) []
+            ≡ stack_on self.now.store.stacks lane.0 }
     {
         self.stacks.get(lane)
     }
@@ -419,7 +444,7 @@ impl Subscriber for Registry {
 
     fn enter(&mut self, lane: Lane, id: Id) -> Result<(), TraceError>
         ensures entered { OnOk result (Enters lane id self.old self.new) }
-        ensures refused { IfErr result (RefusesEnter self.old id) }
+        ensures refused { IfErr result (RefusesEnter self.old lane id) }
         ensures unchanged { OnErr result (self.new ≡ self.old) }
     {
         if !self.is_open(id) {

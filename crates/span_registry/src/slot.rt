@@ -1,11 +1,12 @@
 //! The registry's places: each is kept as a slot, which holds one span after another.
 ghost use Rattle.std.specs.FinMap.{get};
 ghost use Rattle.std.specs.FinSet.{len as set_len};
-ghost use Rattle.std.specs.Prelude.{◌≡◌, ◌≤◌, ◌<◌, ◌↔◌, IfErr, IfOk, IfSome, IsSome, IsTrue, MatchBool, None, OnErr, Some, length, vec_capacity, ◌++◌, ◌∷◌, [], OnOk};
+ghost use Rattle.std.specs.Prelude.{◌≡◌, ◌≤◌, ◌<◌, ◌↔◌, IfErr, IfOk, IfSome, IsSome, IsTrue, MatchBool, None, OnErr, Some, length, max, vec_capacity, ◌++◌, ◌∷◌, [], OnOk};
 ghost use Rattle.span_core.specs.Span.{number_of};
-ghost use Rattle.span_registry.specs.Slot.{AreHeldIssued, AreUnused, GivesBack, HasNoSlot, HasSlot, IsOfNoSlot, RetiresInTime, TakesSlot, first_held, key_of_slot, no_slots, number_at};
+ghost use Rattle.span_registry.specs.Slot.{AreHeldIssued, AreUnused, GivesBack, HasNoSlot, HasNoSlotReserved, HasSlot, IsOfNoSlot, RetiresInTime, TakesSlot, WantsMemory, first_held, key_of_slot, no_slots, number_at};
 
 use crate::limits::Limits;
+use crate::room::make_room;
 use span_core::{Id, TraceError};
 use std::alloc::Global;
 use std::marker::Model;
@@ -65,14 +66,15 @@ pub(crate) struct Slots {
     free: Vec<u32>,
     /// How many slots held their last span.
     retired: u32,
+    /// How many slots there is memory for, whether they were made or not.
+    reserved: u32,
 }
 
 impl Model for Slots {
     ghost use Rattle.std.specs.Coded.{codes};
     ghost use Rattle.std.specs.FinMap.{code as map_code};
     ghost use Rattle.std.specs.FinSet.{code as set_code};
-    ghost use Rattle.std.specs.Prelude.{vec_capacity};
-    ghost use Rattle.span_registry.specs.Slot.{IsSound, SlotState, slots_of};
+    ghost use Rattle.span_registry.specs.Slot.{KeepsSlots, SlotState, slots_of};
     ghost use Rattle.span_registry.specs.contracts.limits.Limits as bounds;
 
     ghost Value = { SlotState };
@@ -81,8 +83,7 @@ impl Model for Slots {
 
     ghost view = { slots_of };
 
-    ghost invariant = { λ a.
-        IsSound a.slots.items a.free.items (vec_capacity a.free) a.retired a.limits };
+    ghost invariant = { KeepsSlots };
 }
 
 /// Where the span with this id would stand, and in which generation.
@@ -115,8 +116,10 @@ fn make(slots: &mut Vec<Slot>, free: &mut Vec<u32>, key: usize) -> Result<(), Tr
     ensures room { OnOk result (length slots.new.items ≤ vec_capacity free.new) }
     ensures kept { vec_capacity free.old ≤ vec_capacity free.new }
     ensures free { free.new.items ≡ free.old.items }
+    ensures capacity { vec_capacity slots.old ≤ vec_capacity slots.new }
     ensures unchanged { OnErr result (slots.new.items ≡ slots.old.items) }
-    ensures memory { IfErr result (λ e. e ≡ TraceError.OutOfMemory) }
+    ensures memory { IfErr result
+        (λ e. (e ≡ TraceError.OutOfMemory) × WantsMemory slots.old free.old) }
 {
     free.reserve(slots.len() + 1)?;
     slots.push(Slot {
@@ -137,6 +140,7 @@ impl Slots {
             slots: Vec::new(alloc),
             free: Vec::new(alloc),
             retired: 0,
+            reserved: 0,
         }
     }
 
@@ -189,11 +193,27 @@ impl Slots {
         self.free.is_empty() && self.slots.len() as u64 >= u64::from(self.limits.places)
     }
 
-    /// Gives a span that is kept under this key a slot: the one freed last, else a new one. Refused for want of memory alone.
+    /// Holds memory for so many slots, with those that there are. Refused for want of memory alone.
+    pub(crate) fn reserve(&mut self, count: u32) -> Result<(), TraceError>
+        ensures reserved { OnOk result
+            (self.new ≡ record self.old { reserved = max self.old.reserved count }) }
+        ensures memory { IfErr result (λ e. e ≡ TraceError.OutOfMemory) }
+        ensures unchanged { OnErr result (self.new ≡ self.old) }
+    {
+        make_room(&mut self.slots, count as usize)?;
+        make_room(&mut self.free, count as usize)?;
+        self.reserved = self.reserved.max(count);
+        Ok(())
+    }
+
+    /// Gives a span that is kept under this key a slot: the one freed last, else a new one.
+    ///
+    /// Refused for want of memory alone, where none is reserved for a slot more.
     pub(crate) fn take(&mut self, key: usize) -> Result<Id, TraceError>
         requires { HasSlot self.old }
         ensures taken { IfOk result (λ id. TakesSlot key id self.old self.new) }
-        ensures memory { IfErr result (λ e. e ≡ TraceError.OutOfMemory) }
+        ensures memory { IfErr result
+            (λ e. (e ≡ TraceError.OutOfMemory) × HasNoSlotReserved self.old) }
         ensures unchanged { OnErr result (self.new ≡ self.old) }
     {
         match self.free.pop() {

@@ -2,17 +2,17 @@
 ghost use Rattle.std.specs.FinMap.{get};
 ghost use Rattle.std.specs.FinSet.{len as set_len};
 ghost use Rattle.std.specs.Option.{option_copied, option_map};
-ghost use Rattle.std.specs.Prelude.{◌≡◌, ◌≤◌, ◌↔◌, IfErr, IfOk, IfSome, None, IsSome, IsTrue, MatchBool, OnErr, OnOk, Some, length, slice_set, ◌<◌};
+ghost use Rattle.std.specs.Prelude.{◌≡◌, ◌≤◌, ◌↔◌, IfErr, IfOk, IfSome, None, IsSome, IsTrue, MatchBool, OnErr, OnOk, Some, length, max, slice_set, ◌<◌};
 ghost use Rattle.span_core.specs.Span.{number_of};
-ghost use Rattle.span_registry.specs.StoreRepr.{AreKeptIssued, CountsOneChild, GainsHandle, GrowsEmpty, HasNoRoom, HasRecord, HasRoom, Inserts, KeepsNothing, LosesHandle, RefusesGain, RefusesLoss, RetiresKept, TakesOut, Writes, counts_in, fewer, more, no_spans};
+ghost use Rattle.span_registry.specs.StoreRepr.{AreKeptIssued, CountsOneChild, GainsHandle, GrowsEmpty, HasNoRoom, HasNoneReserved, HasRecord, HasRoom, Inserts, KeepsNothing, LosesHandle, RefusesGain, RefusesLoss, RetiresKept, TakesOut, Writes, counts_in, fewer, more, no_spans};
 ghost use Rattle.span_registry.specs.Extensions.{no_values};
 
 use crate::extensions::ExtensionMap;
+use crate::keyed::Keyed;
 use crate::limits::Limits;
 use crate::registry::Released;
 use crate::slot::Slots;
 use crate::span_record::{Counts, SpanRecord};
-use slab::Slab;
 use span_core::{Id, TraceError};
 use std::alloc::Global;
 use std::marker::Model;
@@ -21,9 +21,10 @@ use std::marker::Model;
 #[derive(Drop)]
 pub(crate) struct SpanStore {
     pub(crate) slots: Slots,
-    records: Slab<SpanRecord>,
-    /// The extensions under the records' keys. Those of no record hold no value. They and the slots are open to
-    /// `Registry::extensions_mut`: what a call lends of a value that holds a static text isn't followed back into it.
+    records: Keyed<SpanRecord>,
+    /// The extensions under the records' keys, and under those of what is reserved. Those of no record
+    /// hold no value. They and the slots are open to `Registry::extensions_mut`: what a call lends of
+    /// a value that holds a static text isn't followed back into it.
     pub(crate) extensions: Vec<ExtensionMap>,
 }
 
@@ -59,7 +60,7 @@ impl SpanStore {
     {
         SpanStore {
             slots: Slots::new(alloc, limits),
-            records: Slab::new(alloc),
+            records: Keyed::new(alloc),
             extensions: Vec::new(alloc),
         }
     }
@@ -213,16 +214,36 @@ impl SpanStore {
         Ok(())
     }
 
-    /// Puts a span in the store, under an id that was never issued. Refused for want of memory alone.
+    /// Holds memory for so many spans, those that there are and the retired slots among them.
+    ///
+    /// Refused for want of memory alone.
+    pub(crate) fn reserve(&mut self, alloc: Global, count: u32) -> Result<(), TraceError>
+        ensures reserved { OnOk result
+            (self.new ≡ record self.old { reserved = max self.old.reserved count }) }
+        ensures memory { IfErr result (λ e. e ≡ TraceError.OutOfMemory) }
+        ensures unchanged { OnErr result (self.new ≡ self.old) }
+    {
+        let places = count as usize;
+        let more = places.saturating_sub(self.records.len());
+        self.records.reserve(more)?;
+        reach(&mut self.extensions, alloc, places)?;
+        self.slots.reserve(count)?;
+        Ok(())
+    }
+
+    /// Puts a span in the store, under an id that was never issued.
+    ///
+    /// Refused for want of memory alone, where none is reserved for a span more.
     pub(crate) fn insert(&mut self, alloc: Global, span: SpanRecord) -> Result<Id, TraceError>
         requires { HasRoom self.old }
         ensures inserted { IfOk result (λ id. Inserts id span self.old self.new) }
-        ensures memory { IfErr result (λ e. e ≡ TraceError.OutOfMemory) }
+        ensures memory { IfErr result
+            (λ e. (e ≡ TraceError.OutOfMemory) × HasNoneReserved self.old) }
         ensures unchanged { OnErr result (self.new ≡ self.old) }
     {
         self.records.reserve(1)?;
         let key = self.records.vacant_key();
-        reach(&mut self.extensions, alloc, key)?;
+        reach(&mut self.extensions, alloc, key + 1)?;
         let id = self.slots.take(key)?;
         self.records.insert_reserved(span);
         Ok(id)
@@ -243,13 +264,16 @@ impl SpanStore {
     }
 }
 
-/// Makes extensions without a value, up to this key. Refused for want of memory alone.
-fn reach(extensions: &mut Vec<ExtensionMap>, alloc: Global, key: usize) -> Result<(), TraceError>
-    ensures reached { OnOk result (key < length extensions.new.items) }
+/// Makes extensions without a value, until there are so many.
+///
+/// Refused for want of memory alone, where there are fewer.
+fn reach(extensions: &mut Vec<ExtensionMap>, alloc: Global, count: usize) -> Result<(), TraceError>
+    ensures reached { OnOk result (count ≤ length extensions.new.items) }
     ensures grown { GrowsEmpty extensions.old.items extensions.new.items }
-    ensures memory { IfErr result (λ e. e ≡ TraceError.OutOfMemory) }
+    ensures memory { IfErr result
+        (λ e. (e ≡ TraceError.OutOfMemory) × (length extensions.old.items < count)) }
 {
-    while extensions.len() <= key {
+    while extensions.len() < count {
         extensions.push(ExtensionMap::new(alloc))?;
     }
     Ok(())

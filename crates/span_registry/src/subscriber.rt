@@ -126,7 +126,7 @@ pub trait Subscriber: LookupSpan {
         ensures entered { OnOk result
             (Notifies Self.registry has_form stepped lane no_filter (OnEnter id) (Enters lane id)
             self.old self.new) }
-        ensures refused { IfErr result (RefusesEnter (Self.registry self.old) id) }
+        ensures refused { IfErr result (RefusesEnter (Self.registry self.old) lane id) }
         ensures unchanged { OnErr result (self.new ≡ self.old) };
 
     /// Leaves a span on a lane, whether it is open and stands there or not.

@@ -26,6 +26,8 @@ mod place;
 #[cfg(test)]
 mod registry;
 #[cfg(test)]
+mod reserve;
+#[cfg(test)]
 mod stack;
 #[cfg(test)]
 mod subscriber;

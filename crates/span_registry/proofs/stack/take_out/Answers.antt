@@ -7,8 +7,8 @@ use Rattle.span_registry.specs.Marks.{numbers_down}
 use Rattle.span_registry.proofs.Distinct.{none_taken, taken}
 use Rattle.span_registry.proofs.stack.take_out.Goals as goal
 
-pub returns-then-eq : goal.returns-then-eq
-returns-then-eq c =
+pub returns-then-eq-clause-left : goal.returns-then-eq-clause-left
+returns-then-eq-clause-left c =
     let x = number_of c.args.id in
     let xs = c.loop-i.spans.items in
     let i = c.loop-i.i in
@@ -17,8 +17,8 @@ returns-then-eq c =
     let within : i - 1 < length xs = omega (arith, c.remove.ensures.len, c.loop-i-test.true, c.loop-i.auto.i, c.len-i.ensures, ap length c.loop-i.invariant.same) in
     ap numbers_down c.remove.ensures.by_index.2 ∙ taken x (i - 1) xs c.index.result.now within is apart ∙ ap (λ (us : List Id). leave x (numbers_down us)) c.loop-i.invariant.same
 
-pub returns : goal.returns
-returns c =
+pub returns-clause-left : goal.returns-clause-left
+returns-clause-left c =
     let x = number_of c.args.id in
     let xs = c.loop-i.spans.items in
     let none = subst (λ (n : ℕ). stands x (map number_of (drop n xs)) ≡ false) (let n : c.loop-i.i ≡ 0 = omega (arith, c.loop-i-test.false) in n) c.loop-i.invariant.apart in

@@ -1,12 +1,12 @@
-use Rattle.std.proofs.Common.{◌≡◌, Bool, true, false, cond, List, ℕ, [], Option, None, Some, is_some, sym, ap, ◌∙◌}
+use Rattle.std.proofs.Common.{◌≡◌, Bool, true, false, cond, [], Option, None, Some, is_some, sym, ap, ◌∙◌}
 use Rattle.std.specs.Borrow.{Bor}
 use Rattle.std.specs.FinMap.{get}
 use Rattle.std.specs.List.{find}
-use Rattle.std.specs.Option.{option_copied, option_map, unwrap_or}
+use Rattle.std.specs.Option.{option_map, unwrap_or}
 use Rattle.span_core.specs.Span.{number_of}
 use Rattle.span_core.specs.declared.span.Id.{Id}
 use Rattle.span_registry.specs.Context.{filters_in, store_at, store_in, view_in}
-use Rattle.span_registry.specs.LaneStack.{newest, without_duplicates}
+use Rattle.span_registry.specs.LaneStack.{HeldStack, newest, without_duplicates}
 use Rattle.span_registry.specs.Store.{RegistryState, stack_on}
 use Rattle.span_registry.specs.View.{current_among, current_shown, is_shown, seen_spans, view_of}
 use Rattle.span_registry.specs.declared.context.Context.{Context}
@@ -15,17 +15,17 @@ use Rattle.span_registry.proofs.View.{current_by, current_nowhere}
 use Rattle.span_registry.proofs.context.Context.lookup_current.Goals as goal
 
 -- the span that is shown, where this is the lane's stack: by whether its newest entry is in the store
-shown_by_newest : {S : Type 0} (registry : S → RegistryState) (looked : Context S) (subscriber : Bor S) (root : RegistryState) (found : Option (Bor (List ℕ))) (stack : Bor (List ℕ)) (entry : Option Id) (id : Id) (there : Bool)
-    → looked.subscriber ≡ Some subscriber → root ≡ registry subscriber.now → unwrap_or (option_copied found) [] ≡ stack_on root.store.stacks looked.lane.0 → found ≡ Some stack
-    → option_map number_of entry ≡ newest (without_duplicates stack.now) → entry ≡ Some id → is_some (get (store_in registry looked).spans (number_of id)) ≡ there
-    → current_shown (view_in registry looked) ≡ cond there (find (is_shown (view_in registry looked).spans) (without_duplicates stack.now)) None
+shown_by_newest : {S : Type 0} (registry : S → RegistryState) (looked : Context S) (subscriber : Bor S) (root : RegistryState) (found : Option (Bor HeldStack)) (stack : Bor HeldStack) (entry : Option Id) (id : Id) (there : Bool)
+    → looked.subscriber ≡ Some subscriber → root ≡ registry subscriber.now → unwrap_or (option_map (λ s. s.now.spans) found) [] ≡ stack_on root.store.stacks looked.lane.0 → found ≡ Some stack
+    → option_map number_of entry ≡ newest (without_duplicates stack.now.spans) → entry ≡ Some id → is_some (get (store_in registry looked).spans (number_of id)) ≡ there
+    → current_shown (view_in registry looked) ≡ cond there (find (is_shown (view_in registry looked).spans) (without_duplicates stack.now.spans)) None
 shown_by_newest registry looked subscriber root found stack entry id there looks rooted read is top newest_is known =
     let s = store_in registry looked in
     let lane = looked.lane.0 in
-    let same : stack.now ≡ stack_on s.stacks lane =
-    sym (ap (λ o. unwrap_or (option_copied o) []) is) ∙ read ∙ ap (λ r. stack_on r.store.stacks lane) rooted ∙ ap (λ o. stack_on (store_at registry o).stacks lane) (sym looks) in
+    let same : stack.now.spans ≡ stack_on s.stacks lane =
+    sym (ap (λ (o : Option (Bor HeldStack)). unwrap_or (option_map (λ s. s.now.spans) o) []) is) ∙ read ∙ ap (λ r. stack_on r.store.stacks lane) rooted ∙ ap (λ o. stack_on (store_at registry o).stacks lane) (sym looks) in
     ap (λ xs. current_among (seen_spans s (filters_in looked)) (without_duplicates xs)) (sym same)
-    ∙ current_by s (filters_in looked) (without_duplicates stack.now) (number_of id) there (sym top ∙ ap (option_map number_of) newest_is) known
+    ∙ current_by s (filters_in looked) (without_duplicates stack.now.spans) (number_of id) there (sym top ∙ ap (option_map number_of) newest_is) known
 
 pub returns-in-None : goal.returns-in-None
 returns-in-None g c =

@@ -1,11 +1,11 @@
-use Rattle.std.proofs.Common.{◌∙◌, ap, List, [], ℕ}
-use Rattle.span_registry.specs.Store.{with_stack_on}
-use Rattle.span_registry.specs.StoreRepr.{stacks_of}
-use Rattle.span_registry.proofs.LaneStacks.{no_stacks}
+use Rattle.std.proofs.Common.{◌∙◌, ap, List, ℕ}
+use Rattle.span_registry.specs.LaneStack.{HeldStack, no_entries}
+use Rattle.span_registry.specs.StoreRepr.{stacks_with}
+use Rattle.span_registry.proofs.LaneStacks.{none_held}
 use Rattle.span_registry.proofs.lane.LaneStacks.new.Goals as goal
 
 pub returns : goal.returns
 returns c =
-    ap (with_stack_on (stacks_of c.new-2.result.entries) 0) c.new.ensures
-    ∙ ap (λ (es : List (ℕ × List ℕ)). with_stack_on (stacks_of es) 0 []) c.new-2.ensures.empty
-    ∙ no_stacks
+    ap (λ (s : HeldStack). stacks_with s c.new-2.result.entries) c.new.ensures
+    ∙ ap (λ (es : List (ℕ × HeldStack)). stacks_with no_entries es) c.new-2.ensures.empty
+    ∙ none_held

@@ -1,40 +1,38 @@
-use Rattle.std.proofs.Common.{◌≡◌, ◌∙◌, ap, sym, List, [], ℕ, Option, Some, None, IfSome, refl}
+use Rattle.std.proofs.Common.{◌≡◌, ◌∙◌, ap, sym, ℕ, Option, Some, None, IfSome, refl, subst}
 use Rattle.std.specs.HashMap.{HashMap, Updates, get as get_value}
 use Rattle.std.specs.Option.{unwrap_or}
 use Rattle.std.specs.Prelude.{nat_eq}
 use Rattle.span_core.specs.Span.{number_of}
-use Rattle.span_registry.specs.LaneStack.{leave}
-use Rattle.span_registry.specs.Store.{Stacks, stack_on, with_stack_on}
-use Rattle.span_registry.specs.StoreRepr.{stacks_of}
-use Rattle.span_registry.proofs.LaneStacks.{no_stack, put_again, put_beside, stack_at, stack_beside, stack_here, stacks_none, stacks_put}
+use Rattle.span_core.specs.declared.span.Lane.{Lane}
+use Rattle.span_registry.specs.LaneStack.{HeldStack, leave, no_entries, without_entry}
+use Rattle.span_registry.specs.Store.{stack_on, with_stack_on}
+use Rattle.span_registry.specs.StoreRepr.{ChangesStack, KeptStacks, stacks_with}
+use Rattle.span_registry.proofs.LaneStacks.{first_by, no_stack, other_by, spans_alone, stacks_none}
 use Rattle.span_registry.proofs.lane.LaneStacks.pop.Goals as goal
 
-popped : {H : Type 0} (m n : HashMap ℕ (List ℕ) H) (k x : ℕ) (o : Option (List ℕ)) → get_value nat_eq m k ≡ o → (o ≡ None → n.entries ≡ m.entries) → IfSome o (λ xs. Updates nat_eq m n k (Some (leave x xs)))
-    → stacks_of n.entries ≡ with_stack_on (stacks_of m.entries) k (leave x (stack_on (stacks_of m.entries) k))
-popped m n k x None e none some =
-    ap stacks_of (none refl) ∙ stacks_none (stacks_of m.entries) k x (no_stack m.entries k e)
-popped m n k x (Some xs) e none some =
-    stacks_put m n k (leave x xs) some ∙ ap (λ (ys : List ℕ). with_stack_on (stacks_of m.entries) k (leave x ys)) (sym (stack_at m.entries k ∙ ap (λ (o : Option (List ℕ)). unwrap_or o []) e))
+popped : {H : Type 0} (first : HeldStack) (m n : HashMap ℕ HeldStack H) (t : KeptStacks) (lane : Lane) (x : ℕ) (o : Option HeldStack) → stacks_with first m.entries ≡ t → (lane.0 ≡ 0 → ⊥) → get_value nat_eq m lane.0 ≡ o → (o ≡ None → n.entries ≡ m.entries)
+    → IfSome o (λ s. Updates nat_eq m n lane.0 (Some (without_entry x s)))
+    → stacks_with first n.entries ≡ record t { stacks = with_stack_on t.stacks lane.0 (leave x (stack_on t.stacks lane.0)) }
+popped first m n t lane x None is other e none some =
+    ap (stacks_with first) (none refl)
+    ∙ (λ i. record { stacks = stacks_none (stacks_with first m.entries).stacks lane.0 x (no_stack first m.entries lane.0 other e) i; rooms = (stacks_with first m.entries).rooms })
+    ∙ ap (λ (u : KeptStacks). record u { stacks = with_stack_on u.stacks lane.0 (leave x (stack_on u.stacks lane.0)) }) is
+popped {H} first m n t lane x (Some s) is other e none some =
+    let put : ChangesStack lane (without_entry x) m n = subst (λ (o : Option HeldStack). Updates nat_eq m n lane.0 (Some (without_entry x (unwrap_or o no_entries)))) (sym e) some in
+    other_by (without_entry x) first m n t lane is other put ∙ spans_alone first m.entries t lane.0 (leave x (stack_on t.stacks lane.0)) is
 
 pub returns-then-lane-eq0 : goal.returns-then-lane-eq0
 returns-then-lane-eq0 c =
-    let m : Stacks = stacks_of c.self.inside.others.entries in
-    let xs = c.self.inside.first in
+    let first = c.self.inside.first in
+    let es = c.self.inside.others.entries in
+    let t : KeptStacks = c.args.self.now in
+    let k = c.args.lane.0 in
     let x = number_of c.args.id in
-    ap (with_stack_on m 0) c.pop.ensures.left
-    ∙ sym (put_again m 0 xs (leave x xs))
-    ∙ ap (λ (ys : List ℕ). with_stack_on (with_stack_on m 0 xs) 0 (leave x ys)) (sym (stack_here m 0 xs))
-    ∙ ap (λ (s : Stacks). with_stack_on s 0 (leave x (stack_on s 0))) c.self.view_is
-    ∙ ap (λ (k : ℕ). with_stack_on c.args.self.now k (leave x (stack_on c.args.self.now k))) (sym c.if-lane-eq0.true)
+    ap (λ (s : HeldStack). stacks_with s es) c.pop.ensures.left
+    ∙ first_by (without_entry x) first es t k c.self.view_is c.if-lane-eq0.true
+    ∙ spans_alone first es t k (leave x (stack_on t.stacks k)) c.self.view_is
 
 pub returns : goal.returns
 returns c =
     let others = c.self.inside.others in
-    let m : Stacks = stacks_of others.entries in
-    let first = c.self.inside.first in
-    let x = number_of c.args.id in
-    let lane = c.args.lane.0 in
-    ap (λ (s : Stacks). with_stack_on s 0 first) (popped others c.pop_from.new.stacks lane x _ refl c.pop_from.ensures.none c.pop_from.ensures.some
-    ∙ ap (λ (xs : List ℕ). with_stack_on m lane (leave x xs)) (sym (stack_beside m 0 first lane c.if-lane-eq0.false)))
-    ∙ put_beside m lane 0 (leave x (stack_on (with_stack_on m 0 first) lane)) first c.if-lane-eq0.false
-    ∙ ap (λ (s : Stacks). with_stack_on s lane (leave x (stack_on s lane))) c.self.view_is
+    popped c.self.inside.first others c.pop_from.new.stacks c.args.self.now c.args.lane (number_of c.args.id) _ c.self.view_is c.if-lane-eq0.false refl c.pop_from.ensures.none c.pop_from.ensures.some

@@ -18,7 +18,7 @@ alone : (lane : Lane) (refused : FilterSet) (e : Notice) (step : RegistryState â
 alone lane refused e step old new h = record {
   left = new;
   taken = h;
-  extensions = record { spans = refl; issued = refl; stacks = refl; limits = refl; filters = refl; retired = refl };
+  extensions = record { spans = refl; issued = refl; stacks = refl; limits = refl; filters = refl; retired = refl; reserved = refl };
   notified = Î» f d q. refl;
 }
 

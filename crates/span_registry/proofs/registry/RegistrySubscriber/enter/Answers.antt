@@ -3,7 +3,8 @@ use Rattle.std.specs.FinSet.{len as set_len}
 use Rattle.span_core.specs.Span.{number_of}
 use Rattle.span_registry.specs.State.{state_of}
 use Rattle.span_registry.specs.Step.{entered}
-use Rattle.span_registry.specs.Store.{RegistryState, Stacks}
+use Rattle.span_registry.specs.Store.{RegistryState}
+use Rattle.span_registry.specs.StoreRepr.{KeptStacks}
 use Rattle.span_registry.proofs.Begins.{has_some}
 use Rattle.span_registry.proofs.States.{on_ok_map}
 use Rattle.span_registry.proofs.registry.RegistrySubscriber.enter.Goals as goal
@@ -21,6 +22,6 @@ returns-clause-entered c =
     let before : RegistryState = state_of c.self.inside in
     on_ok_map c.push.result c.push.ensures.entered (λ put. record {
       is_open = c.is_open.ensures.0 c.if-not-is_open.false;
-      state = ap (λ (m : Stacks). record before { store = record before.store { stacks = m } }) put
+      state = ap (λ (t : KeptStacks). record before { store = record before.store { stacks = t.stacks }; reserved = record before.reserved { entries = t.rooms } }) put
           ∙ ap (λ (s : RegistryState). record s { store = entered s.store c.args.lane.0 (number_of c.args.id) }) c.self.view_is;
     })

@@ -14,7 +14,7 @@ use Rattle.span_registry.specs.Step.{AskedSpan, FindsParent, Opens, RefusesNew}
 use Rattle.span_registry.specs.Store.{RegistryState}
 use Rattle.span_registry.specs.declared.limits.Limits.{Limits}
 use Rattle.span_registry.proofs.Begins.{has_more}
-use Rattle.span_registry.proofs.Opened.{above_there, below, grows_child, grows_root, new_record, no_place, opened, place, recorded}
+use Rattle.span_registry.proofs.Opened.{above_there, below, grows_child, grows_root, new_record, no_place, none_reserved, opened, place, recorded}
 use Rattle.span_registry.proofs.Removed.{some_and}
 use Rattle.span_registry.proofs.registry.RegistrySubscriber.new_span.Goals as goal
 
@@ -29,8 +29,8 @@ returns-then-is_full-clause-refused c =
 pub returns-in_err-id-clause-refused : goal.returns-in_err-id-clause-refused
 returns-in_err-id-clause-refused c =
     let p = err_from_is_err_and c.from_residual-in_err-id.result c.from_residual-in_err-id.ensures.1 in
-    rw (p.1, p.2, c.in_err-id.ensures.memory)
-    (subst (λ (asked : Parent). RefusesNew c.args.self.now c.args.lane asked OutOfMemory) c.asked_parent.ensures ((option_map number_of c.in_ok-parent.parent, c.in_ok-parent.ensures.found), place c.self.inside c.args.self.now c.self.view_is c.if-is_full.ensures))
+    rw (p.1, p.2, c.in_err-id.ensures.memory.0)
+    (subst (λ (asked : Parent). RefusesNew c.args.self.now c.args.lane asked OutOfMemory) c.asked_parent.ensures ((option_map number_of c.in_ok-parent.parent, c.in_ok-parent.ensures.found), place c.self.inside c.args.self.now c.self.view_is c.if-is_full.ensures, none_reserved c.self.inside c.args.self.now c.self.view_is c.in_err-id.ensures.memory.1))
 
 pub gain_child-requires : goal.gain_child-requires
 gain_child-requires c =

@@ -11,7 +11,7 @@ returns-then-is_empty c =
     let k = c.len.ensures in
     let f = c.from.ensures in
     subst (λ (s : SlotState). MatchBool (leb c.from.result c.len.result) (HasNoSlot s) (HasSlot s)) c.self.view_is
-    (full_by _ _ _ _ _ c.self.invariant (leb c.from.result c.len.result)
+    (full_by _ _ _ _ _ _ c.self.invariant.sound (leb c.from.result c.len.result)
     (λ e. (omega arith, (let l = leb-true c.from.result c.len.result e in omega arith)))
     (λ e. inr (let l = leb-false c.from.result c.len.result e in omega arith)))
 
@@ -19,6 +19,6 @@ pub returns-else-is_empty : goal.returns-else-is_empty
 returns-else-is_empty c =
     let z = eqb-false (vec_len c.self.inside.free) 0 (sym c.is_empty.ensures ∙ c.if-is_empty.false) in
     subst (λ (s : SlotState). MatchBool c.is_empty.result (HasNoSlot s) (HasSlot s)) c.self.view_is
-    (full_by _ _ _ _ _ c.self.invariant c.is_empty.result
+    (full_by _ _ _ _ _ _ c.self.invariant.sound c.is_empty.result
     (λ e. absurd (true≢false (sym e ∙ c.if-is_empty.false)))
     (λ e. inl (omega arith)))

@@ -16,8 +16,8 @@ pub returns-clause-issued : goal.returns-clause-issued
 returns-clause-issued c =
     let h = c.is_empty.ensures in
     let at = ap (λ (s : SlotState). set_len s.issued) c.self.view_is in (
-      λ e. sym at ∙ none_issued _ _ _ _ _ c.self.invariant (let z = eqb-true (vec_len c.self.inside.slots) 0 (sym h ∙ e) in omega arith),
-      λ e. h ∙ eq-eqb (vec_len c.self.inside.slots) 0 (let z = no_slots_yet _ _ _ _ _ c.self.invariant (at ∙ e) in omega arith),
+      λ e. sym at ∙ none_issued _ _ _ _ _ c.self.invariant.sound (let z = eqb-true (vec_len c.self.inside.slots) 0 (sym h ∙ e) in omega arith),
+      λ e. h ∙ eq-eqb (vec_len c.self.inside.slots) 0 (let z = no_slots_yet _ _ _ _ _ c.self.invariant.sound (at ∙ e) in omega arith),
     )
 
 pub returns-clause-unused : goal.returns-clause-unused

@@ -1,4 +1,4 @@
-use Rattle.std.proofs.Common.{◌≡◌, ℕ, List, [], sym, ap, ◌∙◌, Some, is_some, slice_get, true≢false}
+use Rattle.std.proofs.Common.{◌≡◌, ℕ, List, [], arith, length, sym, ap, ◌∙◌, Some, is_some, slice_get, true≢false}
 use Rattle.std.specs.Ordering.{nat_cmp}
 use Rattle.std.specs.FinMap.{FinMap, get, empty, get-empty, len, len-empty}
 use Rattle.std.specs.List.{count_by}
@@ -23,6 +23,9 @@ invariant_of-result c =
       apart = λ x y k is _. absurd (no_key c.new.result.keys x k none is);
       all = ap (count_by is_some) c.new-2.ensures.empty ∙ sym (ap len none ∙ len-empty nat_cmp ℕ);
       idle = λ k e _ is. absurd (no_extensions c.new-3.result.items k e c.new-3.ensures.items is);
+      covered = (let few = ap length c.new-2.ensures.empty in omega arith);
+      room = (let held = ap (λ (s : SlotState). s.reserved) c.new.ensures in omega arith);
+      reached = (let held = ap (λ (s : SlotState). s.reserved) c.new.ensures in omega arith);
     }
 
 pub returns : goal.returns
@@ -31,4 +34,4 @@ returns c =
     let none : c.new.result.keys ≡ empty = ap (λ (s : SlotState). s.keys) s in
     let records = found_none (under c.new-2.result) c.new.result.keys none in
     let extensions = found_none (slice_get c.new-3.result.items) c.new.result.keys none in
-    λ i. record { records = records i; extensions = extensions i; issued = (s i).issued; retired = (s i).retired; limits = (s i).limits }
+    λ i. record { records = records i; extensions = extensions i; issued = (s i).issued; retired = (s i).retired; reserved = (s i).reserved; limits = (s i).limits }

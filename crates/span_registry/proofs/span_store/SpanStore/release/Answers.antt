@@ -1,4 +1,4 @@
-use Rattle.std.proofs.Common.{◌≡◌, ◌↔◌, Option, IfSome, arith, refl, subst, sym, ◌∙◌}
+use Rattle.std.proofs.Common.{◌≡◌, ◌↔◌, Option, IfSome, arith, refl, subst, sym, ◌∙◌, inl, inr}
 use Rattle.std.proofs.lemmas.Bool.{true≢false}
 use Rattle.std.specs.FinMap.{get}
 use Rattle.span_core.specs.Span.{number_of}
@@ -11,7 +11,7 @@ use Rattle.span_registry.proofs.Stored.{counts_nothing, lends_some, lent_record,
 use Rattle.span_registry.proofs.span_store.SpanStore.release.Goals as goal
 
 pub returns-in_default-clause-refused : goal.returns-in_default-clause-refused
-returns-in_default-clause-refused c = (refl, counts_nothing _ (unseen_record c.self.inside c.args.self.now (number_of c.args.id) c.self.view_is (sym c.key_of.ensures ∙ c.in_default.is)))
+returns-in_default-clause-refused c = inl (refl, counts_nothing _ (unseen_record c.self.inside c.args.self.now (number_of c.args.id) c.self.view_is (sym c.key_of.ensures ∙ c.in_default.is)))
 
 pub returns-in_default-get_mut-clause-refused : goal.returns-in_default-get_mut-clause-refused
 returns-in_default-get_mut-clause-refused c = absurd (lends_some c.self.inside (number_of c.args.id) c.in-Some.key _ c.self.invariant (sym c.key_of.ensures ∙ c.in-Some.is) c.get_mut.ensures.value c.in_default-get_mut.is)
@@ -20,13 +20,13 @@ pub returns-then-not-is_open-clause-refused : goal.returns-then-not-is_open-clau
 returns-then-not-is_open-clause-refused c =
     let s = c.args.self.now in
     let there = lent_record c.self.inside s (number_of c.args.id) c.in-Some.key _ _ c.self.view_is (sym c.key_of.ensures ∙ c.in-Some.is) c.get_mut.ensures.value c.in-Some-get_mut.is in
-    (refl, subst (λ (o : Option SpanRecord). IfSome o (λ r. CountsAny (counts_in r) → ⊥)) (sym there) (λ any. true≢false (sym (c.is_open.ensures.1 (subst CountsAny (sym c.counts.ensures) any)) ∙ c.if-not-is_open.true)))
+    inl (refl, subst (λ (o : Option SpanRecord). IfSome o (λ r. CountsAny (counts_in r) → ⊥)) (sym there) (λ any. true≢false (sym (c.is_open.ensures.1 (subst CountsAny (sym c.counts.ensures) any)) ∙ c.if-not-is_open.true)))
 
 pub returns-then-found-eq0-clause-refused : goal.returns-then-found-eq0-clause-refused
 returns-then-found-eq0-clause-refused c =
     let s = c.args.self.now in
     let there = lent_record c.self.inside s (number_of c.args.id) c.in-Some.key _ _ c.self.view_is (sym c.key_of.ensures ∙ c.in-Some.is) c.get_mut.ensures.value c.in-Some-get_mut.is in
-    (refl, some_and (λ r. CountsAny (counts_in r) × (r.handles ≡ 0)) (get s.records (number_of c.args.id)) _ there (subst CountsAny c.counts.ensures (c.is_open.ensures.0 c.if-not-is_open.false), c.if-found-eq0.true))
+    inr (refl, some_and (λ r. CountsAny (counts_in r) × (r.handles ≡ 0)) (get s.records (number_of c.args.id)) _ there (subst CountsAny c.counts.ensures (c.is_open.ensures.0 c.if-not-is_open.false), c.if-found-eq0.true))
 
 pub returns-clause-released : goal.returns-clause-released
 returns-clause-released c =

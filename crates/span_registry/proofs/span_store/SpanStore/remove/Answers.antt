@@ -28,7 +28,7 @@ forget-requires c = within c.self.inside.extensions.items c.in_ok-key.key (c.sel
 
 pub invariant_of-self : goal.invariant_of-self
 invariant_of-self c =
-    keeps_rest c.self.inside c.self.invariant (number_of c.args.id) c.in_ok-key.key (sym c.key_of.ensures ∙ c.in_ok-key.was) c.give_back.new.self c.give_back.ensures.keys c.remove-span.new.self c.remove-span.ensures.updates c.forget.new.extensions c.forget.ensures c.remove-span.ensures.len
+    keeps_rest c.self.inside c.self.invariant (number_of c.args.id) c.in_ok-key.key (sym c.key_of.ensures ∙ c.in_ok-key.was) c.give_back.new.self c.give_back.ensures.keys c.give_back.ensures.reserved c.remove-span.new.self c.remove-span.ensures.updates c.forget.new.extensions c.forget.ensures c.remove-span.ensures.len c.remove-span.ensures.slots c.remove-span.ensures.capacity
 
 pub returns-clause-parent : goal.returns-clause-parent
 returns-clause-parent c =
@@ -55,10 +55,11 @@ returns-clause-taken c =
     let seen = c.self.view_is in
     let retired = retires a.slots.retired c.give_back.new.self.retired _ _ gives.last gives.not_last in
     record {
-      records = records_rest a c.self.invariant x key has c.give_back.new.self gives.keys c.remove-span.new.self c.remove-span.ensures.updates c.forget.new.extensions c.forget.ensures c.remove-span.ensures.len ∙ ap (λ (s : KeptSpans). remove s.records x) seen;
-      extensions = extensions_rest a c.self.invariant x key has c.give_back.new.self gives.keys c.remove-span.new.self c.remove-span.ensures.updates c.forget.new.extensions c.forget.ensures c.remove-span.ensures.len ∙ ap (λ (s : KeptSpans). remove s.extensions x) seen;
+      records = records_rest a c.self.invariant x key has c.give_back.new.self gives.keys gives.reserved c.remove-span.new.self c.remove-span.ensures.updates c.forget.new.extensions c.forget.ensures c.remove-span.ensures.len c.remove-span.ensures.slots c.remove-span.ensures.capacity ∙ ap (λ (s : KeptSpans). remove s.records x) seen;
+      extensions = extensions_rest a c.self.invariant x key has c.give_back.new.self gives.keys gives.reserved c.remove-span.new.self c.remove-span.ensures.updates c.forget.new.extensions c.forget.ensures c.remove-span.ensures.len c.remove-span.ensures.slots c.remove-span.ensures.capacity ∙ ap (λ (s : KeptSpans). remove s.extensions x) seen;
       issued = gives.issued ∙ ap (λ (s : KeptSpans). s.issued) seen;
       limits = gives.limits ∙ ap (λ (s : KeptSpans). s.limits) seen;
+      reserved = gives.reserved ∙ ap (λ (s : KeptSpans). s.reserved) seen;
       retired = subst (λ (s : KeptSpans). s.retired ≤ c.give_back.new.self.retired) seen retired.0;
       no_other = subst (λ (s : KeptSpans). c.give_back.new.self.retired ≤ s.retired + 1) seen retired.1;
       late = gives.late;

@@ -1,0 +1,26 @@
+use Rattle.std.proofs.Common.{◌∙◌, ap, max}
+use Rattle.span_registry.specs.LaneStack.{HeldStack, with_room}
+use Rattle.span_registry.specs.Store.{room_on}
+use Rattle.span_registry.specs.StoreRepr.{KeptStacks, stacks_with}
+use Rattle.span_registry.proofs.LaneStacks.{first_by, other_by, room_alone}
+use Rattle.span_registry.proofs.States.{on_ok_map}
+use Rattle.span_registry.proofs.lane.LaneStacks.reserve.Goals as goal
+
+pub returns-then-lane-eq0-clause-reserved : goal.returns-then-lane-eq0-clause-reserved
+returns-then-lane-eq0-clause-reserved c =
+    let first = c.self.inside.first in
+    let es = c.self.inside.others.entries in
+    let t : KeptStacks = c.args.self.now in
+    let k = c.args.lane.0 in
+    on_ok_map c.reserve.result c.reserve.ensures.reserved (λ held. ap (λ (s : HeldStack). stacks_with s es) held
+    ∙ first_by (with_room c.args.depth) first es t k c.self.view_is c.if-lane-eq0.true
+    ∙ room_alone first es t k (max (room_on t.rooms k) c.args.depth) c.self.view_is)
+
+pub returns-clause-reserved : goal.returns-clause-reserved
+returns-clause-reserved c =
+    let first = c.self.inside.first in
+    let es = c.self.inside.others.entries in
+    let t : KeptStacks = c.args.self.now in
+    let k = c.args.lane.0 in
+    on_ok_map c.reserve_on.result c.reserve_on.ensures.reserved (λ held. other_by (with_room c.args.depth) first c.self.inside.others c.reserve_on.new.stacks t c.args.lane c.self.view_is c.if-lane-eq0.false held
+    ∙ room_alone first es t k (max (room_on t.rooms k) c.args.depth) c.self.view_is)
