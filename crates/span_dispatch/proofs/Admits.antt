@@ -1,8 +1,8 @@
 -- Which interest a cache gives, and what comes of it.
-use Rattle.std.proofs.Common.{◌≡◌, ℕ, Bool, true, false, not, ◌==◌, if◌then◌else◌, Option, Some, None, Result, Ok, Err, inl, inr, refl, sym, ap, subst, ◌∙◌}
+use Rattle.std.proofs.Common.{◌≡◌, ◌&&◌, ◌-◌, ℕ, Bool, true, false, not, ◌==◌, if◌then◌else◌, Option, Some, None, Result, Ok, Err, inl, inr, refl, sym, ap, subst, ◌∙◌}
 use Rattle.std.proofs.lemmas.Bool.{eqb-true, false≢true, true≢false}
-use Rattle.std.specs.Prelude.{IfErr, IsSome, OnErr, OnOk}
-use Rattle.std.specs.Option.{option_map, unwrap_or}
+use Rattle.std.specs.Prelude.{IfErr, IsSome, OnErr, OnOk, is_some}
+use Rattle.std.specs.Option.{option_map}
 use Rattle.span_core.specs.Filters.{FilterSet, IsEmpty}
 use Rattle.span_core.specs.Level.{is_above}
 use Rattle.span_core.specs.Metadata.{ShowSame, callsite_of, level_of}
@@ -14,8 +14,8 @@ use Rattle.span_core.specs.declared.interest.Interest.{Interest}
 use Rattle.span_core.specs.declared.metadata.Metadata.{Metadata}
 use Rattle.span_core.specs.declared.pass.Pass.{Pass}
 use Rattle.span_core.specs.declared.span.Lane.{Lane}
-use Rattle.span_dispatch.specs.Admission.{Decides, GivesInterest, HasInterestBy, IsAdmitted, IsInterestBy, IsLetBy, KeepsSafely, LosesNothing, MayLearn, Promises, interests_nobody, is_above_hint, learned, learned_if}
-use Rattle.span_dispatch.specs.Cache.{Callsites, MatchesStack, IsUpToDate, KeptCallsites, ReadHint, ReadsOnce, RefusesBelow, RefusesInterest, callsites_of, hint_in, is_above_read, kept_in, known_of, no_callsite, with_callsite}
+use Rattle.span_dispatch.specs.Admission.{GivesInterest, HasInterestBy, IsAdmitted, IsDecided, IsInterestBy, MayLearn, interests_nobody, is_above_hint, is_let_by, learned_if}
+use Rattle.span_dispatch.specs.Cache.{Callsites, MatchesStack, KeptCallsites, ReadHint, ReadsOnce, RefusesBelow, RefusesInterest, callsites_of, hint_in, is_above_read, kept_in, known_of, no_callsite, with_callsite}
 use Rattle.span_dispatch.specs.declared.cache.Cache.TheVariants.{Empty, Filled, Off}
 use Rattle.span_dispatch.specs.declared.cache.Cache.{Cache}
 use Rattle.span_dispatch.specs.declared.cache.Callsite.{Callsite}
@@ -23,18 +23,16 @@ use Rattle.span_dispatch.specs.declared.cache.Known.{Known}
 use Rattle.span_layers.proofs.Asked.{asked_by_all}
 use Rattle.span_layers.proofs.Built.{rules_of}
 use Rattle.span_layers.proofs.Hint.{above_is_unwanted}
-use Rattle.span_dispatch.proofs.Goes.{keeps_again}
-use Rattle.span_layers.proofs.HonestKept.{alike_interest, hint_is_kept, interest_is_kept}
-use Rattle.span_core.specs.declared.level.LevelFilter.{LevelFilter}
-use Rattle.span_registry.specs.KeptForm.{KeepsForm, kept_form}
+use Rattle.span_layers.proofs.HonestKept.{alike_interest}
 use Rattle.span_layers.proofs.Interest.{always_is_wanted, never_is_unwanted}
 use Rattle.span_layers.proofs.Pass.{asked_unless_vetoed}
 use Rattle.span_layers.specs.Honest.{IsHonestStack}
-use Rattle.span_layers.specs.Wanted.{IsUnwanted, IsWantedByAll}
+use Rattle.span_layers.specs.Verdict.{vetoes}
+use Rattle.span_layers.specs.Wanted.{IsUnwanted}
 use Rattle.span_registry.specs.Form.{Form}
 use Rattle.span_registry.specs.Hooks.{AnswersEnabled, AnswersInterest, no_filter}
 use Rattle.span_registry.specs.Question.{asked, hint_of, interest_of, is_never, refusals}
-use Rattle.span_registry.specs.Store.{RegistryState, Store}
+use Rattle.span_registry.specs.Store.{RegistryState}
 
 -- ---- what hint and interest say
 
@@ -51,106 +49,81 @@ unwanted_never None f s lane m honest e = absurd (false≢true e)
 unwanted_never (Some callsites) f s lane m honest e = never_is_unwanted f s.filters m s.store lane.0 honest (is_it_never _ e)
 
 module _ (memory : KeptCallsites) (f : Form) (s : RegistryState) (lane : Lane) (m : Metadata) (after : KeptCallsites) (honest : IsHonestStack f s.filters) where
+  -- whether no leaf vetoes
+  abbrev Unvetoed : Bool
+  Unvetoed = not (vetoes f m s.store lane.0)
+
+  -- hint and interest let by what has any other interest than never
+  let_by : (i : Interest) → IsInterestBy memory f s.filters m after i → is_let_by memory f s.filters m ≡ not (is_never i)
+  let_by i h = by_hint (is_above_hint memory f m) refl
+    where
+      by_hint : (b : Bool) → is_above_hint memory f m ≡ b → is_let_by memory f s.filters m ≡ not (is_never i)
+      by_hint true e = ap (λ a. not a && not (interests_nobody memory f s.filters m)) e ∙ sym (ap (λ j. not (is_never j)) (h.above e))
+      by_hint false e = ap (λ a. not a && not (interests_nobody memory f s.filters m)) e ∙ ap not (h.never e)
+
+  -- what the interest says, and then the leaves
+  decided : (i j : Interest) (said : Bool) → IsInterestBy memory f s.filters m after i → i ≡ j → said ≡ not (is_never j) && Unvetoed → IsDecided memory f s lane m (vetoes f m s.store lane.0) said after
+  decided i j said h same e = record {
+    agrees = h.agrees;
+    wanted = e ∙ sym (ap (λ k. not (is_never k) && Unvetoed) same) ∙ sym (ap (λ b. b && Unvetoed) (let_by i h));
+    unwanted = by_hint (is_above_hint memory f m) refl;
+    learned = h.learned;
+  }
+    where
+      not_true : (b : Bool) → not b ≡ false → b ≡ true
+      not_true true n = refl
+      not_true false n = sym n
+
+      by_hint : (b : Bool) → is_above_hint memory f m ≡ b → is_let_by memory f s.filters m ≡ false → IsUnwanted f m s.store lane.0
+      by_hint true above out = unwanted_above memory f s lane m honest above
+      by_hint false below out = unwanted_never memory f s lane m honest (not_true _ (sym (ap (λ a. not a && not (interests_nobody memory f s.filters m)) below) ∙ out))
+
   -- never: they are ruled out
   pub admits_never : (pass : Pass) (i : Interest) → IsInterestBy memory f s.filters m after i → i ≡ Never → IsAdmitted memory f s lane m pass after (Ok false)
-  admits_never pass i h same = (inl (by_hint (is_above_hint memory f m) refl), h.learned)
-    where
-      by_hint : (b : Bool) → is_above_hint memory f m ≡ b → Rattle.span_dispatch.specs.Admission.IsRuledOut memory f s lane m
-      by_hint true e = record { rule = inl e; unwanted = unwanted_above memory f s lane m honest e }
-      by_hint false e =
-          let nobody : interests_nobody memory f s.filters m ≡ true = h.never e ∙ ap is_never same in
-          record { rule = inr (h.agrees e, nobody); unwanted = unwanted_never memory f s lane m honest nobody }
+  admits_never pass i h same = (decided i Never false h same refl, λ no. absurd (false≢true no))
 
-  -- any other interest lets them by
-  lets_by : (i : Interest) → IsInterestBy memory f s.filters m after i → is_never i ≡ false → IsLetBy memory f s m
-  lets_by i h other = by_hint (is_above_hint memory f m) refl
-    where
-      by_hint : (b : Bool) → is_above_hint memory f m ≡ b → IsLetBy memory f s m
-      by_hint true e = absurd (true≢false (sym (ap is_never (h.above e)) ∙ other))
-      by_hint false e = record { hint = e; agrees = h.agrees e; interest = h.never e ∙ other }
+  -- where all are asked, a leaf vetoes or none does
+  said_so : (said : Bool) → said ≡ (asked f m s.store lane.0 no_filter no_filter).0 → said ≡ Unvetoed
+  said_so said e = e ∙ asked_unless_vetoed f m s.store lane.0 no_filter (rules_of f s.filters honest).orderly
 
   -- always: nothing is asked, and a new pass stays as it is
   pub admits_always : (pass : Pass) (i : Interest) → IsInterestBy memory f s.filters m after i → i ≡ Always → IsEmpty (refusals pass) → IsAdmitted memory f s lane m pass after (Ok true)
   admits_always pass i h same empty =
       let wanted = always_is_wanted f s.filters m s.store lane.0 honest (h.always same) in
-      (lets_by i h (ap is_never same), asked_by_all f s.filters m s.store lane.0 honest wanted ∙ (λ k. (true, λ n. sym (empty n) k)), h.learned)
+      let asks : asked f m s.store lane.0 no_filter no_filter ≡ (true, refusals pass) = asked_by_all f s.filters m s.store lane.0 honest wanted ∙ (λ k. (true, λ n. sym (empty n) k)) in
+      (decided i Always true h same (said_so true (sym (ap (λ (p : Bool × FilterSet). p.0) asks))), λ e. asks)
 
   -- sometimes: all are asked
   pub admits_asked : {S : Type 0} (registry : S → RegistryState) (has_form : S → Form → Type 0) (x : S) (fresh pass : Pass) (i : Interest) (said : Bool) → registry x ≡ s → has_form x f → IsInterestBy memory f s.filters m after i → i ≡ Sometimes → IsEmpty (refusals fresh)
       → AnswersEnabled registry has_form x lane m fresh said pass → IsAdmitted memory f s lane m pass after (Ok said)
-  admits_asked registry has_form x fresh pass i said at d h same empty a = by_answer said refl
+  admits_asked registry has_form x fresh pass i said at d h same empty a = (
+    decided i Sometimes said h same (said_so said ((a f d).answer ∙ sym (ap (λ (p : Bool × FilterSet). p.0) here))),
+    λ e. here ∙ (λ k. ((sym (a f d).answer ∙ e) k, sym (a f d).refused k)),
+  )
     where
       here : asked f m s.store lane.0 no_filter no_filter ≡ asked f m (registry x).store lane.0 no_filter (refusals fresh)
       here = λ k. asked f m (sym at k).store lane.0 no_filter (λ n. sym (empty n) k)
 
-      by_answer : (b : Bool) → said ≡ b → IsAdmitted memory f s lane m pass after (Ok b)
-      by_answer true e = (lets_by i h (ap is_never same), here ∙ (λ k. ((sym (a f d).answer ∙ e) k, sym (a f d).refused k)), h.learned)
-      by_answer false e = (
-        inr (lets_by i h (ap is_never same), not_true _ (sym (asked_unless_vetoed f m s.store lane.0 no_filter (rules_of f s.filters honest).orderly) ∙ ap (λ (p : Bool × FilterSet). p.0) here ∙ sym (a f d).answer ∙ e)),
-        h.learned,
-      )
-        where
-          not_true : (b : Bool) → not b ≡ false → b ≡ true
-          not_true true e = refl
-          not_true false e = sym e
-
--- ---- what is decided where what is kept loses nothing
-
-module _ (f : Form) (s : Store) (lane : Lane) (m : Metadata) (n : ℕ) (honest : IsHonestStack f n) where
-  pub decides_always : (pass : Pass) → IsWantedByAll f m s lane.0 → IsEmpty (refusals pass) → Decides f s lane m pass (Ok true)
-  decides_always pass wanted empty = asked_by_all f n m s lane.0 honest wanted ∙ (λ k. (true, λ j. sym (empty j) k))
-
-  pub decides_asked : {S : Type 0} (registry : S → RegistryState) (has_form : S → Form → Type 0) (x : S) (fresh pass : Pass) (said : Bool) → (registry x).store ≡ s → has_form x f → IsEmpty (refusals fresh) → AnswersEnabled registry has_form x lane m fresh said pass
-      → Decides f s lane m pass (Ok said)
-  decides_asked registry has_form x fresh pass said at d empty a = by_answer said refl
-    where
-      here : asked f m s lane.0 no_filter no_filter ≡ asked f m (registry x).store lane.0 no_filter (refusals fresh)
-      here = λ k. asked f m (sym at k) lane.0 no_filter (λ j. sym (empty j) k)
-
-      by_answer : (b : Bool) → said ≡ b → Decides f s lane m pass (Ok b)
-      by_answer true e = here ∙ (λ k. ((sym (a f d).answer ∙ e) k, sym (a f d).refused k))
-      by_answer false e = inl (not_true _ (sym (asked_unless_vetoed f m s lane.0 no_filter (rules_of f n honest).orderly) ∙ ap (λ (p : Bool × FilterSet). p.0) here ∙ sym (a f d).answer ∙ e))
-        where
-          not_true : (b : Bool) → not b ≡ false → b ≡ true
-          not_true true k = refl
-          not_true false k = sym k
-
--- what an interest promises of what shows the same, by a form that keeps another
-module _ (f g : Form) (n : ℕ) (keeps : KeepsForm f g) (honest : IsHonestStack g n) where
-  as_before : (k m : Metadata) (i : Interest) → ShowSame k m → i ≡ (interest_of f k n None).0 → (interest_of g m n None).0 ≡ i
-  as_before k m i same e =
-      sym (ap (λ (p : Interest × Option Interest). p.0) (alike_interest g (rules_of g n honest).answers k m same n None)) ∙ ap (λ (p : Interest × Option Interest). p.0) (interest_is_kept f g keeps k n) ∙ sym e
-
-  pub never_still : (k m : Metadata) (i : Interest) (s : Store) (lane : ℕ) → ShowSame k m → i ≡ (interest_of f k n None).0 → i ≡ Never → IsUnwanted g m s lane
-  never_still k m i s lane same e none = never_is_unwanted g n m s lane honest (as_before k m i same e ∙ none)
-
-  pub always_still : (k m : Metadata) (i : Interest) (s : Store) (lane : ℕ) → ShowSame k m → i ≡ (interest_of f k n None).0 → i ≡ Always → IsWantedByAll g m s lane
-  always_still k m i s lane same e all = always_is_wanted g n m s lane honest (as_before k m i same e ∙ all)
-
-  pub above_still : (hint : Option LevelFilter) (m : Metadata) (s : Store) (lane : ℕ) → hint ≡ hint_of f → is_above (level_of m) hint ≡ true → IsUnwanted g m s lane
-  above_still hint m s lane e above = above_is_unwanted g n m s lane honest (ap (is_above (level_of m)) (hint_is_kept f g keeps ∙ sym e) ∙ above)
-
--- what a stack would answer now loses nothing
-pub current_is_safe : (f : Form) (n : ℕ) (c : Cache) → IsUpToDate f n c → KeepsSafely f n c
-current_is_safe f n Off u = tt
-current_is_safe f n Empty u = tt
-current_is_safe f n (Filled k) u = record {
-  above = λ g m s lane keeps honest e. above_still f g n keeps honest k.hint m s lane u.hint e;
-  never = λ g m one s lane keeps honest kept e. never_still f g n keeps honest one.metadata m one.interest s lane kept.same (u.interest (callsite_of m) one kept.there) e;
-  always = λ g m one s lane keeps honest kept e. always_still f g n keeps honest one.metadata m one.interest s lane kept.same (u.interest (callsite_of m) one kept.there) e;
-}
-
--- by a form that keeps another it loses nothing either
-pub safely_again : (f g : Form) (n : ℕ) (c : Cache) → KeepsForm f g → KeepsSafely f n c → KeepsSafely g n c
-safely_again f g n Off e u = tt
-safely_again f g n Empty e u = tt
-safely_again f g n (Filled k) e u = record {
-  above = λ h m s lane keeps honest a. u.above h m s lane (keeps_again f g h e keeps) honest a;
-  never = λ h m one s lane keeps honest kept a. u.never h m one s lane (keeps_again f g h e keeps) honest kept a;
-  always = λ h m one s lane keeps honest kept a. u.always h m one s lane (keeps_again f g h e keeps) honest kept a;
-}
-
 -- ---- what a cache gives
+
+-- where the same is known, the same holds of it
+pub matches_still : (f : Form) (filters : ℕ) (k l : Known) → l.hint ≡ k.hint → ((n : ℕ) → known_of l n ≡ known_of k n) → MatchesStack f filters k → MatchesStack f filters l
+matches_still f filters k l hint same u = record {
+  hint = hint ∙ u.hint;
+  number = λ n one e. u.number n one (sym (same n) ∙ e);
+  interest = λ n one e. u.interest n one (sym (same n) ∙ e);
+}
+
+-- where nothing is known yet but the hint
+pub nothing_matches : (f : Form) (filters : ℕ) (k : Known) → k.hint ≡ hint_of f → ((n : ℕ) → known_of k n ≡ None) → MatchesStack f filters k
+nothing_matches f filters k hint nothing = record {
+  hint = hint;
+  number = λ n one e. let no : None ≡ Some one = sym (nothing n) ∙ e in absurd (cc);
+  interest = λ n one e. let no : None ≡ Some one = sym (nothing n) ∙ e in absurd (cc);
+}
+
+pub nothing_kept : (k : Known) → ((n : ℕ) → known_of k n ≡ None) → k.room ≡ 0 → callsites_of k ≡ no_callsite
+nothing_kept k nothing room = λ i. record { known = λ n. option_map (λ (c : Callsite). c.metadata) (nothing n i); room = room i }
 
 -- what is above no hint that is kept afterwards was above none before
 pub below_before : (memory : KeptCallsites) (before after : ReadHint) (m : Metadata) → ReadsOnce memory before after → is_above_read after m ≡ false → is_above_read before m ≡ false
@@ -192,7 +165,6 @@ module _ {S : Type 0} (registry : S → RegistryState) (has_form : S → Form �
     above = λ e. absurd (false≢true e);
     mismatch = λ r. absurd r.1;
     refused = tt;
-    safe = λ f d h u. (tt, tt);
     by_form = λ f d h u. record { above = λ e. absurd (false≢true e); agrees = λ e. tt; never = λ e. refl; always = λ e. absurd (cc); learned = refl };
     kept = λ f d u. tt;
     lasts = λ n one e. e;
@@ -209,7 +181,6 @@ module _ {S : Type 0} (registry : S → RegistryState) (has_form : S → Form �
     above = λ a. refl;
     mismatch = λ r. absurd (false≢true (sym r.0 ∙ e));
     refused = tt;
-    safe = λ f d h u. (λ s lane. u.above f m s lane (kept_form f) h e, u);
     by_form = λ f d h u.
         let above = ap (is_above (level_of m)) (sym u.hint) ∙ e in
         record {
@@ -223,18 +194,17 @@ module _ {S : Type 0} (registry : S → RegistryState) (has_form : S → Form �
     lasts = λ n one e. e;
   }
 
-  same_callsite : (n : ℕ) (b : Bool) → (callsite_of m == n) ≡ b → b ≡ true → callsite_of m ≡ n
-  same_callsite n b e t = eqb-true (callsite_of m) n (e ∙ t)
+  -- these and the callsite, which isn't among them
+  abbrev with_new : Callsites → Callsites
+  with_new c = record { known = λ n. if callsite_of m == n then Some m else c.known n; room = c.room - 1 }
 
   -- what is kept already is kept still
-  kept_still : (c : Callsites) (one : Metadata) → c (callsite_of m) ≡ Some one → with_callsite c m ≡ c
-  kept_still c one e = λ i n. by_number n (callsite_of m == n) refl i
-    where
-      by_number : (n : ℕ) (b : Bool) → (callsite_of m == n) ≡ b → (if b then Some (unwrap_or (c n) m) else c n) ≡ c n
-      by_number n true t =
-          let at : c n ≡ Some one = ap c (sym (eqb-true (callsite_of m) n t)) ∙ e in
-          ap (λ (o : Option Metadata). Some (unwrap_or o m)) at ∙ sym at
-      by_number n false t = refl
+  kept_still : (c : Callsites) (one : Metadata) → c.known (callsite_of m) ≡ Some one → with_callsite c m ≡ c
+  kept_still c one e = ap (λ (o : Option Metadata). if is_some o then c else with_new c) e
+
+  -- what isn't is kept then
+  kept_newly : (c : Callsites) → c.known (callsite_of m) ≡ None → with_new c ≡ with_callsite c m
+  kept_newly c e = sym (ap (λ (o : Option Metadata). if is_some o then c else with_new c) e)
 
   -- the callsite is kept with metadata that show the same
   pub gives_kept : (k : Known) (one : Callsite) → is_above (level_of m) k.hint ≡ false → known_of k (callsite_of m) ≡ Some one → ShowSame one.metadata m → GivesInterest registry has_form x m (Ok one.interest) (Filled k) (Filled k)
@@ -247,7 +217,6 @@ module _ {S : Type 0} (registry : S → RegistryState) (has_form : S → Form �
     above = λ a. absurd (false≢true (sym passes ∙ a));
     mismatch = λ r. absurd (r.1.2 (shown r.1.0 r.1.1));
     refused = tt;
-    safe = λ f d h u. (promised f h u one.interest refl, u);
     by_form = λ f d h u.
         let below = ap (is_above (level_of m)) (sym u.hint) ∙ passes in
         let interest = u.interest (callsite_of m) one at ∙ ap (λ (p : Interest × Option Interest). p.0) (alike_interest f h one.metadata m same (registry x).filters None) in
@@ -262,15 +231,10 @@ module _ {S : Type 0} (registry : S → RegistryState) (has_form : S → Form �
     lasts = λ n one e. e;
   }
     where
-      there : callsites_of k (callsite_of m) ≡ Some one.metadata
+      there : (callsites_of k).known (callsite_of m) ≡ Some one.metadata
       there = ap (option_map (λ (c : Callsite). c.metadata)) at
 
-      promised : (f : Form) → IsHonestStack f (registry x).filters → LosesNothing f (registry x).filters k → (i : Interest) → one.interest ≡ i → Promises f m (Ok i)
-      promised f h u Never e = λ s lane. u.never f m one s lane (kept_form f) h (record { there = at; same = same }) e
-      promised f h u Sometimes e = tt
-      promised f h u Always e = λ s lane. u.always f m one s lane (kept_form f) h (record { there = at; same = same }) e
-
-      shown : (other : Metadata) → callsites_of k (callsite_of m) ≡ Some other → ShowSame other m
+      shown : (other : Metadata) → (callsites_of k).known (callsite_of m) ≡ Some other → ShowSame other m
       shown other e = let which : Some other ≡ Some one.metadata = sym e ∙ there in let it : other ≡ one.metadata = cc in subst (λ z. ShowSame z m) (sym it) same
 
   -- it is kept with other metadata
@@ -284,62 +248,44 @@ module _ {S : Type 0} (registry : S → RegistryState) (has_form : S → Form �
     above = λ a. absurd (false≢true (sym passes ∙ a));
     mismatch = λ r. refl;
     refused = (passes, (one.metadata, ap (option_map (λ (c : Callsite). c.metadata)) at, other));
-    safe = λ f d h u. (tt, u);
     by_form = λ f d h u. (ap (is_above (level_of m)) (sym u.hint) ∙ passes, refl);
     kept = λ f d u. u;
     lasts = λ n one e. e;
   }
 
-  -- it isn't kept, and memory was refused
-  pub gives_no_memory : (k l : Known) → is_above (level_of m) k.hint ≡ false → known_of k (callsite_of m) ≡ None → l.hint ≡ k.hint → ((n : ℕ) → known_of l n ≡ known_of k n)
+  -- it isn't kept, no memory is held for it, and memory was refused
+  pub gives_no_memory : (k l : Known) → is_above (level_of m) k.hint ≡ false → known_of k (callsite_of m) ≡ None → k.room ≡ 0 → l.hint ≡ k.hint → l.room ≡ k.room → ((n : ℕ) → known_of l n ≡ known_of k n)
       → GivesInterest registry has_form x m (Err OutOfMemory) (Filled k) (Filled l)
-  gives_no_memory k l passes at hint same = record {
+  gives_no_memory k l passes at none hint room same = record {
     off = λ o. absurd (cc);
-    learns = inl (λ i. Some (λ n. option_map (λ (c : Callsite). c.metadata) (same n i)));
+    learns = inl (ap (λ c. Some c) kept);
     keeps = tt;
-    leaves = λ i. Some (λ n. option_map (λ (c : Callsite). c.metadata) (same n i));
+    leaves = ap (λ c. Some c) kept;
     reads = ap (λ h. Some h) hint;
     above = λ a. absurd (false≢true (sym passes ∙ ap (is_above (level_of m)) (sym hint) ∙ a));
     mismatch = λ r. let no : Some r.1.0 ≡ None = sym r.1.1 ∙ ap (option_map (λ (c : Callsite). c.metadata)) at in absurd (cc);
-    refused = (passes, ap (option_map (λ (c : Callsite). c.metadata)) at);
-    safe = λ f d h u. (
-      tt,
-      record {
-        above = λ g k s lane keeps honest a. u.above g k s lane keeps honest (ap (is_above (level_of k)) (sym hint) ∙ a);
-        never = λ g k one s lane keeps honest kept a. u.never g k one s lane keeps honest (record { there = sym (same (callsite_of k)) ∙ kept.there; same = kept.same }) a;
-        always = λ g k one s lane keeps honest kept a. u.always g k one s lane keeps honest (record { there = sym (same (callsite_of k)) ∙ kept.there; same = kept.same }) a;
-      },
-    );
-    by_form = λ f d h u. (ap (is_above (level_of m)) (sym u.hint) ∙ passes, λ i. Some (λ n. option_map (λ (c : Callsite). c.metadata) (same n i)));
-    kept = λ f d u. record { hint = hint ∙ u.hint; number = λ n one e. u.number n one (sym (same n) ∙ e); interest = λ n one e. u.interest n one (sym (same n) ∙ e) };
+    refused = (passes, (ap (option_map (λ (c : Callsite). c.metadata)) at, none));
+    by_form = λ f d h u. (ap (is_above (level_of m)) (sym u.hint) ∙ passes, ap (λ c. Some c) kept);
+    kept = λ f d u. matches_still f (registry x).filters k l hint same u;
     lasts = λ n one e. same n ∙ e;
   }
+    where
+      kept : callsites_of l ≡ callsites_of k
+      kept = λ i. record { known = λ n. option_map (λ (c : Callsite). c.metadata) (same n i); room = room i }
 
   -- it isn't kept, is asked for, and is kept then
-  pub gives_asked : (k l : Known) (i : Interest) (fresh pass : Pass) → is_above (level_of m) k.hint ≡ false → known_of k (callsite_of m) ≡ None → l.hint ≡ k.hint → interest_sum fresh ≡ None → AnswersInterest registry has_form x m fresh i pass
+  pub gives_asked : (k l : Known) (i : Interest) (fresh pass : Pass) → is_above (level_of m) k.hint ≡ false → known_of k (callsite_of m) ≡ None → l.hint ≡ k.hint → l.room ≡ k.room - 1 → interest_sum fresh ≡ None → AnswersInterest registry has_form x m fresh i pass
       → ((n : ℕ) → known_of l n ≡ if (callsite_of m == n) then Some (record { metadata = m; interest = i }) else known_of k n)
       → GivesInterest registry has_form x m (Ok i) (Filled k) (Filled l)
-  gives_asked k l i fresh pass passes at hint none a updates = record {
+  gives_asked k l i fresh pass passes at hint room none a updates = record {
     off = λ o. absurd (cc);
-    learns = inr (λ z. Some (λ n. grown n z));
-    keeps = (λ z. Some (λ n. grown n z)) ∙ sym (ap (λ b. learned_if b (Some (callsites_of k)) m) (ap (is_above (level_of m)) hint ∙ passes));
+    learns = inr (ap (λ c. Some c) grown);
+    keeps = ap (λ c. Some c) grown ∙ sym (ap (λ b. learned_if b (Some (callsites_of k)) m) (ap (is_above (level_of m)) hint ∙ passes));
     leaves = tt;
     reads = ap (λ h. Some h) hint;
     above = λ a. absurd (false≢true (sym passes ∙ ap (is_above (level_of m)) (sym hint) ∙ a));
     mismatch = λ r. let no : Some r.1.0 ≡ None = sym r.1.1 ∙ ap (option_map (λ (c : Callsite). c.metadata)) at in absurd (cc);
     refused = tt;
-    safe = λ f d h u. (
-      promised f d h i refl,
-      record {
-        above = λ g k s lane keeps honest e. u.above g k s lane keeps honest (ap (is_above (level_of k)) (sym hint) ∙ e);
-        never = λ g k one s lane keeps honest kept e.
-            entry (callsite_of k) one (λ c. ShowSame c.metadata k → c.interest ≡ Never → IsUnwanted g k s lane) (λ it same e. never_still f g (registry x).filters keeps honest m k i s lane same (interest f d) e)
-            (λ old same e. u.never g k one s lane keeps honest (record { there = old; same = same }) e) kept.there kept.same e;
-        always = λ g k one s lane keeps honest kept e.
-            entry (callsite_of k) one (λ c. ShowSame c.metadata k → c.interest ≡ Always → IsWantedByAll g k s lane) (λ it same e. always_still f g (registry x).filters keeps honest m k i s lane same (interest f d) e)
-            (λ old same e. u.always g k one s lane keeps honest (record { there = old; same = same }) e) kept.there kept.same e;
-      },
-    );
     by_form = λ f d h u.
         let below = ap (is_above (level_of m)) (sym u.hint) ∙ passes in
         record {
@@ -347,7 +293,7 @@ module _ {S : Type 0} (registry : S → RegistryState) (has_form : S → Form �
           agrees = λ b other e. let no : Some other ≡ None = sym e ∙ ap (option_map (λ (c : Callsite). c.metadata)) at in absurd (cc);
           never = λ b. ap is_never (sym (interest f d));
           always = λ b. sym (interest f d) ∙ b;
-          learned = (λ z. Some (λ n. grown n z)) ∙ sym (ap (λ b. learned_if b (Some (callsites_of k)) m) below);
+          learned = ap (λ c. Some c) grown ∙ sym (ap (λ b. learned_if b (Some (callsites_of k)) m) below);
         };
     kept = λ f d u. record { hint = hint ∙ u.hint; number = λ n one e. numbered f u n one e; interest = λ n one e. answered f d u n one e };
     lasts = λ n one e. known_still n one e (callsite_of m == n) refl;
@@ -356,20 +302,16 @@ module _ {S : Type 0} (registry : S → RegistryState) (has_form : S → Form �
       interest : (f : Form) → has_form x f → i ≡ (interest_of f m (registry x).filters None).0
       interest f d = (a f d).answer ∙ ap (λ sum. (interest_of f m (registry x).filters sum).0) none
 
-      promised : (f : Form) → has_form x f → IsHonestStack f (registry x).filters → (j : Interest) → i ≡ j → Promises f m (Ok j)
-      promised f d h Never e = λ s lane. never_is_unwanted f (registry x).filters m s lane h (sym (interest f d) ∙ e)
-      promised f d h Sometimes e = tt
-      promised f d h Always e = λ s lane. always_is_wanted f (registry x).filters m s lane h (sym (interest f d) ∙ e)
-
-      grown : (n : ℕ) → callsites_of l n ≡ with_callsite (callsites_of k) m n
-      grown n = ap (option_map (λ (c : Callsite). c.metadata)) (updates n) ∙ by_test ((callsite_of m == n)) refl
+      grown : callsites_of l ≡ with_callsite (callsites_of k) m
+      grown = (λ z. record { known = λ n. each n z; room = room z }) ∙ kept_newly (callsites_of k) (ap (option_map (λ (c : Callsite). c.metadata)) at)
         where
-          by_test : (b : Bool) → (callsite_of m == n) ≡ b
-              → option_map (λ (c : Callsite). c.metadata) (if b then Some (record { metadata = m; interest = i }) else known_of k n) ≡ (if (callsite_of m == n) then Some (unwrap_or (callsites_of k n) m) else callsites_of k n)
-          by_test true e =
-              let gone : callsites_of k n ≡ None = ap (λ z. option_map (λ (c : Callsite). c.metadata) (known_of k z)) (sym (eqb-true (callsite_of m) n e)) ∙ ap (option_map (λ (c : Callsite). c.metadata)) at in
-              ap (λ (o : Option Metadata). Some (unwrap_or o m)) (sym gone) ∙ sym (ap (λ b. if b then Some (unwrap_or (callsites_of k n) m) else callsites_of k n) e)
-          by_test false e = sym (ap (λ b. if b then Some (unwrap_or (callsites_of k n) m) else callsites_of k n) e)
+          each : (n : ℕ) → (callsites_of l).known n ≡ (with_new (callsites_of k)).known n
+          each n = ap (option_map (λ (c : Callsite). c.metadata)) (updates n) ∙ by_test (callsite_of m == n)
+            where
+              by_test : (b : Bool)
+                  → option_map (λ (c : Callsite). c.metadata) (if b then Some (record { metadata = m; interest = i }) else known_of k n) ≡ (if b then Some m else (callsites_of k).known n)
+              by_test true = refl
+              by_test false = refl
 
       entry : (n : ℕ) (one : Callsite) (P : Callsite → Type 0) → (callsite_of m ≡ n → P (record { metadata = m; interest = i })) → (known_of k n ≡ Some one → P one) → known_of l n ≡ Some one → P one
       entry n one P new old e = by_test ((callsite_of m == n)) refl (sym (updates n) ∙ e)
@@ -391,11 +333,10 @@ module _ {S : Type 0} (registry : S → RegistryState) (has_form : S → Form �
       answered f d u n one e = entry n one (λ c. c.interest ≡ (interest_of f c.metadata (registry x).filters None).0) (λ it. interest f d) (u.interest n one) e
 
   -- a cache that was just begun: nothing is in it but the hint
-  pub gives_begun : (k : Known) (new : Cache) (i : Result Interest TraceError) → ((n : ℕ) → known_of k n ≡ None) → ((f : Form) → has_form x f → k.hint ≡ hint_of f) → GivesInterest registry has_form x m i (Filled k) new → GivesInterest registry has_form x m i Empty new
-  gives_begun k new i nothing hint h =
-      let none : callsites_of k ≡ no_callsite = λ z n. option_map (λ (c : Callsite). c.metadata) (nothing n z) in
-      let current : (f : Form) → has_form x f → MatchesStack f (registry x).filters k =
-      λ f d. record { hint = hint f d; number = λ n one e. let no : None ≡ Some one = sym (nothing n) ∙ e in absurd (cc); interest = λ n one e. let no : None ≡ Some one = sym (nothing n) ∙ e in absurd (cc) } in
+  pub gives_begun : (k : Known) (new : Cache) (i : Result Interest TraceError) → ((n : ℕ) → known_of k n ≡ None) → k.room ≡ 0 → ((f : Form) → has_form x f → k.hint ≡ hint_of f) → GivesInterest registry has_form x m i (Filled k) new → GivesInterest registry has_form x m i Empty new
+  gives_begun k new i nothing room hint h =
+      let none = nothing_kept k nothing room in
+      let current : (f : Form) → has_form x f → MatchesStack f (registry x).filters k = λ f d. nothing_matches f (registry x).filters k (hint f d) nothing in
       record {
         off = λ o. absurd (cc);
         learns = subst (λ c. MayLearn (Some c) m (kept_in new)) none h.learns;
@@ -404,11 +345,6 @@ module _ {S : Type 0} (registry : S → RegistryState) (has_form : S → Form �
         reads = subst IsSome (sym h.reads) refl;
         above = h.above;
         mismatch = λ r. let no : Some r.1.0 ≡ None = sym r.1.1 in absurd (cc);
-        safe = λ f d hn u. h.safe f d hn (record {
-          above = λ g m s lane keeps honest e. above_still f g (registry x).filters keeps honest k.hint m s lane (hint f d) e;
-          never = λ g m one s lane keeps honest kept e. let no : None ≡ Some one = sym (nothing (callsite_of m)) ∙ kept.there in absurd (cc);
-          always = λ g m one s lane keeps honest kept e. let no : None ≡ Some one = sym (nothing (callsite_of m)) ∙ kept.there in absurd (cc);
-        });
         refused = begun i (λ e r. subst (λ c. RefusesInterest (Some c) m e) none r.1) h.refused;
         by_form = λ f d g u. subst (λ c. HasInterestBy (Some c) f (registry x).filters m (kept_in new) i) none (h.by_form f d g (current f d));
         kept = λ f d u. h.kept f d (current f d);

@@ -17,7 +17,7 @@ use Rattle.span_dispatch.specs.Alone.{Alone, acting, learning, form_of_path, pas
 use Rattle.span_dispatch.specs.Isolation.{ActAlike, PathsActAlike, SeesMade, SeesServed}
 use Rattle.span_dispatch.specs.Outcome.{IsVerdict, LayersGo, LevelSet, OutcomeAt, Makes, Noticed, Outcome, Quiet, Steps, given_in, with_new}
 use Rattle.std.specs.FinMap.{get}
-use Rattle.span_dispatch.specs.Serve.{Sees, outcome_of, stack_of}
+use Rattle.span_dispatch.specs.Serve.{Sees, outcome_of}
 use Rattle.span_layers.specs.Verdict.{AreDistinct, in_verdict, numbers_of}
 use Rattle.span_registry.proofs.Agreeing.{agree_aside, agree_refl, agree_sym, agree_trans, views_alike}
 use Rattle.span_registry.proofs.Agreeing.{SpansAgree}
@@ -340,13 +340,13 @@ module _ {S : Type 0} (registry : S → RegistryState) {with_registry : S → Re
         step.1,
         agree_trans numbers (registry y).store t step.0 (agree_sym numbers t (registry y).store (agree_same numbers t (registry y).store aside)) step.2,
         cs,
-        subst (λ (z : S). acts_at z position cs) (sym quiet.rest) (paths.acts_with x (registry y) position cs acts),
+        subst (λ (z : S). acts_at z position cs) (sym quiet.1) (paths.acts_with x (registry y) position cs acts),
         paths_itself cs (paths.plain x position cs acts),
         refl,
       )
   leaves_alone f (LevelSet n l) s t x y position cs has distinct acts steps aside set =
       let numbers = numbers_in cs in
-      let later = levels.acts x n l y position cs set.goes acts in
+      let later = levels.acts x n l y position cs set.1 acts in
       (t, steps, agree_sym numbers t (registry y).store (agree_same numbers t (registry y).store aside), setting n l cs, later, paths_itself (setting n l cs) (paths.plain y position (setting n l cs) later), refl)
 
   -- on the stack's own store
@@ -379,7 +379,7 @@ module _ {S : Type 0} (registry : S → RegistryState) {with_registry : S → Re
   seen_made cs s outcomes h m = seen_so cs m.at_store m.at_outcomes m.sees (sees_own m.old m.made m.new m.position cs m.goes m.acts)
 
   pub seen_served : (cs : Conducts) (s : Store) (outcomes : List Outcome) (h : Heard) → SeesServed registry with_registry has_form stepped levelled hears acts_at cs s outcomes h → Alone cs s outcomes h
-  seen_served cs s outcomes h m = seen_so cs m.at_store m.at_outcomes m.sees (m.served.alone m.position cs (registry (stack_of m.old)).store m.acts (agree_refl (numbers_in cs) (registry (stack_of m.old)).store))
+  seen_served cs s outcomes h m = seen_so cs m.at_store m.at_outcomes m.sees (m.served.alone m.position cs m.acts)
 
 module _ {S : Type 0} (registry : S → RegistryState) {with_registry : S → RegistryState → S} {usable : S → Type 0} {has_form : S → Form → Type 0} {stepped : StackSteps S} {levelled : LevelSteps S} {hears : HearSteps S} {registered : S → S → Type 0} {acts_at : ActsAt S}
     (laws : StackLaws with_registry usable has_form stepped hears registered) (paths : StackPathLaws with_registry has_form stepped registered acts_at) (levels : LevelLaws has_form levelled hears acts_at) where

@@ -1,5 +1,5 @@
 -- For the proofs of callers: what was made of a list that was served, request by request, and what a leaf sees of it.
-use Rattle.std.proofs.Common.{◌≡◌, ◌∙◌, ◌⊎◌, ℕ, inl, inr, Bool, Option, Some, None, List, [], ◌∷◌, ◌++◌, ap, append_assoc, false, refl, sym, subst, true, map}
+use Rattle.std.proofs.Common.{◌≡◌, ◌∙◌, ◌⊎◌, ℕ, Bool, Option, Some, None, List, [], ◌∷◌, ◌++◌, ap, append_assoc, false, refl, sym, subst, true, map}
 use Rattle.std.proofs.lemmas.Bool.{false≢true}
 use Rattle.std.specs.Option.{option_map}
 use Rattle.span_core.specs.Event.{event_metadata, event_of, event_parent, event_values}
@@ -11,17 +11,18 @@ use Rattle.span_core.specs.declared.span.Attributes.{Attributes}
 use Rattle.span_core.specs.declared.span.Id.{Id}
 use Rattle.span_core.specs.declared.span.Lane.{Lane}
 use Rattle.span_core.specs.declared.span.Record.{Record}
-use Rattle.span_dispatch.specs.Admission.{IsDropped, IsUnknown, LearnsOfSpan, learned}
+use Rattle.span_dispatch.specs.Admission.{IsDecided, IsUnknown}
 use Rattle.span_dispatch.proofs.Registered.{registered_before, registered_still}
 use Rattle.span_dispatch.specs.Cache.{IsUpToDate, KeptCallsites, entry_in, forgotten}
 use Rattle.span_dispatch.specs.Contract.{ChangesStack}
 use Rattle.span_dispatch.specs.Registration.{KeepsRegistered}
-use Rattle.span_dispatch.specs.Call.{OpenSpan, RecordValues, SendEvent, vetoes_whole}
+use Rattle.span_dispatch.specs.Call.{vetoes_whole}
+use Rattle.span_dispatch.specs.declared.call.Call.TheVariants.{OpenSpan, RecordValues, SendEvent}
 use Rattle.span_dispatch.specs.Outcome.{OutcomeAt, Makes, Noticed}
 use Rattle.span_dispatch.specs.Alone.{passed, passed_at}
 use Rattle.span_dispatch.specs.Recorder.{RecorderState, Records, kept_notice, recorder_steps}
-use Rattle.span_dispatch.specs.RecorderLaws.{records_more, records_nothing}
-use Rattle.span_dispatch.specs.Serve.{IsReady, KeepsUpToDate, RunExactly, Serves, ServesRequest, call_of, forgetful, resolved, resolved_parent, with_stack}
+use Rattle.span_dispatch.proofs.Recording.{records_more, records_nothing}
+use Rattle.span_dispatch.specs.Serve.{IsReady, KeepsUpToDate, Run, Serves, ServesRequest, call_of, forgetful, resolved, resolved_parent, with_stack}
 use Rattle.span_layers.specs.Layer.{HearsBy}
 use Rattle.span_dispatch.specs.declared.cache.Cache.TheVariants as cache
 use Rattle.span_dispatch.specs.declared.cache.Cache.{Cache}
@@ -76,13 +77,13 @@ module _ {S : Type 0} (registry : S → RegistryState) (with_registry : S → Re
   -- a list that begins with a request: it has an answer, and the rest was served behind that
   pub next_served : (past : List Answer) (r : Request) (rs : List Request) (answers : List Answer) (made : List (List OutcomeAt)) (memory : KeptCallsites) (x : S) (after : KeptCallsites) (y : S) (G : List Answer → List (List OutcomeAt) → Type 0)
       → ((a : Answer) (rest : List Answer) (ms : List OutcomeAt) (more : List (List OutcomeAt)) (between : KeptCallsites) (z : S) → ServesRequest registry with_registry has_form stepped levelled past r memory x a ms between z
-      → RunExactly registry with_registry has_form stepped levelled (past ++ (a ∷ [])) rs rest more between z after y → G (a ∷ rest) (ms ∷ more))
-      → RunExactly registry with_registry has_form stepped levelled past (r ∷ rs) answers made memory x after y → G answers made
+      → Run registry with_registry has_form stepped levelled (past ++ (a ∷ [])) rs rest more between z after y → G (a ∷ rest) (ms ∷ more))
+      → Run registry with_registry has_form stepped levelled past (r ∷ rs) answers made memory x after y → G answers made
   next_served past r rs (a ∷ rest) (ms ∷ more) memory x after y G k h = k a rest ms more h.0 h.1 h.2 h.3
   next_served past r rs other made memory x after y rest k h = absurd h
 
   -- an empty list has no answer, and nothing was made of it
-  pub none_served : (past : List Answer) (answers : List Answer) (made : List (List OutcomeAt)) (memory : KeptCallsites) (x : S) (after : KeptCallsites) (y : S) (G : List Answer → List (List OutcomeAt) → Type 0) → G [] [] → RunExactly registry with_registry has_form stepped levelled past [] answers made memory x after y → G answers made
+  pub none_served : (past : List Answer) (answers : List Answer) (made : List (List OutcomeAt)) (memory : KeptCallsites) (x : S) (after : KeptCallsites) (y : S) (G : List Answer → List (List OutcomeAt) → Type 0) → G [] [] → Run registry with_registry has_form stepped levelled past [] answers made memory x after y → G answers made
   none_served past [] [] memory x after y G k h = k
   none_served past other made memory x after y rest k h = absurd h
 
@@ -92,38 +93,38 @@ module _ {S : Type 0} (registry : S → RegistryState) (with_registry : S → Re
   abbrev pub Goal : Type 1
   Goal = Answer → List OutcomeAt → KeptCallsites → S → Type 0
 
+  -- whether hint, interest and leaves decide so of a new span
+  abbrev pub SpanDecided : KeptCallsites → Form → S → Lane → Attributes → Bool → KeptCallsites → Type 0
+  SpanDecided memory f x lane attrs wanted after = IsDecided memory f (registry x) lane (metadata_of attrs) (vetoes f (metadata_of attrs) (registry x).store lane.0) wanted after
+
   abbrev pub MadeSpan : List Answer → Request → Lane → KeptCallsites → S → Goal → Type 0
-  MadeSpan past r lane memory x G = (id : Id) (attrs : Attributes) (f : Form) (one : OutcomeAt) (after : KeptCallsites) (z : S) → call_of past r ≡ Some (OpenSpan lane attrs) → after ≡ learned memory f (metadata_of attrs)
+  MadeSpan past r lane memory x G = (id : Id) (attrs : Attributes) (f : Form) (one : OutcomeAt) (after : KeptCallsites) (z : S) → call_of past r ≡ Some (OpenSpan lane attrs) → SpanDecided memory f x lane attrs true after
       → one.outcome ≡ Noticed lane (OnNewSpan attrs id) → Makes registry with_registry has_form stepped levelled x one z → G (answer.Made id) (one ∷ []) after z
 
   abbrev pub DroppedSpan : List Answer → Request → Lane → KeptCallsites → S → Goal → Type 0
   DroppedSpan past r lane memory x G = (attrs : Attributes) (f : Form) (after : KeptCallsites) → call_of past r ≡ Some (OpenSpan lane attrs) → IsReady registry with_registry has_form stepped levelled f x
-      → IsDropped memory f (registry x) lane (metadata_of attrs) (vetoes f (metadata_of attrs) (registry x).store lane.0) → after ≡ learned memory f (metadata_of attrs) → G answer.Dropped [] after x
+      → SpanDecided memory f x lane attrs false after → G answer.Dropped [] after x
 
   abbrev pub RefusedSpan : List Answer → Request → Lane → KeptCallsites → S → Goal → Type 0
-  RefusedSpan past r lane memory x G = (attrs : Attributes) (e : TraceError) (f : Form) (after : KeptCallsites) → call_of past r ≡ Some (OpenSpan lane attrs) → IsUnknown memory f (metadata_of attrs) e ⊎ RefusesNew (registry x) lane (asked_parent attrs) e
-      → LearnsOfSpan memory f (metadata_of attrs) (answer.Refused e) after → G (answer.Refused e) [] after x
+  RefusedSpan past r lane memory x G = (attrs : Attributes) (e : TraceError) (f : Form) (after : KeptCallsites) → call_of past r ≡ Some (OpenSpan lane attrs)
+      → IsUnknown memory f (metadata_of attrs) e after ⊎ (SpanDecided memory f x lane attrs true after × RefusesNew (registry x) lane (asked_parent attrs) e) → G (answer.Refused e) [] after x
 
   opened : (past : List Answer) (r : Request) (lane : Lane) (attrs : Attributes) (f : Form) (memory : KeptCallsites) (x : S) (a : Answer) (made : List OutcomeAt) (after : KeptCallsites) (y : S) (G : Goal) → MadeSpan past r lane memory x G → DroppedSpan past r lane memory x G
       → RefusedSpan past r lane memory x G → call_of past r ≡ Some (OpenSpan lane attrs) → IsReady registry with_registry has_form stepped levelled f x → Serves registry with_registry has_form stepped levelled (OpenSpan lane attrs) f memory x a made after y → G a made after y
-  opened past r lane attrs f memory x (answer.Made id) [] after y G new dropped refused asks ready s = let e = s.told.says in absurd (cc)
+  opened past r lane attrs f memory x (answer.Made id) [] after y G new dropped refused asks ready s = let e = s.says in absurd (cc)
   opened past r lane attrs f memory x (answer.Made id) (one ∷ []) after y G new dropped refused asks ready s =
-      let e = s.told.says in
-      let h = s.told.goes in
+      let e = s.says in
+      let h = s.goes in
       let o : one.outcome ≡ Noticed lane (OnNewSpan attrs id) = cc in
-      subst (λ z. G (answer.Made id) (one ∷ []) after z) h.2 (new id attrs f one after h.0 asks s.exact.keeps o h.1)
-  opened past r lane attrs f memory x (answer.Made id) (one ∷ two ∷ made) after y G new dropped refused asks ready s = let e = s.told.says in absurd (cc)
-  opened past r lane attrs f memory x answer.Dropped [] after y G new dropped refused asks ready s = subst (λ z. G answer.Dropped [] after z) s.told.goes (dropped attrs f after asks ready s.exact.answers s.exact.keeps)
-  opened past r lane attrs f memory x answer.Dropped (one ∷ made) after y G new dropped refused asks ready s = let e = s.told.says in absurd (cc)
-  opened past r lane attrs f memory x (answer.Refused e) [] after y G new dropped refused asks ready s = subst (λ z. G (answer.Refused e) [] after z) s.told.goes (refused attrs e f after asks (why s.exact.answers) s.exact.keeps)
-    where
-      why : {P Q R : Type 0} → P ⊎ (Q × R) → P ⊎ R
-      why (inl p) = inl p
-      why (inr q) = inr q.1
-  opened past r lane attrs f memory x (answer.Refused e) (one ∷ made) after y G new dropped refused asks ready s = let d = s.told.says in absurd (cc)
-  opened past r lane attrs f memory x answer.Done made after y G new dropped refused asks ready s = absurd s.exact.answers
-  opened past r lane attrs f memory x (answer.Yes b) made after y G new dropped refused asks ready s = absurd s.exact.answers
-  opened past r lane attrs f memory x (answer.Current o) made after y G new dropped refused asks ready s = absurd s.exact.answers
+      subst (λ z. G (answer.Made id) (one ∷ []) after z) h.2 (new id attrs f one after h.0 asks s.answers.0 o h.1)
+  opened past r lane attrs f memory x (answer.Made id) (one ∷ two ∷ made) after y G new dropped refused asks ready s = let e = s.says in absurd (cc)
+  opened past r lane attrs f memory x answer.Dropped [] after y G new dropped refused asks ready s = subst (λ z. G answer.Dropped [] after z) s.goes (dropped attrs f after asks ready s.answers)
+  opened past r lane attrs f memory x answer.Dropped (one ∷ made) after y G new dropped refused asks ready s = let e = s.says in absurd (cc)
+  opened past r lane attrs f memory x (answer.Refused e) [] after y G new dropped refused asks ready s = subst (λ z. G (answer.Refused e) [] after z) s.goes (refused attrs e f after asks s.answers)
+  opened past r lane attrs f memory x (answer.Refused e) (one ∷ made) after y G new dropped refused asks ready s = let d = s.says in absurd (cc)
+  opened past r lane attrs f memory x answer.Done made after y G new dropped refused asks ready s = absurd s.says
+  opened past r lane attrs f memory x (answer.Yes b) made after y G new dropped refused asks ready s = absurd s.says
+  opened past r lane attrs f memory x (answer.Current o) made after y G new dropped refused asks ready s = absurd s.says
 
   pub span_served : (past : List Answer) (lane : Lane) (m : Metadata) (p : WhichParent) (values : _) (memory : KeptCallsites) (x : S) (a : Answer) (made : List OutcomeAt) (after : KeptCallsites) (y : S) (G : Goal)
       → MadeSpan past (request.NewSpan lane m p values) lane memory x G → DroppedSpan past (request.NewSpan lane m p values) lane memory x G → RefusedSpan past (request.NewSpan lane m p values) lane memory x G
@@ -133,32 +134,36 @@ module _ {S : Type 0} (registry : S → RegistryState) (with_registry : S → Re
 
   -- ---- a request for an event: its notice alone came of it; or it was dropped, or refused, and nothing came of it
 
+  -- whether hint, interest and leaves decide so of an event
+  abbrev pub EventDecided : KeptCallsites → Form → S → Lane → Event → Bool → KeptCallsites → Type 0
+  EventDecided memory f x lane e wanted after = IsDecided memory f (registry x) lane (event_metadata e) (vetoes_whole f e (registry x).store lane) wanted after
+
   abbrev pub MadeEvent : List Answer → Request → Lane → KeptCallsites → S → Goal → Type 0
-  MadeEvent past r lane memory x G = (e : Event) (f : Form) (one : OutcomeAt) (after : KeptCallsites) (z : S) → call_of past r ≡ Some (SendEvent lane e) → after ≡ learned memory f (event_metadata e) → one.outcome ≡ Noticed lane (OnEvent e)
+  MadeEvent past r lane memory x G = (e : Event) (f : Form) (one : OutcomeAt) (after : KeptCallsites) (z : S) → call_of past r ≡ Some (SendEvent lane e) → EventDecided memory f x lane e true after → one.outcome ≡ Noticed lane (OnEvent e)
       → Makes registry with_registry has_form stepped levelled x one z → G answer.Done (one ∷ []) after z
 
   abbrev pub DroppedEvent : List Answer → Request → Lane → KeptCallsites → S → Goal → Type 0
   DroppedEvent past r lane memory x G = (e : Event) (f : Form) (after : KeptCallsites) → call_of past r ≡ Some (SendEvent lane e) → IsReady registry with_registry has_form stepped levelled f x
-      → IsDropped memory f (registry x) lane (event_metadata e) (vetoes_whole f e (registry x).store lane) → after ≡ learned memory f (event_metadata e) → G answer.Dropped [] after x
+      → EventDecided memory f x lane e false after → G answer.Dropped [] after x
 
   abbrev pub RefusedEvent : List Answer → Request → Lane → KeptCallsites → S → Goal → Type 0
-  RefusedEvent past r lane memory x G = (e : Event) (error : TraceError) (f : Form) (after : KeptCallsites) → call_of past r ≡ Some (SendEvent lane e) → IsUnknown memory f (event_metadata e) error → after ≡ memory
+  RefusedEvent past r lane memory x G = (e : Event) (error : TraceError) (f : Form) (after : KeptCallsites) → call_of past r ≡ Some (SendEvent lane e) → IsUnknown memory f (event_metadata e) error after
       → G (answer.Refused error) [] after x
 
   sent : (past : List Answer) (r : Request) (lane : Lane) (event : Event) (f : Form) (memory : KeptCallsites) (x : S) (a : Answer) (made : List OutcomeAt) (after : KeptCallsites) (y : S) (G : Goal) → MadeEvent past r lane memory x G → DroppedEvent past r lane memory x G
       → RefusedEvent past r lane memory x G → call_of past r ≡ Some (SendEvent lane event) → IsReady registry with_registry has_form stepped levelled f x → Serves registry with_registry has_form stepped levelled (SendEvent lane event) f memory x a made after y → G a made after y
-  sent past r lane event f memory x answer.Done [] after y G new dropped refused asks ready s = let e = s.told.says in absurd (cc)
+  sent past r lane event f memory x answer.Done [] after y G new dropped refused asks ready s = let e = s.says in absurd (cc)
   sent past r lane event f memory x answer.Done (one ∷ []) after y G new dropped refused asks ready s =
-      let e = s.told.says in
-      let h = s.told.goes in
+      let e = s.says in
+      let h = s.goes in
       let o : one.outcome ≡ Noticed lane (OnEvent event) = cc in
-      subst (λ z. G answer.Done (one ∷ []) after z) h.2 (new event f one after h.0 asks s.exact.keeps o h.1)
-  sent past r lane event f memory x answer.Done (one ∷ two ∷ made) after y G new dropped refused asks ready s = let e = s.told.says in absurd (cc)
-  sent past r lane event f memory x answer.Dropped [] after y G new dropped refused asks ready s = subst (λ z. G answer.Dropped [] after z) s.told.goes (dropped event f after asks ready s.exact.answers s.exact.keeps)
-  sent past r lane event f memory x answer.Dropped (one ∷ made) after y G new dropped refused asks ready s = let e = s.told.says in absurd (cc)
-  sent past r lane event f memory x (answer.Refused e) [] after y G new dropped refused asks ready s = subst (λ z. G (answer.Refused e) [] after z) s.told.goes (refused event e f after asks s.exact.answers s.exact.keeps)
-  sent past r lane event f memory x (answer.Refused e) (one ∷ made) after y G new dropped refused asks ready s = let d = s.told.says in absurd (cc)
-  sent past r lane event f memory x other made after y rest new dropped refused asks ready s = absurd s.exact.answers
+      subst (λ z. G answer.Done (one ∷ []) after z) h.2 (new event f one after h.0 asks s.answers o h.1)
+  sent past r lane event f memory x answer.Done (one ∷ two ∷ made) after y G new dropped refused asks ready s = let e = s.says in absurd (cc)
+  sent past r lane event f memory x answer.Dropped [] after y G new dropped refused asks ready s = subst (λ z. G answer.Dropped [] after z) s.goes (dropped event f after asks ready s.answers)
+  sent past r lane event f memory x answer.Dropped (one ∷ made) after y G new dropped refused asks ready s = let e = s.says in absurd (cc)
+  sent past r lane event f memory x (answer.Refused e) [] after y G new dropped refused asks ready s = subst (λ z. G (answer.Refused e) [] after z) s.goes (refused event e f after asks s.answers)
+  sent past r lane event f memory x (answer.Refused e) (one ∷ made) after y G new dropped refused asks ready s = let d = s.says in absurd (cc)
+  sent past r lane event f memory x other made after y rest new dropped refused asks ready s = absurd s.says
 
   pub event_served : (past : List Answer) (lane : Lane) (m : Metadata) (p : WhichParent) (values : _) (memory : KeptCallsites) (x : S) (a : Answer) (made : List OutcomeAt) (after : KeptCallsites) (y : S) (G : Goal)
       → MadeEvent past (request.Event lane m p values) lane memory x G → DroppedEvent past (request.Event lane m p values) lane memory x G → RefusedEvent past (request.Event lane m p values) lane memory x G
@@ -166,22 +171,16 @@ module _ {S : Type 0} (registry : S → RegistryState) (with_registry : S → Re
   event_served past lane m p values memory x a made after y G new dropped refused h =
       sent past (request.Event lane m p values) lane (event_of m values (resolved_parent past p)) h.0 memory x a made after y G new dropped refused refl h.1 h.2
 
--- where nothing is kept, what is dropped is vetoed, and no interest is wanting
-pub vetoed_unkept : (f : Form) (s : RegistryState) (lane : Lane) (m : Metadata) (vetoed : Bool) → IsDropped None f s lane m vetoed → vetoed ≡ true
-vetoed_unkept f s lane m vetoed (inl r) = absurd (by_rule r.rule)
-  where
-    by_rule : {P : Type 0} → (false ≡ true) ⊎ (P × (false ≡ true)) → ⊥
-    by_rule (inl e) = false≢true e
-    by_rule (inr e) = false≢true e.1
-vetoed_unkept f s lane m vetoed (inr v) = v.1
+-- where nothing is kept, what isn't wanted is vetoed, no interest is wanting, and nothing is kept afterwards
+pub vetoed_unkept : (f : Form) (s : RegistryState) (lane : Lane) (m : Metadata) (vetoed : Bool) (after : KeptCallsites) → IsDecided None f s lane m vetoed false after → vetoed ≡ true
+vetoed_unkept f s lane m true after d = refl
+vetoed_unkept f s lane m false after d = absurd (false≢true d.wanted)
 
-pub known_unkept : (f : Form) (m : Metadata) (e : TraceError) → IsUnknown None f m e → ⊥
-known_unkept f m e h = h.refused
+pub known_unkept : (f : Form) (m : Metadata) (e : TraceError) (after : KeptCallsites) → IsUnknown None f m e after → ⊥
+known_unkept f m e after h = h.refused
 
--- and nothing is kept afterwards
-pub unkept_still : (f : Form) (m : Metadata) (e : TraceError) (after : KeptCallsites) → LearnsOfSpan None f m (answer.Refused e) after → after ≡ None
-unkept_still f m e after (inl h) = h.1
-unkept_still f m e after (inr h) = h
+pub unkept_still : (f : Form) (s : RegistryState) (lane : Lane) (m : Metadata) (vetoed wanted : Bool) (after : KeptCallsites) → IsDecided None f s lane m vetoed wanted after → after ≡ None
+unkept_still f s lane m vetoed wanted after d = d.learned
 
 -- what was forgotten is up to date, whatever the stack has become
 pub forgotten_is_current : {S : Type 0} (f : Form) (n : ℕ) (d : Dispatch S) (x : S) → KeepsUpToDate f n (with_stack (forgetful d) x)

@@ -1,11 +1,10 @@
 -- How each call of a dispatcher is served, from what the stack's own calls say.
-use Rattle.std.proofs.Common.{◌≡◌, ℕ, Bool, true, false, not, ◌||◌, List, [], ◌∷◌, ◌++◌, map, Option, Some, None, Result, Ok, Err, inl, inr, IfSome, IfErr, IfOk, OnOk, OnErr, ◌<◌, refl, sym, ap, subst, ◌∙◌}
+use Rattle.std.proofs.Common.{◌≡◌, ◌&&◌, ℕ, Bool, true, false, not, ◌||◌, List, [], ◌∷◌, ◌++◌, map, Option, Some, None, Result, Ok, Err, inl, inr, IfSome, IfErr, IfOk, OnOk, OnErr, ◌<◌, refl, sym, ap, subst, ◌∙◌}
 use Rattle.std.proofs.lemmas.Bool.{true≢false}
 use Rattle.span_core.specs.Event.{event_metadata}
 use Rattle.span_core.specs.Filters.{FilterSet}
 use Rattle.span_core.specs.Pass.{refused_of}
 use Rattle.span_core.specs.Span.{asked_parent, current_span, id_of, metadata_of, number_of}
-use Rattle.span_core.specs.declared.error.TraceError.TheVariants.{NoHandle, OutOfMemory, UnknownSpan}
 use Rattle.span_core.specs.declared.error.TraceError.{TraceError}
 use Rattle.span_core.specs.declared.event.Event.{Event}
 use Rattle.span_core.specs.declared.metadata.Metadata.{Metadata}
@@ -16,19 +15,21 @@ use Rattle.std.specs.Option.{option_map}
 use Rattle.span_core.specs.declared.span.Id.{Id}
 use Rattle.span_core.specs.declared.span.Lane.{Lane}
 use Rattle.span_core.specs.declared.span.Record.{Record}
-use Rattle.span_dispatch.proofs.Goes.{Done, SameAside, StepsTo, StillReady, aside_state, by_call, by_change, by_none, changed, ended_by, filters_same, honest_after, honest_quietly, its_own, keeps_again, same_aside, settled_aside}
-use Rattle.span_dispatch.specs.Admission.{Decides, IsAdmitted, IsDropped}
+use Rattle.span_dispatch.proofs.Goes.{with_others, Done, SameAside, StepsTo, StillReady, aside_state, by_call, by_change, by_none, changed, ended_by, filters_same, honest_after, honest_quietly, its_own, keeps_again, same_aside, settled_aside}
+use Rattle.span_dispatch.specs.Admission.{IsAdmitted, IsDecided}
 use Rattle.span_dispatch.specs.Cache.{KeptCallsites}
-use Rattle.span_dispatch.specs.Call.{AddHandle, AskCurrent, DropHandle, Enter, Exit, Follow, HasRoomFor, OpenSpan, Probe, RecordValues, SendEvent, closes_of, current_answer, done_answer, vetoes_whole, yes_answer}
+use Rattle.span_dispatch.specs.Call.{AnswersWith, HasRoomFor, closes_of, current_answer, done_answer, vetoes_whole, yes_answer}
+use Rattle.span_dispatch.specs.declared.call.Call.TheVariants.{AddHandle, AskCurrent, DropHandle, Enter, Exit, Follow, OpenSpan, Probe, RecordValues, SendEvent}
+use Rattle.span_dispatch.specs.Effect.{OutcomesOf}
 use Rattle.span_dispatch.specs.Outcome.{GoneLeft, HandleAdded, HandleTaken, IsHonest, IsVerdict, Ends, OutcomeAt, Makes, Noticed, Notices, Outcome, Quiet, Steps, given_in, with_new, without_span}
 use Rattle.span_core.specs.declared.filter.FilterMap.{FilterMap}
-use Rattle.span_dispatch.specs.Serve.{AnswersExactly, ClosesEach, IsReady, outcome_of}
+use Rattle.span_dispatch.specs.Serve.{ClosesEach, IsReady, outcome_of}
 use Rattle.span_dispatch.specs.declared.request.Answer.TheVariants as answer
 use Rattle.span_layers.proofs.Built.{rules_of}
 use Rattle.span_layers.proofs.RulesKept.{honesty_is_kept}
 use Rattle.span_layers.specs.Honest.{IsHonestStack}
-use Rattle.span_layers.proofs.Pass.{asked_unless_vetoed, event_fresh, event_unless_vetoed, new_span_fresh, others_afresh}
-use Rattle.span_layers.specs.Verdict.{IsOrderly, vetoes, vetoes_event}
+use Rattle.span_layers.proofs.Pass.{event_fresh, event_unless_vetoed, new_span_fresh, others_afresh}
+use Rattle.span_layers.specs.Verdict.{vetoes, vetoes_event}
 use Rattle.span_registry.specs.Behaviour.{Notice, OnClose, OnEnter, OnEvent, OnExit, OnFollows, OnNewSpan, OnRecord}
 use Rattle.span_registry.specs.Closes.{HasNoClosing}
 use Rattle.span_registry.specs.KeptForm.{KeepsForm, kept_form}
@@ -38,8 +39,8 @@ use Rattle.span_registry.specs.Levels.{LevelSteps, kept_rules}
 use Rattle.span_registry.specs.Position.{HearSteps}
 use Rattle.span_registry.specs.Plan.{asked_afresh, by_pass}
 use Rattle.span_registry.specs.Question.{asked, event_asked, refusals}
-use Rattle.span_registry.specs.Step.{Begun, Between, Clones, Enters, Exits, IsCurrent, Opens, ShowsCurrent, begun, entered, exited, RefusesClone, RefusesEnter, RefusesNew, RefusesRelease, Releases, Removal, Removed, Removes}
-use Rattle.span_registry.specs.Store.{IsClosing, IsForest, IsHeld, IsOpen, RegistryState, Spans, Store, add_handle, handles_of, take_handle}
+use Rattle.span_registry.specs.Step.{Begun, Between, Clones, Enters, Exits, IsCurrent, Opens, ShowsCurrent, begun, entered, exited, RefusesClone, RefusesEnter, RefusesNew, Releases, Removal, Removed, Removes}
+use Rattle.span_registry.specs.Store.{IsClosing, IsForest, IsOpen, RegistryState, Spans, Store, add_handle, handles_of, take_handle}
 use Rattle.span_registry.specs.Subscriber.{SameButExtensions}
 use Rattle.span_registry.specs.Laws.{ClosesAll}
 use Rattle.span_registry.specs.declared.registry.Released.{Released}
@@ -54,24 +55,6 @@ not_true false h = refl
 not_false : (b : Bool) → not b ≡ false → b ≡ true
 not_false true h = refl
 not_false false h = sym h
-
-or_right_true : (a b : Bool) → b ≡ true → a || b ≡ true
-or_right_true true b h = refl
-or_right_true false b h = h
-
-or_left_true : (a b : Bool) → a ≡ true → a || b ≡ true
-or_left_true true b h = refl
-or_left_true false b h = absurd (true≢false (sym h))
-
-or_both_false : (a b : Bool) → a ≡ false → b ≡ false → a || b ≡ false
-or_both_false true b h k = h
-or_both_false false b h k = k
-
--- a span that no handle is taken from has none
-pub not_held : (s : RegistryState) (id : Id) (e : TraceError) → RefusesRelease s id e → ¬ (IsHeld s.store.spans (number_of id))
-not_held s id (UnknownSpan y) r held = r.1 (held.0, held.1, inl held.2)
-not_held s id (NoHandle y) r held = r.2 held
-not_held s id other r held = absurd r
 
 -- ---- what the registry's own step makes of a notice
 
@@ -128,23 +111,19 @@ module _ {S : Type 0} {registry : S → RegistryState} {with_registry : S → Re
   current_number s lane (Some p) h = h
 
   pub current_so : (lane : Lane) (c : Current) (f : Form) (x : S) → ShowsCurrent (registry x).store lane c → Honest f x → Done laws with_own levelled (AskCurrent lane) (current_answer c) f x x
-  current_so lane c f x shown h = by_none laws with_own levelled (AskCurrent lane) (current_answer c) f x x h refl refl (current_number (registry x).store lane.0 (current_span c) shown.span)
+  current_so lane c f x shown h = by_none laws with_own levelled (AskCurrent lane) (current_answer c) f x x h refl refl
 
-  pub current_exact : (lane : Lane) (c : Current) (f : Form) (memory : KeptCallsites) (s : RegistryState) → ShowsCurrent s.store lane c → AnswersExactly (AskCurrent lane) f memory s (current_answer c) memory
-  current_exact lane c f memory s shown = record { answers = current_number s.store lane.0 (current_span c) shown.span; keeps = refl }
+  pub current_exact : (lane : Lane) (c : Current) (f : Form) (memory : KeptCallsites) (s : RegistryState) → ShowsCurrent s.store lane c → AnswersWith (AskCurrent lane) memory f s (current_answer c) memory
+  current_exact lane c f memory s shown = (refl, current_number s.store lane.0 (current_span c) shown.span)
 
-  -- where all were asked and answered true, no leaf vetoes
-  unvetoed : (f : Form) (m : Metadata) (s : Store) (lane : Lane) (pass : Pass) → IsOrderly f → asked f m s lane.0 no_filter no_filter ≡ (true, refusals pass) → vetoes f m s lane.0 ≡ false
-  unvetoed f m s lane pass orderly e = not_true _ (sym (asked_unless_vetoed f m s lane.0 no_filter orderly) ∙ ap (λ (p : Bool × FilterSet). p.0) e)
+  -- of a probe nothing comes
+  pub probe_says : (lane : Lane) (m : Metadata) (said : Result Bool TraceError) (s : Store) → OutcomesOf (Probe lane m) (yes_answer said) s []
+  probe_says lane m (Ok said) s = refl
+  probe_says lane m (Err e) s = refl
 
-  pub probed : (lane : Lane) (m : Metadata) (pass : Pass) (said : Result Bool TraceError) (f : Form) (x : S) → Decides f (registry x).store lane m pass said → Honest f x → Done laws with_own levelled (Probe lane m) (yes_answer said) f x x
-  probed lane m pass (Ok true) f x a h = by_none laws with_own levelled (Probe lane m) (answer.Yes true) f x x h refl refl (unvetoed f m (registry x).store lane pass (rules_of f _ h.rules).orderly a)
-  probed lane m pass (Ok false) f x a h = by_none laws with_own levelled (Probe lane m) (answer.Yes false) f x x h refl refl a
-  probed lane m pass (Err e) f x a h = by_none laws with_own levelled (Probe lane m) (answer.Refused e) f x x h refl refl tt
-
-  pub probed_exactly : (lane : Lane) (m : Metadata) (pass : Pass) (said : Result Bool TraceError) (f : Form) (memory after : KeptCallsites) (s : RegistryState) → IsOrderly f → IsAdmitted memory f s lane m pass after said → AnswersExactly (Probe lane m) f memory s (yes_answer said) after
-  probed_exactly lane m pass (Ok true) f memory after s orderly a = record { answers = (a.0, unvetoed f m s.store lane pass orderly a.1); keeps = a.2 }
-  probed_exactly lane m pass other f memory after s orderly a = record { answers = a.0; keeps = a.1 }
+  pub probed_exactly : (lane : Lane) (m : Metadata) (pass : Pass) (said : Result Bool TraceError) (f : Form) (memory after : KeptCallsites) (s : RegistryState) → IsAdmitted memory f s lane m pass after said → AnswersWith (Probe lane m) memory f s (yes_answer said) after
+  probed_exactly lane m pass (Ok said) f memory after s a = a.0
+  probed_exactly lane m pass (Err e) f memory after s a = a
 
   -- ---- new spans
 
@@ -152,62 +131,41 @@ module _ {S : Type 0} {registry : S → RegistryState} {with_registry : S → Re
   by_metadata : (f : Form) (s : RegistryState) (lane : Lane) (m meta : Metadata) (pass : Pass) (memory after : KeptCallsites) (said : Result Bool TraceError) → m ≡ meta → IsAdmitted memory f s lane m pass after said → IsAdmitted memory f s lane meta pass after said
   by_metadata f s lane m meta pass memory after said same a = subst (λ n. IsAdmitted memory f s lane n pass after said) same a
 
-  decided : (f : Form) (s : Store) (lane : Lane) (m meta : Metadata) (pass : Pass) (said : Result Bool TraceError) → m ≡ meta → Decides f s lane m pass said → Decides f s lane meta pass said
-  decided f s lane m meta pass said same a = subst (λ n. Decides f s lane n pass said) same a
-
-  pub span_dropped : (lane : Lane) (attrs : Attributes) (m : Metadata) (pass : Pass) (f : Form) (x : S) → m ≡ metadata_of attrs → Decides f (registry x).store lane m pass (Ok false) → Honest f x → Done laws with_own levelled (OpenSpan lane attrs) answer.Dropped f x x
-  span_dropped lane attrs m pass f x same a h = by_none laws with_own levelled (OpenSpan lane attrs) answer.Dropped f x x h refl refl (decided f (registry x).store lane m (metadata_of attrs) pass (Ok false) same a)
-
-  pub span_unmade : (lane : Lane) (attrs : Attributes) (e : TraceError) (f : Form) (x y : S) → y ≡ x → Honest f x → Done laws with_own levelled (OpenSpan lane attrs) (answer.Refused e) f x y
-  span_unmade lane attrs e f x y u h = by_none laws with_own levelled (OpenSpan lane attrs) (answer.Refused e) f x y h u refl tt
-
-  pub span_made : (lane : Lane) (attrs : Attributes) (m : Metadata) (pass : Pass) (id : Id) (f : Form) (x y : S) → m ≡ metadata_of attrs → Decides f (registry x).store lane m pass (Ok true)
+  pub span_made : (lane : Lane) (attrs : Attributes) (m : Metadata) (pass : Pass) (id : Id) (f : Form) (x y : S) → m ≡ metadata_of attrs → asked f m (registry x).store lane.0 no_filter no_filter ≡ (true, refusals pass)
       → OpensAndNotifies registry has_form stepped lane attrs pass x y id → Honest f x → Done laws with_own levelled (OpenSpan lane attrs) (answer.Made id) f x y
   span_made lane attrs m pass id f x y same a n h =
       let s = (registry x).store in
-      let d = decided f s lane m (metadata_of attrs) pass (Ok true) same a in
+      let d = subst (λ n. asked f n s lane.0 no_filter no_filter ≡ (true, refusals pass)) same a in
       let refused = ap (λ (p : Bool × FilterSet). p.1) d in
       let law = new_span_fresh f attrs id s lane.0 h.rules.numbers.distinct (ap (λ (p : Bool × FilterSet). p.0) d) in
       let plan = subst (λ r. by_pass f (OnNewSpan attrs id) n.left.store.spans no_filter r ≡ asked_afresh f (OnNewSpan attrs id) s lane.0 no_filter) refused (law.plan n.left.store.spans) in
-      by_call laws with_own levelled (OpenSpan lane attrs) (answer.Made id) f lane (OnNewSpan attrs id) (refusals pass) _ x y h refl (unvetoed f (metadata_of attrs) s lane pass (rules_of f _ h.rules).orderly d)
+      by_call laws with_own levelled (OpenSpan lane attrs) (answer.Made id) f lane (OnNewSpan attrs id) (refusals pass) _ x y h refl
       n plan (opens_to f lane attrs id (registry x) n.left (refused_of pass) (λ k. ap (λ (r : FilterSet). r k) (sym refused) ∙ law.verdict k) n.taken)
 
   -- and exactly so
-  module _ (f : Form) (memory after : KeptCallsites) (s : RegistryState) (lane : Lane) (attrs : Attributes) (m : Metadata) (pass : Pass) (same : m ≡ metadata_of attrs) (orderly : IsOrderly f) where
-    pub dropped_exactly : IsAdmitted memory f s lane m pass after (Ok false) → AnswersExactly (OpenSpan lane attrs) f memory s answer.Dropped after
-    dropped_exactly a = let d = by_metadata f s lane m (metadata_of attrs) pass memory after (Ok false) same a in record { answers = d.0; keeps = d.1 }
+  module _ (f : Form) (memory after : KeptCallsites) (s : RegistryState) (lane : Lane) (attrs : Attributes) (m : Metadata) (pass : Pass) (same : m ≡ metadata_of attrs) where
+    pub dropped_exactly : IsAdmitted memory f s lane m pass after (Ok false) → AnswersWith (OpenSpan lane attrs) memory f s answer.Dropped after
+    dropped_exactly a = (by_metadata f s lane m (metadata_of attrs) pass memory after (Ok false) same a).0
 
-    pub unknown_exactly : (e : TraceError) → IsAdmitted memory f s lane m pass after (Err e) → AnswersExactly (OpenSpan lane attrs) f memory s (answer.Refused e) after
-    unknown_exactly e a = let d = by_metadata f s lane m (metadata_of attrs) pass memory after (Err e) same a in record { answers = inl d.0; keeps = inl (d.0.refused, d.1) }
+    pub unknown_exactly : (e : TraceError) → IsAdmitted memory f s lane m pass after (Err e) → AnswersWith (OpenSpan lane attrs) memory f s (answer.Refused e) after
+    unknown_exactly e a = inl (by_metadata f s lane m (metadata_of attrs) pass memory after (Err e) same a)
 
-    pub made_exactly : (id : Id) → HasRoomFor s lane (asked_parent attrs) → IsAdmitted memory f s lane m pass after (Ok true) → AnswersExactly (OpenSpan lane attrs) f memory s (answer.Made id) after
-    made_exactly id room a = let d = by_metadata f s lane m (metadata_of attrs) pass memory after (Ok true) same a in record { answers = ((d.0, unvetoed f (metadata_of attrs) s.store lane pass orderly d.1), room); keeps = d.2 }
+    pub made_exactly : (id : Id) → HasRoomFor s lane (asked_parent attrs) → IsAdmitted memory f s lane m pass after (Ok true) → AnswersWith (OpenSpan lane attrs) memory f s (answer.Made id) after
+    made_exactly id room a = ((by_metadata f s lane m (metadata_of attrs) pass memory after (Ok true) same a).0, room)
 
-    pub refused_exactly : (e : TraceError) → RefusesNew s lane (asked_parent attrs) e → IsAdmitted memory f s lane m pass after (Ok true) → AnswersExactly (OpenSpan lane attrs) f memory s (answer.Refused e) after
-    refused_exactly e r a = let d = by_metadata f s lane m (metadata_of attrs) pass memory after (Ok true) same a in record { answers = inr ((d.0, unvetoed f (metadata_of attrs) s.store lane pass orderly d.1), r); keeps = inr d.2 }
+    pub refused_exactly : (e : TraceError) → RefusesNew s lane (asked_parent attrs) e → IsAdmitted memory f s lane m pass after (Ok true) → AnswersWith (OpenSpan lane attrs) memory f s (answer.Refused e) after
+    refused_exactly e r a = inr ((by_metadata f s lane m (metadata_of attrs) pass memory after (Ok true) same a).0, r)
 
   -- ---- events
-
-  pub event_dropped : (lane : Lane) (e : Event) (m : Metadata) (pass : Pass) (f : Form) (x : S) → m ≡ event_metadata e → Decides f (registry x).store lane m pass (Ok false) → Honest f x → Done laws with_own levelled (SendEvent lane e) answer.Dropped f x x
-  event_dropped lane e m pass f x same a h = by_none laws with_own levelled (SendEvent lane e) answer.Dropped f x x h refl refl (inl (decided f (registry x).store lane m (event_metadata e) pass (Ok false) same a))
-
-  pub event_unmade : (lane : Lane) (e : Event) (error : TraceError) (f : Form) (x : S) → Honest f x → Done laws with_own levelled (SendEvent lane e) (answer.Refused error) f x x
-  event_unmade lane e error f x h = by_none laws with_own levelled (SendEvent lane e) (answer.Refused error) f x x h refl refl tt
 
   wanted_or_vetoed : (f : Form) (x : S) (lane : Lane) (e : Event) (before pass : Pass) (said : Bool) → Honest f x → AnswersEvent registry has_form x lane e before said pass → said ≡ not (vetoes_event f e (registry x).store lane.0)
   wanted_or_vetoed f x lane e before pass said h a = (a f h.has).answer ∙ event_unless_vetoed f e (registry x).store lane.0 (refusals before) (rules_of f _ h.rules).orderly
 
-  vetoed_so : (f : Form) (x : S) (lane : Lane) (e : Event) (first second : Pass) (wanted : Bool) → wanted ≡ false → AnswersEvent registry has_form x lane e first wanted second → Honest f x → vetoes_event f e (registry x).store lane.0 ≡ true
-  vetoed_so f x lane e first second wanted no_one b h = not_false _ (sym (wanted_or_vetoed f x lane e first second wanted h b) ∙ no_one)
-
-  pub event_vetoed : (lane : Lane) (e : Event) (first second : Pass) (wanted : Bool) (f : Form) (x : S) → wanted ≡ false → AnswersEvent registry has_form x lane e first wanted second → Honest f x → Done laws with_own levelled (SendEvent lane e) answer.Dropped f x x
-  event_vetoed lane e first second wanted f x no_one b h = by_none laws with_own levelled (SendEvent lane e) answer.Dropped f x x h refl refl (inr (vetoed_so f x lane e first second wanted no_one b h))
-
-  pub event_made : (lane : Lane) (e : Event) (m : Metadata) (first second : Pass) (wanted : Bool) (f : Form) (x y : S) → m ≡ event_metadata e → Decides f (registry x).store lane m first (Ok true) → wanted ≡ true
+  pub event_made : (lane : Lane) (e : Event) (m : Metadata) (first second : Pass) (wanted : Bool) (f : Form) (x y : S) → m ≡ event_metadata e → asked f m (registry x).store lane.0 no_filter no_filter ≡ (true, refusals first) → wanted ≡ true
       → AnswersEvent registry has_form x lane e first wanted second → Notifies registry has_form stepped lane (refusals second) (OnEvent e) Stays x y → Honest f x → Done laws with_own levelled (SendEvent lane e) answer.Done f x y
   event_made lane e m first second wanted f x y same a agreed b n h =
       let s = (registry x).store in
-      let d = decided f s lane m (event_metadata e) first (Ok true) same a in
+      let d = subst (λ n. asked f n s lane.0 no_filter no_filter ≡ (true, refusals first)) same a in
       let unvetoed_now = not_true _ (sym (wanted_or_vetoed f x lane e first second wanted h b) ∙ agreed) in
       let asked_first = (asked f (event_metadata e) s lane.0 no_filter no_filter).1 in
       let true_of_all = event_unless_vetoed f e s lane.0 asked_first (rules_of f _ h.rules).orderly ∙ ap not unvetoed_now in
@@ -215,29 +173,36 @@ module _ {S : Type 0} {registry : S → RegistryState} {with_registry : S → Re
       let refused : refusals second ≡ (event_asked f e s lane.0 no_filter asked_first).1 =
       (b f h.has).refused ∙ ap (λ r. (event_asked f e s lane.0 no_filter r).1) (sym (ap (λ (p : Bool × FilterSet). p.1) d)) in
       let plan = subst (λ r. by_pass f (OnEvent e) n.left.store.spans no_filter r ≡ asked_afresh f (OnEvent e) s lane.0 no_filter) (sym refused) (law n.left.store.spans) in
-      by_call laws with_own levelled (SendEvent lane e) answer.Done f lane (OnEvent e) (refusals second) _ x y h refl (or_both_false _ _ (unvetoed f (event_metadata e) s lane first (rules_of f _ h.rules).orderly d) unvetoed_now) n plan (stays_to f lane (OnEvent e) (registry x) n.left refl refl (λ r. refl) n.taken)
+      by_call laws with_own levelled (SendEvent lane e) answer.Done f lane (OnEvent e) (refusals second) _ x y h refl n plan (stays_to f lane (OnEvent e) (registry x) n.left refl refl (λ r. refl) n.taken)
 
   -- and exactly so
   module _ (f : Form) (memory after : KeptCallsites) (x : S) (lane : Lane) (e : Event) (m : Metadata) (first : Pass) (same : m ≡ event_metadata e) (h : Honest f x) where
-    pub event_dropped_exactly : IsAdmitted memory f (registry x) lane m first after (Ok false) → AnswersExactly (SendEvent lane e) f memory (registry x) answer.Dropped after
-    event_dropped_exactly a = let d = by_metadata f (registry x) lane m (event_metadata e) first memory after (Ok false) same a in record { answers = dropped_whole d.0; keeps = d.1 }
+    -- what is wanted by its metadata is wanted where no leaf vetoes the event itself
+    decided_whole : (said wanted : Bool) → IsDecided memory f (registry x) lane (event_metadata e) (vetoes f (event_metadata e) (registry x).store lane.0) said after → wanted ≡ said && not (vetoes_event f e (registry x).store lane.0)
+        → IsDecided memory f (registry x) lane (event_metadata e) (vetoes_whole f e (registry x).store lane) wanted after
+    decided_whole said wanted d so = record { agrees = d.agrees; wanted = so ∙ ap (λ b. b && not (vetoes_event f e (registry x).store lane.0)) d.wanted ∙ neither _ _ _; unwanted = d.unwanted; learned = d.learned }
       where
-        -- an event whose metadata are dropped is dropped
-        dropped_whole : IsDropped memory f (registry x) lane (event_metadata e) (vetoes f (event_metadata e) (registry x).store lane.0) → IsDropped memory f (registry x) lane (event_metadata e) (vetoes_whole f e (registry x).store lane)
-        dropped_whole (inl d) = inl d
-        dropped_whole (inr d) = inr (d.0, or_left_true _ _ d.1)
+        neither : (a b c : Bool) → (a && not b) && not c ≡ a && not (b || c)
+        neither true true c = refl
+        neither true false c = refl
+        neither false b c = refl
 
-    pub event_unknown_exactly : (error : TraceError) → IsAdmitted memory f (registry x) lane m first after (Err error) → AnswersExactly (SendEvent lane e) f memory (registry x) (answer.Refused error) after
-    event_unknown_exactly error a = let d = by_metadata f (registry x) lane m (event_metadata e) first memory after (Err error) same a in record { answers = d.0; keeps = d.1 }
+    pub event_dropped_exactly : IsAdmitted memory f (registry x) lane m first after (Ok false) → AnswersWith (SendEvent lane e) memory f (registry x) answer.Dropped after
+    event_dropped_exactly a = decided_whole false false (by_metadata f (registry x) lane m (event_metadata e) first memory after (Ok false) same a).0 refl
 
-    pub event_vetoed_exactly : (second : Pass) (wanted : Bool) → wanted ≡ false → AnswersEvent registry has_form x lane e first wanted second → IsAdmitted memory f (registry x) lane m first after (Ok true) → AnswersExactly (SendEvent lane e) f memory (registry x) answer.Dropped after
-    event_vetoed_exactly second wanted no_one b a =
-        let d = by_metadata f (registry x) lane m (event_metadata e) first memory after (Ok true) same a in record { answers = inr (d.0, or_right_true _ _ (vetoed_so f x lane e first second wanted no_one b h)); keeps = d.2 }
+    pub event_unknown_exactly : (error : TraceError) → IsAdmitted memory f (registry x) lane m first after (Err error) → AnswersWith (SendEvent lane e) memory f (registry x) (answer.Refused error) after
+    event_unknown_exactly error a = by_metadata f (registry x) lane m (event_metadata e) first memory after (Err error) same a
 
-    pub event_made_exactly : (second : Pass) (wanted : Bool) → wanted ≡ true → AnswersEvent registry has_form x lane e first wanted second → IsAdmitted memory f (registry x) lane m first after (Ok true) → AnswersExactly (SendEvent lane e) f memory (registry x) answer.Done after
-    event_made_exactly second wanted agreed b a =
-        let d = by_metadata f (registry x) lane m (event_metadata e) first memory after (Ok true) same a in
-        record { answers = (d.0, or_both_false _ _ (unvetoed f (event_metadata e) (registry x).store lane first (rules_of f _ h.rules).orderly d.1) (not_true _ (sym (wanted_or_vetoed f x lane e first second wanted h b) ∙ agreed))); keeps = d.2 }
+    -- let by by its metadata, and then by what the layers say of it
+    event_asked_exactly : (second : Pass) (wanted : Bool) → AnswersEvent registry has_form x lane e first wanted second → IsAdmitted memory f (registry x) lane m first after (Ok true)
+        → IsDecided memory f (registry x) lane (event_metadata e) (vetoes_whole f e (registry x).store lane) wanted after
+    event_asked_exactly second wanted b a = decided_whole true wanted (by_metadata f (registry x) lane m (event_metadata e) first memory after (Ok true) same a).0 (wanted_or_vetoed f x lane e first second wanted h b)
+
+    pub event_vetoed_exactly : (second : Pass) (wanted : Bool) → wanted ≡ false → AnswersEvent registry has_form x lane e first wanted second → IsAdmitted memory f (registry x) lane m first after (Ok true) → AnswersWith (SendEvent lane e) memory f (registry x) answer.Dropped after
+    event_vetoed_exactly second wanted no_one b a = subst (λ w. IsDecided memory f (registry x) lane (event_metadata e) (vetoes_whole f e (registry x).store lane) w after) no_one (event_asked_exactly second wanted b a)
+
+    pub event_made_exactly : (second : Pass) (wanted : Bool) → wanted ≡ true → AnswersEvent registry has_form x lane e first wanted second → IsAdmitted memory f (registry x) lane m first after (Ok true) → AnswersWith (SendEvent lane e) memory f (registry x) answer.Done after
+    event_made_exactly second wanted agreed b a = subst (λ w. IsDecided memory f (registry x) lane (event_metadata e) (vetoes_whole f e (registry x).store lane) w after) agreed (event_asked_exactly second wanted b a)
 
   -- ---- enters, exits, and what else is said of a span
 
@@ -246,45 +211,39 @@ module _ {S : Type 0} {registry : S → RegistryState} {with_registry : S → Re
       → by_pass f e spans no_filter no_filter ≡ asked_afresh f e (registry x).store lane.0 no_filter
   kept_plan f e x lane spans same law = ap (λ v. by_pass f e v no_filter no_filter) same ∙ law
 
-  -- an open span isn't entered for want of memory alone
-  no_memory : (s : RegistryState) (id : Id) (e : TraceError) → RefusesEnter s id e → IsOpen s.store.spans (number_of id) → e ≡ OutOfMemory
-  no_memory s id OutOfMemory r o = refl
-  no_memory s id (UnknownSpan y) r o = absurd (r.1 o)
-  no_memory s id other r o = absurd r
-
-  pub entered_so : (lane : Lane) (id : Id) (r : Result (Unit {0}) TraceError) (f : Form) (x y : S) → OnOk r (Notifies registry has_form stepped lane no_filter (OnEnter id) (Enters lane id) x y) → IfErr r (RefusesEnter (registry x) id) → OnErr r (y ≡ x)
+  pub entered_so : (lane : Lane) (id : Id) (r : Result (Unit {0}) TraceError) (f : Form) (x y : S) → OnOk r (Notifies registry has_form stepped lane no_filter (OnEnter id) (Enters lane id) x y) → IfErr r (RefusesEnter (registry x) lane id) → OnErr r (y ≡ x)
       → Honest f x → Done laws with_own levelled (Enter lane id) (done_answer r) f x y
   entered_so lane id (Ok u) f x y n r e h =
-      by_call laws with_own levelled (Enter lane id) answer.Done f lane (OnEnter id) no_filter _ x y h refl tt
+      by_call laws with_own levelled (Enter lane id) answer.Done f lane (OnEnter id) no_filter _ x y h refl
       n (kept_plan f (OnEnter id) x lane _ (ap (λ (t : RegistryState). t.store.spans) n.taken.state) (others_afresh f (OnEnter id) (registry x).store lane.0 no_filter no_filter)) (enters_to f lane id (registry x) n.left n.taken)
-  entered_so lane id (Err error) f x y n r e h = by_none laws with_own levelled (Enter lane id) (answer.Refused error) f x y h e refl (λ o. no_memory (registry x) id error r o)
+  entered_so lane id (Err error) f x y n r e h = by_none laws with_own levelled (Enter lane id) (answer.Refused error) f x y h e refl
 
-  pub enter_exactly : {A : Type 0} (lane : Lane) (id : Id) (r : Result A TraceError) (f : Form) (memory : KeptCallsites) (s : RegistryState) → IfErr r (RefusesEnter s id) → AnswersExactly (Enter lane id) f memory s (done_answer r) memory
-  enter_exactly lane id (Ok u) f memory s r = record { answers = tt; keeps = refl }
-  enter_exactly lane id (Err e) f memory s r = record { answers = r; keeps = refl }
+  pub enter_exactly : {A : Type 0} (lane : Lane) (id : Id) (r : Result A TraceError) (f : Form) (memory : KeptCallsites) (s : RegistryState) → IfErr r (RefusesEnter s lane id) → AnswersWith (Enter lane id) memory f s (done_answer r) memory
+  enter_exactly lane id (Ok u) f memory s r = (refl, tt)
+  enter_exactly lane id (Err e) f memory s r = (refl, r)
 
   pub left_so : (lane : Lane) (id : Id) (f : Form) (x y : S) → IsOpen (registry x).store.spans (number_of id) → Notifies registry has_form stepped lane no_filter (OnExit id) (Exits lane id) x y → Honest f x → Done laws with_own levelled (Exit lane id) answer.Done f x y
   left_so lane id f x y there n h =
-      by_call laws with_own levelled (Exit lane id) answer.Done f lane (OnExit id) no_filter _ x y h (record { there = λ o. refl; gone = λ shut. absurd (shut there) }) tt
+      by_call laws with_own levelled (Exit lane id) answer.Done f lane (OnExit id) no_filter _ x y h (record { there = λ o. refl; gone = λ shut. absurd (shut there) })
       n (kept_plan f (OnExit id) x lane _ (ap (λ (t : RegistryState). t.store.spans) n.taken) (others_afresh f (OnExit id) (registry x).store lane.0 no_filter no_filter)) (leaves_to f lane id (registry x) n.left there n.taken)
 
   pub gone_so : ((s : S) (w : RegistryState) → registry (with_registry s w) ≡ w) → (lane : Lane) (id : Id) (f : Form) (x : S) (w : RegistryState) → ¬ (IsOpen (registry x).store.spans (number_of id)) → Exits lane id (registry x) w → Honest f x
       → Done laws with_own levelled (Exit lane id) answer.Done f x (with_registry x w)
   gone_so registry_with lane id f x w shut e h =
-      by_change laws with_own levelled (Exit lane id) answer.Done f (GoneLeft lane id) x (with_registry x w) h (record { there = λ o. absurd (shut o); gone = λ s. refl }) tt
+      by_change laws with_own levelled (Exit lane id) answer.Done f (GoneLeft lane id) x (with_registry x w) h (record { there = λ o. absurd (shut o); gone = λ s. refl })
       (exited (registry x).store lane.0 (number_of id)) (shut, refl) (registry_with x w ∙ e) (its_own laws with_own levelled registry_with x w) (filters_same (registry_with x w ∙ e))
       (λ s. subst (λ (t : RegistryState). HasNoClosing t.store.spans) (sym (registry_with x w)) (subst HasNoClosing (sym (ap (λ (t : RegistryState). t.store.spans) e)) s))
 
   pub recorded_so : (lane : Lane) (id : Id) (values : Record) (f : Form) (x y : S) → IsOpen (registry x).store.spans (number_of id) → Notifies registry has_form stepped lane no_filter (OnRecord id values) Stays x y → Honest f x
       → Done laws with_own levelled (RecordValues lane id values) answer.Done f x y
   recorded_so lane id values f x y there n h =
-      by_call laws with_own levelled (RecordValues lane id values) answer.Done f lane (OnRecord id values) no_filter _ x y h refl tt
+      by_call laws with_own levelled (RecordValues lane id values) answer.Done f lane (OnRecord id values) no_filter _ x y h refl
       n (kept_plan f (OnRecord id values) x lane _ (ap (λ (t : RegistryState). t.store.spans) n.taken) (others_afresh f (OnRecord id values) (registry x).store lane.0 no_filter no_filter)) (stays_to f lane (OnRecord id values) (registry x) n.left (there, refl) refl (λ r. refl) n.taken)
 
   pub followed_so : (lane : Lane) (id other : Id) (f : Form) (x y : S) → IsOpen (registry x).store.spans (number_of id) → Notifies registry has_form stepped lane no_filter (OnFollows id other) Stays x y → Honest f x
       → Done laws with_own levelled (Follow lane id other) answer.Done f x y
   followed_so lane id other f x y there n h =
-      by_call laws with_own levelled (Follow lane id other) answer.Done f lane (OnFollows id other) no_filter _ x y h refl tt
+      by_call laws with_own levelled (Follow lane id other) answer.Done f lane (OnFollows id other) no_filter _ x y h refl
       n (kept_plan f (OnFollows id other) x lane _ (ap (λ (t : RegistryState). t.store.spans) n.taken) (others_afresh f (OnFollows id other) (registry x).store lane.0 no_filter no_filter)) (stays_to f lane (OnFollows id other) (registry x) n.left (there, refl) refl (λ r. refl) n.taken)
 
   -- ---- handles
@@ -292,20 +251,20 @@ module _ {S : Type 0} {registry : S → RegistryState} {with_registry : S → Re
   pub cloned_so : (lane : Lane) (id : Id) (r : Result Id TraceError) (f : Form) (x y : S) → OnOk r (Clones id (registry x) (registry y)) → y ≡ with_registry x (registry y) → IfErr r (RefusesClone (registry x) id) → OnErr r (y ≡ x)
       → Honest f x → Done laws with_own levelled (AddHandle lane id) (done_answer r) f x y
   cloned_so lane id (Ok other) f x y n rest r e h =
-      by_change laws with_own levelled (AddHandle lane id) answer.Done f (HandleAdded id) x y h refl tt
+      by_change laws with_own levelled (AddHandle lane id) answer.Done f (HandleAdded id) x y h refl
       (record (registry x).store { spans = add_handle (registry x).store.spans (number_of id) }) (n.is_open, refl) n.state rest (filters_same n.state) (settled_cloned id (registry x) (registry y) n)
-  cloned_so lane id (Err error) f x y n rest r e h = by_none laws with_own levelled (AddHandle lane id) (answer.Refused error) f x y h e refl tt
+  cloned_so lane id (Err error) f x y n rest r e h = by_none laws with_own levelled (AddHandle lane id) (answer.Refused error) f x y h e refl
 
-  pub clone_exactly : (lane : Lane) (id : Id) (r : Result Id TraceError) (f : Form) (memory : KeptCallsites) (s : RegistryState) → IfOk r (λ other. handles_of s.store.spans (number_of id) < s.limits.count) → IfErr r (RefusesClone s id) → AnswersExactly (AddHandle lane id) f memory s (done_answer r) memory
-  clone_exactly lane id (Ok other) f memory s room r = record { answers = room; keeps = refl }
-  clone_exactly lane id (Err e) f memory s room r = record { answers = r; keeps = refl }
+  pub clone_exactly : (lane : Lane) (id : Id) (r : Result Id TraceError) (f : Form) (memory : KeptCallsites) (s : RegistryState) → IfOk r (λ other. handles_of s.store.spans (number_of id) < s.limits.count) → IfErr r (RefusesClone s id) → AnswersWith (AddHandle lane id) memory f s (done_answer r) memory
+  clone_exactly lane id (Ok other) f memory s room r = (refl, room)
+  clone_exactly lane id (Err e) f memory s room r = (refl, r)
 
   pub still_open_so : ((s : S) (w : RegistryState) → registry (with_registry s w) ≡ w) → (lane : Lane) (id : Id) (a : Released) (f : Form) (x : S) (w : RegistryState) → Releases id a (registry x) w → a ≡ StillOpen → IsForest (registry x).store.spans → Ready f x
       → Done laws with_own levelled (DropHandle lane id) (answer.Yes false) f x (with_registry x w)
   still_open_so registry_with lane id a f x w r same forest h =
       let drops = drops_open forest h.settled r same in
       by_change laws with_own levelled (DropHandle lane id) (answer.Yes false) f (HandleTaken id) x (with_registry x w) h.honest
-      (record { closed = []; exact = drops.closes; outcomes = refl; itself = (λ t. absurd (true≢false (sym t)), λ n. absurd n) }) tt
+      (record { closed = []; exact = drops.closes; outcomes = refl; itself = (λ t. absurd (true≢false (sym t)), λ n. absurd n) })
       (record (registry x).store { spans = take_handle (registry x).store.spans (number_of id) }) (r.held, refl) (registry_with x w ∙ r.state) (its_own laws with_own levelled registry_with x w) (filters_same (registry_with x w ∙ r.state))
       (λ s. subst (λ (t : RegistryState). HasNoClosing t.store.spans) (sym (registry_with x w)) (settled_still s r same))
 
@@ -330,7 +289,6 @@ module _ {S : Type 0} {registry : S → RegistryState} {with_registry : S → Re
           record {
             says = record { closed = k.closed; exact = drops.closes; outcomes = ap (λ os. Quiet (HandleTaken id) ∷ os) notices.2; itself = (λ _. itself, λ _. refl) };
             goes = (z, changed laws with_own levelled f (HandleTaken id) x z t h.honest (r.held, refl) (registry_with x w ∙ r.state) rest, notices.1);
-            reason = tt;
           },
         ),
         λ s. (notices.3.0, record { honest = notices.3.1; settled = settled_closed (registry x) (registry y) id k.closed all }, keeps_again f after.0 notices.3.0 after.2 notices.3.2, notices.3.3 ∙ after.3),
@@ -381,7 +339,7 @@ module _ {S : Type 0} {registry : S → RegistryState} {with_registry : S → Re
               given = n.taken;
               notified = z;
               layers = subst (λ p. stepped y p (OnClose span) lane.0 n.left z (registry z)) plan (n.notified g before.3.1.has (rules_of g _ before.3.1.rules).still);
-              hooks = n.extensions;
+              hooks = with_others n.extensions;
               ends = ended_by span (registry z) (registry u) removes.taken;
               rest = ap (λ t. with_registry z t) (sym (registry_with z w));
             } in

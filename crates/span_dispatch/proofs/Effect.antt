@@ -9,22 +9,25 @@ use Rattle.span_core.specs.Filters.{FilterSet}
 use Rattle.span_core.specs.Span.{number_of}
 use Rattle.span_core.specs.declared.level.LevelFilter.{LevelFilter}
 use Rattle.span_core.specs.declared.span.Lane.{Lane}
-use Rattle.span_dispatch.proofs.Acting.{acting_numbers, none_within, one_alone, step_over, steps_agree}
+use Rattle.span_dispatch.proofs.Acting.{acting_numbers, alone_over, none_within, one_alone, paths_itself, step_over, steps_agree}
 use Rattle.span_dispatch.proofs.Alone.{agree_same, steps_alone}
 use Rattle.span_dispatch.proofs.Goes.{left_aside}
 use Rattle.span_dispatch.specs.Alone.{Alone, acting, form_of_path, passed_at}
-use Rattle.span_dispatch.specs.Call.{AddHandle, AskCurrent, Call, DropHandle, Enter, Exit, Follow, OpenSpan, Probe, RecordValues, SendEvent, SetLevel, closes_of}
+use Rattle.span_dispatch.specs.Call.{closes_of}
+use Rattle.span_dispatch.specs.declared.call.Call.TheVariants.{AddHandle, AskCurrent, DropHandle, Enter, Exit, Follow, OpenSpan, Probe, RecordValues, SendEvent, SetLevel}
+use Rattle.span_dispatch.specs.declared.call.Call.{Call}
 use Rattle.span_dispatch.specs.Effect.{AloneOf, Effect, GoesThrough, HasOutcomes, MadeCall, NoAnswer, NoEffect, OfDrop, OfExit, OneOutcome, OutcomesFrom, OutcomesOf, concerns, effect_of, is_concern}
 use Rattle.span_dispatch.specs.Isolation.{HasSameOutcomes, HaveSameOutcomes, SeeTheSame, SeenAlone, SeesCalls, Sight}
 use Rattle.span_dispatch.specs.Outcome.{HandleTaken, LevelSet, OutcomeAt, Makes, Noticed, Outcome, Quiet, Steps}
-use Rattle.span_dispatch.specs.Serve.{Run, TellsAsked, call_of, flat, made_call, made_calls, outcome_of, stack_of}
+use Rattle.span_dispatch.specs.Cache.{KeptCallsites}
+use Rattle.span_dispatch.specs.Serve.{Run, ServesAsked, call_of, flat, kept_by, made_call, made_calls, outcome_of, stack_of}
 use Rattle.span_dispatch.specs.declared.request.Answer.TheVariants as answer
 use Rattle.span_dispatch.specs.declared.request.Answer.{Answer}
 use Rattle.span_dispatch.specs.declared.request.Request.{Request}
 use Rattle.span_registry.proofs.Agreeing.{agree_refl, agree_sym, agree_trans, agree_within, closes_alike, not_open_alike, open_alike}
 use Rattle.span_registry.specs.Agree.{AgreeAt}
 use Rattle.span_registry.specs.Closes.{Closes}
-use Rattle.span_registry.specs.Conducts.{ActsAt, Conducts, after_level, filter_numbered, numbers_in, setting}
+use Rattle.span_registry.specs.Conducts.{ActsAt, Conducts, after_level, filter_numbered, numbers_in, setting, StackPathLaws}
 use Rattle.span_registry.specs.Form.{Form}
 use Rattle.span_registry.specs.Hooks.{StackSteps, no_filter}
 use Rattle.span_registry.specs.Levels.{LevelSteps}
@@ -37,7 +40,7 @@ use Rattle.span_registry.specs.Store.{IsClosing, IsInStore, IsOpen, RegistryStat
 either_way : {P : Type 0} → P ↔ P
 either_way = ((λ h. h), (λ h. h))
 
-in_effect : (call : Call) (a : Answer) (s : Store) (os : List Outcome) → OutcomesOf call a s os ↔ HasOutcomes (effect_of call a) s os
+pub in_effect : (call : Call) (a : Answer) (s : Store) (os : List Outcome) → OutcomesOf call a s os ↔ HasOutcomes (effect_of call a) s os
 in_effect (OpenSpan lane x) (answer.Made y) s os = either_way
 in_effect (OpenSpan lane x) answer.Dropped s os = either_way
 in_effect (OpenSpan lane x) (answer.Refused y) s os = either_way
@@ -250,26 +253,26 @@ module _ {S : Type 0} (registry : S → RegistryState) (with_registry : S → Re
       let both : filter (concerns numbers) (all ++ os) ≡ filter (concerns numbers) os = filter-append (concerns numbers) all os ∙ ap (λ us. us ++ filter (concerns numbers) os) none in
       subst (λ (us : List Outcome). OutcomesFrom s calls us) (sym both) (subst (λ (u : Store). OutcomesFrom u calls (filter (concerns numbers) os)) (sym same) rest)
 
-  asked_calls : (numbers : FilterSet) (o : Option Call) (x : S) (a : Answer) (ms : List OutcomeAt) (y : S) (os : List Outcome) (calls : List MadeCall) → TellsAsked registry with_registry has_form stepped levelled o x a ms y
+  asked_calls : (numbers : FilterSet) (o : Option Call) (kept : KeptCallsites) (x : S) (a : Answer) (ms : List OutcomeAt) (after : KeptCallsites) (y : S) (os : List Outcome) (calls : List MadeCall) → ServesAsked registry with_registry has_form stepped levelled o kept x a ms after y
       → OutcomesFrom (registry y).store calls (filter (concerns numbers) os) → OutcomesFrom (registry x).store (made_call numbers o a ++ calls) (filter (concerns numbers) (map outcome_of ms ++ os))
-  asked_calls numbers None x a ms y os calls h rest =
+  asked_calls numbers None kept x a ms after y os calls h rest =
       subst (λ (ns : List OutcomeAt). OutcomesFrom (registry x).store calls (filter (concerns numbers) (map outcome_of ns ++ os))) (sym h.1)
-      (subst (λ (z : S). OutcomesFrom (registry z).store calls (filter (concerns numbers) os)) h.2 rest)
-  asked_calls numbers (Some call) x a ms y os calls h rest =
+      (subst (λ (z : S). OutcomesFrom (registry z).store calls (filter (concerns numbers) os)) h.3 rest)
+  asked_calls numbers (Some call) kept x a ms after y os calls h rest =
       let own = folds_bare x ms y h.2.goes in
       let through = through_concerning numbers (map outcome_of ms) (registry x).store own.0 own.1 in
       let on = outcomes_over calls (registry y).store own.0 (filter (concerns numbers) os) own.2 rest in
       by_concern numbers call a (registry x).store own.0 (map outcome_of ms) os calls (is_concern numbers (effect_of call a)) refl ((in_effect call a (registry x).store (map outcome_of ms)).0 h.2.says) through on
 
   -- what was made in a run is what its made calls have by themselves, as far as it concerns filters of these numbers
-  pub run_calls : (past : List Answer) (rs : List Request) (answers : List Answer) (made : List (List OutcomeAt)) (x y : S) (numbers : FilterSet) → Run registry with_registry has_form stepped levelled past rs answers made x y
+  pub run_calls : (past : List Answer) (rs : List Request) (answers : List Answer) (made : List (List OutcomeAt)) (kept : KeptCallsites) (x : S) (after : KeptCallsites) (y : S) (numbers : FilterSet) → Run registry with_registry has_form stepped levelled past rs answers made kept x after y
       → OutcomesFrom (registry x).store (made_calls numbers past rs answers) (filter (concerns numbers) (map outcome_of (flat made)))
-  run_calls past [] [] [] x y numbers h = refl
-  run_calls past (q ∷ rs) (b ∷ answers) (ms ∷ made) x y numbers h =
-      let rest = run_calls (past ++ (b ∷ [])) rs answers made h.0 y numbers h.2 in
+  run_calls past [] [] [] kept x after y numbers h = refl
+  run_calls past (q ∷ rs) (b ∷ answers) (ms ∷ made) kept x after y numbers h =
+      let rest = run_calls (past ++ (b ∷ [])) rs answers made h.0 h.1 after y numbers h.3 in
       subst (λ (os : List Outcome). OutcomesFrom (registry x).store (made_calls numbers past (q ∷ rs) (b ∷ answers)) (filter (concerns numbers) os)) (sym (map-append outcome_of ms (flat made)))
-      (asked_calls numbers (call_of past q) x b ms h.0 (map outcome_of (flat made)) (made_calls numbers (past ++ (b ∷ [])) rs answers) h.1 rest)
-  run_calls past other rest made x y numbers h = absurd h
+      (asked_calls numbers (call_of past q) kept x b ms h.0 h.1 (map outcome_of (flat made)) (made_calls numbers (past ++ (b ∷ [])) rs answers) h.2 rest)
+  run_calls past other rest made kept x after y numbers h = absurd h
 
 -- ---- what a leaf sees of calls
 
@@ -298,7 +301,8 @@ alone_concerning numbers cs s (LevelSet n l ∷ os) h e a =
     level_concerning (numbers n) numbers cs s n l os h (λ none. setting_other n l cs ((λ i. e i n) ∙ none)) a
     (alone_concerning numbers (setting n l cs) a.0 os a.1 (acting_numbers cs (LevelSet n l) s a.0 ∙ e) a.3)
 
-module _ {S : Type 0} (registry : S → RegistryState) (with_registry : S → RegistryState → S) (has_form : S → Form → Type 0) (stepped : StackSteps S) (levelled : LevelSteps S) (hears : HearSteps S) (acts_at : ActsAt S) where
+module _ {S : Type 0} (registry : S → RegistryState) (with_registry : S → RegistryState → S) (has_form : S → Form → Type 0) (stepped : StackSteps S) (levelled : LevelSteps S) (hears : HearSteps S) (acts_at : ActsAt S) {registered : S → S → Type 0}
+    (paths : StackPathLaws with_registry has_form stepped registered acts_at) where
   -- what a leaf sees of served requests it sees of their made calls alone
   pub seen_calls : SeenAlone (SeesCalls registry with_registry has_form stepped levelled hears acts_at) AloneOf
   seen_calls cs s t calls h m agree =
@@ -307,9 +311,9 @@ module _ {S : Type 0} (registry : S → RegistryState) (with_registry : S → Re
       let os = map outcome_of (flat m.served.made) in
       let os_here = filter (concerns numbers) os in
       let near : AgreeAt numbers u t = subst (λ (v : Store). AgreeAt numbers v t) (sym m.at_store) agree in
-      let own = subst (λ (ks : List MadeCall). OutcomesFrom u ks os_here) m.at_calls (run_calls registry with_registry has_form stepped levelled [] m.requests m.answers m.served.made (stack_of m.old) (stack_of m.new) numbers m.served.run) in
+      let own = subst (λ (ks : List MadeCall). OutcomesFrom u ks os_here) m.at_calls (run_calls registry with_registry has_form stepped levelled [] m.requests m.answers m.served.made (kept_by m.old) (stack_of m.old) (kept_by m.new) (stack_of m.new) numbers m.served.run) in
       let bare = agree_within numbers no_filter u t (none_within numbers) near in
-      let alone = alone_concerning numbers cs t os (passed_at m.position (flat m.served.made)) refl (m.served.alone m.position cs t m.acts near) in
+      let alone = alone_concerning numbers cs t os (passed_at m.position (flat m.served.made)) refl (alone_over cs cs u t os (passed_at m.position (flat m.served.made)) (paths_itself cs (paths.plain (stack_of m.old) m.position cs m.acts)) near (m.served.alone m.position cs m.acts)) in
       (os_here, outcomes_over calls u t os_here bare own, subst (λ (k : Heard). Alone cs t os_here k) m.sees alone)
 
   -- so where what is seen of calls alone is fixed, it is the same

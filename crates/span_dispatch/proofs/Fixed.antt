@@ -3,10 +3,10 @@ use Rattle.std.proofs.Common.{◌≡◌, ℕ, List, [], ◌∷◌, ◌++◌, Opt
 use Rattle.std.specs.List.{FoldsTo}
 use Rattle.span_core.specs.declared.level.LevelFilter.{LevelFilter}
 use Rattle.span_dispatch.specs.Cache.{KeptCallsites}
-use Rattle.span_dispatch.specs.Call.{Call}
+use Rattle.span_dispatch.specs.declared.call.Call.{Call}
 use Rattle.span_dispatch.specs.Fixed.{Formed, set_at}
 use Rattle.span_dispatch.specs.Outcome.{IsHonest, LayersGo, LevelSet, OutcomeAt, Makes, Noticed, Outcome, Quiet}
-use Rattle.span_dispatch.specs.Serve.{RunExactly, ServesAsked, call_of}
+use Rattle.span_dispatch.specs.Serve.{Run, ServesAsked, call_of}
 use Rattle.span_dispatch.specs.declared.request.Answer.{Answer}
 use Rattle.span_dispatch.specs.declared.request.Request.{Request}
 use Rattle.span_registry.specs.Behaviour.{Notice}
@@ -52,8 +52,8 @@ module _ {S : Type 0} (registry : S → RegistryState) (with_registry : S → Re
     subst (λ z. Stays z f) (sym n.rest) (aside n.notified f (registry y) (goes x f _ e lane.0 n.left n.notified (registry n.notified) n.layers stays)),
     record { left = n.left; given = n.given; notified = (registry n.notified, f); layers = refl; hooks = n.hooks; ends = n.ends; rest = refl },
   )
-  stays_on g (Quiet c) s t f x y stays quiet = (f, subst (λ z. Stays z f) (sym quiet.rest) (aside x f (registry y) stays), record { store = quiet.store; rest = refl })
-  stays_on g (LevelSet n l) s t f x y stays q = (set_at n l f, set x f n l y q.goes stays, record { taken = q.taken; goes = refl; same = q.same })
+  stays_on g (Quiet c) s t f x y stays quiet = (f, subst (λ z. Stays z f) (sym quiet.1) (aside x f (registry y) stays), (quiet.0, refl))
+  stays_on g (LevelSet n l) s t f x y stays q = (set_at n l f, set x f n l y q.1 stays, (q.0, refl, q.2))
 
   -- so through all that is made
   abbrev StaysThrough : Form → S → List OutcomeAt → S → Type 0
@@ -72,12 +72,12 @@ module _ {S : Type 0} (registry : S → RegistryState) (with_registry : S → Re
   asked_in : (o : Option Call) (memory : KeptCallsites) (f : Form) (x : S) (a : Answer) (ms : List OutcomeAt) (after : KeptCallsites) (y : S) → Stays x f → ServesAsked registry with_registry has_form stepped levelled o memory x a ms after y → AskedIn o memory f x a ms after y
   asked_in None memory f x a ms after y stays h = (f, subst (λ z. Stays z f) (sym h.3) stays, (h.0, h.1, h.2, ap (λ z. (registry z, f)) h.3))
   asked_in (Some call) memory f x a ms after y stays h =
-      let all = through f x ms y stays h.2.told.goes in
-      (all.0, all.1, (h.0, record { honest = honest f h.0 x stays h.1.honest; settled = h.1.settled }, record { told = record { says = h.2.told.says; goes = all.2; reason = h.2.told.reason }; exact = h.2.exact }))
+      let all = through f x ms y stays h.2.goes in
+      (all.0, all.1, (h.0, record { honest = honest f h.0 x stays h.1.honest; settled = h.1.settled }, record { says = h.2.says; goes = all.2; answers = h.2.answers }))
 
   -- a run of such a stack is a run by its form
-  pub runs_by : (past : List Answer) (rs : List Request) (answers : List Answer) (made : List (List OutcomeAt)) (memory : KeptCallsites) (f : Form) (x : S) (after : KeptCallsites) (y : S) → Stays x f → RunExactly registry with_registry has_form stepped levelled past rs answers made memory x after y
-      → (g : Form) × Stays y g × RunExactly registry_in with_registry_in has_this steps_in levels_in past rs answers made memory (registry x, f) after (registry y, g)
+  pub runs_by : (past : List Answer) (rs : List Request) (answers : List Answer) (made : List (List OutcomeAt)) (memory : KeptCallsites) (f : Form) (x : S) (after : KeptCallsites) (y : S) → Stays x f → Run registry with_registry has_form stepped levelled past rs answers made memory x after y
+      → (g : Form) × Stays y g × Run registry_in with_registry_in has_this steps_in levels_in past rs answers made memory (registry x, f) after (registry y, g)
   runs_by past [] [] [] memory f x after y stays h = (f, subst (λ z. Stays z f) (sym h.1) stays, (h.0, ap (λ z. (registry z, f)) h.1))
   runs_by past (q ∷ rs) (b ∷ answers) (ms ∷ made) memory f x after y stays h =
       let one = asked_in (call_of past q) memory f x b ms h.0 h.1 stays h.2 in

@@ -1,20 +1,21 @@
 -- How an honest stack goes on: through a notice or a quiet change, after which it is honest; and how a call is served by one of these.
-use Rattle.std.proofs.Common.{false, ◌≡◌, ℕ, true, [], ◌∷◌, Option, refl, sym, ap, subst, ◌∙◌}
+use Rattle.std.proofs.Common.{◌≡◌, ℕ, true, List, [], ◌∷◌, map, Option, refl, sym, ap, subst, ◌∙◌}
 use Rattle.std.specs.FinMap.{remove}
+use Rattle.std.specs.List.{FoldsTo}
 use Rattle.std.specs.Option.{option_map}
-use Rattle.span_core.specs.declared.error.TraceError.TheVariants.{NotSettable}
 use Rattle.span_core.specs.declared.level.LevelFilter.{LevelFilter}
 use Rattle.span_core.specs.Filters.{FilterSet}
 use Rattle.span_core.specs.Span.{number_of}
 use Rattle.span_core.specs.declared.interest.Interest.{Interest}
 use Rattle.span_core.specs.declared.span.Id.{Id}
 use Rattle.span_core.specs.declared.span.Lane.{Lane}
-use Rattle.span_dispatch.specs.Admission.{KeepsSafely}
-use Rattle.span_dispatch.specs.Cache.{MatchesStack, IsUpToDate, forgotten, kept_in, no_callsite}
-use Rattle.span_dispatch.specs.Call.{Call, SetLevel}
+use Rattle.span_dispatch.specs.Cache.{KeptCallsites, MatchesStack, IsUpToDate, forgotten, kept_in, no_callsite}
+use Rattle.span_dispatch.specs.Call.{AnswersWith}
+use Rattle.span_dispatch.specs.declared.call.Call.{Call}
+use Rattle.span_dispatch.specs.declared.call.Call.TheVariants.{SetLevel}
 use Rattle.span_dispatch.specs.Effect.{OutcomesOf}
-use Rattle.span_dispatch.specs.Outcome.{Change, Ends, IsHonest, LayersGo, LevelSet, OutcomeAt, Makes, Noticed, Notices, Outcome, Quiet, Steps, given_in}
-use Rattle.span_dispatch.specs.Serve.{IsReady, IsReadyAfter, IsReadyWith, IsTold, HasReason, Tells, stack_of}
+use Rattle.span_dispatch.specs.Outcome.{Change, Ends, without_span, IsHonest, LayersGo, LevelSet, OutcomeAt, Makes, Noticed, Notices, Outcome, Quiet, Steps, given_in}
+use Rattle.span_dispatch.specs.Serve.{IsReady, IsReadyAfter, IsReadyBy, IsServed, stack_of}
 use Rattle.span_dispatch.specs.declared.cache.Cache.TheVariants as cache
 use Rattle.span_dispatch.specs.declared.cache.Cache.{Cache}
 use Rattle.span_dispatch.specs.declared.cache.Known.{Known}
@@ -70,33 +71,59 @@ pub record SameAside (s t : Store) : Type 0 where
 pub same_aside : (s t : Store) → t ≡ s → SameAside s t
 same_aside s t e = record { spans = ap (λ (u : Store). u.spans) e; issued = ap (λ (u : Store). u.issued) e; stacks = ap (λ (u : Store). u.stacks) e }
 
+-- hooks that leave all but extensions leave the same registry with other extensions
+pub with_others : {s t : RegistryState} → SameButExtensions s t → t ≡ record s { store = record s.store { extensions = t.store.extensions } }
+with_others {s} {t} h = λ i. record {
+  store = record { spans = h.spans i; extensions = t.store.extensions; issued = h.issued i; stacks = h.stacks i };
+  limits = h.limits i;
+  filters = h.filters i;
+  retired = h.retired i;
+  reserved = h.reserved i;
+}
+
 -- a notice ends in the store after its step, which hooks gave other extensions
-ended : (f : Form) (lane : Lane) (e : Notice) (s t : Store) (u v w : RegistryState) → Steps f (Noticed lane e) s t → u.store ≡ given_in e s t → SameButExtensions u v → Ends e v w → SameAside t w.store
-ended f lane (OnClose id) s t u v w steps given hooks ends =
+ended : (f : Form) (lane : Lane) (e : Notice) (s t : Store) (u v w : RegistryState) → Steps f (Noticed lane e) s t → u.store ≡ given_in e s t
+    → v ≡ record u { store = record u.store { extensions = v.store.extensions } } → Ends e v w → SameAside t w.store
+ended f lane (OnClose id) s t u v w steps given hooks closed =
+    let ends = closed.0 in
     let x = number_of id in record {
-      spans = ap (λ (r : RegistryState). r.store.spans) ends.0 ∙ ap (λ (m : Spans). remove m x) (hooks.spans ∙ ap (λ (r : Store). r.spans) given) ∙ sym (ap (λ (r : Store). r.spans) steps.1);
-      issued = ap (λ (r : RegistryState). r.store.issued) ends.0 ∙ hooks.issued ∙ ap (λ (r : Store). r.issued) given ∙ sym (ap (λ (r : Store). r.issued) steps.1);
-      stacks = ap (λ (r : RegistryState). r.store.stacks) ends.0 ∙ hooks.stacks ∙ ap (λ (r : Store). r.stacks) given ∙ sym (ap (λ (r : Store). r.stacks) steps.1);
+      spans = ap (λ (r : RegistryState). r.store.spans) ends ∙ ap (λ (m : Spans). remove m x) (ap (λ (r : RegistryState). r.store.spans) hooks ∙ ap (λ (r : Store). r.spans) given) ∙ sym (ap (λ (r : Store). r.spans) steps.1);
+      issued = ap (λ (r : RegistryState). r.store.issued) (ends ∙ ap (λ (r : RegistryState). record r { store = without_span r.store x; retired = w.retired }) hooks) ∙ ap (λ (r : Store). r.issued) given ∙ sym (ap (λ (r : Store). r.issued) steps.1);
+      stacks = ap (λ (r : RegistryState). r.store.stacks) (ends ∙ ap (λ (r : RegistryState). record r { store = without_span r.store x; retired = w.retired }) hooks) ∙ ap (λ (r : Store). r.stacks) given ∙ sym (ap (λ (r : Store). r.stacks) steps.1);
     }
 ended f lane other s t u v w steps given hooks ends = record {
-  spans = ap (λ (r : RegistryState). r.store.spans) ends ∙ hooks.spans ∙ ap (λ (r : Store). r.spans) given;
-  issued = ap (λ (r : RegistryState). r.store.issued) ends ∙ hooks.issued ∙ ap (λ (r : Store). r.issued) given;
-  stacks = ap (λ (r : RegistryState). r.store.stacks) ends ∙ hooks.stacks ∙ ap (λ (r : Store). r.stacks) given;
+  spans = ap (λ (r : RegistryState). r.store.spans) (ends ∙ hooks) ∙ ap (λ (r : Store). r.spans) given;
+  issued = ap (λ (r : RegistryState). r.store.issued) (ends ∙ hooks) ∙ ap (λ (r : Store). r.issued) given;
+  stacks = ap (λ (r : RegistryState). r.store.stacks) (ends ∙ hooks) ∙ ap (λ (r : Store). r.stacks) given;
 }
 
 -- one that takes a span out ends so
 pub ended_by : (id : Id) (s t : RegistryState) → TakesOut s (number_of id ∷ []) t → Ends (OnClose id) s t
-ended_by id s t h = ((λ i. record { store = h.store i; limits = h.limits i; filters = h.filters i; retired = t.retired }), h.retired, h.no_other, h.late)
+ended_by id s t h = ((λ i. record { store = h.store i; limits = h.limits i; filters = h.filters i; retired = t.retired; reserved = h.reserved i }), h.retired, h.no_other, h.late)
 
 module _ {S : Type 0} (registry : S → RegistryState) (with_registry : S → RegistryState → S) (has_form : S → Form → Type 0) (stepped : StackSteps S) (levelled : LevelSteps S) where
+  -- of a call that was answered so this was made, as its answer says, and the stack went through it
+  pub record Tells (call : Call) (x : S) (a : Answer) (made : List OutcomeAt) (y : S) : Type 0 where
+    pub says : OutcomesOf call a (registry x).store (map (λ m. m.outcome) made)
+    pub goes : FoldsTo (Makes registry with_registry has_form stepped levelled) x made y
+
+  -- something was made so of a call
+  abbrev pub IsTold : Call → Answer → S → S → Type 0
+  IsTold call a x y = (made : List OutcomeAt) × Tells call x a made y
+
   -- what was made leaves its store, extensions aside
   pub left_aside : (x : S) (m : OutcomeAt) (y : S) → Makes registry with_registry has_form stepped levelled x m y → SameAside m.after (registry y).store
   left_aside x m y h = by_outcome m.outcome m.before m.after h.before h.steps h.layers
     where
       by_outcome : (o : Outcome) (s t : Store) → s ≡ (registry x).store → Steps m.form o s t → LayersGo registry with_registry has_form stepped levelled m.form o s t x y → SameAside t (registry y).store
       by_outcome (Noticed lane e) s t before steps n = ended m.form lane e s t n.left (registry n.notified) (registry y) steps (ap (λ (r : RegistryState). r.store) n.given) n.hooks n.ends
-      by_outcome (Quiet c) s t before steps quiet = same_aside t (registry y).store (ap (λ (r : RegistryState). r.store) quiet.store)
-      by_outcome (LevelSet n l) s t before steps set = same_aside t (registry y).store (ap (λ (r : RegistryState). r.store) set.same ∙ sym before ∙ sym steps)
+      by_outcome (Quiet c) s t before steps quiet = same_aside t (registry y).store (ap (λ (r : RegistryState). r.store) quiet.0)
+      by_outcome (LevelSet n l) s t before steps set = same_aside t (registry y).store (ap (λ (r : RegistryState). r.store) set.2 ∙ sym before ∙ sym steps)
+
+-- what was made of a call, and how it was answered: so it is served
+pub served_so : {S : Type 0} {registry : S → RegistryState} {with_registry : S → RegistryState → S} {has_form : S → Form → Type 0} {stepped : StackSteps S} {levelled : LevelSteps S} {call : Call} {f : Form} {kept after : KeptCallsites} {x y : S} {a : Answer}
+    → IsTold registry with_registry has_form stepped levelled call a x y → AnswersWith call kept f (registry x) a after → IsServed registry with_registry has_form stepped levelled call f kept x a after y
+served_so t e = (t.0, record { says = t.1.says; goes = t.1.goes; answers = e })
 
 -- a registry that took a step to this one
 pub aside_state : (s t : RegistryState) → t ≡ s → SameAside s.store t.store
@@ -152,43 +179,43 @@ module _ {S : Type 0} {registry : S → RegistryState} {with_registry : S → Re
 
   -- it is told, and the stack is ready again where no span was closing
   abbrev pub Done : Call → Answer → Form → S → S → Type 0
-  Done call a f x y = IsTold registry with_registry has_form stepped levelled call f a x y × (HasNoClosing (registry x).store.spans → StillReady f x y)
+  Done call a f x y = IsTold registry with_registry has_form stepped levelled call a x y × (HasNoClosing (registry x).store.spans → StillReady f x y)
 
-  pub by_none : (call : Call) (a : Answer) (f : Form) (x y : S) → Honest f x → y ≡ x → OutcomesOf call a (registry x).store [] → HasReason call a f (registry x).store → Done call a f x y
-  by_none call a f x y h e says reason =
-      (([], record { says = says; goes = sym e; reason = reason }), λ s. (f, subst (Ready f) (sym e) (record { honest = h; settled = s }), kept_form f, ap (λ z. (registry z).filters) e))
+  pub by_none : (call : Call) (a : Answer) (f : Form) (x y : S) → Honest f x → y ≡ x → OutcomesOf call a (registry x).store [] → Done call a f x y
+  by_none call a f x y h e says =
+      (([], record { says = says; goes = sym e }), λ s. (f, subst (Ready f) (sym e) (record { honest = h; settled = s }), kept_form f, ap (λ z. (registry z).filters) e))
 
   -- a call of the stack, which notified by a plan that is the plan asked afresh
-  pub by_call : (call : Call) (a : Answer) (f : Form) (lane : Lane) (e : Notice) (refused : FilterSet) (step : RegistryState → RegistryState → Type 0) (x y : S) → Honest f x → OutcomesOf call a (registry x).store (Noticed lane e ∷ []) → HasReason call a f (registry x).store
+  pub by_call : (call : Call) (a : Answer) (f : Form) (lane : Lane) (e : Notice) (refused : FilterSet) (step : RegistryState → RegistryState → Type 0) (x y : S) → Honest f x → OutcomesOf call a (registry x).store (Noticed lane e ∷ [])
       → (n : Notifies registry has_form stepped lane refused e step x y) → by_pass f e n.left.store.spans no_filter refused ≡ asked_afresh f e (registry x).store lane.0 no_filter → StepsTo f lane e (registry x) n.left → Done call a f x y
-  by_call call a f lane e refused step x y h says reason n plan to =
+  by_call call a f lane e refused step x y h says n plan to =
       let m : OutcomeAt = record { form = f; before = (registry x).store; after = to.after; outcome = Noticed lane e } in
       let notices : Notices registry with_registry has_form stepped levelled f lane e (registry x).store to.after x y = record {
         left = n.left;
         given = to.given;
         notified = y;
         layers = subst (λ p. stepped x p e lane.0 n.left y (registry y)) plan (n.notified f h.has (rules_of f _ h.rules).still);
-        hooks = n.extensions;
+        hooks = with_others n.extensions;
         ends = to.ends (registry y);
         rest = sym (with_own y);
       } in
       let next = honest_after f lane e (registry x).store to.after x y h notices (n.extensions.filters ∙ to.filters) in (
-        (m ∷ [], record { says = says; goes = (y, record { honest = h; before = refl; steps = to.steps; layers = notices }, refl); reason = reason }),
+        (m ∷ [], record { says = says; goes = (y, record { honest = h; before = refl; steps = to.steps; layers = notices }, refl) }),
         λ s. (next.0, record { honest = next.1; settled = subst HasNoClosing (sym n.extensions.spans) (to.settled s) }, next.2, next.3),
       )
 
   -- this was made by a quiet change
   pub changed : (f : Form) (c : Change) (x y : S) (t : Store) → Honest f x → Steps f (Quiet c) (registry x).store t → registry y ≡ record (registry x) { store = t } → y ≡ with_registry x (registry y)
       → Makes registry with_registry has_form stepped levelled x (record { form = f; before = (registry x).store; after = t; outcome = Quiet c }) y
-  changed f c x y t h steps store rest = record { honest = h; before = refl; steps = steps; layers = record { store = store; rest = rest } }
+  changed f c x y t h steps store rest = record { honest = h; before = refl; steps = steps; layers = (store, rest) }
 
-  pub by_change : (call : Call) (a : Answer) (f : Form) (c : Change) (x y : S) → Honest f x → OutcomesOf call a (registry x).store (Quiet c ∷ []) → HasReason call a f (registry x).store
+  pub by_change : (call : Call) (a : Answer) (f : Form) (c : Change) (x y : S) → Honest f x → OutcomesOf call a (registry x).store (Quiet c ∷ [])
       → (t : Store) → Steps f (Quiet c) (registry x).store t → registry y ≡ record (registry x) { store = t } → y ≡ with_registry x (registry y) → (registry y).filters ≡ (registry x).filters → (HasNoClosing (registry x).store.spans → HasNoClosing (registry y).store.spans)
       → Done call a f x y
-  by_change call a f c x y h says reason t steps store rest filters settled =
+  by_change call a f c x y h says t steps store rest filters settled =
       let m : OutcomeAt = record { form = f; before = (registry x).store; after = t; outcome = Quiet c } in
       let next = honest_quietly f x y h rest filters in (
-        (m ∷ [], record { says = says; goes = (y, changed f c x y t h steps store rest, refl); reason = reason }),
+        (m ∷ [], record { says = says; goes = (y, changed f c x y t h steps store rest, refl) }),
         λ before. (next.0, record { honest = next.1; settled = settled before }, next.2, next.3),
       )
 
@@ -207,34 +234,24 @@ module _ {S : Type 0} (registry : S → RegistryState) (with_registry : S → Re
       (k.0, record { has = k.1; rules = subst (λ (s : RegistryState). IsHonestStack k.0 s.filters) (sym same) (honesty_is_kept f k.0 (registry x).filters (level_rules n f k.0 k.2) h.rules) }, k.2)
 
   -- and so ready, where nothing is kept any more
-  pub ready_levelled : (Kept : Form → ℕ → Cache → Type 0) (f : Form) (n : ℕ) (l : LevelFilter) (old new : Dispatch S) → IsReadyWith registry with_registry has_form stepped levelled Kept f old → levelled (stack_of old) n l (stack_of new)
-      → registry (stack_of new) ≡ registry (stack_of old) → ((g : Form) (m : ℕ) → Kept g m new.cache) → IsReadyAfter registry with_registry has_form stepped levelled Kept (LevelsForm n) f new
-  ready_levelled Kept f n l old new h goes same kept =
+  pub ready_levelled : (f : Form) (n : ℕ) (l : LevelFilter) (old new : Dispatch S) → IsReadyBy registry with_registry has_form stepped levelled f old → levelled (stack_of old) n l (stack_of new)
+      → registry (stack_of new) ≡ registry (stack_of old) → ((g : Form) (m : ℕ) → IsUpToDate g m new.cache) → IsReadyAfter registry with_registry has_form stepped levelled (LevelsForm n) f new
+  ready_levelled f n l old new h goes same kept =
       let k = honest_levelled f n l (stack_of old) (stack_of new) h.stack.honest goes same in
       (k.0, record { stack = record { honest = k.1; settled = subst (λ (s : RegistryState). HasNoClosing s.store.spans) (sym same) h.stack.settled }; kept = kept k.0 (registry (stack_of new)).filters }, k.2)
 
   -- a level was set
   pub level_told : (f : Form) (n : ℕ) (l : LevelFilter) (x y : S) → IsHonest registry with_registry has_form stepped levelled f x → takes_level f n l ≡ true → levelled x n l y → registry y ≡ registry x
-      → IsTold registry with_registry has_form stepped levelled (SetLevel n l) f answer.Done x y
+      → IsTold registry with_registry has_form stepped levelled (SetLevel n l) answer.Done x y
   level_told f n l x y h taken goes same =
       let m : OutcomeAt = record { form = f; before = (registry x).store; after = (registry x).store; outcome = LevelSet n l } in
-      (m ∷ [], record { says = refl; goes = (y, record { honest = h; before = refl; steps = refl; layers = record { taken = taken; goes = goes; same = same } }, refl); reason = tt })
-
-  -- or it wasn't, and nothing changed
-  pub level_refused : (f : Form) (n : ℕ) (l : LevelFilter) (x y : S) → takes_level f n l ≡ false → y ≡ x → IsTold registry with_registry has_form stepped levelled (SetLevel n l) f (answer.Refused (NotSettable n)) x y
-  level_refused f n l x y none same = ([], record { says = refl; goes = sym same; reason = none })
+      (m ∷ [], record { says = refl; goes = (y, record { honest = h; before = refl; steps = refl; layers = (taken, goes, same) }, refl) })
 
 -- a cache that forgot is up to date, and keeps no callsite
 pub forgotten_current : (f : Form) (n : ℕ) (c : Cache) → IsUpToDate f n (forgotten c)
 forgotten_current f n cache.Off = tt
 forgotten_current f n cache.Empty = tt
 forgotten_current f n (cache.Filled k) = tt
-
--- and loses nothing
-pub forgotten_safe : (f : Form) (n : ℕ) (c : Cache) → KeepsSafely f n (forgotten c)
-forgotten_safe f n cache.Off = tt
-forgotten_safe f n cache.Empty = tt
-forgotten_safe f n (cache.Filled k) = tt
 
 pub forgotten_kept : (c : Cache) → kept_in (forgotten c) ≡ option_map (λ callsites. no_callsite) (kept_in c)
 forgotten_kept cache.Off = refl
@@ -255,46 +272,33 @@ pub up_to_date_again : (f g : Form) (n : ℕ) (c : Cache) → KeepsForm f g → 
 up_to_date_again f g n (cache.Filled k) e h = current_again f g n k e h
 up_to_date_again f g n other e h = h
 
--- what is said of what is kept holds by a form that keeps another
-abbrev pub HoldsAgain : (Form → ℕ → Cache → Type 0) → Type 0
-HoldsAgain Kept = (f g : Form) (n : ℕ) (c : Cache) → KeepsForm f g → Kept f n c → Kept g n c
-
 module _ {S : Type 0} (registry : S → RegistryState) (with_registry : S → RegistryState → S) (has_form : S → Form → Type 0) (stepped : StackSteps S) (levelled : LevelSteps S) where
-  module _ (Kept : Form → ℕ → Cache → Type 0) where
-    abbrev pub ReadyWith : Form → Dispatch S → Type 0
-    ReadyWith f d = IsReadyWith registry with_registry has_form stepped levelled Kept f d
+  abbrev pub ReadyBy : Form → Dispatch S → Type 0
+  ReadyBy f d = IsReadyBy registry with_registry has_form stepped levelled f d
 
-    abbrev pub AfterWith : (Form → Form → Type 0) → Form → Dispatch S → Type 0
-    AfterWith keeps f d = IsReadyAfter registry with_registry has_form stepped levelled Kept keeps f d
+  abbrev pub After : (Form → Form → Type 0) → Form → Dispatch S → Type 0
+  After keeps f d = IsReadyAfter registry with_registry has_form stepped levelled keeps f d
 
-    -- whose stack is ready again, and which keeps what the old stack would answer
-    pub ready_again : HoldsAgain Kept → (f : Form) (old new : Dispatch S)
-        → (g : Form) × IsReady registry with_registry has_form stepped levelled g (stack_of new) × KeepsForm f g × ((registry (stack_of new)).filters ≡ (registry (stack_of old)).filters) → Kept f (registry (stack_of old)).filters new.cache → AfterWith KeepsForm f new
-    ready_again again f old new h k = (h.0, record { stack = h.1; kept = subst (λ n. Kept h.0 n new.cache) (sym h.3) (again f h.0 (registry (stack_of old)).filters new.cache h.2 k) }, h.2)
+  -- whose stack is ready again, and which keeps what the old stack would answer
+  pub ready_again : (f : Form) (old new : Dispatch S)
+      → (g : Form) × IsReady registry with_registry has_form stepped levelled g (stack_of new) × KeepsForm f g × ((registry (stack_of new)).filters ≡ (registry (stack_of old)).filters) → IsUpToDate f (registry (stack_of old)).filters new.cache → After KeepsForm f new
+  ready_again f old new h k = (h.0, record { stack = h.1; kept = subst (λ n. IsUpToDate h.0 n new.cache) (sym h.3) (up_to_date_again f h.0 (registry (stack_of old)).filters new.cache h.2 k) }, h.2)
 
-    -- a stack that stays as it is, or is the same, is ready by the form that it had
-    pub stays_so : HoldsAgain Kept → (f : Form) (old new : Dispatch S) → stack_of new ≡ stack_of old → Kept f (registry (stack_of old)).filters new.cache → ReadyWith f old → AfterWith KeepsForm f new
-    stays_so again f old new e k h = ready_again again f old new (f, subst (λ x. IsReady registry with_registry has_form stepped levelled f x) (sym e) h.stack, kept_form f, ap (λ x. (registry x).filters) e) k
+  -- one that is as it was
+  pub stays_same : (f : Form) (old new : Dispatch S) → new ≡ old → ReadyBy f old → After KeepsForm f new
+  stays_same f old new e h = (f, subst (λ d. ReadyBy f d) (sym e) h, kept_form f)
 
-    -- one that is as it was
-    pub stays_same : (f : Form) (old new : Dispatch S) → new ≡ old → ReadyWith f old → AfterWith KeepsForm f new
-    stays_same f old new e h = (f, subst (λ d. ReadyWith f d) (sym e) h, kept_form f)
+  pub same_but : (f : Form) (n : ℕ) (old new : Dispatch S) → new ≡ old → ReadyBy f old → After (LevelsForm n) f new
+  same_but f n old new e h = (f, subst (λ d. ReadyBy f d) (sym e) h, same_levels n f)
 
-    pub same_but : (f : Form) (n : ℕ) (old new : Dispatch S) → new ≡ old → ReadyWith f old → AfterWith (LevelsForm n) f new
-    same_but f n old new e h = (f, subst (λ d. ReadyWith f d) (sym e) h, same_levels n f)
+  -- whatever it keeps, it keeps the rules
+  pub by_keeping : (f : Form) (d : Dispatch S) → After KeepsForm f d → After KeepsRules f d
+  by_keeping f d h = (h.0, h.1, kept_rules f h.0 h.2)
 
-    -- whatever it keeps, it keeps the rules
-    pub by_keeping : (f : Form) (d : Dispatch S) → AfterWith KeepsForm f d → AfterWith KeepsRules f d
-    by_keeping f d h = (h.0, h.1, kept_rules f h.0 h.2)
+  pub by_level : (n : ℕ) (f : Form) (d : Dispatch S) → After (LevelsForm n) f d → After KeepsRules f d
+  by_level n f d h = (h.0, h.1, level_rules n f h.0 h.2)
 
-    pub by_level : (n : ℕ) (f : Form) (d : Dispatch S) → AfterWith (LevelsForm n) f d → AfterWith KeepsRules f d
-    by_level n f d h = (h.0, h.1, level_rules n f h.0 h.2)
-
-    -- one that is new, and keeps nothing yet
-    pub first_ready : (f : Form) (x : S) (d : Dispatch S)
-        → (g : Form) × IsReady registry with_registry has_form stepped levelled g (stack_of d) × KeepsForm f g × ((registry (stack_of d)).filters ≡ (registry x).filters) → ((g : Form) (n : ℕ) → Kept g n d.cache) → AfterWith KeepsForm f d
-    first_ready f x d h k = (h.0, record { stack = h.1; kept = k h.0 (registry (stack_of d)).filters }, h.2)
-
-  -- a call that leaves the stack as it is
-  pub same_stack : (call : Call) (f : Form) (a : Answer) (old new : Dispatch S) → stack_of new ≡ stack_of old → IsTold registry with_registry has_form stepped levelled call f a (stack_of old) (stack_of old) → IsTold registry with_registry has_form stepped levelled call f a (stack_of old) (stack_of new)
-  same_stack call f a old new e h = (h.0, subst (λ y. Tells registry with_registry has_form stepped levelled call f (stack_of old) a h.0 y) (sym e) h.1)
+  -- one that is new, and keeps nothing yet
+  pub first_ready : (f : Form) (x : S) (d : Dispatch S)
+      → (g : Form) × IsReady registry with_registry has_form stepped levelled g (stack_of d) × KeepsForm f g × ((registry (stack_of d)).filters ≡ (registry x).filters) → ((g : Form) (n : ℕ) → IsUpToDate g n d.cache) → After KeepsForm f d
+  first_ready f x d h k = (h.0, record { stack = h.1; kept = k h.0 (registry (stack_of d)).filters }, h.2)

@@ -1,22 +1,29 @@
 -- A journal that is one entry longer.
-use Rattle.std.proofs.Common.{◌≡◌, ℕ, Bool, List, [], ◌∷◌, ◌++◌, Option, Some, None, MatchOption, Result, Ok, Err, IfErr, IsErrAnd, inl, inr, refl, ap, sym, ◌∙◌, subst}
+use Rattle.std.proofs.Common.{◌⊎◌, ◌≡◌, ℕ, Bool, List, [], ◌∷◌, ◌++◌, Option, Some, None, MatchOption, Result, Ok, Err, IfErr, IsErrAnd, inl, inr, refl, ap, sym, ◌∙◌, subst, ◌+◌, length, true, false}
 use Rattle.std.proofs.lemmas.Fn.{FoldsTo-push}
+use Rattle.std.proofs.lemmas.List.{length_push}
 use Rattle.std.specs.Cmp.{eq_by_cmp_equiv, nat_cmp_total}
 use Rattle.std.specs.FinMap.{FinMap, empty, get, get-insert, insert}
 use Rattle.std.specs.Ordering.{nat_cmp}
 use Rattle.std.specs.Prelude.{cond}
 use Rattle.std.specs.Option.{option_map}
 use Rattle.span_core.specs.Span.{asked_parent, current_span, metadata_of, number_of}
+use Rattle.span_core.specs.declared.error.TraceError.TheVariants.{OutOfMemory}
 use Rattle.span_core.specs.declared.error.TraceError.{TraceError}
 use Rattle.span_core.specs.declared.metadata.Metadata.{Metadata}
 use Rattle.span_core.specs.declared.span.Attributes.{Attributes}
 use Rattle.span_core.specs.declared.span.Current.{Current}
 use Rattle.span_core.specs.declared.span.Id.{Id}
 use Rattle.span_core.specs.declared.span.Lane.{Lane}
-use Rattle.span_dispatch.specs.Call.{DropsSpan, FindsOpen}
-use Rattle.span_dispatch.specs.Journal.{Entry, Happens, KeepsJournal, Leaves, LoggedState, Placed, bare}
-use Rattle.span_dispatch.specs.Logged.{AddsSpan, Answered, Logs, OrNoMemory}
-use Rattle.span_dispatch.specs.Worker.{IsOfSpan}
+use Rattle.span_dispatch.specs.Call.{DropsSpan, FindsOpen, done_answer, event_answer, look_answer, span_answer, yes_answer}
+use Rattle.span_dispatch.specs.Contract.{SubscriberOf}
+use Rattle.span_dispatch.specs.declared.call.Call.TheVariants.{AddHandle, AskCurrent, DropHandle, Enter, Exit, Follow, OpenSpan, Probe, RecordValues, SendEvent, SetLevel}
+use Rattle.span_dispatch.specs.declared.call.Call.{Call}
+use Rattle.span_dispatch.specs.declared.request.Answer.TheVariants as answer
+use Rattle.span_dispatch.specs.declared.request.Answer.{Answer}
+use Rattle.span_dispatch.specs.Journal.{Adds, Entry, Happens, KeepsJournal, Leaves, LoggedState, Placed, bare}
+use Rattle.span_dispatch.specs.Logged.{AddsNewSpan, AddsSpan, Answered, Gave, Logs, LogsCall, OrNoMemory}
+use Rattle.span_dispatch.specs.Worker.{CountsAnswer, IsOfSpan, WorkerState, called}
 use Rattle.span_dispatch.specs.Serve.{stack_of}
 use Rattle.span_dispatch.specs.declared.dispatch.Dispatch.{Dispatch}
 use Rattle.span_dispatch.specs.declared.entry.EntryWith.TheVariants as entry
@@ -26,21 +33,89 @@ use Rattle.span_registry.specs.Step.{AskedSpan, Clones, Enters, Exits, Opens, Sh
 use Rattle.span_registry.specs.Store.{RegistryState, Span, Spans, Store, empty_store}
 use Rattle.span_registry.specs.Subscriber.{AndHooks, SameButExtensions}
 
--- what the dispatcher refuses is refused here too
-pub refused_too : {T : Type 0} (P : TraceError → Type 0) (e : TraceError) (r : Result T TraceError) → IsErrAnd r (λ y. y ≡ e) → P e → IfErr r (OrNoMemory P)
-refused_too P e (Ok x) h k = tt
-refused_too P e (Err y) h k = inr (subst P (sym h) k)
-
 -- what a logged dispatcher refuses, some dispatcher refuses
-pub some_refuses : {T D : Type 0} (refuses : D → TraceError → Type 0) (d : D) (e : TraceError) (r : Result T TraceError) → IsErrAnd r (λ y. y ≡ e) → OrNoMemory (refuses d) e → IfErr r (OrNoMemory (λ y. (c : D) × refuses c y))
-some_refuses refuses d e (Ok x) h k = tt
-some_refuses refuses d e (Err y) h (inl k) = inl (h ∙ k)
-some_refuses refuses d e (Err y) h (inr k) = inr (d, subst (refuses d) (sym h) k)
+pub some_refuses : {T D A : Type 0} {serves : Result A TraceError → D → D → Type 0} {adds : A × Placed → LoggedState D → LoggedState D → Type 0} {old new : LoggedState D} (refuses : D → TraceError → Type 0) (e : TraceError) (r : Result T TraceError) → IsErrAnd r (λ y. y ≡ e)
+    → (serves (Err e) old.dispatch new.dispatch → refuses old.dispatch e) → Logs serves adds (Err e) old new → IfErr r (OrNoMemory (λ y. (c : D) × refuses c y))
+some_refuses refuses e (Ok x) h k l = tt
+some_refuses {D = D} {serves = serves} {old = old} {new = new} refuses e (Err y) h k l = by_case l.refused
+  where
+    by_case : ((e ≡ OutOfMemory) × (new ≡ old)) ⊎ (serves (Err e) old.dispatch new.dispatch × (new.journal ≡ old.journal)) → OrNoMemory (λ z. (c : D) × refuses c z) y
+    by_case (inl m) = inl (h ∙ m.0)
+    by_case (inr q) = inr (old.dispatch, subst (refuses old.dispatch) (sym h) (k q.0))
 
--- so is a call served that the dispatcher refuses
-pub logs_refused : {D A : Type 0} (serves : Result A TraceError → D → D → Type 0) (old new : LoggedState D) (e : TraceError) (r : Answered A) → IsErrAnd r (λ y. y ≡ e) → serves (Err e) old.dispatch new.dispatch → Logs serves r old new
-logs_refused serves old new e (Ok x) h k = absurd h
-logs_refused serves old new e (Err y) h k = inr (subst (λ z. serves (Err z) old.dispatch new.dispatch) (sym h) k)
+module _ {D A : Type 0} {serves : Result A TraceError → D → D → Type 0} {adds : A × Placed → LoggedState D → LoggedState D → Type 0} {inside now new : LoggedState D} (same : inside ≡ now) where
+  -- what the dispatcher refuses is refused here, and adds no entry
+  pub logs_refused : (e : TraceError) (r : Answered A) → IsErrAnd r (λ y. y ≡ e) → serves (Err e) inside.dispatch new.dispatch → new.journal ≡ inside.journal → Logs serves adds r now new
+  logs_refused e (Ok x) h k j = absurd h
+  logs_refused e (Err y) h k j = record {
+    done = tt;
+    refused = inr (subst (λ (l : LoggedState D). serves (Err y) l.dispatch new.dispatch) same (subst (λ z. serves (Err z) inside.dispatch new.dispatch) (sym h) k), j ∙ ap (λ (l : LoggedState D). l.journal) same);
+  }
+
+  -- what it serves is served here, and adds its entry
+  pub logs_done : (a b : A) (receipt : Placed) → a ≡ b → serves (Ok a) inside.dispatch new.dispatch → adds (b, receipt) now new → Logs serves adds (Ok (b, receipt)) now new
+  logs_done a b receipt given k added = record {
+    done = (subst (λ (l : LoggedState D). serves (Ok b) l.dispatch new.dispatch) same (subst (λ z. serves (Ok z) inside.dispatch new.dispatch) given k), added);
+    refused = tt;
+  }
+
+-- a journal grows by one entry, unless this answer is a refusal
+abbrev pub GrowsBy : Answer → List Entry → List Entry → Type 0
+GrowsBy (answer.Refused e) old new = new ≡ old
+GrowsBy a old new = length new ≡ length old + 1
+
+longer : (e : Entry) (old : List Entry) (receipt : Placed) (new : List Entry) → Adds e old receipt new → length new ≡ length old + 1
+longer e old receipt new h = ap length h.journal ∙ length_push old e
+
+-- what was logged so made the journal longer by one entry, unless it was refused
+grew : {D A : Type 0} {serves : Result A TraceError → D → D → Type 0} {adds : A × Placed → LoggedState D → LoggedState D → Type 0} (answer_of : Result A TraceError → Answer) (old new : LoggedState D) (a : Answer) → ((e : TraceError) → answer_of (Err e) ≡ answer.Refused e)
+    → ((x : A) → length new.journal ≡ length old.journal + 1 → GrowsBy (answer_of (Ok x)) old.journal new.journal) → ((r : A × Placed) → adds r old new → length new.journal ≡ length old.journal + 1)
+    → Gave answer_of a (λ r. Logs serves adds r old new) → GrowsBy a old.journal new.journal
+grew answer_of old new a refused made more (Ok r, e, l) = subst (λ b. GrowsBy b old.journal new.journal) (sym e) (made r.0 (more r l.done.1))
+grew {D = D} {serves = serves} answer_of old new a refused made more (Err x, e, l) = subst (λ b. GrowsBy b old.journal new.journal) (sym (e ∙ refused x)) (same l.refused)
+  where
+    same : ((x ≡ OutOfMemory) × (new ≡ old)) ⊎ (serves (Err x) old.dispatch new.dispatch × (new.journal ≡ old.journal)) → new.journal ≡ old.journal
+    same (inl m) = ap (λ (k : LoggedState D). k.journal) m.1
+    same (inr q) = q.1
+
+span_made : (o : Option Id) (old new : List Entry) → length new ≡ length old + 1 → GrowsBy (span_answer (Ok o)) old new
+span_made None old new h = h
+span_made (Some id) old new h = h
+
+event_made : (b : Bool) (old new : List Entry) → length new ≡ length old + 1 → GrowsBy (event_answer (Ok b)) old new
+event_made true old new h = h
+event_made false old new h = h
+
+-- a call that was logged so made the journal longer by one entry, unless it was refused
+pub call_grows : {S : Type 0} (s : SubscriberOf S) (lane : Lane) (call : Call) (a : Answer) (old new : LoggedState (Dispatch S)) → LogsCall s lane call a old new → GrowsBy a old.journal new.journal
+call_grows s lane (OpenSpan l attrs) a old new h = grew span_answer old new a (λ e. refl) (λ x. span_made x old.journal new.journal) more h
+  where
+    more : (r : Option Id × Placed) → AddsNewSpan s lane attrs r old new → length new.journal ≡ length old.journal + 1
+    more (None, receipt) k = longer _ old.journal receipt new.journal k
+    more (Some id, receipt) k = longer _ old.journal receipt new.journal k.2
+call_grows s lane (SendEvent l e) a old new h = grew event_answer old new a (λ x. refl) (λ b. event_made b old.journal new.journal) (λ r k. longer _ old.journal r.1 new.journal k) h
+call_grows s lane (Enter l id) a old new h = grew done_answer old new a (λ e. refl) (λ x k. k) (λ r k. longer _ old.journal r.1 new.journal k) h
+call_grows s lane (Exit l id) a old new h = grew done_answer old new a (λ e. refl) (λ x k. k) (λ r k. longer _ old.journal r.1 new.journal k) h
+call_grows s lane (RecordValues l id values) a old new h = grew done_answer old new a (λ e. refl) (λ x k. k) (λ r k. longer _ old.journal r.1 new.journal k) h
+call_grows s lane (Follow l id other) a old new h = grew done_answer old new a (λ e. refl) (λ x k. k) (λ r k. longer _ old.journal r.1 new.journal k) h
+call_grows s lane (AddHandle l id) a old new h = grew done_answer old new a (λ e. refl) (λ x k. k) (λ r k. longer _ old.journal r.1 new.journal k) h
+call_grows s lane (DropHandle l id) a old new h = grew yes_answer old new a (λ e. refl) (λ x k. k) (λ r k. longer _ old.journal r.1 new.journal k) h
+call_grows s lane (Probe l m) a old new h = grew yes_answer old new a (λ e. refl) (λ x k. k) (λ r k. longer _ old.journal r.1 new.journal k) h
+call_grows s lane (AskCurrent l) a old new h = grew look_answer old new a (λ e. refl) (λ x k. k) (λ r k. longer _ old.journal r.1 new.journal k) h
+call_grows s lane (SetLevel n level) a old new h = grew done_answer old new a (λ e. refl) (λ x k. k) (λ r k. longer _ old.journal r.1 new.journal k) h
+
+-- of a call that is the same
+pub logs_as : {S : Type 0} (s : SubscriberOf S) (lane : Lane) (call other : Call) (a : Answer) (old new : LoggedState (Dispatch S)) → call ≡ other → LogsCall s lane other a old new → LogsCall s lane call a old new
+logs_as s lane call other a old new e h = subst (λ c. LogsCall s lane c a old new) (sym e) h
+
+-- from a lane that is the same
+pub from_lane : {S : Type 0} (s : SubscriberOf S) (lane other : Lane) (call : Call) (a : Answer) (old new : LoggedState (Dispatch S)) → lane ≡ other → LogsCall s lane call a old new → LogsCall s other call a old new
+from_lane s lane other call a old new e h = subst (λ l. LogsCall s l call a old new) e h
+
+-- an answer that is no refusal counts
+pub counts_other : (a : Answer) (old new : WorkerState) → ((e : TraceError) → a ≡ answer.Refused e → ⊥) → new ≡ called old → CountsAnswer a old new
+counts_other (answer.Refused e) old new not_refused h = absurd (not_refused e refl)
+counts_other other old new not_refused h = h
 
 -- where extensions alone differ, the two are the same, extensions aside
 pub bare_same : (s t : RegistryState) → SameButExtensions s t → bare t.store ≡ bare s.store
@@ -114,7 +189,7 @@ pub some_of : (o : Option Id) (A : Type 0) (B : Id → Type 0) (id : Id) → o �
 some_of o A B id e h = subst (λ p. MatchOption p A B) e h
 
 -- the receipt of a new span is of its entry, on its lane
-pub span_receipt : (lane lane' : Lane) (attrs : Attributes) (spans : Spans) (old new : List Entry) (given : Option Id × Placed) → lane ≡ lane' → AddsSpan {D = Unit {0}} lane attrs spans (record { dispatch = tt; journal = old }) (record { dispatch = tt; journal = new }) given → IsOfSpan lane' attrs given
+pub span_receipt : {D : Type 0} (lane lane' : Lane) (attrs : Attributes) (spans : Spans) (old new : LoggedState D) (given : Option Id × Placed) → lane ≡ lane' → AddsSpan lane attrs spans given old new → IsOfSpan lane' attrs given
 span_receipt lane lane' attrs spans old new (Some id, r) e h = (h.0.verdict, ap (λ (q : Placed). q.entry) h.2.shown ∙ ap (λ l. entry.New l (metadata_of attrs) (asked_parent attrs) h.0.verdict id) e)
 span_receipt lane lane' attrs spans old new (None, r) e h = ap (λ (q : Placed). q.entry) h.shown ∙ ap (λ l. entry.Unmade l (metadata_of attrs)) e
 

@@ -3,17 +3,18 @@ pub mod Admits
 pub mod Alone
 mod Calls
 pub mod CallerLemmas
-mod Dropped
 pub mod Effect
 pub mod Fixed
-mod Goes
+pub mod Goes
 mod Journalled
 mod KeptHint
 mod Legal
-mod Once
+pub mod Once
 mod Readable
 mod Ready
 mod Registered
 pub mod Seen
+mod Sends
 mod Served
 mod Stores
+mod Recording

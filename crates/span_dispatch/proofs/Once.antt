@@ -110,7 +110,7 @@ onward_steps f other s t b = store_same s t b.1
 
 -- ---- lists of closes
 
-member_split : (xs ys : List ℕ) (c : ℕ) → Member c (xs ++ ys) → Member c xs ⊎ Member c ys
+pub member_split : (xs ys : List ℕ) (c : ℕ) → Member c (xs ++ ys) → Member c xs ⊎ Member c ys
 member_split [] ys c h = inr h
 member_split (x ∷ xs) ys c (inl e) = inl (inl e)
 member_split (x ∷ xs) ys c (inr h) = elim (member_split xs ys c h) [ inl a ↦ inl (inr a) | inr b ↦ inr b ]
@@ -121,7 +121,7 @@ closes_join (Noticed lane (OnClose id)) ys h k = (k (number_of id) (inl refl), h
 closes_join other ys h k = h
 
 module _ {S : Type 0} (registry : S → RegistryState) (with_registry : S → RegistryState → S) (has_form : S → Form → Type 0) (stepped : StackSteps S) (levelled : LevelSteps S) where
-  onward_on : (x : S) (m : OutcomeAt) (y : S) → Makes registry with_registry has_form stepped levelled x m y → Onward (registry x).store (registry y).store
+  pub onward_on : (x : S) (m : OutcomeAt) (y : S) → Makes registry with_registry has_form stepped levelled x m y → Onward (registry x).store (registry y).store
   onward_on x m y h =
       let aside = left_aside registry with_registry has_form stepped levelled x m y h in
       subst (λ (u : Store). Onward u (registry y).store) h.before
@@ -137,13 +137,13 @@ module _ {S : Type 0} (registry : S → RegistryState) (with_registry : S → Re
       )
   closing_step f other s t c g h = absurd h
 
-  closing_on : (x : S) (m : OutcomeAt) (y : S) (c : ℕ) → Makes registry with_registry has_form stepped levelled x m y → Member c (closed_by m.outcome) → IsInStore (registry x).store.spans c × (IsInStore (registry y).store.spans c → ⊥)
+  pub closing_on : (x : S) (m : OutcomeAt) (y : S) (c : ℕ) → Makes registry with_registry has_form stepped levelled x m y → Member c (closed_by m.outcome) → IsInStore (registry x).store.spans c × (IsInStore (registry y).store.spans c → ⊥)
   closing_on x m y c h k =
       let both = closing_step m.form m.outcome m.before m.after c h.steps k in
       (subst (λ (u : Store). IsInStore u.spans c) h.before both.0, λ there. both.1 (subst (λ (v : Spans). IsInStore v c) (left_aside registry with_registry has_form stepped levelled x m y h).spans there))
 
   -- an issued id that isn't in the store closes no more
-  never_again : (x : S) (ms : List OutcomeAt) (y : S) (c : ℕ) → FoldsTo (Makes registry with_registry has_form stepped levelled) x ms y → contains (registry x).store.issued c ≡ true → (IsInStore (registry x).store.spans c → ⊥) → Member c (closed_in ms) → ⊥
+  pub never_again : (x : S) (ms : List OutcomeAt) (y : S) (c : ℕ) → FoldsTo (Makes registry with_registry has_form stepped levelled) x ms y → contains (registry x).store.issued c ≡ true → (IsInStore (registry x).store.spans c → ⊥) → Member c (closed_in ms) → ⊥
   never_again x [] y c h issued out k = k
   never_again x (m ∷ ms) y c h issued out k =
       let on = onward_on x m h.0 h.1 in

@@ -1,10 +1,7 @@
 -- How a dispatcher stays ready after a call.
 use Rattle.std.proofs.Common.{◌≡◌, ℕ, sym, ap, subst}
-use Rattle.span_dispatch.proofs.Admits.{current_is_safe, safely_again}
-use Rattle.span_dispatch.proofs.Goes.{by_keeping, by_level, ready_again, same_but, stays_same, up_to_date_again}
-use Rattle.span_dispatch.specs.Admission.{KeepsSafely}
-use Rattle.span_dispatch.specs.Cache.{IsUpToDate}
-use Rattle.span_dispatch.specs.Contract.{SafeBy, SameStack, StaysReady, StaysReadyBut, StaysReadyByRules, StaysSafe, StaysUpToDate, SubscriberOf}
+use Rattle.span_dispatch.proofs.Goes.{by_keeping, by_level, ready_again, same_but, stays_same}
+use Rattle.span_dispatch.specs.Contract.{CurrentBy, SameStack, StaysReady, StaysReadyBut, StaysReadyByRules, StaysUpToDate, SubscriberOf}
 use Rattle.span_dispatch.specs.Serve.{IsReady, stack_of}
 use Rattle.span_dispatch.specs.declared.dispatch.Dispatch.{Dispatch}
 use Rattle.span_registry.specs.KeptForm.{KeepsForm, kept_form}
@@ -20,42 +17,29 @@ module _ {S : Type 0} (s : SubscriberOf S) where
 
 module _ {S : Type 0} {s : SubscriberOf S} where
   -- a dispatcher whose stack is ready again, and which keeps what it may
-  pub stays_ready : (old new : Dispatch S) → ((f : Form) → IsReadyStack s f (stack_of old) → SafeBy s f old → IsReadyAgain s f (stack_of old) (stack_of new)) → StaysSafe s old new → StaysUpToDate s old new → StaysReady s old new
-  stays_ready old new goes safe current = record {
-    safe = λ f k. ready_again s.registry s.with_registry s.has_form s.stepped s.levelled KeepsSafely safely_again f old new (goes f k.stack k.kept) (safe f k.stack.honest k.kept);
-    current = λ f k. ready_again s.registry s.with_registry s.has_form s.stepped s.levelled IsUpToDate up_to_date_again f old new (goes f k.stack (current_is_safe f (s.registry (stack_of old)).filters old.cache k.kept)) (current f k.stack.honest.has k.kept);
+  pub stays_ready : (old new : Dispatch S) → ((f : Form) → IsReadyStack s f (stack_of old) → CurrentBy s f old → IsReadyAgain s f (stack_of old) (stack_of new)) → StaysUpToDate s old new → StaysReady s old new
+  stays_ready old new goes current = record {
+    again = λ f k. ready_again s.registry s.with_registry s.has_form s.stepped s.levelled f old new (goes f k.stack k.kept) (current f k.stack.honest.has k.kept);
   }
 
   -- one whose stack is the same
-  pub same_ready : (old new : Dispatch S) → SameStack old new → StaysSafe s old new → StaysUpToDate s old new → StaysReady s old new
-  same_ready old new e safe current = stays_ready old new (λ f k u. (f, subst (λ x. IsReadyStack s f x) (sym e) k, kept_form f, ap (λ x. (s.registry x).filters) e)) safe current
+  pub same_ready : (old new : Dispatch S) → SameStack old new → StaysUpToDate s old new → StaysReady s old new
+  same_ready old new e current = stays_ready old new (λ f k u. (f, subst (λ x. IsReadyStack s f x) (sym e) k, kept_form f, ap (λ x. (s.registry x).filters) e)) current
 
   -- one that is the same
   pub unchanged_ready : (old new : Dispatch S) → new ≡ old → StaysReady s old new
-  unchanged_ready old new e = record {
-    safe = λ f k. stays_same s.registry s.with_registry s.has_form s.stepped s.levelled KeepsSafely f old new e k;
-    current = λ f k. stays_same s.registry s.with_registry s.has_form s.stepped s.levelled IsUpToDate f old new e k;
-  }
+  unchanged_ready old new e = record { again = λ f k. stays_same s.registry s.with_registry s.has_form s.stepped s.levelled f old new e k }
 
   -- one of which no level was set
   pub unset_ready : (n : ℕ) (old new : Dispatch S) → new ≡ old → StaysReadyBut s n old new
-  unset_ready n old new e = record {
-    safe = λ f k. same_but s.registry s.with_registry s.has_form s.stepped s.levelled KeepsSafely f n old new e k;
-    current = λ f k. same_but s.registry s.with_registry s.has_form s.stepped s.levelled IsUpToDate f n old new e k;
-  }
+  unset_ready n old new e = record { again = λ f k. same_but s.registry s.with_registry s.has_form s.stepped s.levelled f n old new e k }
 
   -- whatever is kept, the rules are
   pub ready_by_rules : (old new : Dispatch S) → StaysReady s old new → StaysReadyByRules s old new
-  ready_by_rules old new h = record {
-    safe = λ f k. by_keeping s.registry s.with_registry s.has_form s.stepped s.levelled KeepsSafely f new (h.safe f k);
-    current = λ f k. by_keeping s.registry s.with_registry s.has_form s.stepped s.levelled IsUpToDate f new (h.current f k);
-  }
+  ready_by_rules old new h = record { again = λ f k. by_keeping s.registry s.with_registry s.has_form s.stepped s.levelled f new (h.again f k) }
 
   pub level_by_rules : (n : ℕ) (old new : Dispatch S) → StaysReadyBut s n old new → StaysReadyByRules s old new
-  level_by_rules n old new h = record {
-    safe = λ f k. by_level s.registry s.with_registry s.has_form s.stepped s.levelled KeepsSafely n f new (h.safe f k);
-    current = λ f k. by_level s.registry s.with_registry s.has_form s.stepped s.levelled IsUpToDate n f new (h.current f k);
-  }
+  level_by_rules n old new h = record { again = λ f k. by_level s.registry s.with_registry s.has_form s.stepped s.levelled n f new (h.again f k) }
 
   -- the same from where another is
   pub unset_from : (n : ℕ) (old between new : Dispatch S) → between ≡ old → StaysReadyBut s n between new → StaysReadyBut s n old new

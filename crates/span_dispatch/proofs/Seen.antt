@@ -8,12 +8,12 @@ use Rattle.span_core.specs.declared.level.LevelFilter.{LevelFilter}
 use Rattle.span_core.specs.declared.span.Lane.{Lane}
 use Rattle.span_dispatch.proofs.Goes.{SameAside, same_aside}
 use Rattle.span_dispatch.specs.Cache.{KeptCallsites}
-use Rattle.span_dispatch.specs.Call.{Call}
+use Rattle.span_dispatch.specs.declared.call.Call.{Call}
 use Rattle.span_dispatch.specs.Outcome.{Change, LayersGo, LevelSet, OutcomeAt, Makes, Noticed, Outcome, Quiet, given_in}
 use Rattle.std.specs.FinMap.{empty}
 use Rattle.span_registry.specs.View.{seen_spans}
 use Rattle.span_dispatch.specs.Alone.{passed, passed_at}
-use Rattle.span_dispatch.specs.Serve.{Run, RunExactly, ServesAsked, TellsAsked, call_of, flat}
+use Rattle.span_dispatch.specs.Serve.{Run, ServesAsked, call_of, flat}
 use Rattle.span_dispatch.specs.declared.request.Answer.{Answer}
 use Rattle.span_dispatch.specs.declared.request.Request.{Request}
 use Rattle.span_layers.proofs.Pass.{reached}
@@ -123,8 +123,8 @@ module _ {S : Type 0} (registry : S → RegistryState) {with_registry : S → Re
       let there = aside x n.notified y position (heard_by plan position (told_in e n.left.store lane.0 mask)) (laws.notified x plan e lane.0 n.left n.notified (registry n.notified) position f n.layers has) n.rest in
       let told = ap (heard_by plan position) (told_aside e (given_in e s t) n.left.store lane.0 mask (same_aside _ _ (ap (λ (r : RegistryState). r.store) n.given))) ∙ sees_passed f position lane e s t in
       subst (λ h. hears x position h y) told there
-  by_outcome f (Quiet c) s t x y position has quiet = subst (λ h. hears x position h y) (sym (nothing_passed (path_at f position) c s t)) (aside x x y position [] (laws.heard.nothing x position) quiet.rest)
-  by_outcome f (LevelSet n l) s t x y position has set = subst (λ h. hears x position h y) (sym (no_level_passed (path_at f position) n l s t)) (levels.heard x n l y position set.goes)
+  by_outcome f (Quiet c) s t x y position has quiet = subst (λ h. hears x position h y) (sym (nothing_passed (path_at f position) c s t)) (aside x x y position [] (laws.heard.nothing x position) quiet.1)
+  by_outcome f (LevelSet n l) s t x y position has set = subst (λ h. hears x position h y) (sym (no_level_passed (path_at f position) n l s t)) (levels.heard x n l y position set.1)
 
   -- each leaf went through what it sees of what was made
   pub goes_through : (x : S) (ms : List OutcomeAt) (y : S) (position : Position) → FoldsTo (Makes registry with_registry has_form stepped levelled) x ms y → hears x position (passed_at position ms) y
@@ -137,25 +137,14 @@ module _ {S : Type 0} (registry : S → RegistryState) (with_registry : S → Re
   folds_append x [] ns y z h k = subst (λ w. FoldsTo (Makes registry with_registry has_form stepped levelled) w ns z) (sym h) k
   folds_append x (m ∷ ms) ns y z h k = (h.0, h.1, folds_append h.0 ms ns y z h.2 k)
 
-  asked_folds : (o : Option Call) (x : S) (a : Answer) (ms : List OutcomeAt) (y : S) → TellsAsked registry with_registry has_form stepped levelled o x a ms y → FoldsTo (Makes registry with_registry has_form stepped levelled) x ms y
-  asked_folds None x a ms y h = subst (λ ns. FoldsTo (Makes registry with_registry has_form stepped levelled) x ns y) (sym h.1) (sym h.2)
-  asked_folds (Some call) x a ms y h = h.2.goes
+  asked_folds : (o : Option Call) (kept : KeptCallsites) (x : S) (a : Answer) (ms : List OutcomeAt) (after : KeptCallsites) (y : S) → ServesAsked registry with_registry has_form stepped levelled o kept x a ms after y → FoldsTo (Makes registry with_registry has_form stepped levelled) x ms y
+  asked_folds None kept x a ms after y h = subst (λ ns. FoldsTo (Makes registry with_registry has_form stepped levelled) x ns y) (sym h.1) (sym h.3)
+  asked_folds (Some call) kept x a ms after y h = h.2.goes
 
   -- a run goes through all that was made, one after another
-  pub run_folds : (past : List Answer) (rs : List Request) (answers : List Answer) (made : List (List OutcomeAt)) (x y : S) → Run registry with_registry has_form stepped levelled past rs answers made x y
+  pub run_folds : (past : List Answer) (rs : List Request) (answers : List Answer) (made : List (List OutcomeAt)) (kept : KeptCallsites) (x : S) (after : KeptCallsites) (y : S) → Run registry with_registry has_form stepped levelled past rs answers made kept x after y
       → FoldsTo (Makes registry with_registry has_form stepped levelled) x (flat made) y
-  run_folds past [] [] [] x y h = sym h
-  run_folds past (q ∷ rs) (b ∷ answers) (ms ∷ made) x y h =
-      folds_append x ms (flat made) h.0 y (asked_folds (call_of past q) x b ms h.0 h.1) (run_folds (past ++ (b ∷ [])) rs answers made h.0 y h.2)
-  run_folds past other rest made x y h = absurd h
-
-  -- one that answers exactly so is a run
-  asked_told : (o : Option Call) (memory : KeptCallsites) (x : S) (a : Answer) (ms : List OutcomeAt) (after : KeptCallsites) (y : S) → ServesAsked registry with_registry has_form stepped levelled o memory x a ms after y → TellsAsked registry with_registry has_form stepped levelled o x a ms y
-  asked_told None memory x a ms after y h = (h.0, h.1, h.3)
-  asked_told (Some call) memory x a ms after y h = (h.0, h.1.honest.has, h.2.told)
-
-  pub run_told : (past : List Answer) (rs : List Request) (answers : List Answer) (made : List (List OutcomeAt)) (memory : KeptCallsites) (x : S) (after : KeptCallsites) (y : S) → RunExactly registry with_registry has_form stepped levelled past rs answers made memory x after y
-      → Run registry with_registry has_form stepped levelled past rs answers made x y
-  run_told past [] [] [] memory x after y h = h.1
-  run_told past (q ∷ rs) (b ∷ answers) (ms ∷ made) memory x after y h = (h.1, asked_told (call_of past q) memory x b ms h.0 h.1 h.2, run_told (past ++ (b ∷ [])) rs answers made h.0 h.1 after y h.3)
-  run_told past other rest made memory x after y h = absurd h
+  run_folds past [] [] [] kept x after y h = sym h.1
+  run_folds past (q ∷ rs) (b ∷ answers) (ms ∷ made) kept x after y h =
+      folds_append x ms (flat made) h.1 y (asked_folds (call_of past q) kept x b ms h.0 h.1 h.2) (run_folds (past ++ (b ∷ [])) rs answers made h.0 h.1 after y h.3)
+  run_folds past other rest made kept x after y h = absurd h

@@ -9,6 +9,7 @@ use Rattle.span_core.specs.declared.span.Id.{Id}
 use Rattle.span_core.specs.declared.span.Lane.{Lane}
 use Rattle.span_dispatch.specs.Cache.{KeptCallsites, RefusesInterest}
 use Rattle.span_dispatch.specs.Call.{DropsSpan, FindsOpen, HasRoomFor, OpensFor}
+use Rattle.span_dispatch.specs.Contract.{OpensByPass, OpensSpan, OpensSpanSo, SubscriberOf}
 use Rattle.span_dispatch.specs.Serve.{ClosesEach, stack_of}
 use Rattle.span_dispatch.specs.declared.dispatch.Dispatch.{Dispatch}
 use Rattle.span_registry.proofs.CallerLemmas.{closes_itself, closes_with_hooks, drops_open, same_itself, settled_closed, settled_still}
@@ -181,3 +182,14 @@ module _ {S : Type 0} (registry : S → RegistryState) where
           record { stepped = drops.stepped; taken = (r.held, (k.closed, drops.taken, (λ _. itself, λ _. refl))); hooks = drops.hooks },
           settled_closed (registry x) (registry y) id k.closed all,
         )
+
+-- a span that was opened with a pass's verdict was opened
+pub opens_span : {S : Type 0} {s : SubscriberOf S} {lane : Lane} {attrs : Attributes} {given : Result (Option Id) TraceError} {old new : Dispatch S} (pass : Pass) → OpensSpanSo s (OpensByPass s lane attrs pass old new) lane attrs given old new → OpensSpan s lane attrs given old new
+opens_span {s = s} {lane = lane} {attrs = attrs} {given = given} {old = old} {new = new} pass h = record {
+  served = h.served;
+  kept = h.kept;
+  up_to_date = h.up_to_date;
+  asked = h.asked;
+  store = opened_by_pass s.registry lane attrs pass old new given h.store;
+  unchanged = h.unchanged;
+}

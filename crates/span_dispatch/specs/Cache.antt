@@ -1,5 +1,5 @@
 -- What a dispatcher keeps of its stack's answers: the hint, and the interest in the callsites that it was asked of.
-use Rattle.std.specs.Prelude.{◌≡◌, ⊤, ℕ, Bool, false, ◌==◌, if◌then◌else◌, Option, Some, None, IsSome, nat_eq}
+use Rattle.std.specs.Prelude.{◌≡◌, ⊤, ◌<◌, ◌-◌, ℕ, max, Bool, false, ◌==◌, if◌then◌else◌, Option, Some, None, IsSome, is_some, nat_eq}
 use Rattle.std.specs.HashMap as hash
 use Rattle.std.specs.Option.{option_map, unwrap_or}
 use Rattle.span_core.specs.Level.{is_above}
@@ -16,18 +16,28 @@ use Rattle.span_dispatch.specs.declared.cache.Known.{Known}
 use Rattle.span_registry.specs.Form.{Form}
 use Rattle.span_registry.specs.Question.{hint_of, interest_of}
 
--- callsites by number, each with the metadata of which the interest was asked
-abbrev pub Callsites : Type 0
-Callsites = ℕ → Option Metadata
+-- callsites whose interest is kept, and what memory is held
+pub record Callsites : Type 0 where
+  -- by number, each with the metadata of which the interest was asked
+  pub known : ℕ → Option Metadata
+  -- for how many more memory is held
+  pub room : ℕ
 
--- none
+-- none, and no memory
 abbrev pub no_callsite : Callsites
-no_callsite n = None
+no_callsite = record { known = λ n. None; room = 0 }
 
 -- these and the callsite of these metadata, unless it is among them already
 abbrev pub with_callsite : Callsites → Metadata → Callsites
-with_callsite callsites m n =
-    if callsite_of m == n then Some (unwrap_or (callsites n) m) else callsites n
+with_callsite callsites m =
+    if is_some (callsites.known (callsite_of m)) then callsites else record {
+      known = λ n. if callsite_of m == n then Some m else callsites.known n;
+      room = callsites.room - 1;
+    }
+
+-- the same with memory for at least this many more
+abbrev pub with_room : ℕ → Callsites → Callsites
+with_room n callsites = record callsites { room = max callsites.room n }
 
 -- the callsites whose interest is kept; or none, where nothing ever is
 abbrev pub KeptCallsites : Type 0
@@ -36,14 +46,21 @@ KeptCallsites = Option Callsites
 -- if their callsite is kept, then with metadata that show the same
 abbrev pub Agrees : KeptCallsites → Metadata → Type 0
 Agrees None m = ⊤
-Agrees (Some callsites) m = (k : Metadata) → callsites (callsite_of m) ≡ Some k → ShowSame k m
+Agrees (Some callsites) m =
+    (k : Metadata) → callsites.known (callsite_of m) ≡ Some k → ShowSame k m
 
--- why an interest isn't to be had: the callsite is kept with other metadata, or it isn't kept, and memory was refused. Where nothing is kept none is needed
+-- why an interest isn't to be had: the callsite is kept with other metadata, or it isn't kept, no memory is held for one more, and memory was refused. Where nothing is kept none is needed
 abbrev pub RefusesInterest : KeptCallsites → Metadata → TraceError → Type 0
 RefusesInterest (Some callsites) m CallsiteMismatch =
-    (k : Metadata) × (callsites (callsite_of m) ≡ Some k) × ¬ (ShowSame k m)
-RefusesInterest (Some callsites) m OutOfMemory = callsites (callsite_of m) ≡ None
+    (k : Metadata) × (callsites.known (callsite_of m) ≡ Some k) × ¬ (ShowSame k m)
+RefusesInterest (Some callsites) m OutOfMemory =
+    (callsites.known (callsite_of m) ≡ None) × (callsites.room ≡ 0)
 RefusesInterest memory m e = ⊥
+
+-- why memory for this many more isn't to be had: it isn't held yet, and was refused
+abbrev pub RefusesRoom : ℕ → KeptCallsites → TraceError → Type 0
+RefusesRoom n (Some callsites) OutOfMemory = callsites.room < n
+RefusesRoom n memory e = ⊥
 
 -- the hint of a stack as it was read, which may be none; or none, where no reading is kept
 abbrev pub ReadHint : Type 0
@@ -69,9 +86,12 @@ ReadsOnce None None after = after ≡ None
 abbrev pub known_of : Known → ℕ → Option Callsite
 known_of k n = hash.get nat_eq k.callsites n
 
--- the callsites that are known
+-- the callsites that are known, and for how many more memory is held
 abbrev pub callsites_of : Known → Callsites
-callsites_of k n = option_map (λ (one : Callsite). one.metadata) (known_of k n)
+callsites_of k = record {
+  known = λ n. option_map (λ (one : Callsite). one.metadata) (known_of k n);
+  room = k.room;
+}
 
 -- what a cache knows of the callsite with this number
 abbrev pub entry_in : Cache → ℕ → Option Callsite

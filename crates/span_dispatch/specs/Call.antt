@@ -3,21 +3,20 @@ use Rattle.std.specs.Prelude.{◌≡◌, ◌<◌, ◌↔◌, ◌⊎◌, ⊤, ℕ
 use Rattle.std.specs.Option.{option_map}
 use Rattle.span_core.specs.Event.{event_metadata}
 use Rattle.span_core.specs.Span.{asked_parent, current_span, id_of, metadata_of, number_of}
-use Rattle.span_core.specs.declared.error.TraceError.TheVariants.{NotSettable, UnknownSpan}
+use Rattle.span_core.specs.declared.error.TraceError.TheVariants.{NotSettable}
 use Rattle.span_core.specs.declared.error.TraceError.{TraceError}
 use Rattle.span_core.specs.declared.event.Event.{Event}
 use Rattle.span_core.specs.declared.filter.FilterMap.{FilterMap}
-use Rattle.span_core.specs.declared.level.LevelFilter.{LevelFilter}
-use Rattle.span_core.specs.declared.metadata.Metadata.{Metadata}
 use Rattle.span_core.specs.declared.span.Attributes.{Attributes}
 use Rattle.span_core.specs.declared.span.Current.{Current}
 use Rattle.span_core.specs.declared.span.Id.{Id}
 use Rattle.span_core.specs.declared.span.Lane.{Lane}
 use Rattle.span_core.specs.declared.span.Parent.{Parent}
-use Rattle.span_core.specs.declared.span.Record.{Record}
-use Rattle.span_dispatch.specs.Admission.{IsDropped, IsAccepted, IsUnknown, Learns, LearnsOfSpan}
+use Rattle.span_dispatch.specs.Admission.{IsDecided, IsUnknown}
 use Rattle.span_dispatch.specs.Cache.{KeptCallsites, no_callsite}
 use Rattle.span_dispatch.specs.Outcome.{HandleTaken, GoneLeft, Noticed, Outcome, Quiet}
+use Rattle.span_dispatch.specs.declared.call.Call.TheVariants.{AddHandle, AskCurrent, DropHandle, Enter, Exit, Follow, OpenSpan, Probe, RecordValues, SendEvent, SetLevel}
+use Rattle.span_dispatch.specs.declared.call.Call.{Call}
 use Rattle.span_dispatch.specs.declared.request.Answer.TheVariants as answer
 use Rattle.span_dispatch.specs.declared.request.Answer.{Answer}
 use Rattle.span_layers.specs.Verdict.{vetoes, vetoes_event}
@@ -25,40 +24,16 @@ use Rattle.span_registry.specs.Behaviour.{OnClose, OnExit}
 use Rattle.span_registry.specs.Closes.{AreUnheld, Member}
 use Rattle.span_registry.specs.Form.{Form}
 use Rattle.span_registry.specs.Levels.{takes_level}
-use Rattle.span_registry.specs.Step.{Drops, FindsParent, HasPlace, IsCurrent, Opens, RefusesClone, RefusesEnter, RefusesNew, RefusesRelease}
+use Rattle.span_registry.specs.Step.{Drops, FindsParent, HasPlace, IsCurrent, Opens, RefusesClone, RefusesEnter, RefusesNew, RefusesRelease, RefusesUnlessOpen}
 use Rattle.span_registry.specs.Store.{IsHeld, IsOpen, RegistryState, Store, handles_of, take_handle}
-
--- what a dispatcher is asked, from a lane; a level is set from none
-pub data Call : Type 0 where
-  OpenSpan : Lane → Attributes → Call
-  SendEvent : Lane → Event → Call
-  Enter : Lane → Id → Call
-  Exit : Lane → Id → Call
-  RecordValues : Lane → Id → Record → Call
-  Follow : Lane → Id → Id → Call
-  AddHandle : Lane → Id → Call
-  DropHandle : Lane → Id → Call
-  Probe : Lane → Metadata → Call
-  AskCurrent : Lane → Call
-  SetLevel : ℕ → LevelFilter → Call
 
 -- whether a leaf with no filter round it refuses an event, by its metadata or itself
 abbrev pub vetoes_whole : Form → Event → Store → Lane → Bool
 vetoes_whole f e s lane = vetoes f (event_metadata e) s lane.0 || vetoes_event f e s lane.0
 
--- why a notice of a span is refused: it isn't open
-abbrev pub RefusesUnlessOpen : RegistryState → Id → TraceError → Type 0
-RefusesUnlessOpen s x (UnknownSpan y) = (y ≡ x) × ¬ (IsOpen s.store.spans (number_of x))
-RefusesUnlessOpen s x other = ⊥
-
 -- a new span that asks for this parent has one with room for it, or none, and a place
 abbrev pub HasRoomFor : RegistryState → Lane → Parent → Type 0
 HasRoomFor s lane asked = ((parent : Option ℕ) × FindsParent s lane asked parent) × HasPlace s
-
--- why a level isn't set: no filter with this number takes it
-abbrev pub RefusesLevel : Form → ℕ → LevelFilter → TraceError → Type 0
-RefusesLevel f n l (NotSettable m) = (m ≡ n) × (takes_level f n l ≡ false)
-RefusesLevel f n l other = ⊥
 
 -- a lane leaves a span: a notice comes of it where the span is open, else a quiet change
 pub record LeavesSpan (lane : Lane) (id : Id) (s : Store) (os : List Outcome) : Type 0 where
@@ -77,55 +52,59 @@ pub record DropsHandle (lane : Lane) (id : Id) (s : Store) (closes : Bool)
   pub outcomes : os ≡ Quiet (HandleTaken id) ∷ map (λ x. Noticed lane (OnClose (id_of x))) closed
   pub itself : IsTrue closes ↔ Member (number_of id) closed
 
--- how a stack of this form on this registry answers a call, where these callsites are kept. A new span and an event are dropped exactly where hint or interest rule them out or a leaf vetoes; no layer refuses anything else
-abbrev pub AnswersWith : Call → KeptCallsites → Form → RegistryState → Answer → Type 0
-AnswersWith (OpenSpan lane a) memory f s (answer.Made id) =
-    IsAccepted memory f s (metadata_of a) (vetoes f (metadata_of a) s.store lane.0)
-    × HasRoomFor s lane (asked_parent a)
-AnswersWith (OpenSpan lane a) memory f s answer.Dropped =
-    IsDropped memory f s lane (metadata_of a) (vetoes f (metadata_of a) s.store lane.0)
-AnswersWith (OpenSpan lane a) memory f s (answer.Refused e) =
-    IsUnknown memory f (metadata_of a) e
-    ⊎ (IsAccepted memory f s (metadata_of a) (vetoes f (metadata_of a) s.store lane.0)
-    × RefusesNew s lane (asked_parent a) e)
-AnswersWith (SendEvent lane e) memory f s answer.Done =
-    IsAccepted memory f s (event_metadata e) (vetoes_whole f e s.store lane)
-AnswersWith (SendEvent lane e) memory f s answer.Dropped =
-    IsDropped memory f s lane (event_metadata e) (vetoes_whole f e s.store lane)
-AnswersWith (SendEvent lane e) memory f s (answer.Refused error) =
-    IsUnknown memory f (event_metadata e) error
-AnswersWith (Enter lane id) memory f s answer.Done = ⊤
-AnswersWith (Enter lane id) memory f s (answer.Refused e) = RefusesEnter s id e
-AnswersWith (Exit lane id) memory f s answer.Done = ⊤
-AnswersWith (RecordValues lane id values) memory f s answer.Done = ⊤
-AnswersWith (RecordValues lane id values) memory f s (answer.Refused e) = RefusesUnlessOpen s id e
-AnswersWith (Follow lane id other) memory f s answer.Done = ⊤
-AnswersWith (Follow lane id other) memory f s (answer.Refused e) = RefusesUnlessOpen s id e
-AnswersWith (AddHandle lane id) memory f s answer.Done =
-    handles_of s.store.spans (number_of id) < s.limits.count
-AnswersWith (AddHandle lane id) memory f s (answer.Refused e) = RefusesClone s id e
-AnswersWith (DropHandle lane id) memory f s (answer.Yes closes) = ⊤
-AnswersWith (DropHandle lane id) memory f s (answer.Refused e) = RefusesRelease s id e
-AnswersWith (Probe lane m) memory f s (answer.Yes true) =
-    IsAccepted memory f s m (vetoes f m s.store lane.0)
-AnswersWith (Probe lane m) memory f s (answer.Yes false) =
-    IsDropped memory f s lane m (vetoes f m s.store lane.0)
-AnswersWith (Probe lane m) memory f s (answer.Refused e) = IsUnknown memory f m e
-AnswersWith (AskCurrent lane) memory f s (answer.Current o) =
-    IsCurrent s.store lane.0 (option_map number_of o)
-AnswersWith (SetLevel n l) memory f s answer.Done = takes_level f n l ≡ true
-AnswersWith (SetLevel n l) memory f s (answer.Refused e) = RefusesLevel f n l e
-AnswersWith call memory f s a = ⊥
+-- how a call is answered that isn't asked by metadata: refused as the registry refuses it, or since no filter takes a level, and never dropped; a handle is added where there is room for one, and the current span is the lane's
+abbrev pub AnswersOther : Call → Form → RegistryState → Answer → Type 0
+AnswersOther (Enter lane id) f s (answer.Refused e) = RefusesEnter s lane id e
+AnswersOther (RecordValues lane id values) f s (answer.Refused e) = RefusesUnlessOpen s id e
+AnswersOther (Follow lane id other) f s (answer.Refused e) = RefusesUnlessOpen s id e
+AnswersOther (AddHandle lane id) f s (answer.Refused e) = RefusesClone s id e
+AnswersOther (DropHandle lane id) f s (answer.Refused e) = RefusesRelease s id e
+AnswersOther (SetLevel n l) f s (answer.Refused e) =
+    (e ≡ NotSettable n) × (takes_level f n l ≡ false)
+AnswersOther call f s (answer.Refused e) = ⊥
+AnswersOther call f s answer.Dropped = ⊥
+AnswersOther (AddHandle lane id) f s a = handles_of s.store.spans (number_of id) < s.limits.count
+AnswersOther (AskCurrent l) f s (answer.Current o) = IsCurrent s.store l.0 (option_map number_of o)
+AnswersOther call f s a = ⊤
 
--- which callsites are kept after a call was answered so: of what is asked by metadata that callsite, too; none once a level was set
-abbrev pub KeepsAfter : Call → KeptCallsites → Form → Answer → KeptCallsites → Type 0
-KeepsAfter (OpenSpan lane attrs) memory f a after =
-    LearnsOfSpan memory f (metadata_of attrs) a after
-KeepsAfter (SendEvent lane e) memory f a after = Learns memory f (event_metadata e) a after
-KeepsAfter (Probe lane m) memory f a after = Learns memory f m a after
-KeepsAfter (SetLevel n l) memory f answer.Done after =
-    after ≡ option_map (λ callsites. no_callsite) memory
-KeepsAfter call memory f a after = after ≡ memory
+-- how a stack of this form on this registry answers a call, where these callsites are kept, and which are kept then
+abbrev pub AnswersWith : Call → KeptCallsites → Form → RegistryState → Answer → KeptCallsites
+    → Type 0
+AnswersWith (OpenSpan lane a) kept f s (answer.Refused e) after =
+    IsUnknown kept f (metadata_of a) e after
+    ⊎ (IsDecided kept f s lane (metadata_of a) (vetoes f (metadata_of a) s.store lane.0) true after
+    × RefusesNew s lane (asked_parent a) e)
+AnswersWith (OpenSpan lane a) kept f s (answer.Made id) after =
+    IsDecided kept f s lane (metadata_of a) (vetoes f (metadata_of a) s.store lane.0) true after
+    × HasRoomFor s lane (asked_parent a)
+AnswersWith (OpenSpan lane a) kept f s answer.Dropped after =
+    IsDecided kept f s lane (metadata_of a) (vetoes f (metadata_of a) s.store lane.0) false after
+AnswersWith (SendEvent lane e) kept f s (answer.Refused error) after =
+    IsUnknown kept f (event_metadata e) error after
+AnswersWith (SendEvent lane e) kept f s answer.Done after =
+    IsDecided kept f s lane (event_metadata e) (vetoes_whole f e s.store lane) true after
+AnswersWith (SendEvent lane e) kept f s answer.Dropped after =
+    IsDecided kept f s lane (event_metadata e) (vetoes_whole f e s.store lane) false after
+AnswersWith (Probe lane m) kept f s (answer.Refused e) after = IsUnknown kept f m e after
+AnswersWith (Probe lane m) kept f s (answer.Yes said) after =
+    IsDecided kept f s lane m (vetoes f m s.store lane.0) said after
+AnswersWith (SetLevel n l) kept f s answer.Done after =
+    (after ≡ option_map (λ callsites. no_callsite) kept) × (takes_level f n l ≡ true)
+AnswersWith call kept f s a after = (after ≡ kept) × AnswersOther call f s a
+
+-- the lane that a call comes from: none where a level is set
+abbrev pub lane_of_call : Call → Option Lane
+lane_of_call (OpenSpan lane attrs) = Some lane
+lane_of_call (SendEvent lane e) = Some lane
+lane_of_call (Enter lane id) = Some lane
+lane_of_call (Exit lane id) = Some lane
+lane_of_call (RecordValues lane id values) = Some lane
+lane_of_call (Follow lane id other) = Some lane
+lane_of_call (AddHandle lane id) = Some lane
+lane_of_call (DropHandle lane id) = Some lane
+lane_of_call (Probe lane m) = Some lane
+lane_of_call (AskCurrent lane) = Some lane
+lane_of_call (SetLevel n l) = None
 
 -- Below: what a call does to a registry where it isn't refused, whatever the stack answers. Hooks may write extensions after it.
 
@@ -173,3 +152,8 @@ yes_answer (Err e) = answer.Refused e
 -- of a look at the span that a lane is in
 abbrev pub current_answer : Current → Answer
 current_answer c = answer.Current (option_map (λ o. o.0) (current_span c))
+
+-- of a look that may be refused
+abbrev pub look_answer : Result Current TraceError → Answer
+look_answer (Ok c) = current_answer c
+look_answer (Err e) = answer.Refused e

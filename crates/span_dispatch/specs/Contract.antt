@@ -1,11 +1,12 @@
 -- What the contract of each call of a dispatcher says. A word takes what the type of a stack says of it as one value, and dispatchers whole.
 use Rattle.std.specs.Prelude.{◌≡◌, ◌⊎◌, ◌&&◌, ℕ, Bool, true, false, List, Option, None, Result, Ok, Err, IfErr, IfOk, IfSome, MatchOption, OnErr, OnOk, is_some}
 use Rattle.std.specs.List.{FoldsTo}
+use Rattle.std.specs.Option.{option_map}
 use Rattle.std.specs.declared.alloc.Global.{Global}
 use Rattle.std.specs.declared.vec.Vec.{Vec}
 use Rattle.span_core.specs.Event.{event_metadata}
 use Rattle.span_core.specs.Span.{asked_parent, metadata_of, number_of}
-use Rattle.span_core.specs.declared.error.TraceError.TheVariants.{CallsiteMismatch}
+use Rattle.span_core.specs.declared.error.TraceError.TheVariants.{CallsiteMismatch, NotSettable}
 use Rattle.span_core.specs.declared.error.TraceError.{TraceError}
 use Rattle.span_core.specs.declared.event.Event.{Event}
 use Rattle.span_core.specs.declared.level.LevelFilter.{LevelFilter}
@@ -16,13 +17,13 @@ use Rattle.span_core.specs.declared.span.Current.{Current}
 use Rattle.span_core.specs.declared.span.Id.{Id}
 use Rattle.span_core.specs.declared.span.Lane.{Lane}
 use Rattle.span_core.specs.declared.span.Parent.{Parent}
-use Rattle.span_core.specs.declared.span.Record.{Record}
-use Rattle.span_dispatch.specs.Admission.{Decides, IsAdmitted, KeepsSafely, MayLearn, hint_kept, learned_if}
-use Rattle.span_dispatch.specs.Cache.{IsUpToDate, ReadsOnce, RefusesBelow, RefusesInterest, is_above_read}
-use Rattle.span_dispatch.specs.Call.{AddHandle, AskCurrent, Call, DropHandle, DropsSpan, Enter, Exit, Follow, OpenSpan, OpensFor, Probe, RecordValues, SendEvent, SetLevel, current_answer, done_answer, event_answer, span_answer, yes_answer}
+use Rattle.span_dispatch.specs.Admission.{IsAdmitted, MayLearn, hint_kept, learned_if}
+use Rattle.span_dispatch.specs.Cache.{KeptCallsites, ReadsOnce, RefusesBelow, RefusesInterest, RefusesRoom, is_above_read, with_room}
+use Rattle.span_dispatch.specs.Call.{DropsSpan, OpensFor, current_answer, done_answer, event_answer, span_answer, yes_answer}
+use Rattle.span_dispatch.specs.declared.call.Call.{Call}
+use Rattle.span_dispatch.specs.declared.call.Call.TheVariants.{AskCurrent, DropHandle, Exit, OpenSpan, Probe, SendEvent, SetLevel}
 use Rattle.span_dispatch.specs.Outcome.{IsHonest, OutcomeAt, Makes}
-use Rattle.span_dispatch.specs.Serve.{AnswersExactly, IsUpToDateSomehow, IsReady, IsReadyAfter, IsReadySomehow, IsReadyWith, IsTold, KeepsUpToDate, Sees, Served, ServedExactly, ServesRequest, TellsAsked, call_of, forgetful, hint_by, kept_by, stack_of, with_stack}
-use Rattle.span_dispatch.specs.declared.cache.Cache.{Cache}
+use Rattle.span_dispatch.specs.Serve.{IsReady, IsReadyAfter, IsReadyBy, IsReadySomehow, IsServed, KeepsUpToDate, Sees, Served, ServesRequest, forgetful, hint_by, kept_by, stack_of, with_stack}
 use Rattle.span_dispatch.specs.declared.dispatch.Dispatch.{Dispatch}
 use Rattle.span_dispatch.specs.declared.request.Answer.TheVariants.{Done}
 use Rattle.span_dispatch.specs.declared.request.Answer.{Answer}
@@ -36,7 +37,7 @@ use Rattle.span_registry.specs.Levels.{FollowsLevel, KeepsRules, LevelSteps, Lev
 use Rattle.span_registry.specs.Position.{HearSteps}
 use Rattle.span_registry.specs.Question.{ShowsBy, asked, event_asked}
 use Rattle.span_registry.specs.Step as step
-use Rattle.span_registry.specs.Step.{Exits, Opens, RefusesNew, Releases, Removal}
+use Rattle.span_registry.specs.Step.{Exits, Opens, RefusesNew, RefusesRelease, Releases, Removal}
 use Rattle.span_registry.specs.Store.{IsOpen, RegistryState}
 use Rattle.span_registry.specs.Subscriber.{AndHooks, SameButExtensions}
 use Rattle.span_registry.specs.declared.registry.Released.TheVariants.{Closing, StillOpen}
@@ -118,6 +119,21 @@ abbrev pub RefusesOpening : {S : Type 0} → (S → RegistryState) → Lane → 
 RefusesOpening registry lane m p d e =
     PassesKept m d × (RefusesInterest (kept_by d) m e ⊎ RefusesNew (registry (stack_of d)) lane p e)
 
+-- what is asked by metadata goes by what is kept: above the hint it is dropped, so; below it, of a callsite that is kept with other metadata, refused for that; else refused as this says. Their callsite alone may be kept newly, and is kept where nothing is refused
+pub record GoesByKept {S A : Type 0} (m : Metadata) (dropped : A) (refuses : TraceError → Type 0)
+    (given : Result A TraceError) (old new : Dispatch S) : Type 0 where
+  pub hint : KeepsHint old new
+  pub learned : LearnsOnly m old new
+  pub keeps : KeepsCallsite m given old new
+  pub above : DropsAbove m dropped given old new
+  pub mismatch : RefusesMismatch m given old new
+  pub refused : IfErr given refuses
+
+-- these callsites are kept, and no hint was read yet
+pub record KeepsOnly {S : Type 0} (those : KeptCallsites) (d : Dispatch S) : Type 0 where
+  pub callsites : kept_by d ≡ those
+  pub read : hint_by d ≡ None
+
 module _ {S : Type 0} (s : SubscriberOf S) where
   -- the registry of a dispatcher's stack
   abbrev pub registry_of : Dispatch S → RegistryState
@@ -148,34 +164,24 @@ module _ {S : Type 0} (s : SubscriberOf S) where
   abbrev pub CurrentBy : Form → Dispatch S → Type 0
   CurrentBy f d = KeepsUpToDate f (registry_of d).filters d
 
-  -- what it keeps loses nothing, by this form
-  abbrev pub SafeBy : Form → Dispatch S → Type 0
-  SafeBy f d = KeepsSafely f (registry_of d).filters d.cache
-
-  -- it is ready by a form that keeps this of the old one, with this said of what it keeps
-  abbrev pub ReadyAfter : (Form → ℕ → Cache → Type 0) → (Form → Form → Type 0) → Form → Dispatch S
-      → Type 0
-  ReadyAfter Kept keeps f d =
-      IsReadyAfter s.registry s.with_registry s.has_form s.stepped s.levelled Kept keeps f d
+  -- it is ready by a form that keeps this of the old one
+  abbrev pub ReadyAfter : (Form → Form → Type 0) → Form → Dispatch S → Type 0
+  ReadyAfter keeps f d =
+      IsReadyAfter s.registry s.with_registry s.has_form s.stepped s.levelled keeps f d
 
   -- ---- what is promised of an honest stack
 
-  -- a stack that was ready is ready in its dispatcher, by a form that keeps what the old one had, whatever is said of what is kept: nothing is yet
-  pub record BecomesReady (x : S) (d : Dispatch S) : Type 0 where
-    pub safe : (f : Form) → IsReady s.registry s.with_registry s.has_form s.stepped s.levelled f x
-        → ReadyAfter KeepsSafely KeepsForm f d
-    pub current : (f : Form)
-        → IsReady s.registry s.with_registry s.has_form s.stepped s.levelled f x
-        → ReadyAfter IsUpToDate KeepsForm f d
+  -- a stack that was ready is ready in its dispatcher, by a form that keeps what the old one had: nothing is kept yet
+  abbrev pub BecomesReady : S → Dispatch S → Type 0
+  BecomesReady x d =
+      (f : Form) → IsReady s.registry s.with_registry s.has_form s.stepped s.levelled f x
+      → ReadyAfter KeepsForm f d
 
-  -- a dispatcher that was ready is ready again, by a form that keeps this of the old one: both with what loses nothing kept, and with what its stack would answer now
+  -- a dispatcher that was ready is ready again, by a form that keeps this of the old one
   pub record StaysReadyWith (keeps : Form → Form → Type 0) (old new : Dispatch S) : Type 0 where
-    pub safe : (f : Form)
-        → IsReadyWith s.registry s.with_registry s.has_form s.stepped s.levelled KeepsSafely f old
-        → ReadyAfter KeepsSafely keeps f new
-    pub current : (f : Form)
-        → IsReadyWith s.registry s.with_registry s.has_form s.stepped s.levelled IsUpToDate f old
-        → ReadyAfter IsUpToDate keeps f new
+    pub again : (f : Form)
+        → IsReadyBy s.registry s.with_registry s.has_form s.stepped s.levelled f old
+        → ReadyAfter keeps f new
 
   -- by one that keeps what the old one had: interest and hint of each filter too
   abbrev pub StaysReady : Dispatch S → Dispatch S → Type 0
@@ -189,69 +195,19 @@ module _ {S : Type 0} (s : SubscriberOf S) where
   abbrev pub StaysReadyByRules : Dispatch S → Dispatch S → Type 0
   StaysReadyByRules old new = StaysReadyWith KeepsRules old new
 
-  -- an honest stack is told of a call so, where what is kept loses nothing; and it answers it exactly so, where what is kept is what it would answer now
-  pub record AnswersCall (call : Call) (a : Answer) (old new : Dispatch S) : Type 0 where
-    pub told : (f : Form) → HonestBy f old → SafeBy f old
-        → IsTold s.registry s.with_registry s.has_form s.stepped s.levelled call f a (stack_of old)
-        (stack_of new)
-    pub exact : (f : Form) → HonestBy f old → CurrentBy f old
-        → AnswersExactly call f (kept_by old) (registry_of old) a (kept_by new)
+  -- an honest stack serves a call so, where what is kept is what it would answer now
+  abbrev pub AnswersCall : Call → Answer → Dispatch S → Dispatch S → Type 0
+  AnswersCall call a old new =
+      (f : Form) → HonestBy f old → CurrentBy f old
+      → IsServed s.registry s.with_registry s.has_form s.stepped s.levelled call f (kept_by old)
+      (stack_of old) a (kept_by new) (stack_of new)
 
   -- and so does a drop, where no span was closing
   abbrev pub AnswersDrop : Call → Answer → Dispatch S → Dispatch S → Type 0
   AnswersDrop call a old new =
       HasNoClosing (registry_of old).store.spans → AnswersCall call a old new
 
-  -- so is `enabled` answered, with what it gives for an answer
-  abbrev pub ServesEnabled : Lane → Metadata → Result Bool TraceError → Dispatch S → Dispatch S
-      → Type 0
-  ServesEnabled lane m given old new = AnswersCall (Probe lane m) (yes_answer given) old new
-
-  -- so is `new_span`
-  abbrev pub ServesNewSpan : Lane → Attributes → Result (Option Id) TraceError → Dispatch S
-      → Dispatch S → Type 0
-  ServesNewSpan lane attrs given old new =
-      AnswersCall (OpenSpan lane attrs) (span_answer given) old new
-
-  -- so is `event`
-  abbrev pub ServesEvent : Lane → Event → Result Bool TraceError → Dispatch S → Dispatch S → Type 0
-  ServesEvent lane e given old new = AnswersCall (SendEvent lane e) (event_answer given) old new
-
-  -- so is `enter`
-  abbrev pub ServesEnter : {A : Type 0} → Lane → Id → Result A TraceError → Dispatch S → Dispatch S
-      → Type 0
-  ServesEnter lane id given old new = AnswersCall (Enter lane id) (done_answer given) old new
-
-  -- so is `exit`, which is always done
-  abbrev pub ServesExit : Lane → Id → Dispatch S → Dispatch S → Type 0
-  ServesExit lane id old new = AnswersCall (Exit lane id) Done old new
-
-  -- so is `record`
-  abbrev pub ServesRecord : {A : Type 0} → Lane → Id → Record → Result A TraceError → Dispatch S
-      → Dispatch S → Type 0
-  ServesRecord lane id values given old new =
-      AnswersCall (RecordValues lane id values) (done_answer given) old new
-
-  -- so is `follows_from`
-  abbrev pub ServesFollows : {A : Type 0} → Lane → Id → Id → Result A TraceError → Dispatch S
-      → Dispatch S → Type 0
-  ServesFollows lane id follows given old new =
-      AnswersCall (Follow lane id follows) (done_answer given) old new
-
-  -- so is `clone_span`
-  abbrev pub ServesClone : Lane → Id → Result Id TraceError → Dispatch S → Dispatch S → Type 0
-  ServesClone lane id given old new = AnswersCall (AddHandle lane id) (done_answer given) old new
-
-  -- so is `drop_span`, of a dispatcher that is ready
-  abbrev pub ServesDrop : Lane → Id → Result Bool TraceError → Dispatch S → Dispatch S → Type 0
-  ServesDrop lane id given old new = AnswersDrop (DropHandle lane id) (yes_answer given) old new
-
-  -- so is `set_level`
-  abbrev pub ServesLevel : {A : Type 0} → ℕ → LevelFilter → Result A TraceError → Dispatch S
-      → Dispatch S → Type 0
-  ServesLevel n l given old new = AnswersCall (SetLevel n l) (done_answer given) old new
-
-  -- so is `current_span`, and nothing changes
+  -- `current_span` is served so, and nothing changes
   abbrev pub ServesCurrent : Lane → Current → Dispatch S → Type 0
   ServesCurrent lane given d = AnswersCall (AskCurrent lane) (current_answer given) d d
 
@@ -262,20 +218,10 @@ module _ {S : Type 0} (s : SubscriberOf S) where
       (f : Form) → HonestBy f old → CurrentBy f old
       → IsAdmitted (kept_by old) f (registry_of old) lane m pass (kept_by new) said
 
-  -- and where what is kept loses nothing
-  abbrev pub AdmitsSafely : Lane → Metadata → Dispatch S → Pass → Result Bool TraceError → Type 0
-  AdmitsSafely lane m old pass said =
-      (f : Form) → HonestBy f old → SafeBy f old
-      → Decides f (registry_of old).store lane m pass said
-
   -- a dispatcher that is ready serves the next request so
   pub record ServesNext (past : List Answer) (r : Request) (a : Answer)
       (old new : Dispatch S) : Type 0 where
-    pub told : IsReadySomehow s.registry s.with_registry s.has_form s.stepped s.levelled old
-        → (made : List OutcomeAt)
-        × TellsAsked s.registry s.with_registry s.has_form s.stepped s.levelled (call_of past r)
-        (stack_of old) a made (stack_of new)
-    pub exact : IsUpToDateSomehow s.registry s.with_registry s.has_form s.stepped s.levelled old
+    pub served : IsReadySomehow s.registry s.with_registry s.has_form s.stepped s.levelled old
         → (made : List OutcomeAt)
         × ServesRequest s.registry s.with_registry s.has_form s.stepped s.levelled past r
         (kept_by old) (stack_of old) a made (kept_by new) (stack_of new)
@@ -285,22 +231,14 @@ module _ {S : Type 0} (s : SubscriberOf S) where
   ServesList requests old new answers =
       IsReadySomehow s.registry s.with_registry s.has_form s.stepped s.levelled old
       → Served s.registry s.with_registry s.has_form s.stepped s.levelled s.hears s.acts_at requests
-      answers.items (stack_of old) (stack_of new)
+      answers.items old new
 
-  -- and answers each request of it exactly so, where what it keeps is what its stack would answer now
-  abbrev pub ServesListExactly : List Request → Dispatch S → Dispatch S → Vec Answer Global → Type 0
-  ServesListExactly requests old new answers =
-      IsUpToDateSomehow s.registry s.with_registry s.has_form s.stepped s.levelled old
-      → ServedExactly s.registry s.with_registry s.has_form s.stepped s.levelled s.hears s.acts_at
-      requests answers.items old new
-
-  -- whatever was made between the two, each leaf sees of it what its path passes, as if it stood alone
-  abbrev pub SeesWhatIsMade : Dispatch S → Dispatch S → Type 0
-  SeesWhatIsMade old new =
-      (made : List OutcomeAt)
-      → FoldsTo (Makes s.registry s.with_registry s.has_form s.stepped s.levelled)
-      (stack_of old) made (stack_of new)
-      → Sees s.registry s.hears s.acts_at (stack_of old) made (stack_of new)
+  -- whatever is made between two stacks, each leaf sees of it what its path passes, as if it stood alone
+  abbrev pub SeesWhatIsMade : Type 0
+  SeesWhatIsMade =
+      (old new : S) (made : List OutcomeAt)
+      → FoldsTo (Makes s.registry s.with_registry s.has_form s.stepped s.levelled) old made new
+      → Sees s.registry s.hears s.acts_at old made new
 
   -- ---- what is promised of any stack that has a form
 
@@ -309,11 +247,6 @@ module _ {S : Type 0} (s : SubscriberOf S) where
   StaysUpToDate old new =
       (f : Form) → s.has_form (stack_of old) f → CurrentBy f old
       → KeepsUpToDate f (registry_of old).filters new
-
-  -- where what was kept lost nothing, by a form that it has and is honest by, neither does what is kept now
-  abbrev pub StaysSafe : Dispatch S → Dispatch S → Type 0
-  StaysSafe old new =
-      (f : Form) → HonestBy f old → SafeBy f old → KeepsSafely f (registry_of old).filters new.cache
 
   -- whether a filter with this number takes this level, by each form that the stack has
   abbrev pub TakesLevel : ℕ → LevelFilter → Dispatch S → Bool → Type 0
@@ -414,39 +347,110 @@ module _ {S : Type 0} (s : SubscriberOf S) where
   StaysWithoutClosing old new =
       HasNoClosing (registry_of old).store.spans → HasNoClosing (registry_of new).store.spans
 
-  -- ---- all of it, for calls that hand on
+  -- ---- what each call promises, beside `usable`, `ready` and `registered`
 
-  -- what `event` promises, beside `usable`, `ready` and `registered`
+  -- `enabled`: asked by metadata, and no layer is notified
+  pub record Probes (lane : Lane) (m : Metadata) (given : Result Bool TraceError)
+      (old new : Dispatch S) : Type 0 where
+    pub rest : ChangesKept old new
+    pub served : AnswersCall (Probe lane m) (yes_answer given) old new
+    pub kept : GoesByKept m false (RefusesMetadata m old) given old new
+    pub up_to_date : StaysUpToDate old new
+    pub asked : IfOk given (WantsMetadata lane m old)
+
+  -- `register_callsite`: the callsite is kept, unless its level is above the hint or nothing is ever kept
+  pub record LearnsCallsite {A : Type 0} (m : Metadata) (given : Result A TraceError)
+      (old new : Dispatch S) : Type 0 where
+    pub rest : ChangesKept old new
+    pub learned : LearnsOnly m old new
+    pub hint : KeepsHint old new
+    pub keeps : KeepsCallsite m given old new
+    pub above : IfErr given (λ e. PassesKept m new)
+    pub mismatch : RefusesMismatch m given old new
+    pub refused : IfErr given (RefusesMetadata m old)
+    pub unchanged : OnErr given (kept_by new ≡ kept_by old)
+    pub up_to_date : StaysUpToDate old new
+
+  -- `reserve_callsites`: memory is held for this many callsites more, if any is ever kept; refused, the same is kept as before
+  pub record ReservesCallsites {A : Type 0} (n : ℕ) (given : Result A TraceError)
+      (old new : Dispatch S) : Type 0 where
+    pub rest : ChangesKept old new
+    pub held : OnOk given (kept_by new ≡ option_map (with_room n) (kept_by old))
+    pub hint : KeepsHint old new
+    pub refused : IfErr given (RefusesRoom n (kept_by old))
+    pub unchanged : OnErr given (kept_by new ≡ kept_by old)
+    pub up_to_date : StaysUpToDate old new
+
+  -- `event`: dropped or refused, it leaves the stack as it was
   pub record SendsEvent (lane : Lane) (e : Event) (given : Result Bool TraceError)
       (old new : Dispatch S) : Type 0 where
-    pub kept : LearnsOnly (event_metadata e) old new
+    pub served : AnswersCall (SendEvent lane e) (event_answer given) old new
+    pub kept : GoesByKept (event_metadata e) false (RefusesEvent e old) given old new
     pub up_to_date : StaysUpToDate old new
-    pub safe : StaysSafe old new
-    pub served : ServesEvent lane e given old new
-    pub seen : SeesWhatIsMade old new
+    pub asked : IfOk given (WantsEvent lane e old)
     pub store : TakesStep Stays old new
     pub dropped : given ≡ Ok false → SameStack old new
-    pub asked : IfOk given (WantsEvent lane e old)
-    pub hint : KeepsHint old new
-    pub above : DropsAbove (event_metadata e) false given old new
-    pub keeps : KeepsCallsite (event_metadata e) given old new
-    pub mismatch : RefusesMismatch (event_metadata e) given old new
-    pub refused : IfErr given (RefusesEvent e old)
     pub unchanged : OnErr given (SameStack old new)
 
-  -- what `new_span` promises, beside `usable`, `ready` and `registered`
-  pub record OpensSpan (lane : Lane) (attrs : Attributes) (given : Result (Option Id) TraceError)
-      (old new : Dispatch S) : Type 0 where
-    pub kept : LearnsOnly (metadata_of attrs) old new
+  -- a call that opens a span so, where there is one
+  pub record OpensSpanSo (opens : Option Id → Type 0) (lane : Lane) (attrs : Attributes)
+      (given : Result (Option Id) TraceError) (old new : Dispatch S) : Type 0 where
+    pub served : AnswersCall (OpenSpan lane attrs) (span_answer given) old new
+    pub kept : GoesByKept (metadata_of attrs) None (RefusesSpan lane attrs old) given old new
     pub up_to_date : StaysUpToDate old new
-    pub safe : StaysSafe old new
-    pub served : ServesNewSpan lane attrs given old new
-    pub seen : SeesWhatIsMade old new
     pub asked : WantsSpan lane attrs old given
-    pub store : IfOk given (OpensIfMade lane attrs old new)
-    pub hint : KeepsHint old new
-    pub above : DropsAbove (metadata_of attrs) None given old new
-    pub keeps : KeepsCallsite (metadata_of attrs) given old new
-    pub mismatch : RefusesMismatch (metadata_of attrs) given old new
-    pub refused : IfErr given (RefusesSpan lane attrs old)
+    pub store : IfOk given opens
     pub unchanged : OnErr given (SameStack old new)
+
+  -- `new_span`: dropped or refused, it leaves the stack as it was
+  abbrev pub OpensSpan : Lane → Attributes → Result (Option Id) TraceError → Dispatch S → Dispatch S
+      → Type 0
+  OpensSpan lane attrs given old new =
+      OpensSpanSo (OpensIfMade lane attrs old new) lane attrs given old new
+
+  -- the same, with this pass's refusing filters for the span's verdict
+  abbrev pub OpensSpanBy : Pass → Lane → Attributes → Result (Option Id) TraceError → Dispatch S
+      → Dispatch S → Type 0
+  OpensSpanBy pass lane attrs given old new =
+      OpensSpanSo (OpensByPass lane attrs pass old new) lane attrs given old new
+
+  -- a call that asks something of a span: nothing changes but the stack, which takes this step where the call isn't refused, and is as it was where it is
+  pub record AsksOfSpan {A : Type 0} (call : Call) (steps : Dispatch S → Dispatch S → Type 0)
+      (refuses : Dispatch S → TraceError → Type 0) (given : Result A TraceError)
+      (old new : Dispatch S) : Type 0 where
+    pub rest : ChangesStack old new
+    pub served : AnswersCall call (done_answer given) old new
+    pub store : OnOk given (steps old new)
+    pub refused : IfErr given (refuses old)
+    pub unchanged : OnErr given (new ≡ old)
+
+  -- `exit`: never refused
+  pub record ExitsSpan (lane : Lane) (id : Id) (old new : Dispatch S) : Type 0 where
+    pub rest : ChangesStack old new
+    pub served : AnswersCall (Exit lane id) Done old new
+    pub store : TakesStep (Exits lane id) old new
+    pub gone : LeavesGone lane id old new
+
+  -- `drop_span`: what is said of all that closes supposes that no span was closing
+  pub record DropsOneHandle (lane : Lane) (id : Id) (given : Result Bool TraceError)
+      (old new : Dispatch S) : Type 0 where
+    pub rest : ChangesStack old new
+    pub served : AnswersDrop (DropHandle lane id) (yes_answer given) old new
+    pub taken : IfOk given (TakesHandle id old new)
+    pub store : IfOk given (DropsSettled id old new)
+    pub settled : StaysWithoutClosing old new
+    pub refused : IfErr given (Refuses RefusesRelease id old)
+    pub unchanged : OnErr given (new ≡ old)
+
+  -- `set_level`: the filter with this number alone answers otherwise, and nothing is kept any more
+  pub record SetsOneLevel {A : Type 0} (n : ℕ) (l : LevelFilter) (given : Result A TraceError)
+      (old new : Dispatch S) : Type 0 where
+    pub registry : SameRegistry old new
+    pub served : AnswersCall (SetLevel n l) (done_answer given) old new
+    pub level : OnOk given (GivesLevel n l old new)
+    pub taken : OnOk given (TakesLevel n l old true)
+    pub none : OnErr given (TakesLevel n l old false)
+    pub rest : ChangesLevel n old new
+    pub forgets : OnOk given (Forgets old new)
+    pub refused : IfErr given (λ e. e ≡ NotSettable n)
+    pub unchanged : OnErr given (new ≡ old)

@@ -4,7 +4,7 @@ use Rattle.span_dispatch.specs.Cache.{KeptCallsites}
 use Rattle.span_dispatch.specs.Outcome.{OutcomeAt}
 use Rattle.span_dispatch.specs.Recorder.{kept_notice}
 use Rattle.span_dispatch.specs.Alone.{passed_at}
-use Rattle.span_dispatch.specs.Serve.{RunExactly, flat}
+use Rattle.span_dispatch.specs.Serve.{Run, flat}
 use Rattle.span_dispatch.specs.declared.notice.Notice.{Notice}
 use Rattle.span_dispatch.specs.declared.request.Answer.{Answer}
 use Rattle.span_dispatch.specs.declared.request.Request.{Request}
@@ -32,7 +32,7 @@ Formed = RegistryState × Form
 abbrev pub RunsBy : Form → List Request → List Answer → List (List OutcomeAt) → KeptCallsites
     → RegistryState → KeptCallsites → RegistryState → Type 0
 RunsBy f requests answers made kept s after t =
-    (g : Form) × RunExactly (λ (r : Formed). r.0) (λ r w. (w, r.1)) (λ r h. h ≡ r.1)
+    (g : Form) × Run (λ (r : Formed). r.0) (λ r w. (w, r.1)) (λ r h. h ≡ r.1)
     (λ r p e lane v q w. q.1 ≡ r.1) (λ r n l q. q.1 ≡ set_at n l r.1) [] requests answers made
     kept (s, f) after (t, g)
 

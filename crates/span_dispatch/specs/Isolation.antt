@@ -3,6 +3,7 @@ use Rattle.std.specs.Prelude.{◌≡◌, ⊤, List, [], ◌∷◌, map}
 use Rattle.std.specs.List.{FoldsTo, filter}
 use Rattle.span_core.specs.Filters.{FilterSet}
 use Rattle.span_dispatch.specs.Alone.{form_of_path, passed_at}
+use Rattle.span_dispatch.specs.Cache.{KeptCallsites}
 use Rattle.span_dispatch.specs.Effect.{MadeCall, OutcomesFrom, OutcomesOf, concerns}
 use Rattle.span_dispatch.specs.Outcome.{OutcomeAt, Makes, Outcome, Steps}
 use Rattle.span_dispatch.specs.Serve.{Served, flat, made_calls, outcome_of, stack_of}
@@ -70,7 +71,7 @@ pub record SeesServed {S : Type 0} (registry : S → RegistryState)
   pub requests : List Request
   pub answers : List Answer
   pub served : Served registry with_registry has_form stepped levelled hears acts_at requests
-      answers (stack_of old) (stack_of new)
+      answers old new
   pub position : Position
   pub acts : acts_at (stack_of old) position cs
   pub at_store : (registry (stack_of old)).store ≡ s
@@ -87,7 +88,7 @@ pub record SeesCalls {S : Type 0} (registry : S → RegistryState)
   pub requests : List Request
   pub answers : List Answer
   pub served : Served registry with_registry has_form stepped levelled hears acts_at requests
-      answers (stack_of old) (stack_of new)
+      answers old new
   pub position : Position
   pub acts : acts_at (stack_of old) position cs
   pub at_store : (registry (stack_of old)).store ≡ s
@@ -96,10 +97,12 @@ pub record SeesCalls {S : Type 0} (registry : S → RegistryState)
 
 -- what was made of a list that was told is what its made requests have by themselves, as far as filters of any numbers go
 abbrev pub SaysWhatIsMade : {S : Type 0} → (S → RegistryState)
-    → (List Request → List Answer → List (List OutcomeAt) → S → S → Type 0) → Type 0
+    → (List Request → List Answer → List (List OutcomeAt) → KeptCallsites → S → KeptCallsites → S
+    → Type 0)
+    → Type 0
 SaysWhatIsMade {S} registry Runs =
     (numbers : FilterSet) (rs : List Request) (answers : List Answer) (made : List (List OutcomeAt))
-    (x y : S) → Runs rs answers made x y
+    (kept after : KeptCallsites) (x y : S) → Runs rs answers made kept x after y
     → OutcomesFrom (registry x).store (made_calls numbers [] rs answers)
     (filter (concerns numbers) (map outcome_of (flat made)))
 

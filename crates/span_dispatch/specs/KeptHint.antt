@@ -1,37 +1,27 @@
 -- What is promised of any stack, in a list of requests: what is asked by metadata goes by the hint and the callsites that are kept.
-use Rattle.std.specs.Prelude.{◌≡◌, ⊤, List, [], ◌∷◌, ◌++◌, true, false, None}
+use Rattle.std.specs.Prelude.{◌≡◌, List, [], ◌∷◌, ◌++◌, false, Option, Some, None, Result}
 use Rattle.std.specs.Option.{option_map}
 use Rattle.std.specs.declared.alloc.Global.{Global}
 use Rattle.std.specs.declared.vec.Vec.{Vec}
-use Rattle.span_core.specs.declared.error.TraceError.TheVariants.{CallsiteMismatch}
+use Rattle.span_core.specs.Event.{event_metadata}
+use Rattle.span_core.specs.Span.{asked_parent, metadata_of}
 use Rattle.span_core.specs.declared.error.TraceError.{TraceError}
-use Rattle.span_core.specs.declared.metadata.Metadata.{Metadata}
-use Rattle.span_dispatch.specs.Admission.{learned_if}
-use Rattle.span_dispatch.specs.Cache.{is_above_read, no_callsite}
-use Rattle.span_dispatch.specs.Contract.{KeepsHint, LearnsOnly, RefusesMetadata, RefusesOpening}
-use Rattle.span_dispatch.specs.Serve.{hint_by, kept_by, resolved_parent}
+use Rattle.span_dispatch.specs.Cache.{no_callsite}
+use Rattle.span_dispatch.specs.Call.{event_answer, span_answer, yes_answer}
+use Rattle.span_dispatch.specs.Contract.{GoesByKept, RefusesEvent, RefusesMetadata, RefusesOpening}
+use Rattle.span_dispatch.specs.Serve.{call_of, hint_by, kept_by}
+use Rattle.span_dispatch.specs.declared.call.Call.TheVariants.{OpenSpan, Probe, SendEvent, SetLevel}
+use Rattle.span_dispatch.specs.declared.call.Call.{Call}
 use Rattle.span_dispatch.specs.declared.dispatch.Dispatch.{Dispatch}
 use Rattle.span_dispatch.specs.declared.request.Answer.TheVariants as answer
 use Rattle.span_dispatch.specs.declared.request.Answer.{Answer}
-use Rattle.span_dispatch.specs.declared.request.Request.TheVariants as request
 use Rattle.span_dispatch.specs.declared.request.Request.{Request}
 use Rattle.span_registry.specs.Store.{RegistryState}
 
--- it isn't a refusal
-abbrev pub IsNoRefusal : Answer → Type 0
-IsNoRefusal (answer.Refused e) = ⊥
-IsNoRefusal other = ⊤
-
--- what is asked by metadata is answered so: above the hint that is kept then it is dropped; below it, of a callsite that is kept with other metadata, refused for that; else refused as this says; and of callsites none but theirs is kept newly, which is kept where it isn't refused, unless the level is above the hint
-pub record GoesByKept {S : Type 0} (m : Metadata) (dropped : Answer) (refuses : TraceError → Type 0)
-    (a : Answer) (old new : Dispatch S) : Type 0 where
-  pub hint : KeepsHint old new
-  pub callsites : LearnsOnly m old new
-  pub keeps : IsNoRefusal a
-      → kept_by new ≡ learned_if (is_above_read (hint_by new) m) (kept_by old) m
-  pub above : is_above_read (hint_by new) m ≡ true → a ≡ dropped
-  pub mismatch : RefusesMetadata m old CallsiteMismatch → a ≡ answer.Refused CallsiteMismatch
-  pub refused : (e : TraceError) → a ≡ answer.Refused e → refuses e
+-- a call gave something of which this is the answer, and this holds of what it gave
+abbrev pub Gives : {A : Type 0} → (Result A TraceError → Answer) → Answer
+    → (Result A TraceError → Type 0) → Type 0
+Gives {A} answer_of a holds = (given : Result A TraceError) × (a ≡ answer_of given) × holds given
 
 -- hint and callsites are kept as they were
 pub record StaysKept {S : Type 0} (old new : Dispatch S) : Type 0 where
@@ -44,19 +34,31 @@ pub record IsForgotten {S : Type 0} (old new : Dispatch S) : Type 0 where
   pub callsites : kept_by new ≡ option_map (λ callsites. no_callsite) (kept_by old)
 
 module _ {S : Type 0} (registry : S → RegistryState) where
+  -- a call is answered so, and then this is kept
+  abbrev pub CallGoesByKept : Call → Answer → Dispatch S → Dispatch S → Type 0
+  CallGoesByKept (OpenSpan lane attrs) a old new =
+      let m = metadata_of attrs in
+      Gives span_answer a
+      (λ given. GoesByKept m None (RefusesOpening registry lane m (asked_parent attrs) old) given old
+      new)
+  CallGoesByKept (SendEvent lane e) a old new =
+      Gives event_answer a
+      (λ given. GoesByKept (event_metadata e) false (RefusesEvent e old) given old new)
+  CallGoesByKept (Probe lane m) a old new =
+      Gives yes_answer a (λ given. GoesByKept m false (RefusesMetadata m old) given old new)
+  CallGoesByKept (SetLevel number level) answer.Done old new = IsForgotten old new
+  CallGoesByKept call a old new = StaysKept old new
+
+  -- what was asked for, if anything was, is answered so
+  abbrev pub AskedGoesByKept : Option Call → Answer → Dispatch S → Dispatch S → Type 0
+  AskedGoesByKept None a old new = StaysKept old new
+  AskedGoesByKept (Some call) a old new = CallGoesByKept call a old new
+
   -- a request behind these answers is answered so, and then this is kept
   abbrev pub RequestGoesByKept : List Answer → Request → Answer → Dispatch S → Dispatch S → Type 0
-  RequestGoesByKept past (request.NewSpan lane m p values) a old new =
-      GoesByKept m answer.Dropped (RefusesOpening registry lane m (resolved_parent past p) old) a
-      old new
-  RequestGoesByKept past (request.Event lane m p values) a old new =
-      GoesByKept m answer.Dropped (RefusesMetadata m old) a old new
-  RequestGoesByKept past (request.Enabled lane m) a old new =
-      GoesByKept m (answer.Yes false) (RefusesMetadata m old) a old new
-  RequestGoesByKept past (request.SetLevel number level) answer.Done old new = IsForgotten old new
-  RequestGoesByKept past r a old new = StaysKept old new
+  RequestGoesByKept past r a old new = AskedGoesByKept (call_of past r) a old new
 
-  -- so is each request of a list, one after another
+  -- each request of a list is answered so, one after another
   abbrev pub AllGoByKept : List Answer → List Request → List Answer → Dispatch S → Dispatch S
       → Type 0
   AllGoByKept past [] [] old new = new ≡ old

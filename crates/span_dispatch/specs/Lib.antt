@@ -1,5 +1,6 @@
 pub mod Admission
 pub mod Alone
+pub mod Ask
 pub mod Cache
 pub mod Call
 pub mod Contract

@@ -1,66 +1,69 @@
 -- What the contract of each call of a logged dispatcher says: what the dispatcher promises of it, where it isn't refused, and which entry it adds.
-use Rattle.std.specs.Prelude.{◌≡◌, ◌⊎◌, ℕ, Bool, false, Option, None, Some, Result, Ok, Err, IfErr, IfOk, OnOk}
+use Rattle.std.specs.Prelude.{◌≡◌, ◌⊎◌, Bool, Option, None, Some, Result, Ok, Err, IfErr, IfOk}
 use Rattle.std.specs.FinMap.{get}
 use Rattle.std.specs.Option.{option_map}
 use Rattle.span_core.specs.Event.{event_metadata, event_parent}
 use Rattle.span_core.specs.Span.{asked_parent, current_span, metadata_of, number_of}
-use Rattle.span_core.specs.declared.error.TraceError.TheVariants.{NotSettable, OutOfMemory}
+use Rattle.span_core.specs.declared.error.TraceError.TheVariants.{OutOfMemory}
 use Rattle.span_core.specs.declared.error.TraceError.{TraceError}
 use Rattle.span_core.specs.declared.event.Event.{Event}
-use Rattle.span_core.specs.declared.level.LevelFilter.{LevelFilter}
-use Rattle.span_core.specs.declared.metadata.Metadata.{Metadata}
 use Rattle.span_core.specs.declared.span.Attributes.{Attributes}
 use Rattle.span_core.specs.declared.span.Current.{Current}
 use Rattle.span_core.specs.declared.span.Id.{Id}
 use Rattle.span_core.specs.declared.span.Lane.{Lane}
-use Rattle.span_core.specs.declared.span.Record.{Record}
-use Rattle.span_dispatch.specs.Contract.{DropsAbove, KeepsCallsite, KeepsHint, RefusesMismatch, ServesClone, ServesCurrent, ServesDrop, ServesEnabled, ServesEnter, ServesEvent, ServesExit, ServesFollows, ServesLevel, ServesNewSpan, ServesRecord, SubscriberOf, TakesLevel, WantsSpan, registry_of}
+use Rattle.span_dispatch.specs.Call.{FindsOpen, done_answer, event_answer, look_answer, span_answer, yes_answer}
+use Rattle.span_registry.specs.Step.{RefusesUnlessOpen}
+use Rattle.span_dispatch.specs.Contract.{AsksOfSpan, DropsOneHandle, ExitsSpan, OpensSpan, Probes, Refuses, SendsEvent, ServesCurrent, SetsOneLevel, Shows, SubscriberOf, TakesStep, TakesStepAlone, registry_of}
 use Rattle.span_dispatch.specs.Journal.{Adds, Entry, LoggedState, Placed}
-use Rattle.span_dispatch.specs.Serve.{hint_by}
+use Rattle.span_dispatch.specs.declared.call.Call.TheVariants.{AddHandle, AskCurrent, DropHandle, Enter, Exit, Follow, OpenSpan, Probe, RecordValues, SendEvent, SetLevel}
+use Rattle.span_dispatch.specs.declared.call.Call.{Call}
 use Rattle.span_dispatch.specs.declared.dispatch.Dispatch.{Dispatch}
 use Rattle.span_dispatch.specs.declared.entry.EntryWith.TheVariants as entry
+use Rattle.span_dispatch.specs.declared.request.Answer.{Answer}
+use Rattle.span_registry.specs.Step.{Clones, Enters, RefusesClone, RefusesEnter}
 use Rattle.span_registry.specs.Store.{Span, Spans}
 
 -- an answer with its receipt, or why the call was refused
 abbrev pub Answered : Type 0 → Type 0
 Answered A = Result (A × Placed) TraceError
 
--- what is said of an answer, and of a logged dispatcher before and after the call
-abbrev pub Saying : (D A : Type 0) → Type 1
-Saying D A = Answered A → LoggedState D → LoggedState D → Type 0
-
 -- between the dispatchers of two logged ones
 abbrev pub On : {D : Type 0} → (D → D → Type 0) → LoggedState D → LoggedState D → Type 0
 On holds old new = holds old.dispatch new.dispatch
 
--- the same, where the call isn't refused
-abbrev pub IfDone : {D A : Type 0} → (D → D → Type 0) → Saying D A
-IfDone holds result old new = OnOk result (holds old.dispatch new.dispatch)
-
--- the same, of the answer too
-abbrev pub IfGiven : {D A : Type 0} → (D → D → A → Type 0) → Saying D A
-IfGiven holds result old new = IfOk result (λ r. holds old.dispatch new.dispatch r.0)
-
--- where the call isn't refused, of the dispatcher before it and the answer
-abbrev pub IfTold : {D A : Type 0} → (D → A → Type 0) → Answered A → LoggedState D → Type 0
-IfTold holds result old = IfOk result (λ r. holds old.dispatch r.0)
+-- a call that is never refused, of what it gives and the dispatcher before and after it
+abbrev pub NeverRefused : {D A : Type 0} → (A → D → D → Type 0) → Result A TraceError → D → D → Type 0
+NeverRefused serves (Ok a) old new = serves a old new
+NeverRefused serves (Err e) old new = ⊥
 
 -- the call is refused for want of memory, or as the dispatcher refuses it
 abbrev pub OrNoMemory : (TraceError → Type 0) → TraceError → Type 0
 OrNoMemory refuses e = (e ≡ OutOfMemory) ⊎ refuses e
 
--- so is it refused
-abbrev pub IfRefused : {D A : Type 0} → (D → TraceError → Type 0) → Answered A → LoggedState D
+-- an entry, which may have what the call gave in it, was put behind the journal, and the receipt is of it
+abbrev pub AddsEntry : {D A : Type 0} → (A → Entry) → A × Placed → LoggedState D → LoggedState D
     → Type 0
-IfRefused refuses result old = IfErr result (OrNoMemory (refuses old.dispatch))
+AddsEntry entry r old new = Adds (entry r.0) old.journal r.1 new.journal
 
--- where the call isn't refused, this entry was put behind the journal, and the receipt is of it
-abbrev pub AddsDone : {D A : Type 0} → Entry → Saying D A
-AddsDone e result old new = IfOk result (λ r. Adds e old.journal r.1 new.journal)
+-- a call is served as the dispatcher serves it, and adds its entry. Refused it adds none; and it may be refused for want of memory for the journal, before the dispatcher is asked
+pub record Logs {D A : Type 0} (serves : Result A TraceError → D → D → Type 0)
+    (adds : A × Placed → LoggedState D → LoggedState D → Type 0) (result : Answered A)
+    (old new : LoggedState D) : Type 0 where
+  pub done : IfOk result (λ r. serves (Ok r.0) old.dispatch new.dispatch × adds r old new)
+  pub refused : IfErr result
+      (λ e. ((e ≡ OutOfMemory) × (new ≡ old))
+      ⊎ (serves (Err e) old.dispatch new.dispatch × (new.journal ≡ old.journal)))
 
--- the same of an entry that has the answer in it
-abbrev pub AddsEntry : {D A : Type 0} → (A → Entry) → Saying D A
-AddsEntry entry result old new = IfOk result (λ r. Adds (entry r.0) old.journal r.1 new.journal)
+-- what was given beside a receipt
+abbrev pub without_receipt : {A : Type 0} → Answered A → Result A TraceError
+without_receipt (Ok r) = Ok r.0
+without_receipt (Err e) = Err e
+
+-- a call gave something, of which this is the answer, and this holds of what it gave
+abbrev pub Gave : {A : Type 0} → (Result A TraceError → Answer) → Answer → (Answered A → Type 0)
+    → Type 0
+Gave {A} answer_of a holds =
+    (result : Answered A) × (a ≡ answer_of (without_receipt result)) × holds result
 
 -- the entry of an event, by whether it was made
 abbrev pub event_entry : Lane → Event → Bool → Entry
@@ -71,91 +74,70 @@ abbrev pub current_entry : Lane → Current → Entry
 current_entry lane shown = entry.Current lane (option_map (λ o. o.0) (current_span shown))
 
 -- the entry of a new span that was made or not, with the verdict that these spans keep of it
-abbrev pub AddsSpan : {D : Type 0} → Lane → Attributes → Spans → LoggedState D → LoggedState D
-    → Option Id × Placed → Type 0
-AddsSpan lane attrs spans old new (None, receipt) =
+abbrev pub AddsSpan : {D : Type 0} → Lane → Attributes → Spans → Option Id × Placed → LoggedState D
+    → LoggedState D → Type 0
+AddsSpan lane attrs spans (None, receipt) old new =
     Adds (entry.Unmade lane (metadata_of attrs)) old.journal receipt new.journal
-AddsSpan lane attrs spans old new (Some id, receipt) =
+AddsSpan lane attrs spans (Some id, receipt) old new =
     (kept : Span) × (get spans (number_of id) ≡ Some kept)
     × Adds (entry.New lane (metadata_of attrs) (asked_parent attrs) kept.verdict id) old.journal
     receipt new.journal
 
--- the dispatcher serves a call so, unless memory for the journal is refused
-abbrev pub Logs : {D A : Type 0} → (Result A TraceError → D → D → Type 0) → Saying D A
-Logs serves (Ok r) old new = serves (Ok r.0) old.dispatch new.dispatch
-Logs serves (Err e) old new = (e ≡ OutOfMemory) ⊎ serves (Err e) old.dispatch new.dispatch
-
--- what is above the kept hint is dropped, unless memory for the journal is refused
-abbrev pub LogsDropped : {S A : Type 0} → Metadata → A → Saying (Dispatch S) A
-LogsDropped m dropped = Logs (DropsAbove m dropped)
-
--- what is below it, of a callsite that is kept with other metadata, is refused for that, unless memory for the journal is refused
-abbrev pub LogsMismatch : {S A : Type 0} → Metadata → Saying (Dispatch S) A
-LogsMismatch m = Logs (RefusesMismatch m)
-
--- where the call isn't refused, its callsite is kept then, unless its level is above the kept hint
-abbrev pub LogsCallsite : {S A : Type 0} → Metadata → Saying (Dispatch S) A
-LogsCallsite m result old new = KeepsCallsite m result old.dispatch new.dispatch
-
--- the hint that is kept is the one that was read first, or none still
-abbrev pub LogsHint : {S A : Type 0} → Saying (Dispatch S) A
-LogsHint result old new =
-    (hint_by new.dispatch ≡ hint_by old.dispatch) ⊎ KeepsHint old.dispatch new.dispatch
-
 module _ {S : Type 0} (s : SubscriberOf S) where
-  -- so is `enabled` served
-  abbrev pub LogsEnabled : Lane → Metadata → Saying (Dispatch S) Bool
-  LogsEnabled lane m = Logs (ServesEnabled s lane m)
-
-  -- so is `new_span`
-  abbrev pub LogsNewSpan : Lane → Attributes → Saying (Dispatch S) (Option Id)
-  LogsNewSpan lane attrs = Logs (ServesNewSpan s lane attrs)
-
-  -- so is `event`
-  abbrev pub LogsEvent : Lane → Event → Saying (Dispatch S) Bool
-  LogsEvent lane e = Logs (ServesEvent s lane e)
-
-  -- so is `enter`
-  abbrev pub LogsEnter : {A : Type 0} → Lane → Id → Saying (Dispatch S) A
-  LogsEnter lane id = Logs (ServesEnter s lane id)
-
-  -- so is `exit`
-  abbrev pub LogsExit : {A : Type 0} → Lane → Id → Saying (Dispatch S) A
-  LogsExit lane id = IfDone (ServesExit s lane id)
-
-  -- so is `record`
-  abbrev pub LogsRecord : {A : Type 0} → Lane → Id → Record → Saying (Dispatch S) A
-  LogsRecord lane id values = Logs (ServesRecord s lane id values)
-
-  -- so is `follows_from`
-  abbrev pub LogsFollows : {A : Type 0} → Lane → Id → Id → Saying (Dispatch S) A
-  LogsFollows lane id follows = Logs (ServesFollows s lane id follows)
-
-  -- so is `clone_span`
-  abbrev pub LogsClone : Lane → Id → Saying (Dispatch S) Id
-  LogsClone lane id = Logs (ServesClone s lane id)
-
-  -- so is `drop_span`
-  abbrev pub LogsDrop : Lane → Id → Saying (Dispatch S) Bool
-  LogsDrop lane id = Logs (ServesDrop s lane id)
-
-  -- so is `set_level`
-  abbrev pub LogsLevel : {A : Type 0} → ℕ → LevelFilter → Saying (Dispatch S) A
-  LogsLevel n l = Logs (ServesLevel s n l)
-
-  -- so is `current_span`
-  abbrev pub LogsCurrent : Lane → Answered Current → LoggedState (Dispatch S) → Type 0
-  LogsCurrent lane = IfTold (λ d shown. ServesCurrent s lane shown d)
-
-  -- whether a new span is wanted, unless memory for the journal is refused
-  abbrev pub LogsWanted : Lane → Attributes → Saying (Dispatch S) (Option Id)
-  LogsWanted lane attrs = Logs (λ made d new. WantsSpan s lane attrs d made)
-
   -- the entry of a new span, with the verdict that the store keeps of it
-  abbrev pub AddsNewSpan : Lane → Attributes → Saying (Dispatch S) (Option Id)
-  AddsNewSpan lane attrs result old new =
-      IfOk result (AddsSpan lane attrs (registry_of s new.dispatch).store.spans old new)
+  abbrev pub AddsNewSpan : Lane → Attributes → Option Id × Placed → LoggedState (Dispatch S)
+      → LoggedState (Dispatch S) → Type 0
+  AddsNewSpan lane attrs r old new =
+      AddsSpan lane attrs (registry_of s new.dispatch).store.spans r old new
 
-  -- where a level isn't settable, no filter takes it
-  abbrev pub NoneTakes : ℕ → LevelFilter → LoggedState (Dispatch S) → TraceError → Type 0
-  NoneTakes n l old e = e ≡ NotSettable n → TakesLevel s n l old.dispatch false
+  -- the current span is shown, and nothing changes
+  abbrev pub ShowsSpan : Lane → Current → Dispatch S → Dispatch S → Type 0
+  ShowsSpan lane shown old new = Shows s lane old shown × ServesCurrent s lane shown old × (new ≡ old)
+
+  -- a call that asks something of a span is logged with this entry
+  abbrev pub LogsOfSpan : {A : Type 0} → Call → (Dispatch S → Dispatch S → Type 0)
+      → (Dispatch S → TraceError → Type 0) → Entry → Answered A → LoggedState (Dispatch S)
+      → LoggedState (Dispatch S) → Type 0
+  LogsOfSpan call steps refuses e result old new =
+      Logs (AsksOfSpan s call steps refuses) (AddsEntry (λ a. e)) result old new
+
+  -- a call from this lane, whichever it names, is answered and logged as the call of its kind is
+  abbrev pub LogsCall : Lane → Call → Answer → LoggedState (Dispatch S) → LoggedState (Dispatch S)
+      → Type 0
+  LogsCall lane (OpenSpan l attrs) a old new =
+      Gave span_answer a
+      (λ r. Logs (OpensSpan s lane attrs) (AddsNewSpan lane attrs) r old new)
+  LogsCall lane (SendEvent l e) a old new =
+      Gave event_answer a
+      (λ r. Logs (SendsEvent s lane e) (AddsEntry (event_entry lane e)) r old new)
+  LogsCall lane (Enter l id) a old new =
+      Gave {A = Unit {0}} done_answer a
+      (λ r. LogsOfSpan (Enter lane id) (TakesStep s (Enters lane id)) (Refuses s (λ r. RefusesEnter r lane) id)
+      (entry.Enter lane id) r old new)
+  LogsCall lane (Exit l id) a old new =
+      Gave {A = Unit {0}} done_answer a
+      (λ r. Logs (NeverRefused (λ u. ExitsSpan s lane id)) (AddsEntry (λ u. entry.Exit lane id)) r
+      old new)
+  LogsCall lane (RecordValues l id values) a old new =
+      Gave {A = Unit {0}} done_answer a
+      (λ r. LogsOfSpan (RecordValues lane id values) (TakesStep s (FindsOpen id))
+      (Refuses s RefusesUnlessOpen id) (entry.Record lane id) r old new)
+  LogsCall lane (Follow l id other) a old new =
+      Gave {A = Unit {0}} done_answer a
+      (λ r. LogsOfSpan (Follow lane id other) (TakesStep s (FindsOpen id))
+      (Refuses s RefusesUnlessOpen id) (entry.Follows lane id other) r old new)
+  LogsCall lane (AddHandle l id) a old new =
+      Gave {A = Id} done_answer a
+      (λ r. LogsOfSpan (AddHandle lane id) (TakesStepAlone s (Clones id)) (Refuses s RefusesClone id)
+      (entry.Clone lane id) r old new)
+  LogsCall lane (DropHandle l id) a old new =
+      Gave yes_answer a
+      (λ r. Logs (DropsOneHandle s lane id) (AddsEntry (entry.Drop lane id)) r old new)
+  LogsCall lane (Probe l m) a old new =
+      Gave yes_answer a (λ r. Logs (Probes s lane m) (AddsEntry (entry.Probe lane m)) r old new)
+  LogsCall lane (AskCurrent l) a old new =
+      Gave look_answer a
+      (λ r. Logs (NeverRefused (ShowsSpan lane)) (AddsEntry (current_entry lane)) r old new)
+  LogsCall lane (SetLevel n level) a old new =
+      Gave {A = Unit {0}} done_answer a
+      (λ r. Logs (SetsOneLevel s n level) (AddsEntry (λ u. entry.Level lane n level)) r old new)

@@ -19,7 +19,6 @@ use Rattle.span_registry.specs.Levels.{LevelSteps, takes_level}
 use Rattle.span_registry.specs.Plan.{asked_afresh}
 use Rattle.span_registry.specs.Extensions.{no_values}
 use Rattle.span_registry.specs.Step.{IsParentFor, RetiresLate, entered, exited}
-use Rattle.span_registry.specs.Subscriber.{SameButExtensions}
 use Rattle.span_registry.specs.Store.{IsClosing, IsHeld, IsOpen, RegistryState, Span, Store, add_handle, take_handle}
 
 -- a change of the store of which nobody is told: a span has a handle more, or a handle less; a lane leaves a span that isn't open
@@ -47,17 +46,16 @@ with_new s x r = record s {
 }
 
 -- a new span is in the store: under an id that was never issued, nor is 0, with its metadata, one handle, the parent that it gets there and the verdict of this form
-pub record Opened (f : Form) (lane : Lane) (attrs : Attributes) (id : Id) (s t : Store) : Type
-    0 where
+pub record Opened (f : Form) (lane : Lane) (a : Attributes) (id : Id) (s t : Store) : Type 0 where
   pub parent : Option ℕ
-  pub chosen : IsParentFor s lane (asked_parent attrs) parent
+  pub chosen : IsParentFor s lane (asked_parent a) parent
   pub verdict : FilterMap
   pub refused : (k : ℕ)
-      → refuses verdict k ≡ in_verdict f (metadata_of attrs) s lane.0 no_filter k
+      → refuses verdict k ≡ in_verdict f (metadata_of a) s lane.0 no_filter k
   pub fresh : contains s.issued (number_of id) ≡ false
   pub other : ¬ (number_of id ≡ 0)
   pub state : t ≡ with_new s (number_of id)
-      (record { metadata = metadata_of attrs; parent = parent; handles = 1; verdict = verdict })
+      (record { metadata = metadata_of a; parent = parent; handles = 1; verdict = verdict })
 
 -- the store without this span and its extensions
 abbrev pub without_span : Store → ℕ → Store
@@ -68,7 +66,6 @@ abbrev pub Steps : Form → Outcome → Store → Store → Type 0
 Steps f (Noticed lane (OnNewSpan attrs id)) s t = Opened f lane attrs id s t
 Steps f (Noticed lane (OnRecord id values)) s t = IsOpen s.spans (number_of id) × (t ≡ s)
 Steps f (Noticed lane (OnFollows id other)) s t = IsOpen s.spans (number_of id) × (t ≡ s)
-Steps f (Noticed lane (OnEvent e)) s t = t ≡ s
 Steps f (Noticed lane (OnEnter id)) s t =
     IsOpen s.spans (number_of id) × (t ≡ entered s lane.0 (number_of id))
 Steps f (Noticed lane (OnExit id)) s t =
@@ -82,7 +79,7 @@ Steps f (Quiet (HandleTaken id)) s t =
     IsHeld s.spans (number_of id) × (t ≡ record s { spans = take_handle s.spans (number_of id) })
 Steps f (Quiet (GoneLeft lane id)) s t =
     ¬ (IsOpen s.spans (number_of id)) × (t ≡ exited s lane.0 (number_of id))
-Steps f (LevelSet n l) s t = t ≡ s
+Steps f o s t = t ≡ s
 
 -- the store that a notice is given in: the one after its step, but a close is given while its span is still there
 abbrev pub given_in : Notice → Store → Store → Store
@@ -112,26 +109,19 @@ module _ {S : Type 0} (registry : S → RegistryState) (with_registry : S → Re
     pub notified : S
     pub layers : stepped x (asked_afresh f e s lane.0 no_filter) e lane.0 left notified
         (registry notified)
-    pub hooks : SameButExtensions left (registry notified)
+    pub hooks : registry notified ≡ record left {
+      store = record left.store { extensions = (registry notified).store.extensions };
+    }
     pub ends : Ends e (registry notified) (registry y)
     pub rest : y ≡ with_registry notified (registry y)
 
-  -- a quiet change leaves this store: only the registry changes
-  pub record Quiets (t : Store) (x y : S) : Type 0 where
-    pub store : registry y ≡ record (registry x) { store = t }
-    pub rest : y ≡ with_registry x (registry y)
-
-  -- the filter with this number takes this level, and the layers go on by that; the registry is as it was
-  pub record SetsLevel (f : Form) (n : ℕ) (l : LevelFilter) (x y : S) : Type 0 where
-    pub taken : takes_level f n l ≡ true
-    pub goes : levelled x n l y
-    pub same : registry y ≡ registry x
-
-  -- how a stack of this form goes on by an outcome between two stores
+  -- how a stack of this form goes on by an outcome between two stores: a notice is given; of a quiet change, only the registry's store changes; and the layers go on by a level that a filter takes, on the registry as it was
   abbrev pub LayersGo : Form → Outcome → Store → Store → S → S → Type 0
   LayersGo f (Noticed lane e) s t x y = Notices f lane e s t x y
-  LayersGo f (Quiet c) s t x y = Quiets t x y
-  LayersGo f (LevelSet n l) s t x y = SetsLevel f n l x y
+  LayersGo f (Quiet c) s t x y =
+      (registry y ≡ record (registry x) { store = t }) × (y ≡ with_registry x (registry y))
+  LayersGo f (LevelSet n l) s t x y =
+      (takes_level f n l ≡ true) × levelled x n l y × (registry y ≡ registry x)
 
   -- a stack has this form, and is honest
   pub record IsHonest (f : Form) (x : S) : Type 0 where

@@ -1,20 +1,19 @@
 -- How a dispatcher serves a call, and a list of requests.
-use Rattle.std.specs.Prelude.{◌≡◌, ◌⊎◌, ⊤, ℕ, List, [], ◌∷◌, ◌++◌, map, true, false, if◌then◌else◌, Option, Some, None, slice_get}
+use Rattle.std.specs.Prelude.{◌≡◌, ℕ, List, [], ◌∷◌, ◌++◌, map, if◌then◌else◌, Option, Some, None, slice_get}
 use Rattle.std.specs.List.{AllByRecursion, FoldsTo, flat_map}
 use Rattle.std.specs.Option.{option_and_then, option_map, option_map_or}
-use Rattle.span_core.specs.Event.{event_metadata, event_of}
+use Rattle.span_core.specs.Event.{event_of}
 use Rattle.span_core.specs.Filters.{FilterSet}
-use Rattle.span_core.specs.Span.{attributes_of, metadata_of, number_of, record_of}
-use Rattle.span_core.specs.declared.error.TraceError.TheVariants.{OutOfMemory}
+use Rattle.span_core.specs.Span.{attributes_of, number_of, record_of}
 use Rattle.span_core.specs.declared.span.Id.{Id}
 use Rattle.span_core.specs.declared.span.Parent.TheVariants as parent
 use Rattle.span_core.specs.declared.span.Parent.{Parent}
 use Rattle.span_dispatch.specs.Alone.{Alone, passed_at}
 use Rattle.span_dispatch.specs.Cache.{IsUpToDate, KeptCallsites, ReadHint, forgotten, hint_in, kept_in}
 use Rattle.span_dispatch.specs.Registration.{next_epoch}
-use Rattle.span_dispatch.specs.Admission.{KeepsSafely}
-use Rattle.span_dispatch.specs.declared.cache.Cache.{Cache}
-use Rattle.span_dispatch.specs.Call.{AddHandle, AnswersWith, AskCurrent, Call, DropHandle, Enter, Exit, Follow, KeepsAfter, OpenSpan, Probe, RecordValues, SendEvent, SetLevel, closes_of, vetoes_whole}
+use Rattle.span_dispatch.specs.Call.{AnswersWith, closes_of}
+use Rattle.span_dispatch.specs.declared.call.Call.{Call}
+use Rattle.span_dispatch.specs.declared.call.Call.TheVariants.{AddHandle, AskCurrent, DropHandle, Enter, Exit, Follow, OpenSpan, Probe, RecordValues, SendEvent, SetLevel}
 use Rattle.span_dispatch.specs.Effect.{MadeCall, OutcomesOf, effect_of, is_concern}
 use Rattle.span_dispatch.specs.Outcome.{IsHonest, OutcomeAt, Makes, Noticed, Outcome}
 use Rattle.span_dispatch.specs.Readable.{ShowsItsSpan}
@@ -27,8 +26,6 @@ use Rattle.span_dispatch.specs.declared.request.Which.TheVariants as which
 use Rattle.span_dispatch.specs.declared.request.Which.{Which}
 use Rattle.span_dispatch.specs.declared.request.WhichParent.TheVariants as asked
 use Rattle.span_dispatch.specs.declared.request.WhichParent.{WhichParent}
-use Rattle.span_layers.specs.Verdict.{vetoes, vetoes_event}
-use Rattle.span_layers.specs.Wanted.{IsUnwanted}
 use Rattle.span_registry.specs.Behaviour.{OnClose}
 use Rattle.span_registry.specs.Closes.{HasNoClosing, Member}
 use Rattle.span_registry.specs.KeptForm.{KeepsForm}
@@ -37,11 +34,11 @@ use Rattle.span_core.specs.declared.span.Lane.{Lane}
 use Rattle.span_registry.specs.Agree.{AgreeAt}
 use Rattle.span_registry.specs.Conducts.{ActsAt, Conducts, numbers_in}
 use Rattle.span_registry.specs.Hooks.{StackSteps}
-use Rattle.span_registry.specs.Levels.{LevelSteps, takes_level}
+use Rattle.span_registry.specs.Levels.{LevelSteps}
 use Rattle.span_registry.specs.Position.{HearSteps, Position}
-use Rattle.span_registry.specs.Step.{IsCurrent, Removal}
+use Rattle.span_registry.specs.Step.{Removal}
 use Rattle.span_registry.specs.Subscriber.{SameButExtensions}
-use Rattle.span_registry.specs.Store.{IsClosing, IsHeld, IsOpen, RegistryState, Store}
+use Rattle.span_registry.specs.Store.{RegistryState, Store}
 
 -- the stack of a dispatcher
 abbrev pub stack_of : {S : Type 0} → Dispatch S → S
@@ -123,34 +120,6 @@ abbrev pub closed_by : Outcome → List ℕ
 closed_by (Noticed lane (OnClose id)) = number_of id ∷ []
 closed_by other = []
 
--- if this is a close, it is given while its span is in the store, with neither a handle nor a child left there
-abbrev pub IsReadableClose : Store → Outcome → Type 0
-IsReadableClose s (Noticed lane (OnClose id)) = IsClosing s.spans (number_of id)
-IsReadableClose s other = ⊤
-
--- why a request may be answered so. What is made, or would be, no leaf vetoes; what is dropped or denied is vetoed by a leaf or
--- passes no path, and no other call is dropped. The current span is the one that the lane is in. Any span can be left; an open one can be
--- entered, if there is memory, recorded of and followed from; a handle that is there can be dropped; a level that a filter takes can be
--- set. Of other refusals nothing is said
-abbrev pub HasReason : Call → Answer → Form → Store → Type 0
-HasReason (OpenSpan lane a) (answer.Made id) f s = vetoes f (metadata_of a) s lane.0 ≡ false
-HasReason (OpenSpan lane a) answer.Dropped f s = IsUnwanted f (metadata_of a) s lane.0
-HasReason (SendEvent lane e) answer.Done f s = vetoes_whole f e s lane ≡ false
-HasReason (SendEvent lane e) answer.Dropped f s =
-    IsUnwanted f (event_metadata e) s lane.0 ⊎ (vetoes_event f e s lane.0 ≡ true)
-HasReason (Probe lane m) (answer.Yes true) f s = vetoes f m s lane.0 ≡ false
-HasReason (Probe lane m) (answer.Yes false) f s = IsUnwanted f m s lane.0
-HasReason (AskCurrent lane) (answer.Current o) f s = IsCurrent s lane.0 (option_map number_of o)
-HasReason (Enter lane id) (answer.Refused e) f s =
-    IsOpen s.spans (number_of id) → e ≡ OutOfMemory
-HasReason (Exit lane id) (answer.Refused e) f s = ⊥
-HasReason (RecordValues lane id r) (answer.Refused e) f s = ¬ (IsOpen s.spans (number_of id))
-HasReason (Follow lane id other) (answer.Refused e) f s = ¬ (IsOpen s.spans (number_of id))
-HasReason (DropHandle lane id) (answer.Refused e) f s = ¬ (IsHeld s.spans (number_of id))
-HasReason (SetLevel n l) (answer.Refused e) f s = takes_level f n l ≡ false
-HasReason call answer.Dropped f s = ⊥
-HasReason call a f s = ⊤
-
 -- none of them stands twice
 abbrev pub StandOnce : List ℕ → Type 0
 StandOnce [] = Unit {0}
@@ -168,12 +137,6 @@ pub record Sees {S : Type 0} (registry : S → RegistryState) (hears : HearSteps
       → AgreeAt (numbers_in cs) (registry x).store s
       → Alone cs s (map outcome_of made) (passed_at position made)
 
--- a stack of this form on this registry answers a call so, where these callsites are kept, and then these are
-pub record AnswersExactly (call : Call) (f : Form) (kept : KeptCallsites) (s : RegistryState)
-    (a : Answer) (after : KeptCallsites) : Type 0 where
-  pub answers : AnswersWith call kept f s a
-  pub keeps : KeepsAfter call kept f a after
-
 module _ {S : Type 0} (registry : S → RegistryState) (with_registry : S → RegistryState → S)
     (has_form : S → Form → Type 0) (stepped : StackSteps S) (levelled : LevelSteps S) where
   -- between two requests: no span is closing, and the stack is honest by this form
@@ -181,41 +144,30 @@ module _ {S : Type 0} (registry : S → RegistryState) (with_registry : S → Re
     pub honest : IsHonest registry with_registry has_form stepped levelled f x
     pub settled : HasNoClosing (registry x).store.spans
 
-  -- the same of a dispatcher, of which this is said of what it keeps
-  pub record IsReadyWith (Kept : Form → ℕ → Cache → Type 0) (f : Form) (d : Dispatch S) : Type
-      0 where
+  -- the same of a dispatcher, which keeps what its stack would answer now, if it keeps anything
+  pub record IsReadyBy (f : Form) (d : Dispatch S) : Type 0 where
     pub stack : IsReady f (stack_of d)
-    pub kept : Kept f (registry (stack_of d)).filters d.cache
-
-  -- of a call that was answered so, with reason, this was made, as its answer says, and the stack went through it
-  pub record Tells (call : Call) (f : Form) (x : S) (a : Answer) (made : List OutcomeAt)
-      (y : S) : Type 0 where
-    pub says : OutcomesOf call a (registry x).store (map (λ m. m.outcome) made)
-    pub goes : FoldsTo (Makes registry with_registry has_form stepped levelled) x made y
-    pub reason : HasReason call a f (registry x).store
-
-  -- something was made so of a call
-  abbrev pub IsTold : Call → Form → Answer → S → S → Type 0
-  IsTold call f a x y = (made : List OutcomeAt) × Tells call f x a made y
+    pub kept : IsUpToDate f (registry (stack_of d)).filters d.cache
 
   -- ready by a form that keeps this of the old one
-  abbrev pub IsReadyAfter : (Form → ℕ → Cache → Type 0) → (Form → Form → Type 0) → Form → Dispatch S
-      → Type 0
-  IsReadyAfter Kept keeps f d = (g : Form) × IsReadyWith Kept g d × keeps f g
+  abbrev pub IsReadyAfter : (Form → Form → Type 0) → Form → Dispatch S → Type 0
+  IsReadyAfter keeps f d = (g : Form) × IsReadyBy g d × keeps f g
 
-  -- ready by some form, with what loses nothing kept
+  -- ready by some form
   abbrev pub IsReadySomehow : Dispatch S → Type 0
-  IsReadySomehow d = (f : Form) × IsReadyWith KeepsSafely f d
+  IsReadySomehow d = (f : Form) × IsReadyBy f d
 
-  -- ready by some form, with what its stack would answer now
-  abbrev pub IsUpToDateSomehow : Dispatch S → Type 0
-  IsUpToDateSomehow d = (f : Form) × IsReadyWith IsUpToDate f d
-
-  -- the same as is told of a call, and it is answered exactly so by a stack of this form, where these callsites are kept, and then these are
+  -- a stack of this form serves a call so, where these callsites are kept, and then these are: this was made of it, as its answer says, and the stack went through it; and it is answered, dropped or refused exactly where it should be
   pub record Serves (call : Call) (f : Form) (kept : KeptCallsites) (x : S) (a : Answer)
       (made : List OutcomeAt) (after : KeptCallsites) (y : S) : Type 0 where
-    pub told : Tells call f x a made y
-    pub exact : AnswersExactly call f kept (registry x) a after
+    pub says : OutcomesOf call a (registry x).store (map (λ m. m.outcome) made)
+    pub goes : FoldsTo (Makes registry with_registry has_form stepped levelled) x made y
+    pub answers : AnswersWith call kept f (registry x) a after
+
+  -- something was made so of a call
+  abbrev pub IsServed : Call → Form → KeptCallsites → S → Answer → KeptCallsites → S → Type 0
+  IsServed call f kept x a after y =
+      (made : List OutcomeAt) × Serves call f kept x a made after y
 
   -- one request: what it asks for is served, or, where it names no span, nothing is asked and nothing changes
   abbrev pub ServesAsked : Option Call → KeptCallsites → S → Answer → List OutcomeAt → KeptCallsites
@@ -231,54 +183,32 @@ module _ {S : Type 0} (registry : S → RegistryState) (with_registry : S → Re
   ServesRequest past r kept x a made after y = ServesAsked (call_of past r) kept x a made after y
 
   -- a list of requests, one after another, behind these answers: each is answered, dropped or refused exactly so
-  abbrev pub RunExactly : List Answer → List Request → List Answer → List (List OutcomeAt)
+  abbrev pub Run : List Answer → List Request → List Answer → List (List OutcomeAt)
       → KeptCallsites → S → KeptCallsites → S → Type 0
-  RunExactly past [] [] [] kept x after y = (after ≡ kept) × (y ≡ x)
-  RunExactly past (r ∷ rs) (a ∷ answers) (ms ∷ made) kept x after y =
-      (k : KeptCallsites) × (z : S) × ServesRequest past r kept x a ms k z
-      × RunExactly (past ++ (a ∷ [])) rs answers made k z after y
-  RunExactly past rs answers made kept x after y = ⊥
-
-  -- of one request: what it asks for was told, or, where it names no span, nothing was asked and nothing changes
-  abbrev pub TellsAsked : Option Call → S → Answer → List OutcomeAt → S → Type 0
-  TellsAsked None x a made y = (a ≡ answer.Dropped) × (made ≡ []) × (y ≡ x)
-  TellsAsked (Some call) x a made y = (f : Form) × has_form x f × Tells call f x a made y
-
-  -- so is each request of a list told, one after another, behind these answers
-  abbrev pub Run : List Answer → List Request → List Answer → List (List OutcomeAt) → S → S → Type 0
-  Run past [] [] [] x y = y ≡ x
-  Run past (r ∷ rs) (a ∷ answers) (ms ∷ made) x y =
-      (z : S) × TellsAsked (call_of past r) x a ms z × Run (past ++ (a ∷ [])) rs answers made z y
-  Run past rs answers made x y = ⊥
+  Run past [] [] [] kept x after y = (after ≡ kept) × (y ≡ x)
+  Run past (r ∷ rs) (a ∷ answers) (ms ∷ made) kept x after y =
+      (k : KeptCallsites) × (z : S) × ServesAsked (call_of past r) kept x a ms k z
+      × Run (past ++ (a ∷ [])) rs answers made k z after y
+  Run past rs answers made kept x after y = ⊥
 
   -- a list of requests is served so
   pub record Served (hears : HearSteps S) (acts_at : ActsAt S) (requests : List Request)
-      (answers : List Answer) (old new : S) : Type 0 where
+      (answers : List Answer) (old new : Dispatch S) : Type 0 where
     -- there is one list of what was made of each request, on any lanes
     pub made : List (List OutcomeAt)
-    -- made is what their answers say, and these have their reasons: of what was dropped or denied no layer would have been notified
-    pub run : Run [] requests answers made old new
+    -- made is what their answers say, and each is answered in turn, dropped or refused exactly where it should be, from what is kept then: of what was dropped or denied no layer would have been notified
+    pub run : Run [] requests answers made (kept_by old) (stack_of old) (kept_by new) (stack_of new)
     -- each layer is notified, in order, of exactly the made requests that its own path's filters pass when asked afresh
-    pub each : (position : Position) → hears old position (passed_at position (flat made)) new
-    -- as if it stood alone: under plain filters, on any store that differs in extensions and other filters' verdicts alone
-    pub alone : (position : Position) (cs : Conducts) (s : Store) → acts_at old position cs
-        → AgreeAt (numbers_in cs) (registry old).store s
-        → Alone cs s (map (λ m. m.outcome) (flat made)) (passed_at position (flat made))
+    pub each : (position : Position)
+        → hears (stack_of old) position (passed_at position (flat made)) (stack_of new)
+    -- as if it stood alone: under plain filters, that is what it would be notified of with no other layer or filter beside them
+    pub alone : (position : Position) (cs : Conducts) → acts_at (stack_of old) position cs
+        → Alone cs (registry (stack_of old)).store (map (λ m. m.outcome) (flat made))
+        (passed_at position (flat made))
     -- each closed span is notified of once
     pub once : StandOnce (flat_map (λ m. closed_by m.outcome) (flat made))
-    -- child before parent, while still readable
-    pub readable : AllByRecursion (λ m. IsReadableClose m.before m.outcome) (flat made)
     -- whoever is told of a span can read it in its own context: also one that closes
     pub shown : (position : Position) → AllByRecursion ShowsItsSpan (passed_at position (flat made))
-
-  -- a list of requests is served exactly so
-  pub record ServedExactly (hears : HearSteps S) (acts_at : ActsAt S) (requests : List Request)
-      (answers : List Answer) (old new : Dispatch S) : Type 0 where
-    -- as the sentence says
-    pub served : Served hears acts_at requests answers (stack_of old) (stack_of new)
-    -- and each request is answered in turn, dropped or refused exactly where it should be, from what is kept then, and the stack goes through what was made of it
-    pub run : RunExactly [] requests answers served.made (kept_by old) (stack_of old) (kept_by new)
-        (stack_of new)
 
   -- from a stack in which a span is closing: it is taken out, and so is each parent that closes by that; before each is, a notice of its close is given
   pub record ClosesEach (lane : Lane) (id : Id) (x y : S) : Type 0 where

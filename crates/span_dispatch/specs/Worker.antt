@@ -9,11 +9,14 @@ use Rattle.span_core.specs.declared.span.Attributes.{Attributes}
 use Rattle.span_core.specs.declared.span.Id.{Id}
 use Rattle.span_core.specs.declared.span.Lane.{Lane}
 use Rattle.span_dispatch.specs.Contract.{ShowsHint, ShowsKept, SubscriberOf}
-use Rattle.span_dispatch.specs.Journal.{Entry, Placed}
-use Rattle.span_dispatch.specs.Logged.{Answered, OrNoMemory}
+use Rattle.span_dispatch.specs.Journal.{Entry, LoggedState, Placed}
+use Rattle.span_dispatch.specs.Logged.{Answered, LogsCall, OrNoMemory}
 use Rattle.span_dispatch.specs.Recorder.{lane_of}
 use Rattle.span_dispatch.specs.Serve.{kept_by}
+use Rattle.span_dispatch.specs.declared.call.Call.{Call}
 use Rattle.span_dispatch.specs.declared.dispatch.Dispatch.{Dispatch}
+use Rattle.span_dispatch.specs.declared.request.Answer.TheVariants as answer
+use Rattle.span_dispatch.specs.declared.request.Answer.{Answer}
 use Rattle.span_dispatch.specs.declared.entry.EntryWith.TheVariants.{New, Unmade}
 
 -- a worker's lane, the hint that it was made with, and how many of its calls were accepted
@@ -70,3 +73,16 @@ IsSpanReceipt lane attrs result = IfOk result (IsOfSpan lane attrs)
 -- a call is refused for want of memory, or as some dispatcher refuses it
 abbrev pub SomeRefuses : {D A : Type 0} → (D → TraceError → Type 0) → Answered A → Type 0
 SomeRefuses refuses result = IfErr result (OrNoMemory (λ e. (d : _) × refuses d e))
+
+-- a call of a worker counts, unless it is refused
+abbrev pub CountsAnswer : Answer → WorkerState → WorkerState → Type 0
+CountsAnswer (answer.Refused e) old new = new ≡ old
+CountsAnswer a old new = new ≡ called old
+
+-- some dispatcher with a journal answered the call so, from the worker's lane, and it counts
+abbrev pub SharesCall : {S : Type 0} → SubscriberOf S → Call → Answer → WorkerState → WorkerState
+    → Type 0
+SharesCall {S} s call a old new =
+    CountsAnswer a old new
+    × ((before : LoggedState (Dispatch S)) × (after : LoggedState (Dispatch S))
+    × LogsCall s old.lane call a before after)

@@ -1,10 +1,8 @@
 //! What a dispatcher keeps of its stack's answers.
-ghost use Rattle.std.specs.Prelude.{◌≡◌, IfSome, None, false, not};
+ghost use Rattle.std.specs.HashMap.{spare};
+ghost use Rattle.std.specs.Prelude.{◌≡◌, ◌≤◌, ℕ, IfErr, IfSome, None, OnErr, OnOk, Some, false, not};
 ghost use Rattle.span_core.specs.Level.{is_above};
 ghost use Rattle.span_core.specs.Metadata.{callsite_of, level_of};
-ghost use Rattle.span_dispatch.specs.Admission.{GivesInterest};
-ghost use Rattle.span_dispatch.specs.Cache.{KnowsInterest, forgotten, known_of};
-ghost use Rattle.span_dispatch.specs.declared.cache.Cache.TheVariants.{Empty, Filled};
 
 use span_core::{Interest, Level, LevelFilter, Metadata, Pass, TraceError};
 use span_registry::Subscriber;
@@ -22,11 +20,13 @@ pub(crate) enum Cache {
     Filled(Known),
 }
 
-/// A stack's hint, and its interest in the callsites that it was asked of, by their numbers.
+/// A stack's hint, and its interest in the callsites that it was asked of, by their numbers. Memory is held for so many more.
 #[derive(Debug, Drop)]
 pub(crate) struct Known {
     hint: Option<LevelFilter>,
     callsites: HashMap<u64, Callsite>,
+    room: usize,
+    ghost held: { room ≤ spare callsites },
 }
 
 /// The interest in a callsite, with the metadata of which it was asked.
@@ -37,6 +37,10 @@ struct Callsite {
 }
 
 impl Cache {
+    ghost use Rattle.span_dispatch.specs.Admission.{GivesInterest, HoldsRoom};
+    ghost use Rattle.span_dispatch.specs.Cache.{KnowsInterest, forgotten};
+    ghost use Rattle.span_dispatch.specs.declared.cache.Cache.TheVariants.{Empty};
+
     /// Nothing is kept any more.
     pub(crate) fn forget(&mut self)
         ensures { self.new ≡ forgotten self.old }
@@ -69,6 +73,34 @@ impl Cache {
         }
     }
 
+    /// Memory for so many callsites more is held then, unless nothing is ever kept. Where nothing is kept yet, the hint is read.
+    ///
+    /// Refused for want of memory alone, where it isn't held already.
+    pub(crate) fn reserve<S: Subscriber>(
+        &mut self,
+        alloc: Global,
+        stack: &S,
+        callsites: usize,
+    ) -> Result<(), TraceError>
+        requires usable { S.usable stack.now }
+        ensures { HoldsRoom S.registry S.has_form stack.now callsites result self.old self.new }
+    {
+        match self {
+            Cache::Filled(known) => known.reserve(callsites),
+            Cache::Empty => {
+                let mut known = Known {
+                    hint: stack.max_level_hint(),
+                    callsites: HashMap::new(alloc),
+                    room: 0,
+                };
+                let reserved = known.reserve(callsites);
+                *self = Cache::Filled(known);
+                reserved
+            }
+            Cache::Off => Ok(()),
+        }
+    }
+
     /// The interest that is kept of metadata that show the same, if any is.
     pub(crate) fn kept(&self, meta: &Metadata) -> Option<Interest>
         ensures { IfSome result (KnowsInterest self.now meta.now) }
@@ -97,6 +129,7 @@ impl Cache {
         let mut known = Known {
             hint: stack.max_level_hint(),
             callsites: HashMap::new(alloc),
+            room: 0,
         };
         let interest = known.interest(stack, meta, None);
         *self = Cache::Filled(known);
@@ -105,6 +138,10 @@ impl Cache {
 }
 
 impl Known {
+    ghost use Rattle.span_dispatch.specs.Admission.{GivesInterest};
+    ghost use Rattle.span_dispatch.specs.Cache.{KnowsInterest, RefusesRoom, callsites_of, known_of, with_room};
+    ghost use Rattle.span_dispatch.specs.declared.cache.Cache.TheVariants.{Filled};
+
     /// The hint.
     pub(crate) fn hint(&self) -> Option<LevelFilter>
         ensures { result ≡ self.now.hint }
@@ -140,7 +177,8 @@ impl Known {
         self.learn(stack, meta)
     }
 
-    /// The interest in a callsite that isn't known, by the stack: it is known then, unless memory is refused.
+    /// The interest in a callsite that isn't known, by the stack: it is known then, unless memory is refused, which it isn't where
+    /// some is held.
     #[inline(never)]
     fn learn<S: Subscriber>(&mut self, stack: &S, meta: &Metadata) -> Result<Interest, TraceError>
         requires usable { S.usable stack.now }
@@ -155,9 +193,28 @@ impl Known {
             interest,
         };
         match self.callsites.insert(meta.callsite(), callsite) {
-            Ok(_) => Ok(interest),
+            Ok(_) => {
+                self.room = self.room.saturating_sub(1);
+                Ok(interest)
+            }
             Err(_) => Err(TraceError::OutOfMemory),
         }
+    }
+
+    /// Memory for so many callsites more is held then. Refused for want of memory alone, where it isn't held already.
+    fn reserve(&mut self, callsites: usize) -> Result<(), TraceError>
+        ensures hint { self.new.hint ≡ self.old.hint }
+        ensures known { (n : ℕ) → known_of self.new n ≡ known_of self.old n }
+        ensures held { OnOk result
+            (callsites_of self.new ≡ with_room callsites (callsites_of self.old)) }
+        ensures unchanged { OnErr result (callsites_of self.new ≡ callsites_of self.old) }
+        ensures refused { IfErr result (RefusesRoom callsites (Some (callsites_of self.old))) }
+    {
+        if self.callsites.reserve(callsites).is_err() {
+            return Err(TraceError::OutOfMemory);
+        }
+        self.room = self.room.max(callsites);
+        Ok(())
     }
 
     /// A level passes the hint, if there is one.

@@ -5,14 +5,15 @@ ghost use Rattle.span_core.specs.Event.{event_metadata};
 ghost use Rattle.span_core.specs.Filters.{IsEmpty};
 ghost use Rattle.span_core.specs.Span.{metadata_of, number_of};
 ghost use Rattle.span_dispatch.specs.Cache.{no_callsite};
-ghost use Rattle.span_dispatch.specs.Call.{FindsOpen, RefusesUnlessOpen};
-ghost use Rattle.span_dispatch.specs.Contract.{Admits, AdmitsSafely, AsksStack, BecomesReady, ChangesKept, ChangesLevel, ChangesStack, DropsAbove, DropsSettled, Forgets, GivesLevel, KeepsCallsite, KeepsHint, LearnsOnly, LeavesGone, OpensByPass, OpensIfMade, PassesKept, Refuses, RefusesEvent, RefusesMetadata, RefusesMismatch, RefusesSpan, SameRegistry, SameStack, SeesWhatIsMade, ServesClone, ServesCurrent, ServesDrop, ServesEnabled, ServesEnter, ServesEvent, ServesExit, ServesFollows, ServesLevel, ServesNewSpan, ServesRecord, Shows, ShowsHint, ShowsKept, StaysReady, StaysReadyBut, StaysSafe, StaysWithoutClosing, StaysUpToDate, TakesHandle, TakesLevel, TakesStep, TakesStepAlone, WantsEvent, WantsMetadata, WantsSpan};
+ghost use Rattle.span_dispatch.specs.Call.{FindsOpen};
+ghost use Rattle.span_registry.specs.Step.{RefusesUnlessOpen};
+ghost use Rattle.span_dispatch.specs.Contract.{Admits, AsksOfSpan, AsksStack, BecomesReady, ChangesKept, DropsOneHandle, ExitsSpan, GoesByKept, KeepsOnly, LearnsCallsite, OpensSpan, OpensSpanBy, Probes, Refuses, RefusesMetadata, ReservesCallsites, SameStack, SendsEvent, ServesCurrent, SetsOneLevel, Shows, ShowsHint, ShowsKept, StaysReady, StaysReadyBut, StaysUpToDate, TakesStep, TakesStepAlone};
+ghost use Rattle.span_dispatch.specs.declared.call.Call.TheVariants.{AddHandle, Enter, Follow, RecordValues};
 ghost use Rattle.span_dispatch.specs.contracts.dispatch.Dispatch.{the_row};
 ghost use Rattle.span_dispatch.specs.Registration.{IsRegistered, KeepsRegistered, Knows, registered_metadata};
 ghost use Rattle.span_dispatch.specs.Serve.{ClosesEach, KeepsUpToDate, forgetful, hint_by, kept_by, stack_of, with_stack};
-ghost use Rattle.span_registry.specs.Step.{Clones, Enters, Exits, RefusesClone, RefusesEnter, RefusesRelease};
+ghost use Rattle.span_registry.specs.Step.{Clones, Enters, RefusesClone, RefusesEnter};
 ghost use Rattle.span_registry.specs.Form.{Form};
-ghost use Rattle.span_registry.specs.Hooks.{Stays};
 ghost use Rattle.span_registry.specs.Question.{refusals};
 ghost use Rattle.span_registry.specs.Store.{IsClosing};
 
@@ -78,8 +79,7 @@ impl<S: Subscriber> Dispatch<S> {
         ensures usable { S.usable (stack_of result) }
         ensures registered { S.registered stack (stack_of result) }
         ensures registry { S.registry (stack_of result) ≡ S.registry stack }
-        ensures kept { kept_by result ≡ Some no_callsite }
-        ensures read { hint_by result ≡ None }
+        ensures kept { KeepsOnly (Some no_callsite) result }
         ensures current { (f : Form) (n : ℕ) → KeepsUpToDate f n result }
         ensures ready { BecomesReady S.Subscriber stack result }
     {
@@ -99,8 +99,7 @@ impl<S: Subscriber> Dispatch<S> {
         ensures usable { S.usable (stack_of result) }
         ensures registered { S.registered stack (stack_of result) }
         ensures registry { S.registry (stack_of result) ≡ S.registry stack }
-        ensures kept { kept_by result ≡ None }
-        ensures read { hint_by result ≡ None }
+        ensures kept { KeepsOnly None result }
         ensures current { (f : Form) (n : ℕ) → KeepsUpToDate f n result }
         ensures ready { BecomesReady S.Subscriber stack result }
     {
@@ -150,20 +149,13 @@ impl<S: Subscriber> Dispatch<S> {
         requires usable { S.usable (stack_of self.old) }
         requires known { IfSome kept (Knows self.old meta.now) }
         requires fresh { IsEmpty (refusals pass.old) }
-        ensures stack { SameStack self.old self.new }
         ensures rest { ChangesKept self.old self.new }
-        ensures admitted { Admits S.Subscriber lane meta.now self.old pass.new result self.new }
-        ensures decided { AdmitsSafely S.Subscriber lane meta.now self.old pass.new result }
-        ensures kept { StaysUpToDate S.Subscriber self.old self.new }
-        ensures safe { StaysSafe S.Subscriber self.old self.new }
-        ensures learned { LearnsOnly meta.now self.old self.new }
         ensures registered { KeepsRegistered self.old self.new }
+        ensures up_to_date { StaysUpToDate S.Subscriber self.old self.new }
+        ensures admitted { Admits S.Subscriber lane meta.now self.old pass.new result self.new }
         ensures afresh { AsksStack S.Subscriber lane meta.now self.old pass.old result pass.new }
-        ensures hint { KeepsHint self.old self.new }
-        ensures above { DropsAbove meta.now false result self.old self.new }
-        ensures keeps { KeepsCallsite meta.now result self.old self.new }
-        ensures mismatch { RefusesMismatch meta.now result self.old self.new }
-        ensures refused { IfErr result (RefusesMetadata meta.now self.old) }
+        ensures kept { GoesByKept meta.now false (RefusesMetadata meta.now self.old) result self.old
+            self.new }
     {
         match self.cache.interest(self.alloc, &self.stack, meta, kept) {
             Err(error) => Err(error),
@@ -177,24 +169,13 @@ impl<S: Subscriber> Dispatch<S> {
     /// out, and no layer vetoes it.
     ///
     /// Where its level isn't above the hint, refused where its callsite is kept with other metadata (`CallsiteMismatch`), and for want
-    /// of memory where it isn't kept; never under `fresh`.
+    /// of memory where it isn't kept and none is held for one more; never under `fresh`.
     pub fn enabled(&mut self, lane: Lane, meta: &Metadata) -> Result<bool, TraceError>
         requires { S.usable (stack_of self.old) }
         ensures stack { SameStack self.old self.new }
-        ensures rest { ChangesKept self.old self.new }
-        ensures kept { LearnsOnly meta.now self.old self.new }
         ensures registered { KeepsRegistered self.old self.new }
-        ensures up_to_date { StaysUpToDate S.Subscriber self.old self.new }
-        ensures safe { StaysSafe S.Subscriber self.old self.new }
         ensures ready { StaysReady S.Subscriber self.old self.new }
-        ensures asked { IfOk result (WantsMetadata S.Subscriber lane meta.now self.old) }
-        ensures served { ServesEnabled S.Subscriber lane meta.now result self.old self.new }
-        ensures seen { SeesWhatIsMade S.Subscriber self.old self.new }
-        ensures hint { KeepsHint self.old self.new }
-        ensures above { DropsAbove meta.now false result self.old self.new }
-        ensures keeps { KeepsCallsite meta.now result self.old self.new }
-        ensures mismatch { RefusesMismatch meta.now result self.old self.new }
-        ensures refused { IfErr result (RefusesMetadata meta.now self.old) }
+        ensures probes { Probes S.Subscriber lane meta.now result self.old self.new }
     {
         let mut pass = Pass::new();
         self.admits(lane, meta, None, &mut pass)
@@ -207,25 +188,34 @@ impl<S: Subscriber> Dispatch<S> {
     pub fn register_callsite(&mut self, meta: &Metadata) -> Result<Registration, TraceError>
         requires { S.usable (stack_of self.old) }
         ensures stack { SameStack self.old self.new }
-        ensures rest { ChangesKept self.old self.new }
-        ensures kept { LearnsOnly meta.now self.old self.new }
         ensures registered { KeepsRegistered self.old self.new }
+        ensures ready { StaysReady S.Subscriber self.old self.new }
         ensures metadata { IfOk result (λ r. registered_metadata r ≡ meta.now) }
         ensures registers { IfOk result (IsRegistered self.new) }
-        ensures up_to_date { StaysUpToDate S.Subscriber self.old self.new }
-        ensures safe { StaysSafe S.Subscriber self.old self.new }
-        ensures ready { StaysReady S.Subscriber self.old self.new }
-        ensures hint { KeepsHint self.old self.new }
-        ensures above { IfErr result (λ e. PassesKept meta.now self.new) }
-        ensures keeps { KeepsCallsite meta.now result self.old self.new }
-        ensures mismatch { RefusesMismatch meta.now result self.old self.new }
-        ensures refused { IfErr result (RefusesMetadata meta.now self.old) }
-        ensures unchanged { OnErr result (kept_by self.new ≡ kept_by self.old) }
+        ensures learns { LearnsCallsite S.Subscriber meta.now result self.old self.new }
     {
         match self.cache.interest(self.alloc, &self.stack, meta, None) {
             Err(error) => Err(error),
             Ok(_) => Ok(Registration::new(*meta, self.cache.kept(meta), self.epoch)),
         }
+    }
+
+    /// Memory for so many callsites more is held then: that many that aren't kept yet are kept with no need of more. Under `fresh`
+    /// nothing happens. Where no hint was read yet, it is read, as by a first request.
+    ///
+    /// What `set_level` and `stack_mut` forget is forgotten with its memory, which is then to be reserved anew.
+    ///
+    /// Refused for want of memory alone, where it isn't held already.
+    ///
+    /// Own to this port.
+    pub fn reserve_callsites(&mut self, callsites: usize) -> Result<(), TraceError>
+        requires { S.usable (stack_of self.old) }
+        ensures stack { SameStack self.old self.new }
+        ensures registered { KeepsRegistered self.old self.new }
+        ensures ready { StaysReady S.Subscriber self.old self.new }
+        ensures reserves { ReservesCallsites S.Subscriber callsites result self.old self.new }
+    {
+        self.cache.reserve(self.alloc, &self.stack, callsites)
     }
 
     /// Opens a span with one handle and notifies of it, unless hint or interest rule it out or a layer vetoes it: then it answers
@@ -236,21 +226,9 @@ impl<S: Subscriber> Dispatch<S> {
     pub fn new_span(&mut self, lane: Lane, attrs: &Attributes<'_>) -> Result<Option<Id>, TraceError>
         requires { S.usable (stack_of self.old) }
         ensures usable { S.usable (stack_of self.new) }
-        ensures kept { LearnsOnly (metadata_of attrs.now) self.old self.new }
         ensures registered { KeepsRegistered self.old self.new }
-        ensures up_to_date { StaysUpToDate S.Subscriber self.old self.new }
-        ensures safe { StaysSafe S.Subscriber self.old self.new }
         ensures ready { StaysReady S.Subscriber self.old self.new }
-        ensures served { ServesNewSpan S.Subscriber lane attrs.now result self.old self.new }
-        ensures seen { SeesWhatIsMade S.Subscriber self.old self.new }
-        ensures asked { WantsSpan S.Subscriber lane attrs.now self.old result }
-        ensures store { IfOk result (OpensIfMade S.Subscriber lane attrs.now self.old self.new) }
-        ensures hint { KeepsHint self.old self.new }
-        ensures above { DropsAbove (metadata_of attrs.now) None result self.old self.new }
-        ensures keeps { KeepsCallsite (metadata_of attrs.now) result self.old self.new }
-        ensures mismatch { RefusesMismatch (metadata_of attrs.now) result self.old self.new }
-        ensures refused { IfErr result (RefusesSpan S.Subscriber lane attrs.now self.old) }
-        ensures unchanged { OnErr result (SameStack self.old self.new) }
+        ensures opens { OpensSpan S.Subscriber lane attrs.now result self.old self.new }
     {
         let mut pass = Pass::new();
         self.open(lane, attrs, None, &mut pass)
@@ -268,21 +246,9 @@ impl<S: Subscriber> Dispatch<S> {
         requires known { IsRegistered self.old callsite.now }
         requires same { metadata_of attrs.now ≡ registered_metadata callsite.now }
         ensures usable { S.usable (stack_of self.new) }
-        ensures kept { LearnsOnly (metadata_of attrs.now) self.old self.new }
         ensures registered { KeepsRegistered self.old self.new }
-        ensures up_to_date { StaysUpToDate S.Subscriber self.old self.new }
-        ensures safe { StaysSafe S.Subscriber self.old self.new }
         ensures ready { StaysReady S.Subscriber self.old self.new }
-        ensures served { ServesNewSpan S.Subscriber lane attrs.now result self.old self.new }
-        ensures seen { SeesWhatIsMade S.Subscriber self.old self.new }
-        ensures asked { WantsSpan S.Subscriber lane attrs.now self.old result }
-        ensures store { IfOk result (OpensIfMade S.Subscriber lane attrs.now self.old self.new) }
-        ensures hint { KeepsHint self.old self.new }
-        ensures above { DropsAbove (metadata_of attrs.now) None result self.old self.new }
-        ensures keeps { KeepsCallsite (metadata_of attrs.now) result self.old self.new }
-        ensures mismatch { RefusesMismatch (metadata_of attrs.now) result self.old self.new }
-        ensures refused { IfErr result (RefusesSpan S.Subscriber lane attrs.now self.old) }
-        ensures unchanged { OnErr result (SameStack self.old self.new) }
+        ensures opens { OpensSpan S.Subscriber lane attrs.now result self.old self.new }
     {
         let mut pass = Pass::new();
         let kept = callsite.interest_in(self.epoch);
@@ -303,22 +269,9 @@ impl<S: Subscriber> Dispatch<S> {
         requires known { IfSome kept (Knows self.old (metadata_of attrs.now)) }
         requires fresh { IsEmpty (refusals pass.old) }
         ensures usable { S.usable (stack_of self.new) }
-        ensures kept { LearnsOnly (metadata_of attrs.now) self.old self.new }
         ensures registered { KeepsRegistered self.old self.new }
-        ensures up_to_date { StaysUpToDate S.Subscriber self.old self.new }
-        ensures safe { StaysSafe S.Subscriber self.old self.new }
         ensures ready { StaysReady S.Subscriber self.old self.new }
-        ensures served { ServesNewSpan S.Subscriber lane attrs.now result self.old self.new }
-        ensures seen { SeesWhatIsMade S.Subscriber self.old self.new }
-        ensures asked { WantsSpan S.Subscriber lane attrs.now self.old result }
-        ensures store { IfOk result
-            (OpensByPass S.Subscriber lane attrs.now pass.new self.old self.new) }
-        ensures hint { KeepsHint self.old self.new }
-        ensures above { DropsAbove (metadata_of attrs.now) None result self.old self.new }
-        ensures keeps { KeepsCallsite (metadata_of attrs.now) result self.old self.new }
-        ensures mismatch { RefusesMismatch (metadata_of attrs.now) result self.old self.new }
-        ensures refused { IfErr result (RefusesSpan S.Subscriber lane attrs.now self.old) }
-        ensures unchanged { OnErr result (SameStack self.old self.new) }
+        ensures opens { OpensSpanBy S.Subscriber pass.new lane attrs.now result self.old self.new }
     {
         match self.admits(lane, &attrs.metadata(), kept, pass) {
             Err(error) => Err(error),
@@ -336,22 +289,9 @@ impl<S: Subscriber> Dispatch<S> {
     pub fn event(&mut self, lane: Lane, event: &Event<'_>) -> Result<bool, TraceError>
         requires { S.usable (stack_of self.old) }
         ensures usable { S.usable (stack_of self.new) }
-        ensures kept { LearnsOnly (event_metadata event.now) self.old self.new }
         ensures registered { KeepsRegistered self.old self.new }
-        ensures up_to_date { StaysUpToDate S.Subscriber self.old self.new }
-        ensures safe { StaysSafe S.Subscriber self.old self.new }
         ensures ready { StaysReady S.Subscriber self.old self.new }
-        ensures served { ServesEvent S.Subscriber lane event.now result self.old self.new }
-        ensures seen { SeesWhatIsMade S.Subscriber self.old self.new }
-        ensures store { TakesStep S.Subscriber Stays self.old self.new }
-        ensures dropped { result ≡ Ok false → SameStack self.old self.new }
-        ensures asked { IfOk result (WantsEvent S.Subscriber lane event.now self.old) }
-        ensures hint { KeepsHint self.old self.new }
-        ensures above { DropsAbove (event_metadata event.now) false result self.old self.new }
-        ensures keeps { KeepsCallsite (event_metadata event.now) result self.old self.new }
-        ensures mismatch { RefusesMismatch (event_metadata event.now) result self.old self.new }
-        ensures refused { IfErr result (RefusesEvent event.now self.old) }
-        ensures unchanged { OnErr result (SameStack self.old self.new) }
+        ensures sends { SendsEvent S.Subscriber lane event.now result self.old self.new }
     {
         self.send(lane, event, None)
     }
@@ -368,22 +308,9 @@ impl<S: Subscriber> Dispatch<S> {
         requires known { IsRegistered self.old callsite.now }
         requires same { event_metadata event.now ≡ registered_metadata callsite.now }
         ensures usable { S.usable (stack_of self.new) }
-        ensures kept { LearnsOnly (event_metadata event.now) self.old self.new }
         ensures registered { KeepsRegistered self.old self.new }
-        ensures up_to_date { StaysUpToDate S.Subscriber self.old self.new }
-        ensures safe { StaysSafe S.Subscriber self.old self.new }
         ensures ready { StaysReady S.Subscriber self.old self.new }
-        ensures served { ServesEvent S.Subscriber lane event.now result self.old self.new }
-        ensures seen { SeesWhatIsMade S.Subscriber self.old self.new }
-        ensures store { TakesStep S.Subscriber Stays self.old self.new }
-        ensures dropped { result ≡ Ok false → SameStack self.old self.new }
-        ensures asked { IfOk result (WantsEvent S.Subscriber lane event.now self.old) }
-        ensures hint { KeepsHint self.old self.new }
-        ensures above { DropsAbove (event_metadata event.now) false result self.old self.new }
-        ensures keeps { KeepsCallsite (event_metadata event.now) result self.old self.new }
-        ensures mismatch { RefusesMismatch (event_metadata event.now) result self.old self.new }
-        ensures refused { IfErr result (RefusesEvent event.now self.old) }
-        ensures unchanged { OnErr result (SameStack self.old self.new) }
+        ensures sends { SendsEvent S.Subscriber lane event.now result self.old self.new }
     {
         let kept = callsite.interest_in(self.epoch);
         self.send(lane, event, kept)
@@ -400,22 +327,9 @@ impl<S: Subscriber> Dispatch<S> {
         requires usable { S.usable (stack_of self.old) }
         requires known { IfSome kept (Knows self.old (event_metadata event.now)) }
         ensures usable { S.usable (stack_of self.new) }
-        ensures kept { LearnsOnly (event_metadata event.now) self.old self.new }
         ensures registered { KeepsRegistered self.old self.new }
-        ensures up_to_date { StaysUpToDate S.Subscriber self.old self.new }
-        ensures safe { StaysSafe S.Subscriber self.old self.new }
         ensures ready { StaysReady S.Subscriber self.old self.new }
-        ensures served { ServesEvent S.Subscriber lane event.now result self.old self.new }
-        ensures seen { SeesWhatIsMade S.Subscriber self.old self.new }
-        ensures store { TakesStep S.Subscriber Stays self.old self.new }
-        ensures dropped { result ≡ Ok false → SameStack self.old self.new }
-        ensures asked { IfOk result (WantsEvent S.Subscriber lane event.now self.old) }
-        ensures hint { KeepsHint self.old self.new }
-        ensures above { DropsAbove (event_metadata event.now) false result self.old self.new }
-        ensures keeps { KeepsCallsite (event_metadata event.now) result self.old self.new }
-        ensures mismatch { RefusesMismatch (event_metadata event.now) result self.old self.new }
-        ensures refused { IfErr result (RefusesEvent event.now self.old) }
-        ensures unchanged { OnErr result (SameStack self.old self.new) }
+        ensures sends { SendsEvent S.Subscriber lane event.now result self.old self.new }
     {
         let mut pass = Pass::new();
         match self.admits(lane, &event.metadata(), kept, &mut pass) {
@@ -435,13 +349,10 @@ impl<S: Subscriber> Dispatch<S> {
     pub fn enter(&mut self, lane: Lane, id: Id) -> Result<(), TraceError>
         requires { S.usable (stack_of self.old) }
         ensures usable { S.usable (stack_of self.new) }
-        ensures rest { ChangesStack self.old self.new }
         ensures ready { StaysReady S.Subscriber self.old self.new }
-        ensures served { ServesEnter S.Subscriber lane id result self.old self.new }
-        ensures seen { SeesWhatIsMade S.Subscriber self.old self.new }
-        ensures store { OnOk result (TakesStep S.Subscriber (Enters lane id) self.old self.new) }
-        ensures refused { IfErr result (Refuses S.Subscriber RefusesEnter id self.old) }
-        ensures unchanged { OnErr result (self.new ≡ self.old) }
+        ensures enters { AsksOfSpan S.Subscriber (Enter lane id)
+            (TakesStep S.Subscriber (Enters lane id)) (Refuses S.Subscriber (λ r. RefusesEnter r lane) id) result
+            self.old self.new }
     {
         self.stack.enter(lane, id)
     }
@@ -450,12 +361,8 @@ impl<S: Subscriber> Dispatch<S> {
     pub fn exit(&mut self, lane: Lane, id: Id)
         requires { S.usable (stack_of self.old) }
         ensures usable { S.usable (stack_of self.new) }
-        ensures rest { ChangesStack self.old self.new }
         ensures ready { StaysReady S.Subscriber self.old self.new }
-        ensures served { ServesExit S.Subscriber lane id self.old self.new }
-        ensures seen { SeesWhatIsMade S.Subscriber self.old self.new }
-        ensures store { TakesStep S.Subscriber (Exits lane id) self.old self.new }
-        ensures gone { LeavesGone S.Subscriber lane id self.old self.new }
+        ensures exits { ExitsSpan S.Subscriber lane id self.old self.new }
     {
         if self.stack.root().is_open(id) {
             self.stack.exit(lane, id);
@@ -468,13 +375,9 @@ impl<S: Subscriber> Dispatch<S> {
     pub fn record(&mut self, lane: Lane, id: Id, values: &Record<'_>) -> Result<(), TraceError>
         requires { S.usable (stack_of self.old) }
         ensures usable { S.usable (stack_of self.new) }
-        ensures rest { ChangesStack self.old self.new }
         ensures ready { StaysReady S.Subscriber self.old self.new }
-        ensures served { ServesRecord S.Subscriber lane id values.now result self.old self.new }
-        ensures seen { SeesWhatIsMade S.Subscriber self.old self.new }
-        ensures store { OnOk result (TakesStep S.Subscriber (FindsOpen id) self.old self.new) }
-        ensures refused { IfErr result (Refuses S.Subscriber RefusesUnlessOpen id self.old) }
-        ensures unchanged { OnErr result (self.new ≡ self.old) }
+        ensures records { AsksOfSpan S.Subscriber (RecordValues lane id values.now)
+            (TakesStep S.Subscriber (FindsOpen id)) (Refuses S.Subscriber RefusesUnlessOpen id) result self.old self.new }
     {
         if !self.stack.root().is_open(id) {
             return Err(TraceError::UnknownSpan(id));
@@ -487,13 +390,9 @@ impl<S: Subscriber> Dispatch<S> {
     pub fn follows_from(&mut self, lane: Lane, id: Id, follows: Id) -> Result<(), TraceError>
         requires { S.usable (stack_of self.old) }
         ensures usable { S.usable (stack_of self.new) }
-        ensures rest { ChangesStack self.old self.new }
         ensures ready { StaysReady S.Subscriber self.old self.new }
-        ensures served { ServesFollows S.Subscriber lane id follows result self.old self.new }
-        ensures seen { SeesWhatIsMade S.Subscriber self.old self.new }
-        ensures store { OnOk result (TakesStep S.Subscriber (FindsOpen id) self.old self.new) }
-        ensures refused { IfErr result (Refuses S.Subscriber RefusesUnlessOpen id self.old) }
-        ensures unchanged { OnErr result (self.new ≡ self.old) }
+        ensures follows { AsksOfSpan S.Subscriber (Follow lane id follows)
+            (TakesStep S.Subscriber (FindsOpen id)) (Refuses S.Subscriber RefusesUnlessOpen id) result self.old self.new }
     {
         let registry = self.stack.root();
         if !registry.is_open(id) {
@@ -507,14 +406,10 @@ impl<S: Subscriber> Dispatch<S> {
     pub fn clone_span(&mut self, lane: Lane, id: Id) -> Result<Id, TraceError>
         requires { S.usable (stack_of self.old) }
         ensures usable { S.usable (stack_of self.new) }
-        ensures rest { ChangesStack self.old self.new }
         ensures ready { StaysReady S.Subscriber self.old self.new }
         ensures same { IfOk result (λ cloned. cloned ≡ id) }
-        ensures served { ServesClone S.Subscriber lane id result self.old self.new }
-        ensures seen { SeesWhatIsMade S.Subscriber self.old self.new }
-        ensures store { OnOk result (TakesStepAlone S.Subscriber (Clones id) self.old self.new) }
-        ensures refused { IfErr result (Refuses S.Subscriber RefusesClone id self.old) }
-        ensures unchanged { OnErr result (self.new ≡ self.old) }
+        ensures clones { AsksOfSpan S.Subscriber (AddHandle lane id)
+            (TakesStepAlone S.Subscriber (Clones id)) (Refuses S.Subscriber RefusesClone id) result self.old self.new }
     {
         self.stack.clone_span(lane, id)
     }
@@ -526,15 +421,8 @@ impl<S: Subscriber> Dispatch<S> {
     pub fn drop_span(&mut self, lane: Lane, id: Id) -> Result<bool, TraceError>
         requires { S.usable (stack_of self.old) }
         ensures usable { S.usable (stack_of self.new) }
-        ensures rest { ChangesStack self.old self.new }
         ensures ready { StaysReady S.Subscriber self.old self.new }
-        ensures served { ServesDrop S.Subscriber lane id result self.old self.new }
-        ensures seen { SeesWhatIsMade S.Subscriber self.old self.new }
-        ensures taken { IfOk result (TakesHandle S.Subscriber id self.old self.new) }
-        ensures store { IfOk result (DropsSettled S.Subscriber id self.old self.new) }
-        ensures settled { StaysWithoutClosing S.Subscriber self.old self.new }
-        ensures refused { IfErr result (Refuses S.Subscriber RefusesRelease id self.old) }
-        ensures unchanged { OnErr result (self.new ≡ self.old) }
+        ensures drops { DropsOneHandle S.Subscriber lane id result self.old self.new }
     {
         match self.stack.root_mut().release(id) {
             Err(error) => Err(error),
@@ -555,18 +443,9 @@ impl<S: Subscriber> Dispatch<S> {
     pub fn set_level(&mut self, number: u32, level: LevelFilter) -> Result<(), TraceError>
         requires { S.usable (stack_of self.old) }
         ensures usable { S.usable (stack_of self.new) }
-        ensures registry { SameRegistry S.Subscriber self.old self.new }
-        ensures ready { StaysReadyBut S.Subscriber number self.old self.new }
-        ensures served { ServesLevel S.Subscriber number level result self.old self.new }
-        ensures seen { SeesWhatIsMade S.Subscriber self.old self.new }
-        ensures level { OnOk result (GivesLevel S.Subscriber number level self.old self.new) }
-        ensures taken { OnOk result (TakesLevel S.Subscriber number level self.old true) }
-        ensures none { OnErr result (TakesLevel S.Subscriber number level self.old false) }
-        ensures rest { ChangesLevel S.Subscriber number self.old self.new }
-        ensures forgets { OnOk result (Forgets self.old self.new) }
         ensures registered { KeepsRegistered self.old self.new }
-        ensures refused { IfErr result (λ e. e ≡ TraceError.NotSettable number) }
-        ensures unchanged { OnErr result (self.new ≡ self.old) }
+        ensures ready { StaysReadyBut S.Subscriber number self.old self.new }
+        ensures sets { SetsOneLevel S.Subscriber number level result self.old self.new }
     {
         if !self.stack.set_level(number, level) {
             return Err(TraceError::NotSettable(number));
@@ -580,7 +459,6 @@ impl<S: Subscriber> Dispatch<S> {
     pub fn current_span(&self, lane: Lane) -> Current
         ensures shown { Shows S.Subscriber lane self.now result }
         ensures served { ServesCurrent S.Subscriber lane result self.now }
-        ensures seen { SeesWhatIsMade S.Subscriber self.now self.now }
     {
         self.stack.current_span(lane)
     }

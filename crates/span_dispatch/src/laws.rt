@@ -3,6 +3,7 @@ ghost use Rattle.span_core.specs.Filters.{FilterSet};
 ghost use Rattle.span_dispatch.specs.Alone.{Alone};
 ghost use Rattle.span_dispatch.specs.Effect.{AloneOf, MadeCall};
 ghost use Rattle.span_dispatch.specs.Isolation.{HasSameOutcomes, HaveSameOutcomes, KeepsAgreement, PathsActAlike};
+ghost use Rattle.span_dispatch.specs.Contract.{SeesWhatIsMade};
 ghost use Rattle.span_dispatch.specs.Isolation.{SaysWhatIsMade, SeeTheSame, SeenAlone, SeesCalls, SeesMade, SeesServed};
 ghost use Rattle.span_dispatch.specs.Journal.{Entry, LeavesOne};
 ghost use Rattle.span_dispatch.specs.Outcome.{Outcome};
@@ -44,6 +45,12 @@ pub fn other_layers_make_no_difference<S: Subscriber, T: Subscriber>()
     span_registry::laws::in_store_while_open_or_closing();
     span_registry::laws::closes_once();
 }
+
+/// Of whatever is made of an honest stack, each leaf goes through just what its path passes, in order; and where only plain
+/// filters stand round it, that is what it would go through alone.
+pub fn leaves_see_what_their_paths_pass<S: Subscriber>()
+    ensures { SeesWhatIsMade S.Subscriber }
+{}
 
 /// A call says by itself what is made of it, whichever stack it is asked of.
 ///

@@ -2,6 +2,7 @@
 #![tactic(auto)]
 
 mod cache;
+mod call;
 mod dispatch;
 mod entry;
 pub mod laws;
@@ -13,6 +14,7 @@ mod request;
 mod serve;
 mod shared;
 
+pub use call::Call;
 pub use dispatch::Dispatch;
 pub use entry::{Entry, EntryWith};
 pub use logged::{Journal, Logged, Receipt};

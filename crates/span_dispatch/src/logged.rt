@@ -1,19 +1,20 @@
 //! The accepted requests of a dispatcher, in order, and a dispatcher that keeps them.
 ghost use Rattle.std.specs.Prelude.{◌≡◌, ◌<◌, ◌↔◌, [], IsTrue, OnErr, OnOk, IfErr, IfOk, None, Some, false, true, length, slice_get, vec_capacity, vec_len};
-ghost use Rattle.span_core.specs.Event.{event_metadata};
-ghost use Rattle.span_core.specs.Span.{metadata_of};
-ghost use Rattle.span_dispatch.specs.Call.{FindsOpen, RefusesUnlessOpen};
-ghost use Rattle.span_dispatch.specs.Contract.{ChangesLevel, ChangesStack, DropsAll, Forgets, GivesLevel, LearnsOnly, LeavesGone, OpensIfMade, Refuses, RefusesEvent, RefusesMetadata, RefusesSpan, SameRegistry, SameStack, SeesWhatIsMade, Shows, StaysReady, StaysReadyBut, StaysSafe, StaysUpToDate, TakesHandle, TakesLevel, TakesStep, TakesStepAlone, WantsEvent, WantsMetadata};
-ghost use Rattle.span_dispatch.specs.Journal.{Adds, KeepsStack, Leaves, Stands, holds_by};
-ghost use Rattle.span_dispatch.specs.Logged.{AddsDone, AddsEntry, AddsNewSpan, IfDone, IfGiven, IfRefused, IfTold, LogsCallsite, LogsClone, LogsCurrent, LogsDrop, LogsDropped, LogsEnabled, LogsEnter, LogsEvent, LogsExit, LogsFollows, LogsHint, LogsLevel, LogsMismatch, LogsNewSpan, LogsRecord, LogsWanted, NoneTakes, On, OrNoMemory, current_entry, event_entry};
+ghost use Rattle.span_dispatch.specs.Call.{FindsOpen};
+ghost use Rattle.span_registry.specs.Step.{RefusesUnlessOpen};
+ghost use Rattle.span_dispatch.specs.Contract.{AsksOfSpan, DropsAll, DropsOneHandle, ExitsSpan, OpensSpan, Probes, Refuses, SendsEvent, SetsOneLevel, StaysReady, StaysReadyBut, StaysReadyByRules, TakesStep, TakesStepAlone};
+ghost use Rattle.span_dispatch.specs.Journal.{Adds, Leaves, Stands, holds_by};
+ghost use Rattle.span_dispatch.specs.declared.call.Call.TheVariants.{AddHandle, Enter, Follow, RecordValues};
+ghost use Rattle.span_dispatch.specs.Logged.{AddsEntry, AddsNewSpan, Logs, LogsCall, NeverRefused, On, ShowsSpan, current_entry, event_entry, without_receipt};
 ghost use Rattle.span_dispatch.specs.Serve.{stack_of};
 ghost use Rattle.span_registry.specs.Closes.{HasNoClosing};
-ghost use Rattle.span_registry.specs.Hooks.{Stays};
-ghost use Rattle.span_registry.specs.Step.{Clones, Enters, Exits, RefusesClone, RefusesEnter, RefusesRelease};
+ghost use Rattle.span_registry.specs.Step.{Clones, Enters, RefusesClone, RefusesEnter};
 ghost use Rattle.span_registry.specs.Store.{IsFresh};
 
+use crate::call::Call;
 use crate::dispatch::Dispatch;
 use crate::entry::{Entry, EntryWith};
+use crate::request::Answer;
 use span_core::{
     Attributes, Current, Event, Id, Lane, LevelFilter, Metadata, Pass, Record, TraceError,
 };
@@ -198,21 +199,9 @@ impl<S: Subscriber> Logged<S> {
 
     /// Asks as `Dispatch::enabled` does.
     pub fn enabled(&mut self, lane: Lane, meta: &Metadata) -> Result<(bool, Receipt), TraceError>
-        ensures stack { On SameStack self.old self.new }
-        ensures kept { On (LearnsOnly meta.now) self.old self.new }
-        ensures keeps { LogsCallsite meta.now result self.old self.new }
-        ensures up_to_date { On (StaysUpToDate S.Subscriber) self.old self.new }
-        ensures safe { On (StaysSafe S.Subscriber) self.old self.new }
         ensures ready { On (StaysReady S.Subscriber) self.old self.new }
-        ensures asked { IfTold (WantsMetadata S.Subscriber lane meta.now) result self.old }
-        ensures served { LogsEnabled S.Subscriber lane meta.now result self.old self.new }
-        ensures seen { IfDone (SeesWhatIsMade S.Subscriber) result self.old self.new }
-        ensures hint { LogsHint result self.old self.new }
-        ensures above { LogsDropped meta.now false result self.old self.new }
-        ensures mismatch { LogsMismatch meta.now result self.old self.new }
-        ensures refused { IfRefused (RefusesMetadata meta.now) result self.old }
-        ensures unchanged { OnErr result (KeepsStack self.old self.new) }
-        ensures added { AddsEntry (EntryWith.Probe lane meta.now) result self.old self.new }
+        ensures logs { Logs (Probes S.Subscriber lane meta.now)
+            (AddsEntry (EntryWith.Probe lane meta.now)) result self.old self.new }
     {
         let Logged { dispatch, journal } = self;
         let Journal { entries } = journal;
@@ -228,21 +217,9 @@ impl<S: Subscriber> Logged<S> {
         lane: Lane,
         attrs: &Attributes<'_>,
     ) -> Result<(Option<Id>, Receipt), TraceError>
-        ensures kept { On (LearnsOnly (metadata_of attrs.now)) self.old self.new }
-        ensures keeps { LogsCallsite (metadata_of attrs.now) result self.old self.new }
-        ensures up_to_date { On (StaysUpToDate S.Subscriber) self.old self.new }
-        ensures safe { On (StaysSafe S.Subscriber) self.old self.new }
         ensures ready { On (StaysReady S.Subscriber) self.old self.new }
-        ensures served { LogsNewSpan S.Subscriber lane attrs.now result self.old self.new }
-        ensures seen { IfDone (SeesWhatIsMade S.Subscriber) result self.old self.new }
-        ensures asked { LogsWanted S.Subscriber lane attrs.now result self.old self.new }
-        ensures store { IfGiven (OpensIfMade S.Subscriber lane attrs.now) result self.old self.new }
-        ensures hint { LogsHint result self.old self.new }
-        ensures above { LogsDropped (metadata_of attrs.now) None result self.old self.new }
-        ensures mismatch { LogsMismatch (metadata_of attrs.now) result self.old self.new }
-        ensures refused { IfRefused (RefusesSpan S.Subscriber lane attrs.now) result self.old }
-        ensures unchanged { OnErr result (KeepsStack self.old self.new) }
-        ensures added { AddsNewSpan S.Subscriber lane attrs.now result self.old self.new }
+        ensures logs { Logs (OpensSpan S.Subscriber lane attrs.now)
+            (AddsNewSpan S.Subscriber lane attrs.now) result self.old self.new }
     {
         let Logged { dispatch, journal } = self;
         let Journal { entries } = journal;
@@ -265,22 +242,9 @@ impl<S: Subscriber> Logged<S> {
 
     /// Notifies of an event as `Dispatch::event` does.
     pub fn event(&mut self, lane: Lane, event: &Event<'_>) -> Result<(bool, Receipt), TraceError>
-        ensures kept { On (LearnsOnly (event_metadata event.now)) self.old self.new }
-        ensures keeps { LogsCallsite (event_metadata event.now) result self.old self.new }
-        ensures up_to_date { On (StaysUpToDate S.Subscriber) self.old self.new }
-        ensures safe { On (StaysSafe S.Subscriber) self.old self.new }
         ensures ready { On (StaysReady S.Subscriber) self.old self.new }
-        ensures served { LogsEvent S.Subscriber lane event.now result self.old self.new }
-        ensures seen { IfDone (SeesWhatIsMade S.Subscriber) result self.old self.new }
-        ensures store { IfDone (TakesStep S.Subscriber Stays) result self.old self.new }
-        ensures dropped { IfOk result (λ r. r.0 ≡ false → On SameStack self.old self.new) }
-        ensures asked { IfTold (WantsEvent S.Subscriber lane event.now) result self.old }
-        ensures hint { LogsHint result self.old self.new }
-        ensures above { LogsDropped (event_metadata event.now) false result self.old self.new }
-        ensures mismatch { LogsMismatch (event_metadata event.now) result self.old self.new }
-        ensures refused { IfRefused (RefusesEvent event.now) result self.old }
-        ensures unchanged { OnErr result (KeepsStack self.old self.new) }
-        ensures added { AddsEntry (event_entry lane event.now) result self.old self.new }
+        ensures logs { Logs (SendsEvent S.Subscriber lane event.now)
+            (AddsEntry (event_entry lane event.now)) result self.old self.new }
     {
         let Logged { dispatch, journal } = self;
         let Journal { entries } = journal;
@@ -293,14 +257,10 @@ impl<S: Subscriber> Logged<S> {
 
     /// Enters a span as `Dispatch::enter` does.
     pub fn enter(&mut self, lane: Lane, id: Id) -> Result<((), Receipt), TraceError>
-        ensures rest { On ChangesStack self.old self.new }
         ensures ready { On (StaysReady S.Subscriber) self.old self.new }
-        ensures served { LogsEnter S.Subscriber lane id result self.old self.new }
-        ensures seen { IfDone (SeesWhatIsMade S.Subscriber) result self.old self.new }
-        ensures store { IfDone (TakesStep S.Subscriber (Enters lane id)) result self.old self.new }
-        ensures refused { IfRefused (Refuses S.Subscriber RefusesEnter id) result self.old }
-        ensures unchanged { OnErr result (self.new ≡ self.old) }
-        ensures added { AddsDone (EntryWith.Enter lane id) result self.old self.new }
+        ensures logs { Logs (AsksOfSpan S.Subscriber (Enter lane id) (TakesStep S.Subscriber (Enters lane id))
+            (Refuses S.Subscriber (λ r. RefusesEnter r lane) id))
+            (AddsEntry (λ _. EntryWith.Enter lane id)) result self.old self.new }
     {
         let Logged { dispatch, journal } = self;
         let Journal { entries } = journal;
@@ -312,15 +272,9 @@ impl<S: Subscriber> Logged<S> {
 
     /// Leaves a span as `Dispatch::exit` does.
     pub fn exit(&mut self, lane: Lane, id: Id) -> Result<((), Receipt), TraceError>
-        ensures rest { On ChangesStack self.old self.new }
         ensures ready { On (StaysReady S.Subscriber) self.old self.new }
-        ensures served { LogsExit S.Subscriber lane id result self.old self.new }
-        ensures seen { IfDone (SeesWhatIsMade S.Subscriber) result self.old self.new }
-        ensures store { IfDone (TakesStep S.Subscriber (Exits lane id)) result self.old self.new }
-        ensures gone { IfDone (LeavesGone S.Subscriber lane id) result self.old self.new }
-        ensures refused { IfErr result (λ e. e ≡ TraceError.OutOfMemory) }
-        ensures unchanged { OnErr result (self.new ≡ self.old) }
-        ensures added { AddsDone (EntryWith.Exit lane id) result self.old self.new }
+        ensures logs { Logs (NeverRefused (λ _. ExitsSpan S.Subscriber lane id))
+            (AddsEntry (λ _. EntryWith.Exit lane id)) result self.old self.new }
     {
         let Logged { dispatch, journal } = self;
         let Journal { entries } = journal;
@@ -337,14 +291,10 @@ impl<S: Subscriber> Logged<S> {
         id: Id,
         values: &Record<'_>,
     ) -> Result<((), Receipt), TraceError>
-        ensures rest { On ChangesStack self.old self.new }
         ensures ready { On (StaysReady S.Subscriber) self.old self.new }
-        ensures served { LogsRecord S.Subscriber lane id values.now result self.old self.new }
-        ensures seen { IfDone (SeesWhatIsMade S.Subscriber) result self.old self.new }
-        ensures store { IfDone (TakesStep S.Subscriber (FindsOpen id)) result self.old self.new }
-        ensures refused { IfRefused (Refuses S.Subscriber RefusesUnlessOpen id) result self.old }
-        ensures unchanged { OnErr result (self.new ≡ self.old) }
-        ensures added { AddsDone (EntryWith.Record lane id) result self.old self.new }
+        ensures logs { Logs (AsksOfSpan S.Subscriber (RecordValues lane id values.now) (TakesStep S.Subscriber (FindsOpen id))
+            (Refuses S.Subscriber RefusesUnlessOpen id))
+            (AddsEntry (λ _. EntryWith.Record lane id)) result self.old self.new }
     {
         let Logged { dispatch, journal } = self;
         let Journal { entries } = journal;
@@ -361,14 +311,10 @@ impl<S: Subscriber> Logged<S> {
         id: Id,
         follows: Id,
     ) -> Result<((), Receipt), TraceError>
-        ensures rest { On ChangesStack self.old self.new }
         ensures ready { On (StaysReady S.Subscriber) self.old self.new }
-        ensures served { LogsFollows S.Subscriber lane id follows result self.old self.new }
-        ensures seen { IfDone (SeesWhatIsMade S.Subscriber) result self.old self.new }
-        ensures store { IfDone (TakesStep S.Subscriber (FindsOpen id)) result self.old self.new }
-        ensures refused { IfRefused (Refuses S.Subscriber RefusesUnlessOpen id) result self.old }
-        ensures unchanged { OnErr result (self.new ≡ self.old) }
-        ensures added { AddsDone (EntryWith.Follows lane id follows) result self.old self.new }
+        ensures logs { Logs (AsksOfSpan S.Subscriber (Follow lane id follows) (TakesStep S.Subscriber (FindsOpen id))
+            (Refuses S.Subscriber RefusesUnlessOpen id))
+            (AddsEntry (λ _. EntryWith.Follows lane id follows)) result self.old self.new }
     {
         let Logged { dispatch, journal } = self;
         let Journal { entries } = journal;
@@ -380,15 +326,11 @@ impl<S: Subscriber> Logged<S> {
 
     /// Adds a handle as `Dispatch::clone_span` does.
     pub fn clone_span(&mut self, lane: Lane, id: Id) -> Result<(Id, Receipt), TraceError>
-        ensures rest { On ChangesStack self.old self.new }
         ensures ready { On (StaysReady S.Subscriber) self.old self.new }
         ensures same { IfOk result (λ r. r.0 ≡ id) }
-        ensures served { LogsClone S.Subscriber lane id result self.old self.new }
-        ensures seen { IfDone (SeesWhatIsMade S.Subscriber) result self.old self.new }
-        ensures store { IfDone (TakesStepAlone S.Subscriber (Clones id)) result self.old self.new }
-        ensures refused { IfRefused (Refuses S.Subscriber RefusesClone id) result self.old }
-        ensures unchanged { OnErr result (self.new ≡ self.old) }
-        ensures added { AddsDone (EntryWith.Clone lane id) result self.old self.new }
+        ensures logs { Logs (AsksOfSpan S.Subscriber (AddHandle lane id) (TakesStepAlone S.Subscriber (Clones id))
+            (Refuses S.Subscriber RefusesClone id))
+            (AddsEntry (λ _. EntryWith.Clone lane id)) result self.old self.new }
     {
         let Logged { dispatch, journal } = self;
         let Journal { entries } = journal;
@@ -400,15 +342,10 @@ impl<S: Subscriber> Logged<S> {
 
     /// Takes a handle away as `Dispatch::drop_span` does.
     pub fn drop_span(&mut self, lane: Lane, id: Id) -> Result<(bool, Receipt), TraceError>
-        ensures rest { On ChangesStack self.old self.new }
         ensures ready { On (StaysReady S.Subscriber) self.old self.new }
-        ensures served { LogsDrop S.Subscriber lane id result self.old self.new }
-        ensures seen { IfDone (SeesWhatIsMade S.Subscriber) result self.old self.new }
-        ensures taken { IfGiven (TakesHandle S.Subscriber id) result self.old self.new }
-        ensures store { IfGiven (DropsAll S.Subscriber id) result self.old self.new }
-        ensures refused { IfRefused (Refuses S.Subscriber RefusesRelease id) result self.old }
-        ensures unchanged { OnErr result (self.new ≡ self.old) }
-        ensures added { AddsEntry (EntryWith.Drop lane id) result self.old self.new }
+        ensures logs { Logs (DropsOneHandle S.Subscriber lane id)
+            (AddsEntry (EntryWith.Drop lane id)) result self.old self.new }
+        ensures all { IfOk result (λ r. DropsAll S.Subscriber id self.old.dispatch self.new.dispatch r.0) }
     {
         let Logged { dispatch, journal } = self;
         let Journal { entries } = journal;
@@ -425,18 +362,9 @@ impl<S: Subscriber> Logged<S> {
         number: u32,
         level: LevelFilter,
     ) -> Result<((), Receipt), TraceError>
-        ensures registry { On (SameRegistry S.Subscriber) self.old self.new }
         ensures ready { On (StaysReadyBut S.Subscriber number) self.old self.new }
-        ensures served { LogsLevel S.Subscriber number level result self.old self.new }
-        ensures seen { IfDone (SeesWhatIsMade S.Subscriber) result self.old self.new }
-        ensures level { IfDone (GivesLevel S.Subscriber number level) result self.old self.new }
-        ensures taken { OnOk result (TakesLevel S.Subscriber number level self.old.dispatch true) }
-        ensures none { IfErr result (NoneTakes S.Subscriber number level self.old) }
-        ensures rest { IfDone (ChangesLevel S.Subscriber number) result self.old self.new }
-        ensures forgets { IfDone Forgets result self.old self.new }
-        ensures refused { IfErr result (OrNoMemory (λ e. e ≡ TraceError.NotSettable number)) }
-        ensures unchanged { OnErr result (self.new ≡ self.old) }
-        ensures added { AddsDone (EntryWith.Level lane number level) result self.old self.new }
+        ensures logs { Logs (SetsOneLevel S.Subscriber number level)
+            (AddsEntry (λ _. EntryWith.Level lane number level)) result self.old self.new }
     {
         let Logged { dispatch, journal } = self;
         let Journal { entries } = journal;
@@ -448,12 +376,9 @@ impl<S: Subscriber> Logged<S> {
 
     /// The span that a lane is in, as `Dispatch::current_span` shows it.
     pub fn current_span(&mut self, lane: Lane) -> Result<(Current, Receipt), TraceError>
-        ensures shown { IfTold (Shows S.Subscriber lane) result self.old }
-        ensures served { LogsCurrent S.Subscriber lane result self.old }
         ensures dispatch { self.new.dispatch ≡ self.old.dispatch }
-        ensures refused { IfErr result (λ e. e ≡ TraceError.OutOfMemory) }
-        ensures unchanged { OnErr result (self.new ≡ self.old) }
-        ensures added { AddsEntry (current_entry lane) result self.old self.new }
+        ensures logs { Logs (NeverRefused (ShowsSpan S.Subscriber lane))
+            (AddsEntry (current_entry lane)) result self.old self.new }
     {
         let Logged { dispatch, journal } = self;
         let Journal { entries } = journal;
@@ -461,6 +386,46 @@ impl<S: Subscriber> Logged<S> {
         let given = dispatch.current_span(lane);
         let receipt = noted(entries, Entry::Current(lane, given.id()));
         Ok((given, receipt))
+    }
+
+    /// Asks this from a lane, whichever lane the call names, and adds its entry, unless it is refused.
+    ///
+    /// Own to this port.
+    pub fn ask(&mut self, lane: Lane, call: &Call<'_>) -> Answer
+        ensures ready { On (StaysReadyByRules S.Subscriber) self.old self.new }
+        ensures logs { LogsCall S.Subscriber lane call.now result self.old self.new }
+    {
+        match call {
+            Call::OpenSpan(_, attributes) => {
+                Answer::of_span(given(self.new_span(lane, attributes)))
+            }
+            Call::SendEvent(_, event) => Answer::of_event(given(self.event(lane, event))),
+            Call::Enter(_, id) => Answer::of_done(given(self.enter(lane, *id))),
+            Call::Exit(_, id) => Answer::of_done(given(self.exit(lane, *id))),
+            Call::RecordValues(_, id, values) => {
+                Answer::of_done(given(self.record(lane, *id, values)))
+            }
+            Call::Follow(_, id, other) => {
+                Answer::of_done(given(self.follows_from(lane, *id, *other)))
+            }
+            Call::AddHandle(_, id) => Answer::of_clone(given(self.clone_span(lane, *id))),
+            Call::DropHandle(_, id) => Answer::of_yes(given(self.drop_span(lane, *id))),
+            Call::Probe(_, metadata) => Answer::of_yes(given(self.enabled(lane, metadata))),
+            Call::AskCurrent(_) => Answer::of_look(given(self.current_span(lane))),
+            Call::SetLevel(number, level) => {
+                Answer::of_done(given(self.set_level(lane, *number, *level)))
+            }
+        }
+    }
+}
+
+/// What was given beside a receipt.
+fn given<A>(answered: Result<(A, Receipt), TraceError>) -> Result<A, TraceError>
+    ensures { result ≡ without_receipt answered }
+{
+    match answered {
+        Ok((given, receipt)) => Ok(given),
+        Err(error) => Err(error),
     }
 }
 

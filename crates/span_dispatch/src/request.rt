@@ -3,7 +3,7 @@
 ghost use Rattle.std.specs.Prelude.{◌≡◌};
 ghost use Rattle.span_core.specs.Event.{event_metadata, event_of, event_parent, event_values};
 ghost use Rattle.span_core.specs.Span.{asked_parent, attributes_of, metadata_of, values_of};
-ghost use Rattle.span_dispatch.specs.Call.{current_answer, done_answer, event_answer, span_answer, yes_answer};
+ghost use Rattle.span_dispatch.specs.Call.{current_answer, look_answer, done_answer, event_answer, span_answer, yes_answer};
 ghost use Rattle.span_dispatch.specs.Serve.{resolved, resolved_parent};
 
 use span_core::{
@@ -206,5 +206,15 @@ impl Answer {
         ensures { result ≡ current_answer current }
     {
         Answer::Current(current.id())
+    }
+
+    /// Of a look that may be refused.
+    pub fn of_look(shown: Result<Current, TraceError>) -> Answer
+        ensures { result ≡ look_answer shown }
+    {
+        match shown {
+            Ok(current) => Answer::of_current(current),
+            Err(error) => Answer::Refused(error),
+        }
     }
 }

@@ -1,13 +1,14 @@
 //! Lists of requests, served in order.
-ghost use Rattle.std.specs.Prelude.{◌≡◌, ◌∷◌, [], ◌++◌, OnErr, IfOk, IfErr, ◌<◌, ◌≤◌, ◌+◌, length, vec_len, vec_capacity};
-ghost use Rattle.span_dispatch.specs.Call.{Exit};
-ghost use Rattle.span_dispatch.specs.Contract.{AnswersCall, ChangesStack, ServesList, ServesListExactly, ServesNext, StaysReady, StaysReadyByRules};
-ghost use Rattle.span_dispatch.specs.KeptHint.{ListGoesByKept, RequestGoesByKept};
+ghost use Rattle.std.specs.Prelude.{◌≡◌, ◌∷◌, [], ◌++◌, IfOk, IfErr, ◌<◌, ◌≤◌, ◌+◌, length, vec_len, vec_capacity};
+ghost use Rattle.span_dispatch.specs.Ask.{AsksCall};
+ghost use Rattle.span_dispatch.specs.Contract.{AnswersDrop, ServesList, ServesNext, StaysReadyByRules};
+ghost use Rattle.span_dispatch.specs.KeptHint.{CallGoesByKept, ListGoesByKept, RequestGoesByKept};
 ghost use Rattle.span_dispatch.specs.Serve.{stack_of};
 
+use crate::call::Call;
 use crate::dispatch::Dispatch;
 use crate::request::{Answer, Request};
-use span_core::{Id, Lane, Record, TraceError};
+use span_core::TraceError;
 use span_registry::{LookupSpan, Subscriber, laws};
 use std::alloc::Global;
 
@@ -24,20 +25,34 @@ impl<S: Subscriber> Dispatch<S> {
         ensures usable { S.usable (stack_of self.new) }
         ensures ready { StaysReadyByRules S.Subscriber self.old self.new }
         ensures served { IfOk result (ServesList S.Subscriber requests.now self.old self.new) }
-        ensures exact { IfOk result
-            (ServesListExactly S.Subscriber requests.now self.old self.new) }
         ensures kept { IfOk result (ListGoesByKept S.registry requests.now self.old self.new) }
         ensures length { IfOk result (λ a. length a.items ≡ length requests.now) }
-        ensures memory { IfErr result (λ e. e ≡ TraceError.OutOfMemory) }
-        ensures unchanged { OnErr result (self.new ≡ self.old) }
+        ensures refused { IfErr result (λ e. (e ≡ TraceError.OutOfMemory) × (self.new ≡ self.old)) }
+    {
+        let mut answers = Vec::with_capacity(alloc, requests.len())?;
+        self.serve_into(requests, &mut answers);
+        Ok(answers)
+    }
+
+    /// Serves requests in order, where there is room for the answers: these take the place of what is there. It is never refused.
+    ///
+    /// Own to this port.
+    pub fn serve_into(&mut self, requests: &[Request<'_>], answers: &mut Vec<Answer>)
+        requires usable { S.usable (stack_of self.old) }
+        requires room { length requests.now ≤ vec_capacity answers.old }
+        ensures usable { S.usable (stack_of self.new) }
+        ensures ready { StaysReadyByRules S.Subscriber self.old self.new }
+        ensures served { ServesList S.Subscriber requests.now self.old self.new answers.new }
+        ensures kept { ListGoesByKept S.registry requests.now self.old self.new answers.new }
+        ensures length { length answers.new.items ≡ length requests.now }
+        ensures room { vec_capacity answers.old ≤ vec_capacity answers.new }
     {
         laws::a_registry_is_sound(self.stack().root());
-        let mut answers = Vec::with_capacity(alloc, requests.len())?;
+        answers.clear();
         for request in requests {
-            let answer = self.serve_one(&answers, request);
-            append(&mut answers, answer);
+            let answer = self.serve_one(answers, request);
+            append(answers, answer);
         }
-        Ok(answers)
     }
 
     /// One request, where these are the answers so far.
@@ -48,55 +63,43 @@ impl<S: Subscriber> Dispatch<S> {
         ensures served { ServesNext S.Subscriber past.now request.now result self.old self.new }
         ensures kept { RequestGoesByKept S.registry past.now request.now result self.old self.new }
     {
-        match request {
-            Request::NewSpan(lane, metadata, parent, values) => {
-                Answer::of_span(self.new_span(*lane, &parent.attributes(past, *metadata, *values)))
-            }
-            Request::Event(lane, metadata, parent, values) => {
-                Answer::of_event(self.event(*lane, &parent.event(past, *metadata, *values)))
-            }
-            Request::Enter(lane, which) => match which.span_of(past) {
-                None => Answer::Dropped,
-                Some(id) => Answer::of_done(self.enter(*lane, id)),
-            },
-            Request::Exit(lane, which) => match which.span_of(past) {
-                None => Answer::Dropped,
-                Some(id) => self.leave(*lane, id),
-            },
-            Request::Record(lane, which, values) => match which.span_of(past) {
-                None => Answer::Dropped,
-                Some(id) => Answer::of_done(self.record(*lane, id, &Record::new(*values))),
-            },
-            Request::Follows(lane, which, other) => match which.span_of(past) {
-                None => Answer::Dropped,
-                Some(id) => match other.span_of(past) {
-                    None => Answer::Dropped,
-                    Some(follows) => Answer::of_done(self.follows_from(*lane, id, follows)),
-                },
-            },
-            Request::Clone(lane, which) => match which.span_of(past) {
-                None => Answer::Dropped,
-                Some(id) => Answer::of_clone(self.clone_span(*lane, id)),
-            },
-            Request::Drop(lane, which) => match which.span_of(past) {
-                None => Answer::Dropped,
-                Some(id) => Answer::of_yes(self.drop_span(*lane, id)),
-            },
-            Request::Enabled(lane, metadata) => Answer::of_yes(self.enabled(*lane, metadata)),
-            Request::Current(lane) => Answer::of_current(self.current_span(*lane)),
-            Request::SetLevel(number, level) => Answer::of_done(self.set_level(*number, *level)),
+        match request.call(past) {
+            None => Answer::Dropped,
+            Some(call) => self.ask(&call),
         }
     }
 
-    fn leave(&mut self, lane: Lane, id: Id) -> Answer
+    /// Asks this, whatever it is: as the call of its kind does, which promises the same.
+    ///
+    /// Own to this port.
+    pub fn ask(&mut self, call: &Call<'_>) -> Answer
         requires { S.usable (stack_of self.old) }
         ensures usable { S.usable (stack_of self.new) }
-        ensures ready { StaysReady S.Subscriber self.old self.new }
-        ensures served { AnswersCall S.Subscriber (Exit lane id) result self.old self.new }
-        ensures rest { ChangesStack self.old self.new }
+        ensures ready { StaysReadyByRules S.Subscriber self.old self.new }
+        ensures served { AnswersDrop S.Subscriber call.now result self.old self.new }
+        ensures asks { AsksCall S.Subscriber call.now result self.old self.new }
+        ensures kept { CallGoesByKept S.registry call.now result self.old self.new }
     {
-        self.exit(lane, id);
-        Answer::Done
+        match call {
+            Call::OpenSpan(lane, attributes) => Answer::of_span(self.new_span(*lane, attributes)),
+            Call::SendEvent(lane, event) => Answer::of_event(self.event(*lane, event)),
+            Call::Enter(lane, id) => Answer::of_done(self.enter(*lane, *id)),
+            Call::Exit(lane, id) => {
+                self.exit(*lane, *id);
+                Answer::Done
+            }
+            Call::RecordValues(lane, id, values) => {
+                Answer::of_done(self.record(*lane, *id, values))
+            }
+            Call::Follow(lane, id, other) => {
+                Answer::of_done(self.follows_from(*lane, *id, *other))
+            }
+            Call::AddHandle(lane, id) => Answer::of_clone(self.clone_span(*lane, *id)),
+            Call::DropHandle(lane, id) => Answer::of_yes(self.drop_span(*lane, *id)),
+            Call::Probe(lane, metadata) => Answer::of_yes(self.enabled(*lane, metadata)),
+            Call::AskCurrent(lane) => Answer::of_current(self.current_span(*lane)),
+            Call::SetLevel(number, level) => Answer::of_done(self.set_level(*number, *level)),
+        }
     }
 }
 

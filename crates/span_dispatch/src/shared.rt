@@ -1,19 +1,21 @@
 //! A dispatcher that workers share behind one lock.
-ghost use Rattle.std.specs.Prelude.{◌≡◌, ℕ, ◌+◌, ◌-◌, ◌<◌, ◌^◌, ◌↔◌, IfErr, IfOk, IfSome, IsNone, IsOk, OnErr, OnOk, length, not, vec_len};
+ghost use Rattle.std.specs.Prelude.{◌≡◌, ℕ, ◌+◌, ◌-◌, ◌<◌, ◌≤◌, ◌^◌, ◌↔◌, IfErr, IfOk, IfSome, IsNone, IsOk, OnErr, OnOk, length, not, vec_len};
 ghost use Rattle.span_core.specs.Level.{is_above};
-ghost use Rattle.span_dispatch.specs.Call.{RefusesUnlessOpen};
+ghost use Rattle.span_registry.specs.Step.{RefusesUnlessOpen};
 ghost use Rattle.span_dispatch.specs.Contract.{Refuses, RefusesEvent, RefusesMetadata, RefusesSpan};
 ghost use Rattle.span_dispatch.specs.Journal.{Leaves};
 ghost use Rattle.span_dispatch.specs.Logged.{OrNoMemory, current_entry, event_entry};
 ghost use Rattle.span_dispatch.specs.Serve.{stack_of};
-ghost use Rattle.span_dispatch.specs.Worker.{AreCrew, AreCrewOf, SomeRefuses, IsReceipt, IsReceiptOf, IsSpanReceipt, called, calls_of, new_worker};
+ghost use Rattle.span_dispatch.specs.Worker.{AreCrew, AreCrewOf, SharesCall, SomeRefuses, IsReceipt, IsReceiptOf, IsSpanReceipt, called, calls_of, new_worker};
 ghost use Rattle.span_registry.specs.Closes.{HasNoClosing};
 ghost use Rattle.span_registry.specs.Step.{RefusesClone, RefusesEnter, RefusesRelease};
 ghost use Rattle.span_registry.specs.Store.{IsFresh};
 
+use crate::call::Call;
 use crate::dispatch::Dispatch;
 use crate::entry::{Entry, EntryWith};
 use crate::logged::{Journal, Logged, Receipt};
+use crate::request::Answer;
 use span_core::{
     Attributes, Current, Event, Id, Lane, Level, LevelFilter, Metadata, Record, Rejected,
     TraceError,
@@ -300,7 +302,8 @@ impl<S: Subscriber, L: Crew> Shared<S, L> {
         requires { worker.old.calls < 2 ^ 64 - 1 }
         ensures worker { OnOk result (worker.new ≡ called worker.old) }
         ensures receipt { IsReceipt (EntryWith.Enter worker.old.lane id) result }
-        ensures refused { SomeRefuses (Refuses S.Subscriber RefusesEnter id) result }
+        ensures refused { SomeRefuses
+            (Refuses S.Subscriber (λ r. RefusesEnter r worker.old.lane) id) result }
         ensures unchanged { OnErr result (worker.new ≡ worker.old) }
     {
         let mut guard = self.lock.lock(rt);
@@ -451,6 +454,25 @@ impl<S: Subscriber, L: Crew> Shared<S, L> {
         let given = logged.current_span(worker.lane)?;
         worker.count(calls);
         Ok(given)
+    }
+
+    /// Asks this from the worker's lane, whichever lane the call names.
+    ///
+    /// Own to this port.
+    pub fn ask(&self, rt: &impl Wait, worker: &mut Worker<L>, call: &Call<'_>) -> Answer
+        requires { worker.old.calls < 2 ^ 64 - 1 }
+        ensures asked { SharesCall S.Subscriber call.now result worker.old worker.new }
+        ensures calls { worker.new.calls ≤ worker.old.calls + 1 }
+    {
+        let mut guard = self.lock.lock(rt);
+        let Locked { logged, calls } = &mut *guard;
+        match logged.ask(worker.lane, call) {
+            Answer::Refused(error) => Answer::Refused(error),
+            answer => {
+                worker.count(calls);
+                answer
+            }
+        }
     }
 
     /// How long the journal is now.

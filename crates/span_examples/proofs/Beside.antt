@@ -168,10 +168,10 @@ went_same r q h k same first second =
     let due = subst (λ g. Records new_recorder q (map kept_notice g)) (sym same) second in
     record { notices = map kept_notice h; first = first; second = due; kept = λ a b. keeps_all r _ first a ∙ sym (keeps_all q _ due b) }
 
-abbrev pub Serves1 : List Request → List Answer → Recorded → Recorded → Type 0
+abbrev pub Serves1 : List Request → List Answer → Dispatch Recorded → Dispatch Recorded → Type 0
 Serves1 = Served inner_of with_inner form_1 steps_1 levels_1 hears_1 acts_1
 
-abbrev pub Serves2 : List Request → List Answer → Beside → Beside → Type 0
+abbrev pub Serves2 : List Request → List Answer → Dispatch Beside → Dispatch Beside → Type 0
 Serves2 = Served registry_2 with_registry_2 form_2 steps_2 levels_2 hears_2 acts_2
 
 -- what a leaf behind such filters sees of made calls is the same in both stacks
@@ -189,7 +189,7 @@ first_number level = λ i n. or_nothing (n == 0) i
 -- where both made the same, both recorders went through the same
 same_kept : (level : LevelFilter) → SeenSame → (requests : List Request) (answers others : List Answer) (alone last : Dispatch Recorded) (beside end : Dispatch Beside)
     → IsNumbered level 0 (outer_of (stack_of alone)) → IsNumbered level 0 (outer_of (inner_of (stack_of beside))) → (inner_of (stack_of alone)).store ≡ empty_store → (registry_2 (stack_of beside)).store ≡ empty_store
-    → Serves1 requests answers (stack_of alone) (stack_of last) → Serves2 requests others (stack_of beside) (stack_of end) → made_first requests answers ≡ made_first requests others → WentThroughTheSame (recorder_of last) (inner_recorder_of end)
+    → Serves1 requests answers alone last → Serves2 requests others beside end → made_first requests answers ≡ made_first requests others → WentThroughTheSame (recorder_of last) (inner_recorder_of end)
 same_kept level law requests answers others alone last beside end one two none nothing first second same =
     let a = Outer (Under Here) in
     let b = Inner (Outer (Under Here)) in

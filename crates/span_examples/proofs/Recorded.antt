@@ -1,5 +1,5 @@
 -- A recorder under a level: what it keeps of a list of requests.
-use Rattle.std.proofs.Common.{inr, ◌<◌, arith, ◌≡◌, ◌∙◌, Bool, true, false, List, [], ◌∷◌, ◌++◌, None, Some, ap, map, refl, subst, sym, ℕ, ◌+◌, ◌≤◌, ◌&&◌}
+use Rattle.std.proofs.Common.{inl, inr, ◌<◌, arith, ◌≡◌, ◌∙◌, Bool, true, false, List, [], ◌∷◌, ◌++◌, None, Some, ap, map, refl, subst, sym, ℕ, ◌+◌, ◌≤◌, ◌&&◌}
 use Rattle.std.proofs.lemmas.Bool.{false≢true, true≢false}
 use Rattle.std.proofs.lemmas.List.{append-nil, map-append}
 use Rattle.std.specs.Prelude.{if◌then◌else◌, ⊤}
@@ -23,7 +23,7 @@ use Rattle.span_dispatch.specs.Outcome.{LayersGo, LevelSet, OutcomeAt, Makes, No
 use Rattle.span_dispatch.specs.Recorder.{RecorderState, Records, kept_notice, new_recorder, recorder_steps}
 use Rattle.span_dispatch.specs.Cache.{KeptCallsites}
 use Rattle.span_dispatch.specs.Alone.{passed, passed_at}
-use Rattle.span_dispatch.specs.Serve.{IsReady, RunExactly, ServedExactly, ServesRequest, flat, kept_by, stack_of}
+use Rattle.span_dispatch.specs.Serve.{IsReady, Run, Served, ServesRequest, flat, kept_by, stack_of}
 use Rattle.span_dispatch.specs.declared.dispatch.Dispatch.{Dispatch}
 use Rattle.span_dispatch.specs.declared.notice.Notice.{Notice as KeptNotice}
 use Rattle.span_dispatch.specs.declared.request.Answer.TheVariants as answer
@@ -140,7 +140,7 @@ goes_under level f (Noticed lane e) s t x y none u has n =
     stays_under level (outer_of x) (outer_of y) (ap (λ (z : Recorded). id_of (outer_of z)) goes.rest ∙ outer.0)
     (ap (λ (z : Recorded). filter_of (outer_of z)) goes.rest ∙ filter_stays _ e (outer_of x) (outer_of goes.notified) lane.0 _ _ _ outer.1) u
 goes_under level f (LevelSet n l) s t x y none u has q = absurd none
-goes_under level f (Quiet c) s t x y none u has quiet = stays_under level (outer_of x) (outer_of y) (ap (λ (z : Recorded). id_of (outer_of z)) quiet.rest) (ap (λ (z : Recorded). filter_of (outer_of z)) quiet.rest) u
+goes_under level f (Quiet c) s t x y none u has quiet = stays_under level (outer_of x) (outer_of y) (ap (λ (z : Recorded). id_of (outer_of z)) quiet.1) (ap (λ (z : Recorded). filter_of (outer_of z)) quiet.1) u
 
 -- ---- what the recorder keeps
 
@@ -206,17 +206,17 @@ keeps_span : (level : LevelFilter) (past : List Answer) (lane : Lane) (m : Metad
     → ServesOne past (request.NewSpan lane m p values) x a made after y → IsMadeOrRefused a × Keeps level (kept_span level lane m a) made y × (after ≡ None)
 keeps_span level past lane m p values x a made after y u h =
     span_served inner_of with_inner HasForm recorded_steps recorded_levels past lane m p values None x a made after y (λ b ms k z. IsMadeOrRefused b × Keeps level (kept_span level lane m b) ms z × (k ≡ None))
-    (λ id attrs f one k z asks keeps is made. (tt, kept_new level lane m x u id attrs one z (span_asked past lane lane m p values attrs asks).1 is made, keeps))
-    (λ attrs f k asks ready dropped keeps. absurd (never_vetoed level x f (metadata_of attrs) lane u ready.honest.has (vetoed_unkept f (inner_of x) lane (metadata_of attrs) _ dropped)))
-    (λ attrs e f k asks refused keeps. (tt, record { keeps = refl; under = u }, unkept_still f (metadata_of attrs) e k keeps)) h
+    (λ id attrs f one k z asks decided is made. (tt, kept_new level lane m x u id attrs one z (span_asked past lane lane m p values attrs asks).1 is made, unkept_still f (inner_of x) lane (metadata_of attrs) _ true k decided))
+    (λ attrs f k asks ready dropped. absurd (never_vetoed level x f (metadata_of attrs) lane u ready.honest.has (vetoed_unkept f (inner_of x) lane (metadata_of attrs) _ k dropped)))
+    (λ attrs e f k asks refused. (tt, record { keeps = refl; under = u }, elim refused [ inl unknown ↦ absurd (known_unkept f (metadata_of attrs) e k unknown) | inr room ↦ unkept_still f (inner_of x) lane (metadata_of attrs) _ true k room.0 ])) h
 
 keeps_event : (level : LevelFilter) (past : List Answer) (lane : Lane) (m : Metadata) (p : WhichParent) (values : _) (x : Recorded) (a : Answer) (made : List OutcomeAt) (after : KeptCallsites) (y : Recorded) → IsUnder level (outer_of x)
     → ServesOne past (request.Event lane m p values) x a made after y → (a ≡ answer.Done) × Keeps level (kept_event level lane m) made y × (after ≡ None)
 keeps_event level past lane m p values x a made after y u h =
     event_served inner_of with_inner HasForm recorded_steps recorded_levels past lane m p values None x a made after y (λ b ms k z. (b ≡ answer.Done) × Keeps level (kept_event level lane m) ms z × (k ≡ None))
-    (λ e f one k z asks keeps is made. (refl, kept_sent level lane m x u e one z (event_asked past lane lane m p values e asks).1 is made, keeps))
-    (λ e f k asks ready dropped keeps. absurd (never_vetoed_whole level x f e lane u ready.honest.has (vetoed_unkept f (inner_of x) lane (event_metadata e) _ dropped)))
-    (λ e error f k asks unknown keeps. absurd (known_unkept f (event_metadata e) error unknown)) h
+    (λ e f one k z asks decided is made. (refl, kept_sent level lane m x u e one z (event_asked past lane lane m p values e asks).1 is made, unkept_still f (inner_of x) lane (event_metadata e) _ true k decided))
+    (λ e f k asks ready dropped. absurd (never_vetoed_whole level x f e lane u ready.honest.has (vetoed_unkept f (inner_of x) lane (event_metadata e) _ k dropped)))
+    (λ e error f k asks unknown. absurd (known_unkept f (event_metadata e) error k unknown)) h
 
 -- what is kept of two spans and an event
 pub record KeepsThree (level : LevelFilter) (lane : Lane) (outer inner event : Metadata) (answers : List Answer) (made : List (List OutcomeAt)) : Type 0 where
@@ -231,7 +231,7 @@ three_kept ms ns os a b c f g h =
     kept_append ms (ns ++ (os ++ [])) ∙ (λ j. f j ++ (kept_append ns (os ++ []) ∙ (λ i. g i ++ (ap kept_from (append-nil os) ∙ h) i)) j)
 
 pub keeps_three : (level : LevelFilter) (lane : Lane) (outer inner event : Metadata) (p q r : WhichParent) (us vs ws : _) (x : Recorded) (after : KeptCallsites) (y : Recorded) (answers : List Answer) (made : List (List OutcomeAt)) → IsUnder level (outer_of x)
-    → RunExactly inner_of with_inner HasForm recorded_steps recorded_levels [] (request.NewSpan lane outer p us ∷ request.NewSpan lane inner q vs ∷ request.Event lane event r ws ∷ []) answers made None x after y → KeepsThree level lane outer inner event answers made
+    → Run inner_of with_inner HasForm recorded_steps recorded_levels [] (request.NewSpan lane outer p us ∷ request.NewSpan lane inner q vs ∷ request.Event lane event r ws ∷ []) answers made None x after y → KeepsThree level lane outer inner event answers made
 keeps_three level lane outer inner event p q r us vs ws x after y answers made u =
     let second = request.NewSpan lane inner q vs in
     let third = request.Event lane event r ws in
@@ -308,12 +308,12 @@ keeps_all r due h f = h.kept ∙ sym (h.split ∙ ap (λ (us : List KeptNotice).
 
 -- two spans and an event were served by a new stack
 pub served_three : {acts_at : ActsAt Recorded} (level : LevelFilter) (lane : Lane) (outer inner event : Metadata) (p q r : WhichParent) (us vs ws : _) (old : Dispatch Recorded) (done : Dispatch Recorded × Vec Answer Global) → Starts level (stack_of old) → kept_by old ≡ None
-    → ServedExactly inner_of with_inner HasForm recorded_steps recorded_levels recorded_hears acts_at (request.NewSpan lane outer p us ∷ request.NewSpan lane inner q vs ∷ request.Event lane event r ws ∷ []) done.1.items old done.0 → KeepsWhatPasses level lane outer inner event done
+    → Served inner_of with_inner HasForm recorded_steps recorded_levels recorded_hears acts_at (request.NewSpan lane outer p us ∷ request.NewSpan lane inner q vs ∷ request.Event lane event r ws ∷ []) done.1.items old done.0 → KeepsWhatPasses level lane outer inner event done
 served_three level lane outer inner event p q r us vs ws old done new kept served =
     let x = stack_of old in
     let requests = request.NewSpan lane outer p us ∷ request.NewSpan lane inner q vs ∷ request.Event lane event r ws ∷ [] in
-    let run = subst (λ k. RunExactly inner_of with_inner HasForm recorded_steps recorded_levels [] requests done.1.items served.served.made k x (kept_by done.0) (stack_of done.0)) kept served.run in
-    let three = keeps_three level lane outer inner event p q r us vs ws x (kept_by done.0) (stack_of done.0) done.1.items served.served.made new.under run in
-    let heard : Records (layer_of (outer_of x)) (recorder_of done.0) (kept_from (flat served.served.made)) = heard_records _ _ _ (served.served.each position) in
-    let due = subst (λ h. Records new_recorder (recorder_of done.0) h) three.keeps (subst (λ k. Records k (recorder_of done.0) (kept_from (flat served.served.made))) new.empty heard) in
+    let run = subst (λ k. Run inner_of with_inner HasForm recorded_steps recorded_levels [] requests done.1.items served.made k x (kept_by done.0) (stack_of done.0)) kept served.run in
+    let three = keeps_three level lane outer inner event p q r us vs ws x (kept_by done.0) (stack_of done.0) done.1.items served.made new.under run in
+    let heard : Records (layer_of (outer_of x)) (recorder_of done.0) (kept_from (flat served.made)) = heard_records _ _ _ (served.each position) in
+    let due = subst (λ h. Records new_recorder (recorder_of done.0) h) three.keeps (subst (λ k. Records k (recorder_of done.0) (kept_from (flat served.made))) new.empty heard) in
     record { first = three.first; second = three.second; answers = three.answered; spans = three.spans; notified = due; kept = keeps_all (recorder_of done.0) _ due }

@@ -6,8 +6,7 @@ use Rattle.span_core.specs.Filters.{FilterSet, has_filter}
 use Rattle.span_core.specs.declared.error.TraceError.TheVariants.{NotSettable}
 use Rattle.span_core.specs.declared.error.TraceError.{TraceError}
 use Rattle.span_core.specs.declared.level.LevelFilter.{LevelFilter}
-use Rattle.span_dispatch.specs.Admission.{KeepsSafely}
-use Rattle.span_dispatch.specs.Serve.{IsReady, IsReadyAfter, IsReadyWith, stack_of}
+use Rattle.span_dispatch.specs.Serve.{IsReady, IsReadyAfter, IsReadyBy, stack_of}
 use Rattle.span_dispatch.specs.declared.dispatch.Dispatch.{Dispatch}
 use Rattle.span_dispatch.specs.declared.request.Answer.TheVariants.{Refused}
 use Rattle.span_filters.specs.Level.{level_taken}
@@ -23,10 +22,10 @@ use Rattle.span_examples.specs.Dispatches.{Recorded}
 use Rattle.span_examples.specs.Reload.{IsSetTo}
 
 abbrev ReadyBy : Form → Dispatch Recorded → Type 0
-ReadyBy f d = IsReadyWith inner_of with_inner HasForm recorded_steps recorded_levels KeepsSafely f d
+ReadyBy f d = IsReadyBy inner_of with_inner HasForm recorded_steps recorded_levels f d
 
 abbrev ReadyAfter : (Form → Form → Type 0) → Form → Dispatch Recorded → Type 0
-ReadyAfter keeps f d = IsReadyAfter inner_of with_inner HasForm recorded_steps recorded_levels KeepsSafely keeps f d
+ReadyAfter keeps f d = IsReadyAfter inner_of with_inner HasForm recorded_steps recorded_levels keeps f d
 
 -- ready, by a form in which its filter has the number 0
 pub record IsReadyFirst (d : Dispatch Recorded) : Type 0 where

@@ -12,13 +12,14 @@ use Rattle.span_core.specs.declared.metadata.Metadata.{Metadata}
 use Rattle.span_core.specs.declared.span.Attributes.{Attributes}
 use Rattle.span_core.specs.declared.span.Id.{Id}
 use Rattle.span_core.specs.declared.span.Lane.{Lane}
-use Rattle.span_dispatch.proofs.Admits.{current_is_safe}
 use Rattle.span_dispatch.proofs.CallerLemmas.{heard_records}
-use Rattle.span_dispatch.proofs.Effect.{seen_calls}
 use Rattle.span_dispatch.specs.Alone.{passed_at}
-use Rattle.span_dispatch.specs.Call.{Call, DropHandle, OpenSpan, span_answer, yes_answer}
+use Rattle.span_dispatch.specs.Call.{span_answer, yes_answer}
+use Rattle.span_dispatch.specs.declared.call.Call.{Call}
+use Rattle.span_dispatch.specs.declared.call.Call.TheVariants.{DropHandle, OpenSpan}
 use Rattle.span_dispatch.specs.Contract.{AnswersCall, AnswersDrop, StaysReady, SubscriberOf}
-use Rattle.span_dispatch.specs.Isolation.{SeesCalls}
+use Rattle.span_dispatch.specs.Effect.{AloneOf}
+use Rattle.span_dispatch.specs.Isolation.{SeenAlone, SeesCalls}
 use Rattle.span_dispatch.specs.declared.dispatch.Dispatch.{Dispatch}
 use Rattle.span_dispatch.specs.declared.request.Answer.TheVariants.{Dropped, Made, Yes}
 use Rattle.span_dispatch.specs.declared.request.Answer.{Answer}
@@ -134,9 +135,9 @@ module _ {L : Type 0} {has_form : L → Form → Type 0} (law : NumbersStayOwn) 
 -- ---- what a recorder keeps
 
 -- a recorder that is new, stays new in use and keeps what it hears, under filters that then act so, will record so
-pub records_alone : {S : Type 0} (s : SubscriberOf S) (position : Position) (recorder : S → RecorderState) (cs : Conducts) (x : S) → recorder x ≡ new_recorder → ((y : S) → s.registered x y → (recorder y ≡ recorder x) × s.acts_at y position cs)
+pub records_alone : {S : Type 0} (s : SubscriberOf S) → SeenAlone (SeesCalls s.registry s.with_registry s.has_form s.stepped s.levelled s.hears s.acts_at) AloneOf → (position : Position) (recorder : S → RecorderState) (cs : Conducts) (x : S) → recorder x ≡ new_recorder → ((y : S) → s.registered x y → (recorder y ≡ recorder x) × s.acts_at y position cs)
     → ((y z : S) (h : Heard) → s.hears y position h z → Records (recorder y) (recorder z) (map kept_notice h)) → WillRecord s position recorder cs x
-records_alone s position recorder cs x new used hears requests done h =
+records_alone s law position recorder cs x new used hears requests done h =
     let y = stack_of h.first in
     let z = stack_of done.0 in
     let in_use = used y h.in_use in
@@ -157,7 +158,7 @@ records_alone s position recorder cs x new used hears requests done h =
       stack = x;
       serves = h;
       kept = subst (λ (r : RecorderState). Records r (recorder z) (map kept_notice (passed_at position made))) (in_use.0 ∙ new) (hears y z (passed_at position made) (h.served.each position));
-      alone = seen_calls s.registry s.with_registry s.has_form s.stepped s.levelled s.hears s.acts_at cs empty_store empty_store (made_calls (numbers_in cs) [] requests done.1.items) (passed_at position made) calls (agree_refl (numbers_in cs) empty_store);
+      alone = law cs empty_store empty_store (made_calls (numbers_in cs) [] requests done.1.items) (passed_at position made) calls (agree_refl (numbers_in cs) empty_store);
     }
 
 -- so it has recorded so, where it served
@@ -189,14 +190,13 @@ module _ {F : Type 0} {has_answers : F → Behaviour → Type 0} {hooked : Filte
 module _ {S : Type 0} (s : SubscriberOf S) where
   -- a dispatcher that was ready is ready again
   pub stays_ready : {old new : Dispatch S} → StaysReady s old new → IsReadyNow s old → IsReadyNow s new
-  stays_ready stays h = let r = stays.current h.0 h.1 in (r.0, r.1)
+  stays_ready stays h = let r = stays.again h.0 h.1 in (r.0, r.1)
 
   -- and answered as it promises of an honest stack
   pub answers_ready : {call : Call} {old new : Dispatch S} (a : Answer) → AnswersCall s call a old new → StaysReady s old new → IsReadyNow s old → AnswersReady s call a old new
   answers_ready {old = old} a answered stays h = record {
     form = h.0;
-    told = answered.told h.0 h.1.stack.honest (current_is_safe h.0 (s.registry (stack_of old)).filters old.cache h.1.kept);
-    exact = answered.exact h.0 h.1.stack.honest h.1.kept;
+    served = answered h.0 h.1.stack.honest h.1.kept;
     next = stays_ready stays h;
   }
 

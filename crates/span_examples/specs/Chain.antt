@@ -3,9 +3,10 @@ use Rattle.std.specs.Prelude.{◌≡◌, Bool, Option, Some, None}
 use Rattle.span_core.specs.declared.span.Attributes.{Attributes}
 use Rattle.span_core.specs.declared.span.Id.{Id}
 use Rattle.span_core.specs.declared.span.Lane.{Lane}
-use Rattle.span_dispatch.specs.Call.{Call, DropHandle, OpenSpan}
+use Rattle.span_dispatch.specs.declared.call.Call.{Call}
+use Rattle.span_dispatch.specs.declared.call.Call.TheVariants.{DropHandle, OpenSpan}
 use Rattle.span_dispatch.specs.Contract.{SubscriberOf}
-use Rattle.span_dispatch.specs.Serve.{AnswersExactly, IsReady, IsTold, kept_by, stack_of}
+use Rattle.span_dispatch.specs.Serve.{IsReady, IsServed, kept_by, stack_of}
 use Rattle.span_dispatch.specs.declared.dispatch.Dispatch.{Dispatch}
 use Rattle.span_dispatch.specs.declared.request.Answer.TheVariants.{Dropped, Made, Yes}
 use Rattle.span_dispatch.specs.declared.request.Answer.{Answer}
@@ -21,9 +22,8 @@ module _ {S : Type 0} (s : SubscriberOf S) where
   -- a dispatcher that was ready answered a call exactly so, told its layers of it, and is ready for the next
   pub record AnswersReady (call : Call) (a : Answer) (old new : Dispatch S) : Type 0 where
     pub form : Form
-    pub told : IsTold s.registry s.with_registry s.has_form s.stepped s.levelled call form a
-        (stack_of old) (stack_of new)
-    pub exact : AnswersExactly call form (kept_by old) (s.registry (stack_of old)) a (kept_by new)
+    pub served : IsServed s.registry s.with_registry s.has_form s.stepped s.levelled call form
+        (kept_by old) (stack_of old) a (kept_by new) (stack_of new)
     pub next : IsReadyNow s new
 
   -- the span was opened, and then its handle was dropped, each as a dispatcher that is ready answers; or it wasn't opened

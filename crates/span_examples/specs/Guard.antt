@@ -5,12 +5,12 @@ use Rattle.span_core.specs.declared.error.TraceError.{TraceError}
 use Rattle.span_core.specs.declared.event.Event.{Event}
 use Rattle.span_core.specs.declared.span.Id.{Id}
 use Rattle.span_core.specs.declared.span.Lane.{Lane}
-use Rattle.span_dispatch.specs.Contract.{AnswersCall, ChangesStack, Refuses, RefusesEvent, ServesEvent, ServesExit, SubscriberOf, TakesStep, registry_of}
-use Rattle.span_dispatch.specs.Call.{Enter}
+use Rattle.span_dispatch.specs.Contract.{AnswersCall, ExitsSpan, RefusesEvent, SendsEvent, SubscriberOf, TakesStep, registry_of}
+use Rattle.span_dispatch.specs.declared.call.Call.TheVariants.{Enter}
 use Rattle.span_dispatch.specs.declared.request.Answer.TheVariants.{Done}
 use Rattle.span_dispatch.specs.declared.dispatch.Dispatch.{Dispatch}
 use Rattle.span_registry.specs.Hooks.{Stays}
-use Rattle.span_registry.specs.Step.{Enters, Exits, RefusesEnter}
+use Rattle.span_registry.specs.Step.{Enters, RefusesEnter}
 use Rattle.span_examples.specs.Uses.{stack_in}
 use Rattle.span_examples.specs.declared.guard.Entered.{Entered}
 
@@ -47,13 +47,11 @@ module _ {S : Type 0} (s : SubscriberOf S) where
 
   -- its dispatcher serves an event so, on its lane
   abbrev pub SendsBy : Event → Result Bool TraceError → Entered S → Entered S → Type 0
-  SendsBy e given old new = ServesEvent s (lane_of old) e given (dispatch_of old) (dispatch_of new)
+  SendsBy e given old new = SendsEvent s (lane_of old) e given (dispatch_of old) (dispatch_of new)
 
-  -- its lane has left its span, by a call that was served so, and of the dispatcher nothing changed but the stack
-  pub record IsLeft (g : Entered S) (new : Dispatch S) : Type 0 where
-    pub left : TakesStep s (Exits (lane_of g) (span_of g)) (dispatch_of g) new
-    pub served : ServesExit s (lane_of g) (span_of g) (dispatch_of g) new
-    pub rest : ChangesStack (dispatch_of g) new
+  -- its lane has left its span
+  abbrev pub IsLeft : Entered S → Dispatch S → Type 0
+  IsLeft g new = ExitsSpan s (lane_of g) (span_of g) (dispatch_of g) new
 
   -- each lane has the stack that it had
   abbrev pub KeepsStacks : Dispatch S → Dispatch S → Type 0
@@ -66,10 +64,10 @@ module _ {S : Type 0} (s : SubscriberOf S) where
     pub last : Dispatch S
     pub enters : TakesStep s (Enters lane id) old first
     pub entered : AnswersCall s (Enter lane id) Done old first
-    pub serves : ServesEvent s lane e (Ok sent) first last
-    pub leaves : TakesStep s (Exits lane id) last new
-    pub left : ServesExit s lane id last new
+    pub serves : SendsEvent s lane e (Ok sent) first last
+    pub leaves : ExitsSpan s lane id last new
 
   -- why that is refused: the span can't be entered, or the event is refused
-  abbrev pub RefusesWithin : Id → Event → Dispatch S → TraceError → Type 0
-  RefusesWithin id e old error = Refuses s RefusesEnter id old error ⊎ RefusesEvent e old error
+  abbrev pub RefusesWithin : Lane → Id → Event → Dispatch S → TraceError → Type 0
+  RefusesWithin lane id e old error =
+      RefusesEnter (registry_of s old) lane id error ⊎ RefusesEvent e old error

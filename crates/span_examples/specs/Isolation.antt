@@ -55,7 +55,7 @@ pub record ServesFirst {S : Type 0} (registry : S → RegistryState)
   pub same : registry (stack_of first) ≡ registry x
   pub served : (f : Form) × IsReady registry with_registry has_form stepped levelled f x
       → Served registry with_registry has_form stepped levelled hears acts_at requests done.1.items
-      (stack_of first) (stack_of done.0)
+      first done.0
 
 -- both new recorders were notified of the same, in the same order; where neither failed for want of memory, they keep the same
 pub record WentThroughTheSame (r q : RecorderState) : Type 0 where
@@ -64,9 +64,9 @@ pub record WentThroughTheSame (r q : RecorderState) : Type 0 where
   pub second : Records new_recorder q notices
   pub kept : r.failed ≡ false → q.failed ≡ false → r.notices ≡ q.notices
 
--- how a stack serves a list with these answers, on its way to another
+-- how a dispatcher serves a list with these answers, on its way to another
 abbrev pub Serving : Type 0 → Type 1
-Serving S = List Answer → S → S → Type 0
+Serving S = List Answer → Dispatch S → Dispatch S → Type 0
 
 -- both dispatchers began with new recorders under these levels, and served; where the same requests were made, and answered the same, as they are where all answers are the same, the recorder that stands alone and the one that stands beside another went through the same
 pub record KeepTheSame (level other : LevelFilter) (requests : List Request)
@@ -77,8 +77,8 @@ pub record KeepTheSame (level other : LevelFilter) (requests : List Request)
   pub alone_new : IsNewUnder level (outer_of (stack_of alone))
   pub beside_new : IsNewUnder level (outer_of (inner_of (stack_of beside)))
   pub other_new : IsNewUnder other (outer_of (stack_of beside))
-  pub alone_served : ServesAlone both.0.1.items (stack_of alone) (stack_of both.0.0)
-  pub beside_served : ServesBeside both.1.1.items (stack_of beside) (stack_of both.1.0)
+  pub alone_served : ServesAlone both.0.1.items alone both.0.0
+  pub beside_served : ServesBeside both.1.1.items beside both.1.0
   pub same : made_first requests both.0.1.items ≡ made_first requests both.1.1.items
       → WentThroughTheSame (recorder_of both.0.0) (inner_recorder_of both.1.0)
   pub same_answers : both.0.1.items ≡ both.1.1.items

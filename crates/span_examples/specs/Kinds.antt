@@ -8,7 +8,7 @@ use Rattle.span_dispatch.specs.Alone.{passed_at}
 use Rattle.span_dispatch.specs.Contract.{SubscriberOf}
 use Rattle.span_dispatch.specs.Effect.{AloneOf}
 use Rattle.span_dispatch.specs.Recorder.{RecorderState, Records, kept_notice, new_recorder}
-use Rattle.span_dispatch.specs.Serve.{IsUpToDateSomehow, Served, flat, made_calls, stack_of}
+use Rattle.span_dispatch.specs.Serve.{IsReadySomehow, Served, flat, made_calls, stack_of}
 use Rattle.span_dispatch.specs.declared.dispatch.Dispatch.{Dispatch}
 use Rattle.span_dispatch.specs.declared.request.Answer.{Answer}
 use Rattle.span_dispatch.specs.declared.request.Request.{Request}
@@ -46,13 +46,13 @@ SeesAlone cs requests answers heard =
 module _ {S : Type 0} (s : SubscriberOf S) where
   -- the dispatcher is ready, and keeps what its stack would answer now
   abbrev pub IsReadyNow : Dispatch S → Type 0
-  IsReadyNow d = IsUpToDateSomehow s.registry s.with_registry s.has_form s.stepped s.levelled d
+  IsReadyNow d = IsReadySomehow s.registry s.with_registry s.has_form s.stepped s.levelled d
 
   -- a list was served, with these answers
   abbrev pub ServedList : List Request → List Answer → Dispatch S → Dispatch S → Type 0
   ServedList requests answers old new =
       Served s.registry s.with_registry s.has_form s.stepped s.levelled s.hears s.acts_at requests
-      answers (stack_of old) (stack_of new)
+      answers old new
 
   -- a stack on a registry without spans was put in use, and was ready; then a list was served, and the stack is ready for the next
   pub record ServesReady (stack : S) (requests : List Request) (done : WithAnswers S) : Type 0 where

@@ -124,5 +124,5 @@ module _ (s : SubscriberOf Outlined) where
     pub new : IsNewOutlined level other (stack_of first)
     pub empty : (s.registry (stack_of first)).store ≡ empty_store
     pub served : Served s.registry s.with_registry s.has_form s.stepped s.levelled s.hears s.acts_at
-        requests done.0.items (stack_of first) (stack_of last)
+        requests done.0.items first last
     pub text : string_bytes done.1 ≡ text_of (passed_at outline_place (flat served.made))

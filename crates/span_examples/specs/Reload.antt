@@ -24,7 +24,7 @@ module _ (s : SubscriberOf Recorded) where
   ServesAll requests old new =
       (answers : List Answer)
       × Served s.registry s.with_registry s.has_form s.stepped s.levelled s.hears s.acts_at requests
-      answers (stack_of old) (stack_of new)
+      answers old new
 
   -- the first list was served with a new recorder under WARN, then its level was set to DEBUG, and then the other list was served
   pub record Reloads (requests others : List Request) (new : Dispatch Recorded) : Type 0 where

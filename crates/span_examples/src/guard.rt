@@ -1,6 +1,5 @@
 //! A guard: a lane is in a span until it is let go.
 ghost use Rattle.std.specs.Prelude.{◌≡◌, IfErr, IfOk};
-ghost use Rattle.span_dispatch.specs.Contract.{RefusesEvent};
 ghost use Rattle.span_examples.specs.Guard.{IsLeft, IsOver, KeepsSpan, KeepsStacks, RefusesWithin, SendsBy, SendsWithin, dispatch_of, loan_of};
 
 use span_core::{Event, Id, Lane, TraceError};
@@ -29,7 +28,6 @@ impl<'a, S: AlwaysUsable> Entered<'a, S> {
     pub fn event(&mut self, event: &Event<'_>) -> Result<bool, TraceError>
         ensures span { KeepsSpan S.Subscriber self.old self.new }
         ensures sent { SendsBy S.Subscriber event.now result self.old self.new }
-        ensures refused { IfErr result (RefusesEvent event.now (dispatch_of self.old)) }
     {
         self.dispatch.event(self.lane, event)
     }
@@ -54,7 +52,7 @@ pub fn send_within<S: AlwaysUsable>(
     ensures stacks { KeepsStacks S.Subscriber dispatch.old dispatch.new }
     ensures sent { IfOk result
         (SendsWithin S.Subscriber lane id event.now dispatch.old dispatch.new) }
-    ensures refused { IfErr result (RefusesWithin S.Subscriber id event.now dispatch.old) }
+    ensures refused { IfErr result (RefusesWithin S.Subscriber lane id event.now dispatch.old) }
 {
     dispatch.enter(lane, id)?;
     let mut span = Entered::new(dispatch, lane, id);

@@ -14,7 +14,7 @@ use std::alloc::Global;
 /// Looks in on a span: enters it and leaves it again. Nobody's stack tells of the visit.
 pub fn enter_and_leave(registry: &mut Registry, lane: Lane, id: Id) -> Result<(), TraceError>
     ensures restored { OnOk result (RestoresStacks registry.old.store registry.new.store) }
-    ensures refused { IfErr result (RefusesEnter registry.old id) }
+    ensures refused { IfErr result (RefusesEnter registry.old lane id) }
     ensures unchanged { OnErr result (registry.new ≡ registry.old) }
 {
     laws::leaving_undoes_entering();

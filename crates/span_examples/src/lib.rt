@@ -179,7 +179,7 @@ pub fn record_in<S: Subscriber>(
     ensures usable { S.usable s.new }
     ensures spans { (S.registry s.new).store.spans ≡ (S.registry s.old).store.spans }
     ensures stacks { (n : ℕ) → stack_in (S.registry s.new) n ≡ stack_in (S.registry s.old) n }
-    ensures refused { IfErr result (RefusesEnter (S.registry s.old) id) }
+    ensures refused { IfErr result (RefusesEnter (S.registry s.old) lane id) }
     ensures unchanged { OnErr result (s.new ≡ s.old) }
 {
     s.enter(lane, id)?;

@@ -2,7 +2,7 @@
 use Rattle.std.proofs.Common.{◌≡◌, List, Ok, length}
 use Rattle.std.specs.declared.alloc.Global.{Global}
 use Rattle.std.specs.declared.vec.Vec.{Vec}
-use Rattle.span_dispatch.specs.Contract.{ServesList, ServesListExactly, StaysReadyByRules, SubscriberOf}
+use Rattle.span_dispatch.specs.Contract.{ServesList, StaysReadyByRules, SubscriberOf}
 use Rattle.span_dispatch.specs.declared.dispatch.Dispatch.{Dispatch}
 use Rattle.span_dispatch.specs.declared.request.Answer.{Answer}
 use Rattle.span_dispatch.specs.declared.request.Request.{Request}
@@ -19,14 +19,12 @@ HearsBySteps {T} {S} s observed =
     (x y : WithObserver T S) (heard : Heard) → s.hears x observer_position heard y → ObserverHears observed (layer_of (outer_of x)) heard (layer_of (outer_of y))
 
 module _ {T S : Type 0} {s : SubscriberOf (WithObserver T S)} (observed : ObserverSteps T) {writes : Heard → T → T → Type 0} where
-  pub served_outermost : WritesWhatItHears observed writes → HearsBySteps s observed → (requests : List Request) (answers : Vec Answer Global) (old new : Dispatch (WithObserver T S)) → StaysReadyByRules s old new → ServesList s requests old new answers
-      → ServesListExactly s requests old new answers → length answers.items ≡ length requests → ServesOutermost writes s requests (Ok answers) old new
-  served_outermost law hears requests answers old new ready served exact each = record {
+  pub served_outermost : WritesWhatItHears observed writes → HearsBySteps s observed → (requests : List Request) (answers : Vec Answer Global) (old new : Dispatch (WithObserver T S)) → StaysReadyByRules s old new → ServesList s requests old new answers → length answers.items ≡ length requests → ServesOutermost writes s requests (Ok answers) old new
+  served_outermost law hears requests answers old new ready served each = record {
     ready = ready;
     written = λ now.
         let done = served now in
         record { served = done; written = law _ _ _ (hears _ _ _ (done.each observer_position)) };
-    exact = exact;
     length = each;
     memory = tt;
     unchanged = tt;

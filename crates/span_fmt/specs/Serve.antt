@@ -6,7 +6,7 @@ use Rattle.span_core.specs.declared.error.TraceError.TheVariants.{OutOfMemory}
 use Rattle.span_core.specs.declared.error.TraceError.{TraceError}
 use Rattle.span_core.specs.declared.level.LevelFilter.{LevelFilter}
 use Rattle.span_dispatch.specs.Alone.{passed_at}
-use Rattle.span_dispatch.specs.Contract.{ServesListExactly, StaysReadyByRules, SubscriberOf}
+use Rattle.span_dispatch.specs.Contract.{StaysReadyByRules, SubscriberOf}
 use Rattle.span_dispatch.specs.Serve.{IsReadySomehow, Served, flat, stack_of}
 use Rattle.span_dispatch.specs.declared.dispatch.Dispatch.{Dispatch}
 use Rattle.span_dispatch.specs.declared.request.Answer.{Answer}
@@ -36,25 +36,24 @@ module _ {T S : Type 0} (writes : Heard → T → T → Type 0)
     (s : SubscriberOf (WithObserver T S)) where
   -- these requests were served with these answers, and the observer wrote so of what its position was told
   pub record WritesServed (requests : List Request) (answers : List Answer)
-      (old new : WithObserver T S) : Type 0 where
+      (old new : Dispatch (WithObserver T S)) : Type 0 where
     pub served : Served s.registry s.with_registry s.has_form s.stepped s.levelled s.hears
         s.acts_at requests answers old new
-    pub written : writes (passed_at observer_position (flat served.made)) (observer_in old)
-        (observer_in new)
+    pub written : writes (passed_at observer_position (flat served.made))
+        (observer_in (stack_of old)) (observer_in (stack_of new))
 
   -- so it is where the dispatcher was ready
   abbrev pub ServesWritten : List Request → Dispatch (WithObserver T S)
       → Dispatch (WithObserver T S) → Vec Answer Global → Type 0
   ServesWritten requests old new answers =
       IsReadySomehow s.registry s.with_registry s.has_form s.stepped s.levelled old
-      → WritesServed requests answers.items (stack_of old) (stack_of new)
+      → WritesServed requests answers.items old new
 
   -- what serving such a list promises, served or refused, beside that the stack may be called again
   pub record ServesOutermost (requests : List Request) (given : Result (Vec Answer Global) TraceError)
       (old new : Dispatch (WithObserver T S)) : Type 0 where
     pub ready : StaysReadyByRules s old new
     pub written : IfOk given (ServesWritten requests old new)
-    pub exact : IfOk given (ServesListExactly s requests old new)
     pub length : IfOk given (λ answers. length answers.items ≡ length requests)
     pub memory : IfErr given (λ e. e ≡ OutOfMemory)
     pub unchanged : OnErr given (new ≡ old)

@@ -4,7 +4,7 @@ use Rattle.std.proofs.lemmas.Bool.{cases_eq}
 use Rattle.std.specs.FinMap.{get, insert}
 use Rattle.std.specs.Option.{option_and_then}
 use Rattle.span_core.specs.Span.{asked_parent, metadata_of, number_of}
-use Rattle.span_core.specs.declared.error.TraceError.TheVariants.{NoHandle, OutOfMemory, UnknownSpan}
+use Rattle.span_core.specs.declared.error.TraceError.TheVariants.{OutOfMemory}
 use Rattle.span_core.specs.declared.error.TraceError.{TraceError}
 use Rattle.span_core.specs.declared.span.Attributes.{Attributes}
 use Rattle.span_core.specs.declared.span.Id.{Id}
@@ -79,16 +79,14 @@ module _ {S : Type 0} (registry : S → RegistryState) (lane : Lane) (attrs : At
   is_open = (is_held.0, is_held.1, inl is_held.2)
 
   -- so memory alone can be why it isn't entered
-  pub no_memory : (e : TraceError) → RefusesEnter (registry y) id e → e ≡ OutOfMemory
-  no_memory OutOfMemory h = refl
-  no_memory (UnknownSpan other) h = absurd (h.1 is_open)
-  no_memory e h = absurd h
+  pub no_memory : (e : TraceError) → RefusesEnter (registry y) lane id e → e ≡ OutOfMemory
+  no_memory e (inl unknown) = absurd (unknown.1 is_open)
+  no_memory e (inr memory) = memory.0
 
   -- and its handle can be taken
   not_refused : (e : TraceError) → RefusesRelease (registry y) id e → ⊥
-  not_refused (UnknownSpan other) h = h.1 is_open
-  not_refused (NoHandle other) h = h.2 is_held
-  not_refused e h = h
+  not_refused e (inl unknown) = unknown.1 is_open
+  not_refused e (inr empty) = empty.2 is_held
 
   module _ (parents : ParentsAreOpen) (forest : IsForest spans) where
     no_parent : (c : ℕ) (r : Span) → get spans c ≡ Some r → r.parent ≡ Some (number_of id) → ⊥

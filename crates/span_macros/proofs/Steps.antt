@@ -22,6 +22,7 @@ entered_aside lane x s t h = record {
   limits = h.limits;
   filters = h.filters;
   retired = h.retired;
+  reserved = h.reserved;
 }
 
 -- a span is opened, and then entered
@@ -50,6 +51,7 @@ drops_aside n closed e t u h d =
           store = refl;
           limits = d.taken.limits ∙ h.limits;
           filters = d.taken.filters ∙ h.filters;
+          reserved = d.taken.reserved ∙ h.reserved;
           retired = subst (λ (k : ℕ). k ≤ u.retired) h.retired d.taken.retired;
           no_other = subst (λ (k : ℕ). u.retired ≤ k + length closed) h.retired d.taken.no_other;
           late = λ late. late_aside late;
@@ -62,6 +64,7 @@ drops_aside n closed e t u h d =
         limits = refl;
         filters = refl;
         retired = refl;
+        reserved = refl;
       },
     )
   where

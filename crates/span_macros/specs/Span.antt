@@ -8,10 +8,11 @@ use Rattle.span_core.specs.declared.span.Id.{Id}
 use Rattle.span_core.specs.declared.span.Lane.{Lane}
 use Rattle.span_dispatch.specs.Admission.{learned_if}
 use Rattle.span_dispatch.specs.Cache.{is_above_read}
-use Rattle.span_dispatch.specs.Call.{DropsSpan, Enter, Exit, OpenSpan, OpensFor}
-use Rattle.span_dispatch.specs.Contract.{AnswersCall, ChangesStack, LeavesGone, OpensIfMade, RefusesSpan, Refuses, SameStack, ServesDrop, SubscriberOf, TakesHandle, TakesStep, registry_of}
+use Rattle.span_dispatch.specs.Call.{DropsSpan, OpensFor}
+use Rattle.span_dispatch.specs.declared.call.Call.TheVariants.{DropHandle, Enter, OpenSpan}
+use Rattle.span_dispatch.specs.Contract.{AnswersCall, AnswersDrop, ChangesStack, DropsOneHandle, ExitsSpan, GoesByKept, OpensIfMade, RefusesSpan, SameStack, StaysUpToDate, SubscriberOf, TakesHandle, TakesStep, WantsSpan, registry_of}
 use Rattle.span_dispatch.specs.Serve.{hint_by, kept_by}
-use Rattle.span_dispatch.specs.declared.request.Answer.TheVariants.{Done, Dropped, Made}
+use Rattle.span_dispatch.specs.declared.request.Answer.TheVariants.{Done, Dropped, Made, Yes}
 use Rattle.span_dispatch.specs.declared.dispatch.Dispatch.{Dispatch}
 use Rattle.span_registry.specs.Closes.{HasNoClosing}
 use Rattle.span_registry.specs.Step.{Enters, Exits, RefusesRelease, entered, exited}
@@ -56,7 +57,7 @@ module _ {S : Type 0} (s : SubscriberOf S) where
     pub stored : OpensIfMade s lane attrs old between (Some id)
     pub keeps : kept_by new ≡ learned_if (is_above_read (hint_by new) (metadata_of attrs))
         (kept_by old) (metadata_of attrs)
-    pub dropped : ServesDrop s lane id (Ok true) between new
+    pub dropped : AnswersDrop s (DropHandle lane id) (Yes true) between new
     pub taken : TakesHandle s id between new true
     pub rest : ChangesStack between new
 
@@ -65,24 +66,27 @@ module _ {S : Type 0} (s : SubscriberOf S) where
   RefusesToEnter lane attrs old new e =
       (RefusesSpan s lane attrs old e × SameStack old new) ⊎ DropsAgain lane attrs e old new
 
+  -- `open_and_enter`: asked by metadata as a new span is
+  pub record OpensToEnter (lane : Lane) (attrs : Attributes)
+      (given : Result (Option Id) TraceError) (old new : Dispatch S) : Type 0 where
+    pub kept : GoesByKept (metadata_of attrs) None (RefusesToEnter lane attrs old new) given old new
+    pub up_to_date : StaysUpToDate s old new
+    pub asked : WantsSpan s lane attrs old given
+    pub entered : IfOk given (OpensAndEnters lane attrs old new)
+
   -- where no span was closing, a lane left a span and a handle of it was taken, as one step of the registry, if hooks' extensions are left aside
   abbrev pub LeavesSettled : Lane → Id → Dispatch S → Dispatch S → Bool → Type 0
   LeavesSettled lane id old new closes =
       HasNoClosing (registry_of s old).store.spans
       → TakesStep s (LeavesStack lane id closes) old new
 
-  -- a lane left a span, and then a handle of it was taken away, or that was refused, which left all as it was
+  -- a lane left a span, and then a handle of it was taken away, or that was refused
   pub record ExitsAndDrops (lane : Lane) (id : Id) (given : Result Bool TraceError)
       (old new : Dispatch S) : Type 0 where
     pub between : Dispatch S
-    pub left : AnswersCall s (Exit lane id) Done old between
-    pub unstacked : TakesStep s (Exits lane id) old between
-    pub gone : LeavesGone s lane id old between
-    pub dropped : ServesDrop s lane id given between new
-    pub taken : IfOk given (TakesHandle s id between new)
+    pub left : ExitsSpan s lane id old between
+    pub dropped : DropsOneHandle s lane id given between new
     pub step : IfOk given (LeavesSettled lane id old new)
-    pub refused : IfErr given (Refuses s RefusesRelease id between)
-    pub unchanged : OnErr given (new ≡ between)
 
   -- so it was where there is a span; else nothing was done, and no span closed
   abbrev pub LeavesIfMade : Lane → Option Id → Result Bool TraceError → Dispatch S → Dispatch S

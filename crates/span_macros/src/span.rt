@@ -1,10 +1,8 @@
 //! What `in_span!` does before its block and after it.
-ghost use Rattle.std.specs.Prelude.{None, IfErr, IfOk};
-ghost use Rattle.span_core.specs.Span.{metadata_of};
-ghost use Rattle.span_dispatch.specs.Contract.{ChangesStack, DropsAbove, KeepsCallsite, KeepsHint, LearnsOnly, RefusesMismatch, SeesWhatIsMade, StaysReady, StaysSafe, StaysUpToDate, StaysWithoutClosing, WantsSpan};
+ghost use Rattle.span_dispatch.specs.Contract.{ChangesStack, StaysReady, StaysWithoutClosing};
 ghost use Rattle.span_dispatch.specs.Registration.{KeepsRegistered};
 ghost use Rattle.span_dispatch.specs.Serve.{stack_of};
-ghost use Rattle.span_macros.specs.Span.{LeavesIfMade, OpensAndEnters, RefusesToEnter};
+ghost use Rattle.span_macros.specs.Span.{LeavesIfMade, OpensToEnter};
 
 use span_core::{Attributes, Id, Lane, TraceError};
 use span_dispatch::Dispatch;
@@ -20,22 +18,10 @@ pub fn open_and_enter<S: Subscriber>(
 ) -> Result<Option<Id>, TraceError>
     requires { S.usable (stack_of dispatch.old) }
     ensures usable { S.usable (stack_of dispatch.new) }
+    ensures registered { KeepsRegistered dispatch.old dispatch.new }
     ensures ready { StaysReady S.Subscriber dispatch.old dispatch.new }
     ensures settled { StaysWithoutClosing S.Subscriber dispatch.old dispatch.new }
-    ensures kept { LearnsOnly (metadata_of attrs.now) dispatch.old dispatch.new }
-    ensures up_to_date { StaysUpToDate S.Subscriber dispatch.old dispatch.new }
-    ensures safe { StaysSafe S.Subscriber dispatch.old dispatch.new }
-    ensures seen { SeesWhatIsMade S.Subscriber dispatch.old dispatch.new }
-    ensures asked { WantsSpan S.Subscriber lane attrs.now dispatch.old result }
-    ensures hint { KeepsHint dispatch.old dispatch.new }
-    ensures above { DropsAbove (metadata_of attrs.now) None result dispatch.old dispatch.new }
-    ensures keeps { KeepsCallsite (metadata_of attrs.now) result dispatch.old dispatch.new }
-    ensures mismatch { RefusesMismatch (metadata_of attrs.now) result dispatch.old dispatch.new }
-    ensures registered { KeepsRegistered dispatch.old dispatch.new }
-    ensures entered { IfOk result
-        (OpensAndEnters S.Subscriber lane attrs.now dispatch.old dispatch.new) }
-    ensures refused { IfErr result
-        (RefusesToEnter S.Subscriber lane attrs.now dispatch.old dispatch.new) }
+    ensures opens { OpensToEnter S.Subscriber lane attrs.now result dispatch.old dispatch.new }
 {
     laws::parents_are_open();
     laws::a_registry_is_sound(dispatch.stack().root());
@@ -63,7 +49,6 @@ pub fn exit_and_drop<S: Subscriber>(
     ensures rest { ChangesStack dispatch.old dispatch.new }
     ensures ready { StaysReady S.Subscriber dispatch.old dispatch.new }
     ensures settled { StaysWithoutClosing S.Subscriber dispatch.old dispatch.new }
-    ensures seen { SeesWhatIsMade S.Subscriber dispatch.old dispatch.new }
     ensures left { LeavesIfMade S.Subscriber lane made result dispatch.old dispatch.new }
 {
     let Some(id) = made else {

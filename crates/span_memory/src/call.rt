@@ -18,6 +18,10 @@ pub enum Call {
     Dispatcher(State, Request<'static>),
     /// `Dispatch::serve`, of a list of requests that take no memory.
     Serve,
+    /// `Dispatch::serve_into`, of the preparation, where memory for all of it was reserved.
+    ServeReserved,
+    /// `Dispatch::reserve_callsites`, of more than there is memory for.
+    ReserveCallsites,
     /// `Dispatch::event`, where the recorder has no room for one notice more.
     Record,
     /// A call of a dispatcher of which a layer vetoes everything, and keeps the callsite.
@@ -65,6 +69,10 @@ pub enum RegistryCall {
     EnterFirst,
     /// `enter` where 15 lanes have, and this one hasn't.
     EnterOneLaneMore,
+    /// `new_span` in the last span, where a place was reserved.
+    NewSpanReserved,
+    /// `enter` by a lane that has entered nothing, where an entry was reserved.
+    EnterReserved,
     /// `enter` of a span that was never opened.
     EnterUnknown,
     /// `exit`.
@@ -127,6 +135,8 @@ impl Call {
         let (subject, name) = line.split_once(' ')?;
         match (subject, name) {
             ("dispatcher", "serve") => Some(Call::Serve),
+            ("dispatcher", "serve_reserved") => Some(Call::ServeReserved),
+            ("dispatcher", "reserve_callsites") => Some(Call::ReserveCallsites),
             ("recorder", "event") => Some(Call::Record),
             ("shared", "new") => Some(Call::Share),
             ("stack", _) => Some(Call::Stack(StackCall::of(name)?)),
@@ -174,6 +184,8 @@ impl RegistryCall {
             "enter" => Some(RegistryCall::Enter),
             "enter_first" => Some(RegistryCall::EnterFirst),
             "enter_one_lane_more" => Some(RegistryCall::EnterOneLaneMore),
+            "new_span_reserved" => Some(RegistryCall::NewSpanReserved),
+            "enter_reserved" => Some(RegistryCall::EnterReserved),
             "enter_unknown" => Some(RegistryCall::EnterUnknown),
             "exit" => Some(RegistryCall::Exit),
             "clone_span" => Some(RegistryCall::CloneSpan),

@@ -6,8 +6,8 @@ use crate::call::State;
 use crate::fault::Fault;
 use crate::shown::{write_all_of, write_answer, write_notices, write_start};
 use crate::site::{
-    KEPT_EVENT, LANE, UNKNOWN_EVENT, UNKNOWN_SPAN, event, event_metadata, new_span, other_event,
-    preparation, sparing,
+    CALLSITES, KEPT_EVENT, LANE, UNKNOWN_EVENT, UNKNOWN_SPAN, event, event_metadata, new_span,
+    other_event, preparation, sparing,
 };
 use crate::tried::Tried;
 use span_core::{Event, LevelFilter, Record};
@@ -106,6 +106,25 @@ fn write_served<S: Tried, W: Write>(
 {
     write_start(writer)?;
     let ended = served(alloc, dispatch, &sparing());
+    write_answer(writer, ended)?;
+    write_dispatcher(writer, dispatch)
+}
+
+/// Reserves memory for more callsites than there is, and writes the same.
+pub(crate) fn reserve<S: Tried, W: Write>(alloc: Global, writer: &mut W) -> Result<(), Fault> {
+    write_dispatcher(writer, &mut dispatcher::<S>(alloc, State::Kept)?)?;
+    write_reserved(writer, &mut dispatcher::<S>(alloc, State::Kept)?)
+}
+
+/// Reserves for as many callsites more as are kept, and writes how it ends and what its dispatcher shows after it.
+fn write_reserved<S: Tried, W: Write>(
+    writer: &mut W,
+    dispatch: &mut Dispatch<S>,
+) -> Result<(), Fault>
+    requires { S.usable (stack_of dispatch.old) }
+{
+    write_start(writer)?;
+    let ended = Answer::of_done(dispatch.reserve_callsites(CALLSITES));
     write_answer(writer, ended)?;
     write_dispatcher(writer, dispatch)
 }

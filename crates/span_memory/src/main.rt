@@ -11,6 +11,7 @@ mod lane_stack;
 mod look_up;
 mod named;
 mod registry;
+mod reserved;
 mod run;
 mod shared;
 mod shown;

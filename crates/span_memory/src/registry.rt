@@ -131,7 +131,7 @@ fn prepared(alloc: Global, call: RegistryCall) -> Result<Registry, Fault> {
     Ok(registry)
 }
 
-/// Opens those spans, has the lanes enter them, and puts the values in.
+/// Opens those spans, has the lanes enter them, puts the values in, and reserves for the call.
 fn prepare(registry: &mut Registry, call: RegistryCall) -> Result<(), Fault> {
     for number in 1..=spans_of(call) {
         open(registry, number)?;
@@ -139,7 +139,18 @@ fn prepare(registry: &mut Registry, call: RegistryCall) -> Result<(), Fault> {
     for lane in 0..lanes_of(call) {
         enter_some(registry, Lane(lane))?;
     }
-    insert_values(registry)
+    insert_values(registry)?;
+    reserve(registry, call)?;
+    Ok(())
+}
+
+/// Reserves what a call takes that is to need no memory.
+fn reserve(registry: &mut Registry, call: RegistryCall) -> Result<(), TraceError> {
+    match call {
+        RegistryCall::NewSpanReserved => registry.reserve(ROOM.places),
+        RegistryCall::EnterReserved => registry.reserve_entries(OTHER_LANE, 1),
+        _ => Ok(()),
+    }
 }
 
 /// Opens the next span, in the one before, if there is one.
@@ -178,10 +189,10 @@ fn insert_values(registry: &mut Registry) -> Result<(), Fault> {
 /// How a call ends.
 fn called(alloc: Global, registry: &mut Registry, call: RegistryCall) -> Result<(), TraceError> {
     match call {
-        RegistryCall::NewSpan => open_child(registry, nth(SPANS)),
+        RegistryCall::NewSpan | RegistryCall::NewSpanReserved => open_child(registry, nth(SPANS)),
         RegistryCall::NewSpanOfFullParent => open_child(registry, nth(1)),
         RegistryCall::NewSpanWithoutPlace => open_child(registry, nth(SPANS)),
-        RegistryCall::Enter => registry.enter(OTHER_LANE, nth(5)),
+        RegistryCall::Enter | RegistryCall::EnterReserved => registry.enter(OTHER_LANE, nth(5)),
         RegistryCall::EnterFirst => registry.enter(LANE, nth(5)),
         RegistryCall::EnterOneLaneMore => registry.enter(Lane(15), nth(5)),
         RegistryCall::EnterUnknown => registry.enter(LANE, nth(0)),

@@ -3,7 +3,7 @@
 use crate::call::{Call, RegistryCall};
 use crate::fault::Fault;
 use crate::tried::{Stack, Tried};
-use crate::{attach, dispatcher, filter, lane_stack, registry, shared, veto};
+use crate::{attach, dispatcher, filter, lane_stack, registry, reserved, shared, veto};
 use std::alloc::Global;
 use std::io::{Read, Write};
 use std::sync::Wait;
@@ -44,6 +44,8 @@ fn make<S: Tried, H: Wait, W: Write>(
             dispatcher::make::<S, W>(alloc, writer, state, request)
         }
         Call::Serve => dispatcher::serve::<S, W>(alloc, writer),
+        Call::ServeReserved => reserved::serve(alloc, writer),
+        Call::ReserveCallsites => dispatcher::reserve::<S, W>(alloc, writer),
         Call::Record => dispatcher::record::<S, W>(alloc, writer),
         Call::Veto(request) => veto::make(alloc, writer, request),
         Call::Share => shared::share::<S, W>(alloc, writer),

@@ -15,6 +15,9 @@ pub const SPANS: u64 = 16;
 /// How many of them the lane is in.
 pub const ENTERED: u64 = 8;
 
+/// How many callsites are kept then.
+pub const CALLSITES: usize = 15;
+
 /// A callsite of spans that is kept.
 pub const KEPT_SPAN: u64 = 1;
 

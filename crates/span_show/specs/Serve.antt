@@ -7,7 +7,7 @@ use Rattle.span_core.specs.declared.level.TheConstants.LevelFilter.{TRACE}
 use Rattle.span_dispatch.specs.Alone.{passed_at}
 use Rattle.span_dispatch.specs.Cache.{no_callsite}
 use Rattle.span_dispatch.specs.Contract.{SubscriberOf}
-use Rattle.span_dispatch.specs.Serve.{IsReady, Served, ServedExactly, flat, kept_by, stack_of}
+use Rattle.span_dispatch.specs.Serve.{IsReady, Served, flat, kept_by, stack_of}
 use Rattle.span_dispatch.specs.declared.dispatch.Dispatch.{Dispatch}
 use Rattle.span_dispatch.specs.declared.request.Answer.TheVariants.{Refused}
 use Rattle.span_dispatch.specs.declared.request.Answer.{Answer}
@@ -77,12 +77,9 @@ abbrev pub FoundMemory : Answer → Type 0
 FoundMemory (Refused OutOfMemory) = ⊥
 FoundMemory a = ⊤
 
--- a dispatcher that kept nothing yet answered each of these requests exactly as it should, and memory was refused to none
-pub record AnswersAll {S : Type 0} (s : SubscriberOf S) (requests : List Request)
-    (answers : List Answer) (old new : Dispatch S) : Type 0 where
+-- a dispatcher that kept nothing yet gave these answers, and memory was refused to none
+pub record AnswersAll {S : Type 0} (answers : List Answer) (old : Dispatch S) : Type 0 where
   pub unasked : kept_by old ≡ Some no_callsite
-  pub exact : ServedExactly s.registry s.with_registry s.has_form s.stepped s.levelled s.hears
-      s.acts_at requests answers old new
   pub memory : AllByRecursion FoundMemory answers
 
 -- such an observer stood outermost while these requests were served, and the text is what is due of all that it was told
@@ -93,9 +90,9 @@ pub record IsTextOf {T : Type 0} (Begins : T → Type 0) (due : Heard → List �
   pub old : Dispatch (WithObserver T RegistryState)
   pub new : Dispatch (WithObserver T RegistryState)
   pub begun : IsNewUnder Begins (stack_of old)
-  pub answered : AnswersAll s requests answers old new
+  pub answered : AnswersAll answers old
   pub served : Served s.registry s.with_registry s.has_form s.stepped s.levelled s.hears s.acts_at
-      requests answers (stack_of old) (stack_of new)
+      requests answers old new
   pub written : text ≡ due (passed_at observer_position (flat served.made))
 
 -- of a tree the lines of all this, in order
@@ -115,7 +112,7 @@ pub record ArePointsOf (s : SubscriberOf (WithTimeline RegistryState Counted))
   pub old : Dispatch (WithTimeline RegistryState Counted)
   pub new : Dispatch (WithTimeline RegistryState Counted)
   pub begun : IsNewTimeline (stack_of old)
-  pub answered : AnswersAll s requests answers old new
-  pub served : KeepsServed latest_counted counts_on s requests answers (stack_of old) (stack_of new)
+  pub answered : AnswersAll answers old
+  pub served : KeepsServed latest_counted counts_on s requests answers old new
   pub each : points
       ≡ points_at served.kept.times (passed_at timeline_position (flat served.served.made))

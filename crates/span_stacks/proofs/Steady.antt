@@ -11,7 +11,7 @@ use Rattle.span_dispatch.proofs.CallerLemmas.{heard_records}
 use Rattle.span_dispatch.specs.Fixed.{RunsBy, set_at}
 use Rattle.span_dispatch.specs.Recorder.{RecorderState, kept_notice, new_recorder, recorder_steps}
 use Rattle.span_dispatch.specs.Cache.{no_callsite}
-use Rattle.span_dispatch.specs.Serve.{IsReady, ServedExactly, kept_by, stack_of}
+use Rattle.span_dispatch.specs.Serve.{IsReady, Served, kept_by, stack_of}
 use Rattle.span_dispatch.specs.declared.dispatch.Dispatch.{Dispatch}
 use Rattle.span_dispatch.specs.declared.notice.Notice.{Notice as KeptNotice}
 use Rattle.span_dispatch.specs.declared.request.Answer.{Answer}
@@ -269,11 +269,11 @@ module _ {S : Type 0} {with_registry : S → RegistryState → S} {has_form : S 
 
   -- what it served, with nothing kept at first, is a run of its form
   pub run_of : {hears : HearSteps S} {acts_at : ActsAt S} {requests : List Request} {answers : List Answer} (f : Form) (old new : Dispatch S) (s : RegistryState) → Stays (stack_of old) f → registry (stack_of old) ≡ s → kept_by old ≡ Some no_callsite
-      → (h : ServedExactly registry with_registry has_form stepped levelled hears acts_at requests answers old new) → RunsBy f requests answers h.served.made (Some no_callsite) s (kept_by new) (registry (stack_of new))
+      → (h : Served registry with_registry has_form stepped levelled hears acts_at requests answers old new) → RunsBy f requests answers h.made (Some no_callsite) s (kept_by new) (registry (stack_of new))
   run_of {hears} {acts_at} {requests} {answers} f old new s stays first kept h =
-      let run = runs_by registry with_registry has_form stepped levelled Stays steady.known steady.goes steady.aside steady.set [] requests answers h.served.made (kept_by old) f (stack_of old) (kept_by new) (stack_of new) stays h.run in
-      subst (λ k. RunsBy f requests answers h.served.made k s (kept_by new) (registry (stack_of new))) kept
-      (subst (λ r. RunsBy f requests answers h.served.made (kept_by old) r (kept_by new) (registry (stack_of new))) first (run.0, run.2))
+      let run = runs_by registry with_registry has_form stepped levelled Stays steady.known steady.goes steady.aside steady.set [] requests answers h.made (kept_by old) f (stack_of old) (kept_by new) (stack_of new) stays h.run in
+      subst (λ k. RunsBy f requests answers h.made k s (kept_by new) (registry (stack_of new))) kept
+      (subst (λ r. RunsBy f requests answers h.made (kept_by old) r (kept_by new) (registry (stack_of new))) first (run.0, run.2))
 
 -- a new recorder that hasn't failed keeps all that it went through
 pub all_kept : (old new : RecorderState) (heard : Heard) → HearsBy recorder_steps old Here heard new → old ≡ new_recorder → new.failed ≡ false → new.notices ≡ map kept_notice heard

@@ -10,7 +10,7 @@ use Rattle.span_dispatch.specs.Contract.{SubscriberOf}
 use Rattle.span_dispatch.specs.Fixed.{RunsBy, kept_at}
 use Rattle.span_dispatch.specs.Outcome.{OutcomeAt}
 use Rattle.span_dispatch.specs.Recorder.{RecorderState, new_recorder}
-use Rattle.span_dispatch.specs.Serve.{IsReady, ServedExactly, kept_by, stack_of}
+use Rattle.span_dispatch.specs.Serve.{IsReady, Served, kept_by, stack_of}
 use Rattle.span_dispatch.specs.Worker.{WorkerState}
 use Rattle.span_dispatch.specs.declared.dispatch.Dispatch.{Dispatch}
 use Rattle.span_dispatch.specs.declared.notice.Notice.{Notice}
@@ -156,7 +156,7 @@ pub record ServesInUse {S : Type 0} (s : SubscriberOf S) (requests : List Reques
   pub same : s.registry (stack_of begun) ≡ s.registry x
   pub kept : kept_by begun ≡ Some no_callsite
   pub served : (f : Form) × IsReady s.registry s.with_registry s.has_form s.stepped s.levelled f x
-      → ServedExactly s.registry s.with_registry s.has_form s.stepped s.levelled s.hears s.acts_at
+      → Served s.registry s.with_registry s.has_form s.stepped s.levelled s.hears s.acts_at
       requests given.0.items begun given.1
 
 -- each of these workers was called so often at most

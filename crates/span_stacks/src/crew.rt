@@ -9,8 +9,8 @@ ghost use Rattle.span_script.specs.Script.{stack_of};
 use crate::fault::RunFault;
 use crate::stacks::text_by;
 use crate::way::Way;
-use span_core::{Id, Record, TraceError};
-use span_dispatch::{Answer, Crew, Dispatch, Journal, Receipt, Request, Shared, Worker};
+use span_core::Lane;
+use span_dispatch::{Answer, Crew, Dispatch, Journal, Request, Shared, Worker};
 use span_registry::{Limits, Subscriber};
 use span_script::Script;
 use std::alloc::Global;
@@ -108,7 +108,7 @@ fn serve<S: Subscriber + Drop, L: Crew>(
     Ok((answers, dispatch, journal))
 }
 
-/// One request, by the worker of its lane, where these are the answers so far.
+/// One request, by the worker of its lane, where these are the answers so far. A level is set by the first.
 fn ask_by_lane<S: Subscriber, L: Crew>(
     rt: &impl Wait,
     shared: &Shared<S, L>,
@@ -121,112 +121,12 @@ fn ask_by_lane<S: Subscriber, L: Crew>(
     ensures workers { vec_len workers.new ≡ vec_len workers.old }
     ensures calls { AreCalled (length past.now + 1) workers.new.items }
 {
-    let number = worker_for(request) as usize;
+    let Some(call) = request.call(past) else {
+        return Answer::Dropped;
+    };
+    let number = call.lane().unwrap_or(Lane(0)).0 as usize;
     if number >= workers.len() {
         return Answer::Dropped; // A script names no other lane.
     }
-    ask(rt, shared, &mut workers[number], past, request)
-}
-
-/// The number of the worker that asks for this: that of its lane, and 0 where it has none.
-fn worker_for(request: &Request<'_>) -> u32 {
-    match request {
-        Request::NewSpan(lane, _, _, _) => lane.0,
-        Request::Event(lane, _, _, _) => lane.0,
-        Request::Enter(lane, _) => lane.0,
-        Request::Exit(lane, _) => lane.0,
-        Request::Record(lane, _, _) => lane.0,
-        Request::Follows(lane, _, _) => lane.0,
-        Request::Clone(lane, _) => lane.0,
-        Request::Drop(lane, _) => lane.0,
-        Request::Enabled(lane, _) => lane.0,
-        Request::Current(lane) => lane.0,
-        Request::SetLevel(_, _) => 0,
-    }
-}
-
-/// One request by a worker, where these are the answers so far.
-fn ask<S: Subscriber, L: Crew>(
-    rt: &impl Wait,
-    shared: &Shared<S, L>,
-    worker: &mut Worker<L>,
-    past: &[Answer],
-    request: &Request<'_>,
-) -> Answer
-    requires { worker.old.calls < 2 ^ 64 - 1 }
-    ensures { worker.new.calls ≤ worker.old.calls + 1 }
-{
-    match request {
-        Request::NewSpan(_, metadata, parent, values) => {
-            let attributes = parent.attributes(past, *metadata, values);
-            Answer::of_span(given(shared.new_span(rt, worker, &attributes)))
-        }
-        Request::Event(_, metadata, parent, values) => {
-            let event = parent.event(past, *metadata, values);
-            Answer::of_event(given(shared.event(rt, worker, &event)))
-        }
-        Request::Enabled(_, metadata) => {
-            Answer::of_yes(given(shared.enabled(rt, worker, metadata)))
-        }
-        Request::Current(_) => match shared.current_span(rt, worker) {
-            Ok((current, _)) => Answer::of_current(current),
-            Err(error) => Answer::Refused(error),
-        },
-        Request::SetLevel(number, level) => {
-            Answer::of_done(given(shared.set_level(rt, worker, *number, *level)))
-        }
-        _ => match span_of(past, request) {
-            Some(id) => ask_of_span(rt, shared, worker, past, request, id),
-            None => Answer::Dropped,
-        },
-    }
-}
-
-/// The span of which a request asks, where these are the answers so far.
-fn span_of(past: &[Answer], request: &Request<'_>) -> Option<Id> {
-    match request {
-        Request::Enter(_, which) => which.span_of(past),
-        Request::Exit(_, which) => which.span_of(past),
-        Request::Record(_, which, _) => which.span_of(past),
-        Request::Follows(_, which, _) => which.span_of(past),
-        Request::Clone(_, which) => which.span_of(past),
-        Request::Drop(_, which) => which.span_of(past),
-        _ => None,
-    }
-}
-
-/// One request of this span by a worker, where these are the answers so far.
-fn ask_of_span<S: Subscriber, L: Crew>(
-    rt: &impl Wait,
-    shared: &Shared<S, L>,
-    worker: &mut Worker<L>,
-    past: &[Answer],
-    request: &Request<'_>,
-    id: Id,
-) -> Answer
-    requires { worker.old.calls < 2 ^ 64 - 1 }
-    ensures { worker.new.calls ≤ worker.old.calls + 1 }
-{
-    match request {
-        Request::Enter(_, _) => Answer::of_done(given(shared.enter(rt, worker, id))),
-        Request::Exit(_, _) => Answer::of_done(given(shared.exit(rt, worker, id))),
-        Request::Record(_, _, values) => {
-            Answer::of_done(given(shared.record(rt, worker, id, &Record::new(values))))
-        }
-        Request::Follows(_, _, other) => match other.span_of(past) {
-            Some(follows) => Answer::of_done(given(shared.follows_from(rt, worker, id, follows))),
-            None => Answer::Dropped,
-        },
-        Request::Clone(_, _) => Answer::of_clone(given(shared.clone_span(rt, worker, id))),
-        Request::Drop(_, _) => Answer::of_yes(given(shared.drop_span(rt, worker, id))),
-        _ => Answer::Dropped, // It asks of no span.
-    }
-}
-
-/// An answer without its receipt.
-fn given<A: Drop>(answered: Result<(A, Receipt), TraceError>) -> Result<A, TraceError> {
-    match answered {
-        Ok((answer, _)) => Ok(answer),
-        Err(error) => Err(error),
-    }
+    shared.ask(rt, &mut workers[number], &call)
 }

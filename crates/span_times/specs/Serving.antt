@@ -69,15 +69,15 @@ module _ {S C : Type 0} (latest : C → ℕ) (gives : C → ℕ → C → Type 0
     (s : SubscriberOf (WithTimeline S C)) where
   -- these requests were served with these answers, and the timeline keeps all that its position was told, in order, unless it failed
   pub record KeepsServed (requests : List Request) (answers : List Answer)
-      (old new : WithTimeline S C) : Type 0 where
+      (old new : Dispatch (WithTimeline S C)) : Type 0 where
     pub served : Served s.registry s.with_registry s.has_form s.stepped s.levelled s.hears s.acts_at
         requests answers old new
-    pub kept : KeepsAll latest gives (timeline_in old)
-        (passed_at timeline_position (flat served.made)) (timeline_in new)
+    pub kept : KeepsAll latest gives (timeline_in (stack_of old))
+        (passed_at timeline_position (flat served.made)) (timeline_in (stack_of new))
 
   -- so it is where the dispatcher was ready
   abbrev pub ServesTimed : List Request → Dispatch (WithTimeline S C)
       → Dispatch (WithTimeline S C) → Vec Answer Global → Type 0
   ServesTimed requests old new answers =
       IsReadySomehow s.registry s.with_registry s.has_form s.stepped s.levelled old
-      → KeepsServed requests answers.items (stack_of old) (stack_of new)
+      → KeepsServed requests answers.items old new

@@ -1,6 +1,6 @@
 //! Lists of requests, served with a timeline outermost.
 ghost use Rattle.std.specs.Prelude.{◌≡◌, IfErr, IfOk, OnErr, length};
-ghost use Rattle.span_dispatch.specs.Contract.{ServesListExactly, StaysReadyByRules};
+ghost use Rattle.span_dispatch.specs.Contract.{StaysReadyByRules};
 ghost use Rattle.span_dispatch.specs.Serve.{stack_of};
 ghost use Rattle.span_times.specs.Serving.{ServesTimed};
 
@@ -27,8 +27,6 @@ pub fn serve_timed<S: Subscriber, C: Now>(
         dispatch.new }
     ensures kept { IfOk result (ServesTimed C.latest C.gives
         ⟦<WithTimeline<S, C> as Subscriber>⟧ requests.now dispatch.old dispatch.new) }
-    ensures exact { IfOk result (ServesListExactly ⟦<WithTimeline<S, C> as Subscriber>⟧
-        requests.now dispatch.old dispatch.new) }
     ensures length { IfOk result (λ a. length a.items ≡ length requests.now) }
     ensures memory { IfErr result (λ e. e ≡ TraceError.OutOfMemory) }
     ensures unchanged { OnErr result (dispatch.new ≡ dispatch.old) }

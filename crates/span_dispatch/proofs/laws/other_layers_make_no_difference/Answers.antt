@@ -30,14 +30,14 @@ pub returns-clause-calls : goal.returns-clause-calls
 returns-clause-calls g c = one_alone_of c.in_store_while_open_or_closing.ensures.in_store c.in_store_while_open_or_closing.ensures.not_both c.closes_once.ensures
 
 pub returns-clause-says : goal.returns-clause-says
-returns-clause-says g c = λ numbers rs answers made x y h. run_calls g.S.LookupSpan.registry g.S.LookupSpan.with_registry g.S.Subscriber.has_form g.S.Subscriber.stepped g.S.Subscriber.levelled [] rs answers made x y numbers h
+returns-clause-says g c = λ numbers rs answers made kept after x y h. run_calls g.S.LookupSpan.registry g.S.LookupSpan.with_registry g.S.Subscriber.has_form g.S.Subscriber.stepped g.S.Subscriber.levelled [] rs answers made kept x after y numbers h
 
 pub returns-clause-requests : goal.returns-clause-requests
 returns-clause-requests g c =
-    seen_both g.S.LookupSpan.registry g.S.LookupSpan.with_registry g.S.Subscriber.has_form g.S.Subscriber.stepped g.S.Subscriber.levelled g.S.Subscriber.hears g.S.Subscriber.acts_at
+    seen_both g.S.LookupSpan.registry g.S.LookupSpan.with_registry g.S.Subscriber.has_form g.S.Subscriber.stepped g.S.Subscriber.levelled g.S.Subscriber.hears g.S.Subscriber.acts_at g.met.S.Subscriber.paths
     (SeesCalls g.T.LookupSpan.registry g.T.LookupSpan.with_registry g.T.Subscriber.has_form g.T.Subscriber.stepped g.T.Subscriber.levelled g.T.Subscriber.hears g.T.Subscriber.acts_at)
     (one_alone_of c.in_store_while_open_or_closing.ensures.in_store c.in_store_while_open_or_closing.ensures.not_both c.closes_once.ensures)
-    (seen_calls g.T.LookupSpan.registry g.T.LookupSpan.with_registry g.T.Subscriber.has_form g.T.Subscriber.stepped g.T.Subscriber.levelled g.T.Subscriber.hears g.T.Subscriber.acts_at)
+    (seen_calls g.T.LookupSpan.registry g.T.LookupSpan.with_registry g.T.Subscriber.has_form g.T.Subscriber.stepped g.T.Subscriber.levelled g.T.Subscriber.hears g.T.Subscriber.acts_at g.met.T.Subscriber.paths)
 
 pub returns-clause-requests_alone : goal.returns-clause-requests_alone
-returns-clause-requests_alone g c = seen_calls g.S.LookupSpan.registry g.S.LookupSpan.with_registry g.S.Subscriber.has_form g.S.Subscriber.stepped g.S.Subscriber.levelled g.S.Subscriber.hears g.S.Subscriber.acts_at
+returns-clause-requests_alone g c = seen_calls g.S.LookupSpan.registry g.S.LookupSpan.with_registry g.S.Subscriber.has_form g.S.Subscriber.stepped g.S.Subscriber.levelled g.S.Subscriber.hears g.S.Subscriber.acts_at g.met.S.Subscriber.paths

@@ -11,18 +11,18 @@ pub returns-in_err-set_level-clause-memory : goal.returns-in_err-set_level-claus
 returns-in_err-set_level-clause-memory c =
     let a = c.in-Ok.ensures.attached in
     let ready = starts_first c.numbers_are_own.ensures WARN _ _ _ _ _ c.new-2.ensures c.new.ensures c.with_filter-layer.ensures a.numbers a.room a.layer_as_it_was in
-    let first = ready_still KeepsRules (λ f g h. h) _ _ (ready_first _ _ _ ready c.new-dispatch.ensures.ready.safe) c.in_ok-serve.ensures.ready.safe in
-    absurd (never_refused c.serve.new.self DEBUG first c.in_err-set_level.ensures.none)
+    let first = ready_still KeepsRules (λ f g h. h) _ _ (ready_first _ _ _ ready c.new-dispatch.ensures.ready) c.in_ok-serve.ensures.ready.again in
+    absurd (never_refused c.serve.new.self DEBUG first c.in_err-set_level.ensures.sets.none)
 
 pub returns-clause-reloads : goal.returns-clause-reloads
 returns-clause-reloads c =
     let a = c.in-Ok.ensures.attached in
     let new = starts c.numbers_are_own.ensures WARN _ _ _ _ _ c.new-2.ensures c.new.ensures c.with_filter-layer.ensures a.numbers a.room a.layer_as_it_was in
     let ready = starts_first c.numbers_are_own.ensures WARN _ _ _ _ _ c.new-2.ensures c.new.ensures c.with_filter-layer.ensures a.numbers a.room a.layer_as_it_was in
-    let start = ready_first _ _ _ ready c.new-dispatch.ensures.ready.safe in
-    let used = in_use _ _ _ new (λ k. let r = c.new-dispatch.ensures.ready.safe k.0 k.1 in (r.0, r.1.stack)) c.new-dispatch.ensures.registered.0 in
-    let before = ready_still KeepsRules (λ f g h. h) _ _ start c.in_ok-serve.ensures.ready.safe in
-    let after = ready_still (LevelsForm 0) (level_rules 0) _ _ before c.in_ok-set_level.ensures.ready.safe in
+    let start = ready_first _ _ _ ready c.new-dispatch.ensures.ready in
+    let used = in_use _ _ _ new (λ k. let r = c.new-dispatch.ensures.ready k.0 k.1 in (r.0, r.1.stack)) c.new-dispatch.ensures.registered.0 in
+    let before = ready_still KeepsRules (λ f g h. h) _ _ start c.in_ok-serve.ensures.ready.again in
+    let after = ready_still (LevelsForm 0) (level_rules 0) _ _ before c.in_ok-set_level.ensures.ready.again in
     let first = c.in_ok-serve.ensures.served (start.form, start.ready) in
     let rest = c.in_ok-serve-2.ensures.served (after.form, after.ready) in
     record {
@@ -31,6 +31,6 @@ returns-clause-reloads c =
       after = c.set_level.new.self;
       recorder = record { own = used.under.own; inner = used.empty };
       first = (c.in_ok-serve.field-0.items, first);
-      set = is_set _ _ DEBUG before c.in_ok-set_level.ensures.level;
+      set = is_set _ _ DEBUG before c.in_ok-set_level.ensures.sets.level;
       rest = (c.in_ok-serve-2.field-0.items, rest);
     }

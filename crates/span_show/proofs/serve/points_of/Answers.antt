@@ -15,8 +15,7 @@ pub returns-clause-points : goal.returns-clause-points
 returns-clause-points c =
     let d = c.new-dispatch in
     let put = c.put_on_new.ensures in
-    let one = d.ensures.ready.safe put.ready.0 put.ready.1 in
-    let two = d.ensures.ready.current put.ready.0 put.ready.1 in
+    let one = d.ensures.ready put.ready.0 put.ready.1 in
     let w = c.in-Ok.ensures.kept (one.0, one.1) in
     let timeline = c.into_observer-timeline.ensures ∙ ap observer_of (c.into_parts-layer.ensures.outer ∙ ap outer_of c.into_stack.ensures) in
     let whole : has_failed (timeline_in (stack_of c.serve_timed.new.dispatch)) ≡ false = ap has_failed (sym timeline) ∙ sym c.failed.ensures ∙ c.if-failed.false in
@@ -27,7 +26,7 @@ returns-clause-points c =
       old = d.result;
       new = c.serve_timed.new.dispatch;
       begun = record { registry = has_all_room d.ensures.registry put.registry; points = none; clock = ap (λ (t : Timeline Counted). latest_counted (clock_of t)) first ∙ ap latest_counted c.new-2.ensures.clock ∙ c.new.ensures };
-      answered = record { unasked = d.ensures.kept; exact = c.in-Ok.ensures.exact (two.0, two.1); memory = all_found c.deref.ensures.value (c.one_lacks_memory.ensures c.if-one_lacks_memory.false) };
+      answered = record { unasked = d.ensures.kept.callsites; memory = all_found c.deref.ensures.value (c.one_lacks_memory.ensures c.if-one_lacks_memory.false) };
       served = w;
       each = c.take_points.ensures.taken.taken ∙ ap points_of timeline ∙ (w.kept.kept whole).1 ∙ ap (λ ps. ps ++ points_at w.kept.times (passed_at timeline_position (flat w.served.made))) none;
     }

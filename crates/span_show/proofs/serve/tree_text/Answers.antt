@@ -20,8 +20,7 @@ returns-clause-tree c =
     let same = d.ensures.registered.0 in
     let put = c.put_on_new.ensures in
     let own = c.with_filter-layer.ensures in
-    let one = d.ensures.ready.safe put.ready.0 put.ready.1 in
-    let two = d.ensures.ready.current put.ready.0 put.ready.1 in
+    let one = d.ensures.ready put.ready.0 put.ready.1 in
     let w = c.in-Ok.ensures.served.written (one.0, one.1) in
     let tree = c.observer-tree.ensures ∙ ap observer_of (c.inner.ensures ∙ ap layer_of (c.layer.ensures ∙ ap outer_of c.stack.ensures)) in
     let whole : has_failed (observer_in (stack_of c.serve_tree.new.dispatch)) ≡ false = ap has_failed (sym tree) ∙ sym c.failed.ensures ∙ c.if-failed.false in
@@ -31,7 +30,7 @@ returns-clause-tree c =
       old = d.result;
       new = c.serve_tree.new.dispatch;
       begun = record { registry = has_all_room d.ensures.registry put.registry; level = same.1 ∙ put.layer.0 ∙ own.own; observer = none };
-      answered = record { unasked = d.ensures.kept; exact = c.in-Ok.ensures.served.exact (two.0, two.1); memory = all_found c.deref.ensures.value (c.one_lacks_memory.ensures c.if-one_lacks_memory.false) };
+      answered = record { unasked = d.ensures.kept.callsites; memory = all_found c.deref.ensures.value (c.one_lacks_memory.ensures c.if-one_lacks_memory.false) };
       served = w.served;
       written = c.in_ok-from_str.ensures.ok ∙ c.text.ensures ∙ ap text_of tree ∙ (w.written.whole whole).1 ∙ ap (λ t. t ++ heard_text (passed_at observer_position (flat w.served.made))) none;
     }

@@ -1,7 +1,6 @@
 use Rattle.span_layers.proofs.Built.{rules_of}
-use Rattle.span_dispatch.specs.Admission.{Promises}
-use Rattle.std.proofs.Common.{Ok, refl, subst}
-use Rattle.span_dispatch.proofs.Admits.{admits_always, admits_asked, admits_never, decides_always, decides_asked}
+use Rattle.std.proofs.Common.{refl, rules}
+use Rattle.span_dispatch.proofs.Admits.{admits_always, admits_asked, admits_never}
 use Rattle.span_dispatch.proofs.Registered.{registered_still}
 use Rattle.span_dispatch.specs.Cache.{kept_in}
 use Rattle.span_dispatch.specs.Serve.{kept_by, stack_of}
@@ -20,34 +19,10 @@ pub returns-in-Ok-Always-clause-admitted : goal.returns-in-Ok-Always-clause-admi
 returns-in-Ok-Always-clause-admitted g c = λ f h u.
     admits_always (kept_by c.args.self.now) f (g.S.LookupSpan.registry (stack_of c.args.self.now)) c.args.lane c.args.meta.now (kept_in c.interest.new.self) h.rules c.args.pass.now c.in-Ok-Always.field-0 (c.in-Ok-Always.ensures.by_form f h.has (rules_of f _ h.rules).answers u) c.in-Ok-Always.field-0-is c.requires.fresh
 
-pub returns-in-Ok-Never-clause-decided : goal.returns-in-Ok-Never-clause-decided
-returns-in-Ok-Never-clause-decided g c = λ f h u. (subst (λ i. Promises f c.args.meta.now (Ok i)) c.in-Ok-Never.field-0-is (c.in-Ok-Never.ensures.safe f h.has h.rules u).0) (g.S.LookupSpan.registry (stack_of c.args.self.now)).store c.args.lane.0
-
-pub returns-in-Ok-Sometimes-clause-decided : goal.returns-in-Ok-Sometimes-clause-decided
-returns-in-Ok-Sometimes-clause-decided g c = λ f h u. decides_asked f (g.S.LookupSpan.registry (stack_of c.args.self.now)).store c.args.lane c.args.meta.now (g.S.LookupSpan.registry (stack_of c.args.self.now)).filters h.rules g.S.LookupSpan.registry g.S.Subscriber.has_form (stack_of c.args.self.now) c.args.pass.now c.enabled.new.pass c.enabled.result refl h.has c.requires.fresh c.enabled.ensures
-
-pub returns-in-Ok-Always-clause-decided : goal.returns-in-Ok-Always-clause-decided
-returns-in-Ok-Always-clause-decided g c = λ f h u. decides_always f (g.S.LookupSpan.registry (stack_of c.args.self.now)).store c.args.lane c.args.meta.now (g.S.LookupSpan.registry (stack_of c.args.self.now)).filters h.rules c.args.pass.now ((subst (λ i. Promises f c.args.meta.now (Ok i)) c.in-Ok-Always.field-0-is (c.in-Ok-Always.ensures.safe f h.has h.rules u).0) (g.S.LookupSpan.registry (stack_of c.args.self.now)).store c.args.lane.0) c.requires.fresh
-
-pub returns-in-Err-clause-decided : goal.returns-in-Err-clause-decided
-returns-in-Err-clause-decided g c = λ f h u. tt
-
-pub returns-in-Ok-Never-clause-safe : goal.returns-in-Ok-Never-clause-safe
-returns-in-Ok-Never-clause-safe g c = λ f h u. (c.in-Ok-Never.ensures.safe f h.has h.rules u).1
-
-pub returns-in-Ok-Sometimes-clause-safe : goal.returns-in-Ok-Sometimes-clause-safe
-returns-in-Ok-Sometimes-clause-safe g c = λ f h u. (c.in-Ok-Sometimes.ensures.safe f h.has h.rules u).1
-
-pub returns-in-Ok-Always-clause-safe : goal.returns-in-Ok-Always-clause-safe
-returns-in-Ok-Always-clause-safe g c = λ f h u. (c.in-Ok-Always.ensures.safe f h.has h.rules u).1
-
-pub returns-in-Err-clause-safe : goal.returns-in-Err-clause-safe
-returns-in-Err-clause-safe g c = λ f h u. (c.in-Err.ensures.safe f h.has h.rules u).1
-
 pub returns-in-Err-clause-admitted : goal.returns-in-Err-clause-admitted
 returns-in-Err-clause-admitted g c = λ f h u.
     let k = c.in-Err.ensures.by_form f h.has (rules_of f _ h.rules).answers u in
-    (record { hint = k.0; refused = c.in-Err.ensures.refused.1 }, k.1)
+    record { hint = k.0; refused = c.in-Err.ensures.refused.1; same = k.1 }
 
 pub returns-in-Err-clause-registered : goal.returns-in-Err-clause-registered
 returns-in-Err-clause-registered g c = registered_still c.args.self.now (record c.args.self.now { cache = c.interest.new.self }) refl c.in-Err.ensures.lasts
@@ -60,3 +35,43 @@ returns-in-Ok-Sometimes-clause-registered g c = registered_still c.args.self.now
 
 pub returns-in-Ok-Always-clause-registered : goal.returns-in-Ok-Always-clause-registered
 returns-in-Ok-Always-clause-registered g c = registered_still c.args.self.now (record c.args.self.now { cache = c.interest.new.self }) refl c.in-Ok-Always.ensures.lasts
+
+pub returns-in-Err-clause-kept : goal.returns-in-Err-clause-kept
+returns-in-Err-clause-kept g c = record {
+  hint = c.in-Err.ensures.reads;
+  learned = c.in-Err.ensures.learns;
+  keeps = c.in-Err.ensures.keeps;
+  above = search rules;
+  mismatch = search rules;
+  refused = search rules;
+}
+
+pub returns-in-Ok-Never-clause-kept : goal.returns-in-Ok-Never-clause-kept
+returns-in-Ok-Never-clause-kept g c = record {
+  hint = c.in-Ok-Never.ensures.reads;
+  learned = c.in-Ok-Never.ensures.learns;
+  keeps = c.in-Ok-Never.ensures.keeps;
+  above = search rules;
+  mismatch = search rules;
+  refused = search rules;
+}
+
+pub returns-in-Ok-Sometimes-clause-kept : goal.returns-in-Ok-Sometimes-clause-kept
+returns-in-Ok-Sometimes-clause-kept g c = record {
+  hint = c.in-Ok-Sometimes.ensures.reads;
+  learned = c.in-Ok-Sometimes.ensures.learns;
+  keeps = c.in-Ok-Sometimes.ensures.keeps;
+  above = search rules;
+  mismatch = search rules;
+  refused = search rules;
+}
+
+pub returns-in-Ok-Always-clause-kept : goal.returns-in-Ok-Always-clause-kept
+returns-in-Ok-Always-clause-kept g c = record {
+  hint = c.in-Ok-Always.ensures.reads;
+  learned = c.in-Ok-Always.ensures.learns;
+  keeps = c.in-Ok-Always.ensures.keeps;
+  above = search rules;
+  mismatch = search rules;
+  refused = search rules;
+}

@@ -1,5 +1,5 @@
-use Rattle.span_dispatch.proofs.Stores.{opened_by_pass}
+use Rattle.span_dispatch.proofs.Stores.{opens_span}
 use Rattle.span_dispatch.proofs.dispatch.Dispatch.new_span.Goals as goal
 
-pub returns-clause-store : goal.returns-clause-store
-returns-clause-store g c = opened_by_pass g.S.LookupSpan.registry c.args.lane c.args.attrs.now c.open.new.pass c.args.self.now c.open.new.self c.open.result c.open.ensures.store
+pub returns-clause-opens : goal.returns-clause-opens
+returns-clause-opens g c = opens_span c.open.new.pass c.open.ensures.opens

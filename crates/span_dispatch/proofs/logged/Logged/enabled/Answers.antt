@@ -1,6 +1,6 @@
 use Rattle.std.proofs.Common.{ap, sym, subst, ◌∙◌}
 use Rattle.span_dispatch.proofs.Ready.{unchanged_ready}
-use Rattle.span_dispatch.proofs.Journalled.{grown, kept_same, stays}
+use Rattle.span_dispatch.proofs.Journalled.{grown, kept_same, stays, logs_refused}
 use Rattle.span_dispatch.specs.Journal.{Entry}
 use Rattle.span_dispatch.specs.Serve.{stack_of}
 use Rattle.span_dispatch.specs.declared.entry.EntryWith.TheVariants as entry
@@ -19,3 +19,6 @@ invariant_of-self-2 g c =
 
 pub returns-in_err-reserve-clause-ready : goal.returns-in_err-reserve-clause-ready
 returns-in_err-reserve-clause-ready g c = unchanged_ready c.args.self.now.dispatch c.self.inside.dispatch (ap (λ l. l.dispatch) c.self.view_is)
+
+pub returns-in_err-given-clause-logs : goal.returns-in_err-given-clause-logs
+returns-in_err-given-clause-logs g c = logs_refused c.self.view_is c.in_err-given.field-0.0 c.from_residual-in_err-given.result c.from_residual-in_err-given.ensures.1 c.in_err-given.ensures.probes (c.reserve.ensures.items ∙ c.journal.view_is)

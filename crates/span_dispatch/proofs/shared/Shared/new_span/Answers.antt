@@ -5,7 +5,6 @@ use Rattle.span_core.specs.declared.span.Lane.{Lane}
 use Rattle.span_dispatch.proofs.Journalled.{some_refuses, span_receipt}
 use Rattle.span_dispatch.specs.Cache.{RefusesInterest}
 use Rattle.span_dispatch.specs.Contract.{PassesKept}
-use Rattle.span_dispatch.specs.Logged.{OrNoMemory}
 use Rattle.span_dispatch.specs.Serve.{kept_by, stack_of}
 use Rattle.span_dispatch.specs.declared.dispatch.Dispatch.{Dispatch}
 use Rattle.span_registry.specs.Step.{RefusesNew}
@@ -13,7 +12,7 @@ use Rattle.span_dispatch.proofs.shared.Shared.new_span.Goals as goal
 
 pub returns-clause-receipt : goal.returns-clause-receipt
 returns-clause-receipt g c =
-    span_receipt c.worker.inside.lane c.args.worker.now.lane c.args.attrs.now _ _ _ c.in_ok-given.given (ap (λ w. w.lane) c.worker.view_is) c.in_ok-given.ensures.added
+    span_receipt c.worker.inside.lane c.args.worker.now.lane c.args.attrs.now _ _ _ c.in_ok-given.given (ap (λ w. w.lane) c.worker.view_is) c.in_ok-given.ensures.logs.done.1
 
 pub returns-in_err-given-clause-refused : goal.returns-in_err-given-clause-refused
 returns-in_err-given-clause-refused g c =
@@ -21,4 +20,4 @@ returns-in_err-given-clause-refused g c =
     λ lane d e. PassesKept (metadata_of c.args.attrs.now) d × (RefusesInterest (kept_by d) (metadata_of c.args.attrs.now) e ⊎ RefusesNew (g.S.LookupSpan.registry (stack_of d)) lane (asked_parent c.args.attrs.now) e) in
     let d = c.deref_mut.result.now.logged.dispatch in
     let e = c.in_err-given.field-0.0 in
-    some_refuses (refuses c.args.worker.now.lane) d e c.from_residual.result c.from_residual.ensures.1 (subst (λ lane. OrNoMemory (refuses lane d) e) (ap (λ w. w.lane) c.worker.view_is) c.in_err-given.ensures.refused)
+    some_refuses (refuses c.args.worker.now.lane) e c.from_residual.result c.from_residual.ensures.1 (λ h. subst (λ lane. refuses lane d e) (ap (λ w. w.lane) c.worker.view_is) h.kept.refused) c.in_err-given.ensures.logs

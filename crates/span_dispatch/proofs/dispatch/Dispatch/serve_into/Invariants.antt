@@ -2,7 +2,7 @@ use Rattle.std.proofs.Common.{◌≡◌, ◌≤◌, [], length, take, vec_len, v
 use Rattle.span_dispatch.specs.KeptHint.{AllGoByKept}
 use Rattle.span_dispatch.specs.Serve.{stack_of}
 use Rattle.span_dispatch.proofs.Served.{SoFar}
-use Rattle.span_dispatch.proofs.dispatch.Dispatch.serve.Given as goal
+use Rattle.span_dispatch.proofs.dispatch.Dispatch.serve_into.Given as goal
 
 abbrev pub invariant-loop-request : goal.invariant-loop-request
 invariant-loop-request g l = record {
@@ -11,4 +11,5 @@ invariant-loop-request g l = record {
   kept : AllGoByKept g.S.LookupSpan.registry [] (take l.request-index l.requests) l.answers.items l.fn.self l.self;
   len : vec_len l.answers ≡ l.request-index;
   room : length l.requests ≤ vec_capacity l.answers;
+  capacity : vec_capacity l.fn.answers ≤ vec_capacity l.answers;
 }
