@@ -1,5 +1,6 @@
 -- The lanes' stacks, as the map of those that aren't empty.
-use Rattle.std.proofs.Common.{◌≡◌, ℕ, zero, suc, List, [], ◌∷◌, Option, Some, None, Bool, true, false, cond, refl, sym, ap, subst, ◌∙◌, ◌≤◌, length}
+use Rattle.std.proofs.Common.{◌≡◌, ℕ, zero, suc, List, [], ◌∷◌, Option, Some, None, Bool, true, false, cond, refl, sym, ap, subst, ◌∙◌, max}
+use Rattle.std.proofs.Math.Nat.{max-zero}
 use Rattle.std.specs.Cmp.{nat_cmp_total}
 use Rattle.std.specs.FinMap.{empty, get, get-empty, get-insert, get-remove, nat_cmp-IsAntisymmetric, remove, same_map}
 use Rattle.std.specs.HashMap.{HashMap, Updates}
@@ -7,10 +8,7 @@ use Rattle.std.specs.Map.{lookup}
 use Rattle.std.specs.Option.{option_and_then, option_map, unwrap_or}
 use Rattle.std.specs.Ordering.{eq_by_cmp, nat_cmp}
 use Rattle.std.specs.Prelude.{nat_eq}
-use Rattle.span_core.specs.declared.error.TraceError.TheVariants.{OutOfMemory}
-use Rattle.span_core.specs.declared.error.TraceError.{TraceError}
 use Rattle.span_core.specs.declared.span.Lane.{Lane}
-use Rattle.span_registry.specs.Marks.{WantsEntry}
 use Rattle.span_registry.specs.LaneStack.{HeldStack, leave, no_entries}
 use Rattle.span_registry.specs.Store.{Rooms, Stacks, room_on, stack_on, with_room_on, with_stack_on}
 use Rattle.span_registry.specs.StoreRepr.{ChangesStack, KeptStacks, held_on, no_stacks, rooms_of, stacks_of, stacks_with}
@@ -181,15 +179,22 @@ room_alone first es t k n is =
     let kept : with_stack_on t.stacks k (stack_on t.stacks k) ≡ t.stacks = subst (λ (u : KeptStacks). with_stack_on u.stacks k (stack_on u.stacks k) ≡ u.stacks) is (stack_kept first es k) in
     λ i. record { stacks = kept i; rooms = with_room_on t.rooms k n }
 
--- what a lane has no room for
-pub first_wants : (first : HeldStack) (es : List (ℕ × HeldStack)) (t : KeptStacks) (k : ℕ) (e : TraceError) → stacks_with first es ≡ t → k ≡ 0 → WantsEntry first e → (e ≡ OutOfMemory) × (room_on t.rooms k ≤ length (stack_on t.stacks k))
-first_wants first es t k e is zero_is u = (
-  u.0,
-  subst (λ (s : HeldStack). s.room ≤ length s.spans) (sym (held_first first es) ∙ ap (λ (v : KeptStacks). held_in v 0) is ∙ ap (held_in t) (sym zero_is)) u.1,
-)
+-- what holds of a lane's stack and its room holds of what the lane has
+pub first_holds : (P : HeldStack → Type 0) (first : HeldStack) (es : List (ℕ × HeldStack)) (t : KeptStacks) (k : ℕ) → stacks_with first es ≡ t → k ≡ 0
+    → P first → P (held_in t k)
+first_holds P first es t k is zero_is =
+    subst P (sym (held_first first es) ∙ ap (λ (v : KeptStacks). held_in v 0) is ∙ ap (held_in t) (sym zero_is))
 
-pub other_wants : {H : Type 0} (first : HeldStack) (m : HashMap ℕ HeldStack H) (t : KeptStacks) (lane : Lane) (e : TraceError) → stacks_with first m.entries ≡ t → ¬ (lane.0 ≡ 0) → WantsEntry (held_on m lane) e → (e ≡ OutOfMemory) × (room_on t.rooms lane.0 ≤ length (stack_on t.stacks lane.0))
-other_wants first m t lane e is other u = (
-  u.0,
-  subst (λ (s : HeldStack). s.room ≤ length s.spans) (sym (held_other first m lane other) ∙ ap (λ (v : KeptStacks). held_in v lane.0) is) u.1,
-)
+pub other_holds : {H : Type 0} (P : HeldStack → Type 0) (first : HeldStack) (m : HashMap ℕ HeldStack H) (t : KeptStacks) (lane : Lane)
+    → stacks_with first m.entries ≡ t → ¬ (lane.0 ≡ 0) → P (held_on m lane) → P (held_in t lane.0)
+other_holds P first m t lane is other =
+    subst P (sym (held_other first m lane other) ∙ ap (λ (v : KeptStacks). held_in v lane.0) is)
+
+-- a stack with no more room has the room that it has
+pub room_same : (first : HeldStack) (es : List (ℕ × HeldStack)) (t : KeptStacks) (k n : ℕ) → stacks_with first es ≡ t → n ≡ 0
+    → t ≡ record t { rooms = with_room_on t.rooms k (max (room_on t.rooms k) n) }
+room_same first es t k n is none =
+    let kept : with_room_on t.rooms k (room_on t.rooms k) ≡ t.rooms =
+    subst (λ (u : KeptStacks). with_room_on u.rooms k (room_on u.rooms k) ≡ u.rooms) is (room_kept first es k) in
+    let most : max (room_on t.rooms k) n ≡ room_on t.rooms k = ap (max (room_on t.rooms k)) none ∙ max-zero (room_on t.rooms k) in
+    λ i. record t { rooms = sym (ap (with_room_on t.rooms k) most ∙ kept) i }

@@ -192,7 +192,8 @@ module _ {S : Type 0} (registry : S → RegistryState) where
   abbrev pub RefersToLent : ContextMut S → (View → Option ℕ) → Option (SpanRef S) → Type 0
   RefersToLent c which found =
       option_map reference_of found
-      ≡ option_map (reference_to registry (subscriber_lent c) (filters_lent c)) (which (view_lent c))
+      ≡ option_map (reference_to registry (subscriber_lent c) (filters_lent c))
+      (which (view_lent c))
 
   -- the same of what a hook is lent
   abbrev pub enabled_lent : ContextMut S → FilterId → Id → Bool

@@ -1,9 +1,9 @@
 //! The stacks of all lanes.
 ghost use Rattle.std.specs.Option.{option_map, unwrap_or};
-ghost use Rattle.std.specs.Prelude.{◌≡◌, ◌≤◌, ◌∷◌, [], IfErr, OnErr, OnOk, length, max};
+ghost use Rattle.std.specs.Prelude.{◌≡◌, ◌≤◌, ◌<◌, ◌∷◌, [], IfErr, OnErr, OnOk, length, max};
 ghost use Rattle.span_core.specs.Span.{number_of};
 ghost use Rattle.span_registry.specs.LaneStack.{leave, with_entry, with_room};
-ghost use Rattle.span_registry.specs.Marks.{WantsEntry};
+ghost use Rattle.span_registry.specs.Marks.{WantsEntry, WantsRoom};
 ghost use Rattle.span_registry.specs.Store.{room_on, stack_on, with_room_on, with_stack_on};
 ghost use Rattle.span_registry.specs.StoreRepr.{ChangesStack, TakesOff, held_on, no_stacks};
 
@@ -58,7 +58,7 @@ impl LaneStacks {
 
     /// Holds memory for so many entries on a lane, with those that there are.
     ///
-    /// Refused for want of memory alone.
+    /// Refused for want of memory alone, where it isn't held already.
     pub(crate) fn reserve(
         &mut self,
         alloc: Global,
@@ -69,12 +69,17 @@ impl LaneStacks {
           rooms = with_room_on self.old.rooms lane.0 (max (room_on self.old.rooms lane.0) depth);
         }) }
         ensures unchanged { OnErr result (self.new ≡ self.old) }
-        ensures memory { IfErr result (λ e. e ≡ TraceError.OutOfMemory) }
+        ensures memory { IfErr result
+            (λ e. (e ≡ TraceError.OutOfMemory) × (room_on self.old.rooms lane.0 < depth)) }
     {
         if lane.0 == 0 {
             return self.first.reserve(depth);
         }
-        reserve_on(alloc, &mut self.others, lane, depth)
+        let others = &mut self.others;
+        if depth == 0 {
+            return Ok(());
+        }
+        reserve_on(alloc, others, lane, depth)
     }
 
     /// Enters a span on a lane.
@@ -110,16 +115,19 @@ impl LaneStacks {
     }
 }
 
-/// Holds memory for so many entries on one of these lanes. Refused for want of memory alone.
+/// Holds memory for so many entries, one at least, on one of these lanes.
+///
+/// Refused for want of memory alone, where there isn't room for as many.
 fn reserve_on(
     alloc: Global,
     stacks: &mut HashMap<u32, LaneStack>,
     lane: Lane,
     depth: usize,
 ) -> Result<(), TraceError>
+    requires { 0 < depth }
     ensures reserved { OnOk result (ChangesStack lane (with_room depth) stacks.old stacks.new) }
     ensures unchanged { OnErr result (stacks.new.entries ≡ stacks.old.entries) }
-    ensures memory { IfErr result (λ e. e ≡ TraceError.OutOfMemory) }
+    ensures memory { IfErr result (WantsRoom depth (held_on stacks.old lane)) }
 {
     if let Some(stack) = stacks.get_mut(&lane.0) {
         return stack.reserve(depth);

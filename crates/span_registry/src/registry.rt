@@ -12,7 +12,7 @@ ghost use Rattle.span_registry.specs.Hooks.{registry_laws};
 ghost use Rattle.span_registry.specs.Levels.{registry_levels, unlevelled};
 ghost use Rattle.span_registry.specs.StoreRepr.{HasParent, IsParentAt, RefusesParentAt};
 ghost use Rattle.span_registry.specs.Lends.{lends_extensions};
-ghost use Rattle.span_registry.specs.Step.{Enters, Exits, Opens, RefusesEnter, RefusesNew, RefusesRelease, Releases, Removes, RetiresLate, asked, entered_last, with_entries_reserved, with_places_reserved};
+ghost use Rattle.span_registry.specs.Step.{Enters, Exits, Opens, RefusesEnter, RefusesEntries, RefusesNew, RefusesPlaces, RefusesRelease, Releases, Removes, RetiresLate, asked, entered_last, with_entries_reserved, with_places_reserved};
 ghost use Rattle.span_registry.specs.Store.{AreIssued, IsClosing, IsForest, IsFresh, IsInStore, IsOpen, new_registry, stack_on};
 ghost use Rattle.span_registry.specs.Subscriber.{registry_interest, sum_after};
 
@@ -170,10 +170,10 @@ impl Registry {
     /// Holds memory for so many places, those that hold a span or are retired among them. Until as
     /// many do, a new span isn't refused for want of memory.
     ///
-    /// Refused for want of memory alone.
+    /// Refused for want of memory alone, where it isn't held already.
     pub fn reserve(&mut self, places: u32) -> Result<(), TraceError>
         ensures reserved { OnOk result (self.new ≡ with_places_reserved self.old places) }
-        ensures memory { IfErr result (λ e. e ≡ TraceError.OutOfMemory) }
+        ensures memory { IfErr result (RefusesPlaces self.old places) }
         ensures unchanged { OnErr result (self.new ≡ self.old) }
     {
         self.spans.reserve(self.alloc, places)
@@ -182,10 +182,10 @@ impl Registry {
     /// Holds memory for so many entries on a lane's stack, those that are there among them. Until it
     /// has as many, the lane isn't refused a span for want of memory.
     ///
-    /// Refused for want of memory alone.
+    /// Refused for want of memory alone, where it isn't held already.
     pub fn reserve_entries(&mut self, lane: Lane, entries: usize) -> Result<(), TraceError>
         ensures reserved { OnOk result (self.new ≡ with_entries_reserved self.old lane entries) }
-        ensures memory { IfErr result (λ e. e ≡ TraceError.OutOfMemory) }
+        ensures memory { IfErr result (RefusesEntries self.old lane entries) }
         ensures unchanged { OnErr result (self.new ≡ self.old) }
     {
         self.stacks.reserve(self.alloc, lane, entries)

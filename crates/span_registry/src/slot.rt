@@ -31,7 +31,10 @@ impl Model for Slot {
 
     ghost Value = { SlotValue };
 
-    ghost view = { λ a. record { generation = a.generation; key = cond a.is_held (Some a.key) None } };
+    ghost view = { λ a. record {
+      generation = a.generation;
+      key = cond a.is_held (Some a.key) None;
+    } };
 }
 
 impl Slot {
@@ -191,6 +194,13 @@ impl Slots {
         ensures { MatchBool result (HasNoSlot self.now) (HasSlot self.now) }
     {
         self.free.is_empty() && self.slots.len() as u64 >= u64::from(self.limits.places)
+    }
+
+    /// For how many slots memory is held.
+    pub(crate) fn reserved(&self) -> u32
+        ensures { result ≡ self.now.reserved }
+    {
+        self.reserved
     }
 
     /// Holds memory for so many slots, with those that there are. Refused for want of memory alone.

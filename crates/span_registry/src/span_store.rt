@@ -216,13 +216,17 @@ impl SpanStore {
 
     /// Holds memory for so many spans, those that there are and the retired slots among them.
     ///
-    /// Refused for want of memory alone.
+    /// Refused for want of memory alone, where it isn't held already.
     pub(crate) fn reserve(&mut self, alloc: Global, count: u32) -> Result<(), TraceError>
         ensures reserved { OnOk result
             (self.new ≡ record self.old { reserved = max self.old.reserved count }) }
-        ensures memory { IfErr result (λ e. e ≡ TraceError.OutOfMemory) }
+        ensures memory { IfErr result
+            (λ e. (e ≡ TraceError.OutOfMemory) × (self.old.reserved < count)) }
         ensures unchanged { OnErr result (self.new ≡ self.old) }
     {
+        if count <= self.slots.reserved() {
+            return Ok(());
+        }
         let places = count as usize;
         let more = places.saturating_sub(self.records.len());
         self.records.reserve(more)?;

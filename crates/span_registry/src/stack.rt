@@ -4,7 +4,7 @@ ghost use Rattle.std.specs.Iterator.{YieldsFirstBy, item_count};
 ghost use Rattle.std.specs.Option.{option_map};
 ghost use Rattle.span_core.specs.Span.{number_of};
 ghost use Rattle.span_registry.specs.LaneStack.{leave, leaves_for_good, newest, no_entries, stands, with_entry, with_room, without_duplicates, without_entry};
-ghost use Rattle.span_registry.specs.Marks.{HoldsAll, IsAtLast, WantsEntry, ids, numbers_down, spans_to_give};
+ghost use Rattle.span_registry.specs.Marks.{HoldsAll, IsAtLast, WantsEntry, WantsRoom, ids, numbers_down, spans_to_give};
 
 use crate::bloom::Bloom;
 use crate::room::make_room;
@@ -148,12 +148,15 @@ impl LaneStack {
 
     /// Holds memory for so many entries, with those that there are.
     ///
-    /// Refused for want of memory alone.
+    /// Refused for want of memory alone, where there isn't room for as many.
     pub(crate) fn reserve(&mut self, depth: usize) -> Result<(), TraceError>
         ensures reserved { OnOk result (self.new ≡ with_room depth self.old) }
-        ensures memory { IfErr result (λ e. e ≡ TraceError.OutOfMemory) }
+        ensures memory { IfErr result (WantsRoom depth self.old) }
         ensures unchanged { OnErr result (self.new ≡ self.old) }
     {
+        if depth <= self.entries.room {
+            return Ok(());
+        }
         make_room(&mut self.distinct, depth)?;
         self.entries.reserve(depth)?;
         Ok(())

@@ -1,9 +1,10 @@
 use Rattle.std.proofs.Common.{◌∙◌, ap, ◌∷◌}
 use Rattle.span_core.specs.Span.{number_of}
 use Rattle.span_registry.specs.LaneStack.{HeldStack, with_entry}
+use Rattle.span_registry.specs.Marks.{WantsEntry}
 use Rattle.span_registry.specs.Store.{stack_on}
 use Rattle.span_registry.specs.StoreRepr.{KeptStacks, stacks_with}
-use Rattle.span_registry.proofs.LaneStacks.{first_by, first_wants, other_by, other_wants, spans_alone}
+use Rattle.span_registry.proofs.LaneStacks.{first_by, first_holds, other_by, other_holds, spans_alone}
 use Rattle.span_registry.proofs.States.{if_err_map, on_ok_map}
 use Rattle.span_registry.proofs.lane.LaneStacks.push.Goals as goal
 
@@ -20,7 +21,7 @@ returns-then-lane-eq0-clause-entered c =
 
 pub returns-then-lane-eq0-clause-memory : goal.returns-then-lane-eq0-clause-memory
 returns-then-lane-eq0-clause-memory c =
-    if_err_map c.push.result c.push.ensures.memory (λ e. first_wants c.self.inside.first c.self.inside.others.entries c.args.self.now c.args.lane.0 e c.self.view_is c.if-lane-eq0.true)
+    if_err_map c.push.result c.push.ensures.memory (λ e. first_holds (λ s. WantsEntry s e) c.self.inside.first c.self.inside.others.entries c.args.self.now c.args.lane.0 c.self.view_is c.if-lane-eq0.true)
 
 pub returns-clause-entered : goal.returns-clause-entered
 returns-clause-entered c =
@@ -34,4 +35,4 @@ returns-clause-entered c =
 
 pub returns-clause-memory : goal.returns-clause-memory
 returns-clause-memory c =
-    if_err_map c.push_on.result c.push_on.ensures.memory (λ e. other_wants c.self.inside.first c.self.inside.others c.args.self.now c.args.lane e c.self.view_is c.if-lane-eq0.false)
+    if_err_map c.push_on.result c.push_on.ensures.memory (λ e. other_holds (λ s. WantsEntry s e) c.self.inside.first c.self.inside.others c.args.self.now c.args.lane c.self.view_is c.if-lane-eq0.false)
