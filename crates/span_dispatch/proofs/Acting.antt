@@ -9,15 +9,15 @@ use Rattle.span_core.specs.declared.metadata.Metadata.{Metadata}
 use Rattle.span_core.specs.declared.span.Lane.{Lane}
 use Rattle.span_core.specs.declared.span.Parent.{Parent}
 use Rattle.span_core.specs.declared.span.Parent.TheVariants.{Contextual, Explicit, Root}
-use Rattle.span_dispatch.specs.Alone.{Alone, acting, learning, form_of_path, passed}
-use Rattle.span_dispatch.specs.Isolation.{ActAlike, PathsActAlike, SeeTheSame, Sight}
+use Rattle.span_dispatch.specs.Alone.{ActAlike, Alone, PathsActAlike, acting, learning, form_of_path, passed}
 use Rattle.span_dispatch.specs.Outcome.{GoneLeft, HandleAdded, HandleTaken, LevelSet, Noticed, Outcome, Quiet, Steps, given_in, with_new}
 use Rattle.std.specs.FinSet.{contains}
 use Rattle.span_layers.specs.Verdict.{in_verdict}
 use Rattle.span_registry.proofs.Agreeing.{closing_alike, held_alike, not_open_alike, open_alike, added_agrees, entered_agrees, exited_agrees, new_agrees, parent_alike, passed_alike, taken_agrees, views_alike, without_agrees}
 use Rattle.span_registry.proofs.Agreeing.{SpansAgree}
+use Rattle.span_registry.proofs.CallerLemmas.{histories_alike}
 use Rattle.span_registry.specs.Agree.{AgreeAt}
-use Rattle.span_registry.specs.Behaviour.{Behaviour, AreAlike, AreAlikeHistories, ArePlain, Conduct, History, IsPlain, OfLevel, Notice, OnClose, OnEnter, OnEvent, OnExit, OnFollows, OnIdChange, OnNewSpan, OnRecord, OfNotice}
+use Rattle.span_registry.specs.Behaviour.{Behaviour, AreAlike, ArePlain, Conduct, IsPlain, OfLevel, Notice, OnClose, OnEnter, OnEvent, OnExit, OnFollows, OnIdChange, OnNewSpan, OnRecord, OfNotice}
 use Rattle.span_registry.specs.Closes.{without}
 use Rattle.span_registry.specs.Conducts.{ArePlainConducts, Conducts, after_level, after_notice, filter_numbered, numbers_in, path_now, setting}
 use Rattle.span_registry.specs.Hooks.{no_filter}
@@ -32,20 +32,12 @@ use Rattle.span_registry.specs.View.{View, view_of}
 
 -- ---- filters that act alike
 
-view_itself : (v : View) → AreAlike v v
-view_itself v = record { lane = refl; stack = refl; spans = λ x. refl }
-
-history_itself : (h : History) → AreAlikeHistories h h
-history_itself [] = tt
-history_itself (OfNotice e v ∷ h) = (refl, view_itself v, history_itself h)
-history_itself (OfLevel l ∷ h) = (refl, history_itself h)
-
 -- extensions make no difference to it
 itself_alike : (b : Conduct) → IsPlain b → ActAlike b b
 itself_alike b p = record { plain = p.answers; same = p.history }
 
 further_alike : (b c d : Conduct) → ActAlike b c → ActAlike c d → ActAlike b d
-further_alike b c d p q = record { plain = p.plain; same = λ h k a. p.same h k a ∙ q.same k k (history_itself k) }
+further_alike b c d p q = record { plain = p.plain; same = λ h k a. p.same h k a ∙ q.same k k (histories_alike k) }
 
 pub after_notice_alike : (e : Notice) (v w : View) (b c : Conduct) → AreAlike v w → ActAlike b c → ActAlike (after_notice e v b) (after_notice e w c)
 after_notice_alike (OnNewSpan attrs id) v w b c a p = record { plain = λ h. p.plain (OfNotice (OnNewSpan attrs id) v ∷ h); same = λ h k s. p.same (OfNotice (OnNewSpan attrs id) v ∷ h) (OfNotice (OnNewSpan attrs id) w ∷ k) (refl, a, s) }
@@ -250,7 +242,7 @@ pub given_alike : (numbers : FilterSet) (e : Notice) (s t u v : Store) → Agree
 given_alike numbers (OnClose id) s t u v before after = before
 given_alike numbers other s t u v before after = after
 
-acting_alike : (cs ds : Conducts) (o : Outcome) (s t u v : Store) → PathsActAlike cs ds → AgreeAt (numbers_in cs) s t → AgreeAt (numbers_in cs) u v → PathsActAlike (acting cs o s u) (acting ds o t v)
+pub acting_alike : (cs ds : Conducts) (o : Outcome) (s t u v : Store) → PathsActAlike cs ds → AgreeAt (numbers_in cs) s t → AgreeAt (numbers_in cs) u v → PathsActAlike (acting cs o s u) (acting ds o t v)
 acting_alike cs ds (Noticed lane e) s t u v p before after =
     let numbers = numbers_in cs in
     learnt_alike numbers cs ds e s t (given_in e s u) (given_in e t v) lane.0 no_filter before (given_alike numbers e s t u v before after) p (itself_within numbers) (none_within numbers)
@@ -280,7 +272,7 @@ one_context s lane (Some x) None h k = absurd (no_other_context s lane x h k)
 one_context s lane (Some x) (Some y) h k = sym h.0 ∙ k.0
 
 -- a new span gets one parent
-one_parent : (s : Store) (lane : Lane) (asked : Parent) (o p : Option ℕ) → IsParentFor s lane asked o → IsParentFor s lane asked p → o ≡ p
+pub one_parent : (s : Store) (lane : Lane) (asked : Parent) (o p : Option ℕ) → IsParentFor s lane asked o → IsParentFor s lane asked p → o ≡ p
 one_parent s lane Root o p h k = h ∙ sym k
 one_parent s lane Contextual o p h k = one_context s lane o p h k
 one_parent s lane (Explicit x) o p h k = h.0 ∙ sym k.0
@@ -346,7 +338,7 @@ step_over cs ds other s t u p agree h = (t, refl)
 
 -- ---- what is seen alone
 
-after_agrees : (cs : Conducts) (o : Outcome) (s u v : Store) → AgreeAt (numbers_in cs) u v → AgreeAt (numbers_in (acting cs o s u)) u v
+pub after_agrees : (cs : Conducts) (o : Outcome) (s u v : Store) → AgreeAt (numbers_in cs) u v → AgreeAt (numbers_in (acting cs o s u)) u v
 after_agrees cs o s u v h = subst (λ (numbers : FilterSet). AgreeAt numbers u v) (sym (acting_numbers cs o s u)) h
 
 -- what is seen alone behind the ones is seen alone behind the others
@@ -361,17 +353,3 @@ alone_over cs ds s t (o ∷ outcomes) h p agree a =
       alone_over (acting cs o s a.0) (acting ds o t step.0) a.0 step.0 outcomes a.1 (acting_alike cs ds o s t a.0 step.0 p agree after) (after_agrees cs o s a.0 step.0 after) a.3,
       a.4 ∙ ap (λ (first : Heard). first ++ a.1) (passed_both cs ds o s t a.0 step.0 p agree after),
     )
-
--- and nothing else is
-pub one_alone : SeeTheSame Alone Alone
-one_alone cs ds s t [] h k a b p agree = a ∙ sym b
-one_alone cs ds s t (o ∷ outcomes) h k a b p agree =
-    let after = steps_agree cs ds o s t a.0 b.0 p agree a.2 b.2 in
-    let rest = one_alone (acting cs o s a.0) (acting ds o t b.0) a.0 b.0 outcomes a.1 b.1 a.3 b.3 (acting_alike cs ds o s t a.0 b.0 p agree after) (after_agrees cs o s a.0 b.0 after) in
-    let first = passed_both cs ds o s t a.0 b.0 p agree after in
-    a.4 ∙ (λ i. first i ++ rest i) ∙ sym b.4
-
--- where each of two sees alone what it sees, both see the same
-pub both_alone : (Sees Other : Sight (List Outcome)) → ((cs : Conducts) (s : Store) (outcomes : List Outcome) (h : Heard) → Sees cs s outcomes h → Alone cs s outcomes h) → ((cs : Conducts) (s : Store) (outcomes : List Outcome) (h : Heard) → Other cs s outcomes h → Alone cs s outcomes h)
-    → SeeTheSame Sees Other
-both_alone Sees Other first second cs ds s t outcomes h k a b p agree = one_alone cs ds s t outcomes h k (first cs s outcomes h a) (second ds t outcomes k b) p agree

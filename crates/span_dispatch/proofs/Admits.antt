@@ -1,13 +1,13 @@
 -- Which interest a cache gives, and what comes of it.
 use Rattle.std.proofs.Common.{◌≡◌, ◌&&◌, ◌-◌, ℕ, Bool, true, false, not, ◌==◌, if◌then◌else◌, Option, Some, None, Result, Ok, Err, inl, inr, refl, sym, ap, subst, ◌∙◌}
-use Rattle.std.proofs.lemmas.Bool.{eqb-true, false≢true, true≢false}
+use Rattle.std.proofs.lemmas.Bool.{eqb-true, false≢true, not-false, not-true, true≢false}
 use Rattle.std.specs.Prelude.{IfErr, IsSome, OnErr, OnOk, is_some}
 use Rattle.std.specs.Option.{option_map}
 use Rattle.span_core.specs.Filters.{FilterSet, IsEmpty}
 use Rattle.span_core.specs.Level.{is_above}
 use Rattle.span_core.specs.Metadata.{ShowSame, callsite_of, level_of}
 use Rattle.span_core.specs.Pass.{interest_sum}
-use Rattle.span_core.specs.declared.error.TraceError.TheVariants.{CallsiteMismatch, OutOfMemory}
+use Rattle.span_core.specs.declared.error.TraceError.TheVariants.{OutOfMemory}
 use Rattle.span_core.specs.declared.error.TraceError.{TraceError}
 use Rattle.span_core.specs.declared.interest.Interest.TheVariants.{Always, Never, Sometimes}
 use Rattle.span_core.specs.declared.interest.Interest.{Interest}
@@ -16,7 +16,7 @@ use Rattle.span_core.specs.declared.pass.Pass.{Pass}
 use Rattle.span_core.specs.declared.span.Lane.{Lane}
 use Rattle.span_dispatch.specs.Admission.{GivesInterest, HasInterestBy, IsAdmitted, IsDecided, IsInterestBy, MayLearn, interests_nobody, is_above_hint, is_let_by, learned_if}
 use Rattle.span_dispatch.specs.Cache.{Callsites, MatchesStack, KeptCallsites, ReadHint, ReadsOnce, RefusesBelow, RefusesInterest, callsites_of, hint_in, is_above_read, kept_in, known_of, no_callsite, with_callsite}
-use Rattle.span_dispatch.specs.declared.cache.Cache.TheVariants.{Empty, Filled, Off}
+use Rattle.span_dispatch.specs.declared.cache.Cache.TheVariants.{Empty, Filled}
 use Rattle.span_dispatch.specs.declared.cache.Cache.{Cache}
 use Rattle.span_dispatch.specs.declared.cache.Callsite.{Callsite}
 use Rattle.span_dispatch.specs.declared.cache.Known.{Known}
@@ -70,13 +70,9 @@ module _ (memory : KeptCallsites) (f : Form) (s : RegistryState) (lane : Lane) (
     learned = h.learned;
   }
     where
-      not_true : (b : Bool) → not b ≡ false → b ≡ true
-      not_true true n = refl
-      not_true false n = sym n
-
       by_hint : (b : Bool) → is_above_hint memory f m ≡ b → is_let_by memory f s.filters m ≡ false → IsUnwanted f m s.store lane.0
       by_hint true above out = unwanted_above memory f s lane m honest above
-      by_hint false below out = unwanted_never memory f s lane m honest (not_true _ (sym (ap (λ a. not a && not (interests_nobody memory f s.filters m)) below) ∙ out))
+      by_hint false below out = unwanted_never memory f s lane m honest (not-false _ (sym (ap (λ a. not a && not (interests_nobody memory f s.filters m)) below) ∙ out))
 
   -- never: they are ruled out
   pub admits_never : (pass : Pass) (i : Interest) → IsInterestBy memory f s.filters m after i → i ≡ Never → IsAdmitted memory f s lane m pass after (Ok false)
@@ -138,38 +134,14 @@ let_by_below false given drops e = refl
 
 -- a level that passes is not above
 pub passes_below : (passes above : Bool) → passes ≡ not above → passes ≡ true → above ≡ false
-passes_below true above e f = not_false above (sym e)
-  where
-    not_false : (b : Bool) → not b ≡ true → b ≡ false
-    not_false true h = sym h
-    not_false false h = refl
+passes_below true above e f = not-true above (sym e)
 passes_below false above e f = absurd (false≢true f)
 
 pub fails_above : (passes above : Bool) → passes ≡ not above → passes ≡ false → above ≡ true
 fails_above true above e f = absurd (true≢false f)
-fails_above false above e f = not_true above (sym e)
-  where
-    not_true : (b : Bool) → not b ≡ false → b ≡ true
-    not_true true h = refl
-    not_true false h = sym h
+fails_above false above e f = not-false above (sym e)
 
 module _ {S : Type 0} (registry : S → RegistryState) (has_form : S → Form → Type 0) (x : S) (m : Metadata) where
-  -- nothing is ever kept
-  pub gives_off : GivesInterest registry has_form x m (Ok Sometimes) Off Off
-  gives_off = record {
-    off = λ e. refl;
-    learns = inl refl;
-    keeps = refl;
-    leaves = tt;
-    reads = refl;
-    above = λ e. absurd (false≢true e);
-    mismatch = λ r. absurd r.1;
-    refused = tt;
-    by_form = λ f d h u. record { above = λ e. absurd (false≢true e); agrees = λ e. tt; never = λ e. refl; always = λ e. absurd (cc); learned = refl };
-    kept = λ f d u. tt;
-    lasts = λ n one e. e;
-  }
-
   -- the level is above the hint
   pub gives_above : (k : Known) → is_above (level_of m) k.hint ≡ true → GivesInterest registry has_form x m (Ok Never) (Filled k) (Filled k)
   gives_above k e = record {
@@ -236,22 +208,6 @@ module _ {S : Type 0} (registry : S → RegistryState) (has_form : S → Form �
 
       shown : (other : Metadata) → (callsites_of k).known (callsite_of m) ≡ Some other → ShowSame other m
       shown other e = let which : Some other ≡ Some one.metadata = sym e ∙ there in let it : other ≡ one.metadata = cc in subst (λ z. ShowSame z m) (sym it) same
-
-  -- it is kept with other metadata
-  pub gives_mismatch : (k : Known) (one : Callsite) → is_above (level_of m) k.hint ≡ false → known_of k (callsite_of m) ≡ Some one → ¬ (ShowSame one.metadata m) → GivesInterest registry has_form x m (Err CallsiteMismatch) (Filled k) (Filled k)
-  gives_mismatch k one passes at other = record {
-    off = λ o. absurd (cc);
-    learns = inl refl;
-    keeps = tt;
-    leaves = refl;
-    reads = refl;
-    above = λ a. absurd (false≢true (sym passes ∙ a));
-    mismatch = λ r. refl;
-    refused = (passes, (one.metadata, ap (option_map (λ (c : Callsite). c.metadata)) at, other));
-    by_form = λ f d h u. (ap (is_above (level_of m)) (sym u.hint) ∙ passes, refl);
-    kept = λ f d u. u;
-    lasts = λ n one e. e;
-  }
 
   -- it isn't kept, no memory is held for it, and memory was refused
   pub gives_no_memory : (k l : Known) → is_above (level_of m) k.hint ≡ false → known_of k (callsite_of m) ≡ None → k.room ≡ 0 → l.hint ≡ k.hint → l.room ≡ k.room → ((n : ℕ) → known_of l n ≡ known_of k n)

@@ -13,8 +13,7 @@ use Rattle.span_core.specs.declared.span.Lane.{Lane}
 use Rattle.span_dispatch.proofs.Goes.{SameAside, left_aside, same_aside}
 use Rattle.span_dispatch.proofs.Acting.{acting_numbers, after_notice_alike, alone_over, given_alike, itself_within, learnt_alike, new_stores_agree, none_within, passed_both, paths_further, paths_itself, same_numbers}
 use Rattle.span_dispatch.proofs.Seen.{beneath, goes_through, some_path}
-use Rattle.span_dispatch.specs.Alone.{Alone, acting, learning, form_of_path, passed, passed_at}
-use Rattle.span_dispatch.specs.Isolation.{ActAlike, PathsActAlike, SeesMade, SeesServed}
+use Rattle.span_dispatch.specs.Alone.{ActAlike, Alone, PathsActAlike, acting, learning, form_of_path, passed, passed_at}
 use Rattle.span_dispatch.specs.Outcome.{IsVerdict, LayersGo, LevelSet, OutcomeAt, Makes, Noticed, Outcome, Quiet, Steps, given_in, with_new}
 use Rattle.std.specs.FinMap.{get}
 use Rattle.span_dispatch.specs.Serve.{Sees, outcome_of}
@@ -28,7 +27,7 @@ use Rattle.span_registry.specs.Form.{Terminal, Filtered, Form, Leaf, Parts}
 use Rattle.span_registry.specs.Hooks.{StackLaws, StackSteps, no_filter}
 use Rattle.span_registry.specs.Levels.{LevelLaws, LevelSteps}
 use Rattle.span_registry.specs.Path.{Path, mask_of, passes_path, path_at}
-use Rattle.span_registry.specs.Position.{HearSteps, Heard, Here, Inner, Outer, Position, Under, told_in}
+use Rattle.span_registry.specs.Position.{HearSteps, Here, Inner, Outer, Position, Under, told_in}
 use Rattle.span_registry.specs.Plan.{Itself, Nobody, Plan, Through, asked_afresh, passes}
 use Rattle.span_registry.specs.Question.{single}
 use Rattle.span_registry.specs.Step.{begun}
@@ -302,10 +301,6 @@ passed_alone path cs (Noticed lane e) s t alike =
     λ i. if paths_pass_same path (path_now cs) e s lane.0 no_filter alike i then told_in e (given_in e s t) lane.0 (masks_same path (path_now cs) no_filter alike i) ∷ [] else []
 passed_alone path cs other s t alike = refl
 
-seen_so : (cs : Conducts) {s t : Store} {outcomes others : List Outcome} {h k : Heard} → s ≡ t → outcomes ≡ others → h ≡ k → Alone cs s outcomes h → Alone cs t others k
-seen_so cs {s} {t} {outcomes} {others} {h} {k} e f g a =
-    subst (λ (x : Store). Alone cs x others k) e (subst (λ (x : List Outcome). Alone cs s x k) f (subst (λ (x : Heard). Alone cs s outcomes x) g a))
-
 module _ {S : Type 0} (registry : S → RegistryState) {with_registry : S → RegistryState → S} {has_form : S → Form → Type 0} {stepped : StackSteps S} {levelled : LevelSteps S} {registered : S → S → Type 0} {hears : HearSteps S} {acts_at : ActsAt S}
     (paths : StackPathLaws with_registry has_form stepped registered acts_at) (levels : LevelLaws has_form levelled hears acts_at) where
   -- what was made leaves, alone: a store that agrees, conducts as they are learnt from it, and what is told in the store that it is given in
@@ -350,7 +345,7 @@ module _ {S : Type 0} (registry : S → RegistryState) {with_registry : S → Re
       (t, steps, agree_sym numbers t (registry y).store (agree_same numbers t (registry y).store aside), setting n l cs, later, paths_itself (setting n l cs) (paths.plain y position (setting n l cs) later), refl)
 
   -- on the stack's own store
-  sees_own : (x : S) (ms : List OutcomeAt) (y : S) (position : Position) (cs : Conducts) → FoldsTo (Makes registry with_registry has_form stepped levelled) x ms y → acts_at x position cs → Alone cs (registry x).store (map outcome_of ms) (passed_at position ms)
+  pub sees_own : (x : S) (ms : List OutcomeAt) (y : S) (position : Position) (cs : Conducts) → FoldsTo (Makes registry with_registry has_form stepped levelled) x ms y → acts_at x position cs → Alone cs (registry x).store (map outcome_of ms) (passed_at position ms)
   sees_own x [] y position cs h acts = refl
   sees_own x (m ∷ ms) y position cs h acts =
       let made = h.1 in
@@ -373,13 +368,6 @@ module _ {S : Type 0} (registry : S → RegistryState) {with_registry : S → Re
   pub sees_alone : (x : S) (made : List OutcomeAt) (y : S) → FoldsTo (Makes registry with_registry has_form stepped levelled) x made y
       → (position : Position) (cs : Conducts) (s : Store) → acts_at x position cs → AgreeAt (numbers_in cs) (registry x).store s → Alone cs s (map outcome_of made) (passed_at position made)
   sees_alone x made y h position cs s acts agree = alone_over cs cs (registry x).store s (map outcome_of made) (passed_at position made) (paths_itself cs (paths.plain x position cs acts)) agree (sees_own x made y position cs h acts)
-
-  -- so whatever is seen in a stack is seen alone
-  pub seen_made : (cs : Conducts) (s : Store) (outcomes : List Outcome) (h : Heard) → SeesMade registry with_registry has_form stepped levelled acts_at cs s outcomes h → Alone cs s outcomes h
-  seen_made cs s outcomes h m = seen_so cs m.at_store m.at_outcomes m.sees (sees_own m.old m.made m.new m.position cs m.goes m.acts)
-
-  pub seen_served : (cs : Conducts) (s : Store) (outcomes : List Outcome) (h : Heard) → SeesServed registry with_registry has_form stepped levelled hears acts_at cs s outcomes h → Alone cs s outcomes h
-  seen_served cs s outcomes h m = seen_so cs m.at_store m.at_outcomes m.sees (m.served.alone m.position cs m.acts)
 
 module _ {S : Type 0} (registry : S → RegistryState) {with_registry : S → RegistryState → S} {usable : S → Type 0} {has_form : S → Form → Type 0} {stepped : StackSteps S} {levelled : LevelSteps S} {hears : HearSteps S} {registered : S → S → Type 0} {acts_at : ActsAt S}
     (laws : StackLaws with_registry usable has_form stepped hears registered) (paths : StackPathLaws with_registry has_form stepped registered acts_at) (levels : LevelLaws has_form levelled hears acts_at) where

@@ -1,6 +1,6 @@
 -- How each call of a dispatcher is served, from what the stack's own calls say.
 use Rattle.std.proofs.Common.{◌≡◌, ◌&&◌, ℕ, Bool, true, false, not, ◌||◌, List, [], ◌∷◌, ◌++◌, map, Option, Some, None, Result, Ok, Err, inl, inr, IfSome, IfErr, IfOk, OnOk, OnErr, ◌<◌, refl, sym, ap, subst, ◌∙◌}
-use Rattle.std.proofs.lemmas.Bool.{true≢false}
+use Rattle.std.proofs.lemmas.Bool.{not-true, true≢false}
 use Rattle.span_core.specs.Event.{event_metadata}
 use Rattle.span_core.specs.Filters.{FilterSet}
 use Rattle.span_core.specs.Pass.{refused_of}
@@ -18,9 +18,8 @@ use Rattle.span_core.specs.declared.span.Record.{Record}
 use Rattle.span_dispatch.proofs.Goes.{with_others, Done, SameAside, StepsTo, StillReady, aside_state, by_call, by_change, by_none, changed, ended_by, filters_same, honest_after, honest_quietly, its_own, keeps_again, same_aside, settled_aside}
 use Rattle.span_dispatch.specs.Admission.{IsAdmitted, IsDecided}
 use Rattle.span_dispatch.specs.Cache.{KeptCallsites}
-use Rattle.span_dispatch.specs.Call.{AnswersWith, HasRoomFor, closes_of, current_answer, done_answer, vetoes_whole, yes_answer}
+use Rattle.span_dispatch.specs.Call.{OutcomesOf, AnswersWith, HasRoomFor, closes_of, current_answer, done_answer, vetoes_whole, yes_answer}
 use Rattle.span_dispatch.specs.declared.call.Call.TheVariants.{AddHandle, AskCurrent, DropHandle, Enter, Exit, Follow, OpenSpan, Probe, RecordValues, SendEvent}
-use Rattle.span_dispatch.specs.Effect.{OutcomesOf}
 use Rattle.span_dispatch.specs.Outcome.{GoneLeft, HandleAdded, HandleTaken, IsHonest, IsVerdict, Ends, OutcomeAt, Makes, Noticed, Notices, Outcome, Quiet, Steps, given_in, with_new, without_span}
 use Rattle.span_core.specs.declared.filter.FilterMap.{FilterMap}
 use Rattle.span_dispatch.specs.Serve.{ClosesEach, IsReady, outcome_of}
@@ -47,14 +46,6 @@ use Rattle.span_registry.specs.declared.registry.Released.{Released}
 use Rattle.span_registry.specs.declared.registry.Released.TheVariants.{Closing, StillOpen}
 use Rattle.span_registry.proofs.CallerLemmas.{closes_itself, closes_with_hooks, drops_open, hooks_alone, next_is_closing, settled_cloned, settled_closed, settled_opened, settled_still}
 use Rattle.std.specs.List.{FoldsTo}
-
-not_true : (b : Bool) → not b ≡ true → b ≡ false
-not_true true h = sym h
-not_true false h = refl
-
-not_false : (b : Bool) → not b ≡ false → b ≡ true
-not_false true h = refl
-not_false false h = sym h
 
 -- ---- what the registry's own step makes of a notice
 
@@ -166,7 +157,7 @@ module _ {S : Type 0} {registry : S → RegistryState} {with_registry : S → Re
   event_made lane e m first second wanted f x y same a agreed b n h =
       let s = (registry x).store in
       let d = subst (λ n. asked f n s lane.0 no_filter no_filter ≡ (true, refusals first)) same a in
-      let unvetoed_now = not_true _ (sym (wanted_or_vetoed f x lane e first second wanted h b) ∙ agreed) in
+      let unvetoed_now = not-true _ (sym (wanted_or_vetoed f x lane e first second wanted h b) ∙ agreed) in
       let asked_first = (asked f (event_metadata e) s lane.0 no_filter no_filter).1 in
       let true_of_all = event_unless_vetoed f e s lane.0 asked_first (rules_of f _ h.rules).orderly ∙ ap not unvetoed_now in
       let law = event_fresh f e s lane.0 h.rules.numbers.distinct (ap (λ (p : Bool × FilterSet). p.0) d) true_of_all in

@@ -10,10 +10,9 @@ use Rattle.span_core.specs.declared.interest.Interest.{Interest}
 use Rattle.span_core.specs.declared.span.Id.{Id}
 use Rattle.span_core.specs.declared.span.Lane.{Lane}
 use Rattle.span_dispatch.specs.Cache.{KeptCallsites, MatchesStack, IsUpToDate, forgotten, kept_in, no_callsite}
-use Rattle.span_dispatch.specs.Call.{AnswersWith}
+use Rattle.span_dispatch.specs.Call.{OutcomesOf, AnswersWith}
 use Rattle.span_dispatch.specs.declared.call.Call.{Call}
 use Rattle.span_dispatch.specs.declared.call.Call.TheVariants.{SetLevel}
-use Rattle.span_dispatch.specs.Effect.{OutcomesOf}
 use Rattle.span_dispatch.specs.Outcome.{Change, Ends, without_span, IsHonest, LayersGo, LevelSet, OutcomeAt, Makes, Noticed, Notices, Outcome, Quiet, Steps, given_in}
 use Rattle.span_dispatch.specs.Serve.{IsReady, IsReadyAfter, IsReadyBy, IsServed, stack_of}
 use Rattle.span_dispatch.specs.declared.cache.Cache.TheVariants as cache

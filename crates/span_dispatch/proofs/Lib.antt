@@ -1,20 +1,17 @@
-mod Acting
+pub mod Acting
 pub mod Admits
 pub mod Alone
+mod Asked
 mod Calls
 pub mod CallerLemmas
-pub mod Effect
 pub mod Fixed
 pub mod Goes
-mod Journalled
-mod KeptHint
-mod Legal
 pub mod Once
 mod Readable
-mod Ready
+pub mod Ready
 mod Registered
 pub mod Seen
 mod Sends
 mod Served
-mod Stores
+pub mod Stores
 mod Recording

@@ -1,6 +1,6 @@
 -- What each call does to the store, whatever the stack answers.
 use Rattle.std.proofs.Common.{◌≡◌, ◌<◌, ℕ, Bool, true, false, ◌&&◌, List, [], Option, Some, None, MatchOption, Result, Ok, Err, IfOk, OnOk, refl, sym, ap, subst, ◌∙◌}
-use Rattle.std.proofs.lemmas.Bool.{true≢false}
+use Rattle.std.proofs.lemmas.Bool.{and_from, true≢false}
 use Rattle.span_core.specs.Span.{asked_parent, number_of}
 use Rattle.span_core.specs.declared.error.TraceError.{TraceError}
 use Rattle.span_core.specs.Pass.{refused_of}
@@ -35,10 +35,6 @@ use Rattle.span_registry.specs.declared.registry.Released.{Released}
 pub on_ok : {A : Type 0} {P Q : Type 0} (r : Result A TraceError) → (A → P → Q) → OnOk r P → OnOk r Q
 on_ok (Ok a) f h = f a h
 on_ok (Err e) f h = tt
-
-both_true : (p q : Bool) → p ≡ true → q ≡ true → true ≡ p && q
-both_true true q a b = sym b
-both_true false q a b = sym a
 
 first_false : (p q : Bool) → p ≡ false → false ≡ p && q
 first_false true q a = absurd (true≢false a)
@@ -94,7 +90,7 @@ module _ {S : Type 0} (registry : S → RegistryState) (has_form : S → Form �
   pub event_wanted : (memory : KeptCallsites) (e : Event) (m : Metadata) (fresh first second : Pass) (said wanted : Bool) → m ≡ event_metadata e → IsEmpty (refusals fresh) → said ≡ true → wanted ≡ true
       → (memory ≡ None → AnswersEnabled registry has_form x lane m fresh said first) → AnswersEvent registry has_form x lane e first wanted second → WantedEvent memory e true
   event_wanted memory e m fresh first second said wanted same empty agreed more a b = λ none f d.
-      both_true _ _ (sym (asked_same f m (event_metadata e) fresh same empty) ∙ sym (a none f d).answer ∙ agreed) (asked_second f e m fresh first second said wanted d same empty (a none) b ∙ more)
+      sym (and_from _ _ (sym (asked_same f m (event_metadata e) fresh same empty) ∙ sym (a none f d).answer ∙ agreed) (asked_second f e m fresh first second said wanted d same empty (a none) b ∙ more))
 
 -- a handle was added where there was room for it
 pub room_to_clone : (lane : Lane) (id : Id) (r : Result Id TraceError) (s t : RegistryState) → OnOk r (Clones id s t) → IfOk r (λ other. handles_of s.store.spans (number_of id) < s.limits.count)
@@ -102,10 +98,6 @@ room_to_clone lane id (Ok other) s t n = n.room
 room_to_clone lane id (Err e) s t n = tt
 
 module _ {S : Type 0} (registry : S → RegistryState) where
-  -- a span is opened with the pass's refusals for its verdict
-  pub opened_store : {has_form : S → Form → Type 0} {stepped : StackSteps S} (lane : Lane) (attrs : Attributes) (pass : Pass) (x y : S) (id : Id) → OpensAndNotifies registry has_form stepped lane attrs pass x y id → AndHooks registry (OpensFor lane attrs id) x y
-  opened_store lane attrs pass x y id n = record { stepped = n.left; taken = (refused_of pass, n.taken); hooks = n.extensions }
-
   -- the same, with the verdict named
   pub opened_by : {has_form : S → Form → Type 0} {stepped : StackSteps S} (lane : Lane) (attrs : Attributes) (pass : Pass) (x y : S) (id : Id) → OpensAndNotifies registry has_form stepped lane attrs pass x y id → AndHooks registry (Opens lane (step.asked attrs pass) id) x y
   opened_by lane attrs pass x y id n = record { stepped = n.left; taken = n.taken; hooks = n.extensions }
@@ -113,9 +105,6 @@ module _ {S : Type 0} (registry : S → RegistryState) where
   -- so there was room for it
   pub room_for : {has_form : S → Form → Type 0} {stepped : StackSteps S} (lane : Lane) (attrs : Attributes) (pass : Pass) (x y : S) (id : Id) → OpensAndNotifies registry has_form stepped lane attrs pass x y id → HasRoomFor (registry x) lane (asked_parent attrs)
   room_for lane attrs pass x y id n = ((n.taken.parent, n.taken.finds), n.taken.place)
-
-  pub opened_for : (lane : Lane) (attrs : Attributes) (pass : Pass) (x y : S) (id : Id) → AndHooks registry (Opens lane (step.asked attrs pass) id) x y → AndHooks registry (OpensFor lane attrs id) x y
-  opened_for lane attrs pass x y id h = record { stepped = h.stepped; taken = (refused_of pass, h.taken); hooks = h.hooks }
 
   pub opened_by_pass : (lane : Lane) (attrs : Attributes) (pass : Pass) (old new : Dispatch S) (r : Result (Option Id) TraceError)
       → IfOk r (λ made. MatchOption made (stack_of new ≡ stack_of old) (λ id. AndHooks registry (Opens lane (step.asked attrs pass) id) (stack_of old) (stack_of new)))

@@ -1,9 +1,9 @@
 -- What a leaf sees of what was made; and what it would see if it and the filters round it stood alone, with no other layer or filter beside them.
-use Rattle.std.specs.Prelude.{◌≡◌, ℕ, if◌then◌else◌, List, [], ◌∷◌, ◌++◌, Option, Some, None}
+use Rattle.std.specs.Prelude.{◌≡◌, ⊤, ℕ, if◌then◌else◌, List, [], ◌∷◌, ◌++◌, Option, Some, None}
 use Rattle.std.specs.List.{flat_map}
 use Rattle.span_core.specs.Filters.{FilterSet, union}
 use Rattle.span_dispatch.specs.Outcome.{LevelSet, OutcomeAt, Noticed, Outcome, Quiet, Steps, given_in}
-use Rattle.span_registry.specs.Behaviour.{Notice}
+use Rattle.span_registry.specs.Behaviour.{AreAlikeHistories, ArePlain, Conduct, History, Notice}
 use Rattle.span_registry.specs.Conducts.{Conducts, after_notice, path_now, setting}
 use Rattle.span_registry.specs.Form.{End, Filtered, Form, Terminal}
 use Rattle.span_registry.specs.Hooks.{no_filter}
@@ -56,3 +56,16 @@ Alone cs s (o ∷ outcomes) heard =
     (t : Store) × (rest : Heard) × Steps (form_of_path (path_now cs)) o s t
     × Alone (acting cs o s t) t outcomes rest
     × (heard ≡ passed (Some (path_now cs)) o s t ++ rest)
+
+-- Below: filters that act alike, whatever extensions hold.
+
+-- extensions make no difference to the first, and after histories that are alike the two answer the same
+pub record ActAlike (b c : Conduct) : Type 0 where
+  pub plain : (h : History) → ArePlain (b h)
+  pub same : (h k : History) → AreAlikeHistories h k → b h ≡ c k
+
+-- filters of the same numbers stand on both paths, and act alike
+abbrev pub PathsActAlike : Conducts → Conducts → Type 0
+PathsActAlike [] [] = ⊤
+PathsActAlike ((n, b) ∷ cs) ((m, c) ∷ ds) = (n ≡ m) × ActAlike b c × PathsActAlike cs ds
+PathsActAlike cs ds = ⊥

@@ -14,13 +14,13 @@ use Rattle.span_core.specs.declared.span.Lane.{Lane}
 use Rattle.span_core.specs.declared.span.Parent.{Parent}
 use Rattle.span_dispatch.specs.Admission.{IsDecided, IsUnknown}
 use Rattle.span_dispatch.specs.Cache.{KeptCallsites, no_callsite}
-use Rattle.span_dispatch.specs.Outcome.{HandleTaken, GoneLeft, Noticed, Outcome, Quiet}
+use Rattle.span_dispatch.specs.Outcome.{HandleAdded, HandleTaken, GoneLeft, LevelSet, Noticed, Outcome, Quiet}
 use Rattle.span_dispatch.specs.declared.call.Call.TheVariants.{AddHandle, AskCurrent, DropHandle, Enter, Exit, Follow, OpenSpan, Probe, RecordValues, SendEvent, SetLevel}
 use Rattle.span_dispatch.specs.declared.call.Call.{Call}
 use Rattle.span_dispatch.specs.declared.request.Answer.TheVariants as answer
 use Rattle.span_dispatch.specs.declared.request.Answer.{Answer}
 use Rattle.span_layers.specs.Verdict.{vetoes, vetoes_event}
-use Rattle.span_registry.specs.Behaviour.{OnClose, OnExit}
+use Rattle.span_registry.specs.Behaviour.{OnClose, OnEnter, OnEvent, OnExit, OnFollows, OnNewSpan, OnRecord}
 use Rattle.span_registry.specs.Closes.{AreUnheld, Member}
 use Rattle.span_registry.specs.Form.{Form}
 use Rattle.span_registry.specs.Levels.{takes_level}
@@ -51,6 +51,24 @@ pub record DropsHandle (lane : Lane) (id : Id) (s : Store) (closes : Bool)
   pub exact : AreUnheld (take_handle s.spans (number_of id)) closed
   pub outcomes : os ≡ Quiet (HandleTaken id) ∷ map (λ x. Noticed lane (OnClose (id_of x))) closed
   pub itself : IsTrue closes ↔ Member (number_of id) closed
+
+-- what comes of a call that was answered so, on a store: nothing of what was dropped or refused, of probes and of looks
+-- at the current span; no call gets the answer of another kind of call, dropped and refused aside
+abbrev pub OutcomesOf : Call → Answer → Store → List Outcome → Type 0
+OutcomesOf (OpenSpan lane a) (answer.Made id) s os = os ≡ Noticed lane (OnNewSpan a id) ∷ []
+OutcomesOf (SendEvent lane e) answer.Done s os = os ≡ Noticed lane (OnEvent e) ∷ []
+OutcomesOf (Enter lane id) answer.Done s os = os ≡ Noticed lane (OnEnter id) ∷ []
+OutcomesOf (Exit lane id) answer.Done s os = LeavesSpan lane id s os
+OutcomesOf (RecordValues lane id r) answer.Done s os = os ≡ Noticed lane (OnRecord id r) ∷ []
+OutcomesOf (Follow lane id other) answer.Done s os = os ≡ Noticed lane (OnFollows id other) ∷ []
+OutcomesOf (AddHandle lane id) answer.Done s os = os ≡ Quiet (HandleAdded id) ∷ []
+OutcomesOf (DropHandle lane id) (answer.Yes closes) s os = DropsHandle lane id s closes os
+OutcomesOf (SetLevel n l) answer.Done s os = os ≡ LevelSet n l ∷ []
+OutcomesOf (Probe lane m) (answer.Yes said) s os = os ≡ []
+OutcomesOf (AskCurrent lane) (answer.Current o) s os = os ≡ []
+OutcomesOf call answer.Dropped s os = os ≡ []
+OutcomesOf call (answer.Refused e) s os = os ≡ []
+OutcomesOf call a s os = ⊥
 
 -- how a call is answered that isn't asked by metadata: refused as the registry refuses it, or since no filter takes a level, and never dropped; a handle is added where there is room for one, and the current span is the lane's
 abbrev pub AnswersOther : Call → Form → RegistryState → Answer → Type 0

@@ -17,11 +17,12 @@ use Rattle.span_core.specs.declared.span.Current.{Current}
 use Rattle.span_core.specs.declared.span.Id.{Id}
 use Rattle.span_core.specs.declared.span.Lane.{Lane}
 use Rattle.span_core.specs.declared.span.Parent.{Parent}
+use Rattle.span_core.specs.declared.span.Record.{Record}
 use Rattle.span_dispatch.specs.Admission.{IsAdmitted, MayLearn, hint_kept, learned_if}
 use Rattle.span_dispatch.specs.Cache.{KeptCallsites, ReadsOnce, RefusesBelow, RefusesInterest, RefusesRoom, is_above_read, with_room}
-use Rattle.span_dispatch.specs.Call.{DropsSpan, OpensFor, current_answer, done_answer, event_answer, span_answer, yes_answer}
+use Rattle.span_dispatch.specs.Call.{DropsSpan, FindsOpen, OpensFor, current_answer, done_answer, event_answer, span_answer, yes_answer}
 use Rattle.span_dispatch.specs.declared.call.Call.{Call}
-use Rattle.span_dispatch.specs.declared.call.Call.TheVariants.{AskCurrent, DropHandle, Exit, OpenSpan, Probe, SendEvent, SetLevel}
+use Rattle.span_dispatch.specs.declared.call.Call.TheVariants.{AddHandle, AskCurrent, DropHandle, Enter, Exit, Follow, OpenSpan, Probe, RecordValues, SendEvent, SetLevel}
 use Rattle.span_dispatch.specs.Outcome.{IsHonest, OutcomeAt, Makes}
 use Rattle.span_dispatch.specs.Serve.{IsReady, IsReadyAfter, IsReadyBy, IsReadySomehow, IsServed, KeepsUpToDate, Sees, Served, ServesRequest, forgetful, hint_by, kept_by, stack_of, with_stack}
 use Rattle.span_dispatch.specs.declared.dispatch.Dispatch.{Dispatch}
@@ -37,7 +38,7 @@ use Rattle.span_registry.specs.Levels.{FollowsLevel, KeepsRules, LevelSteps, Lev
 use Rattle.span_registry.specs.Position.{HearSteps}
 use Rattle.span_registry.specs.Question.{ShowsBy, asked, event_asked}
 use Rattle.span_registry.specs.Step as step
-use Rattle.span_registry.specs.Step.{Exits, Opens, RefusesNew, RefusesRelease, Releases, Removal}
+use Rattle.span_registry.specs.Step.{Clones, Enters, Exits, Opens, RefusesClone, RefusesEnter, RefusesNew, RefusesRelease, RefusesUnlessOpen, Releases, Removal}
 use Rattle.span_registry.specs.Store.{IsOpen, RegistryState}
 use Rattle.span_registry.specs.Subscriber.{AndHooks, SameButExtensions}
 use Rattle.span_registry.specs.declared.registry.Released.TheVariants.{Closing, StillOpen}
@@ -409,9 +410,9 @@ module _ {S : Type 0} (s : SubscriberOf S) where
       OpensSpanSo (OpensIfMade lane attrs old new) lane attrs given old new
 
   -- the same, with this pass's refusing filters for the span's verdict
-  abbrev pub OpensSpanBy : Pass → Lane → Attributes → Result (Option Id) TraceError → Dispatch S
+  abbrev pub OpensSpanWith : Pass → Lane → Attributes → Result (Option Id) TraceError → Dispatch S
       → Dispatch S → Type 0
-  OpensSpanBy pass lane attrs given old new =
+  OpensSpanWith pass lane attrs given old new =
       OpensSpanSo (OpensByPass lane attrs pass old new) lane attrs given old new
 
   -- a call that asks something of a span: nothing changes but the stack, which takes this step where the call isn't refused, and is as it was where it is
@@ -423,6 +424,33 @@ module _ {S : Type 0} (s : SubscriberOf S) where
     pub store : OnOk given (steps old new)
     pub refused : IfErr given (refuses old)
     pub unchanged : OnErr given (new ≡ old)
+
+  -- `enter`: where it isn't refused, the lane enters the span
+  abbrev pub EntersSpan : Lane → Id → Result (Unit {0}) TraceError → Dispatch S → Dispatch S
+      → Type 0
+  EntersSpan lane id given old new =
+      AsksOfSpan (Enter lane id) (TakesStep (Enters lane id))
+      (Refuses (λ r. RefusesEnter r lane) id) given old new
+
+  -- `record`: where it isn't refused, the span is open, and layers may be notified of the values
+  abbrev pub RecordsValues : Lane → Id → Record → Result (Unit {0}) TraceError → Dispatch S
+      → Dispatch S → Type 0
+  RecordsValues lane id values given old new =
+      AsksOfSpan (RecordValues lane id values) (TakesStep (FindsOpen id))
+      (Refuses RefusesUnlessOpen id) given old new
+
+  -- `follows_from`: where it isn't refused, the first span is open, and layers may be notified that it follows from the second
+  abbrev pub FollowsSpan : Lane → Id → Id → Result (Unit {0}) TraceError → Dispatch S → Dispatch S
+      → Type 0
+  FollowsSpan lane id other given old new =
+      AsksOfSpan (Follow lane id other) (TakesStep (FindsOpen id)) (Refuses RefusesUnlessOpen id)
+      given old new
+
+  -- `clone_span`: where it isn't refused, the span has a handle more, and no layer is notified
+  abbrev pub ClonesSpan : Lane → Id → Result Id TraceError → Dispatch S → Dispatch S → Type 0
+  ClonesSpan lane id given old new =
+      AsksOfSpan (AddHandle lane id) (TakesStepAlone (Clones id)) (Refuses RefusesClone id) given
+      old new
 
   -- `exit`: never refused
   pub record ExitsSpan (lane : Lane) (id : Id) (old new : Dispatch S) : Type 0 where

@@ -4,16 +4,10 @@ pub mod Ask
 pub mod Cache
 pub mod Call
 pub mod Contract
-pub mod Effect
 pub mod Fixed
-pub mod Isolation
-pub mod Journal
-pub mod KeptHint
-pub mod Logged
 pub mod Outcome
 pub mod Readable
 pub mod Recorder
 pub mod RecorderLaws
 pub mod Registration
 pub mod Serve
-pub mod Worker

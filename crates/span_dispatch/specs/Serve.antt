@@ -1,9 +1,8 @@
 -- How a dispatcher serves a call, and a list of requests.
-use Rattle.std.specs.Prelude.{◌≡◌, ℕ, List, [], ◌∷◌, ◌++◌, map, if◌then◌else◌, Option, Some, None, slice_get}
+use Rattle.std.specs.Prelude.{◌≡◌, ℕ, List, [], ◌∷◌, ◌++◌, map, Option, Some, None, slice_get}
 use Rattle.std.specs.List.{AllByRecursion, FoldsTo, flat_map}
 use Rattle.std.specs.Option.{option_and_then, option_map, option_map_or}
 use Rattle.span_core.specs.Event.{event_of}
-use Rattle.span_core.specs.Filters.{FilterSet}
 use Rattle.span_core.specs.Span.{attributes_of, number_of, record_of}
 use Rattle.span_core.specs.declared.span.Id.{Id}
 use Rattle.span_core.specs.declared.span.Parent.TheVariants as parent
@@ -11,10 +10,9 @@ use Rattle.span_core.specs.declared.span.Parent.{Parent}
 use Rattle.span_dispatch.specs.Alone.{Alone, passed_at}
 use Rattle.span_dispatch.specs.Cache.{IsUpToDate, KeptCallsites, ReadHint, forgotten, hint_in, kept_in}
 use Rattle.span_dispatch.specs.Registration.{next_epoch}
-use Rattle.span_dispatch.specs.Call.{AnswersWith, closes_of}
+use Rattle.span_dispatch.specs.Call.{OutcomesOf, AnswersWith, closes_of}
 use Rattle.span_dispatch.specs.declared.call.Call.{Call}
 use Rattle.span_dispatch.specs.declared.call.Call.TheVariants.{AddHandle, AskCurrent, DropHandle, Enter, Exit, Follow, OpenSpan, Probe, RecordValues, SendEvent, SetLevel}
-use Rattle.span_dispatch.specs.Effect.{MadeCall, OutcomesOf, effect_of, is_concern}
 use Rattle.span_dispatch.specs.Outcome.{IsHonest, OutcomeAt, Makes, Noticed, Outcome}
 use Rattle.span_dispatch.specs.Readable.{ShowsItsSpan}
 use Rattle.span_dispatch.specs.declared.dispatch.Dispatch.{Dispatch}
@@ -98,18 +96,6 @@ call_of past (request.Drop lane w) = option_map (λ x. DropHandle lane x) (resol
 call_of past (request.Enabled lane m) = Some (Probe lane m)
 call_of past (request.Current lane) = Some (AskCurrent lane)
 call_of past (request.SetLevel number level) = Some (SetLevel number level)
-
--- what was asked for, with its answer, if something was made of it that concerns filters of these numbers
-abbrev pub made_call : FilterSet → Option Call → Answer → List MadeCall
-made_call numbers None a = []
-made_call numbers (Some call) a =
-    if is_concern numbers (effect_of call a) then (call, a) ∷ [] else []
-
--- the made requests of a list that was answered so, behind these answers: each with its answer, and its spans by their ids. So what was dropped or refused, probes, and other filters' levels may stand in one list and not in the other
-abbrev pub made_calls : FilterSet → List Answer → List Request → List Answer → List MadeCall
-made_calls numbers past (r ∷ rs) (a ∷ answers) =
-    made_call numbers (call_of past r) a ++ made_calls numbers (past ++ (a ∷ [])) rs answers
-made_calls numbers past rs answers = []
 
 -- the outcome that was made
 abbrev pub outcome_of : OutcomeAt → Outcome

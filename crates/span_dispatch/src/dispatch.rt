@@ -5,14 +5,10 @@ ghost use Rattle.span_core.specs.Event.{event_metadata};
 ghost use Rattle.span_core.specs.Filters.{IsEmpty};
 ghost use Rattle.span_core.specs.Span.{metadata_of, number_of};
 ghost use Rattle.span_dispatch.specs.Cache.{no_callsite};
-ghost use Rattle.span_dispatch.specs.Call.{FindsOpen};
-ghost use Rattle.span_registry.specs.Step.{RefusesUnlessOpen};
-ghost use Rattle.span_dispatch.specs.Contract.{Admits, AsksOfSpan, AsksStack, BecomesReady, ChangesKept, DropsOneHandle, ExitsSpan, GoesByKept, KeepsOnly, LearnsCallsite, OpensSpan, OpensSpanBy, Probes, Refuses, RefusesMetadata, ReservesCallsites, SameStack, SendsEvent, ServesCurrent, SetsOneLevel, Shows, ShowsHint, ShowsKept, StaysReady, StaysReadyBut, StaysUpToDate, TakesStep, TakesStepAlone};
-ghost use Rattle.span_dispatch.specs.declared.call.Call.TheVariants.{AddHandle, Enter, Follow, RecordValues};
+ghost use Rattle.span_dispatch.specs.Contract.{Admits, AsksStack, BecomesReady, ChangesKept, ClonesSpan, DropsOneHandle, EntersSpan, ExitsSpan, FollowsSpan, GoesByKept, KeepsOnly, LearnsCallsite, OpensSpan, OpensSpanWith, Probes, RecordsValues, RefusesMetadata, ReservesCallsites, SameStack, SendsEvent, ServesCurrent, SetsOneLevel, Shows, ShowsHint, ShowsKept, StaysReady, StaysReadyBut, StaysUpToDate};
 ghost use Rattle.span_dispatch.specs.contracts.dispatch.Dispatch.{the_row};
 ghost use Rattle.span_dispatch.specs.Registration.{IsRegistered, KeepsRegistered, Knows, registered_metadata};
 ghost use Rattle.span_dispatch.specs.Serve.{ClosesEach, KeepsUpToDate, forgetful, hint_by, kept_by, stack_of, with_stack};
-ghost use Rattle.span_registry.specs.Step.{Clones, Enters, RefusesClone, RefusesEnter};
 ghost use Rattle.span_registry.specs.Form.{Form};
 ghost use Rattle.span_registry.specs.Question.{refusals};
 ghost use Rattle.span_registry.specs.Store.{IsClosing};
@@ -255,10 +251,31 @@ impl<S: Subscriber> Dispatch<S> {
         self.open(lane, attrs, kept, &mut pass)
     }
 
-    /// The same with a new pass of the caller's, whose refusing filters are then the verdict of the span. An interest may be given
-    /// as it is kept.
+    /// Opens a span as `new_span` does, with a new pass of the caller's. Where one is made, the filters that refuse it in the pass
+    /// are its verdict.
+    ///
+    /// Own to this port.
     #[inline(always)]
-    pub(crate) fn open(
+    pub fn new_span_with(
+        &mut self,
+        lane: Lane,
+        attrs: &Attributes<'_>,
+        pass: &mut Pass,
+    ) -> Result<Option<Id>, TraceError>
+        requires usable { S.usable (stack_of self.old) }
+        requires fresh { IsEmpty (refusals pass.old) }
+        ensures usable { S.usable (stack_of self.new) }
+        ensures registered { KeepsRegistered self.old self.new }
+        ensures ready { StaysReady S.Subscriber self.old self.new }
+        ensures opens { OpensSpanWith S.Subscriber pass.new lane attrs.now result self.old
+            self.new }
+    {
+        self.open(lane, attrs, None, pass)
+    }
+
+    /// The same where an interest may be given as it is kept.
+    #[inline(always)]
+    fn open(
         &mut self,
         lane: Lane,
         attrs: &Attributes<'_>,
@@ -271,7 +288,8 @@ impl<S: Subscriber> Dispatch<S> {
         ensures usable { S.usable (stack_of self.new) }
         ensures registered { KeepsRegistered self.old self.new }
         ensures ready { StaysReady S.Subscriber self.old self.new }
-        ensures opens { OpensSpanBy S.Subscriber pass.new lane attrs.now result self.old self.new }
+        ensures opens { OpensSpanWith S.Subscriber pass.new lane attrs.now result self.old
+            self.new }
     {
         match self.admits(lane, &attrs.metadata(), kept, pass) {
             Err(error) => Err(error),
@@ -350,9 +368,7 @@ impl<S: Subscriber> Dispatch<S> {
         requires { S.usable (stack_of self.old) }
         ensures usable { S.usable (stack_of self.new) }
         ensures ready { StaysReady S.Subscriber self.old self.new }
-        ensures enters { AsksOfSpan S.Subscriber (Enter lane id)
-            (TakesStep S.Subscriber (Enters lane id)) (Refuses S.Subscriber (λ r. RefusesEnter r lane) id) result
-            self.old self.new }
+        ensures enters { EntersSpan S.Subscriber lane id result self.old self.new }
     {
         self.stack.enter(lane, id)
     }
@@ -376,8 +392,7 @@ impl<S: Subscriber> Dispatch<S> {
         requires { S.usable (stack_of self.old) }
         ensures usable { S.usable (stack_of self.new) }
         ensures ready { StaysReady S.Subscriber self.old self.new }
-        ensures records { AsksOfSpan S.Subscriber (RecordValues lane id values.now)
-            (TakesStep S.Subscriber (FindsOpen id)) (Refuses S.Subscriber RefusesUnlessOpen id) result self.old self.new }
+        ensures records { RecordsValues S.Subscriber lane id values.now result self.old self.new }
     {
         if !self.stack.root().is_open(id) {
             return Err(TraceError::UnknownSpan(id));
@@ -391,8 +406,7 @@ impl<S: Subscriber> Dispatch<S> {
         requires { S.usable (stack_of self.old) }
         ensures usable { S.usable (stack_of self.new) }
         ensures ready { StaysReady S.Subscriber self.old self.new }
-        ensures follows { AsksOfSpan S.Subscriber (Follow lane id follows)
-            (TakesStep S.Subscriber (FindsOpen id)) (Refuses S.Subscriber RefusesUnlessOpen id) result self.old self.new }
+        ensures follows { FollowsSpan S.Subscriber lane id follows result self.old self.new }
     {
         let registry = self.stack.root();
         if !registry.is_open(id) {
@@ -408,8 +422,7 @@ impl<S: Subscriber> Dispatch<S> {
         ensures usable { S.usable (stack_of self.new) }
         ensures ready { StaysReady S.Subscriber self.old self.new }
         ensures same { IfOk result (λ cloned. cloned ≡ id) }
-        ensures clones { AsksOfSpan S.Subscriber (AddHandle lane id)
-            (TakesStepAlone S.Subscriber (Clones id)) (Refuses S.Subscriber RefusesClone id) result self.old self.new }
+        ensures clones { ClonesSpan S.Subscriber lane id result self.old self.new }
     {
         self.stack.clone_span(lane, id)
     }

@@ -1,9 +1,9 @@
 //! Lists of requests, served in order.
 ghost use Rattle.std.specs.Prelude.{◌≡◌, ◌∷◌, [], ◌++◌, IfOk, IfErr, ◌<◌, ◌≤◌, ◌+◌, length, vec_len, vec_capacity};
-ghost use Rattle.span_dispatch.specs.Ask.{AsksCall};
+ghost use Rattle.span_dispatch.specs.Ask.{AsksCall, AsksFor, AsksList};
 ghost use Rattle.span_dispatch.specs.Contract.{AnswersDrop, ServesList, ServesNext, StaysReadyByRules};
-ghost use Rattle.span_dispatch.specs.KeptHint.{CallGoesByKept, ListGoesByKept, RequestGoesByKept};
-ghost use Rattle.span_dispatch.specs.Serve.{stack_of};
+ghost use Rattle.span_dispatch.specs.Registration.{KeepsRegistered};
+ghost use Rattle.span_dispatch.specs.Serve.{call_of, stack_of};
 
 use crate::call::Call;
 use crate::dispatch::Dispatch;
@@ -25,7 +25,7 @@ impl<S: Subscriber> Dispatch<S> {
         ensures usable { S.usable (stack_of self.new) }
         ensures ready { StaysReadyByRules S.Subscriber self.old self.new }
         ensures served { IfOk result (ServesList S.Subscriber requests.now self.old self.new) }
-        ensures kept { IfOk result (ListGoesByKept S.registry requests.now self.old self.new) }
+        ensures asks { IfOk result (AsksList S.Subscriber requests.now self.old self.new) }
         ensures length { IfOk result (λ a. length a.items ≡ length requests.now) }
         ensures refused { IfErr result (λ e. (e ≡ TraceError.OutOfMemory) × (self.new ≡ self.old)) }
     {
@@ -43,7 +43,7 @@ impl<S: Subscriber> Dispatch<S> {
         ensures usable { S.usable (stack_of self.new) }
         ensures ready { StaysReadyByRules S.Subscriber self.old self.new }
         ensures served { ServesList S.Subscriber requests.now self.old self.new answers.new }
-        ensures kept { ListGoesByKept S.registry requests.now self.old self.new answers.new }
+        ensures asks { AsksList S.Subscriber requests.now self.old self.new answers.new }
         ensures length { length answers.new.items ≡ length requests.now }
         ensures room { vec_capacity answers.old ≤ vec_capacity answers.new }
     {
@@ -59,9 +59,11 @@ impl<S: Subscriber> Dispatch<S> {
     fn serve_one(&mut self, past: &[Answer], request: &Request<'_>) -> Answer
         requires { S.usable (stack_of self.old) }
         ensures usable { S.usable (stack_of self.new) }
+        ensures registered { KeepsRegistered self.old self.new }
         ensures ready { StaysReadyByRules S.Subscriber self.old self.new }
         ensures served { ServesNext S.Subscriber past.now request.now result self.old self.new }
-        ensures kept { RequestGoesByKept S.registry past.now request.now result self.old self.new }
+        ensures asks { AsksFor S.Subscriber (call_of past.now request.now) result self.old
+            self.new }
     {
         match request.call(past) {
             None => Answer::Dropped,
@@ -69,16 +71,17 @@ impl<S: Subscriber> Dispatch<S> {
         }
     }
 
-    /// Asks this, whatever it is: as the call of its kind does, which promises the same.
+    /// Asks this, whatever it is, as the call of its kind does. It promises the same, but that `ready` says of a form's rules alone that
+    /// they stay.
     ///
     /// Own to this port.
     pub fn ask(&mut self, call: &Call<'_>) -> Answer
         requires { S.usable (stack_of self.old) }
         ensures usable { S.usable (stack_of self.new) }
+        ensures registered { KeepsRegistered self.old self.new }
         ensures ready { StaysReadyByRules S.Subscriber self.old self.new }
         ensures served { AnswersDrop S.Subscriber call.now result self.old self.new }
         ensures asks { AsksCall S.Subscriber call.now result self.old self.new }
-        ensures kept { CallGoesByKept S.registry call.now result self.old self.new }
     {
         match call {
             Call::OpenSpan(lane, attributes) => Answer::of_span(self.new_span(*lane, attributes)),

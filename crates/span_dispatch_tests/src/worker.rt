@@ -8,12 +8,11 @@ use span_core::{
     Attributes, Event, FieldValue, Id, Kind, Lane, Level, LevelFilter, Metadata, Parent, Pass,
     Record,
 };
-use span_dispatch::{
-    Crew, Dispatch, Entry, Journal, Logged, Receipt, Recorder, Shared, Unfinished, Worker,
-};
+use span_dispatch::{Dispatch, Recorder};
 use span_layer_tests::fixture::{LANE, metadata_of};
 use span_layers::{Layer, LayerExt, Layered, Observe, Observed, Observer, SubscriberExt};
 use span_registry::{ContextMut, Registry, Subscriber};
+use span_shared::{Crew, Entry, Journal, Logged, Receipt, Shared, Unfinished, Worker};
 use std::alloc::Global;
 use std::marker::Brand;
 use std::process::Abort;

@@ -5,10 +5,9 @@ use Rattle.std.specs.Prelude.{⊤}
 use Rattle.span_core.specs.declared.filter.TheConstants.FilterId.{LIMIT}
 use Rattle.span_core.specs.declared.level.LevelFilter.{LevelFilter}
 use Rattle.span_dispatch.proofs.CallerLemmas.{heard_records}
-use Rattle.span_dispatch.specs.Alone.{passed_at}
-use Rattle.span_dispatch.specs.Isolation.{PathsActAlike, SeeTheSame, SeesCalls}
+use Rattle.span_dispatch.specs.Alone.{PathsActAlike, passed_at}
 use Rattle.span_dispatch.specs.Recorder.{RecorderState, Records, kept_notice, new_recorder, recorder_steps}
-use Rattle.span_dispatch.specs.Serve.{IsReady, Served, flat, made_calls, stack_of}
+use Rattle.span_dispatch.specs.Serve.{IsReady, Served, flat, stack_of}
 use Rattle.span_dispatch.specs.declared.dispatch.Dispatch.{Dispatch}
 use Rattle.span_dispatch.specs.declared.request.Answer.{Answer}
 use Rattle.span_dispatch.specs.declared.request.Request.{Request}
@@ -36,6 +35,8 @@ use Rattle.span_registry.specs.Position.{HearSteps, Heard, Here, Inner, Outer, U
 use Rattle.span_registry.specs.Question.{single}
 use Rattle.span_registry.specs.Store.{RegistryState, Store, empty_store, new_registry}
 use Rattle.span_registry.specs.declared.limits.Limits.{Limits}
+use Rattle.span_promises.specs.Isolation.{SeeTheSame, SeesCalls}
+use Rattle.span_promises.specs.MadeCall.{made_calls}
 use Rattle.span_examples.proofs.Level.{has_room, leaf_under, took}
 use Rattle.span_examples.proofs.Recorded.{keeps_all}
 use Rattle.span_examples.proofs.Standing.{is_ready, open_honest, open_quiet}

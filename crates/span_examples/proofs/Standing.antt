@@ -18,13 +18,11 @@ use Rattle.span_dispatch.specs.Call.{span_answer, yes_answer}
 use Rattle.span_dispatch.specs.declared.call.Call.{Call}
 use Rattle.span_dispatch.specs.declared.call.Call.TheVariants.{DropHandle, OpenSpan}
 use Rattle.span_dispatch.specs.Contract.{AnswersCall, AnswersDrop, StaysReady, SubscriberOf}
-use Rattle.span_dispatch.specs.Effect.{AloneOf}
-use Rattle.span_dispatch.specs.Isolation.{SeenAlone, SeesCalls}
 use Rattle.span_dispatch.specs.declared.dispatch.Dispatch.{Dispatch}
 use Rattle.span_dispatch.specs.declared.request.Answer.TheVariants.{Dropped, Made, Yes}
 use Rattle.span_dispatch.specs.declared.request.Answer.{Answer}
 use Rattle.span_dispatch.specs.Recorder.{RecorderState, Records, kept_notice, new_recorder}
-use Rattle.span_dispatch.specs.Serve.{IsReady, flat, made_calls, stack_of}
+use Rattle.span_dispatch.specs.Serve.{IsReady, flat, stack_of}
 use Rattle.span_dispatch.specs.declared.request.Request.{Request}
 use Rattle.span_layers.proofs.CallerLemmas.{bare_stands, stands_on}
 use Rattle.span_layers.specs.Attach.{Attaches}
@@ -54,6 +52,8 @@ use Rattle.span_registry.specs.Store.{RegistryState, Store, empty_store, new_reg
 use Rattle.span_registry.specs.LaneStack.{without_duplicates}
 use Rattle.span_registry.specs.View.{SeenSpan, SeenSpans, View, current_among, current_shown}
 use Rattle.span_registry.specs.declared.limits.Limits.{Limits}
+use Rattle.span_promises.specs.Isolation.{SeenAlone, SeesCalls}
+use Rattle.span_promises.specs.MadeCall.{AloneOf, made_calls}
 use Rattle.span_examples.proofs.Recorded.{keeps_all}
 use Rattle.span_examples.specs.Chain.{AnswersReady, OpensAndDrops}
 use Rattle.span_examples.specs.Isolation.{WithAnswers}

@@ -3,9 +3,8 @@ use Rattle.std.specs.Prelude.{◌≡◌, false, List, []}
 use Rattle.std.specs.declared.alloc.Global.{Global}
 use Rattle.std.specs.declared.vec.Vec.{Vec}
 use Rattle.span_core.specs.declared.level.LevelFilter.{LevelFilter}
-use Rattle.span_dispatch.specs.Effect.{MadeCall}
 use Rattle.span_dispatch.specs.Recorder.{RecorderState, Records, new_recorder}
-use Rattle.span_dispatch.specs.Serve.{IsReady, Served, made_calls, stack_of}
+use Rattle.span_dispatch.specs.Serve.{IsReady, Served, stack_of}
 use Rattle.span_dispatch.specs.declared.dispatch.Dispatch.{Dispatch}
 use Rattle.span_dispatch.specs.declared.notice.Notice.{Notice}
 use Rattle.span_dispatch.specs.declared.request.Answer.{Answer}
@@ -21,6 +20,7 @@ use Rattle.span_registry.specs.Levels.{LevelSteps}
 use Rattle.span_registry.specs.Position.{HearSteps}
 use Rattle.span_registry.specs.Question.{single}
 use Rattle.span_registry.specs.Store.{RegistryState}
+use Rattle.span_promises.specs.MadeCall.{MadeCall, made_calls}
 use Rattle.span_examples.specs.Dispatches.{Recorded, recorder_of}
 
 -- the second stack: another recorder under a level of its own stands outside the first

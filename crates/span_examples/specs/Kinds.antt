@@ -6,9 +6,8 @@ use Rattle.span_core.specs.declared.filter.TheConstants.FilterId.{LIMIT}
 use Rattle.span_core.specs.declared.metadata.Metadata.{Metadata}
 use Rattle.span_dispatch.specs.Alone.{passed_at}
 use Rattle.span_dispatch.specs.Contract.{SubscriberOf}
-use Rattle.span_dispatch.specs.Effect.{AloneOf}
 use Rattle.span_dispatch.specs.Recorder.{RecorderState, Records, kept_notice, new_recorder}
-use Rattle.span_dispatch.specs.Serve.{IsReadySomehow, Served, flat, made_calls, stack_of}
+use Rattle.span_dispatch.specs.Serve.{IsReadySomehow, Served, flat, stack_of}
 use Rattle.span_dispatch.specs.declared.dispatch.Dispatch.{Dispatch}
 use Rattle.span_dispatch.specs.declared.request.Answer.{Answer}
 use Rattle.span_dispatch.specs.declared.request.Request.{Request}
@@ -25,6 +24,7 @@ use Rattle.span_registry.specs.Form.{Form}
 use Rattle.span_registry.specs.Position.{Heard, Here, Outer, Position, Under}
 use Rattle.span_registry.specs.Store.{RegistryState, empty_store}
 use Rattle.span_registry.specs.View.{View, current_shown}
+use Rattle.span_promises.specs.MadeCall.{AloneOf, made_calls}
 use Rattle.span_examples.specs.Isolation.{WithAnswers}
 
 -- the stack is honest, by some form, on a registry without spans

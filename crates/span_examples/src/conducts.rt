@@ -37,7 +37,7 @@ fn put_filtered<F: Filter<Registry> + Drop>(
     ensures memory { IfErr result (λ e. e ≡ TraceError.OutOfMemory) }
 {
     span_layers::laws::numbers_are_own();
-    span_dispatch::laws::other_layers_make_no_difference::<Under<F>, Under<F>>();
+    span_promises::laws::other_layers_make_no_difference::<Under<F>, Under<F>>();
     let layer = Recorder::new(alloc).with_filter(filter);
     match Registry::new(alloc).with(layer) {
         Ok(stack) => Ok(stack),

@@ -34,7 +34,7 @@ pub fn record_alone_and_beside(
     ensures memory { IfErr result (λ e. e ≡ TraceError.OutOfMemory) }
 {
     span_layers::laws::numbers_are_own();
-    span_dispatch::laws::other_layers_make_no_difference::<Recorded, Beside>();
+    span_promises::laws::other_layers_make_no_difference::<Recorded, Beside>();
     let first = Recorder::new(alloc).with_filter(level);
     let alone = match Registry::new(alloc).with(first) {
         Ok(stack) => stack,

@@ -44,7 +44,7 @@ fn put_under<L: Layer<Registry> + Drop>(alloc: Global, layer: L) -> Result<Over<
     ensures memory { IfErr result (λ e. e ≡ TraceError.OutOfMemory) }
 {
     span_layers::laws::numbers_are_own();
-    span_dispatch::laws::other_layers_make_no_difference::<Over<L>, Over<L>>();
+    span_promises::laws::other_layers_make_no_difference::<Over<L>, Over<L>>();
     let stack = match Registry::new(alloc).with(layer) {
         Ok(stack) => stack,
         Err(back) => return Err(back.error),

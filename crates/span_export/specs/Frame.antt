@@ -72,7 +72,8 @@ abbrev pub tick_text : Scale → Plan → ℕ → List ℕ
 tick_text scale plan count =
     let after = capped (plan.step * count) in
     if nat_le after (scale.finish - scale.begin)
-    then line_text (time_text after plan.step) (x_at scale (capped (scale.begin + after))) plan.height
+    then line_text (time_text after plan.step) (x_at scale (capped (scale.begin + after)))
+    plan.height
     else []
 
 -- the first n lines

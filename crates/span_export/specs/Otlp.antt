@@ -110,7 +110,8 @@ request_of trace sites ps id close (opening ∷ since) =
     (span_value trace site id opening close (events_of trace sites ps id since)))
 
 -- the request of a point behind these, if a span closes there
-abbrev pub request_at : Trace → List Site → List Point → List Point → Point → Happening → Option Data
+abbrev pub request_at : Trace → List Site → List Point → List Point → Point → Happening
+    → Option Data
 request_at trace sites ps before p (Closed id) =
     request_of trace sites ps id p (since_opening (number_of id) before)
 request_at trace sites ps before p other = None

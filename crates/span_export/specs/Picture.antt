@@ -40,7 +40,13 @@ ended lane x time (s ∷ stays) =
 -- what a point makes of the stays so far
 abbrev pub stays_after : List Stay → Point → Happening → List Stay
 stays_after stays p (Entered id) =
-    stays ++ record { lane = p.lane; depth = depth_on p.lane.0 stays; span = id; entered = p.time; left = None } ∷ []
+    stays ++ record {
+      lane = p.lane;
+      depth = depth_on p.lane.0 stays;
+      span = id;
+      entered = p.time;
+      left = None;
+    } ∷ []
 stays_after stays p (Left id) = ended p.lane.0 (number_of id) p.time stays
 stays_after stays p (Closed id) = ended p.lane.0 (number_of id) p.time stays
 stays_after stays p other = stays

@@ -69,7 +69,8 @@ fn put(stack: &mut SpanStack, id: Id) -> Result<(), AllocError>
 /// Takes the newest entry of a span off the stack of a lane.
 fn leave(lanes: &mut Lanes, lane: Lane, id: Id)
     ensures { (n : ℕ) → stack_in lanes.new n
-        ≡ (if lane.0 == n then leave (number_of id) (stack_in lanes.old n) else stack_in lanes.old n) }
+        ≡ (if lane.0 == n then leave (number_of id) (stack_in lanes.old n)
+        else stack_in lanes.old n) }
 {
     if let Some(stack) = lanes.get_mut(&lane.0) {
         stack.pop(id);

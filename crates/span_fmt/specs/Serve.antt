@@ -50,8 +50,9 @@ module _ {T S : Type 0} (writes : Heard → T → T → Type 0)
       → WritesServed requests answers.items old new
 
   -- what serving such a list promises, served or refused, beside that the stack may be called again
-  pub record ServesOutermost (requests : List Request) (given : Result (Vec Answer Global) TraceError)
-      (old new : Dispatch (WithObserver T S)) : Type 0 where
+  pub record ServesOutermost (requests : List Request)
+      (given : Result (Vec Answer Global) TraceError) (old new : Dispatch (WithObserver T S))
+      : Type 0 where
     pub ready : StaysReadyByRules s old new
     pub written : IfOk given (ServesWritten requests old new)
     pub length : IfOk given (λ answers. length answers.items ≡ length requests)

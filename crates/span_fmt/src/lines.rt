@@ -155,7 +155,8 @@ fn spans_around<S: LookupSpan>(
     known: &Known,
 ) -> Result<String, AllocError>
     ensures { IfOk result (λ text. string_bytes text
-        ≡ flat_map (reference_label (known_in known.now)) (reverse (given S.registry spans.entry))) }
+        ≡ flat_map (reference_label (known_in known.now))
+        (reverse (given S.registry spans.entry))) }
 {
     let mut text = String::new(alloc);
     let Some(spans) = spans else {

@@ -24,7 +24,8 @@ module _ {S : Type 0} (s : SubscriberOf S) where
   -- a span of which this holds was asked for
   abbrev pub Opens : (Attributes → Type 0) → Lane → Result (Option Id) TraceError → Dispatch S
       → Dispatch S → Type 0
-  Opens Is lane given old new = (attrs : Attributes) × Is attrs × OpensSpan s lane attrs given old new
+  Opens Is lane given old new =
+      (attrs : Attributes) × Is attrs × OpensSpan s lane attrs given old new
 
   module _ {B : Type 0} (Block : Result B TraceError → Dispatch S → Dispatch S → Type 0) where
     -- a lane entered a span, a block was run and did this, and then the lane left the span; without a span the block alone was run

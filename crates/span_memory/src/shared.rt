@@ -1,6 +1,6 @@
 //! Calls of a dispatcher that workers share.
 ghost use Rattle.span_dispatch.specs.Serve.{stack_of};
-ghost use Rattle.span_dispatch.specs.Worker.{called};
+ghost use Rattle.span_shared.specs.Worker.{called};
 ghost use Rattle.std.specs.Prelude.{◌≡◌, ◌-◌, ◌<◌, ◌^◌, IfOk, OnErr, OnOk, vec_len};
 
 use crate::call::State;
@@ -10,8 +10,9 @@ use crate::shown::{write_answer, write_start};
 use crate::site::preparation;
 use crate::tried::Tried;
 use span_core::{Record, TraceError};
-use span_dispatch::{Answer, Crew, Dispatch, Journal, Receipt, Request, Shared, Which, Worker};
+use span_dispatch::{Answer, Dispatch, Request, Which};
 use span_registry::{LookupSpan, Subscriber};
+use span_shared::{Crew, Journal, Receipt, Shared, Worker};
 use std::alloc::Global;
 use std::io::Write;
 use std::marker::Brand;

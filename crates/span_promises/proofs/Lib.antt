@@ -1,5 +1,7 @@
 mod Closes
 mod Family
+mod Isolation
+mod MadeCall
 mod One
 mod Program
 mod Sentence

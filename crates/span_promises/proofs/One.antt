@@ -1,24 +1,22 @@
 -- A call has one answer: by one case split over calls and two answers.
 use Rattle.std.proofs.Common.{inl, inr, ◌⊎◌, ◌↔◌, ◌<◌, ◌≤◌, arith, ◌≡◌, ◌∙◌, ℕ, Bool, true, false, IsTrue, List, [], ◌∷◌, map, Option, Some, None, ap, refl, subst, sym}
-use Rattle.std.proofs.lemmas.Bool.{false≢true, true≢false}
+use Rattle.std.proofs.lemmas.Bool.{true≢false}
 use Rattle.std.specs.List.{FoldsTo}
 use Rattle.std.specs.Option.{option_map}
 use Rattle.std.specs.Prelude.{IfSome, ⊤}
-use Rattle.span_core.specs.Event.{event_metadata}
 use Rattle.span_core.specs.Span.{asked_parent, id_of, metadata_of, number_of}
-use Rattle.span_core.specs.declared.error.TraceError.TheVariants.{CallsiteMismatch, CountFull, NoHandle, NotSettable, OutOfMemory, TooManySpans, UnknownParent, UnknownSpan}
+use Rattle.span_core.specs.declared.error.TraceError.TheVariants.{CallsiteMismatch, CountFull, NoHandle, OutOfMemory, TooManySpans, UnknownParent, UnknownSpan}
 use Rattle.span_core.specs.declared.error.TraceError.{TraceError}
-use Rattle.span_core.specs.declared.level.LevelFilter.{LevelFilter}
 use Rattle.span_core.specs.declared.metadata.Metadata.{Metadata}
 use Rattle.span_core.specs.declared.span.Attributes.{Attributes}
 use Rattle.span_core.specs.declared.span.Id.{Id}
 use Rattle.span_core.specs.declared.span.Lane.{Lane}
-use Rattle.span_core.specs.declared.span.Parent.TheVariants.{Contextual, Explicit, Root}
+use Rattle.span_core.specs.declared.span.Parent.TheVariants.{Explicit}
 use Rattle.span_core.specs.declared.span.Parent.{Parent}
+use Rattle.span_dispatch.proofs.Acting.{one_parent}
 use Rattle.span_dispatch.specs.Admission.{IsDecided, IsUnknown}
 use Rattle.span_dispatch.specs.Cache.{Agrees, KeptCallsites, RefusesInterest}
-use Rattle.span_dispatch.specs.Call.{AnswersWith, HasRoomFor}
-use Rattle.span_dispatch.specs.Effect.{OutcomesOf}
+use Rattle.span_dispatch.specs.Call.{OutcomesOf, AnswersWith, HasRoomFor}
 use Rattle.span_dispatch.specs.Outcome.{HandleAdded, HandleTaken, Makes, Noticed, Outcome, OutcomeAt, Quiet, Steps}
 use Rattle.span_dispatch.specs.Serve.{Serves}
 use Rattle.span_dispatch.specs.declared.call.Call.{Call}
@@ -30,8 +28,8 @@ use Rattle.span_registry.specs.Behaviour.{OnEnter, OnFollows, OnRecord}
 use Rattle.span_registry.specs.Closes.{Closes, Member}
 use Rattle.span_registry.specs.Form.{Form}
 use Rattle.span_registry.specs.Hooks.{StackSteps}
-use Rattle.span_registry.specs.Levels.{LevelSteps, takes_level}
-use Rattle.span_registry.specs.Step.{FindsParent, HasPlace, IsCurrent, IsParentFor, RefusesClone, RefusesEnter, RefusesNew, RefusesRelease, RefusesUnlessOpen, entered_last}
+use Rattle.span_registry.specs.Levels.{LevelSteps}
+use Rattle.span_registry.specs.Step.{FindsParent, IsCurrent, IsParentFor, RefusesClone, RefusesEnter, RefusesNew, RefusesRelease, RefusesUnlessOpen, entered_last}
 use Rattle.span_registry.specs.Store.{IsHeld, IsInStore, IsOpen, RegistryState, Spans, Store, child_count, handles_of}
 use Rattle.span_promises.specs.Answers.{AnswersAreOne, HadMemory, IsSameAnswer}
 
@@ -98,15 +96,6 @@ unknown_once {memory = memory} {m = m} {d = d} {e = e} room more h k = (interest
 entered_once : (o : Option ℕ) (P : ℕ → Type 0) (x : ℕ) → o ≡ Some x → P x → IfSome o (λ y. P y → ⊥) → ⊥
 entered_once None P x e p n = let no : ⊥ = cc in no
 entered_once (Some y) P x e p n = let same : y ≡ x = cc in n (subst P (sym same) p)
-
--- a new span gets one parent
-one_parent : (s : Store) (lane : Lane) (p : Parent) (a b : Option ℕ) → IsParentFor s lane p a → IsParentFor s lane p b → a ≡ b
-one_parent s lane Root a b h k = h ∙ sym k
-one_parent s lane (Explicit x) a b h k = h.0 ∙ sym k.0
-one_parent s lane Contextual None None h k = refl
-one_parent s lane Contextual (Some x) (Some y) h k = sym h.0 ∙ k.0
-one_parent s lane Contextual None (Some y) h k = absurd (entered_once (entered_last s lane.0) (IsOpen s.spans) y k.0 k.1 h)
-one_parent s lane Contextual (Some x) None h k = absurd (entered_once (entered_last s lane.0) (IsOpen s.spans) x h.0 h.1 k)
 
 same_id : (x y : Id) → number_of x ≡ number_of y → x ≡ y
 same_id x y e = ap id_of e

@@ -18,8 +18,6 @@ use Rattle.span_core.specs.declared.span.Parent.{Parent}
 use Rattle.span_dispatch.specs.Admission.{IsDecided, is_let_by}
 use Rattle.span_dispatch.specs.Cache.{KeptCallsites}
 use Rattle.span_dispatch.specs.Call.{AnswersWith, LeavesSpan, closes_of, vetoes_whole}
-use Rattle.span_dispatch.proofs.Effect.{in_effect}
-use Rattle.span_dispatch.specs.Effect.{Effect, HasOutcomes, NoAnswer, NoEffect, OfDrop, OfExit, OneOutcome, effect_of}
 use Rattle.span_dispatch.specs.Fixed.{Formed, set_at}
 use Rattle.span_dispatch.specs.Outcome.{LayersGo, LevelSet, Makes, Noticed, Outcome, OutcomeAt, Quiet}
 use Rattle.span_dispatch.specs.Serve.{Run, ServesAsked, ServesRequest, call_of, resolved, resolved_parent}
@@ -36,7 +34,9 @@ use Rattle.span_registry.specs.Behaviour.{OnEvent}
 use Rattle.span_registry.specs.Form.{Form}
 use Rattle.span_registry.specs.Position.{Here, Inner, Outer, Under}
 use Rattle.span_registry.specs.Store.{RegistryState, Store}
+use Rattle.span_promises.proofs.MadeCall.{in_effect}
 use Rattle.span_promises.proofs.Stack.{form_by, form_set}
+use Rattle.span_promises.specs.MadeCall.{Effect, HasOutcomes, NoAnswer, NoEffect, OfDrop, OfExit, OneOutcome, effect_of}
 use Rattle.span_promises.specs.Promises.{IsWanted, Levels, NoneWantedIsDropped, levels_after, one_passes}
 
 -- ---- what is wanted isn't unwanted

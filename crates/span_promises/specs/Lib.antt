@@ -1,5 +1,7 @@
 pub mod Answers
 pub mod Begins
+pub mod Isolation
+pub mod MadeCall
 pub mod Parents
 pub mod Program
 pub mod Promises

@@ -1,7 +1,14 @@
 //! Laws, for proofs above: no call does anything.
+ghost use Rattle.span_core.specs.Filters.{FilterSet};
+ghost use Rattle.span_dispatch.specs.Alone.{PathsActAlike};
+ghost use Rattle.span_dispatch.specs.Outcome.{Outcome};
 ghost use Rattle.span_dispatch.specs.Serve.{Serves};
 ghost use Rattle.span_promises.specs.Answers.{AnswersAreOne};
+ghost use Rattle.span_promises.specs.Isolation.{CallsSeenTheSame, HasSameOutcomes, HaveSameOutcomes, KeepsAgreement, OutcomesSeenTheSame};
+ghost use Rattle.span_promises.specs.MadeCall.{MadeCall};
 ghost use Rattle.span_promises.specs.Parents.{ParentsCloseLast};
+ghost use Rattle.span_registry.specs.Conducts.{ArePlainConducts, Conducts};
+ghost use Rattle.std.specs.Prelude.{List};
 
 use span_registry::Subscriber;
 
@@ -21,4 +28,33 @@ pub fn parents_close_last<S: Subscriber>()
     ensures { ParentsCloseLast S.Subscriber }
 {
     // The proof is by what each outcome does to the store.
+}
+
+/// A leaf sees the same in every stack, and alone: nothing that stands beside its path makes a difference.
+///
+/// Two runs may be of stacks of two types. The same outcomes were made in both, or the same requests were made and answered the
+/// same. The filters round the one leaf are plain; those round the other have the same numbers and act as they do, as the same
+/// filters do by themselves. At first the stores differ in extensions and other filters' verdicts alone.
+///
+/// And what was made of a list is what its made requests say by themselves, whichever stack it is.
+pub fn other_layers_make_no_difference<S: Subscriber, T: Subscriber>()
+    ensures itself { (cs : Conducts) → ArePlainConducts cs → PathsActAlike cs cs }
+    ensures of_outcomes { OutcomesSeenTheSame S.Subscriber T.Subscriber }
+    ensures of_requests { CallsSeenTheSame S.Subscriber T.Subscriber }
+{
+    span_registry::laws::in_store_while_open_or_closing();
+    span_registry::laws::closes_once();
+}
+
+/// A call says by itself what is made of it, whichever stack it is asked of.
+///
+/// On stores that agree, calls that are answered the same have the same outcomes, one by one and in a row, and stores that
+/// agreed before an outcome agree after it.
+pub fn calls_say_what_is_made()
+    ensures one { (numbers : FilterSet) (call : MadeCall) → HasSameOutcomes numbers call }
+    ensures all { (calls : List MadeCall) → HaveSameOutcomes calls }
+    ensures step { (o : Outcome) → KeepsAgreement o }
+{
+    span_registry::laws::in_store_while_open_or_closing();
+    span_registry::laws::closes_once();
 }

@@ -1,13 +1,13 @@
 //! From a script to what it prints.
 ghost use Rattle.std.specs.Prelude.{◌≡◌, string_bytes, IfOk, IfErr, OnOk};
 ghost use Rattle.std.specs.Io.KnownBytes.{Appends};
-ghost use Rattle.span_dispatch.specs.Journal.{IsLegal};
+ghost use Rattle.span_shared.specs.Journal.{IsLegal};
 ghost use Rattle.span_runner.specs.Program.{BlamesFirstWrong, IsRunFault, IsUnwritten, Prints, PrintsShared, RefusesLong, Writes};
 ghost use Rattle.span_stacks.specs.Stacks.{ArePositive};
 
-use span_dispatch::Journal;
 use span_registry::Limits;
 use span_script::{Script, read_script};
+use span_shared::Journal;
 use span_stacks::{RunFault, served_text, shared_text};
 use std::alloc::Global;
 use std::io::{Read, Write};

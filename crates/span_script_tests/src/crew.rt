@@ -2,8 +2,8 @@
 use crate::row::{ROWS, lines};
 use crate::run::{chain_replies, chain_script};
 use span_core::Lane;
-use span_dispatch::{Entry, Journal};
 use span_runner::run_shared;
+use span_shared::{Entry, Journal};
 use span_stacks::RunFault;
 use std::alloc::{AllocError, Global};
 use std::process::Abort;

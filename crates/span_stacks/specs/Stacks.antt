@@ -11,7 +11,7 @@ use Rattle.span_dispatch.specs.Fixed.{RunsBy, kept_at}
 use Rattle.span_dispatch.specs.Outcome.{OutcomeAt}
 use Rattle.span_dispatch.specs.Recorder.{RecorderState, new_recorder}
 use Rattle.span_dispatch.specs.Serve.{IsReady, Served, kept_by, stack_of}
-use Rattle.span_dispatch.specs.Worker.{WorkerState}
+use Rattle.span_shared.specs.Worker.{WorkerState}
 use Rattle.span_dispatch.specs.declared.dispatch.Dispatch.{Dispatch}
 use Rattle.span_dispatch.specs.declared.notice.Notice.{Notice}
 use Rattle.span_dispatch.specs.declared.request.Answer.{Answer}

@@ -1,6 +1,6 @@
 //! Scripts that ten workers serve through one lock, in one thread.
 ghost use Rattle.std.specs.Prelude.{◌≡◌, ◌+◌, ◌-◌, ◌<◌, ◌≤◌, ◌^◌, IfErr, IfOk, length, string_bytes, vec_len};
-ghost use Rattle.span_dispatch.specs.Journal.{IsLegal};
+ghost use Rattle.span_shared.specs.Journal.{IsLegal};
 ghost use Rattle.span_registry.specs.Store.{IsFresh};
 ghost use Rattle.span_stacks.specs.Printed.{GivesShared};
 ghost use Rattle.span_stacks.specs.Stacks.{AreCalled};
@@ -10,9 +10,10 @@ use crate::fault::RunFault;
 use crate::stacks::text_by;
 use crate::way::Way;
 use span_core::Lane;
-use span_dispatch::{Answer, Crew, Dispatch, Journal, Request, Shared, Worker};
+use span_dispatch::{Answer, Call, Dispatch, Request};
 use span_registry::{Limits, Subscriber};
 use span_script::Script;
+use span_shared::{Crew, Journal, Shared, Worker};
 use std::alloc::Global;
 use std::marker::Brand;
 use std::sync::Wait;
@@ -128,5 +129,21 @@ fn ask_by_lane<S: Subscriber, L: Crew>(
     if number >= workers.len() {
         return Answer::Dropped; // A script names no other lane.
     }
-    shared.ask(rt, &mut workers[number], &call)
+    ask_by(rt, shared, &mut workers[number], &call)
+}
+
+/// One call of a worker, answered as a script shows it: a receipt is no part of that.
+fn ask_by<S: Subscriber, L: Crew>(
+    rt: &impl Wait,
+    shared: &Shared<S, L>,
+    worker: &mut Worker<L>,
+    call: &Call<'_>,
+) -> Answer
+    requires { worker.old.calls < 2 ^ 64 - 1 }
+    ensures { worker.new.calls ≤ worker.old.calls + 1 }
+{
+    match shared.ask(rt, worker, call) {
+        Ok((answer, _)) => answer,
+        Err(error) => Answer::Refused(error),
+    }
 }

@@ -4,8 +4,8 @@ ghost use Rattle.std.specs.Prelude.{◌≡◌, ◌+◌, ◌*◌, OnOk};
 use crate::fault::Fault;
 use crate::site;
 use span_core::{Attributes, Event, Id, Level};
-use span_dispatch::{Crew, Shared, Worker};
 use span_registry::Subscriber;
+use span_shared::{Crew, Shared, Worker};
 use std::sync::Wait;
 
 /// Each round sends an event.

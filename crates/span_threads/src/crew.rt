@@ -4,9 +4,10 @@ ghost use Rattle.std.specs.Prelude.{◌≡◌, ◌+◌, IfOk, vec_len};
 
 use crate::work::{Worked, work};
 use span_core::TraceError;
-use span_dispatch::{Crew, Dispatch, Recorder, Shared, Worker};
+use span_dispatch::{Dispatch, Recorder};
 use span_layers::{Layered, SubscriberExt};
 use span_registry::{Registry, Subscriber};
+use span_shared::{Crew, Shared, Worker};
 use std::alloc::Global;
 use std::marker::Brand;
 use std::sync::Wait;

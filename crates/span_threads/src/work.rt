@@ -2,8 +2,8 @@
 ghost use Rattle.std.specs.Prelude.{◌≡◌, ◌+◌, ◌-◌, ◌<◌, ◌≤◌, ◌^◌};
 
 use span_core::{Attributes, Event, FieldSet, Kind, Level, Metadata, TraceError};
-use span_dispatch::{Crew, Shared, Worker};
 use span_registry::Subscriber;
+use span_shared::{Crew, Shared, Worker};
 use std::sync::Wait;
 
 /// How many requests a thread makes.

@@ -16,4 +16,4 @@ returns-in-Ok-with-clause-stands g c = (_, _, put_over c.numbers_are_own.ensures
 
 pub returns-in-Ok-with-clause-records : goal.returns-in-Ok-with-clause-records
 returns-in-Ok-with-clause-records g c =
-    records_alone _ c.other_layers_make_no_difference.ensures.requests_alone (Outer Here) outer_of [] _ (c.in-Ok-with.ensures.attached.layer_as_it_was ∙ c.new-2.ensures) (λ y used. (used.0, refl)) (λ y z h k. heard_records h (outer_of y) (outer_of z) k)
+    records_alone _ c.other_layers_make_no_difference.ensures.of_requests.requests_alone (Outer Here) outer_of [] _ (c.in-Ok-with.ensures.attached.layer_as_it_was ∙ c.new-2.ensures) (λ y used. (used.0, refl)) (λ y z h k. heard_records h (outer_of y) (outer_of z) k)

@@ -1,20 +1,11 @@
 use Rattle.std.proofs.Common.{refl, rules}
-use Rattle.span_dispatch.proofs.KeptHint.{asks_as, goes_as}
+use Rattle.span_dispatch.proofs.CallerLemmas.{registered_by_stack}
+use Rattle.span_dispatch.proofs.Asked.{asks_as}
 use Rattle.span_dispatch.proofs.Ready.{level_by_rules, ready_by_rules, unchanged_ready}
-use Rattle.span_dispatch.specs.declared.call.Call.TheVariants.{OpenSpan, Probe, SendEvent}
 use Rattle.span_dispatch.proofs.dispatch.Dispatch.ask.Goals as goal
 
 pub returns-in-OpenSpan-clause-ready : goal.returns-in-OpenSpan-clause-ready
 returns-in-OpenSpan-clause-ready g c = ready_by_rules c.args.self.now c.new_span.new.self c.new_span.ensures.ready
-
-pub returns-in-OpenSpan-clause-kept : goal.returns-in-OpenSpan-clause-kept
-returns-in-OpenSpan-clause-kept g c = goes_as g.S.LookupSpan.registry c.args.call.now (OpenSpan c.in-OpenSpan.lane c.in-OpenSpan.attributes) c.of_span.result c.of_span.result c.args.self.now c.new_span.new.self c.in-OpenSpan.is refl (c.new_span.result, c.of_span.ensures, c.new_span.ensures.opens.kept)
-
-pub returns-in-SendEvent-clause-kept : goal.returns-in-SendEvent-clause-kept
-returns-in-SendEvent-clause-kept g c = goes_as g.S.LookupSpan.registry c.args.call.now (SendEvent c.in-SendEvent.lane c.in-SendEvent.event) c.of_event.result c.of_event.result c.args.self.now c.event.new.self c.in-SendEvent.is refl (c.event.result, c.of_event.ensures, c.event.ensures.sends.kept)
-
-pub returns-in-Probe-clause-kept : goal.returns-in-Probe-clause-kept
-returns-in-Probe-clause-kept g c = goes_as g.S.LookupSpan.registry c.args.call.now (Probe c.in-Probe.lane c.in-Probe.metadata) c.of_yes-in-Probe.result c.of_yes-in-Probe.result c.args.self.now c.enabled.new.self c.in-Probe.is refl (c.enabled.result, c.of_yes-in-Probe.ensures, c.enabled.ensures.probes.kept)
 
 pub returns-in-SendEvent-clause-ready : goal.returns-in-SendEvent-clause-ready
 returns-in-SendEvent-clause-ready g c = ready_by_rules c.args.self.now c.event.new.self c.event.ensures.ready
@@ -48,3 +39,24 @@ returns-in-SetLevel-clause-ready g c = level_by_rules c.in-SetLevel.number c.arg
 
 pub returns-in-Enter-clause-asks : goal.returns-in-Enter-clause-asks
 returns-in-Enter-clause-asks g c = asks_as _ c.args.call.now _ _ c.args.self.now c.enter.new.self c.in-Enter.is (c.enter.result, search rules, c.enter.ensures.enters)
+
+pub returns-in-Enter-clause-registered : goal.returns-in-Enter-clause-registered
+returns-in-Enter-clause-registered g c = registered_by_stack c.args.self.now c.enter.new.self c.enter.ensures.enters.rest
+
+pub returns-in-Exit-clause-registered : goal.returns-in-Exit-clause-registered
+returns-in-Exit-clause-registered g c = registered_by_stack c.args.self.now c.exit.new.self c.exit.ensures.exits.rest
+
+pub returns-in-RecordValues-clause-registered : goal.returns-in-RecordValues-clause-registered
+returns-in-RecordValues-clause-registered g c = registered_by_stack c.args.self.now c.record.new.self c.record.ensures.records.rest
+
+pub returns-in-Follow-clause-registered : goal.returns-in-Follow-clause-registered
+returns-in-Follow-clause-registered g c = registered_by_stack c.args.self.now c.follows_from.new.self c.follows_from.ensures.follows.rest
+
+pub returns-in-AddHandle-clause-registered : goal.returns-in-AddHandle-clause-registered
+returns-in-AddHandle-clause-registered g c = registered_by_stack c.args.self.now c.clone_span.new.self c.clone_span.ensures.clones.rest
+
+pub returns-in-DropHandle-clause-registered : goal.returns-in-DropHandle-clause-registered
+returns-in-DropHandle-clause-registered g c = registered_by_stack c.args.self.now c.drop_span.new.self c.drop_span.ensures.drops.rest
+
+pub returns-in-AskCurrent-clause-registered : goal.returns-in-AskCurrent-clause-registered
+returns-in-AskCurrent-clause-registered g c = λ r h. h

@@ -1,7 +1,7 @@
 use Rattle.std.proofs.Common.{refl, ◌+◌, ap, arith, sym, subst, take, [], ◌∙◌, rules}
 use Rattle.std.proofs.lemmas.List.{take_all, take_more}
-use Rattle.span_dispatch.proofs.KeptHint.{one_goes}
-use Rattle.span_dispatch.specs.KeptHint.{AllGoByKept}
+use Rattle.span_dispatch.proofs.Asked.{one_asked}
+use Rattle.span_dispatch.specs.Ask.{AsksEach}
 use Rattle.span_registry.specs.Store.{AreIssued, RegistryState}
 use Rattle.span_dispatch.proofs.Served.{SoFar, all_served, nothing_yet, one_more}
 use Rattle.span_dispatch.proofs.dispatch.Dispatch.serve_into.Goals as goal
@@ -12,7 +12,8 @@ loop-request-init g c =
     record {
       usable = c.requires.usable;
       served = subst (SoFar (record { registry = g.S.LookupSpan.registry; with_registry = g.S.LookupSpan.with_registry; usable = g.S.Subscriber.usable; has_form = g.S.Subscriber.has_form; stepped = g.S.Subscriber.stepped; hears = g.S.Subscriber.hears; acts_at = g.S.Subscriber.acts_at; levelled = g.S.Subscriber.levelled; registered = g.S.Subscriber.registered }) c.args.self.now c.args.self.now []) (sym e.items) (nothing_yet (record { registry = g.S.LookupSpan.registry; with_registry = g.S.LookupSpan.with_registry; usable = g.S.Subscriber.usable; has_form = g.S.Subscriber.has_form; stepped = g.S.Subscriber.stepped; hears = g.S.Subscriber.hears; acts_at = g.S.Subscriber.acts_at; levelled = g.S.Subscriber.levelled; registered = g.S.Subscriber.registered }) c.args.self.now);
-      kept = subst (λ us. AllGoByKept g.S.LookupSpan.registry [] [] us c.args.self.now c.args.self.now) (sym e.items) refl;
+      asks = subst (λ us. AsksEach (record { registry = g.S.LookupSpan.registry; with_registry = g.S.LookupSpan.with_registry; usable = g.S.Subscriber.usable; has_form = g.S.Subscriber.has_form; stepped = g.S.Subscriber.stepped; hears = g.S.Subscriber.hears; acts_at = g.S.Subscriber.acts_at; levelled = g.S.Subscriber.levelled; registered = g.S.Subscriber.registered }) [] [] us c.args.self.now c.args.self.now) (sym e.items) refl;
+      registered = λ r h. h;
       len = search rules;
       room = search rules;
       capacity = search rules;
@@ -37,7 +38,8 @@ loop-request-preserved g c =
       served =
           one_more (record { registry = g.S.LookupSpan.registry; with_registry = g.S.LookupSpan.with_registry; usable = g.S.Subscriber.usable; has_form = g.S.Subscriber.has_form; stepped = g.S.Subscriber.stepped; hears = g.S.Subscriber.hears; acts_at = g.S.Subscriber.acts_at; levelled = g.S.Subscriber.levelled; registered = g.S.Subscriber.registered }) c.args.self.now now next (take i xs) (take (i + 1) xs) _ c.loop-request.answers.items c.append.new.answers.items a _ h.served c.deref.ensures.value c.append.ensures.items
           (take_more xs i _ c.loop-request-test.true) c.serve_one-answer.ensures.ready c.serve_one-answer.ensures.served;
-      kept = one_goes g.S.LookupSpan.registry c.args.self.now now next (take i xs) (take (i + 1) xs) _ c.loop-request.answers.items c.append.new.answers.items a _ h.kept c.deref.ensures.value c.append.ensures.items (take_more xs i _ c.loop-request-test.true) c.serve_one-answer.ensures.kept;
+      asks = one_asked (record { registry = g.S.LookupSpan.registry; with_registry = g.S.LookupSpan.with_registry; usable = g.S.Subscriber.usable; has_form = g.S.Subscriber.has_form; stepped = g.S.Subscriber.stepped; hears = g.S.Subscriber.hears; acts_at = g.S.Subscriber.acts_at; levelled = g.S.Subscriber.levelled; registered = g.S.Subscriber.registered }) c.args.self.now now next (take i xs) (take (i + 1) xs) _ c.loop-request.answers.items c.append.new.answers.items a _ h.asks c.deref.ensures.value c.append.ensures.items (take_more xs i _ c.loop-request-test.true) c.serve_one-answer.ensures.asks;
+      registered = λ r known. c.serve_one-answer.ensures.registered r (h.registered r known);
       len = c.append.ensures.len ∙ ap (λ n. n + 1) h.len;
       room = omega (arith, h.room, c.append.ensures.capacity);
       capacity = omega (arith, h.capacity, c.append.ensures.capacity);
@@ -54,9 +56,12 @@ returns-clause-served g c = λ ready.
     all_served (record { registry = g.S.LookupSpan.registry; with_registry = g.S.LookupSpan.with_registry; usable = g.S.Subscriber.usable; has_form = g.S.Subscriber.has_form; stepped = g.S.Subscriber.stepped; hears = g.S.Subscriber.hears; acts_at = g.S.Subscriber.acts_at; levelled = g.S.Subscriber.levelled; registered = g.S.Subscriber.registered }) g.met.S.Subscriber.laws g.met.S.Subscriber.paths g.met.S.Subscriber.levels ready.0 c.args.self.now c.loop-request.self c.args.requests.now (take c.loop-request.request-index c.args.requests.now) c.loop-request.answers.items
     (subst (λ x. AreIssued (g.S.LookupSpan.registry x).store) c.stack.ensures (subst (λ (s : RegistryState). AreIssued s.store) c.root.ensures c.a_registry_is_sound.ensures.issued)) (take_all c.loop-request.request-index c.args.requests.now c.loop-request-test.false) (c.loop-request.invariant.served ready.0 ready.1)
 
-pub returns-clause-kept : goal.returns-clause-kept
-returns-clause-kept g c =
-    subst (λ rs. AllGoByKept g.S.LookupSpan.registry [] rs c.loop-request.answers.items c.args.self.now c.loop-request.self) (take_all c.loop-request.request-index c.args.requests.now c.loop-request-test.false) c.loop-request.invariant.kept
+pub returns-clause-asks : goal.returns-clause-asks
+returns-clause-asks g c = record {
+  registered = c.loop-request.invariant.registered;
+  each =
+      subst (λ rs. AsksEach (record { registry = g.S.LookupSpan.registry; with_registry = g.S.LookupSpan.with_registry; usable = g.S.Subscriber.usable; has_form = g.S.Subscriber.has_form; stepped = g.S.Subscriber.stepped; hears = g.S.Subscriber.hears; acts_at = g.S.Subscriber.acts_at; levelled = g.S.Subscriber.levelled; registered = g.S.Subscriber.registered }) [] rs c.loop-request.answers.items c.args.self.now c.loop-request.self) (take_all c.loop-request.request-index c.args.requests.now c.loop-request-test.false) c.loop-request.invariant.asks;
+}
 
 pub returns-clause-room : goal.returns-clause-room
 returns-clause-room g c = c.loop-request.invariant.capacity

@@ -1,0 +1,2 @@
+mod Journalled
+mod Legal

@@ -1,0 +1,133 @@
+-- What the contract of each call of a logged dispatcher says: what the dispatcher promises of it, where it isn't refused, and which entry it adds.
+use Rattle.std.specs.Prelude.{◌≡◌, ◌⊎◌, Bool, Option, None, Some, Result, Ok, Err, IfErr, IfOk}
+use Rattle.std.specs.FinMap.{get}
+use Rattle.std.specs.Option.{option_map}
+use Rattle.span_core.specs.Event.{event_metadata, event_parent}
+use Rattle.span_core.specs.Span.{asked_parent, current_span, metadata_of, number_of}
+use Rattle.span_core.specs.declared.error.TraceError.TheVariants.{OutOfMemory}
+use Rattle.span_core.specs.declared.error.TraceError.{TraceError}
+use Rattle.span_core.specs.declared.event.Event.{Event}
+use Rattle.span_core.specs.declared.span.Attributes.{Attributes}
+use Rattle.span_core.specs.declared.span.Current.{Current}
+use Rattle.span_core.specs.declared.span.Id.{Id}
+use Rattle.span_core.specs.declared.span.Lane.{Lane}
+use Rattle.span_dispatch.specs.Call.{done_answer, event_answer, look_answer, span_answer, yes_answer}
+use Rattle.span_dispatch.specs.Contract.{ClonesSpan, DropsOneHandle, EntersSpan, ExitsSpan, FollowsSpan, OpensSpan, Probes, RecordsValues, SendsEvent, ServesCurrent, SetsOneLevel, Shows, SubscriberOf, registry_of}
+use Rattle.span_shared.specs.Journal.{Adds, Entry, LoggedState, Placed}
+use Rattle.span_dispatch.specs.declared.call.Call.TheVariants.{AddHandle, AskCurrent, DropHandle, Enter, Exit, Follow, OpenSpan, Probe, RecordValues, SendEvent, SetLevel}
+use Rattle.span_dispatch.specs.declared.call.Call.{Call}
+use Rattle.span_dispatch.specs.declared.dispatch.Dispatch.{Dispatch}
+use Rattle.span_shared.specs.declared.entry.EntryWith.TheVariants as entry
+use Rattle.span_dispatch.specs.declared.request.Answer.{Answer}
+use Rattle.span_registry.specs.Store.{Span, Spans}
+
+-- an answer with its receipt, or why the call was refused
+abbrev pub Answered : Type 0 → Type 0
+Answered A = Result (A × Placed) TraceError
+
+-- between the dispatchers of two logged ones
+abbrev pub On : {D : Type 0} → (D → D → Type 0) → LoggedState D → LoggedState D → Type 0
+On holds old new = holds old.dispatch new.dispatch
+
+-- a call that is never refused, of what it gives and the dispatcher before and after it
+abbrev pub NeverRefused : {D A : Type 0} → (A → D → D → Type 0) → Result A TraceError → D → D
+    → Type 0
+NeverRefused serves (Ok a) old new = serves a old new
+NeverRefused serves (Err e) old new = ⊥
+
+-- the call is refused for want of memory, or as the dispatcher refuses it
+abbrev pub OrNoMemory : (TraceError → Type 0) → TraceError → Type 0
+OrNoMemory refuses e = (e ≡ OutOfMemory) ⊎ refuses e
+
+-- an entry, which may have what the call gave in it, was put behind the journal, and the receipt is of it
+abbrev pub AddsEntry : {D A : Type 0} → (A → Entry) → A × Placed → LoggedState D → LoggedState D
+    → Type 0
+AddsEntry entry r old new = Adds (entry r.0) old.journal r.1 new.journal
+
+-- a call is served as the dispatcher serves it, and adds its entry. Refused it adds none; and it may be refused for want of memory for the journal, before the dispatcher is asked
+pub record Logs {D A : Type 0} (serves : Result A TraceError → D → D → Type 0)
+    (adds : A × Placed → LoggedState D → LoggedState D → Type 0) (result : Answered A)
+    (old new : LoggedState D) : Type 0 where
+  pub done : IfOk result (λ r. serves (Ok r.0) old.dispatch new.dispatch × adds r old new)
+  pub refused : IfErr result
+      (λ e. ((e ≡ OutOfMemory) × (new ≡ old))
+      ⊎ (serves (Err e) old.dispatch new.dispatch × (new.journal ≡ old.journal)))
+
+-- what a call gave, with the answer in place of its value; its receipt is the same
+abbrev pub answered : {A : Type 0} → (Result A TraceError → Answer) → Answered A → Answered Answer
+answered answer_of (Ok r) = Ok (answer_of (Ok r.0), r.1)
+answered answer_of (Err e) = Err e
+
+-- a call gave something of which this is the answer with its receipt, and this holds of what it gave
+abbrev pub Gave : {A : Type 0} → (Result A TraceError → Answer) → Answered Answer
+    → (Answered A → Type 0) → Type 0
+Gave {A} answer_of result holds =
+    (given : Answered A) × (result ≡ answered answer_of given) × holds given
+
+-- the entry of an event, by whether it was made
+abbrev pub event_entry : Lane → Event → Bool → Entry
+event_entry lane e made = entry.Event lane (event_metadata e) (event_parent e) made
+
+-- the entry of the current span that was shown
+abbrev pub current_entry : Lane → Current → Entry
+current_entry lane shown = entry.Current lane (option_map (λ o. o.0) (current_span shown))
+
+-- the entry of a new span that was made or not, with the verdict that these spans keep of it
+abbrev pub AddsSpan : {D : Type 0} → Lane → Attributes → Spans → Option Id × Placed → LoggedState D
+    → LoggedState D → Type 0
+AddsSpan lane attrs spans (None, receipt) old new =
+    Adds (entry.Unmade lane (metadata_of attrs)) old.journal receipt new.journal
+AddsSpan lane attrs spans (Some id, receipt) old new =
+    (kept : Span) × (get spans (number_of id) ≡ Some kept)
+    × Adds (entry.New lane (metadata_of attrs) (asked_parent attrs) kept.verdict id) old.journal
+    receipt new.journal
+
+module _ {S : Type 0} (s : SubscriberOf S) where
+  -- the entry of a new span, with the verdict that the store keeps of it
+  abbrev pub AddsNewSpan : Lane → Attributes → Option Id × Placed → LoggedState (Dispatch S)
+      → LoggedState (Dispatch S) → Type 0
+  AddsNewSpan lane attrs r old new =
+      AddsSpan lane attrs (registry_of s new.dispatch).store.spans r old new
+
+  -- the current span is shown, and nothing changes
+  abbrev pub ShowsSpan : Lane → Current → Dispatch S → Dispatch S → Type 0
+  ShowsSpan lane shown old new =
+      Shows s lane old shown × ServesCurrent s lane shown old × (new ≡ old)
+
+  -- a call from this lane, whichever it names, is answered and logged as the call of its kind is
+  abbrev pub LogsCall : Lane → Call → Answered Answer → LoggedState (Dispatch S)
+      → LoggedState (Dispatch S) → Type 0
+  LogsCall lane (OpenSpan l attrs) a old new =
+      Gave span_answer a
+      (λ r. Logs (OpensSpan s lane attrs) (AddsNewSpan lane attrs) r old new)
+  LogsCall lane (SendEvent l e) a old new =
+      Gave event_answer a
+      (λ r. Logs (SendsEvent s lane e) (AddsEntry (event_entry lane e)) r old new)
+  LogsCall lane (Enter l id) a old new =
+      Gave done_answer a
+      (λ r. Logs (EntersSpan s lane id) (AddsEntry (λ u. entry.Enter lane id)) r old new)
+  LogsCall lane (Exit l id) a old new =
+      Gave {A = Unit {0}} done_answer a
+      (λ r. Logs (NeverRefused (λ u. ExitsSpan s lane id)) (AddsEntry (λ u. entry.Exit lane id)) r
+      old new)
+  LogsCall lane (RecordValues l id values) a old new =
+      Gave done_answer a
+      (λ r. Logs (RecordsValues s lane id values) (AddsEntry (λ u. entry.Record lane id)) r old new)
+  LogsCall lane (Follow l id other) a old new =
+      Gave done_answer a
+      (λ r. Logs (FollowsSpan s lane id other) (AddsEntry (λ u. entry.Follows lane id other)) r old
+      new)
+  LogsCall lane (AddHandle l id) a old new =
+      Gave done_answer a
+      (λ r. Logs (ClonesSpan s lane id) (AddsEntry (λ u. entry.Clone lane id)) r old new)
+  LogsCall lane (DropHandle l id) a old new =
+      Gave yes_answer a
+      (λ r. Logs (DropsOneHandle s lane id) (AddsEntry (entry.Drop lane id)) r old new)
+  LogsCall lane (Probe l m) a old new =
+      Gave yes_answer a (λ r. Logs (Probes s lane m) (AddsEntry (entry.Probe lane m)) r old new)
+  LogsCall lane (AskCurrent l) a old new =
+      Gave look_answer a
+      (λ r. Logs (NeverRefused (ShowsSpan lane)) (AddsEntry (current_entry lane)) r old new)
+  LogsCall lane (SetLevel n level) a old new =
+      Gave {A = Unit {0}} done_answer a
+      (λ r. Logs (SetsOneLevel s n level) (AddsEntry (λ u. entry.Level lane n level)) r old new)
