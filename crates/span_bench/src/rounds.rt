@@ -152,6 +152,8 @@ pub fn cascade<S: Subscriber>(
 }
 
 /// Each round walks through a chain of so many spans, the deepest first.
+// (compiled by itself: what else its caller keeps in registers would be moved aside in the walk)
+#[inline(never)]
 pub fn scope<S: Subscriber>(
     alloc: Global,
     dispatch: &mut Dispatch<S>,
@@ -174,6 +176,8 @@ pub fn scope<S: Subscriber>(
 }
 
 /// Each round walks through a chain of so many spans, the root first.
+// (compiled by itself: what else its caller keeps in registers would be moved aside in the walk)
+#[inline(never)]
 pub fn from_root<S: Subscriber>(
     alloc: Global,
     dispatch: &mut Dispatch<S>,
