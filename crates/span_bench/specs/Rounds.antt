@@ -11,9 +11,9 @@ use Rattle.span_core.specs.declared.span.Id.{Id}
 use Rattle.span_dispatch.specs.Registration.{IsRegistered}
 use Rattle.span_dispatch.specs.declared.dispatch.Dispatch.{Dispatch}
 use Rattle.span_dispatch.specs.declared.registration.Registration.{Registration}
-use Rattle.span_registry.specs.Extensions.{Place, value_under}
-use Rattle.span_registry.specs.Store.{IsChain, RegistryState}
-use Rattle.span_registry.specs.declared.tag.Tag.{Tag}
+use Rattle.span_extensions.specs.Extensions.{Place, value_under}
+use Rattle.span_extensions.specs.declared.tag.Tag.{Tag}
+use Rattle.span_store.specs.Store.{IsChain, RegistryState}
 
 -- so many spans stand from this one up to its root, counted to the highest number that there is
 abbrev pub IsDepth : RegistryState → Id → ℕ → Type 0

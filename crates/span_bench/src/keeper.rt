@@ -4,8 +4,8 @@ ghost use Rattle.span_registry.specs.Context.{WritesExtensions};
 ghost use Rattle.span_registry.specs.Subscriber.{SameButExtensions};
 
 use span_core::Id;
-use span_layers::{Observe, Observed};
-use span_registry::{ContextMut, Subscriber, Tag};
+use span_layers::Observe;
+use span_registry::{ContextMut, Notice, Subscriber, Tag};
 
 /// Keeps a number with each new span, under a tag that the span has no value of.
 #[derive(Drop)]
@@ -14,8 +14,8 @@ pub struct Keeper;
 impl<S: Subscriber> Observe<S> for Keeper {
     ghost observed = { λ x e lane under v y w. (y ≡ x) × SameButExtensions v w };
 
-    fn observe(&mut self, notice: Observed<'_, '_>, ctx: &mut ContextMut<'_, S>) {
-        if let Observed::NewSpan(_, id) = notice {
+    fn observe(&mut self, notice: Notice<'_, '_>, ctx: &mut ContextMut<'_, S>) {
+        if let Notice::NewSpan(_, id) = notice {
             keep(id, ctx);
         }
     }

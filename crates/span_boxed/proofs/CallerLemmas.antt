@@ -11,6 +11,7 @@ use Rattle.span_core.specs.Filters.{FilterSet}
 use Rattle.span_filters.proofs.CallerLemmas.{IsBoxOf, in_a_box}
 use Rattle.span_layers.specs.Acts.{PathLaws}
 use Rattle.span_layers.specs.Layer.{LayerSteps}
+use Rattle.span_store.specs.Store.{RegistryState}
 use Rattle.span_registry.specs.Behaviour.{Notice}
 use Rattle.span_registry.specs.Conducts.{ActsAt, Conducts}
 use Rattle.span_registry.specs.Form.{Form}
@@ -18,7 +19,6 @@ use Rattle.span_registry.specs.Levels.{LevelSteps}
 use Rattle.span_registry.specs.Path.{mask_at}
 use Rattle.span_registry.specs.Position.{Heard, HearLaws, HearSteps, Position, heard_by, told_in}
 use Rattle.span_registry.specs.Plan.{Plan}
-use Rattle.span_registry.specs.Store.{RegistryState}
 
 -- T and at are `own-1` and `at-1-1` of the caller's `OwnLists`: the types that it puts into boxes, and the one in this box
 module _ {G : Type 0 → Type 1} {C : Type 0} (T : Table G C) (at : T.I) where
@@ -31,44 +31,56 @@ module _ {G : Type 0 → Type 1} {C : Type 0} (T : Table G C) (at : T.I) where
   Holds b x = IsBoxOf T at b.object.vtable b.object.value x
 
   -- a boxed layer has the form of the layer
-  pub form_in_a_box : (form : (j : Entry G C) → j.0.Denot → Form → Type 0) (b : Boxed) (x : (T.entry at).0.Denot) (f : Form) → Holds b x → form (T.entry at) x f → form (T.entry b.object.vtable) b.object.value f
+  pub form_in_a_box : (form : (j : Entry G C) → j.0.Denot → Form → Type 0) (b : Boxed) (x : (T.entry at).0.Denot) (f : Form)
+      → Holds b x → form (T.entry at) x f → form (T.entry b.object.vtable) b.object.value f
   form_in_a_box form b x f made h = in_a_box T at (λ j z. form j z f) made h
 
   -- and its paths act as the layer's do
-  pub acts_in_a_box : (form : (j : Entry G C) → j.0.Denot → Form → Type 0) (acts_at : (j : Entry G C) → ActsAt j.0.Denot) {steps : LayerSteps (T.entry at).0.Denot} {registered : (T.entry at).0.Denot → (T.entry at).0.Denot → Type 0}
-      → PathLaws (form (T.entry at)) steps registered (acts_at (T.entry at)) → (b : Boxed) (x : (T.entry at).0.Denot) (position : Position) (cs : Conducts) → Holds b x → acts_at (T.entry at) x position cs
+  pub acts_in_a_box : (form : (j : Entry G C) → j.0.Denot → Form → Type 0) (acts_at : (j : Entry G C) → ActsAt j.0.Denot)
+      {steps : LayerSteps (T.entry at).0.Denot} {registered : (T.entry at).0.Denot → (T.entry at).0.Denot → Type 0}
+      → PathLaws (form (T.entry at)) steps registered (acts_at (T.entry at))
+      → (b : Boxed) (x : (T.entry at).0.Denot) (position : Position) (cs : Conducts) → Holds b x → acts_at (T.entry at) x position cs
       → ActsPlainlyAt (form (T.entry b.object.vtable)) (acts_at (T.entry b.object.vtable)) b.object.value position cs
-  acts_in_a_box form acts_at paths b x position cs made h = in_a_box T at (λ j z. ActsPlainlyAt (form j) (acts_at j) z position cs) made (acts_plainly paths x position cs h)
+  acts_in_a_box form acts_at paths b x position cs made h =
+      in_a_box T at (λ j z. ActsPlainlyAt (form j) (acts_at j) z position cs) made (acts_plainly paths x position cs h)
 
   module _ (change : (j : Entry G C) → j.0.Denot → j.0.Denot → Type 0) (x : (T.entry at).0.Denot) where
     -- the layer changed so, and the box is one of what it became
     abbrev pub ChangesTo : (i : T.I) → (T.entry i).0.Denot → Type 0
     ChangesTo i new = (y : (T.entry at).0.Denot) × IsBoxOf T at i new y × change (T.entry at) x y
 
-    changed : (i : T.I) → at ≡ i → (y new : (T.entry i).0.Denot) → (T.entry i).0.coded.code y ≡ (T.entry at).0.coded.code x → change (T.entry i) y new → ChangesTo i new
+    changed : (i : T.I)
+        → at ≡ i → (y new : (T.entry i).0.Denot) → (T.entry i).0.coded.code y ≡ (T.entry at).0.coded.code x → change (T.entry i) y new → ChangesTo i new
     changed i same =
-        subst (λ (k : T.I). (y new : (T.entry k).0.Denot) → (T.entry k).0.coded.code y ≡ (T.entry at).0.coded.code x → change (T.entry k) y new → ChangesTo k new) same
+        subst (λ (k : T.I). (y new : (T.entry k).0.Denot)
+        → (T.entry k).0.coded.code y ≡ (T.entry at).0.coded.code x → change (T.entry k) y new → ChangesTo k new) same
         (λ y new code s. (new, record { index = refl; codes = refl }, subst (λ z. change (T.entry at) z new) ((T.entry at).0.coded.inj y x code) s))
 
     -- and changes as the layer does: where it is put in use, or on a registry
     pub changes_in_a_box : (b c : Boxed) → Holds b x → ChangesInside (λ k. change (T.entry k.object.vtable)) b c → ChangesTo c.object.vtable c.object.value
     changes_in_a_box b c made s =
-        subst (λ (o : DynBox T.I Global (λ i. (T.entry i).0.Denot)). ChangesTo o.vtable o.value) (sym s.1) (changed b.object.vtable (sym made.index) b.object.value s.0 made.codes s.2)
+        subst (λ (o : DynBox T.I Global (λ i. (T.entry i).0.Denot)). ChangesTo o.vtable o.value)
+        (sym s.1) (changed b.object.vtable (sym made.index) b.object.value s.0 made.codes s.2)
 
   -- it goes on as the layer does, where it is notified
-  pub steps_in_a_box : (steps : (j : Entry G C) → LayerSteps j.0.Denot) (x : (T.entry at).0.Denot) (b : Boxed) (p : Plan) (e : Notice) (lane : ℕ) (under : FilterSet) (v : RegistryState) (c : Boxed) (w : RegistryState)
-      → Holds b x → StepsInside (λ k. steps (T.entry k.object.vtable)) b p e lane under v c w → ChangesTo (λ j y z. steps j y p e lane under v z w) x c.object.vtable c.object.value
+  pub steps_in_a_box : (steps : (j : Entry G C) → LayerSteps j.0.Denot) (x : (T.entry at).0.Denot)
+      (b : Boxed) (p : Plan) (e : Notice) (lane : ℕ) (under : FilterSet) (v : RegistryState) (c : Boxed) (w : RegistryState)
+      → Holds b x → StepsInside (λ k. steps (T.entry k.object.vtable)) b p e lane under v c w
+      → ChangesTo (λ j y z. steps j y p e lane under v z w) x c.object.vtable c.object.value
   steps_in_a_box steps x b p e lane under v c w made s = changes_in_a_box (λ j y z. steps j y p e lane under v z w) x b c made s
 
-  module _ (form : (j : Entry G C) → j.0.Denot → Form → Type 0) (steps : (j : Entry G C) → LayerSteps j.0.Denot) (levelled : (j : Entry G C) → LevelSteps j.0.Denot) (hears : (j : Entry G C) → HearSteps j.0.Denot) (acts_at : (j : Entry G C) → ActsAt j.0.Denot)
+  module _ (form : (j : Entry G C) → j.0.Denot → Form → Type 0) (steps : (j : Entry G C) → LayerSteps j.0.Denot)
+      (levelled : (j : Entry G C) → LevelSteps j.0.Denot) (hears : (j : Entry G C) → HearSteps j.0.Denot) (acts_at : (j : Entry G C) → ActsAt j.0.Denot)
       (laws : HearLaws (hears (T.entry at))) (x : (T.entry at).0.Denot) (b : Boxed) (made : Holds b x) (position : Position) where
     -- what a box hears, lawfully
     abbrev pub BoxHearsLawfully : HearSteps Boxed
-    BoxHearsLawfully = HearsLawfully (λ k. form (T.entry k.object.vtable) k.object.value) (StepsInside (λ k. steps (T.entry k.object.vtable))) (LevelsInside (λ k. levelled (T.entry k.object.vtable))) (HearsInside (λ k. hears (T.entry k.object.vtable)))
+    BoxHearsLawfully = HearsLawfully (λ k. form (T.entry k.object.vtable) k.object.value) (StepsInside (λ k. steps (T.entry k.object.vtable)))
+        (LevelsInside (λ k. levelled (T.entry k.object.vtable))) (HearsInside (λ k. hears (T.entry k.object.vtable)))
         (λ k. acts_at (T.entry k.object.vtable) k.object.value)
 
     -- and hears as the layer does
-    pub hears_in_a_box : {h : Heard} {c : Boxed} → BoxHearsLawfully b position h c → ChangesTo (λ j y z. hears j y position h z) x c.object.vtable c.object.value
+    pub hears_in_a_box : {h : Heard} {c : Boxed}
+        → BoxHearsLawfully b position h c → ChangesTo (λ j y z. hears j y position h z) x c.object.vtable c.object.value
     hears_in_a_box Nothing = (x, made, laws.nothing x position)
     hears_in_a_box (Further {h} {y} {z} before p e lane under v w f s has) =
         let u = hears_in_a_box before in

@@ -1,19 +1,21 @@
 //! Boxed layers: layers whose type is picked while the program runs.
 ghost use Rattle.std.specs.Prelude.{◌≡◌};
-ghost use Rattle.span_boxed.specs.Boxed.{ActsPlainlyAt, ChangesInside, HearsInside, HearsLawfully, LevelsInside, LevelsLawfully, RegistersLawfully, StepsInside, StepsLawfully, object_laws, object_levels, object_path_laws};
+ghost use Rattle.span_boxed.specs.Boxed.{ActsPlainlyAt, ChangesInside, HearsInside, HearsLawfully, LevelsInside, LevelsLawfully, RegistersLawfully, StepsInside, StepsLawfully};
+ghost use Rattle.span_boxed.specs.laws.Boxed.{object_laws, object_levels, object_path_laws};
 
 use crate::object::DynLayer;
-use span_core::{Attributes, Event, Id, Interest, LevelFilter, Metadata, Pass, Record};
+use span_core::{Event, Interest, LevelFilter, Metadata, Pass};
 use span_layers::Layer;
-use span_registry::{Context, ContextMut, Subscriber};
+use span_registry::{Context, ContextMut, Notice, Subscriber};
 use std::fmt;
 
-/// A layer in a box, which adds nothing to it: it has the form of the layer in the box. It is a layer over each subscriber: what
-/// it is asked and notified of, the layer in the box is, over the registry that the subscriber stands on, from the same lane,
-/// under the same mask and with the same refusals. So an event that the layer in the box sends reaches nobody.
+/// A layer in a box, which adds nothing to it: it has the form of the layer in the box. It is a
+/// layer over each subscriber: what it is asked and notified of, the layer in the box is, over the
+/// registry that the subscriber stands on, from the same lane, under the same mask and with the
+/// same refusals. An event that the layer in the box sends reaches nobody.
 ///
-/// A layer of a concrete type is boxed, one without closures and without boxes. Stands for
-/// `Box<dyn tracing_subscriber::Layer<S> + Send + Sync>` where that is a layer.
+/// A layer of a concrete type is boxed, one without closures and without boxes. Stands for `Box<dyn
+/// tracing_subscriber::Layer<S> + Send + Sync>` where that is a layer.
 pub struct BoxedLayer {
     /// The layer in its box.
     pub object: Box<dyn DynLayer + Send>,
@@ -110,55 +112,9 @@ impl<S: Subscriber> Layer<S> for BoxedLayer {
         self.object.dyn_is_absent()
     }
 
-    fn on_new_span(&mut self, attrs: &Attributes<'_>, id: Id, ctx: &mut ContextMut<'_, S>) {
+    fn notify(&mut self, notice: Notice<'_, '_>, ctx: &mut ContextMut<'_, S>) {
         let mut root = ctx.take_root();
-        self.object
-            .dyn_on_new_span(attrs, id, &mut ctx.over(&mut root));
-        ctx.put_root(root);
-    }
-
-    fn on_record(&mut self, id: Id, values: &Record<'_>, ctx: &mut ContextMut<'_, S>) {
-        let mut root = ctx.take_root();
-        self.object
-            .dyn_on_record(id, values, &mut ctx.over(&mut root));
-        ctx.put_root(root);
-    }
-
-    fn on_follows_from(&mut self, id: Id, follows: Id, ctx: &mut ContextMut<'_, S>) {
-        let mut root = ctx.take_root();
-        self.object
-            .dyn_on_follows_from(id, follows, &mut ctx.over(&mut root));
-        ctx.put_root(root);
-    }
-
-    fn on_event(&mut self, event: &Event<'_>, ctx: &mut ContextMut<'_, S>) {
-        let mut root = ctx.take_root();
-        self.object.dyn_on_event(event, &mut ctx.over(&mut root));
-        ctx.put_root(root);
-    }
-
-    fn on_enter(&mut self, id: Id, ctx: &mut ContextMut<'_, S>) {
-        let mut root = ctx.take_root();
-        self.object.dyn_on_enter(id, &mut ctx.over(&mut root));
-        ctx.put_root(root);
-    }
-
-    fn on_exit(&mut self, id: Id, ctx: &mut ContextMut<'_, S>) {
-        let mut root = ctx.take_root();
-        self.object.dyn_on_exit(id, &mut ctx.over(&mut root));
-        ctx.put_root(root);
-    }
-
-    fn on_id_change(&mut self, id: Id, new: Id, ctx: &mut ContextMut<'_, S>) {
-        let mut root = ctx.take_root();
-        self.object
-            .dyn_on_id_change(id, new, &mut ctx.over(&mut root));
-        ctx.put_root(root);
-    }
-
-    fn on_close(&mut self, id: Id, ctx: &mut ContextMut<'_, S>) {
-        let mut root = ctx.take_root();
-        self.object.dyn_on_close(id, &mut ctx.over(&mut root));
+        self.object.dyn_notify(notice, &mut ctx.over(&mut root));
         ctx.put_root(root);
     }
 }

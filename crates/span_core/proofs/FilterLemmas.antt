@@ -8,7 +8,8 @@ use Rattle.span_core.specs.declared.filter.FilterMap.{FilterMap}
 use Rattle.span_core.specs.declared.number_set.NumberSet.{NumberSet}
 use Rattle.span_core.specs.declared.number_set.TheConstants.{LIMIT}
 use Rattle.span_core.specs.NumberSet.{has_number}
-use Rattle.span_core.specs.Filters.{FilterSet, HasFiltersOfBoth, HaveCommon, HidesAsEither, IsEmpty, SameFilters, SameMembers, has_filter, is_hidden, meets, refuses, union}
+use Rattle.span_core.specs.Filters.{FilterSet, HasFiltersOfBoth, HaveCommon, HidesAsEither, IsEmpty, SameFilters, SameMembers, has_filter, is_hidden, meets}
+use Rattle.span_core.specs.Filters.{refuses, union}
 use Rattle.span_core.proofs.SameNumberSet.{same_numbers}
 use Rattle.span_core.proofs.SomeBelow.{some_below-found, some_below-passes, some_below-same, some_below-or, some_below-none}
 use Rattle.span_core.proofs.Words.{cut_word, cut_word-bit, cut_word-fits, is_one, is_one-below, none_past}
@@ -72,7 +73,8 @@ meets-none a b h = some_below-none LIMIT (λ n. a n && b n) (λ n l. and_left _ 
 -- a mask that is the union of two
 pub is_hidden-union : (mask a b : FilterId) → HasFiltersOfBoth mask a b → HidesAsEither mask a b
 is_hidden-union mask a b h verdict =
-    meets-same (has_filter mask) (union (has_filter a) (has_filter b)) (refuses verdict) (λ n l. h n) ∙ meets-union (has_filter a) (has_filter b) (refuses verdict)
+    meets-same (has_filter mask) (union (has_filter a) (has_filter b)) (refuses verdict) (λ n l. h n)
+    ∙ meets-union (has_filter a) (has_filter b) (refuses verdict)
 
 -- a mask without a filter
 pub is_hidden-no_filter : (mask : FilterId) (verdict : FilterMap) → IsEmpty (has_filter mask) → is_hidden mask verdict ≡ false
@@ -94,7 +96,8 @@ ids_below id n h = option_below id.numbers n h
 pub maps_below : (map : FilterMap) (n : ℕ) → IsTrue (refuses map n) → n < LIMIT
 maps_below map n h = is_one-below map.disabled_by.bits n map.disabled_by.fits h
 
-same_options : (a b : Option NumberSet) → is_some a ≡ is_some b → ((n : ℕ) → n < LIMIT → option_map_or (λ s. has_number s n) a false ≡ option_map_or (λ s. has_number s n) b false) → a ≡ b
+same_options : (a b : Option NumberSet)
+    → is_some a ≡ is_some b → ((n : ℕ) → n < LIMIT → option_map_or (λ s. has_number s n) a false ≡ option_map_or (λ s. has_number s n) b false) → a ≡ b
 same_options None None e h = refl
 same_options None (Some y) e h = absurd (cc)
 same_options (Some x) None e h = absurd (cc)

@@ -1,10 +1,12 @@
 -- A word as a set of numbers: number n is in it where bit n is 1.
-use Rattle.std.proofs.Common.{◌≡◌, ℕ, ◌+◌, ◌-◌, ◌*◌, ◌%◌, ◌^◌, ◌<◌, ◌≤◌, zero, suc, min, max, Bool, true, false, cond, refl, sym, ap, ◌∙◌, ⊎_elim, ◌==◌, not, ◌&&◌, ◌↔◌, IsTrue, IsBitSet, bit_and, bit_or, subst, pow-suc, arith}
+use Rattle.std.proofs.Common.{◌≡◌, ℕ, ◌+◌, ◌-◌, ◌*◌, ◌%◌, ◌^◌, ◌<◌, ◌≤◌, zero, suc, min, max, Bool, true, false, cond, refl, sym, ap, ◌∙◌, ⊎_elim, ◌==◌, not}
+use Rattle.std.proofs.Common.{◌&&◌, ◌↔◌, IsTrue, IsBitSet, bit_and, bit_or, subst, pow-suc, arith}
 use Rattle.std.specs.Prelude.{if◌then◌else◌}
 use Rattle.std.specs.Int.{bit_at, trailing_zeros, w128}
 use Rattle.std.proofs.lemmas.Bool.{and_left, cases_Bool, cases_eq, cases_lt, eq-eqb, eqb-true, eqb-false, ne_eqb, not_from_false, not_from_true}
 use Rattle.std.proofs.lemmas.Nat.{and_le_l, bit_set_by_shift, one_shl}
-use Rattle.std.proofs.lemmas.Nat.Bits.{bit_at-lt, bit_at-pow_other, bit_at-pow_same, bit_at-trailing_zeros, bit_at-zero, bit_at_above, bit_at_and, bit_at_cat_high, bit_at_cat_low, bit_at_not, bit_at_or, same_from_bits_below, shr_and_one}
+use Rattle.std.proofs.lemmas.Nat.Bits.{bit_at-lt, bit_at-pow_other, bit_at-pow_same, bit_at-trailing_zeros, bit_at-zero, bit_at_above, bit_at_and}
+use Rattle.std.proofs.lemmas.Nat.Bits.{bit_at_cat_high, bit_at_cat_low, bit_at_not, bit_at_or, same_from_bits_below, shr_and_one}
 use Rattle.span_core.specs.NumberSet.{some_below}
 use Rattle.span_core.proofs.SomeBelow.{some_below-found, some_below-none}
 
@@ -98,7 +100,8 @@ meets-some a b fits =
     (λ (h : (bit_and a b == 0) ≡ true).
     let none : bit_and a b ≡ 0 = eqb-true (bit_and a b) 0 h in
     not_from_true _ h
-    ∙ sym (some_below-none 128 (λ n. is_one a n && is_one b n) (λ n l. sym (is_one-and a b n) ∙ ap (λ word. is_one word n) none ∙ is_one-zero 0 n (bit_at-zero n))))
+    ∙ sym
+    (some_below-none 128 (λ n. is_one a n && is_one b n) (λ n l. sym (is_one-and a b n) ∙ ap (λ word. is_one word n) none ∙ is_one-zero 0 n (bit_at-zero n))))
     (λ (h : (bit_and a b == 0) ≡ false).
     let within = and_le_l a b in
     let found = lowest_one (bit_and a b) (omega (arith, within)) h in
@@ -109,8 +112,10 @@ meets-some a b fits =
 -- the bit as std has it
 pub is_one-set : (word n : ℕ) → IsBitSet word n ↔ IsTrue (is_one word n)
 is_one-set word n =
-    let shifted = bit_set_by_shift word n in
-    (λ (h : IsBitSet word n). is_one-one word n (sym (shr_and_one word n) ∙ shifted.1 h), λ (h : IsTrue (is_one word n)). shifted.0 (shr_and_one word n ∙ eqb-true (bit_at word n) 1 h))
+    let shifted = bit_set_by_shift word n in (
+      λ (h : IsBitSet word n). is_one-one word n (sym (shr_and_one word n) ∙ shifted.1 h),
+      λ (h : IsTrue (is_one word n)). shifted.0 (shr_and_one word n ∙ eqb-true (bit_at word n) 1 h),
+    )
 
 same_bit : (x y : ℕ) → x < 2 → y < 2 → (x == 1) ≡ (y == 1) → x ≡ y
 same_bit zero zero p q h = refl
@@ -155,7 +160,8 @@ cut_word-bit numbers (suc k) word n l =
     (λ (e : n ≡ k).
     let here : is_one (bit * 2 ^ k + rest) k ≡ (numbers k && is_one word k) =
     let first : k - k ≡ 0 = omega arith in
-    ap (λ d. d == 1) (bit_at_cat_high bit k rest k (cut_word-fits numbers k word) (omega arith)) ∙ ap (is_one bit) first ∙ bit_is (numbers k && is_one word k) in
+    ap (λ d. d == 1) (bit_at_cat_high bit k rest k (cut_word-fits numbers k word) (omega arith))
+    ∙ ap (is_one bit) first ∙ bit_is (numbers k && is_one word k) in
     subst (λ j. is_one (bit * 2 ^ k + rest) j ≡ (numbers j && is_one word j)) (sym e) here)
     (λ (e : n ≡ k → ⊥).
     let low : n < k = omega (arith, e) in

@@ -9,7 +9,7 @@ use Rattle.span_core.specs.declared.level.LevelFilter.{LevelFilter}
 use Rattle.span_core.specs.declared.level.Verbosity.{Verbosity}
 use Rattle.span_core.specs.declared.level.Verbosity.TheVariants.{Error, Warn, Info, Debug, Trace}
 
--- from 1 for errors to 5 for traces
+-- the order of the levels: from 1 for errors to 5 for traces
 abbrev pub verbosity_number : Verbosity → ℕ
 verbosity_number Error = 1
 verbosity_number Warn = 2
@@ -37,7 +37,7 @@ level_text level = verbosity_text level.0
 abbrev pub filter_number : LevelFilter → ℕ
 filter_number filter = option_map_or level_number filter.0 0
 
--- values are ordered as their numbers are
+-- two values are ordered as their numbers are
 abbrev pub IsOrderBy : {A : Type 0} → (A → ℕ) → (A → A → Ordering) → Type 0
 IsOrderBy {A} number cmp = (a b : A) → cmp a b ≡ nat_cmp (number a) (number b)
 
@@ -81,7 +81,7 @@ greater_hint (Some f) (Some g) = Some (greater f g)
 greater_hint (Some f) None = Some f
 greater_hint None h = h
 
--- whether it is a hint that no level passes
+-- whether a hint is one that no level passes
 abbrev pub is_off : Option LevelFilter → Bool
 is_off None = false
 is_off (Some f) = filter_number f == 0

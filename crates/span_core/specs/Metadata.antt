@@ -14,15 +14,15 @@ names_of f = f.names.now
 abbrev pub callsite_of : Metadata → ℕ
 callsite_of m = m.callsite
 
--- the name, as its bytes
+-- the name of a callsite, as its bytes
 abbrev pub name_of : Metadata → List ℕ
 name_of m = m.name.now
 
--- the target, as its bytes
+-- the target of a callsite, as its bytes
 abbrev pub target_of : Metadata → List ℕ
 target_of m = m.target.now
 
--- the level
+-- the level of a callsite
 abbrev pub level_of : Metadata → Level
 level_of m = m.level
 
@@ -30,11 +30,11 @@ level_of m = m.level
 abbrev pub kind_of : Metadata → Kind
 kind_of m = m.kind
 
--- the names of the fields
+-- the names of a callsite's fields
 abbrev pub fields_of : Metadata → FieldSet
 fields_of m = m.fields
 
--- the same is shown by both: callsite, name, target, level, kind, and the fields' names
+-- two metadata show the same: callsite, name, target, level, kind, and the fields' names
 pub record ShowSame (m k : Metadata) : Type 0 where
   pub callsite : m.callsite ≡ k.callsite
   pub name : m.name.now ≡ k.name.now

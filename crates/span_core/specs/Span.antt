@@ -34,7 +34,7 @@ values_of a = a.values.now
 abbrev pub asked_parent : Attributes → Parent
 asked_parent a = a.parent
 
--- the span that is asked for by its id
+-- the span that is asked for by its id, if one is
 abbrev pub explicit_parent : Parent → Option Id
 explicit_parent Root = None
 explicit_parent Contextual = None
@@ -44,7 +44,7 @@ explicit_parent (Explicit id) = Some id
 abbrev pub record_of : Bor (List (Bor (List ℕ) × FieldValue)) → Record
 record_of values = record { recorded = values }
 
--- the values that are recorded
+-- the values of a record
 abbrev pub recorded_values : Record → List (Bor (List ℕ) × FieldValue)
 recorded_values r = r.recorded.now
 

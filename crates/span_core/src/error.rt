@@ -7,9 +7,8 @@ use crate::span::Id;
 use std::alloc::{AllocError, AllocFailed};
 use thiserror::Error;
 
-/// Why a call is refused. The store, the stacks and what else the call was to change are as before; a dispatcher may have kept
-/// its stack's interest in a callsite.
-/// Its text carries no id.
+/// Why a call is refused. The store, the stacks and what else the call was to change are unchanged;
+/// a dispatcher may have cached its stack's interest in a callsite. Its text carries no id.
 ///
 /// Own to this port: the crate panics there, or answers nothing.
 #[derive(Clone, Copy, Debug, PartialEq, Eq, Error)]
@@ -26,10 +25,10 @@ pub enum TraceError {
     /// The registered filters and the new ones together are more than 128.
     #[error("there are too many filters")]
     TooManyFilters,
-    /// There is a value under the tag.
+    /// A value is stored under the tag already.
     #[error("the tag is taken")]
     TagTaken,
-    /// The callsite's number was kept with other metadata.
+    /// The callsite's number was cached with other metadata.
     #[error("the callsite has other metadata")]
     CallsiteMismatch,
     /// The count of the span's handles, or of its children, is at the limit.

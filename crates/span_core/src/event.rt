@@ -71,7 +71,7 @@ impl<'a> Event<'a> {
         self.metadata
     }
 
-    /// The values, by the names of the fields.
+    /// The event's values, by the names of their fields.
     pub fn values(&self) -> &'a [(&'static str, FieldValue<'a>)]
         ensures { result.now ≡ event_values self.now }
     {
@@ -87,21 +87,21 @@ impl<'a> Event<'a> {
         self.parent
     }
 
-    /// The event asks for no span.
+    /// Whether the event asks for no span.
     pub fn is_root(&self) -> bool
         ensures { IsTrue result ↔ (event_parent self.now ≡ Parent.Root) }
     {
         self.asked_parent() == Parent::Root
     }
 
-    /// The event asks for the span that its lane is in.
+    /// Whether the event asks for the span that its lane is in.
     pub fn is_contextual(&self) -> bool
         ensures { IsTrue result ↔ (event_parent self.now ≡ Parent.Contextual) }
     {
         self.asked_parent() == Parent::Contextual
     }
 
-    /// The span that is asked for by its id.
+    /// The span that the event asks for by its id, if it does.
     pub fn parent(&self) -> Option<Id>
         ensures { result ≡ explicit_parent (event_parent self.now) }
     {

@@ -29,7 +29,7 @@ impl FieldSet {
         self.names
     }
 
-    /// The same names in the same order.
+    /// Whether two callsites' fields have the same names in the same order.
     pub fn has_same_names(&self, other: &FieldSet) -> bool
         ensures { IsTrue result ↔
             (map (λ name. name.now) (names_of self.now)
@@ -48,14 +48,14 @@ impl FieldSet {
         self.names.len()
     }
 
-    /// There is no name.
+    /// Whether there is no name.
     pub fn is_empty(&self) -> bool
         ensures { result ≡ (length (names_of self.now) == 0) }
     {
         self.names.is_empty()
     }
 
-    /// The name is among them, byte for byte.
+    /// Whether the name is among the fields', byte for byte.
     pub fn contains(&self, name: &str) -> bool
         ensures { IsTrue result ↔ Any (λ given. given.now ≡ name.now) (names_of self.now) }
     {

@@ -14,7 +14,7 @@ use std::fmt;
 /// Stands for `tracing_subscriber::filter::FilterId`, where unattached is the set of all numbers.
 #[derive(Clone, Copy, PartialEq, Eq)]
 pub struct FilterId {
-    /// None where it is unattached.
+    /// The filters' numbers; none where the id is unattached.
     numbers: Option<NumberSet>,
 }
 
@@ -22,7 +22,7 @@ impl FilterId {
     /// How many filters there may be: their numbers are below this.
     pub const LIMIT: u32 = number_set::LIMIT as u32;
 
-    /// No filter.
+    /// The id of no filter.
     pub fn none() -> FilterId
         ensures attached { IsTrue (is_attached result) }
         ensures members { IsEmpty (has_filter result) }
@@ -32,7 +32,7 @@ impl FilterId {
         }
     }
 
-    /// The filter with this number, which is below 128.
+    /// The id of the filter with this number, which is below 128.
     pub fn of(number: u32) -> FilterId
         requires { number < LIMIT }
         ensures attached { IsTrue (is_attached result) }
@@ -43,21 +43,21 @@ impl FilterId {
         }
     }
 
-    /// Of a filter that has no number yet.
+    /// The id of a filter that has no number yet.
     pub fn unattached() -> FilterId
         ensures { is_attached result ≡ false }
     {
         FilterId { numbers: None }
     }
 
-    /// A filter has no number yet.
+    /// Whether the id is unattached: its filter has no number yet.
     pub fn is_unattached(&self) -> bool
         ensures { result ≡ not (is_attached self.now) }
     {
         self.numbers.is_none()
     }
 
-    /// The filter with this number is among them: none is where it is unattached.
+    /// Whether the filter with this number is among the id's: none is where the id is unattached.
     pub fn contains(&self, number: u32) -> bool
         ensures { result ≡ has_filter self.now number }
     {
@@ -67,8 +67,8 @@ impl FilterId {
         }
     }
 
-    /// The filters of both. It is the other where this one is unattached, and unattached where the
-    /// other is.
+    /// The id of both ids' filters: the other where this one is unattached, and unattached where
+    /// the other is.
     pub fn and(self, other: FilterId) -> FilterId
         ensures attached { is_attached result ≡ is_attached other }
         ensures unattached { is_attached self ≡ false → result ≡ other }
@@ -83,7 +83,7 @@ impl FilterId {
     }
 }
 
-/// The filters that refused.
+/// The filters that refused, as a request's answers or a span's verdict.
 ///
 /// Stands for `tracing_subscriber`'s private `FilterMap`.
 #[derive(Clone, Copy, PartialEq, Eq)]
@@ -92,7 +92,7 @@ pub struct FilterMap {
 }
 
 impl FilterMap {
-    /// No filter refused.
+    /// The map in which no filter refused.
     pub(crate) fn none() -> FilterMap
         ensures { IsEmpty (refuses result) }
     {
@@ -101,7 +101,7 @@ impl FilterMap {
         }
     }
 
-    /// The id is attached, and none of its filters refused.
+    /// Whether the id is attached and none of its filters refused.
     pub fn is_enabled(&self, id: FilterId) -> bool
         ensures { result ≡ is_enabled self.now id }
     {
@@ -120,8 +120,8 @@ impl FilterMap {
         self.disabled_by.word()
     }
 
-    /// The filters of the id refuse where they aren't enabled, and no longer do where they are. An
-    /// unattached id changes nothing.
+    /// The map in which the id's filters refuse where they aren't enabled, and no longer do where
+    /// they are. An unattached id changes nothing.
     pub(crate) fn set(self, id: FilterId, enabled: bool) -> FilterMap
         ensures unattached { is_attached id ≡ false → result ≡ self }
         ensures members { SetsFilters self result id enabled }

@@ -2,63 +2,63 @@
 ghost use Rattle.std.specs.Prelude.{◌≡◌, ◌↔◌, IsTrue};
 ghost use Rattle.span_core.specs.Interest.{sum_of};
 
-/// Whether a filter or a layer wants what a callsite makes.
+/// Whether what a callsite makes is enabled for a filter or a layer.
 ///
 /// Stands for `tracing_core::subscriber::Interest`, whose cases are private.
 #[derive(Clone, Copy, Debug, PartialEq, Eq)]
 pub enum Interest {
-    /// It wants nothing of the callsite.
+    /// Nothing that the callsite makes is enabled.
     Never,
-    /// It is to be asked each time.
+    /// Whether what the callsite makes is enabled is asked each time.
     Sometimes,
-    /// It wants all of the callsite.
+    /// All that the callsite makes is enabled.
     Always,
 }
 
 impl Interest {
-    /// It wants nothing of the callsite.
+    /// The interest by which nothing of a callsite is enabled.
     pub fn never() -> Interest
         ensures { result ≡ Interest.Never }
     {
         Interest::Never
     }
 
-    /// It is to be asked each time.
+    /// The interest by which each request is asked.
     pub fn sometimes() -> Interest
         ensures { result ≡ Interest.Sometimes }
     {
         Interest::Sometimes
     }
 
-    /// It wants all of the callsite.
+    /// The interest by which all of a callsite is enabled.
     pub fn always() -> Interest
         ensures { result ≡ Interest.Always }
     {
         Interest::Always
     }
 
-    /// It wants nothing.
+    /// Whether the interest is `Never`.
     pub fn is_never(&self) -> bool
         ensures { IsTrue result ↔ (self.now ≡ Interest.Never) }
     {
         *self == Interest::Never
     }
 
-    /// It is to be asked.
+    /// Whether the interest is `Sometimes`.
     pub fn is_sometimes(&self) -> bool
         ensures { IsTrue result ↔ (self.now ≡ Interest.Sometimes) }
     {
         *self == Interest::Sometimes
     }
 
-    /// It wants all.
+    /// Whether the interest is `Always`.
     pub fn is_always(&self) -> bool
         ensures { IsTrue result ↔ (self.now ≡ Interest.Always) }
     {
         *self == Interest::Always
     }
 
-    /// Both together: what they are where they are equal, else `Sometimes`.
+    /// The sum of two interests: the interest itself where they are equal, else `Sometimes`.
     pub(crate) fn and(self, other: Interest) -> Interest
         ensures { result ≡ sum_of self other }
     {

@@ -19,7 +19,7 @@ use crate::interest::Interest;
 use crate::level::{Level, LevelFilter};
 use crate::metadata::Kind;
 
-/// The order of levels is the order of their numbers, and so is that of filters by level.
+/// The order of levels is that of their numbers, and the order of filters by level that of theirs.
 pub fn order_is_by_number()
     ensures levels { IsOrderBy level_number ⟦<Level as Ord>⟧.cmp }
     ensures filters { IsOrderBy filter_number ⟦<LevelFilter as Ord>⟧.cmp }
@@ -48,25 +48,25 @@ pub fn levels_have_their_numbers()
     ensures all { filter_number LevelFilter.TRACE ≡ 5 }
 {}
 
-/// What makes spans is not what makes events.
+/// The kind that makes spans isn't the kind that makes events.
 pub fn kinds_differ()
     ensures { Kind.SPAN ≢ Kind.EVENT }
 {}
 
 /// A level passes a filter by level if its number is at most the filter's, and is above a hint if
-/// it is greater.
+/// its number is greater.
 pub fn levels_pass_by_number()
     ensures passes { (filter : LevelFilter) (level : Level) → PassesByNumber filter level }
     ensures above { (level : Level) (hint : LevelFilter) → IsAboveByNumber level hint }
     ensures unlimited { (level : Level) → is_above level None ≡ false }
 {}
 
-/// What passes a filter by level passes each one that is at least as verbose.
+/// A level that passes a filter by level passes each one that is at least as verbose.
 pub fn more_verbose_filters_pass_more()
     ensures { (a b : LevelFilter) → filter_number a ≤ filter_number b → PassesNoMore a b }
 {}
 
-/// A sum takes the first interest. An equal one changes nothing, a different one makes it
+/// A sum takes the first interest. An equal one leaves it unchanged, a different one makes it
 /// `Sometimes`.
 pub fn sum_rule()
     ensures first { (a : Interest) → sum_with None a ≡ a }

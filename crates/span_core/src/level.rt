@@ -35,7 +35,7 @@ impl Level {
     /// Of use to who traces, and verbose.
     pub const TRACE: Level = Level(Verbosity::Trace);
 
-    /// Its name, in capitals.
+    /// The level's name, in capitals.
     pub fn as_str(&self) -> &'static str
         ensures { result.now ≡ level_text self.now }
     {
@@ -83,7 +83,7 @@ impl LevelFilter {
     /// Each level passes.
     pub const TRACE: LevelFilter = LevelFilter(Some(Level::TRACE));
 
-    /// The level is at most the filter's.
+    /// Whether the level is at most the filter's.
     pub fn passes(&self, level: Level) -> bool
         ensures { result ≡ passes_level self.now level }
     {

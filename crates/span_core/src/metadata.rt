@@ -109,21 +109,22 @@ impl Metadata {
         self.fields
     }
 
-    /// The callsite makes spans.
+    /// Whether the callsite makes spans.
     pub fn is_span(&self) -> bool
         ensures { IsTrue result ↔ (kind_of self.now ≡ Kind.SPAN) }
     {
         self.kind == Kind::SPAN
     }
 
-    /// The callsite makes events.
+    /// Whether the callsite makes events.
     pub fn is_event(&self) -> bool
         ensures { IsTrue result ↔ (kind_of self.now ≡ Kind.EVENT) }
     {
         self.kind == Kind::EVENT
     }
 
-    /// Both show the same: callsite, name, target, level, kind and the fields' names. `==` answers so, too.
+    /// Whether two metadata show the same: callsite, name, target, level, kind and the fields'
+    /// names, as `==` answers too.
     ///
     /// Own to this port: the crate knows metadata by their address.
     #[inline(always)]

@@ -10,7 +10,7 @@ pub const LIMIT: usize = 128;
 /// A set of numbers of filters, as a word.
 #[derive(Clone, Copy, PartialEq, Eq)]
 pub struct NumberSet {
-    /// Bit n is 1 where n is in the set.
+    /// The set's word: bit n is 1 where n is in the set.
     bits: u128,
     ghost fits: { bits < 2 ^ 128 },
 }
@@ -18,14 +18,14 @@ pub struct NumberSet {
 impl NumberSet {
     ghost use Rattle.span_core.specs.NumberSet.{SetsAll, has_number, some_below};
 
-    /// No number.
+    /// The set of no number.
     pub fn none() -> NumberSet
         ensures { (n : ℕ) → has_number result n ≡ false }
     {
         NumberSet { bits: 0 }
     }
 
-    /// This number alone.
+    /// The set of this number alone.
     pub fn of(number: u32) -> NumberSet
         requires { number < LIMIT }
         ensures { (n : ℕ) → has_number result n ≡ (n == number) }
@@ -33,7 +33,7 @@ impl NumberSet {
         NumberSet { bits: 1 << number }
     }
 
-    /// The number is in the set.
+    /// Whether the number is in the set.
     #[tactic(auto, using(crate::proofs::Words::none_past))]
     pub fn contains(&self, number: u32) -> bool
         ensures { result ≡ has_number self.now number }
@@ -53,7 +53,7 @@ impl NumberSet {
         NumberSet { bits }
     }
 
-    /// A number is in both.
+    /// Whether some number is in both sets.
     pub fn meets(&self, other: &NumberSet) -> bool
         ensures { result ≡ some_below LIMIT (λ n. has_number self.now n && has_number other.now n) }
     {
@@ -68,7 +68,7 @@ impl NumberSet {
     }
 }
 
-/// As `{0, 3}`.
+/// Shown as `{0, 3}`.
 impl fmt::Debug for NumberSet {
     fn fmt<W: fmt::Write>(&self, f: &mut fmt::Formatter<W>) -> fmt::Result {
         f.debug_set()

@@ -7,7 +7,7 @@ ghost use Rattle.span_core.specs.Interest.{sum_with};
 use crate::filter::{FilterId, FilterMap};
 use crate::interest::Interest;
 
-/// What the filters said during one request: which of them refused, and the sum of their interests.
+/// The filters' answers during one request: which of them refused, and the sum of their interests.
 ///
 /// Stands for `tracing_subscriber`'s private `FilterState`, which each thread has.
 #[derive(Clone, Copy, Debug, PartialEq, Eq)]
@@ -17,7 +17,7 @@ pub struct Pass {
 }
 
 impl Pass {
-    /// No filter was asked.
+    /// A pass in which no filter was asked.
     pub fn new() -> Pass
         ensures refused { IsEmpty (refuses (refused_of result)) }
         ensures interest { interest_sum result ≡ None }
@@ -28,14 +28,14 @@ impl Pass {
         }
     }
 
-    /// The filters that refused.
+    /// The filters that refused in this pass.
     pub fn refused(&self) -> FilterMap
         ensures { result ≡ refused_of self.now }
     {
         self.refused
     }
 
-    /// Keeps what the filters of this id said: they refuse where they aren't enabled, and no longer
+    /// Keeps the answer of this id's filters: they refuse where they aren't enabled, and no longer
     /// do where they are. An unattached id changes nothing.
     pub fn set(&mut self, id: FilterId, enabled: bool)
         ensures unattached { is_attached id ≡ false → self.new ≡ self.old }
@@ -45,8 +45,8 @@ impl Pass {
         self.refused = self.refused.set(id, enabled);
     }
 
-    /// Adds an interest to the sum: the first is taken, an equal one changes nothing, a different
-    /// one makes it `Sometimes`.
+    /// Adds an interest to the sum: the first is taken, an equal one leaves the sum unchanged, a
+    /// different one makes it `Sometimes`.
     pub fn add_interest(&mut self, added: Interest)
         ensures interest { interest_sum self.new ≡ Some (sum_with (interest_sum self.old) added) }
         ensures refused { refused_of self.new ≡ refused_of self.old }
@@ -58,7 +58,7 @@ impl Pass {
         self.interest = Some(sum);
     }
 
-    /// Forgets the sum.
+    /// Forgets the sum of interests.
     pub fn clear_interest(&mut self)
         ensures interest { interest_sum self.new ≡ None }
         ensures refused { refused_of self.new ≡ refused_of self.old }
@@ -66,7 +66,7 @@ impl Pass {
         self.interest = None;
     }
 
-    /// The sum, if an interest was added; none is left.
+    /// Takes out the sum of interests, if one was added.
     pub fn take_interest(&mut self) -> Option<Interest>
         ensures taken { result ≡ interest_sum self.old }
         ensures interest { interest_sum self.new ≡ None }

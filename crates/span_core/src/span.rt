@@ -46,14 +46,14 @@ pub struct Current {
 }
 
 impl Current {
-    /// In no span.
+    /// A lane in no span.
     pub fn none() -> Current
         ensures { current_span result ≡ None }
     {
         Current { span: None }
     }
 
-    /// In this span.
+    /// A lane in this span.
     pub fn new(id: Id, metadata: Metadata) -> Current
         ensures { current_span result ≡ Some (id, metadata) }
     {
@@ -82,7 +82,7 @@ impl Current {
         }
     }
 
-    /// The lane is in no span.
+    /// Whether the lane is in no span.
     pub fn is_none(&self) -> bool
         ensures { IsTrue result ↔ (current_span self.now ≡ None) }
     {
@@ -90,16 +90,16 @@ impl Current {
     }
 }
 
-/// Which parent a new span or an event asks for.
+/// Which parent a new span or an event names.
 ///
 /// Stands for `tracing_core`'s private `Parent`.
 #[derive(Clone, Copy, Debug, PartialEq, Eq)]
 pub enum Parent {
-    /// None: it is a root.
+    /// No parent: a root.
     Root,
     /// The span that its lane is in.
     Contextual,
-    /// This span.
+    /// The span with this id.
     Explicit(Id),
 }
 
@@ -187,21 +187,21 @@ impl<'a> Attributes<'a> {
         self.parent
     }
 
-    /// The span asks for no parent.
+    /// Whether the span asks for no parent.
     pub fn is_root(&self) -> bool
         ensures { IsTrue result ↔ (asked_parent self.now ≡ Parent.Root) }
     {
         self.asked_parent() == Parent::Root
     }
 
-    /// The span asks for the one that its lane is in.
+    /// Whether the span asks for the one that its lane is in.
     pub fn is_contextual(&self) -> bool
         ensures { IsTrue result ↔ (asked_parent self.now ≡ Parent.Contextual) }
     {
         self.asked_parent() == Parent::Contextual
     }
 
-    /// The span that is asked for by its id.
+    /// The parent that the span asks for by its id, if it does.
     pub fn parent(&self) -> Option<Id>
         ensures { result ≡ explicit_parent (asked_parent self.now) }
     {
@@ -221,7 +221,7 @@ pub struct Record<'a> {
 }
 
 impl<'a> Record<'a> {
-    /// These values.
+    /// A record of these values.
     pub fn new(values: &'a [(&'static str, FieldValue<'a>)]) -> Record<'a>
         ensures values { recorded_values result ≡ values.now }
         ensures whole { result ≡ record_of values.entry }

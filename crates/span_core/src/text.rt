@@ -1,7 +1,7 @@
 //! Texts, compared in few steps: names and targets are compared at each event.
 ghost use Rattle.std.specs.Prelude.{◌≡◌, ◌↔◌, ◌≤◌, IsTrue, length};
 
-/// Both have the same bytes.
+/// Whether two texts have the same bytes.
 ///
 /// `==` takes the same number of steps for 8 bytes as for 32. Most names are shorter.
 pub(crate) fn same_text(a: &str, b: &str) -> bool
@@ -18,7 +18,8 @@ pub(crate) fn same_text(a: &str, b: &str) -> bool
     }
 }
 
-/// Both have the same bytes, at most 8: the first four and the last four are compared, which may overlap.
+/// Whether two texts of at most 8 bytes are the same: the first four and the last four are
+/// compared, which may overlap.
 fn same_by_fours(a: &[u8], b: &[u8]) -> bool
     requires { (length a.now ≡ length b.now) × (length a.now ≤ 8) }
     ensures { IsTrue result ↔ (a.now ≡ b.now) }
@@ -32,7 +33,8 @@ fn same_by_fours(a: &[u8], b: &[u8]) -> bool
     same_four(a_first, b_first) & same_four(a_last, b_last)
 }
 
-/// Both have the same bytes, at most 16: the first eight and the last eight are compared, which may overlap.
+/// Whether two texts of at most 16 bytes are the same: the first eight and the last eight are
+/// compared, which may overlap.
 fn same_by_eights(a: &[u8], b: &[u8]) -> bool
     requires { (length a.now ≡ length b.now) × (length a.now ≤ 16) }
     ensures { IsTrue result ↔ (a.now ≡ b.now) }
@@ -46,7 +48,8 @@ fn same_by_eights(a: &[u8], b: &[u8]) -> bool
     same_eight(a_first, b_first) & same_eight(a_last, b_last)
 }
 
-/// Both have the same bytes, 16 to 32: the first 16 and the last 16 are compared, which may overlap.
+/// Whether two texts of 16 to 32 bytes are the same: the first 16 and the last 16 are compared,
+/// which may overlap.
 fn same_by_halves(a: &[u8], b: &[u8]) -> bool
     requires { (length a.now ≡ length b.now) × (16 ≤ length a.now) × (length a.now ≤ 32) }
     ensures { IsTrue result ↔ (a.now ≡ b.now) }

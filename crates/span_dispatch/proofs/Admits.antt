@@ -1,5 +1,6 @@
 -- Which interest a cache gives, and what comes of it.
-use Rattle.std.proofs.Common.{◌≡◌, ◌&&◌, ◌-◌, ℕ, Bool, true, false, not, ◌==◌, if◌then◌else◌, Option, Some, None, Result, Ok, Err, inl, inr, refl, sym, ap, subst, ◌∙◌}
+use Rattle.std.proofs.Common.{◌≡◌, ◌&&◌, ◌-◌, ℕ, Bool, true, false, not, ◌==◌, if◌then◌else◌, Option, Some, None, Result, Ok, Err, inl, inr, refl, sym, ap}
+use Rattle.std.proofs.Common.{subst, ◌∙◌}
 use Rattle.std.proofs.lemmas.Bool.{eqb-true, false≢true, not-false, not-true, true≢false}
 use Rattle.std.specs.Prelude.{IfErr, IsSome, OnErr, OnOk, is_some}
 use Rattle.std.specs.Option.{option_map}
@@ -14,8 +15,10 @@ use Rattle.span_core.specs.declared.interest.Interest.{Interest}
 use Rattle.span_core.specs.declared.metadata.Metadata.{Metadata}
 use Rattle.span_core.specs.declared.pass.Pass.{Pass}
 use Rattle.span_core.specs.declared.span.Lane.{Lane}
-use Rattle.span_dispatch.specs.Admission.{GivesInterest, HasInterestBy, IsAdmitted, IsDecided, IsInterestBy, MayLearn, interests_nobody, is_above_hint, is_let_by, learned_if}
-use Rattle.span_dispatch.specs.Cache.{Callsites, MatchesStack, KeptCallsites, ReadHint, ReadsOnce, RefusesBelow, RefusesInterest, callsites_of, hint_in, is_above_read, kept_in, known_of, no_callsite, with_callsite}
+use Rattle.span_dispatch.specs.Admission.{GivesInterest, HasInterestBy, IsAdmitted, IsDecided, IsInterestBy, MayLearn, interests_nobody, is_above_hint}
+use Rattle.span_dispatch.specs.Admission.{is_let_by, learned_if}
+use Rattle.span_dispatch.specs.Cache.{Callsites, MatchesStack, KeptCallsites, ReadHint, ReadsOnce, RefusesBelow, RefusesInterest, callsites_of, hint_in}
+use Rattle.span_dispatch.specs.Cache.{is_above_read, kept_in, known_of, no_callsite, with_callsite}
 use Rattle.span_dispatch.specs.declared.cache.Cache.TheVariants.{Empty, Filled}
 use Rattle.span_dispatch.specs.declared.cache.Cache.{Cache}
 use Rattle.span_dispatch.specs.declared.cache.Callsite.{Callsite}
@@ -24,29 +27,27 @@ use Rattle.span_layers.proofs.Asked.{asked_by_all}
 use Rattle.span_layers.proofs.Built.{rules_of}
 use Rattle.span_layers.proofs.Hint.{above_is_unwanted}
 use Rattle.span_layers.proofs.HonestKept.{alike_interest}
-use Rattle.span_layers.proofs.Interest.{always_is_wanted, never_is_unwanted}
+use Rattle.span_layers.proofs.Interest.{always_is_wanted, never_is_unwanted, only_never}
 use Rattle.span_layers.proofs.Pass.{asked_unless_vetoed}
 use Rattle.span_layers.specs.Honest.{IsHonestStack}
 use Rattle.span_layers.specs.Verdict.{vetoes}
 use Rattle.span_layers.specs.Wanted.{IsUnwanted}
+use Rattle.span_store.specs.Store.{RegistryState}
 use Rattle.span_registry.specs.Form.{Form}
 use Rattle.span_registry.specs.Hooks.{AnswersEnabled, AnswersInterest, no_filter}
 use Rattle.span_registry.specs.Question.{asked, hint_of, interest_of, is_never, refusals}
-use Rattle.span_registry.specs.Store.{RegistryState}
 
 -- ---- what hint and interest say
 
-is_it_never : (i : Interest) → is_never i ≡ true → i ≡ Never
-is_it_never Never e = refl
-is_it_never other e = absurd (false≢true e)
-
-unwanted_above : (memory : KeptCallsites) (f : Form) (s : RegistryState) (lane : Lane) (m : Metadata) → IsHonestStack f s.filters → is_above_hint memory f m ≡ true → IsUnwanted f m s.store lane.0
+unwanted_above : (memory : KeptCallsites) (f : Form) (s : RegistryState) (lane : Lane) (m : Metadata)
+    → IsHonestStack f s.filters → is_above_hint memory f m ≡ true → IsUnwanted f m s.store lane.0
 unwanted_above None f s lane m honest e = absurd (false≢true e)
 unwanted_above (Some callsites) f s lane m honest e = above_is_unwanted f s.filters m s.store lane.0 honest e
 
-unwanted_never : (memory : KeptCallsites) (f : Form) (s : RegistryState) (lane : Lane) (m : Metadata) → IsHonestStack f s.filters → interests_nobody memory f s.filters m ≡ true → IsUnwanted f m s.store lane.0
+unwanted_never : (memory : KeptCallsites) (f : Form) (s : RegistryState) (lane : Lane) (m : Metadata)
+    → IsHonestStack f s.filters → interests_nobody memory f s.filters m ≡ true → IsUnwanted f m s.store lane.0
 unwanted_never None f s lane m honest e = absurd (false≢true e)
-unwanted_never (Some callsites) f s lane m honest e = never_is_unwanted f s.filters m s.store lane.0 honest (is_it_never _ e)
+unwanted_never (Some callsites) f s lane m honest e = never_is_unwanted f s.filters m s.store lane.0 honest (only_never _ e)
 
 module _ (memory : KeptCallsites) (f : Form) (s : RegistryState) (lane : Lane) (m : Metadata) (after : KeptCallsites) (honest : IsHonestStack f s.filters) where
   -- whether no leaf vetoes
@@ -62,7 +63,8 @@ module _ (memory : KeptCallsites) (f : Form) (s : RegistryState) (lane : Lane) (
       by_hint false e = ap (λ a. not a && not (interests_nobody memory f s.filters m)) e ∙ ap not (h.never e)
 
   -- what the interest says, and then the leaves
-  decided : (i j : Interest) (said : Bool) → IsInterestBy memory f s.filters m after i → i ≡ j → said ≡ not (is_never j) && Unvetoed → IsDecided memory f s lane m (vetoes f m s.store lane.0) said after
+  decided : (i j : Interest) (said : Bool) → IsInterestBy memory f s.filters m after i
+      → i ≡ j → said ≡ not (is_never j) && Unvetoed → IsDecided memory f s lane m (vetoes f m s.store lane.0) said after
   decided i j said h same e = record {
     agrees = h.agrees;
     wanted = e ∙ sym (ap (λ k. not (is_never k) && Unvetoed) same) ∙ sym (ap (λ b. b && Unvetoed) (let_by i h));
@@ -72,7 +74,8 @@ module _ (memory : KeptCallsites) (f : Form) (s : RegistryState) (lane : Lane) (
     where
       by_hint : (b : Bool) → is_above_hint memory f m ≡ b → is_let_by memory f s.filters m ≡ false → IsUnwanted f m s.store lane.0
       by_hint true above out = unwanted_above memory f s lane m honest above
-      by_hint false below out = unwanted_never memory f s lane m honest (not-false _ (sym (ap (λ a. not a && not (interests_nobody memory f s.filters m)) below) ∙ out))
+      by_hint false below out =
+          unwanted_never memory f s lane m honest (not-false _ (sym (ap (λ a. not a && not (interests_nobody memory f s.filters m)) below) ∙ out))
 
   -- never: they are ruled out
   pub admits_never : (pass : Pass) (i : Interest) → IsInterestBy memory f s.filters m after i → i ≡ Never → IsAdmitted memory f s lane m pass after (Ok false)
@@ -83,14 +86,17 @@ module _ (memory : KeptCallsites) (f : Form) (s : RegistryState) (lane : Lane) (
   said_so said e = e ∙ asked_unless_vetoed f m s.store lane.0 no_filter (rules_of f s.filters honest).orderly
 
   -- always: nothing is asked, and a new pass stays as it is
-  pub admits_always : (pass : Pass) (i : Interest) → IsInterestBy memory f s.filters m after i → i ≡ Always → IsEmpty (refusals pass) → IsAdmitted memory f s lane m pass after (Ok true)
+  pub admits_always : (pass : Pass) (i : Interest)
+      → IsInterestBy memory f s.filters m after i → i ≡ Always → IsEmpty (refusals pass) → IsAdmitted memory f s lane m pass after (Ok true)
   admits_always pass i h same empty =
       let wanted = always_is_wanted f s.filters m s.store lane.0 honest (h.always same) in
-      let asks : asked f m s.store lane.0 no_filter no_filter ≡ (true, refusals pass) = asked_by_all f s.filters m s.store lane.0 honest wanted ∙ (λ k. (true, λ n. sym (empty n) k)) in
+      let asks : asked f m s.store lane.0 no_filter no_filter ≡ (true, refusals pass) =
+      asked_by_all f s.filters m s.store lane.0 honest wanted ∙ (λ k. (true, λ n. sym (empty n) k)) in
       (decided i Always true h same (said_so true (sym (ap (λ (p : Bool × FilterSet). p.0) asks))), λ e. asks)
 
   -- sometimes: all are asked
-  pub admits_asked : {S : Type 0} (registry : S → RegistryState) (has_form : S → Form → Type 0) (x : S) (fresh pass : Pass) (i : Interest) (said : Bool) → registry x ≡ s → has_form x f → IsInterestBy memory f s.filters m after i → i ≡ Sometimes → IsEmpty (refusals fresh)
+  pub admits_asked : {S : Type 0} (registry : S → RegistryState) (has_form : S → Form → Type 0) (x : S) (fresh pass : Pass) (i : Interest) (said : Bool)
+      → registry x ≡ s → has_form x f → IsInterestBy memory f s.filters m after i → i ≡ Sometimes → IsEmpty (refusals fresh)
       → AnswersEnabled registry has_form x lane m fresh said pass → IsAdmitted memory f s lane m pass after (Ok said)
   admits_asked registry has_form x fresh pass i said at d h same empty a = (
     decided i Sometimes said h same (said_so said ((a f d).answer ∙ sym (ap (λ (p : Bool × FilterSet). p.0) here))),
@@ -103,7 +109,8 @@ module _ (memory : KeptCallsites) (f : Form) (s : RegistryState) (lane : Lane) (
 -- ---- what a cache gives
 
 -- where the same is known, the same holds of it
-pub matches_still : (f : Form) (filters : ℕ) (k l : Known) → l.hint ≡ k.hint → ((n : ℕ) → known_of l n ≡ known_of k n) → MatchesStack f filters k → MatchesStack f filters l
+pub matches_still : (f : Form) (filters : ℕ) (k l : Known)
+    → l.hint ≡ k.hint → ((n : ℕ) → known_of l n ≡ known_of k n) → MatchesStack f filters k → MatchesStack f filters l
 matches_still f filters k l hint same u = record {
   hint = hint ∙ u.hint;
   number = λ n one e. u.number n one (sym (same n) ∙ e);
@@ -122,7 +129,8 @@ pub nothing_kept : (k : Known) → ((n : ℕ) → known_of k n ≡ None) → k.r
 nothing_kept k nothing room = λ i. record { known = λ n. option_map (λ (c : Callsite). c.metadata) (nothing n i); room = room i }
 
 -- what is above no hint that is kept afterwards was above none before
-pub below_before : (memory : KeptCallsites) (before after : ReadHint) (m : Metadata) → ReadsOnce memory before after → is_above_read after m ≡ false → is_above_read before m ≡ false
+pub below_before : (memory : KeptCallsites) (before after : ReadHint) (m : Metadata)
+    → ReadsOnce memory before after → is_above_read after m ≡ false → is_above_read before m ≡ false
 below_before None (Some hint) after m r e = subst (λ read. is_above_read read m ≡ false) r e
 below_before (Some callsites) (Some hint) after m r e = subst (λ read. is_above_read read m ≡ false) r e
 below_before other rest after m r e = refl
@@ -179,7 +187,8 @@ module _ {S : Type 0} (registry : S → RegistryState) (has_form : S → Form �
   kept_newly c e = sym (ap (λ (o : Option Metadata). if is_some o then c else with_new c) e)
 
   -- the callsite is kept with metadata that show the same
-  pub gives_kept : (k : Known) (one : Callsite) → is_above (level_of m) k.hint ≡ false → known_of k (callsite_of m) ≡ Some one → ShowSame one.metadata m → GivesInterest registry has_form x m (Ok one.interest) (Filled k) (Filled k)
+  pub gives_kept : (k : Known) (one : Callsite) → is_above (level_of m) k.hint ≡ false
+      → known_of k (callsite_of m) ≡ Some one → ShowSame one.metadata m → GivesInterest registry has_form x m (Ok one.interest) (Filled k) (Filled k)
   gives_kept k one passes at same = record {
     off = λ o. absurd (cc);
     learns = inl refl;
@@ -191,7 +200,8 @@ module _ {S : Type 0} (registry : S → RegistryState) (has_form : S → Form �
     refused = tt;
     by_form = λ f d h u.
         let below = ap (is_above (level_of m)) (sym u.hint) ∙ passes in
-        let interest = u.interest (callsite_of m) one at ∙ ap (λ (p : Interest × Option Interest). p.0) (alike_interest f h one.metadata m same (registry x).filters None) in
+        let interest =
+        u.interest (callsite_of m) one at ∙ ap (λ (p : Interest × Option Interest). p.0) (alike_interest f h one.metadata m same (registry x).filters None) in
         record {
           above = λ a. absurd (true≢false (sym a ∙ below));
           agrees = λ a other e. shown other e;
@@ -207,10 +217,12 @@ module _ {S : Type 0} (registry : S → RegistryState) (has_form : S → Form �
       there = ap (option_map (λ (c : Callsite). c.metadata)) at
 
       shown : (other : Metadata) → (callsites_of k).known (callsite_of m) ≡ Some other → ShowSame other m
-      shown other e = let which : Some other ≡ Some one.metadata = sym e ∙ there in let it : other ≡ one.metadata = cc in subst (λ z. ShowSame z m) (sym it) same
+      shown other e =
+          let which : Some other ≡ Some one.metadata = sym e ∙ there in let it : other ≡ one.metadata = cc in subst (λ z. ShowSame z m) (sym it) same
 
   -- it isn't kept, no memory is held for it, and memory was refused
-  pub gives_no_memory : (k l : Known) → is_above (level_of m) k.hint ≡ false → known_of k (callsite_of m) ≡ None → k.room ≡ 0 → l.hint ≡ k.hint → l.room ≡ k.room → ((n : ℕ) → known_of l n ≡ known_of k n)
+  pub gives_no_memory : (k l : Known) → is_above (level_of m) k.hint ≡ false
+      → known_of k (callsite_of m) ≡ None → k.room ≡ 0 → l.hint ≡ k.hint → l.room ≡ k.room → ((n : ℕ) → known_of l n ≡ known_of k n)
       → GivesInterest registry has_form x m (Err OutOfMemory) (Filled k) (Filled l)
   gives_no_memory k l passes at none hint room same = record {
     off = λ o. absurd (cc);
@@ -230,7 +242,8 @@ module _ {S : Type 0} (registry : S → RegistryState) (has_form : S → Form �
       kept = λ i. record { known = λ n. option_map (λ (c : Callsite). c.metadata) (same n i); room = room i }
 
   -- it isn't kept, is asked for, and is kept then
-  pub gives_asked : (k l : Known) (i : Interest) (fresh pass : Pass) → is_above (level_of m) k.hint ≡ false → known_of k (callsite_of m) ≡ None → l.hint ≡ k.hint → l.room ≡ k.room - 1 → interest_sum fresh ≡ None → AnswersInterest registry has_form x m fresh i pass
+  pub gives_asked : (k l : Known) (i : Interest) (fresh pass : Pass) → is_above (level_of m) k.hint ≡ false → known_of k (callsite_of m) ≡ None
+      → l.hint ≡ k.hint → l.room ≡ k.room - 1 → interest_sum fresh ≡ None → AnswersInterest registry has_form x m fresh i pass
       → ((n : ℕ) → known_of l n ≡ if (callsite_of m == n) then Some (record { metadata = m; interest = i }) else known_of k n)
       → GivesInterest registry has_form x m (Ok i) (Filled k) (Filled l)
   gives_asked k l i fresh pass passes at hint room none a updates = record {
@@ -265,11 +278,13 @@ module _ {S : Type 0} (registry : S → RegistryState) (has_form : S → Form �
           each n = ap (option_map (λ (c : Callsite). c.metadata)) (updates n) ∙ by_test (callsite_of m == n)
             where
               by_test : (b : Bool)
-                  → option_map (λ (c : Callsite). c.metadata) (if b then Some (record { metadata = m; interest = i }) else known_of k n) ≡ (if b then Some m else (callsites_of k).known n)
+                  → option_map (λ (c : Callsite). c.metadata) (if b then Some (record { metadata = m; interest = i }) else known_of k n)
+                  ≡ (if b then Some m else (callsites_of k).known n)
               by_test true = refl
               by_test false = refl
 
-      entry : (n : ℕ) (one : Callsite) (P : Callsite → Type 0) → (callsite_of m ≡ n → P (record { metadata = m; interest = i })) → (known_of k n ≡ Some one → P one) → known_of l n ≡ Some one → P one
+      entry : (n : ℕ) (one : Callsite) (P : Callsite → Type 0)
+          → (callsite_of m ≡ n → P (record { metadata = m; interest = i })) → (known_of k n ≡ Some one → P one) → known_of l n ≡ Some one → P one
       entry n one P new old e = by_test ((callsite_of m == n)) refl (sym (updates n) ∙ e)
         where
           by_test : (b : Bool) → (callsite_of m == n) ≡ b → (if b then Some (record { metadata = m; interest = i }) else known_of k n) ≡ Some one → P one
@@ -285,11 +300,14 @@ module _ {S : Type 0} (registry : S → RegistryState) (has_form : S → Form �
       numbered : (f : Form) → MatchesStack f (registry x).filters k → (n : ℕ) (one : Callsite) → known_of l n ≡ Some one → callsite_of one.metadata ≡ n
       numbered f u n one e = entry n one (λ c. callsite_of c.metadata ≡ n) (λ it. it) (u.number n one) e
 
-      answered : (f : Form) → has_form x f → MatchesStack f (registry x).filters k → (n : ℕ) (one : Callsite) → known_of l n ≡ Some one → one.interest ≡ (interest_of f one.metadata (registry x).filters None).0
+      answered : (f : Form) → has_form x f → MatchesStack f (registry x).filters k
+          → (n : ℕ) (one : Callsite) → known_of l n ≡ Some one → one.interest ≡ (interest_of f one.metadata (registry x).filters None).0
       answered f d u n one e = entry n one (λ c. c.interest ≡ (interest_of f c.metadata (registry x).filters None).0) (λ it. interest f d) (u.interest n one) e
 
   -- a cache that was just begun: nothing is in it but the hint
-  pub gives_begun : (k : Known) (new : Cache) (i : Result Interest TraceError) → ((n : ℕ) → known_of k n ≡ None) → k.room ≡ 0 → ((f : Form) → has_form x f → k.hint ≡ hint_of f) → GivesInterest registry has_form x m i (Filled k) new → GivesInterest registry has_form x m i Empty new
+  pub gives_begun : (k : Known) (new : Cache) (i : Result Interest TraceError)
+      → ((n : ℕ) → known_of k n ≡ None) → k.room ≡ 0 → ((f : Form) → has_form x f → k.hint ≡ hint_of f)
+      → GivesInterest registry has_form x m i (Filled k) new → GivesInterest registry has_form x m i Empty new
   gives_begun k new i nothing room hint h =
       let none = nothing_kept k nothing room in
       let current : (f : Form) → has_form x f → MatchesStack f (registry x).filters k = λ f d. nothing_matches f (registry x).filters k (hint f d) nothing in
@@ -307,6 +325,8 @@ module _ {S : Type 0} (registry : S → RegistryState) (has_form : S → Form �
         lasts = λ n one e. let no : None ≡ Some one = e in absurd (cc);
       }
     where
-      begun : (r : Result Interest TraceError) → ((e : TraceError) → RefusesBelow (Some k.hint) (Some (callsites_of k)) m e → RefusesInterest (Some no_callsite) m e) → IfErr r (RefusesBelow (Some k.hint) (Some (callsites_of k)) m) → IfErr r (RefusesBelow None (Some no_callsite) m)
+      begun : (r : Result Interest TraceError)
+          → ((e : TraceError) → RefusesBelow (Some k.hint) (Some (callsites_of k)) m e → RefusesInterest (Some no_callsite) m e)
+          → IfErr r (RefusesBelow (Some k.hint) (Some (callsites_of k)) m) → IfErr r (RefusesBelow None (Some no_callsite) m)
       begun (Ok j) to r = tt
       begun (Err e) to r = (refl, to e r)

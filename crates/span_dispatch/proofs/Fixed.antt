@@ -9,12 +9,12 @@ use Rattle.span_dispatch.specs.Outcome.{IsHonest, LayersGo, LevelSet, OutcomeAt,
 use Rattle.span_dispatch.specs.Serve.{Run, ServesAsked, call_of}
 use Rattle.span_dispatch.specs.declared.request.Answer.{Answer}
 use Rattle.span_dispatch.specs.declared.request.Request.{Request}
+use Rattle.span_store.specs.Store.{RegistryState, Store}
 use Rattle.span_registry.specs.Behaviour.{Notice}
 use Rattle.span_registry.specs.Form.{Form}
 use Rattle.span_registry.specs.Hooks.{StackSteps}
 use Rattle.span_registry.specs.Levels.{LevelSteps}
 use Rattle.span_registry.specs.Plan.{Plan}
-use Rattle.span_registry.specs.Store.{RegistryState, Store}
 
 -- how a registry with a form goes on
 abbrev registry_in : Formed → RegistryState
@@ -33,20 +33,25 @@ abbrev levels_in : LevelSteps Formed
 levels_in r n l q = q.1 ≡ set_at n l r.1
 
 -- a stack is so in what decides its form, which is this one
-module _ {S : Type 0} (registry : S → RegistryState) (with_registry : S → RegistryState → S) (has_form : S → Form → Type 0) (stepped : StackSteps S) (levelled : LevelSteps S) (Stays : S → Form → Type 0)
-    (known : (x : S) (f g : Form) → Stays x f → has_form x g → g ≡ f) (goes : (x : S) (f : Form) (p : Plan) (e : Notice) (lane : ℕ) (v : RegistryState) (y : S) (w : RegistryState) → stepped x p e lane v y w → Stays x f → Stays y f)
-    (aside : (x : S) (f : Form) (w : RegistryState) → Stays x f → Stays (with_registry x w) f) (set : (x : S) (f : Form) (n : ℕ) (l : LevelFilter) (y : S) → levelled x n l y → Stays x f → Stays y (set_at n l f)) where
+module _ {S : Type 0} (registry : S → RegistryState)
+    (with_registry : S → RegistryState → S) (has_form : S → Form → Type 0) (stepped : StackSteps S) (levelled : LevelSteps S) (Stays : S → Form → Type 0)
+    (known : (x : S) (f g : Form) → Stays x f → has_form x g → g ≡ f) (goes : (x : S) (f : Form)
+    (p : Plan) (e : Notice) (lane : ℕ) (v : RegistryState) (y : S) (w : RegistryState) → stepped x p e lane v y w → Stays x f → Stays y f)
+    (aside : (x : S) (f : Form) (w : RegistryState) → Stays x f
+    → Stays (with_registry x w) f) (set : (x : S) (f : Form) (n : ℕ) (l : LevelFilter) (y : S) → levelled x n l y → Stays x f → Stays y (set_at n l f)) where
   abbrev MakesIn : Formed → OutcomeAt → Formed → Type 0
   MakesIn s m t = Makes registry_in with_registry_in has_this steps_in levels_in s m t
 
-  honest : (f g : Form) (x : S) → Stays x f → IsHonest registry with_registry has_form stepped levelled g x → IsHonest registry_in with_registry_in has_this steps_in levels_in g (registry x, f)
+  honest : (f g : Form) (x : S) → Stays x f
+      → IsHonest registry with_registry has_form stepped levelled g x → IsHonest registry_in with_registry_in has_this steps_in levels_in g (registry x, f)
   honest f g x stays h = record { has = known x f g stays h.has; rules = h.rules }
 
   -- it stays so by this form, and its layers go on so in it
   abbrev StaysOn : (g : Form) (o : Outcome) (s t : Store) (f : Form) (x y : S) → Type 0
   StaysOn g o s t f x y = (h : Form) × Stays y h × LayersGo registry_in with_registry_in has_this steps_in levels_in g o s t (registry x, f) (registry y, h)
 
-  stays_on : (g : Form) (o : Outcome) (s t : Store) (f : Form) (x y : S) → Stays x f → LayersGo registry with_registry has_form stepped levelled g o s t x y → StaysOn g o s t f x y
+  stays_on : (g : Form) (o : Outcome) (s t : Store) (f : Form) (x y : S)
+      → Stays x f → LayersGo registry with_registry has_form stepped levelled g o s t x y → StaysOn g o s t f x y
   stays_on g (Noticed lane e) s t f x y stays n = (
     f,
     subst (λ z. Stays z f) (sym n.rest) (aside n.notified f (registry y) (goes x f _ e lane.0 n.left n.notified (registry n.notified) n.layers stays)),
@@ -59,24 +64,34 @@ module _ {S : Type 0} (registry : S → RegistryState) (with_registry : S → Re
   abbrev StaysThrough : Form → S → List OutcomeAt → S → Type 0
   StaysThrough f x ms y = (h : Form) × Stays y h × FoldsTo MakesIn (registry x, f) ms (registry y, h)
 
-  through : (f : Form) (x : S) (ms : List OutcomeAt) (y : S) → Stays x f → FoldsTo (Makes registry with_registry has_form stepped levelled) x ms y → StaysThrough f x ms y
+  through : (f : Form) (x : S) (ms : List OutcomeAt) (y : S)
+      → Stays x f → FoldsTo (Makes registry with_registry has_form stepped levelled) x ms y → StaysThrough f x ms y
   through f x [] y stays h = (f, subst (λ z. Stays z f) h stays, ap (λ z. (registry z, f)) h)
   through f x (m ∷ ms) y stays h =
       let one = stays_on m.form m.outcome m.before m.after f x h.0 stays h.1.layers in
-      let rest = through one.0 h.0 ms y one.1 h.2 in
-      (rest.0, rest.1, ((registry h.0, one.0), record { honest = honest f m.form x stays h.1.honest; before = h.1.before; steps = h.1.steps; layers = one.2 }, rest.2))
+      let rest = through one.0 h.0 ms y one.1 h.2 in (
+        rest.0,
+        rest.1,
+        ((registry h.0, one.0), record { honest = honest f m.form x stays h.1.honest; before = h.1.before; steps = h.1.steps; layers = one.2 }, rest.2),
+      )
 
   abbrev AskedIn : Option Call → KeptCallsites → Form → S → Answer → List OutcomeAt → KeptCallsites → S → Type 0
-  AskedIn o memory f x a ms after y = (h : Form) × Stays y h × ServesAsked registry_in with_registry_in has_this steps_in levels_in o memory (registry x, f) a ms after (registry y, h)
+  AskedIn o memory f x a ms after y =
+      (h : Form) × Stays y h × ServesAsked registry_in with_registry_in has_this steps_in levels_in o memory (registry x, f) a ms after (registry y, h)
 
-  asked_in : (o : Option Call) (memory : KeptCallsites) (f : Form) (x : S) (a : Answer) (ms : List OutcomeAt) (after : KeptCallsites) (y : S) → Stays x f → ServesAsked registry with_registry has_form stepped levelled o memory x a ms after y → AskedIn o memory f x a ms after y
+  asked_in : (o : Option Call) (memory : KeptCallsites) (f : Form) (x : S) (a : Answer) (ms : List OutcomeAt) (after : KeptCallsites) (y : S)
+      → Stays x f → ServesAsked registry with_registry has_form stepped levelled o memory x a ms after y → AskedIn o memory f x a ms after y
   asked_in None memory f x a ms after y stays h = (f, subst (λ z. Stays z f) (sym h.3) stays, (h.0, h.1, h.2, ap (λ z. (registry z, f)) h.3))
   asked_in (Some call) memory f x a ms after y stays h =
-      let all = through f x ms y stays h.2.goes in
-      (all.0, all.1, (h.0, record { honest = honest f h.0 x stays h.1.honest; settled = h.1.settled }, record { says = h.2.says; goes = all.2; answers = h.2.answers }))
+      let all = through f x ms y stays h.2.goes in (
+        all.0,
+        all.1,
+        (h.0, record { honest = honest f h.0 x stays h.1.honest; settled = h.1.settled }, record { says = h.2.says; goes = all.2; answers = h.2.answers }),
+      )
 
   -- a run of such a stack is a run by its form
-  pub runs_by : (past : List Answer) (rs : List Request) (answers : List Answer) (made : List (List OutcomeAt)) (memory : KeptCallsites) (f : Form) (x : S) (after : KeptCallsites) (y : S) → Stays x f → Run registry with_registry has_form stepped levelled past rs answers made memory x after y
+  pub runs_by : (past : List Answer) (rs : List Request) (answers : List Answer) (made : List (List OutcomeAt)) (memory : KeptCallsites) (f : Form)
+      (x : S) (after : KeptCallsites) (y : S) → Stays x f → Run registry with_registry has_form stepped levelled past rs answers made memory x after y
       → (g : Form) × Stays y g × Run registry_in with_registry_in has_this steps_in levels_in past rs answers made memory (registry x, f) after (registry y, g)
   runs_by past [] [] [] memory f x after y stays h = (f, subst (λ z. Stays z f) (sym h.1) stays, (h.0, ap (λ z. (registry z, f)) h.1))
   runs_by past (q ∷ rs) (b ∷ answers) (ms ∷ made) memory f x after y stays h =

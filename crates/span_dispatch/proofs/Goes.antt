@@ -13,7 +13,8 @@ use Rattle.span_dispatch.specs.Cache.{KeptCallsites, MatchesStack, IsUpToDate, f
 use Rattle.span_dispatch.specs.Call.{OutcomesOf, AnswersWith}
 use Rattle.span_dispatch.specs.declared.call.Call.{Call}
 use Rattle.span_dispatch.specs.declared.call.Call.TheVariants.{SetLevel}
-use Rattle.span_dispatch.specs.Outcome.{Change, Ends, without_span, IsHonest, LayersGo, LevelSet, OutcomeAt, Makes, Noticed, Notices, Outcome, Quiet, Steps, given_in}
+use Rattle.span_dispatch.specs.Outcome.{Change, Ends, without_span, IsHonest, LayersGo, LevelSet, OutcomeAt, Makes, Noticed, Notices, Outcome, Quiet, Steps}
+use Rattle.span_dispatch.specs.Outcome.{given_in}
 use Rattle.span_dispatch.specs.Serve.{IsReady, IsReadyAfter, IsReadyBy, IsServed, stack_of}
 use Rattle.span_dispatch.specs.declared.cache.Cache.TheVariants as cache
 use Rattle.span_dispatch.specs.declared.cache.Cache.{Cache}
@@ -25,27 +26,21 @@ use Rattle.span_layers.proofs.Built.{rules_of}
 use Rattle.span_layers.proofs.HonestKept.{hint_is_kept, interest_is_kept}
 use Rattle.span_layers.proofs.RulesKept.{honesty_is_kept}
 use Rattle.span_layers.specs.Honest.{IsHonestStack}
-use Rattle.span_registry.specs.Behaviour.{Behaviour, Notice, OnClose}
-use Rattle.span_registry.specs.Closes.{HasNoClosing}
-use Rattle.span_registry.specs.KeptForm.{AnswersKeep, HasKeptForm, KeepsForm, kept_form}
+use Rattle.span_store.specs.Closes.{HasNoClosing}
+use Rattle.span_store.specs.Step.{TakesOut}
+use Rattle.span_store.specs.Store.{RegistryState, Spans, Store}
+use Rattle.span_registry.specs.Behaviour.{Notice, OnClose}
+use Rattle.span_registry.specs.KeptForm.{HasKeptForm, KeepsForm}
+use Rattle.span_registry.specs.laws.Form.{answers_again, kept_form, kept_rules, level_rules, same_levels}
 use Rattle.span_registry.specs.Form.{Terminal, Filtered, Form, Leaf, Parts}
 use Rattle.span_registry.specs.Hooks.{Notifies, StackLaws, StackSteps, no_filter}
-use Rattle.span_registry.specs.Levels.{KeepsRules, LevelLaws, LevelSteps, LevelsForm, kept_rules, level_rules, same_levels, takes_level}
+use Rattle.span_registry.specs.Levels.{KeepsRules, LevelLaws, LevelSteps, LevelsForm, takes_level}
 use Rattle.span_registry.specs.Conducts.{ActsAt}
 use Rattle.span_registry.specs.Position.{HearSteps}
 use Rattle.span_registry.specs.Plan.{asked_afresh, by_pass}
-use Rattle.span_registry.specs.Step.{TakesOut}
-use Rattle.span_registry.specs.Store.{RegistryState, Spans, Store}
 use Rattle.span_registry.specs.Subscriber.{SameButExtensions}
 
 -- ---- what is kept of what was kept is kept
-
-answers_again : (a b c : Behaviour) → AnswersKeep a b → AnswersKeep b c → AnswersKeep a c
-answers_again a b c p q = record {
-  same = record { interest = q.same.interest ∙ p.same.interest; hint = q.same.hint ∙ p.same.hint };
-  honest = λ h. q.honest (p.honest h);
-  quiet = λ h. q.quiet (p.quiet h);
-}
 
 pub keeps_again : (f g h : Form) → KeepsForm f g → KeepsForm g h → KeepsForm f h
 keeps_again (Leaf still a) (Leaf quiet b) (Leaf calm c) p q = (q.0 ∙ p.0, answers_again a b c p.1 q.1)
@@ -86,9 +81,14 @@ ended : (f : Form) (lane : Lane) (e : Notice) (s t : Store) (u v w : RegistrySta
 ended f lane (OnClose id) s t u v w steps given hooks closed =
     let ends = closed.0 in
     let x = number_of id in record {
-      spans = ap (λ (r : RegistryState). r.store.spans) ends ∙ ap (λ (m : Spans). remove m x) (ap (λ (r : RegistryState). r.store.spans) hooks ∙ ap (λ (r : Store). r.spans) given) ∙ sym (ap (λ (r : Store). r.spans) steps.1);
-      issued = ap (λ (r : RegistryState). r.store.issued) (ends ∙ ap (λ (r : RegistryState). record r { store = without_span r.store x; retired = w.retired }) hooks) ∙ ap (λ (r : Store). r.issued) given ∙ sym (ap (λ (r : Store). r.issued) steps.1);
-      stacks = ap (λ (r : RegistryState). r.store.stacks) (ends ∙ ap (λ (r : RegistryState). record r { store = without_span r.store x; retired = w.retired }) hooks) ∙ ap (λ (r : Store). r.stacks) given ∙ sym (ap (λ (r : Store). r.stacks) steps.1);
+      spans = ap (λ (r : RegistryState). r.store.spans) ends ∙ ap (λ (m : Spans). remove m x)
+          (ap (λ (r : RegistryState). r.store.spans) hooks ∙ ap (λ (r : Store). r.spans) given) ∙ sym (ap (λ (r : Store). r.spans) steps.1);
+      issued =
+          ap (λ (r : RegistryState). r.store.issued) (ends ∙ ap (λ (r : RegistryState). record r { store = without_span r.store x; retired = w.retired }) hooks)
+          ∙ ap (λ (r : Store). r.issued) given ∙ sym (ap (λ (r : Store). r.issued) steps.1);
+      stacks =
+          ap (λ (r : RegistryState). r.store.stacks) (ends ∙ ap (λ (r : RegistryState). record r { store = without_span r.store x; retired = w.retired }) hooks)
+          ∙ ap (λ (r : Store). r.stacks) given ∙ sym (ap (λ (r : Store). r.stacks) steps.1);
     }
 ended f lane other s t u v w steps given hooks ends = record {
   spans = ap (λ (r : RegistryState). r.store.spans) (ends ∙ hooks) ∙ ap (λ (r : Store). r.spans) given;
@@ -98,9 +98,15 @@ ended f lane other s t u v w steps given hooks ends = record {
 
 -- one that takes a span out ends so
 pub ended_by : (id : Id) (s t : RegistryState) → TakesOut s (number_of id ∷ []) t → Ends (OnClose id) s t
-ended_by id s t h = ((λ i. record { store = h.store i; limits = h.limits i; filters = h.filters i; retired = t.retired; reserved = h.reserved i }), h.retired, h.no_other, h.late)
+ended_by id s t h = (
+  (λ i. record { store = h.store i; limits = h.limits i; filters = h.filters i; retired = t.retired; reserved = h.reserved i }),
+  h.retired,
+  h.no_other,
+  h.late,
+)
 
-module _ {S : Type 0} (registry : S → RegistryState) (with_registry : S → RegistryState → S) (has_form : S → Form → Type 0) (stepped : StackSteps S) (levelled : LevelSteps S) where
+module _ {S : Type 0} (registry : S → RegistryState)
+    (with_registry : S → RegistryState → S) (has_form : S → Form → Type 0) (stepped : StackSteps S) (levelled : LevelSteps S) where
   -- of a call that was answered so this was made, as its answer says, and the stack went through it
   pub record Tells (call : Call) (x : S) (a : Answer) (made : List OutcomeAt) (y : S) : Type 0 where
     pub says : OutcomesOf call a (registry x).store (map (λ m. m.outcome) made)
@@ -114,14 +120,18 @@ module _ {S : Type 0} (registry : S → RegistryState) (with_registry : S → Re
   pub left_aside : (x : S) (m : OutcomeAt) (y : S) → Makes registry with_registry has_form stepped levelled x m y → SameAside m.after (registry y).store
   left_aside x m y h = by_outcome m.outcome m.before m.after h.before h.steps h.layers
     where
-      by_outcome : (o : Outcome) (s t : Store) → s ≡ (registry x).store → Steps m.form o s t → LayersGo registry with_registry has_form stepped levelled m.form o s t x y → SameAside t (registry y).store
-      by_outcome (Noticed lane e) s t before steps n = ended m.form lane e s t n.left (registry n.notified) (registry y) steps (ap (λ (r : RegistryState). r.store) n.given) n.hooks n.ends
+      by_outcome : (o : Outcome) (s t : Store) → s ≡ (registry x).store
+          → Steps m.form o s t → LayersGo registry with_registry has_form stepped levelled m.form o s t x y → SameAside t (registry y).store
+      by_outcome (Noticed lane e) s t before steps n =
+          ended m.form lane e s t n.left (registry n.notified) (registry y) steps (ap (λ (r : RegistryState). r.store) n.given) n.hooks n.ends
       by_outcome (Quiet c) s t before steps quiet = same_aside t (registry y).store (ap (λ (r : RegistryState). r.store) quiet.0)
       by_outcome (LevelSet n l) s t before steps set = same_aside t (registry y).store (ap (λ (r : RegistryState). r.store) set.2 ∙ sym before ∙ sym steps)
 
 -- what was made of a call, and how it was answered: so it is served
-pub served_so : {S : Type 0} {registry : S → RegistryState} {with_registry : S → RegistryState → S} {has_form : S → Form → Type 0} {stepped : StackSteps S} {levelled : LevelSteps S} {call : Call} {f : Form} {kept after : KeptCallsites} {x y : S} {a : Answer}
-    → IsTold registry with_registry has_form stepped levelled call a x y → AnswersWith call kept f (registry x) a after → IsServed registry with_registry has_form stepped levelled call f kept x a after y
+pub served_so : {S : Type 0} {registry : S → RegistryState} {with_registry : S → RegistryState → S} {has_form : S → Form → Type 0}
+    {stepped : StackSteps S} {levelled : LevelSteps S} {call : Call} {f : Form} {kept after : KeptCallsites} {x y : S} {a : Answer}
+    → IsTold registry with_registry has_form stepped levelled call a x y
+    → AnswersWith call kept f (registry x) a after → IsServed registry with_registry has_form stepped levelled call f kept x a after y
 served_so t e = (t.0, record { says = t.1.says; goes = t.1.goes; answers = e })
 
 -- a registry that took a step to this one
@@ -143,8 +153,10 @@ pub record StepsTo (f : Form) (lane : Lane) (e : Notice) (s t : RegistryState) :
   pub filters : t.filters ≡ s.filters
   pub settled : HasNoClosing s.store.spans → HasNoClosing t.store.spans
 
-module _ {S : Type 0} {registry : S → RegistryState} {with_registry : S → RegistryState → S} {usable : S → Type 0} {has_form : S → Form → Type 0} {stepped : StackSteps S} {hears : HearSteps S} {registered : S → S → Type 0}
-    (laws : StackLaws with_registry usable has_form stepped hears registered) (with_own : (s : S) → with_registry s (registry s) ≡ s) (levelled : LevelSteps S) where
+module _ {S : Type 0} {registry : S → RegistryState} {with_registry : S → RegistryState → S}
+    {usable : S → Type 0} {has_form : S → Form → Type 0} {stepped : StackSteps S} {hears : HearSteps S} {registered : S → S → Type 0}
+    (laws : StackLaws with_registry usable has_form stepped hears registered) (with_own : (s : S) → with_registry s (registry s) ≡ s)
+    (levelled : LevelSteps S) where
   abbrev pub Honest : Form → S → Type 0
   Honest f x = IsHonest registry with_registry has_form stepped levelled f x
 
@@ -153,15 +165,22 @@ module _ {S : Type 0} {registry : S → RegistryState} {with_registry : S → Re
   StillHonest f x y = (g : Form) × Honest g y × KeepsForm f g × ((registry y).filters ≡ (registry x).filters)
 
   followed : (f : Form) (x y : S) → Honest f x → HasKeptForm (has_form y) f → (registry y).filters ≡ (registry x).filters → StillHonest f x y
-  followed f x y h k e = (k.0, record { has = k.1; rules = subst (λ n. IsHonestStack k.0 n) (sym e) (honesty_is_kept f k.0 (registry x).filters (kept_rules f k.0 k.2) h.rules) }, k.2, e)
+  followed f x y h k e = (
+    k.0,
+    record { has = k.1; rules = subst (λ n. IsHonestStack k.0 n) (sym e) (honesty_is_kept f k.0 (registry x).filters (kept_rules f k.0 k.2) h.rules) },
+    k.2,
+    e,
+  )
 
   elsewhere : (f : Form) (x y : S) (w : RegistryState) → y ≡ with_registry x w → HasKeptForm (has_form x) f → HasKeptForm (has_form y) f
   elsewhere f x y w e k = (k.0, subst (λ z. has_form z k.0) (sym e) (laws.form_with x w k.0 k.1), k.2)
 
   -- after a notice an honest stack is honest
-  pub honest_after : (f : Form) (lane : Lane) (e : Notice) (s t : Store) (x y : S) → Honest f x → Notices registry with_registry has_form stepped levelled f lane e s t x y → (registry y).filters ≡ (registry x).filters → StillHonest f x y
+  pub honest_after : (f : Form) (lane : Lane) (e : Notice) (s t : Store) (x y : S)
+      → Honest f x → Notices registry with_registry has_form stepped levelled f lane e s t x y → (registry y).filters ≡ (registry x).filters → StillHonest f x y
   honest_after f lane e s t x y h n filters =
-      let next = laws.keeps x _ e lane.0 n.left n.notified (registry n.notified) f n.layers h.has in followed f x y h (elsewhere f n.notified y (registry y) n.rest next) filters
+      let next = laws.keeps x _ e lane.0 n.left n.notified (registry n.notified) f n.layers h.has in
+      followed f x y h (elsewhere f n.notified y (registry y) n.rest next) filters
 
   -- after a quiet change it is
   pub honest_quietly : (f : Form) (x y : S) → Honest f x → y ≡ with_registry x (registry y) → (registry y).filters ≡ (registry x).filters → StillHonest f x y
@@ -181,12 +200,16 @@ module _ {S : Type 0} {registry : S → RegistryState} {with_registry : S → Re
   Done call a f x y = IsTold registry with_registry has_form stepped levelled call a x y × (HasNoClosing (registry x).store.spans → StillReady f x y)
 
   pub by_none : (call : Call) (a : Answer) (f : Form) (x y : S) → Honest f x → y ≡ x → OutcomesOf call a (registry x).store [] → Done call a f x y
-  by_none call a f x y h e says =
-      (([], record { says = says; goes = sym e }), λ s. (f, subst (Ready f) (sym e) (record { honest = h; settled = s }), kept_form f, ap (λ z. (registry z).filters) e))
+  by_none call a f x y h e says = (
+    ([], record { says = says; goes = sym e }),
+    λ s. (f, subst (Ready f) (sym e) (record { honest = h; settled = s }), kept_form f, ap (λ z. (registry z).filters) e),
+  )
 
   -- a call of the stack, which notified by a plan that is the plan asked afresh
-  pub by_call : (call : Call) (a : Answer) (f : Form) (lane : Lane) (e : Notice) (refused : FilterSet) (step : RegistryState → RegistryState → Type 0) (x y : S) → Honest f x → OutcomesOf call a (registry x).store (Noticed lane e ∷ [])
-      → (n : Notifies registry has_form stepped lane refused e step x y) → by_pass f e n.left.store.spans no_filter refused ≡ asked_afresh f e (registry x).store lane.0 no_filter → StepsTo f lane e (registry x) n.left → Done call a f x y
+  pub by_call : (call : Call) (a : Answer) (f : Form) (lane : Lane) (e : Notice) (refused : FilterSet) (step : RegistryState → RegistryState → Type 0) (x y : S)
+      → Honest f x → OutcomesOf call a (registry x).store (Noticed lane e ∷ [])
+      → (n : Notifies registry has_form stepped lane refused e step x y) → by_pass f e n.left.store.spans no_filter refused
+      ≡ asked_afresh f e (registry x).store lane.0 no_filter → StepsTo f lane e (registry x) n.left → Done call a f x y
   by_call call a f lane e refused step x y h says n plan to =
       let m : OutcomeAt = record { form = f; before = (registry x).store; after = to.after; outcome = Noticed lane e } in
       let notices : Notices registry with_registry has_form stepped levelled f lane e (registry x).store to.after x y = record {
@@ -204,12 +227,14 @@ module _ {S : Type 0} {registry : S → RegistryState} {with_registry : S → Re
       )
 
   -- this was made by a quiet change
-  pub changed : (f : Form) (c : Change) (x y : S) (t : Store) → Honest f x → Steps f (Quiet c) (registry x).store t → registry y ≡ record (registry x) { store = t } → y ≡ with_registry x (registry y)
+  pub changed : (f : Form) (c : Change) (x y : S) (t : Store)
+      → Honest f x → Steps f (Quiet c) (registry x).store t → registry y ≡ record (registry x) { store = t } → y ≡ with_registry x (registry y)
       → Makes registry with_registry has_form stepped levelled x (record { form = f; before = (registry x).store; after = t; outcome = Quiet c }) y
   changed f c x y t h steps store rest = record { honest = h; before = refl; steps = steps; layers = (store, rest) }
 
   pub by_change : (call : Call) (a : Answer) (f : Form) (c : Change) (x y : S) → Honest f x → OutcomesOf call a (registry x).store (Quiet c ∷ [])
-      → (t : Store) → Steps f (Quiet c) (registry x).store t → registry y ≡ record (registry x) { store = t } → y ≡ with_registry x (registry y) → (registry y).filters ≡ (registry x).filters → (HasNoClosing (registry x).store.spans → HasNoClosing (registry y).store.spans)
+      → (t : Store) → Steps f (Quiet c) (registry x).store t → registry y ≡ record (registry x) { store = t } → y ≡ with_registry x (registry y)
+      → (registry y).filters ≡ (registry x).filters → (HasNoClosing (registry x).store.spans → HasNoClosing (registry y).store.spans)
       → Done call a f x y
   by_change call a f c x y h says t steps store rest filters settled =
       let m : OutcomeAt = record { form = f; before = (registry x).store; after = t; outcome = Quiet c } in
@@ -219,28 +244,47 @@ module _ {S : Type 0} {registry : S → RegistryState} {with_registry : S → Re
       )
 
   -- a stack with another registry
-  pub its_own : ((s : S) (w : RegistryState) → registry (with_registry s w) ≡ w) → (x : S) (w : RegistryState) → with_registry x w ≡ with_registry x (registry (with_registry x w))
+  pub its_own : ((s : S) (w : RegistryState) → registry (with_registry s w) ≡ w)
+      → (x : S) (w : RegistryState) → with_registry x w ≡ with_registry x (registry (with_registry x w))
   its_own registry_with x w = ap (λ r. with_registry x r) (sym (registry_with x w))
 
 -- ---- a level that is set
 
-module _ {S : Type 0} (registry : S → RegistryState) (with_registry : S → RegistryState → S) {has_form : S → Form → Type 0} (stepped : StackSteps S) {levelled : LevelSteps S} {hears : HearSteps S} {acts_at : ActsAt S} (levels : LevelLaws has_form levelled hears acts_at) where
+module _ {S : Type 0} (registry : S → RegistryState) (with_registry : S → RegistryState → S) {has_form : S → Form → Type 0}
+    (stepped : StackSteps S) {levelled : LevelSteps S} {hears : HearSteps S} {acts_at : ActsAt S} (levels : LevelLaws has_form levelled hears acts_at) where
   -- a stack in which a filter took a level is honest, by a form in which that filter alone answers otherwise
-  pub honest_levelled : (f : Form) (n : ℕ) (l : LevelFilter) (x y : S) → IsHonest registry with_registry has_form stepped levelled f x → levelled x n l y → registry y ≡ registry x
+  pub honest_levelled : (f : Form) (n : ℕ) (l : LevelFilter) (x y : S)
+      → IsHonest registry with_registry has_form stepped levelled f x → levelled x n l y → registry y ≡ registry x
       → (g : Form) × IsHonest registry with_registry has_form stepped levelled g y × LevelsForm n f g
   honest_levelled f n l x y h goes same =
-      let k = levels.keeps x n l y f goes h.has in
-      (k.0, record { has = k.1; rules = subst (λ (s : RegistryState). IsHonestStack k.0 s.filters) (sym same) (honesty_is_kept f k.0 (registry x).filters (level_rules n f k.0 k.2) h.rules) }, k.2)
+      let k = levels.keeps x n l y f goes h.has in (
+        k.0,
+        record {
+          has = k.1;
+          rules = subst (λ (s : RegistryState). IsHonestStack k.0 s.filters)
+              (sym same) (honesty_is_kept f k.0 (registry x).filters (level_rules n f k.0 k.2) h.rules);
+        },
+        k.2,
+      )
 
   -- and so ready, where nothing is kept any more
-  pub ready_levelled : (f : Form) (n : ℕ) (l : LevelFilter) (old new : Dispatch S) → IsReadyBy registry with_registry has_form stepped levelled f old → levelled (stack_of old) n l (stack_of new)
-      → registry (stack_of new) ≡ registry (stack_of old) → ((g : Form) (m : ℕ) → IsUpToDate g m new.cache) → IsReadyAfter registry with_registry has_form stepped levelled (LevelsForm n) f new
+  pub ready_levelled : (f : Form) (n : ℕ) (l : LevelFilter) (old new : Dispatch S)
+      → IsReadyBy registry with_registry has_form stepped levelled f old → levelled (stack_of old) n l (stack_of new)
+      → registry (stack_of new) ≡ registry (stack_of old)
+      → ((g : Form) (m : ℕ) → IsUpToDate g m new.cache) → IsReadyAfter registry with_registry has_form stepped levelled (LevelsForm n) f new
   ready_levelled f n l old new h goes same kept =
-      let k = honest_levelled f n l (stack_of old) (stack_of new) h.stack.honest goes same in
-      (k.0, record { stack = record { honest = k.1; settled = subst (λ (s : RegistryState). HasNoClosing s.store.spans) (sym same) h.stack.settled }; kept = kept k.0 (registry (stack_of new)).filters }, k.2)
+      let k = honest_levelled f n l (stack_of old) (stack_of new) h.stack.honest goes same in (
+        k.0,
+        record {
+          stack = record { honest = k.1; settled = subst (λ (s : RegistryState). HasNoClosing s.store.spans) (sym same) h.stack.settled };
+          kept = kept k.0 (registry (stack_of new)).filters;
+        },
+        k.2,
+      )
 
   -- a level was set
-  pub level_told : (f : Form) (n : ℕ) (l : LevelFilter) (x y : S) → IsHonest registry with_registry has_form stepped levelled f x → takes_level f n l ≡ true → levelled x n l y → registry y ≡ registry x
+  pub level_told : (f : Form) (n : ℕ) (l : LevelFilter) (x y : S)
+      → IsHonest registry with_registry has_form stepped levelled f x → takes_level f n l ≡ true → levelled x n l y → registry y ≡ registry x
       → IsTold registry with_registry has_form stepped levelled (SetLevel n l) answer.Done x y
   level_told f n l x y h taken goes same =
       let m : OutcomeAt = record { form = f; before = (registry x).store; after = (registry x).store; outcome = LevelSet n l } in
@@ -271,7 +315,8 @@ pub up_to_date_again : (f g : Form) (n : ℕ) (c : Cache) → KeepsForm f g → 
 up_to_date_again f g n (cache.Filled k) e h = current_again f g n k e h
 up_to_date_again f g n other e h = h
 
-module _ {S : Type 0} (registry : S → RegistryState) (with_registry : S → RegistryState → S) (has_form : S → Form → Type 0) (stepped : StackSteps S) (levelled : LevelSteps S) where
+module _ {S : Type 0} (registry : S → RegistryState)
+    (with_registry : S → RegistryState → S) (has_form : S → Form → Type 0) (stepped : StackSteps S) (levelled : LevelSteps S) where
   abbrev pub ReadyBy : Form → Dispatch S → Type 0
   ReadyBy f d = IsReadyBy registry with_registry has_form stepped levelled f d
 
@@ -280,8 +325,14 @@ module _ {S : Type 0} (registry : S → RegistryState) (with_registry : S → Re
 
   -- whose stack is ready again, and which keeps what the old stack would answer
   pub ready_again : (f : Form) (old new : Dispatch S)
-      → (g : Form) × IsReady registry with_registry has_form stepped levelled g (stack_of new) × KeepsForm f g × ((registry (stack_of new)).filters ≡ (registry (stack_of old)).filters) → IsUpToDate f (registry (stack_of old)).filters new.cache → After KeepsForm f new
-  ready_again f old new h k = (h.0, record { stack = h.1; kept = subst (λ n. IsUpToDate h.0 n new.cache) (sym h.3) (up_to_date_again f h.0 (registry (stack_of old)).filters new.cache h.2 k) }, h.2)
+      → (g : Form) × IsReady registry with_registry has_form stepped levelled g (stack_of new)
+      × KeepsForm f g × ((registry (stack_of new)).filters ≡ (registry (stack_of old)).filters)
+      → IsUpToDate f (registry (stack_of old)).filters new.cache → After KeepsForm f new
+  ready_again f old new h k = (
+    h.0,
+    record { stack = h.1; kept = subst (λ n. IsUpToDate h.0 n new.cache) (sym h.3) (up_to_date_again f h.0 (registry (stack_of old)).filters new.cache h.2 k) },
+    h.2,
+  )
 
   -- one that is as it was
   pub stays_same : (f : Form) (old new : Dispatch S) → new ≡ old → ReadyBy f old → After KeepsForm f new
@@ -299,5 +350,6 @@ module _ {S : Type 0} (registry : S → RegistryState) (with_registry : S → Re
 
   -- one that is new, and keeps nothing yet
   pub first_ready : (f : Form) (x : S) (d : Dispatch S)
-      → (g : Form) × IsReady registry with_registry has_form stepped levelled g (stack_of d) × KeepsForm f g × ((registry (stack_of d)).filters ≡ (registry x).filters) → ((g : Form) (n : ℕ) → IsUpToDate g n d.cache) → After KeepsForm f d
+      → (g : Form) × IsReady registry with_registry has_form stepped levelled g (stack_of d)
+      × KeepsForm f g × ((registry (stack_of d)).filters ≡ (registry x).filters) → ((g : Form) (n : ℕ) → IsUpToDate g n d.cache) → After KeepsForm f d
   first_ready f x d h k = (h.0, record { stack = h.1; kept = k h.0 (registry (stack_of d)).filters }, h.2)

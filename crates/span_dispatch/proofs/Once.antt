@@ -13,13 +13,13 @@ use Rattle.span_dispatch.proofs.Goes.{left_aside}
 use Rattle.span_dispatch.specs.Outcome.{GoneLeft, HandleAdded, HandleTaken, LevelSet, OutcomeAt, Makes, Noticed, Opened, Outcome, Quiet, Steps}
 use Rattle.span_core.specs.declared.span.Attributes.{Attributes}
 use Rattle.span_dispatch.specs.Serve.{StandOnce, closed_by}
-use Rattle.span_registry.proofs.Chains.{get_beside, get_kept, get_removed, same_test, test_same}
+use Rattle.span_store.proofs.Chains.{get_beside, get_kept, get_removed, same_test, test_same}
+use Rattle.span_store.specs.Closes.{Member}
+use Rattle.span_store.specs.Store.{AreIssued, IsInStore, RegistryState, Span, Spans, Store, with_handles}
 use Rattle.span_registry.specs.Behaviour.{OnClose, OnEnter, OnEvent, OnExit, OnIdChange, OnNewSpan}
-use Rattle.span_registry.specs.Closes.{Member}
 use Rattle.span_registry.specs.Form.{Form}
 use Rattle.span_registry.specs.Hooks.{StackSteps}
 use Rattle.span_registry.specs.Levels.{LevelSteps}
-use Rattle.span_registry.specs.Store.{AreIssued, IsInStore, RegistryState, Span, Spans, Store, with_handles}
 
 -- the spans that close by what was made, in order
 abbrev pub closed_in : List OutcomeAt → List ℕ
@@ -32,7 +32,8 @@ pub record Onward (s t : Store) : Type 0 where
   pub sound : AreIssued s → AreIssued t
 
 onward_further : (s t u : Store) → Onward s t → Onward t u → Onward s u
-onward_further s t u a b = record { issued = λ c h. b.issued c (a.issued c h); back = λ c h k. a.back c (b.back c h (a.issued c k)) k; sound = λ h. b.sound (a.sound h) }
+onward_further s t u a b =
+    record { issued = λ c h. b.issued c (a.issued c h); back = λ c h k. a.back c (b.back c h (a.issued c k)) k; sound = λ h. b.sound (a.sound h) }
 
 -- no id is issued, and no span comes in
 onward_shrinks : (s t : Store) → t.issued ≡ s.issued → ((c : ℕ) → IsInStore t.spans c → IsInStore s.spans c) → Onward s t
@@ -47,7 +48,8 @@ store_same : (s t : Store) → t ≡ s → Onward s t
 store_same s t e = onward_same s t (ap (λ (r : Store). r.issued) e) (ap (λ (r : Store). r.spans) e)
 
 -- a span is opened under an id that was never issued
-opened_back : (s : Store) (x : ℕ) (r : Span) (c : ℕ) → contains s.issued x ≡ false → IsInStore (insert s.spans x r) c → contains s.issued c ≡ true → IsInStore s.spans c
+opened_back : (s : Store) (x : ℕ) (r : Span) (c : ℕ)
+    → contains s.issued x ≡ false → IsInStore (insert s.spans x r) c → contains s.issued c ≡ true → IsInStore s.spans c
 opened_back s x r c fresh h k =
     let other : c ≡ x → ⊥ = λ e. true≢false (sym k ∙ ap (contains s.issued) e ∙ fresh) in
     (h.0, sym (get_beside s.spans x r c other) ∙ h.1)
@@ -55,7 +57,8 @@ opened_back s x r c fresh h k =
 issued_itself : (s : Store) (x c : ℕ) → contains (Rattle.std.specs.FinSet.insert s.issued x) c ≡ (eq_by_cmp nat_cmp c x || contains s.issued c)
 issued_itself s x c = contains-insert nat_cmp_total s.issued x c
 
-opened_sound : (s : Store) (x : ℕ) (r : Span) → AreIssued s → (c : ℕ) → IsInStore (insert s.spans x r) c → contains (Rattle.std.specs.FinSet.insert s.issued x) c ≡ true
+opened_sound : (s : Store) (x : ℕ) (r : Span)
+    → AreIssued s → (c : ℕ) → IsInStore (insert s.spans x r) c → contains (Rattle.std.specs.FinSet.insert s.issued x) c ≡ true
 opened_sound s x r sound c h = issued_itself s x c ∙ by_test (eq_by_cmp nat_cmp c x) refl
   where
     by_test : (b : Bool) → eq_by_cmp nat_cmp c x ≡ b → (b || contains s.issued c) ≡ true
@@ -99,11 +102,14 @@ onward_steps f (Noticed lane (OnEnter id)) s t b = onward_same s t (ap (λ (r : 
 onward_steps f (Noticed lane (OnExit id)) s t b = onward_same s t (ap (λ (r : Store). r.issued) b.1) (ap (λ (r : Store). r.spans) b.1)
 onward_steps f (Noticed lane (OnIdChange id other)) s t b = absurd b
 onward_steps f (Noticed lane (OnClose id)) s t b =
-    onward_shrinks s t (ap (λ (u : Store). u.issued) b.1) (λ c h. removed_back s.spans (number_of id) c (subst (λ (m : Spans). IsInStore m c) (ap (λ (u : Store). u.spans) b.1) h))
+    onward_shrinks s t
+    (ap (λ (u : Store). u.issued) b.1) (λ c h. removed_back s.spans (number_of id) c (subst (λ (m : Spans). IsInStore m c) (ap (λ (u : Store). u.spans) b.1) h))
 onward_steps f (Quiet (HandleAdded id)) s t b =
-    onward_shrinks s t (ap (λ (r : Store). r.issued) b.1) (λ y h. handles_back _ s.spans (number_of id) y (get s.spans (number_of id)) refl (subst (λ (m : Spans). IsInStore m y) (ap (λ (r : Store). r.spans) b.1) h))
+    onward_shrinks s t (ap (λ (r : Store). r.issued) b.1) (λ y h.
+    handles_back _ s.spans (number_of id) y (get s.spans (number_of id)) refl (subst (λ (m : Spans). IsInStore m y) (ap (λ (r : Store). r.spans) b.1) h))
 onward_steps f (Quiet (HandleTaken id)) s t b =
-    onward_shrinks s t (ap (λ (r : Store). r.issued) b.1) (λ y h. handles_back _ s.spans (number_of id) y (get s.spans (number_of id)) refl (subst (λ (m : Spans). IsInStore m y) (ap (λ (r : Store). r.spans) b.1) h))
+    onward_shrinks s t (ap (λ (r : Store). r.issued) b.1) (λ y h.
+    handles_back _ s.spans (number_of id) y (get s.spans (number_of id)) refl (subst (λ (m : Spans). IsInStore m y) (ap (λ (r : Store). r.spans) b.1) h))
 onward_steps f (Quiet (GoneLeft lane id)) s t b = onward_same s t (ap (λ (r : Store). r.issued) b.1) (ap (λ (r : Store). r.spans) b.1)
 onward_steps f (LevelSet n l) s t b = store_same s t b
 onward_steps f other s t b = store_same s t b.1
@@ -120,12 +126,14 @@ closes_join : (o : Outcome) (ys : List ℕ) → StandOnce ys → ((c : ℕ) → 
 closes_join (Noticed lane (OnClose id)) ys h k = (k (number_of id) (inl refl), h)
 closes_join other ys h k = h
 
-module _ {S : Type 0} (registry : S → RegistryState) (with_registry : S → RegistryState → S) (has_form : S → Form → Type 0) (stepped : StackSteps S) (levelled : LevelSteps S) where
+module _ {S : Type 0} (registry : S → RegistryState)
+    (with_registry : S → RegistryState → S) (has_form : S → Form → Type 0) (stepped : StackSteps S) (levelled : LevelSteps S) where
   pub onward_on : (x : S) (m : OutcomeAt) (y : S) → Makes registry with_registry has_form stepped levelled x m y → Onward (registry x).store (registry y).store
   onward_on x m y h =
       let aside = left_aside registry with_registry has_form stepped levelled x m y h in
       subst (λ (u : Store). Onward u (registry y).store) h.before
-      (onward_further m.before m.after (registry y).store (onward_steps m.form m.outcome m.before m.after h.steps) (onward_same m.after (registry y).store aside.issued aside.spans))
+      (onward_further m.before
+      m.after (registry y).store (onward_steps m.form m.outcome m.before m.after h.steps) (onward_same m.after (registry y).store aside.issued aside.spans))
 
   -- what closes by an outcome was in the store, and isn't any more
   closing_step : (f : Form) (o : Outcome) (s t : Store) (c : ℕ) → Steps f o s t → Member c (closed_by o) → IsInStore s.spans c × (IsInStore t.spans c → ⊥)
@@ -137,13 +145,17 @@ module _ {S : Type 0} (registry : S → RegistryState) (with_registry : S → Re
       )
   closing_step f other s t c g h = absurd h
 
-  pub closing_on : (x : S) (m : OutcomeAt) (y : S) (c : ℕ) → Makes registry with_registry has_form stepped levelled x m y → Member c (closed_by m.outcome) → IsInStore (registry x).store.spans c × (IsInStore (registry y).store.spans c → ⊥)
+  pub closing_on : (x : S) (m : OutcomeAt) (y : S) (c : ℕ) → Makes registry with_registry has_form stepped levelled x m y
+      → Member c (closed_by m.outcome) → IsInStore (registry x).store.spans c × (IsInStore (registry y).store.spans c → ⊥)
   closing_on x m y c h k =
-      let both = closing_step m.form m.outcome m.before m.after c h.steps k in
-      (subst (λ (u : Store). IsInStore u.spans c) h.before both.0, λ there. both.1 (subst (λ (v : Spans). IsInStore v c) (left_aside registry with_registry has_form stepped levelled x m y h).spans there))
+      let both = closing_step m.form m.outcome m.before m.after c h.steps k in (
+        subst (λ (u : Store). IsInStore u.spans c) h.before both.0,
+        λ there. both.1 (subst (λ (v : Spans). IsInStore v c) (left_aside registry with_registry has_form stepped levelled x m y h).spans there),
+      )
 
   -- an issued id that isn't in the store closes no more
-  pub never_again : (x : S) (ms : List OutcomeAt) (y : S) (c : ℕ) → FoldsTo (Makes registry with_registry has_form stepped levelled) x ms y → contains (registry x).store.issued c ≡ true → (IsInStore (registry x).store.spans c → ⊥) → Member c (closed_in ms) → ⊥
+  pub never_again : (x : S) (ms : List OutcomeAt) (y : S) (c : ℕ) → FoldsTo (Makes registry with_registry has_form stepped levelled) x ms y
+      → contains (registry x).store.issued c ≡ true → (IsInStore (registry x).store.spans c → ⊥) → Member c (closed_in ms) → ⊥
   never_again x [] y c h issued out k = k
   never_again x (m ∷ ms) y c h issued out k =
       let on = onward_on x m h.0 h.1 in
@@ -153,7 +165,8 @@ module _ {S : Type 0} (registry : S → RegistryState) (with_registry : S → Re
       ]
 
   -- over a whole run no span closes twice
-  pub closed_once : (x : S) (ms : List OutcomeAt) (y : S) → AreIssued (registry x).store → FoldsTo (Makes registry with_registry has_form stepped levelled) x ms y → StandOnce (closed_in ms)
+  pub closed_once : (x : S) (ms : List OutcomeAt) (y : S)
+      → AreIssued (registry x).store → FoldsTo (Makes registry with_registry has_form stepped levelled) x ms y → StandOnce (closed_in ms)
   closed_once x [] y sound h = tt
   closed_once x (m ∷ ms) y sound h =
       let on = onward_on x m h.0 h.1 in

@@ -4,7 +4,8 @@ use Rattle.span_dispatch.proofs.Goes.{by_keeping, by_level, ready_again, same_bu
 use Rattle.span_dispatch.specs.Contract.{CurrentBy, SameStack, StaysReady, StaysReadyBut, StaysReadyByRules, StaysUpToDate, SubscriberOf}
 use Rattle.span_dispatch.specs.Serve.{IsReady, stack_of}
 use Rattle.span_dispatch.specs.declared.dispatch.Dispatch.{Dispatch}
-use Rattle.span_registry.specs.KeptForm.{KeepsForm, kept_form}
+use Rattle.span_registry.specs.KeptForm.{KeepsForm}
+use Rattle.span_registry.specs.laws.Form.{kept_form}
 use Rattle.span_registry.specs.Form.{Form}
 
 module _ {S : Type 0} (s : SubscriberOf S) where
@@ -17,14 +18,17 @@ module _ {S : Type 0} (s : SubscriberOf S) where
 
 module _ {S : Type 0} {s : SubscriberOf S} where
   -- a dispatcher whose stack is ready again, and which keeps what it may
-  pub stays_ready : (old new : Dispatch S) → ((f : Form) → IsReadyStack s f (stack_of old) → CurrentBy s f old → IsReadyAgain s f (stack_of old) (stack_of new)) → StaysUpToDate s old new → StaysReady s old new
+  pub stays_ready : (old new : Dispatch S) → ((f : Form) → IsReadyStack s f (stack_of old) → CurrentBy s f old → IsReadyAgain s f (stack_of old) (stack_of new))
+      → StaysUpToDate s old new → StaysReady s old new
   stays_ready old new goes current = record {
-    again = λ f k. ready_again s.registry s.with_registry s.has_form s.stepped s.levelled f old new (goes f k.stack k.kept) (current f k.stack.honest.has k.kept);
+    again =
+        λ f k. ready_again s.registry s.with_registry s.has_form s.stepped s.levelled f old new (goes f k.stack k.kept) (current f k.stack.honest.has k.kept);
   }
 
   -- one whose stack is the same
   pub same_ready : (old new : Dispatch S) → SameStack old new → StaysUpToDate s old new → StaysReady s old new
-  same_ready old new e current = stays_ready old new (λ f k u. (f, subst (λ x. IsReadyStack s f x) (sym e) k, kept_form f, ap (λ x. (s.registry x).filters) e)) current
+  same_ready old new e current =
+      stays_ready old new (λ f k u. (f, subst (λ x. IsReadyStack s f x) (sym e) k, kept_form f, ap (λ x. (s.registry x).filters) e)) current
 
   -- one that is the same
   pub unchanged_ready : (old new : Dispatch S) → new ≡ old → StaysReady s old new

@@ -8,7 +8,8 @@ use Rattle.span_dispatch.specs.Serve.{with_stack}
 use Rattle.span_dispatch.specs.declared.dispatch.Dispatch.{Dispatch}
 
 -- of the metadata that are the same
-pub of_same : {S A : Type 0} (refuses : Metadata → TraceError → Type 0) (m n : Metadata) (dropped : A) (given : Result A TraceError) (old new : Dispatch S) → m ≡ n → GoesByKept m dropped (refuses m) given old new → GoesByKept n dropped (refuses n) given old new
+pub of_same : {S A : Type 0} (refuses : Metadata → TraceError → Type 0) (m n : Metadata) (dropped : A) (given : Result A TraceError) (old new : Dispatch S)
+    → m ≡ n → GoesByKept m dropped (refuses m) given old new → GoesByKept n dropped (refuses n) given old new
 of_same refuses m n dropped given old new e h = subst (λ k. GoesByKept k dropped (refuses k) given old new) e h
 
 module _ {S A : Type 0} {m : Metadata} {before : TraceError → Type 0} {old new : Dispatch S} (dropped : A) (refuses : TraceError → Type 0) where
@@ -24,7 +25,8 @@ module _ {S A : Type 0} {m : Metadata} {before : TraceError → Type 0} {old new
   }
 
   -- where it is let by, and this is made
-  pub made_by : {b : Bool} (made : A) (x : S) → b ≡ true → GoesByKept m false before (Ok b) old new → GoesByKept m dropped refuses (Ok made) old (with_stack new x)
+  pub made_by : {b : Bool} (made : A) (x : S)
+      → b ≡ true → GoesByKept m false before (Ok b) old new → GoesByKept m dropped refuses (Ok made) old (with_stack new x)
   made_by {b} made x said h = record {
     hint = h.hint;
     learned = h.learned;
@@ -35,7 +37,8 @@ module _ {S A : Type 0} {m : Metadata} {before : TraceError → Type 0} {old new
   }
 
   -- where it is let by, and refused then
-  pub refused_then : {b : Bool} (e : TraceError) (x : S) → b ≡ true → refuses e → GoesByKept m false before (Ok b) old new → GoesByKept m dropped refuses (Err e) old (with_stack new x)
+  pub refused_then : {b : Bool} (e : TraceError) (x : S)
+      → b ≡ true → refuses e → GoesByKept m false before (Ok b) old new → GoesByKept m dropped refuses (Err e) old (with_stack new x)
   refused_then {b} e x said why h = record {
     hint = h.hint;
     learned = h.learned;

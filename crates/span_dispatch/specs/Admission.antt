@@ -1,4 +1,5 @@
--- Which new spans, events and probes a dispatcher lets by. One that keeps the hint and interests goes by these first; one that keeps nothing asks everything.
+-- Which new spans, events and probes a dispatcher finds enabled. A caching one goes by its cached
+-- hint and interests first; an uncached one asks its stack of each.
 use Rattle.std.specs.Prelude.{◌≡◌, ◌⊎◌, ◌&&◌, not, ℕ, Bool, true, false, Option, Some, None, Result, Ok, Err, IfErr, OnErr, OnOk}
 use Rattle.std.specs.Option.{option_map}
 use Rattle.span_core.specs.Level.{is_above}
@@ -16,35 +17,39 @@ use Rattle.span_dispatch.specs.declared.cache.Cache.{Cache}
 use Rattle.span_layers.specs.Honest.{HasHonestAnswers}
 use Rattle.span_layers.specs.Verdict.{vetoes}
 use Rattle.span_layers.specs.Wanted.{IsUnwanted}
+use Rattle.span_store.specs.Store.{RegistryState}
 use Rattle.span_registry.specs.Form.{Form}
 use Rattle.span_registry.specs.Hooks.{no_filter}
 use Rattle.span_registry.specs.Question.{asked, hint_of, interest_of, is_never, refusals}
-use Rattle.span_registry.specs.Store.{RegistryState}
 
--- the hint that a dispatcher goes by: its stack's, or none where it keeps nothing
+-- the hint that a dispatcher goes by: its stack's; none where it is uncached
 abbrev pub hint_kept : KeptCallsites → Form → Option LevelFilter
 hint_kept None f = None
 hint_kept (Some callsites) f = hint_of f
 
--- whether a level is above that
+-- whether the level of metadata is above the hint that a dispatcher goes by
 abbrev pub is_above_hint : KeptCallsites → Form → Metadata → Bool
 is_above_hint memory f m = is_above (level_of m) (hint_kept memory f)
 
--- whether a dispatcher that goes by interests finds the stack's, on this many filters, to be never
+-- whether a caching dispatcher finds that its stack's interest in metadata, on this many filters,
+-- is never
 abbrev pub interests_nobody : KeptCallsites → Form → ℕ → Metadata → Bool
 interests_nobody None f filters m = false
 interests_nobody (Some callsites) f filters m = is_never (interest_of f m filters None).0
 
--- whether hint and interest let metadata by
+-- whether hint and interest leave metadata enabled
 abbrev pub is_let_by : KeptCallsites → Form → ℕ → Metadata → Bool
 is_let_by kept f filters m = not (is_above_hint kept f m) && not (interests_nobody kept f filters m)
 
--- what is kept; where this is false, the callsite of these metadata too
+-- what is cached of callsites after a question: where the test is false, the metadata's callsite
+-- too
 abbrev pub learned_if : Bool → KeptCallsites → Metadata → KeptCallsites
 learned_if true kept m = kept
 learned_if false kept m = option_map (λ callsites. with_callsite callsites m) kept
 
--- what is asked by metadata is wanted exactly if hint and interest let it by and no leaf vetoes it; what they don't let by nobody wants. Their callsite is kept then, unless their level is above the hint
+-- A question by metadata is decided: they are enabled exactly if hint and interest leave them so
+-- and no leaf vetoes them, and what hint or interest turns off is enabled for no layer. Their
+-- callsite is cached then, unless their level is above the hint.
 pub record IsDecided (kept : KeptCallsites) (f : Form) (s : RegistryState) (lane : Lane)
     (m : Metadata) (vetoed said : Bool) (after : KeptCallsites) : Type 0 where
   pub agrees : is_above_hint kept f m ≡ false → Agrees kept m
@@ -52,20 +57,23 @@ pub record IsDecided (kept : KeptCallsites) (f : Form) (s : RegistryState) (lane
   pub unwanted : is_let_by kept f s.filters m ≡ false → IsUnwanted f m s.store lane.0
   pub learned : after ≡ learned_if (is_above_hint kept f m) kept m
 
--- their level isn't above the hint, but their interest isn't to be had, and nothing more is kept
+-- A question by metadata is refused: their level isn't above the hint, their interest can't be had,
+-- and nothing more is cached.
 pub record IsUnknown (kept : KeptCallsites) (f : Form) (m : Metadata) (e : TraceError)
     (after : KeptCallsites) : Type 0 where
   pub hint : is_above_hint kept f m ≡ false
   pub refused : RefusesInterest kept m e
   pub same : after ≡ kept
 
--- whatever the stack: the same is kept, and perhaps the callsite of these metadata
+-- what is cached of callsites after a question to any stack: what was cached before, and perhaps
+-- the metadata's callsite
 abbrev pub MayLearn : KeptCallsites → Metadata → KeptCallsites → Type 0
 MayLearn memory m after = (after ≡ memory) ⊎ (after ≡ learned_if false memory m)
 
 -- Below: steps of the code, which no public clause cites.
 
--- the interest by which metadata are let by: never above the hint; sometimes where nothing is kept; else the stack's
+-- the interest that decides a question by metadata: never above the hint, sometimes where a
+-- dispatcher is uncached, else the stack's
 pub record IsInterestBy (memory : KeptCallsites) (f : Form) (filters : ℕ) (m : Metadata)
     (after : KeptCallsites) (i : Interest) : Type 0 where
   pub above : is_above_hint memory f m ≡ true → i ≡ Never
@@ -74,14 +82,18 @@ pub record IsInterestBy (memory : KeptCallsites) (f : Form) (filters : ℕ) (m :
   pub always : i ≡ Always → (interest_of f m filters None).0 ≡ Always
   pub learned : after ≡ learned_if (is_above_hint memory f m) memory m
 
--- it is to be had, or not, and then the same is kept as before
+-- the interest that decides a question by metadata is found; or it can't be had, and what is cached
+-- is unchanged
 abbrev pub HasInterestBy : KeptCallsites → Form → ℕ → Metadata → KeptCallsites
     → Result Interest TraceError → Type 0
 HasInterestBy memory f filters m after (Ok i) = IsInterestBy memory f filters m after i
 HasInterestBy memory f filters m after (Err e) =
     (is_above_hint memory f m ≡ false) × (after ≡ memory)
 
--- a cache gives an interest. Of any stack: never above the hint that is kept then, and a callsite that is kept with other metadata is refused below it; what is refused leaves what is kept. Which one it is else is said of an honest stack, where the cache is up to date, and it stays so
+-- A cache gives an interest. Of any stack: the interest is never above the cached hint, and below
+-- it a callsite that is cached with other metadata is refused; a refusal leaves what is cached
+-- unchanged. Of an honest stack with a cache up to date: it is the stack's own, and the cache stays
+-- up to date.
 pub record GivesInterest {S : Type 0} (registry : S → RegistryState) (has_form : S → Form → Type 0)
     (x : S) (m : Metadata) (i : Result Interest TraceError) (old new : Cache) : Type 0 where
   pub off : kept_in old ≡ None → i ≡ Ok Sometimes
@@ -100,7 +112,8 @@ pub record GivesInterest {S : Type 0} (registry : S → RegistryState) (has_form
       → IsUpToDate f (registry x).filters new
   pub lasts : KnowsStill old new
 
--- a cache holds memory for this many callsites more, if it ever keeps any. What it knew it knows, and it stays up to date
+-- A cache holds memory for this many callsites more, unless it is off. Each callsite that it knew
+-- stays known, and it stays up to date.
 pub record HoldsRoom {S A : Type 0} (registry : S → RegistryState) (has_form : S → Form → Type 0)
     (x : S) (n : ℕ) (given : Result A TraceError) (old new : Cache) : Type 0 where
   pub held : OnOk given (kept_in new ≡ option_map (with_room n) (kept_in old))
@@ -111,7 +124,8 @@ pub record HoldsRoom {S A : Type 0} (registry : S → RegistryState) (has_form :
       → IsUpToDate f (registry x).filters new
   pub lasts : KnowsStill old new
 
--- what comes of asking whether metadata are wanted: where they are, the pass is what a new one becomes where all are asked
+-- what comes of the question whether metadata are enabled: where they are, the pass is what a new
+-- one becomes once every filter was asked
 abbrev pub IsAdmitted : KeptCallsites → Form → RegistryState → Lane → Metadata → Pass
     → KeptCallsites → Result Bool TraceError → Type 0
 IsAdmitted memory f s lane m pass after (Ok said) =

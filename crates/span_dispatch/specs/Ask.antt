@@ -1,4 +1,5 @@
--- What a dispatcher promises that is asked whatever a value says, or a list of requests: what its calls of those kinds promise.
+-- What a dispatcher promises of a call that is given as a value, and of a list of requests: what
+-- its call of that kind promises.
 use Rattle.std.specs.Prelude.{◌≡◌, List, [], ◌∷◌, ◌++◌, Option, Some, None, Result}
 use Rattle.std.specs.declared.alloc.Global.{Global}
 use Rattle.std.specs.declared.vec.Vec.{Vec}
@@ -15,13 +16,14 @@ use Rattle.span_dispatch.specs.declared.request.Answer.TheVariants.{Done, Droppe
 use Rattle.span_dispatch.specs.declared.request.Answer.{Answer}
 use Rattle.span_dispatch.specs.declared.request.Request.{Request}
 
--- a call gave something of which this is the answer, and this holds of what it gave
+-- a call gave a result of which this is the answer, and the predicate holds of that result
 abbrev pub Gives : {A : Type 0} → (Result A TraceError → Answer) → Answer
     → (Result A TraceError → Type 0) → Type 0
 Gives {A} answer_of a holds = (given : Result A TraceError) × (a ≡ answer_of given) × holds given
 
 module _ {S : Type 0} (s : SubscriberOf S) where
-  -- the call of that kind gave something of which this is the answer, and kept its promise
+  -- the call of a value's kind gave a result of which this is the answer, and kept that call's
+  -- promise
   abbrev pub AsksCall : Call → Answer → Dispatch S → Dispatch S → Type 0
   AsksCall (OpenSpan lane attrs) a old new =
       Gives span_answer a (λ given. OpensSpan s lane attrs given old new)
@@ -44,12 +46,14 @@ module _ {S : Type 0} (s : SubscriberOf S) where
   AsksCall (SetLevel n level) a old new =
       Gives {A = Unit {0}} done_answer a (λ given. SetsOneLevel s n level given old new)
 
-  -- what is asked for keeps its promise; where nothing is, that is dropped, and nothing changes
+  -- the call that is asked for, if any, keeps its promise; where none is, the answer is Dropped and
+  -- nothing changes
   abbrev pub AsksFor : Option Call → Answer → Dispatch S → Dispatch S → Type 0
   AsksFor None a old new = (a ≡ Dropped) × (new ≡ old)
   AsksFor (Some call) a old new = AsksCall call a old new
 
-  -- so does each request of a list behind these answers, one after another
+  -- each request of a list, behind the answers so far, keeps the promise of the call that it asks
+  -- for, one after another
   abbrev pub AsksEach : List Answer → List Request → List Answer → Dispatch S → Dispatch S → Type 0
   AsksEach past [] [] old new = new ≡ old
   AsksEach past (r ∷ rs) (a ∷ answers) old new =
@@ -57,7 +61,7 @@ module _ {S : Type 0} (s : SubscriberOf S) where
       × AsksEach (past ++ (a ∷ [])) rs answers next new
   AsksEach past rs answers old new = ⊥
 
-  -- a list is asked for, request by request, and what was registered stays so
+  -- a list of requests keeps the promise of each, and each registration that was valid stays so
   pub record AsksList (requests : List Request) (old new : Dispatch S)
       (answers : Vec Answer Global) : Type 0 where
     pub each : AsksEach [] requests answers.items old new

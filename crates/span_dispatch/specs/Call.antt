@@ -1,4 +1,5 @@
--- What a dispatcher is asked, and how it answers: which outcomes come of a call, and when it is refused.
+-- What a dispatcher is asked, and how it answers: which outcomes come of a call, and when it is
+-- refused.
 use Rattle.std.specs.Prelude.{◌≡◌, ◌<◌, ◌↔◌, ◌⊎◌, ⊤, ℕ, Bool, true, false, ◌||◌, IsTrue, List, [], ◌∷◌, map, Option, Some, None, Result, Ok, Err}
 use Rattle.std.specs.Option.{option_map}
 use Rattle.span_core.specs.Event.{event_metadata}
@@ -20,31 +21,32 @@ use Rattle.span_dispatch.specs.declared.call.Call.{Call}
 use Rattle.span_dispatch.specs.declared.request.Answer.TheVariants as answer
 use Rattle.span_dispatch.specs.declared.request.Answer.{Answer}
 use Rattle.span_layers.specs.Verdict.{vetoes, vetoes_event}
+use Rattle.span_store.specs.Closes.{AreUnheld, Member}
+use Rattle.span_store.specs.Step.{Drops, FindsParent, HasPlace, IsCurrent, Opens, RefusesClone, RefusesEnter, RefusesNew, RefusesRelease, RefusesUnlessOpen}
+use Rattle.span_store.specs.Store.{IsHeld, IsOpen, RegistryState, Store, handles_of, take_handle}
 use Rattle.span_registry.specs.Behaviour.{OnClose, OnEnter, OnEvent, OnExit, OnFollows, OnNewSpan, OnRecord}
-use Rattle.span_registry.specs.Closes.{AreUnheld, Member}
 use Rattle.span_registry.specs.Form.{Form}
 use Rattle.span_registry.specs.Levels.{takes_level}
-use Rattle.span_registry.specs.Step.{Drops, FindsParent, HasPlace, IsCurrent, Opens, RefusesClone, RefusesEnter, RefusesNew, RefusesRelease, RefusesUnlessOpen}
-use Rattle.span_registry.specs.Store.{IsHeld, IsOpen, RegistryState, Store, handles_of, take_handle}
 
--- whether a leaf with no filter round it refuses an event, by its metadata or itself
+-- whether a leaf with no filter round it refuses an event, by its metadata or the event itself
 abbrev pub vetoes_whole : Form → Event → Store → Lane → Bool
 vetoes_whole f e s lane = vetoes f (event_metadata e) s lane.0 || vetoes_event f e s lane.0
 
--- a new span that asks for this parent has one with room for it, or none, and a place
+-- the registry has a place for a new span, and its parent, if it gets one, has room for a child
 abbrev pub HasRoomFor : RegistryState → Lane → Parent → Type 0
 HasRoomFor s lane asked = ((parent : Option ℕ) × FindsParent s lane asked parent) × HasPlace s
 
--- a lane leaves a span: a notice comes of it where the span is open, else a quiet change
+-- what comes of a lane leaving a span: a notice where the span is open, else a quiet change
 pub record LeavesSpan (lane : Lane) (id : Id) (s : Store) (os : List Outcome) : Type 0 where
   pub there : IsOpen s.spans (number_of id) → os ≡ Noticed lane (OnExit id) ∷ []
   pub gone : ¬ (IsOpen s.spans (number_of id)) → os ≡ Quiet (GoneLeft lane id) ∷ []
 
--- each of these spans closes
+-- the outcomes of closes: a notice for each of these spans
 abbrev pub closes_of : Lane → List ℕ → List Outcome
 closes_of lane closed = map (λ x. Noticed lane (OnClose (id_of x))) closed
 
--- a handle is taken, and all that is closed by that closes, in the order in which it should; the answer is whether the span is among them
+-- what comes of dropping a handle: the handle is taken, and each span that nothing holds then
+-- closes, children first; the answer is whether this span is among them
 pub record DropsHandle (lane : Lane) (id : Id) (s : Store) (closes : Bool)
     (os : List Outcome) : Type 0 where
   pub closed : List ℕ
@@ -52,8 +54,9 @@ pub record DropsHandle (lane : Lane) (id : Id) (s : Store) (closes : Bool)
   pub outcomes : os ≡ Quiet (HandleTaken id) ∷ map (λ x. Noticed lane (OnClose (id_of x))) closed
   pub itself : IsTrue closes ↔ Member (number_of id) closed
 
--- what comes of a call that was answered so, on a store: nothing of what was dropped or refused, of probes and of looks
--- at the current span; no call gets the answer of another kind of call, dropped and refused aside
+-- the outcomes of a call with this answer, on a store: none for what was dropped or refused, for
+-- probes and for looks at the current span. No call has an answer of another kind of call, but that
+-- all may be dropped or refused.
 abbrev pub OutcomesOf : Call → Answer → Store → List Outcome → Type 0
 OutcomesOf (OpenSpan lane a) (answer.Made id) s os = os ≡ Noticed lane (OnNewSpan a id) ∷ []
 OutcomesOf (SendEvent lane e) answer.Done s os = os ≡ Noticed lane (OnEvent e) ∷ []
@@ -70,7 +73,9 @@ OutcomesOf call answer.Dropped s os = os ≡ []
 OutcomesOf call (answer.Refused e) s os = os ≡ []
 OutcomesOf call a s os = ⊥
 
--- how a call is answered that isn't asked by metadata: refused as the registry refuses it, or since no filter takes a level, and never dropped; a handle is added where there is room for one, and the current span is the lane's
+-- how a call is answered that isn't decided by metadata: refused as the registry refuses it, or
+-- since no filter takes a level, and never dropped; a handle is added where there is room for one,
+-- and the current span is the lane's
 abbrev pub AnswersOther : Call → Form → RegistryState → Answer → Type 0
 AnswersOther (Enter lane id) f s (answer.Refused e) = RefusesEnter s lane id e
 AnswersOther (RecordValues lane id values) f s (answer.Refused e) = RefusesUnlessOpen s id e
@@ -85,7 +90,8 @@ AnswersOther (AddHandle lane id) f s a = handles_of s.store.spans (number_of id)
 AnswersOther (AskCurrent l) f s (answer.Current o) = IsCurrent s.store l.0 (option_map number_of o)
 AnswersOther call f s a = ⊤
 
--- how a stack of this form on this registry answers a call, where these callsites are kept, and which are kept then
+-- how a stack of this form on this registry answers a call, with these callsites cached before it
+-- and those after it
 abbrev pub AnswersWith : Call → KeptCallsites → Form → RegistryState → Answer → KeptCallsites
     → Type 0
 AnswersWith (OpenSpan lane a) kept f s (answer.Refused e) after =
@@ -110,7 +116,7 @@ AnswersWith (SetLevel n l) kept f s answer.Done after =
     (after ≡ option_map (λ callsites. no_callsite) kept) × (takes_level f n l ≡ true)
 AnswersWith call kept f s a after = (after ≡ kept) × AnswersOther call f s a
 
--- the lane that a call comes from: none where a level is set
+-- the lane that a call comes from: none for a call that sets a level
 abbrev pub lane_of_call : Call → Option Lane
 lane_of_call (OpenSpan lane attrs) = Some lane
 lane_of_call (SendEvent lane e) = Some lane
@@ -124,54 +130,56 @@ lane_of_call (Probe lane m) = Some lane
 lane_of_call (AskCurrent lane) = Some lane
 lane_of_call (SetLevel n l) = None
 
--- Below: what a call does to a registry where it isn't refused, whatever the stack answers. Hooks may write extensions after it.
+-- Below: what a call that isn't refused does to a registry, whatever the stack answers. Hooks may
+-- write extensions after it.
 
--- a span is opened that these attributes ask for, with some verdict
+-- the span is opened that these attributes ask for, with some verdict
 abbrev pub OpensFor : Lane → Attributes → Id → RegistryState → RegistryState → Type 0
 OpensFor lane attrs id s t =
     (v : FilterMap) × Opens lane
     (record { metadata = metadata_of attrs; parent = asked_parent attrs; verdict = v }) id s t
 
--- the span is open, and nothing changes
+-- the span is open, and the registry is unchanged
 abbrev pub FindsOpen : Id → RegistryState → RegistryState → Type 0
 FindsOpen id s t = IsOpen s.store.spans (number_of id) × (t ≡ s)
 
--- a handle is taken, and what closes by that is taken out; the answer is whether the span is among it
+-- a handle is taken, and all that closes by that is taken out; the answer is whether this span is
+-- among it
 abbrev pub DropsSpan : Id → Bool → RegistryState → RegistryState → Type 0
 DropsSpan id closes s t =
     IsHeld s.store.spans (number_of id)
     × ((closed : List ℕ) × Drops s (number_of id) closed t
     × (IsTrue closes ↔ Member (number_of id) closed))
 
--- Below: what a call of a dispatcher gives, as an answer.
+-- Below: what a call of a dispatcher gave, as an answer.
 
--- of a new span
+-- the answer for what a call of a new span gave
 abbrev pub span_answer : Result (Option Id) TraceError → Answer
 span_answer (Ok (Some id)) = answer.Made id
 span_answer (Ok None) = answer.Dropped
 span_answer (Err e) = answer.Refused e
 
--- of an event
+-- the answer for what a call of an event gave
 abbrev pub event_answer : Result Bool TraceError → Answer
 event_answer (Ok true) = answer.Done
 event_answer (Ok false) = answer.Dropped
 event_answer (Err e) = answer.Refused e
 
--- of a call that gives nothing but a refusal
+-- the answer for what a call gave that gives nothing but a refusal
 abbrev pub done_answer : {A : Type 0} → Result A TraceError → Answer
 done_answer (Ok a) = answer.Done
 done_answer (Err e) = answer.Refused e
 
--- of a call that gives a truth value
+-- the answer for what a call gave that gives a truth value
 abbrev pub yes_answer : Result Bool TraceError → Answer
 yes_answer (Ok said) = answer.Yes said
 yes_answer (Err e) = answer.Refused e
 
--- of a look at the span that a lane is in
+-- the answer for the span that a lane was shown to be in
 abbrev pub current_answer : Current → Answer
 current_answer c = answer.Current (option_map (λ o. o.0) (current_span c))
 
--- of a look that may be refused
+-- the answer for a look at a lane's span that may be refused
 abbrev pub look_answer : Result Current TraceError → Answer
 look_answer (Ok c) = current_answer c
 look_answer (Err e) = answer.Refused e

@@ -1,4 +1,5 @@
--- What the contract of each call of a dispatcher says. A word takes what the type of a stack says of it as one value, and dispatchers whole.
+-- What the contract of each call of a dispatcher says. A word takes what the type of a stack says
+-- of it as one value, and dispatchers whole.
 use Rattle.std.specs.Prelude.{◌≡◌, ◌⊎◌, ◌&&◌, ℕ, Bool, true, false, List, Option, None, Result, Ok, Err, IfErr, IfOk, IfSome, MatchOption, OnErr, OnOk, is_some}
 use Rattle.std.specs.List.{FoldsTo}
 use Rattle.std.specs.Option.{option_map}
@@ -29,7 +30,11 @@ use Rattle.span_dispatch.specs.declared.dispatch.Dispatch.{Dispatch}
 use Rattle.span_dispatch.specs.declared.request.Answer.TheVariants.{Done}
 use Rattle.span_dispatch.specs.declared.request.Answer.{Answer}
 use Rattle.span_dispatch.specs.declared.request.Request.{Request}
-use Rattle.span_registry.specs.Closes.{HasNoClosing}
+use Rattle.span_store.specs.Closes.{HasNoClosing}
+use Rattle.span_store.specs.Step as step
+use Rattle.span_store.specs.Step.{Clones, Enters, Exits, Opens, RefusesClone, RefusesEnter, RefusesNew, RefusesRelease, RefusesUnlessOpen, Releases, Removal}
+use Rattle.span_store.specs.Store.{IsOpen, RegistryState}
+use Rattle.span_store.specs.declared.registry.Released.TheVariants.{Closing, StillOpen}
 use Rattle.span_registry.specs.Conducts.{ActsAt}
 use Rattle.span_registry.specs.Form.{Form}
 use Rattle.span_registry.specs.Hooks.{AnswersEnabled, StackSteps, Stays, no_filter}
@@ -37,13 +42,11 @@ use Rattle.span_registry.specs.KeptForm.{KeepsForm}
 use Rattle.span_registry.specs.Levels.{FollowsLevel, KeepsRules, LevelSteps, LevelsForm, takes_level}
 use Rattle.span_registry.specs.Position.{HearSteps}
 use Rattle.span_registry.specs.Question.{ShowsBy, asked, event_asked}
-use Rattle.span_registry.specs.Step as step
-use Rattle.span_registry.specs.Step.{Clones, Enters, Exits, Opens, RefusesClone, RefusesEnter, RefusesNew, RefusesRelease, RefusesUnlessOpen, Releases, Removal}
-use Rattle.span_registry.specs.Store.{IsOpen, RegistryState}
 use Rattle.span_registry.specs.Subscriber.{AndHooks, SameButExtensions}
-use Rattle.span_registry.specs.declared.registry.Released.TheVariants.{Closing, StillOpen}
 
--- what the type of a stack says of it: where its registry is, what it is on another one, whether it may be called, which form it has, how its layers go on when they are notified, what leaves hear, how filters act, how they take levels, and how its layers are put in use
+-- what the type of a stack says of it: where its registry is; the stack on another registry;
+-- whether it may be called; which form it has; how its layers go on when they are notified; what
+-- its leaves are notified of; how its filters act; how they take levels; how it is put in use
 abbrev pub SubscriberOf : Type 0 → Type 1
 SubscriberOf S = record {
   registry : S → RegistryState;
@@ -57,70 +60,77 @@ SubscriberOf S = record {
   registered : S → S → Type 0;
 }
 
--- the level of these metadata isn't above the hint that is kept
+-- the level of metadata isn't above a dispatcher's cached hint
 abbrev pub PassesKept : {S : Type 0} → Metadata → Dispatch S → Type 0
 PassesKept m d = is_above_read (hint_by d) m ≡ false
 
--- why metadata are refused: their level isn't above the kept hint, and their interest isn't to be had
+-- why metadata are refused: their level isn't above the cached hint, and their interest can't be
+-- had
 abbrev pub RefusesMetadata : {S : Type 0} → Metadata → Dispatch S → TraceError → Type 0
 RefusesMetadata m d error = RefusesBelow (hint_by d) (kept_by d) m error
 
--- where their callsite is kept with other metadata, and their level isn't above the kept hint, they always are refused for that
+-- metadata whose level isn't above the cached hint are always refused, as a mismatch, where their
+-- callsite is cached with other metadata
 abbrev pub RefusesMismatch : {S A : Type 0} → Metadata → Result A TraceError → Dispatch S
     → Dispatch S → Type 0
 RefusesMismatch m given old new =
     RefusesMetadata m old CallsiteMismatch → given ≡ Err CallsiteMismatch
 
--- above the hint that is kept then, what is asked by metadata is dropped, which this answer says: it is never refused
+-- metadata above the cached hint are never refused: the call gives what says dropped
 abbrev pub DropsAbove : {S A : Type 0} → Metadata → A → Result A TraceError → Dispatch S
     → Dispatch S → Type 0
 DropsAbove m dropped given old new = is_above_read (hint_by new) m ≡ true → given ≡ Ok dropped
 
--- the hint that is kept is the one that was read first; where nothing is ever kept, none
+-- the cached hint is the one that was read first; an uncached dispatcher has none
 abbrev pub KeepsHint : {S : Type 0} → Dispatch S → Dispatch S → Type 0
 KeepsHint old new = ReadsOnce (kept_by old) (hint_by old) (hint_by new)
 
--- where a hint is kept, it is this one
+-- the shown hint is the cached one, where one is cached
 abbrev pub ShowsKept : {S : Type 0} → Dispatch S → Option LevelFilter → Type 0
 ShowsKept d hint = IfSome (hint_by d) (λ kept. hint ≡ kept)
 
--- why an event is refused: as its metadata are
+-- why an event is refused: its metadata are
 abbrev pub RefusesEvent : {S : Type 0} → Event → Dispatch S → TraceError → Type 0
 RefusesEvent e d error = RefusesMetadata (event_metadata e) d error
 
--- of callsites, none but that of these metadata may be kept that wasn't
+-- no callsite is cached anew but that of the metadata, perhaps
 abbrev pub LearnsOnly : {S : Type 0} → Metadata → Dispatch S → Dispatch S → Type 0
 LearnsOnly m old new = MayLearn (kept_by old) m (kept_by new)
 
--- what isn't refused has its callsite kept then, unless its level is above the kept hint
+-- where a call isn't refused, the metadata's callsite is cached afterwards, unless their level is
+-- above the cached hint
 abbrev pub KeepsCallsite : {S A : Type 0} → Metadata → Result A TraceError → Dispatch S → Dispatch S
     → Type 0
 KeepsCallsite m given old new =
     OnOk given (kept_by new ≡ learned_if (is_above_read (hint_by new) m) (kept_by old) m)
 
--- the stack is the same
+-- the dispatcher's stack is unchanged
 abbrev pub SameStack : {S : Type 0} → Dispatch S → Dispatch S → Type 0
 SameStack old new = stack_of new ≡ stack_of old
 
--- nothing changes but the stack
+-- nothing of the dispatcher changes but its stack
 abbrev pub ChangesStack : {S : Type 0} → Dispatch S → Dispatch S → Type 0
 ChangesStack old new = new ≡ with_stack old (stack_of new)
 
--- nothing changes but what is kept
+-- nothing of the dispatcher changes but its cache
 abbrev pub ChangesKept : {S : Type 0} → Dispatch S → Dispatch S → Type 0
 ChangesKept old new = new ≡ record old { cache = new.cache }
 
--- nothing changes but the stack, and all that was kept of callsites is forgotten
+-- nothing of the dispatcher changes but its stack, and all that it cached of callsites is forgotten
 abbrev pub Forgets : {S : Type 0} → Dispatch S → Dispatch S → Type 0
 Forgets old new = new ≡ forgetful (with_stack old (stack_of new))
 
--- why a new span with these metadata and this parent is refused: its level isn't above the kept hint, and its interest isn't to be had, or the registry has no room or no such parent
+-- why a new span with these metadata and this parent is refused: its level isn't above the cached
+-- hint, and either its interest can't be had, or the registry has no room or no such parent
 abbrev pub RefusesOpening : {S : Type 0} → (S → RegistryState) → Lane → Metadata → Parent
     → Dispatch S → TraceError → Type 0
 RefusesOpening registry lane m p d e =
     PassesKept m d × (RefusesInterest (kept_by d) m e ⊎ RefusesNew (registry (stack_of d)) lane p e)
 
--- what is asked by metadata goes by what is kept: above the hint it is dropped, so; below it, of a callsite that is kept with other metadata, refused for that; else refused as this says. Their callsite alone may be kept newly, and is kept where nothing is refused
+-- A call that is decided by metadata goes by what is cached: above the hint it is dropped; below
+-- it, a callsite cached with other metadata is refused for that; any other refusal has the reason
+-- that is given here. The metadata's callsite alone may be cached anew, and is where the call isn't
+-- refused.
 pub record GoesByKept {S A : Type 0} (m : Metadata) (dropped : A) (refuses : TraceError → Type 0)
     (given : Result A TraceError) (old new : Dispatch S) : Type 0 where
   pub hint : KeepsHint old new
@@ -130,7 +140,7 @@ pub record GoesByKept {S A : Type 0} (m : Metadata) (dropped : A) (refuses : Tra
   pub mismatch : RefusesMismatch m given old new
   pub refused : IfErr given refuses
 
--- these callsites are kept, and no hint was read yet
+-- the dispatcher has these callsites cached, and has read no hint yet
 pub record KeepsOnly {S : Type 0} (those : KeptCallsites) (d : Dispatch S) : Type 0 where
   pub callsites : kept_by d ≡ those
   pub read : hint_by d ≡ None
@@ -140,7 +150,7 @@ module _ {S : Type 0} (s : SubscriberOf S) where
   abbrev pub registry_of : Dispatch S → RegistryState
   registry_of d = s.registry (stack_of d)
 
-  -- the registry is the same
+  -- the registry of the dispatcher's stack is unchanged
   abbrev pub SameRegistry : Dispatch S → Dispatch S → Type 0
   SameRegistry old new = registry_of new ≡ registry_of old
 
@@ -149,7 +159,7 @@ module _ {S : Type 0} (s : SubscriberOf S) where
       → Type 0
   Refuses refuses id d e = refuses (registry_of d) id e
 
-  -- the current span of a lane is this one
+  -- what is shown is the current span of the lane
   abbrev pub Shows : Lane → Dispatch S → Current → Type 0
   Shows lane d current = step.ShowsCurrent (registry_of d).store lane current
 
@@ -157,69 +167,74 @@ module _ {S : Type 0} (s : SubscriberOf S) where
   abbrev pub GivesLevel : ℕ → LevelFilter → Dispatch S → Dispatch S → Type 0
   GivesLevel n l old new = s.levelled (stack_of old) n l (stack_of new)
 
-  -- its stack is honest by this form
+  -- the dispatcher's stack is honest by this form
   abbrev pub HonestBy : Form → Dispatch S → Type 0
   HonestBy f d = IsHonest s.registry s.with_registry s.has_form s.stepped s.levelled f (stack_of d)
 
-  -- what it keeps is what its stack would answer now, by this form
+  -- the dispatcher's cache is what its stack would answer now, by this form
   abbrev pub CurrentBy : Form → Dispatch S → Type 0
   CurrentBy f d = KeepsUpToDate f (registry_of d).filters d
 
-  -- it is ready by a form that keeps this of the old one
+  -- the dispatcher is ready by a form that keeps this much of the old one
   abbrev pub ReadyAfter : (Form → Form → Type 0) → Form → Dispatch S → Type 0
   ReadyAfter keeps f d =
       IsReadyAfter s.registry s.with_registry s.has_form s.stepped s.levelled keeps f d
 
   -- ---- what is promised of an honest stack
 
-  -- a stack that was ready is ready in its dispatcher, by a form that keeps what the old one had: nothing is kept yet
+  -- A stack that was ready is ready in its dispatcher, by a form that keeps all of the old one;
+  -- nothing is cached yet.
   abbrev pub BecomesReady : S → Dispatch S → Type 0
   BecomesReady x d =
       (f : Form) → IsReady s.registry s.with_registry s.has_form s.stepped s.levelled f x
       → ReadyAfter KeepsForm f d
 
-  -- a dispatcher that was ready is ready again, by a form that keeps this of the old one
+  -- a dispatcher that was ready is ready again, by a form that keeps this much of the old one
   pub record StaysReadyWith (keeps : Form → Form → Type 0) (old new : Dispatch S) : Type 0 where
     pub again : (f : Form)
         → IsReadyBy s.registry s.with_registry s.has_form s.stepped s.levelled f old
         → ReadyAfter keeps f new
 
-  -- by one that keeps what the old one had: interest and hint of each filter too
+  -- a dispatcher that was ready is ready again, by a form with the old interest and hint of each
+  -- filter
   abbrev pub StaysReady : Dispatch S → Dispatch S → Type 0
   StaysReady old new = StaysReadyWith KeepsForm old new
 
-  -- by one in which the filter with this number alone answers otherwise
+  -- a dispatcher that was ready is ready again, by a form in which only the filter with this number
+  -- answers otherwise
   abbrev pub StaysReadyBut : ℕ → Dispatch S → Dispatch S → Type 0
   StaysReadyBut n old new = StaysReadyWith (LevelsForm n) old new
 
-  -- by one that keeps the old one's rules, whatever levels were set
+  -- a dispatcher that was ready is ready again, by a form that keeps the old one's rules, whatever
+  -- levels were set
   abbrev pub StaysReadyByRules : Dispatch S → Dispatch S → Type 0
   StaysReadyByRules old new = StaysReadyWith KeepsRules old new
 
-  -- an honest stack serves a call so, where what is kept is what it would answer now
+  -- an honest stack with a cache up to date serves the call with this answer
   abbrev pub AnswersCall : Call → Answer → Dispatch S → Dispatch S → Type 0
   AnswersCall call a old new =
       (f : Form) → HonestBy f old → CurrentBy f old
       → IsServed s.registry s.with_registry s.has_form s.stepped s.levelled call f (kept_by old)
       (stack_of old) a (kept_by new) (stack_of new)
 
-  -- and so does a drop, where no span was closing
+  -- an honest stack with a cache up to date serves the drop of a handle with this answer, where no
+  -- span was closing
   abbrev pub AnswersDrop : Call → Answer → Dispatch S → Dispatch S → Type 0
   AnswersDrop call a old new =
       HasNoClosing (registry_of old).store.spans → AnswersCall call a old new
 
-  -- `current_span` is served so, and nothing changes
+  -- the current span is served with what is shown, and nothing changes
   abbrev pub ServesCurrent : Lane → Current → Dispatch S → Type 0
   ServesCurrent lane given d = AnswersCall (AskCurrent lane) (current_answer given) d d
 
-  -- what comes of asking an honest stack whether metadata are wanted, where what is kept is what it would answer now
+  -- what comes of asking an honest stack with a cache up to date whether metadata are enabled
   abbrev pub Admits : Lane → Metadata → Dispatch S → Pass → Result Bool TraceError → Dispatch S
       → Type 0
   Admits lane m old pass said new =
       (f : Form) → HonestBy f old → CurrentBy f old
       → IsAdmitted (kept_by old) f (registry_of old) lane m pass (kept_by new) said
 
-  -- a dispatcher that is ready serves the next request so
+  -- a dispatcher that is ready serves the next request with this answer
   pub record ServesNext (past : List Answer) (r : Request) (a : Answer)
       (old new : Dispatch S) : Type 0 where
     pub served : IsReadySomehow s.registry s.with_registry s.has_form s.stepped s.levelled old
@@ -227,14 +242,15 @@ module _ {S : Type 0} (s : SubscriberOf S) where
         × ServesRequest s.registry s.with_registry s.has_form s.stepped s.levelled past r
         (kept_by old) (stack_of old) a made (kept_by new) (stack_of new)
 
-  -- a dispatcher that is ready serves a list so
+  -- a dispatcher that is ready serves the list of requests with these answers
   abbrev pub ServesList : List Request → Dispatch S → Dispatch S → Vec Answer Global → Type 0
   ServesList requests old new answers =
       IsReadySomehow s.registry s.with_registry s.has_form s.stepped s.levelled old
       → Served s.registry s.with_registry s.has_form s.stepped s.levelled s.hears s.acts_at requests
       answers.items old new
 
-  -- whatever is made between two stacks, each leaf sees of it what its path passes, as if it stood alone
+  -- whatever is made between two stacks, each leaf is notified of what its path passes of it, as if
+  -- the leaf stood alone
   abbrev pub SeesWhatIsMade : Type 0
   SeesWhatIsMade =
       (old new : S) (made : List OutcomeAt)
@@ -243,39 +259,45 @@ module _ {S : Type 0} (s : SubscriberOf S) where
 
   -- ---- what is promised of any stack that has a form
 
-  -- where what was kept is what the stack would answer, by a form that it has, so is what is kept now
+  -- a cache that is what the stack would answer, by a form that the stack has, stays so
   abbrev pub StaysUpToDate : Dispatch S → Dispatch S → Type 0
   StaysUpToDate old new =
       (f : Form) → s.has_form (stack_of old) f → CurrentBy f old
       → KeepsUpToDate f (registry_of old).filters new
 
-  -- whether a filter with this number takes this level, by each form that the stack has
+  -- the truth value says whether a filter with this number takes this level, by each form that the
+  -- stack has
   abbrev pub TakesLevel : ℕ → LevelFilter → Dispatch S → Bool → Type 0
   TakesLevel n l d taken = ShowsBy (s.has_form (stack_of d)) (λ f. takes_level f n l) taken
 
-  -- of each form that the stack had it has one in which the filter with this number alone answers otherwise
+  -- for each form that the stack had, it has one in which only the filter with this number answers
+  -- otherwise
   abbrev pub ChangesLevel : ℕ → Dispatch S → Dispatch S → Type 0
   ChangesLevel n old new =
       (f : Form) → s.has_form (stack_of old) f → FollowsLevel (s.has_form (stack_of new)) n f
 
-  -- the hint is the stack's, by a form that it has, where what is kept is what it would answer
+  -- the shown hint is the stack's, by each form that the stack has and by which the cache is up to
+  -- date
   abbrev pub ShowsHint : Dispatch S → Option LevelFilter → Type 0
   ShowsHint d hint =
       (f : Form) (n : ℕ) → s.has_form (stack_of d) f → KeepsUpToDate f n d
       → hint ≡ hint_kept (kept_by d) f
 
-  -- where nothing is ever kept: whether metadata are wanted is what the stack says, by a form that it has, asked with a new pass
+  -- an uncached dispatcher finds metadata enabled exactly if its stack does, by each form that it
+  -- has, asked with a new pass
   abbrev pub WantsMetadata : Lane → Metadata → Dispatch S → Bool → Type 0
   WantsMetadata lane m d wanted =
       kept_by d ≡ None → (f : Form) → s.has_form (stack_of d) f
       → wanted ≡ (asked f m (registry_of d).store lane.0 no_filter no_filter).0
 
-  -- the same of a new span: it is dropped where it isn't wanted, and refused only where it is
+  -- an uncached dispatcher drops a new span exactly if its stack doesn't find it enabled, and
+  -- refuses none but an enabled one
   abbrev pub WantsSpan : Lane → Attributes → Dispatch S → Result (Option Id) TraceError → Type 0
   WantsSpan lane attrs d (Ok made) = WantsMetadata lane (metadata_of attrs) d (is_some made)
   WantsSpan lane attrs d (Err e) = WantsMetadata lane (metadata_of attrs) d true
 
-  -- the same of an event: its metadata, and then itself
+  -- an uncached dispatcher finds an event enabled exactly if its stack finds its metadata and then
+  -- the event itself enabled
   abbrev pub WantsEvent : Lane → Event → Dispatch S → Bool → Type 0
   WantsEvent lane e d wanted =
       kept_by d ≡ None → (f : Form) → s.has_form (stack_of d) f
@@ -283,7 +305,7 @@ module _ {S : Type 0} (s : SubscriberOf S) where
       asked f (event_metadata e) (registry_of d).store lane.0 no_filter no_filter in
       wanted ≡ first.0 && (event_asked f e (registry_of d).store lane.0 no_filter first.1).0
 
-  -- where nothing is ever kept, it is the stack that is asked
+  -- an uncached dispatcher asks its stack, by this pass
   abbrev pub AsksStack : Lane → Metadata → Dispatch S → Pass → Result Bool TraceError → Pass
       → Type 0
   AsksStack lane m d before said after =
@@ -292,41 +314,43 @@ module _ {S : Type 0} (s : SubscriberOf S) where
 
   -- ---- what is promised of any stack at all
 
-  -- the registry takes a step, and then hooks may write extensions
+  -- the registry takes a step, after which hooks may write extensions
   abbrev pub TakesStep : (RegistryState → RegistryState → Type 0) → Dispatch S → Dispatch S → Type 0
   TakesStep step old new = AndHooks s.registry step (stack_of old) (stack_of new)
 
-  -- the registry alone takes a step: no layer is notified
+  -- the registry takes a step, and no layer is notified
   abbrev pub TakesStepAlone : (RegistryState → RegistryState → Type 0) → Dispatch S → Dispatch S
       → Type 0
   TakesStepAlone step old new =
       step (registry_of old) (registry_of new)
       × (stack_of new ≡ s.with_registry (stack_of old) (registry_of new))
 
-  -- a new span is opened where there is one; else the stack stays as it is
+  -- the new span is opened if one was made; else the stack is unchanged
   abbrev pub OpensIfMade : Lane → Attributes → Dispatch S → Dispatch S → Option Id → Type 0
   OpensIfMade lane attrs old new made =
       MatchOption made (stack_of new ≡ stack_of old)
       (λ id. TakesStep (OpensFor lane attrs id) old new)
 
-  -- the same, with this pass's refusing filters for its verdict
+  -- the new span is opened if one was made, with the pass's refusing filters for its verdict; else
+  -- the stack is unchanged
   abbrev pub OpensByPass : Lane → Attributes → Pass → Dispatch S → Dispatch S → Option Id → Type 0
   OpensByPass lane attrs pass old new made =
       MatchOption made (stack_of new ≡ stack_of old)
       (λ id. TakesStep (Opens lane (step.asked attrs pass) id) old new)
 
-  -- why a new span is refused, by what its attributes ask for
+  -- why a new span is refused, by its attributes
   abbrev pub RefusesSpan : Lane → Attributes → Dispatch S → TraceError → Type 0
   RefusesSpan lane attrs d e =
       RefusesOpening s.registry lane (metadata_of attrs) (asked_parent attrs) d e
 
-  -- where a span isn't open, only the lane leaves it
+  -- a lane leaves a span that isn't open, and no layer is notified
   abbrev pub LeavesGone : Lane → Id → Dispatch S → Dispatch S → Type 0
   LeavesGone lane id old new =
       ¬ (IsOpen (registry_of old).store.spans (number_of id))
       → TakesStepAlone (Exits lane id) old new
 
-  -- a handle is taken. Where the span closes by that, it is taken out, and then each parent that closes by that; extensions may be written in between. Else no layer is notified
+  -- A handle is taken. Where the span closes by that, it is taken out, and then each parent that
+  -- closes by that, with extensions written in between; else no layer is notified.
   abbrev pub TakesHandle : Id → Dispatch S → Dispatch S → Bool → Type 0
   TakesHandle id old new false = TakesStepAlone (Releases id StillOpen) old new
   TakesHandle id old new true =
@@ -334,23 +358,24 @@ module _ {S : Type 0} (s : SubscriberOf S) where
       × ((closed : List ℕ)
       × Removal SameButExtensions released id closed None (registry_of new))
 
-  -- what closes by a drop is all that should
+  -- all that should close when a handle is dropped is closed, and nothing else
   abbrev pub DropsAll : Id → Dispatch S → Dispatch S → Bool → Type 0
   DropsAll id old new closes = TakesStep (DropsSpan id closes) old new
 
-  -- so it is where no span was closing before
+  -- all that should close when a handle is dropped is closed, and nothing else, where no span was
+  -- closing before
   abbrev pub DropsSettled : Id → Dispatch S → Dispatch S → Bool → Type 0
   DropsSettled id old new closes =
       HasNoClosing (registry_of old).store.spans → DropsAll id old new closes
 
-  -- where no span was closing, none is
+  -- no span is closing afterwards, where none was before
   abbrev pub StaysWithoutClosing : Dispatch S → Dispatch S → Type 0
   StaysWithoutClosing old new =
       HasNoClosing (registry_of old).store.spans → HasNoClosing (registry_of new).store.spans
 
   -- ---- what each call promises, beside `usable`, `ready` and `registered`
 
-  -- `enabled`: asked by metadata, and no layer is notified
+  -- `enabled`: a question by metadata; no layer is notified
   pub record Probes (lane : Lane) (m : Metadata) (given : Result Bool TraceError)
       (old new : Dispatch S) : Type 0 where
     pub rest : ChangesKept old new
@@ -359,7 +384,8 @@ module _ {S : Type 0} (s : SubscriberOf S) where
     pub up_to_date : StaysUpToDate old new
     pub asked : IfOk given (WantsMetadata lane m old)
 
-  -- `register_callsite`: the callsite is kept, unless its level is above the hint or nothing is ever kept
+  -- `register_callsite`: the callsite is cached, unless its level is above the hint or the
+  -- dispatcher is uncached
   pub record LearnsCallsite {A : Type 0} (m : Metadata) (given : Result A TraceError)
       (old new : Dispatch S) : Type 0 where
     pub rest : ChangesKept old new
@@ -372,7 +398,8 @@ module _ {S : Type 0} (s : SubscriberOf S) where
     pub unchanged : OnErr given (kept_by new ≡ kept_by old)
     pub up_to_date : StaysUpToDate old new
 
-  -- `reserve_callsites`: memory is held for this many callsites more, if any is ever kept; refused, the same is kept as before
+  -- `reserve_callsites`: a caching dispatcher holds memory for this many callsites more; a refusal
+  -- leaves what is cached unchanged
   pub record ReservesCallsites {A : Type 0} (n : ℕ) (given : Result A TraceError)
       (old new : Dispatch S) : Type 0 where
     pub rest : ChangesKept old new
@@ -382,7 +409,7 @@ module _ {S : Type 0} (s : SubscriberOf S) where
     pub unchanged : OnErr given (kept_by new ≡ kept_by old)
     pub up_to_date : StaysUpToDate old new
 
-  -- `event`: dropped or refused, it leaves the stack as it was
+  -- `event`: a dropped or refused event leaves the stack unchanged
   pub record SendsEvent (lane : Lane) (e : Event) (given : Result Bool TraceError)
       (old new : Dispatch S) : Type 0 where
     pub served : AnswersCall (SendEvent lane e) (event_answer given) old new
@@ -393,7 +420,7 @@ module _ {S : Type 0} (s : SubscriberOf S) where
     pub dropped : given ≡ Ok false → SameStack old new
     pub unchanged : OnErr given (SameStack old new)
 
-  -- a call that opens a span so, where there is one
+  -- a call that opens a span in this way, if one is made
   pub record OpensSpanSo (opens : Option Id → Type 0) (lane : Lane) (attrs : Attributes)
       (given : Result (Option Id) TraceError) (old new : Dispatch S) : Type 0 where
     pub served : AnswersCall (OpenSpan lane attrs) (span_answer given) old new
@@ -403,19 +430,20 @@ module _ {S : Type 0} (s : SubscriberOf S) where
     pub store : IfOk given opens
     pub unchanged : OnErr given (SameStack old new)
 
-  -- `new_span`: dropped or refused, it leaves the stack as it was
+  -- `new_span`: a dropped or refused span leaves the stack unchanged
   abbrev pub OpensSpan : Lane → Attributes → Result (Option Id) TraceError → Dispatch S → Dispatch S
       → Type 0
   OpensSpan lane attrs given old new =
       OpensSpanSo (OpensIfMade lane attrs old new) lane attrs given old new
 
-  -- the same, with this pass's refusing filters for the span's verdict
+  -- `new_span` with a pass, whose refusing filters are the span's verdict
   abbrev pub OpensSpanWith : Pass → Lane → Attributes → Result (Option Id) TraceError → Dispatch S
       → Dispatch S → Type 0
   OpensSpanWith pass lane attrs given old new =
       OpensSpanSo (OpensByPass lane attrs pass old new) lane attrs given old new
 
-  -- a call that asks something of a span: nothing changes but the stack, which takes this step where the call isn't refused, and is as it was where it is
+  -- a call that asks something of a span: nothing changes but the stack, which takes this step;
+  -- where the call is refused, nothing changes
   pub record AsksOfSpan {A : Type 0} (call : Call) (steps : Dispatch S → Dispatch S → Type 0)
       (refuses : Dispatch S → TraceError → Type 0) (given : Result A TraceError)
       (old new : Dispatch S) : Type 0 where
@@ -425,41 +453,44 @@ module _ {S : Type 0} (s : SubscriberOf S) where
     pub refused : IfErr given (refuses old)
     pub unchanged : OnErr given (new ≡ old)
 
-  -- `enter`: where it isn't refused, the lane enters the span
+  -- `enter`: the lane enters the span, unless the call is refused
   abbrev pub EntersSpan : Lane → Id → Result (Unit {0}) TraceError → Dispatch S → Dispatch S
       → Type 0
   EntersSpan lane id given old new =
       AsksOfSpan (Enter lane id) (TakesStep (Enters lane id))
       (Refuses (λ r. RefusesEnter r lane) id) given old new
 
-  -- `record`: where it isn't refused, the span is open, and layers may be notified of the values
+  -- `record`: the span is open, and layers may be notified of the values, unless the call is
+  -- refused
   abbrev pub RecordsValues : Lane → Id → Record → Result (Unit {0}) TraceError → Dispatch S
       → Dispatch S → Type 0
   RecordsValues lane id values given old new =
       AsksOfSpan (RecordValues lane id values) (TakesStep (FindsOpen id))
       (Refuses RefusesUnlessOpen id) given old new
 
-  -- `follows_from`: where it isn't refused, the first span is open, and layers may be notified that it follows from the second
+  -- `follows_from`: the first span is open, and layers may be notified that it follows from the
+  -- second, unless the call is refused
   abbrev pub FollowsSpan : Lane → Id → Id → Result (Unit {0}) TraceError → Dispatch S → Dispatch S
       → Type 0
   FollowsSpan lane id other given old new =
       AsksOfSpan (Follow lane id other) (TakesStep (FindsOpen id)) (Refuses RefusesUnlessOpen id)
       given old new
 
-  -- `clone_span`: where it isn't refused, the span has a handle more, and no layer is notified
+  -- `clone_span`: the span has a handle more, and no layer is notified, unless the call is refused
   abbrev pub ClonesSpan : Lane → Id → Result Id TraceError → Dispatch S → Dispatch S → Type 0
   ClonesSpan lane id given old new =
       AsksOfSpan (AddHandle lane id) (TakesStepAlone (Clones id)) (Refuses RefusesClone id) given
       old new
 
-  -- `exit`: never refused
+  -- `exit`: the lane leaves the span, and the call is never refused
   pub record ExitsSpan (lane : Lane) (id : Id) (old new : Dispatch S) : Type 0 where
     pub rest : ChangesStack old new
     pub served : AnswersCall (Exit lane id) Done old new
     pub store : TakesStep (Exits lane id) old new
     pub gone : LeavesGone lane id old new
 
-  -- `drop_span`: what is said of all that closes supposes that no span was closing
+  -- `drop_span`: a handle is taken. What is said of all that closes supposes that no span was
+  -- closing.
   pub record DropsOneHandle (lane : Lane) (id : Id) (given : Result Bool TraceError)
       (old new : Dispatch S) : Type 0 where
     pub rest : ChangesStack old new
@@ -470,7 +501,7 @@ module _ {S : Type 0} (s : SubscriberOf S) where
     pub refused : IfErr given (Refuses RefusesRelease id old)
     pub unchanged : OnErr given (new ≡ old)
 
-  -- `set_level`: the filter with this number alone answers otherwise, and nothing is kept any more
+  -- `set_level`: only the filter with this number answers otherwise, and nothing is cached any more
   pub record SetsOneLevel {A : Type 0} (n : ℕ) (l : LevelFilter) (given : Result A TraceError)
       (old new : Dispatch S) : Type 0 where
     pub registry : SameRegistry old new

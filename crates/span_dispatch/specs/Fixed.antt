@@ -1,21 +1,23 @@
--- Stacks whose form only levels change: what is made of a list of requests, said of the form and the registry alone.
+-- Stacks whose form only levels change: what is made of a list of requests, said of the form and
+-- the registry alone.
 use Rattle.std.specs.Prelude.{◌≡◌, ℕ, if◌then◌else◌, List, [], map}
 use Rattle.span_dispatch.specs.Cache.{KeptCallsites}
 use Rattle.span_dispatch.specs.Outcome.{OutcomeAt}
 use Rattle.span_dispatch.specs.Recorder.{kept_notice}
 use Rattle.span_dispatch.specs.Alone.{passed_at}
 use Rattle.span_dispatch.specs.Serve.{Run, flat}
-use Rattle.span_dispatch.specs.declared.notice.Notice.{Notice}
+use Rattle.span_dispatch.specs.declared.recorded.Recorded.{Recorded}
 use Rattle.span_dispatch.specs.declared.request.Answer.{Answer}
 use Rattle.span_dispatch.specs.declared.request.Request.{Request}
 use Rattle.span_core.specs.declared.level.LevelFilter.{LevelFilter}
 use Rattle.span_filters.specs.Level.{level_answers}
+use Rattle.span_store.specs.Store.{RegistryState}
 use Rattle.span_registry.specs.Conducts.{filter_numbered}
 use Rattle.span_registry.specs.Form.{Terminal, Filtered, Form, Leaf, Parts}
 use Rattle.span_registry.specs.Position.{Position}
-use Rattle.span_registry.specs.Store.{RegistryState}
 
--- the form, once the filter with this number took this level, where each filter that takes one is by level
+-- the form once the filter with this number took this level, where each filter that takes levels is
+-- one by level
 abbrev pub set_at : ℕ → LevelFilter → Form → Form
 set_at n l (Leaf still a) = Leaf still a
 set_at n l (Filtered m a f) =
@@ -28,7 +30,8 @@ set_at n l (Terminal v) = Terminal v
 abbrev pub Formed : Type 0
 Formed = RegistryState × Form
 
--- from one registry to another, under a stack that has this form at first, and then what levels make of it, and from callsites that are kept to others, the requests are answered so, and this is made of each
+-- A stack of this form, which only levels change, answers the requests with these answers, from one
+-- registry and its cached callsites to the others; these outcomes are made of each request.
 abbrev pub RunsBy : Form → List Request → List Answer → List (List OutcomeAt) → KeptCallsites
     → RegistryState → KeptCallsites → RegistryState → Type 0
 RunsBy f requests answers made kept s after t =
@@ -36,6 +39,6 @@ RunsBy f requests answers made kept s after t =
     (λ r p e lane v q w. q.1 ≡ r.1) (λ r n l q. q.1 ≡ set_at n l r.1) [] requests answers made
     kept (s, f) after (t, g)
 
--- what a recorder at a position, of which all fitted into memory, keeps of what was made
-abbrev pub kept_at : List (List OutcomeAt) → Position → List Notice
+-- what a recorder at a position has of what was made, if all of it fitted into its memory
+abbrev pub kept_at : List (List OutcomeAt) → Position → List Recorded
 kept_at made position = map kept_notice (passed_at position (flat made))

@@ -8,6 +8,6 @@ pub mod Fixed
 pub mod Outcome
 pub mod Readable
 pub mod Recorder
-pub mod RecorderLaws
 pub mod Registration
 pub mod Serve
+pub mod laws

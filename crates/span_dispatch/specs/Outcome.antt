@@ -1,4 +1,5 @@
--- What comes of a request: notices, changes of the store of which nobody is told, and levels that filters take; and what each does to a store, and to a stack.
+-- What comes of a request: notices, quiet changes of the store, and levels that filters take; and
+-- what each does to a store, and to a stack.
 use Rattle.std.specs.Prelude.{◌≡◌, ◌≤◌, ◌+◌, ℕ, true, false, Option}
 use Rattle.std.specs.FinMap.{insert, remove}
 use Rattle.std.specs.FinSet.{contains, insert as add}
@@ -12,22 +13,24 @@ use Rattle.span_core.specs.declared.span.Id.{Id}
 use Rattle.span_core.specs.declared.span.Lane.{Lane}
 use Rattle.span_layers.specs.Honest.{IsHonestStack}
 use Rattle.span_layers.specs.Verdict.{in_verdict}
+use Rattle.span_extensions.specs.Extensions.{no_values}
+use Rattle.span_store.specs.Step.{IsParentFor, RetiresLate, entered, exited}
+use Rattle.span_store.specs.Store.{IsClosing, IsHeld, IsOpen, RegistryState, Span, Store, add_handle, take_handle}
 use Rattle.span_registry.specs.Behaviour.{Notice, OnClose, OnEnter, OnExit, OnFollows, OnIdChange, OnNewSpan, OnRecord}
 use Rattle.span_registry.specs.Form.{Form}
 use Rattle.span_registry.specs.Hooks.{StackSteps, no_filter}
 use Rattle.span_registry.specs.Levels.{LevelSteps, takes_level}
 use Rattle.span_registry.specs.Plan.{asked_afresh}
-use Rattle.span_registry.specs.Extensions.{no_values}
-use Rattle.span_registry.specs.Step.{IsParentFor, RetiresLate, entered, exited}
-use Rattle.span_registry.specs.Store.{IsClosing, IsHeld, IsOpen, RegistryState, Span, Store, add_handle, take_handle}
 
--- a change of the store of which nobody is told: a span has a handle more, or a handle less; a lane leaves a span that isn't open
+-- a change of the store that no layer is notified of: a span has a handle more, or a handle less,
+-- or a lane leaves a span that isn't open
 pub data Change : Type 0 where
   HandleAdded : Id → Change
   HandleTaken : Id → Change
   GoneLeft : Lane → Id → Change
 
--- one thing that comes of a request: a notice from a lane, a quiet change, or a level that the filter with a number takes
+-- one thing that comes of a request: a notice from a lane, a quiet change, or a level that the
+-- filter with a number takes
 pub data Outcome : Type 0 where
   Noticed : Lane → Notice → Outcome
   Quiet : Change → Outcome
@@ -45,7 +48,8 @@ with_new s x r = record s {
   issued = add s.issued x;
 }
 
--- a new span is in the store: under an id that was never issued, nor is 0, with its metadata, one handle, the parent that it gets there and the verdict of this form
+-- a new span is in the store: under an id other than 0 that was never issued, with its metadata,
+-- one handle, the parent that it gets there and this form's verdict
 pub record Opened (f : Form) (lane : Lane) (a : Attributes) (id : Id) (s t : Store) : Type 0 where
   pub parent : Option ℕ
   pub chosen : IsParentFor s lane (asked_parent a) parent
@@ -81,19 +85,23 @@ Steps f (Quiet (GoneLeft lane id)) s t =
     ¬ (IsOpen s.spans (number_of id)) × (t ≡ exited s lane.0 (number_of id))
 Steps f o s t = t ≡ s
 
--- the store that a notice is given in: the one after its step, but a close is given while its span is still there
+-- the store that a notice is given in: the one after its step; for a close the one before, which
+-- still has the span
 abbrev pub given_in : Notice → Store → Store → Store
 given_in (OnClose id) s t = s
 given_in e s t = t
 
--- what was made: an outcome of a stack that had this form; the store before it, and the one after
+-- what was made: an outcome of a stack that had this form, with the store before it and the one
+-- after
 pub record OutcomeAt : Type 0 where
   pub form : Form
   pub before : Store
   pub after : Store
   pub outcome : Outcome
 
--- what the registry does at the end of a notice: of a close, the span is taken out, and one place may be retired by that, but no more than their generations allow, if that held before; else nothing changes
+-- what the registry does at the end of a notice: for a close, it takes the span out, and may retire
+-- one place by that, yet no more than their generations allow, if that held before; else it is
+-- unchanged
 abbrev pub Ends : Notice → RegistryState → RegistryState → Type 0
 Ends (OnClose id) s t =
     (t ≡ record s { store = without_span s.store (number_of id); retired = t.retired })
@@ -102,7 +110,8 @@ Ends e s t = t ≡ s
 
 module _ {S : Type 0} (registry : S → RegistryState) (with_registry : S → RegistryState → S)
     (has_form : S → Form → Type 0) (stepped : StackSteps S) (levelled : LevelSteps S) where
-  -- a notice is given in this store: each filter and leaf whose path passes it, asked afresh on the store before it, goes on by its own step, and may write extensions
+  -- a notice is given in a store: each filter and leaf whose path passes it, asked afresh on the
+  -- store before it, goes on by its own step, and may write extensions
   pub record Notices (f : Form) (lane : Lane) (e : Notice) (s t : Store) (x y : S) : Type 0 where
     pub left : RegistryState
     pub given : left ≡ record (registry x) { store = given_in e s t }
@@ -115,7 +124,9 @@ module _ {S : Type 0} (registry : S → RegistryState) (with_registry : S → Re
     pub ends : Ends e (registry notified) (registry y)
     pub rest : y ≡ with_registry notified (registry y)
 
-  -- how a stack of this form goes on by an outcome between two stores: a notice is given; of a quiet change, only the registry's store changes; and the layers go on by a level that a filter takes, on the registry as it was
+  -- how a stack of this form goes on by an outcome between two stores: it is notified; or only its
+  -- registry's store changes; or its layers go on by a level that a filter takes, with the registry
+  -- unchanged
   abbrev pub LayersGo : Form → Outcome → Store → Store → S → S → Type 0
   LayersGo f (Noticed lane e) s t x y = Notices f lane e s t x y
   LayersGo f (Quiet c) s t x y =
@@ -128,7 +139,7 @@ module _ {S : Type 0} (registry : S → RegistryState) (with_registry : S → Re
     pub has : has_form x f
     pub rules : IsHonestStack f (registry x).filters
 
-  -- this was made of an honest stack
+  -- this outcome was made of an honest stack, which became the second
   pub record Makes (x : S) (m : OutcomeAt) (y : S) : Type 0 where
     pub honest : IsHonest m.form x
     pub before : m.before ≡ (registry x).store

@@ -1,4 +1,5 @@
--- What a leaf is told of it can read: its own context shows the span that the notice is of; and it is told of a span's close where it was told of the span.
+-- What a leaf is notified of it can read: its own context shows the span that a notice is of; and a
+-- leaf is notified of a span's close if it was notified of the span.
 use Rattle.std.specs.Prelude.{◌≡◌, ℕ, ◌<◌, true, Some, IfSome}
 use Rattle.std.specs.FinMap.{get}
 use Rattle.span_core.specs.Span.{metadata_of, number_of}
@@ -8,21 +9,22 @@ use Rattle.span_core.specs.declared.span.Id.{Id}
 use Rattle.span_core.specs.declared.span.Lane.{Lane}
 use Rattle.span_dispatch.specs.Outcome.{IsVerdict}
 use Rattle.span_layers.specs.Verdict.{AreDistinct, numbers_of}
+use Rattle.span_store.specs.Store.{Span, Store}
 use Rattle.span_registry.specs.Behaviour.{OnClose, OnNewSpan, span_in}
 use Rattle.span_registry.specs.Form.{Form}
 use Rattle.span_registry.specs.Hooks.{no_filter}
 use Rattle.span_registry.specs.Levels.{KeepsRules}
 use Rattle.span_registry.specs.Path.{Path, passes_path, path_at}
 use Rattle.span_registry.specs.Position.{Position, Told}
-use Rattle.span_registry.specs.Store.{Span, Store}
 use Rattle.span_registry.specs.View.{is_shown}
 
--- the leaf's own context shows that span then
+-- the leaf's own context, when it is notified, shows the span that the notice is of
 abbrev pub ShowsItsSpan : Told → Type 0
 ShowsItsSpan told =
     IfSome (span_in told.notice) (λ id. is_shown told.view.spans (number_of id) ≡ true)
 
--- a span of these metadata opened under a form, whose verdict that is; where the form's filters kept their numbers, a path passes the span's close exactly if it passed the span
+-- where a form's filters kept their numbers, a path passes the close of a span exactly if it passed
+-- the new span, by whose verdict the span is kept
 abbrev pub ClosesAsItOpened : Type 0
 ClosesAsItOpened =
     (f g : Form) (position : Position) (path other : Path) (attrs : Attributes) (id : Id) (r : Span)

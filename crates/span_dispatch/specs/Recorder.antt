@@ -3,16 +3,17 @@ use Rattle.std.specs.Prelude.{◌≡◌, ℕ, ◌+◌, ◌≤◌, Bool, true, fa
 use Rattle.span_core.specs.Event.{event_metadata}
 use Rattle.span_core.specs.Metadata.{callsite_of}
 use Rattle.span_core.specs.declared.span.Lane.{Lane}
-use Rattle.span_dispatch.specs.declared.notice.Notice.TheVariants as kept
-use Rattle.span_dispatch.specs.declared.notice.Notice.{Notice as KeptNotice}
+use Rattle.span_dispatch.specs.declared.recorded.Recorded.TheVariants as kept
+use Rattle.span_dispatch.specs.declared.recorded.Recorded.{Recorded}
 use Rattle.span_layers.specs.Layer.{LayerSteps}
 use Rattle.span_registry.specs.Behaviour.{Notice, OnClose, OnEnter, OnEvent, OnExit, OnFollows, OnIdChange, OnNewSpan, OnRecord}
 use Rattle.span_registry.specs.Position.{Told}
 use Rattle.span_registry.specs.Plan.{Itself}
 
--- a recorder: the notices that it keeps, how many more it has memory for, and whether it has failed for want of memory
+-- a recorder: its notices, the memory that it holds for more, and whether it has failed for want of
+-- memory
 pub record RecorderState : Type 0 where
-  pub notices : List KeptNotice
+  pub notices : List Recorded
   pub room : ℕ
   pub failed : Bool
 
@@ -20,10 +21,12 @@ pub record RecorderState : Type 0 where
 abbrev pub new_recorder : RecorderState
 new_recorder = record { notices = []; room = 0; failed = false }
 
--- a recorder is notified of these: behind what it has it keeps a beginning of them, all of them unless it fails, and none once it has failed. It fails only where a notice is lost for which it had no room. Notified of nothing, it is as before
-pub record Records (old new : RecorderState) (due : List KeptNotice) : Type 0 where
-  pub more : List KeptNotice
-  pub lost : List KeptNotice
+-- a recorder is notified of these: it appends a beginning of them, which is all of them unless it
+-- fails, and nothing once it has failed. It fails only by losing a notice that it had no room for,
+-- and a recorder that is notified of nothing is unchanged
+pub record Records (old new : RecorderState) (due : List Recorded) : Type 0 where
+  pub more : List Recorded
+  pub lost : List Recorded
   pub split : due ≡ more ++ lost
   pub kept : new.notices ≡ old.notices ++ more
   pub all : new.failed ≡ false → lost ≡ []
@@ -36,8 +39,8 @@ pub record Records (old new : RecorderState) (due : List KeptNotice) : Type 0 wh
 abbrev pub lane_of : ℕ → Lane
 lane_of n = record { 0 = n }
 
--- what it keeps of a notice on a lane
-abbrev pub kept_on : ℕ → Notice → KeptNotice
+-- a recorder's note of a notice on a lane
+abbrev pub kept_on : ℕ → Notice → Recorded
 kept_on lane (OnNewSpan attrs id) = kept.New (lane_of lane) id
 kept_on lane (OnRecord id values) = kept.Record (lane_of lane) id
 kept_on lane (OnFollows id other) = kept.Follows (lane_of lane) id other
@@ -47,10 +50,10 @@ kept_on lane (OnExit id) = kept.Exit (lane_of lane) id
 kept_on lane (OnIdChange id other) = kept.IdChange (lane_of lane) id other
 kept_on lane (OnClose id) = kept.Close (lane_of lane) id
 
--- what it keeps of what it is told: nothing of what its context shows
-abbrev pub kept_notice : Told → KeptNotice
+-- a recorder's note of what it is notified of, with nothing of what its context shows
+abbrev pub kept_notice : Told → Recorded
 kept_notice told = kept_on told.lane told.notice
 
--- notified of one notice it keeps that, and leaves the registry alone
+-- a recorder that is notified of one notice records that, and leaves the registry unchanged
 abbrev pub recorder_steps : LayerSteps RecorderState
 recorder_steps x p e lane under v y w = (p ≡ Itself) × Records x y (kept_on lane e ∷ []) × (w ≡ v)

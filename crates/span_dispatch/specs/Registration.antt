@@ -1,4 +1,4 @@
--- Callsites that a dispatcher knows, and by which it is asked with no search.
+-- Callsites that a dispatcher caches, and registrations by which it is asked without a search.
 use Rattle.std.specs.Prelude.{◌≡◌, ◌≤◌, ◌<◌, ◌+◌, ◌-◌, ◌^◌, ◌==◌, if◌then◌else◌, ℕ, min, Option, Some, None, IfSome}
 use Rattle.span_core.specs.declared.interest.Interest.{Interest}
 use Rattle.span_core.specs.declared.metadata.Metadata.{Metadata}
@@ -8,49 +8,51 @@ use Rattle.span_dispatch.specs.declared.registration.Epoch.{Epoch}
 use Rattle.span_dispatch.specs.declared.registration.Kept.{Kept}
 use Rattle.span_dispatch.specs.declared.registration.Registration.{Registration}
 
--- the last epoch
+-- the last epoch of a dispatcher's cache
 abbrev pub last_epoch : ℕ
 last_epoch = 2 ^ 64 - 1
 
--- the epoch after this one; the last is its own
+-- the epoch after this one; the last one is followed by itself
 abbrev pub next_epoch : Epoch → Epoch
 next_epoch epoch = record { 0 = min (epoch.0 + 1) last_epoch }
 
--- the metadata that were registered
+-- the metadata that a registration was made of
 abbrev pub registered_metadata : Registration → Metadata
 registered_metadata r = r.metadata
 
--- what a dispatcher keeps says this interest of metadata that show the same
+-- a dispatcher's cache has this interest, for metadata that show the same
 abbrev pub Knows : {S : Type 0} → Dispatch S → Metadata → Interest → Type 0
 Knows d m i = KnowsInterest d.cache m i
 
--- this interest is of an epoch that ends and isn't ahead; if that is the epoch here, it is kept of these metadata
+-- an interest and its epoch: the epoch ends and isn't ahead of the dispatcher's; if it is the
+-- dispatcher's, the interest is cached for these metadata
 pub record HoldsStill {S : Type 0} (d : Dispatch S) (m : Metadata) (k : Kept) : Type 0 where
   pub past : k.epoch.0 ≤ d.epoch.0
   pub ends : k.epoch.0 < last_epoch
   pub holds : k.epoch.0 ≡ d.epoch.0 → Knows d m k.interest
 
--- this registration tells no interest, or one of an epoch that is over here, or one that this dispatcher keeps
+-- a registration is valid at a dispatcher: it has no interest, or one of an epoch that is over
+-- there, or one that is cached there
 abbrev pub IsRegistered : {S : Type 0} → Dispatch S → Registration → Type 0
 IsRegistered d r = IfSome r.kept (HoldsStill d (registered_metadata r))
 
--- what was registered stays registered
+-- each registration that was valid at the old dispatcher is valid at the new one
 abbrev pub KeepsRegistered : {S : Type 0} → Dispatch S → Dispatch S → Type 0
 KeepsRegistered old new = (r : Registration) → IsRegistered old r → IsRegistered new r
 
 -- Below: steps of the code, which no public clause cites.
 
--- it is this interest, kept in this epoch, which ends
+-- what a registration keeps is this interest, of this epoch, which ends
 pub record IsKeptIn (epoch : Epoch) (given : Option Interest) (k : Kept) : Type 0 where
   pub here : k.epoch ≡ epoch
   pub ends : epoch.0 < last_epoch
   pub interest : given ≡ Some k.interest
 
--- the interest that was kept then, if it was in this epoch
+-- the interest that a registration keeps, if it is of this epoch
 abbrev pub kept_interest : Epoch → Option Kept → Option Interest
 kept_interest epoch None = None
 kept_interest epoch (Some k) = if k.epoch.0 == epoch.0 then Some k.interest else None
 
--- the interest that a registration tells in this epoch
+-- the interest that a registration has in this epoch
 abbrev pub interest_in : Epoch → Registration → Option Interest
 interest_in epoch r = kept_interest epoch r.kept

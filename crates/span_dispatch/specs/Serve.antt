@@ -24,62 +24,65 @@ use Rattle.span_dispatch.specs.declared.request.Which.TheVariants as which
 use Rattle.span_dispatch.specs.declared.request.Which.{Which}
 use Rattle.span_dispatch.specs.declared.request.WhichParent.TheVariants as asked
 use Rattle.span_dispatch.specs.declared.request.WhichParent.{WhichParent}
+use Rattle.span_store.specs.Closes.{HasNoClosing, Member}
+use Rattle.span_store.specs.Step.{Removal}
+use Rattle.span_store.specs.Store.{RegistryState, Store}
 use Rattle.span_registry.specs.Behaviour.{OnClose}
-use Rattle.span_registry.specs.Closes.{HasNoClosing, Member}
+use Rattle.span_core.specs.declared.span.Lane.{Lane}
 use Rattle.span_registry.specs.KeptForm.{KeepsForm}
 use Rattle.span_registry.specs.Form.{Form}
-use Rattle.span_core.specs.declared.span.Lane.{Lane}
 use Rattle.span_registry.specs.Agree.{AgreeAt}
 use Rattle.span_registry.specs.Conducts.{ActsAt, Conducts, numbers_in}
 use Rattle.span_registry.specs.Hooks.{StackSteps}
 use Rattle.span_registry.specs.Levels.{LevelSteps}
 use Rattle.span_registry.specs.Position.{HearSteps, Position}
-use Rattle.span_registry.specs.Step.{Removal}
 use Rattle.span_registry.specs.Subscriber.{SameButExtensions}
-use Rattle.span_registry.specs.Store.{RegistryState, Store}
 
 -- the stack of a dispatcher
 abbrev pub stack_of : {S : Type 0} → Dispatch S → S
 stack_of d = d.stack
 
--- the same with another stack
+-- the dispatcher with another stack
 abbrev pub with_stack : {S : Type 0} → Dispatch S → S → Dispatch S
 with_stack d x = record d { stack = x }
 
--- the callsites whose interest it keeps; or none, where it never keeps anything
+-- the callsites that a dispatcher has cached; none where it is uncached
 abbrev pub kept_by : {S : Type 0} → Dispatch S → KeptCallsites
 kept_by d = kept_in d.cache
 
--- the hint that it keeps, as it read it of its stack; or none, where it didn't read it yet, or never does
+-- the hint that a dispatcher has cached, as it was read; none where it wasn't read yet, and for an
+-- uncached one
 abbrev pub hint_by : {S : Type 0} → Dispatch S → ReadHint
 hint_by d = hint_in d.cache
 
--- what it keeps, if anything, is what its stack, of this form and on this many filters, would answer now
+-- a dispatcher's cache is up to date: what it has is what its stack, of this form and on this many
+-- filters, would answer now
 abbrev pub KeepsUpToDate : {S : Type 0} → Form → ℕ → Dispatch S → Type 0
 KeepsUpToDate f filters d = IsUpToDate f filters d.cache
 
--- the same dispatcher with nothing kept any more, in the next epoch
+-- the dispatcher with nothing cached any more, in the next epoch
 abbrev pub forgetful : {S : Type 0} → Dispatch S → Dispatch S
 forgetful d = record d { cache = forgotten d.cache; epoch = next_epoch d.epoch }
 
--- the span that an answer gave
+-- the span that an answer gave, if any
 abbrev pub made_by : Option Answer → Option Id
 made_by (Some (answer.Made x)) = Some x
 made_by o = None
 
--- the span that a request names, where these are the answers so far
+-- the span that a request names, given the answers so far
 abbrev pub resolved : List Answer → Which → Option Id
 resolved past (which.Known x) = Some x
 resolved past (which.Made k) = made_by (slice_get past k)
 
--- the parent that a request asks for, where these are the answers so far: a root where its span was not made
+-- the parent that a request names, given the answers so far: a root where its span was not made
 abbrev pub resolved_parent : List Answer → WhichParent → Parent
 resolved_parent past asked.Root = parent.Root
 resolved_parent past asked.Contextual = parent.Contextual
 resolved_parent past (asked.Explicit w) =
     option_map_or (λ x. parent.Explicit x) (resolved past w) parent.Root
 
--- what a request asks of a dispatcher, where these are the answers so far: nothing where it names no span. Values are handed on as they came
+-- the call that a request asks for, given the answers so far: none where it names no span. Values
+-- are handed on as they came
 abbrev pub call_of : List Answer → Request → Option Call
 call_of past (request.NewSpan lane m p values) =
     Some (OpenSpan lane (attributes_of m values (resolved_parent past p)))
@@ -97,7 +100,7 @@ call_of past (request.Enabled lane m) = Some (Probe lane m)
 call_of past (request.Current lane) = Some (AskCurrent lane)
 call_of past (request.SetLevel number level) = Some (SetLevel number level)
 
--- the outcome that was made
+-- the outcome in what was made
 abbrev pub outcome_of : OutcomeAt → Outcome
 outcome_of m = m.outcome
 
@@ -106,7 +109,7 @@ abbrev pub closed_by : Outcome → List ℕ
 closed_by (Noticed lane (OnClose id)) = number_of id ∷ []
 closed_by other = []
 
--- none of them stands twice
+-- no number stands twice in the list
 abbrev pub StandOnce : List ℕ → Type 0
 StandOnce [] = Unit {0}
 StandOnce (x ∷ xs) = ¬ (Member x xs) × StandOnce xs
@@ -115,7 +118,9 @@ StandOnce (x ∷ xs) = ¬ (Member x xs) × StandOnce xs
 abbrev pub flat : List (List OutcomeAt) → List OutcomeAt
 flat made = flat_map (λ ms. ms) made
 
--- each leaf went through what it sees of what was made; and where only plain filters stand round it, that is what it would see if it stood alone, on any store that differs in extensions and other filters' verdicts alone
+-- each leaf was notified of what its path passes of what was made; and where only plain filters
+-- stand round it, of what it would be notified of if it stood alone, on any store that differs in
+-- extensions and other filters' verdicts only
 pub record Sees {S : Type 0} (registry : S → RegistryState) (hears : HearSteps S)
     (acts_at : ActsAt S) (x : S) (made : List OutcomeAt) (y : S) : Type 0 where
   pub each : (position : Position) → hears x position (passed_at position made) y
@@ -125,37 +130,41 @@ pub record Sees {S : Type 0} (registry : S → RegistryState) (hears : HearSteps
 
 module _ {S : Type 0} (registry : S → RegistryState) (with_registry : S → RegistryState → S)
     (has_form : S → Form → Type 0) (stepped : StackSteps S) (levelled : LevelSteps S) where
-  -- between two requests: no span is closing, and the stack is honest by this form
+  -- a stack is ready, as it is between two requests: no span is closing, and it is honest by this
+  -- form
   pub record IsReady (f : Form) (x : S) : Type 0 where
     pub honest : IsHonest registry with_registry has_form stepped levelled f x
     pub settled : HasNoClosing (registry x).store.spans
 
-  -- the same of a dispatcher, which keeps what its stack would answer now, if it keeps anything
+  -- a dispatcher is ready by a form: its stack is, and its cache is up to date
   pub record IsReadyBy (f : Form) (d : Dispatch S) : Type 0 where
     pub stack : IsReady f (stack_of d)
     pub kept : IsUpToDate f (registry (stack_of d)).filters d.cache
 
-  -- ready by a form that keeps this of the old one
+  -- a dispatcher is ready by a form that keeps this much of the old one
   abbrev pub IsReadyAfter : (Form → Form → Type 0) → Form → Dispatch S → Type 0
   IsReadyAfter keeps f d = (g : Form) × IsReadyBy g d × keeps f g
 
-  -- ready by some form
+  -- a dispatcher is ready by some form
   abbrev pub IsReadySomehow : Dispatch S → Type 0
   IsReadySomehow d = (f : Form) × IsReadyBy f d
 
-  -- a stack of this form serves a call so, where these callsites are kept, and then these are: this was made of it, as its answer says, and the stack went through it; and it is answered, dropped or refused exactly where it should be
+  -- a stack of this form serves a call with this answer, by cached callsites that become the
+  -- others: what the answer says was made of it, which the stack went through, and it was answered,
+  -- dropped or refused exactly where it should be
   pub record Serves (call : Call) (f : Form) (kept : KeptCallsites) (x : S) (a : Answer)
       (made : List OutcomeAt) (after : KeptCallsites) (y : S) : Type 0 where
     pub says : OutcomesOf call a (registry x).store (map (λ m. m.outcome) made)
     pub goes : FoldsTo (Makes registry with_registry has_form stepped levelled) x made y
     pub answers : AnswersWith call kept f (registry x) a after
 
-  -- something was made so of a call
+  -- a stack of this form serves a call with this answer, whatever was made of it
   abbrev pub IsServed : Call → Form → KeptCallsites → S → Answer → KeptCallsites → S → Type 0
   IsServed call f kept x a after y =
       (made : List OutcomeAt) × Serves call f kept x a made after y
 
-  -- one request: what it asks for is served, or, where it names no span, nothing is asked and nothing changes
+  -- one request is served as the call that it asks for; where it names no span, it is dropped and
+  -- nothing changes
   abbrev pub ServesAsked : Option Call → KeptCallsites → S → Answer → List OutcomeAt → KeptCallsites
       → S → Type 0
   ServesAsked None kept x a made after y =
@@ -163,12 +172,12 @@ module _ {S : Type 0} (registry : S → RegistryState) (with_registry : S → Re
   ServesAsked (Some call) kept x a made after y =
       (f : Form) × IsReady f x × Serves call f kept x a made after y
 
-  -- what becomes of a request behind these answers: what it asks for is served so
+  -- one request is served as the call that it asks for, given the answers so far
   abbrev pub ServesRequest : List Answer → Request → KeptCallsites → S → Answer → List OutcomeAt
       → KeptCallsites → S → Type 0
   ServesRequest past r kept x a made after y = ServesAsked (call_of past r) kept x a made after y
 
-  -- a list of requests, one after another, behind these answers: each is answered, dropped or refused exactly so
+  -- a list of requests is served, one after another, given the answers so far
   abbrev pub Run : List Answer → List Request → List Answer → List (List OutcomeAt)
       → KeptCallsites → S → KeptCallsites → S → Type 0
   Run past [] [] [] kept x after y = (after ≡ kept) × (y ≡ x)
@@ -177,26 +186,31 @@ module _ {S : Type 0} (registry : S → RegistryState) (with_registry : S → Re
       × Run (past ++ (a ∷ [])) rs answers made k z after y
   Run past rs answers made kept x after y = ⊥
 
-  -- a list of requests is served so
+  -- a dispatcher serves a list of requests with these answers
   pub record Served (hears : HearSteps S) (acts_at : ActsAt S) (requests : List Request)
       (answers : List Answer) (old new : Dispatch S) : Type 0 where
-    -- there is one list of what was made of each request, on any lanes
+    -- what was made of each request, on any lanes
     pub made : List (List OutcomeAt)
-    -- made is what their answers say, and each is answered in turn, dropped or refused exactly where it should be, from what is kept then: of what was dropped or denied no layer would have been notified
+    -- What was made is what the answers say, and each request is answered, dropped or refused
+    -- exactly where it should be, by what is cached then; no dropped or refused one would have
+    -- reached any layer.
     pub run : Run [] requests answers made (kept_by old) (stack_of old) (kept_by new) (stack_of new)
-    -- each layer is notified, in order, of exactly the made requests that its own path's filters pass when asked afresh
+    -- Each layer is notified, in order, of exactly the made requests that its own path's filters
+    -- pass when asked afresh.
     pub each : (position : Position)
         → hears (stack_of old) position (passed_at position (flat made)) (stack_of new)
-    -- as if it stood alone: under plain filters, that is what it would be notified of with no other layer or filter beside them
+    -- Under plain filters, each layer is notified of what it would be notified of if it stood
+    -- alone, with no other layer or filter beside them.
     pub alone : (position : Position) (cs : Conducts) → acts_at (stack_of old) position cs
         → Alone cs (registry (stack_of old)).store (map (λ m. m.outcome) (flat made))
         (passed_at position (flat made))
-    -- each closed span is notified of once
+    -- Each closed span is notified of once.
     pub once : StandOnce (flat_map (λ m. closed_by m.outcome) (flat made))
-    -- whoever is told of a span can read it in its own context: also one that closes
+    -- A layer that is notified of a span can read it in its own context, even one that closes.
     pub shown : (position : Position) → AllByRecursion ShowsItsSpan (passed_at position (flat made))
 
-  -- from a stack in which a span is closing: it is taken out, and so is each parent that closes by that; before each is, a notice of its close is given
+  -- a span that is closing is taken out, and then each parent that closes by that; before each is,
+  -- a notice of its close is given
   pub record ClosesEach (lane : Lane) (id : Id) (x y : S) : Type 0 where
     pub closed : List ℕ
     pub removal : Removal SameButExtensions (registry x) id closed None (registry y)

@@ -9,18 +9,19 @@ use span_registry::Subscriber;
 use std::alloc::Global;
 use std::collections::HashMap;
 
-/// What is kept of a stack's answers, if anything is.
+/// What a dispatcher caches of its stack's answers, if it caches anything.
 #[derive(Debug, Drop)]
 pub(crate) enum Cache {
-    /// Nothing, ever.
+    /// The cache is off: nothing is ever cached.
     Off,
-    /// Nothing yet.
+    /// Nothing is cached yet.
     Empty,
-    /// These answers.
+    /// These answers are cached.
     Filled(Known),
 }
 
-/// A stack's hint, and its interest in the callsites that it was asked of, by their numbers. Memory is held for so many more.
+/// A stack's hint, and its interest in the callsites that it was asked of, by their numbers. Memory
+/// is held for so many more.
 #[derive(Debug, Drop)]
 pub(crate) struct Known {
     hint: Option<LevelFilter>,
@@ -41,7 +42,7 @@ impl Cache {
     ghost use Rattle.span_dispatch.specs.Cache.{KnowsInterest, forgotten};
     ghost use Rattle.span_dispatch.specs.declared.cache.Cache.TheVariants.{Empty};
 
-    /// Nothing is kept any more.
+    /// Forgets all that is cached.
     pub(crate) fn forget(&mut self)
         ensures { self.new ≡ forgotten self.old }
     {
@@ -50,10 +51,11 @@ impl Cache {
         }
     }
 
-    /// The interest in a callsite by which its requests are let by: never above the hint, sometimes where nothing is ever kept,
-    /// else the stack's, which isn't searched for where it is given as it is kept.
+    /// The interest in a callsite that decides its requests: never above the hint, sometimes where
+    /// the cache is off, else the stack's. With a cached interest given, nothing is searched for.
     ///
-    /// Refused where the callsite is kept with other metadata (`CallsiteMismatch`), else for want of memory.
+    /// Refused where the callsite is cached with other metadata (`CallsiteMismatch`), else for want
+    /// of memory.
     #[inline(always)]
     pub(crate) fn interest<S: Subscriber>(
         &mut self,
@@ -73,7 +75,8 @@ impl Cache {
         }
     }
 
-    /// Memory for so many callsites more is held then, unless nothing is ever kept. Where nothing is kept yet, the hint is read.
+    /// Holds memory for so many callsites more, unless the cache is off. Where nothing is cached
+    /// yet, reads the hint.
     ///
     /// Refused for want of memory alone, where it isn't held already.
     pub(crate) fn reserve<S: Subscriber>(
@@ -101,7 +104,7 @@ impl Cache {
         }
     }
 
-    /// The interest that is kept of metadata that show the same, if any is.
+    /// The interest that is cached for metadata that show the same, if any.
     pub(crate) fn kept(&self, meta: &Metadata) -> Option<Interest>
         ensures { IfSome result (KnowsInterest self.now meta.now) }
     {
@@ -114,7 +117,7 @@ impl Cache {
         }
     }
 
-    /// The first interest, once the hint was read.
+    /// The interest in a first callsite, once the hint was read.
     #[inline(never)]
     fn begin<S: Subscriber>(
         &mut self,
@@ -142,14 +145,15 @@ impl Known {
     ghost use Rattle.span_dispatch.specs.Cache.{KnowsInterest, RefusesRoom, callsites_of, known_of, with_room};
     ghost use Rattle.span_dispatch.specs.declared.cache.Cache.TheVariants.{Filled};
 
-    /// The hint.
+    /// The cached hint.
     pub(crate) fn hint(&self) -> Option<LevelFilter>
         ensures { result ≡ self.now.hint }
     {
         self.hint
     }
 
-    /// The interest in a callsite: never above the hint, else as it is given or kept, else it is asked for and kept.
+    /// The interest in a callsite: never above the hint, else the one that is given or cached, else
+    /// the stack is asked, and its answer cached.
     #[inline(always)]
     fn interest<S: Subscriber>(
         &mut self,
@@ -177,8 +181,8 @@ impl Known {
         self.learn(stack, meta)
     }
 
-    /// The interest in a callsite that isn't known, by the stack: it is known then, unless memory is refused, which it isn't where
-    /// some is held.
+    /// The stack's interest in a callsite that isn't cached: it is cached then. Refused for want of
+    /// memory, unless some is held.
     #[inline(never)]
     fn learn<S: Subscriber>(&mut self, stack: &S, meta: &Metadata) -> Result<Interest, TraceError>
         requires usable { S.usable stack.now }
@@ -201,7 +205,8 @@ impl Known {
         }
     }
 
-    /// Memory for so many callsites more is held then. Refused for want of memory alone, where it isn't held already.
+    /// Holds memory for so many callsites more. Refused for want of memory alone, where it isn't
+    /// held already.
     fn reserve(&mut self, callsites: usize) -> Result<(), TraceError>
         ensures hint { self.new.hint ≡ self.old.hint }
         ensures known { (n : ℕ) → known_of self.new n ≡ known_of self.old n }
@@ -217,7 +222,7 @@ impl Known {
         Ok(())
     }
 
-    /// A level passes the hint, if there is one.
+    /// Whether a level isn't above the hint.
     fn passes(&self, level: Level) -> bool
         ensures { result ≡ not (is_above level self.now.hint) }
     {

@@ -6,37 +6,37 @@ ghost use Rattle.span_dispatch.specs.Serve.{call_of};
 use crate::request::{Answer, Request};
 use span_core::{Attributes, Event, Id, Lane, LevelFilter, Metadata, Record};
 
-/// What a dispatcher is asked, from a lane; a level is set from none.
+/// One thing that a dispatcher is asked, from a lane, or from none where a level is set.
 ///
 /// Own to this port.
 #[derive(Clone, Copy, Debug)]
 pub enum Call<'a> {
-    /// A new span.
+    /// To open a span.
     OpenSpan(Lane, Attributes<'a>),
-    /// An event.
+    /// To send an event.
     SendEvent(Lane, Event<'a>),
-    /// The lane enters the span.
+    /// To let the lane enter the span.
     Enter(Lane, Id),
-    /// The lane leaves the span.
+    /// To let the lane leave the span.
     Exit(Lane, Id),
-    /// Values are recorded of the span.
+    /// To record values of the span.
     RecordValues(Lane, Id, Record<'a>),
-    /// The first span follows from the second.
+    /// To record that the first span follows from the second.
     Follow(Lane, Id, Id),
-    /// One handle more of the span is made.
+    /// To add a handle to the span.
     AddHandle(Lane, Id),
-    /// One handle of the span is dropped.
+    /// To drop a handle of the span.
     DropHandle(Lane, Id),
     /// Whether a span or an event with this metadata would be made.
     Probe(Lane, Metadata),
     /// Which span the lane is in.
     AskCurrent(Lane),
-    /// The level of the filter with this number is set.
+    /// To set the level of the filter with this number.
     SetLevel(u32, LevelFilter),
 }
 
 impl Call<'_> {
-    /// The lane that it comes from: none where a level is set.
+    /// The lane that the call comes from: none where a level is set.
     pub fn lane(&self) -> Option<Lane>
         ensures { result ≡ lane_of_call self.now }
     {
@@ -57,7 +57,7 @@ impl Call<'_> {
 }
 
 impl<'a> Request<'a> {
-    /// What it asks of a dispatcher, where these are the answers so far: nothing where it names no span.
+    /// The call that the request asks for, given the answers so far: none where it names no span.
     pub fn call(&self, past: &[Answer]) -> Option<Call<'a>>
         ensures { result ≡ call_of past.now self.now }
     {

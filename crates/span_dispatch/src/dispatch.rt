@@ -9,9 +9,9 @@ ghost use Rattle.span_dispatch.specs.Contract.{Admits, AsksStack, BecomesReady, 
 ghost use Rattle.span_dispatch.specs.contracts.dispatch.Dispatch.{the_row};
 ghost use Rattle.span_dispatch.specs.Registration.{IsRegistered, KeepsRegistered, Knows, registered_metadata};
 ghost use Rattle.span_dispatch.specs.Serve.{ClosesEach, KeepsUpToDate, forgetful, hint_by, kept_by, stack_of, with_stack};
+ghost use Rattle.span_store.specs.Store.{IsClosing};
 ghost use Rattle.span_registry.specs.Form.{Form};
 ghost use Rattle.span_registry.specs.Question.{refusals};
-ghost use Rattle.span_registry.specs.Store.{IsClosing};
 
 use crate::cache::Cache;
 use crate::registration::{Epoch, Registration};
@@ -23,8 +23,9 @@ use std::alloc::Global;
 
 /// A stack behind one door: it takes requests, asks the stack's layers, and notifies them.
 ///
-/// Stands for `tracing_core::Dispatch`. What `tracing_subscriber` keeps of filters' answers in a thread local is a `Pass` here,
-/// which ends with its request. What it keeps of callsites is kept here, for each dispatcher by itself.
+/// Stands for `tracing_core::Dispatch`. What `tracing_subscriber` keeps of filters' answers in a
+/// thread local is a `Pass` here, which ends with its request. What it keeps of callsites each
+/// dispatcher caches by itself here.
 #[derive(Debug)]
 pub struct Dispatch<S> {
     stack: S,
@@ -46,14 +47,15 @@ impl<S: Drop> Drop for Dispatch<S> {
 
 // Without a bound, so that a proof of a caller needs no stack's whole implementation to read one.
 impl<S> Dispatch<S> {
-    /// The stack, as it now is.
+    /// The dispatcher's stack, as it now is.
     pub fn stack(&self) -> &S
         ensures { result.now ≡ stack_of self.now }
     {
         &self.stack
     }
 
-    /// The stack, taken out. Layers stay in use, and a new dispatcher puts them in use once more.
+    /// The dispatcher's stack, taken out. Layers stay in use, and a new dispatcher puts them in use
+    /// once more.
     pub fn into_stack(self) -> S
         ensures { result ≡ stack_of self }
     {
@@ -68,8 +70,8 @@ impl<S> Dispatch<S> {
 }
 
 impl<S: Subscriber> Dispatch<S> {
-    /// Puts all layers of the stack in use, once each. The dispatcher goes by the stack's hint, and keeps its interest in each
-    /// callsite that it is asked of.
+    /// A dispatcher that caches: it goes by the stack's hint, and caches the interest in each
+    /// callsite that the stack is asked of. Puts all layers of the stack in use, once each.
     pub fn new(alloc: Global, stack: S) -> Dispatch<S>
         requires { S.usable stack }
         ensures usable { S.usable (stack_of result) }
@@ -87,7 +89,8 @@ impl<S: Subscriber> Dispatch<S> {
         }
     }
 
-    /// Puts all layers of the stack in use, once each. The dispatcher keeps nothing, and asks everything at each request.
+    /// A dispatcher that caches nothing, and asks the stack of each request. Puts all layers of the
+    /// stack in use, once each.
     ///
     /// Own to this port.
     pub fn fresh(alloc: Global, stack: S) -> Dispatch<S>
@@ -107,7 +110,7 @@ impl<S: Subscriber> Dispatch<S> {
         }
     }
 
-    /// The stack, to be changed. Whatever was kept of its answers is forgotten.
+    /// The dispatcher's stack, to be changed. All that was cached of its answers is forgotten.
     pub fn stack_mut(&mut self) -> &mut S
         ensures* writes_back { sem 𝓛
             (Lends (the_row S.row) S.row self.entry result (with_stack (forgetful self.old))) }
@@ -118,7 +121,7 @@ impl<S: Subscriber> Dispatch<S> {
         &mut self.stack
     }
 
-    /// The highest level that may be wanted, as the stack's hint says. None under `fresh`.
+    /// The highest level that may be enabled, as the stack's hint says. None under `fresh`.
     pub fn max_level_hint(&self) -> Option<LevelFilter>
         requires { S.usable (stack_of self.now) }
         ensures none { kept_by self.now ≡ None → result ≡ None }
@@ -132,8 +135,9 @@ impl<S: Subscriber> Dispatch<S> {
         }
     }
 
-    /// Whether a span or an event with this metadata is wanted, as far as metadata decide. The filters' answers go into the
-    /// pass, which is a new one. An interest may be given as it is kept.
+    /// Whether a span or an event with this metadata is enabled, as far as metadata decide. The
+    /// filters' answers go into the pass, which is a new one. `kept`, if given, is the cached
+    /// interest.
     #[inline(always)]
     fn admits(
         &mut self,
@@ -161,11 +165,12 @@ impl<S: Subscriber> Dispatch<S> {
         }
     }
 
-    /// Whether a span or an event with this metadata would be made, as far as metadata decide: neither hint nor interest rules it
-    /// out, and no layer vetoes it.
+    /// Whether a span or an event with this metadata would be made, as far as metadata decide:
+    /// neither hint nor interest rules it out, and no layer vetoes it.
     ///
-    /// Where its level isn't above the hint, refused where its callsite is kept with other metadata (`CallsiteMismatch`), and for want
-    /// of memory where it isn't kept and none is held for one more; never under `fresh`.
+    /// Where its level isn't above the hint, refused where its callsite is cached with other
+    /// metadata (`CallsiteMismatch`), and for want of memory where it isn't cached and none is held
+    /// for one more; never refused under `fresh`.
     pub fn enabled(&mut self, lane: Lane, meta: &Metadata) -> Result<bool, TraceError>
         requires { S.usable (stack_of self.old) }
         ensures stack { SameStack self.old self.new }
@@ -177,8 +182,9 @@ impl<S: Subscriber> Dispatch<S> {
         self.admits(lane, meta, None, &mut pass)
     }
 
-    /// A callsite, registered: its interest is kept, and asked for if it wasn't, unless its level is above the hint or nothing
-    /// is ever kept. `new_span_by` and `event_by` then find it with no search, until what is kept is forgotten.
+    /// Registers a callsite: the stack is asked for its interest in it, which is cached, unless it
+    /// was cached before, the level is above the hint or the dispatcher caches nothing.
+    /// `new_span_by` and `event_by` then find it with no search, until the cache is forgotten.
     ///
     /// Refused as `enabled` is.
     pub fn register_callsite(&mut self, meta: &Metadata) -> Result<Registration, TraceError>
@@ -196,10 +202,12 @@ impl<S: Subscriber> Dispatch<S> {
         }
     }
 
-    /// Memory for so many callsites more is held then: that many that aren't kept yet are kept with no need of more. Under `fresh`
-    /// nothing happens. Where no hint was read yet, it is read, as by a first request.
+    /// Holds memory for so many callsites more: that many that aren't cached yet are then cached
+    /// with no need of more. Under `fresh` nothing happens. Where no hint was read yet, it is read,
+    /// as by a first request.
     ///
-    /// What `set_level` and `stack_mut` forget is forgotten with its memory, which is then to be reserved anew.
+    /// What `set_level` and `stack_mut` forget is forgotten with its memory, which is then to be
+    /// reserved anew.
     ///
     /// Refused for want of memory alone, where it isn't held already.
     ///
@@ -214,8 +222,8 @@ impl<S: Subscriber> Dispatch<S> {
         self.cache.reserve(self.alloc, &self.stack, callsites)
     }
 
-    /// Opens a span with one handle and notifies of it, unless hint or interest rule it out or a layer vetoes it: then it answers
-    /// none, and the stack stays as it is.
+    /// Opens a span with one handle and notifies of it, unless hint or interest rule it out or a
+    /// layer vetoes it: then the answer is none, and the stack is unchanged.
     ///
     /// Refused as `enabled` is, else as `Subscriber::new_span` is.
     #[inline(always)]
@@ -230,7 +238,7 @@ impl<S: Subscriber> Dispatch<S> {
         self.open(lane, attrs, None, &mut pass)
     }
 
-    /// The same of a callsite that this dispatcher registered.
+    /// Opens a span as `new_span` does, for a callsite that this dispatcher registered.
     #[inline(always)]
     pub fn new_span_by(
         &mut self,
@@ -251,8 +259,8 @@ impl<S: Subscriber> Dispatch<S> {
         self.open(lane, attrs, kept, &mut pass)
     }
 
-    /// Opens a span as `new_span` does, with a new pass of the caller's. Where one is made, the filters that refuse it in the pass
-    /// are its verdict.
+    /// Opens a span as `new_span` does, with a new pass of the caller's. Where one is made, the
+    /// filters that refuse it in the pass are its verdict.
     ///
     /// Own to this port.
     #[inline(always)]
@@ -273,7 +281,7 @@ impl<S: Subscriber> Dispatch<S> {
         self.open(lane, attrs, None, pass)
     }
 
-    /// The same where an interest may be given as it is kept.
+    /// Opens a span as `new_span_with` does. `kept`, if given, is the cached interest.
     #[inline(always)]
     fn open(
         &mut self,
@@ -301,8 +309,8 @@ impl<S: Subscriber> Dispatch<S> {
         }
     }
 
-    /// Notifies of an event, unless hint or interest rule it out or a layer vetoes it: then it answers false. Refused as `enabled`
-    /// is.
+    /// Notifies of an event, unless hint or interest rule it out or a layer vetoes it: then the
+    /// answer is false. Refused as `enabled` is.
     #[inline(always)]
     pub fn event(&mut self, lane: Lane, event: &Event<'_>) -> Result<bool, TraceError>
         requires { S.usable (stack_of self.old) }
@@ -314,7 +322,7 @@ impl<S: Subscriber> Dispatch<S> {
         self.send(lane, event, None)
     }
 
-    /// The same of a callsite that this dispatcher registered.
+    /// Notifies of an event as `event` does, for a callsite that this dispatcher registered.
     #[inline(always)]
     pub fn event_by(
         &mut self,
@@ -334,7 +342,7 @@ impl<S: Subscriber> Dispatch<S> {
         self.send(lane, event, kept)
     }
 
-    /// The same where an interest may be given as it is kept.
+    /// Notifies of an event as `event` does. `kept`, if given, is the cached interest.
     #[inline(always)]
     fn send(
         &mut self,
@@ -363,7 +371,8 @@ impl<S: Subscriber> Dispatch<S> {
         }
     }
 
-    /// Enters a span, and notifies of that. Refused where it isn't open (`UnknownSpan`), else for want of memory.
+    /// Enters a span, and notifies of that. Refused where it isn't open (`UnknownSpan`), else for
+    /// want of memory.
     pub fn enter(&mut self, lane: Lane, id: Id) -> Result<(), TraceError>
         requires { S.usable (stack_of self.old) }
         ensures usable { S.usable (stack_of self.new) }
@@ -373,7 +382,8 @@ impl<S: Subscriber> Dispatch<S> {
         self.stack.enter(lane, id)
     }
 
-    /// Leaves a span, and notifies of that. Where it isn't open, the lane leaves it and no layer is notified.
+    /// Leaves a span, and notifies of that. Where it isn't open, the lane leaves it and no layer is
+    /// notified.
     pub fn exit(&mut self, lane: Lane, id: Id)
         requires { S.usable (stack_of self.old) }
         ensures usable { S.usable (stack_of self.new) }
@@ -387,7 +397,8 @@ impl<S: Subscriber> Dispatch<S> {
         self.stack.root_mut().exit(lane, id);
     }
 
-    /// Notifies of values that a span was given later. Refused where it isn't open (`UnknownSpan`).
+    /// Notifies of values that a span was given later. Refused where the span isn't open
+    /// (`UnknownSpan`).
     pub fn record(&mut self, lane: Lane, id: Id, values: &Record<'_>) -> Result<(), TraceError>
         requires { S.usable (stack_of self.old) }
         ensures usable { S.usable (stack_of self.new) }
@@ -401,7 +412,8 @@ impl<S: Subscriber> Dispatch<S> {
         Ok(())
     }
 
-    /// Notifies that the first span follows from the second. Refused where the first isn't open (`UnknownSpan`).
+    /// Notifies that the first span follows from the second. Refused where the first isn't open
+    /// (`UnknownSpan`).
     pub fn follows_from(&mut self, lane: Lane, id: Id, follows: Id) -> Result<(), TraceError>
         requires { S.usable (stack_of self.old) }
         ensures usable { S.usable (stack_of self.new) }
@@ -416,7 +428,7 @@ impl<S: Subscriber> Dispatch<S> {
         Ok(())
     }
 
-    /// Adds a handle, and answers the same id. Refused as `Subscriber::clone_span` is.
+    /// Adds a handle to a span, and answers its id. Refused as `Subscriber::clone_span` is.
     pub fn clone_span(&mut self, lane: Lane, id: Id) -> Result<Id, TraceError>
         requires { S.usable (stack_of self.old) }
         ensures usable { S.usable (stack_of self.new) }
@@ -427,8 +439,8 @@ impl<S: Subscriber> Dispatch<S> {
         self.stack.clone_span(lane, id)
     }
 
-    /// Takes a handle away. All that closes by that is taken out, a child before its parent, and each is notified of before it
-    /// is gone. Answers whether the span closed.
+    /// Takes a handle from a span. All that closes by that is taken out, a child before its parent,
+    /// and layers are notified of each close before. Answers whether the span closed.
     ///
     /// Refused where the span isn't open (`UnknownSpan`), else where it has no handle (`NoHandle`).
     pub fn drop_span(&mut self, lane: Lane, id: Id) -> Result<bool, TraceError>
@@ -447,10 +459,11 @@ impl<S: Subscriber> Dispatch<S> {
         }
     }
 
-    /// Sets the level of the filter with this number. Its kept hint and interests are forgotten; open spans keep their verdicts, and
-    /// no layer is notified.
+    /// Sets the level of the filter with this number. The cached hint and interests are forgotten;
+    /// open spans keep their verdicts, and no layer is notified.
     ///
-    /// Refused where no attached filter has the number, or the one that has it takes no level (`NotSettable`).
+    /// Refused where no attached filter has the number, or the one that has it takes no level
+    /// (`NotSettable`).
     ///
     /// Own to this port.
     pub fn set_level(&mut self, number: u32, level: LevelFilter) -> Result<(), TraceError>
@@ -477,7 +490,7 @@ impl<S: Subscriber> Dispatch<S> {
     }
 }
 
-/// Notifies of a closing span and takes it out, and then does so with each parent that closes by that.
+/// Notifies of a closing span and takes it out, and then each parent that closes by that.
 fn close_all<S: Subscriber>(stack: &mut S, lane: Lane, id: Id)
     requires usable { S.usable stack.old }
     requires closing { IsClosing (S.registry stack.old).store.spans (number_of id) }

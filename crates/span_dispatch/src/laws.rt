@@ -5,14 +5,15 @@ ghost use Rattle.std.specs.Prelude.{List};
 
 use span_registry::Subscriber;
 
-/// Of whatever is made of an honest stack, each leaf goes through just what its path passes, in order; and where only plain
-/// filters stand round it, that is what it would go through alone.
+/// Of whatever is made of an honest stack, each leaf is notified of just what its path passes, in
+/// order; and where only plain filters stand round it, of what it would be notified of if it stood
+/// alone.
 pub fn leaves_see_what_their_paths_pass<S: Subscriber>()
     ensures { SeesWhatIsMade S.Subscriber }
 {}
 
-/// Of a span that opened under a form, a path passes the close exactly if it passed the span, by that form or any that keeps
-/// its rules, also where levels were set between.
+/// A path passes a span's close exactly if it passed the span, by the form that the span opened
+/// under or any that keeps its rules, also where levels were set between.
 pub fn a_close_is_told_to_whom_the_span_was()
     ensures { ClosesAsItOpened }
 {}

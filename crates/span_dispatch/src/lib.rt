@@ -5,7 +5,7 @@ mod cache;
 mod call;
 mod dispatch;
 pub mod laws;
-mod notice;
+mod recorded;
 mod recorder;
 mod registration;
 mod request;
@@ -13,7 +13,7 @@ mod serve;
 
 pub use call::Call;
 pub use dispatch::Dispatch;
-pub use notice::Notice;
+pub use recorded::Recorded;
 pub use recorder::Recorder;
 pub use registration::Registration;
 pub use request::{Answer, Request, Which, WhichParent};

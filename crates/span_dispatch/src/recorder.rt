@@ -1,28 +1,30 @@
 //! A layer that keeps what it is notified of.
 ghost use Rattle.std.specs.Prelude.{◌≡◌, ◌∷◌, [], true};
 ghost use Rattle.span_dispatch.specs.Recorder.{Records, new_recorder, recorder_steps};
-ghost use Rattle.span_dispatch.specs.RecorderLaws.{recorder_laws};
+ghost use Rattle.span_dispatch.specs.laws.Recorder.{recorder_laws};
 ghost use Rattle.span_layers.specs.Acts.{LeafActs};
-ghost use Rattle.span_layers.specs.ActsKept.{is_leaf, leaf_path_laws};
+ghost use Rattle.span_layers.specs.laws.Leaf.{is_leaf};
+ghost use Rattle.span_layers.specs.laws.Path.{leaf_path_laws};
 ghost use Rattle.span_layers.specs.Layer.{HearsBy};
-ghost use Rattle.span_layers.specs.Levels.{leaf_levels};
+ghost use Rattle.span_layers.specs.laws.Level.{leaf_levels};
 ghost use Rattle.span_layers.specs.Observe.{open_answers};
 ghost use Rattle.span_registry.specs.Form.{Leaf};
 ghost use Rattle.span_registry.specs.Levels.{unlevelled};
 
-use crate::notice::Notice;
-use span_core::{Attributes, Event, Id, Interest, LevelFilter, Metadata, Pass, Record};
+use crate::recorded::Recorded;
+use span_core::{Event, Interest, LevelFilter, Metadata, Pass};
 use span_layers::{AlwaysUsableLayer, Layer};
-use span_registry::{Context, ContextMut, Subscriber};
+use span_registry::{Context, ContextMut, Notice, Subscriber};
 use std::alloc::Global;
 use std::marker::Model;
 
-/// A layer that wants everything, and keeps a notice of each hook, up to the first that found no memory.
+/// A layer that enables everything, and keeps a notice of each hook, up to the first that found no
+/// memory.
 ///
 /// Own to this port.
 #[derive(Debug)]
 pub struct Recorder {
-    notices: Vec<Notice>,
+    notices: Vec<Recorded>,
     failed: bool,
 }
 
@@ -56,14 +58,14 @@ impl Recorder {
         }
     }
 
-    /// What it keeps, in the order in which it was notified.
-    pub fn notices(&self) -> &[Notice]
+    /// The notices that the recorder keeps, in the order in which it was notified.
+    pub fn notices(&self) -> &[Recorded]
         ensures { result.now ≡ self.now.notices }
     {
         &self.notices
     }
 
-    /// It found no memory for a notice, and has kept nothing since.
+    /// Whether the recorder found no memory for a notice, and so has kept nothing since.
     pub fn failed(&self) -> bool
         ensures { result ≡ self.now.failed }
     {
@@ -71,7 +73,7 @@ impl Recorder {
     }
 
     /// Keeps a notice, if there is memory for it.
-    fn keep(&mut self, notice: Notice)
+    fn keep(&mut self, notice: Recorded)
         ensures { Records self.old self.new (notice ∷ []) }
     {
         if self.failed {
@@ -145,36 +147,8 @@ impl<S: Subscriber> Layer<S> for Recorder {
         false // It is there.
     }
 
-    fn on_new_span(&mut self, _attrs: &Attributes<'_>, id: Id, ctx: &mut ContextMut<'_, S>) {
-        self.keep(Notice::New(ctx.lane(), id));
-    }
-
-    fn on_record(&mut self, id: Id, _values: &Record<'_>, ctx: &mut ContextMut<'_, S>) {
-        self.keep(Notice::Record(ctx.lane(), id));
-    }
-
-    fn on_follows_from(&mut self, id: Id, follows: Id, ctx: &mut ContextMut<'_, S>) {
-        self.keep(Notice::Follows(ctx.lane(), id, follows));
-    }
-
-    fn on_event(&mut self, event: &Event<'_>, ctx: &mut ContextMut<'_, S>) {
-        self.keep(Notice::Event(ctx.lane(), event.metadata().callsite()));
-    }
-
-    fn on_enter(&mut self, id: Id, ctx: &mut ContextMut<'_, S>) {
-        self.keep(Notice::Enter(ctx.lane(), id));
-    }
-
-    fn on_exit(&mut self, id: Id, ctx: &mut ContextMut<'_, S>) {
-        self.keep(Notice::Exit(ctx.lane(), id));
-    }
-
-    fn on_id_change(&mut self, id: Id, new: Id, ctx: &mut ContextMut<'_, S>) {
-        self.keep(Notice::IdChange(ctx.lane(), id, new));
-    }
-
-    fn on_close(&mut self, id: Id, ctx: &mut ContextMut<'_, S>) {
-        self.keep(Notice::Close(ctx.lane(), id));
+    fn notify(&mut self, notice: Notice<'_, '_>, ctx: &mut ContextMut<'_, S>) {
+        self.keep(Recorded::of(ctx.lane(), notice));
     }
 }
 

@@ -4,12 +4,12 @@ ghost use Rattle.span_dispatch.specs.Registration.{IsKeptIn, interest_in, next_e
 
 use span_core::{Interest, Metadata};
 
-/// How often a dispatcher forgot what it kept. The last epoch never ends.
+/// How often a dispatcher forgot what it cached. The last epoch never ends.
 #[derive(Clone, Copy, Debug, PartialEq, Eq)]
 pub(crate) struct Epoch(u64);
 
 impl Epoch {
-    /// Nothing was forgotten yet.
+    /// The epoch in which nothing was forgotten yet.
     pub(crate) fn first() -> Epoch {
         Epoch(0)
     }
@@ -22,16 +22,18 @@ impl Epoch {
     }
 }
 
-/// A callsite that a dispatcher was asked of: by it the dispatcher finds the interest that it keeps with no search.
+/// A callsite that a dispatcher was asked of: by it the dispatcher finds its cached interest with
+/// no search.
 ///
-/// Stands for `tracing_core::callsite::Registration`. It is one dispatcher's own, and a value that is copied.
+/// Stands for `tracing_core::callsite::Registration`. Each is one dispatcher's own, and a value
+/// that is copied.
 #[derive(Clone, Copy, Debug)]
 pub struct Registration {
     metadata: Metadata,
     kept: Option<Kept>,
 }
 
-/// An interest, and the epoch in which it is kept.
+/// An interest, and the epoch in which it is cached.
 #[derive(Clone, Copy, Debug)]
 struct Kept {
     interest: Interest,
@@ -39,7 +41,7 @@ struct Kept {
 }
 
 impl Registration {
-    /// A callsite with these metadata, of which this interest is kept in this epoch.
+    /// A registration of these metadata, with the interest that is cached in this epoch, if any.
     pub(crate) fn new(metadata: Metadata, interest: Option<Interest>, epoch: Epoch) -> Registration
         ensures metadata { registered_metadata result ≡ metadata }
         ensures kept { IfSome result.kept (IsKeptIn epoch interest) }
@@ -51,14 +53,14 @@ impl Registration {
         Registration { metadata, kept }
     }
 
-    /// What its spans or events say of themselves.
+    /// What the callsite's spans or events say of themselves.
     pub fn metadata(&self) -> Metadata
         ensures { result ≡ registered_metadata self.now }
     {
         self.metadata
     }
 
-    /// The interest that is kept of it in this epoch, if any is.
+    /// The callsite's interest that is cached in this epoch, if any.
     #[inline(always)]
     pub(crate) fn interest_in(&self, epoch: Epoch) -> Option<Interest>
         ensures { result ≡ interest_in epoch self.now }

@@ -19,12 +19,13 @@ pub enum Which {
     Known(Id),
     /// The span that the request at this place of the list made.
     ///
-    /// Where no earlier request at that place made one, the request is dropped, and as a parent it is a root.
+    /// Where no earlier request at that place made one, the request is dropped, and as a parent it
+    /// is a root.
     Made(usize),
 }
 
 impl Which {
-    /// The span that it names, where these are the answers so far.
+    /// The span that is named, given the answers so far.
     pub fn span_of(self, past: &[Answer]) -> Option<Id>
         ensures { result ≡ resolved past.now self }
     {
@@ -41,16 +42,16 @@ impl Which {
 /// The parent that a request for a new span or an event names.
 #[derive(Clone, Copy, Debug, PartialEq, Eq)]
 pub enum WhichParent {
-    /// None: it is a root.
+    /// No parent: a root.
     Root,
     /// The span that the lane is in.
     Contextual,
-    /// This span.
+    /// The span that is named.
     Explicit(Which),
 }
 
 impl WhichParent {
-    /// The parent that it asks for, where these are the answers so far.
+    /// The parent that is asked for, given the answers so far.
     pub fn parent_of(self, past: &[Answer]) -> Parent
         ensures { result ≡ resolved_parent past.now self }
     {
@@ -64,7 +65,7 @@ impl WhichParent {
         }
     }
 
-    /// What a new span with this parent is made of, where these are the answers so far.
+    /// The attributes of a new span with this parent, given the answers so far.
     pub fn attributes<'a>(
         self,
         past: &[Answer],
@@ -84,7 +85,7 @@ impl WhichParent {
         }
     }
 
-    /// What an event with this parent is made of, where these are the answers so far.
+    /// An event with this parent, given the answers so far.
     pub fn event<'a>(
         self,
         past: &[Answer],
@@ -104,52 +105,54 @@ impl WhichParent {
     }
 }
 
-/// One request of a list. Values stand by the names of their fields, and are handed on to hooks as they are.
+/// One request of a list. Values stand by the names of their fields, and are handed on to hooks as
+/// they are.
 #[derive(Clone, Copy, Debug)]
 pub enum Request<'a> {
-    /// A new span.
+    /// To open a span.
     NewSpan(Lane, Metadata, WhichParent, &'a [(&'static str, FieldValue<'a>)]),
-    /// An event.
+    /// To send an event.
     Event(Lane, Metadata, WhichParent, &'a [(&'static str, FieldValue<'a>)]),
-    /// The lane enters the span.
+    /// To let the lane enter the span.
     Enter(Lane, Which),
-    /// The lane leaves the span.
+    /// To let the lane leave the span.
     Exit(Lane, Which),
-    /// Values are recorded of the span.
+    /// To record values of the span.
     Record(Lane, Which, &'a [(&'static str, FieldValue<'a>)]),
-    /// The first span follows from the second.
+    /// To record that the first span follows from the second.
     Follows(Lane, Which, Which),
-    /// One handle more of the span is made.
+    /// To add a handle to the span.
     Clone(Lane, Which),
-    /// One handle of the span is dropped.
+    /// To drop a handle of the span.
     Drop(Lane, Which),
     /// Whether a span or an event with this metadata would be made.
     Enabled(Lane, Metadata),
     /// Which span the lane is in.
     Current(Lane),
-    /// The level of the filter with this number is set.
+    /// To set the level of the filter with this number.
     SetLevel(u32, LevelFilter),
 }
 
-/// What a request is answered.
+/// The answer to a request.
 #[derive(Clone, Copy, Debug, PartialEq, Eq)]
 pub enum Answer {
-    /// The new span's id.
+    /// A span was made, with this id.
     Made(Id),
-    /// Hint or interest ruled the new span or the event out, or a layer vetoed it; or the request names no span, and nothing was asked.
+    /// The new span or the event was dropped, since hint or interest ruled it out or a layer vetoed
+    /// it; or the request names no span, and nothing was asked.
     Dropped,
-    /// It is done.
+    /// The request was served, and there is no more to say.
     Done,
-    /// Whether it would be made; or whether the span closed by it.
+    /// Whether the span or the event would be made; or whether the span closed by the drop.
     Yes(bool),
     /// The span that the lane is in, if it is in one.
     Current(Option<Id>),
-    /// It is refused, and changed nothing.
+    /// The request was refused, and changed nothing.
     Refused(TraceError),
 }
 
 impl Answer {
-    /// The answer to a new span.
+    /// The answer for what opening a span gave.
     pub fn of_span(made: Result<Option<Id>, TraceError>) -> Answer
         ensures { result ≡ span_answer made }
     {
@@ -160,7 +163,7 @@ impl Answer {
         }
     }
 
-    /// The answer to an event.
+    /// The answer for what sending an event gave.
     pub fn of_event(made: Result<bool, TraceError>) -> Answer
         ensures { result ≡ event_answer made }
     {
@@ -171,7 +174,7 @@ impl Answer {
         }
     }
 
-    /// The answer to what gives nothing but a refusal.
+    /// The answer for what gives nothing but a refusal.
     pub fn of_done(done: Result<(), TraceError>) -> Answer
         ensures { result ≡ done_answer done }
     {
@@ -181,7 +184,7 @@ impl Answer {
         }
     }
 
-    /// The answer to a clone.
+    /// The answer for what cloning a handle gave.
     pub fn of_clone(cloned: Result<Id, TraceError>) -> Answer
         ensures { result ≡ done_answer cloned }
     {
@@ -191,7 +194,7 @@ impl Answer {
         }
     }
 
-    /// The answer to what gives a truth value.
+    /// The answer for what gives a truth value.
     pub fn of_yes(said: Result<bool, TraceError>) -> Answer
         ensures { result ≡ yes_answer said }
     {
@@ -201,14 +204,14 @@ impl Answer {
         }
     }
 
-    /// The answer to a look at the span that a lane is in.
+    /// The answer for the span that a lane was shown to be in.
     pub fn of_current(current: Current) -> Answer
         ensures { result ≡ current_answer current }
     {
         Answer::Current(current.id())
     }
 
-    /// Of a look that may be refused.
+    /// The answer for a look at a lane's span that may be refused.
     pub fn of_look(shown: Result<Current, TraceError>) -> Answer
         ensures { result ≡ look_answer shown }
     {

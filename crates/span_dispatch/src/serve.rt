@@ -13,7 +13,8 @@ use span_registry::{LookupSpan, Subscriber, laws};
 use std::alloc::Global;
 
 impl<S: Subscriber> Dispatch<S> {
-    /// Serves requests in order, with one answer for each. Refused for want of memory before anything is served.
+    /// Serves requests in order, with one answer for each. Refused for want of memory, before any
+    /// is served.
     ///
     /// Own to this port.
     pub fn serve(
@@ -34,7 +35,8 @@ impl<S: Subscriber> Dispatch<S> {
         Ok(answers)
     }
 
-    /// Serves requests in order, where there is room for the answers: these take the place of what is there. It is never refused.
+    /// Serves requests in order, where `answers` has room: their answers take the place of what is
+    /// there. Never refused.
     ///
     /// Own to this port.
     pub fn serve_into(&mut self, requests: &[Request<'_>], answers: &mut Vec<Answer>)
@@ -55,7 +57,7 @@ impl<S: Subscriber> Dispatch<S> {
         }
     }
 
-    /// One request, where these are the answers so far.
+    /// Serves one request, given the answers so far.
     fn serve_one(&mut self, past: &[Answer], request: &Request<'_>) -> Answer
         requires { S.usable (stack_of self.old) }
         ensures usable { S.usable (stack_of self.new) }
@@ -71,8 +73,8 @@ impl<S: Subscriber> Dispatch<S> {
         }
     }
 
-    /// Asks this, whatever it is, as the call of its kind does. It promises the same, but that `ready` says of a form's rules alone that
-    /// they stay.
+    /// Serves a call as the method of its kind does. What that promises holds, but that `ready`
+    /// says of a form's rules alone that they stay.
     ///
     /// Own to this port.
     pub fn ask(&mut self, call: &Call<'_>) -> Answer
@@ -106,7 +108,7 @@ impl<S: Subscriber> Dispatch<S> {
     }
 }
 
-/// Appends an answer where there is room.
+/// Appends an answer, where there is room.
 fn append(answers: &mut Vec<Answer>, answer: Answer)
     requires { vec_len answers.old < vec_capacity answers.old }
     ensures items { answers.new.items ≡ answers.old.items ++ answer ∷ [] }

@@ -5,10 +5,10 @@ use Rattle.span_core.specs.Metadata.{kind_of}
 use Rattle.span_core.specs.declared.metadata.Makes.{Makes}
 use Rattle.span_core.specs.declared.metadata.Makes.TheVariants.{Spans, Events}
 use Rattle.span_core.specs.declared.metadata.Metadata.{Metadata}
-use Rattle.span_registry.specs.Extensions.{Place, value_under}
+use Rattle.span_extensions.specs.Extensions.{Place, value_under}
+use Rattle.span_extensions.specs.declared.extensions.ExtensionMap.{ExtensionMap}
+use Rattle.span_extensions.specs.declared.tag.Tag.{Tag}
 use Rattle.span_registry.specs.View.{View, current_shown, extensions_shown}
-use Rattle.span_registry.specs.declared.extensions.ExtensionMap.{ExtensionMap}
-use Rattle.span_registry.specs.declared.tag.Tag.{Tag}
 
 -- whether this makes spans
 abbrev pub makes_spans : Makes → Bool

@@ -5,7 +5,7 @@ use crate::requests::{
     AsLayer, AsLayers, Keeping, UnderOne, event, keeps, made, new_span, put_in_use, serve,
 };
 use span_core::{Event, Id, Kind, Level, LevelFilter, Metadata, TraceError};
-use span_dispatch::{Answer, Dispatch, Notice, Recorder, Request, Which, WhichParent};
+use span_dispatch::{Answer, Dispatch, Recorded, Recorder, Request, Which, WhichParent};
 use span_filters::{Filter, filter_fn};
 use span_layer_tests::fixture::{LANE, metadata_of, put};
 use span_layers::{Filtered, Layer, LayerExt, Layered};
@@ -146,7 +146,7 @@ fn keeps_none<S: Subscriber + Drop + AsLayer<Recorder>, L: Layer<S> + Drop + AsL
     serve_events(alloc, &mut dispatch, 3)?;
     let stack = dispatch.stack();
     keeps(rt, stack.as_outer(), &[]);
-    let notice = Notice::Event(LANE, 5);
+    let notice = Recorded::Event(LANE, 5);
     keeps(rt, stack.as_inner(), &[notice, notice, notice]);
     Ok(())
 }
@@ -222,7 +222,7 @@ fn sends_around_a_change<S: Levels + AsLayer<Recorder>>(rt: &impl Abort, dispatc
     let before = sent_under(dispatch);
     change_levels(dispatch, LevelFilter::INFO);
     let after = sent_under(dispatch);
-    keeps(rt, dispatch.stack().as_layer(), &[Notice::Event(LANE, 5)]);
+    keeps(rt, dispatch.stack().as_layer(), &[Recorded::Event(LANE, 5)]);
     assert!(rt;
         [before, after]
             == [
@@ -326,7 +326,7 @@ fn keeps_info_under<S: Subscriber + Drop, L: Layer<S> + Drop + AsLayer<Recorder>
 {
     let mut dispatch = put_in_use(alloc, stack, layer, Keeping::Answers)?;
     answers_each_level(rt, alloc, &mut dispatch)?;
-    let twice = [Notice::Event(LANE, 5), Notice::Event(LANE, 5)];
+    let twice = [Recorded::Event(LANE, 5), Recorded::Event(LANE, 5)];
     keeps(rt, dispatch.stack().as_layer(), &twice);
     Ok(())
 }
@@ -373,13 +373,13 @@ fn rest_of(span: Id) -> [Request<'static>; 3] {
 }
 
 /// What a recorder keeps that begins under INFO, and is under DEBUG for the rest.
-fn kept_over_a_change(span: Id) -> [Notice; 5] {
+fn kept_over_a_change(span: Id) -> [Recorded; 5] {
     [
-        Notice::New(LANE, span),
-        Notice::Enter(LANE, span),
-        Notice::Event(LANE, 8),
-        Notice::Exit(LANE, span),
-        Notice::Close(LANE, span),
+        Recorded::New(LANE, span),
+        Recorded::Enter(LANE, span),
+        Recorded::Event(LANE, 8),
+        Recorded::Exit(LANE, span),
+        Recorded::Close(LANE, span),
     ]
 }
 
@@ -469,7 +469,7 @@ fn sends_the_first_level<S: Subscriber + AsLayer<Recorder>>(
     requires { S.usable (stack_of dispatch.old) }
 {
     let sent = send_two_levels(dispatch);
-    keeps(rt, dispatch.stack().as_layer(), &[Notice::Event(LANE, 5)]);
+    keeps(rt, dispatch.stack().as_layer(), &[Recorded::Event(LANE, 5)]);
     assert!(rt; sent == [Ok(true), Err(TraceError::CallsiteMismatch)]);
 }
 

@@ -6,7 +6,7 @@ use crate::requests::{
     within,
 };
 use span_core::{Attributes, Event, Id, Kind, Lane, Level, Metadata, Record, TraceError};
-use span_dispatch::{Answer, Dispatch, Notice, Recorder, Request, Which, WhichParent};
+use span_dispatch::{Answer, Dispatch, Recorded, Recorder, Request, Which, WhichParent};
 use span_layer_tests::fixture::{LANE, metadata_of};
 use span_layers::Layer;
 use span_registry::{Context, LookupSpan, Registry, Subscriber};
@@ -103,7 +103,7 @@ fn tells_of_one_span<S: Subscriber + Drop, L: Layer<S> + Drop + AsLayer<Recorder
     keeps(
         rt,
         recorder,
-        &[Notice::New(LANE, id), Notice::Close(LANE, id)],
+        &[Recorded::New(LANE, id), Recorded::Close(LANE, id)],
     );
     assert!(rt; !recorder.failed());
     Ok(())
@@ -182,10 +182,10 @@ fn tells_of_places<S: Subscriber + Drop, L: Layer<S> + Drop + AsLayer<Recorder>>
     let mut dispatch = put_in_use(alloc, stack, layer, Keeping::Nothing)?;
     let [root, child, other] = serves_by_places(rt, alloc, &mut dispatch)?;
     let notices = [
-        Notice::New(LANE, root),
-        Notice::New(LANE, child),
-        Notice::Event(LANE, 7),
-        Notice::New(LANE, other),
+        Recorded::New(LANE, root),
+        Recorded::New(LANE, child),
+        Recorded::Event(LANE, 7),
+        Recorded::New(LANE, other),
     ];
     keeps(rt, dispatch.stack().as_layer(), &notices);
     Ok(())
@@ -264,12 +264,12 @@ fn tells_in_order<S: Subscriber + Drop, L: Layer<S> + Drop + AsLayer<Recorder>>(
     let never = Id::from_u64(0);
     let id = answers_in_order(rt, alloc, &mut dispatch, never)?;
     let notices = [
-        Notice::New(LANE, id),
-        Notice::Enter(LANE, id),
-        Notice::Record(LANE, id),
-        Notice::Follows(LANE, id, never),
-        Notice::Exit(LANE, id),
-        Notice::Close(LANE, id),
+        Recorded::New(LANE, id),
+        Recorded::Enter(LANE, id),
+        Recorded::Record(LANE, id),
+        Recorded::Follows(LANE, id, never),
+        Recorded::Exit(LANE, id),
+        Recorded::Close(LANE, id),
     ];
     keeps(rt, dispatch.stack().as_layer(), &notices);
     Ok(())
@@ -338,11 +338,11 @@ fn knows_open_spans_alone<S: Subscriber + Drop, L: Layer<S> + Drop + AsLayer<Rec
     let mut dispatch = put_in_use(alloc, stack, layer, kept)?;
     let closed = refuses_all_unknown(rt, &mut dispatch)?;
     let notices = [
-        Notice::New(LANE, closed),
-        Notice::Close(LANE, closed),
-        Notice::Event(LANE, 7),
-        Notice::Event(LANE, 7),
-        Notice::Event(LANE, 7),
+        Recorded::New(LANE, closed),
+        Recorded::Close(LANE, closed),
+        Recorded::Event(LANE, 7),
+        Recorded::Event(LANE, 7),
+        Recorded::Event(LANE, 7),
     ];
     keeps(rt, dispatch.stack().as_layer(), &notices);
     Ok(())
@@ -465,10 +465,10 @@ fn send_in_span_at_last<S: Subscriber + AsLayer<Recorder>>(
 /// memory for.
 fn keeps_what_fits(rt: &impl Abort, recorder: &Recorder, id: Id) {
     let told = [
-        Notice::New(LANE, id),
-        Notice::Enter(LANE, id),
-        Notice::Event(LANE, 7),
-        Notice::Close(LANE, id),
+        Recorded::New(LANE, id),
+        Recorded::Enter(LANE, id),
+        Recorded::Event(LANE, 7),
+        Recorded::Close(LANE, id),
     ];
     assert!(rt; told.as_slice().starts_with(recorder.notices()));
     assert!(rt; recorder.failed() == (recorder.notices().len() < 4));
@@ -552,7 +552,7 @@ fn a_refused_interest_changes_nothing(rt: HostRuntime) -> Result<(), Fail> {
 
 /// A recorder and a registry have this span alone.
 fn have_one_span(rt: &impl Abort, recorder: &Recorder, registry: &Registry, id: Id) {
-    let kept = [Notice::New(LANE, id)];
+    let kept = [Recorded::New(LANE, id)];
     assert!(rt; (registry.is_open(id), recorder.notices()) == (true, kept.as_slice()));
 }
 

@@ -8,11 +8,13 @@ use crate::requests::{
     AsLayer, AsLayers, Keeping, event, keeps, made, new_span, put_in_use, serve, within,
 };
 use span_core::{Id, Level, LevelFilter, Metadata};
-use span_dispatch::{Dispatch, Notice, Recorder, Request, Which, WhichParent};
+use span_dispatch::{Dispatch, Recorded, Recorder, Request, Which, WhichParent};
 use span_filters::{FunctionIn, dynamic_filter_fn};
 use span_layer_tests::fixture::{LANE, put};
-use span_layers::{Layer, LayerExt, Observe, Observed, Observer};
-use span_registry::{Context, ContextMut, ExtensionValue, LookupSpan, Registry, Subscriber, Tag};
+use span_layers::{Layer, LayerExt, Observe, Observer};
+use span_registry::{
+    Context, ContextMut, ExtensionValue, LookupSpan, Notice, Registry, Subscriber, Tag,
+};
 use std::alloc::Global;
 use std::process::Abort;
 use std::test::Fail;
@@ -42,42 +44,42 @@ fn requests() -> [Request<'static>; 17] {
 }
 
 /// What A is notified of: what INFO passes.
-fn due_to_a(p: Id, r: Id) -> [Notice; 11] {
+fn due_to_a(p: Id, r: Id) -> [Recorded; 11] {
     [
-        Notice::New(LANE, p),
-        Notice::New(LANE, r),
-        Notice::Enter(LANE, p),
-        Notice::Enter(LANE, r),
-        Notice::Event(LANE, 5),
-        Notice::Event(LANE, 6),
-        Notice::Event(LANE, 7),
-        Notice::Exit(LANE, r),
-        Notice::Exit(LANE, p),
-        Notice::Close(LANE, r),
-        Notice::Close(LANE, p),
+        Recorded::New(LANE, p),
+        Recorded::New(LANE, r),
+        Recorded::Enter(LANE, p),
+        Recorded::Enter(LANE, r),
+        Recorded::Event(LANE, 5),
+        Recorded::Event(LANE, 6),
+        Recorded::Event(LANE, 7),
+        Recorded::Exit(LANE, r),
+        Recorded::Exit(LANE, p),
+        Recorded::Close(LANE, r),
+        Recorded::Close(LANE, p),
     ]
 }
 
 /// What B is notified of: everything.
-fn due_to_b(p: Id, q: Id, r: Id) -> [Notice; 17] {
+fn due_to_b(p: Id, q: Id, r: Id) -> [Recorded; 17] {
     [
-        Notice::New(LANE, p),
-        Notice::New(LANE, q),
-        Notice::New(LANE, r),
-        Notice::Enter(LANE, p),
-        Notice::Enter(LANE, q),
-        Notice::Enter(LANE, r),
-        Notice::Event(LANE, 5),
-        Notice::Event(LANE, 6),
-        Notice::Event(LANE, 7),
-        Notice::Event(LANE, 8),
-        Notice::Event(LANE, 9),
-        Notice::Exit(LANE, r),
-        Notice::Exit(LANE, q),
-        Notice::Exit(LANE, p),
-        Notice::Close(LANE, r),
-        Notice::Close(LANE, q),
-        Notice::Close(LANE, p),
+        Recorded::New(LANE, p),
+        Recorded::New(LANE, q),
+        Recorded::New(LANE, r),
+        Recorded::Enter(LANE, p),
+        Recorded::Enter(LANE, q),
+        Recorded::Enter(LANE, r),
+        Recorded::Event(LANE, 5),
+        Recorded::Event(LANE, 6),
+        Recorded::Event(LANE, 7),
+        Recorded::Event(LANE, 8),
+        Recorded::Event(LANE, 9),
+        Recorded::Exit(LANE, r),
+        Recorded::Exit(LANE, q),
+        Recorded::Exit(LANE, p),
+        Recorded::Close(LANE, r),
+        Recorded::Close(LANE, q),
+        Recorded::Close(LANE, p),
     ]
 }
 
@@ -206,8 +208,8 @@ pub(crate) struct SpanMarker {
 impl<S: Subscriber> Observe<S> for SpanMarker {
     ghost observed = { λ x e lane under v y w. ⊤ };
 
-    fn observe(&mut self, notice: Observed<'_, '_>, ctx: &mut ContextMut<'_, S>) {
-        if let Observed::NewSpan(_, id) = notice {
+    fn observe(&mut self, notice: Notice<'_, '_>, ctx: &mut ContextMut<'_, S>) {
+        if let Notice::NewSpan(_, id) = notice {
             if let Some(extensions) = ctx.extensions_mut(id) {
                 let _ = extensions.insert(self.mark, true);
             }
@@ -236,10 +238,10 @@ fn serve_one_span<S: Subscriber>(alloc: Global, dispatch: &mut Dispatch<S>) -> R
 
 /// A is notified of that span, and of the event in it too or not.
 fn told_of_one_span(rt: &impl Abort, recorder: &Recorder, p: Id, of_event: bool) {
-    let (new, enter) = (Notice::New(LANE, p), Notice::Enter(LANE, p));
-    let (exit, close) = (Notice::Exit(LANE, p), Notice::Close(LANE, p));
+    let (new, enter) = (Recorded::New(LANE, p), Recorded::Enter(LANE, p));
+    let (exit, close) = (Recorded::Exit(LANE, p), Recorded::Close(LANE, p));
     if of_event {
-        let event = Notice::Event(LANE, 5);
+        let event = Recorded::Event(LANE, 5);
         keeps(rt, recorder, &[new, enter, event, exit, close]);
     } else {
         keeps(rt, recorder, &[new, enter, exit, close]);

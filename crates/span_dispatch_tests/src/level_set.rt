@@ -6,7 +6,7 @@ use crate::requests::{
     AsLayer, AsLayers, Keeping, UnderOne, event, made, new_span, put_in_use, serve,
 };
 use span_core::{Id, Level, LevelFilter, Metadata, TraceError};
-use span_dispatch::{Answer, Dispatch, Notice, Recorder, Request, Which, WhichParent};
+use span_dispatch::{Answer, Dispatch, Recorded, Recorder, Request, Which, WhichParent};
 use span_filters::{Filter, filter_fn};
 use span_layer_tests::fixture::{LANE, put};
 use span_layers::{Layer, LayerExt, Layered};
@@ -52,7 +52,7 @@ fn raised_by_calls<S: Subscriber>(
 
 /// A recorder was told of one event.
 fn told_once(rt: &impl Abort, recorder: &Recorder) {
-    assert!(rt; recorder.notices() == [Notice::Event(LANE, 5)].as_slice());
+    assert!(rt; recorder.notices() == [Recorded::Event(LANE, 5)].as_slice());
 }
 
 /// A recorder under WARN is notified of the third of three events: by then its level is INFO.
@@ -299,12 +299,12 @@ fn told_of_its_own(rt: &impl Abort, recorder: &Recorder, [_, info, debug]: [Id; 
     assert!(rt;
         recorder.notices()
             == [
-                Notice::New(LANE, info),
-                Notice::New(LANE, debug),
-                Notice::Enter(LANE, info),
-                Notice::Exit(LANE, info),
-                Notice::Close(LANE, info),
-                Notice::Close(LANE, debug),
+                Recorded::New(LANE, info),
+                Recorded::New(LANE, debug),
+                Recorded::Enter(LANE, info),
+                Recorded::Exit(LANE, info),
+                Recorded::Close(LANE, info),
+                Recorded::Close(LANE, debug),
             ]
             .as_slice()
     );
@@ -315,17 +315,17 @@ fn told_of_all(rt: &impl Abort, recorder: &Recorder, [first, info, debug]: [Id; 
     assert!(rt;
         recorder.notices()
             == [
-                Notice::New(LANE, first),
-                Notice::New(LANE, info),
-                Notice::Enter(LANE, first),
-                Notice::New(LANE, debug),
-                Notice::Enter(LANE, info),
-                Notice::Event(LANE, 5),
-                Notice::Exit(LANE, info),
-                Notice::Exit(LANE, first),
-                Notice::Close(LANE, first),
-                Notice::Close(LANE, info),
-                Notice::Close(LANE, debug),
+                Recorded::New(LANE, first),
+                Recorded::New(LANE, info),
+                Recorded::Enter(LANE, first),
+                Recorded::New(LANE, debug),
+                Recorded::Enter(LANE, info),
+                Recorded::Event(LANE, 5),
+                Recorded::Exit(LANE, info),
+                Recorded::Exit(LANE, first),
+                Recorded::Close(LANE, first),
+                Recorded::Close(LANE, info),
+                Recorded::Close(LANE, debug),
             ]
             .as_slice()
     );

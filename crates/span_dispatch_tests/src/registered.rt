@@ -6,7 +6,7 @@ ghost use Rattle.span_dispatch.specs.Serve.{stack_of};
 
 use crate::requests::{AsLayer, Keeping, put_in_use};
 use span_core::{Attributes, Event, FieldSet, Kind, Level, LevelFilter, Metadata, TraceError};
-use span_dispatch::{Dispatch, Notice, Recorder, Registration};
+use span_dispatch::{Dispatch, Recorded, Recorder, Registration};
 use span_layer_tests::fixture::LANE;
 use span_layers::{Layer, LayerExt};
 use span_registry::{Registry, Subscriber};
@@ -72,8 +72,8 @@ fn sent_under_levels<S: Subscriber>(
 fn told_around_a_span(rt: &impl Abort, recorder: &Recorder) {
     let notices = recorder.notices();
     assert!(rt; notices.len() == 3);
-    assert!(rt; notices.first() == Some(&Notice::Event(LANE, 5)));
-    assert!(rt; notices.last() == Some(&Notice::Event(LANE, 5)));
+    assert!(rt; notices.first() == Some(&Recorded::Event(LANE, 5)));
+    assert!(rt; notices.last() == Some(&Recorded::Event(LANE, 5)));
 }
 
 /// A recorder under INFO is told of what passes its levels. While the level is WARN, an answer says that

@@ -3,7 +3,7 @@ ghost use Rattle.std.specs.Prelude.{IfOk};
 ghost use Rattle.span_dispatch.specs.Serve.{stack_of};
 
 use span_core::{Id, Kind, Level, LevelFilter, TraceError};
-use span_dispatch::{Answer, Dispatch, Notice, Recorder, Request, Which, WhichParent};
+use span_dispatch::{Answer, Dispatch, Recorded, Recorder, Request, Which, WhichParent};
 use span_layer_tests::fixture::{LANE, metadata_of, put};
 use span_layers::{Filtered, Layer, Layered};
 use span_registry::{Registry, Subscriber};
@@ -80,7 +80,7 @@ impl<T, L: AsLayer<T>, S: AsLayer<T>> AsLayers<T> for Layered<L, S> {
 }
 
 /// A recorder keeps these notices.
-pub(crate) fn keeps(rt: &impl Abort, recorder: &Recorder, notices: &[Notice]) {
+pub(crate) fn keeps(rt: &impl Abort, recorder: &Recorder, notices: &[Recorded]) {
     assert!(rt; recorder.notices() == notices);
 }
 

@@ -3,7 +3,7 @@ ghost use Rattle.span_dispatch.specs.Serve.{stack_of};
 
 use crate::requests::{AsLayer, Keeping, event, keeps, put_in_use, serve};
 use span_core::{Attributes, FilterId, Id, Kind, Level, LevelFilter, TraceError};
-use span_dispatch::{Answer, Dispatch, Notice, Recorder};
+use span_dispatch::{Answer, Dispatch, Recorded, Recorder};
 use span_layer_tests::fixture::{LANE, metadata_of, put};
 use span_layers::{Filtered, Layer, LayerExt, Layered};
 use span_registry::{LookupSpan, Registry, Subscriber};
@@ -45,7 +45,7 @@ fn serve_error<S: Subscriber>(
 
 /// The open recorder alone was told of the event.
 fn is_told_alone(open: &Recorder, closed: &Closed) -> bool {
-    let told = open.notices() == [Notice::Event(LANE, 1)].as_slice();
+    let told = open.notices() == [Recorded::Event(LANE, 1)].as_slice();
     let mut others = closed.iter();
     told && others.all(|layer| layer.inner().notices().is_empty())
 }
@@ -213,13 +213,13 @@ fn drop_chain<S: Subscriber>(
 }
 
 /// What a recorder is told of a chain whose leaf is dropped last.
-fn told_of(alloc: Global, chain: &[Id]) -> Result<Vec<Notice>, AllocError> {
+fn told_of(alloc: Global, chain: &[Id]) -> Result<Vec<Recorded>, AllocError> {
     let mut notices = Vec::new(alloc);
     for id in chain {
-        notices.push(Notice::New(LANE, *id))?;
+        notices.push(Recorded::New(LANE, *id))?;
     }
     for id in chain.iter().rev() {
-        notices.push(Notice::Close(LANE, *id))?;
+        notices.push(Recorded::Close(LANE, *id))?;
     }
     Ok(notices)
 }

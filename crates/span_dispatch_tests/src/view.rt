@@ -6,12 +6,12 @@ use crate::requests::{
     AsLayer, AsLayers, Keeping, Plain, event, made, new_event, new_span, put_in_use, serve, within,
 };
 use span_core::{Id, Level, LevelFilter, Metadata};
-use span_dispatch::{Dispatch, Notice, Recorder, Request, Which, WhichParent};
+use span_dispatch::{Dispatch, Recorded, Recorder, Request, Which, WhichParent};
 use span_filters::{Filter, dynamic_filter_fn};
 use span_layer_tests::fixture::{LANE, put};
 use span_layer_tests::watcher::{Seen, Watcher, new_watcher};
-use span_layers::{Layer, LayerExt, Layered, Observe, Observed, Observer};
-use span_registry::{Context, ContextMut, Registry, Scope, SpanRef, Subscriber};
+use span_layers::{Layer, LayerExt, Layered, Observe, Observer};
+use span_registry::{Context, ContextMut, Notice, Registry, Scope, SpanRef, Subscriber};
 use std::alloc::Global;
 use std::process::Abort;
 use std::test::Fail;
@@ -111,10 +111,10 @@ fn the_outer_span_alone(rt: &impl Abort, recorder: &Recorder, p: Id) {
     assert!(rt;
         recorder.notices()
             == [
-                Notice::New(LANE, p),
-                Notice::Enter(LANE, p),
-                Notice::Exit(LANE, p),
-                Notice::Close(LANE, p),
+                Recorded::New(LANE, p),
+                Recorded::Enter(LANE, p),
+                Recorded::Exit(LANE, p),
+                Recorded::Close(LANE, p),
             ]
             .as_slice()
     );
@@ -124,12 +124,12 @@ fn both_spans(rt: &impl Abort, recorder: &Recorder, [p, q]: [Id; 2]) {
     assert!(rt;
         recorder.notices()
             == [
-                Notice::New(LANE, p),
-                Notice::Enter(LANE, p),
-                Notice::New(LANE, q),
-                Notice::Close(LANE, q),
-                Notice::Exit(LANE, p),
-                Notice::Close(LANE, p),
+                Recorded::New(LANE, p),
+                Recorded::Enter(LANE, p),
+                Recorded::New(LANE, q),
+                Recorded::Close(LANE, q),
+                Recorded::Exit(LANE, p),
+                Recorded::Close(LANE, p),
             ]
             .as_slice()
     );
@@ -147,8 +147,8 @@ struct Reader {
 impl<S: Subscriber> Observe<S> for Reader {
     ghost observed = { λ x e lane under v y w. ⊤ };
 
-    fn observe(&mut self, notice: Observed<'_, '_>, ctx: &mut ContextMut<'_, S>) {
-        let Observed::Event(event) = notice else {
+    fn observe(&mut self, notice: Notice<'_, '_>, ctx: &mut ContextMut<'_, S>) {
+        let Notice::Event(event) = notice else {
             return;
         };
         match ctx.ctx().event_span(event) {

@@ -1,7 +1,7 @@
 //! Tests of workers: two lanes that meet, the entry of each request, and the values that a layer is handed.
 ghost use Rattle.span_dispatch.specs.Serve.{stack_of};
 ghost use Rattle.span_layers.specs.Layered.{inner_of, outer_of};
-ghost use Rattle.span_registry.specs.Store.{IsFresh};
+ghost use Rattle.span_store.specs.Store.{IsFresh};
 ghost use Rattle.std.specs.Prelude.{◌≡◌, ◌-◌, ◌<◌, ◌^◌, ⊤, IfOk};
 
 use span_core::{
@@ -10,8 +10,8 @@ use span_core::{
 };
 use span_dispatch::{Dispatch, Recorder};
 use span_layer_tests::fixture::{LANE, metadata_of};
-use span_layers::{Layer, LayerExt, Layered, Observe, Observed, Observer, SubscriberExt};
-use span_registry::{ContextMut, Registry, Subscriber};
+use span_layers::{Layer, LayerExt, Layered, Observe, Observer, SubscriberExt};
+use span_registry::{ContextMut, Notice, Registry, Subscriber};
 use span_shared::{Crew, Entry, Journal, Logged, Receipt, Shared, Unfinished, Worker};
 use std::alloc::Global;
 use std::marker::Brand;
@@ -354,10 +354,10 @@ struct Numbers {
 impl<S: Subscriber> Observe<S> for Numbers {
     ghost observed = { λ x e lane under v y w. ⊤ };
 
-    fn observe(&mut self, notice: Observed<'_, '_>, _ctx: &mut ContextMut<'_, S>) {
+    fn observe(&mut self, notice: Notice<'_, '_>, _ctx: &mut ContextMut<'_, S>) {
         match notice {
-            Observed::NewSpan(attrs, _) => self.made = number_in(attrs.values()),
-            Observed::Record(_, record) => self.recorded = number_in(record.values()),
+            Notice::NewSpan(attrs, _) => self.made = number_in(attrs.values()),
+            Notice::Record(_, record) => self.recorded = number_in(record.values()),
             _ => {}
         }
     }

@@ -9,9 +9,9 @@ use Rattle.span_dispatch.specs.declared.call.Call.TheVariants.{Enter}
 use Rattle.span_dispatch.specs.Serve.{stack_of}
 use Rattle.span_dispatch.specs.declared.request.Answer.TheVariants.{Done}
 use Rattle.span_dispatch.specs.declared.dispatch.Dispatch.{Dispatch}
+use Rattle.span_store.specs.Step.{Enters, Exits}
+use Rattle.span_store.specs.Store.{RegistryState}
 use Rattle.span_registry.specs.Hooks.{Stays}
-use Rattle.span_registry.specs.Step.{Enters, Exits}
-use Rattle.span_registry.specs.Store.{RegistryState}
 use Rattle.span_registry.specs.Subscriber.{SameButExtensions}
 use Rattle.span_registry.proofs.CallerLemmas.{stacks_restored_after}
 use Rattle.span_examples.specs.Guard.{IsLeft, IsOver, KeepsSpan, KeepsStacks, SendsBy, SendsWithin, dispatch_of, lane_of}
@@ -35,10 +35,12 @@ module _ {S : Type 0} (s : SubscriberOf S) (lane : Lane) (id : Id) (old first : 
   -- and then each lane has the stack that it had
   pub keeps_stacks : TakesStep s (Enters lane id) old first → IsOver lane id first g → KeepsSpan s g h → IsLeft s h new → KeepsStacks s old new
   keeps_stacks e o k l =
-      stacks_restored_after s.registry (stack_of old) (stack_of (dispatch_of g)) (stack_of (dispatch_of h)) (stack_of new) lane id (entered_by e o) (hooks_ran k.hooks) (leaves_its_span o k l).store
+      stacks_restored_after s.registry (stack_of old)
+      (stack_of (dispatch_of g)) (stack_of (dispatch_of h)) (stack_of new) lane id (entered_by e o) (hooks_ran k.hooks) (leaves_its_span o k l).store
 
   -- an event that was served by the guard was sent from within the span
-  pub sends_within : (e : Event) (r : Result Bool TraceError) → TakesStep s (Enters lane id) old first → AnswersCall s (Enter lane id) Done old first → IsOver lane id first g → KeepsSpan s g h → SendsBy s e r g h → IsLeft s h new → IfOk r (SendsWithin s lane id e old new)
+  pub sends_within : (e : Event) (r : Result Bool TraceError) → TakesStep s (Enters lane id) old first → AnswersCall s (Enter lane id) Done old first
+      → IsOver lane id first g → KeepsSpan s g h → SendsBy s e r g h → IsLeft s h new → IfOk r (SendsWithin s lane id e old new)
   sends_within e (Ok sent) i j o k t l = record {
     first = dispatch_of g;
     last = dispatch_of h;

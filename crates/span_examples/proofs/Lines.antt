@@ -14,33 +14,39 @@ use Rattle.span_dispatch.specs.Recorder.{RecorderState, new_recorder}
 use Rattle.span_layers.specs.Filtered.{filter_of, id_of, layer_of}
 use Rattle.span_layers.specs.Layer.{HearsBy}
 use Rattle.span_layers.specs.Layered.{inner_of, outer_of, with_inner}
-use Rattle.span_layers.specs.Observe.{ObserverStep, notice_of, observer_of}
-use Rattle.span_layers.specs.declared.observe.Observed.TheVariants as observed
-use Rattle.span_layers.specs.declared.observe.Observed.{Observed}
+use Rattle.span_layers.specs.Observe.{ObserverStep, observer_of}
+use Rattle.span_store.specs.Store.{RegistryState, Store}
+use Rattle.span_registry.specs.Notice.{notice_of}
+use Rattle.span_registry.specs.declared.notice.Notice.TheVariants as notice
 use Rattle.span_layers.specs.declared.observe.Observer.{Observer}
+use Rattle.span_registry.specs.declared.notice.Notice.{Notice as NoticeInCode}
 use Rattle.span_registry.specs.Behaviour.{Notice, OnClose, OnEnter, OnEvent, OnExit, OnFollows, OnIdChange, OnNewSpan, OnRecord}
 use Rattle.span_registry.specs.Form.{Terminal, Base}
-use Rattle.span_registry.specs.Laws.{ShowsPlainly}
+use Rattle.span_registry.specs.Law.{ShowsPlainly}
 use Rattle.span_registry.specs.Position.{Heard, Here}
-use Rattle.span_registry.specs.Store.{RegistryState, Store}
 use Rattle.span_registry.specs.View.{View, event_shown, plain_view, scope, view_of}
 use Rattle.span_examples.proofs.PutOn.{LeafUnder, PutOn, another, bare_form, form_on, itself, on_form}
 use Rattle.span_examples.specs.Dispatches.{Recorded}
-use Rattle.span_examples.specs.Outline.{Copies, IsNewOutlined, Outlined, Writes, WritesLine, has_failed, indent, line_of, outline_steps, text_due, text_in, text_of}
+use Rattle.span_examples.specs.Outline.{Copies, IsNewOutlined, Outlined, Writes, WritesLine, has_failed, indent, line_of, outline_steps, text_due, text_in}
+use Rattle.span_examples.specs.Outline.{text_of}
 use Rattle.span_examples.specs.declared.outline.Outline.{Outline}
 
 -- ---- what it writes of an event
 
 -- extensions make no difference to a line
-line_plainly : (s : Store) (lane : ℕ) (mask : FilterSet) (e : Event) → ShowsPlainly s lane mask → line_of e (view_of s lane mask) ≡ line_of e (plain_view s lane mask)
+line_plainly : (s : Store) (lane : ℕ) (mask : FilterSet) (e : Event)
+    → ShowsPlainly s lane mask → line_of e (view_of s lane mask) ≡ line_of e (plain_view s lane mask)
 line_plainly s lane mask e h =
-    ap (λ (xs : List ℕ). (indent xs ++ name_of (event_metadata e)) ++ codes "\n") (ap (scope (view_of s lane mask).spans) (h.event (event_parent e)) ∙ h.scope (event_shown (event_parent e) (plain_view s lane mask)))
+    ap (λ (xs : List ℕ). (indent xs ++ name_of (event_metadata e)) ++ codes "\n")
+    (ap (scope (view_of s lane mask).spans) (h.event (event_parent e)) ∙ h.scope (event_shown (event_parent e) (plain_view s lane mask)))
 
 -- an event that was observed is written as the view shows it, extensions aside
-pub event_written : (n : Observed) (event : Bor Event) (s : Store) (lane : ℕ) (mask : FilterSet) (x y : Outline) → ShowsPlainly s lane mask → n ≡ observed.Event event
+pub event_written : (n : NoticeInCode) (event : Bor Event) (s : Store) (lane : ℕ) (mask : FilterSet) (x y : Outline)
+    → ShowsPlainly s lane mask → n ≡ notice.Event event
     → WritesLine (line_of event.now (view_of s lane mask)) x y → Writes (notice_of n) (plain_view s lane mask) x y
 event_written n event s lane mask x y law is written =
-    subst (λ (o : Observed). Writes (notice_of o) (plain_view s lane mask) x y) (sym is) (subst (λ (l : List ℕ). WritesLine l x y) (line_plainly s lane mask event.now law) written)
+    subst (λ (o : NoticeInCode). Writes (notice_of o) (plain_view s lane mask) x y)
+    (sym is) (subst (λ (l : List ℕ). WritesLine l x y) (line_plainly s lane mask event.now law) written)
 
 -- ---- what it wrote of a list
 
@@ -79,7 +85,8 @@ pub heard_text : (h : Heard) (x y : Observer Outline) → HearsAll x h y → Has
 heard_text [] x y a = none_more (observer_of x) (observer_of y) (ap (λ (z : Observer Outline). observer_of z) (sym a))
 heard_text (told ∷ h) x y a =
     let step = subst (λ (v : View). Writes told.notice v (observer_of x) (observer_of a.0)) (sym a.1.shown) a.1.step.1.0 in
-    further (text_due told.notice told.view) (text_of h) (observer_of x) (observer_of a.0) (observer_of y) (more_told told.notice told.view _ _ step) (heard_text h a.0 y a.2)
+    further (text_due told.notice told.view)
+    (text_of h) (observer_of x) (observer_of a.0) (observer_of y) (more_told told.notice told.view _ _ step) (heard_text h a.0 y a.2)
 
 -- ---- in a stack
 
@@ -92,7 +99,8 @@ abbrev pub OutlineOn : LevelFilter → LevelFilter → Observer Outline → Reco
 OutlineOn level other k i x = PutOn inner_of with_inner (on_form bare_form) (λ j w. refl) (λ j w f h. h) level (form_on other 0 (Terminal Base)) 1 k i x
 
 -- as they begin
-pub new_outlined : (level other : LevelFilter) (s : RegistryState) (r : RecorderState) (k : Observer Outline) (i : Recorded) (x : Outlined) → r ≡ new_recorder → text_in (observer_of k) ≡ [] → has_failed (observer_of k) ≡ false
+pub new_outlined : (level other : LevelFilter) (s : RegistryState) (r : RecorderState) (k : Observer Outline) (i : Recorded) (x : Outlined)
+    → r ≡ new_recorder → text_in (observer_of k) ≡ [] → has_failed (observer_of k) ≡ false
     → RecorderOn other r s i → OutlineOn level other k i x → IsNewOutlined level other x
 new_outlined level other s r k i x empty blank sound recorder layer =
     let same : layer_of (outer_of x) ≡ k = layer.inner in
@@ -101,14 +109,19 @@ new_outlined level other s r k i x empty blank sound recorder layer =
       under = layer.own;
       text = ap (λ (o : Observer Outline). text_in (observer_of o)) same ∙ blank;
       failed = ap (λ (o : Observer Outline). has_failed (observer_of o)) same ∙ sound;
-      beside = record { own = ap (λ (r : LeafUnder RecorderState). filter_of r) below ∙ recorder.own; inner = ap (λ (r : LeafUnder RecorderState). layer_of r) below ∙ recorder.inner ∙ empty };
+      beside = record {
+        own = ap (λ (r : LeafUnder RecorderState). filter_of r) below ∙ recorder.own;
+        inner = ap (λ (r : LeafUnder RecorderState). layer_of r) below ∙ recorder.inner ∙ empty;
+      };
     }
 
 abbrev SameLayer : {K : Type 0} → LeafUnder K → LeafUnder K → Type 0
 SameLayer x y = (id_of y ≡ id_of x) × (filter_of y ≡ filter_of x) × (layer_of y ≡ layer_of x)
 
 -- to be put in use makes no difference to that
-pub new_in_use : (level other : LevelFilter) (x y : Outlined) → SameLayer (outer_of x) (outer_of y) × (SameLayer (outer_of (inner_of x)) (outer_of (inner_of y)) × (inner_of (inner_of y) ≡ inner_of (inner_of x))) → IsNewOutlined level other x → IsNewOutlined level other y
+pub new_in_use : (level other : LevelFilter) (x y : Outlined)
+    → SameLayer (outer_of x) (outer_of y) × (SameLayer (outer_of (inner_of x)) (outer_of (inner_of y)) × (inner_of (inner_of y) ≡ inner_of (inner_of x)))
+    → IsNewOutlined level other x → IsNewOutlined level other y
 new_in_use level other x y same new = record {
   under = same.0.1 ∙ new.under;
   text = ap (λ (o : Observer Outline). text_in (observer_of o)) same.0.2 ∙ new.text;
@@ -117,7 +130,8 @@ new_in_use level other x y same new = record {
 }
 
 -- a whole copy of what it wrote from the beginning is the text of all that it heard
-pub whole_text : (h : Heard) (x y : Observer Outline) (o : Outline) (s : String Global) → text_in (observer_of x) ≡ [] → HearsAll x h y → o ≡ observer_of y → Copies o s → string_bytes s ≡ text_of h
+pub whole_text : (h : Heard) (x y : Observer Outline) (o : Outline) (s : String Global)
+    → text_in (observer_of x) ≡ [] → HearsAll x h y → o ≡ observer_of y → Copies o s → string_bytes s ≡ text_of h
 whole_text h x y o s blank heard same copy =
     let more = heard_text h x y heard (ap has_failed (sym same) ∙ copy.whole) in
     copy.text ∙ ap text_in same ∙ more.1 ∙ ap (λ (us : List ℕ). us ++ text_of h) blank

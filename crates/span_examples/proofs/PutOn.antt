@@ -5,7 +5,8 @@ use Rattle.span_core.specs.declared.filter.TheConstants.FilterId.{LIMIT}
 use Rattle.span_core.specs.declared.level.LevelFilter.{LevelFilter}
 use Rattle.span_dispatch.specs.Serve.{IsReady}
 use Rattle.span_filters.specs.Filter.{settled_answers}
-use Rattle.span_filters.specs.Level.{level_answers, level_honest}
+use Rattle.span_filters.specs.Level.{level_answers}
+use Rattle.span_filters.specs.laws.Level.{level_honest}
 use Rattle.span_layers.specs.Filtered.{FilteredForm, IsNumber, IsUnnumbered, filter_of, id_of, layer_of}
 use Rattle.span_layers.specs.Honest.{IsHonestStack}
 use Rattle.span_layers.specs.Layered.{PartsForm, inner_of, outer_of}
@@ -14,14 +15,14 @@ use Rattle.span_layers.specs.Observe.{open_answers}
 use Rattle.span_layers.specs.Verdict.{HasOwnNumbers, NumbersStayOwn}
 use Rattle.span_layers.specs.declared.filtered.Filtered.{Filtered as FilteredLayer}
 use Rattle.span_layers.specs.declared.layered.Layered.{Layered}
+use Rattle.span_layers.specs.laws.Leaf.{open_honest}
+use Rattle.span_store.specs.Closes.{HasNoClosing}
+use Rattle.span_store.specs.Store.{RegistryState, Store, empty_store, new_registry}
+use Rattle.span_store.specs.declared.limits.Limits.{Limits}
 use Rattle.span_registry.proofs.CallerLemmas.{settled_new}
-use Rattle.span_registry.specs.Behaviour.{AreHonest}
-use Rattle.span_registry.specs.Closes.{HasNoClosing}
 use Rattle.span_registry.specs.Form.{Terminal, Base, Filtered, Form, Leaf, OnSubscriber, Parts}
 use Rattle.span_registry.specs.Hooks.{StackSteps}
 use Rattle.span_registry.specs.Levels.{LevelSteps}
-use Rattle.span_registry.specs.Store.{RegistryState, Store, empty_store, new_registry}
-use Rattle.span_registry.specs.declared.limits.Limits.{Limits}
 use Rattle.span_examples.proofs.Level.{has_room, leaf_under, took}
 
 -- a leaf that refuses nothing, under a level
@@ -58,11 +59,9 @@ pub record Stands {S : Type 0} (registry : S → RegistryState) (has_form : S �
   pub filters : (registry x).filters ≡ n
   pub empty : (registry x).store ≡ empty_store
 
-open_honest : AreHonest open_answers
-open_honest = record { always = λ m v e. refl; never = λ m v e. absurd (cc); above = λ m v e. absurd (false≢true e); alike = λ m k e. refl }
-
 honest_on : (level : LevelFilter) (n : ℕ) (f : Form) → HasOwnNumbers (form_on level n f) (n + 1) → IsHonestStack f n → IsHonestStack (form_on level n f) (n + 1)
-honest_on level n f own h = record { numbers = own; built = (inr (level_honest level, (refl, open_honest, λ t. record { enabled = λ m v. refl; event = λ e v. refl })), h.built) }
+honest_on level n f own h =
+    record { numbers = own; built = (inr (level_honest level, (refl, open_honest, λ t. record { enabled = λ m v. refl; event = λ e v. refl })), h.built) }
 
 -- a new registry stands so
 pub bare_stands : (l : Limits) (s : RegistryState) → s ≡ new_registry l → Stands itself bare_form (Terminal Base) 0 s
@@ -73,7 +72,9 @@ bare_stands l s new = record {
   empty = ap (λ (t : RegistryState). t.store) new;
 }
 
-module _ {K I : Type 0} (registry : I → RegistryState) (with_registry : I → RegistryState → I) (has_form : I → Form → Type 0) (shows : (i : I) (w : RegistryState) → registry (with_registry i w) ≡ w) (keeps : (i : I) (w : RegistryState) (f : Form) → has_form i f → has_form (with_registry i w) f) where
+module _ {K I : Type 0} (registry : I → RegistryState)
+    (with_registry : I → RegistryState → I) (has_form : I → Form → Type 0) (shows : (i : I) (w : RegistryState) → registry (with_registry i w) ≡ w)
+    (keeps : (i : I) (w : RegistryState) (f : Form) → has_form i f → has_form (with_registry i w) f) where
   -- what comes of a stack that this leaf was put on, under this level
   pub record PutOn (level : LevelFilter) (f : Form) (n : ℕ) (k : K) (i : I) (x : On K I) : Type 0 where
     pub stands : Stands (λ y. registry (inner_of y)) (on_form has_form) (form_on level n f) (n + 1) x
@@ -83,8 +84,10 @@ module _ {K I : Type 0} (registry : I → RegistryState) (with_registry : I → 
     pub below : inner_of x ≡ with_registry i (record (registry i) { filters = (registry (inner_of x)).filters })
 
   -- it took the next number
-  pub put_on : NumbersStayOwn → (level : LevelFilter) (f : Form) (n : ℕ) (i : I) (k : K) (u : LeafUnder K) (x : On K I) → Stands registry has_form f n i → IsUnnumbered u k level
-      → TakesNumbers registry with_registry under_form u i (outer_of x) (inner_of x) → ((g : Form) → under_form u g → (registry i).filters + filters_in g ≤ LIMIT)
+  pub put_on : NumbersStayOwn
+      → (level : LevelFilter) (f : Form) (n : ℕ) (i : I) (k : K) (u : LeafUnder K) (x : On K I) → Stands registry has_form f n i → IsUnnumbered u k level
+      → TakesNumbers registry with_registry under_form u i (outer_of x) (inner_of x)
+      → ((g : Form) → under_form u g → (registry i).filters + filters_in g ≤ LIMIT)
       → (filter_of (outer_of x) ≡ filter_of u) × (layer_of (outer_of x) ≡ layer_of u) → PutOn level f n k i x
   put_on law level f n i k u x stands unnumbered numbers room attached =
       let a = level_answers level in
@@ -110,12 +113,14 @@ module _ {K I : Type 0} (registry : I → RegistryState) (with_registry : I → 
       }
 
   -- it is never refused where fewer filters stand than may
-  pub room_for_one : (level : LevelFilter) (n : ℕ) (i : I) (k : K) (u : LeafUnder K) → (registry i).filters ≡ n → n + 1 ≤ LIMIT → IsUnnumbered u k level → ((g : Form) → under_form u g → LIMIT < (registry i).filters + filters_in g) → ⊥
+  pub room_for_one : (level : LevelFilter) (n : ℕ) (i : I) (k : K) (u : LeafUnder K)
+      → (registry i).filters ≡ n → n + 1 ≤ LIMIT → IsUnnumbered u k level → ((g : Form) → under_form u g → LIMIT < (registry i).filters + filters_in g) → ⊥
   room_for_one level n i k u filters room unnumbered full =
       let more : LIMIT < (registry i).filters + 1 = full (leaf_under (level_answers (filter_of u))) (unnumbered.id, refl, refl) in
       omega (arith, filters, room, more)
 
-module _ {S : Type 0} (registry : S → RegistryState) (with_registry : S → RegistryState → S) (has_form : S → Form → Type 0) (stepped : StackSteps S) (levelled : LevelSteps S) where
+module _ {S : Type 0} (registry : S → RegistryState)
+    (with_registry : S → RegistryState → S) (has_form : S → Form → Type 0) (stepped : StackSteps S) (levelled : LevelSteps S) where
   -- what stands so is ready
   pub ready : (f : Form) (n : ℕ) (x : S) → Stands registry has_form f n x → (g : Form) × IsReady registry with_registry has_form stepped levelled g x
   ready f n x h = (

@@ -16,7 +16,8 @@ use Rattle.span_layers.specs.Levels.{LevelsIf}
 use Rattle.span_registry.specs.Conducts.{filter_numbered}
 use Rattle.span_registry.specs.KeptForm.{KeepsForm}
 use Rattle.span_registry.specs.Form.{Terminal, Filtered, Form, Leaf, Parts}
-use Rattle.span_registry.specs.Levels.{KeepsRules, kept_rules, rules_again, takes_level, unlevelled}
+use Rattle.span_registry.specs.Levels.{KeepsRules, takes_level, unlevelled}
+use Rattle.span_registry.specs.laws.Form.{kept_rules, rules_again}
 use Rattle.span_examples.proofs.Recorded.{HasForm, form_of, recorded_levels, recorded_steps}
 use Rattle.span_examples.specs.Dispatches.{Recorded}
 use Rattle.span_examples.specs.Reload.{IsSetTo}
@@ -35,18 +36,22 @@ pub record IsReadyFirst (d : Dispatch Recorded) : Type 0 where
   pub rules : KeepsRules (form_of level 0) form
 
 -- so is a dispatcher that such a stack was put in
-pub ready_first : (level : LevelFilter) (x : Recorded) (d : Dispatch Recorded) → IsReady inner_of with_inner HasForm recorded_steps recorded_levels (form_of level 0) x
+pub ready_first : (level : LevelFilter) (x : Recorded) (d : Dispatch Recorded)
+    → IsReady inner_of with_inner HasForm recorded_steps recorded_levels (form_of level 0) x
     → ((f : Form) → IsReady inner_of with_inner HasForm recorded_steps recorded_levels f x → ReadyAfter KeepsForm f d) → IsReadyFirst d
-ready_first level x d ready step = let r = step (form_of level 0) ready in record { level = level; form = r.0; ready = r.1; rules = kept_rules (form_of level 0) r.0 r.2 }
+ready_first level x d ready step =
+    let r = step (form_of level 0) ready in record { level = level; form = r.0; ready = r.1; rules = kept_rules (form_of level 0) r.0 r.2 }
 
 -- and so it stays, where what a form keeps includes its rules
-pub ready_still : (keeps : Form → Form → Type 0) → ((f g : Form) → keeps f g → KeepsRules f g) → (d e : Dispatch Recorded) → IsReadyFirst d → ((f : Form) → ReadyBy f d → ReadyAfter keeps f e) → IsReadyFirst e
+pub ready_still : (keeps : Form → Form → Type 0) → ((f g : Form) → keeps f g → KeepsRules f g)
+    → (d e : Dispatch Recorded) → IsReadyFirst d → ((f : Form) → ReadyBy f d → ReadyAfter keeps f e) → IsReadyFirst e
 ready_still keeps rules d e h step =
     let r = step h.form h.ready in
     record { level = h.level; form = r.0; ready = r.1; rules = rules_again (form_of h.level 0) h.form r.0 h.rules (rules h.form r.0 r.2) }
 
 -- its filter takes every level, and has the number 0
-takes : (level l : LevelFilter) (x : Recorded) (f : Form) → KeepsRules (form_of level 0) f → HasForm x f → (takes_level f 0 l ≡ true) × IsNumber (id_of (outer_of x)) (Some 0)
+takes : (level l : LevelFilter) (x : Recorded) (f : Form)
+    → KeepsRules (form_of level 0) f → HasForm x f → (takes_level f 0 l ≡ true) × IsNumber (id_of (outer_of x)) (Some 0)
 takes level l x (Parts k (Filtered m a g) i) keeps has = (
   λ j. (if filter_numbered (keeps.1.0 j) 0 then (has.1.1 j).takes l else takes_level g 0 l) || takes_level i 0 l,
   subst (λ o. IsNumber (id_of (outer_of x)) o) keeps.1.0 has.1.0,

@@ -19,14 +19,16 @@ module _ {S : Type 0} (s : SubscriberOf S) where
   IsReadyStack x =
       (f : Form) × IsReady s.registry s.with_registry s.has_form s.stepped s.levelled f x
 
-  -- a dispatcher that was ready answered a call exactly so, told its layers of it, and is ready for the next
+  -- a dispatcher that was ready gave a call its one answer, notified its layers, and is ready for
+  -- the next
   pub record AnswersReady (call : Call) (a : Answer) (old new : Dispatch S) : Type 0 where
     pub form : Form
     pub served : IsServed s.registry s.with_registry s.has_form s.stepped s.levelled call form
         (kept_by old) (stack_of old) a (kept_by new) (stack_of new)
     pub next : IsReadyNow s new
 
-  -- the span was opened, and then its handle was dropped, each as a dispatcher that is ready answers; or it wasn't opened
+  -- the span was opened, and then its handle was dropped, each as a dispatcher that is ready
+  -- answers; or it wasn't opened
   abbrev pub OpensAndDrops : Lane → Attributes → Dispatch S → Dispatch S → Option Id → Type 0
   OpensAndDrops lane attrs old new (Some id) =
       IsReadyNow s old → (between : Dispatch S)

@@ -10,25 +10,26 @@ use Rattle.span_core.specs.declared.span.Lane.{Lane}
 use Rattle.span_dispatch.specs.Recorder.{RecorderState, Records, new_recorder}
 use Rattle.span_dispatch.specs.Serve.{stack_of}
 use Rattle.span_dispatch.specs.declared.dispatch.Dispatch.{Dispatch}
-use Rattle.span_dispatch.specs.declared.notice.Notice.TheVariants.{Event, New}
-use Rattle.span_dispatch.specs.declared.notice.Notice.{Notice}
+use Rattle.span_dispatch.specs.declared.recorded.Recorded.TheVariants.{Event, New}
+use Rattle.span_dispatch.specs.declared.recorded.Recorded.{Recorded as KeptNotice}
 use Rattle.span_dispatch.specs.declared.request.Answer.TheVariants.{Done, Made, Refused}
 use Rattle.span_dispatch.specs.declared.request.Answer.{Answer}
 use Rattle.span_layers.specs.Filtered.{layer_of}
 use Rattle.span_layers.specs.Layered.{outer_of}
 use Rattle.span_layers.specs.declared.filtered.Filtered.{Filtered}
 use Rattle.span_layers.specs.declared.layered.Layered.{Layered}
-use Rattle.span_registry.specs.Store.{RegistryState}
+use Rattle.span_store.specs.Store.{RegistryState}
 
 -- the stack
 abbrev pub Recorded : Type 0
 Recorded = Layered (Filtered RecorderState LevelFilter) RegistryState
 
--- its recorder
+-- the recorder of a dispatcher's stack
 abbrev pub recorder_of : Dispatch Recorded → RecorderState
 recorder_of d = layer_of (outer_of (stack_of d))
 
--- what is kept of a notice of something with these metadata: the notice, where the level passes them
+-- what a recorder keeps of a notice of something with these metadata: the notice, where the level
+-- passes them
 abbrev pub kept_if : LevelFilter → Metadata → Notice → List Notice
 kept_if level m notice = if passes_level level (level_of m) then notice ∷ [] else []
 
@@ -38,23 +39,25 @@ IsMadeOrRefused (Made id) = ⊤
 IsMadeOrRefused (Refused e) = ⊤
 IsMadeOrRefused other = ⊥
 
--- what is kept of a new span, by its answer: that it is new, where it was made and the level passes it
+-- what a recorder keeps of a new span, by its answer: that it is new, where it was made and the
+-- level passes it
 abbrev pub kept_span : LevelFilter → Lane → Metadata → Answer → List Notice
 kept_span level lane m (Made id) = kept_if level m (New lane id)
 kept_span level lane m other = []
 
--- what is kept of an event
+-- what a recorder keeps of an event
 abbrev pub kept_event : LevelFilter → Lane → Metadata → List Notice
 kept_event level lane m = kept_if level m (Event lane (callsite_of m))
 
--- what is kept of two new spans and an event behind them
+-- what a recorder keeps of two new spans and an event behind them
 abbrev pub kept_of : LevelFilter → Lane → Metadata → Metadata → Metadata → Answer → Answer
     → List Notice
 kept_of level lane outer inner event first second =
     kept_span level lane outer first
     ++ (kept_span level lane inner second ++ kept_event level lane event)
 
--- two new spans and an event were served, with these answers. The recorder was notified of what the level passes of them, in that order, and this is what it keeps, unless it failed for want of memory
+-- Two new spans and an event were served, with these answers. The recorder was notified of what the
+-- level passes of them, in that order, and keeps this, unless it failed for want of memory.
 pub record KeepsWhatPasses (level : LevelFilter) (lane : Lane) (outer inner event : Metadata)
     (done : Dispatch Recorded × Vec Answer Global) : Type 0 where
   pub first : Answer

@@ -1,38 +1,33 @@
 -- What the filters answer.
 use Rattle.std.specs.Prelude.{ℕ, Bool, List, Option, None, bytes_eq, false, is_some}
-use Rattle.std.proofs.Common.{ap}
 use Rattle.std.specs.Borrow.{Bor}
 use Rattle.std.specs.List.{list_any}
 use Rattle.std.specs.Option.{option_and_then}
 use Rattle.span_core.specs.Metadata.{target_of}
-use Rattle.span_core.specs.declared.span.Lane.{Lane}
 use Rattle.span_core.specs.declared.metadata.Metadata.{Metadata}
-use Rattle.span_filters.specs.Closure.{GoesByWhatShows, test_answers}
-use Rattle.span_registry.specs.Behaviour.{Behaviour}
-use Rattle.span_registry.specs.Extensions.{Place, value_under}
-use Rattle.span_registry.specs.Store.{RegistryState}
-use Rattle.span_registry.specs.View.{View, current_shown, extensions_shown, view_of}
-use Rattle.span_registry.specs.declared.extensions.ExtensionMap.{ExtensionMap}
-use Rattle.span_registry.specs.declared.tag.Tag.{Tag}
+use Rattle.span_core.specs.declared.span.Lane.{Lane}
 use Rattle.span_examples.specs.declared.filter.Targets.{Targets}
+use Rattle.span_filters.specs.Closure.{test_answers}
+use Rattle.span_extensions.specs.Extensions.{Place, value_under}
+use Rattle.span_extensions.specs.declared.extensions.ExtensionMap.{ExtensionMap}
+use Rattle.span_extensions.specs.declared.tag.Tag.{Tag}
+use Rattle.span_store.specs.Store.{RegistryState}
+use Rattle.span_registry.specs.Behaviour.{Behaviour}
+use Rattle.span_registry.specs.View.{View, current_shown, extensions_shown, view_of}
 
--- the targets that a filter wants
+-- the targets that a filter by targets enables
 abbrev pub wanted_by : Targets → List (Bor (List ℕ))
 wanted_by f = f.wanted.now
 
--- whether the target is one of them
+-- whether the target of metadata is one of a filter's
 abbrev pub wants_target : Targets → Metadata → Bool
 wants_target f m = list_any (λ t. bytes_eq t.now (target_of m)) (wanted_by f)
-
--- so it goes by what metadata show
-pub goes_by_target : (f : Targets) → GoesByWhatShows (wants_target f)
-goes_by_target f m k e = ap (λ target. list_any (λ t. bytes_eq t.now target) (wanted_by f)) e.target
 
 -- what a filter by targets answers: that test, and no hint
 abbrev pub target_answers : Targets → Behaviour
 target_answers f = test_answers (wants_target f) None
 
--- what is seen of a lane of a registry where no filter hides a span
+-- the view of a lane, on a registry where no filter hides a span
 abbrev pub view_on : RegistryState → Lane → View
 view_on s lane = view_of s.store lane.0 (λ n. false)
 
@@ -40,7 +35,7 @@ view_on s lane = view_of s.store lane.0 (λ n. false)
 abbrev pub current_extensions : View → Option ExtensionMap
 current_extensions v = option_and_then (λ x. extensions_shown x v) (current_shown v)
 
--- whether that span has a value under this tag
+-- whether the span that the lane is in, as the view shows it, has a value under this tag
 abbrev pub is_marked : {T : Type 0} → Place T → Tag T → View → Bool
 is_marked place mark v =
     is_some (option_and_then (λ m. value_under place m mark) (current_extensions v))

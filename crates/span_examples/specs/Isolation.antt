@@ -1,4 +1,4 @@
--- The same recorder under the same level in two stacks: on a registry alone, and beside another recorder.
+-- A recorder under a level in two stacks: on a registry alone, and beside another recorder.
 use Rattle.std.specs.Prelude.{◌≡◌, false, List, []}
 use Rattle.std.specs.declared.alloc.Global.{Global}
 use Rattle.std.specs.declared.vec.Vec.{Vec}
@@ -6,20 +6,20 @@ use Rattle.span_core.specs.declared.level.LevelFilter.{LevelFilter}
 use Rattle.span_dispatch.specs.Recorder.{RecorderState, Records, new_recorder}
 use Rattle.span_dispatch.specs.Serve.{IsReady, Served, stack_of}
 use Rattle.span_dispatch.specs.declared.dispatch.Dispatch.{Dispatch}
-use Rattle.span_dispatch.specs.declared.notice.Notice.{Notice}
+use Rattle.span_dispatch.specs.declared.recorded.Recorded.{Recorded as KeptNotice}
 use Rattle.span_dispatch.specs.declared.request.Answer.{Answer}
 use Rattle.span_dispatch.specs.declared.request.Request.{Request}
 use Rattle.span_layers.specs.Filtered.{filter_of, layer_of}
 use Rattle.span_layers.specs.Layered.{inner_of, outer_of}
 use Rattle.span_layers.specs.declared.filtered.Filtered.{Filtered}
 use Rattle.span_layers.specs.declared.layered.Layered.{Layered}
+use Rattle.span_store.specs.Store.{RegistryState}
 use Rattle.span_registry.specs.Conducts.{ActsAt}
 use Rattle.span_registry.specs.Form.{Form}
 use Rattle.span_registry.specs.Hooks.{StackSteps}
 use Rattle.span_registry.specs.Levels.{LevelSteps}
 use Rattle.span_registry.specs.Position.{HearSteps}
 use Rattle.span_registry.specs.Question.{single}
-use Rattle.span_registry.specs.Store.{RegistryState}
 use Rattle.span_promises.specs.MadeCall.{MadeCall, made_calls}
 use Rattle.span_examples.specs.Dispatches.{Recorded, recorder_of}
 
@@ -35,7 +35,8 @@ inner_recorder_of d = layer_of (outer_of (inner_of (stack_of d)))
 abbrev pub WithAnswers : Type 0 → Type 0
 WithAnswers S = Dispatch S × Vec Answer Global
 
--- the made requests of a list that was answered so, as far as they concern the filter that was attached first
+-- the made requests of a list that was answered so, as far as they concern the filter that was
+-- attached first
 abbrev pub made_first : List Request → List Answer → List MadeCall
 made_first requests answers = made_calls (single 0) [] requests answers
 
@@ -44,7 +45,8 @@ pub record IsNewUnder (level : LevelFilter) (x : Filtered RecorderState LevelFil
   pub own : filter_of x ≡ level
   pub inner : layer_of x ≡ new_recorder
 
--- a stack was put in use, and nothing else about its registry changed; if it was ready, it served these requests from then on, and gave these answers
+-- a stack was put in use, and nothing else about its registry changed; if it was ready, it served
+-- these requests from then on, and gave these answers
 pub record ServesFirst {S : Type 0} (registry : S → RegistryState)
     (with_registry : S → RegistryState → S) (has_form : S → Form → Type 0) (stepped : StackSteps S)
     (levelled : LevelSteps S) (hears : HearSteps S) (acts_at : ActsAt S)
@@ -57,7 +59,8 @@ pub record ServesFirst {S : Type 0} (registry : S → RegistryState)
       → Served registry with_registry has_form stepped levelled hears acts_at requests done.1.items
       first done.0
 
--- both new recorders were notified of the same, in the same order; where neither failed for want of memory, they keep the same
+-- two new recorders were notified of the same, in the same order; where neither failed for want of
+-- memory, they keep the same
 pub record WentThroughTheSame (r q : RecorderState) : Type 0 where
   pub notices : List Notice
   pub first : Records new_recorder r notices
@@ -68,7 +71,9 @@ pub record WentThroughTheSame (r q : RecorderState) : Type 0 where
 abbrev pub Serving : Type 0 → Type 1
 Serving S = List Answer → Dispatch S → Dispatch S → Type 0
 
--- both dispatchers began with new recorders under these levels, and served; where the same requests were made, and answered the same, as they are where all answers are the same, the recorder that stands alone and the one that stands beside another went through the same
+-- Two dispatchers began with new recorders under these levels, and served. Where the same requests
+-- were made and answered the same, as they are where all answers are the same, the recorder that
+-- stands alone and the one that stands beside another were notified of the same.
 pub record KeepTheSame (level other : LevelFilter) (requests : List Request)
     (ServesAlone : Serving Recorded) (ServesBeside : Serving Beside)
     (both : WithAnswers Recorded × WithAnswers Beside) : Type 0 where

@@ -2,8 +2,8 @@
 use Rattle.std.specs.Prelude.{◌≡◌, ℕ, List, [], ◌∷◌, ◌++◌, map, reverse, Option, None}
 use Rattle.span_core.specs.Span.{number_of}
 use Rattle.span_core.specs.declared.span.Id.{Id}
+use Rattle.span_store.specs.Store.{IsInStore, IsOpen, RegistryState, parent_of}
 use Rattle.span_registry.specs.References.{to_give_from_root}
-use Rattle.span_registry.specs.Store.{IsInStore, IsOpen, RegistryState, parent_of}
 use Rattle.span_registry.specs.View.{IsDescent}
 use Rattle.span_registry.specs.declared.scope.ScopeFromRoot.{ScopeFromRoot}
 use Rattle.span_examples.specs.Uses.{IsChainOf}
@@ -30,10 +30,11 @@ pub record IsRootAbove (s : RegistryState) (id root : Id) : Type 0 where
 abbrev pub ids_from_root : ScopeFromRoot RegistryState → List ℕ
 ids_from_root scope = map (λ r. r.id) (to_give_from_root scope)
 
--- it gives a span and its ancestors, the root first
+-- a scope from the root gives a span and its ancestors, the root first
 abbrev pub GivesFromRoot : RegistryState → Id → ScopeFromRoot RegistryState → Type 0
 GivesFromRoot s id scope = (xs : List ℕ) → IsChainOf s id xs → ids_from_root scope ≡ reverse xs
 
--- what it gives begins at a root and leads down to this span, each the parent of the next
+-- what a scope from the root gives begins at a root and leads down to this span, each the parent of
+-- the next
 abbrev pub LeadsDownTo : RegistryState → Id → ScopeFromRoot RegistryState → Type 0
 LeadsDownTo s id scope = IsDescent s.store.spans None (ids_from_root scope) (number_of id)

@@ -3,10 +3,10 @@ use Rattle.std.specs.Prelude.{ℕ, ◌+◌, ◌-◌, ◌^◌, min, max, Option}
 use Rattle.std.specs.Option.{option_and_then, option_map_or}
 use Rattle.span_core.specs.Span.{number_of}
 use Rattle.span_core.specs.declared.span.Id.{Id}
+use Rattle.span_extensions.specs.Extensions.{Place, value_under}
+use Rattle.span_extensions.specs.declared.tag.Tag.{Tag}
 use Rattle.span_registry.specs.Behaviour.{Notice, OnClose, OnNewSpan}
-use Rattle.span_registry.specs.Extensions.{Place, value_under}
 use Rattle.span_registry.specs.View.{View, extensions_shown, shown}
-use Rattle.span_registry.specs.declared.tag.Tag.{Tag}
 use Rattle.span_examples.specs.declared.layer.SpanCounter.{SpanCounter}
 use Rattle.span_examples.specs.declared.layer.Timing.{Timing}
 
@@ -38,7 +38,7 @@ number_seen place tag id v =
     option_and_then (λ m. value_under place m tag)
     (option_and_then (λ x. extensions_shown x v) (shown (number_of id) v))
 
--- the same, timed to this moment
+-- the timing layer, timed to this moment
 abbrev pub ticked : Timing → Timing
 ticked x = record x { clock = one_more x.clock }
 

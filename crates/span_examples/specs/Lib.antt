@@ -10,3 +10,4 @@ pub mod Outline
 pub mod Reload
 pub mod Stacks
 pub mod Uses
+pub mod laws

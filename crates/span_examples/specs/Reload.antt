@@ -12,7 +12,8 @@ use Rattle.span_layers.specs.Layered.{inner_of, outer_of}
 use Rattle.span_examples.specs.Dispatches.{Recorded, recorder_of}
 use Rattle.span_examples.specs.Isolation.{IsNewUnder}
 
--- its recorder stands under this level now, and keeps what it kept; all spans are as they were
+-- a dispatcher's recorder stands under this level now, with all that it kept; all spans are
+-- unchanged
 pub record IsSetTo (level : LevelFilter) (old new : Dispatch Recorded) : Type 0 where
   pub now : filter_of (outer_of (stack_of new)) ≡ level
   pub kept : recorder_of new ≡ recorder_of old
@@ -26,7 +27,8 @@ module _ (s : SubscriberOf Recorded) where
       × Served s.registry s.with_registry s.has_form s.stepped s.levelled s.hears s.acts_at requests
       answers old new
 
-  -- the first list was served with a new recorder under WARN, then its level was set to DEBUG, and then the other list was served
+  -- the first list was served with a new recorder under WARN, then its level was set to DEBUG, and
+  -- then the other list was served
   pub record Reloads (requests others : List Request) (new : Dispatch Recorded) : Type 0 where
     pub start : Dispatch Recorded
     pub before : Dispatch Recorded

@@ -1,4 +1,4 @@
--- A counter of spans under a level, on a registry.
+-- A counter of spans under a level, on a registry: its stack, and what it counts.
 use Rattle.std.specs.Prelude.{◌≡◌, ◌≤◌, ℕ, if◌then◌else◌, Some}
 use Rattle.span_core.specs.Level.{passes_level}
 use Rattle.span_core.specs.Metadata.{level_of}
@@ -15,16 +15,16 @@ use Rattle.span_layers.specs.Observe.{observer_of}
 use Rattle.span_layers.specs.declared.filtered.Filtered.{Filtered}
 use Rattle.span_layers.specs.declared.layered.Layered.{Layered}
 use Rattle.span_layers.specs.declared.observe.Observer.{Observer}
+use Rattle.span_store.specs.Store.{RegistryState}
 use Rattle.span_registry.specs.Behaviour.{OnNewSpan}
-use Rattle.span_registry.specs.Store.{RegistryState}
 use Rattle.span_examples.specs.Layers.{counted, opened_by}
 use Rattle.span_examples.specs.declared.layer.SpanCounter.{SpanCounter}
 
--- the stack
+-- a counter of spans under a level, on a registry
 abbrev pub Counted : Type 0
 Counted = Layered (Filtered (Observer SpanCounter) LevelFilter) RegistryState
 
--- its counter
+-- the counter of a stack
 abbrev pub counter_of : Counted → SpanCounter
 counter_of x = observer_of (layer_of (outer_of x))
 
@@ -32,11 +32,11 @@ counter_of x = observer_of (layer_of (outer_of x))
 abbrev pub level_in : Counted → LevelFilter
 level_in x = filter_of (outer_of x)
 
--- its filter has a number
+-- the filter of a stack has a number
 abbrev pub IsNumbered : Counted → Type 0
 IsNumbered x = (n : ℕ) × IsNumber (id_of (outer_of x)) (Some n)
 
--- it counted nothing yet, under this level
+-- a stack counted nothing yet, under this level
 pub record StartsToCount (level : LevelFilter) (x : Counted) : Type 0 where
   pub number : IsNumbered x
   pub under : level_in x ≡ level

@@ -10,10 +10,10 @@ use Rattle.span_core.specs.declared.pass.Pass.{Pass}
 use Rattle.span_core.specs.declared.span.Attributes.{Attributes}
 use Rattle.span_core.specs.declared.span.Id.{Id}
 use Rattle.span_core.specs.declared.span.Lane.{Lane}
-use Rattle.span_registry.specs.Extensions.{Place, value_under}
-use Rattle.span_registry.specs.Step.{Drops, Enters, Opens, Removal, asked, exited}
-use Rattle.span_registry.specs.Store.{IsChain, RegistryState, parent_of, stack_on}
-use Rattle.span_registry.specs.declared.tag.Tag.{Tag}
+use Rattle.span_extensions.specs.Extensions.{Place, value_under}
+use Rattle.span_extensions.specs.declared.tag.Tag.{Tag}
+use Rattle.span_store.specs.Step.{Drops, Enters, Opens, Removal, asked, exited}
+use Rattle.span_store.specs.Store.{IsChain, RegistryState, parent_of, stack_on}
 
 -- a span is opened and then entered
 pub record Begins (lane : Lane) (attrs : Attributes) (pass : Pass) (old new : RegistryState)
@@ -31,7 +31,7 @@ value_in place s id tag =
 abbrev pub name_in : RegistryState → ℕ → Option (List ℕ)
 name_in s x = option_map (λ r. name_of r.metadata) (get s.store.spans x)
 
--- the name of its parent
+-- the name of the parent of a span in the store
 abbrev pub parent_name_in : RegistryState → ℕ → Option (List ℕ)
 parent_name_in s x = option_and_then (name_in s) (parent_of s.store.spans x)
 

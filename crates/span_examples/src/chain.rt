@@ -27,7 +27,8 @@ pub fn open_and_drop<S: Subscriber>(
     Ok(Some(id))
 }
 
-/// Puts another stack in place of the dispatcher's. It is ready if the stack is: all that was kept is forgotten.
+/// Puts another stack in place of the dispatcher's. It is ready if the stack is: all that was kept
+/// is forgotten.
 pub fn restart<S: Subscriber + Drop>(dispatch: &mut Dispatch<S>, stack: S)
     ensures stack { stack_of dispatch.new ≡ stack }
     ensures ready { IsReadyStack S.Subscriber stack → IsReadyNow S.Subscriber dispatch.new }

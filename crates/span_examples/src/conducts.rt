@@ -45,7 +45,7 @@ fn put_filtered<F: Filter<Registry> + Drop>(
     }
 }
 
-/// Under two levels, of which both are to pass.
+/// A recorder under two levels, of which both are to pass.
 pub fn under_both(
     alloc: Global,
     first: LevelFilter,
@@ -61,7 +61,7 @@ pub fn under_both(
     serve_new(alloc, stack, requests)
 }
 
-/// Under two levels, of which either is to pass.
+/// A recorder under two levels, of which either is to pass.
 pub fn under_either(
     alloc: Global,
     first: LevelFilter,
@@ -77,7 +77,7 @@ pub fn under_either(
     serve_new(alloc, stack, requests)
 }
 
-/// Under what a level doesn't pass.
+/// A recorder under what a level doesn't pass.
 pub fn under_negated(
     alloc: Global,
     level: LevelFilter,
@@ -92,7 +92,7 @@ pub fn under_negated(
     serve_new(alloc, stack, requests)
 }
 
-/// Under a level that might be absent.
+/// A recorder under a level that might be absent.
 pub fn under_optional(
     alloc: Global,
     level: LevelFilter,
@@ -107,7 +107,7 @@ pub fn under_optional(
     serve_new(alloc, stack, requests)
 }
 
-/// How many notices it keeps, unless it failed.
+/// How many notices the recorder keeps, unless it failed.
 pub(crate) fn count(recorder: &Recorder) -> Option<usize>
     ensures { IsCounted recorder.now result }
 {
@@ -117,7 +117,8 @@ pub(crate) fn count(recorder: &Recorder) -> Option<usize>
     Some(recorder.notices().len())
 }
 
-/// Under a test of metadata, a closure: how many notices the recorder keeps.
+/// Serves requests on a recorder under a test of metadata, a closure, and counts the recorder's
+/// notices.
 pub fn count_tested(
     alloc: Global,
     level: LevelFilter,
@@ -139,7 +140,8 @@ pub fn count_tested(
     Ok((answers, counted))
 }
 
-/// Under a closure that asks for the current span: how many notices the recorder keeps of what comes in a span.
+/// Serves requests on a recorder under a closure that asks for the current span, and counts the
+/// recorder's notices of what comes in a span.
 pub fn count_in_span(
     alloc: Global,
     requests: &[Request<'_>],
@@ -160,7 +162,7 @@ pub fn count_in_span(
     Ok((answers, counted))
 }
 
-/// Under a level in a box: how many notices the recorder keeps.
+/// Serves requests on a recorder under a level in a box, and counts the recorder's notices.
 pub fn count_boxed(
     alloc: Global,
     level: LevelFilter,

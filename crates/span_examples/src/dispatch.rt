@@ -11,7 +11,8 @@ use std::alloc::Global;
 /// A recorder under a level, on a registry.
 pub type Recorded = Layered<Filtered<Recorder, LevelFilter>, Registry>;
 
-/// Serves two spans, the second in the first, and an event, in a new stack. Its recorder keeps what the level passes.
+/// Serves two spans, the second in the first, and an event, in a new stack. Its recorder keeps what
+/// the level passes.
 pub fn record_some(
     alloc: Global,
     level: LevelFilter,

@@ -2,32 +2,33 @@
 ghost use Rattle.std.specs.Prelude.{◌≡◌, IfOk};
 ghost use Rattle.span_core.specs.Level.{passes_level};
 ghost use Rattle.span_core.specs.Metadata.{level_of};
-ghost use Rattle.span_filters.specs.Closure.{unhinted_honest};
-ghost use Rattle.span_filters.specs.Filter.{ActsSteadily, settled_answers, settled_laws, steady_levels};
+ghost use Rattle.span_filters.specs.laws.Closure.{unhinted_honest};
+ghost use Rattle.span_filters.specs.Filter.{ActsSteadily, settled_answers};
+ghost use Rattle.span_filters.specs.laws.Filter.{settled_laws, steady_levels};
 ghost use Rattle.span_registry.specs.Context.{view_in};
-ghost use Rattle.span_examples.specs.Filters.{is_marked, view_on};
-ghost use Rattle.span_examples.specs.Filters.{goes_by_target, target_answers, wanted_by, wants_target};
+ghost use Rattle.span_examples.specs.Filters.{is_marked, view_on, target_answers, wanted_by, wants_target};
+ghost use Rattle.span_examples.specs.laws.Target.{goes_by_target};
 
-use span_core::{Attributes, Event, Id, Interest, Lane, LevelFilter, Metadata, Record};
+use span_core::{Event, Interest, Lane, LevelFilter, Metadata};
 use span_filters::{AlwaysUsableFilter, BoxedFilter, DynFilter, Filter, dynamic_filter_fn};
-use span_registry::{Context, ContextMut, ExtensionValue, LookupSpan, Registry, Tag};
+use span_registry::{Context, ContextMut, ExtensionValue, LookupSpan, Notice, Registry, Tag};
 use std::alloc::{AllocError, Global};
 
-/// A filter by targets: it wants what has one of these.
+/// A filter by targets: it enables what has one of these.
 #[derive(Drop)]
 pub struct Targets {
     wanted: &'static [&'static str],
 }
 
 impl Targets {
-    /// Wants these targets.
+    /// A filter that enables these targets.
     pub fn new(wanted: &'static [&'static str]) -> Targets
         ensures { wanted_by result ≡ wanted.now }
     {
         Targets { wanted }
     }
 
-    /// The target is one of them, byte for byte.
+    /// Whether the target of metadata is one of the filter's, byte for byte.
     pub fn wants(&self, meta: &Metadata) -> bool
         ensures { result ≡ wants_target self.now meta.now }
     {
@@ -70,22 +71,15 @@ impl<S: LookupSpan> Filter<S> for Targets {
         None
     }
 
-    fn on_new_span(&mut self, _attrs: &Attributes<'_>, _id: Id, _ctx: &mut ContextMut<'_, S>) {}
-
-    fn on_record(&mut self, _id: Id, _values: &Record<'_>, _ctx: &mut ContextMut<'_, S>) {}
-
-    fn on_enter(&mut self, _id: Id, _ctx: &mut ContextMut<'_, S>) {}
-
-    fn on_exit(&mut self, _id: Id, _ctx: &mut ContextMut<'_, S>) {}
-
-    fn on_close(&mut self, _id: Id, _ctx: &mut ContextMut<'_, S>) {}
+    fn notify(&mut self, _notice: Notice<'_, '_>, _ctx: &mut ContextMut<'_, S>) {}
 }
 
 impl<S: LookupSpan> AlwaysUsableFilter<S> for Targets {
     ghost always = { λ f. tt };
 }
 
-/// Whether metadata pass a filter that wants what comes in a marked span: one with a value under this tag.
+/// Whether metadata pass a filter that enables what comes in a marked span: one with a value under
+/// this tag.
 pub fn wants_in_marked<T: ExtensionValue>(
     registry: &Registry,
     lane: Lane,

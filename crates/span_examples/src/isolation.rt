@@ -16,9 +16,11 @@ pub type Beside = Layered<Filtered<Recorder, LevelFilter>, Recorded>;
 /// A dispatcher with what it answered.
 pub type WithAnswers<S> = (Dispatch<S>, Vec<Answer>);
 
-/// Serves the same requests on a recorder under a level alone, and on one beside another recorder under another level.
+/// Serves the same requests on a recorder under a level alone, and on one beside another recorder
+/// under another level.
 ///
-/// Where both were answered the same, the recorder that stands alone and the one beside another went through the same.
+/// Where both were answered the same, the recorder that stands alone and the one beside another
+/// went through the same.
 pub fn record_alone_and_beside(
     alloc: Global,
     level: LevelFilter,

@@ -55,7 +55,7 @@ fn put_under<L: Layer<Registry> + Drop>(alloc: Global, layer: L) -> Result<Over<
     }
 }
 
-/// Outside the layer that does nothing.
+/// A recorder outside the layer that does nothing.
 pub fn over_identity(
     alloc: Global,
     requests: &[Request<'_>],
@@ -68,7 +68,7 @@ pub fn over_identity(
     serve_new(alloc, stack, requests)
 }
 
-/// Outside an observer.
+/// A recorder outside an observer.
 pub fn over_observer(
     alloc: Global,
     requests: &[Request<'_>],
@@ -82,7 +82,7 @@ pub fn over_observer(
     serve_new(alloc, stack, requests)
 }
 
-/// Outside a layer that is there.
+/// A recorder outside a layer that is there.
 pub fn over_some(
     alloc: Global,
     requests: &[Request<'_>],
@@ -96,7 +96,7 @@ pub fn over_some(
     serve_new(alloc, stack, requests)
 }
 
-/// Outside a layer in a box.
+/// A recorder outside a layer in a box.
 pub fn over_box(
     alloc: Global,
     requests: &[Request<'_>],
@@ -111,7 +111,7 @@ pub fn over_box(
     serve_new(alloc, stack, requests)
 }
 
-/// Outside two layers in a list.
+/// A recorder outside two layers in a list.
 pub fn over_list(
     alloc: Global,
     requests: &[Request<'_>],
@@ -128,7 +128,8 @@ pub fn over_list(
     serve_new(alloc, stack, requests)
 }
 
-/// Outside a layer in a box whose type is picked while the program runs: how many notices the recorder keeps.
+/// Serves requests on a recorder outside a layer in a box, whose type is picked while the program
+/// runs, and counts the recorder's notices.
 pub fn count_over_boxed(
     alloc: Global,
     requests: &[Request<'_>],

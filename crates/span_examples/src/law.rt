@@ -2,9 +2,9 @@
 ghost use Rattle.std.specs.Option.{option_map};
 ghost use Rattle.std.specs.Prelude.{◌≡◌, ◌↔◌, IfErr, IfOk, IfSome, IsSome, IsTrue, OnErr, OnOk};
 ghost use Rattle.span_core.specs.Span.{number_of};
-ghost use Rattle.span_registry.specs.Closes.{HasNoClosing};
-ghost use Rattle.span_registry.specs.Laws.{RestoresStacks};
-ghost use Rattle.span_registry.specs.Step.{RefusesEnter};
+ghost use Rattle.span_store.specs.Closes.{HasNoClosing};
+ghost use Rattle.span_store.specs.Step.{RefusesEnter};
+ghost use Rattle.span_registry.specs.Law.{RestoresStacks};
 ghost use Rattle.span_examples.specs.Law.{GivesFromRoot, IsOpenIn, IsRootAbove, IsThereIn, LeadsDownTo, parent_in};
 
 use span_core::{Id, Lane, TraceError};

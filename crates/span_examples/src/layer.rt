@@ -6,8 +6,8 @@ ghost use Rattle.span_registry.specs.View.{view_of};
 ghost use Rattle.span_examples.specs.Layers.{closed_by, counted, longest_of, number_seen, opened_by, timed};
 
 use span_core::Id;
-use span_layers::{Observe, Observed};
-use span_registry::{ContextMut, ExtensionValue, Subscriber, Tag};
+use span_layers::Observe;
+use span_registry::{ContextMut, ExtensionValue, Notice, Subscriber, Tag};
 
 /// Counts the spans that it is notified of.
 #[derive(Drop)]
@@ -17,7 +17,7 @@ pub struct SpanCounter {
 }
 
 impl SpanCounter {
-    /// Nothing was counted.
+    /// A counter that counted nothing yet.
     pub fn new() -> SpanCounter
         ensures opened { opened_by result ≡ 0 }
         ensures closed { closed_by result ≡ 0 }
@@ -46,16 +46,17 @@ impl SpanCounter {
 impl<S: Subscriber> Observe<S> for SpanCounter {
     ghost observed = { λ x e lane under v y w. (y ≡ counted e x) × (w ≡ v) };
 
-    fn observe(&mut self, notice: Observed<'_, '_>, _ctx: &mut ContextMut<'_, S>) {
+    fn observe(&mut self, notice: Notice<'_, '_>, _ctx: &mut ContextMut<'_, S>) {
         match notice {
-            Observed::NewSpan(_, _) => self.opened = self.opened.saturating_add(1),
-            Observed::Close(_) => self.closed = self.closed.saturating_add(1),
+            Notice::NewSpan(_, _) => self.opened = self.opened.saturating_add(1),
+            Notice::Close(_) => self.closed = self.closed.saturating_add(1),
             _ => {}
         }
     }
 }
 
-/// Times spans, from opening to close, by a clock that counts what it is notified of. A span's start is kept in its extensions.
+/// Times spans, from opening to close, by a clock that counts what it is notified of. A span's
+/// start is kept in its extensions.
 #[derive(Drop)]
 pub struct Timing {
     start: Tag<u64>,
@@ -88,11 +89,11 @@ impl<S: Subscriber> Observe<S> for Timing {
         (y ≡ timed ⟦<u64 as ExtensionValue>⟧.place e (view_of v.store lane under) x)
         × SameButExtensions v w };
 
-    fn observe(&mut self, notice: Observed<'_, '_>, ctx: &mut ContextMut<'_, S>) {
+    fn observe(&mut self, notice: Notice<'_, '_>, ctx: &mut ContextMut<'_, S>) {
         self.clock = self.clock.saturating_add(1);
         match notice {
-            Observed::NewSpan(_, id) => put(self.start, self.clock, id, ctx),
-            Observed::Close(id) => {
+            Notice::NewSpan(_, id) => put(self.start, self.clock, id, ctx),
+            Notice::Close(id) => {
                 if let Some(start) = number(self.start, id, ctx) {
                     self.longest = self.longest.max(self.clock.saturating_sub(start));
                 }

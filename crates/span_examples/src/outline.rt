@@ -7,11 +7,12 @@ use crate::dispatch::Recorded;
 use crate::isolation::serve_first;
 use span_core::{Event, LevelFilter, TraceError};
 use span_dispatch::{Answer, Recorder, Request};
-use span_layers::{Filtered, LayerExt, Layered, Observe, Observed, Observer, SubscriberExt};
-use span_registry::{ContextMut, Registry, Subscriber, laws};
+use span_layers::{Filtered, LayerExt, Layered, Observe, Observer, SubscriberExt};
+use span_registry::{ContextMut, Notice, Registry, Subscriber, laws};
 use std::alloc::{AllocError, Global};
 
-/// Writes a line for each event that it is told of, up to the first that finds no memory.
+/// A layer that writes a line for each event that it is notified of, up to the first that finds no
+/// memory.
 #[derive(Drop)]
 pub struct Outline {
     alloc: Global,
@@ -20,7 +21,7 @@ pub struct Outline {
 }
 
 impl Outline {
-    /// Nothing is written.
+    /// An outline that has written nothing.
     pub fn new(alloc: Global) -> Outline
         ensures text { text_in result ≡ [] }
         ensures failed { has_failed result ≡ false }
@@ -32,14 +33,14 @@ impl Outline {
         }
     }
 
-    /// What is written.
+    /// The lines that are written.
     pub fn text(&self) -> &str
         ensures { result.now ≡ text_in self.now }
     {
         self.text.as_str()
     }
 
-    /// It found no memory for a line, and has written nothing since.
+    /// Whether no memory was found for a line: nothing is written since then.
     pub fn failed(&self) -> bool
         ensures { result ≡ has_failed self.now }
     {
@@ -64,8 +65,8 @@ impl Outline {
 impl<S: Subscriber> Observe<S> for Outline {
     ghost observed = { outline_steps };
 
-    fn observe(&mut self, notice: Observed<'_, '_>, ctx: &mut ContextMut<'_, S>) {
-        if let Observed::Event(event) = notice {
+    fn observe(&mut self, notice: Notice<'_, '_>, ctx: &mut ContextMut<'_, S>) {
+        if let Notice::Event(event) = notice {
             laws::extensions_change_no_look_up();
             let line = line_seen(self.alloc, event, ctx);
             self.write(line);
@@ -110,7 +111,8 @@ fn indentation<S: Subscriber>(
 /// An outline under a level, outside a recorder under a level on a registry.
 pub type Outlined = Layered<Filtered<Observer<Outline>, LevelFilter>, Recorded>;
 
-/// Serves requests on a new outline under a level, beside a recorder under another, and gives the answers and the text.
+/// Serves requests on a new outline under a level, beside a recorder under another, and gives the
+/// answers and the text.
 pub fn serve_outlined(
     alloc: Global,
     level: LevelFilter,
@@ -149,7 +151,8 @@ fn stack_outlined(
     }
 }
 
-/// The whole text of an outline, refused where there is no memory for it, or was none for one of its lines.
+/// The whole text of an outline, refused where there is no memory for it, or was none for one of
+/// its lines.
 fn copied(alloc: Global, outline: &Outline) -> Result<String, TraceError>
     ensures text { IfOk result (Copies outline.now) }
     ensures memory { IfErr result (λ e. e ≡ TraceError.OutOfMemory) }

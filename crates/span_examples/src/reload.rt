@@ -9,8 +9,8 @@ use span_layers::{LayerExt, SubscriberExt, laws};
 use span_registry::{Registry, Subscriber};
 use std::alloc::Global;
 
-/// Serves requests with a new recorder under WARN, sets its level to DEBUG, and serves more. The recorder keeps what it kept, and
-/// the level is always taken: its filter has the number 0.
+/// Serves requests with a new recorder under WARN, sets its level to DEBUG, and serves more. The
+/// recorder keeps what it kept, and the level is always taken: its filter has the number 0.
 pub fn reload(
     alloc: Global,
     first: &[Request<'_>],

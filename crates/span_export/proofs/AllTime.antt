@@ -19,7 +19,8 @@ unfolding total
 first s sums = sum_by-cons (λ s. s.1) s sums
 
 -- one sum is raised
-raised : (o : Ordering) (stack : List ℕ) (time : ℕ) (s : List ℕ × ℕ) (sums : Sums) → total (s ∷ sums) + time < 2 ^ 64 → total (add stack time sums) ≡ total sums + time
+raised : (o : Ordering) (stack : List ℕ) (time : ℕ) (s : List ℕ × ℕ) (sums : Sums)
+    → total (s ∷ sums) + time < 2 ^ 64 → total (add stack time sums) ≡ total sums + time
     → total (match_ordering o ((stack, capped time) ∷ s ∷ sums) ((s.0, capped (s.1 + time)) ∷ sums) (s ∷ add stack time sums)) ≡ total (s ∷ sums) + time
 raised Less stack time s sums fits rest = omega (arith, first (stack, capped time) (s ∷ sums))
 raised Equal stack time s sums fits rest = omega (arith, first s sums, first (s.0, capped (s.1 + time)) sums)
@@ -31,12 +32,14 @@ added stack time (s ∷ sums) fits =
     let all = first s sums in
     raised (slice_cmp nat_cmp stack s.0) stack time s sums fits (added stack time sums (omega arith))
 
-one_point : (sites : List Site) (ps : List Point) (stack : List ℕ) (time : ℕ) (sums : Sums) → total sums + in_spans stack time < 2 ^ 64 → total (stood_in sites ps stack time sums) ≡ total sums + in_spans stack time
+one_point : (sites : List Site) (ps : List Point) (stack : List ℕ) (time : ℕ) (sums : Sums)
+    → total sums + in_spans stack time < 2 ^ 64 → total (stood_in sites ps stack time sums) ≡ total sums + in_spans stack time
 one_point sites ps [] time sums fits = omega arith
 one_point sites ps (x ∷ stack) time sums fits = added (stack_text sites ps (x ∷ stack)) time sums fits
 
 -- sums so far and what the points to come add
-whole : (sites : List Site) (all : List Point) (sums : Sums) (before rest : List Point) → total sums + time_from before rest < 2 ^ 64 → total (sums_from sites all sums before rest) ≡ total sums + time_from before rest
+whole : (sites : List Site) (all : List Point) (sums : Sums) (before rest : List Point)
+    → total sums + time_from before rest < 2 ^ 64 → total (sums_from sites all sums before rest) ≡ total sums + time_from before rest
 whole sites all sums before [] fits = omega arith
 whole sites all sums before (p ∷ rest) fits =
     let stack = stack_on p.lane.0 before in

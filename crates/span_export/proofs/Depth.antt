@@ -16,7 +16,8 @@ use Rattle.span_times.specs.declared.happening.Happening.TheVariants.{Closed, En
 use Rattle.span_times.specs.declared.happening.Happening.{Happening}
 use Rattle.span_times.specs.declared.happening.Point.{Point}
 
-one_of_three : (o : Ordering) (a b c : Members) (n : ℕ) → members_depth a ≤ n → members_depth b ≤ n → members_depth c ≤ n → members_depth (match_ordering o a b c) ≤ n
+one_of_three : (o : Ordering) (a b c : Members) (n : ℕ)
+    → members_depth a ≤ n → members_depth b ≤ n → members_depth c ≤ n → members_depth (match_ordering o a b c) ≤ n
 one_of_three Less a b c n p q r = p
 one_of_three Equal a b c n p q r = q
 one_of_three Greater a b c n p q r = r
@@ -25,7 +26,8 @@ one_of_three Greater a b c n p q r = r
 put_depth : (k : List ℕ) (d : Data) (ms : Members) (n : ℕ) → depth d ≤ n → members_depth ms ≤ n → members_depth (put k d ms) ≤ n
 put_depth k d no_members n p q = omega arith
 put_depth k d (member l e ms) n p q =
-    one_of_three _ (member k d (member l e ms)) (member l d ms) (member l e (put k d ms)) n (omega arith) (omega arith) (omega (arith, put_depth k d ms n p (omega arith)))
+    one_of_three _
+    (member k d (member l e ms)) (member l d ms) (member l e (put k d ms)) n (omega arith) (omega arith) (omega (arith, put_depth k d ms n p (omega arith)))
 
 -- no member is deeper
 abbrev pub AreWithin : ℕ → List (List ℕ × Data) → Type 0
@@ -56,11 +58,13 @@ items_within n f h (x ∷ xs) = one_more n (f x) (filter_map f xs) (h x) (items_
 
 span_flat : (phase : List ℕ) (site : Option Site) (x : ℕ) (p : Point) → depth (span_event phase site x p) ≤ 1
 span_flat phase site x p =
-    object_within 0 ((codes "id", string (decimal x)) ∷ head phase site p) (omega arith, (omega arith, (omega arith, (omega arith, (omega arith, (omega arith, (omega arith, tt)))))))
+    object_within 0 ((codes "id", string (decimal x)) ∷ head phase site p)
+    (omega arith, (omega arith, (omega arith, (omega arith, (omega arith, (omega arith, (omega arith, tt)))))))
 
 instant_flat : (site : Option Site) (p : Point) → depth (instant site p) ≤ 1
 instant_flat site p =
-    object_within 0 ((codes "s", string (codes "t")) ∷ head (codes "i") site p) (omega arith, (omega arith, (omega arith, (omega arith, (omega arith, (omega arith, (omega arith, tt)))))))
+    object_within 0 ((codes "s", string (codes "t")) ∷ head (codes "i") site p)
+    (omega arith, (omega arith, (omega arith, (omega arith, (omega arith, (omega arith, (omega arith, tt)))))))
 
 event_flat : (site : Option Site) (what : Happening) (p : Point) → IsWithin 1 (event_as site what p)
 event_flat site (Entered id) p = span_flat (codes "B") site (number_of id) p

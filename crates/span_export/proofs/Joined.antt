@@ -10,7 +10,8 @@ use Rattle.span_export.specs.declared.stay.Stay.{Stay}
 use Rattle.span_times.specs.declared.happening.Point.{Point}
 
 -- the text of one more element is written behind the others
-pub one_more_written : {A : Type 0} (f : A → List ℕ) (xs : List A) (i : ℕ) (d : A) (old new one : List ℕ) → i < length xs → old ≡ flat_map f (take i xs) → new ≡ old ++ one → one ≡ f (get_or xs i d) → new ≡ flat_map f (take (i + 1) xs)
+pub one_more_written : {A : Type 0} (f : A → List ℕ) (xs : List A) (i : ℕ) (d : A) (old new one : List ℕ)
+    → i < length xs → old ≡ flat_map f (take i xs) → new ≡ old ++ one → one ≡ f (get_or xs i d) → new ≡ flat_map f (take (i + 1) xs)
 one_more_written f xs i d old new one within so_far grew same =
     grew ∙ ap (λ t. t ++ one) so_far ∙ ap (λ t. flat_map f (take i xs) ++ t) (same ∙ sym (append-nil (f (get_or xs i d))))
     ∙ sym (ap (flat_map f) (take_more xs i d within) ∙ flat_map-append f (take i xs) (get_or xs i d ∷ []))
@@ -28,6 +29,7 @@ one_inside ps width top s =
     sums : (x u width : ℕ) → x ≤ 72 + (max width 320 - 96) → u ≤ 72 + (max width 320 - 96) → x + max (u - x) 1 ≤ max width 320
     sums x u width p q = omega arith
 
-pub all_inside : (ps : List Point) (width : ℕ) (top : ℕ → ℕ) (stays : List Stay) → AllByRecursion (λ s. IsInside (max width 320) (area_of (scale_of ps width) (top s.lane.0) s)) stays
+pub all_inside : (ps : List Point) (width : ℕ) (top : ℕ → ℕ) (stays : List Stay)
+    → AllByRecursion (λ s. IsInside (max width 320) (area_of (scale_of ps width) (top s.lane.0) s)) stays
 all_inside ps width top [] = tt
 all_inside ps width top (s ∷ stays) = (one_inside ps width (top s.lane.0) s, all_inside ps width top stays)

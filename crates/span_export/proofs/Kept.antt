@@ -14,9 +14,11 @@ seen_one view None = refl
 seen_one view (Some x) = refl
 
 -- one more element was looked at, and what it gives, if anything, was put behind the others
-pub keeps_one_more : {A B V : Type 0} (view : V → B) (f : A → Option B) (xs : List A) (i : ℕ) (d : A) (old new : List V) (o : Option V) → i < length xs → option_map view o ≡ f (get_or xs i d) → new ≡ old ++ option_to_list o → map view old ≡ filter_map f (take i xs)
+pub keeps_one_more : {A B V : Type 0} (view : V → B) (f : A → Option B) (xs : List A) (i : ℕ) (d : A) (old new : List V) (o : Option V)
+    → i < length xs → option_map view o ≡ f (get_or xs i d) → new ≡ old ++ option_to_list o → map view old ≡ filter_map f (take i xs)
     → map view new ≡ filter_map f (take (i + 1) xs)
 keeps_one_more view f xs i d old new o within e grew so_far =
     let given = one f (get_or xs i d) (option_map view o) (sym e) in
-    ap (map view) grew ∙ map-append view old (option_to_list o) ∙ ap (λ ys. ys ++ map view (option_to_list o)) so_far ∙ ap (λ ys. filter_map f (take i xs) ++ ys) (seen_one view o ∙ sym given)
+    ap (map view) grew ∙ map-append view old (option_to_list o)
+    ∙ ap (λ ys. ys ++ map view (option_to_list o)) so_far ∙ ap (λ ys. filter_map f (take i xs) ++ ys) (seen_one view o ∙ sym given)
     ∙ sym (ap (filter_map f) (take_more xs i d within) ∙ filter_map-append f (take i xs) (get_or xs i d ∷ []))

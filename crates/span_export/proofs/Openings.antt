@@ -12,7 +12,8 @@ found_behind x (suc i) [] f found e = cc
 found_behind x (suc i) (p ∷ ps) f found e = ap (found_or x p ps) (found_behind x i ps f found e)
 
 -- a point that opens the span, and none behind it does
-pub found_here : (x i : ℕ) (ps : List Point) (d : Point) → i < length ps → opens x (get_or ps i d).what ≡ true → since_opening x (drop (i + 1) ps) ≡ [] → take (length ps - i) (drop i ps) ≡ since_opening x ps
+pub found_here : (x i : ℕ) (ps : List Point) (d : Point)
+    → i < length ps → opens x (get_or ps i d).what ≡ true → since_opening x (drop (i + 1) ps) ≡ [] → take (length ps - i) (drop i ps) ≡ since_opening x ps
 found_here x i ps d within here none =
     let split = drop_more ps i d within in
     let now : since_opening x (drop i ps) ≡ get_or ps i d ∷ drop (i + 1) ps =

@@ -1,5 +1,6 @@
 -- The phases of trace events.
-use Rattle.std.proofs.Common.{arith, ◌≡◌, ◌∙◌, ◌+◌, ℕ, Bool, false, List, [], ◌∷◌, Option, None, Some, ap, codes, cond, count_by, filter_map, if◌then◌else◌, refl}
+use Rattle.std.proofs.Common.{arith, ◌≡◌, ◌∙◌, ◌+◌, ℕ, Bool, false, List, [], ◌∷◌, Option, None, Some, ap, codes, cond, count_by, filter_map, if◌then◌else◌}
+use Rattle.std.proofs.Common.{refl}
 use Rattle.std.specs.List.{cons_option}
 use Rattle.std.specs.Option.{option_map_or}
 use Rattle.std.proofs.lemmas.List.Sums.{sum_by-cons}
@@ -13,15 +14,18 @@ use Rattle.span_times.specs.declared.happening.Happening.{Happening}
 use Rattle.span_times.specs.declared.happening.Point.{Point}
 
 -- one more, where there is one
-one : (phase : List ℕ) (o : Option Data) (ds : List Data) → count_by (has_phase phase) (cons_option o ds) ≡ (if option_map_or (has_phase phase) o false then 1 else 0) + count_by (has_phase phase) ds
+one : (phase : List ℕ) (o : Option Data) (ds : List Data)
+    → count_by (has_phase phase) (cons_option o ds) ≡ (if option_map_or (has_phase phase) o false then 1 else 0) + count_by (has_phase phase) ds
 one phase None ds = omega arith
 one phase (Some d) ds = sum_by-cons (λ d. cond (has_phase phase d) 1 0) d ds
 
 -- where the points that have a phase are of one kind, both are counted alike
-counted : (phase : List ℕ) (f : Point → Option Data) (is : Happening → Bool) → ((p : Point) → option_map_or (has_phase phase) (f p) false ≡ is p.what) → (ps : List Point) → count_by (has_phase phase) (filter_map f ps) ≡ count_in is ps
+counted : (phase : List ℕ) (f : Point → Option Data) (is : Happening → Bool) → ((p : Point) → option_map_or (has_phase phase) (f p) false ≡ is p.what)
+    → (ps : List Point) → count_by (has_phase phase) (filter_map f ps) ≡ count_in is ps
 counted phase f is same [] = refl
 counted phase f is same (p ∷ ps) =
-    one phase (f p) (filter_map f ps) ∙ ap (λ b. (if b then 1 else 0) + count_by (has_phase phase) (filter_map f ps)) (same p) ∙ ap (λ n. (if is p.what then 1 else 0) + n) (counted phase f is same ps)
+    one phase (f p) (filter_map f ps) ∙ ap (λ b. (if b then 1 else 0) + count_by (has_phase phase) (filter_map f ps)) (same p)
+    ∙ ap (λ n. (if is p.what then 1 else 0) + n) (counted phase f is same ps)
 
 -- what is due of a happening has this phase
 abbrev has : List ℕ → Option Site → Point → Happening → Bool

@@ -21,16 +21,20 @@ pub same : (byte : ℕ) (so bytes : List ℕ) → IsAbsent byte bytes → replac
 same byte so [] none = refl
 same byte so (b ∷ bytes) none =
     let here : b ≢ byte = none 0 (omega arith) in
-    ap (λ (t : List ℕ). t ++ replace byte so bytes) (kept byte b so here) ∙ ap (λ (t : List ℕ). b ∷ t) (same byte so bytes (λ i less. none (suc i) (omega arith)))
+    ap (λ (t : List ℕ). t ++ replace byte so bytes) (kept byte b so here)
+    ∙ ap (λ (t : List ℕ). b ∷ t) (same byte so bytes (λ i less. none (suc i) (omega arith)))
 
 -- the first is written so, and what is behind it follows
-cut : (byte : ℕ) (so bytes front back : List ℕ) → bytes ≡ front ++ (byte ∷ back) → IsAbsent byte front → replace byte so bytes ≡ front ++ (so ++ replace byte so back)
+cut : (byte : ℕ) (so bytes front back : List ℕ)
+    → bytes ≡ front ++ (byte ∷ back) → IsAbsent byte front → replace byte so bytes ≡ front ++ (so ++ replace byte so back)
 cut byte so bytes front back e none =
-    ap (replace byte so) e ∙ flat_map-append (λ b. if b == byte then so else b ∷ []) front (byte ∷ back) ∙ ap (λ (t : List ℕ). t ++ replace byte so (byte ∷ back)) (same byte so front none)
+    ap (replace byte so) e ∙ flat_map-append (λ b. if b == byte then so else b ∷ []) front (byte ∷ back)
+    ∙ ap (λ (t : List ℕ). t ++ replace byte so (byte ∷ back)) (same byte so front none)
     ∙ ap (λ (t : List ℕ). front ++ (t ++ replace byte so back)) (found byte so)
 
 -- a part and the byte behind it are written, and what is left is behind them
-pub cut_written : (byte : ℕ) (so text old mid new rest front back : List ℕ) → mid ≡ old ++ front → new ≡ mid ++ so → rest ≡ front ++ (byte ∷ back) → IsAbsent byte front → old ++ replace byte so rest ≡ replace byte so text
+pub cut_written : (byte : ℕ) (so text old mid new rest front back : List ℕ)
+    → mid ≡ old ++ front → new ≡ mid ++ so → rest ≡ front ++ (byte ∷ back) → IsAbsent byte front → old ++ replace byte so rest ≡ replace byte so text
     → new ++ replace byte so back ≡ replace byte so text
 cut_written byte so text old mid new rest front back first second e none so_far =
     ap (λ (t : List ℕ). t ++ replace byte so back) (second ∙ ap (λ (t : List ℕ). t ++ so) first)

@@ -1,7 +1,7 @@
 -- Stacks that are empty.
 use Rattle.std.proofs.Common.{◌≡◌, ◌≢◌, ◌∙◌, ℕ, Bool, true, false, List, [], ◌∷◌, None, ap, if◌then◌else◌, ◌++◌, map, refl, reverse, sym}
 use Rattle.std.proofs.lemmas.List.{map-append, reverse-append}
-use Rattle.span_registry.specs.LaneStack.{newest, stands, without_duplicates}
+use Rattle.span_store.specs.LaneStack.{newest, stands, without_duplicates}
 
 either : (b : Bool) (x : ℕ) (xs : List ℕ) → (newest xs ≢ None) → newest (if b then xs else (x ∷ xs)) ≢ None
 either true x xs some = some
@@ -21,4 +21,5 @@ no_one (x ∷ xs) e = absurd (someone xs x e)
 pub map_reverse : {A B : Type 0} (f : A → B) (xs : List A) → map f (reverse xs) ≡ reverse (map f xs)
 map_reverse f [] = refl
 map_reverse f (x ∷ xs) =
-    ap (map f) (reverse-append (x ∷ []) xs) ∙ map-append f (reverse xs) (x ∷ []) ∙ ap (λ ys. ys ++ f x ∷ []) (map_reverse f xs) ∙ sym (reverse-append (f x ∷ []) (map f xs))
+    ap (map f) (reverse-append (x ∷ []) xs)
+    ∙ map-append f (reverse xs) (x ∷ []) ∙ ap (λ ys. ys ++ f x ∷ []) (map_reverse f xs) ∙ sym (reverse-append (f x ∷ []) (map f xs))

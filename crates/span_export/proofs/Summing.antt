@@ -8,15 +8,18 @@ use Rattle.span_export.specs.declared.site.Site.{Site}
 use Rattle.span_times.specs.declared.happening.Point.{Point}
 
 -- one more point goes on with the stack of each lane
-pub stack_more : (lane : ℕ) (ps : List Point) (i : ℕ) (d : Point) → i < length ps → stack_on lane (take (i + 1) ps) ≡ goes_on lane (stack_on lane (take i ps)) (get_or ps i d)
+pub stack_more : (lane : ℕ) (ps : List Point) (i : ℕ) (d : Point)
+    → i < length ps → stack_on lane (take (i + 1) ps) ≡ goes_on lane (stack_on lane (take i ps)) (get_or ps i d)
 stack_more lane ps i d within = fold_more (goes_on lane) [] ps i d within
 
 -- and is the last of its lane
-pub time_more : (lane : ℕ) (ps : List Point) (i : ℕ) (d : Point) → i < length ps → last_time lane (take (i + 1) ps) ≡ (if (get_or ps i d).lane.0 == lane then (get_or ps i d).time else last_time lane (take i ps))
+pub time_more : (lane : ℕ) (ps : List Point) (i : ℕ) (d : Point)
+    → i < length ps → last_time lane (take (i + 1) ps) ≡ (if (get_or ps i d).lane.0 == lane then (get_or ps i d).time else last_time lane (take i ps))
 time_more lane ps i d within = fold_more (λ time p. if p.lane.0 == lane then p.time else time) 0 ps i d within
 
 -- where a stack isn't empty, its sum is raised
-pub stood_some : (sites : List Site) (ps : List Point) (stack : List ℕ) (time : ℕ) (sums : Sums) → stack ≢ [] → stood_in sites ps stack time sums ≡ add (stack_text sites ps stack) time sums
+pub stood_some : (sites : List Site) (ps : List Point) (stack : List ℕ) (time : ℕ) (sums : Sums)
+    → stack ≢ [] → stood_in sites ps stack time sums ≡ add (stack_text sites ps stack) time sums
 stood_some sites ps [] time sums some = absurd (some refl)
 stood_some sites ps (x ∷ stack) time sums some = refl
 

@@ -27,8 +27,10 @@ found_by o first later = cond (is_eq o) (Some first) later
 
 one : (o : Ordering) (k : String Global) (time : ℕ) (e : String Global × ℕ) (es : List (String Global × ℕ)) (later : Option ℕ) → (o ≡ Less → later ≡ None)
     → texts (insert_entry string_cmp es k (more later time)) ≡ add (string_bytes k) time (texts es)
-    → texts (match_ordering o ((k, more (found_by o e.1 later) time) ∷ e ∷ es) ((e.0, more (found_by o e.1 later) time) ∷ es) (e ∷ insert_entry string_cmp es k (more (found_by o e.1 later) time)))
-    ≡ match_ordering o ((string_bytes k, capped time) ∷ (string_bytes e.0, e.1) ∷ texts es) ((string_bytes e.0, capped (e.1 + time)) ∷ texts es) ((string_bytes e.0, e.1) ∷ add (string_bytes k) time (texts es))
+    → texts (match_ordering o ((k, more (found_by o e.1 later) time) ∷ e ∷ es)
+    ((e.0, more (found_by o e.1 later) time) ∷ es) (e ∷ insert_entry string_cmp es k (more (found_by o e.1 later) time)))
+    ≡ match_ordering o ((string_bytes k, capped time) ∷ (string_bytes e.0, e.1) ∷ texts es)
+    ((string_bytes e.0, capped (e.1 + time)) ∷ texts es) ((string_bytes e.0, e.1) ∷ add (string_bytes k) time (texts es))
 one Less k time e es later none rest =
     let nothing : more later time ≡ capped time = ap (λ o. more o time) (none refl) ∙ omega arith in
     ap (λ n. (string_bytes k, n) ∷ (string_bytes e.0, e.1) ∷ texts es) nothing
@@ -41,5 +43,6 @@ pub raised : (k : String Global) (time : ℕ) (es : List (String Global × ℕ))
 raised k time [] sorted = ap (λ n. (string_bytes k, n) ∷ []) (omega arith)
 raised k time (e ∷ es) sorted =
     let later = lookup (is_at (string_cmp k)) es in
-    let past : string_cmp k e.0 ≡ Less → later ≡ None = λ less. lookup-none (is_at (string_cmp k)) es ((none_below_head string_cmp_total k e es sorted less).1) in
+    let past : string_cmp k e.0 ≡ Less → later ≡ None =
+    λ less. lookup-none (is_at (string_cmp k)) es ((none_below_head string_cmp_total k e es sorted less).1) in
     one (string_cmp k e.0) k time e es later past (raised k time es (sorted_tail string_cmp e.0 (keys_of es) sorted))

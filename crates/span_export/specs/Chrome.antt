@@ -14,7 +14,8 @@ use Rattle.span_times.specs.declared.happening.Happening.TheVariants.{Closed, En
 use Rattle.span_times.specs.declared.happening.Happening.{Happening}
 use Rattle.span_times.specs.declared.happening.Point.{Point}
 
--- the members that all trace events have: a phase, a name, a category, when in microseconds, and which lane
+-- the members that all trace events have: a phase, a name, a category, when in microseconds, and
+-- which lane
 abbrev pub head : List ℕ → Option Site → Point → List (List ℕ × Data)
 head phase site p =
     (codes "ph", string phase) ∷ (codes "name", string (called site))
@@ -30,7 +31,8 @@ span_event phase site x p =
 abbrev pub instant : Option Site → Point → Data
 instant site p = object_of ((codes "s", string (codes "t")) ∷ head (codes "i") site p)
 
--- the trace event of a point: a duration of the lane from an entry to an exit, one of the span from its opening to its close
+-- the trace event of a point: a duration of the lane from an entry to an exit, one of the span from
+-- its opening to its close
 abbrev pub event_as : Option Site → Happening → Point → Option Data
 event_as site (Entered id) p = Some (span_event (codes "B") site (number_of id) p)
 event_as site (Left id) p = Some (span_event (codes "E") site (number_of id) p)
@@ -60,7 +62,8 @@ has_phase phase d =
 abbrev pub count_phase : List ℕ → List Site → List Point → ℕ
 count_phase phase sites ps = count_by (has_phase phase) (filter_map (event_in sites ps) ps)
 
--- whatever sites there are, each entry begins a duration on its lane and each exit ends one, each opening and close those of spans, and each event is an instant
+-- whatever sites there are, each entry begins a duration on its lane and each exit ends one, each
+-- opening and close those of spans, and each event is an instant
 pub record CountsAll (sites : List Site) (ps : List Point) : Type 0 where
   pub entries : count_phase (codes "B") sites ps ≡ count_in begins_busy ps
   pub exits : count_phase (codes "E") sites ps ≡ count_in ends_busy ps
@@ -68,6 +71,6 @@ pub record CountsAll (sites : List Site) (ps : List Point) : Type 0 where
   pub closes : count_phase (codes "e") sites ps ≡ count_in is_close ps
   pub events : count_phase (codes "i") sites ps ≡ count_in is_event ps
 
--- so it is of all points
+-- the trace of any points counts all: what begins and ends, and events
 abbrev pub TracesCountAll : Type 0
 TracesCountAll = (sites : List Site) (ps : List Point) → CountsAll sites ps

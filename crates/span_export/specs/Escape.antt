@@ -7,13 +7,15 @@ use Rattle.std.specs.Str.{chars}
 abbrev pub replace : ℕ → List ℕ → List ℕ → List ℕ
 replace byte so text = flat_map (λ b. if b == byte then so else b ∷ []) text
 
--- XML has this character: it has no control characters but the tab, the line feed and the carriage return, nor the two that stand for none
+-- XML has this character: it has no control characters but the tab, the line feed and the carriage
+-- return, nor the two that stand for none
 abbrev pub is_in_xml : ℕ → Bool
 is_in_xml c =
     if c == 9 || c == 10 || c == 13 then true
     else if c == 65534 || c == 65535 then false else nat_le 32 c
 
--- a character within XML: it begins or ends no tag, begins no entity, and where XML doesn't have it, U+FFFD stands for it
+-- a character within XML: it begins or ends no tag, begins no entity, and where XML doesn't have
+-- it, U+FFFD stands for it
 abbrev pub escape : ℕ → List ℕ
 escape c =
     if c == 38 then codes "&amp;" else if c == 60 then codes "&lt;"

@@ -2,7 +2,7 @@
 use Rattle.std.specs.Prelude.{◌≡◌, ◌<◌, ◌+◌, ◌-◌, ◌^◌, ◌==◌, ℕ, if◌then◌else◌, List, [], ◌∷◌, ◌++◌, codes, decimal, flat_map, fold, map, reverse, sum_by}
 use Rattle.std.specs.Cmp.Lexicographic.{slice_cmp}
 use Rattle.std.specs.Ordering.{match_ordering, nat_cmp}
-use Rattle.span_registry.specs.LaneStack.{without_duplicates}
+use Rattle.span_store.specs.LaneStack.{without_duplicates}
 use Rattle.span_times.specs.Measure.{capped}
 use Rattle.span_times.specs.declared.happening.Point.{Point}
 use Rattle.span_export.specs.Escape.{replace}
@@ -36,19 +36,20 @@ stood before p = p.time - last_time p.lane.0 before
 abbrev pub Sums : Type 0
 Sums = List (List ℕ × ℕ)
 
--- so much more at this stack
+-- the sums with so much more at this stack
 abbrev pub add : List ℕ → ℕ → Sums → Sums
 add stack time [] = (stack, capped time) ∷ []
 add stack time (s ∷ sums) =
     match_ordering (slice_cmp nat_cmp stack s.0) ((stack, capped time) ∷ s ∷ sums)
     ((s.0, capped (s.1 + time)) ∷ sums) (s ∷ add stack time sums)
 
--- so much more at the stack of a lane, if it is in some span
+-- the sums with so much more at the stack of a lane, if the lane is in some span
 abbrev pub stood_in : List Site → List Point → List ℕ → ℕ → Sums → Sums
 stood_in sites ps [] time sums = sums
 stood_in sites ps (x ∷ stack) time sums = add (stack_text sites ps (x ∷ stack)) time sums
 
--- each of these points adds how long its lane stood in its stack up to there; these stand before them
+-- each of these points adds how long its lane stood in its stack up to there; these stand before
+-- them
 abbrev pub sums_from : List Site → List Point → Sums → List Point → List Point → Sums
 sums_from sites ps sums before [] = sums
 sums_from sites ps sums before (p ∷ rest) =
@@ -72,7 +73,8 @@ abbrev pub in_spans : List ℕ → ℕ → ℕ
 in_spans [] time = 0
 in_spans (x ∷ stack) time = time
 
--- how long lanes were in some span, whichever, up to each of these points from the one of its lane before; these stand before them
+-- how long lanes were in some span, whichever, up to each of these points from the one of its lane
+-- before; these stand before them
 abbrev pub time_from : List Point → List Point → ℕ
 time_from before [] = 0
 time_from before (p ∷ rest) =
@@ -82,7 +84,8 @@ time_from before (p ∷ rest) =
 abbrev pub time_in_spans : List Point → ℕ
 time_in_spans ps = time_from [] ps
 
--- all lines together have all the time that lanes were in spans, whatever these are called, if it fits
+-- all lines together have all the time that lanes were in spans, whatever these are called, if it
+-- fits
 abbrev pub LinesHaveAllTime : Type 0
 LinesHaveAllTime =
     (sites : List Site) (ps : List Point) → time_in_spans ps < 2 ^ 64

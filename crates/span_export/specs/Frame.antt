@@ -1,4 +1,5 @@
--- What stands round the boxes of a picture: the axis of time, the names of lanes, what the colours mean.
+-- What stands round the boxes of a picture: the axis of time, the names of lanes, what the colours
+-- mean.
 use Rattle.std.specs.Prelude.{◌+◌, ◌-◌, ◌*◌, ◌/◌, ◌%◌, ◌==◌, ℕ, zero, suc, if◌then◌else◌, nat_le, List, [], ◌∷◌, ◌++◌, codes, decimal, flat_map}
 use Rattle.std.specs.BTreeMap.{BTreeMap}
 use Rattle.span_times.specs.Measure.{capped}
@@ -32,7 +33,8 @@ boxes_in level fill edge =
 abbrev pub marks_in : List ℕ → List ℕ → List ℕ
 marks_in level fill = codes "circle." ++ level ++ codes "{fill:#" ++ fill ++ codes "}\n"
 
--- letters and lines; then errors in red, warnings in yellow, infos in green, debugs in blue, traces in grey
+-- letters and lines; then errors in red, warnings in yellow, infos in green, debugs in blue, traces
+-- in grey
 unfoldable pub style : List ℕ
 style =
     codes "<style>\ntext{font:12px sans-serif;fill:#222}\n.lane{font-weight:bold}\n"
@@ -100,11 +102,12 @@ head_in look width height =
     ++ codes "<rect class=\"paper\" width=\"" ++ decimal width ++ codes "\" height=\""
     ++ decimal height ++ codes "\"/>\n"
 
--- the same with the style of all pictures
+-- how a picture begins, with the style of all pictures
 abbrev pub head_text : ℕ → ℕ → List ℕ
 head_text width height = head_in style width height
 
--- all that stands round boxes and marks: the size and the paper, what the colours mean, the axis and the lanes
+-- all that stands round boxes and marks: the size and the paper, what the colours mean, the axis
+-- and the lanes
 abbrev pub frame_text : Scale → Plan → List ℕ
 frame_text scale plan =
     let width = scale.plot + 96 in

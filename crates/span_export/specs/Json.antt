@@ -26,6 +26,6 @@ Means text value = read text ≡ Some value
 abbrev pub reprinted : List ℕ → List ℕ
 reprinted text = print (tokens text)
 
--- there is nothing between the tokens of these texts: so each is one line
+-- each of these texts has nothing between its tokens, and so is one line
 abbrev pub AreCompact : List (List ℕ) → Type 0
 AreCompact texts = map reprinted texts ≡ texts

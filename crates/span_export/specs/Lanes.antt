@@ -3,12 +3,13 @@ use Rattle.std.specs.Prelude.{◌≡◌, ◌==◌, ℕ, if◌then◌else◌, Lis
 use Rattle.std.specs.BTreeMap.{BTreeMap, get}
 use Rattle.std.specs.Ordering.{nat_cmp}
 use Rattle.span_core.specs.Span.{number_of}
-use Rattle.span_registry.specs.LaneStack.{leave}
+use Rattle.span_store.specs.LaneStack.{leave}
 use Rattle.span_times.specs.declared.happening.Happening.TheVariants.{Closed, Entered, Left}
 use Rattle.span_times.specs.declared.happening.Happening.{Happening}
 use Rattle.span_times.specs.declared.happening.Point.{Point}
 
--- the stack that a lane has after something happened on it; a span that closes there is left, since nobody is told of its exit any more
+-- the stack that a lane has after something happened on it; a span that closes there is left by
+-- that, since no layer is notified of its exit any more
 abbrev pub stack_after : Happening → List ℕ → List ℕ
 stack_after (Entered id) stack = number_of id ∷ stack
 stack_after (Left id) stack = leave (number_of id) stack
@@ -27,10 +28,10 @@ stack_on lane ps = fold (goes_on lane) [] ps
 abbrev pub stack_in : BTreeMap ℕ (List ℕ) → ℕ → List ℕ
 stack_in lanes lane = unwrap_or (get nat_cmp lanes lane) []
 
--- it has what was made of each stack by this point
+-- the map goes on by a point: each stack becomes what the point makes of it
 abbrev pub GoesOn : Point → BTreeMap ℕ (List ℕ) → BTreeMap ℕ (List ℕ) → Type 0
 GoesOn p old new = (lane : ℕ) → stack_in new lane ≡ goes_on lane (stack_in old lane) p
 
--- it has the stack of each lane after these points
+-- the map has the stack of each lane after these points
 abbrev pub KnowsStacks : BTreeMap ℕ (List ℕ) → List Point → Type 0
 KnowsStacks lanes ps = (lane : ℕ) → stack_in lanes lane ≡ stack_on lane ps

@@ -101,7 +101,8 @@ abbrev pub since_opening : ℕ → List Point → List Point
 since_opening x [] = []
 since_opening x (p ∷ ps) = found_or x p ps (since_opening x ps)
 
--- the request for a span that closes at this point, if its opening is among those before it, of which these are the points since
+-- the request for a span that closes at this point, if its opening is among those before it, of
+-- which these are the points since
 abbrev pub request_of : Trace → List Site → List Point → Id → Point → List Point → Option Data
 request_of trace sites ps id close [] = None
 request_of trace sites ps id close (opening ∷ since) =

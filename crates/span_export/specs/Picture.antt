@@ -59,7 +59,8 @@ stays_of ps = fold (λ stays p. stays_after stays p p.what) [] ps
 abbrev pub until : Scale → Stay → ℕ
 until scale s = x_at scale (unwrap_or s.left scale.finish)
 
--- where the box of a stay is, on a lane with this top: at least 1 wide, and below the top by its depth
+-- where the box of a stay is, on a lane with this top: at least 1 wide, and below the top by its
+-- depth
 abbrev pub area_of : Scale → ℕ → Stay → Area
 area_of scale top s =
     record {
@@ -68,7 +69,7 @@ area_of scale top s =
       width = max (until scale s - x_at scale s.entered) 1;
     }
 
--- there is room for a name: 7 for each byte, and 10 beside
+-- whether a box has room for a name: 7 for each byte, and 10 beside
 abbrev pub has_room : List ℕ → Area → Bool
 has_room name area = nat_le (length name) ((area.width - 10) / 7)
 
@@ -126,7 +127,8 @@ top_in tops lane = unwrap_or (get nat_cmp tops lane) 0
 abbrev pub IsInside : ℕ → Area → Type 0
 IsInside width area = area.x + area.width ≤ width
 
--- a text is a picture of points: in the frame of some plan the boxes of all stays, each within the width, and the marks of all events
+-- a text is a picture of points: in the frame of some plan the boxes of all stays, each within the
+-- width, and the marks of all events
 pub record IsPicture (text : List ℕ) (sites : List Site) (ps : List Point) (width : ℕ)
     : Type 0 where
   pub plan : Plan

@@ -4,7 +4,8 @@ use Rattle.std.specs.Option.{option_map_or}
 use Rattle.span_times.specs.declared.happening.Point.{Point}
 use Rattle.span_export.specs.declared.picture.Scale.{Scale}
 
--- where time is shown: from the first point to the last; 72 are for the names of lanes, and 24 stay free behind it
+-- where time is shown: from the first point to the last; 72 are for the names of lanes, and 24 stay
+-- free behind it
 abbrev pub scale_of : List Point → ℕ → Scale
 scale_of ps width =
     record {

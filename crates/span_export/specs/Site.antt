@@ -48,7 +48,7 @@ site_at sites ps what = option_and_then (site_of sites) (callsite_in ps what)
 abbrev pub called : Option Site → List ℕ
 called site = option_map_or (λ s. string_bytes s.name) site (codes "?")
 
--- its target, likewise
+-- the target of a site, and ? where it is missing
 abbrev pub targeted : Option Site → List ℕ
 targeted site = option_map_or (λ s. string_bytes s.target) site (codes "?")
 

@@ -17,9 +17,10 @@ use std::alloc::{AllocError, Global};
 
 /// These points in Chrome's trace format, which Perfetto opens: a text in JSON.
 ///
-/// Each entry and exit begins and ends a duration of its lane, each opening and close one of its span; an event is an
-/// instant. Times are in whole microseconds. The format wants durations of a lane to end in order: where a lane leaves spans out of
-/// order, or one that it isn't in, viewers differ.
+/// Each entry and exit begins and ends a duration of its lane, each opening and close one of its
+/// span; an event is an instant. Times are in whole microseconds. The format wants durations of a
+/// lane to end in order: where a lane leaves spans out of order, or one that it isn't in, viewers
+/// differ.
 pub fn chrome_text(alloc: Global, sites: &[Site], points: &[Point]) -> Result<String, AllocError>
     ensures { IfOk result
         (λ text. Means (string_bytes text) (trace_of sites.now points.now)) }

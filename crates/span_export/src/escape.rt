@@ -4,7 +4,8 @@ ghost use Rattle.span_export.specs.Escape.{escape, escaped, is_in_xml, replace};
 
 use std::alloc::{AllocError, Global};
 
-/// A text within XML: no character in it begins or ends a tag, or begins an entity, and XML has each of them.
+/// A text within XML: no character in it begins or ends a tag, or begins an entity, and XML has
+/// each of them.
 pub(crate) fn escaped(alloc: Global, text: &str) -> Result<String, AllocError>
     ensures { IfOk result (λ new. string_bytes new ≡ escaped text.now) }
 {
@@ -29,8 +30,8 @@ fn write_escaped(text: &mut String, character: char) -> Result<(), AllocError>
     }
 }
 
-/// XML has this character: it has no control characters but the tab, the line feed and the carriage return, nor the two that stand
-/// for none.
+/// XML has this character: it has no control characters but the tab, the line feed and the carriage
+/// return, nor the two that stand for none.
 fn is_in_xml(character: char) -> bool
     ensures { result ≡ is_in_xml character }
 {

@@ -3,7 +3,7 @@ ghost use Rattle.std.specs.BTreeMap.{get};
 ghost use Rattle.std.specs.Ordering.{nat_cmp};
 ghost use Rattle.std.specs.Prelude.{◌≡◌, ◌++◌, IfOk, List, OnOk, decimal, flat_map, map, reverse, string_bytes};
 ghost use Rattle.span_core.specs.Span.{number_of};
-ghost use Rattle.span_registry.specs.LaneStack.{without_duplicates};
+ghost use Rattle.span_store.specs.LaneStack.{without_duplicates};
 ghost use Rattle.span_times.specs.declared.happening.Point.{Point};
 ghost use Rattle.span_export.specs.Folded.{add, folded, frame, line_text, stack_text, sums_of};
 ghost use Rattle.span_export.specs.Site.{KnowsOpeners, name_in};
@@ -21,12 +21,13 @@ use std::collections::BTreeMap;
 /// How long lanes stood in each stack, by its text.
 type Sums = BTreeMap<String, u64>;
 
-/// These points as folded stacks, of which flame graphs are made: a line for each stack of spans that some lane stood in, in the
-/// order of their texts.
+/// These points as folded stacks, of which flame graphs are made: a line for each stack of spans
+/// that some lane stood in, in the order of their texts.
 ///
-/// A line has the names of the spans, outermost first, with semicolons between, and how long lanes stood so, in nanoseconds up to
-/// `u64::MAX`: each time is that from one point of a lane to its next. What comes after a lane's last point isn't counted. In a name a
-/// semicolon is written as a colon, a space and a line feed as `_`.
+/// A line has the names of the spans, outermost first, with semicolons between, and how long lanes
+/// stood so, in nanoseconds up to `u64::MAX`: each time is that from one point of a lane to its
+/// next. What comes after a lane's last point isn't counted. In a name a semicolon is written as a
+/// colon, a space and a line feed as `_`.
 pub fn folded_text(alloc: Global, sites: &[Site], points: &[Point]) -> Result<String, AllocError>
     ensures { IfOk result (λ text. string_bytes text ≡ folded sites.now points.now) }
 {
@@ -59,7 +60,7 @@ fn sum_up(alloc: Global, sites: &[Site], points: &[Point]) -> Result<Sums, Alloc
     Ok(sums)
 }
 
-/// So much more at this stack.
+/// Adds so much to the sum of this stack.
 fn add(sums: &mut Sums, stack: String, time: u64) -> Result<(), AllocError>
     ensures { OnOk result (sums_in sums.new ≡ add (string_bytes stack) time (sums_in sums.old)) }
 {

@@ -2,7 +2,7 @@
 ghost use Rattle.std.specs.Prelude.{◌≡◌, ◌≢◌, ◌∷◌, ◌==◌, [], ℕ, IfSome, OnOk, if◌then◌else◌, unwrap_or};
 ghost use Rattle.std.specs.Option.{option_copied};
 ghost use Rattle.span_core.specs.Span.{number_of};
-ghost use Rattle.span_registry.specs.LaneStack.{leave};
+ghost use Rattle.span_store.specs.LaneStack.{leave};
 ghost use Rattle.span_export.specs.Lanes.{GoesOn, stack_in};
 
 use span_core::{Id, Lane};
@@ -26,7 +26,8 @@ pub(crate) fn stack_of(lanes: &Lanes, lane: Lane) -> Option<&SpanStack>
     Some(stack)
 }
 
-/// Takes over what happened to the stack of its lane. A span that closes there is left: its exit isn't told of any more.
+/// Goes on by what happened to the stack of a lane. A span that closes there is left by that: no
+/// layer is notified of its exit any more.
 pub(crate) fn go_on(alloc: Global, lanes: &mut Lanes, point: &Point) -> Result<(), AllocError>
     ensures { OnOk result (GoesOn point.now lanes.old lanes.new) }
 {

@@ -19,7 +19,7 @@ use span_core::Id;
 use span_times::{Happening, Point};
 use std::alloc::{AllocError, Global};
 
-/// What OpenTelemetry wants to know of a trace beside its points.
+/// What OpenTelemetry asks for of a trace beside its points.
 #[derive(Debug, Drop)]
 pub struct Trace {
     /// The number of the trace, which must not be 0.
@@ -30,11 +30,13 @@ pub struct Trace {
     pub began: u64,
 }
 
-/// The spans that closed among these points, for OpenTelemetry: for each a line that is a request to export it, an
-/// `ExportTraceServiceRequest` in JSON. A span whose opening isn't among the points is left out.
+/// The spans that closed among these points, for OpenTelemetry: for each a line that is a request
+/// to export it, an `ExportTraceServiceRequest` in JSON. A span whose opening isn't among the
+/// points is left out.
 ///
-/// A span has the parent and the events that the timeline found: where it stands under a filter, the nearest span above that this let
-/// by. The events are those behind the opening, so hand over all points since then.
+/// A span has the parent and the events that the timeline found: where it stands under a filter,
+/// the nearest span above that this let by. The events are those behind the opening, so hand over
+/// all points since then.
 pub fn otlp_lines(
     alloc: Global,
     trace: &Trace,

@@ -25,12 +25,13 @@ pub(crate) struct Scale {
     pub(crate) plot: u32,
 }
 
-/// These points as a picture in SVG, this wide and at least 320: for each lane the spans that it was in, a box below those that it
-/// was in already, and its events above them all. What was never left goes on up to the last point. A character that XML doesn't have,
-/// as most control characters, is shown as U+FFFD.
+/// These points as a picture in SVG, this wide and at least 320: for each lane the spans that it
+/// was in, a box below those that it was in already, and its events above them all. What was never
+/// left goes on up to the last point. A character that XML doesn't have, as most control
+/// characters, is shown as U+FFFD.
 ///
-/// A box has the colour of its span's level, and its name where there is room for it. It takes time that grows as the square of
-/// how many boxes there are: it is meant for what a person can look at.
+/// A box has the colour of its span's level, and its name where there is room for it. It takes time
+/// that grows as the square of how many boxes there are: it is meant for what a person can look at.
 pub fn timeline_svg(
     alloc: Global,
     sites: &[Site],
@@ -190,7 +191,7 @@ impl Area {
         }
     }
 
-    /// There is room for a name.
+    /// Whether the box has room for a name.
     fn has_room(&self, name: &str) -> bool
         ensures { result ≡ has_room name.now self.now }
     {

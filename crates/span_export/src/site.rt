@@ -18,11 +18,11 @@ use std::collections::BTreeMap;
 pub struct Site {
     /// The number of the callsite.
     pub callsite: u64,
-    /// Its level.
+    /// The callsite's level.
     pub level: Level,
-    /// Its name.
+    /// The callsite's name.
     pub name: String,
-    /// Its target.
+    /// The callsite's target.
     pub target: String,
 }
 
@@ -120,7 +120,7 @@ pub(crate) fn name_of(site: Option<&Site>) -> &str
     }
 }
 
-/// Its target, likewise.
+/// The target of a site, and `?` where it is missing.
 pub(crate) fn target_of(site: Option<&Site>) -> &str
     ensures { result.now ≡ targeted (option_copied site.entry) }
 {

@@ -19,14 +19,14 @@ pub(crate) struct Stay {
 }
 
 impl Stay {
-    /// It is on this lane, and isn't over.
+    /// Whether the stay is on this lane, and not over.
     fn lasts(&self, lane: Lane) -> bool
         ensures { result ≡ lasts lane.0 self.now }
     {
         self.lane == lane && self.left.is_none()
     }
 
-    /// It is of this span, too.
+    /// Whether the stay is on this lane, of this span, and not over.
     fn lasts_in(&self, lane: Lane, span: Id) -> bool
         ensures { result ≡ lasts_in lane.0 (number_of span) self.now }
     {
@@ -34,7 +34,8 @@ impl Stay {
     }
 }
 
-/// The stays of lanes in spans, in the order in which they began. One ends where its span is left, or closes there.
+/// The stays of lanes in spans, in the order in which they began. One ends where its span is left,
+/// or closes there.
 pub(crate) fn stays(alloc: Global, points: &[Point]) -> Result<Vec<Stay>, AllocError>
     ensures { IfOk result (λ stays. stays.items ≡ stays_of points.now) }
 {

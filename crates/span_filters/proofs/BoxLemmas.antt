@@ -7,8 +7,8 @@ use Rattle.span_core.specs.Filters.{FilterSet}
 use Rattle.span_core.specs.declared.level.LevelFilter.{LevelFilter}
 use Rattle.span_filters.specs.Boxed.{KeepsLaw, KeepsLevelLaw, LevelsLawfully, StepsLawfully}
 use Rattle.span_filters.specs.Filter.{FilterLaws, FilterLevelLaws, FilterLevelSteps, FilterSteps}
+use Rattle.span_store.specs.Store.{RegistryState}
 use Rattle.span_registry.specs.Behaviour.{Behaviour, Conduct, Notice}
-use Rattle.span_registry.specs.Store.{RegistryState}
 use Rattle.span_registry.specs.View.{view_of}
 
 -- a filter that keeps the law keeps it as an object
@@ -24,7 +24,8 @@ law_kept laws f e lane under v g w s = record {
 }
 
 -- the same of levels
-pub level_law_kept : {F : Type 0} {has : F → Behaviour → Type 0} {steps : FilterSteps F} {levelled : FilterLevelSteps F} {acts : F → Conduct → Type 0} → FilterLaws has steps acts → FilterLevelLaws has levelled acts
+pub level_law_kept : {F : Type 0} {has : F → Behaviour → Type 0} {steps : FilterSteps F} {levelled : FilterLevelSteps F} {acts : F → Conduct → Type 0}
+    → FilterLaws has steps acts → FilterLevelLaws has levelled acts
     → (f : F) (l : LevelFilter) (g : F) → levelled f l g → KeepsLevelLaw has acts l f g
 level_law_kept laws levels f l g s = record {
   answers = λ a h. let x = levels.answers f l g a s h in (x.0, record { answered = x.1; honest = laws.honest g x.0 x.1 });
@@ -39,24 +40,30 @@ pub asked_of_object : {A : Type 0} (x : A) (call lives : Lft) (P : Type 0) → P
 asked_of_object x call lives P p = (refl, λ i. (tt, ((λ a m. i a (mem-append_right call m)), p)))
 
 -- the object that was called is the one in the box: where it goes on so and keeps the law, so does the box
-pub boxed_lawfully : {I : Type 0} {V : I → Type 0} {B : Type 0} (boxed : (i : I) → V i → B) (has : B → Behaviour → Type 0) (inside : FilterSteps B) (acts : B → Conduct → Type 0)
-    (x y : (i : I) × V i) → x ≡ y → (e : Notice) (lane : ℕ) (under : FilterSet) (v : RegistryState) (z : V x.0) (w : RegistryState) → inside (boxed x.0 x.1) e lane under v (boxed x.0 z) w
-    → KeepsLaw (λ k. has (boxed x.0 k)) (λ k. acts (boxed x.0 k)) e (view_of v.store lane under) x.1 z → StepsLawfully has inside acts (boxed y.0 y.1) e lane under v (boxed x.0 z) w
+pub boxed_lawfully : {I : Type 0} {V : I → Type 0}
+    {B : Type 0} (boxed : (i : I) → V i → B) (has : B → Behaviour → Type 0) (inside : FilterSteps B) (acts : B → Conduct → Type 0)
+    (x y : (i : I) × V i) → x ≡ y
+    → (e : Notice) (lane : ℕ) (under : FilterSet) (v : RegistryState) (z : V x.0) (w : RegistryState) → inside (boxed x.0 x.1) e lane under v (boxed x.0 z) w
+    → KeepsLaw (λ k. has (boxed x.0 k)) (λ k. acts (boxed x.0 k)) e (view_of v.store lane under) x.1 z
+    → StepsLawfully has inside acts (boxed y.0 y.1) e lane under v (boxed x.0 z) w
 boxed_lawfully {I} {V} boxed has inside acts x y same e lane under v z w taken law =
     subst (λ (p : (i : I) × V i). StepsLawfully has inside acts (boxed p.0 p.1) e lane under v (boxed x.0 z) w) same
     (record { taken = taken; law = record { answers = law.answers; conduct = law.conduct } })
 
 -- the same, lent on another context, where that has the same lane, the same filters and the same registries
-pub carried_over : {B : Type 0} {has : B → Behaviour → Type 0} {inside : FilterSteps B} {acts : B → Conduct → Type 0} {x y : B} {e : Notice} {lane mid : ℕ} {under down : FilterSet} {v u w r : RegistryState}
+pub carried_over : {B : Type 0} {has : B → Behaviour → Type 0}
+    {inside : FilterSteps B} {acts : B → Conduct → Type 0} {x y : B} {e : Notice} {lane mid : ℕ} {under down : FilterSet} {v u w r : RegistryState}
     → StepsLawfully has inside acts x e lane under v y w → lane ≡ mid → under ≡ down → v ≡ u → w ≡ r → StepsLawfully has inside acts x e mid down u y r
-carried_over {has = has} {inside = inside} {acts = acts} {x = x} {y = y} {e = e} {lane = lane} {mid = mid} {under = under} {down = down} {v = v} {u = u} {w = w} {r = r} steps a b c d =
+carried_over {has = has} {inside = inside}
+    {acts = acts} {x = x} {y = y} {e = e} {lane = lane} {mid = mid} {under = under} {down = down} {v = v} {u = u} {w = w} {r = r} steps a b c d =
     subst (λ l. StepsLawfully has inside acts x e l down u y r) a
     (subst (λ n. StepsLawfully has inside acts x e lane n u y r) b
     (subst (λ s. StepsLawfully has inside acts x e lane under s y r) c
     (subst (λ s. StepsLawfully has inside acts x e lane under v y s) d steps)))
 
 -- the same where a level is set
-pub boxed_level : {I : Type 0} {V : I → Type 0} {B : Type 0} (boxed : (i : I) → V i → B) (has : B → Behaviour → Type 0) (inside : FilterLevelSteps B) (acts : B → Conduct → Type 0)
+pub boxed_level : {I : Type 0} {V : I → Type 0}
+    {B : Type 0} (boxed : (i : I) → V i → B) (has : B → Behaviour → Type 0) (inside : FilterLevelSteps B) (acts : B → Conduct → Type 0)
     (x y : (i : I) × V i) → x ≡ y → (l : LevelFilter) (z : V x.0) → inside (boxed x.0 x.1) l (boxed x.0 z)
     → KeepsLevelLaw (λ k. has (boxed x.0 k)) (λ k. acts (boxed x.0 k)) l x.1 z → LevelsLawfully has inside acts (boxed y.0 y.1) l (boxed x.0 z)
 boxed_level {I} {V} boxed has inside acts x y same l z taken law =
@@ -64,5 +71,6 @@ boxed_level {I} {V} boxed has inside acts x y same l z taken law =
     (record { taken = taken; law = record { answers = law.answers; conduct = law.conduct } })
 
 -- where the object stays as it is, so does the box
-pub boxed_same : {I : Type 0} {V : I → Type 0} {B : Type 0} (boxed : (i : I) → V i → B) (x y : (i : I) × V i) → x ≡ y → (z : V x.0) → z ≡ x.1 → boxed x.0 z ≡ boxed y.0 y.1
+pub boxed_same : {I : Type 0} {V : I → Type 0} {B : Type 0} (boxed : (i : I) → V i → B) (x y : (i : I) × V i)
+    → x ≡ y → (z : V x.0) → z ≡ x.1 → boxed x.0 z ≡ boxed y.0 y.1
 boxed_same {I} {V} boxed x y same z e = ap (boxed x.0) e ∙ ap (λ (p : (i : I) × V i). boxed p.0 p.1) same

@@ -1,5 +1,6 @@
 -- Every view is shown by some context: of any store, on any lane, under any mask.
-use Rattle.std.proofs.Common.{◌≡◌, ◌∙◌, ⊎_elim, ℕ, zero, suc, ◌+◌, ◌-◌, ◌*◌, ◌<◌, ◌≤◌, ◌^◌, ◌==◌, ◌&&◌, Bool, true, false, List, [], ◌∷◌, None, Some, arith, pow-suc, ap, refl, sym}
+use Rattle.std.proofs.Common.{◌≡◌, ◌∙◌, ⊎_elim, ℕ, zero, suc, ◌+◌, ◌-◌, ◌*◌, ◌<◌, ◌≤◌, ◌^◌, ◌==◌, ◌&&◌, Bool, true, false, List, [], ◌∷◌, None, Some, arith}
+use Rattle.std.proofs.Common.{pow-suc, ap, refl, sym}
 use Rattle.std.proofs.lemmas.Bool.{cases_lt}
 use Rattle.std.proofs.lemmas.Nat.Bits.{bit_at_cat_high, bit_at_cat_low}
 use Rattle.std.specs.FinMap.{entries, from_entries, get}
@@ -9,9 +10,9 @@ use Rattle.span_core.proofs.SomeBelow.{some_below-same}
 use Rattle.span_core.specs.Filters.{FilterSet, SameMembers, has_filter, meets, refuses}
 use Rattle.span_core.specs.declared.filter.FilterId.{FilterId}
 use Rattle.span_core.specs.declared.filter.FilterMap.{FilterMap}
+use Rattle.span_store.specs.Store.{RegistryState, Span, SpanExtensions, Store}
 use Rattle.span_registry.proofs.Ancestry.{see_each}
 use Rattle.span_registry.specs.Context.{view_in}
-use Rattle.span_registry.specs.Store.{RegistryState, Span, SpanExtensions, Store}
 use Rattle.span_registry.specs.View.{view_of}
 use Rattle.span_registry.specs.declared.context.Context.{Context}
 
@@ -69,7 +70,15 @@ meets_same a b v h = some_below-same 128 (λ n. a n && refuses v n) (λ n. b n &
 
 see_same : (a b : FilterSet) (xs : SpanExtensions) (es : List (ℕ × Span)) → SameMembers a b → see_each a xs es ≡ see_each b xs es
 see_same a b xs [] h = refl
-see_same a b xs (e ∷ es) h = λ i. (e.0, record { metadata = e.1.metadata; parent = e.1.parent; hidden = meets_same a b e.1.verdict h i; extensions = (if meets_same a b e.1.verdict h i then None else get xs e.0) }) ∷ see_same a b xs es h i
+see_same a b xs (e ∷ es) h = λ i. (
+  e.0,
+  record {
+    metadata = e.1.metadata;
+    parent = e.1.parent;
+    hidden = meets_same a b e.1.verdict h i;
+    extensions = (if meets_same a b e.1.verdict h i then None else get xs e.0);
+  },
+) ∷ see_same a b xs es h i
 
 -- and show the same
 view_same : (s : Store) (lane : ℕ) (a b : FilterSet) → SameMembers a b → view_of s lane a ≡ view_of s lane b
@@ -77,16 +86,24 @@ view_same s lane a b h = λ i. record { lane = lane; stack = (view_of s lane a).
 
 -- ---- a context that shows it
 
-module _ {S : Type 0} (registry : S → RegistryState) (with_registry : S → RegistryState → S) (shows : (x : S) (w : RegistryState) → registry (with_registry x w) ≡ w) where
+module _ {S : Type 0}
+    (registry : S → RegistryState) (with_registry : S → RegistryState → S) (shows : (x : S) (w : RegistryState) → registry (with_registry x w) ≡ w) where
   -- the subscriber, if it stood on this store
   abbrev standing_on : S → Store → S
   standing_on x s = with_registry x (record (registry x) { store = s })
 
   -- a look at it from this lane, under this mask
   abbrev look : S → Store → ℕ → FilterSet → Context S
-  look x s lane mask = record { subscriber = Some (record { ref_ptr = (0, 0); now = standing_on x s }); lane = record { 0 = lane }; mask = record { filters = set_of mask; attached = refl } }
+  look x s lane mask = record {
+    subscriber = Some (record { ref_ptr = (0, 0); now = standing_on x s });
+    lane = record { 0 = lane };
+    mask = record { filters = set_of mask; attached = refl };
+  }
 
   -- some context shows the view
   pub shown_by_some : S → (s : Store) (lane : ℕ) (mask : FilterSet) → (c : Context S) × (view_in registry c ≡ view_of s lane mask)
-  shown_by_some x s lane mask =
-      (look x s lane mask, ap (λ (w : RegistryState). view_of w.store lane (has_filter (set_of mask))) (shows x (record (registry x) { store = s })) ∙ view_same s lane (has_filter (set_of mask)) mask (set_is mask))
+  shown_by_some x s lane mask = (
+    look x s lane mask,
+    ap (λ (w : RegistryState). view_of w.store lane (has_filter (set_of mask))) (shows x (record (registry x) { store = s }))
+        ∙ view_same s lane (has_filter (set_of mask)) mask (set_is mask),
+  )

@@ -9,11 +9,12 @@ use Rattle.span_filters.specs.Filter.{FilterLevelSteps, FilterSteps}
 use Rattle.span_filters.specs.declared.combinator.And.{And}
 use Rattle.span_filters.specs.declared.combinator.Not.{Not}
 use Rattle.span_filters.specs.declared.combinator.Or.{Or}
+use Rattle.span_store.specs.Store.{RegistryState}
 use Rattle.span_registry.specs.Behaviour.{Behaviour, Conduct, Notice, notices_of}
-use Rattle.span_registry.specs.Store.{RegistryState}
 use Rattle.span_registry.specs.Subscriber.{SameButExtensions}
 
--- the interest of both: never where either is, always where both are
+-- the interest of a filter that enables what both parts do: never where either is, always where
+-- both are
 abbrev pub and_interest : Interest → Interest → Interest
 and_interest Never j = Never
 and_interest Sometimes Never = Never
@@ -21,7 +22,8 @@ and_interest Sometimes Sometimes = Sometimes
 and_interest Sometimes Always = Sometimes
 and_interest Always j = j
 
--- the interest of either: always where either is, never where both are
+-- the interest of a filter that enables what either part does: always where either is, never where
+-- both are
 abbrev pub or_interest : Interest → Interest → Interest
 or_interest Always j = Always
 or_interest Sometimes Always = Always
@@ -29,23 +31,23 @@ or_interest Sometimes Sometimes = Sometimes
 or_interest Sometimes Never = Sometimes
 or_interest Never j = j
 
--- always and never exchanged
+-- an interest with always and never exchanged
 abbrev pub not_interest : Interest → Interest
 not_interest Always = Never
 not_interest Sometimes = Sometimes
 not_interest Never = Always
 
--- the lesser hint, and none where either is none
+-- the lesser hint of two, and none where either is none
 abbrev pub and_hint : Option LevelFilter → Option LevelFilter → Option LevelFilter
 and_hint (Some f) (Some g) = Some (lesser f g)
 and_hint (Some f) None = None
 and_hint None h = None
 
--- the greater hint, and none where either is none
+-- the greater hint of two, and none where either is none
 abbrev pub or_hint : Option LevelFilter → Option LevelFilter → Option LevelFilter
 or_hint = wider_hint
 
--- what both let by
+-- what a filter answers that enables what both parts do
 abbrev pub and_answers : Behaviour → Behaviour → Behaviour
 and_answers a b = record {
   enabled = λ m v. a.enabled m v && b.enabled m v;
@@ -55,7 +57,7 @@ and_answers a b = record {
   takes = λ l. false;
 }
 
--- what either lets by
+-- what a filter answers that enables what either part does
 abbrev pub or_answers : Behaviour → Behaviour → Behaviour
 or_answers a b = record {
   enabled = λ m v. a.enabled m v || b.enabled m v;
@@ -65,7 +67,8 @@ or_answers a b = record {
   takes = λ l. false;
 }
 
--- the metadata that it refuses; every event; no hint
+-- what a filter answers that enables the metadata that its part refuses: every event is enabled,
+-- and there is no hint
 abbrev pub not_answers : Behaviour → Behaviour
 not_answers a = record {
   enabled = λ m v. not (a.enabled m v);
@@ -85,7 +88,8 @@ pub record HasBoth {A B : Type 0} (join : Behaviour → Behaviour → Behaviour)
   pub has_right : second b right
   pub joined : c ≡ join left right
 
--- it is notified: the first part, which may write extensions, and then the second
+-- a filter of two parts is notified: the first part, which may write extensions, and then the
+-- second
 pub record StepsBoth {A B : Type 0} (first : FilterSteps A) (second : FilterSteps B) (a : A) (b : B)
     (e : Notice) (lane : ℕ) (under : FilterSet) (v : RegistryState) (c : A) (d : B)
     (w : RegistryState) : Type 0 where
@@ -94,7 +98,7 @@ pub record StepsBoth {A B : Type 0} (first : FilterSteps A) (second : FilterStep
   pub extensions : SameButExtensions v between
   pub right : second b e lane under between d w
 
--- it has the conduct of its parts, which are notified, and take no level
+-- a filter of two parts has the conduct of its parts, which are notified, and take no level
 pub record ActsBoth {A B : Type 0} (join : Behaviour → Behaviour → Behaviour)
     (first : A → Conduct → Type 0) (second : B → Conduct → Type 0) (a : A) (b : B)
     (c : Conduct) : Type 0 where
@@ -111,28 +115,28 @@ pub record HasOne {A : Type 0} (turn : Behaviour → Behaviour) (part : A → Be
   pub has_inside : part a inside
   pub turned : c ≡ turn inside
 
--- and its conduct
+-- the conduct of a filter of one part
 pub record ActsOne {A : Type 0} (turn : Behaviour → Behaviour) (part : A → Conduct → Type 0) (a : A)
     (c : Conduct) : Type 0 where
   pub inside : Conduct
   pub acts_inside : part a inside
   pub turned : c ≡ (λ h. turn (inside (notices_of h)))
 
--- the filter has these parts, the first one first
+-- a filter that enables what both parts do has these parts, the first one first
 pub record IsAnd {A B : Type 0} (f : And A B) (a : A) (b : B) : Type 0 where
   pub first : f.a ≡ a
   pub second : f.b ≡ b
 
--- the same of a filter that passes what either part does
+-- a filter that enables what either part does has these parts, the first one first
 pub record IsOr {A B : Type 0} (f : Or A B) (a : A) (b : B) : Type 0 where
   pub first : f.a ≡ a
   pub second : f.b ≡ b
 
--- the filter has this part
+-- a filter that enables what its part refuses has this part
 abbrev pub IsNot : {A : Type 0} → Not A → A → Type 0
 IsNot f a = f.a ≡ a
 
--- everything
+-- the answers of a filter that enables everything
 abbrev pub all_answers : Behaviour
 all_answers = record {
   enabled = λ m v. true;
@@ -142,53 +146,57 @@ all_answers = record {
   takes = λ l. false;
 }
 
--- the answers of an optional filter: those of the filter that it holds, and everything where it holds none
+-- the answers of an optional filter: those of the filter that it holds; where it holds none,
+-- everything is enabled
 abbrev pub HasPart : {F : Type 0} → (F → Behaviour → Type 0) → Option F → Behaviour → Type 0
 HasPart has (Some f) a = has f a
 HasPart has None a = a ≡ all_answers
 
--- it is notified: the filter that it holds, or nobody
+-- an optional filter is notified: the filter that it holds, or nobody
 abbrev pub StepsPart : {F : Type 0} → FilterSteps F → FilterSteps (Option F)
 StepsPart steps (Some f) e lane under v (Some g) w = steps f e lane under v g w
 StepsPart steps (Some f) e lane under v None w = ⊥
 StepsPart steps None e lane under v (Some g) w = ⊥
 StepsPart steps None e lane under v None w = w ≡ v
 
--- its level is set: that of the filter that it holds
+-- the level of an optional filter is set: that of the filter that it holds
 abbrev pub LevelsPart : {F : Type 0} → FilterLevelSteps F → FilterLevelSteps (Option F)
 LevelsPart levelled (Some f) l (Some g) = levelled f l g
 LevelsPart levelled None l None = ⊤
 LevelsPart levelled f l g = ⊥
 
--- and its conduct
+-- the conduct of an optional filter: that of the filter that it holds; where it holds none,
+-- everything is enabled
 abbrev pub ActsPart : {F : Type 0} → (F → Conduct → Type 0) → Option F → Conduct → Type 0
 ActsPart acts (Some f) b = acts f b
 ActsPart acts None b = b ≡ (λ h. all_answers)
 
--- the first part of a filter that passes what both parts do
+-- the first part of a filter that enables what both parts do
 abbrev pub first_of_and : {A B : Type 0} → And A B → A
 first_of_and f = f.a
 
--- its second part
+-- the second part of a filter that enables what both parts do
 abbrev pub second_of_and : {A B : Type 0} → And A B → B
 second_of_and f = f.b
 
--- the first part of a filter that passes what either part does
+-- the first part of a filter that enables what either part does
 abbrev pub first_of_or : {A B : Type 0} → Or A B → A
 first_of_or f = f.a
 
--- its second part
+-- the second part of a filter that enables what either part does
 abbrev pub second_of_or : {A B : Type 0} → Or A B → B
 second_of_or f = f.b
 
--- the part of a filter that passes what its part doesn't
+-- the part of a filter that enables what its part refuses
 abbrev pub part_of_not : {A : Type 0} → Not A → A
 part_of_not f = f.a
 
--- one holds of the first part, the other of the second
+-- of a filter that enables what both parts do, one predicate holds of the first part, the other of
+-- the second
 abbrev pub AndPartsAre : {A B : Type 0} → (A → Type 0) → (B → Type 0) → And A B → Type 0
 AndPartsAre first second f = first (first_of_and f) × second (second_of_and f)
 
--- the same of the parts of a filter that passes what either does
+-- of a filter that enables what either part does, one predicate holds of the first part, the other
+-- of the second
 abbrev pub OrPartsAre : {A B : Type 0} → (A → Type 0) → (B → Type 0) → Or A B → Type 0
 OrPartsAre first second f = first (first_of_or f) × second (second_of_or f)

@@ -1,21 +1,19 @@
 -- What a filter by level answers.
-use Rattle.std.specs.Prelude.{◌≡◌, Bool, true, false, not, if◌then◌else◌, [], ◌∷◌, Some, refl}
-use Rattle.std.proofs.Common.{ap, subst, sym, ◌∙◌}
+use Rattle.std.specs.Prelude.{◌≡◌, Bool, true, if◌then◌else◌, [], ◌∷◌, Some}
 use Rattle.span_core.specs.Level.{passes_level}
 use Rattle.span_core.specs.Metadata.{level_of}
 use Rattle.span_core.specs.declared.interest.Interest.TheVariants.{Always, Never}
 use Rattle.span_core.specs.declared.interest.Interest.{Interest}
 use Rattle.span_core.specs.declared.level.LevelFilter.{LevelFilter}
-use Rattle.span_filters.specs.Filter.{FilterLaws, FilterLevelLaws, FilterLevelSteps, equal_alike, settled_answers, unmoved}
-use Rattle.span_registry.specs.Behaviour.{Behaviour, AreAlikeHistories, AreHonest, Conduct, History, IsPlain, OfLevel, Notice, OfNotice}
-use Rattle.span_registry.specs.Conducts.{after_level}
-use Rattle.span_registry.specs.View.{View, view_of}
+use Rattle.span_filters.specs.Filter.{FilterLevelSteps}
+use Rattle.span_registry.specs.Behaviour.{Behaviour, Conduct, History, OfLevel, OfNotice}
 
--- always or never, by whether metadata pass
+-- the interest of a filter by level: always or never, by whether metadata are enabled
 abbrev pub interest_by : Bool → Interest
 interest_by passes = if passes then Always else Never
 
--- the levels that pass it; every event; it is its own hint
+-- what a filter by level answers: levels up to its own are enabled, and every event; its hint is
+-- its level
 abbrev pub level_answers : LevelFilter → Behaviour
 level_answers f = record {
   enabled = λ m v. passes_level f (level_of m);
@@ -31,81 +29,14 @@ level_after f [] = f
 level_after f (OfNotice e v ∷ h) = level_after f h
 level_after f (OfLevel l ∷ h) = level_after l h
 
--- it answers by that level
+-- the conduct of a filter by level: it answers by the level that it last took
 abbrev pub level_conduct : LevelFilter → Conduct
 level_conduct f h = level_answers (level_after f h)
 
--- and acts so
+-- a filter by level acts by the level that it last took
 abbrev pub ActsByLevel : LevelFilter → Conduct → Type 0
 ActsByLevel f b = b ≡ level_conduct f
 
--- it becomes the given one
+-- a filter by level becomes the level that it is given
 abbrev pub level_taken : FilterLevelSteps LevelFilter
 level_taken f l g = g ≡ l
-
--- where the interest is so, metadata pass, or not
-pub always_passes : (b : Bool) → interest_by b ≡ Always → b ≡ true
-always_passes true e = refl
-always_passes false e = absurd (cc)
-
-pub never_passes : (b : Bool) → interest_by b ≡ Never → b ≡ false
-never_passes true e = absurd (cc)
-never_passes false e = refl
-
-not_passed : (b : Bool) → not b ≡ true → b ≡ false
-not_passed true e = absurd (cc)
-not_passed false e = refl
-
--- what a filter by level answers is honest
-pub level_honest : (f : LevelFilter) → AreHonest (level_answers f)
-level_honest f = record {
-  always = λ m v e. always_passes _ e;
-  never = λ m v e. never_passes _ e;
-  above = λ m v e. not_passed _ e;
-  alike = λ m k e. ap (λ l. interest_by (passes_level f l)) e.level;
-}
-
-level_same : (f g : LevelFilter) (h k : History) → f ≡ g → AreAlikeHistories h k
-    → level_after f h ≡ level_after g k
-level_same f g [] [] e a = e
-level_same f g (OfNotice d v ∷ h) (OfNotice n w ∷ k) e a = level_same f g h k e a.2
-level_same f g (OfLevel l ∷ h) (OfLevel m ∷ k) e a = level_same l m h k a.0 a.1
-level_same f g h k e a = absurd a
-
--- and plain, since it looks at no view
-pub level_plain : (f : LevelFilter) → IsPlain (level_conduct f)
-level_plain f = record {
-  answers = λ h. record { enabled = λ m v w e. refl; event = λ e v w d. refl };
-  history = λ h k a. ap level_answers (level_same f f h k refl a);
-}
-
--- a conduct, once it was notified
-abbrev after : Notice → View → Conduct → Conduct
-after e v c = λ k. c (OfNotice e v ∷ k)
-
--- so it keeps the law of filters
-pub level_laws : FilterLaws (settled_answers level_answers) unmoved ActsByLevel
-level_laws = record {
-  honest = λ f a h. subst AreHonest (sym h) (level_honest f);
-  keeps =
-      λ f e lane under v g w a s h. (
-        a,
-        subst (λ k. settled_answers level_answers k a) (sym s.0) h,
-        record { interest = refl; hint = refl },
-      );
-  plain = λ f b h. subst IsPlain (sym h) (level_plain f);
-  now = λ f b h. ap (λ (c : Conduct). c []) h;
-  only = λ f a b d h. equal_alike a (b []) (d ∙ sym (ap (λ (c : Conduct). c []) h));
-  goes_on =
-      λ f e lane under v g w b h s.
-      subst (λ k. ActsByLevel k (λ n. b (OfNotice e (view_of v.store lane under) ∷ n))) (sym s.0)
-      (ap (after e (view_of v.store lane under)) h);
-}
-
--- and that of levels
-pub level_levels : FilterLevelLaws (settled_answers level_answers) level_taken ActsByLevel
-level_levels = record {
-  answers = λ f l g a s h. (level_answers g, refl);
-  goes_on =
-      λ f l g b s h. subst (λ k. ActsByLevel k (after_level l b)) (sym s) (ap (after_level l) h);
-}

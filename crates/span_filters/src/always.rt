@@ -1,5 +1,5 @@
 //! Filters that can be called without a premise.
-ghost use Rattle.span_filters.specs.Always.{each_part};
+ghost use Rattle.span_filters.specs.laws.Option.{each_part};
 
 use crate::combinator::{And, Not, Or};
 use crate::filter::Filter;
@@ -12,7 +12,7 @@ use span_registry::LookupSpan;
 ///
 /// Own to this port.
 pub trait AlwaysUsableFilter<S: LookupSpan>: Filter<S> {
-    /// It may be asked and notified, whatever has become of it.
+    /// The filter may be asked and notified, whatever has become of it.
     ghost always: { (f : Self) → Self.usable f };
 }
 

@@ -1,111 +1,70 @@
 //! Boxed filters: filters whose type is picked while the program runs.
-ghost use Rattle.span_filters.specs.Boxed.{ActsPlainly, AnswersHonestly, KeepsLaw, KeepsLevelLaw, LevelsInside, LevelsLawfully, StepsInside, StepsLawfully, itself, object_laws, object_levels, replaced};
+ghost use Rattle.span_filters.specs.Boxed.{ActsPlainly, AnswersHonestly, KeepsLaw, KeepsLevelLaw, LevelsInside, LevelsLawfully, StepsInside, StepsLawfully, itself, replaced};
+ghost use Rattle.span_filters.specs.laws.Boxed.{object_laws, object_levels};
 ghost use Rattle.span_filters.specs.Filter.{FilterLevelSteps, FilterSteps, Notified, Says, SaysEnabled, SaysEvent};
-ghost use Rattle.span_registry.specs.Behaviour.{Behaviour, Conduct, OnClose, OnEnter, OnExit, OnNewSpan, OnRecord};
-ghost use Rattle.span_registry.specs.Context.{HasNoRefusals, WritesExtensions, view_in, view_lent};
+ghost use Rattle.span_registry.specs.Behaviour.{Behaviour, Conduct};
+ghost use Rattle.span_registry.specs.Context.{HasNoRefusalsUnlessAsked, WritesExtensions, view_in, view_lent};
+ghost use Rattle.span_registry.specs.Notice.{notice_of};
 ghost use Rattle.std.specs.Prelude.{◌≡◌, false};
 
 use crate::filter::Filter;
-use span_core::{Attributes, Event, Id, Interest, LevelFilter, Metadata, Record};
-use span_registry::{Context, ContextMut, LookupSpan, Registry};
+use span_core::{Event, Interest, LevelFilter, Metadata};
+use span_registry::{Context, ContextMut, LookupSpan, Notice, Registry};
 use std::fmt;
 
 /// A filter over the registry, as an object. Each `Filter<Registry>` that can be let go of is one.
 ///
-/// Its clauses are those of `Filter`. An object brings no law, so each hook has what the law says of it as the clause `keeps`.
+/// The clauses are those of `Filter`. An object brings no law, so each hook has what the law says
+/// of it as the clause `keeps`.
 pub trait DynFilter: Drop {
-    /// It may be asked and notified.
+    /// The filter may be asked and notified.
     ghost dyn_usable: { Self → Type 0 };
 
-    /// What it answers, as it now is.
+    /// What the filter answers, as it now is.
     ghost dyn_answers: { Self → Behaviour → Type 0 };
 
-    /// How it goes on when it is notified.
+    /// How the filter goes on when it is notified.
     ghost dyn_hooked: { FilterSteps Self };
 
-    /// How it goes on when its level is set.
+    /// How the filter goes on when its level is set.
     ghost dyn_levelled: { FilterLevelSteps Self };
 
-    /// How it will answer after each list of notices and levels.
+    /// How the filter will answer after each list of notices and levels.
     ghost dyn_acts: { Self → Conduct → Type 0 };
 
-    /// Whether it wants a span or an event with this metadata.
+    /// Whether the filter enables a span or an event with this metadata.
     fn dyn_enabled(&self, meta: &Metadata, cx: &Context<'_, Registry>) -> bool
         requires { dyn_usable self.now }
         ensures { SaysEnabled (dyn_answers self.now) meta.now (view_in itself cx.now) result };
 
-    /// Its interest in what a callsite with this metadata makes.
+    /// The filter's interest in what a callsite with this metadata makes.
     fn dyn_callsite_enabled(&self, meta: &Metadata) -> Interest
         requires { dyn_usable self.now }
         ensures { Says (dyn_answers self.now) (λ a. a.interest meta.now) result };
 
-    /// Whether it wants this event, of which `dyn_enabled` let the metadata by.
+    /// Whether the filter enables this event, of which `dyn_enabled` enabled the metadata.
     fn dyn_event_enabled(&self, event: &Event<'_>, cx: &Context<'_, Registry>) -> bool
         requires { dyn_usable self.now }
         ensures { SaysEvent (dyn_answers self.now) event.now (view_in itself cx.now) result };
 
-    /// The highest level that it may want, if it knows one.
+    /// The highest level that the filter may enable, if it knows one.
     fn dyn_max_level_hint(&self) -> Option<LevelFilter>
         requires { dyn_usable self.now }
         ensures { Says (dyn_answers self.now) (λ a. a.hint) result };
 
-    /// Notifies of a new span.
-    fn dyn_on_new_span(
-        &mut self,
-        attrs: &Attributes<'_>,
-        id: Id,
-        ctx: &mut ContextMut<'_, Registry>,
-    )
-        requires { dyn_usable self.old }
+    /// Notifies of a new span, of values that a span was given later, or that a span is entered,
+    /// left or closing.
+    fn dyn_notify(&mut self, notice: Notice<'_, '_>, ctx: &mut ContextMut<'_, Registry>)
+        requires usable { dyn_usable self.old }
+        requires refusals { HasNoRefusalsUnlessAsked (notice_of notice) ctx.old }
         ensures usable { dyn_usable self.new }
-        ensures hook { Notified dyn_hooked itself (OnNewSpan attrs.now id) self.old ctx.old
+        ensures hook { Notified dyn_hooked itself (notice_of notice.entry) self.old ctx.old
             self.new ctx.new }
-        ensures keeps { KeepsLaw dyn_answers dyn_acts (OnNewSpan attrs.now id)
+        ensures keeps { KeepsLaw dyn_answers dyn_acts (notice_of notice.entry)
             (view_lent itself ctx.old) self.old self.new }
         ensures written { WritesExtensions itself replaced ctx.old ctx.new };
 
-    /// Notifies of values that a span was given later.
-    fn dyn_on_record(&mut self, id: Id, values: &Record<'_>, ctx: &mut ContextMut<'_, Registry>)
-        requires usable { dyn_usable self.old }
-        requires refusals { HasNoRefusals ctx.old }
-        ensures usable { dyn_usable self.new }
-        ensures hook { Notified dyn_hooked itself (OnRecord id values.now) self.old ctx.old
-            self.new ctx.new }
-        ensures keeps { KeepsLaw dyn_answers dyn_acts (OnRecord id values.now)
-            (view_lent itself ctx.old) self.old self.new }
-        ensures written { WritesExtensions itself replaced ctx.old ctx.new };
-
-    /// Notifies that a span is entered.
-    fn dyn_on_enter(&mut self, id: Id, ctx: &mut ContextMut<'_, Registry>)
-        requires usable { dyn_usable self.old }
-        requires refusals { HasNoRefusals ctx.old }
-        ensures usable { dyn_usable self.new }
-        ensures hook { Notified dyn_hooked itself (OnEnter id) self.old ctx.old self.new ctx.new }
-        ensures keeps { KeepsLaw dyn_answers dyn_acts (OnEnter id) (view_lent itself ctx.old)
-            self.old self.new }
-        ensures written { WritesExtensions itself replaced ctx.old ctx.new };
-
-    /// Notifies that a span is left.
-    fn dyn_on_exit(&mut self, id: Id, ctx: &mut ContextMut<'_, Registry>)
-        requires usable { dyn_usable self.old }
-        requires refusals { HasNoRefusals ctx.old }
-        ensures usable { dyn_usable self.new }
-        ensures hook { Notified dyn_hooked itself (OnExit id) self.old ctx.old self.new ctx.new }
-        ensures keeps { KeepsLaw dyn_answers dyn_acts (OnExit id) (view_lent itself ctx.old)
-            self.old self.new }
-        ensures written { WritesExtensions itself replaced ctx.old ctx.new };
-
-    /// Notifies that a span is closing, while it can still be read.
-    fn dyn_on_close(&mut self, id: Id, ctx: &mut ContextMut<'_, Registry>)
-        requires usable { dyn_usable self.old }
-        requires refusals { HasNoRefusals ctx.old }
-        ensures usable { dyn_usable self.new }
-        ensures hook { Notified dyn_hooked itself (OnClose id) self.old ctx.old self.new ctx.new }
-        ensures keeps { KeepsLaw dyn_answers dyn_acts (OnClose id) (view_lent itself ctx.old)
-            self.old self.new }
-        ensures written { WritesExtensions itself replaced ctx.old ctx.new };
-
-    /// Sets its level, and answers whether it takes one. Else nothing changes.
+    /// Sets the filter's level, and answers whether it takes one. Else nothing changes.
     fn dyn_set_level(&mut self, level: LevelFilter) -> bool
         requires { dyn_usable self.old }
         ensures usable { dyn_usable self.new }
@@ -142,29 +101,8 @@ impl<F: Filter<Registry> + Drop> DynFilter for F {
         self.max_level_hint()
     }
 
-    fn dyn_on_new_span(
-        &mut self,
-        attrs: &Attributes<'_>,
-        id: Id,
-        ctx: &mut ContextMut<'_, Registry>,
-    ) {
-        self.on_new_span(attrs, id, ctx);
-    }
-
-    fn dyn_on_record(&mut self, id: Id, values: &Record<'_>, ctx: &mut ContextMut<'_, Registry>) {
-        self.on_record(id, values, ctx);
-    }
-
-    fn dyn_on_enter(&mut self, id: Id, ctx: &mut ContextMut<'_, Registry>) {
-        self.on_enter(id, ctx);
-    }
-
-    fn dyn_on_exit(&mut self, id: Id, ctx: &mut ContextMut<'_, Registry>) {
-        self.on_exit(id, ctx);
-    }
-
-    fn dyn_on_close(&mut self, id: Id, ctx: &mut ContextMut<'_, Registry>) {
-        self.on_close(id, ctx);
+    fn dyn_notify(&mut self, notice: Notice<'_, '_>, ctx: &mut ContextMut<'_, Registry>) {
+        self.notify(notice, ctx);
     }
 
     fn dyn_set_level(&mut self, level: LevelFilter) -> bool {
@@ -172,8 +110,9 @@ impl<F: Filter<Registry> + Drop> DynFilter for F {
     }
 }
 
-/// A filter in a box, which adds nothing to it. It is a filter over each subscriber: what it is asked and notified of, the
-/// filter in the box is, over the registry that the subscriber stands on, from the same lane and under the same mask.
+/// A filter in a box, which adds nothing to it. It is a filter over each subscriber: what it is
+/// asked and notified of, the filter in the box is, over the registry that the subscriber stands
+/// on, from the same lane and under the same mask.
 ///
 /// A filter of a concrete type is boxed, one without closures and without boxes. Stands for
 /// `Box<dyn tracing_subscriber::layer::Filter<S> + Send + Sync>` where that is a filter.
@@ -234,35 +173,9 @@ impl<S: LookupSpan> Filter<S> for BoxedFilter {
         self.object.dyn_max_level_hint()
     }
 
-    fn on_new_span(&mut self, attrs: &Attributes<'_>, id: Id, ctx: &mut ContextMut<'_, S>) {
+    fn notify(&mut self, notice: Notice<'_, '_>, ctx: &mut ContextMut<'_, S>) {
         let mut root = ctx.take_root();
-        self.object
-            .dyn_on_new_span(attrs, id, &mut ctx.over(&mut root));
-        ctx.put_root(root);
-    }
-
-    fn on_record(&mut self, id: Id, values: &Record<'_>, ctx: &mut ContextMut<'_, S>) {
-        let mut root = ctx.take_root();
-        self.object
-            .dyn_on_record(id, values, &mut ctx.over(&mut root));
-        ctx.put_root(root);
-    }
-
-    fn on_enter(&mut self, id: Id, ctx: &mut ContextMut<'_, S>) {
-        let mut root = ctx.take_root();
-        self.object.dyn_on_enter(id, &mut ctx.over(&mut root));
-        ctx.put_root(root);
-    }
-
-    fn on_exit(&mut self, id: Id, ctx: &mut ContextMut<'_, S>) {
-        let mut root = ctx.take_root();
-        self.object.dyn_on_exit(id, &mut ctx.over(&mut root));
-        ctx.put_root(root);
-    }
-
-    fn on_close(&mut self, id: Id, ctx: &mut ContextMut<'_, S>) {
-        let mut root = ctx.take_root();
-        self.object.dyn_on_close(id, &mut ctx.over(&mut root));
+        self.object.dyn_notify(notice, &mut ctx.over(&mut root));
         ctx.put_root(root);
     }
 

@@ -1,13 +1,15 @@
 //! Filters made of closures.
 ghost use Rattle.std.specs.Prelude.{◌≡◌, None, Some, IfErr, IfOk, IfSome, IsOk};
 ghost use Rattle.span_core.specs.declared.error.TraceError.TheVariants.{OutOfMemory};
-ghost use Rattle.span_filters.specs.Filter.{ActsSteadily, CopiesAlike, steady_levels};
-ghost use Rattle.span_filters.specs.Closure.{ClosuresAre, HasTestAnswers, HasViewAnswers, TestsBy, TestsInBy, callsite_in, test_in, test_laws, view_hint_in, view_laws, view_test_in};
+ghost use Rattle.span_filters.specs.Filter.{ActsSteadily, CopiesAlike};
+ghost use Rattle.span_filters.specs.laws.Filter.{steady_levels};
+ghost use Rattle.span_filters.specs.Closure.{ClosuresAre, HasTestAnswers, HasViewAnswers, TestsBy, TestsInBy, callsite_in, test_in, view_hint_in, view_test_in};
+ghost use Rattle.span_filters.specs.laws.Closure.{test_laws, view_laws};
 
 use crate::filter::Filter;
 use crate::function::{Function, FunctionIn, NoCallsite};
-use span_core::{Attributes, Event, Id, Interest, LevelFilter, Metadata, Record, TraceError};
-use span_registry::{Context, ContextMut, LookupSpan};
+use span_core::{Event, Interest, LevelFilter, Metadata, TraceError};
+use span_registry::{Context, ContextMut, LookupSpan, Notice};
 use std::fmt;
 
 /// A filter by a test of metadata alone.
@@ -29,7 +31,7 @@ pub fn filter_fn<F: Function<Metadata, bool>>(f: F) -> FilterFn<F>
 }
 
 impl<F: Function<Metadata, bool>> FilterFn<F> {
-    /// A filter by this test, without a hint.
+    /// A filter by this test of metadata, without a hint.
     pub fn new(enabled: F) -> FilterFn<F>
         ensures { TestsBy result enabled None }
     {
@@ -39,7 +41,8 @@ impl<F: Function<Metadata, bool>> FilterFn<F> {
         }
     }
 
-    /// The same with this hint. It has answers only where its test refuses every level above the hint.
+    /// The filter with this hint. It has answers only where its test refuses every level above the
+    /// hint.
     pub fn with_max_level_hint(self, hint: LevelFilter) -> FilterFn<F>
         ensures { TestsBy result (test_in self) (Some hint) }
     {
@@ -51,7 +54,8 @@ impl<F: Function<Metadata, bool>> FilterFn<F> {
 }
 
 impl<F: Clone> FilterFn<F> {
-    /// A copy, where each copy of its test equals the test. Refused for want of memory alone.
+    /// A copy of the filter, where each copy of its test equals the test. Refused for want of
+    /// memory alone.
     pub fn clone(&self) -> Result<FilterFn<F>, TraceError>
         requires { CopiesAlike F.is_clone (test_in self.now) }
         ensures copied { IfOk result (λ copy. copy ≡ self.now) }
@@ -105,15 +109,8 @@ impl<S: LookupSpan, F: Function<Metadata, bool>> Filter<S> for FilterFn<F> {
         self.max_level_hint
     }
 
-    fn on_new_span(&mut self, _attrs: &Attributes<'_>, _id: Id, _ctx: &mut ContextMut<'_, S>) {}
-
-    fn on_record(&mut self, _id: Id, _values: &Record<'_>, _ctx: &mut ContextMut<'_, S>) {}
-
-    fn on_enter(&mut self, _id: Id, _ctx: &mut ContextMut<'_, S>) {}
-
-    fn on_exit(&mut self, _id: Id, _ctx: &mut ContextMut<'_, S>) {}
-
-    fn on_close(&mut self, _id: Id, _ctx: &mut ContextMut<'_, S>) {}
+    #[inline(always)]
+    fn notify(&mut self, _notice: Notice<'_, '_>, _ctx: &mut ContextMut<'_, S>) {}
 
     fn set_level(&mut self, _level: LevelFilter) -> bool {
         false // Its closure goes by no level.
@@ -149,7 +146,8 @@ pub struct DynFilterFn<F, R> {
     max_level_hint: Option<LevelFilter>,
 }
 
-/// A filter by this test of metadata and of the context, without a closure for the interest and without a hint.
+/// A filter by this test of metadata and of the context, without a closure for the interest and
+/// without a hint.
 ///
 /// Stands for `tracing_subscriber::filter::dynamic_filter_fn`.
 pub fn dynamic_filter_fn<F>(f: F) -> DynFilterFn<F, NoCallsite>
@@ -159,7 +157,8 @@ pub fn dynamic_filter_fn<F>(f: F) -> DynFilterFn<F, NoCallsite>
 }
 
 impl<F> DynFilterFn<F, NoCallsite> {
-    /// A filter by this test, without a closure for the interest and without a hint.
+    /// A filter by this test of metadata and of the context, without a closure for the interest and
+    /// without a hint.
     pub fn new(enabled: F) -> DynFilterFn<F, NoCallsite>
         ensures { TestsInBy result enabled None None }
     {
@@ -172,7 +171,8 @@ impl<F> DynFilterFn<F, NoCallsite> {
 }
 
 impl<F, R: Drop> DynFilterFn<F, R> {
-    /// The same with this hint. It has answers only where its test refuses every level above the hint.
+    /// The filter with this hint. It has answers only where its test refuses every level above the
+    /// hint.
     pub fn with_max_level_hint(self, hint: LevelFilter) -> DynFilterFn<F, R>
         ensures { TestsInBy result (view_test_in self) (callsite_in self) (Some hint) }
     {
@@ -183,7 +183,8 @@ impl<F, R: Drop> DynFilterFn<F, R> {
         }
     }
 
-    /// The same with this closure for the interest. It has answers only where that interest is honest beside the test.
+    /// The filter with this closure for the interest. It has answers only where that interest is
+    /// honest beside the test.
     pub fn with_callsite_filter<Q: Function<Metadata, Interest>>(
         self,
         callsite_enabled: Q,
@@ -205,7 +206,8 @@ impl<F, R: Drop> DynFilterFn<F, R> {
 }
 
 impl<F: Clone, R: Clone> DynFilterFn<F, R> {
-    /// A copy, where each copy of its closures equals the closure. Refused for want of memory alone.
+    /// A copy of the filter, where each copy of its closures equals the closure. Refused for want
+    /// of memory alone.
     pub fn clone(&self) -> Result<DynFilterFn<F, R>, TraceError>
         requires test { CopiesAlike F.is_clone (view_test_in self.now) }
         requires callsite { IfSome (callsite_in self.now) (CopiesAlike R.is_clone) }
@@ -268,15 +270,8 @@ impl<S: LookupSpan, F: FunctionIn<Metadata, S, bool>, R: Function<Metadata, Inte
         self.max_level_hint
     }
 
-    fn on_new_span(&mut self, _attrs: &Attributes<'_>, _id: Id, _ctx: &mut ContextMut<'_, S>) {}
-
-    fn on_record(&mut self, _id: Id, _values: &Record<'_>, _ctx: &mut ContextMut<'_, S>) {}
-
-    fn on_enter(&mut self, _id: Id, _ctx: &mut ContextMut<'_, S>) {}
-
-    fn on_exit(&mut self, _id: Id, _ctx: &mut ContextMut<'_, S>) {}
-
-    fn on_close(&mut self, _id: Id, _ctx: &mut ContextMut<'_, S>) {}
+    #[inline(always)]
+    fn notify(&mut self, _notice: Notice<'_, '_>, _ctx: &mut ContextMut<'_, S>) {}
 
     fn set_level(&mut self, _level: LevelFilter) -> bool {
         false // Its closure goes by no level.

@@ -1,18 +1,22 @@
 //! Filters made of filters.
 ghost use Rattle.span_filters.specs.Combinator.{ActsBoth, ActsOne, ActsPart, AndPartsAre, HasBoth, HasOne, HasPart, IsAnd, IsNot, IsOr, LevelsPart, OrPartsAre, StepsBoth, StepsPart, and_answers, first_of_and, first_of_or, not_answers, or_answers, part_of_not, second_of_and, second_of_or};
 ghost use Rattle.span_core.specs.Level.{greater, lesser};
-ghost use Rattle.span_filters.specs.CombinatorLaws.{and_alike, not_alike, or_alike, and_honest, and_plain, and_same, both_laws, both_levels, not_honest, not_plain, not_same, one_laws, one_levels, part_laws, part_levels, or_honest, or_plain, or_same};
+ghost use Rattle.span_filters.specs.laws.And.{and_alike, and_honest, and_plain, and_same};
+ghost use Rattle.span_filters.specs.laws.Combinator.{both_laws, both_levels, one_laws, one_levels};
+ghost use Rattle.span_filters.specs.laws.Not.{not_alike, not_honest, not_plain, not_same};
+ghost use Rattle.span_filters.specs.laws.Option.{part_laws, part_levels};
+ghost use Rattle.span_filters.specs.laws.Or.{or_alike, or_honest, or_plain, or_same};
 ghost use Rattle.span_core.specs.declared.error.TraceError.TheVariants.{OutOfMemory};
 ghost use Rattle.span_filters.specs.Filter.{CopiesAlike};
 ghost use Rattle.std.specs.Prelude.{◌≡◌, IfErr, IfOk, IfSome, IsOk};
 
 use crate::filter::Filter;
-use span_core::{Attributes, Event, Id, Interest, LevelFilter, Metadata, Record, TraceError};
-use span_registry::{Context, ContextMut, LookupSpan};
+use span_core::{Event, Interest, LevelFilter, Metadata, TraceError};
+use span_registry::{Context, ContextMut, LookupSpan, Notice};
 use std::fmt;
 
-/// Wants what both of its parts want. It asks the first part first, and the second only where the first doesn't decide:
-/// of the hint it always asks both.
+/// A filter that enables what both of its parts do. The first part is asked first, and the second
+/// only where the first doesn't decide: of the hint both are always asked.
 ///
 /// Stands for `tracing_subscriber::filter::combinator::And`.
 #[derive(Debug, Drop)]
@@ -21,8 +25,8 @@ pub struct And<A, B> {
     b: B,
 }
 
-/// Wants what either of its parts wants. It asks the first part first, and the second only where the first doesn't decide:
-/// of its interest it always asks both.
+/// A filter that enables what either of its parts does. The first part is asked first, and the
+/// second only where the first doesn't decide: of the interest both are always asked.
 ///
 /// Stands for `tracing_subscriber::filter::combinator::Or`.
 #[derive(Debug, Drop)]
@@ -31,7 +35,7 @@ pub struct Or<A, B> {
     b: B,
 }
 
-/// Wants the metadata that its part doesn't want, and every event of them.
+/// A filter that enables the metadata that its part refuses, and every event of them.
 ///
 /// Stands for `tracing_subscriber::filter::combinator::Not`.
 #[derive(Drop)]
@@ -40,7 +44,8 @@ pub struct Not<A> {
 }
 
 impl<A: Clone, B: Clone> And<A, B> {
-    /// A copy, where each copy of a part equals the part. Refused for want of memory alone.
+    /// A copy of the filter, where each copy of a part equals the part. Refused for want of memory
+    /// alone.
     pub fn clone(&self) -> Result<And<A, B>, TraceError>
         requires first { CopiesAlike A.is_clone (first_of_and self.now) }
         requires second { CopiesAlike B.is_clone (second_of_and self.now) }
@@ -55,7 +60,8 @@ impl<A: Clone, B: Clone> And<A, B> {
 }
 
 impl<A: Clone, B: Clone> Or<A, B> {
-    /// A copy, where each copy of a part equals the part. Refused for want of memory alone.
+    /// A copy of the filter, where each copy of a part equals the part. Refused for want of memory
+    /// alone.
     pub fn clone(&self) -> Result<Or<A, B>, TraceError>
         requires first { CopiesAlike A.is_clone (first_of_or self.now) }
         requires second { CopiesAlike B.is_clone (second_of_or self.now) }
@@ -70,7 +76,8 @@ impl<A: Clone, B: Clone> Or<A, B> {
 }
 
 impl<A: Clone> Not<A> {
-    /// A copy, where each copy of the part equals the part. Refused for want of memory alone.
+    /// A copy of the filter, where each copy of the part equals the part. Refused for want of
+    /// memory alone.
     pub fn clone(&self) -> Result<Not<A>, TraceError>
         requires { CopiesAlike A.is_clone (part_of_not self.now) }
         ensures copied { IfOk result (λ copy. copy ≡ self.now) }
@@ -82,14 +89,14 @@ impl<A: Clone> Not<A> {
     }
 }
 
-/// The filter by level that passes less.
+/// The filter by level that enables less.
 fn lesser_of(f: LevelFilter, g: LevelFilter) -> LevelFilter
     ensures { result ≡ lesser f g }
 {
     if f <= g { f } else { g }
 }
 
-/// The filter by level that passes more.
+/// The filter by level that enables more.
 fn greater_of(f: LevelFilter, g: LevelFilter) -> LevelFilter
     ensures { result ≡ greater f g }
 {
@@ -129,24 +136,9 @@ impl<S: LookupSpan, A: Filter<S>> Filter<S> for Not<A> {
         None // What its part refuses, it wants: at any level.
     }
 
-    fn on_new_span(&mut self, attrs: &Attributes<'_>, id: Id, ctx: &mut ContextMut<'_, S>) {
-        self.a.on_new_span(attrs, id, ctx);
-    }
-
-    fn on_record(&mut self, id: Id, values: &Record<'_>, ctx: &mut ContextMut<'_, S>) {
-        self.a.on_record(id, values, ctx);
-    }
-
-    fn on_enter(&mut self, id: Id, ctx: &mut ContextMut<'_, S>) {
-        self.a.on_enter(id, ctx);
-    }
-
-    fn on_exit(&mut self, id: Id, ctx: &mut ContextMut<'_, S>) {
-        self.a.on_exit(id, ctx);
-    }
-
-    fn on_close(&mut self, id: Id, ctx: &mut ContextMut<'_, S>) {
-        self.a.on_close(id, ctx);
+    #[inline(always)]
+    fn notify(&mut self, notice: Notice<'_, '_>, ctx: &mut ContextMut<'_, S>) {
+        self.a.notify(notice, ctx);
     }
 
     fn set_level(&mut self, _level: LevelFilter) -> bool {
@@ -207,29 +199,10 @@ impl<S: LookupSpan, A: Filter<S>, B: Filter<S>> Filter<S> for And<A, B> {
         }
     }
 
-    fn on_new_span(&mut self, attrs: &Attributes<'_>, id: Id, ctx: &mut ContextMut<'_, S>) {
-        self.a.on_new_span(attrs, id, ctx);
-        self.b.on_new_span(attrs, id, ctx);
-    }
-
-    fn on_record(&mut self, id: Id, values: &Record<'_>, ctx: &mut ContextMut<'_, S>) {
-        self.a.on_record(id, values, ctx);
-        self.b.on_record(id, values, ctx);
-    }
-
-    fn on_enter(&mut self, id: Id, ctx: &mut ContextMut<'_, S>) {
-        self.a.on_enter(id, ctx);
-        self.b.on_enter(id, ctx);
-    }
-
-    fn on_exit(&mut self, id: Id, ctx: &mut ContextMut<'_, S>) {
-        self.a.on_exit(id, ctx);
-        self.b.on_exit(id, ctx);
-    }
-
-    fn on_close(&mut self, id: Id, ctx: &mut ContextMut<'_, S>) {
-        self.a.on_close(id, ctx);
-        self.b.on_close(id, ctx);
+    #[inline(always)]
+    fn notify(&mut self, notice: Notice<'_, '_>, ctx: &mut ContextMut<'_, S>) {
+        self.a.notify(notice, ctx);
+        self.b.notify(notice, ctx);
     }
 
     fn set_level(&mut self, _level: LevelFilter) -> bool {
@@ -286,29 +259,10 @@ impl<S: LookupSpan, A: Filter<S>, B: Filter<S>> Filter<S> for Or<A, B> {
         Some(greater_of(first, second))
     }
 
-    fn on_new_span(&mut self, attrs: &Attributes<'_>, id: Id, ctx: &mut ContextMut<'_, S>) {
-        self.a.on_new_span(attrs, id, ctx);
-        self.b.on_new_span(attrs, id, ctx);
-    }
-
-    fn on_record(&mut self, id: Id, values: &Record<'_>, ctx: &mut ContextMut<'_, S>) {
-        self.a.on_record(id, values, ctx);
-        self.b.on_record(id, values, ctx);
-    }
-
-    fn on_enter(&mut self, id: Id, ctx: &mut ContextMut<'_, S>) {
-        self.a.on_enter(id, ctx);
-        self.b.on_enter(id, ctx);
-    }
-
-    fn on_exit(&mut self, id: Id, ctx: &mut ContextMut<'_, S>) {
-        self.a.on_exit(id, ctx);
-        self.b.on_exit(id, ctx);
-    }
-
-    fn on_close(&mut self, id: Id, ctx: &mut ContextMut<'_, S>) {
-        self.a.on_close(id, ctx);
-        self.b.on_close(id, ctx);
+    #[inline(always)]
+    fn notify(&mut self, notice: Notice<'_, '_>, ctx: &mut ContextMut<'_, S>) {
+        self.a.notify(notice, ctx);
+        self.b.notify(notice, ctx);
     }
 
     fn set_level(&mut self, _level: LevelFilter) -> bool {
@@ -326,21 +280,21 @@ impl<A: fmt::Debug> fmt::Debug for Not<A> {
 ///
 /// Stands for `tracing_subscriber::filter::FilterExt`.
 pub trait FilterExt: Sized {
-    /// Wants what this filter and the other both want.
+    /// A filter that enables what this filter and the other both do.
     final fn and<B>(self, other: B) -> And<Self, B>
         ensures { IsAnd result self other }
     {
         And { a: self, b: other }
     }
 
-    /// Wants what this filter or the other wants.
+    /// A filter that enables what this filter or the other does.
     final fn or<B>(self, other: B) -> Or<Self, B>
         ensures { IsOr result self other }
     {
         Or { a: self, b: other }
     }
 
-    /// Wants the metadata that this filter doesn't want.
+    /// A filter that enables the metadata that this filter refuses.
     final fn not(self) -> Not<Self>
         ensures { IsNot result self }
     {
@@ -393,33 +347,10 @@ impl<S: LookupSpan, F: Filter<S>> Filter<S> for Option<F> {
         }
     }
 
-    fn on_new_span(&mut self, attrs: &Attributes<'_>, id: Id, ctx: &mut ContextMut<'_, S>) {
+    #[inline(always)]
+    fn notify(&mut self, notice: Notice<'_, '_>, ctx: &mut ContextMut<'_, S>) {
         if let Some(filter) = self {
-            filter.on_new_span(attrs, id, ctx);
-        }
-    }
-
-    fn on_record(&mut self, id: Id, values: &Record<'_>, ctx: &mut ContextMut<'_, S>) {
-        if let Some(filter) = self {
-            filter.on_record(id, values, ctx);
-        }
-    }
-
-    fn on_enter(&mut self, id: Id, ctx: &mut ContextMut<'_, S>) {
-        if let Some(filter) = self {
-            filter.on_enter(id, ctx);
-        }
-    }
-
-    fn on_exit(&mut self, id: Id, ctx: &mut ContextMut<'_, S>) {
-        if let Some(filter) = self {
-            filter.on_exit(id, ctx);
-        }
-    }
-
-    fn on_close(&mut self, id: Id, ctx: &mut ContextMut<'_, S>) {
-        if let Some(filter) = self {
-            filter.on_close(id, ctx);
+            filter.notify(notice, ctx);
         }
     }
 

@@ -2,99 +2,72 @@
 ghost use Rattle.std.specs.Prelude.{◌≡◌, ⊤, false};
 ghost use Rattle.span_filters.specs.Filter.{FilterLaws, FilterLevelLaws, FilterLevelSteps, FilterSteps, Notified, Says, SaysEnabled, SaysEvent, unlevelled, unmoved};
 ghost use Rattle.span_registry.specs.Behaviour.{Behaviour, Conduct, OnClose, OnEnter, OnExit, OnNewSpan, OnRecord};
-ghost use Rattle.span_registry.specs.Context.{HasNoRefusals, WritesExtensions, view_in};
+ghost use Rattle.span_registry.specs.Context.{HasNoRefusals, HasNoRefusalsUnlessAsked, WritesExtensions, view_in};
+ghost use Rattle.span_registry.specs.Notice.{notice_of};
 
 use span_core::{Attributes, Event, Id, Interest, LevelFilter, Metadata, Record};
-use span_registry::{Context, ContextMut, LookupSpan};
+use span_registry::{Context, ContextMut, LookupSpan, Notice};
 
 /// Decides which spans and events a layer is notified of, on a subscriber of the type `S`.
 ///
-/// What it answers are functions of its own state, of what it is asked, and of the view that the context gives. These are
-/// honest: where its interest in a callsite is `always`, what that callsite makes passes in every view; where it is `never`,
-/// or the level is above the hint, it passes in none; and metadata that show the same are of one interest. Hooks keep interest
-/// and hint, and write extensions alone. Filters are asked of new spans and of events alone, so only the hook of a new span may be
-/// lent refusals.
+/// A filter's answers are functions of its own state, of what it is asked, and of the view that the
+/// context gives. These are honest: where its interest in a callsite is `always`, what that
+/// callsite makes is enabled in every view; where it is `never`, or the level is above the hint, in
+/// none; and metadata that show the same are of one interest. Hooks keep interest and hint, and
+/// write extensions alone. Filters are asked of new spans and of events alone, so only with a new
+/// span refusals may be lent.
 ///
-/// Stands for `tracing_subscriber::layer::Filter`, with hooks that change the filter. No method has a default body.
+/// Stands for `tracing_subscriber::layer::Filter`, with one hook that changes the filter, `notify`,
+/// in the place of five: the five have their names still, for who calls them.
 pub trait Filter<S: LookupSpan> {
-    /// It may be asked and notified. Only one that holds a closure says more than that it always may.
+    /// The filter may be asked and notified. Only one that holds a closure says more than that it
+    /// always may.
     ghost usable: { Self → Type 0 } = { λ f. ⊤ };
 
-    /// What it answers, as it now is.
+    /// What the filter answers, as it now is.
     ghost has_answers: { Self → Behaviour → Type 0 };
 
-    /// How it goes on when it is notified. By default it stays as it is, and writes nothing.
+    /// How the filter goes on when it is notified. By default it is unchanged, and writes nothing.
     ghost hooked: { FilterSteps Self } = { unmoved };
 
-    /// How it goes on when its level is set. By default it takes none, and stays as it is.
+    /// How the filter goes on when its level is set. By default it takes none, and is unchanged.
     ghost levelled: { FilterLevelSteps Self } = { unlevelled };
 
-    /// How it will answer after each list of notices and levels. Only a filter to which extensions make no difference has such a conduct:
-    /// it is plain.
+    /// How the filter will answer after each list of notices and levels. Only a filter to which
+    /// extensions make no difference has such a conduct: it is plain.
     ghost acts: { Self → Conduct → Type 0 };
 
-    /// Whether it wants a span or an event with this metadata.
+    /// Whether the filter enables a span or an event with this metadata.
     fn enabled(&self, meta: &Metadata, cx: &Context<'_, S>) -> bool
         requires { usable self.now }
         ensures { SaysEnabled (has_answers self.now) meta.now (view_in S.registry cx.now) result };
 
-    /// Its interest in what a callsite with this metadata makes.
+    /// The filter's interest in what a callsite with this metadata makes.
     fn callsite_enabled(&self, meta: &Metadata) -> Interest
         requires { usable self.now }
         ensures { Says (has_answers self.now) (λ a. a.interest meta.now) result };
 
-    /// Whether it wants this event, of which `enabled` let the metadata by.
+    /// Whether the filter enables this event, of which `enabled` enabled the metadata.
     fn event_enabled(&self, event: &Event<'_>, cx: &Context<'_, S>) -> bool
         requires { usable self.now }
         ensures { SaysEvent (has_answers self.now) event.now (view_in S.registry cx.now) result };
 
-    /// The highest level that it may want, if it knows one.
+    /// The highest level that the filter may enable, if it knows one.
     fn max_level_hint(&self) -> Option<LevelFilter>
         requires { usable self.now }
         ensures { Says (has_answers self.now) (λ a. a.hint) result };
 
-    /// Notifies of a new span.
-    fn on_new_span(&mut self, attrs: &Attributes<'_>, id: Id, ctx: &mut ContextMut<'_, S>)
-        requires { usable self.old }
+    /// Notifies of a new span, of values that a span was given later, or that a span is entered,
+    /// left or closing.
+    fn notify(&mut self, notice: Notice<'_, '_>, ctx: &mut ContextMut<'_, S>)
+        requires usable { usable self.old }
+        requires refusals { HasNoRefusalsUnlessAsked (notice_of notice) ctx.old }
         ensures usable { usable self.new }
-        ensures hook { Notified hooked S.registry (OnNewSpan attrs.now id) self.old ctx.old
+        ensures hook { Notified hooked S.registry (notice_of notice.entry) self.old ctx.old
             self.new ctx.new }
         ensures written { WritesExtensions S.registry S.with_registry ctx.old ctx.new };
 
-    /// Notifies of values that a span was given later.
-    fn on_record(&mut self, id: Id, values: &Record<'_>, ctx: &mut ContextMut<'_, S>)
-        requires usable { usable self.old }
-        requires refusals { HasNoRefusals ctx.old }
-        ensures usable { usable self.new }
-        ensures hook { Notified hooked S.registry (OnRecord id values.now) self.old ctx.old
-            self.new ctx.new }
-        ensures written { WritesExtensions S.registry S.with_registry ctx.old ctx.new };
-
-    /// Notifies that a span is entered.
-    fn on_enter(&mut self, id: Id, ctx: &mut ContextMut<'_, S>)
-        requires usable { usable self.old }
-        requires refusals { HasNoRefusals ctx.old }
-        ensures usable { usable self.new }
-        ensures hook { Notified hooked S.registry (OnEnter id) self.old ctx.old self.new ctx.new }
-        ensures written { WritesExtensions S.registry S.with_registry ctx.old ctx.new };
-
-    /// Notifies that a span is left.
-    fn on_exit(&mut self, id: Id, ctx: &mut ContextMut<'_, S>)
-        requires usable { usable self.old }
-        requires refusals { HasNoRefusals ctx.old }
-        ensures usable { usable self.new }
-        ensures hook { Notified hooked S.registry (OnExit id) self.old ctx.old self.new ctx.new }
-        ensures written { WritesExtensions S.registry S.with_registry ctx.old ctx.new };
-
-    /// Notifies that a span is closing, while it can still be read.
-    fn on_close(&mut self, id: Id, ctx: &mut ContextMut<'_, S>)
-        requires usable { usable self.old }
-        requires refusals { HasNoRefusals ctx.old }
-        ensures usable { usable self.new }
-        ensures hook { Notified hooked S.registry (OnClose id) self.old ctx.old self.new ctx.new }
-        ensures written { WritesExtensions S.registry S.with_registry ctx.old ctx.new };
-
-    /// Sets its level, and answers whether it takes one. Else nothing changes.
+    /// Sets the filter's level, and answers whether it takes one. Else nothing changes.
     ///
     /// Own to this port.
     fn set_level(&mut self, level: LevelFilter) -> bool
@@ -104,9 +77,69 @@ pub trait Filter<S: LookupSpan> {
         ensures level { levelled self.old level self.new }
         ensures unchanged { result ≡ false → self.new ≡ self.old };
 
-    /// Its answers are honest, hooks keep interest and hint, and it is plain where it says so.
+    /// The filter's answers are honest, its hooks keep interest and hint, and it is plain where it
+    /// says so.
     ghost laws: { FilterLaws has_answers hooked acts };
 
-    /// It has honest answers after a level too, and is plain where it was.
+    /// The filter has honest answers after a level too, and is plain where it was.
     ghost levels: { FilterLevelLaws has_answers levelled acts };
+
+    /// Notifies of a new span.
+    final fn on_new_span(&mut self, attrs: &Attributes<'_>, id: Id, ctx: &mut ContextMut<'_, S>)
+        requires { usable self.old }
+        ensures usable { usable self.new }
+        ensures hook { Notified hooked S.registry (OnNewSpan attrs.now id) self.old ctx.old
+            self.new ctx.new }
+        ensures written { WritesExtensions S.registry S.with_registry ctx.old ctx.new }
+    {
+        self.notify(Notice::NewSpan(attrs, id), ctx);
+    }
+
+    /// Notifies of values that a span was given later.
+    final fn on_record(&mut self, id: Id, values: &Record<'_>, ctx: &mut ContextMut<'_, S>)
+        requires usable { usable self.old }
+        requires refusals { HasNoRefusals ctx.old }
+        ensures usable { usable self.new }
+        ensures hook { Notified hooked S.registry (OnRecord id values.now) self.old ctx.old
+            self.new ctx.new }
+        ensures written { WritesExtensions S.registry S.with_registry ctx.old ctx.new }
+    {
+        self.notify(Notice::Record(id, values), ctx);
+    }
+
+    /// Notifies that a span is entered.
+    final fn on_enter(&mut self, id: Id, ctx: &mut ContextMut<'_, S>)
+        requires usable { usable self.old }
+        requires refusals { HasNoRefusals ctx.old }
+        ensures usable { usable self.new }
+        ensures hook { Notified hooked S.registry (OnEnter id) self.old ctx.old
+            self.new ctx.new }
+        ensures written { WritesExtensions S.registry S.with_registry ctx.old ctx.new }
+    {
+        self.notify(Notice::Enter(id), ctx);
+    }
+
+    /// Notifies that a span is left.
+    final fn on_exit(&mut self, id: Id, ctx: &mut ContextMut<'_, S>)
+        requires usable { usable self.old }
+        requires refusals { HasNoRefusals ctx.old }
+        ensures usable { usable self.new }
+        ensures hook { Notified hooked S.registry (OnExit id) self.old ctx.old
+            self.new ctx.new }
+        ensures written { WritesExtensions S.registry S.with_registry ctx.old ctx.new }
+    {
+        self.notify(Notice::Exit(id), ctx);
+    }
+
+    /// Notifies that a span is closing, while it can still be read.
+    final fn on_close(&mut self, id: Id, ctx: &mut ContextMut<'_, S>)
+        requires usable { usable self.old }
+        requires refusals { HasNoRefusals ctx.old }
+        ensures usable { usable self.new }
+        ensures hook { Notified hooked S.registry (OnClose id) self.old ctx.old
+            self.new ctx.new }
+        ensures written { WritesExtensions S.registry S.with_registry ctx.old ctx.new }
+    {
+        self.notify(Notice::Close(id), ctx);
+    }
 }

@@ -10,15 +10,16 @@ use span_registry::Context;
 
 /// A function of a value. Every closure of a reference is one.
 ///
-/// It stands for the bound `Fn(&T) -> R`, which can't be called yet where `T` holds a `&'static str`, as metadata do.
+/// Stands for the bound `Fn(&T) -> R`, which can't be called yet where `T` holds a `&'static str`,
+/// as metadata do.
 pub trait Function<T, R> {
-    /// It may be called, of every value.
+    /// The function may be called, of every value.
     ghost callable: { Self → Type 0 };
 
-    /// What it may give of a value.
+    /// What the function may give of a value.
     ghost gives: { Self → T → R → Type 0 };
 
-    /// Calls it.
+    /// Calls the function.
     fn apply(&self, value: &T) -> R
         requires { callable self.now }
         ensures { gives self.now value.now result };
@@ -36,13 +37,13 @@ impl<T, R, F: Fn(&T) -> R> Function<T, R> for F {
 
 /// A function of a value and a context. Every closure of references to both is one.
 pub trait FunctionIn<T, S, R> {
-    /// It may be called, of every value in every context.
+    /// The function may be called, of every value in every context.
     ghost callable_in: { Self → Type 0 };
 
-    /// What it may give of a value in a context.
+    /// What the function may give of a value in a context.
     ghost gives_in: { Self → T → Context S → R → Type 0 };
 
-    /// Calls it.
+    /// Calls the function.
     fn apply_in(&self, value: &T, cx: &Context<'_, S>) -> R
         requires { callable_in self.now }
         ensures { gives_in self.now value.now cx.now result };
@@ -58,7 +59,7 @@ impl<T, S, R, F: Fn(&T, &Context<'_, S>) -> R> FunctionIn<T, S, R> for F {
     }
 }
 
-/// Where a filter has no closure for its interest.
+/// Stands where a filter has no closure for its interest.
 #[derive(Clone, Copy, Drop)]
 pub struct NoCallsite;
 

@@ -1,5 +1,6 @@
 //! Filters that are plain. The functions make no call: what they ensure is the law.
-ghost use Rattle.span_filters.specs.Closure.{AnswersAllIn, test_plain, view_plain, view_test_in};
+ghost use Rattle.span_filters.specs.Closure.{AnswersAllIn, view_test_in};
+ghost use Rattle.span_filters.specs.laws.Closure.{test_plain, view_plain};
 ghost use Rattle.span_filters.specs.Filter.{IsSteady, MayBeSteady};
 ghost use Rattle.span_filters.specs.Level.{level_conduct};
 
@@ -14,13 +15,14 @@ pub fn levels_are_plain<S: LookupSpan>(filter: &LevelFilter)
     ensures { ⟦<LevelFilter as Filter<S>>⟧.acts filter.now (level_conduct filter.now) }
 {}
 
-/// A filter by a test of metadata always answers as it does, whatever the extensions.
+/// A filter by a test of metadata always answers as it now does, whatever the extensions.
 pub fn tests_are_plain<S: LookupSpan, F: Function<Metadata, bool>>(filter: &FilterFn<F>)
     ensures { let i = ⟦<FilterFn<F> as Filter<S>>⟧ in IsSteady i.has_answers i.acts filter.now }
 {}
 
-/// A filter by a test of metadata and context does, where its answers are the same in views that differ in extensions alone, and
-/// its closure has an answer to all metadata on each store.
+/// A filter by a test of metadata and context always answers as it now does, whatever the
+/// extensions, where views that differ in extensions alone get equal answers, and its closure has
+/// an answer to all metadata on each store.
 pub fn view_tests_may_be_plain<
     S: LookupSpan,
     F: FunctionIn<Metadata, S, bool>,

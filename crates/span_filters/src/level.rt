@@ -1,10 +1,11 @@
 //! A filter by level.
 ghost use Rattle.span_filters.specs.Filter.{settled_answers};
-ghost use Rattle.span_filters.specs.Level.{ActsByLevel, level_answers, level_laws, level_levels, level_taken};
+ghost use Rattle.span_filters.specs.Level.{ActsByLevel, level_answers, level_taken};
+ghost use Rattle.span_filters.specs.laws.Level.{level_laws, level_levels};
 
 use crate::filter::Filter;
-use span_core::{Attributes, Event, Id, Interest, LevelFilter, Metadata, Record};
-use span_registry::{Context, ContextMut, LookupSpan};
+use span_core::{Event, Interest, LevelFilter, Metadata};
+use span_registry::{Context, ContextMut, LookupSpan, Notice};
 
 impl<S: LookupSpan> Filter<S> for LevelFilter {
     ghost has_answers = { settled_answers level_answers };
@@ -37,15 +38,8 @@ impl<S: LookupSpan> Filter<S> for LevelFilter {
         Some(*self)
     }
 
-    fn on_new_span(&mut self, _attrs: &Attributes<'_>, _id: Id, _ctx: &mut ContextMut<'_, S>) {}
-
-    fn on_record(&mut self, _id: Id, _values: &Record<'_>, _ctx: &mut ContextMut<'_, S>) {}
-
-    fn on_enter(&mut self, _id: Id, _ctx: &mut ContextMut<'_, S>) {}
-
-    fn on_exit(&mut self, _id: Id, _ctx: &mut ContextMut<'_, S>) {}
-
-    fn on_close(&mut self, _id: Id, _ctx: &mut ContextMut<'_, S>) {}
+    #[inline(always)]
+    fn notify(&mut self, _notice: Notice<'_, '_>, _ctx: &mut ContextMut<'_, S>) {}
 
     fn set_level(&mut self, level: LevelFilter) -> bool {
         *self = level;

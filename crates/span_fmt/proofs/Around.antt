@@ -12,15 +12,15 @@ use Rattle.span_core.specs.declared.event.Event.{Event}
 use Rattle.span_core.specs.declared.field.FieldValue.{FieldValue}
 use Rattle.span_core.specs.declared.level.Level.{Level}
 use Rattle.span_core.specs.declared.metadata.Metadata.{Metadata}
+use Rattle.span_extensions.specs.declared.extensions.ExtensionMap.{ExtensionMap}
+use Rattle.span_store.specs.Store.{RegistryState, Span, Store}
 use Rattle.span_registry.proofs.Ancestry.{seen_at}
 use Rattle.span_registry.specs.Context.{GivesScope, LooksAtLent, filters_in, filters_lent, lane_lent, subscriber_lent, view_lent}
-use Rattle.span_registry.specs.Laws.{ShowsPlainly}
+use Rattle.span_registry.specs.Law.{ShowsPlainly}
 use Rattle.span_registry.specs.References.{Reference, reference_to}
-use Rattle.span_registry.specs.Store.{RegistryState, Span, Store}
 use Rattle.span_registry.specs.View.{View, event_shown, plain_view, scope, see, view_of}
 use Rattle.span_registry.specs.declared.context.Context.{Context}
 use Rattle.span_registry.specs.declared.context.ContextMut.{ContextMut}
-use Rattle.span_registry.specs.declared.extensions.ExtensionMap.{ExtensionMap}
 use Rattle.span_registry.specs.declared.scope.Scope.{Scope}
 use Rattle.span_fmt.proofs.Scopes.{lent}
 use Rattle.span_fmt.specs.Known.{SpanTexts}
@@ -36,27 +36,31 @@ stored_name o = option_map_or (λ s. name_of s.metadata) o []
 abbrev stored_label : Store → SpanTexts → ℕ → List ℕ
 stored_label s known x = label_text (stored_name (get s.spans x)) (known x)
 
-seen_name : (mask : FilterSet) (e : Option ExtensionMap) (o : Option Span) → option_map_or (λ r. name_of r.metadata) (option_map (λ r. see mask r e) o) [] ≡ stored_name o
+seen_name : (mask : FilterSet) (e : Option ExtensionMap) (o : Option Span)
+    → option_map_or (λ r. name_of r.metadata) (option_map (λ r. see mask r e) o) [] ≡ stored_name o
 seen_name mask e None = refl
 seen_name mask e (Some r) = refl
 
 label_seen : (s : Store) (lane : ℕ) (mask : FilterSet) (known : SpanTexts) (x : ℕ) → seen_label (view_of s lane mask) known x ≡ stored_label s known x
 label_seen s lane mask known x =
-    ap (λ (name : List ℕ). label_text name (known x)) (ap (λ o. option_map_or (λ r. name_of r.metadata) o []) (seen_at s mask x) ∙ seen_name mask (get s.extensions x) (get s.spans x))
+    ap (λ (name : List ℕ). label_text name (known x))
+    (ap (λ o. option_map_or (λ r. name_of r.metadata) o []) (seen_at s mask x) ∙ seen_name mask (get s.extensions x) (get s.spans x))
 
 -- ---- references stand for their spans
 
 reverse-map : {A B : Type 0} (f : A → B) (xs : List A) → reverse (map f xs) ≡ map f (reverse xs)
 reverse-map f [] = refl
 reverse-map f (x ∷ xs) =
-    reverse-append (f x ∷ []) (map f xs) ∙ ap (λ t. t ++ (f x ∷ [])) (reverse-map f xs) ∙ sym (map-append f (reverse xs) (x ∷ [])) ∙ ap (map f) (sym (reverse-append (x ∷ []) xs))
+    reverse-append (f x ∷ []) (map f xs)
+    ∙ ap (λ t. t ++ (f x ∷ [])) (reverse-map f xs) ∙ sym (map-append f (reverse xs) (x ∷ [])) ∙ ap (map f) (sym (reverse-append (x ∷ []) xs))
 
 flat_map-map : {A B : Type 0} (f : A → B) (g : B → List ℕ) (xs : List A) → flat_map g (map f xs) ≡ flat_map (λ x. g (f x)) xs
 flat_map-map f g [] = refl
 flat_map-map f g (x ∷ xs) = ap (λ (t : List ℕ). g (f x) ++ t) (flat_map-map f g xs)
 
 -- the spans of the scope found are those that the view shows
-pub around_found : {S : Type 0} (registry : S → RegistryState) (c : ContextMut S) (look : Context S) (e : Event) (found : Option (Scope S)) (known : SpanTexts) → LooksAtLent c look → GivesScope registry look (event_shown (event_parent e)) found
+pub around_found : {S : Type 0} (registry : S → RegistryState) (c : ContextMut S) (look : Context S) (e : Event) (found : Option (Scope S)) (known : SpanTexts)
+    → LooksAtLent c look → GivesScope registry look (event_shown (event_parent e)) found
     → flat_map (reference_label known) (reverse (given registry found)) ≡ around_text e (view_lent registry c) known
 around_found {S} registry c look e found known l h =
     let f = reference_to registry (subscriber_lent c) (filters_in look) in
@@ -69,9 +73,11 @@ around_found {S} registry c look e found known l h =
 
 -- ---- what is written of an event is its line
 
-pub line_written : (e : Event) (v : View) (known : SpanTexts) (lane : ℕ) (level : Level) (m : Metadata) (values : List (Bor (List ℕ) × FieldValue)) (begun mid new around : List ℕ)
+pub line_written : (e : Event) (v : View)
+    (known : SpanTexts) (lane : ℕ) (level : Level) (m : Metadata) (values : List (Bor (List ℕ) × FieldValue)) (begun mid new around : List ℕ)
     → begun ≡ begun_text lane level → mid ≡ begun ++ spaced around → new ≡ mid ++ rest_text m values
-    → lane ≡ v.lane → level ≡ level_of (event_metadata e) → around ≡ around_text e v known → m ≡ event_metadata e → values ≡ event_values e → new ≡ event_line e v known
+    → lane ≡ v.lane
+    → level ≡ level_of (event_metadata e) → around ≡ around_text e v known → m ≡ event_metadata e → values ≡ event_values e → new ≡ event_line e v known
 line_written e v known lane level m values begun mid new around first second third lane_is level_is around_is m_is values_is =
     third ∙ ap (λ (t : List ℕ). t ++ rest_text m values) (second ∙ ap (λ (t : List ℕ). t ++ spaced around) first)
     ∙ (λ i. begun_text (lane_is i) (level_is i) ++ spaced (around_is i) ++ rest_text (m_is i) (values_is i))
@@ -90,4 +96,5 @@ module _ (s : Store) (lane : ℕ) (mask : FilterSet) (law : ShowsPlainly s lane 
 
   pub event_plainly : (e : Event) (known : SpanTexts) → event_line e (view_of s lane mask) known ≡ event_line e (plain_view s lane mask) known
   event_plainly e known =
-      ap (λ (around : List ℕ). begun_text lane (level_of (event_metadata e)) ++ spaced around ++ rest_text (event_metadata e) (event_values e)) (around_plainly e known)
+      ap (λ (around : List ℕ). begun_text lane (level_of (event_metadata e)) ++ spaced around ++ rest_text (event_metadata e) (event_values e))
+      (around_plainly e known)

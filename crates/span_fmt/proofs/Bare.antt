@@ -14,6 +14,7 @@ unspaced [] none = refl
 unspaced (b ∷ bytes) none = kept b bytes (λ (e : b ≡ 32). none bytes (ap (λ (x : ℕ). x ∷ bytes) e))
 
 -- what `strip_prefix` leaves
-pub bared : (text : Bor (List ℕ)) (found : Option (Bor (List ℕ))) → MatchOption found ((rest : List ℕ) → text.now ≢ (32 ∷ rest)) (λ x. text.now ≡ 32 ∷ x.now) → (unwrap_or found text).now ≡ bare text.now
+pub bared : (text : Bor (List ℕ)) (found : Option (Bor (List ℕ)))
+    → MatchOption found ((rest : List ℕ) → text.now ≢ (32 ∷ rest)) (λ x. text.now ≡ 32 ∷ x.now) → (unwrap_or found text).now ≡ bare text.now
 bared text None none = sym (unspaced text.now none)
 bared text (Some rest) split = sym (ap bare split)

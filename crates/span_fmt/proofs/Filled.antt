@@ -29,7 +29,8 @@ longer (y ∷ ys) more filled e = not_empty y (ys ++ more) e
 
 -- nor is what it begins with
 begun : {A : Type 0} (lane : ℕ) (spans : List A) (more : List ℕ) → (head_text lane spans ++ more) ≢ []
-begun lane spans more = longer (head_text lane spans) more (longer (decimal lane ++ codes " ") (indent spans) (behind (decimal lane) (codes " ") (not_empty 32 [])))
+begun lane spans more =
+    longer (head_text lane spans) more (longer (decimal lane ++ codes " ") (indent spans) (behind (decimal lane) (codes " ") (not_empty 32 [])))
 
 -- what holds without an error holds at each
 pub at_an_error : {T E P : Type 0} (r : Result T E) → P → IfErr r (λ e. P)
@@ -51,7 +52,8 @@ pub event_line_filled : (e : Event) (v : View) → event_text e v ≢ []
 event_line_filled e v = begun v.lane (spans_round e v) (tail_text (codes "-") (event_metadata e) (event_values e))
 
 -- the line of a span that is shown
-pub span_line_filled : (mark : List ℕ) (x : ℕ) (values : List (Bor (List ℕ) × FieldValue)) (v : View) (m : Metadata) → metadata_shown x v ≡ Some m → span_text mark x values v ≢ []
+pub span_line_filled : (mark : List ℕ) (x : ℕ) (values : List (Bor (List ℕ) × FieldValue)) (v : View) (m : Metadata)
+    → metadata_shown x v ≡ Some m → span_text mark x values v ≢ []
 span_line_filled mark x values v m e none =
     begun v.lane (spans_above x v) (tail_text mark m values)
     (sym (ap (λ (o : Option Metadata). option_map_or (λ m. head_text v.lane (spans_above x v) ++ tail_text mark m values) o []) e) ∙ none)

@@ -28,8 +28,10 @@ one_known x (OnExit id) known spared = sym (append-nil (known x))
 one_known x (OnIdChange id other) known spared = sym (append-nil (known x))
 
 -- what was known, and all that the span was given
-pub all_given : (x : ℕ) (heard : Heard) (known : SpanTexts) → AllByRecursion (λ (told : Told). Spares x told.notice) heard → known_by heard known x ≡ known x ++ flat_map (λ told. given_text x told.notice) heard
+pub all_given : (x : ℕ) (heard : Heard) (known : SpanTexts)
+    → AllByRecursion (λ (told : Told). Spares x told.notice) heard → known_by heard known x ≡ known x ++ flat_map (λ told. given_text x told.notice) heard
 all_given x [] known spared = sym (append-nil (known x))
 all_given x (told ∷ heard) known spared =
     let rest = flat_map (λ told. given_text x told.notice) heard in
-    all_given x heard (known_after told.notice known) spared.1 ∙ ap (λ (t : List ℕ). t ++ rest) (one_known x told.notice known spared.0) ∙ append_assoc (known x) (given_text x told.notice) rest
+    all_given x heard (known_after told.notice known) spared.1
+    ∙ ap (λ (t : List ℕ). t ++ rest) (one_known x told.notice known spared.0) ∙ append_assoc (known x) (given_text x told.notice) rest

@@ -17,8 +17,10 @@ use Rattle.span_fmt.specs.declared.lines.Lines.{Lines}
 use Rattle.span_fmt.specs.declared.page.Page.{Page}
 
 -- of a new span
-pub new_noticed : (attrs : Attributes) (id : Id) (v : View) (x y : Lines) (values : List (Bor (List ℕ) × FieldValue)) → values ≡ values_of attrs → text_of y ≡ text_of x → (has_failed y ≡ false → has_failed x ≡ false)
-    → (has_failed y ≡ false → known_of y ≡ with_values (number_of id) values (known_of x)) → (has_failed y ≡ true → known_of y ≡ known_of x) → (fields_text values ≡ [] → has_failed y ≡ has_failed x) → TakesNotice (OnNewSpan attrs id) v x y
+pub new_noticed : (attrs : Attributes) (id : Id) (v : View) (x y : Lines) (values : List (Bor (List ℕ) × FieldValue))
+    → values ≡ values_of attrs → text_of y ≡ text_of x → (has_failed y ≡ false → has_failed x ≡ false)
+    → (has_failed y ≡ false → known_of y ≡ with_values (number_of id) values (known_of x))
+    → (has_failed y ≡ true → known_of y ≡ known_of x) → (fields_text values ≡ [] → has_failed y ≡ has_failed x) → TakesNotice (OnNewSpan attrs id) v x y
 new_noticed attrs id v x y values is text before known failed free = record {
   before = before;
   line = λ sound. text ∙ sym (append-nil (text_of x));
@@ -29,7 +31,8 @@ new_noticed attrs id v x y values is text before known failed free = record {
 }
 
 -- of an event
-pub event_noticed : (e : Event) (v : View) (x : Lines) (p : Page) → Writes (event_line e v (known_of x)) x.page p → TakesNotice (OnEvent e) v x (record x { page = p })
+pub event_noticed : (e : Event) (v : View) (x : Lines) (p : Page)
+    → Writes (event_line e v (known_of x)) x.page p → TakesNotice (OnEvent e) v x (record x { page = p })
 event_noticed e v x p w = record {
   before = λ sound. (w.whole sound).0;
   line = λ sound. (w.whole sound).1;

@@ -26,7 +26,8 @@ one_line_cut bytes front back cut none =
     ap one_line cut ∙ flat_map-append byte_text front (10 ∷ back) ∙ ap (λ (t : List ℕ). t ++ one_line (10 ∷ back)) (one_line_same front none)
 
 -- a part and the line feed behind it are written, and what is left is behind them
-pub cut_written : (words start old mid new rest front back : List ℕ) → mid ≡ old ++ front → new ≡ mid ++ codes "\\n" → rest ≡ front ++ (10 ∷ back) → HasNoFeed front → old ++ one_line rest ≡ start ++ one_line words
+pub cut_written : (words start old mid new rest front back : List ℕ)
+    → mid ≡ old ++ front → new ≡ mid ++ codes "\\n" → rest ≡ front ++ (10 ∷ back) → HasNoFeed front → old ++ one_line rest ≡ start ++ one_line words
     → new ++ one_line back ≡ start ++ one_line words
 cut_written words start old mid new rest front back first second cut none so_far =
     ap (λ (t : List ℕ). t ++ one_line back) (second ∙ ap (λ (t : List ℕ). t ++ codes "\\n") first)
@@ -36,7 +37,8 @@ cut_written words start old mid new rest front back first second cut none so_far
     ∙ so_far
 
 -- the rest has no line feed, and is written unless memory is refused
-pub rest_written : {T E : Type 0} (r : Result T E) (words start old new rest : List ℕ) → new ≡ (if is_ok r then old ++ rest else old) → HasNoFeed rest → old ++ one_line rest ≡ start ++ one_line words
+pub rest_written : {T E : Type 0} (r : Result T E) (words start old new rest : List ℕ)
+    → new ≡ (if is_ok r then old ++ rest else old) → HasNoFeed rest → old ++ one_line rest ≡ start ++ one_line words
     → OnOk r (new ≡ start ++ one_line words)
 rest_written (Ok v) words start old new rest written none so_far = written ∙ ap (λ (t : List ℕ). old ++ t) (sym (one_line_same rest none)) ∙ so_far
 rest_written (Err e) words start old new rest written none so_far = tt

@@ -16,10 +16,13 @@ use Rattle.span_fmt.specs.Told.{ObserverHears, WritesWhatItHears}
 -- what such a stack says of its outermost observer is that it goes by these steps
 abbrev pub HearsBySteps : {T S : Type 0} → SubscriberOf (WithObserver T S) → ObserverSteps T → Type 0
 HearsBySteps {T} {S} s observed =
-    (x y : WithObserver T S) (heard : Heard) → s.hears x observer_position heard y → ObserverHears observed (layer_of (outer_of x)) heard (layer_of (outer_of y))
+    (x y : WithObserver T S) (heard : Heard)
+    → s.hears x observer_position heard y → ObserverHears observed (layer_of (outer_of x)) heard (layer_of (outer_of y))
 
 module _ {T S : Type 0} {s : SubscriberOf (WithObserver T S)} (observed : ObserverSteps T) {writes : Heard → T → T → Type 0} where
-  pub served_outermost : WritesWhatItHears observed writes → HearsBySteps s observed → (requests : List Request) (answers : Vec Answer Global) (old new : Dispatch (WithObserver T S)) → StaysReadyByRules s old new → ServesList s requests old new answers → length answers.items ≡ length requests → ServesOutermost writes s requests (Ok answers) old new
+  pub served_outermost : WritesWhatItHears observed writes
+      → HearsBySteps s observed → (requests : List Request) (answers : Vec Answer Global) (old new : Dispatch (WithObserver T S)) → StaysReadyByRules s old new
+      → ServesList s requests old new answers → length answers.items ≡ length requests → ServesOutermost writes s requests (Ok answers) old new
   served_outermost law hears requests answers old new ready served each = record {
     ready = ready;
     written = λ now.

@@ -8,9 +8,9 @@ use Rattle.span_core.specs.Filters.{FilterSet}
 use Rattle.span_core.specs.Span.{number_of, recorded_values, values_of}
 use Rattle.span_core.specs.declared.field.FieldValue.{FieldValue}
 use Rattle.span_core.specs.declared.metadata.Metadata.{Metadata}
+use Rattle.span_store.specs.Store.{Store}
 use Rattle.span_registry.specs.Behaviour.{Notice, OnClose, OnEnter, OnEvent, OnExit, OnFollows, OnIdChange, OnNewSpan, OnRecord}
-use Rattle.span_registry.specs.Laws.{ShowsPlainly}
-use Rattle.span_registry.specs.Store.{Store}
+use Rattle.span_registry.specs.Law.{ShowsPlainly}
 use Rattle.span_registry.specs.View.{event_shown, metadata_shown, plain_view, scope, shown, view_of}
 use Rattle.span_fmt.specs.Text.{head_text, tail_text}
 use Rattle.span_fmt.specs.Tree.{notice_text, span_text, spans_above}
@@ -19,10 +19,12 @@ module _ (s : Store) (lane : ℕ) (mask : FilterSet) (law : ShowsPlainly s lane 
   above_plainly : (x : ℕ) → spans_above x (view_of s lane mask) ≡ spans_above x (plain_view s lane mask)
   above_plainly x = ap (drop 1) (ap (scope (view_of s lane mask).spans) (law.shown x) ∙ law.scope (shown x (plain_view s lane mask)))
 
-  span_plainly : (mark : List ℕ) (x : ℕ) (values : List (Bor (List ℕ) × FieldValue)) → span_text mark x values (view_of s lane mask) ≡ span_text mark x values (plain_view s lane mask)
+  span_plainly : (mark : List ℕ) (x : ℕ) (values : List (Bor (List ℕ) × FieldValue))
+      → span_text mark x values (view_of s lane mask) ≡ span_text mark x values (plain_view s lane mask)
   span_plainly mark x values =
       ap (λ (xs : List ℕ). option_map_or (λ m. head_text lane xs ++ tail_text mark m values) (metadata_shown x (view_of s lane mask)) []) (above_plainly x)
-      ∙ ap (λ (o : Option Metadata). option_map_or (λ m. head_text lane (spans_above x (plain_view s lane mask)) ++ tail_text mark m values) o []) (law.metadata x)
+      ∙ ap (λ (o : Option Metadata). option_map_or (λ m. head_text lane (spans_above x (plain_view s lane mask)) ++ tail_text mark m values) o [])
+      (law.metadata x)
 
   -- a notice is written as the view shows it, extensions aside
   pub notice_plainly : (e : Notice) → notice_text e (view_of s lane mask) ≡ notice_text e (plain_view s lane mask)

@@ -23,14 +23,17 @@ module _ {T : Type 0} (observed : ObserverSteps T) (text_of : T → List ℕ) (h
     more : has_failed y ≡ false → (heard : Heard) → text_of y ++ due y heard ≡ text_of x ++ due x (told ∷ heard)
     same : has_failed y ≡ true → text_of y ≡ text_of x
 
-  module _ (none : (x : T) → due x [] ≡ []) (one : (told : Told) (heard : Heard) (x y : Observer T) (a : ObserverHears observed x (told ∷ heard) y) → Goes told (observer_of x) (observer_of a.0)) where
+  module _ (none : (x : T) → due x [] ≡ []) (one : (told : Told) (heard : Heard) (x y : Observer T) (a : ObserverHears observed x (told ∷ heard) y)
+      → Goes told (observer_of x) (observer_of a.0)) where
     -- memory that was refused stays so
-    still_failed : (told : Told) (x y : T) → Goes told x y → has_failed x ≡ true → (b : Bool) → has_failed y ≡ b → (has_failed y ≡ true) × (text_of y ≡ text_of x)
+    still_failed : (told : Told) (x y : T)
+        → Goes told x y → has_failed x ≡ true → (b : Bool) → has_failed y ≡ b → (has_failed y ≡ true) × (text_of y ≡ text_of x)
     still_failed told x y w failed true e = (e, w.same e)
     still_failed told x y w failed false e = absurd (true≢false (sym failed ∙ w.before e))
 
     -- and nothing more is written
-    nothing_more : (heard : Heard) (x y : Observer T) → ObserverHears observed x heard y → has_failed (observer_of x) ≡ true → (has_failed (observer_of y) ≡ true) × (text_of (observer_of y) ≡ text_of (observer_of x))
+    nothing_more : (heard : Heard) (x y : Observer T) → ObserverHears observed x heard y
+        → has_failed (observer_of x) ≡ true → (has_failed (observer_of y) ≡ true) × (text_of (observer_of y) ≡ text_of (observer_of x))
     nothing_more [] x y a failed =
         let same : y ≡ x = sym a in
         (ap (λ (z : Observer T). has_failed (observer_of z)) same ∙ failed, ap (λ (z : Observer T). text_of (observer_of z)) same)
@@ -45,7 +48,8 @@ module _ {T : Type 0} (observed : ObserverSteps T) (text_of : T → List ℕ) (h
     none_due x y e = e ∙ sym (append-nil (text_of x)) ∙ ap (λ (t : List ℕ). text_of x ++ t) (sym (none x))
 
     -- it wrote one line, and then these
-    first_written : (told : Told) (heard : Heard) (x z y : T) → Goes told x z → WritesText text_of has_failed (due z) heard z y → (has_failed z ≡ true → text_of y ≡ text_of z) → (has_failed x ≡ true → (has_failed y ≡ true) × (text_of y ≡ text_of x))
+    first_written : (told : Told) (heard : Heard) (x z y : T) → Goes told x z → WritesText text_of has_failed (due z) heard z y
+        → (has_failed z ≡ true → text_of y ≡ text_of z) → (has_failed x ≡ true → (has_failed y ≡ true) × (text_of y ≡ text_of x))
         → WritesText text_of has_failed (due x) (told ∷ heard) x y
     first_written told heard x z y w rest stopped stays = record {
       whole = λ sound.
@@ -62,13 +66,16 @@ module _ {T : Type 0} (observed : ObserverSteps T) (text_of : T → List ℕ) (h
             (suc some.0, some.1 ∙ w.more e (take some.0 heard))
 
     -- all that is told is written
-    text_written : (x y : Observer T) (heard : Heard) → ObserverHears observed x heard y → WritesText text_of has_failed (due (observer_of x)) heard (observer_of x) (observer_of y)
+    text_written : (x y : Observer T) (heard : Heard)
+        → ObserverHears observed x heard y → WritesText text_of has_failed (due (observer_of x)) heard (observer_of x) (observer_of y)
     text_written x y [] a =
-        let same : text_of (observer_of y) ≡ text_of (observer_of x) ++ due (observer_of x) [] = none_due (observer_of x) (observer_of y) (ap (λ (z : Observer T). text_of (observer_of z)) (sym a)) in
+        let same : text_of (observer_of y) ≡ text_of (observer_of x) ++ due (observer_of x) [] =
+        none_due (observer_of x) (observer_of y) (ap (λ (z : Observer T). text_of (observer_of z)) (sym a)) in
         record { whole = λ sound. (ap (λ (z : Observer T). has_failed (observer_of z)) a ∙ sound, same); beginning = (0, same); stays = nothing_more [] x y a }
     text_written x y (told ∷ heard) a =
         let z = observer_of a.0 in
-        first_written told heard (observer_of x) z (observer_of y) (one told heard x y a) (text_written a.0 y heard a.2) (λ failed. (nothing_more heard a.0 y a.2 failed).1) (nothing_more (told ∷ heard) x y a)
+        first_written told heard (observer_of x) z (observer_of y)
+        (one told heard x y a) (text_written a.0 y heard a.2) (λ failed. (nothing_more heard a.0 y a.2 failed).1) (nothing_more (told ∷ heard) x y a)
 
 -- a line in front of others
 in_front : (line more old new : List ℕ) → new ≡ old ++ line → new ++ more ≡ old ++ (line ++ more)
@@ -79,12 +86,14 @@ in_front line more old new first = ap (λ (t : List ℕ). t ++ more) first ∙ a
 abbrev tree_due : Tree → Heard → List ℕ
 tree_due x heard = heard_text heard
 
-tree_one : (told : Told) (heard : Heard) (x y : Observer Tree) (a : TreeHears x (told ∷ heard) y) → Goes tree_steps tree.text_of tree.has_failed tree_due told (observer_of x) (observer_of a.0)
+tree_one : (told : Told) (heard : Heard) (x y : Observer Tree) (a : TreeHears x (told ∷ heard) y)
+    → Goes tree_steps tree.text_of tree.has_failed tree_due told (observer_of x) (observer_of a.0)
 tree_one told heard x y a =
     let w = subst (λ (v : View). Writes (notice_text told.notice v) (observer_of x).page (observer_of a.0).page) (sym a.1.shown) a.1.step.1.0 in
     record {
       before = λ sound. (w.whole sound).0;
-      more = λ sound more. in_front (notice_text told.notice told.view) (heard_text more) (tree.text_of (observer_of x)) (tree.text_of (observer_of a.0)) (w.whole sound).1;
+      more = λ sound more.
+          in_front (notice_text told.notice told.view) (heard_text more) (tree.text_of (observer_of x)) (tree.text_of (observer_of a.0)) (w.whole sound).1;
       same = w.cut;
     }
 
@@ -98,25 +107,30 @@ abbrev lines_due : Lines → Heard → List ℕ
 lines_due x heard = heard_lines (lines.known_of x) heard
 
 -- lines that are told of something go on by their step
-noticed : (told : Told) (heard : Heard) (x y : Observer Lines) (a : LinesHear x (told ∷ heard) y) → TakesNotice told.notice told.view (observer_of x) (observer_of a.0)
+noticed : (told : Told) (heard : Heard) (x y : Observer Lines) (a : LinesHear x (told ∷ heard) y)
+    → TakesNotice told.notice told.view (observer_of x) (observer_of a.0)
 noticed told heard x y a = subst (λ (v : View). TakesNotice told.notice v (observer_of x) (observer_of a.0)) (sym a.1.shown) a.1.step.1.0
 
-lines_one : (told : Told) (heard : Heard) (x y : Observer Lines) (a : LinesHear x (told ∷ heard) y) → Goes lines_steps lines.text_of lines.has_failed lines_due told (observer_of x) (observer_of a.0)
+lines_one : (told : Told) (heard : Heard) (x y : Observer Lines) (a : LinesHear x (told ∷ heard) y)
+    → Goes lines_steps lines.text_of lines.has_failed lines_due told (observer_of x) (observer_of a.0)
 lines_one told heard x y a =
     let w = noticed told heard x y a in
     let known = lines.known_of (observer_of x) in
     record {
       before = w.before;
       more = λ sound more. ap (λ (k : SpanTexts). lines.text_of (observer_of a.0) ++ heard_lines k more) (w.known sound)
-          ∙ in_front (notice_line told.notice told.view known) (heard_lines (known_after told.notice known) more) (lines.text_of (observer_of x)) (lines.text_of (observer_of a.0)) (w.line sound);
+          ∙ in_front (notice_line told.notice told.view known)
+          (heard_lines (known_after told.notice known) more) (lines.text_of (observer_of x)) (lines.text_of (observer_of a.0)) (w.line sound);
       same = w.same;
     }
 
-lines_text : (x y : Observer Lines) (heard : Heard) → LinesHear x heard y → WritesText lines.text_of lines.has_failed (lines_due (observer_of x)) heard (observer_of x) (observer_of y)
+lines_text : (x y : Observer Lines) (heard : Heard)
+    → LinesHear x heard y → WritesText lines.text_of lines.has_failed (lines_due (observer_of x)) heard (observer_of x) (observer_of y)
 lines_text = text_written lines_steps lines.text_of lines.has_failed lines_due (λ x. refl) lines_one
 
 -- what was given to spans is known
-all_known : (x y : Observer Lines) (heard : Heard) → LinesHear x heard y → lines.has_failed (observer_of y) ≡ false → lines.known_of (observer_of y) ≡ known_by heard (lines.known_of (observer_of x))
+all_known : (x y : Observer Lines) (heard : Heard)
+    → LinesHear x heard y → lines.has_failed (observer_of y) ≡ false → lines.known_of (observer_of y) ≡ known_by heard (lines.known_of (observer_of x))
 all_known x y [] a sound = ap (λ (z : Observer Lines). lines.known_of (observer_of z)) (sym a)
 all_known x y (told ∷ heard) a sound =
     let w = noticed told heard x y a in

@@ -10,7 +10,7 @@ use Rattle.span_registry.specs.Behaviour.{Notice, OnClose, OnNewSpan, OnRecord}
 use Rattle.span_fmt.specs.Text.{fields_text}
 use Rattle.span_fmt.specs.declared.known.Known.{Known}
 
--- by a span's number the text of the values that it was given, each behind a space
+-- by a span's number, the text of the values that the span was given, each behind a space
 abbrev pub SpanTexts : Type 0
 SpanTexts = ℕ → List ℕ
 
@@ -18,22 +18,23 @@ SpanTexts = ℕ → List ℕ
 abbrev pub nothing_known : SpanTexts
 nothing_known n = []
 
--- the same with this text of one span
+-- what is known, with this text of one span
 abbrev pub with_text : ℕ → List ℕ → SpanTexts → SpanTexts
 with_text x text known n = if x == n then text else known n
 
--- the same once a span is given these values too
+-- what is known once a span is given these values too
 abbrev pub with_values : ℕ → List (Bor (List ℕ) × FieldValue) → SpanTexts → SpanTexts
 with_values x values known = with_text x (known x ++ fields_text values) known
 
--- what is known after a notice: a new span and a record add values, and a close takes the span's out
+-- what is known after a notice: a new span and a record add values, and a close takes the span's
+-- out
 abbrev pub known_after : Notice → SpanTexts → SpanTexts
 known_after (OnNewSpan attrs id) known = with_values (number_of id) (values_of attrs) known
 known_after (OnRecord id values) known = with_values (number_of id) (recorded_values values) known
 known_after (OnClose id) known = with_text (number_of id) [] known
 known_after other known = known
 
--- what is still known after a notice where memory is refused: nothing is added
+-- what is known after a notice for which memory is refused: nothing is added
 abbrev pub known_still : Notice → SpanTexts → SpanTexts
 known_still (OnClose id) known = with_text (number_of id) [] known
 known_still other known = known
@@ -52,11 +53,11 @@ given_text x (OnRecord id values) =
     if number_of id == x then fields_text (recorded_values values) else []
 given_text x other = []
 
--- it doesn't close this span
+-- a notice isn't the close of this span
 abbrev pub Spares : ℕ → Notice → Type 0
 Spares x (OnClose id) = number_of id ≢ x
 Spares x other = ⊤
 
--- what is kept of spans
+-- the texts that a `Known` has of spans
 abbrev pub known_in : Known → SpanTexts
 known_in k n = option_map_or string_bytes (tree.get nat_cmp k.texts n) []

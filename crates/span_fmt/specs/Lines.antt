@@ -1,4 +1,5 @@
--- What `Lines` writes: a line for each event, a function of it, of what the layer's own context shows, and of the values that spans were given.
+-- What `Lines` writes: a line for each event, a function of it, of what the layer's own context
+-- shows, and of the values that spans were given.
 use Rattle.std.specs.Prelude.{◌≡◌, ◌==◌, if◌then◌else◌, ℕ, Bool, true, false, List, [], ◌∷◌, ◌++◌, codes, decimal, flat_map, reverse}
 use Rattle.std.specs.FinMap.{get}
 use Rattle.std.specs.Option.{option_map_or}
@@ -22,7 +23,7 @@ abbrev pub bare : List ℕ → List ℕ
 bare [] = []
 bare (b ∷ bytes) = if b == 32 then bytes else b ∷ bytes
 
--- the same in braces, and nothing where there is no text
+-- a text in braces without the space in front of it, and nothing where there is no text
 abbrev pub braced : List ℕ → List ℕ
 braced [] = []
 braced (b ∷ bytes) = codes "{" ++ bare (b ∷ bytes) ++ codes "}"
@@ -32,21 +33,21 @@ abbrev pub spaced : List ℕ → List ℕ
 spaced [] = []
 spaced (b ∷ bytes) = (b ∷ bytes) ++ codes " "
 
--- a span in a line: its name, its values in braces, and a colon
+-- the text of a span in a line: its name, its values in braces, and a colon
 abbrev pub label_text : List ℕ → List ℕ → List ℕ
 label_text name values = one_line name ++ braced values ++ codes ":"
 
--- the span that a reference is to
+-- the text of the span that a reference is to
 abbrev pub reference_label : {R : Type 0} → SpanTexts → Reference R → List ℕ
 reference_label known r =
     label_text (option_map_or (λ s. name_of s.metadata) r.span []) (known r.id)
 
--- a span that a view shows
+-- the text of a span that a view shows
 abbrev pub seen_label : View → SpanTexts → ℕ → List ℕ
 seen_label v known x =
     label_text (option_map_or (λ s. name_of s.metadata) (get v.spans x) []) (known x)
 
--- the spans that a view shows round an event, from the root on
+-- the texts of the spans that a view shows round an event, from the root on
 abbrev pub around_text : Event → View → SpanTexts → List ℕ
 around_text e v known = flat_map (seen_label v known) (reverse (spans_round e v))
 
@@ -60,24 +61,26 @@ event_line e v known =
     begun_text v.lane (level_of (event_metadata e)) ++ spaced (around_text e v known)
     ++ rest_text (event_metadata e) (event_values e)
 
--- what is written of a notice: the line of an event, and nothing of all else
+-- what is written of a notice: the line of an event, and nothing of any other
 abbrev pub notice_line : Notice → View → SpanTexts → List ℕ
 notice_line (OnEvent e) v known = event_line e v known
 notice_line other v known = []
 
--- what it has written
+-- what a `Lines` has written
 abbrev pub text_of : Lines → List ℕ
 text_of x = written x.page
 
--- it found no memory for a line or for values
+-- whether a `Lines` found no memory for a line or for values
 abbrev pub has_failed : Lines → Bool
 has_failed x = is_cut x.page
 
--- what it knows of spans
+-- what a `Lines` knows of spans
 abbrev pub known_of : Lines → SpanTexts
 known_of x = known_in x.known
 
--- it took a notice: it wrote the line of an event, and knows the values that a span was given; or there was no memory for that, or for a notice before, and then it wrote nothing, and learned nothing. It doesn't fail where there is neither a line nor a value
+-- A `Lines` is notified: it writes the line of an event, and knows the values that a span is given.
+-- Where memory is refused, or was before, it writes nothing and learns nothing; it doesn't fail
+-- where there is neither a line nor a value.
 pub record TakesNotice (e : Notice) (v : View) (x y : Lines) : Type 0 where
   pub before : has_failed y ≡ false → has_failed x ≡ false
   pub line : has_failed y ≡ false → text_of y ≡ text_of x ++ notice_line e v (known_of x)
@@ -86,6 +89,6 @@ pub record TakesNotice (e : Notice) (v : View) (x y : Lines) : Type 0 where
   pub still : has_failed y ≡ true → known_of y ≡ known_still e (known_of x)
   pub free : notice_line e v (known_of x) ≡ [] → added_text e ≡ [] → has_failed y ≡ has_failed x
 
--- it goes on so by what its context shows, extensions aside, and leaves the registry alone
+-- a `Lines` goes on by what its context shows, extensions aside, and leaves the registry unchanged
 abbrev pub lines_steps : ObserverSteps Lines
 lines_steps x e lane under v y w = TakesNotice e (plain_view v.store lane under) x y × (w ≡ v)

@@ -19,7 +19,7 @@ use Rattle.span_layers.specs.declared.layered.Layered.{Layered}
 use Rattle.span_layers.specs.declared.observe.Observer.{Observer}
 use Rattle.span_registry.specs.Position.{Heard, Here, Outer, Position, Under}
 
--- a stack, and outside it such an observer under a level
+-- a stack, and outside it an observer under a level
 abbrev pub WithObserver : Type 0 → Type 0 → Type 0
 WithObserver T S = Layered (Filtered (Observer T) LevelFilter) S
 
@@ -34,7 +34,8 @@ module _ {T S : Type 0} where
 
 module _ {T S : Type 0} (writes : Heard → T → T → Type 0)
     (s : SubscriberOf (WithObserver T S)) where
-  -- these requests were served with these answers, and the observer wrote so of what its position was told
+  -- these requests were served with these answers, and the observer wrote what is due of all that
+  -- its position was notified of
   pub record WritesServed (requests : List Request) (answers : List Answer)
       (old new : Dispatch (WithObserver T S)) : Type 0 where
     pub served : Served s.registry s.with_registry s.has_form s.stepped s.levelled s.hears
@@ -42,14 +43,16 @@ module _ {T S : Type 0} (writes : Heard → T → T → Type 0)
     pub written : writes (passed_at observer_position (flat served.made))
         (observer_in (stack_of old)) (observer_in (stack_of new))
 
-  -- so it is where the dispatcher was ready
+  -- requests that are served by a dispatcher that was ready have these answers, and the observer
+  -- writes what is due of them
   abbrev pub ServesWritten : List Request → Dispatch (WithObserver T S)
       → Dispatch (WithObserver T S) → Vec Answer Global → Type 0
   ServesWritten requests old new answers =
       IsReadySomehow s.registry s.with_registry s.has_form s.stepped s.levelled old
       → WritesServed requests answers.items old new
 
-  -- what serving such a list promises, served or refused, beside that the stack may be called again
+  -- what serving such a list promises, whether it is refused or not, beside that the stack may be
+  -- called again
   pub record ServesOutermost (requests : List Request)
       (given : Result (Vec Answer Global) TraceError) (old new : Dispatch (WithObserver T S))
       : Type 0 where

@@ -8,45 +8,47 @@ use Rattle.span_core.specs.declared.field.FieldValue.{FieldValue}
 use Rattle.span_core.specs.declared.field.FieldValue.TheVariants as value
 use Rattle.span_core.specs.declared.metadata.Metadata.{Metadata}
 
--- a text goes on with these bytes
+-- a text has these bytes appended
 abbrev pub IsContinued : {A : Type 0} → String A → String A → List ℕ → Type 0
 IsContinued old new bytes = string_bytes new ≡ string_bytes old ++ bytes
 
--- a byte as it is, and a line feed as \n
+-- the text of a byte in one line: a line feed is written as
+-- , any other byte as it is
 abbrev pub byte_text : ℕ → List ℕ
 byte_text b = if b == 10 then codes "\\n" else b ∷ []
 
--- a text in one line: each line feed in it is written as \n, all else as it is
+-- a text in one line: each line feed in it is written as
+-- , all else as it is
 abbrev pub one_line : List ℕ → List ℕ
 one_line bytes = flat_map byte_text bytes
 
--- a value in one line
+-- the text of a value, in one line
 abbrev pub shown_text : FieldValue → List ℕ
 shown_text (value.Text t) = one_line t.now
 shown_text other = value_text other
 
--- a field behind a space
+-- the text of a field, behind a space
 abbrev pub field_text : List ℕ → FieldValue → List ℕ
 field_text name value = codes " " ++ one_line name ++ codes "=" ++ shown_text value
 
--- fields, one after the other
+-- the text of fields, one after the other
 abbrev pub fields_text : List (Bor (List ℕ) × FieldValue) → List ℕ
 fields_text values = flat_map (λ f. field_text f.0.now f.1) values
 
--- two spaces for each of these
+-- two spaces for each member of a list
 abbrev pub indent : {A : Type 0} → List A → List ℕ
 indent xs = flat_map (λ x. codes "  ") xs
 
--- how a line begins: with its lane, and indented by these spans
+-- how a line begins: with its lane, and two spaces for each of these spans
 abbrev pub head_text : {A : Type 0} → ℕ → List A → List ℕ
 head_text lane spans = decimal lane ++ codes " " ++ indent spans
 
--- how it ends: with the target and the name, and these values
+-- how a line ends: with the target, the name, and these values
 abbrev pub rest_text : Metadata → List (Bor (List ℕ) × FieldValue) → List ℕ
 rest_text m values =
     one_line (target_of m) ++ codes ": " ++ one_line (name_of m) ++ fields_text values ++ codes "\n"
 
--- how it goes on: with a mark, the level, and the rest
+-- how a line goes on: with a mark, the level, and its end
 abbrev pub tail_text : List ℕ → Metadata → List (Bor (List ℕ) × FieldValue) → List ℕ
 tail_text mark m values =
     mark ++ codes " " ++ level_text (level_of m) ++ codes " " ++ rest_text m values

@@ -1,4 +1,5 @@
--- What a tree writes: a line for each new span, record, close and event, a function of it and of what the tree's own context shows.
+-- What a tree writes: a line for each new span, record, close and event, a function of it and of
+-- what the tree's own context shows.
 use Rattle.std.specs.Prelude.{◌≡◌, ℕ, Bool, List, [], ◌++◌, Option, codes, drop}
 use Rattle.std.specs.Borrow.{Bor}
 use Rattle.std.specs.Option.{option_map_or}
@@ -7,9 +8,9 @@ use Rattle.span_core.specs.Span.{number_of, recorded_values, values_of}
 use Rattle.span_core.specs.declared.event.Event.{Event}
 use Rattle.span_core.specs.declared.field.FieldValue.{FieldValue}
 use Rattle.span_layers.specs.Observe.{ObserverSteps}
+use Rattle.span_store.specs.Store.{RegistryState}
 use Rattle.span_registry.specs.Behaviour.{Notice, OnClose, OnEvent, OnNewSpan, OnRecord}
 use Rattle.span_registry.specs.References.{Reference, to_give}
-use Rattle.span_registry.specs.Store.{RegistryState}
 use Rattle.span_registry.specs.View.{View, event_shown, metadata_shown, plain_view, scope, shown}
 use Rattle.span_registry.specs.declared.scope.Scope.{Scope}
 use Rattle.span_fmt.specs.Page.{Writes, is_cut, written}
@@ -28,7 +29,7 @@ spans_above x v = drop 1 (scope v.spans (shown x v))
 abbrev pub spans_round : Event → View → List ℕ
 spans_round e v = scope v.spans (event_shown (event_parent e) v)
 
--- the line of a span that a view shows: behind this mark, with these values
+-- the line of a span that a view shows, with this mark and these values
 abbrev pub span_text : List ℕ → ℕ → List (Bor (List ℕ) × FieldValue) → View → List ℕ
 span_text mark x values v =
     option_map_or (λ m. head_text v.lane (spans_above x v) ++ tail_text mark m values)
@@ -39,7 +40,8 @@ abbrev pub event_text : Event → View → List ℕ
 event_text e v =
     head_text v.lane (spans_round e v) ++ tail_text (codes "-") (event_metadata e) (event_values e)
 
--- what is written of a notice: a line of a new span, a record, a close or an event, and nothing of all else
+-- what is written of a notice: a line of a new span, a record, a close or an event, and nothing of
+-- any other
 abbrev pub notice_text : Notice → View → List ℕ
 notice_text (OnNewSpan attrs id) v = span_text (codes ">") (number_of id) (values_of attrs) v
 notice_text (OnRecord id values) v = span_text (codes "~") (number_of id) (recorded_values values) v
@@ -47,15 +49,16 @@ notice_text (OnClose id) v = span_text (codes "<") (number_of id) [] v
 notice_text (OnEvent e) v = event_text e v
 notice_text other v = []
 
--- what it has written
+-- what a tree has written
 abbrev pub text_of : Tree → List ℕ
 text_of x = written x.page
 
--- it found no memory for a line
+-- whether a tree found no memory for a line
 abbrev pub has_failed : Tree → Bool
 has_failed x = is_cut x.page
 
--- it writes what is due of a notice in what its context shows, extensions aside, and leaves the registry alone
+-- a tree writes what is due of a notice in what its context shows, extensions aside, and leaves the
+-- registry unchanged
 abbrev pub tree_steps : ObserverSteps Tree
 tree_steps x e lane under v y w =
     Writes (notice_text e (plain_view v.store lane under)) x.page y.page × (w ≡ v)

@@ -30,7 +30,7 @@ fn write_field(text: &mut String, name: &str, value: FieldValue<'_>) -> Result<(
     write_value(text, value)
 }
 
-/// Writes how a line ends: with the target and the name, and these values.
+/// Writes how a line ends: with the target, the name, and these values.
 pub(crate) fn write_rest(
     text: &mut String,
     metadata: Metadata,

@@ -16,7 +16,7 @@ pub(crate) struct Known {
 }
 
 impl Known {
-    /// No span was given a value.
+    /// What is known before any span was given a value.
     pub(crate) fn new(alloc: Global) -> Known
         ensures { known_in result ≡ nothing_known }
     {
@@ -25,7 +25,7 @@ impl Known {
         }
     }
 
-    /// The values of a span, each behind a space.
+    /// The text of a span's values, each behind a space.
     pub(crate) fn text(&self, id: Id) -> &str
         ensures { result.now ≡ known_in self.now (number_of id) }
     {
@@ -35,7 +35,7 @@ impl Known {
         }
     }
 
-    /// Adds values of a span. Where there are none, no memory is needed.
+    /// Adds values of a span to what is known. Where there are none, no memory is needed.
     pub(crate) fn add(
         &mut self,
         alloc: Global,
@@ -59,7 +59,7 @@ impl Known {
         }
     }
 
-    /// Takes out the values of a span.
+    /// Forgets the values of a span.
     pub(crate) fn forget(&mut self, id: Id)
         ensures { known_in self.new ≡ with_text (number_of id) [] (known_in self.old) }
     {

@@ -12,14 +12,16 @@ use crate::fields::{write_in_one_line, write_rest};
 use crate::known::Known;
 use crate::page::Page;
 use span_core::{Event, FieldValue, Id, Lane, Level};
-use span_layers::{AlwaysUsableObserver, Observe, Observed};
-use span_registry::{ContextMut, LookupSpan, Scope, Subscriber, laws};
+use span_layers::{AlwaysUsableObserver, Observe};
+use span_registry::{ContextMut, LookupSpan, Notice, Scope, Subscriber, laws};
 use std::alloc::{AllocError, Global};
 use std::io::{self, Write};
 
-/// Writes a line for each event that it is told of, up to the first notice that finds no memory.
+/// A layer that writes a line for each event that it is notified of, up to the first notice that
+/// finds no memory.
 ///
-/// A line names the spans around the event that its own context shows, from the root on, each with the values that it was given.
+/// A line names the spans around the event that its own context shows, from the root on, each with
+/// the values that it was given.
 ///
 /// Stands for `tracing_subscriber::fmt::Layer`, without time stamps, threads' names and colours.
 pub struct Lines {
@@ -35,7 +37,7 @@ impl Drop for Lines {
 }
 
 impl Lines {
-    /// Nothing is written, and no span's values are known.
+    /// A `Lines` that has written nothing, and knows no span's values.
     pub fn new(alloc: Global) -> Lines
         ensures text { text_of result ≡ [] }
         ensures failed { has_failed result ≡ false }
@@ -48,21 +50,22 @@ impl Lines {
         }
     }
 
-    /// What is written.
+    /// The lines that are written.
     pub fn text(&self) -> &str
         ensures { result.now ≡ text_of self.now }
     {
         self.page.text()
     }
 
-    /// It found no memory for a line or for a span's values, and has written nothing since.
+    /// Whether no memory was found for a line or for a span's values: nothing is written since
+    /// then.
     pub fn failed(&self) -> bool
         ensures { result ≡ has_failed self.now }
     {
         self.page.is_cut()
     }
 
-    /// Writes the text to a writer. Where that fails, no clause says what is there.
+    /// Writes the lines to a writer. Where that fails, no clause says what is there.
     pub fn write_to<W: Write>(&self, writer: &mut W) -> io::Result<()>
         ensures { OnOk result
             (Appends (W.contents writer.old) (W.contents writer.new) (text_of self.now)) }
@@ -70,9 +73,10 @@ impl Lines {
         writer.write_all(self.text().as_bytes())
     }
 
-    /// Takes out what is written. It begins anew, also where it had failed: `failed` is asked before.
+    /// Takes out the lines that are written, and begins anew, also where it had failed: ask
+    /// `failed` before.
     ///
-    /// What it knows of spans stays; values that they were given since it failed aren't among that.
+    /// What is known of spans is kept, but for values that they were given since it failed.
     pub fn take_text(&mut self) -> String
         ensures taken { string_bytes result ≡ text_of self.old }
         ensures text { text_of self.new ≡ [] }
@@ -82,7 +86,7 @@ impl Lines {
         self.page.take(self.alloc)
     }
 
-    /// Notes values that a span is given, if there is memory for them, and was for all before.
+    /// Notes the values that a span is given, if memory is found for them, and was for all before.
     fn note(&mut self, id: Id, values: &[(&'static str, FieldValue<'_>)])
         ensures text { text_of self.new ≡ text_of self.old }
         ensures before { has_failed self.new ≡ false → has_failed self.old ≡ false }
@@ -103,13 +107,13 @@ impl Lines {
 impl<S: Subscriber> Observe<S> for Lines {
     ghost observed = { lines_steps };
 
-    fn observe(&mut self, notice: Observed<'_, '_>, ctx: &mut ContextMut<'_, S>) {
+    fn observe(&mut self, notice: Notice<'_, '_>, ctx: &mut ContextMut<'_, S>) {
         laws::extensions_change_no_look_up();
         match notice {
-            Observed::NewSpan(attrs, id) => self.note(id, attrs.values()),
-            Observed::Record(id, values) => self.note(id, values.values()),
-            Observed::Close(id) => self.known.forget(id),
-            Observed::Event(event) => {
+            Notice::NewSpan(attrs, id) => self.note(id, attrs.values()),
+            Notice::Record(id, values) => self.note(id, values.values()),
+            Notice::Close(id) => self.known.forget(id),
+            Notice::Event(event) => {
                 let line = line_due(self.alloc, event, &self.known, ctx);
                 self.page.write(line);
             }

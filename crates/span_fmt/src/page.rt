@@ -23,21 +23,21 @@ impl Page {
         }
     }
 
-    /// What is written.
+    /// The text that is written on the page.
     pub(crate) fn text(&self) -> &str
         ensures { result.now ≡ written self.now }
     {
         self.text.as_str()
     }
 
-    /// It found no memory for a piece, and has written nothing since.
+    /// Whether no memory was found for a piece: nothing is written since then.
     pub(crate) fn is_cut(&self) -> bool
         ensures { result ≡ is_cut self.now }
     {
         self.cut
     }
 
-    /// Writes a piece, if there is memory for it, and was for those before.
+    /// Writes a piece, if memory is found for it, and was for those before.
     pub(crate) fn write(&mut self, piece: Result<String, AllocError>)
         ensures { (bytes : List ℕ) → IfOk piece (λ s. string_bytes s ≡ bytes)
             → IfErr piece (λ e. bytes ≢ []) → Writes bytes self.old self.new }
@@ -52,7 +52,7 @@ impl Page {
         }
     }
 
-    /// There was no memory for what should be written of later.
+    /// Ends the page, for want of memory for what is due.
     pub(crate) fn cut(&mut self)
         ensures text { written self.new ≡ written self.old }
         ensures cut { is_cut self.new ≡ true }
@@ -60,7 +60,7 @@ impl Page {
         self.cut = true;
     }
 
-    /// Takes out what is written, and leaves an empty page.
+    /// Takes out the text that is written, and leaves an empty page.
     pub(crate) fn take(&mut self, alloc: Global) -> String
         ensures text { string_bytes result ≡ written self.old }
         ensures empty { written self.new ≡ [] }

@@ -17,8 +17,8 @@ pub type WithTree<S> = Layered<Filtered<Observer<Tree>, LevelFilter>, S>;
 /// A stack, and outside it `Lines` under a level.
 pub type WithLines<S> = Layered<Filtered<Observer<Lines>, LevelFilter>, S>;
 
-/// Serves requests in order, with one answer for each; the tree writes a line for each new span, record, close and event that it is
-/// told of, unless it failed.
+/// Serves requests in order, with one answer for each; the tree writes a line for each new span,
+/// record, close and event that it is notified of, unless it failed.
 pub fn serve_tree<S: Subscriber>(
     alloc: Global,
     dispatch: &mut Dispatch<WithTree<S>>,
@@ -33,7 +33,8 @@ pub fn serve_tree<S: Subscriber>(
     Ok(answers)
 }
 
-/// Serves requests in order, with one answer for each; `Lines` writes a line for each event that it is told of, unless it failed.
+/// Serves requests in order, with one answer for each; `Lines` writes a line for each event that it
+/// is notified of, unless it failed.
 pub fn serve_lines<S: Subscriber>(
     alloc: Global,
     dispatch: &mut Dispatch<WithLines<S>>,

@@ -2,7 +2,7 @@
 ghost use Rattle.std.specs.Io.KnownBytes.{Appends};
 ghost use Rattle.std.specs.Prelude.{◌≡◌, ◌≢◌, IfErr, IfOk, OnOk, [], drop, false, string_bytes};
 ghost use Rattle.span_core.specs.Span.{number_of};
-ghost use Rattle.span_layers.specs.Observe.{notice_of};
+ghost use Rattle.span_registry.specs.Notice.{notice_of};
 ghost use Rattle.span_registry.specs.Context.{view_lent};
 ghost use Rattle.span_fmt.specs.Text.{IsContinued, head_text, tail_text};
 ghost use Rattle.span_fmt.specs.Tree.{event_text, given, has_failed, notice_text, span_text, text_of, tree_steps};
@@ -10,12 +10,13 @@ ghost use Rattle.span_fmt.specs.Tree.{event_text, given, has_failed, notice_text
 use crate::fields::write_rest;
 use crate::page::Page;
 use span_core::{Event, FieldValue, Id, Lane, Metadata};
-use span_layers::{AlwaysUsableObserver, Observe, Observed};
-use span_registry::{ContextMut, LookupSpan, Scope, Subscriber, laws};
+use span_layers::{AlwaysUsableObserver, Observe};
+use span_registry::{ContextMut, LookupSpan, Notice, Scope, Subscriber, laws};
 use std::alloc::{AllocError, Global};
 use std::io::{self, Write};
 
-/// Writes a line for each new span, event, record and close that it is told of, up to the first that finds no memory.
+/// A layer that writes a line for each new span, event, record and close that it is notified of, up
+/// to the first that finds no memory.
 ///
 /// A line begins with its lane, and is indented by the spans above that its own context shows.
 pub struct Tree {
@@ -30,7 +31,7 @@ impl Drop for Tree {
 }
 
 impl Tree {
-    /// Nothing is written.
+    /// A tree that has written nothing.
     pub fn new(alloc: Global) -> Tree
         ensures text { text_of result ≡ [] }
         ensures failed { has_failed result ≡ false }
@@ -41,21 +42,21 @@ impl Tree {
         }
     }
 
-    /// What is written.
+    /// The lines that are written.
     pub fn text(&self) -> &str
         ensures { result.now ≡ text_of self.now }
     {
         self.page.text()
     }
 
-    /// It found no memory for a line, and has written nothing since.
+    /// Whether no memory was found for a line: nothing is written since then.
     pub fn failed(&self) -> bool
         ensures { result ≡ has_failed self.now }
     {
         self.page.is_cut()
     }
 
-    /// Writes the text to a writer. Where that fails, no clause says what is there.
+    /// Writes the lines to a writer. Where that fails, no clause says what is there.
     pub fn write_to<W: Write>(&self, writer: &mut W) -> io::Result<()>
         ensures { OnOk result
             (Appends (W.contents writer.old) (W.contents writer.new) (text_of self.now)) }
@@ -63,7 +64,8 @@ impl Tree {
         writer.write_all(self.text().as_bytes())
     }
 
-    /// Takes out what is written. It begins anew, also where it had failed: `failed` is asked before.
+    /// Takes out the lines that are written, and begins anew, also where it had failed: ask
+    /// `failed` before.
     pub fn take_text(&mut self) -> String
         ensures taken { string_bytes result ≡ text_of self.old }
         ensures text { text_of self.new ≡ [] }
@@ -76,7 +78,7 @@ impl Tree {
 impl<S: Subscriber> Observe<S> for Tree {
     ghost observed = { tree_steps };
 
-    fn observe(&mut self, notice: Observed<'_, '_>, ctx: &mut ContextMut<'_, S>) {
+    fn observe(&mut self, notice: Notice<'_, '_>, ctx: &mut ContextMut<'_, S>) {
         laws::extensions_change_no_look_up();
         let due = text_due(self.alloc, notice, ctx);
         self.page.write(due);
@@ -86,7 +88,7 @@ impl<S: Subscriber> Observe<S> for Tree {
 /// The line of a notice in what a hook sees, or nothing.
 fn text_due<S: Subscriber>(
     alloc: Global,
-    notice: Observed<'_, '_>,
+    notice: Notice<'_, '_>,
     ctx: &ContextMut<'_, S>,
 ) -> Result<String, AllocError>
     ensures text { IfOk result (λ line. string_bytes line
@@ -95,15 +97,15 @@ fn text_due<S: Subscriber>(
         (λ e. notice_text (notice_of notice.entry) (view_lent S.registry ctx.now) ≢ []) }
 {
     match notice {
-        Observed::NewSpan(attrs, id) => span_line(alloc, ">", id, attrs.values(), ctx),
-        Observed::Record(id, values) => span_line(alloc, "~", id, values.values(), ctx),
-        Observed::Close(id) => span_line(alloc, "<", id, &[], ctx),
-        Observed::Event(event) => event_line(alloc, event, ctx),
+        Notice::NewSpan(attrs, id) => span_line(alloc, ">", id, attrs.values(), ctx),
+        Notice::Record(id, values) => span_line(alloc, "~", id, values.values(), ctx),
+        Notice::Close(id) => span_line(alloc, "<", id, &[], ctx),
+        Notice::Event(event) => event_line(alloc, event, ctx),
         _ => Ok(String::new(alloc)),
     }
 }
 
-/// The line of a span that a hook sees, and nothing of one that it doesn't.
+/// The line of a span that a hook sees, and nothing of one that is hidden from it.
 fn span_line<S: Subscriber>(
     alloc: Global,
     mark: &str,
@@ -170,7 +172,7 @@ fn head<S: LookupSpan>(
     Ok(line)
 }
 
-/// How it goes on: with a mark, the level, and the rest.
+/// Writes how a line goes on: with a mark, the level, and its end.
 fn write_tail(
     line: &mut String,
     mark: &str,

@@ -4,8 +4,8 @@ ghost use Rattle.std.specs.Prelude.{⊤};
 use crate::fixture::put;
 use crate::stack::{is_text, notify, open, send_in};
 use span_core::{FilterId, Level, LevelFilter};
-use span_layers::{Filtered, Layer, LayerExt, Layered, Observe, Observed, Observer};
-use span_registry::{ContextMut, Registry, Subscriber};
+use span_layers::{Filtered, Layer, LayerExt, Layered, Observe, Observer};
+use span_registry::{ContextMut, Notice, Registry, Subscriber};
 use std::alloc::Global;
 use std::process::Abort;
 use std::test::Fail;
@@ -20,12 +20,12 @@ struct Refusals {
 impl<S: Subscriber> Observe<S> for Refusals {
     ghost observed = { λ x e lane under v y w. ⊤ };
 
-    fn observe(&mut self, notice: Observed<'_, '_>, ctx: &mut ContextMut<'_, S>) {
+    fn observe(&mut self, notice: Notice<'_, '_>, ctx: &mut ContextMut<'_, S>) {
         if !ctx.refuses(FilterId::of(0)) {
             return;
         }
         match notice {
-            Observed::NewSpan(_, _) | Observed::Event(_) => {
+            Notice::NewSpan(_, _) | Notice::Event(_) => {
                 self.asked = self.asked.saturating_add(1);
             }
             _ => self.other = self.other.saturating_add(1),

@@ -1,10 +1,10 @@
 //! Tests of stacks, as a program drives them, with layers that keep what they are notified of.
 ghost use Rattle.std.specs.Prelude.{◌≡◌, false};
 ghost use Rattle.span_layers.specs.Acts.{LeafActs};
-ghost use Rattle.span_layers.specs.ActsKept.{is_leaf, leaf_path_laws};
-ghost use Rattle.span_layers.specs.Layer.{HearsBy};
-ghost use Rattle.span_layers.specs.Leaf.{AnySteps, any_laws};
-ghost use Rattle.span_layers.specs.Levels.{leaf_levels};
+ghost use Rattle.span_layers.specs.laws.Leaf.{is_leaf, any_laws};
+ghost use Rattle.span_layers.specs.laws.Path.{leaf_path_laws};
+ghost use Rattle.span_layers.specs.Layer.{HearsBy, AnySteps};
+ghost use Rattle.span_layers.specs.laws.Level.{leaf_levels};
 ghost use Rattle.span_layers.specs.Observe.{open_answers};
 ghost use Rattle.span_registry.specs.Form.{Leaf};
 ghost use Rattle.span_registry.specs.Levels.{unlevelled};
@@ -14,10 +14,10 @@ use crate::marker::new_marker;
 use crate::stack::{notify, number_at, open, put_under, send_in};
 use crate::watcher::{Seen, Watcher, new_watcher};
 use span_core::{
-    Attributes, Event, Id, Interest, Kind, Level, LevelFilter, Metadata, Pass, Record, TraceError,
+    Event, Id, Interest, Kind, Level, LevelFilter, Metadata, Pass, Record, TraceError,
 };
 use span_layers::{Filtered, Layer, LayerExt, Layered, Observer, SubscriberExt, Unattached};
-use span_registry::{Context, ContextMut, LookupSpan, Registry, Subscriber, Tag};
+use span_registry::{Context, ContextMut, LookupSpan, Notice, Registry, Subscriber, Tag};
 use std::alloc::{AllocError, Global};
 use std::process::Abort;
 use std::test::Fail;
@@ -79,24 +79,12 @@ impl<S: Subscriber> Layer<S> for Echo {
         false
     }
 
-    fn on_new_span(&mut self, _attrs: &Attributes<'_>, id: Id, ctx: &mut ContextMut<'_, S>) {
-        let event = Event::new_child_of(id, metadata_of(1, Level::INFO, Kind::EVENT), &[]);
-        ctx.event(&event);
+    fn notify(&mut self, notice: Notice<'_, '_>, ctx: &mut ContextMut<'_, S>) {
+        if let Notice::NewSpan(_, id) = notice {
+            let event = Event::new_child_of(id, metadata_of(1, Level::INFO, Kind::EVENT), &[]);
+            ctx.event(&event);
+        }
     }
-
-    fn on_record(&mut self, _id: Id, _values: &Record<'_>, _ctx: &mut ContextMut<'_, S>) {}
-
-    fn on_follows_from(&mut self, _id: Id, _follows: Id, _ctx: &mut ContextMut<'_, S>) {}
-
-    fn on_event(&mut self, _event: &Event<'_>, _ctx: &mut ContextMut<'_, S>) {}
-
-    fn on_enter(&mut self, _id: Id, _ctx: &mut ContextMut<'_, S>) {}
-
-    fn on_exit(&mut self, _id: Id, _ctx: &mut ContextMut<'_, S>) {}
-
-    fn on_id_change(&mut self, _id: Id, _new: Id, _ctx: &mut ContextMut<'_, S>) {}
-
-    fn on_close(&mut self, _id: Id, _ctx: &mut ContextMut<'_, S>) {}
 
     fn set_level(&mut self, _number: u32, _level: LevelFilter) -> bool {
         false // No filter is in it.

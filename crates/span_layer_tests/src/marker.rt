@@ -3,8 +3,8 @@ ghost use Rattle.std.specs.Prelude.{⊤};
 ghost use Rattle.span_registry.specs.Context.{WritesExtensions};
 
 use span_core::{Event, Id};
-use span_layers::{Observe, Observed, Observer};
-use span_registry::{ContextMut, Subscriber, Tag};
+use span_layers::{Observe, Observer};
+use span_registry::{ContextMut, Notice, Subscriber, Tag};
 
 /// Adds one to the number under its tag in the extensions of each event's span, as far as there is
 /// memory.
@@ -16,8 +16,8 @@ pub(crate) struct Marker {
 impl<S: Subscriber> Observe<S> for Marker {
     ghost observed = { λ x e lane under v y w. ⊤ };
 
-    fn observe(&mut self, notice: Observed<'_, '_>, ctx: &mut ContextMut<'_, S>) {
-        let Observed::Event(event) = notice else {
+    fn observe(&mut self, notice: Notice<'_, '_>, ctx: &mut ContextMut<'_, S>) {
+        let Notice::Event(event) = notice else {
             return;
         };
         let Some(id) = span_of(event, ctx) else {

@@ -1,18 +1,18 @@
 //! A layer that tells what a layer with one method isn't told: that it is put in use, and that ids change.
 ghost use Rattle.std.specs.Prelude.{◌≡◌, ⊤, true};
 ghost use Rattle.span_layers.specs.Acts.{LeafActs};
-ghost use Rattle.span_layers.specs.ActsKept.{is_leaf, leaf_path_laws};
-ghost use Rattle.span_layers.specs.Layer.{HearsBy};
-ghost use Rattle.span_layers.specs.Leaf.{AnySteps, any_laws};
-ghost use Rattle.span_layers.specs.Levels.{leaf_levels};
+ghost use Rattle.span_layers.specs.laws.Leaf.{is_leaf, any_laws};
+ghost use Rattle.span_layers.specs.laws.Path.{leaf_path_laws};
+ghost use Rattle.span_layers.specs.Layer.{HearsBy, AnySteps};
+ghost use Rattle.span_layers.specs.laws.Level.{leaf_levels};
 ghost use Rattle.span_layers.specs.Observe.{open_answers};
 ghost use Rattle.span_registry.specs.Context.{WritesExtensions};
 ghost use Rattle.span_registry.specs.Form.{Leaf};
 ghost use Rattle.span_registry.specs.Levels.{unlevelled};
 
-use span_core::{Attributes, Event, Id, Interest, LevelFilter, Metadata, Pass, Record};
+use span_core::{Event, Id, Interest, LevelFilter, Metadata, Pass};
 use span_layers::Layer;
-use span_registry::{Context, ContextMut, Subscriber, Tag};
+use span_registry::{Context, ContextMut, Notice, Subscriber, Tag};
 
 /// Writes its digit behind those in the extensions of a span that is new, is entered or gets another id, once it is in use. Counts how
 /// often it is put in use, and the events and the changes of ids that it is told of.
@@ -114,30 +114,17 @@ impl<S: Subscriber> Layer<S> for Signer {
         false
     }
 
-    fn on_new_span(&mut self, _attrs: &Attributes<'_>, id: Id, ctx: &mut ContextMut<'_, S>) {
-        sign(self, id, ctx);
+    fn notify(&mut self, notice: Notice<'_, '_>, ctx: &mut ContextMut<'_, S>) {
+        match notice {
+            Notice::NewSpan(_, id) | Notice::Enter(id) => sign(self, id, ctx),
+            Notice::Event(_) => self.events = self.events.saturating_add(1),
+            Notice::IdChange(id, _) => {
+                self.changes = self.changes.saturating_add(1);
+                sign(self, id, ctx);
+            }
+            _ => {}
+        }
     }
-
-    fn on_record(&mut self, _id: Id, _values: &Record<'_>, _ctx: &mut ContextMut<'_, S>) {}
-
-    fn on_follows_from(&mut self, _id: Id, _follows: Id, _ctx: &mut ContextMut<'_, S>) {}
-
-    fn on_event(&mut self, _event: &Event<'_>, _ctx: &mut ContextMut<'_, S>) {
-        self.events = self.events.saturating_add(1);
-    }
-
-    fn on_enter(&mut self, id: Id, ctx: &mut ContextMut<'_, S>) {
-        sign(self, id, ctx);
-    }
-
-    fn on_exit(&mut self, _id: Id, _ctx: &mut ContextMut<'_, S>) {}
-
-    fn on_id_change(&mut self, id: Id, _new: Id, ctx: &mut ContextMut<'_, S>) {
-        self.changes = self.changes.saturating_add(1);
-        sign(self, id, ctx);
-    }
-
-    fn on_close(&mut self, _id: Id, _ctx: &mut ContextMut<'_, S>) {}
 
     fn set_level(&mut self, _number: u32, _level: LevelFilter) -> bool {
         false // No filter is in it.

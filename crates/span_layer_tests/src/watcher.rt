@@ -3,8 +3,8 @@ ghost use Rattle.std.specs.Prelude.{◌≡◌, ⊤, []};
 ghost use Rattle.span_layers.specs.Observe.{observer_of};
 
 use span_core::Id;
-use span_layers::{Observe, Observed, Observer};
-use span_registry::{ContextMut, Subscriber};
+use span_layers::{Observe, Observer};
+use span_registry::{ContextMut, Notice, Subscriber};
 use std::alloc::Global;
 
 /// What a watcher saw.
@@ -46,9 +46,9 @@ impl Watcher {
 impl<S: Subscriber> Observe<S> for Watcher {
     ghost observed = { λ x e lane under v y w. ⊤ };
 
-    fn observe(&mut self, notice: Observed<'_, '_>, ctx: &mut ContextMut<'_, S>) {
+    fn observe(&mut self, notice: Notice<'_, '_>, ctx: &mut ContextMut<'_, S>) {
         match notice {
-            Observed::NewSpan(_, id) => {
+            Notice::NewSpan(_, id) => {
                 self.keep(Seen::NewSpan(id));
                 if let Some(scope) = ctx.ctx().span_scope(id) {
                     for span in scope {
@@ -56,7 +56,7 @@ impl<S: Subscriber> Observe<S> for Watcher {
                     }
                 }
             }
-            Observed::Event(event) => {
+            Notice::Event(event) => {
                 self.keep(Seen::Event);
                 if let Some(scope) = ctx.ctx().event_scope(event) {
                     for span in scope {
@@ -64,12 +64,12 @@ impl<S: Subscriber> Observe<S> for Watcher {
                     }
                 }
             }
-            Observed::Enter(id) => self.keep(Seen::Enter(id)),
-            Observed::Exit(id) => self.keep(Seen::Exit(id)),
-            Observed::Record(id, _) => self.keep(Seen::Record(id)),
-            Observed::FollowsFrom(id, other) => self.keep(Seen::Follows(id, other)),
-            Observed::IdChange(_, _) => {}
-            Observed::Close(id) => {
+            Notice::Enter(id) => self.keep(Seen::Enter(id)),
+            Notice::Exit(id) => self.keep(Seen::Exit(id)),
+            Notice::Record(id, _) => self.keep(Seen::Record(id)),
+            Notice::FollowsFrom(id, other) => self.keep(Seen::Follows(id, other)),
+            Notice::IdChange(_, _) => {}
+            Notice::Close(id) => {
                 if ctx.span(id).is_some() {
                     self.keep(Seen::Close(id));
                 } else {

@@ -12,16 +12,16 @@ use Rattle.span_core.specs.declared.span.Id.{Id}
 use Rattle.span_core.specs.declared.span.Parent.TheVariants.{Root}
 use Rattle.span_layers.proofs.Built.{rules_of}
 use Rattle.span_layers.specs.Honest.{IsHonestStack}
-use Rattle.span_registry.specs.Path.{Path, passes_path, path_at}
+use Rattle.span_store.specs.Store.{Store}
 use Rattle.span_layers.specs.Verdict.{IsOrderly, LeavesRefuseNothing, vetoes}
 use Rattle.span_layers.specs.Wanted.{HasMetadata, IsWantedByAll, IsWantedByNobody}
+use Rattle.span_registry.specs.Path.{Path, passes_path, path_at}
 use Rattle.span_registry.specs.Behaviour.{Behaviour, Notice, OnEvent, OnNewSpan}
 use Rattle.span_registry.specs.Form.{Terminal, Filtered, Form, InList, InPair, Leaf, OnSubscriber, Parts}
 use Rattle.span_registry.specs.Hooks.{no_filter}
 use Rattle.span_registry.specs.Position.{Here, Inner, Outer, Position, Under}
 use Rattle.span_registry.specs.Plan.{passes}
 use Rattle.span_registry.specs.Question.{answered, asked, single}
-use Rattle.span_registry.specs.Store.{Store}
 use Rattle.span_registry.specs.View.{view_of}
 
 -- every leaf stands under a filter, and each outermost filter refuses the metadata, or has no number
@@ -50,7 +50,8 @@ AllPass (Terminal v) m s l b = ⊤
 
 -- ---- where all are refused
 
-refuses_new : (a : Behaviour) (e : Notice) (m : Metadata) (s : Store) (l : ℕ) (b : FilterSet) → HasMetadata e m → a.enabled m (view_of s l b) ≡ false → passes a e s l b ≡ false
+refuses_new : (a : Behaviour) (e : Notice) (m : Metadata) (s : Store) (l : ℕ) (b : FilterSet)
+    → HasMetadata e m → a.enabled m (view_of s l b) ≡ false → passes a e s l b ≡ false
 refuses_new a (OnNewSpan t x) m s l b e h = ap (λ z. a.enabled z (view_of s l b)) e ∙ h
 refuses_new a (OnEvent v) m s l b e h = and_left _ _ (ap (λ z. a.enabled z (view_of s l b)) e ∙ h)
 refuses_new a other m s l b e h = absurd e
@@ -71,10 +72,12 @@ starts n a f other path e = absurd (cc)
 unnumbered : (a : Behaviour) (path : Path) (e : Notice) (s : Store) (l : ℕ) (b : FilterSet) → Starts None a path → passes_path path e s l b ≡ false
 unnumbered a path e s l b (StartsSo rest) = refl
 
-first_refuses : (n : ℕ) (a : Behaviour) (path : Path) (e : Notice) (s : Store) (l : ℕ) (b : FilterSet) → passes a e s l (union b (single n)) ≡ false → Starts (Some n) a path → passes_path path e s l b ≡ false
+first_refuses : (n : ℕ) (a : Behaviour) (path : Path) (e : Notice) (s : Store) (l : ℕ) (b : FilterSet)
+    → passes a e s l (union b (single n)) ≡ false → Starts (Some n) a path → passes_path path e s l b ≡ false
 first_refuses n a path e s l b h (StartsSo rest) = and_left _ _ h
 
-refused_path : (f : Form) (m : Metadata) (s : Store) (l : ℕ) (b : FilterSet) (e : Notice) (position : Position) (path : Path) → AreRefused f m s l b → HasMetadata e m → path_at f position ≡ Some path → passes_path path e s l b ≡ false
+refused_path : (f : Form) (m : Metadata) (s : Store) (l : ℕ) (b : FilterSet) (e : Notice) (position : Position) (path : Path)
+    → AreRefused f m s l b → HasMetadata e m → path_at f position ≡ Some path → passes_path path e s l b ≡ false
 refused_path (Leaf still a) m s l b e position path r h p = absurd r
 refused_path (Filtered None a f) m s l b e position path r h p = unnumbered a path e s l b (starts None a f position path p)
 refused_path (Filtered (Some n) a f) m s l b e position path r h p =
@@ -125,23 +128,27 @@ path_goes : (n : Option ℕ) (a : Behaviour) (o : Option Path) (path : Path) →
 path_goes n a None path e = absurd (cc)
 path_goes n a (Some rest) path e = let same : (n, a) ∷ rest ≡ path = cc in subst (Goes n a (Some rest)) same (GoesOn rest refl)
 
-all_start : (a : Behaviour) (path : Path) (t : Attributes) (x : Id) (s : Store) (l : ℕ) (b : FilterSet) → Starts None a path → HasNumbers path → passes_path path (OnNewSpan t x) s l b ≡ true
+all_start : (a : Behaviour) (path : Path) (t : Attributes) (x : Id) (s : Store) (l : ℕ) (b : FilterSet)
+    → Starts None a path → HasNumbers path → passes_path path (OnNewSpan t x) s l b ≡ true
 all_start a path t x s l b (StartsSo rest) k = absurd (false≢true k.0)
 
-all_under : (n : ℕ) (a : Behaviour) (o : Option Path) (t : Attributes) (x : Id) (s : Store) (l : ℕ) (b : FilterSet) (path : Path) → a.enabled (metadata_of t) (view_of s l (union b (single n))) ≡ true
+all_under : (n : ℕ) (a : Behaviour) (o : Option Path) (t : Attributes) (x : Id) (s : Store) (l : ℕ) (b : FilterSet) (path : Path)
+    → a.enabled (metadata_of t) (view_of s l (union b (single n))) ≡ true
     → ((rest : Path) → o ≡ Some rest → HasNumbers rest → passes_path rest (OnNewSpan t x) s l (union b (single n)) ≡ true)
     → Goes (Some n) a o path → HasNumbers path → passes_path path (OnNewSpan t x) s l b ≡ true
 all_under n a o t x s l b path h inner (GoesOn rest e) k =
     ap (λ c. c && passes_path rest (OnNewSpan t x) s l (union b (single n))) h ∙ inner rest e k.1
 
-all_path : (f : Form) (t : Attributes) (x : Id) (s : Store) (l : ℕ) (b : FilterSet) (position : Position) (path : Path) → AllPass f (metadata_of t) s l b → path_at f position ≡ Some path → HasNumbers path → passes_path path (OnNewSpan t x) s l b ≡ true
+all_path : (f : Form) (t : Attributes) (x : Id) (s : Store) (l : ℕ) (b : FilterSet) (position : Position) (path : Path)
+    → AllPass f (metadata_of t) s l b → path_at f position ≡ Some path → HasNumbers path → passes_path path (OnNewSpan t x) s l b ≡ true
 all_path (Leaf still a) t x s l b Here path h p k = let same : [] ≡ path = cc in subst (λ q. passes_path q (OnNewSpan t x) s l b ≡ true) same refl
 all_path (Filtered None a f) t x s l b position path h p k = all_start a path t x s l b (starts None a f position path p) k
 all_path (Filtered (Some n) a f) t x s l b Here path h p k =
     let same : (Some n, a) ∷ [] ≡ path = cc in
     subst (λ q. passes_path q (OnNewSpan t x) s l b ≡ true) same (and_from _ _ h.0 refl)
 all_path (Filtered (Some n) a f) t x s l b (Under q) path h p k =
-    all_under n a (path_at f q) t x s l b path h.0 (λ rest e m. all_path f t x s l (union b (single n)) q rest h.1 e m) (path_goes (Some n) a (path_at f q) path p) k
+    all_under n
+    a (path_at f q) t x s l b path h.0 (λ rest e m. all_path f t x s l (union b (single n)) q rest h.1 e m) (path_goes (Some n) a (path_at f q) path p) k
 all_path (Parts j o i) t x s l b (Outer q) path h p k = all_path o t x s l b q path h.0 p k
 all_path (Parts j o i) t x s l b (Inner q) path h p k = all_path i t x s l b q path h.1 p k
 all_path other t x s l b position path h p k = absurd (cc)
@@ -168,19 +175,22 @@ paths_under n a f t x s l b p =
           ∙ p (Under position) ((Some n, a) ∷ path) (ap (option_map (λ (q : Path). (Some n, a) ∷ q)) e) (refl, k),
     )
 
-quiet_pass : (f : Form) (t : Attributes) (x : Id) (s : Store) (l : ℕ) (b : FilterSet) → LeavesRefuseNothing f → PathsPass f t x s l b → AllPass f (metadata_of t) s l b
+quiet_pass : (f : Form) (t : Attributes) (x : Id) (s : Store) (l : ℕ) (b : FilterSet)
+    → LeavesRefuseNothing f → PathsPass f t x s l b → AllPass f (metadata_of t) s l b
 quiet_pass (Leaf still a) t x s l b q p = q.enabled (metadata_of t) (view_of s l b)
 quiet_pass (Filtered (Some n) a f) t x s l b q p =
     let both = paths_under n a f t x s l b p in
     (both.0, quiet_pass f t x s l (union b (single n)) q both.1)
-quiet_pass (Parts k o i) t x s l b q p = (quiet_pass o t x s l b q.0 (λ position. p (Outer position)), quiet_pass i t x s l b q.1 (λ position. p (Inner position)))
+quiet_pass (Parts k o i) t x s l b q p =
+    (quiet_pass o t x s l b q.0 (λ position. p (Outer position)), quiet_pass i t x s l b q.1 (λ position. p (Inner position)))
 quiet_pass other t x s l b q p = tt
 
 passes_unless : (c : Bool) → not c ≡ false → c ≡ true
 passes_unless true e = refl
 passes_unless false e = sym e
 
-orderly_pass : (f : Form) (t : Attributes) (x : Id) (s : Store) (l : ℕ) → IsOrderly f → vetoes f (metadata_of t) s l ≡ false → PathsPass f t x s l no_filter → AllPass f (metadata_of t) s l no_filter
+orderly_pass : (f : Form) (t : Attributes) (x : Id) (s : Store) (l : ℕ)
+    → IsOrderly f → vetoes f (metadata_of t) s l ≡ false → PathsPass f t x s l no_filter → AllPass f (metadata_of t) s l no_filter
 orderly_pass (Leaf still a) t x s l c v p = passes_unless _ v
 orderly_pass (Filtered (Some n) a f) t x s l c v p =
     let both = paths_under n a f t x s l no_filter p in
@@ -191,11 +201,14 @@ orderly_pass (Parts OnSubscriber o i) t x s l c v p =
 orderly_pass (Parts InPair o i) t x s l c v p =
     let both = or_parts _ _ v in
     (orderly_pass o t x s l c.0 both.0 (λ position. p (Outer position)), orderly_pass i t x s l c.1 both.1 (λ position. p (Inner position)))
-orderly_pass (Parts InList o i) t x s l c v p = (quiet_pass o t x s l no_filter c.0 (λ position. p (Outer position)), quiet_pass i t x s l no_filter c.1 (λ position. p (Inner position)))
+orderly_pass (Parts InList o i) t x s l c v p =
+    (quiet_pass o t x s l no_filter c.0 (λ position. p (Outer position)), quiet_pass i t x s l no_filter c.1 (λ position. p (Inner position)))
 orderly_pass other t x s l c v p = tt
 
 -- what all want passes where all are asked, and no filter refuses it
-pub asked_by_all : (f : Form) (filters : ℕ) (m : Metadata) (s : Store) (l : ℕ) → IsHonestStack f filters → IsWantedByAll f m s l → asked f m s l no_filter no_filter ≡ (true, no_filter)
+pub asked_by_all : (f : Form) (filters : ℕ) (m : Metadata) (s : Store) (l : ℕ)
+    → IsHonestStack f filters → IsWantedByAll f m s l → asked f m s l no_filter no_filter ≡ (true, no_filter)
 asked_by_all f filters m s l honest w =
     let t = attributes_of m (record { ref_ptr = (0, 0); now = [] }) Root in
-    all_asked f m s l no_filter (orderly_pass f t (id_of 1) s l (rules_of f filters honest).orderly w.veto (λ position path e k. w.paths t (id_of 1) position path refl e k))
+    all_asked f m
+    s l no_filter (orderly_pass f t (id_of 1) s l (rules_of f filters honest).orderly w.veto (λ position path e k. w.paths t (id_of 1) position path refl e k))

@@ -4,7 +4,8 @@ use Rattle.std.specs.Prelude.{IsTrue}
 use Rattle.std.proofs.lemmas.Bool.{and_from, or_right}
 use Rattle.span_layers.specs.Honest.{HasHonestAnswers, IsBuiltLayer, IsBuiltStack, IsHonestLayer, IsHonestStack}
 use Rattle.span_layers.specs.Verdict.{HasOwnNumbers, IsOrderly, LeavesRefuseNothing}
-use Rattle.span_registry.specs.Form.{Absent, Terminal, Base, End, Filtered, Form, InList, InPair, WritesOnlyExtensions, Arrangement, Leaf, OnSubscriber, Parts, is_base, is_end}
+use Rattle.span_registry.specs.Form.{Absent, Terminal, Base, End, Filtered, Form, InList, InPair, WritesOnlyExtensions, Arrangement, Leaf, OnSubscriber, Parts}
+use Rattle.span_registry.specs.Form.{is_base, is_end}
 
 -- whether it is an absent layer
 abbrev pub is_missing : Form → Bool
@@ -35,7 +36,8 @@ is_stack (Parts k o i) = makes_stack k (is_missing o || is_full o) (is_stack i)
 is_stack (Terminal v) = is_base (Terminal v)
 is_stack other = false
 
--- the rules that an honest stack keeps: all answer honestly, filters have numbers of their own, no leaf under a filter or in a list refuses anything, no hook does more than write extensions, and layers are absent directly on the stack alone
+-- the rules that an honest stack keeps: all answer honestly, filters have numbers of their own, no leaf under a filter or in a list refuses anything, no hook
+-- does more than write extensions, and layers are absent directly on the stack alone
 pub record Rules (f : Form) (filters : ℕ) : Type 0 where
   pub answers : HasHonestAnswers f
   pub numbers : HasOwnNumbers f filters
@@ -105,5 +107,7 @@ rules_of f filters h = record {
   orderly = stack_by IsOrderly tt (λ o i k below. (outer_by IsOrderly o tt (layer_orderly false o) k, below)) f h.built;
   still = stack_by WritesOnlyExtensions tt (λ o i k below. (outer_by WritesOnlyExtensions o tt (layer_still false o) k, below)) f h.built;
   stack = stack_by (λ z. is_stack z ≡ true) refl
-      (λ o i k below. and_from _ _ (outer_by (λ z. is_missing z || is_full z ≡ true) o refl (λ l. or_right (is_missing o) (is_full o) (layer_full false o l)) k) below) f h.built;
+      (λ o i k below.
+      and_from _ _ (outer_by (λ z. is_missing z || is_full z ≡ true) o refl (λ l. or_right (is_missing o) (is_full o) (layer_full false o l)) k) below) f
+      h.built;
 }

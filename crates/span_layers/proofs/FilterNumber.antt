@@ -13,18 +13,18 @@ use Rattle.span_core.specs.declared.filter.FilterId.{FilterId}
 use Rattle.span_core.specs.declared.filter.FilterMap.{FilterMap}
 use Rattle.span_core.specs.declared.number_set.TheConstants.{LIMIT}
 use Rattle.span_core.specs.declared.span.Id.{Id}
-use Rattle.span_layers.specs.ActsKept.{numbered_alone}
+use Rattle.span_layers.specs.laws.Filtered.{numbered_alone}
 use Rattle.span_layers.specs.Filtered.{FilteredForm, IsNumber}
+use Rattle.span_store.specs.Store.{Span, SpanExtensions, Store}
 use Rattle.span_registry.proofs.Ancestry.{see_each}
 use Rattle.span_registry.specs.Behaviour.{Behaviour}
 use Rattle.span_registry.specs.Form.{Filtered, Form}
-use Rattle.span_registry.specs.Levels.{takes_level}
 use Rattle.span_core.specs.declared.level.LevelFilter.{LevelFilter}
 use Rattle.std.specs.Prelude.{if◌then◌else◌}
+use Rattle.span_registry.specs.Levels.{takes_level}
 use Rattle.span_registry.specs.Context.{is_enabled_in}
 use Rattle.span_registry.specs.Plan.{is_passed}
 use Rattle.span_registry.specs.Question.{single}
-use Rattle.span_registry.specs.Store.{Span, SpanExtensions, Store}
 use Rattle.span_registry.specs.View.{SeenSpan, is_shown, see, seen_spans, view_of}
 
 -- ---- in a map
@@ -72,10 +72,12 @@ abbrev is_open_to : FilterId → Option Span → Bool
 is_open_to id o = option_map_or (λ r. is_enabled r.verdict id) o false
 
 -- of the spans as they are seen, those are plain that are clear of the set
-plain_where_clear : (set : FilterSet) (xs : SpanExtensions) (es : List (ℕ × Span)) (x : ℕ) → is_plain (find nat_cmp x (see_each set xs es)) ≡ is_clear set (find nat_cmp x es)
+plain_where_clear : (set : FilterSet) (xs : SpanExtensions) (es : List (ℕ × Span)) (x : ℕ)
+    → is_plain (find nat_cmp x (see_each set xs es)) ≡ is_clear set (find nat_cmp x es)
 plain_where_clear set xs [] x = refl
 plain_where_clear set xs (e ∷ es) x =
-    elim (eq_by_cmp nat_cmp x e.0) as (λ b. is_plain (cond b (Some (see set e.1 (get xs e.0))) (find nat_cmp x (see_each set xs es))) ≡ is_clear set (cond b (Some e.1) (find nat_cmp x es))) [
+    elim (eq_by_cmp nat_cmp x e.0) as (λ b.
+    is_plain (cond b (Some (see set e.1 (get xs e.0))) (find nat_cmp x (see_each set xs es))) ≡ is_clear set (cond b (Some e.1) (find nat_cmp x es))) [
       | true ↦ refl
       | false ↦ plain_where_clear set xs es x
     ]
@@ -92,7 +94,8 @@ not_either true b = refl
 not_either false b = refl
 
 -- a verdict is clear of a set and of the filter exactly where it is clear of the set and open to the id
-clear_of_both : (id : FilterId) (set : FilterSet) (n : Option ℕ) (o : Option Span) → IsNumber id n → option_map_or (λ k. is_clear (union set (single k)) o) n false ≡ (is_clear set o && is_open_to id o)
+clear_of_both : (id : FilterId) (set : FilterSet) (n : Option ℕ) (o : Option Span)
+    → IsNumber id n → option_map_or (λ k. is_clear (union set (single k)) o) n false ≡ (is_clear set o && is_open_to id o)
 clear_of_both id set None None h = refl
 clear_of_both id set (Some n) None h = refl
 clear_of_both id set None (Some r) h = sym (and_right _ _ (and_left _ _ h))
@@ -111,11 +114,15 @@ passed_where_enabled id s lane set x n h =
 
 module _ (id : FilterId) (answers : Behaviour → Type 0) (layer : Form → Type 0) (n : ℕ) (l : LevelFilter) (said : Bool) where
   -- the filter itself, where it has the number
-  pub takes_itself : has_filter id n ≡ true → ((a : Behaviour) → answers a → said ≡ a.takes l) → (f : Form) → FilteredForm id answers layer f → said ≡ takes_level f n l
-  takes_itself own says (Filtered m a f) h = says a h.1 ∙ ap (λ (t : Bool). if t then a.takes l else takes_level f n l) (sym own ∙ ap (λ (k : FilterSet). k n) (numbered_alone id m h.0))
+  pub takes_itself : has_filter id n ≡ true
+      → ((a : Behaviour) → answers a → said ≡ a.takes l) → (f : Form) → FilteredForm id answers layer f → said ≡ takes_level f n l
+  takes_itself own says (Filtered m a f) h =
+      says a h.1 ∙ ap (λ (t : Bool). if t then a.takes l else takes_level f n l) (sym own ∙ ap (λ (k : FilterSet). k n) (numbered_alone id m h.0))
   takes_itself own says f h = absurd h
 
   -- else what stands under it
-  pub takes_under : has_filter id n ≡ false → ((f : Form) → layer f → said ≡ takes_level f n l) → (f : Form) → FilteredForm id answers layer f → said ≡ takes_level f n l
-  takes_under none says (Filtered m a f) h = says f h.2 ∙ ap (λ (t : Bool). if t then a.takes l else takes_level f n l) (sym none ∙ ap (λ (k : FilterSet). k n) (numbered_alone id m h.0))
+  pub takes_under : has_filter id n ≡ false
+      → ((f : Form) → layer f → said ≡ takes_level f n l) → (f : Form) → FilteredForm id answers layer f → said ≡ takes_level f n l
+  takes_under none says (Filtered m a f) h =
+      says f h.2 ∙ ap (λ (t : Bool). if t then a.takes l else takes_level f n l) (sym none ∙ ap (λ (k : FilterSet). k n) (numbered_alone id m h.0))
   takes_under none says f h = absurd h

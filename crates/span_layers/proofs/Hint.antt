@@ -1,7 +1,8 @@
 -- What the hint of a stack says.
 use Rattle.std.proofs.Common.{◌≡◌, ◌⊎◌, inl, inr, ℕ, ◌<◌, ◌≤◌, Bool, true, false, not, ◌&&◌, ◌||◌, Option, Some, None, refl, sym, ap, subst, ◌∙◌, ⊎_elim, arith}
 use Rattle.std.specs.Prelude.{if◌then◌else◌, nat_le}
-use Rattle.std.proofs.lemmas.Bool.{cases_Bool, eqb-true, leb-true, leb-false, le-leb, lt-leb, or_left, or_right, or_from, or_cases, and_from, and_parts, both_ways, false≢true}
+use Rattle.std.proofs.lemmas.Bool.{cases_Bool, eqb-true, leb-true, leb-false, le-leb, lt-leb, or_left, or_right, or_from, or_cases, and_from, and_parts}
+use Rattle.std.proofs.lemmas.Bool.{both_ways, not-true, false≢true}
 use Rattle.span_core.specs.Filters.{FilterSet, union}
 use Rattle.span_core.specs.Level.{filter_number, greater, greater_hint, is_above, is_off, level_number, wider_hint}
 use Rattle.span_core.specs.Metadata.{level_of}
@@ -15,10 +16,11 @@ use Rattle.span_layers.proofs.Interest.{IsMissing, IsThere, base_refused, full_n
 use Rattle.span_layers.specs.Honest.{HasHonestAnswers}
 use Rattle.span_layers.specs.Verdict.{vetoes}
 use Rattle.span_layers.specs.Wanted.{AboveIsUnwanted}
-use Rattle.span_registry.specs.Form.{Absent, Terminal, Base, End, Filtered, Form, InList, InPair, Leaf, OnSubscriber, Parts, is_absent, is_base, is_end, is_marked}
+use Rattle.span_store.specs.Store.{Store}
+use Rattle.span_registry.specs.Form.{Absent, Terminal, Base, End, Filtered, Form, InList, InPair, Leaf, OnSubscriber, Parts, is_absent, is_base, is_end}
+use Rattle.span_registry.specs.Form.{is_marked}
 use Rattle.span_registry.specs.Hooks.{no_filter}
 use Rattle.span_registry.specs.Question.{hint_by, hint_of, single}
-use Rattle.span_registry.specs.Store.{Store}
 use Rattle.span_registry.specs.View.{view_of}
 
 abbrev pub Hint : Type 0
@@ -30,12 +32,8 @@ Above l h = is_above l h ≡ true
 
 -- ---- the rules, over plain values
 
-not_false : (b : Bool) → not b ≡ true → b ≡ false
-not_false true e = absurd (false≢true e)
-not_false false e = refl
-
 above_less : (l : Level) (h : LevelFilter) → Above l (Some h) → filter_number h < level_number l
-above_less l h a = leb-false (level_number l) (filter_number h) (not_false (nat_le (level_number l) (filter_number h)) a)
+above_less l h a = leb-false (level_number l) (filter_number h) (not-true (nat_le (level_number l) (filter_number h)) a)
 
 less_above : (l : Level) (h : LevelFilter) → filter_number h < level_number l → Above l (Some h)
 less_above l h a = ap not (lt-leb (level_number l) (filter_number h) a)
@@ -82,14 +80,17 @@ data AboveBy (l : Level) (om : Bool) (im : Bool) (oa : Bool) (ia : Bool) (h : Hi
   ByInner : im ≡ false → ia && is_off k ≡ false → Above l k → AboveBy l om im oa ia h k
   ByAbsent : oa ≡ true → Above l k → AboveBy l om im oa ia h k
 
-by_inner : (l : Level) (om ia : Bool) (h : Hint) (k : LevelFilter) → Above l (if ia && is_off (Some k) then h else greater_hint h (Some k)) → AboveBy l om false false ia h (Some k)
+by_inner : (l : Level) (om ia : Bool) (h : Hint) (k : LevelFilter)
+    → Above l (if ia && is_off (Some k) then h else greater_hint h (Some k)) → AboveBy l om false false ia h (Some k)
 by_inner l om ia h k a =
-    elim (ia && is_off (Some k)) as (λ c. c ≡ (ia && is_off (Some k)) → Above l (if c then h else greater_hint h (Some k)) → AboveBy l om false false ia h (Some k)) [
+    elim (ia && is_off (Some k)) as (λ c.
+    c ≡ (ia && is_off (Some k)) → Above l (if c then h else greater_hint h (Some k)) → AboveBy l om false false ia h (Some k)) [
       | true ↦ λ e b. ByBoth b (above_off l h (Some k) (and_parts ia (is_off (Some k)) (sym e)).1 b)
       | false ↦ λ e b. ByInner refl (sym e) (above_second l h k b)
     ] refl a
 
-by_outer : (l : Level) (im ia : Bool) (h : LevelFilter) (k : Hint) → Above l (if ia && is_off k then Some h else greater_hint (Some h) k) → AboveBy l false im false ia (Some h) k
+by_outer : (l : Level) (im ia : Bool) (h : LevelFilter) (k : Hint)
+    → Above l (if ia && is_off k then Some h else greater_hint (Some h) k) → AboveBy l false im false ia (Some h) k
 by_outer l im ia h k a =
     elim (ia && is_off k) as (λ c. c ≡ (ia && is_off k) → Above l (if c then Some h else greater_hint (Some h) k) → AboveBy l false im false ia (Some h) k) [
       | true ↦ λ e b. ByOuter refl refl b
@@ -120,8 +121,10 @@ above_by l false false false ia h k a = by_open l ia h k a
 full_present : (f : Form) → is_end f || is_full f ≡ true → is_absent f ≡ false
 full_present (Filtered n a f) w = full_present f (or_right _ _ w)
 full_present (Parts OnSubscriber o i) w = absurd (false≢true w)
-full_present (Parts InPair o i) w = let both : (is_full o ≡ true) × (is_full i ≡ true) = and_parts _ _ w in or_from _ _ (full_present o (or_right _ _ both.0)) (full_present i (or_right _ _ both.1))
-full_present (Parts InList o i) w = let both : (is_full o ≡ true) × (is_end i || is_full i ≡ true) = and_parts _ _ w in or_from _ _ (full_present o (or_right _ _ both.0)) (full_present i both.1)
+full_present (Parts InPair o i) w = let both : (is_full o ≡ true) × (is_full i ≡ true) = and_parts _ _ w in
+    or_from _ _ (full_present o (or_right _ _ both.0)) (full_present i (or_right _ _ both.1))
+full_present (Parts InList o i) w = let both : (is_full o ≡ true) × (is_end i || is_full i ≡ true) = and_parts _ _ w in
+    or_from _ _ (full_present o (or_right _ _ both.0)) (full_present i both.1)
 full_present (Terminal Absent) w = absurd (false≢true w)
 full_present other w = refl
 
@@ -132,7 +135,8 @@ only_marked f w h = ⊎_elim (λ (x : is_end f ≡ true). absurd (both_ways _ (f
 abbrev pub Ruled : Form → Metadata → Store → ℕ → FilterSet → Type 0
 Ruled f m s l b = (vetoes f m s l ≡ true) ⊎ ((is_end f || is_marked f ≡ true) × AreRefused f m s l b)
 
-above_layer : (f : Form) (m : Metadata) (s : Store) (l : ℕ) (b : FilterSet) → is_end f || is_full f ≡ true → HasHonestAnswers f → Above (level_of m) (hint_of f) → Ruled f m s l b
+above_layer : (f : Form) (m : Metadata) (s : Store) (l : ℕ) (b : FilterSet)
+    → is_end f || is_full f ≡ true → HasHonestAnswers f → Above (level_of m) (hint_of f) → Ruled f m s l b
 above_layer (Leaf still a) m s l b w h e = inl (ap not (h.above m (view_of s l no_filter) e))
 above_layer (Terminal Base) m s l b w h e = absurd (false≢true w)
 above_layer (Terminal Absent) m s l b w h e = absurd (false≢true w)
@@ -159,7 +163,8 @@ above_layer (Parts InPair o i) m s l b w h e =
           (λ (p : vetoes o m s l ≡ true). inl (or_left _ _ p))
           (λ (p : (is_end o || is_marked o ≡ true) × AreRefused o m s l b). ⊎_elim
           (λ (q : vetoes i m s l ≡ true). inl (or_right _ _ q))
-          (λ (q : (is_end i || is_marked i ≡ true) × AreRefused i m s l b). inr (and_from _ _ (only_marked o both.0 p.0) (only_marked i both.1 q.0), (p.1, q.1)))
+          (λ (q : (is_end i || is_marked i ≡ true)
+          × AreRefused i m s l b). inr (and_from _ _ (only_marked o both.0 p.0) (only_marked i both.1 q.0), (p.1, q.1)))
           (inner v))
           (outer u))
       | ByOuter x n y ↦ (⊎_elim
@@ -193,29 +198,34 @@ abbrev pub RuledOut : Form → Metadata → Store → ℕ → FilterSet → Type
 RuledOut f m s l b = (vetoes f m s l ≡ true) ⊎ (Why f × AreRefused f m s l b)
 
 -- a layer that is full, on a stack
-there : (o : Form) (m : Metadata) (s : Store) (l : ℕ) (b : FilterSet) → is_full o ≡ true → HasHonestAnswers o → Above (level_of m) (hint_of o) → (vetoes o m s l ≡ true) ⊎ ((is_marked o ≡ true) × AreRefused o m s l b)
+there : (o : Form) (m : Metadata) (s : Store) (l : ℕ) (b : FilterSet)
+    → is_full o ≡ true → HasHonestAnswers o → Above (level_of m) (hint_of o) → (vetoes o m s l ≡ true) ⊎ ((is_marked o ≡ true) × AreRefused o m s l b)
 there o m s l b w h y = ⊎_elim
     (λ (p : vetoes o m s l ≡ true). inl p)
     (λ (p : (is_end o || is_marked o ≡ true) × AreRefused o m s l b). inr (only_marked o w p.0, p.1))
     (above_layer o m s l b (or_right _ _ w) h y)
 
 -- an absent layer on a stack that is no registry
-absent_on : (i : Form) (m : Metadata) (s : Store) (l : ℕ) (b : FilterSet) → is_base i ≡ false → RuledOut i m s l b → RuledOut (Parts OnSubscriber (Terminal Absent) i) m s l b
+absent_on : (i : Form) (m : Metadata) (s : Store) (l : ℕ) (b : FilterSet)
+    → is_base i ≡ false → RuledOut i m s l b → RuledOut (Parts OnSubscriber (Terminal Absent) i) m s l b
 absent_on i m s l b n z = ⊎_elim
     (λ (q : vetoes i m s l ≡ true). inl q)
     (λ (q : Why i × AreRefused i m s l b). ⊎_elim
     (λ (x : is_marked i ≡ true). inr (inl x, (tt, q.1)))
     (λ (x : (is_absent i ≡ true) × (is_off (hint_of i) ≡ true)).
     let off : is_off (hint_by false (is_marked i) true (is_absent i) (Some OFF) (hint_of i)) ≡ true = off_over (is_marked i) (is_absent i) (hint_of i) x.1 in
-    let same : is_off (hint_of (Parts OnSubscriber (Terminal Absent) i)) ≡ true = ap (λ c. is_off (if c then Some OFF else hint_by false (is_marked i) true (is_absent i) (Some OFF) (hint_of i))) n ∙ off in
+    let same : is_off (hint_of (Parts OnSubscriber (Terminal Absent) i)) ≡ true =
+    ap (λ c. is_off (if c then Some OFF else hint_by false (is_marked i) true (is_absent i) (Some OFF) (hint_of i))) n ∙ off in
     inr (inr (refl, same), (tt, q.1)))
     q.0)
     z
 
 -- a layer on the registry
-on_base : (o i : Form) (m : Metadata) (s : Store) (l : ℕ) (b : FilterSet) → is_missing o || is_full o ≡ true → HasHonestAnswers o → is_base i ≡ true → Above (level_of m) (hint_of o) → RuledOut (Parts OnSubscriber o i) m s l b
+on_base : (o i : Form) (m : Metadata) (s : Store) (l : ℕ) (b : FilterSet)
+    → is_missing o || is_full o ≡ true → HasHonestAnswers o → is_base i ≡ true → Above (level_of m) (hint_of o) → RuledOut (Parts OnSubscriber o i) m s l b
 on_base o i m s l b w h x y = elim (stands o w) [
-  | IsMissing e ↦ (let off : is_off (hint_of (Parts OnSubscriber (Terminal Absent) i)) ≡ true = ap (λ c. is_off (if c then Some OFF else hint_by false (is_marked i) true (is_absent i) (Some OFF) (hint_of i))) x in
+  | IsMissing e ↦ (let off : is_off (hint_of (Parts OnSubscriber (Terminal Absent) i)) ≡ true =
+      ap (λ c. is_off (if c then Some OFF else hint_by false (is_marked i) true (is_absent i) (Some OFF) (hint_of i))) x in
       subst (λ z. RuledOut (Parts OnSubscriber z i) m s l b) (sym e) (inr (inr (refl, off), (tt, base_refused i m s l b x))))
   | IsThere e ↦ (⊎_elim
       (λ (p : vetoes o m s l ≡ true). inl (or_left _ _ p))
@@ -224,7 +234,8 @@ on_base o i m s l b w h x y = elim (stands o w) [
 ]
 
 -- a layer on a stack that is no registry
-on_stack : (o i : Form) (m : Metadata) (s : Store) (l : ℕ) (b : FilterSet) → is_missing o || is_full o ≡ true → HasHonestAnswers o → is_base i ≡ false → (Above (level_of m) (hint_of i) → RuledOut i m s l b)
+on_stack : (o i : Form) (m : Metadata) (s : Store) (l : ℕ) (b : FilterSet)
+    → is_missing o || is_full o ≡ true → HasHonestAnswers o → is_base i ≡ false → (Above (level_of m) (hint_of i) → RuledOut i m s l b)
     → Above (level_of m) (hint_by (is_marked o) (is_marked i) (is_absent o) (is_absent i) (hint_of o) (hint_of i)) → RuledOut (Parts OnSubscriber o i) m s l b
 on_stack o i m s l b w h n below a =
     let missing : o ≡ Terminal Absent → RuledOut i m s l b → RuledOut (Parts OnSubscriber o i) m s l b =
@@ -249,7 +260,8 @@ on_stack o i m s l b w h n below a =
       ]
       | ByInner x c y ↦ (⊎_elim
           (λ (p : vetoes i m s l ≡ true). inl (or_right _ _ p))
-          (λ (p : Why i × AreRefused i m s l b). absurd (⊎_elim (λ (q : is_marked i ≡ true). both_ways _ x q) (λ (q : (is_absent i ≡ true) × (is_off (hint_of i) ≡ true)). both_ways _ c (and_from _ _ q.0 q.1)) p.0))
+          (λ (p : Why i × AreRefused i m s l b). absurd (⊎_elim (λ (q : is_marked i ≡ true). both_ways _ x q)
+          (λ (q : (is_absent i ≡ true) × (is_off (hint_of i) ≡ true)). both_ways _ c (and_from _ _ q.0 q.1)) p.0))
           (below y))
       | ByAbsent x y ↦ elim (stands o w) [
         | IsMissing e ↦ missing e (below y)
@@ -258,12 +270,14 @@ on_stack o i m s l b w h n below a =
     ]
 
 -- above the hint: a leaf vetoes, or all are refused
-above_means : (f : Form) (m : Metadata) (s : Store) (l : ℕ) (b : FilterSet) → is_stack f ≡ true → HasHonestAnswers f → Above (level_of m) (hint_of f) → RuledOut f m s l b
+above_means : (f : Form) (m : Metadata) (s : Store) (l : ℕ) (b : FilterSet)
+    → is_stack f ≡ true → HasHonestAnswers f → Above (level_of m) (hint_of f) → RuledOut f m s l b
 above_means (Terminal Base) m s l b w h e = absurd (false≢true e)
 above_means (Parts OnSubscriber o i) m s l b w h e =
     let both : (is_missing o || is_full o ≡ true) × (is_stack i ≡ true) = and_parts _ _ w in
     ⊎_elim
-    (λ (x : is_base i ≡ true). on_base o i m s l b both.0 h.0 x (subst (λ c. Above (level_of m) (if c then hint_of o else hint_by (is_marked o) (is_marked i) (is_absent o) (is_absent i) (hint_of o) (hint_of i))) x e))
+    (λ (x : is_base i ≡ true). on_base o i m s l b both.0 h.0
+    x (subst (λ c. Above (level_of m) (if c then hint_of o else hint_by (is_marked o) (is_marked i) (is_absent o) (is_absent i) (hint_of o) (hint_of i))) x e))
     (λ (x : is_base i ≡ false). on_stack o i m s l b both.0 h.0 x (λ y. above_means i m s l b both.1 h.1 y)
     (subst (λ c. Above (level_of m) (if c then hint_of o else hint_by (is_marked o) (is_marked i) (is_absent o) (is_absent i) (hint_of o) (hint_of i))) x e))
     (cases_Bool (is_base i))

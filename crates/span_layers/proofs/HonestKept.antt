@@ -9,13 +9,15 @@ use Rattle.span_core.specs.Interest.{sum_with}
 use Rattle.span_layers.specs.Honest.{HasHonestAnswers}
 use Rattle.span_registry.specs.Behaviour.{Behaviour, AreHonest, SameInterestAndHint}
 use Rattle.span_registry.specs.KeptForm.{AnswersKeep, KeepsForm}
-use Rattle.span_registry.specs.Form.{Absent, Terminal, Base, End, Filtered, Form, InList, InPair, Arrangement, Leaf, OnSubscriber, Parts, TerminalKind, both_marked, is_absent, is_base, is_end, is_marked}
+use Rattle.span_registry.specs.Form.{Absent, Terminal, Base, End, Filtered, Form, InList, InPair, Arrangement, Leaf, OnSubscriber, Parts, TerminalKind}
+use Rattle.span_registry.specs.Form.{both_marked, is_absent, is_base, is_end, is_marked}
 use Rattle.span_registry.specs.Question.{hint_by, hint_of, interest_of, is_calm, is_never, joint_interest}
 
 -- what a form keeps, part by part
 data Kept : Form → Form → Type 0 where
   KeptLeaf : {still : Bool} {a b : Behaviour} → AnswersKeep a b → Kept (Leaf still a) (Leaf still b)
-  KeptFiltered : {n : Option ℕ} {a b : Behaviour} {f g : Form} → SameInterestAndHint a b → (AreHonest a → AreHonest b) → Kept f g → Kept (Filtered n a f) (Filtered n b g)
+  KeptFiltered : {n : Option ℕ} {a b : Behaviour} {f g : Form}
+      → SameInterestAndHint a b → (AreHonest a → AreHonest b) → Kept f g → Kept (Filtered n a f) (Filtered n b g)
   KeptOver : {k : Arrangement} {o p i j : Form} → Kept o p → Kept i j → Kept (Parts k o i) (Parts k p j)
   KeptBare : {v : TerminalKind} → Kept (Terminal v) (Terminal v)
 
@@ -52,7 +54,8 @@ base_kept KeptBare = refl
 hints_kept : {f g : Form} → Kept f g → hint_of g ≡ hint_of f
 hints_kept (KeptLeaf k) = k.same.hint
 hints_kept (KeptFiltered same own k) = same.hint
-hints_kept (KeptOver {k = OnSubscriber} k l) = λ i. if base_kept l i then hints_kept k i else hint_by (marked_kept k i) (marked_kept l i) (absent_kept k i) (absent_kept l i) (hints_kept k i) (hints_kept l i)
+hints_kept (KeptOver {k = OnSubscriber} k l) = λ i.
+    if base_kept l i then hints_kept k i else hint_by (marked_kept k i) (marked_kept l i) (absent_kept k i) (absent_kept l i) (hints_kept k i) (hints_kept l i)
 hints_kept (KeptOver {k = InPair} k l) = λ i. hint_by (marked_kept k i) (marked_kept l i) (absent_kept k i) (absent_kept l i) (hints_kept k i) (hints_kept l i)
 hints_kept (KeptOver {k = InList} k l) = λ i. wider_hint (hints_kept k i) (hints_kept l i)
 hints_kept KeptBare = refl
@@ -79,7 +82,8 @@ pub interest_is_kept : (f g : Form) → KeepsForm f g → (m : Metadata) (filter
 interest_is_kept f g h m filters = interests_kept (kept f g h) m filters None
 
 -- honest answers are of one interest in metadata that show the same
-pub alike_interest : (f : Form) → HasHonestAnswers f → (m k : Metadata) → ShowSame m k → (filters : ℕ) (sum : Option Interest) → interest_of f m filters sum ≡ interest_of f k filters sum
+pub alike_interest : (f : Form)
+    → HasHonestAnswers f → (m k : Metadata) → ShowSame m k → (filters : ℕ) (sum : Option Interest) → interest_of f m filters sum ≡ interest_of f k filters sum
 alike_interest (Leaf still a) h m k e filters sum = λ i. (h.alike m k e i, sum)
 alike_interest (Filtered None a f) h m k e filters sum = refl
 alike_interest (Filtered (Some n) a f) h m k e filters sum =

@@ -1,7 +1,9 @@
 -- What the interest of a stack says: never, or always.
-use Rattle.std.proofs.Common.{◌≡◌, ◌⊎◌, inl, inr, ℕ, zero, suc, ◌<◌, Bool, true, false, not, ◌&&◌, ◌||◌, Option, Some, None, refl, sym, ap, subst, ◌∙◌, ⊎_elim, arith}
+use Rattle.std.proofs.Common.{◌≡◌, ◌⊎◌, inl, inr, ℕ, zero, suc, ◌<◌, Bool, true, false, not, ◌&&◌, ◌||◌, Option, Some, None, refl, sym, ap, subst, ◌∙◌, ⊎_elim}
+use Rattle.std.proofs.Common.{arith}
 use Rattle.std.specs.Prelude.{⊤, if◌then◌else◌}
-use Rattle.std.proofs.lemmas.Bool.{cases_Bool, or_left, or_right, or_from, or_parts, and_left, and_right, and_parts, and_cases, both_ways, eq-eqb, false≢true, true≢false}
+use Rattle.std.proofs.lemmas.Bool.{cases_Bool, or_left, or_right, or_from, or_parts, and_left, and_right, and_parts, and_cases, both_ways, eq-eqb, false≢true}
+use Rattle.std.proofs.lemmas.Bool.{true≢false}
 use Rattle.span_core.specs.Filters.{FilterSet, union}
 use Rattle.span_core.specs.Interest.{sum_with}
 use Rattle.span_core.specs.declared.interest.Interest.TheVariants.{Always, Never, Sometimes}
@@ -13,10 +15,11 @@ use Rattle.span_layers.proofs.Pass.{quiet_veto}
 use Rattle.span_layers.specs.Honest.{HasHonestAnswers}
 use Rattle.span_layers.specs.Verdict.{IsOrderly, LeavesRefuseNothing, numbers_of, vetoes}
 use Rattle.span_layers.specs.Wanted.{AlwaysIsWanted, NeverIsUnwanted}
-use Rattle.span_registry.specs.Form.{Absent, Terminal, Base, End, Filtered, Form, InList, InPair, Arrangement, Leaf, OnSubscriber, Parts, is_base, is_end, is_marked}
+use Rattle.span_store.specs.Store.{Store}
+use Rattle.span_registry.specs.Form.{Absent, Terminal, Base, End, Filtered, Form, InList, InPair, Arrangement, Leaf, OnSubscriber, Parts, is_base, is_end}
+use Rattle.span_registry.specs.Form.{is_marked}
 use Rattle.span_registry.specs.Hooks.{no_filter}
 use Rattle.span_registry.specs.Question.{higher, interest_of, is_calm, is_never, joint_interest, over_interest, single}
-use Rattle.span_registry.specs.Store.{Store}
 use Rattle.span_registry.specs.Subscriber.{registry_interest}
 use Rattle.span_registry.specs.View.{view_of}
 
@@ -68,7 +71,8 @@ rules_never false Always false Never u e = ByBare refl refl refl
 rules_never false Always false Sometimes u e = absurd (cc)
 rules_never false Always false Always u e = absurd (cc)
 
-rules_always : (k : Bool) (o : Interest) (t : Bool) (i : Interest) (u : Sum) → (over_interest k o t (i, u)).0 ≡ Always → ((k ≡ true) ⊎ (o ≡ Always)) × (i ≡ Always)
+rules_always : (k : Bool) (o : Interest) (t : Bool) (i : Interest) (u : Sum)
+    → (over_interest k o t (i, u)).0 ≡ Always → ((k ≡ true) ⊎ (o ≡ Always)) × (i ≡ Always)
 rules_always true o t i u e = (inl refl, e)
 rules_always false Always true Always u e = (inr refl, refl)
 rules_always false Always false Never u e = absurd (cc)
@@ -92,7 +96,7 @@ low_other (Some Sometimes) Always e h = h
 low_other (Some Always) Sometimes e h = h
 low_other (Some Always) Always e h = h
 
-only_never : (i : Interest) → is_never i ≡ true → i ≡ Never
+pub only_never : (i : Interest) → is_never i ≡ true → i ≡ Never
 only_never Never e = refl
 only_never other e = absurd (false≢true e)
 
@@ -183,7 +187,8 @@ base_refused other m s l b e = absurd (false≢true e)
 -- ---- never
 
 -- a layer whose interest is never has a leaf that vetoes
-never_vetoes : (f : Form) (m : Metadata) (n : ℕ) (u : Sum) (s : Store) (l : ℕ) → is_full f ≡ true → HasHonestAnswers f → (interest_of f m n u).0 ≡ Never → (vetoes f m s l ≡ true) × (is_marked f ≡ false)
+never_vetoes : (f : Form) (m : Metadata) (n : ℕ) (u : Sum) (s : Store) (l : ℕ)
+    → is_full f ≡ true → HasHonestAnswers f → (interest_of f m n u).0 ≡ Never → (vetoes f m s l ≡ true) × (is_marked f ≡ false)
 never_vetoes (Leaf still a) m n u s l w h e = (ap not (h.never m (view_of s l no_filter) e), refl)
 never_vetoes (Terminal v) m n u s l w h e = absurd (false≢true w)
 never_vetoes (Filtered None a f) m n u s l w h e = absurd (cc)
@@ -221,7 +226,8 @@ low_joint k o i m n u s l b e second first never = ⊎_elim
     (λ (x : (is_marked o ≡ false) × ((interest_of o m n u).0 ≡ Never)). inl (or_left _ _ (never x.1)))
     (joint_sum k (is_marked o) (interest_of o m n u).0 (is_calm k i) (interest_of i m n (interest_of o m n u).1))
 
-low : (f : Form) (m : Metadata) (n : ℕ) (u : Sum) (s : Store) (l : ℕ) (b : FilterSet) → is_layer f ≡ true → HasHonestAnswers f → IsLow (interest_of f m n u).1 → Lowered f m u s l b
+low : (f : Form) (m : Metadata) (n : ℕ) (u : Sum) (s : Store) (l : ℕ) (b : FilterSet)
+    → is_layer f ≡ true → HasHonestAnswers f → IsLow (interest_of f m n u).1 → Lowered f m u s l b
 low (Terminal Base) m n u s l b w h e = absurd (false≢true w)
 low (Filtered (Some k) a f) m n u s l b w h e = ⊎_elim
     (λ (never : is_never (a.interest m) ≡ true).
@@ -233,16 +239,19 @@ low (Filtered (Some k) a f) m n u s l b w h e = ⊎_elim
 low (Parts OnSubscriber o i) m n u s l b w h e = absurd (false≢true w)
 low (Parts InPair o i) m n u s l b w h e =
     let both = and_parts _ _ w in
-    low_joint InPair o i m n u s l b e (λ x. low i m n (interest_of o m n u).1 s l b (full_layer i both.1) h.1 x) (λ x. low o m n u s l b (full_layer o both.0) h.0 x)
+    low_joint InPair
+    o i m n u s l b e (λ x. low i m n (interest_of o m n u).1 s l b (full_layer i both.1) h.1 x) (λ x. low o m n u s l b (full_layer o both.0) h.0 x)
     (λ x. (never_vetoes o m n u s l both.0 h.0 x).0)
 low (Parts InList o i) m n u s l b w h e =
     let both = and_parts _ _ w in
-    low_joint InList o i m n u s l b e (λ x. low i m n (interest_of o m n u).1 s l b (rest_layer i both.1) h.1 x) (λ x. low o m n u s l b (full_layer o both.0) h.0 x)
+    low_joint InList
+    o i m n u s l b e (λ x. low i m n (interest_of o m n u).1 s l b (rest_layer i both.1) h.1 x) (λ x. low o m n u s l b (full_layer o both.0) h.0 x)
     (λ x. (never_vetoes o m n u s l both.0 h.0 x).0)
 low other m n u s l b w h e = inr (e, tt)
 
 -- a marked layer has no leaf without a filter
-marked_refused : (f : Form) (m : Metadata) (s : Store) (l : ℕ) (b : FilterSet) → is_layer f ≡ true → is_end f || is_marked f ≡ true → FiltersRefuse f m s l b → AreRefused f m s l b
+marked_refused : (f : Form) (m : Metadata) (s : Store) (l : ℕ) (b : FilterSet)
+    → is_layer f ≡ true → is_end f || is_marked f ≡ true → FiltersRefuse f m s l b → AreRefused f m s l b
 marked_refused (Leaf still a) m s l b w k h = absurd (false≢true k)
 marked_refused (Terminal v) m s l b w k h = tt
 marked_refused (Filtered None a f) m s l b w k h = h
@@ -258,7 +267,8 @@ marked_refused (Parts InList o i) m s l b w k h =
     (marked_refused o m s l b (full_layer o both.0) (or_right _ _ marks.0) h.0, marked_refused i m s l b (rest_layer i both.1) marks.1 h.1)
 
 -- an unmarked layer that is there has a leaf without a filter
-unmarked_leaf : (f : Form) (m : Metadata) (s : Store) (l : ℕ) (b : FilterSet) → is_end f || is_full f ≡ true → is_end f || is_marked f ≡ false → AreRefused f m s l b → ⊥
+unmarked_leaf : (f : Form) (m : Metadata) (s : Store) (l : ℕ) (b : FilterSet)
+    → is_end f || is_full f ≡ true → is_end f || is_marked f ≡ false → AreRefused f m s l b → ⊥
 unmarked_leaf (Leaf still a) m s l b w k h = h
 unmarked_leaf (Terminal End) m s l b w k h = true≢false k
 unmarked_leaf (Filtered n a f) m s l b w k h = true≢false k
@@ -277,7 +287,8 @@ unmarked_leaf (Parts InList o i) m s l b w k h =
 unmarked_leaf other m s l b w k h = false≢true w
 
 -- a stack of absent layers is never of no interest
-hollow_stack : (f : Form) (m : Metadata) (n : ℕ) (u : Sum) (s : Store) (l : ℕ) (b : FilterSet) → is_stack f ≡ true → is_marked f || is_base f ≡ false → AreRefused f m s l b → (interest_of f m n u).0 ≡ Never → ⊥
+hollow_stack : (f : Form) (m : Metadata) (n : ℕ) (u : Sum) (s : Store) (l : ℕ) (b : FilterSet)
+    → is_stack f ≡ true → is_marked f || is_base f ≡ false → AreRefused f m s l b → (interest_of f m n u).0 ≡ Never → ⊥
 hollow_stack (Leaf still a) m n u s l b w k h e = false≢true w
 hollow_stack (Terminal v) m n u s l b w k h e = both_ways _ k w
 hollow_stack (Filtered j a f) m n u s l b w k h e = false≢true w
@@ -288,7 +299,8 @@ hollow_stack (Parts OnSubscriber o i) m n u s l b w k h e =
     let marks : (is_marked o ≡ false) × (is_marked i ≡ false) = or_parts _ _ (or_parts _ _ k).0 in
     elim (stands o both.0) [
       | IsThere x ↦ unmarked_leaf o m s l b (or_right _ _ x) (or_from _ _ (full_no_end o x) marks.0) h.0
-      | IsMissing x ↦ (let e' : (over_interest false Always (is_marked i || is_base i) (interest_of i m n u)).0 ≡ Never = subst (λ z. (interest_of (Parts OnSubscriber z i) m n u).0 ≡ Never) x e in
+      | IsMissing x ↦ (let e' : (over_interest false Always (is_marked i || is_base i) (interest_of i m n u)).0 ≡ Never =
+          subst (λ z. (interest_of (Parts OnSubscriber z i) m n u).0 ≡ Never) x e in
           elim (rules_never _ _ _ _ _ e') [
             | ByInner y z ↦ false≢true y
             | ByOuter y z ↦ (let wrong : Always ≡ Never = z in absurd (cc))
@@ -297,7 +309,8 @@ hollow_stack (Parts OnSubscriber o i) m n u s l b w k h e =
     ]
 
 -- never: a leaf vetoes, or all are refused
-never_means : (f : Form) (m : Metadata) (n : ℕ) (u : Sum) (s : Store) (l : ℕ) (b : FilterSet) → is_stack f ≡ true → HasHonestAnswers f → (interest_of f m n u).0 ≡ Never → (vetoes f m s l ≡ true) ⊎ (IsLow u × AreRefused f m s l b)
+never_means : (f : Form) (m : Metadata) (n : ℕ) (u : Sum) (s : Store) (l : ℕ) (b : FilterSet)
+    → is_stack f ≡ true → HasHonestAnswers f → (interest_of f m n u).0 ≡ Never → (vetoes f m s l ≡ true) ⊎ (IsLow u × AreRefused f m s l b)
 never_means (Leaf still a) m n u s l b w h e = absurd (false≢true w)
 never_means (Terminal Base) m n u s l b w h e = inr (registry_never n u e, tt)
 never_means (Terminal Absent) m n u s l b w h e = absurd (false≢true w)
@@ -341,8 +354,10 @@ data Speaks (f : Form) (m : Metadata) (n : ℕ) (u : Sum) : Type 0 where
   Marked : is_marked f ≡ true → Speaks f m n u
   Always' : (interest_of f m n u).0 ≡ Always → Speaks f m n u
 
-high : (f : Form) (m : Metadata) (n : ℕ) (u : Sum) (s : Store) (l : ℕ) (b : FilterSet) → is_layer f ≡ true → HasHonestAnswers f → IsOrderly f → IsHigh (interest_of f m n u).1 → Speaks f m n u → IsHigh u × AllPass f m s l b
-high (Leaf still a) m n u s l b w h c e v = (e, elim v [ Quietly q ↦ q.enabled m (view_of s l b) | Marked k ↦ absurd (false≢true k) | Always' y ↦ h.always m (view_of s l b) y ])
+high : (f : Form) (m : Metadata) (n : ℕ) (u : Sum) (s : Store) (l : ℕ) (b : FilterSet)
+    → is_layer f ≡ true → HasHonestAnswers f → IsOrderly f → IsHigh (interest_of f m n u).1 → Speaks f m n u → IsHigh u × AllPass f m s l b
+high (Leaf still a) m n u s l b w h c e v =
+    (e, elim v [ Quietly q ↦ q.enabled m (view_of s l b) | Marked k ↦ absurd (false≢true k) | Always' y ↦ h.always m (view_of s l b) y ])
 high (Terminal Base) m n u s l b w h c e v = absurd (false≢true w)
 high (Terminal Absent) m n u s l b w h c e v = (e, tt)
 high (Terminal End) m n u s l b w h c e v = (e, tt)
@@ -350,17 +365,20 @@ high (Filtered None a f) m n u s l b w h c e v = (e, tt)
 high (Filtered (Some k) a f) m n u s l b w h c e v =
     let parts = high_parts _ (a.interest m) e in
     let inner : IsHigh (interest_of f m n u).1 = subst (λ z. IsHigh (if is_never z then u else (interest_of f m n u).1)) parts.0 parts.1 in
-    let rest : IsHigh u × AllPass f m s l (union b (single k)) = high f m n u s l (union b (single k)) (full_layer f w) h.1 (quiet_orderly f c) inner (Quietly c) in
+    let rest : IsHigh u × AllPass f m s l (union b (single k)) =
+    high f m n u s l (union b (single k)) (full_layer f w) h.1 (quiet_orderly f c) inner (Quietly c) in
     (rest.0, (h.0.always m (view_of s l (union b (single k))) parts.0, rest.1))
 high (Parts OnSubscriber o i) m n u s l b w h c e v = absurd (false≢true w)
 high (Parts InList o i) m n u s l b w h c e v =
     let both = and_parts _ _ w in
-    let second : IsHigh (interest_of o m n u).1 × AllPass i m s l b = high i m n (interest_of o m n u).1 s l b (rest_layer i both.1) h.1 (quiet_orderly i c.1) e (Quietly c.1) in
+    let second : IsHigh (interest_of o m n u).1 × AllPass i m s l b =
+    high i m n (interest_of o m n u).1 s l b (rest_layer i both.1) h.1 (quiet_orderly i c.1) e (Quietly c.1) in
     let first : IsHigh u × AllPass o m s l b = high o m n u s l b (full_layer o both.0) h.0 (quiet_orderly o c.0) second.0 (Quietly c.0) in
     (first.0, (first.1, second.1))
 high (Parts InPair o i) m n u s l b w h c e v =
     let both = and_parts _ _ w in
-    let go : IsHigh (interest_of i m n (interest_of o m n u).1).1 → Speaks i m n (interest_of o m n u).1 → Speaks o m n u → IsHigh u × AllPass (Parts InPair o i) m s l b =
+    let go : IsHigh (interest_of i m n (interest_of o m n u).1).1
+    → Speaks i m n (interest_of o m n u).1 → Speaks o m n u → IsHigh u × AllPass (Parts InPair o i) m s l b =
     λ x y z.
     let second : IsHigh (interest_of o m n u).1 × AllPass i m s l b = high i m n (interest_of o m n u).1 s l b (full_layer i both.1) h.1 c.1 x y in
     let first : IsHigh u × AllPass o m s l b = high o m n u s l b (full_layer o both.0) h.0 c.0 second.0 z in
@@ -368,12 +386,14 @@ high (Parts InPair o i) m n u s l b w h c e v =
     let sums = rules_sum (is_marked o) (interest_of o m n u).0 (is_marked i) (interest_of i m n (interest_of o m n u).1) in
     elim v [
       | Quietly q ↦ (⊎_elim
-          (λ (same : (interest_of (Parts InPair o i) m n u).1 ≡ (interest_of i m n (interest_of o m n u).1).1). go (subst IsHigh same e) (Quietly q.1) (Quietly q.0))
+          (λ (same : (interest_of (Parts InPair o i) m n u).1
+          ≡ (interest_of i m n (interest_of o m n u).1).1). go (subst IsHigh same e) (Quietly q.1) (Quietly q.0))
           (λ (x : (is_marked o ≡ false) × ((interest_of o m n u).0 ≡ Never)).
           absurd (both_ways _ (quiet_veto o m s l q.0) (never_vetoes o m n u s l both.0 h.0 x.1).0))
           sums)
       | Marked k ↦ (let marks : (is_marked o ≡ true) × (is_marked i ≡ true) = and_parts _ _ k in ⊎_elim
-          (λ (same : (interest_of (Parts InPair o i) m n u).1 ≡ (interest_of i m n (interest_of o m n u).1).1). go (subst IsHigh same e) (Marked marks.1) (Marked marks.0))
+          (λ (same : (interest_of (Parts InPair o i) m n u).1
+          ≡ (interest_of i m n (interest_of o m n u).1).1). go (subst IsHigh same e) (Marked marks.1) (Marked marks.0))
           (λ (x : (is_marked o ≡ false) × ((interest_of o m n u).0 ≡ Never)). absurd (both_ways _ x.0 marks.0))
           sums)
       | Always' y ↦ (let why = rules_always _ _ _ _ _ y in
@@ -399,7 +419,8 @@ none_added (Parts OnSubscriber o i) m n u w d e = absurd (false≢true w)
 none_added (Parts InPair o i) m n u w d e =
     let both = and_parts _ _ w in
     let first : IsHigh (interest_of o m n u).1 = none_added o m n u (full_layer o both.0) (λ k x. d k (or_left _ _ x)) e in
-    let second : IsHigh (interest_of i m n (interest_of o m n u).1).1 = none_added i m n (interest_of o m n u).1 (full_layer i both.1) (λ k x. d k (or_right _ _ x)) first in
+    let second : IsHigh (interest_of i m n (interest_of o m n u).1).1 =
+    none_added i m n (interest_of o m n u).1 (full_layer i both.1) (λ k x. d k (or_right _ _ x)) first in
     high_over (is_marked o) (interest_of o m n u).0 (is_marked i) (interest_of i m n (interest_of o m n u).1) second
   where
     high_over : (k : Bool) (o : Interest) (t : Bool) (r : Interest × Sum) → IsHigh r.1 → IsHigh (over_interest k o t r).1
@@ -409,14 +430,16 @@ none_added (Parts InPair o i) m n u w d e =
     high_over false Always t r h = elim (is_never r.0 && t) as (λ c. IsHigh (if c then (Sometimes, r.1) else r).1) [ true ↦ h | false ↦ h ]
 none_added (Parts InList o i) m n u w d e =
     let both = and_parts _ _ w in
-    none_added i m n (interest_of o m n u).1 (rest_layer i both.1) (λ k x. d k (or_right _ _ x)) (none_added o m n u (full_layer o both.0) (λ k x. d k (or_left _ _ x)) e)
+    none_added i
+    m n (interest_of o m n u).1 (rest_layer i both.1) (λ k x. d k (or_right _ _ x)) (none_added o m n u (full_layer o both.0) (λ k x. d k (or_left _ _ x)) e)
 
 -- no number is below nought
 below_none : (n k : ℕ) → k < n → n ≡ 0 → ⊥
 below_none n k a e = omega (arith, a, e)
 
 -- always: every filter and leaf passes
-always_means : (f : Form) (m : Metadata) (n : ℕ) (u : Sum) (s : Store) (l : ℕ) (b : FilterSet) → is_stack f ≡ true → HasHonestAnswers f → IsOrderly f → ((k : ℕ) → numbers_of f k ≡ true → k < n) → (n ≡ 0 → IsHigh u)
+always_means : (f : Form) (m : Metadata) (n : ℕ) (u : Sum) (s : Store) (l : ℕ) (b : FilterSet)
+    → is_stack f ≡ true → HasHonestAnswers f → IsOrderly f → ((k : ℕ) → numbers_of f k ≡ true → k < n) → (n ≡ 0 → IsHigh u)
     → (interest_of f m n u).0 ≡ Always → IsHigh u × AllPass f m s l b
 always_means (Terminal Base) m n u s l b w h c d z e = (registry_always n u z e, tt)
 always_means (Parts OnSubscriber o i) m n u s l b w h c d z e =
@@ -425,7 +448,8 @@ always_means (Parts OnSubscriber o i) m n u s l b w h c d z e =
     let layer : is_layer o ≡ true = outer_layer o both.0 in
     let outer : Speaks o m n u = ⊎_elim (λ (x : is_marked o ≡ true). Marked x) (λ (x : (interest_of o m n u).0 ≡ Always). Always' x) why.0 in
     let clean : n ≡ 0 → IsHigh (interest_of o m n u).1 = λ x. none_added o m n u layer (λ k y. below_none n k (d k (or_left _ _ y)) x) (z x) in
-    let second : IsHigh (interest_of o m n u).1 × AllPass i m s l b = always_means i m n (interest_of o m n u).1 s l b both.1 h.1 c.1 (λ k y. d k (or_right _ _ y)) clean why.1 in
+    let second : IsHigh (interest_of o m n u).1 × AllPass i m s l b =
+    always_means i m n (interest_of o m n u).1 s l b both.1 h.1 c.1 (λ k y. d k (or_right _ _ y)) clean why.1 in
     let first : IsHigh u × AllPass o m s l b = high o m n u s l b layer h.0 c.0 second.0 outer in
     (first.0, (first.1, second.1))
 always_means other m n u s l b w h c d z e = absurd (false≢true w)

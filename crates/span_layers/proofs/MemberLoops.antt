@@ -1,5 +1,6 @@
 -- Loops over the members of a list: what is left of it, and how its form stands to the whole one's.
-use Rattle.std.proofs.Common.{◌≡◌, ℕ, Bool, true, false, refl, ◌||◌, ◌+◌, ◌<◌, ◌≤◌, List, [], ◌∷◌, ◌++◌, length, get_or, set, take, drop, arith, sym, ap, subst, ◌∙◌}
+use Rattle.std.proofs.Common.{◌≡◌, ℕ, Bool, true, false, refl, ◌||◌, ◌+◌, ◌<◌, ◌≤◌, List, [], ◌∷◌, ◌++◌, length, get_or, set, take, drop, arith, sym, ap, subst}
+use Rattle.std.proofs.Common.{◌∙◌}
 use Rattle.std.proofs.lemmas.List.Elements.{AllZip-push}
 use Rattle.std.proofs.lemmas.List.{drop-drop, drop-set-lt, drop_all, drop_more, take_all, take_more, take_more_set}
 use Rattle.std.specs.List.{AllZip}
@@ -16,7 +17,8 @@ here xs i x lt is = drop_more xs i x lt ∙ ap (λ y. y ∷ drop (i + 1) xs) (sy
 
 module _ {L : Type 0} (has : L → Form → Type 0) where
   -- the first member's form and the rest's
-  first_of : (P : Form → Type 0) (x : L) (rest : List L) (r : Form) → ListForm has (x ∷ rest) r → P r → (o : Form) × (i : Form) × has x o × ListForm has rest i × P (Parts InList o i)
+  first_of : (P : Form → Type 0) (x : L) (rest : List L) (r : Form)
+      → ListForm has (x ∷ rest) r → P r → (o : Form) × (i : Form) × has x o × ListForm has rest i × P (Parts InList o i)
   first_of P x rest (Parts k o i) h p = (o, i, h.1, h.2, subst (λ j. P (Parts j o i)) h.0 p)
   first_of P x rest (Leaf still a) h p = absurd h
   first_of P x rest (Filtered n a f) h p = absurd h
@@ -29,21 +31,24 @@ module _ {L : Type 0} (has : L → Form → Type 0) where
   module _ (all : List L) (so : Form → Form → Type 0) (xs : List L) (i : ℕ) where
     module _ (x : L) (lt : i < length xs) (is : x ≡ get_or xs i x) where
       -- one member less is left
-      pub less_left : (then : Form → Form → Type 0) → ((f o r : Form) → has x o → so f (Parts InList o r) → then f r) → Left has all (drop i xs) so → Left has all (drop (i + 1) xs) then
+      pub less_left : (then : Form → Form → Type 0)
+          → ((f o r : Form) → has x o → so f (Parts InList o r) → then f r) → Left has all (drop i xs) so → Left has all (drop (i + 1) xs) then
       less_left then step left f h =
           let before = left f h in
           let both = first_of (so f) x (drop (i + 1) xs) before.0 (subst (λ l. ListForm has l before.0) (here xs i x lt is) before.1) before.2 in
           (both.1, both.3, step f both.0 both.1 both.2 both.4)
 
       -- the loop ends at a member
-      pub ends_at : (P : Form → Type 0) → ((f o r : Form) → has x o → so f (Parts InList o r) → P f) → Left has all (drop i xs) so → (f : Form) → ListForm has all f → P f
+      pub ends_at : (P : Form → Type 0)
+          → ((f o r : Form) → has x o → so f (Parts InList o r) → P f) → Left has all (drop i xs) so → (f : Form) → ListForm has all f → P f
       ends_at P step left f h =
           let before = left f h in
           let both = first_of (so f) x (drop (i + 1) xs) before.0 (subst (λ l. ListForm has l before.0) (here xs i x lt is) before.1) before.2 in
           step f both.0 both.1 both.2 both.4
 
     -- nothing is left
-    pub none_left : (P : Form → Type 0) → length xs ≤ i → ((f : Form) → so f (Terminal End) → P f) → Left has all (drop i xs) so → (f : Form) → ListForm has all f → P f
+    pub none_left : (P : Form → Type 0)
+        → length xs ≤ i → ((f : Form) → so f (Terminal End) → P f) → Left has all (drop i xs) so → (f : Form) → ListForm has all f → P f
     none_left P end step left f h =
         let before = left f h in
         step f (subst (so f) (subst (λ l. ListForm has l before.0) (drop_all i xs end) before.1) before.2)
@@ -60,7 +65,8 @@ module _ {L : Type 0} (all xs : List L) (i : ℕ) (same : drop i xs ≡ drop i a
   same_rest y = drop-set-lt (i + 1) xs i y (omega arith) ∙ sym (drop-drop 1 i xs) ∙ ap (drop 1) same ∙ drop-drop 1 i all
 
   -- one member more has become another
-  pub zip_more : (R : L → L → Type 0) (d y : L) → i < length all → AllZip R (take i all) (take i xs) → R (get_or xs i d) y → AllZip R (take (i + 1) all) (take (i + 1) (set xs i y))
+  pub zip_more : (R : L → L → Type 0) (d y : L)
+      → i < length all → AllZip R (take i all) (take i xs) → R (get_or xs i d) y → AllZip R (take (i + 1) all) (take (i + 1) (set xs i y))
   zip_more R d y in_all before one =
       subst (λ l. AllZip R l (take (i + 1) (set xs i y))) (sym (take_more all i d in_all))
       (subst (λ l. AllZip R (take i all ++ get_or all i d ∷ []) l) (sym (take_more_set xs i y lt))

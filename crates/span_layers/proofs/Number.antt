@@ -29,8 +29,10 @@ record Became (r : Form × ℕ) (f : Form) (n : ℕ) : Type 0 where
 abbrev Took : Form → ℕ → Type 0
 Took f n = Became (numbered f n) f n
 
-numbered_filter : (m : Option ℕ) (a : Behaviour) (f : Form) (n : ℕ) → nat_lt n LIMIT ≡ true → (Filtered (Some n) a (numbered f (n + 1)).0, (numbered f (n + 1)).1) ≡ numbered (Filtered m a f) n
-numbered_filter m a f n h = ap (λ b. if b then (Filtered (Some n) a (numbered f (n + 1)).0, (numbered f (n + 1)).1) else (Filtered m a (numbered f n).0, (numbered f n).1)) (sym h)
+numbered_filter : (m : Option ℕ) (a : Behaviour) (f : Form) (n : ℕ)
+    → nat_lt n LIMIT ≡ true → (Filtered (Some n) a (numbered f (n + 1)).0, (numbered f (n + 1)).1) ≡ numbered (Filtered m a f) n
+numbered_filter m a f n h =
+    ap (λ b. if b then (Filtered (Some n) a (numbered f (n + 1)).0, (numbered f (n + 1)).1) else (Filtered m a (numbered f n).0, (numbered f n).1)) (sym h)
 
 apart : (o i : Form) (n m k : ℕ) → IsWithin o n m → IsWithin i m k → (j : ℕ) → numbers_of o j ≡ true → numbers_of i j ≡ false
 apart o i n m k a b j h = false_from_ne_true (numbers_of i j) (λ g. let x = (a.bounds j h).1 in let y = (b.bounds j g).0 in omega (arith, x, y))
@@ -43,7 +45,8 @@ took (Filtered m a f) n h =
     subst (λ r. Became r (Filtered m a f) n) (numbered_filter m a f n (has_room n (omega (arith, h)))) (record {
       next = (let e = inside.next in omega (arith, e));
       within = record {
-        distinct = (false_from_ne_true (numbers_of (numbered f (n + 1)).0 n) (λ g. let x = (inside.within.bounds n g).0 in omega (arith, x)), inside.within.distinct);
+        distinct =
+            (false_from_ne_true (numbers_of (numbered f (n + 1)).0 n) (λ g. let x = (inside.within.bounds n g).0 in omega (arith, x)), inside.within.distinct);
         bounds = λ k g. either (k == n) (numbers_of (numbered f (n + 1)).0 k)
             (λ e. let same : k ≡ n = eqb-true k n e in (omega (arith, same), omega (arith, same)))
             (λ e. let x = (inside.within.bounds k e).0 in let y = (inside.within.bounds k e).1 in (omega (arith, x), omega (arith, y))) g;
@@ -58,7 +61,11 @@ took (Parts j o i) n h =
     record {
       next = omega (arith, e, d);
       within = record {
-        distinct = (first.within.distinct, second.within.distinct, apart (numbered o n).0 (numbered i (numbered o n).1).0 n (numbered o n).1 ((numbered o n).1 + filters_in i) between second.within);
+        distinct = (
+          first.within.distinct,
+          second.within.distinct,
+          apart (numbered o n).0 (numbered i (numbered o n).1).0 n (numbered o n).1 ((numbered o n).1 + filters_in i) between second.within,
+        );
         bounds = λ k g. either (numbers_of (numbered o n).0 k) (numbers_of (numbered i (numbered o n).1).0 k)
             (λ c. let x = (first.within.bounds k c).0 in let y = (first.within.bounds k c).1 in (x, omega (arith, y)))
             (λ c. let x = (second.within.bounds k c).0 in let y = (second.within.bounds k c).1 in (omega (arith, x, e), omega (arith, y, e))) g;
@@ -74,7 +81,12 @@ numbers_are_own f n h =
       next = e;
       own = record { distinct = own.distinct; handed_out = λ k g. (own.bounds k g).1 };
       stack = λ i s. record {
-        distinct = (own.distinct, s.distinct, (λ j g. false_from_ne_true (numbers_of i j) (λ c. let x = (own.bounds j g).0 in let y = s.handed_out j c in omega (arith, x, y))));
-        handed_out = λ k g. either (numbers_of (numbered f n).0 k) (numbers_of i k) (λ c. (own.bounds k c).1) (λ c. let x = s.handed_out k c in omega (arith, x, e)) g;
+        distinct = (
+          own.distinct,
+          s.distinct,
+          (λ j g. false_from_ne_true (numbers_of i j) (λ c. let x = (own.bounds j g).0 in let y = s.handed_out j c in omega (arith, x, y))),
+        );
+        handed_out =
+            λ k g. either (numbers_of (numbered f n).0 k) (numbers_of i k) (λ c. (own.bounds k c).1) (λ c. let x = s.handed_out k c in omega (arith, x, e)) g;
       };
     }

@@ -31,8 +31,11 @@ numbers_kept other = refl
 distinct_kept : {f g : Form} → Ruled f g → AreDistinct f → AreDistinct g
 distinct_kept (RuledFiltered {n = None} own k) h = distinct_kept k h
 distinct_kept (RuledFiltered {n = Some n} own k) h = (ap (λ (s : FilterSet). s n) (numbers_kept k) ∙ h.0, distinct_kept k h.1)
-distinct_kept (RuledOver k l) h =
-    (distinct_kept k h.0, distinct_kept l h.1, λ n e. ap (λ (s : FilterSet). s n) (numbers_kept l) ∙ h.2 n (sym (ap (λ (s : FilterSet). s n) (numbers_kept k)) ∙ e))
+distinct_kept (RuledOver k l) h = (
+  distinct_kept k h.0,
+  distinct_kept l h.1,
+  λ n e. ap (λ (s : FilterSet). s n) (numbers_kept l) ∙ h.2 n (sym (ap (λ (s : FilterSet). s n) (numbers_kept k)) ∙ e),
+)
 distinct_kept other h = tt
 
 -- where a form ends, it ends still

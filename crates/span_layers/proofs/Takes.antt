@@ -23,15 +23,19 @@ by_part false b false d g h e = h e
 taken_under : (f : Form) (n : ℕ) (l : LevelFilter) → takes_level f n l ≡ true → numbers_of f n ≡ true
 taken_under (Filtered None a f) n l e = taken_under f n l e
 taken_under (Filtered (Some m) a f) n l e = by_number (n == m) (a.takes l) (takes_level f n l) (numbers_of f n) (taken_under f n l) e
-taken_under (Parts joint o i) n l e = by_part (takes_level o n l) (takes_level i n l) (numbers_of o n) (numbers_of i n) (taken_under o n l) (taken_under i n l) e
+taken_under (Parts joint o i) n l e =
+    by_part (takes_level o n l) (takes_level i n l) (numbers_of o n) (numbers_of i n) (taken_under o n l) (taken_under i n l) e
 taken_under other n l e = absurd (false≢true e)
 
 -- so where no two filters have one number, one takes it
 one_takes : (f : Form) (n : ℕ) (l : LevelFilter) → AreDistinct f → OneTakes f n l
 one_takes (Filtered None a f) n l d = one_takes f n l d
 one_takes (Filtered (Some m) a f) n l d = one_takes f n l d.1
-one_takes (Parts joint o i) n l d =
-    (one_takes o n l d.0, one_takes i n l d.1, λ e. false_from_ne_true (takes_level i n l) (λ g. false≢true (sym (d.2 n (taken_under o n l e)) ∙ taken_under i n l g)))
+one_takes (Parts joint o i) n l d = (
+  one_takes o n l d.0,
+  one_takes i n l d.1,
+  λ e. false_from_ne_true (takes_level i n l) (λ g. false≢true (sym (d.2 n (taken_under o n l e)) ∙ taken_under i n l g)),
+)
 one_takes other n l d = tt
 
 -- and so where they have numbers of their own

@@ -6,10 +6,10 @@ use Rattle.span_layers.specs.Layered.{inner_of, outer_of}
 use Rattle.span_layers.specs.Number.{TakesNumbers, filters_in}
 use Rattle.span_layers.specs.declared.attach.Unattached.{Unattached}
 use Rattle.span_layers.specs.declared.layered.Layered.{Layered}
+use Rattle.span_store.specs.Store.{RegistryState}
 use Rattle.span_registry.specs.Form.{Form}
-use Rattle.span_registry.specs.Store.{RegistryState}
 
--- the layer stands on the subscriber, its filters took the next numbers, and there was room for all
+-- a layer stands on a subscriber, and its filters took the next numbers, for which there was room
 pub record Attaches {L S : Type 0} (registry : S → RegistryState)
     (with_registry : S → RegistryState → S) (inner_usable : S → Type 0) (usable : L → Type 0)
     (has_form : L → Form → Type 0) (attached : L → L → Type 0) (layer : L) (subscriber : S)
@@ -21,7 +21,7 @@ pub record Attaches {L S : Type 0} (registry : S → RegistryState)
   pub outer : usable (outer_of stack)
   pub inner : inner_usable (inner_of stack)
 
--- there is no room for all the layer's filters: layer and subscriber come back as they were
+-- there is no room for all filters of a layer: layer and subscriber come back unchanged
 pub record IsHandedBack {L S : Type 0} (registry : S → RegistryState) (has_form : L → Form → Type 0)
     (layer : L) (subscriber : S) (back : Unattached L S) : Type 0 where
   pub same_layer : back.layer ≡ layer
@@ -29,7 +29,7 @@ pub record IsHandedBack {L S : Type 0} (registry : S → RegistryState) (has_for
   pub error : back.error ≡ TooManyFilters
   pub full : (f : Form) → has_form layer f → LIMIT < (registry subscriber).filters + filters_in f
 
--- it is this layer outside that one
+-- a pair is this layer outside that one
 pub record IsPair {L I : Type 0} (pair : Layered L I) (outer : L) (inner : I) : Type 0 where
   pub layer : outer_of pair ≡ outer
   pub below : inner_of pair ≡ inner

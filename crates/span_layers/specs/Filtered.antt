@@ -6,47 +6,48 @@ use Rattle.span_core.specs.declared.filter.TheConstants.FilterId.{LIMIT}
 use Rattle.span_filters.specs.Filter.{FilterSteps}
 use Rattle.span_layers.specs.Layer.{LayerSteps}
 use Rattle.span_layers.specs.declared.filtered.Filtered.{Filtered as FilteredLayer}
+use Rattle.span_store.specs.Store.{RegistryState}
 use Rattle.span_registry.specs.Behaviour.{Behaviour, Notice, OnClose, OnEnter, OnEvent, OnExit, OnFollows, OnIdChange, OnNewSpan, OnRecord}
 use Rattle.span_registry.specs.Form.{Filtered, Form}
 use Rattle.span_registry.specs.Position.{HearSteps, Under}
 use Rattle.span_registry.specs.Plan.{Nobody, Plan, Through}
 use Rattle.span_registry.specs.Question.{single}
-use Rattle.span_registry.specs.Store.{RegistryState}
 use Rattle.span_registry.specs.Subscriber.{SameButExtensions}
 
--- its layer
+-- the layer that is under the filter
 abbrev pub layer_of : {L F : Type 0} → FilteredLayer L F → L
 layer_of x = x.layer
 
--- its filter
+-- the filter round the layer
 abbrev pub filter_of : {L F : Type 0} → FilteredLayer L F → F
 filter_of x = x.filter
 
--- its filter's id
+-- the id of the filter round the layer
 abbrev pub id_of : {L F : Type 0} → FilteredLayer L F → FilterId
 id_of x = x.id
 
--- the same with another layer
+-- the filtered layer with another layer under its filter
 abbrev pub with_layer : {L F : Type 0} → FilteredLayer L F → L → FilteredLayer L F
 with_layer x l = record x { layer = l }
 
--- the same with another filter
+-- the filtered layer with another filter round its layer
 abbrev pub with_filter : {L F : Type 0} → FilteredLayer L F → F → FilteredLayer L F
 with_filter x f = record x { filter = f }
 
--- it is this layer under this filter, which has no number
+-- a filtered layer is this layer under this filter, which has no number
 pub record IsUnnumbered {L F : Type 0} (x : FilteredLayer L F) (layer : L) (filter : F) : Type
     0 where
   pub inner : layer_of x ≡ layer
   pub own : filter_of x ≡ filter
   pub id : is_attached (id_of x) ≡ false
 
--- the number of a filter's id: none where that is unattached
+-- the number of a filter's id: none where the id is unattached
 abbrev pub IsNumber : FilterId → Option ℕ → Type 0
 IsNumber id None = is_attached id ≡ false
 IsNumber id (Some n) = (is_attached id ≡ true) × (has_filter id ≡ single n) × (n < LIMIT)
 
--- its form: its id's number, what its filter answers, and its layer's form
+-- the form of a filtered layer: the number of its filter's id, what its filter answers, and its
+-- layer's form
 abbrev pub FilteredForm : FilterId → (Behaviour → Type 0) → (Form → Type 0) → Form → Type 0
 FilteredForm id answers layer (Filtered n a f) = IsNumber id n × answers a × layer f
 FilteredForm id answers layer other = ⊥
@@ -64,7 +65,8 @@ Hooked hooked f (OnEnter id) lane under v g w = hooked f (OnEnter id) lane under
 Hooked hooked f (OnExit id) lane under v g w = hooked f (OnExit id) lane under v g w
 Hooked hooked f (OnClose id) lane under v g w = hooked f (OnClose id) lane under v g w
 
--- the filter is notified and writes extensions alone, and then its layer is in what the filter left, both under the filter too
+-- filter and layer are notified: the filter first, which writes extensions alone, then its layer in
+-- what the filter left; both under the filter too
 pub record GoThrough {F L : Type 0} (hooked : FilterSteps F) (stepped : LayerSteps L)
     (id : FilterId) (f : F) (x : L) (p : Plan) (e : Notice) (lane : ℕ) (under : FilterSet)
     (v : RegistryState) (g : F) (y : L) (w : RegistryState) : Type 0 where
@@ -73,7 +75,8 @@ pub record GoThrough {F L : Type 0} (hooked : FilterSteps F) (stepped : LayerSte
   pub filter : Hooked hooked f e lane (union under (has_filter id)) v g between
   pub layer : stepped x p e lane (union under (has_filter id)) between y w
 
--- filter and layer stay as they are, and so does the registry; or both are notified
+-- how a filtered layer goes on: filter and layer are both notified, or they and the registry are
+-- unchanged
 abbrev pub FilteredSteps : {F L : Type 0} → FilterSteps F → LayerSteps L → FilterId → F → L → Plan
     → Notice → ℕ → FilterSet → RegistryState → F → L → RegistryState → Type 0
 FilteredSteps hooked stepped id f x Nobody e lane under v g y w = (g ≡ f) × (y ≡ x) × (w ≡ v)
@@ -81,7 +84,8 @@ FilteredSteps hooked stepped id f x (Through p) e lane under v g y w =
     GoThrough hooked stepped id f x p e lane under v g y w
 FilteredSteps hooked stepped id f x other e lane under v g y w = ⊥
 
--- what is under the filter went through these notices; the filter itself is no leaf
+-- what the leaves under a filter were notified of is what those of its layer were; the filter
+-- itself is no leaf
 abbrev pub FilteredHears : {L : Type 0} → HearSteps L → HearSteps L
 FilteredHears hears x (Under p) h y = hears x p h y
 FilteredHears hears x other h y = ⊤

@@ -3,36 +3,37 @@ use Rattle.std.specs.Prelude.{◌≡◌, ⊤, ℕ}
 use Rattle.span_core.specs.Filters.{FilterSet}
 use Rattle.span_layers.specs.Layer.{LayerSteps}
 use Rattle.span_layers.specs.declared.layered.Layered.{Layered}
+use Rattle.span_store.specs.Store.{RegistryState}
 use Rattle.span_registry.specs.Behaviour.{Notice}
 use Rattle.span_registry.specs.Form.{Form, Arrangement, Parts}
 use Rattle.span_registry.specs.Hooks.{StackSteps, no_filter}
 use Rattle.span_registry.specs.Position.{Heard, HearSteps, Inner, Outer, Position}
 use Rattle.span_registry.specs.Plan.{Both, Plan}
-use Rattle.span_registry.specs.Store.{RegistryState}
 use Rattle.span_registry.specs.Subscriber.{SameButExtensions}
 
--- its outer part
+-- the outer part of two
 abbrev pub outer_of : {L I : Type 0} → Layered L I → L
 outer_of x = x.layer
 
--- its inner part
+-- the inner part of two
 abbrev pub inner_of : {L I : Type 0} → Layered L I → I
 inner_of x = x.inner
 
--- the same with another outer part
+-- the two parts with another outer one
 abbrev pub with_outer : {L I : Type 0} → Layered L I → L → Layered L I
 with_outer x l = record x { layer = l }
 
--- the same with another inner part
+-- the two parts with another inner one
 abbrev pub with_inner : {L I : Type 0} → Layered L I → I → Layered L I
 with_inner x i = record x { inner = i }
 
--- the parts of the form are these parts' forms
+-- the form of two parts that stand together in this way: each part's own form
 abbrev pub PartsForm : Arrangement → (Form → Type 0) → (Form → Type 0) → Form → Type 0
 PartsForm joint outer inner (Parts k o i) = (k ≡ joint) × outer o × inner i
 PartsForm joint outer inner other = ⊥
 
--- the inner layer is notified and writes extensions alone, and then the outer one is in what the inner one left
+-- both layers of a pair are notified: the inner one first, which writes extensions alone, then the
+-- outer one in what the inner one left
 pub record GoBoth {L I : Type 0} (outer : LayerSteps L) (inner : LayerSteps I) (x : L) (i : I)
     (p q : Plan) (e : Notice) (lane : ℕ) (under : FilterSet) (v : RegistryState) (y : L) (j : I)
     (w : RegistryState) : Type 0 where
@@ -48,7 +49,9 @@ PairSteps outer inner x i (Both p q) e lane under v y j w =
     GoBoth outer inner x i p q e lane under v y j w
 PairSteps outer inner x i other e lane under v y j w = ⊥
 
--- the inner stack's layers are notified and write extensions alone, and then the layer on it is in what they left, whose hooks leave another registry in the inner stack and nothing else
+-- the layers of a stack are notified: those of the inner stack first, which write extensions alone,
+-- then the layer on it in what they left. Its hooks leave another registry in the inner stack and
+-- nothing else
 pub record GoUp {L I : Type 0} (with_registry : I → RegistryState → I) (outer : LayerSteps L)
     (inner : StackSteps I) (x : L) (i : I) (p q : Plan) (e : Notice) (lane : ℕ) (v : RegistryState)
     (y : L) (j : I) (w : RegistryState) : Type 0 where
@@ -59,14 +62,15 @@ pub record GoUp {L I : Type 0} (with_registry : I → RegistryState → I) (oute
   pub second : outer x p e lane no_filter between y w
   pub rest : j ≡ with_registry notified w
 
--- a stack's layers are notified, each by its plan
+-- the layers of a stack are notified, each by its plan
 abbrev pub LayeredSteps : {L I : Type 0} → (I → RegistryState → I) → LayerSteps L → StackSteps I → L
     → I → Plan → Notice → ℕ → RegistryState → L → I → RegistryState → Type 0
 LayeredSteps with_registry outer inner x i (Both p q) e lane v y j w =
     GoUp with_registry outer inner x i p q e lane v y j w
 LayeredSteps with_registry outer inner x i other e lane v y j w = ⊥
 
--- each part went through its own notices; no leaf stands at another position
+-- what the leaves of two parts were notified of: each part of its own; no leaf stands at another
+-- position
 abbrev pub LayeredHears : {L I : Type 0} → HearSteps L → HearSteps I → L → I → Position → Heard → L
     → I → Type 0
 LayeredHears outer inner x i (Outer p) h y j = outer x p h y

@@ -1,15 +1,11 @@
 pub mod Acts
-pub mod ActsKept
-pub mod Always
 pub mod Attach
 pub mod Boxed
 pub mod Filtered
 pub mod Honest
 pub mod Idle
-pub mod LayeredLaws
 pub mod Layer
 pub mod Layered
-pub mod Leaf
 pub mod Levels
 pub mod Members
 pub mod Number
@@ -20,3 +16,4 @@ pub mod Takes
 pub mod Verdict
 pub mod Veto
 pub mod Wanted
+pub mod laws

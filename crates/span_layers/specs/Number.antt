@@ -1,8 +1,8 @@
 -- How filters get their numbers.
 use Rattle.std.specs.Prelude.{◌≡◌, ℕ, ◌+◌, nat_lt, if◌then◌else◌, Some}
 use Rattle.span_core.specs.declared.filter.TheConstants.FilterId.{LIMIT}
+use Rattle.span_store.specs.Store.{RegistryState}
 use Rattle.span_registry.specs.Form.{Terminal, Filtered, Form, Leaf, Parts}
-use Rattle.span_registry.specs.Store.{RegistryState}
 
 -- how many filters a form has
 abbrev pub filters_in : Form → ℕ
@@ -11,7 +11,8 @@ filters_in (Filtered n a f) = 1 + filters_in f
 filters_in (Parts k o i) = filters_in o + filters_in i
 filters_in (Terminal v) = 0
 
--- the form where its filters took the next numbers, a filter before those in it, the outer part before the inner one; and the number that is next. Where all are given away, a filter stays as it is
+-- the form once its filters took the next numbers, and the number that is next: a filter before
+-- those in it, the outer part before the inner one. Where all are given away, a filter is unchanged
 abbrev pub numbered : Form → ℕ → Form × ℕ
 numbered (Leaf still a) n = (Leaf still a, n)
 numbered (Filtered m a f) n =
@@ -21,7 +22,8 @@ numbered (Parts k o i) n =
     (Parts k (numbered o n).0 (numbered i (numbered o n).1).0, (numbered i (numbered o n).1).1)
 numbered (Terminal v) n = (Terminal v, n)
 
--- a layer's filters take the next numbers of the registry that a subscriber stands on; nothing else of that is another
+-- a layer's filters take the next numbers of the registry that a subscriber stands on; all else of
+-- that registry is unchanged
 pub record TakesNumbers {L S : Type 0} (registry : S → RegistryState)
     (with_registry : S → RegistryState → S) (has_form : L → Form → Type 0) (x : L) (s : S) (y : L)
     (t : S) : Type 0 where

@@ -1,6 +1,6 @@
 //! Layers and stacks that can be called without a premise.
-ghost use Rattle.span_filters.specs.Always.{each_part};
-ghost use Rattle.span_layers.specs.Always.{each_member};
+ghost use Rattle.span_filters.specs.laws.Option.{each_part};
+ghost use Rattle.span_layers.specs.laws.List.{each_member};
 
 use crate::filtered::Filtered;
 use crate::identity::Identity;
@@ -11,11 +11,12 @@ use span_core::LevelFilter;
 use span_filters::AlwaysUsableFilter;
 use span_registry::{AlwaysUsable, Subscriber};
 
-/// A layer that can be called without a premise, since no closure is in it. On an `AlwaysUsable` stack it makes one more.
+/// A layer that can be called without a premise, since no closure is in it. On an `AlwaysUsable`
+/// stack it makes one more.
 ///
 /// Own to this port.
 pub trait AlwaysUsableLayer<S: Subscriber>: Layer<S> {
-    /// It may be asked and notified, whatever has become of it.
+    /// The layer may be asked and notified, whatever has become of it.
     ghost always: { (x : Self) → Self.usable x };
 }
 
@@ -23,7 +24,7 @@ pub trait AlwaysUsableLayer<S: Subscriber>: Layer<S> {
 ///
 /// Own to this port.
 pub trait AlwaysUsableObserver<S: Subscriber>: Observe<S> {
-    /// It may be notified, whatever has become of it.
+    /// The observer may be notified, whatever has become of it.
     ghost always: { (x : Self) → Self.usable x };
 }
 

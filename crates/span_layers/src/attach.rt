@@ -9,14 +9,15 @@ use crate::layered::Layered;
 use span_core::{FilterId, TraceError};
 use span_registry::{LookupSpan, Subscriber};
 
-/// A layer that wasn't put on a subscriber, since there is no room for its filters, with that subscriber.
+/// A layer that wasn't put on a subscriber, since there is no room for its filters, with that
+/// subscriber.
 #[derive(Debug, Drop)]
 pub struct Unattached<L, S> {
-    /// The layer, as it was.
+    /// The layer, unchanged.
     pub layer: L,
-    /// The subscriber, as it was.
+    /// The subscriber, unchanged.
     pub subscriber: S,
-    /// Why: `TooManyFilters`.
+    /// Why the layer wasn't put on the subscriber: `TooManyFilters`.
     pub error: TraceError,
 }
 
@@ -24,10 +25,11 @@ pub struct Unattached<L, S> {
 ///
 /// Stands for `tracing_subscriber::layer::SubscriberExt`.
 pub trait SubscriberExt: Subscriber + Sized {
-    /// Puts a layer on this subscriber, and gives the layer's filters the next numbers of its registry.
+    /// Puts a layer on this subscriber, and gives the layer's filters the next numbers of its
+    /// registry.
     ///
-    /// Refused where the registry's filters and the layer's are more than 128 (`TooManyFilters`): then both come back as they
-    /// were.
+    /// Refused where the registry's filters and the layer's are more than 128 (`TooManyFilters`):
+    /// then both come back unchanged.
     final fn with<L: Layer<Self>>(self, layer: L) -> Result<Layered<L, Self>, Unattached<L, Self>>
         requires layer { L.usable layer }
         requires subscriber { Self.usable self }
@@ -58,8 +60,8 @@ impl<S: Subscriber> SubscriberExt for S {}
 
 /// Puts layers together, under filters, and on a subscriber.
 ///
-/// Stands for these methods of `tracing_subscriber::Layer`. They are methods of every type, since a layer under a filter names
-/// no subscriber here.
+/// Stands for these methods of `tracing_subscriber::Layer`. They are methods of every type, since a
+/// layer under a filter names no subscriber here.
 pub trait LayerExt: Sized {
     /// Puts another layer outside this one.
     final fn and_then<L>(self, layer: L) -> Layered<L, Self>

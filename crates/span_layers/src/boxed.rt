@@ -1,13 +1,14 @@
 //! A layer in a box.
-ghost use Rattle.span_layers.specs.ActsKept.{box_path_laws};
-ghost use Rattle.span_layers.specs.Boxed.{BoxHears, BoxLevels, BoxSteps, box_laws};
-ghost use Rattle.span_layers.specs.Levels.{box_levels};
+ghost use Rattle.span_layers.specs.laws.Path.{box_path_laws};
+ghost use Rattle.span_layers.specs.Boxed.{BoxHears, BoxLevels, BoxSteps};
+ghost use Rattle.span_layers.specs.laws.Box.{box_laws};
+ghost use Rattle.span_layers.specs.laws.Level.{box_levels};
 
 use crate::layer::Layer;
-use span_core::{Attributes, Event, Id, Interest, LevelFilter, Metadata, Pass, Record};
-use span_registry::{Context, ContextMut, Subscriber};
+use span_core::{Event, Interest, LevelFilter, Metadata, Pass};
+use span_registry::{Context, ContextMut, Notice, Subscriber};
 
-/// It is what it holds.
+/// A boxed layer acts as the layer in the box does.
 impl<S: Subscriber, L: Layer<S>> Layer<S> for Box<L> {
     ghost usable = { λ x. L.usable x.value };
 
@@ -67,36 +68,9 @@ impl<S: Subscriber, L: Layer<S>> Layer<S> for Box<L> {
         (**self).is_absent()
     }
 
-    fn on_new_span(&mut self, attrs: &Attributes<'_>, id: Id, ctx: &mut ContextMut<'_, S>) {
-        (**self).on_new_span(attrs, id, ctx);
-    }
-
-    fn on_record(&mut self, id: Id, values: &Record<'_>, ctx: &mut ContextMut<'_, S>) {
-        (**self).on_record(id, values, ctx);
-    }
-
-    fn on_follows_from(&mut self, id: Id, follows: Id, ctx: &mut ContextMut<'_, S>) {
-        (**self).on_follows_from(id, follows, ctx);
-    }
-
-    fn on_event(&mut self, event: &Event<'_>, ctx: &mut ContextMut<'_, S>) {
-        (**self).on_event(event, ctx);
-    }
-
-    fn on_enter(&mut self, id: Id, ctx: &mut ContextMut<'_, S>) {
-        (**self).on_enter(id, ctx);
-    }
-
-    fn on_exit(&mut self, id: Id, ctx: &mut ContextMut<'_, S>) {
-        (**self).on_exit(id, ctx);
-    }
-
-    fn on_id_change(&mut self, id: Id, new: Id, ctx: &mut ContextMut<'_, S>) {
-        (**self).on_id_change(id, new, ctx);
-    }
-
-    fn on_close(&mut self, id: Id, ctx: &mut ContextMut<'_, S>) {
-        (**self).on_close(id, ctx);
+    #[inline(always)]
+    fn notify(&mut self, notice: Notice<'_, '_>, ctx: &mut ContextMut<'_, S>) {
+        (**self).notify(notice, ctx);
     }
 
     fn set_level(&mut self, number: u32, level: LevelFilter) -> bool {

@@ -2,18 +2,23 @@
 ghost use Rattle.std.specs.Borrow.{Lends, sem};
 ghost use Rattle.std.specs.Prelude.{◌≡◌};
 ghost use Rattle.span_layers.specs.Acts.{FilteredActs};
-ghost use Rattle.span_layers.specs.ActsKept.{filtered_path_laws};
-ghost use Rattle.span_layers.specs.Levels.{FilteredLevels, filtered_levels};
+ghost use Rattle.span_layers.specs.laws.Path.{filtered_path_laws};
+ghost use Rattle.span_layers.specs.Levels.{FilteredLevels};
+ghost use Rattle.span_layers.specs.laws.Level.{filtered_levels};
 ghost use Rattle.span_layers.specs.contracts.filtered.Filtered.{the_row};
-ghost use Rattle.span_layers.specs.Filtered.{FilteredForm, FilteredHears, FilteredSteps, IsUnnumbered, filter_of, layer_of, with_filter, with_layer};
-ghost use Rattle.span_layers.specs.LayeredLaws.{filtered_laws};
+ghost use Rattle.span_filters.specs.Filter.{Notified as FilterNotified};
+ghost use Rattle.span_layers.specs.Filtered.{FilteredForm, FilteredHears, FilteredSteps, Hooked, IsUnnumbered, filter_of, layer_of, with_filter, with_layer};
+ghost use Rattle.span_layers.specs.laws.Filtered.{filtered_laws};
+ghost use Rattle.span_registry.specs.Context.{HasNoRefusalsUnlessAsked, WritesExtensions};
+ghost use Rattle.span_registry.specs.Notice.{notice_of};
 
 use crate::layer::Layer;
-use span_core::{Attributes, Event, FilterId, Id, Interest, LevelFilter, Metadata, Pass, Record};
+use span_core::{Event, FilterId, Interest, LevelFilter, Metadata, Pass};
 use span_filters::Filter;
-use span_registry::{Context, ContextMut, Subscriber};
+use span_registry::{Context, ContextMut, Notice, Subscriber};
 
-/// A layer that is notified of what its filter passes. What the filter refuses is refused for this layer alone.
+/// A layer that is notified of what its filter enables. What the filter refuses is refused for this
+/// layer alone.
 ///
 /// Stands for `tracing_subscriber::filter::Filtered`.
 #[derive(Debug, Drop)]
@@ -24,7 +29,8 @@ pub struct Filtered<L, F> {
 }
 
 impl<L, F> Filtered<L, F> {
-    /// A layer under a filter that has no number yet: it is notified of nothing until a subscriber gives the filter one.
+    /// A layer under a filter that has no number yet: it is notified of nothing until a subscriber
+    /// gives the filter one.
     pub fn new(layer: L, filter: F) -> Filtered<L, F>
         ensures { IsUnnumbered result layer filter }
     {
@@ -35,14 +41,15 @@ impl<L, F> Filtered<L, F> {
         }
     }
 
-    /// Its filter, as it now is.
+    /// The filter round the layer, as it now is.
     pub fn filter(&self) -> &F
         ensures { result.now ≡ filter_of self.now }
     {
         &self.filter
     }
 
-    /// Its filter, to be changed. What the filter answers then may differ from what is kept of its answers.
+    /// The filter round the layer, to be changed. What the filter answers then may differ from what
+    /// is cached of its answers.
     pub fn filter_mut(&mut self) -> &mut F
         ensures* writes_back { sem 𝓛
             (Lends (the_row L.row F.row) F.row self.entry result (with_filter self.old)) }
@@ -51,20 +58,39 @@ impl<L, F> Filtered<L, F> {
         &mut self.filter
     }
 
-    /// Its layer, as it now is.
+    /// The layer under the filter, as it now is.
     pub fn inner(&self) -> &L
         ensures { result.now ≡ layer_of self.now }
     {
         &self.layer
     }
 
-    /// Its layer, to be changed.
+    /// The layer under the filter, to be changed.
     pub fn inner_mut(&mut self) -> &mut L
         ensures* writes_back { sem 𝓛
             (Lends (the_row L.row F.row) L.row self.entry result (with_layer self.old)) }
         ensures value { result.now ≡ layer_of self.old }
     {
         &mut self.layer
+    }
+}
+
+/// Notifies the filter itself, of what filters are notified of.
+#[inline(always)]
+fn notify_filter<S: Subscriber, F: Filter<S>>(
+    filter: &mut F,
+    notice: Notice<'_, '_>,
+    ctx: &mut ContextMut<'_, S>,
+)
+    requires usable { F.usable filter.old }
+    requires refusals { HasNoRefusalsUnlessAsked (notice_of notice) ctx.old }
+    ensures usable { F.usable filter.new }
+    ensures hook { FilterNotified (Hooked F.hooked) S.registry (notice_of notice.entry) filter.old
+        ctx.old filter.new ctx.new }
+    ensures written { WritesExtensions S.registry S.with_registry ctx.old ctx.new }
+{
+    if notice.is_for_filters() {
+        filter.notify(notice, ctx);
     }
 }
 
@@ -164,83 +190,14 @@ impl<S: Subscriber, L: Layer<S>, F: Filter<S>> Layer<S> for Filtered<L, F> {
         self.layer.is_absent()
     }
 
-    fn on_new_span(&mut self, attrs: &Attributes<'_>, id: Id, ctx: &mut ContextMut<'_, S>) {
-        if ctx.refuses(self.id) {
+    #[inline(always)]
+    fn notify(&mut self, notice: Notice<'_, '_>, ctx: &mut ContextMut<'_, S>) {
+        if !ctx.admits(notice, self.id) {
             return;
         }
         let before = ctx.narrow(self.id);
-        self.filter.on_new_span(attrs, id, ctx);
-        self.layer.on_new_span(attrs, id, ctx);
-        ctx.restore_mask(before);
-    }
-
-    fn on_record(&mut self, id: Id, values: &Record<'_>, ctx: &mut ContextMut<'_, S>) {
-        if !ctx.is_enabled_for(id, self.id) {
-            return;
-        }
-        let before = ctx.narrow(self.id);
-        self.filter.on_record(id, values, ctx);
-        self.layer.on_record(id, values, ctx);
-        ctx.restore_mask(before);
-    }
-
-    fn on_follows_from(&mut self, id: Id, follows: Id, ctx: &mut ContextMut<'_, S>) {
-        if !ctx.is_enabled_for(id, self.id) {
-            return;
-        }
-        if !ctx.is_enabled_for(follows, self.id) {
-            return;
-        }
-        let before = ctx.narrow(self.id);
-        self.layer.on_follows_from(id, follows, ctx);
-        ctx.restore_mask(before);
-    }
-
-    fn on_event(&mut self, event: &Event<'_>, ctx: &mut ContextMut<'_, S>) {
-        if ctx.refuses(self.id) {
-            return;
-        }
-        let before = ctx.narrow(self.id);
-        self.layer.on_event(event, ctx);
-        ctx.restore_mask(before);
-    }
-
-    fn on_enter(&mut self, id: Id, ctx: &mut ContextMut<'_, S>) {
-        if !ctx.is_enabled_for(id, self.id) {
-            return;
-        }
-        let before = ctx.narrow(self.id);
-        self.filter.on_enter(id, ctx);
-        self.layer.on_enter(id, ctx);
-        ctx.restore_mask(before);
-    }
-
-    fn on_exit(&mut self, id: Id, ctx: &mut ContextMut<'_, S>) {
-        if !ctx.is_enabled_for(id, self.id) {
-            return;
-        }
-        let before = ctx.narrow(self.id);
-        self.filter.on_exit(id, ctx);
-        self.layer.on_exit(id, ctx);
-        ctx.restore_mask(before);
-    }
-
-    fn on_id_change(&mut self, id: Id, new: Id, ctx: &mut ContextMut<'_, S>) {
-        if !ctx.is_enabled_for(id, self.id) {
-            return;
-        }
-        let before = ctx.narrow(self.id);
-        self.layer.on_id_change(id, new, ctx);
-        ctx.restore_mask(before);
-    }
-
-    fn on_close(&mut self, id: Id, ctx: &mut ContextMut<'_, S>) {
-        if !ctx.is_enabled_for(id, self.id) {
-            return;
-        }
-        let before = ctx.narrow(self.id);
-        self.filter.on_close(id, ctx);
-        self.layer.on_close(id, ctx);
+        notify_filter(&mut self.filter, notice, ctx);
+        self.layer.notify(notice, ctx);
         ctx.restore_mask(before);
     }
 

@@ -1,19 +1,20 @@
 //! A layer that does nothing.
 ghost use Rattle.std.specs.Prelude.{◌≡◌, true};
 ghost use Rattle.span_layers.specs.Acts.{LeafActs};
-ghost use Rattle.span_layers.specs.ActsKept.{is_leaf, leaf_path_laws};
-ghost use Rattle.span_layers.specs.Idle.{IdleSteps, identity, idle_laws};
+ghost use Rattle.span_layers.specs.laws.Leaf.{is_leaf, idle_laws};
+ghost use Rattle.span_layers.specs.laws.Path.{leaf_path_laws};
+ghost use Rattle.span_layers.specs.Idle.{IdleSteps, identity};
 ghost use Rattle.span_layers.specs.Layer.{HearsBy};
-ghost use Rattle.span_layers.specs.Levels.{leaf_levels};
+ghost use Rattle.span_layers.specs.laws.Level.{leaf_levels};
 ghost use Rattle.span_layers.specs.Observe.{open_answers};
 ghost use Rattle.span_registry.specs.Form.{Leaf};
 ghost use Rattle.span_registry.specs.Levels.{unlevelled};
 
 use crate::layer::Layer;
-use span_core::{Attributes, Event, Id, Interest, LevelFilter, Metadata, Pass, Record};
-use span_registry::{Context, ContextMut, Subscriber};
+use span_core::{Event, Interest, LevelFilter, Metadata, Pass};
+use span_registry::{Context, ContextMut, Notice, Subscriber};
 
-/// A layer that wants everything and does nothing.
+/// A layer that enables everything and does nothing.
 ///
 /// Stands for `tracing_subscriber::layer::Identity`.
 #[derive(Clone, Copy, Debug)]
@@ -94,21 +95,8 @@ impl<S: Subscriber> Layer<S> for Identity {
         false // It is there.
     }
 
-    fn on_new_span(&mut self, _attrs: &Attributes<'_>, _id: Id, _ctx: &mut ContextMut<'_, S>) {}
-
-    fn on_record(&mut self, _id: Id, _values: &Record<'_>, _ctx: &mut ContextMut<'_, S>) {}
-
-    fn on_follows_from(&mut self, _id: Id, _follows: Id, _ctx: &mut ContextMut<'_, S>) {}
-
-    fn on_event(&mut self, _event: &Event<'_>, _ctx: &mut ContextMut<'_, S>) {}
-
-    fn on_enter(&mut self, _id: Id, _ctx: &mut ContextMut<'_, S>) {}
-
-    fn on_exit(&mut self, _id: Id, _ctx: &mut ContextMut<'_, S>) {}
-
-    fn on_id_change(&mut self, _id: Id, _new: Id, _ctx: &mut ContextMut<'_, S>) {}
-
-    fn on_close(&mut self, _id: Id, _ctx: &mut ContextMut<'_, S>) {}
+    #[inline(always)]
+    fn notify(&mut self, _notice: Notice<'_, '_>, _ctx: &mut ContextMut<'_, S>) {}
 
     fn set_level(&mut self, _number: u32, _level: LevelFilter) -> bool {
         false // No filter is in it.

@@ -2,21 +2,23 @@
 ghost use Rattle.std.specs.Borrow.{Lends, sem};
 ghost use Rattle.std.specs.Prelude.{◌≡◌, ◌&&◌, if◌then◌else◌};
 ghost use Rattle.span_layers.specs.Acts.{LayeredActs};
-ghost use Rattle.span_layers.specs.ActsKept.{pair_path_laws};
-ghost use Rattle.span_layers.specs.Levels.{LayeredLevels, layered_levels};
+ghost use Rattle.span_layers.specs.laws.Path.{pair_path_laws};
+ghost use Rattle.span_layers.specs.Levels.{LayeredLevels};
+ghost use Rattle.span_layers.specs.laws.Level.{layered_levels};
 ghost use Rattle.span_layers.specs.contracts.layered.Layered.{the_row};
 ghost use Rattle.span_core.specs.Level.{greater_hint};
 ghost use Rattle.span_core.specs.declared.interest.Interest.TheVariants.{Sometimes};
-ghost use Rattle.span_layers.specs.LayeredLaws.{pair_laws};
+ghost use Rattle.span_layers.specs.laws.Pair.{pair_laws};
 ghost use Rattle.span_layers.specs.Layered.{LayeredHears, PartsForm, PairSteps, inner_of, outer_of, with_inner, with_outer};
 ghost use Rattle.span_registry.specs.Form.{InPair};
 ghost use Rattle.span_registry.specs.Question.{hint_by, is_never};
 
 use crate::layer::Layer;
-use span_core::{Attributes, Event, Id, Interest, LevelFilter, Metadata, Pass, Record};
-use span_registry::{Context, ContextMut, Subscriber};
+use span_core::{Event, Interest, LevelFilter, Metadata, Pass};
+use span_registry::{Context, ContextMut, Notice, Subscriber};
 
-/// An outer part over an inner one: a layer where both are layers, a stack where the inner one is a stack.
+/// An outer part over an inner one: a layer where both are layers, a stack where the inner one is a
+/// stack.
 ///
 /// Stands for `tracing_subscriber::layer::Layered`.
 #[derive(Debug, Drop)]
@@ -26,14 +28,14 @@ pub struct Layered<L, I> {
 }
 
 impl<L, I> Layered<L, I> {
-    /// Its outer part, as it now is.
+    /// The outer part of the two, as it now is.
     pub fn layer(&self) -> &L
         ensures { result.now ≡ outer_of self.now }
     {
         &self.layer
     }
 
-    /// Its outer part, to be changed.
+    /// The outer part of the two, to be changed.
     pub fn layer_mut(&mut self) -> &mut L
         ensures* writes_back { sem 𝓛
             (Lends (the_row L.row I.row) L.row self.entry result (with_outer self.old)) }
@@ -42,14 +44,14 @@ impl<L, I> Layered<L, I> {
         &mut self.layer
     }
 
-    /// Its inner part, as it now is.
+    /// The inner part of the two, as it now is.
     pub fn inner(&self) -> &I
         ensures { result.now ≡ inner_of self.now }
     {
         &self.inner
     }
 
-    /// Its inner part, to be changed.
+    /// The inner part of the two, to be changed.
     pub fn inner_mut(&mut self) -> &mut I
         ensures* writes_back { sem 𝓛
             (Lends (the_row L.row I.row) I.row self.entry result (with_inner self.old)) }
@@ -58,7 +60,7 @@ impl<L, I> Layered<L, I> {
         &mut self.inner
     }
 
-    /// Its outer part and its inner one, taken apart.
+    /// The outer part and the inner one, taken apart.
     pub fn into_parts(self) -> (L, I)
         ensures outer { result.0 ≡ outer_of self }
         ensures inner { result.1 ≡ inner_of self }
@@ -112,8 +114,8 @@ pub(crate) fn hint_over(outer: Hinted, inner: Hinted) -> Option<LevelFilter>
     greater_of(outer.hint, inner.hint)
 }
 
-/// The interest under an outer part whose own is `always`: `sometimes` for the `never` of an inner part that is calm, marked
-/// or the registry.
+/// If the outer layer says `always`, a `never` from an inner part that is per-layer filtered (or
+/// the bare registry) becomes `sometimes`.
 pub(crate) fn calmed(inner: Interest, calm: bool) -> Interest
     ensures { result ≡ if is_never inner && calm then Sometimes else inner }
 {
@@ -220,44 +222,10 @@ impl<S: Subscriber, L: Layer<S>, I: Layer<S>> Layer<S> for Layered<L, I> {
         self.layer.is_absent() || self.inner.is_absent()
     }
 
-    fn on_new_span(&mut self, attrs: &Attributes<'_>, id: Id, ctx: &mut ContextMut<'_, S>) {
-        self.inner.on_new_span(attrs, id, ctx);
-        self.layer.on_new_span(attrs, id, ctx);
-    }
-
-    fn on_record(&mut self, id: Id, values: &Record<'_>, ctx: &mut ContextMut<'_, S>) {
-        self.inner.on_record(id, values, ctx);
-        self.layer.on_record(id, values, ctx);
-    }
-
-    fn on_follows_from(&mut self, id: Id, follows: Id, ctx: &mut ContextMut<'_, S>) {
-        self.inner.on_follows_from(id, follows, ctx);
-        self.layer.on_follows_from(id, follows, ctx);
-    }
-
-    fn on_event(&mut self, event: &Event<'_>, ctx: &mut ContextMut<'_, S>) {
-        self.inner.on_event(event, ctx);
-        self.layer.on_event(event, ctx);
-    }
-
-    fn on_enter(&mut self, id: Id, ctx: &mut ContextMut<'_, S>) {
-        self.inner.on_enter(id, ctx);
-        self.layer.on_enter(id, ctx);
-    }
-
-    fn on_exit(&mut self, id: Id, ctx: &mut ContextMut<'_, S>) {
-        self.inner.on_exit(id, ctx);
-        self.layer.on_exit(id, ctx);
-    }
-
-    fn on_id_change(&mut self, id: Id, new: Id, ctx: &mut ContextMut<'_, S>) {
-        self.inner.on_id_change(id, new, ctx);
-        self.layer.on_id_change(id, new, ctx);
-    }
-
-    fn on_close(&mut self, id: Id, ctx: &mut ContextMut<'_, S>) {
-        self.inner.on_close(id, ctx);
-        self.layer.on_close(id, ctx);
+    #[inline(always)]
+    fn notify(&mut self, notice: Notice<'_, '_>, ctx: &mut ContextMut<'_, S>) {
+        self.inner.notify(notice, ctx);
+        self.layer.notify(notice, ctx);
     }
 
     fn set_level(&mut self, number: u32, level: LevelFilter) -> bool {

@@ -21,4 +21,4 @@ pub use filtered::Filtered;
 pub use identity::Identity;
 pub use layer::Layer;
 pub use layered::Layered;
-pub use observe::{Observe, Observed, Observer};
+pub use observe::{Observe, Observer};

@@ -1,22 +1,24 @@
-//! A list of layers. Questions and hooks go by index: the first member is asked first, and notified first.
+//! A list of layers. Questions and hooks go by index: the first member is asked first, and notified
+//! first.
 ghost use Rattle.std.specs.List.{All, AllZip};
 ghost use Rattle.std.specs.Prelude.{◌≡◌, ◌||◌, false};
 ghost use Rattle.span_core.specs.Level.{wider_hint};
 ghost use Rattle.span_layers.specs.Acts.{ListActs};
-ghost use Rattle.span_layers.specs.ActsKept.{list_path_laws};
+ghost use Rattle.span_layers.specs.laws.Path.{list_path_laws};
 ghost use Rattle.span_layers.specs.Layer.{LeavesAlone, MayNotify, Notified};
-ghost use Rattle.span_layers.specs.Levels.{ListLevels, list_levels};
-ghost use Rattle.span_layers.specs.Members.{ListForm, ListHears, ListSteps, list_laws};
+ghost use Rattle.span_layers.specs.Levels.{ListLevels};
+ghost use Rattle.span_layers.specs.laws.Level.{list_levels};
+ghost use Rattle.span_layers.specs.Members.{ListForm, ListHears, ListSteps};
+ghost use Rattle.span_layers.specs.laws.List.{list_laws};
 ghost use Rattle.span_layers.specs.Number.{TakesNumbers};
-ghost use Rattle.span_layers.specs.Observe.{notice_of};
 ghost use Rattle.span_registry.specs.Context.{HandsOn, HasNoRefusalsUnlessAsked};
 ghost use Rattle.span_registry.specs.Levels.{takes_level};
+ghost use Rattle.span_registry.specs.Notice.{notice_of};
 ghost use Rattle.span_registry.specs.Question.{ShowsBy, higher};
 
 use crate::layer::Layer;
-use crate::observe::Observed;
-use span_core::{Attributes, Event, Id, Interest, LevelFilter, Metadata, Pass, Record};
-use span_registry::{Context, ContextMut, Subscriber};
+use span_core::{Event, Interest, LevelFilter, Metadata, Pass};
+use span_registry::{Context, ContextMut, Notice, Subscriber};
 
 /// The higher of the two interests.
 fn higher_of(i: Interest, j: Interest) -> Interest
@@ -40,7 +42,7 @@ fn wider_of(h: Option<LevelFilter>, k: Option<LevelFilter>) -> Option<LevelFilte
     }
 }
 
-/// Puts all members in use, by index.
+/// Puts all members of a list in use, by index.
 fn put_in_use<S: Subscriber, L: Layer<S>>(members: &mut [L])
     requires { All L.usable members.old }
     ensures usable { All L.usable members.new }
@@ -51,7 +53,7 @@ fn put_in_use<S: Subscriber, L: Layer<S>>(members: &mut [L])
     }
 }
 
-/// Gives the members' filters the next numbers, by index.
+/// Gives the filters of a list's members the next numbers, by index.
 fn number<S: Subscriber, L: Layer<S>>(members: &mut [L], subscriber: &mut S)
     requires members { All L.usable members.old }
     requires subscriber { S.usable subscriber.old }
@@ -73,7 +75,8 @@ fn either(one: bool, other: bool) -> bool
     one || other
 }
 
-/// Asks all members to set the level of the filter with this number, and answers whether there is one that takes it.
+/// Sets the level of the filter with this number in all members of a list, and answers whether
+/// there is one that takes it.
 fn set_levels<S: Subscriber, L: Layer<S>>(
     members: &mut [L],
     number: u32,
@@ -94,38 +97,11 @@ fn set_levels<S: Subscriber, L: Layer<S>>(
     taken
 }
 
-/// Calls the hook that this notice is for.
-#[inline(always)]
-fn notify<S: Subscriber, L: Layer<S>>(
-    member: &mut L,
-    notice: Observed<'_, '_>,
-    ctx: &mut ContextMut<'_, S>,
-)
-    requires usable { MayNotify L.usable S.usable member.old ctx.old }
-    requires refusals { HasNoRefusalsUnlessAsked (notice_of notice) ctx.old }
-    ensures usable { MayNotify L.usable S.usable member.new ctx.new }
-    ensures rest { HandsOn S.registry ctx.old ctx.new }
-    ensures alone { LeavesAlone S.registry S.with_registry L.has_form member.old ctx.old ctx.new }
-    ensures hook { Notified S.registry L.has_form L.stepped (notice_of notice.entry) member.old
-        ctx.old member.new ctx.new }
-{
-    match notice {
-        Observed::NewSpan(attrs, id) => member.on_new_span(attrs, id, ctx),
-        Observed::Record(id, values) => member.on_record(id, values, ctx),
-        Observed::FollowsFrom(id, follows) => member.on_follows_from(id, follows, ctx),
-        Observed::Event(event) => member.on_event(event, ctx),
-        Observed::Enter(id) => member.on_enter(id, ctx),
-        Observed::Exit(id) => member.on_exit(id, ctx),
-        Observed::IdChange(id, new) => member.on_id_change(id, new, ctx),
-        Observed::Close(id) => member.on_close(id, ctx),
-    }
-}
-
-/// Notifies all members, by index.
+/// Notifies all members of a list, by index.
 #[inline(always)]
 fn notify_all<S: Subscriber, L: Layer<S>>(
     members: &mut [L],
-    notice: Observed<'_, '_>,
+    notice: Notice<'_, '_>,
     ctx: &mut ContextMut<'_, S>,
 )
     requires usable { MayNotify (All L.usable) S.usable members.old ctx.old }
@@ -138,7 +114,7 @@ fn notify_all<S: Subscriber, L: Layer<S>>(
         (notice_of notice.entry) members.old ctx.old members.new ctx.new }
 {
     for member in members.iter_mut() {
-        notify(member, notice, ctx);
+        member.notify(notice, ctx);
     }
 }
 
@@ -234,36 +210,9 @@ impl<S: Subscriber, L: Layer<S>> Layer<S> for Vec<L> {
         false
     }
 
-    fn on_new_span(&mut self, attrs: &Attributes<'_>, id: Id, ctx: &mut ContextMut<'_, S>) {
-        notify_all(self.as_mut_slice(), Observed::NewSpan(attrs, id), ctx);
-    }
-
-    fn on_record(&mut self, id: Id, values: &Record<'_>, ctx: &mut ContextMut<'_, S>) {
-        notify_all(self.as_mut_slice(), Observed::Record(id, values), ctx);
-    }
-
-    fn on_follows_from(&mut self, id: Id, follows: Id, ctx: &mut ContextMut<'_, S>) {
-        notify_all(self.as_mut_slice(), Observed::FollowsFrom(id, follows), ctx);
-    }
-
-    fn on_event(&mut self, event: &Event<'_>, ctx: &mut ContextMut<'_, S>) {
-        notify_all(self.as_mut_slice(), Observed::Event(event), ctx);
-    }
-
-    fn on_enter(&mut self, id: Id, ctx: &mut ContextMut<'_, S>) {
-        notify_all(self.as_mut_slice(), Observed::Enter(id), ctx);
-    }
-
-    fn on_exit(&mut self, id: Id, ctx: &mut ContextMut<'_, S>) {
-        notify_all(self.as_mut_slice(), Observed::Exit(id), ctx);
-    }
-
-    fn on_id_change(&mut self, id: Id, new: Id, ctx: &mut ContextMut<'_, S>) {
-        notify_all(self.as_mut_slice(), Observed::IdChange(id, new), ctx);
-    }
-
-    fn on_close(&mut self, id: Id, ctx: &mut ContextMut<'_, S>) {
-        notify_all(self.as_mut_slice(), Observed::Close(id), ctx);
+    #[inline(always)]
+    fn notify(&mut self, notice: Notice<'_, '_>, ctx: &mut ContextMut<'_, S>) {
+        notify_all(self.as_mut_slice(), notice, ctx);
     }
 
     fn set_level(&mut self, number: u32, level: LevelFilter) -> bool {

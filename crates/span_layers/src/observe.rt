@@ -2,50 +2,34 @@
 ghost use Rattle.std.specs.Borrow.{Lends, sem};
 ghost use Rattle.std.specs.Prelude.{◌≡◌, ⊤, true};
 ghost use Rattle.span_layers.specs.Acts.{LeafActs};
-ghost use Rattle.span_layers.specs.ActsKept.{is_leaf, leaf_path_laws};
+ghost use Rattle.span_layers.specs.laws.Leaf.{is_leaf, observer_laws};
+ghost use Rattle.span_layers.specs.laws.Path.{leaf_path_laws};
 ghost use Rattle.span_layers.specs.Layer.{HearsBy};
-ghost use Rattle.span_layers.specs.Levels.{leaf_levels};
-ghost use Rattle.span_layers.specs.Observe.{ObserverStep, ObserverSteps, Observes, notice_of, observer_laws, observer_of, open_answers, with_observer};
+ghost use Rattle.span_layers.specs.laws.Level.{leaf_levels};
+ghost use Rattle.span_layers.specs.Observe.{ObserverStep, ObserverSteps, Observes, observer_of, open_answers, with_observer};
 ghost use Rattle.span_layers.specs.contracts.observe.Observer.{the_row};
 ghost use Rattle.span_registry.specs.Context.{HasNoRefusalsUnlessAsked, WritesExtensions, subscriber_lent};
 ghost use Rattle.span_registry.specs.Form.{Leaf};
 ghost use Rattle.span_registry.specs.Levels.{unlevelled};
+ghost use Rattle.span_registry.specs.Notice.{notice_of};
 
 use crate::layer::Layer;
-use span_core::{Attributes, Event, Id, Interest, LevelFilter, Metadata, Pass, Record};
-use span_registry::{Context, ContextMut, Subscriber};
+use span_core::{Event, Interest, LevelFilter, Metadata, Pass};
+use span_registry::{Context, ContextMut, Notice, Subscriber};
 
-/// What an observer is notified of.
-#[derive(Clone, Copy)]
-pub enum Observed<'a, 'b> {
-    /// A new span, which can be read.
-    NewSpan(&'a Attributes<'b>, Id),
-    /// Values that a span was given later.
-    Record(Id, &'a Record<'b>),
-    /// The first span follows from the second.
-    FollowsFrom(Id, Id),
-    /// An event.
-    Event(&'a Event<'b>),
-    /// A span is entered.
-    Enter(Id),
-    /// A span is left.
-    Exit(Id),
-    /// The first span's handle was cloned under the second id.
-    IdChange(Id, Id),
-    /// A span is closing, and can still be read.
-    Close(Id),
-}
-
-/// A layer that refuses nothing and writes only the method that it needs. `Observer` makes a layer of it.
+/// A layer that refuses nothing and writes only the method that it needs. `Observer` makes a layer
+/// of it.
 pub trait Observe<S: Subscriber> {
-    /// It may be notified. Only one that holds a closure says more than that it always may.
+    /// The observer may be notified. Only one that holds a closure says more than that it always
+    /// may.
     ghost usable: { Self → Type 0 } = { λ x. ⊤ };
 
-    /// How it goes on when it is notified.
+    /// How the observer goes on when it is notified.
     ghost observed: { ObserverSteps Self };
 
-    /// Notifies of all that passes the filters round it. Only with a new span or an event refusals may be lent.
-    fn observe(&mut self, notice: Observed<'_, '_>, ctx: &mut ContextMut<'_, S>)
+    /// Notifies of all that the filters round the observer enable. Only with a new span or an event
+    /// refusals may be lent.
+    fn observe(&mut self, notice: Notice<'_, '_>, ctx: &mut ContextMut<'_, S>)
         requires own { usable self.old }
         requires subscriber { S.usable (subscriber_lent ctx.old) }
         requires refusals { HasNoRefusalsUnlessAsked (notice_of notice) ctx.old }
@@ -68,14 +52,14 @@ impl<T> Observer<T> {
         Observer { observer }
     }
 
-    /// The observer, as it now is.
+    /// The observer in the layer, as it now is.
     pub fn observer(&self) -> &T
         ensures { result.now ≡ observer_of self.now }
     {
         &self.observer
     }
 
-    /// The observer, to be changed.
+    /// The observer in the layer, to be changed.
     pub fn observer_mut(&mut self) -> &mut T
         ensures* writes_back { sem 𝓛
             (Lends (the_row T.row) T.row self.entry result (with_observer self.old)) }
@@ -84,7 +68,7 @@ impl<T> Observer<T> {
         &mut self.observer
     }
 
-    /// The observer, taken out.
+    /// The observer, taken out of the layer.
     pub fn into_observer(self) -> T
         ensures { result ≡ observer_of self }
     {
@@ -153,37 +137,9 @@ impl<S: Subscriber, T: Observe<S>> Layer<S> for Observer<T> {
         false // It is there.
     }
 
-    fn on_new_span(&mut self, attrs: &Attributes<'_>, id: Id, ctx: &mut ContextMut<'_, S>) {
-        self.observer.observe(Observed::NewSpan(attrs, id), ctx);
-    }
-
-    fn on_record(&mut self, id: Id, values: &Record<'_>, ctx: &mut ContextMut<'_, S>) {
-        self.observer.observe(Observed::Record(id, values), ctx);
-    }
-
-    fn on_follows_from(&mut self, id: Id, follows: Id, ctx: &mut ContextMut<'_, S>) {
-        self.observer
-            .observe(Observed::FollowsFrom(id, follows), ctx);
-    }
-
-    fn on_event(&mut self, event: &Event<'_>, ctx: &mut ContextMut<'_, S>) {
-        self.observer.observe(Observed::Event(event), ctx);
-    }
-
-    fn on_enter(&mut self, id: Id, ctx: &mut ContextMut<'_, S>) {
-        self.observer.observe(Observed::Enter(id), ctx);
-    }
-
-    fn on_exit(&mut self, id: Id, ctx: &mut ContextMut<'_, S>) {
-        self.observer.observe(Observed::Exit(id), ctx);
-    }
-
-    fn on_id_change(&mut self, id: Id, new: Id, ctx: &mut ContextMut<'_, S>) {
-        self.observer.observe(Observed::IdChange(id, new), ctx);
-    }
-
-    fn on_close(&mut self, id: Id, ctx: &mut ContextMut<'_, S>) {
-        self.observer.observe(Observed::Close(id), ctx);
+    #[inline(always)]
+    fn notify(&mut self, notice: Notice<'_, '_>, ctx: &mut ContextMut<'_, S>) {
+        self.observer.observe(notice, ctx);
     }
 
     fn set_level(&mut self, _number: u32, _level: LevelFilter) -> bool {

@@ -1,15 +1,18 @@
 //! A layer that may be absent.
 ghost use Rattle.std.specs.Prelude.{IfSome};
 ghost use Rattle.span_layers.specs.Acts.{OptionActs};
-ghost use Rattle.span_layers.specs.ActsKept.{option_path_laws};
-ghost use Rattle.span_layers.specs.Levels.{OptionLevels, option_levels};
-ghost use Rattle.span_layers.specs.Optional.{OptionForm, OptionGoes, OptionHears, OptionSteps, option_laws};
+ghost use Rattle.span_layers.specs.laws.Path.{option_path_laws};
+ghost use Rattle.span_layers.specs.Levels.{OptionLevels};
+ghost use Rattle.span_layers.specs.laws.Level.{option_levels};
+ghost use Rattle.span_layers.specs.Optional.{OptionForm, OptionGoes, OptionHears, OptionSteps};
+ghost use Rattle.span_layers.specs.laws.Option.{option_laws};
 
 use crate::layer::Layer;
-use span_core::{Attributes, Event, Id, Interest, LevelFilter, Metadata, Pass, Record};
-use span_registry::{Context, ContextMut, Subscriber};
+use span_core::{Event, Interest, LevelFilter, Metadata, Pass};
+use span_registry::{Context, ContextMut, Notice, Subscriber};
 
-/// `None` is an absent layer: it refuses nothing, does nothing, and its hint is `OFF`. `Some` is what it holds.
+/// `None` is an absent layer: it refuses nothing, does nothing, and its hint is `OFF`. `Some` acts
+/// as the layer that it holds.
 impl<S: Subscriber, L: Layer<S>> Layer<S> for Option<L> {
     ghost usable = { λ x. IfSome x L.usable };
 
@@ -94,51 +97,10 @@ impl<S: Subscriber, L: Layer<S>> Layer<S> for Option<L> {
         }
     }
 
-    fn on_new_span(&mut self, attrs: &Attributes<'_>, id: Id, ctx: &mut ContextMut<'_, S>) {
+    #[inline(always)]
+    fn notify(&mut self, notice: Notice<'_, '_>, ctx: &mut ContextMut<'_, S>) {
         if let Some(layer) = self {
-            layer.on_new_span(attrs, id, ctx);
-        }
-    }
-
-    fn on_record(&mut self, id: Id, values: &Record<'_>, ctx: &mut ContextMut<'_, S>) {
-        if let Some(layer) = self {
-            layer.on_record(id, values, ctx);
-        }
-    }
-
-    fn on_follows_from(&mut self, id: Id, follows: Id, ctx: &mut ContextMut<'_, S>) {
-        if let Some(layer) = self {
-            layer.on_follows_from(id, follows, ctx);
-        }
-    }
-
-    fn on_event(&mut self, event: &Event<'_>, ctx: &mut ContextMut<'_, S>) {
-        if let Some(layer) = self {
-            layer.on_event(event, ctx);
-        }
-    }
-
-    fn on_enter(&mut self, id: Id, ctx: &mut ContextMut<'_, S>) {
-        if let Some(layer) = self {
-            layer.on_enter(id, ctx);
-        }
-    }
-
-    fn on_exit(&mut self, id: Id, ctx: &mut ContextMut<'_, S>) {
-        if let Some(layer) = self {
-            layer.on_exit(id, ctx);
-        }
-    }
-
-    fn on_id_change(&mut self, id: Id, new: Id, ctx: &mut ContextMut<'_, S>) {
-        if let Some(layer) = self {
-            layer.on_id_change(id, new, ctx);
-        }
-    }
-
-    fn on_close(&mut self, id: Id, ctx: &mut ContextMut<'_, S>) {
-        if let Some(layer) = self {
-            layer.on_close(id, ctx);
+            layer.notify(notice, ctx);
         }
     }
 

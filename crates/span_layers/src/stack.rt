@@ -2,10 +2,11 @@
 ghost use Rattle.std.specs.Prelude.{◌≡◌, refl};
 ghost use Rattle.std.proofs.Common.{ap};
 ghost use Rattle.span_layers.specs.Acts.{LayeredActs};
-ghost use Rattle.span_layers.specs.ActsKept.{stack_path_laws};
-ghost use Rattle.span_layers.specs.LayeredLaws.{stack_laws};
+ghost use Rattle.span_layers.specs.laws.Path.{stack_path_laws};
+ghost use Rattle.span_layers.specs.laws.Stack.{stack_laws};
 ghost use Rattle.span_layers.specs.Layered.{LayeredHears, LayeredSteps, PartsForm};
-ghost use Rattle.span_layers.specs.Levels.{LayeredLevels, layered_levels};
+ghost use Rattle.span_layers.specs.Levels.{LayeredLevels};
+ghost use Rattle.span_layers.specs.laws.Level.{layered_levels};
 ghost use Rattle.span_registry.specs.Form.{OnSubscriber};
 
 use crate::layer::Layer;
@@ -14,7 +15,7 @@ use span_core::{
     Attributes, Current, Event, FilterId, Id, Interest, Lane, LevelFilter, Metadata, Pass, Record,
     TraceError,
 };
-use span_registry::{Context, ContextMut, Data, LookupSpan, Registry, Subscriber};
+use span_registry::{Context, ContextMut, Data, LookupSpan, Notice, Registry, Subscriber};
 
 impl<L, I: LookupSpan> LookupSpan for Layered<L, I> {
     ghost registry = { λ x. I.registry x.inner };
@@ -137,7 +138,7 @@ impl<I: Subscriber, L: Layer<I>> Subscriber for Layered<L, I> {
         match self.inner.new_span(lane, attrs, pass) {
             Ok(id) => {
                 let mut ctx = ContextMut::new(&mut self.inner, lane, pass);
-                self.layer.on_new_span(attrs, id, &mut ctx);
+                self.layer.notify(Notice::NewSpan(attrs, id), &mut ctx);
                 Ok(id)
             }
             Err(error) => Err(error),
@@ -147,26 +148,27 @@ impl<I: Subscriber, L: Layer<I>> Subscriber for Layered<L, I> {
     fn record(&mut self, lane: Lane, id: Id, values: &Record<'_>) {
         self.inner.record(lane, id, values);
         let mut ctx = ContextMut::new(&mut self.inner, lane, &Pass::new());
-        self.layer.on_record(id, values, &mut ctx);
+        self.layer.notify(Notice::Record(id, values), &mut ctx);
     }
 
     fn record_follows_from(&mut self, lane: Lane, id: Id, follows: Id) {
         self.inner.record_follows_from(lane, id, follows);
         let mut ctx = ContextMut::new(&mut self.inner, lane, &Pass::new());
-        self.layer.on_follows_from(id, follows, &mut ctx);
+        self.layer
+            .notify(Notice::FollowsFrom(id, follows), &mut ctx);
     }
 
     fn event(&mut self, lane: Lane, event: &Event<'_>, pass: &Pass) {
         self.inner.event(lane, event, pass);
         let mut ctx = ContextMut::new(&mut self.inner, lane, pass);
-        self.layer.on_event(event, &mut ctx);
+        self.layer.notify(Notice::Event(event), &mut ctx);
     }
 
     fn enter(&mut self, lane: Lane, id: Id) -> Result<(), TraceError> {
         match self.inner.enter(lane, id) {
             Ok(()) => {
                 let mut ctx = ContextMut::new(&mut self.inner, lane, &Pass::new());
-                self.layer.on_enter(id, &mut ctx);
+                self.layer.notify(Notice::Enter(id), &mut ctx);
                 Ok(())
             }
             Err(error) => Err(error),
@@ -176,7 +178,7 @@ impl<I: Subscriber, L: Layer<I>> Subscriber for Layered<L, I> {
     fn exit(&mut self, lane: Lane, id: Id) {
         self.inner.exit(lane, id);
         let mut ctx = ContextMut::new(&mut self.inner, lane, &Pass::new());
-        self.layer.on_exit(id, &mut ctx);
+        self.layer.notify(Notice::Exit(id), &mut ctx);
     }
 
     /// No layer is notified: the contract of the inner subscriber's call answers the same id.
@@ -191,7 +193,7 @@ impl<I: Subscriber, L: Layer<I>> Subscriber for Layered<L, I> {
     fn close_hooks(&mut self, lane: Lane, id: Id) {
         self.inner.close_hooks(lane, id);
         let mut ctx = ContextMut::new(&mut self.inner, lane, &Pass::new());
-        self.layer.on_close(id, &mut ctx);
+        self.layer.notify(Notice::Close(id), &mut ctx);
     }
 
     fn is_filtered(&self) -> bool {

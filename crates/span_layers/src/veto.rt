@@ -4,17 +4,18 @@ ghost use Rattle.span_filters.specs.Closure.{ClosuresAre, HasTestAnswers, HasVie
 ghost use Rattle.span_filters.specs.Filter.{settled_answers};
 ghost use Rattle.span_filters.specs.Level.{level_answers};
 ghost use Rattle.span_layers.specs.Acts.{LeafActs};
-ghost use Rattle.span_layers.specs.ActsKept.{is_leaf, leaf_path_laws};
+ghost use Rattle.span_layers.specs.laws.Leaf.{is_leaf, veto_laws};
+ghost use Rattle.span_layers.specs.laws.Path.{leaf_path_laws};
 ghost use Rattle.span_layers.specs.Idle.{IdleSteps};
 ghost use Rattle.span_layers.specs.Layer.{HearsBy};
-ghost use Rattle.span_layers.specs.Levels.{leaf_levels};
-ghost use Rattle.span_layers.specs.Veto.{VetoForm, veto_laws};
+ghost use Rattle.span_layers.specs.laws.Level.{leaf_levels};
+ghost use Rattle.span_layers.specs.Veto.{VetoForm};
 ghost use Rattle.span_registry.specs.Levels.{unlevelled};
 
 use crate::layer::Layer;
-use span_core::{Attributes, Event, Id, Interest, LevelFilter, Metadata, Pass, Record};
+use span_core::{Event, Interest, LevelFilter, Metadata, Pass};
 use span_filters::{DynFilterFn, Filter, FilterFn, Function, FunctionIn};
-use span_registry::{Context, ContextMut, Subscriber};
+use span_registry::{Context, ContextMut, Notice, Subscriber};
 
 impl<S: Subscriber> Layer<S> for LevelFilter {
     ghost has_form = { λ x. VetoForm (settled_answers level_answers x) };
@@ -73,21 +74,8 @@ impl<S: Subscriber> Layer<S> for LevelFilter {
         false // It is there.
     }
 
-    fn on_new_span(&mut self, _attrs: &Attributes<'_>, _id: Id, _ctx: &mut ContextMut<'_, S>) {}
-
-    fn on_record(&mut self, _id: Id, _values: &Record<'_>, _ctx: &mut ContextMut<'_, S>) {}
-
-    fn on_follows_from(&mut self, _id: Id, _follows: Id, _ctx: &mut ContextMut<'_, S>) {}
-
-    fn on_event(&mut self, _event: &Event<'_>, _ctx: &mut ContextMut<'_, S>) {}
-
-    fn on_enter(&mut self, _id: Id, _ctx: &mut ContextMut<'_, S>) {}
-
-    fn on_exit(&mut self, _id: Id, _ctx: &mut ContextMut<'_, S>) {}
-
-    fn on_id_change(&mut self, _id: Id, _new: Id, _ctx: &mut ContextMut<'_, S>) {}
-
-    fn on_close(&mut self, _id: Id, _ctx: &mut ContextMut<'_, S>) {}
+    #[inline(always)]
+    fn notify(&mut self, _notice: Notice<'_, '_>, _ctx: &mut ContextMut<'_, S>) {}
 
     fn set_level(&mut self, _number: u32, _level: LevelFilter) -> bool {
         false // It has no number: what it refuses is refused for all.
@@ -153,21 +141,8 @@ impl<S: Subscriber, F: Function<Metadata, bool>> Layer<S> for FilterFn<F> {
         false // It is there.
     }
 
-    fn on_new_span(&mut self, _attrs: &Attributes<'_>, _id: Id, _ctx: &mut ContextMut<'_, S>) {}
-
-    fn on_record(&mut self, _id: Id, _values: &Record<'_>, _ctx: &mut ContextMut<'_, S>) {}
-
-    fn on_follows_from(&mut self, _id: Id, _follows: Id, _ctx: &mut ContextMut<'_, S>) {}
-
-    fn on_event(&mut self, _event: &Event<'_>, _ctx: &mut ContextMut<'_, S>) {}
-
-    fn on_enter(&mut self, _id: Id, _ctx: &mut ContextMut<'_, S>) {}
-
-    fn on_exit(&mut self, _id: Id, _ctx: &mut ContextMut<'_, S>) {}
-
-    fn on_id_change(&mut self, _id: Id, _new: Id, _ctx: &mut ContextMut<'_, S>) {}
-
-    fn on_close(&mut self, _id: Id, _ctx: &mut ContextMut<'_, S>) {}
+    #[inline(always)]
+    fn notify(&mut self, _notice: Notice<'_, '_>, _ctx: &mut ContextMut<'_, S>) {}
 
     fn set_level(&mut self, _number: u32, _level: LevelFilter) -> bool {
         false // It has no number: what it refuses is refused for all.
@@ -234,21 +209,8 @@ impl<S: Subscriber, F: FunctionIn<Metadata, S, bool>, R: Function<Metadata, Inte
         false // It is there.
     }
 
-    fn on_new_span(&mut self, _attrs: &Attributes<'_>, _id: Id, _ctx: &mut ContextMut<'_, S>) {}
-
-    fn on_record(&mut self, _id: Id, _values: &Record<'_>, _ctx: &mut ContextMut<'_, S>) {}
-
-    fn on_follows_from(&mut self, _id: Id, _follows: Id, _ctx: &mut ContextMut<'_, S>) {}
-
-    fn on_event(&mut self, _event: &Event<'_>, _ctx: &mut ContextMut<'_, S>) {}
-
-    fn on_enter(&mut self, _id: Id, _ctx: &mut ContextMut<'_, S>) {}
-
-    fn on_exit(&mut self, _id: Id, _ctx: &mut ContextMut<'_, S>) {}
-
-    fn on_id_change(&mut self, _id: Id, _new: Id, _ctx: &mut ContextMut<'_, S>) {}
-
-    fn on_close(&mut self, _id: Id, _ctx: &mut ContextMut<'_, S>) {}
+    #[inline(always)]
+    fn notify(&mut self, _notice: Notice<'_, '_>, _ctx: &mut ContextMut<'_, S>) {}
 
     fn set_level(&mut self, _number: u32, _level: LevelFilter) -> bool {
         false // It has no number: what it refuses is refused for all.

@@ -28,7 +28,8 @@ pub record IsMetadataFor (rank : LogLevel) (m : Metadata) : Type 0 where
   pub fields : map (λ name. name.now) (names_of (fields_of m))
       ≡ codes "message" ∷ codes "log.target" ∷ []
 
--- the event of a record with these metadata whose message writes this text, if that is known: in the span that the lane is in, with the message and the target as fields
+-- the event of a record with these metadata whose message writes this text, if that is known: in
+-- the span that the lane is in, with the message and the target as fields
 pub record IsEventOf (of : LogMetadata) (text : Option (List ℕ)) (e : Event) : Type 0 where
   pub message : List ℕ
   pub written : IfSome text (λ known. message ≡ known)

@@ -3,10 +3,11 @@ use Rattle.std.specs.Prelude.{◌≡◌}
 use Rattle.span_layers.specs.Observe.{ObserverSteps}
 use Rattle.span_log.specs.declared.layer.LogLayer.{LogLayer}
 
--- its logger
+-- the logger of a layer
 abbrev pub logger_of : {L : Type 0} → LogLayer L → L
 logger_of x = x.log
 
--- whatever it is told of, it stays as it is, and leaves the registry alone; what a logger does with a record no clause can say
+-- whatever a layer is notified of, it and the registry are unchanged; what a logger does with a
+-- record no clause can say
 abbrev pub log_steps : {L : Type 0} → ObserverSteps (LogLayer L)
 log_steps x e lane under v y w = (y ≡ x) × (w ≡ v)

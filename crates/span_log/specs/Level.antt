@@ -11,15 +11,16 @@ use Rattle.span_core.specs.declared.level.LevelFilter.{LevelFilter}
 use Rattle.span_core.specs.declared.level.TheConstants.Level.{DEBUG, ERROR, INFO, TRACE, WARN}
 use Rattle.span_core.specs.declared.level.TheConstants.LevelFilter as filter
 
--- they are the same level: both have one number, from 1 for errors to 5 for traces
+-- two levels are the same: both have one number, from 1 for errors to 5 for traces
 abbrev pub SameLevel : LogLevel → Level → Type 0
 SameLevel there here = level_rank there ≡ level_number here
 
--- they are the same filter: both have the number of the most verbose level that passes, 0 where none does
+-- two filters are the same: both have the number of the most verbose level that passes, 0 where
+-- none does
 abbrev pub SameFilter : LogFilter → LevelFilter → Type 0
 SameFilter there here = filter_rank there ≡ filter_number here
 
--- the level here that is called as this one there
+-- the level here that is named as the one in `log` is
 abbrev pub like_of : LogLevel → Level
 like_of log.Error = ERROR
 like_of log.Warn = WARN
@@ -27,7 +28,7 @@ like_of log.Info = INFO
 like_of log.Debug = DEBUG
 like_of log.Trace = TRACE
 
--- the same of a filter
+-- the filter here that is named as the one in `log` is
 abbrev pub like_of_filter : LogFilter → LevelFilter
 like_of_filter log_filter.Off = filter.OFF
 like_of_filter log_filter.Error = filter.ERROR
@@ -36,7 +37,9 @@ like_of_filter log_filter.Info = filter.INFO
 like_of_filter log_filter.Debug = filter.DEBUG
 like_of_filter log_filter.Trace = filter.TRACE
 
--- levels and filters are the same exactly by these tables, which miss none on either side; so each has one like on the other side. Both sides have one order, levels the same names, and what a filter there allows passes the same filter here
+-- levels and filters are the same exactly by these tables, which miss none on either side; so each
+-- has one like on the other side. Both sides have one order, levels the same names, and what a
+-- filter there allows passes the same filter here
 pub record LevelsAgree : Type 0 where
   pub levels : (a : LogLevel) (b : Level) → SameLevel a b ↔ (b ≡ like_of a)
   pub filters : (f : LogFilter) (g : LevelFilter) → SameFilter f g ↔ (g ≡ like_of_filter f)

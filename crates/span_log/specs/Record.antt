@@ -31,7 +31,8 @@ origin_of e =
     (option_and_then text_in (value_under (event_values e) (codes "log.target")))
     (target_of (event_metadata e))
 
--- the record has the event's level, says what it says, comes from where it does, and has its other fields as pairs
+-- the record has the event's level, says what it says, comes from where it does, and has its other
+-- fields as pairs
 pub record IsRecordOf (e : Event) (r : Record FieldValue Fields Unit) : Type 0 where
   pub level : SameLevel (metadata_level (record_metadata r)) (level_of (event_metadata e))
   pub target : metadata_target (record_metadata r) ≡ origin_of e

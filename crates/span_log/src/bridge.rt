@@ -17,7 +17,8 @@ use span_registry::Subscriber;
 use std::alloc::Global;
 use std::fmt::Display;
 
-/// The metadata of all records at one level. Their callsites have the five highest numbers, traces the highest.
+/// The metadata of all records at one level. Their callsites have the five highest numbers, traces
+/// the highest.
 ///
 /// Stands for the callsites of `tracing_log`, one for each level.
 pub fn record_metadata(level: Level) -> Metadata
@@ -37,7 +38,8 @@ pub fn record_metadata(level: Level) -> Metadata
 
 /// Sends a record as an event, with its message and its target as fields.
 ///
-/// Answers and is refused as `Dispatch::event`, and for want of memory for the message, also where the message's own `fmt` fails.
+/// Answers and is refused as `Dispatch::event`, and for want of memory for the message, also where
+/// the message's own `fmt` fails.
 ///
 /// Stands for `tracing_log::format_trace`, which sends to the default dispatcher.
 pub fn forward<S: Subscriber, D: Display, K: Source, P: Spans>(

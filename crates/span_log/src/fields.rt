@@ -8,7 +8,8 @@ use log::kv::{self, Primitive, Source, Value, VisitSource};
 use span_core::FieldValue;
 use std::fmt::Display;
 
-/// Fields as pairs: each name with the text of its value, but for `message` and `log.target`, which have places of their own.
+/// Fields as pairs: each name with the text of its value, but for `message` and `log.target`, which
+/// have places of their own.
 #[derive(Clone, Copy)]
 pub struct Fields<'a>(&'a [(&'static str, FieldValue<'a>)]);
 

@@ -7,7 +7,8 @@ pub fn levels_agree()
     ensures { LevelsAgree }
 {}
 
-/// A record that is sent as an event and then logged has its level, its target and its message again, and no pairs.
+/// A record that is sent as an event and then logged has its level, its target and its message
+/// again, and no pairs.
 pub fn records_come_back()
     ensures { RecordsComeBack }
 {}

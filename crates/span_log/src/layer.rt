@@ -4,8 +4,8 @@ ghost use Rattle.span_log.specs.Layer.{log_steps, logger_of};
 
 use crate::record::event_record;
 use log::Log;
-use span_layers::{AlwaysUsableObserver, Observe, Observed};
-use span_registry::{ContextMut, Subscriber};
+use span_layers::{AlwaysUsableObserver, Observe};
+use span_registry::{ContextMut, Notice, Subscriber};
 
 /// A layer that hands each event to a logger that is enabled for it.
 ///
@@ -41,8 +41,8 @@ impl<L: Log> LogLayer<L> {
 impl<S: Subscriber, L: Log> Observe<S> for LogLayer<L> {
     ghost observed = { log_steps };
 
-    fn observe(&mut self, notice: Observed<'_, '_>, _ctx: &mut ContextMut<'_, S>) {
-        let Observed::Event(event) = notice else {
+    fn observe(&mut self, notice: Notice<'_, '_>, _ctx: &mut ContextMut<'_, S>) {
+        let Notice::Event(event) = notice else {
             return;
         };
         let record = event_record(event);

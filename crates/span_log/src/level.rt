@@ -3,32 +3,32 @@ ghost use Rattle.span_log.specs.Level.{SameFilter, SameLevel};
 
 use span_core::{Level, LevelFilter};
 
-/// What has its like here.
+/// A level or a filter of `log` that has its like here.
 ///
 /// Stands for `tracing_log::AsTrace`, at levels and filters.
 pub trait AsTrace {
-    /// What it is here.
+    /// The type here.
     type Trace;
 
-    /// They are the same.
+    /// The value there and the one here are the same.
     ghost same: { Self → Self.Trace → Type 0 };
 
-    /// Its like here.
+    /// The value here that is named as this one is.
     fn as_trace(&self) -> Self::Trace
         ensures { same self.now result };
 }
 
-/// What has its like in `log`.
+/// A level or a filter here that has its like in `log`.
 ///
 /// Stands for `tracing_log::AsLog`, at levels and filters.
 pub trait AsLog {
-    /// What it is in `log`.
+    /// The type in `log`.
     type Log;
 
-    /// They are the same.
+    /// The value here and the one there are the same.
     ghost same: { Self → Self.Log → Type 0 };
 
-    /// Its like in `log`.
+    /// The value in `log` that is named as this one is.
     fn as_log(&self) -> Self::Log
         ensures { same self.now result };
 }

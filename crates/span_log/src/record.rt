@@ -7,10 +7,12 @@ use crate::level::AsLog;
 use log::{Metadata, Record};
 use span_core::{Event, FieldValue};
 
-/// An event as a record of `log`: at the same level, with its first field `message` or else its name as the message, with the text of its
-/// first field `log.target` or else its target, and with the fields of other names as pairs.
+/// An event as a record of `log`: at the same level, with its first field `message` or else its
+/// name as the message, with the text of its first field `log.target` or else its target, and with
+/// the fields of other names as pairs.
 ///
-/// Stands for what `tracing` hands to `log`, with the target by `tracing_log::NormalizeEvent`, which takes it of records alone.
+/// Stands for what `tracing` hands to `log`, with the target by `tracing_log::NormalizeEvent`,
+/// which takes it of records alone.
 pub fn event_record<'a>(event: &Event<'a>) -> Record<'a, FieldValue<'a>, Fields<'a>>
     ensures { IsRecordOf event.now result }
 {

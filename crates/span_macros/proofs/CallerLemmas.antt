@@ -1,8 +1,8 @@
 -- For the proofs of callers: that a dispatcher is ready again after several calls, or after none.
 use Rattle.span_dispatch.specs.Contract.{StaysReady, SubscriberOf}
 use Rattle.span_dispatch.specs.declared.dispatch.Dispatch.{Dispatch}
-use Rattle.span_macros.proofs.Kept.{keeps_again}
-use Rattle.span_registry.specs.KeptForm.{kept_form}
+use Rattle.span_dispatch.proofs.Goes.{keeps_again}
+use Rattle.span_registry.specs.laws.Form.{kept_form}
 
 module _ {S : Type 0} (s : SubscriberOf S) where
   -- one that nothing is done to

@@ -1,5 +1,4 @@
 pub mod CallerLemmas
-mod Kept
 mod Opened
 mod Settled
 mod Steps

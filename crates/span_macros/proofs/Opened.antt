@@ -12,11 +12,11 @@ use Rattle.span_core.specs.declared.span.Lane.{Lane}
 use Rattle.span_core.specs.declared.span.Parent.TheVariants.{Root, Contextual, Explicit}
 use Rattle.span_core.specs.declared.span.Parent.{Parent}
 use Rattle.span_dispatch.specs.Call.{OpensFor}
-use Rattle.span_registry.proofs.Chains.{get_beside, get_put}
-use Rattle.span_registry.specs.Step.{IsParentFor, RefusesEnter, RefusesRelease, Releases, begun}
-use Rattle.span_registry.specs.Store.{HasChild, IsForest, IsHeld, IsOpen, RegistryState, Span, Spans, Store, parent_of, take_handle, with_handles}
+use Rattle.span_store.proofs.Chains.{get_beside, get_put}
+use Rattle.span_store.specs.Step.{IsParentFor, RefusesEnter, RefusesRelease, Releases, begun}
+use Rattle.span_store.specs.Store.{HasChild, IsForest, IsHeld, IsOpen, RegistryState, Span, Spans, Store, parent_of, take_handle, with_handles}
+use Rattle.span_store.specs.declared.registry.Released.TheVariants.{StillOpen}
 use Rattle.span_registry.specs.Subscriber.{AndHooks}
-use Rattle.span_registry.specs.declared.registry.Released.TheVariants.{StillOpen}
 
 -- what is open is in the store
 not_open : (m : Spans) (x : ℕ) → get m x ≡ None → IsOpen m x → ⊥
@@ -31,7 +31,8 @@ parent_open s lane (Explicit x) p h =
     subst (λ (q : ℕ). IsOpen s.spans q) same h.1
 
 -- in a store in which a span with this parent was put under a new number, whatever its handles are
-module _ (m : Spans) (x : ℕ) (begun other : Span) (own : begun.parent ≡ Some x → ⊥) (beside : (c : ℕ) (r : Span) → get m c ≡ Some r → r.parent ≡ Some x → ⊥) where
+module _
+    (m : Spans) (x : ℕ) (begun other : Span) (own : begun.parent ≡ Some x → ⊥) (beside : (c : ℕ) (r : Span) → get m c ≡ Some r → r.parent ≡ Some x → ⊥) where
   -- it has no child
   no_child : begun.parent ≡ other.parent → HasChild (insert (insert m x begun) x other) x → ⊥
   no_child same c = elim (cases_eq c.0 x) [
@@ -61,7 +62,8 @@ taken_once m x r = ap (with_handles (λ n. n - 1) (insert m x r) x) (get_put m x
 abbrev pub ParentsAreOpen : Type 0
 ParentsAreOpen = (m : Spans) (x p : ℕ) → IsForest m → parent_of m x ≡ Some p → IsOpen m p
 
-module _ {S : Type 0} (registry : S → RegistryState) (lane : Lane) (attrs : Attributes) (id : Id) (x y : S) (opened : AndHooks registry (OpensFor lane attrs id) x y) where
+module _ {S : Type 0}
+    (registry : S → RegistryState) (lane : Lane) (attrs : Attributes) (id : Id) (x y : S) (opened : AndHooks registry (OpensFor lane attrs id) x y) where
   -- the spans before, and the new one
   abbrev spans : Spans
   spans = (registry x).store.spans
@@ -90,7 +92,8 @@ module _ {S : Type 0} (registry : S → RegistryState) (lane : Lane) (attrs : At
 
   module _ (parents : ParentsAreOpen) (forest : IsForest spans) where
     no_parent : (c : ℕ) (r : Span) → get spans c ≡ Some r → r.parent ≡ Some (number_of id) → ⊥
-    no_parent c r there is = not_open spans (number_of id) opened.taken.1.unused (parents spans c (number_of id) forest (ap (option_and_then (λ t. t.parent)) there ∙ is))
+    no_parent c r there is =
+        not_open spans (number_of id) opened.taken.1.unused (parents spans c (number_of id) forest (ap (option_and_then (λ t. t.parent)) there ∙ is))
 
     own_parent : opened.taken.1.parent ≡ Some (number_of id) → ⊥
     own_parent is =
@@ -106,7 +109,8 @@ module _ {S : Type 0} (registry : S → RegistryState) (lane : Lane) (attrs : At
         closed_then spans n new_span less own_parent no_parent refl (omega arith) (subst (λ (m : Spans). IsOpen m n) there (released.still_open.0 refl))
 
     -- so it closes where its one handle is taken
-    pub closes : (Takes : Bool → Type 0) (t : RegistryState) → (Takes false → Releases id StillOpen (registry y) t) → (given : Result Bool TraceError) → IfOk given Takes → IfErr given (RefusesRelease (registry y) id) → given ≡ Ok true
+    pub closes : (Takes : Bool → Type 0) (t : RegistryState) → (Takes false → Releases id StillOpen (registry y) t)
+        → (given : Result Bool TraceError) → IfOk given Takes → IfErr given (RefusesRelease (registry y) id) → given ≡ Ok true
     closes Takes t releases (Ok true) taken refused = refl
     closes Takes t releases (Ok false) taken refused = absurd (still_open t (releases taken))
     closes Takes t releases (Err e) taken refused = absurd (not_refused e refused)

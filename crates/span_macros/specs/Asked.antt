@@ -9,7 +9,8 @@ use Rattle.span_dispatch.specs.Contract.{OpensSpan, SendsEvent, SubscriberOf}
 use Rattle.span_dispatch.specs.declared.dispatch.Dispatch.{Dispatch}
 use Rattle.span_macros.specs.Span.{LeavesIfMade, OpensAndEnters, RefusesToEnter}
 
--- what a function gives whose block gave this, where the span was left so: a refusal, else what the block gave
+-- what a function gives whose block gave this, where the span was left so: a refusal, else what the
+-- block gave
 abbrev pub given_after : {B : Type 0} → Result B TraceError → Result Bool TraceError
     → Result B TraceError
 given_after value (Ok closes) = value
@@ -28,7 +29,8 @@ module _ {S : Type 0} (s : SubscriberOf S) where
       (attrs : Attributes) × Is attrs × OpensSpan s lane attrs given old new
 
   module _ {B : Type 0} (Block : Result B TraceError → Dispatch S → Dispatch S → Type 0) where
-    -- a lane entered a span, a block was run and did this, and then the lane left the span; without a span the block alone was run
+    -- a lane entered a span, a block was run and did this, and then the lane left the span; without
+    -- a span the block alone was run
     pub record RunsWithin (lane : Lane) (attrs : Attributes) (answer : Result B TraceError)
         (old new : Dispatch S) : Type 0 where
       pub made : Option Id
@@ -41,7 +43,8 @@ module _ {S : Type 0} (s : SubscriberOf S) where
       pub left : LeavesIfMade s lane made closes ended new
       pub given : answer ≡ given_after value closes
 
-    -- so it was in a span of which this holds; or that was refused, and no block was run
+    -- a block was run within a span whose attributes this holds of; or the span was refused, and no
+    -- block was run
     abbrev pub RunsInSpan : (Attributes → Type 0) → Lane → Result B TraceError → Dispatch S
         → Dispatch S → Type 0
     RunsInSpan Is lane given old new =

@@ -31,7 +31,7 @@ done_site = record {
   fields = codes "count" ∷ codes "change" ∷ codes "ok" ∷ codes "by" ∷ [];
 }
 
--- its values: a count, a change, that all is well, and who did it
+-- the values of a done event: a count, a change, that all is well, and who did it
 abbrev pub done_values : ℕ → ℤ → Bor (List ℕ) → List FieldValue
 done_values count change by =
     value.U64 count ∷ value.I64 change ∷ value.Bool true ∷ value.Text by ∷ []

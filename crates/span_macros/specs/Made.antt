@@ -12,7 +12,8 @@ use Rattle.span_core.specs.declared.span.Attributes.{Attributes}
 use Rattle.span_core.specs.declared.span.Parent.TheVariants.{Contextual}
 use Rattle.span_macros.specs.Metadata.{IsNumbered}
 
--- a callsite as it is written: a kind, a level, a name, the module that it stands in, and the names of its fields
+-- a callsite as it is written: a kind, a level, a name, the module that it stands in, and the names
+-- of its fields
 pub record Callsite : Type 0 where
   pub kind : Kind
   pub level : Level
@@ -29,14 +30,16 @@ pub record ShowsCallsite (site : Callsite) (m : Metadata) : Type 0 where
   pub fields : map (λ field. field.now) (names_of (fields_of m)) ≡ site.fields
   pub numbered : IsNumbered m
 
--- an event of this callsite in the span that its lane is in, with these values under the names of the fields
+-- an event of this callsite in the span that its lane is in, with these values under the names of
+-- the fields
 pub record IsEventAt (site : Callsite) (given : List FieldValue) (e : Event) : Type 0 where
   pub metadata : ShowsCallsite site (event_metadata e)
   pub names : map (λ field. field.0.now) (event_values e) ≡ site.fields
   pub values : map (λ field. field.1) (event_values e) ≡ given
   pub parent : event_parent e ≡ Contextual
 
--- the same of a new span
+-- a new span of this callsite in the span that its lane is in, with these values under the names of
+-- the fields
 pub record IsSpanAt (site : Callsite) (given : List FieldValue) (a : Attributes) : Type 0 where
   pub metadata : ShowsCallsite site (metadata_of a)
   pub names : map (λ field. field.0.now) (values_of a) ≡ site.fields

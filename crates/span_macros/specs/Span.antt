@@ -14,9 +14,9 @@ use Rattle.span_dispatch.specs.Contract.{AnswersCall, AnswersDrop, ChangesStack,
 use Rattle.span_dispatch.specs.Serve.{hint_by, kept_by}
 use Rattle.span_dispatch.specs.declared.request.Answer.TheVariants.{Done, Dropped, Made, Yes}
 use Rattle.span_dispatch.specs.declared.dispatch.Dispatch.{Dispatch}
-use Rattle.span_registry.specs.Closes.{HasNoClosing}
-use Rattle.span_registry.specs.Step.{Enters, Exits, RefusesRelease, entered, exited}
-use Rattle.span_registry.specs.Store.{RegistryState}
+use Rattle.span_store.specs.Closes.{HasNoClosing}
+use Rattle.span_store.specs.Step.{Enters, Exits, RefusesRelease, entered, exited}
+use Rattle.span_store.specs.Store.{RegistryState}
 
 -- a span is opened that these attributes ask for, and then its lane is in it
 abbrev pub OpensOnStack : Lane → Attributes → Id → RegistryState → RegistryState → Type 0
@@ -30,7 +30,8 @@ LeavesStack lane id closes s t =
     DropsSpan id closes (record s { store = exited s.store lane.0 (number_of id) }) t
 
 module _ {S : Type 0} (s : SubscriberOf S) where
-  -- a span was opened, and then its lane entered it: the registry took both steps as one, if hooks' extensions are left aside
+  -- a span was opened, and then its lane entered it: the registry took both steps as one, hooks'
+  -- extensions aside
   pub record EntersNew (lane : Lane) (attrs : Attributes) (id : Id)
       (old new : Dispatch S) : Type 0 where
     pub between : Dispatch S
@@ -41,13 +42,15 @@ module _ {S : Type 0} (s : SubscriberOf S) where
     pub rest : ChangesStack between new
     pub step : TakesStep s (OpensOnStack lane attrs id) old new
 
-  -- so it was where there is a span; else none was made, and the stack is the same
+  -- a span was opened and entered, if one was made; else the new span was dropped, and the stack is
+  -- unchanged
   abbrev pub OpensAndEnters : Lane → Attributes → Dispatch S → Dispatch S → Option Id → Type 0
   OpensAndEnters lane attrs old new (Some id) = EntersNew lane attrs id old new
   OpensAndEnters lane attrs old new None =
       AnswersCall s (OpenSpan lane attrs) Dropped old new × SameStack old new
 
-  -- a span was opened, there was no memory for its lane to enter it, which left all as it was, and then its one handle was taken again
+  -- a span was opened, memory for its lane to enter it was refused, and so its one handle was taken
+  -- again
   pub record DropsAgain (lane : Lane) (attrs : Attributes) (e : TraceError)
       (old new : Dispatch S) : Type 0 where
     pub id : Id
@@ -61,12 +64,12 @@ module _ {S : Type 0} (s : SubscriberOf S) where
     pub taken : TakesHandle s id between new true
     pub rest : ChangesStack between new
 
-  -- why there is no new span that is entered: it was refused, or it was dropped again
+  -- why no new span is entered: it was refused, or it was dropped again
   abbrev pub RefusesToEnter : Lane → Attributes → Dispatch S → Dispatch S → TraceError → Type 0
   RefusesToEnter lane attrs old new e =
       (RefusesSpan s lane attrs old e × SameStack old new) ⊎ DropsAgain lane attrs e old new
 
-  -- `open_and_enter`: asked by metadata as a new span is
+  -- `open_and_enter`: a call that is decided by metadata, as a new span is
   pub record OpensToEnter (lane : Lane) (attrs : Attributes)
       (given : Result (Option Id) TraceError) (old new : Dispatch S) : Type 0 where
     pub kept : GoesByKept (metadata_of attrs) None (RefusesToEnter lane attrs old new) given old new
@@ -74,13 +77,14 @@ module _ {S : Type 0} (s : SubscriberOf S) where
     pub asked : WantsSpan s lane attrs old given
     pub entered : IfOk given (OpensAndEnters lane attrs old new)
 
-  -- where no span was closing, a lane left a span and a handle of it was taken, as one step of the registry, if hooks' extensions are left aside
+  -- where no span was closing, a lane left a span and a handle of it was taken, as one step of the
+  -- registry, hooks' extensions aside
   abbrev pub LeavesSettled : Lane → Id → Dispatch S → Dispatch S → Bool → Type 0
   LeavesSettled lane id old new closes =
       HasNoClosing (registry_of s old).store.spans
       → TakesStep s (LeavesStack lane id closes) old new
 
-  -- a lane left a span, and then a handle of it was taken away, or that was refused
+  -- a lane left a span, and then a handle of it was taken, unless that was refused
   pub record ExitsAndDrops (lane : Lane) (id : Id) (given : Result Bool TraceError)
       (old new : Dispatch S) : Type 0 where
     pub between : Dispatch S
@@ -88,7 +92,8 @@ module _ {S : Type 0} (s : SubscriberOf S) where
     pub dropped : DropsOneHandle s lane id given between new
     pub step : IfOk given (LeavesSettled lane id old new)
 
-  -- so it was where there is a span; else nothing was done, and no span closed
+  -- a lane left a span and a handle of it was taken, if a span was made; else nothing was done, and
+  -- no span closed
   abbrev pub LeavesIfMade : Lane → Option Id → Result Bool TraceError → Dispatch S → Dispatch S
       → Type 0
   LeavesIfMade lane (Some id) given old new = ExitsAndDrops lane id given old new

@@ -7,12 +7,13 @@ use span_core::FieldValue;
 
 /// What a macro takes as the value of a field: numbers up to 64 bits, truth values and texts.
 ///
-/// Stands for a part of what has an `impl` of `tracing_core::field::Value`: floats, numbers of 128 bits, `String` and `Option` have none.
+/// Stands for a part of what has an `impl` of `tracing_core::field::Value`: floats, numbers of 128
+/// bits, `String` and `Option` have none.
 pub trait IntoField<'a> {
     /// The value that it becomes.
     ghost field_of: { Self → FieldValue };
 
-    /// As the value of a field.
+    /// The value as that of a field.
     fn into_field(self) -> FieldValue<'a>
         ensures { result ≡ field_of self };
 }

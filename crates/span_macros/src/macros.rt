@@ -17,7 +17,8 @@ macro_rules! metadata {
     };
 }
 
-/// Sends an event in the span that the lane is in: `event!(dispatch, lane; WARN, "read"; bytes = count, ok = true)?`.
+/// Sends an event in the span that the lane is in: `event!(dispatch, lane; WARN, "read"; bytes =
+/// count, ok = true)?`.
 ///
 /// It is `Dispatch::event`, with the same answer: whether the event was made, or why it is refused.
 #[macro_export]
@@ -33,9 +34,11 @@ macro_rules! event {
     }};
 }
 
-/// Opens a span in the one that the lane is in: `new_span!(dispatch, lane; INFO, "fetch"; count = count)?`.
+/// Opens a span in the one that the lane is in: `new_span!(dispatch, lane; INFO, "fetch"; count =
+/// count)?`.
 ///
-/// It is `Dispatch::new_span`, with the same answer: the span's id, none where it is ruled out or vetoed, or why it is refused.
+/// It is `Dispatch::new_span`, with the same answer: the span's id, none where it is ruled out or
+/// vetoed, or why it is refused.
 #[macro_export]
 macro_rules! new_span {
     (
@@ -49,13 +52,15 @@ macro_rules! new_span {
     }};
 }
 
-/// Does something in a new span: `in_span!(dispatch, lane; INFO, "fetch"; count = count => { .. })` gives what the block gives.
+/// Does something in a new span: `in_span!(dispatch, lane; INFO, "fetch"; count = count => { .. })`
+/// gives what the block gives.
 ///
-/// It is `open_and_enter`, the block, and `exit_and_drop`. Where no span is made, the block runs without one. Where either is refused,
-/// the macro returns that from the function round it, as `?` does.
+/// It is `open_and_enter`, the block, and `exit_and_drop`. Where no span is made, the block runs
+/// without one. Where either is refused, the macro returns that from the function round it, as `?`
+/// does.
 ///
-/// The dispatcher's expression is evaluated twice, before the block and after it. What leaves the block before its end, as `?`, `return`
-/// and `break` do, leaves the span open, and its lane in it.
+/// The dispatcher's expression is evaluated twice, before the block and after it. What leaves the
+/// block before its end, as `?`, `return` and `break` do, leaves the span open, and its lane in it.
 #[macro_export]
 macro_rules! in_span {
     (

@@ -8,9 +8,10 @@ use std::hash::{FoldHasher, Hasher};
 
 /// The metadata of a callsite. Its number is a hash of all else that the metadata show.
 ///
-/// Callsites that show the same have one number, and are one to a dispatcher. A hash can't rule out that two that don't have one: then
-/// a dispatcher refuses the later one (`CallsiteMismatch`) as long as the other's interest is kept. What knows callsites by their numbers
-/// alone, as timelines do, takes the two for one.
+/// Callsites that show the same have one number, and are one to a dispatcher. A hash can't rule out
+/// that two that don't have one: then a dispatcher refuses the later one (`CallsiteMismatch`) as
+/// long as the other's interest is cached. What knows callsites by their numbers alone, as
+/// timelines do, takes the two for one.
 ///
 /// Own to this port: in `tracing` a callsite is a static, known by its address.
 #[inline(always)] // LLVM computes the number where the parts are literals.

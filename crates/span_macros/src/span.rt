@@ -10,7 +10,8 @@ use span_registry::{LookupSpan, Subscriber, laws};
 
 /// Opens a span and enters it; none where hint or interest rule it out or a layer vetoes it.
 ///
-/// Refused as `Dispatch::new_span` is, and where memory to enter the span is refused: then it is dropped again, and closes.
+/// Refused as `Dispatch::new_span` is, and where memory to enter the span is refused: then it is
+/// dropped again, and closes.
 pub fn open_and_enter<S: Subscriber>(
     dispatch: &mut Dispatch<S>,
     lane: Lane,
@@ -36,7 +37,8 @@ pub fn open_and_enter<S: Subscriber>(
     Ok(Some(id))
 }
 
-/// Leaves a span and takes a handle of it away. Answers whether the span closed; where there is none, nothing is done.
+/// Leaves a span and takes a handle of it away. Answers whether the span closed; where there is
+/// none, nothing is done.
 ///
 /// Refused as `Dispatch::drop_span` is, once the lane has left the span.
 pub fn exit_and_drop<S: Subscriber>(

@@ -4,7 +4,7 @@ ghost use Rattle.span_dispatch.specs.Serve.{stack_of};
 use crate::fault::Fault;
 use crate::site::{KEPT_SPAN, LANE, OTHER_LANE, nth, span_metadata};
 use span_core::{Attributes, Id, Lane, TraceError};
-use span_dispatch::{Answer, Dispatch, Notice};
+use span_dispatch::{Answer, Dispatch, Recorded};
 use span_registry::{Extensions, LookupSpan, Registry, Subscriber, Tag};
 use std::io::Write;
 
@@ -190,7 +190,7 @@ fn write_handles<S: Subscriber, W: Write>(
 /// Writes notices, and whether their recorder failed.
 pub(crate) fn write_notices<W: Write>(
     writer: &mut W,
-    notices: &[Notice],
+    notices: &[Recorded],
     failed: bool,
 ) -> Result<(), Fault> {
     for notice in notices {

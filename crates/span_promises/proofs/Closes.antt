@@ -9,26 +9,26 @@ use Rattle.span_dispatch.specs.Alone.{passed, passed_at}
 use Rattle.span_dispatch.specs.Outcome.{Noticed, Outcome, OutcomeAt, given_in}
 use Rattle.span_dispatch.specs.Recorder.{RecorderState, Records, kept_notice, new_recorder}
 use Rattle.span_dispatch.specs.Serve.{closed_by}
-use Rattle.span_dispatch.specs.declared.notice.Notice.TheVariants as kept
-use Rattle.span_dispatch.specs.declared.notice.Notice.{Notice as KeptNotice}
+use Rattle.span_dispatch.specs.declared.recorded.Recorded.TheVariants as kept
+use Rattle.span_dispatch.specs.declared.recorded.Recorded.{Recorded}
+use Rattle.span_store.specs.Closes.{Member}
+use Rattle.span_store.specs.Store.{Store}
 use Rattle.span_registry.specs.Behaviour.{Notice, OnClose}
-use Rattle.span_registry.specs.Closes.{Member}
 use Rattle.span_registry.specs.Hooks.{no_filter}
 use Rattle.span_registry.specs.Path.{Path, mask_of, passes_path, path_at}
 use Rattle.span_registry.specs.Position.{Heard, Position, told_in}
-use Rattle.span_registry.specs.Store.{Store}
 use Rattle.span_promises.specs.Parents.{StandsBefore}
 use Rattle.span_promises.specs.Promises.{ClosesBefore, HasClose}
 
 -- ---- a beginning of a list
 
-has_more : (id : Id) (ns more : List KeptNotice) → HasClose id ns → HasClose id (ns ++ more)
+has_more : (id : Id) (ns more : List Recorded) → HasClose id ns → HasClose id (ns ++ more)
 has_more id [] more h = absurd h
 has_more id (kept.Close lane x ∷ ns) more (inl e) = inl e
 has_more id (kept.Close lane x ∷ ns) more (inr h) = inr (has_more id ns more h)
 has_more id (n ∷ ns) more h = has_more id ns more h
 
-before_more : (a b : Id) (ns more : List KeptNotice) → ClosesBefore a b ns → ClosesBefore a b (ns ++ more)
+before_more : (a b : Id) (ns more : List Recorded) → ClosesBefore a b ns → ClosesBefore a b (ns ++ more)
 before_more a b [] more h = absurd h
 before_more a b (kept.Close lane x ∷ ns) more (inl h) = inl (h.0, has_more b ns more h.1)
 before_more a b (kept.Close lane x ∷ ns) more (inr h) = inr (before_more a b ns more h)
@@ -46,7 +46,7 @@ before_behind x y (z ∷ xs) ys h = inr (before_behind x y xs ys h)
 
 -- what is kept of one notice, if it passes, and of what follows
 module _ (u : Store) (n : ℕ) (mask : FilterSet) (lane : Lane) (rest : Heard) (later : List ℕ) where
-  abbrev KeptOf : Bool → Notice → List KeptNotice
+  abbrev KeptOf : Bool → Notice → List Recorded
   KeptOf b e = map kept_notice ((if b then told_in e u n mask ∷ [] else []) ++ rest)
 
   has_gate : (id : Id) → (HasClose id (map kept_notice rest) → Member (number_of id) later) → (b : Bool) (e : Notice) → HasClose id (KeptOf b e)

@@ -22,14 +22,14 @@ use Rattle.span_dispatch.specs.declared.request.Answer.{Answer}
 use Rattle.span_dispatch.specs.declared.request.Request.TheVariants as request
 use Rattle.span_dispatch.specs.declared.request.Request.{Request}
 use Rattle.span_dispatch.specs.declared.request.WhichParent.TheVariants as asked
-use Rattle.span_registry.proofs.Chains.{get_beside, get_kept, get_put, same_test, test_same}
+use Rattle.span_store.proofs.Chains.{get_beside, get_kept, get_put, same_test, test_same}
+use Rattle.span_store.specs.Closes.{Member}
+use Rattle.span_store.specs.Step.{IsParentFor}
+use Rattle.span_store.specs.Store.{AreIssued, IsInStore, RegistryState, Span, Spans, Store, parent_of, with_handles}
 use Rattle.span_registry.specs.Behaviour.{OnClose, OnEvent, OnIdChange, OnNewSpan}
-use Rattle.span_registry.specs.Closes.{Member}
 use Rattle.span_registry.specs.Form.{Form}
 use Rattle.span_registry.specs.Hooks.{StackSteps}
 use Rattle.span_registry.specs.Levels.{LevelSteps}
-use Rattle.span_registry.specs.Step.{IsParentFor}
-use Rattle.span_registry.specs.Store.{AreIssued, IsInStore, RegistryState, Span, Spans, Store, parent_of, with_handles}
 use Rattle.span_promises.specs.Parents.{IsChildIn, StandsBefore, opened_by}
 use Rattle.span_promises.specs.Promises.{OpensNow, OpensUnder}
 

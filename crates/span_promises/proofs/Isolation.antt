@@ -5,10 +5,10 @@ use Rattle.span_dispatch.proofs.Alone.{sees_own}
 use Rattle.span_dispatch.specs.Alone.{Alone, acting}
 use Rattle.span_dispatch.specs.Contract.{SubscriberOf}
 use Rattle.span_dispatch.specs.Outcome.{Outcome}
+use Rattle.span_store.specs.Store.{Store}
 use Rattle.span_registry.specs.Conducts.{Conducts, StackPathLaws}
 use Rattle.span_registry.specs.Levels.{LevelLaws}
 use Rattle.span_registry.specs.Position.{Heard}
-use Rattle.span_registry.specs.Store.{Store}
 use Rattle.span_promises.specs.Isolation.{MadeIn, OutcomesSeenTheSame, SeeTheSame, ServedIn, Sight}
 
 -- alone the same is seen of the same outcomes

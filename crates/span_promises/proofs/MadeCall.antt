@@ -1,5 +1,6 @@
 -- What calls make by themselves: on stores that agree the same; and a stack makes just that of them.
-use Rattle.std.proofs.Common.{◌≡◌, ℕ, ◌↔◌, ◌⊎◌, inl, inr, Bool, true, false, cond, if◌then◌else◌, List, [], ◌∷◌, ◌++◌, map, filter, Option, Some, None, refl, sym, ap, subst, ◌∙◌}
+use Rattle.std.proofs.Common.{◌≡◌, ℕ, ◌↔◌, ◌⊎◌, inl, inr, Bool, true, false, cond, if◌then◌else◌, List, [], ◌∷◌, ◌++◌, map, filter, Option, Some, None, refl}
+use Rattle.std.proofs.Common.{sym, ap, subst, ◌∙◌}
 use Rattle.std.proofs.lemmas.Bool.{false≢true, or_parts, true≢false}
 use Rattle.std.proofs.lemmas.List.Elements.{filter-append}
 use Rattle.std.proofs.lemmas.List.{map-append}
@@ -15,7 +16,8 @@ use Rattle.span_dispatch.proofs.Goes.{left_aside}
 use Rattle.span_dispatch.specs.Alone.{Alone, acting, form_of_path, passed_at}
 use Rattle.span_dispatch.specs.Call.{OutcomesOf, closes_of}
 use Rattle.span_dispatch.specs.Contract.{SubscriberOf}
-use Rattle.span_dispatch.specs.declared.call.Call.TheVariants.{AddHandle, AskCurrent, DropHandle, Enter, Exit, Follow, OpenSpan, Probe, RecordValues, SendEvent, SetLevel}
+use Rattle.span_dispatch.specs.declared.call.Call.TheVariants.{AddHandle, AskCurrent, DropHandle, Enter, Exit, Follow, OpenSpan, Probe, RecordValues, SendEvent}
+use Rattle.span_dispatch.specs.declared.call.Call.TheVariants.{SetLevel}
 use Rattle.span_dispatch.specs.declared.call.Call.{Call}
 use Rattle.span_dispatch.specs.Outcome.{HandleTaken, LevelSet, OutcomeAt, Makes, Noticed, Outcome, Quiet, Steps}
 use Rattle.span_dispatch.specs.Cache.{KeptCallsites}
@@ -23,16 +25,17 @@ use Rattle.span_dispatch.specs.Serve.{Run, ServesAsked, call_of, flat, kept_by, 
 use Rattle.span_dispatch.specs.declared.request.Answer.TheVariants as answer
 use Rattle.span_dispatch.specs.declared.request.Answer.{Answer}
 use Rattle.span_dispatch.specs.declared.request.Request.{Request}
+use Rattle.span_store.specs.Closes.{Closes}
+use Rattle.span_store.specs.Store.{IsClosing, IsInStore, IsOpen, Span, Spans, Store}
 use Rattle.span_registry.proofs.Agreeing.{agree_refl, agree_sym, agree_trans, agree_within, closes_alike, not_open_alike, open_alike}
 use Rattle.span_registry.specs.Agree.{AgreeAt}
-use Rattle.span_registry.specs.Closes.{Closes}
 use Rattle.span_registry.specs.Conducts.{Conducts, after_level, filter_numbered, numbers_in, setting}
 use Rattle.span_registry.specs.Hooks.{no_filter}
 use Rattle.span_registry.specs.Position.{Heard}
-use Rattle.span_registry.specs.Store.{IsClosing, IsInStore, IsOpen, Span, Spans, Store}
 use Rattle.span_promises.proofs.Isolation.{PathsOf, one_alone}
 use Rattle.span_promises.specs.Isolation.{AskedIn, CallsSeenTheSame, HasSameOutcomes, HaveSameOutcomes, SeeTheSame, SeenAlone, Sight}
-use Rattle.span_promises.specs.MadeCall.{AloneOf, Effect, GoesThrough, HasOutcomes, MadeCall, NoAnswer, NoEffect, OfDrop, OfExit, OneOutcome, OutcomesFrom, concerns, effect_of, is_concern, made_call, made_calls}
+use Rattle.span_promises.specs.MadeCall.{AloneOf, Effect, GoesThrough, HasOutcomes, MadeCall, NoAnswer, NoEffect, OfDrop, OfExit, OneOutcome, OutcomesFrom}
+use Rattle.span_promises.specs.MadeCall.{concerns, effect_of, is_concern, made_call, made_calls}
 
 -- ---- one call
 

@@ -1,5 +1,6 @@
 -- A call has one answer: by one case split over calls and two answers.
-use Rattle.std.proofs.Common.{inl, inr, ◌⊎◌, ◌↔◌, ◌<◌, ◌≤◌, arith, ◌≡◌, ◌∙◌, ℕ, Bool, true, false, IsTrue, List, [], ◌∷◌, map, Option, Some, None, ap, refl, subst, sym}
+use Rattle.std.proofs.Common.{inl, inr, ◌⊎◌, ◌↔◌, ◌<◌, ◌≤◌, arith, ◌≡◌, ◌∙◌, ℕ, Bool, true, false, IsTrue, List, [], ◌∷◌, map, Option, Some, None, ap, refl}
+use Rattle.std.proofs.Common.{subst, sym}
 use Rattle.std.proofs.lemmas.Bool.{true≢false}
 use Rattle.std.specs.List.{FoldsTo}
 use Rattle.std.specs.Option.{option_map}
@@ -20,17 +21,18 @@ use Rattle.span_dispatch.specs.Call.{OutcomesOf, AnswersWith, HasRoomFor}
 use Rattle.span_dispatch.specs.Outcome.{HandleAdded, HandleTaken, Makes, Noticed, Outcome, OutcomeAt, Quiet, Steps}
 use Rattle.span_dispatch.specs.Serve.{Serves}
 use Rattle.span_dispatch.specs.declared.call.Call.{Call}
-use Rattle.span_dispatch.specs.declared.call.Call.TheVariants.{AddHandle, AskCurrent, DropHandle, Enter, Exit, Follow, OpenSpan, Probe, RecordValues, SendEvent, SetLevel}
+use Rattle.span_dispatch.specs.declared.call.Call.TheVariants.{AddHandle, AskCurrent, DropHandle, Enter, Exit, Follow, OpenSpan, Probe, RecordValues, SendEvent}
+use Rattle.span_dispatch.specs.declared.call.Call.TheVariants.{SetLevel}
 use Rattle.span_dispatch.specs.declared.request.Answer.TheVariants as answer
 use Rattle.span_dispatch.specs.declared.request.Answer.{Answer}
 use Rattle.span_layers.specs.Verdict.{vetoes}
+use Rattle.span_store.specs.Closes.{Closes, Member}
+use Rattle.span_store.specs.Step.{FindsParent, IsCurrent, IsParentFor, RefusesClone, RefusesEnter, RefusesNew, RefusesRelease, RefusesUnlessOpen, entered_last}
+use Rattle.span_store.specs.Store.{IsHeld, IsInStore, IsOpen, RegistryState, Spans, Store, child_count, handles_of}
 use Rattle.span_registry.specs.Behaviour.{OnEnter, OnFollows, OnRecord}
-use Rattle.span_registry.specs.Closes.{Closes, Member}
 use Rattle.span_registry.specs.Form.{Form}
 use Rattle.span_registry.specs.Hooks.{StackSteps}
 use Rattle.span_registry.specs.Levels.{LevelSteps}
-use Rattle.span_registry.specs.Step.{FindsParent, IsCurrent, IsParentFor, RefusesClone, RefusesEnter, RefusesNew, RefusesRelease, RefusesUnlessOpen, entered_last}
-use Rattle.span_registry.specs.Store.{IsHeld, IsInStore, IsOpen, RegistryState, Spans, Store, child_count, handles_of}
 use Rattle.span_promises.specs.Answers.{AnswersAreOne, HadMemory, IsSameAnswer}
 
 -- ---- why something is refused, want of memory aside
@@ -83,13 +85,15 @@ wanted_or_not : {memory after later : KeptCallsites} {f : Form} {s : RegistrySta
     → IsDecided memory f s lane m vetoed true after → IsDecided memory f s lane m vetoed false later → ⊥
 wanted_or_not h k = true≢false (decided_once h k)
 
-unknown_or_decided : {memory after later : KeptCallsites} {f : Form} {s : RegistryState} {lane : Lane} {m : Metadata} {vetoed said : Bool} {e : TraceError} → HadRoom e
+unknown_or_decided : {memory after later : KeptCallsites} {f : Form} {s : RegistryState} {lane : Lane} {m : Metadata} {vetoed said : Bool} {e : TraceError}
+    → HadRoom e
     → IsUnknown memory f m e after → IsDecided memory f s lane m vetoed said later → ⊥
 unknown_or_decided {memory = memory} {m = m} {e = e} room h k = (interest_why memory m e h.refused room).1 (k.agrees h.hint)
 
 unknown_once : {memory after later : KeptCallsites} {f : Form} {m : Metadata} {d e : TraceError} → HadRoom d → HadRoom e → IsUnknown memory f m d after
     → IsUnknown memory f m e later → d ≡ e
-unknown_once {memory = memory} {m = m} {d = d} {e = e} room more h k = (interest_why memory m d h.refused room).0 ∙ sym (interest_why memory m e k.refused more).0
+unknown_once {memory = memory} {m = m} {d = d} {e = e} room more h k =
+    (interest_why memory m d h.refused room).0 ∙ sym (interest_why memory m e k.refused more).0
 
 -- ---- new spans
 
@@ -260,16 +264,19 @@ module _ (once : (m : Spans) (x : ℕ) (xs ys : List ℕ) → Closes m x xs → 
   abbrev SpanDecided : Lane → Attributes → Bool → KeptCallsites → Type 0
   SpanDecided lane attrs said after = IsDecided memory f s lane (metadata_of attrs) (vetoes f (metadata_of attrs) s.store lane.0) said after
 
-  made_or_refused : (lane : Lane) (attrs : Attributes) (e : TraceError) (after later : KeptCallsites) → HadRoom e → SpanDecided lane attrs true after × HasRoomFor s lane (asked_parent attrs)
+  made_or_refused : (lane : Lane) (attrs : Attributes) (e : TraceError) (after later : KeptCallsites)
+      → HadRoom e → SpanDecided lane attrs true after × HasRoomFor s lane (asked_parent attrs)
       → WhyNot lane attrs e later → ⊥
   made_or_refused lane attrs e after later room h (inl k) = unknown_or_decided room k h.0
   made_or_refused lane attrs e after later room h (inr k) = new_or_refused s lane (asked_parent attrs) e room h.1 k.1
 
-  dropped_or_refused : (lane : Lane) (attrs : Attributes) (e : TraceError) (after later : KeptCallsites) → HadRoom e → SpanDecided lane attrs false after → WhyNot lane attrs e later → ⊥
+  dropped_or_refused : (lane : Lane) (attrs : Attributes) (e : TraceError) (after later : KeptCallsites)
+      → HadRoom e → SpanDecided lane attrs false after → WhyNot lane attrs e later → ⊥
   dropped_or_refused lane attrs e after later room h (inl k) = unknown_or_decided room k h
   dropped_or_refused lane attrs e after later room h (inr k) = wanted_or_not k.0 h
 
-  refused_once : (lane : Lane) (attrs : Attributes) (d e : TraceError) (after later : KeptCallsites) → HadRoom d → HadRoom e → WhyNot lane attrs d after → WhyNot lane attrs e later → d ≡ e
+  refused_once : (lane : Lane) (attrs : Attributes) (d e : TraceError) (after later : KeptCallsites)
+      → HadRoom d → HadRoom e → WhyNot lane attrs d after → WhyNot lane attrs e later → d ≡ e
   refused_once lane attrs d e after later room more (inl h) (inl k) = unknown_once room more h k
   refused_once lane attrs d e after later room more (inl h) (inr k) = absurd (unknown_or_decided room h k.0)
   refused_once lane attrs d e after later room more (inr h) (inl k) = absurd (unknown_or_decided more k h.0)
@@ -297,7 +304,8 @@ module _ (once : (m : Spans) (x : ℕ) (xs ys : List ℕ) → Closes m x xs → 
       let same : h.0 ≡ k.0 = once s.store.spans (number_of id) h.0 k.0 h.1 k.1 in
       same_truth i j (Member (number_of id) k.0) (subst (λ xs. IsTrue i ↔ Member (number_of id) xs) same h.2) k.2
 
-  pub one : (call : Call) (a b : Answer) (c d : KeptCallsites) → HadMemory a → HadMemory b → IsKind call a → IsKind call b → AnswersWith call memory f s a c → Facts call a s → AnswersWith call memory f s b d
+  pub one : (call : Call) (a b : Answer) (c d : KeptCallsites)
+      → HadMemory a → HadMemory b → IsKind call a → IsKind call b → AnswersWith call memory f s a c → Facts call a s → AnswersWith call memory f s b d
       → Facts call b s → IsSameAnswer a b
   one (OpenSpan lane attrs) (answer.Made x) (answer.Made y) c d u v i j h p k q = tt
   one (OpenSpan lane attrs) (answer.Made x) answer.Dropped c d u v i j h p k q = absurd (wanted_or_not h.0 k)
@@ -344,7 +352,8 @@ module _ (once : (m : Spans) (x : ℕ) (xs ys : List ℕ) → Closes m x xs → 
   one (Enter lane id) answer.Done answer.Dropped c d u v i j h p k q = absurd k.1
   one (Enter lane id) answer.Done other c d u v i j h p k q = absurd j
   one (Enter lane id) (answer.Refused x) answer.Done c d u v i j h p k q = absurd ((enter_why s lane id x h.1 u).1 q)
-  one (Enter lane id) (answer.Refused x) (answer.Refused e) c d u v i j h p k q = ap (λ z. answer.Refused z) ((enter_why s lane id x h.1 u).0 ∙ sym (enter_why s lane id e k.1 v).0)
+  one (Enter lane id) (answer.Refused x) (answer.Refused e) c d u v i j h p k q =
+      ap (λ z. answer.Refused z) ((enter_why s lane id x h.1 u).0 ∙ sym (enter_why s lane id e k.1 v).0)
   one (Enter lane id) (answer.Refused x) answer.Dropped c d u v i j h p k q = absurd k.1
   one (Enter lane id) (answer.Refused x) other c d u v i j h p k q = absurd j
   one (Enter lane id) answer.Dropped other c d u v i j h p k q = absurd h.1
@@ -377,7 +386,8 @@ module _ (once : (m : Spans) (x : ℕ) (xs ys : List ℕ) → Closes m x xs → 
   one (AddHandle lane id) answer.Done answer.Dropped c d u v i j h p k q = absurd k.1
   one (AddHandle lane id) answer.Done other c d u v i j h p k q = absurd j
   one (AddHandle lane id) (answer.Refused x) answer.Done c d u v i j h p k q = absurd (added_or_refused id x k.1 q h.1)
-  one (AddHandle lane id) (answer.Refused x) (answer.Refused e) c d u v i j h p k q = ap (λ z. answer.Refused z) (one_why x e (UnknownSpan id) (CountFull id) (λ n o. n o.0) (clone_why s id x h.1) (clone_why s id e k.1))
+  one (AddHandle lane id) (answer.Refused x) (answer.Refused e) c d u v i j h p k q =
+      ap (λ z. answer.Refused z) (one_why x e (UnknownSpan id) (CountFull id) (λ n o. n o.0) (clone_why s id x h.1) (clone_why s id e k.1))
   one (AddHandle lane id) (answer.Refused x) answer.Dropped c d u v i j h p k q = absurd k.1
   one (AddHandle lane id) (answer.Refused x) other c d u v i j h p k q = absurd j
   one (AddHandle lane id) answer.Dropped other c d u v i j h p k q = absurd h.1
@@ -386,11 +396,13 @@ module _ (once : (m : Spans) (x : ℕ) (xs ys : List ℕ) → Closes m x xs → 
   one (DropHandle lane id) (answer.Yes a) answer.Dropped c d u v i j h p k q = absurd k.1
   one (DropHandle lane id) (answer.Yes a) other c d u v i j h p k q = absurd j
   one (DropHandle lane id) (answer.Refused x) (answer.Yes b) c d u v i j h p k q = absurd (dropped_or_held id x q.0 h.1)
-  one (DropHandle lane id) (answer.Refused x) (answer.Refused e) c d u v i j h p k q = ap (λ z. answer.Refused z) (one_why x e (UnknownSpan id) (NoHandle id) (λ n o. n o.0) (release_why s id x h.1) (release_why s id e k.1))
+  one (DropHandle lane id) (answer.Refused x) (answer.Refused e) c d u v i j h p k q =
+      ap (λ z. answer.Refused z) (one_why x e (UnknownSpan id) (NoHandle id) (λ n o. n o.0) (release_why s id x h.1) (release_why s id e k.1))
   one (DropHandle lane id) (answer.Refused x) answer.Dropped c d u v i j h p k q = absurd k.1
   one (DropHandle lane id) (answer.Refused x) other c d u v i j h p k q = absurd j
   one (DropHandle lane id) answer.Dropped other c d u v i j h p k q = absurd h.1
-  one (AskCurrent lane) (answer.Current a) (answer.Current b) c d u v i j h p k q = ap (λ z. answer.Current z) (same_current a b (current_once s.store lane.0 (option_map number_of a) (option_map number_of b) h.1 k.1))
+  one (AskCurrent lane) (answer.Current a) (answer.Current b) c d u v i j h p k q =
+      ap (λ z. answer.Current z) (same_current a b (current_once s.store lane.0 (option_map number_of a) (option_map number_of b) h.1 k.1))
   one (AskCurrent lane) (answer.Current a) (answer.Refused e) c d u v i j h p k q = absurd k.1
   one (AskCurrent lane) (answer.Current a) answer.Dropped c d u v i j h p k q = absurd k.1
   one (AskCurrent lane) (answer.Current a) other c d u v i j h p k q = absurd j

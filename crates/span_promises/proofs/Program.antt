@@ -1,5 +1,6 @@
 -- A span, entered and left, with an event in it: what two recorders under INFO and WARN keep of it.
-use Rattle.std.proofs.Common.{inl, inr, ◌==◌, ◌||◌, ◌&&◌, ◌⊎◌, ◌≡◌, ◌∙◌, ◌-◌, ◌<◌, arith, ℕ, Bool, true, false, if◌then◌else◌, List, [], ◌∷◌, ◌++◌, map, Option, Some, None, ap, refl, subst, sym}
+use Rattle.std.proofs.Common.{inl, inr, ◌==◌, ◌||◌, ◌&&◌, ◌⊎◌, ◌≡◌, ◌∙◌, ◌-◌, ◌<◌, arith, ℕ, Bool, true, false, if◌then◌else◌, List, [], ◌∷◌, ◌++◌, map, Option}
+use Rattle.std.proofs.Common.{Some, None, ap, refl, subst, sym}
 use Rattle.std.proofs.lemmas.Bool.{eqb-true, false≢true, true≢false}
 use Rattle.std.proofs.lemmas.List.{append-nil, map-append}
 use Rattle.std.specs.Borrow.{Bor}
@@ -32,8 +33,8 @@ use Rattle.span_dispatch.specs.Readable.{ClosesAsItOpened}
 use Rattle.span_dispatch.specs.Recorder.{kept_notice, kept_on}
 use Rattle.span_dispatch.specs.Serve.{flat, resolved}
 use Rattle.span_dispatch.specs.declared.call.Call.TheVariants.{DropHandle, Enter, Exit}
-use Rattle.span_dispatch.specs.declared.notice.Notice.TheVariants as kept
-use Rattle.span_dispatch.specs.declared.notice.Notice.{Notice as KeptNotice}
+use Rattle.span_dispatch.specs.declared.recorded.Recorded.TheVariants as kept
+use Rattle.span_dispatch.specs.declared.recorded.Recorded.{Recorded}
 use Rattle.span_dispatch.specs.declared.request.Answer.TheVariants as answer
 use Rattle.span_dispatch.specs.declared.request.Answer.{Answer}
 use Rattle.span_dispatch.specs.declared.request.Request.TheVariants as request
@@ -42,16 +43,16 @@ use Rattle.span_dispatch.specs.declared.request.Which.TheVariants as which
 use Rattle.span_dispatch.specs.declared.request.WhichParent.TheVariants as asked
 use Rattle.span_filters.specs.Level.{level_answers}
 use Rattle.span_layers.specs.Verdict.{AreDistinct, in_verdict, numbers_of}
-use Rattle.span_registry.proofs.Chains.{get_beside, get_put, same_test, test_same}
+use Rattle.span_store.proofs.Chains.{get_beside, get_put, same_test, test_same}
+use Rattle.span_store.specs.Closes.{AreUnheld, Closes, IsUnheld, Member}
+use Rattle.span_store.specs.Step.{IsParentFor}
+use Rattle.span_store.specs.Store.{IsOpen, RegistryState, Span, Spans, Store, empty_store, take_handle, with_handles}
 use Rattle.span_registry.specs.Behaviour.{Notice, OnClose, OnEnter, OnEvent, OnExit, OnNewSpan}
-use Rattle.span_registry.specs.Closes.{AreUnheld, Closes, IsUnheld, Member}
 use Rattle.span_registry.specs.Form.{Form}
 use Rattle.span_registry.specs.Hooks.{no_filter}
-use Rattle.span_registry.specs.Levels.{own_rules}
+use Rattle.span_registry.specs.laws.Form.{own_rules}
 use Rattle.span_registry.specs.Path.{Path, mask_of, passes_path, path_at}
 use Rattle.span_registry.specs.Position.{Position, told_in}
-use Rattle.span_registry.specs.Step.{IsParentFor}
-use Rattle.span_registry.specs.Store.{IsOpen, RegistryState, Span, Spans, Store, empty_store, take_handle, with_handles}
 use Rattle.span_promises.proofs.Stack.{form_by, inner_place, outer_place}
 use Rattle.span_promises.proofs.Wanted.{AskedIn, MakesIn, RunIn, ServesIn, form_after, form_goes, request_form, request_kept}
 use Rattle.span_promises.specs.Program.{HasRefusal}
@@ -80,7 +81,7 @@ kept_gate : (b : Bool) (e : Notice) (u : Store) (n : ℕ) (path : Path)
 kept_gate true e u n path = refl
 kept_gate false e u n path = refl
 
-abbrev kept_from : Position → List OutcomeAt → List KeptNotice
+abbrev kept_from : Position → List OutcomeAt → List Recorded
 kept_from position ms = map kept_notice (passed_at position ms)
 
 kept_one : (position : Position) (m : OutcomeAt) (path : Path) (lane : Lane) (e : Notice) (b : Bool) → m.outcome ≡ Noticed lane e
@@ -121,7 +122,7 @@ there : (id : Id) (r : Span) (m : Spans) → m ≡ insert empty (number_of id) r
 there id r m h = ap (λ (k : Spans). get k (number_of id)) h ∙ get_put empty (number_of id) r
 
 -- a request left it there, and the recorders keep this of it
-pub record Leaves (id : Id) (r : Span) (more most : List KeptNotice) (ms : List OutcomeAt) (y : Formed) : Type 0 where
+pub record Leaves (id : Id) (r : Span) (more most : List Recorded) (ms : List OutcomeAt) (y : Formed) : Type 0 where
   pub has : HasOnly id r y.0
   pub outer : kept_from outer_place ms ≡ more
   pub inner : kept_from inner_place ms ≡ most
@@ -233,7 +234,7 @@ quiet id r lane e s ms y b c has keeps pass h =
     }
 
 -- an answer, and what is left then
-pub record Answers (a b : Answer) (id : Id) (r : Span) (more most : List KeptNotice) (ms : List OutcomeAt) (y : Formed) : Type 0 where
+pub record Answers (a b : Answer) (id : Id) (r : Span) (more most : List Recorded) (ms : List OutcomeAt) (y : Formed) : Type 0 where
   pub answered : a ≡ b
   pub leaves : Leaves id r more most ms y
 
@@ -431,7 +432,7 @@ pub record KeptOfAll (lane : Lane) (number : ℕ) (answers : List Answer) (made 
   pub outer : kept_from outer_place (flat made) ≡ kept.New lane id ∷ kept.Enter lane id ∷ kept.Event lane number ∷ kept.Exit lane id ∷ kept.Close lane id ∷ []
   pub inner : kept_from inner_place (flat made) ≡ kept.Event lane number ∷ []
 
-kept_five : (position : Position) (u v w p q : List OutcomeAt) (a b c d e : List KeptNotice) → kept_from position u ≡ a → kept_from position v ≡ b
+kept_five : (position : Position) (u v w p q : List OutcomeAt) (a b c d e : List Recorded) → kept_from position u ≡ a → kept_from position v ≡ b
     → kept_from position w ≡ c → kept_from position p ≡ d → kept_from position q ≡ e
     → kept_from position (u ++ (v ++ (w ++ (p ++ (q ++ []))))) ≡ a ++ (b ++ (c ++ (d ++ e)))
 kept_five position u v w p q a b c d e f g h k l =

@@ -7,12 +7,12 @@ use Rattle.span_core.specs.declared.level.TheConstants.Level.{INFO, WARN}
 use Rattle.span_core.specs.declared.level.TheConstants.LevelFilter as filter
 use Rattle.span_core.specs.declared.metadata.Metadata.{Metadata}
 use Rattle.span_dispatch.specs.Readable.{ClosesAsItOpened}
-use Rattle.span_dispatch.specs.declared.notice.Notice.TheVariants as notice
-use Rattle.span_dispatch.specs.declared.notice.Notice.{Notice as KeptNotice}
+use Rattle.span_dispatch.specs.declared.recorded.Recorded.TheVariants as notice
+use Rattle.span_dispatch.specs.declared.recorded.Recorded.{Recorded}
 use Rattle.span_dispatch.specs.declared.request.Request.TheVariants as request
 use Rattle.span_dispatch.specs.declared.request.Which.TheVariants as which
 use Rattle.span_dispatch.specs.declared.request.WhichParent.TheVariants as asked
-use Rattle.span_registry.specs.Closes.{Closes}
+use Rattle.span_store.specs.Closes.{Closes}
 use Rattle.std.proofs.Common.{inl, inr, ◌∷◌, ◌++◌, ◌≡◌, ◌∙◌, ℕ, List, [], map, None, Some, Result, Ok, Err, IfOk, ap, subst, sym}
 use Rattle.std.specs.FinMap.{get-empty}
 use Rattle.span_core.specs.declared.level.LevelFilter.{LevelFilter}
@@ -31,11 +31,12 @@ use Rattle.span_layers.specs.Layered.{inner_of, outer_of, with_inner}
 use Rattle.span_promises.proofs.Closes.{kept_before}
 use Rattle.span_promises.proofs.Family.{once_apart, opens_made, parent_last}
 use Rattle.span_promises.proofs.Program.{program}
-use Rattle.span_promises.proofs.Stack.{aside, begins_so, form_by, goes, inner_place, known, outer_place, set, two_acts, two_form, two_hears, two_levels, two_steps, Stays}
+use Rattle.span_promises.proofs.Stack.{aside, begins_so, form_by, goes, inner_place, known, outer_place, set, two_acts, two_form, two_hears, two_levels}
+use Rattle.span_promises.proofs.Stack.{two_steps, Stays}
 use Rattle.span_promises.proofs.Watched.{told_all, watched_form, watched_hears, watched_levels, watched_steps}
 use Rattle.span_promises.specs.Watch.{Watched, lost_by, watcher_of}
+use Rattle.span_store.specs.Store.{AreIssued, Spans, empty_store}
 use Rattle.span_registry.specs.Conducts.{ActsAt}
-use Rattle.span_registry.specs.Position.{Here, Outer, Under}
 use Rattle.span_layers.specs.Filtered.{layer_of}
 use Rattle.span_promises.proofs.Wanted.{none_wanted_is_dropped}
 use Rattle.span_promises.specs.Begins.{ServesAtFirst}
@@ -45,7 +46,7 @@ use Rattle.span_promises.specs.Program.{KeepsEach, KeepsJust, first_lane}
 use Rattle.span_promises.specs.Promises.{ClosesChildrenFirst, ClosesOnce, DropsNothingWanted}
 use Rattle.span_promises.specs.Two.{Answered, Two, inner_recorder, outer_recorder}
 use Rattle.std.specs.Ordering.{nat_cmp}
-use Rattle.span_registry.specs.Store.{AreIssued, Spans, empty_store}
+use Rattle.span_registry.specs.Position.{Here, Outer, Under}
 
 abbrev pub ServesTwo : List Request → List Answer → Dispatch Two → Dispatch Two → Type 0
 ServesTwo = Served inner_of with_inner two_form two_steps two_levels two_hears two_acts
@@ -114,8 +115,8 @@ module _ (outer inner : LevelFilter) (requests : List Request) (done : Answered)
       )
 
 -- a new recorder that hasn't failed keeps all that it was notified of
-keeps_just : (r : RecorderState) (due notices : List KeptNotice) → Records new_recorder r due → due ≡ notices → KeepsJust r notices
-keeps_just r due notices h e whole = h.kept ∙ sym (h.split ∙ ap (λ (us : List KeptNotice). h.more ++ us) (h.all whole) ∙ append-nil h.more) ∙ e
+keeps_just : (r : RecorderState) (due notices : List Recorded) → Records new_recorder r due → due ≡ notices → KeepsJust r notices
+keeps_just r due notices h e whole = h.kept ∙ sym (h.split ∙ ap (λ (us : List Recorded). h.more ++ us) (h.all whole) ∙ append-nil h.more) ∙ e
 
 -- `each` and `shown`: whatever a watcher was told the close of, it finds
 pub loses_none_more : {acts_at : ActsAt Watched} (requests : List Request) (answers : List Answer) (old new : Dispatch Watched)

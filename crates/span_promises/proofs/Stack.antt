@@ -1,6 +1,6 @@
 -- Two recorders under levels, on a registry: what their types say, how the stack begins, and that nothing but levels changes its form.
 use Rattle.std.proofs.Common.{inr, ◌<◌, ◌≤◌, ◌+◌, arith, ◌≡◌, ◌∙◌, ℕ, Bool, true, false, if◌then◌else◌, Option, Some, None, ap, refl, subst, sym}
-use Rattle.std.proofs.lemmas.Bool.{eq-eqb, eqb-true, false≢true, true≢false}
+use Rattle.std.proofs.lemmas.Bool.{eq-eqb, eqb-true, true≢false}
 use Rattle.std.specs.Prelude.{⊤}
 use Rattle.span_core.specs.Filters.{FilterSet}
 use Rattle.span_core.specs.declared.filter.FilterId.{FilterId}
@@ -10,7 +10,8 @@ use Rattle.span_dispatch.specs.Fixed.{set_at}
 use Rattle.span_dispatch.specs.Recorder.{RecorderState, new_recorder, recorder_steps}
 use Rattle.span_dispatch.specs.Serve.{IsReady}
 use Rattle.span_filters.specs.Filter.{settled_answers, unmoved}
-use Rattle.span_filters.specs.Level.{ActsByLevel, level_answers, level_honest, level_taken}
+use Rattle.span_filters.specs.Level.{ActsByLevel, level_answers, level_taken}
+use Rattle.span_filters.specs.laws.Level.{level_honest}
 use Rattle.span_layers.proofs.CallerLemmas.{bare_stands, stands_on}
 use Rattle.span_layers.specs.Acts.{LeafActs}
 use Rattle.span_layers.specs.Attach.{Attaches}
@@ -21,20 +22,22 @@ use Rattle.span_layers.specs.Layered.{LayeredSteps, PairSteps, PartsForm, inner_
 use Rattle.span_layers.specs.Levels.{LevelsIf}
 use Rattle.span_layers.specs.Number.{TakesNumbers, filters_in}
 use Rattle.span_layers.specs.Observe.{open_answers}
-use Rattle.span_layers.specs.Stands.{another, bare_hears, bare_steps, base_form, filtered_acts, filtered_form, filtered_hears, filtered_levels, filtered_steps, itself, stack_acts, stack_form, stack_hears, stack_levels, stack_steps}
+use Rattle.span_layers.specs.Stands.{another, bare_hears, bare_steps, base_form, filtered_acts, filtered_form, filtered_hears, filtered_levels, filtered_steps}
+use Rattle.span_layers.specs.Stands.{itself, stack_acts, stack_form, stack_hears, stack_levels, stack_steps}
 use Rattle.span_layers.specs.Verdict.{NumbersStayOwn}
 use Rattle.span_layers.specs.declared.layered.Layered.{Layered}
+use Rattle.span_layers.specs.laws.Leaf.{open_honest}
+use Rattle.span_store.specs.Closes.{HasNoClosing}
+use Rattle.span_store.specs.Store.{RegistryState, Store, new_registry}
+use Rattle.span_store.specs.declared.limits.Limits.{Limits}
 use Rattle.span_registry.proofs.CallerLemmas.{settled_new}
-use Rattle.span_registry.specs.Behaviour.{AreHonest, Notice, OnClose, OnEnter, OnEvent, OnExit, OnFollows, OnIdChange, OnNewSpan, OnRecord}
-use Rattle.span_registry.specs.Closes.{HasNoClosing}
+use Rattle.span_registry.specs.Behaviour.{Notice, OnClose, OnEnter, OnEvent, OnExit, OnFollows, OnIdChange, OnNewSpan, OnRecord}
 use Rattle.span_registry.specs.Conducts.{ActsAt, filter_numbered, no_conducts}
 use Rattle.span_registry.specs.Form.{Arrangement, Base, Filtered, Form, InPair, Leaf, OnSubscriber, Parts, Terminal}
 use Rattle.span_registry.specs.Hooks.{StackSteps, no_filter}
 use Rattle.span_registry.specs.Levels.{LevelSteps, unlevelled}
 use Rattle.span_registry.specs.Plan.{Both, Nobody, Plan, Through}
 use Rattle.span_registry.specs.Position.{HearSteps, Here, Inner, Outer, Position, Under}
-use Rattle.span_registry.specs.Store.{RegistryState, Store, new_registry}
-use Rattle.span_registry.specs.declared.limits.Limits.{Limits}
 use Rattle.span_promises.specs.Begins.{BeginsWith, IsNewUnder}
 use Rattle.span_promises.specs.Promises.{Levels}
 use Rattle.span_promises.specs.Two.{One, Two}
@@ -230,9 +233,6 @@ set x f n l y h s =
     }
 
 -- ---- how it begins
-
-pub open_honest : AreHonest open_answers
-open_honest = record { always = λ m v e. refl; never = λ m v e. absurd (cc); above = λ m v e. absurd (false≢true e); alike = λ m k e. refl }
 
 module _ (law : NumbersStayOwn) (limits : Limits) (s : RegistryState) (outer inner : LevelFilter) (a b : RecorderState) (u : Pair)
     (first : s ≡ new_registry limits) (over : IsUnnumbered (outer_of u) a outer) (below : IsUnnumbered (inner_of u) b inner) where

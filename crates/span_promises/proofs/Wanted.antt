@@ -1,5 +1,6 @@
 -- What one of two levels passes is never dropped.
-use Rattle.std.proofs.Common.{inl, inr, ◌||◌, ◌&&◌, ◌⊎◌, ◌≡◌, ◌∙◌, ℕ, Bool, true, false, IsTrue, List, [], ◌∷◌, ◌++◌, map, Option, Some, None, ap, refl, subst, sym, not}
+use Rattle.std.proofs.Common.{inl, inr, ◌||◌, ◌&&◌, ◌⊎◌, ◌≡◌, ◌∙◌, ℕ, Bool, true, false, IsTrue, List, [], ◌∷◌, ◌++◌, map, Option, Some, None, ap, refl, subst}
+use Rattle.std.proofs.Common.{sym, not}
 use Rattle.std.proofs.lemmas.Bool.{false≢true, true≢false}
 use Rattle.std.specs.Borrow.{Bor}
 use Rattle.std.specs.List.{FoldsTo}
@@ -22,7 +23,8 @@ use Rattle.span_dispatch.specs.Fixed.{Formed, set_at}
 use Rattle.span_dispatch.specs.Outcome.{LayersGo, LevelSet, Makes, Noticed, Outcome, OutcomeAt, Quiet}
 use Rattle.span_dispatch.specs.Serve.{Run, ServesAsked, ServesRequest, call_of, resolved, resolved_parent}
 use Rattle.span_dispatch.specs.declared.call.Call.{Call}
-use Rattle.span_dispatch.specs.declared.call.Call.TheVariants.{AddHandle, AskCurrent, DropHandle, Enter, Exit, Follow, OpenSpan, Probe, RecordValues, SendEvent, SetLevel}
+use Rattle.span_dispatch.specs.declared.call.Call.TheVariants.{AddHandle, AskCurrent, DropHandle, Enter, Exit, Follow, OpenSpan, Probe, RecordValues, SendEvent}
+use Rattle.span_dispatch.specs.declared.call.Call.TheVariants.{SetLevel}
 use Rattle.span_dispatch.specs.declared.request.Answer.TheVariants as answer
 use Rattle.span_dispatch.specs.declared.request.Answer.{Answer}
 use Rattle.span_dispatch.specs.declared.request.Request.TheVariants as request
@@ -30,10 +32,10 @@ use Rattle.span_dispatch.specs.declared.request.Request.{Request}
 use Rattle.span_filters.specs.Level.{level_answers}
 use Rattle.span_layers.specs.Verdict.{vetoes}
 use Rattle.span_layers.specs.Wanted.{IsUnwanted}
+use Rattle.span_store.specs.Store.{RegistryState, Store}
 use Rattle.span_registry.specs.Behaviour.{OnEvent}
 use Rattle.span_registry.specs.Form.{Form}
 use Rattle.span_registry.specs.Position.{Here, Inner, Outer, Under}
-use Rattle.span_registry.specs.Store.{RegistryState, Store}
 use Rattle.span_promises.proofs.MadeCall.{in_effect}
 use Rattle.span_promises.proofs.Stack.{form_by, form_set}
 use Rattle.span_promises.specs.MadeCall.{Effect, HasOutcomes, NoAnswer, NoEffect, OfDrop, OfExit, OneOutcome, effect_of}
@@ -184,7 +186,8 @@ asked_form : (o : Option Call) (memory : KeptCallsites) (x : Formed) (a : Answer
     → AskedIn o memory x a ms after y → y.1 ≡ x.1
 asked_form None memory x a ms after y k h = ap (λ (r : Formed). r.1) h.3
 asked_form (Some call) memory x a ms after y k h = forms_go ms x y h.2.goes
-    ∙ effect_sets_none (effect_of call a) x.0.store (map (λ m. m.outcome) ms) x.1 (call_sets_none call a k) ((in_effect call a x.0.store (map (λ m. m.outcome) ms)).0 h.2.says)
+    ∙ effect_sets_none (effect_of call a)
+    x.0.store (map (λ m. m.outcome) ms) x.1 (call_sets_none call a k) ((in_effect call a x.0.store (map (λ m. m.outcome) ms)).0 h.2.says)
 
 -- and a level that is set gives it that one
 level_form : (now : Levels) (past : List Answer) (n : ℕ) (l : LevelFilter) (memory : KeptCallsites) (s : RegistryState) (a : Answer) (ms : List OutcomeAt)

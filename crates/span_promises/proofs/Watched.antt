@@ -12,7 +12,8 @@ use Rattle.span_core.specs.declared.level.LevelFilter.{LevelFilter}
 use Rattle.span_dispatch.specs.Readable.{ShowsItsSpan}
 use Rattle.span_dispatch.specs.Serve.{IsReady}
 use Rattle.span_filters.specs.Filter.{settled_answers, unmoved}
-use Rattle.span_filters.specs.Level.{level_answers, level_honest, level_taken}
+use Rattle.span_filters.specs.Level.{level_answers, level_taken}
+use Rattle.span_filters.specs.laws.Level.{level_honest}
 use Rattle.span_layers.proofs.CallerLemmas.{bare_stands, stands_on}
 use Rattle.span_layers.specs.Attach.{Attaches}
 use Rattle.span_layers.specs.Filtered.{IsUnnumbered}
@@ -21,21 +22,23 @@ use Rattle.span_layers.specs.Layer.{GoesBy, HearsBy, LayerSteps}
 use Rattle.span_layers.specs.Layered.{inner_of, outer_of, with_inner}
 use Rattle.span_layers.specs.Number.{TakesNumbers, filters_in}
 use Rattle.span_layers.specs.Observe.{ObserverStep, observer_of}
-use Rattle.span_layers.specs.Stands.{another, bare_hears, bare_steps, base_form, filtered_form, filtered_hears, filtered_levels, filtered_steps, itself, stack_form, stack_hears, stack_levels, stack_steps}
+use Rattle.span_layers.specs.Stands.{another, bare_hears, bare_steps, base_form, filtered_form, filtered_hears, filtered_levels, filtered_steps, itself}
+use Rattle.span_layers.specs.Stands.{stack_form, stack_hears, stack_levels, stack_steps}
 use Rattle.span_layers.specs.Verdict.{NumbersStayOwn}
 use Rattle.span_layers.specs.declared.filtered.Filtered.{Filtered as FilteredLayer}
 use Rattle.span_layers.specs.declared.observe.Observer.{Observer}
+use Rattle.span_layers.specs.laws.Leaf.{open_honest}
+use Rattle.span_store.specs.Closes.{HasNoClosing}
+use Rattle.span_store.specs.Store.{RegistryState, Store, new_registry}
+use Rattle.span_store.specs.declared.limits.Limits.{Limits}
 use Rattle.span_registry.proofs.CallerLemmas.{settled_new, views_alike}
 use Rattle.span_registry.specs.Behaviour.{Notice, OnClose, OnEnter, OnEvent, OnExit, OnFollows, OnIdChange, OnNewSpan, OnRecord, unextended}
-use Rattle.span_registry.specs.Closes.{HasNoClosing}
 use Rattle.span_registry.specs.Form.{Base, Filtered, Form, OnSubscriber, Parts, Terminal}
 use Rattle.span_registry.specs.Hooks.{StackSteps}
 use Rattle.span_registry.specs.Levels.{LevelSteps, unlevelled}
 use Rattle.span_registry.specs.Position.{HearSteps, Heard, Told}
-use Rattle.span_registry.specs.Store.{RegistryState, Store, new_registry}
 use Rattle.span_registry.specs.View.{SeenSpan, View, is_shown, plain_view, view_of}
-use Rattle.span_registry.specs.declared.limits.Limits.{Limits}
-use Rattle.span_promises.proofs.Stack.{leaf, open_honest}
+use Rattle.span_promises.proofs.Stack.{leaf}
 use Rattle.span_promises.specs.Watch.{Watched, looked_up, lost_by}
 use Rattle.span_promises.specs.declared.watch.Watcher.{Watcher}
 
@@ -81,7 +84,8 @@ shown_plainly : (s : RegistryState) (lane : ℕ) (under : FilterSet) (x : ℕ)
 shown_plainly s lane under x =
     let plain : RegistryState = record s { store = record s.store { extensions = empty } } in
     shown_so (get (plain_view s.store lane under).spans x) (get (view_of s.store lane under).spans x)
-    ((views_alike plain s lane under (record { spans = refl; issued = refl; stacks = refl; limits = refl; filters = refl; retired = refl; reserved = refl })).spans x)
+    ((views_alike plain
+    s lane under (record { spans = refl; issued = refl; stacks = refl; limits = refl; filters = refl; retired = refl; reserved = refl })).spans x)
 
 finds_it : (b : Bool) (n m : ℕ) → b ≡ true → (if b then n else m) ≡ n
 finds_it true n m h = refl

@@ -1,4 +1,4 @@
--- A call has one answer: what is due by the form of a stack, its registry and the callsites that are kept.
+-- A call has one answer: what is due by the form of a stack, its registry and its cached callsites.
 use Rattle.std.specs.Prelude.{◌≡◌, ⊤, List}
 use Rattle.span_core.specs.declared.error.TraceError.TheVariants.{OutOfMemory}
 use Rattle.span_dispatch.specs.Cache.{KeptCallsites}
@@ -6,24 +6,26 @@ use Rattle.span_dispatch.specs.Outcome.{OutcomeAt}
 use Rattle.span_dispatch.specs.declared.call.Call.{Call}
 use Rattle.span_dispatch.specs.declared.request.Answer.TheVariants.{Made, Refused}
 use Rattle.span_dispatch.specs.declared.request.Answer.{Answer}
+use Rattle.span_store.specs.Store.{RegistryState}
 use Rattle.span_registry.specs.Form.{Form}
-use Rattle.span_registry.specs.Store.{RegistryState}
 
--- the same answer, whichever id was made
+-- two answers are the same, whichever ids were made
 abbrev pub IsSameAnswer : Answer → Answer → Type 0
 IsSameAnswer (Made x) (Made y) = ⊤
 IsSameAnswer a b = a ≡ b
 
--- it isn't a refusal for want of memory
+-- an answer isn't a refusal for want of memory
 abbrev pub HadMemory : Answer → Type 0
 HadMemory (Refused OutOfMemory) = ⊥
 HadMemory a = ⊤
 
--- how stacks of some type serve a call: by this form, from callsites that are kept, and from a stack, with an answer and all that was made, to others
+-- how stacks of some type serve a call: by a form, cached callsites and a stack before it; an
+-- answer and all that was made; cached callsites and a stack after it
 abbrev pub Serving : Type 0 → Type 1
 Serving S = Call → Form → KeptCallsites → S → Answer → List OutcomeAt → KeptCallsites → S → Type 0
 
--- two stacks of one form, on one registry and with the same callsites kept, give a call the same answer, unless memory was wanting
+-- two stacks of one form, on one registry and with the same callsites cached, give a call the same
+-- answer, unless memory was refused
 abbrev pub AnswersAreOne : {S T : Type 0} → (S → RegistryState) → (T → RegistryState) → Serving S
     → Serving T → Type 0
 AnswersAreOne {S} {T} registry other Serves Others =

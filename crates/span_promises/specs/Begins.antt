@@ -8,7 +8,7 @@ use Rattle.span_dispatch.specs.declared.dispatch.Dispatch.{Dispatch}
 use Rattle.span_dispatch.specs.declared.request.Answer.{Answer}
 use Rattle.span_layers.specs.Filtered.{IsNumber, filter_of, id_of, layer_of}
 use Rattle.span_layers.specs.Layered.{inner_of, outer_of}
-use Rattle.span_registry.specs.Store.{empty_store}
+use Rattle.span_store.specs.Store.{empty_store}
 use Rattle.span_promises.specs.Two.{Answered, One, Two}
 
 -- a recorder that was notified of nothing yet, under this level, which is a filter with this number
@@ -23,7 +23,8 @@ pub record BeginsWith (outer inner : LevelFilter) (x : Two) : Type 0 where
   pub below : IsNewUnder 1 inner (inner_of (outer_of x))
   pub empty : (inner_of x).store ≡ empty_store
 
--- a dispatcher began with two new recorders under these levels, and with nothing kept, and then served so
+-- a dispatcher began with two new recorders under these levels, and with nothing kept, and then
+-- served so
 pub record ServesAtFirst (outer inner : LevelFilter)
     (Serves : List Answer → Dispatch Two → Dispatch Two → Type 0) (done : Answered) : Type 0 where
   pub first : Dispatch Two

@@ -1,4 +1,6 @@
--- What a leaf sees is the same in every stack, and alone: where the same was made, or the same requests were made and answered the same, filters that act alike stand round the leaf, and the stores agree as far as these filters go.
+-- A leaf is notified of the same in every stack, and alone: where the same outcomes were made, or
+-- the same requests were made and answered the same, filters that act alike stand round the leaf,
+-- and the stores agree as far as these filters go.
 use Rattle.std.specs.Prelude.{◌≡◌, List, [], map}
 use Rattle.std.specs.List.{FoldsTo, filter}
 use Rattle.span_core.specs.Filters.{FilterSet}
@@ -11,32 +13,35 @@ use Rattle.span_dispatch.specs.Serve.{Run, Served, flat, outcome_of, stack_of}
 use Rattle.span_dispatch.specs.declared.dispatch.Dispatch.{Dispatch}
 use Rattle.span_dispatch.specs.declared.request.Answer.{Answer}
 use Rattle.span_dispatch.specs.declared.request.Request.{Request}
+use Rattle.span_store.specs.Store.{RegistryState, Store}
 use Rattle.span_registry.specs.Agree.{AgreeAt}
 use Rattle.span_registry.specs.Conducts.{ActsAt, Conducts, numbers_in, path_now}
 use Rattle.span_registry.specs.Form.{Form}
 use Rattle.span_registry.specs.Hooks.{StackSteps, no_filter}
 use Rattle.span_registry.specs.Levels.{LevelSteps}
 use Rattle.span_registry.specs.Position.{HearSteps, Heard, Position}
-use Rattle.span_registry.specs.Store.{RegistryState, Store}
 use Rattle.span_promises.specs.MadeCall.{AloneOf, MadeCall, OutcomesFrom, concerns, made_calls}
 
--- what a leaf may see behind filters of these conducts, from this store on, of what was made: of outcomes, or of made calls
+-- what a leaf may be notified of behind filters of these conducts, from this store on, of what was
+-- made: of outcomes, or of made calls
 abbrev pub Sight : Type 0 → Type 1
 Sight M = Conducts → Store → M → Heard → Type 0
 
--- behind filters that act alike, from stores on that agree as far as these go, of the same the same is seen
+-- leaves behind filters that act alike, from stores on that agree as far as these go, are notified
+-- of the same, where the same was made
 abbrev pub SeeTheSame : {M : Type 0} → Sight M → Sight M → Type 0
 SeeTheSame {M} Sees Other =
     (cs ds : Conducts) (s t : Store) (made : M) (h k : Heard) → Sees cs s made h → Other ds t made k
     → PathsActAlike cs ds → AgreeAt (numbers_in cs) s t → h ≡ k
 
--- what is seen so is seen alone, from each store on that agrees as far as these filters go
+-- what a leaf is notified of is what it would be notified of alone, from each store on that agrees
+-- as far as these filters go
 abbrev pub SeenAlone : {M : Type 0} → Sight M → Sight M → Type 0
 SeenAlone {M} Sees OnlyIt =
     (cs : Conducts) (s t : Store) (made : M) (h : Heard) → Sees cs s made h
     → AgreeAt (numbers_in cs) s t → OnlyIt cs t made h
 
--- what the leaf at some position of a stack sees of what was made
+-- what the leaf at some position of a stack is notified of, from outcomes that were made
 pub record SeesMade {S : Type 0} (registry : S → RegistryState)
     (with_registry : S → RegistryState → S) (has_form : S → Form → Type 0) (stepped : StackSteps S)
     (levelled : LevelSteps S) (acts_at : ActsAt S) (cs : Conducts) (s : Store)
@@ -51,7 +56,8 @@ pub record SeesMade {S : Type 0} (registry : S → RegistryState)
   pub at_outcomes : map outcome_of made ≡ outcomes
   pub sees : passed_at position made ≡ h
 
--- what the leaf at some position of a dispatcher's stack sees of all that was made of a list of requests
+-- what the leaf at some position of a dispatcher's stack is notified of, from all that was made of
+-- a list of requests
 pub record SeesServed {S : Type 0} (registry : S → RegistryState)
     (with_registry : S → RegistryState → S) (has_form : S → Form → Type 0) (stepped : StackSteps S)
     (levelled : LevelSteps S) (hears : HearSteps S) (acts_at : ActsAt S) (cs : Conducts) (s : Store)
@@ -68,7 +74,8 @@ pub record SeesServed {S : Type 0} (registry : S → RegistryState)
   pub at_outcomes : map outcome_of (flat served.made) ≡ outcomes
   pub sees : passed_at position (flat served.made) ≡ h
 
--- what the leaf at some position of a dispatcher's stack sees of a list of requests, of which these calls were made, as far as the filters round the leaf go
+-- what the leaf at some position of a dispatcher's stack is notified of, from a list of requests of
+-- which these calls were made, as far as the filters round the leaf go
 pub record SeesCalls {S : Type 0} (registry : S → RegistryState)
     (with_registry : S → RegistryState → S) (has_form : S → Form → Type 0) (stepped : StackSteps S)
     (levelled : LevelSteps S) (hears : HearSteps S) (acts_at : ActsAt S) (cs : Conducts) (s : Store)
@@ -85,7 +92,8 @@ pub record SeesCalls {S : Type 0} (registry : S → RegistryState)
   pub at_calls : made_calls (numbers_in cs) [] requests answers ≡ calls
   pub sees : passed_at position (flat served.made) ≡ h
 
--- what was made of a list that was told is what its made requests have by themselves, as far as filters of any numbers go
+-- what was made of a list that was run is what its made calls have by themselves, as far as filters
+-- of any numbers go
 abbrev pub SaysWhatIsMade : {S : Type 0} → (S → RegistryState)
     → (List Request → List Answer → List (List OutcomeAt) → KeptCallsites → S → KeptCallsites → S
     → Type 0)
@@ -96,13 +104,15 @@ SaysWhatIsMade {S} registry Runs =
     → OutcomesFrom (registry x).store (made_calls numbers [] rs answers)
     (filter (concerns numbers) (map outcome_of (flat made)))
 
--- on stores that agree as far as some filters go, a call that is answered the same has the same outcomes
+-- on stores that agree as far as some filters go, a call that is answered the same has the same
+-- outcomes
 abbrev pub HasSameOutcomes : FilterSet → MadeCall → Type 0
 HasSameOutcomes numbers one =
     (s t : Store) (os us : List Outcome) → AgreeAt numbers s t → OutcomesOf one.0 one.1 s os
     → OutcomesOf one.0 one.1 t us → os ≡ us
 
--- on stores that agree, filters' verdicts aside, calls in a row that are answered the same have the same outcomes
+-- on stores that agree, filters' verdicts aside, calls in a row that are answered the same have the
+-- same outcomes
 abbrev pub HaveSameOutcomes : List MadeCall → Type 0
 HaveSameOutcomes calls =
     (s t : Store) (os us : List Outcome) → AgreeAt no_filter s t → OutcomesFrom s calls os
@@ -118,40 +128,46 @@ KeepsAgreement o =
 -- Below: what this comes to for stacks of two types.
 
 module _ {S : Type 0} (s : SubscriberOf S) where
-  -- what a leaf in a stack of this type sees of outcomes that were made
+  -- what a leaf in a stack of this type is notified of, from outcomes that were made
   abbrev pub MadeIn : Sight (List Outcome)
   MadeIn = SeesMade s.registry s.with_registry s.has_form s.stepped s.levelled s.acts_at
 
-  -- what a leaf in a stack of this type sees of all that was made of a list that was served
+  -- what a leaf in a stack of this type is notified of, from all that was made of a list that was
+  -- served
   abbrev pub ServedIn : Sight (List Outcome)
   ServedIn =
       SeesServed s.registry s.with_registry s.has_form s.stepped s.levelled s.hears s.acts_at
 
-  -- what a leaf in a stack of this type sees of a list that was served, by its made calls
+  -- what a leaf in a stack of this type is notified of, from the made calls of a list that was
+  -- served
   abbrev pub AskedIn : Sight (List MadeCall)
   AskedIn = SeesCalls s.registry s.with_registry s.has_form s.stepped s.levelled s.hears s.acts_at
 
--- of the same outcomes leaves behind filters that act alike see the same, in stacks and alone
+-- leaves behind filters that act alike are notified of the same, where the same outcomes were made,
+-- in stacks and alone
 pub record OutcomesSeenTheSame {S T : Type 0} (one : SubscriberOf S)
     (other : SubscriberOf T) : Type 0 where
-  -- two leaves that stand alone see the same
+  -- two leaves that stand alone are notified of the same
   pub alone : SeeTheSame Alone Alone
-  -- a leaf in a stack of the one type and one in a stack of the other see the same
+  -- a leaf in a stack of the one type and one in a stack of the other are notified of the same
   pub made : SeeTheSame (MadeIn one) (MadeIn other)
-  -- a leaf in a stack and one that stands alone see the same
+  -- a leaf in a stack and one that stands alone are notified of the same
   pub made_alone : SeeTheSame (MadeIn one) Alone
-  -- leaves in stacks of both types see the same of lists that were served, where the same was made
+  -- leaves in stacks of both types are notified of the same, by lists that were served, where the
+  -- same was made
   pub served : SeeTheSame (ServedIn one) (ServedIn other)
 
--- of the same made calls leaves behind filters that act alike see the same, in stacks and alone; and made calls say by themselves what was made
+-- leaves behind filters that act alike are notified of the same, where the same calls were made, in
+-- stacks and alone; and made calls say by themselves what was made
 pub record CallsSeenTheSame {S T : Type 0} (one : SubscriberOf S)
     (other : SubscriberOf T) : Type 0 where
-  -- two leaves that stand alone see the same
+  -- two leaves that stand alone are notified of the same
   pub calls : SeeTheSame AloneOf AloneOf
-  -- leaves in stacks of both types see the same of lists that have the same made calls
+  -- leaves in stacks of both types are notified of the same, by lists that have the same made calls
   pub requests : SeeTheSame (AskedIn one) (AskedIn other)
-  -- what a leaf in a stack sees of a list is what it sees of the list's made calls alone
+  -- a leaf in a stack is notified of what it would be alone, from the made calls of a list
   pub requests_alone : SeenAlone (AskedIn one) AloneOf
-  -- what was made of a list is what its made calls have by themselves, as far as filters of any numbers go
+  -- what was made of a list is what its made calls have by themselves, as far as filters of any
+  -- numbers go
   pub says : SaysWhatIsMade one.registry
       (Run one.registry one.with_registry one.has_form one.stepped one.levelled [])

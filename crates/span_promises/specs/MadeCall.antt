@@ -1,4 +1,5 @@
--- Calls that something was made of, and what they make by themselves. Nothing here looks at a stack or at a layer, nor at more of a filter than its number.
+-- Calls that something was made of, and what they make by themselves. Nothing here looks at a stack
+-- or at a layer, nor at more of a filter than its number.
 use Rattle.std.specs.Prelude.{◌≡◌, Bool, true, false, List, [], ◌∷◌, ◌++◌, if◌then◌else◌, Option, Some, None}
 use Rattle.std.specs.List.{FoldsTo}
 use Rattle.span_core.specs.Filters.{FilterSet}
@@ -13,12 +14,13 @@ use Rattle.span_dispatch.specs.declared.call.Call.{Call}
 use Rattle.span_dispatch.specs.declared.request.Answer.TheVariants as answer
 use Rattle.span_dispatch.specs.declared.request.Answer.{Answer}
 use Rattle.span_dispatch.specs.declared.request.Request.{Request}
+use Rattle.span_store.specs.Store.{Store}
 use Rattle.span_registry.specs.Behaviour.{OnEnter, OnEvent, OnFollows, OnNewSpan, OnRecord}
 use Rattle.span_registry.specs.Conducts.{Conducts}
 use Rattle.span_registry.specs.Position.{Heard}
-use Rattle.span_registry.specs.Store.{Store}
 
--- what comes of a call, by its answer alone: nothing; it is no answer to that call; this outcome; or what a store says of a lane that leaves a span, or of a handle that is dropped
+-- what comes of a call, by its answer alone: nothing; no such answer; this outcome; or what a store
+-- says of a lane that leaves a span, or of a handle that is dropped
 pub data Effect : Type 0 where
   NoEffect : Effect
   NoAnswer : Effect
@@ -26,7 +28,8 @@ pub data Effect : Type 0 where
   OfExit : Lane → Id → Effect
   OfDrop : Lane → Id → Bool → Effect
 
--- what comes of a call that was answered so: nothing of what was dropped or refused, of probes and of looks at the current span
+-- what comes of a call with this answer: nothing of what was dropped or refused, of probes and of
+-- looks at the current span
 abbrev pub effect_of : Call → Answer → Effect
 effect_of (OpenSpan lane a) (answer.Made id) = OneOutcome (Noticed lane (OnNewSpan a id))
 effect_of (SendEvent lane e) answer.Done = OneOutcome (Noticed lane (OnEvent e))
@@ -51,7 +54,8 @@ HasOutcomes (OneOutcome o) s os = os ≡ o ∷ []
 HasOutcomes (OfExit lane id) s os = LeavesSpan lane id s os
 HasOutcomes (OfDrop lane id closes) s os = DropsHandle lane id s closes os
 
--- whether filters of these numbers may go on by an outcome: a level that another filter took is none of theirs
+-- whether filters of these numbers may go on by an outcome: a level that another filter took is
+-- none of theirs
 abbrev pub concerns : FilterSet → Outcome → Bool
 concerns numbers (Noticed lane e) = true
 concerns numbers (Quiet c) = true
@@ -69,19 +73,22 @@ is_concern numbers (OfDrop lane id closes) = true
 abbrev pub MadeCall : Type 0
 MadeCall = Call × Answer
 
--- what was asked for, with its answer, if something was made of it that concerns filters of these numbers
+-- a call that was asked for, with its answer, if something was made of it that concerns filters of
+-- these numbers
 abbrev pub made_call : FilterSet → Option Call → Answer → List MadeCall
 made_call numbers None a = []
 made_call numbers (Some call) a =
     if is_concern numbers (effect_of call a) then (call, a) ∷ [] else []
 
--- the made requests of a list that was answered so, behind these answers: each with its answer, and its spans by their ids. So what was dropped or refused, probes, and other filters' levels may stand in one list and not in the other
+-- the made calls of a list of requests with these answers, given the answers before: each with its
+-- answer, and its spans by their ids. Dropped and refused requests, probes, and other filters'
+-- levels leave no trace in it.
 abbrev pub made_calls : FilterSet → List Answer → List Request → List Answer → List MadeCall
 made_calls numbers past (r ∷ rs) (a ∷ answers) =
     made_call numbers (call_of past r) a ++ made_calls numbers (past ++ (a ∷ [])) rs answers
 made_calls numbers past rs answers = []
 
--- a store goes through outcomes, where no filter refuses anything
+-- outcomes lead from one store to another, where no filter refuses anything
 abbrev pub GoesThrough : Store → List Outcome → Store → Type 0
 GoesThrough s os t = FoldsTo (λ u o v. Steps (form_of_path []) o u v) s os t
 
@@ -92,7 +99,8 @@ OutcomesFrom s (one ∷ calls) os =
     (us : List Outcome) × (t : Store) × (vs : List Outcome) × OutcomesOf one.0 one.1 s us
     × GoesThrough s us t × OutcomesFrom t calls vs × (os ≡ us ++ vs)
 
--- what a leaf sees of calls as if it stood alone under filters of these conducts, on this store
+-- what a leaf is notified of, from calls on this store, as if it stood alone under filters of these
+-- conducts
 abbrev pub AloneOf : Conducts → Store → List MadeCall → Heard → Type 0
 AloneOf cs s calls heard =
     (outcomes : List Outcome) × OutcomesFrom s calls outcomes × Alone cs s outcomes heard

@@ -8,9 +8,9 @@ use Rattle.span_dispatch.specs.Serve.{Served, closed_by, flat, stack_of}
 use Rattle.span_dispatch.specs.declared.dispatch.Dispatch.{Dispatch}
 use Rattle.span_dispatch.specs.declared.request.Answer.{Answer}
 use Rattle.span_dispatch.specs.declared.request.Request.{Request}
+use Rattle.span_store.specs.Closes.{Member}
+use Rattle.span_store.specs.Store.{AreIssued, parent_of}
 use Rattle.span_registry.specs.Behaviour.{OnNewSpan}
-use Rattle.span_registry.specs.Closes.{Member}
-use Rattle.span_registry.specs.Store.{AreIssued, parent_of}
 
 -- the span that an outcome opens, if it is of a new span
 abbrev pub opened_by : Outcome → List ℕ
@@ -32,7 +32,8 @@ abbrev pub StandsBefore : ℕ → ℕ → List ℕ → Type 0
 StandsBefore x y [] = ⊥
 StandsBefore x y (z ∷ zs) = ((z ≡ x) × Member y zs) ⊎ StandsBefore x y zs
 
--- of what is made of requests, on a store whose spans' ids were issued, no parent closes before its child, whether the child's request named the parent or came from a lane that was in it
+-- of what is made of requests, on a store whose spans' ids were issued, no parent closes before its
+-- child, whether the child's request named the parent or came from a lane that was in it
 abbrev pub ParentsCloseLast : {S : Type 0} → SubscriberOf S → Type 0
 ParentsCloseLast {S} s =
     (requests : List Request) (answers : List Answer) (old new : Dispatch S)

@@ -6,8 +6,8 @@ use Rattle.span_core.specs.declared.level.LevelFilter.{LevelFilter}
 use Rattle.span_core.specs.declared.metadata.Metadata.{Metadata}
 use Rattle.span_core.specs.declared.span.Id.{Id}
 use Rattle.span_dispatch.specs.Serve.{resolved}
-use Rattle.span_dispatch.specs.declared.notice.Notice.TheVariants.{Close}
-use Rattle.span_dispatch.specs.declared.notice.Notice.{Notice}
+use Rattle.span_dispatch.specs.declared.recorded.Recorded.TheVariants.{Close}
+use Rattle.span_dispatch.specs.declared.recorded.Recorded.{Recorded}
 use Rattle.span_dispatch.specs.declared.request.Answer.TheVariants.{Done, Dropped, Made}
 use Rattle.span_dispatch.specs.declared.request.Answer.{Answer}
 use Rattle.span_dispatch.specs.declared.request.Request.TheVariants.{Event, NewSpan, SetLevel}
@@ -17,11 +17,13 @@ use Rattle.span_promises.specs.Two.{Answered, inner_recorder, outer_recorder}
 
 -- ---- what is wanted is not dropped
 
--- the levels that two filters go by: the outer one, whose number is 0, and the inner one, whose number is 1
+-- the levels that two filters go by: the outer one, whose number is 0, and the inner one, whose
+-- number is 1
 abbrev pub Levels : Type 0
 Levels = LevelFilter × LevelFilter
 
--- the levels after a request was answered so: where one was set, the filter with that number goes by it
+-- the levels after a request was answered so: where one was set, the filter with that number goes
+-- by it
 abbrev pub levels_after : Levels → Request → Answer → Levels
 levels_after now (SetLevel n l) Done = (if n == 0 then l else now.0, if n == 1 then l else now.1)
 levels_after now r a = now
@@ -36,14 +38,16 @@ IsWanted now (NewSpan lane m parent values) = IsTrue (one_passes now m)
 IsWanted now (Event lane m parent values) = IsTrue (one_passes now m)
 IsWanted now other = ⊥
 
--- from these levels on each request was answered, and no new span and no event was dropped that a level passed then
+-- from these levels on each request was answered, and no new span and no event was dropped that a
+-- level passed then
 abbrev pub NoneWantedIsDropped : Levels → List Request → List Answer → Type 0
 NoneWantedIsDropped now [] [] = ⊤
 NoneWantedIsDropped now (r ∷ rs) (a ∷ answers) =
     (IsWanted now r → ¬ (a ≡ Dropped)) × NoneWantedIsDropped (levels_after now r a) rs answers
 NoneWantedIsDropped now rs answers = ⊥
 
--- of these requests, served on recorders under these levels, no new span and no event was dropped that a level passed then
+-- of these requests, served on recorders under these levels, no new span and no event was dropped
+-- that a level passed at its turn
 abbrev pub DropsNothingWanted : LevelFilter → LevelFilter → List Request → Answered → Type 0
 DropsNothingWanted outer inner requests done =
     NoneWantedIsDropped (outer, inner) requests done.1.items
@@ -51,13 +55,13 @@ DropsNothingWanted outer inner requests done =
 -- ---- closes
 
 -- a close of this span is among these notices, from whichever lane
-abbrev pub HasClose : Id → List Notice → Type 0
+abbrev pub HasClose : Id → List Recorded → Type 0
 HasClose id [] = ⊥
 HasClose id (Close lane x ∷ notices) = (x ≡ id) ⊎ HasClose id notices
 HasClose id (n ∷ notices) = HasClose id notices
 
 -- among these notices a close of the first span stands before one of the second
-abbrev pub ClosesBefore : Id → Id → List Notice → Type 0
+abbrev pub ClosesBefore : Id → Id → List Recorded → Type 0
 ClosesBefore first second [] = ⊥
 ClosesBefore first second (Close lane x ∷ notices) =
     ((x ≡ first) × HasClose second notices) ⊎ ClosesBefore first second notices
@@ -85,7 +89,8 @@ OpensUnder past (r ∷ rs) (a ∷ answers) child parent =
     OpensNow past r a child parent ⊎ OpensUnder (past ++ (a ∷ [])) rs answers child parent
 OpensUnder past rs answers child parent = ⊥
 
--- of a child that was made by a request that named its parent, neither of two recorders keeps the close behind the parent's
+-- neither of two recorders keeps a child's close behind its parent's, where the child was made by a
+-- request that named that parent
 abbrev pub ClosesChildrenFirst : List Request → Answered → Type 0
 ClosesChildrenFirst requests done =
     (child parent : Id) → OpensUnder [] requests done.1.items child parent

@@ -10,7 +10,7 @@ use Rattle.span_layers.specs.Filtered.{layer_of}
 use Rattle.span_layers.specs.Layered.{inner_of, outer_of}
 use Rattle.span_layers.specs.declared.filtered.Filtered.{Filtered}
 use Rattle.span_layers.specs.declared.layered.Layered.{Layered}
-use Rattle.span_registry.specs.Store.{RegistryState}
+use Rattle.span_store.specs.Store.{RegistryState}
 
 -- a recorder under a level
 abbrev pub One : Type 0

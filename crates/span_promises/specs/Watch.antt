@@ -1,4 +1,4 @@
--- A layer that looks up each span that it is told the close of, under a level on a registry.
+-- A layer that looks up each span whose close it is notified of, under a level on a registry.
 use Rattle.std.specs.Prelude.{◌≡◌, ◌+◌, ◌-◌, ◌^◌, ℕ, if◌then◌else◌, min}
 use Rattle.std.specs.declared.alloc.Global.{Global}
 use Rattle.std.specs.declared.vec.Vec.{Vec}
@@ -14,15 +14,16 @@ use Rattle.span_layers.specs.declared.filtered.Filtered.{Filtered}
 use Rattle.span_layers.specs.declared.layered.Layered.{Layered}
 use Rattle.span_layers.specs.declared.observe.Observer.{Observer}
 use Rattle.span_promises.specs.declared.watch.Watcher.{Watcher}
+use Rattle.span_store.specs.Store.{RegistryState}
 use Rattle.span_registry.specs.Behaviour.{Notice, OnClose}
-use Rattle.span_registry.specs.Store.{RegistryState}
 use Rattle.span_registry.specs.View.{View, is_shown}
 
--- of how many spans a watcher was told the close, and didn't find them
+-- how many spans a watcher didn't find when it was notified of their close
 abbrev pub lost_by : Watcher → ℕ
 lost_by x = x.lost
 
--- a watcher after a notice: of a close it counts one more, as far as it can count, where its context doesn't show the span
+-- a watcher after a notice: it counts a close one more, as far as it can count, where its context
+-- doesn't show the span
 abbrev pub looked_up : Notice → View → Watcher → Watcher
 looked_up (OnClose id) v x =
     if is_shown v.spans (number_of id) then x else record x { lost = min (x.lost + 1) (2 ^ 64 - 1) }
@@ -36,6 +37,6 @@ Watched = Layered (Filtered (Observer Watcher) LevelFilter) RegistryState
 abbrev pub watcher_of : Dispatch Watched → Watcher
 watcher_of d = observer_of (layer_of (outer_of (stack_of d)))
 
--- the watcher of a dispatcher's stack found each span that it was told the close of
+-- the watcher of a dispatcher's stack found each span whose close it was notified of
 abbrev pub LosesNone : Dispatch Watched × Vec Answer Global → Type 0
 LosesNone done = lost_by (watcher_of done.0) ≡ 0

@@ -12,8 +12,8 @@ ghost use Rattle.std.specs.Prelude.{List};
 
 use span_registry::Subscriber;
 
-/// What a call is answered is settled by the form of the stack, its registry and the callsites that are kept, whichever stacks
-/// these are: new ids and want of memory aside.
+/// The answer to a call is settled by the form of the stack, its registry and its cached callsites,
+/// whichever stacks these are: new ids and want of memory aside.
 pub fn answers_are_one<S: Subscriber, T: Subscriber>()
     ensures { AnswersAreOne S.registry T.registry
         (Serves S.registry S.with_registry S.has_form S.stepped S.levelled)
@@ -22,21 +22,24 @@ pub fn answers_are_one<S: Subscriber, T: Subscriber>()
     span_registry::laws::closes_once();
 }
 
-/// No parent closes before its child, whichever stack it is and whoever is told: among what is made of requests, the close of a
-/// child comes first, whether its request named the parent or came from a lane that was in it.
+/// No parent closes before its child, whichever stack it is and whichever layer is notified: among
+/// what is made of requests, the close of a child comes first, whether its request named the parent
+/// or came from a lane that was in it.
 pub fn parents_close_last<S: Subscriber>()
     ensures { ParentsCloseLast S.Subscriber }
 {
     // The proof is by what each outcome does to the store.
 }
 
-/// A leaf sees the same in every stack, and alone: nothing that stands beside its path makes a difference.
+/// A leaf is notified of the same in every stack, and alone: nothing that stands beside its path
+/// makes a difference.
 ///
-/// Two runs may be of stacks of two types. The same outcomes were made in both, or the same requests were made and answered the
-/// same. The filters round the one leaf are plain; those round the other have the same numbers and act as they do, as the same
-/// filters do by themselves. At first the stores differ in extensions and other filters' verdicts alone.
+/// Two runs may be of stacks of two types. The same outcomes were made in both, or the same
+/// requests were made and answered the same. The filters round the one leaf are plain; those round
+/// the other have the same numbers and act alike, as plain filters do by themselves. At first the
+/// stores differ only in extensions and other filters' verdicts.
 ///
-/// And what was made of a list is what its made requests say by themselves, whichever stack it is.
+/// What was made of a list is what its made requests say by themselves, whichever stack it is.
 pub fn other_layers_make_no_difference<S: Subscriber, T: Subscriber>()
     ensures itself { (cs : Conducts) → ArePlainConducts cs → PathsActAlike cs cs }
     ensures of_outcomes { OutcomesSeenTheSame S.Subscriber T.Subscriber }
@@ -48,8 +51,8 @@ pub fn other_layers_make_no_difference<S: Subscriber, T: Subscriber>()
 
 /// A call says by itself what is made of it, whichever stack it is asked of.
 ///
-/// On stores that agree, calls that are answered the same have the same outcomes, one by one and in a row, and stores that
-/// agreed before an outcome agree after it.
+/// On stores that agree, calls that are answered the same have the same outcomes, one by one and in
+/// a row, and stores that agreed before an outcome agree after it.
 pub fn calls_say_what_is_made()
     ensures one { (numbers : FilterSet) (call : MadeCall) → HasSameOutcomes numbers call }
     ensures all { (calls : List MadeCall) → HaveSameOutcomes calls }

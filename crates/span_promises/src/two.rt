@@ -15,17 +15,17 @@ use std::alloc::Global;
 /// A recorder under a level.
 type One = Filtered<Recorder, LevelFilter>;
 
-/// Two recorders, each under a level of its own, on a registry. The filter of the outer one has the number 0, and that of the
-/// inner one 1.
+/// Two recorders, each under a level of its own, on a registry. The filter of the outer one has the
+/// number 0, and that of the inner one 1.
 pub type Two = Layered<Layered<One, One>, Registry>;
 
-/// A dispatcher with what it answered.
+/// A dispatcher with its answers.
 pub type Served = (Dispatch<Two>, Vec<Answer>);
 
 /// Serves requests on two new recorders, under these levels.
 ///
-/// What one of the levels passes is never dropped. Of what a recorder was notified of it keeps no two closes of one span, and no
-/// close of a parent before that of its child.
+/// A request that one of the levels passes is never dropped. Neither recorder keeps two closes of
+/// one span, nor a close of a parent before that of its child.
 pub fn record_two(
     alloc: Global,
     outer: LevelFilter,
@@ -40,8 +40,9 @@ pub fn record_two(
     serve_at_first(alloc, outer, inner, requests)
 }
 
-/// A span at `INFO`, entered and left, and in it an event at `WARN`, served on two new recorders: the outer one, under `INFO`, keeps
-/// all five notices, and the inner one, under `WARN`, the event alone, unless something was refused or a recorder failed.
+/// Serves a span at `INFO`, entered and left, and in it an event at `WARN`, on two new recorders:
+/// the outer one, under `INFO`, keeps all five notices, and the inner one, under `WARN`, the event
+/// alone, unless something was refused or a recorder failed.
 pub fn warnings_and_infos(alloc: Global) -> Result<Served, TraceError>
     ensures kept { IfOk result KeepsEach }
     ensures memory { IfErr result (λ e. e ≡ TraceError.OutOfMemory) }

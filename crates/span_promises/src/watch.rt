@@ -7,25 +7,26 @@ ghost use Rattle.span_registry.specs.View.{is_shown, view_of};
 
 use span_core::{Id, LevelFilter, TraceError};
 use span_dispatch::{Answer, Dispatch, Request};
-use span_layers::{Filtered, LayerExt, Layered, Observe, Observed, Observer, SubscriberExt, laws};
-use span_registry::{ContextMut, LookupSpan, Registry, Subscriber};
+use span_layers::{Filtered, LayerExt, Layered, Observe, Observer, SubscriberExt, laws};
+use span_registry::{ContextMut, LookupSpan, Notice, Registry, Subscriber};
 use std::alloc::Global;
 
-/// Looks up each span that it is told the close of, and counts those that it doesn't find.
+/// A layer that looks up each span whose close it is notified of, and counts those that it doesn't
+/// find.
 #[derive(Debug, Drop)]
 pub struct Watcher {
     lost: u64,
 }
 
 impl Watcher {
-    /// It was told of nothing yet.
+    /// A watcher that was notified of nothing yet.
     pub fn new() -> Watcher
         ensures { lost_by result ≡ 0 }
     {
         Watcher { lost: 0 }
     }
 
-    /// Of how many spans it was told the close, and didn't find them.
+    /// How many spans the watcher didn't find when it was notified of their close.
     pub fn lost(&self) -> u64
         ensures { result ≡ lost_by self.now }
     {
@@ -37,8 +38,8 @@ impl<S: Subscriber> Observe<S> for Watcher {
     ghost observed = { λ x e lane under v y w.
         (y ≡ looked_up e (view_of v.store lane under) x) × (w ≡ v) };
 
-    fn observe(&mut self, notice: Observed<'_, '_>, ctx: &mut ContextMut<'_, S>) {
-        if let Observed::Close(id) = notice {
+    fn observe(&mut self, notice: Notice<'_, '_>, ctx: &mut ContextMut<'_, S>) {
+        if let Notice::Close(id) = notice {
             if !finds(id, ctx) {
                 self.lost = self.lost.saturating_add(1);
             }
@@ -53,10 +54,11 @@ fn finds<S: LookupSpan>(id: Id, ctx: &ContextMut<'_, S>) -> bool
     ctx.span(id).is_some()
 }
 
-/// Such a layer under a level, on a registry.
+/// A watcher under a level, on a registry.
 pub type Watched = Layered<Filtered<Observer<Watcher>, LevelFilter>, Registry>;
 
-/// Serves requests on a new watcher under this level, with an answer for each. It finds each span that it is told the close of.
+/// Serves requests on a new watcher under this level, with an answer for each. The watcher finds
+/// each span whose close it is notified of.
 pub fn watch_closes(
     alloc: Global,
     level: LevelFilter,

@@ -1,5 +1,6 @@
 -- Stores that agree: they are seen alike, they still agree after a step that both take, and each can be cut down.
-use Rattle.std.proofs.Common.{◌≡◌, ℕ, ◌+◌, ◌-◌, ◌<◌, Bool, true, false, cond, not, ◌&&◌, IsTrue, List, [], ◌∷◌, map, Option, None, Some, IfSome, refl, sym, ap, subst, ◌∙◌, inl, inr}
+use Rattle.std.proofs.Common.{◌≡◌, ℕ, ◌+◌, ◌-◌, ◌<◌, Bool, true, false, cond, not, ◌&&◌, IsTrue, List, [], ◌∷◌, map, Option, None, Some, IfSome, refl, sym, ap}
+use Rattle.std.proofs.Common.{subst, ◌∙◌, inl, inr}
 use Rattle.std.proofs.lemmas.Bool.{and_parts}
 use Rattle.std.specs.Prelude.{⊤}
 use Rattle.std.specs.Cmp.{nat_cmp_total}
@@ -18,22 +19,23 @@ use Rattle.span_core.specs.declared.span.Id.{Id}
 use Rattle.span_core.specs.declared.span.Lane.{Lane}
 use Rattle.span_core.specs.declared.span.Parent.TheVariants.{Contextual, Explicit, Root}
 use Rattle.span_core.specs.declared.span.Parent.{Parent}
+use Rattle.span_extensions.specs.declared.extensions.ExtensionMap.{ExtensionMap}
+use Rattle.span_store.specs.Closes.{Closes, IsDeepestFirst, IsUnheld, remove_all, without}
+use Rattle.span_store.specs.LaneStack.{leave}
+use Rattle.span_store.specs.Step.{IsContext, IsParentFor, entered, entered_last, exited}
+use Rattle.span_store.specs.Store.{HasChild, IsChain, IsClosing, IsHeld, IsOpen, RegistryState, Span, Spans, Stacks, Store, add_handle, stack_on, take_handle}
+use Rattle.span_store.specs.Store.{with_handles, with_stack_on}
+use Rattle.span_store.proofs.Closing.{IsBelow}
 use Rattle.span_registry.specs.Agree.{AgreeAt, IsCutDown, known_to}
 use Rattle.span_registry.specs.Behaviour.{AreAlike, unextended}
-use Rattle.span_registry.specs.Closes.{Closes, IsDeepestFirst, IsUnheld, remove_all, without}
-use Rattle.span_registry.specs.LaneStack.{leave}
 use Rattle.span_registry.specs.Plan.{is_passed}
-use Rattle.span_registry.specs.Step.{IsContext, IsParentFor, entered, entered_last, exited}
-use Rattle.span_registry.specs.Store.{HasChild, IsChain, IsClosing, IsHeld, IsOpen, RegistryState, Span, Spans, Stacks, Store, add_handle, stack_on, take_handle, with_handles, with_stack_on}
 use Rattle.span_registry.specs.Subscriber.{SameButExtensions}
 use Rattle.span_registry.specs.View.{see, view_of}
-use Rattle.span_registry.specs.declared.extensions.ExtensionMap.{ExtensionMap}
-use Rattle.span_registry.proofs.Closing.{IsBelow}
 use Rattle.span_registry.proofs.Ancestry.{seen_at}
 
 -- ---- what stands at a number in both
-
 -- of these filters, the same refused
+
 abbrev pub VerdictsAgree : FilterSet → FilterMap → FilterMap → Type 0
 VerdictsAgree numbers v w = (n : ℕ) → IsTrue (numbers n) → refuses v n ≡ refuses w n
 
@@ -58,7 +60,8 @@ place_back : (numbers : FilterSet) (a b : Option Span) → PlacesAgree numbers a
 place_back numbers None None h = tt
 place_back numbers None (Some q) h = absurd h
 place_back numbers (Some r) None h = absurd h
-place_back numbers (Some r) (Some q) h = record { metadata = sym h.metadata; parent = sym h.parent; handles = sym h.handles; verdict = λ n t. sym (h.verdict n t) }
+place_back numbers (Some r) (Some q) h =
+    record { metadata = sym h.metadata; parent = sym h.parent; handles = sym h.handles; verdict = λ n t. sym (h.verdict n t) }
 
 maps_back : (numbers : FilterSet) (m n : Spans) → MapsAgree numbers m n → MapsAgree numbers n m
 maps_back numbers m n f = λ x. place_back numbers (get m x) (get n x) (f x)
@@ -92,7 +95,8 @@ place_so : (numbers : FilterSet) (a b : Option Span) → PlacesAgree numbers a b
 place_so numbers None None h = refl
 place_so numbers None (Some q) h = absurd h
 place_so numbers (Some r) None h = absurd h
-place_so numbers (Some r) (Some q) h = λ i. Some (h.metadata i, h.parent i, h.handles i, λ n. same_member (numbers n) (refuses r.verdict n) (refuses q.verdict n) (h.verdict n) i)
+place_so numbers (Some r) (Some q) h =
+    λ i. Some (h.metadata i, h.parent i, h.handles i, λ n. same_member (numbers n) (refuses r.verdict n) (refuses q.verdict n) (h.verdict n) i)
 
 pub places_of : (numbers : FilterSet) (s t : Store) → AgreeAt numbers s t → MapsAgree numbers s.spans t.spans
 places_of numbers s t h x = place_from numbers (get s.spans x) (get t.spans x) (h.spans x)
@@ -125,13 +129,15 @@ agree_aside numbers v w h = record {
 }
 
 -- ---- what is seen
-
 -- filters among these hide the same
-pub same_hidden : (numbers set : FilterSet) (v w : FilterMap) → VerdictsAgree numbers v w → ((n : ℕ) → IsTrue (set n) → IsTrue (numbers n)) → meets set (refuses v) ≡ meets set (refuses w)
+
+pub same_hidden : (numbers set : FilterSet) (v w : FilterMap)
+    → VerdictsAgree numbers v w → ((n : ℕ) → IsTrue (set n) → IsTrue (numbers n)) → meets set (refuses v) ≡ meets set (refuses w)
 same_hidden numbers set v w h i =
     some_below-same LIMIT (λ n. set n && refuses v n) (λ n. set n && refuses w n) (λ n l. same_member (set n) (refuses v n) (refuses w n) (λ t. h n (i n t)))
 
-seen_alike : (numbers mask : FilterSet) (a b : Option Span) (e f : Option ExtensionMap) → PlacesAgree numbers a b → ((n : ℕ) → IsTrue (mask n) → IsTrue (numbers n))
+seen_alike : (numbers mask : FilterSet) (a b : Option Span) (e f : Option ExtensionMap)
+    → PlacesAgree numbers a b → ((n : ℕ) → IsTrue (mask n) → IsTrue (numbers n))
     → option_map unextended (option_map (λ r. see mask r e) a) ≡ option_map unextended (option_map (λ r. see mask r f) b)
 seen_alike numbers mask None None e f h i = refl
 seen_alike numbers mask None (Some q) e f h i = absurd h
@@ -141,7 +147,8 @@ seen_alike numbers mask (Some r) (Some q) e f h i =
     λ j. Some (record { metadata = h.metadata j; parent = h.parent j; hidden = hidden j; extensions = None })
 
 -- under a mask among the filters the stores are seen alike
-pub views_alike : (numbers mask : FilterSet) (s t : Store) (lane : ℕ) → AgreeAt numbers s t → ((n : ℕ) → IsTrue (mask n) → IsTrue (numbers n)) → AreAlike (view_of s lane mask) (view_of t lane mask)
+pub views_alike : (numbers mask : FilterSet) (s t : Store) (lane : ℕ)
+    → AgreeAt numbers s t → ((n : ℕ) → IsTrue (mask n) → IsTrue (numbers n)) → AreAlike (view_of s lane mask) (view_of t lane mask)
 views_alike numbers mask s t lane h i = record {
   lane = refl;
   stack = ap (λ (m : Stacks). stack_on m lane) h.stacks;
@@ -159,8 +166,10 @@ place_passed numbers set (Some r) None h i = absurd h
 place_passed numbers set (Some r) (Some q) h i = ap not (same_hidden numbers set r.verdict q.verdict h.verdict i)
 
 -- filters among these pass the same spans
-pub passed_alike : (numbers set : FilterSet) (s t : Store) (id : Id) → AgreeAt numbers s t → ((n : ℕ) → IsTrue (set n) → IsTrue (numbers n)) → is_passed s.spans set id ≡ is_passed t.spans set id
-passed_alike numbers set s t id h i = place_passed numbers set (get s.spans (number_of id)) (get t.spans (number_of id)) (places_of numbers s t h (number_of id)) i
+pub passed_alike : (numbers set : FilterSet) (s t : Store) (id : Id)
+    → AgreeAt numbers s t → ((n : ℕ) → IsTrue (set n) → IsTrue (numbers n)) → is_passed s.spans set id ≡ is_passed t.spans set id
+passed_alike numbers set s t id h i =
+    place_passed numbers set (get s.spans (number_of id)) (get t.spans (number_of id)) (places_of numbers s t h (number_of id)) i
 
 -- ---- the parent that a new span gets
 
@@ -212,7 +221,8 @@ context_over numbers s t lane None h c =
     (λ x k o. k (open_over numbers t.spans s.spans x (maps_back numbers s.spans t.spans (places_of numbers s t h)) o)) c
 
 -- what the one gives a new span as its parent, the other gives it too
-pub parent_alike : (numbers : FilterSet) (s t : Store) (lane : Lane) (asked : Parent) (o : Option ℕ) → AgreeAt numbers s t → IsParentFor s lane asked o → IsParentFor t lane asked o
+pub parent_alike : (numbers : FilterSet) (s t : Store) (lane : Lane) (asked : Parent) (o : Option ℕ)
+    → AgreeAt numbers s t → IsParentFor s lane asked o → IsParentFor t lane asked o
 parent_alike numbers s t lane Root o h c = c
 parent_alike numbers s t lane Contextual o h c = context_over numbers s t lane o h c
 parent_alike numbers s t lane (Explicit x) o h c = (c.0, open_over numbers s.spans t.spans (number_of x) (places_of numbers s t h) c.1)
@@ -222,13 +232,16 @@ parent_alike numbers s t lane (Explicit x) o h c = (c.0, open_over numbers s.spa
 placed : (numbers : FilterSet) (a b c d : Option Span) → a ≡ c → b ≡ d → PlacesAgree numbers c d → PlacesAgree numbers a b
 placed numbers a b c d e f h = subst (λ (o : Option Span). PlacesAgree numbers o b) (sym e) (subst (λ (o : Option Span). PlacesAgree numbers c o) (sym f) h)
 
-at_put : (numbers : FilterSet) (k : Bool) (r q : Span) (a b : Option Span) → SpansAgree numbers r q → PlacesAgree numbers a b → PlacesAgree numbers (cond k (Some r) a) (cond k (Some q) b)
+at_put : (numbers : FilterSet) (k : Bool) (r q : Span) (a b : Option Span)
+    → SpansAgree numbers r q → PlacesAgree numbers a b → PlacesAgree numbers (cond k (Some r) a) (cond k (Some q) b)
 at_put numbers true r q a b h k = h
 at_put numbers false r q a b h k = k
 
-put_agrees : (numbers : FilterSet) (m n : Spans) (x : ℕ) (r q : Span) → SpansAgree numbers r q → MapsAgree numbers m n → MapsAgree numbers (insert m x r) (insert n x q)
+put_agrees : (numbers : FilterSet) (m n : Spans) (x : ℕ) (r q : Span)
+    → SpansAgree numbers r q → MapsAgree numbers m n → MapsAgree numbers (insert m x r) (insert n x q)
 put_agrees numbers m n x r q h f = λ y.
-    placed numbers (get (insert m x r) y) (get (insert n x q) y) (cond (eq_by_cmp nat_cmp y x) (Some r) (get m y)) (cond (eq_by_cmp nat_cmp y x) (Some q) (get n y))
+    placed numbers
+    (get (insert m x r) y) (get (insert n x q) y) (cond (eq_by_cmp nat_cmp y x) (Some r) (get m y)) (cond (eq_by_cmp nat_cmp y x) (Some q) (get n y))
     (get-insert nat_cmp_total m x r y) (get-insert nat_cmp_total n x q y) (at_put numbers (eq_by_cmp nat_cmp y x) r q (get m y) (get n y) h (f y))
 
 at_gone : (numbers : FilterSet) (k : Bool) (a b : Option Span) → PlacesAgree numbers a b → PlacesAgree numbers (cond k None a) (cond k None b)
@@ -244,7 +257,8 @@ all_gone_agrees : (numbers : FilterSet) (m n : Spans) (xs : List ℕ) → MapsAg
 all_gone_agrees numbers m n [] f = f
 all_gone_agrees numbers m n (x ∷ xs) f = all_gone_agrees numbers (remove m x) (remove n x) xs (gone_agrees numbers m n x f)
 
-handles_agree : (numbers : FilterSet) (g : ℕ → ℕ) (m n : Spans) (x : ℕ) (a b : Option Span) → PlacesAgree numbers a b → MapsAgree numbers m n → MapsAgree numbers (with_handles g m x a) (with_handles g n x b)
+handles_agree : (numbers : FilterSet) (g : ℕ → ℕ) (m n : Spans) (x : ℕ) (a b : Option Span)
+    → PlacesAgree numbers a b → MapsAgree numbers m n → MapsAgree numbers (with_handles g m x a) (with_handles g n x b)
 handles_agree numbers g m n x None None h f = f
 handles_agree numbers g m n x None (Some q) h f = absurd h
 handles_agree numbers g m n x (Some r) None h f = absurd h
@@ -253,10 +267,11 @@ handles_agree numbers g m n x (Some r) (Some q) h f =
     (record { metadata = h.metadata; parent = h.parent; handles = ap g h.handles; verdict = h.verdict }) f
 
 -- ---- steps that both stores take
-
 -- spans that agree are put in, whatever the first store then has of extensions
+
 pub new_agrees_with : (numbers : FilterSet) (s t u : Store) (x : ℕ) (r q : Span) → AgreeAt numbers s t → SpansAgree numbers r q
-    → u.spans ≡ insert s.spans x r → u.issued ≡ add s.issued x → u.stacks ≡ s.stacks → AgreeAt numbers u (record t { spans = insert t.spans x q; issued = add t.issued x })
+    → u.spans ≡ insert s.spans x r
+    → u.issued ≡ add s.issued x → u.stacks ≡ s.stacks → AgreeAt numbers u (record t { spans = insert t.spans x q; issued = add t.issued x })
 new_agrees_with numbers s t u x r q h k spans issued stacks = agree_by numbers u (record t { spans = insert t.spans x q; issued = add t.issued x })
     (subst (λ (m : Spans). MapsAgree numbers m (insert t.spans x q)) (sym spans) (put_agrees numbers s.spans t.spans x r q k (places_of numbers s t h)))
     (issued ∙ ap (λ (ids : FinSet nat_cmp). add ids x) h.issued)
@@ -268,21 +283,28 @@ pub new_agrees : (numbers : FilterSet) (s t : Store) (x : ℕ) (r q : Span) → 
 new_agrees numbers s t x r q h k = new_agrees_with numbers s t (record s { spans = insert s.spans x r; issued = add s.issued x }) x r q h k refl refl refl
 
 pub entered_agrees : (numbers : FilterSet) (s t : Store) (lane x : ℕ) → AgreeAt numbers s t → AgreeAt numbers (entered s lane x) (entered t lane x)
-entered_agrees numbers s t lane x h = record { spans = h.spans; issued = h.issued; stacks = ap (λ (m : Stacks). with_stack_on m lane (x ∷ stack_on m lane)) h.stacks }
+entered_agrees numbers s t lane x h =
+    record { spans = h.spans; issued = h.issued; stacks = ap (λ (m : Stacks). with_stack_on m lane (x ∷ stack_on m lane)) h.stacks }
 
 pub exited_agrees : (numbers : FilterSet) (s t : Store) (lane x : ℕ) → AgreeAt numbers s t → AgreeAt numbers (exited s lane x) (exited t lane x)
-exited_agrees numbers s t lane x h = record { spans = h.spans; issued = h.issued; stacks = ap (λ (m : Stacks). with_stack_on m lane (leave x (stack_on m lane))) h.stacks }
+exited_agrees numbers s t lane x h =
+    record { spans = h.spans; issued = h.issued; stacks = ap (λ (m : Stacks). with_stack_on m lane (leave x (stack_on m lane))) h.stacks }
 
-pub added_agrees : (numbers : FilterSet) (s t : Store) (x : ℕ) → AgreeAt numbers s t → AgreeAt numbers (record s { spans = add_handle s.spans x }) (record t { spans = add_handle t.spans x })
+pub added_agrees : (numbers : FilterSet) (s t : Store) (x : ℕ)
+    → AgreeAt numbers s t → AgreeAt numbers (record s { spans = add_handle s.spans x }) (record t { spans = add_handle t.spans x })
 added_agrees numbers s t x h = agree_by numbers (record s { spans = add_handle s.spans x }) (record t { spans = add_handle t.spans x })
-    (handles_agree numbers (λ n. n + 1) s.spans t.spans x (get s.spans x) (get t.spans x) (places_of numbers s t h x) (places_of numbers s t h)) h.issued h.stacks
+    (handles_agree numbers (λ n. n + 1) s.spans t.spans x (get s.spans x) (get t.spans x) (places_of numbers s t h x) (places_of numbers s t h)) h.issued
+    h.stacks
 
-pub taken_agrees : (numbers : FilterSet) (s t : Store) (x : ℕ) → AgreeAt numbers s t → AgreeAt numbers (record s { spans = take_handle s.spans x }) (record t { spans = take_handle t.spans x })
+pub taken_agrees : (numbers : FilterSet) (s t : Store) (x : ℕ)
+    → AgreeAt numbers s t → AgreeAt numbers (record s { spans = take_handle s.spans x }) (record t { spans = take_handle t.spans x })
 taken_agrees numbers s t x h = agree_by numbers (record s { spans = take_handle s.spans x }) (record t { spans = take_handle t.spans x })
-    (handles_agree numbers (λ n. n - 1) s.spans t.spans x (get s.spans x) (get t.spans x) (places_of numbers s t h x) (places_of numbers s t h)) h.issued h.stacks
+    (handles_agree numbers (λ n. n - 1) s.spans t.spans x (get s.spans x) (get t.spans x) (places_of numbers s t h x) (places_of numbers s t h)) h.issued
+    h.stacks
 
 pub without_agrees : (numbers : FilterSet) (s t : Store) (xs : List ℕ) → AgreeAt numbers s t → AgreeAt numbers (without s xs) (without t xs)
-without_agrees numbers s t xs h = agree_by numbers (without s xs) (without t xs) (all_gone_agrees numbers s.spans t.spans xs (places_of numbers s t h)) h.issued h.stacks
+without_agrees numbers s t xs h =
+    agree_by numbers (without s xs) (without t xs) (all_gone_agrees numbers s.spans t.spans xs (places_of numbers s t h)) h.issued h.stacks
 
 -- ---- what a drop closes
 
@@ -304,7 +326,8 @@ unheld_over numbers m n x f h =
           back.2.handles ∙ h.1 y back.0 (w.0, chain_over numbers n m (Some y) w.0 g w.1, w.2) back.1,
     )
 
-below_over : (numbers : FilterSet) (m n : Spans) (x : ℕ) (ys : List ℕ) → MapsAgree numbers m n → AllByRecursion (IsBelow m x) ys → AllByRecursion (IsBelow n x) ys
+below_over : (numbers : FilterSet) (m n : Spans) (x : ℕ) (ys : List ℕ)
+    → MapsAgree numbers m n → AllByRecursion (IsBelow m x) ys → AllByRecursion (IsBelow n x) ys
 below_over numbers m n x [] f h = h
 below_over numbers m n x (y ∷ ys) f h =
     let w = h.0.0 in
@@ -337,11 +360,12 @@ place_within numbers set (Some r) (Some q) i h = record { metadata = h.metadata;
 
 -- stores that agree as far as some filters go agree as far as fewer go
 pub agree_within : (numbers set : FilterSet) (s t : Store) → ((n : ℕ) → IsTrue (set n) → IsTrue (numbers n)) → AgreeAt numbers s t → AgreeAt set s t
-agree_within numbers set s t i h = agree_by set s t (λ x. place_within numbers set (get s.spans x) (get t.spans x) i (places_of numbers s t h x)) h.issued h.stacks
+agree_within numbers set s t i h =
+    agree_by set s t (λ x. place_within numbers set (get s.spans x) (get t.spans x) i (places_of numbers s t h x)) h.issued h.stacks
 
 -- ---- a store cut down
-
 -- the span with its verdict cut down
+
 abbrev cut_span : FilterSet → Span → Span
 cut_span numbers r = record r { verdict = (cut_verdict numbers r.verdict).0 }
 
@@ -352,7 +376,8 @@ cut_each numbers es = map (λ e. (e.0, cut_span numbers e.1)) es
 found_cut : (numbers : FilterSet) (x : ℕ) (es : List (ℕ × Span)) → find nat_cmp x (cut_each numbers es) ≡ option_map (cut_span numbers) (find nat_cmp x es)
 found_cut numbers x [] = refl
 found_cut numbers x (e ∷ es) =
-    elim (eq_by_cmp nat_cmp x e.0) as (λ b. cond b (Some (cut_span numbers e.1)) (find nat_cmp x (cut_each numbers es)) ≡ option_map (cut_span numbers) (cond b (Some e.1) (find nat_cmp x es))) [
+    elim (eq_by_cmp nat_cmp x e.0) as (λ b.
+    cond b (Some (cut_span numbers e.1)) (find nat_cmp x (cut_each numbers es)) ≡ option_map (cut_span numbers) (cond b (Some e.1) (find nat_cmp x es))) [
       | true ↦ refl
       | false ↦ found_cut numbers x es
     ]
@@ -362,7 +387,8 @@ abbrev cut_spans : FilterSet → Spans → Spans
 cut_spans numbers m = from_entries (cut_each numbers (entries m))
 
 cut_at : (numbers : FilterSet) (m : Spans) (x : ℕ) → get (cut_spans numbers m) x ≡ option_map (cut_span numbers) (get m x)
-cut_at numbers m x = get-from_entries nat_cmp_total (cut_each numbers (entries m)) x ∙ found_cut numbers x (entries m) ∙ ap (option_map (cut_span numbers)) (sym (get-entries m x))
+cut_at numbers m x = get-from_entries nat_cmp_total (cut_each numbers (entries m)) x
+    ∙ found_cut numbers x (entries m) ∙ ap (option_map (cut_span numbers)) (sym (get-entries m x))
 
 place_cut : (numbers : FilterSet) (o : Option Span) → PlacesAgree numbers o (option_map (cut_span numbers) o)
 place_cut numbers None = tt
@@ -373,7 +399,8 @@ place_cut numbers (Some r) = record {
   verdict = λ n t. sym ((cut_verdict numbers r.verdict).1 n ∙ ap (λ (b : Bool). b && refuses r.verdict n) t);
 }
 
-no_other : (numbers : FilterSet) (o : Option Span) (r : Span) (n : ℕ) → option_map (cut_span numbers) o ≡ Some r → IsTrue (refuses r.verdict n) → IsTrue (numbers n)
+no_other : (numbers : FilterSet) (o : Option Span) (r : Span) (n : ℕ)
+    → option_map (cut_span numbers) o ≡ Some r → IsTrue (refuses r.verdict n) → IsTrue (numbers n)
 no_other numbers None r n e t = let not_so : ⊥ = cc in absurd not_so
 no_other numbers (Some q) r n e t =
     let same : cut_span numbers q ≡ r = cc in
@@ -386,7 +413,8 @@ has_cut numbers s = (
   record s { spans = cut_spans numbers s.spans; extensions = empty },
   record {
     agree = agree_by numbers s (record s { spans = cut_spans numbers s.spans; extensions = empty })
-        (λ x. subst (λ (o : Option Span). PlacesAgree numbers (get s.spans x) o) (sym (cut_at numbers s.spans x)) (place_cut numbers (get s.spans x))) refl refl;
+        (λ x. subst (λ (o : Option Span). PlacesAgree numbers (get s.spans x) o) (sym (cut_at numbers s.spans x)) (place_cut numbers (get s.spans x))) refl
+        refl;
     verdicts = λ x r n e t. no_other numbers (get s.spans x) r n (sym (cut_at numbers s.spans x) ∙ e) t;
     extensions = refl;
   },

@@ -1,8 +1,10 @@
 -- Views, extensions aside: what they show, and where two are the same.
-use Rattle.std.proofs.Common.{◌≡◌, ℕ, zero, suc, Bool, false, not, if◌then◌else◌, is_some, IsTrue, T, ◌&&◌, List, [], ◌∷◌, length, Option, None, Some, refl, sym, ap, subst, ◌∙◌}
+use Rattle.std.proofs.Common.{◌≡◌, ℕ, zero, suc, Bool, false, not, if◌then◌else◌, is_some, IsTrue, T, ◌&&◌, List, [], ◌∷◌, length, Option, None, Some, refl}
+use Rattle.std.proofs.Common.{sym, ap, subst, ◌∙◌}
 use Rattle.std.specs.Cmp.{nat_cmp_total}
 use Rattle.std.specs.FinMap.Entries.{below_all}
-use Rattle.std.specs.FinMap.{empty, entries, entries_sorted, entries-from_sorted, from_entries, from_sorted, get, get-from_entries, get-from_sorted, is_sorted, len, len-entries, nat_cmp-IsAntisymmetric, same_map}
+use Rattle.std.specs.FinMap.{empty, entries, entries_sorted, entries-from_sorted, from_entries, from_sorted, get, get-from_entries, get-from_sorted, is_sorted}
+use Rattle.std.specs.FinMap.{len, len-entries, nat_cmp-IsAntisymmetric, same_map}
 use Rattle.std.specs.List.{filter, find}
 use Rattle.std.specs.Option.{option_and_then, option_map, option_map_or}
 use Rattle.std.specs.Ordering.{is_lt, nat_cmp}
@@ -12,16 +14,17 @@ use Rattle.span_core.specs.declared.metadata.Metadata.{Metadata}
 use Rattle.span_core.specs.declared.span.Id.{Id}
 use Rattle.span_core.specs.declared.span.Parent.TheVariants.{Contextual, Explicit, Root}
 use Rattle.span_core.specs.declared.span.Parent.{Parent}
+use Rattle.span_extensions.specs.declared.extensions.ExtensionMap.{ExtensionMap}
+use Rattle.span_store.specs.LaneStack.{newest, without_duplicates}
+use Rattle.span_store.specs.Store.{RegistryState, Span, SpanExtensions, Store, stack_on}
 use Rattle.span_registry.specs.Agree.{AgreeAt}
 use Rattle.span_registry.specs.Behaviour.{Notice, unextended}
-use Rattle.span_registry.specs.LaneStack.{newest, without_duplicates}
-use Rattle.span_registry.specs.Laws.{ShowsPlainly}
+use Rattle.span_registry.specs.Law.{ShowsPlainly}
 use Rattle.span_registry.specs.Position.{told_in}
 use Rattle.span_registry.specs.Plan.{is_passed}
-use Rattle.span_registry.specs.Store.{RegistryState, Span, SpanExtensions, Store, stack_on}
 use Rattle.span_registry.specs.Subscriber.{SameButExtensions}
-use Rattle.span_registry.specs.View.{SeenSpan, SeenSpans, View, ancestry, current_among, current_shown, event_shown, is_shown, metadata_shown, parent_seen, parent_shown, plain_view, scope, see, seen_spans, shown, view_of}
-use Rattle.span_registry.specs.declared.extensions.ExtensionMap.{ExtensionMap}
+use Rattle.span_registry.specs.View.{SeenSpan, SeenSpans, View, ancestry, current_among, current_shown, event_shown, is_shown, metadata_shown, parent_seen}
+use Rattle.span_registry.specs.View.{parent_shown, plain_view, scope, see, seen_spans, shown, view_of}
 use Rattle.span_registry.proofs.Agreeing.{PlacesAgree, places_of, same_hidden}
 use Rattle.span_registry.proofs.Ancestry.{see_each, seen_at}
 
@@ -41,40 +44,48 @@ as_many_each mask xs (e ∷ es) = ap suc (as_many_each mask xs es)
 
 len_sorted : (es : List (ℕ × SeenSpan)) → T (is_sorted nat_cmp es) → len (from_entries {R = nat_cmp} es) ≡ length es
 len_sorted es t =
-    let same : from_entries {R = nat_cmp} es ≡ from_sorted {R = nat_cmp} es = same_map nat_cmp_total nat_cmp-IsAntisymmetric (from_entries es) (from_sorted es) (λ q. get-from_entries nat_cmp_total es q ∙ sym (get-from_sorted nat_cmp es q t)) in
+    let same : from_entries {R = nat_cmp} es ≡ from_sorted {R = nat_cmp} es = same_map nat_cmp_total
+    nat_cmp-IsAntisymmetric (from_entries es) (from_sorted es) (λ q. get-from_entries nat_cmp_total es q ∙ sym (get-from_sorted nat_cmp es q t)) in
     ap len same ∙ len-entries (from_sorted es) ∙ ap length (entries-from_sorted nat_cmp es t)
 
 -- as many spans are seen as there are
 len_seen : (s : Store) (mask : FilterSet) → len (seen_spans s mask) ≡ length (entries s.spans)
 len_seen s mask =
-    len_sorted (see_each mask s.extensions (entries s.spans)) (subst T (sym (sorted_each mask s.extensions (entries s.spans))) (entries_sorted s.spans)) ∙ as_many_each mask s.extensions (entries s.spans)
+    len_sorted (see_each mask s.extensions (entries s.spans)) (subst T (sym (sorted_each mask s.extensions (entries s.spans))) (entries_sorted s.spans))
+    ∙ as_many_each mask s.extensions (entries s.spans)
 
 -- ---- what is shown
 
-unextended_seen : (mask : FilterSet) (o : Option Span) (e f : Option ExtensionMap) → option_map unextended (option_map (λ r. see mask r e) o) ≡ option_map unextended (option_map (λ r. see mask r f) o)
+unextended_seen : (mask : FilterSet) (o : Option Span) (e f : Option ExtensionMap)
+    → option_map unextended (option_map (λ r. see mask r e) o) ≡ option_map unextended (option_map (λ r. see mask r f) o)
 unextended_seen mask None e f = refl
 unextended_seen mask (Some r) e f = refl
 
 -- the same is seen of a span, extensions aside
-seen_plainly : (s : Store) (mask : FilterSet) (x : ℕ) → option_map unextended (get (seen_spans s mask) x) ≡ option_map unextended (get (seen_spans (record s { extensions = empty }) mask) x)
+seen_plainly : (s : Store) (mask : FilterSet) (x : ℕ)
+    → option_map unextended (get (seen_spans s mask) x) ≡ option_map unextended (get (seen_spans (record s { extensions = empty }) mask) x)
 seen_plainly s mask x =
     let bare : Store = record s { extensions = empty } in
-    ap (option_map unextended) (seen_at s mask x) ∙ unextended_seen mask (get s.spans x) (get s.extensions x) (get bare.extensions x) ∙ ap (option_map unextended) (sym (seen_at bare mask x))
+    ap (option_map unextended) (seen_at s mask x)
+    ∙ unextended_seen mask (get s.spans x) (get s.extensions x) (get bare.extensions x) ∙ ap (option_map unextended) (sym (seen_at bare mask x))
 
 module _ (m n : SeenSpans) (same : (x : ℕ) → option_map unextended (get m x) ≡ option_map unextended (get n x)) (as_many : len m ≡ len n) where
-  shown_unextended : (o p : Option SeenSpan) → option_map unextended o ≡ option_map unextended p → option_map_or (λ r. not r.hidden) o false ≡ option_map_or (λ r. not r.hidden) p false
+  shown_unextended : (o p : Option SeenSpan)
+      → option_map unextended o ≡ option_map unextended p → option_map_or (λ r. not r.hidden) o false ≡ option_map_or (λ r. not r.hidden) p false
   shown_unextended None None h = refl
   shown_unextended None (Some q) h = let no : ⊥ = cc in absurd no
   shown_unextended (Some r) None h = let no : ⊥ = cc in absurd no
   shown_unextended (Some r) (Some q) h = ap (λ (o : Option SeenSpan). option_map_or (λ r. not r.hidden) o false) h
 
-  parent_unextended : (o p : Option SeenSpan) → option_map unextended o ≡ option_map unextended p → option_and_then (λ r. r.parent) o ≡ option_and_then (λ r. r.parent) p
+  parent_unextended : (o p : Option SeenSpan)
+      → option_map unextended o ≡ option_map unextended p → option_and_then (λ r. r.parent) o ≡ option_and_then (λ r. r.parent) p
   parent_unextended None None h = refl
   parent_unextended None (Some q) h = let no : ⊥ = cc in absurd no
   parent_unextended (Some r) None h = let no : ⊥ = cc in absurd no
   parent_unextended (Some r) (Some q) h = ap (λ (o : Option SeenSpan). option_and_then (λ (w : SeenSpan). w.parent) o) h
 
-  metadata_unextended : (o p : Option SeenSpan) → option_map unextended o ≡ option_map unextended p → option_map (λ r. r.metadata) o ≡ option_map (λ r. r.metadata) p
+  metadata_unextended : (o p : Option SeenSpan)
+      → option_map unextended o ≡ option_map unextended p → option_map (λ r. r.metadata) o ≡ option_map (λ r. r.metadata) p
   metadata_unextended None None h = refl
   metadata_unextended None (Some q) h = let no : ⊥ = cc in absurd no
   metadata_unextended (Some r) None h = let no : ⊥ = cc in absurd no
@@ -92,7 +103,8 @@ module _ (m n : SeenSpans) (same : (x : ℕ) → option_map unextended (get m x)
   ancestry_alike (suc k) (Some x) = ap (λ (xs : List ℕ). x ∷ xs) (ap (ancestry k m) (λ i. parents_alike i x) ∙ ancestry_alike k (parent_seen n x))
 
   scope_alike : (o : Option ℕ) → scope m o ≡ scope n o
-  scope_alike o = ap (λ (f : ℕ → Bool). filter f (ancestry (len m) m o)) is_shown_alike ∙ ap (filter (is_shown n)) (ancestry_alike (len m) o ∙ ap (λ (k : ℕ). ancestry k n o) as_many)
+  scope_alike o = ap (λ (f : ℕ → Bool). filter f (ancestry (len m) m o)) is_shown_alike
+      ∙ ap (filter (is_shown n)) (ancestry_alike (len m) o ∙ ap (λ (k : ℕ). ancestry k n o) as_many)
 
   here_unextended : (o p : Option SeenSpan) → option_map unextended o ≡ option_map unextended p → is_some o ≡ is_some p
   here_unextended None None h = refl
@@ -124,12 +136,14 @@ module _ (s : Store) (lane : ℕ) (mask : FilterSet) where
   scope_plainly o = scope_alike _ _ (seen_plainly s mask) as_many_plainly o
 
   parent_plainly : (x : ℕ) → parent_shown (seen_spans s mask) x ≡ parent_shown (seen_spans (record s { extensions = empty }) mask) x
-  parent_plainly x = ap newest (scope_plainly (parent_seen (seen_spans s mask) x) ∙ ap (scope (seen_spans (record s { extensions = empty }) mask)) (λ i. parents_alike _ _ (seen_plainly s mask) as_many_plainly i x))
+  parent_plainly x = ap newest (scope_plainly (parent_seen (seen_spans s mask) x)
+      ∙ ap (scope (seen_spans (record s { extensions = empty }) mask)) (λ i. parents_alike _ _ (seen_plainly s mask) as_many_plainly i x))
 
   metadata_plainly : (x : ℕ) → metadata_shown x (view_of s lane mask) ≡ metadata_shown x (plain_view s lane mask)
   metadata_plainly x =
       ap (option_and_then (λ y. option_map (λ r. r.metadata) (get (seen_spans s mask) y))) (shown_plainly x)
-      ∙ ap (λ (f : ℕ → Option Metadata). option_and_then f (shown x (plain_view s lane mask))) (λ i y. metadata_alike _ _ (seen_plainly s mask) as_many_plainly y i)
+      ∙ ap (λ (f : ℕ → Option Metadata). option_and_then f (shown x (plain_view s lane mask)))
+      (λ i y. metadata_alike _ _ (seen_plainly s mask) as_many_plainly y i)
 
   event_plainly : (p : Parent) → event_shown p (view_of s lane mask) ≡ event_shown p (plain_view s lane mask)
   event_plainly Root = refl
@@ -138,9 +152,17 @@ module _ (s : Store) (lane : ℕ) (mask : FilterSet) where
 
   -- extensions aside the same is shown
   pub shows_plainly : ShowsPlainly s lane mask
-  shows_plainly = record { shown = shown_plainly; metadata = metadata_plainly; current = current_plainly; event = event_plainly; parent = parent_plainly; scope = scope_plainly }
+  shows_plainly = record {
+    shown = shown_plainly;
+    metadata = metadata_plainly;
+    current = current_plainly;
+    event = event_plainly;
+    parent = parent_plainly;
+    scope = scope_plainly;
+  }
 
-shown_by : (o : Option Span) (mask : FilterSet) (e : Option ExtensionMap) → option_map_or (λ r. not r.hidden) (option_map (λ r. see mask r e) o) false ≡ option_map_or (λ r. not (meets mask (refuses r.verdict))) o false
+shown_by : (o : Option Span) (mask : FilterSet) (e : Option ExtensionMap)
+    → option_map_or (λ r. not r.hidden) (option_map (λ r. see mask r e) o) false ≡ option_map_or (λ r. not (meets mask (refuses r.verdict))) o false
 shown_by None mask e = refl
 shown_by (Some r) mask e = refl
 
@@ -148,11 +170,13 @@ shown_by (Some r) mask e = refl
 pub shown_as_passed : (s : Store) (lane : ℕ) (mask : FilterSet) (id : Id) → is_shown (plain_view s lane mask).spans (number_of id) ≡ is_passed s.spans mask id
 shown_as_passed s lane mask id =
     let bare : Store = record s { extensions = empty } in
-    ap (λ (o : Option SeenSpan). option_map_or (λ r. not r.hidden) o false) (seen_at bare mask (number_of id)) ∙ shown_by (get s.spans (number_of id)) mask (get bare.extensions (number_of id))
+    ap (λ (o : Option SeenSpan). option_map_or (λ r. not r.hidden) o false) (seen_at bare mask (number_of id))
+    ∙ shown_by (get s.spans (number_of id)) mask (get bare.extensions (number_of id))
 
 -- ---- where two views are the same, extensions aside
 
-same_seen : (numbers mask : FilterSet) (a b : Option Span) (e : Option ExtensionMap) → PlacesAgree numbers a b → ((n : ℕ) → IsTrue (mask n) → IsTrue (numbers n)) → option_map (λ r. see mask r e) a ≡ option_map (λ r. see mask r e) b
+same_seen : (numbers mask : FilterSet) (a b : Option Span) (e : Option ExtensionMap)
+    → PlacesAgree numbers a b → ((n : ℕ) → IsTrue (mask n) → IsTrue (numbers n)) → option_map (λ r. see mask r e) a ≡ option_map (λ r. see mask r e) b
 same_seen numbers mask None None e h i = refl
 same_seen numbers mask None (Some q) e h i = absurd h
 same_seen numbers mask (Some r) None e h i = absurd h
@@ -161,16 +185,19 @@ same_seen numbers mask (Some r) (Some q) e h i =
     λ j. Some (record { metadata = h.metadata j; parent = h.parent j; hidden = hidden j; extensions = (if hidden j then None else e) })
 
 -- where stores agree as far as these filters go, their views under a mask among these are, extensions aside
-pub plain_views_agree : (numbers mask : FilterSet) (s t : Store) (lane : ℕ) → AgreeAt numbers s t → ((n : ℕ) → IsTrue (mask n) → IsTrue (numbers n)) → plain_view s lane mask ≡ plain_view t lane mask
+pub plain_views_agree : (numbers mask : FilterSet) (s t : Store) (lane : ℕ)
+    → AgreeAt numbers s t → ((n : ℕ) → IsTrue (mask n) → IsTrue (numbers n)) → plain_view s lane mask ≡ plain_view t lane mask
 plain_views_agree numbers mask s t lane h i =
     let bare : Store = record s { extensions = empty } in
     let other : Store = record t { extensions = empty } in
-    let spans : seen_spans bare mask ≡ seen_spans other mask = same_map nat_cmp_total nat_cmp-IsAntisymmetric _ _ (λ x. seen_at bare mask x ∙ same_seen numbers mask (get s.spans x) (get t.spans x) (get bare.extensions x) (places_of numbers s t h x) i ∙ sym (seen_at other mask x)) in
+    let spans : seen_spans bare mask ≡ seen_spans other mask = same_map nat_cmp_total nat_cmp-IsAntisymmetric _ _ (λ x. seen_at bare mask x
+    ∙ same_seen numbers mask (get s.spans x) (get t.spans x) (get bare.extensions x) (places_of numbers s t h x) i ∙ sym (seen_at other mask x)) in
     λ j. record { lane = lane; stack = stack_on (h.stacks j) lane; spans = spans j }
 
 -- hooks that write extensions change none
 pub plain_aside : (v w : RegistryState) (lane : ℕ) (mask : FilterSet) → SameButExtensions v w → plain_view w.store lane mask ≡ plain_view v.store lane mask
 plain_aside v w lane mask h = λ j. plain_view (record v.store { spans = h.spans j; stacks = h.stacks j }) lane mask
 
-pub told_aside : (e : Notice) (v w : RegistryState) (lane : ℕ) (mask : FilterSet) → SameButExtensions v w → told_in e w.store lane mask ≡ told_in e v.store lane mask
+pub told_aside : (e : Notice) (v w : RegistryState) (lane : ℕ) (mask : FilterSet)
+    → SameButExtensions v w → told_in e w.store lane mask ≡ told_in e v.store lane mask
 told_aside e v w lane mask h = ap (λ (view : View). record { lane = lane; notice = e; view = view }) (plain_aside v w lane mask h)

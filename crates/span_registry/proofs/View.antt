@@ -5,10 +5,10 @@ use Rattle.std.specs.List.{find}
 use Rattle.std.specs.Option.{option_and_then, option_map, option_map_or, unwrap_or}
 use Rattle.std.specs.Ordering.{nat_cmp}
 use Rattle.span_core.specs.Filters.{FilterSet, meets, refuses}
-use Rattle.span_registry.specs.LaneStack.{newest, without_duplicates}
-use Rattle.span_registry.specs.Store.{IsInStore, Span, Store, empty_store}
+use Rattle.span_extensions.specs.declared.extensions.ExtensionMap.{ExtensionMap}
+use Rattle.span_store.specs.LaneStack.{newest, without_duplicates}
+use Rattle.span_store.specs.Store.{IsInStore, Span, Store, empty_store}
 use Rattle.span_registry.specs.View.{SeenSpan, current_among, current_shown, extensions_shown, is_shown, seen_spans, see, view_of}
-use Rattle.span_registry.specs.declared.extensions.ExtensionMap.{ExtensionMap}
 use Rattle.span_registry.proofs.Ancestry.{seen_at, seen_none, shown_some}
 
 -- the span itself, where it is shown
@@ -24,7 +24,8 @@ turned true o = refl
 turned false o = refl
 
 -- one that is in the store is shown exactly where it isn't hidden
-pub shown_by : (s : Store) (mask : FilterSet) (x : ℕ) (r : Span) (b : Bool) → get s.spans x ≡ Some r → meets mask (refuses r.verdict) ≡ b → one_shown s mask x ≡ cond b None (Some x)
+pub shown_by : (s : Store) (mask : FilterSet) (x : ℕ) (r : Span) (b : Bool)
+    → get s.spans x ≡ Some r → meets mask (refuses r.verdict) ≡ b → one_shown s mask x ≡ cond b None (Some x)
 shown_by s mask x r b e h = ap (λ (c : Bool). cond c (Some x) None) (shown_some s mask x r e ∙ ap not h) ∙ turned b x
 
 -- where there is no store, no span is shown
@@ -48,16 +49,19 @@ shown_or_not : {X : Type 0} (b : Bool) (e : Option X) → cond b None e ≡ cond
 shown_or_not true e = refl
 shown_or_not false e = refl
 
-extended : (o : Option Span) (mask : FilterSet) (e : Option ExtensionMap) (b : Bool) → option_map_or (λ r. not r.hidden) (option_map (λ r. see mask r e) o) false ≡ b
+extended : (o : Option Span) (mask : FilterSet) (e : Option ExtensionMap) (b : Bool)
+    → option_map_or (λ r. not r.hidden) (option_map (λ r. see mask r e) o) false ≡ b
     → option_and_then (λ r. r.extensions) (option_map (λ r. see mask r e) o) ≡ cond b e None
 extended None mask e b h = ap (λ (c : Bool). cond c e None) h
 extended (Some r) mask e b h = shown_or_not (meets mask (refuses r.verdict)) e ∙ ap (λ (c : Bool). cond c e None) h
 
 -- those of a span that is shown are what the store has, and of no other are there any
-pub extensions_by : (s : Store) (lane : ℕ) (mask : FilterSet) (x : ℕ) (b : Bool) → is_shown (seen_spans s mask) x ≡ b → extensions_shown x (view_of s lane mask) ≡ cond b (get s.extensions x) None
+pub extensions_by : (s : Store) (lane : ℕ) (mask : FilterSet) (x : ℕ) (b : Bool)
+    → is_shown (seen_spans s mask) x ≡ b → extensions_shown x (view_of s lane mask) ≡ cond b (get s.extensions x) None
 extensions_by s lane mask x b h =
     ap (λ (o : Option SeenSpan). option_and_then (λ r. r.extensions) o) (seen_at s mask x)
-    ∙ extended (get s.spans x) mask (get s.extensions x) b (sym (ap (λ (o : Option SeenSpan). option_map_or (λ r. not r.hidden) o false) (seen_at s mask x)) ∙ h)
+    ∙ extended (get s.spans x)
+    mask (get s.extensions x) b (sym (ap (λ (o : Option SeenSpan). option_map_or (λ r. not r.hidden) o false) (seen_at s mask x)) ∙ h)
 
 -- one that is shown is in the store
 shown_of : (o : Option SeenSpan) → option_map_or (λ r. not r.hidden) o false ≡ true → is_some o ≡ true
@@ -78,7 +82,8 @@ current_none s mask [] e = refl
 current_none s mask (x ∷ xs) e = let no : Some x ≡ None = e in absurd (cc)
 
 -- what is shown of the entries of a stack, by whether the newest is in the store
-pub current_by : (s : Store) (mask : FilterSet) (xs : List ℕ) (x : ℕ) (there : Bool) → newest xs ≡ Some x → is_some (get s.spans x) ≡ there → current_among (seen_spans s mask) xs ≡ cond there (find (is_shown (seen_spans s mask)) xs) None
+pub current_by : (s : Store) (mask : FilterSet) (xs : List ℕ) (x : ℕ) (there : Bool)
+    → newest xs ≡ Some x → is_some (get s.spans x) ≡ there → current_among (seen_spans s mask) xs ≡ cond there (find (is_shown (seen_spans s mask)) xs) None
 current_by s mask [] x there e h = let no : None ≡ Some x = e in absurd (cc)
 current_by s mask (y ∷ ys) x there e h =
     let same : y ≡ x = cc in
@@ -86,4 +91,5 @@ current_by s mask (y ∷ ys) x there e h =
 
 -- where there is no store, a lane is in no span
 pub current_nowhere : (mask : FilterSet) (lane : ℕ) → current_shown (view_of empty_store lane mask) ≡ None
-current_nowhere mask lane = ap (λ (o : Option (List ℕ)). current_among (seen_spans empty_store mask) (without_duplicates (unwrap_or o []))) (get-empty nat_cmp lane)
+current_nowhere mask lane =
+    ap (λ (o : Option (List ℕ)). current_among (seen_spans empty_store mask) (without_duplicates (unwrap_or o []))) (get-empty nat_cmp lane)

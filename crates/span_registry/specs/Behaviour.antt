@@ -1,4 +1,5 @@
--- What a filter answers, as functions of what it is asked and of the view that it is asked in; when that is honest, and when plain.
+-- What a filter answers, as functions of what it is asked and of the view that it is asked in; when
+-- that is honest, and when plain.
 use Rattle.std.specs.Prelude.{◌≡◌, ⊤, ℕ, Bool, true, false, List, [], ◌∷◌, Option, None, Some}
 use Rattle.std.specs.FinMap.{get}
 use Rattle.std.specs.Option.{option_map}
@@ -13,10 +14,11 @@ use Rattle.span_core.specs.declared.metadata.Metadata.{Metadata}
 use Rattle.span_core.specs.declared.span.Attributes.{Attributes}
 use Rattle.span_core.specs.declared.span.Id.{Id}
 use Rattle.span_core.specs.declared.span.Record.{Record}
-use Rattle.span_registry.specs.Store.{Store}
+use Rattle.span_store.specs.Store.{Store}
 use Rattle.span_registry.specs.View.{SeenSpan, View, view_of}
 
--- whether metadata pass; whether an event passes, where its metadata do; the interest in a callsite; the hint; which levels it takes
+-- whether metadata pass; whether an event passes, where its metadata do; the interest in a
+-- callsite; the hint; which levels it takes
 pub record Behaviour : Type 0 where
   pub enabled : Metadata → View → Bool
   pub event : Event → View → Bool
@@ -24,7 +26,8 @@ pub record Behaviour : Type 0 where
   pub hint : Option LevelFilter
   pub takes : LevelFilter → Bool
 
--- an interest of always: passes in every view; of never, or a level above the hint: in none; and metadata that show the same are of the same interest
+-- an interest of always: passes in every view; of never, or a level above the hint: in none; and
+-- metadata that show the same are of the same interest
 pub record AreHonest (a : Behaviour) : Type 0 where
   pub always : (m : Metadata) (v : View) → a.interest m ≡ Always → a.enabled m v ≡ true
   pub never : (m : Metadata) (v : View) → a.interest m ≡ Never → a.enabled m v ≡ false
@@ -32,7 +35,7 @@ pub record AreHonest (a : Behaviour) : Type 0 where
       → a.enabled m v ≡ false
   pub alike : (m k : Metadata) → ShowSame m k → a.interest m ≡ a.interest k
 
--- of each store, from each lane and under each mask, the two answer the same
+-- two behaviours answer the same, of each store, from each lane and under each mask
 pub record AnswerAlike (a b : Behaviour) : Type 0 where
   pub enabled : (m : Metadata) (s : Store) (lane : ℕ) (mask : FilterSet)
       → a.enabled m (view_of s lane mask) ≡ b.enabled m (view_of s lane mask)
@@ -60,7 +63,8 @@ pub record ArePlain (a : Behaviour) : Type 0 where
   pub enabled : (m : Metadata) (v w : View) → AreAlike v w → a.enabled m v ≡ a.enabled m w
   pub event : (e : Event) (v w : View) → AreAlike v w → a.event e v ≡ a.event e w
 
--- what a layer is notified of. A filter is notified of new spans, records, enters, exits and closes alone
+-- what a layer is notified of. A filter is notified of new spans, records, enters, exits and closes
+-- alone
 pub data Notice : Type 0 where
   OnNewSpan : Attributes → Id → Notice
   OnRecord : Id → Record → Notice
@@ -71,7 +75,8 @@ pub data Notice : Type 0 where
   OnIdChange : Id → Id → Notice
   OnClose : Id → Notice
 
--- the span that a notice is of: an event is of none, and of two it is the first, since the other may be gone
+-- the span that a notice is of: an event is of none, and of two it is the first, since the other
+-- may be gone
 abbrev pub span_in : Notice → Option Id
 span_in (OnNewSpan attrs id) = Some id
 span_in (OnRecord id values) = Some id
@@ -95,7 +100,7 @@ History = List Input
 abbrev pub Conduct : Type 0
 Conduct = List Input → Behaviour
 
--- the same notices, in views that differ in extensions alone, and the same levels
+-- two histories have the same notices, in views that differ in extensions only, and the same levels
 abbrev pub AreAlikeHistories : History → History → Type 0
 AreAlikeHistories [] [] = ⊤
 AreAlikeHistories (OfNotice e v ∷ h) (OfNotice d w ∷ k) =

@@ -2,14 +2,14 @@
 use Rattle.std.specs.Prelude.{◌≡◌, ⊤, ℕ, if◌then◌else◌, List, [], ◌∷◌, Option, Some, None}
 use Rattle.span_core.specs.Filters.{FilterSet, union}
 use Rattle.span_core.specs.declared.level.LevelFilter.{LevelFilter}
+use Rattle.span_store.specs.Store.{RegistryState}
 use Rattle.span_registry.specs.Behaviour.{AnswerAlike, Conduct, IsPlain, OfLevel, Notice, OnEvent, OnFollows, OnIdChange, OfNotice}
-use Rattle.span_registry.specs.Form.{Terminal, Base, Form}
+use Rattle.span_registry.specs.Form.{Form}
 use Rattle.span_registry.specs.Hooks.{StackSteps, no_filter}
 use Rattle.span_registry.specs.Path.{Path, path_at}
-use Rattle.span_registry.specs.Position.{Here, Inner, Outer, Position, Under}
 use Rattle.span_registry.specs.Plan.{Both, Plan, Through}
+use Rattle.span_registry.specs.Position.{Here, Inner, Outer, Position, Under}
 use Rattle.span_registry.specs.Question.{single}
-use Rattle.span_registry.specs.Store.{RegistryState}
 use Rattle.span_registry.specs.Subscriber.{SameButExtensions}
 use Rattle.span_registry.specs.View.{View, view_of}
 
@@ -37,7 +37,7 @@ abbrev pub ArePlainConducts : Conducts → Type 0
 ArePlainConducts [] = ⊤
 ArePlainConducts ((n, b) ∷ cs) = IsPlain b × ArePlainConducts cs
 
--- the same filters stand on both paths, and answer the same of each store
+-- two paths have the same filters, one by one, which answer the same of each store
 abbrev pub PathsAnswerAlike : Path → Path → Type 0
 PathsAnswerAlike [] [] = ⊤
 PathsAnswerAlike ((n, a) ∷ path) ((m, b) ∷ other) =
@@ -49,7 +49,8 @@ abbrev pub ActsNow : Form → Position → Conducts → Type 0
 ActsNow f position cs =
     (path : Path) × (path_at f position ≡ Some path) × PathsAnswerAlike path (path_now cs)
 
--- the conduct of a filter after a notice that it was given in this view: it is notified of new spans, records, enters, exits and closes alone
+-- the conduct of a filter after a notice that it was given in this view: it is notified of new
+-- spans, records, enters, exits and closes alone
 abbrev pub after_notice : Notice → View → Conduct → Conduct
 after_notice (OnEvent e) v b = b
 after_notice (OnFollows id other) v b = b
@@ -66,14 +67,16 @@ setting n l [] = []
 setting n l ((m, b) ∷ cs) =
     if filter_numbered m n then (m, after_level l b) ∷ cs else (m, b) ∷ setting n l cs
 
--- a filter learns of a notice, under these filters, in a registry that differs from this one in extensions alone
+-- a filter learns of a notice, under these filters, in a registry that differs from this one in
+-- extensions alone
 pub record ConductAfter (e : Notice) (lane : ℕ) (under : FilterSet) (v : RegistryState)
     (b c : Conduct) : Type 0 where
   pub between : RegistryState
   pub extensions : SameButExtensions v between
   pub learnt : c ≡ after_notice e (view_of between.store lane under) b
 
--- where a plan notifies of this, the path at a position acts on so: each filter that the plan goes through learns of it
+-- how the path at a position goes on by a notice that a plan gives: each filter that the plan goes
+-- through learns of it
 abbrev pub ActOn : Position → Plan → Notice → ℕ → FilterSet → RegistryState → Conducts → Conducts
     → Type 0
 ActOn (Outer position) (Both p q) e lane under v cs ds = ActOn position p e lane under v cs ds
@@ -95,7 +98,9 @@ abbrev pub ActsOn : {T : Type 0} → ActsAt T → T → Position → Plan → No
 ActsOn acts_at y position p e lane under v cs =
     (ds : Conducts) × acts_at y position ds × ActOn position p e lane under v cs ds
 
--- the law of the paths of a stack: they are of plain filters, whose conducts say what they now answer, and go on with each notice; to be put in use, or another registry, makes no difference to them
+-- the law of the paths of a stack: they are of plain filters, whose conducts say what they now
+-- answer, and go on with each notice; to be put in use, or another registry, makes no difference to
+-- them
 pub record StackPathLaws {S : Type 0} (with_registry : S → RegistryState → S)
     (has_form : S → Form → Type 0) (stepped : StackSteps S) (registered : S → S → Type 0)
     (acts_at : ActsAt S) : Type 0 where
@@ -111,17 +116,6 @@ pub record StackPathLaws {S : Type 0} (with_registry : S → RegistryState → S
   pub acts_with : (x : S) (w : RegistryState) (position : Position) (cs : Conducts)
       → acts_at x position cs → acts_at (with_registry x w) position cs
 
--- no position has conducts
+-- the paths of what has no filter: no position has conducts
 abbrev pub no_conducts : {T : Type 0} → ActsAt T
 no_conducts x position cs = ⊥
-
--- a registry keeps this law
-pub registry_path_laws : StackPathLaws (λ (s w : RegistryState). w) (λ s f. f ≡ Terminal Base)
-    (λ x p e lane v y w. w ≡ v) (λ x y. y ≡ x) no_conducts
-registry_path_laws = record {
-  plain = λ x position cs a. absurd a;
-  now = λ x position cs f a h. absurd a;
-  goes_on = λ x p e lane v y w position cs s a. absurd a;
-  put_in_use = λ x y position cs s a. absurd a;
-  acts_with = λ x w position cs a. absurd a;
-}

@@ -11,23 +11,24 @@ use Rattle.span_core.specs.declared.filter.FilterMap.{FilterMap}
 use Rattle.span_core.specs.declared.metadata.Metadata.{Metadata}
 use Rattle.span_core.specs.declared.span.Id.{Id}
 use Rattle.span_core.specs.declared.span.Lane.{Lane}
+use Rattle.span_extensions.specs.declared.extensions.ExtensionMap.{ExtensionMap}
+use Rattle.span_store.specs.Store.{RegistryState, Store, empty_store}
 use Rattle.span_registry.specs.Behaviour.{Notice, OnClose, OnEnter, OnEvent, OnExit, OnFollows, OnIdChange, OnNewSpan, OnRecord}
 use Rattle.span_registry.specs.Form.{Form}
 use Rattle.span_registry.specs.Hooks.{Notifies, StackSteps, Stays, no_filter}
 use Rattle.span_registry.specs.Question.{ShowsBy, asked}
 use Rattle.span_registry.specs.Mask.{filters_of}
 use Rattle.span_registry.specs.References.{id_of_reference, reference_of, reference_to, references_to, subscriber_of, to_give}
-use Rattle.span_registry.specs.Store.{RegistryState, Store, empty_store}
 use Rattle.span_registry.specs.Subscriber.{SameButExtensions}
 use Rattle.span_registry.specs.View.{View, extensions_shown, is_shown, view_of}
 use Rattle.span_registry.specs.declared.context.Context.{Context}
 use Rattle.span_registry.specs.declared.context.ContextMut.{ContextMut}
 use Rattle.span_registry.specs.declared.mask.Mask.{Mask}
-use Rattle.span_registry.specs.declared.extensions.ExtensionMap.{ExtensionMap}
 use Rattle.span_registry.specs.declared.scope.Scope.{Scope}
 use Rattle.span_registry.specs.declared.scope.SpanRef.{SpanRef}
 
--- whether the id is attached, a span of the store is shown in the view, and none of the id's filters refused it
+-- whether the id is attached, a span of the store is shown in the view, and none of the id's
+-- filters refused it
 abbrev pub is_enabled_in : Store → View → FilterId → ℕ → Bool
 is_enabled_in s v filter x =
     is_shown v.spans x && option_map_or (λ r. is_enabled r.verdict filter) (get s.spans x) false
@@ -54,14 +55,15 @@ module _ {S : Type 0} where
   abbrev pub filters_in : Context S → FilterSet
   filters_in c = filters_of c.mask
 
-  -- a look at this subscriber, if there is one, from this lane, under these filters, and the mask is attached
+  -- a look at this subscriber, if there is one, from this lane, under these filters, and the mask
+  -- is attached
   pub record LooksAt (c : Context S) (s : Option S) (from : ℕ) (under : FilterSet) : Type 0 where
     pub subscriber : subscriber_in c ≡ s
     pub lane : (lane_in c).0 ≡ from
     pub filters : filters_in c ≡ under
     pub attached : IsTrue (is_attached (mask_in c))
 
-  -- the same look, under these filters too
+  -- a context that looks at what the old one does, under these filters too
   abbrev pub Narrows : Context S → FilterSet → Context S → Type 0
   Narrows old more new =
       LooksAt new (subscriber_in old) (lane_in old).0 (union (filters_in old) more)
@@ -71,21 +73,22 @@ module _ {S : Type 0} (registry : S → RegistryState) where
   abbrev pub store_in : Context S → Store
   store_in c = store_at registry c.subscriber
 
-  -- what is seen
+  -- the view of a context
   abbrev pub view_in : Context S → View
   view_in c = view_of (store_in c) (lane_in c).0 (filters_in c)
 
-  -- the same look, at the registry that the subscriber stands on
+  -- a context that looks at what the old one does, from the registry that its subscriber stands on
   pub record LooksAtRoot (c : Context S) (root : Context RegistryState) : Type 0 where
     pub subscriber : subscriber_in root ≡ option_map registry (subscriber_in c)
     pub lane : lane_in root ≡ lane_in c
     pub mask : mask_in root ≡ mask_in c
 
-  -- the same of what a context looks at
+  -- whether a span that a context looks at is enabled for a filter
   abbrev pub enabled_in : Context S → FilterId → ℕ → Bool
   enabled_in c filter x = is_enabled_in (store_in c) (view_in c) filter x
 
-  -- it is the reference to the span that the view shows so, if there is one, in the same subscriber and under the same mask
+  -- what is found is the reference to the span that the view shows in this way, if there is one, in
+  -- the context's subscriber and under its mask
   pub record RefersTo (c : Context S) (which : View → Option ℕ) (found : Option (SpanRef S)) : Type
       0 where
     pub span : option_map (λ r. number_of (id_of_reference r)) found ≡ which (view_in c)
@@ -95,7 +98,8 @@ module _ {S : Type 0} (registry : S → RegistryState) where
         ≡ reference_to registry (subscriber_of r) (filters_in c)
         (number_of (id_of_reference r)))
 
-  -- it is the scope of that span, if there is one, in the same subscriber and under the same mask
+  -- what is found is the scope of the span that the view shows in this way, if there is one, in the
+  -- context's subscriber and under its mask
   pub record GivesScope (c : Context S) (which : View → Option ℕ) (found : Option (Scope S)) : Type
       0 where
     pub there : is_some found ≡ is_some (which (view_in c))
@@ -116,7 +120,7 @@ module _ {S : Type 0} where
   abbrev pub subscriber_lent : ContextMut S → S
   subscriber_lent c = c.subscriber.now
 
-  -- the same with this subscriber
+  -- a context with another subscriber lent
   abbrev pub with_subscriber : ContextMut S → S → ContextMut S
   with_subscriber c s = record c { subscriber = record c.subscriber { now = s } }
 
@@ -124,7 +128,7 @@ module _ {S : Type 0} where
   abbrev pub mask_of_loan : ContextMut S → Mask
   mask_of_loan c = c.mask
 
-  -- the same under this mask
+  -- a context with another mask
   abbrev pub with_mask : ContextMut S → Mask → ContextMut S
   with_mask c mask = record c { mask = mask }
 
@@ -144,11 +148,12 @@ module _ {S : Type 0} where
   abbrev pub refused_lent : ContextMut S → FilterMap
   refused_lent c = c.refused
 
-  -- no filter refused during the request
+  -- the context has no refusals: no filter refused during the request
   abbrev pub HasNoRefusals : ContextMut S → Type 0
   HasNoRefusals c = IsEmpty (refuses (refused_lent c))
 
-  -- this subscriber is lent, from this lane, under these filters, and the mask is attached, and with these refusals
+  -- a context lends this subscriber, from this lane, under these filters, with an attached mask and
+  -- these refusals
   pub record IsLent (c : ContextMut S) (s : S) (from : ℕ) (under : FilterSet)
       (refusals : FilterMap) : Type 0 where
     pub subscriber : subscriber_lent c ≡ s
@@ -157,7 +162,8 @@ module _ {S : Type 0} where
     pub attached : IsTrue (is_attached (mask_lent c))
     pub refused : refused_lent c ≡ refusals
 
-  -- c has become d: these filters are in its mask too, which is attached, and nothing else of it is another
+  -- c has become d: these filters are in its mask too, which is attached, and nothing else of it is
+  -- another
   pub record MasksMore (c : ContextMut S) (more : FilterSet) (d : ContextMut S) : Type 0 where
     pub rest : d ≡ with_mask c (mask_of_loan d)
     pub filters : filters_lent d ≡ union (filters_lent c) more
@@ -168,7 +174,8 @@ module _ {S : Type 0} where
     pub lane : lane_in look ≡ lane_lent c
     pub mask : mask_in look ≡ mask_lent c
 
-  -- the same loan, from the same lane, under the same mask and with the same refusals, whatever became of the subscriber
+  -- two contexts are of one loan, from one lane, under one mask and with the same refusals,
+  -- whatever became of the subscriber
   pub record SameLoan (c d : ContextMut S) : Type 0 where
     pub loan : loan_of d ≡ loan_of c
     pub lane : lane_lent d ≡ lane_lent c
@@ -176,7 +183,7 @@ module _ {S : Type 0} where
     pub refused : refused_lent d ≡ refused_lent c
 
 module _ {S : Type 0} (registry : S → RegistryState) where
-  -- what a hook sees
+  -- the view that a hook has
   abbrev pub view_lent : ContextMut S → View
   view_lent c = view_of (registry (subscriber_lent c)).store (lane_lent c).0 (filters_lent c)
 
@@ -188,14 +195,15 @@ module _ {S : Type 0} (registry : S → RegistryState) where
   abbrev pub extensions_lent : ContextMut S → Id → Option ExtensionMap
   extensions_lent c id = extensions_shown (number_of id) (view_lent c)
 
-  -- it is the reference to the span that a hook is shown so, if there is one, in the subscriber that is lent and under the same mask
+  -- what is found is the reference to the span that a hook is shown in this way, if there is one,
+  -- in the subscriber that is lent and under its mask
   abbrev pub RefersToLent : ContextMut S → (View → Option ℕ) → Option (SpanRef S) → Type 0
   RefersToLent c which found =
       option_map reference_of found
       ≡ option_map (reference_to registry (subscriber_lent c) (filters_lent c))
       (which (view_lent c))
 
-  -- the same of what a hook is lent
+  -- whether a span that a hook is shown is enabled for a filter
   abbrev pub enabled_lent : ContextMut S → FilterId → Id → Bool
   enabled_lent c filter id =
       is_enabled_in (registry (subscriber_lent c)).store (view_lent c) filter (number_of id)
@@ -211,20 +219,21 @@ HasNoRefusalsUnlessAsked (OnExit id) c = HasNoRefusals c
 HasNoRefusalsUnlessAsked (OnIdChange id other) c = HasNoRefusals c
 HasNoRefusalsUnlessAsked (OnClose id) c = HasNoRefusals c
 
--- the same is lent, under these filters too
+-- a context that lends what the old one does, under these filters too
 abbrev pub NarrowsLent : {S : Type 0} → ContextMut S → FilterSet → ContextMut S → Type 0
 NarrowsLent old more new =
     IsLent new (subscriber_lent old) (lane_lent old).0 (union (filters_lent old) more)
     (refused_lent old)
 
--- this other subscriber is lent, from the same lane, under the same mask and with the same refusals
+-- a context that lends another subscriber, from the same lane, under the same mask and with the
+-- same refusals
 pub record LendsOver {S T : Type 0} (c : ContextMut S) (s : T) (d : ContextMut T) : Type 0 where
   pub subscriber : subscriber_lent d ≡ s
   pub lane : lane_lent d ≡ lane_lent c
   pub mask : mask_lent d ≡ mask_lent c
   pub refused : refused_lent d ≡ refused_lent c
 
--- the same subscriber is lent on
+-- a context that lends the old one's subscriber on
 abbrev pub LentOn : {S : Type 0} → ContextMut S → ContextMut S → Type 0
 LentOn c d = LendsOver c (subscriber_lent c) d
 
@@ -246,7 +255,8 @@ pub record HandsOn {S : Type 0} (registry : S → RegistryState) (c d : ContextM
   pub loan : SameLoan c d
   pub extensions : SameButExtensions (registry (subscriber_lent c)) (registry (subscriber_lent d))
 
--- whatever form the subscriber that is looked at has, if there is one, the answer is what that form answers where no filter refused before
+-- whatever form the subscriber that is looked at has, if there is one, the answer is what that form
+-- answers where no filter refused before
 abbrev pub AnswersProbe : {S : Type 0} → (S → RegistryState) → (S → Form → Type 0) → Context S
     → Metadata → Bool → Type 0
 AnswersProbe registry has_form c m answer =

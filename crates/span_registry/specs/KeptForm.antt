@@ -1,24 +1,27 @@
--- What a notified stack keeps of its form: how its parts stand together, the filters' numbers, and of all answers interest and hint.
-use Rattle.std.specs.Prelude.{◌≡◌, true, refl}
+-- What a notified stack keeps of its form: how its parts stand together, the filters' numbers, and
+-- all interests and hints.
+use Rattle.std.specs.Prelude.{◌≡◌, true}
 use Rattle.span_core.specs.declared.event.Event.{Event}
 use Rattle.span_core.specs.declared.metadata.Metadata.{Metadata}
 use Rattle.span_registry.specs.Behaviour.{Behaviour, AreHonest, SameInterestAndHint}
 use Rattle.span_registry.specs.Form.{Terminal, Filtered, Form, Leaf, Parts}
 use Rattle.span_registry.specs.View.{View}
 
--- it refuses nothing, in any view
+-- a behaviour refuses nothing, in any view
 pub record RefusesNothing (a : Behaviour) : Type 0 where
   pub enabled : (m : Metadata) (v : View) → a.enabled m v ≡ true
   pub event : (e : Event) (v : View) → a.event e v ≡ true
 
--- the answers b, where the answers were a: interest and hint are the same, and it stays honest and quiet where it was
+-- the answers b, where the answers were a: interest and hint are the same, and it stays honest and
+-- quiet where it was
 pub record AnswersKeep (a b : Behaviour) : Type 0 where
   pub same : SameInterestAndHint a b
   pub honest : AreHonest a → AreHonest b
   pub quiet : RefusesNothing a → RefusesNothing b
 
--- the form g, where the form was f: parts stand together as they did, filters have the numbers that they had, all have the
--- interest and the hint that they had, what was honest is so still, and a leaf that refused nothing refuses nothing still
+-- the form g, where the form was f: parts stand together as they did, filters have the numbers that
+-- they had, all have the interest and the hint that they had, what was honest is so still, and a
+-- leaf that refused nothing refuses nothing still
 abbrev pub KeepsForm : Form → Form → Type 0
 KeepsForm (Leaf still a) (Leaf quiet b) = (quiet ≡ still) × AnswersKeep a b
 KeepsForm (Filtered n a f) (Filtered m b g) =
@@ -27,18 +30,6 @@ KeepsForm (Parts k o i) (Parts l p j) = (l ≡ k) × KeepsForm o p × KeepsForm 
 KeepsForm (Terminal v) (Terminal w) = w ≡ v
 KeepsForm f g = ⊥
 
--- there is a form that keeps what this one had
+-- some form is had that keeps what this one had
 abbrev pub HasKeptForm : (Form → Type 0) → Form → Type 0
 HasKeptForm has f = (g : Form) × has g × KeepsForm f g
-
--- answers keep what they are
-pub kept_answers : (a : Behaviour) → AnswersKeep a a
-kept_answers a =
-    record { same = record { interest = refl; hint = refl }; honest = λ h. h; quiet = λ h. h }
-
--- a form keeps what it has
-pub kept_form : (f : Form) → KeepsForm f f
-kept_form (Leaf still a) = (refl, kept_answers a)
-kept_form (Filtered n a f) = (refl, record { interest = refl; hint = refl }, (λ h. h), kept_form f)
-kept_form (Parts k o i) = (refl, kept_form o, kept_form i)
-kept_form (Terminal v) = refl

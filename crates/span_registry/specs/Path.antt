@@ -1,13 +1,14 @@
--- The path of a leaf: the filters round it, from outside in; of a filter: those round it, and itself; and what a path passes.
+-- The path of a leaf: the filters round it, from outside in; of a filter: those round it, and
+-- itself; and what a path passes.
 use Rattle.std.specs.Prelude.{ℕ, Bool, true, false, ◌&&◌, List, [], ◌∷◌, Option, Some, None}
 use Rattle.std.specs.Option.{option_map}
 use Rattle.span_core.specs.Filters.{FilterSet, union}
+use Rattle.span_store.specs.Store.{Store}
 use Rattle.span_registry.specs.Behaviour.{Behaviour, Notice}
 use Rattle.span_registry.specs.Form.{Filtered, Form, Leaf, Parts}
 use Rattle.span_registry.specs.Position.{Here, Inner, Outer, Position, Under}
 use Rattle.span_registry.specs.Plan.{passes}
 use Rattle.span_registry.specs.Question.{single}
-use Rattle.span_registry.specs.Store.{Store}
 
 -- filters from outside in, each by its number, if it has one, and what it answers
 abbrev pub Path : Type 0
@@ -22,14 +23,16 @@ path_at (Parts k o i) (Outer p) = path_at o p
 path_at (Parts k o i) (Inner p) = path_at i p
 path_at other p = None
 
--- whether a path passes a notice, asked on a lane of a store: every filter of it has a number and passes it, in the view under the filters from outside down to that one
+-- whether a path passes a notice, asked on a lane of a store: every filter of it has a number and
+-- passes it, in the view under the filters from outside down to that one
 abbrev pub passes_path : Path → Notice → Store → ℕ → FilterSet → Bool
 passes_path [] e s lane under = true
 passes_path ((None, a) ∷ path) e s lane under = false
 passes_path ((Some n, a) ∷ path) e s lane under =
     passes a e s lane (union under (single n)) && passes_path path e s lane (union under (single n))
 
--- the filters that whoever stands at a position looks under, below these: all with a number round it, and its own if it is a filter
+-- the filters that whoever stands at a position looks under, below these: all with a number round
+-- it, and its own if it is a filter
 abbrev pub mask_at : Form → Position → FilterSet → FilterSet
 mask_at (Filtered (Some n) a f) Here under = union under (single n)
 mask_at (Filtered (Some n) a f) (Under p) under = mask_at f p (union under (single n))
@@ -38,7 +41,7 @@ mask_at (Parts k o i) (Outer p) under = mask_at o p under
 mask_at (Parts k o i) (Inner p) under = mask_at i p under
 mask_at other p under = under
 
--- these filters, and those of a path that have a number
+-- a set of filters with those of a path that have a number
 abbrev pub mask_of : Path → FilterSet → FilterSet
 mask_of [] under = under
 mask_of ((Some n, a) ∷ path) under = mask_of path (union under (single n))

@@ -1,4 +1,5 @@
--- What a form answers when it is asked, and what the pass then holds. The outer part is asked first, and the inner one only where that answers true.
+-- What a form answers when it is asked, and what the pass then holds. The outer part is asked
+-- first, and the inner one only where that answers true.
 use Rattle.std.specs.Prelude.{◌≡◌, ℕ, Bool, true, false, not, ◌&&◌, ◌||◌, ◌==◌, if◌then◌else◌, Option, Some, None, is_some}
 use Rattle.span_core.specs.Filters.{FilterSet, refuses, union}
 use Rattle.span_core.specs.Interest.{sum_with}
@@ -11,8 +12,8 @@ use Rattle.span_core.specs.declared.level.LevelFilter.{LevelFilter}
 use Rattle.span_core.specs.declared.level.TheConstants.LevelFilter.{OFF}
 use Rattle.span_core.specs.declared.metadata.Metadata.{Metadata}
 use Rattle.span_core.specs.declared.pass.Pass.{Pass}
+use Rattle.span_store.specs.Store.{Store}
 use Rattle.span_registry.specs.Form.{Absent, Terminal, Base, End, Filtered, Form, InList, InPair, Arrangement, Leaf, OnSubscriber, Parts, is_absent, is_base, is_marked}
-use Rattle.span_registry.specs.Store.{Store}
 use Rattle.span_registry.specs.Subscriber.{registry_interest, sum_after}
 use Rattle.span_registry.specs.View.{view_of}
 
@@ -24,7 +25,8 @@ single n k = k == n
 abbrev pub answered : FilterSet → FilterSet → Bool → FilterSet
 answered refused set passed n = if set n then not passed else refused n
 
--- whether metadata pass, asked on a lane of a store under these filters, and which filters then refuse; these did before
+-- whether metadata pass, asked on a lane of a store under these filters, and which filters then
+-- refuse; these did before
 abbrev pub asked : Form → Metadata → Store → ℕ → FilterSet → FilterSet → Bool × FilterSet
 asked (Leaf still a) m s lane under refused = (a.enabled m (view_of s lane under), refused)
 asked (Filtered None a f) m s lane under refused = (true, refused)
@@ -38,7 +40,8 @@ asked (Parts k o i) m s lane under refused =
     else asked o m s lane under refused
 asked (Terminal v) m s lane under refused = (true, refused)
 
--- whether an event passes, after its metadata did, and which filters then refuse. One that refused already isn't asked again
+-- whether an event passes, after its metadata did, and which filters then refuse. One that refused
+-- already isn't asked again
 abbrev pub event_asked : Form → Event → Store → ℕ → FilterSet → FilterSet → Bool × FilterSet
 event_asked (Leaf still a) e s lane under refused = (a.event e (view_of s lane under), refused)
 event_asked (Filtered None a f) e s lane under refused = (true, refused)
@@ -65,7 +68,9 @@ higher Sometimes Always = Always
 higher Sometimes other = Sometimes
 higher Never j = j
 
--- interest and sum of an outer part over an inner one: whether the outer one is marked, its interest, whether the inner one is calm, and interest and sum of the inner one, which is asked after it
+-- interest and sum of an outer part over an inner one: whether the outer one is marked, its
+-- interest, whether the inner one is calm, and interest and sum of the inner one, which is asked
+-- after it
 abbrev pub over_interest : Bool → Interest → Bool → Interest × Option Interest
     → Interest × Option Interest
 over_interest true outer calm inner = inner
@@ -74,18 +79,20 @@ over_interest false Sometimes calm inner = (Sometimes, inner.1)
 over_interest false Always calm inner =
     if is_never inner.0 && calm then (Sometimes, inner.1) else inner
 
--- the same by how the parts stand together: of a list, the highest
+-- interest and sum of two parts, by how they stand together: of a list, the higher interest
 abbrev pub joint_interest : Arrangement → Bool → Interest → Bool → Interest × Option Interest
     → Interest × Option Interest
 joint_interest InList marked outer calm inner = (higher outer inner.0, inner.1)
 joint_interest other marked outer calm inner = over_interest marked outer calm inner
 
--- whether what an inner part never wants may be wanted by others: it is marked, or the registry
+-- whether what an inner part's interest rules out may be enabled for others: it is marked, or the
+-- registry
 abbrev pub is_calm : Arrangement → Form → Bool
 is_calm OnSubscriber i = is_marked i || is_base i
 is_calm other i = is_marked i
 
--- the interest in a callsite, and the sum that the pass then holds; the registry handed out this many filters, and the pass held this sum
+-- the interest in a callsite, and the sum that the pass then holds; the registry handed out this
+-- many filters, and the pass held this sum
 abbrev pub interest_of : Form → Metadata → ℕ → Option Interest → Interest × Option Interest
 interest_of (Leaf still a) m filters sum = (a.interest m, sum)
 interest_of (Filtered None a f) m filters sum = (Always, sum)
@@ -102,7 +109,8 @@ interest_of (Terminal Base) m filters sum = (registry_interest filters sum, sum_
 interest_of (Terminal Absent) m filters sum = (Always, sum)
 interest_of (Terminal End) m filters sum = (Never, sum)
 
--- the hint of an outer part over an inner one that is no registry, by the first rule that fits: which of them are marked, which absent, and their hints
+-- the hint of an outer part over an inner one that is no registry, by the first rule that fits:
+-- which of them are marked, which absent, and their hints
 abbrev pub hint_by : Bool → Bool → Bool → Bool → Option LevelFilter → Option LevelFilter
     → Option LevelFilter
 hint_by marked inner_marked absent inner_absent h k =
@@ -113,7 +121,8 @@ hint_by marked inner_marked absent inner_absent h k =
     else if inner_absent && is_off k then h
     else greater_hint h k
 
--- the same by how the parts stand together: on a registry the outer one's alone; of a list the greater one, none where either has none
+-- the hint of two parts, by how they stand together: on a registry the outer one's alone; of a list
+-- the greater one, none where either has none
 abbrev pub over_hint : Arrangement → Form → Form → Option LevelFilter → Option LevelFilter
     → Option LevelFilter
 over_hint OnSubscriber o i h k =
@@ -121,7 +130,7 @@ over_hint OnSubscriber o i h k =
 over_hint InPair o i h k = hint_by (is_marked o) (is_marked i) (is_absent o) (is_absent i) h k
 over_hint InList o i h k = wider_hint h k
 
--- the highest level that it may want, if it knows one
+-- the highest level that may be enabled for a form, if the form knows one
 abbrev pub hint_of : Form → Option LevelFilter
 hint_of (Leaf still a) = a.hint
 hint_of (Filtered n a f) = a.hint

@@ -1,10 +1,10 @@
--- What each call of a subscriber does to the registry that it stands on: what the registry's own call does, and then its
--- hooks may write extensions.
+-- What each call of a subscriber does to the registry that it stands on: what the registry's own
+-- call does, and then its hooks may write extensions.
 use Rattle.std.specs.Prelude.{◌≡◌, ℕ, zero, suc, Option, None}
 use Rattle.std.specs.Option.{unwrap_or}
 use Rattle.span_core.specs.declared.interest.Interest.TheVariants.{Always}
 use Rattle.span_core.specs.declared.interest.Interest.{Interest}
-use Rattle.span_registry.specs.Store.{RegistryState}
+use Rattle.span_store.specs.Store.{RegistryState}
 
 -- the two are the same, extensions aside
 pub record SameButExtensions (old : RegistryState) (new : RegistryState) : Type 0 where
@@ -23,7 +23,8 @@ pub record AndHooks {S : Type 0} (registry : S → RegistryState)
   pub taken : step (registry old) stepped
   pub hooks : SameButExtensions stepped (registry new)
 
--- the interest of a registry that handed out this many filters: always without filters, else their sum, always where there is none
+-- the interest of a registry that handed out this many filters: always without filters, else their
+-- sum, always where there is none
 abbrev pub registry_interest : ℕ → Option Interest → Interest
 registry_interest zero sum = Always
 registry_interest (suc n) sum = unwrap_or sum Always

@@ -7,27 +7,27 @@ ghost use Rattle.span_core.specs.Event.{event_parent};
 ghost use Rattle.span_core.specs.Filters.{has_filter, is_attached, is_enabled};
 ghost use Rattle.span_core.specs.Pass.{refused_of};
 ghost use Rattle.span_core.specs.Span.{number_of};
+ghost use Rattle.span_store.specs.Marks.{spans_to_give};
+ghost use Rattle.span_store.specs.Step.{ShowsCurrent};
+ghost use Rattle.span_store.specs.Store.{new_registry};
 ghost use Rattle.span_registry.specs.Context.{Borrows, AnswersProbe, Exchanges, GivesScope, HasNoRefusals, IsLent, LendsOver, LentOn, LooksAt, LooksAtLent, LooksAtRoot, MasksMore, Narrows, NarrowsLent, RefersTo, RefersToLent, SendsEvent, enabled_in, enabled_lent, extensions_lent, is_shown_to, lane_in, lane_lent, loan_of, mask_of_loan, refused_lent, store_in, subscriber_in, subscriber_lent, view_in, view_lent, with_mask};
 ghost use Rattle.span_registry.specs.Lends.{lends_seen, lends_subscriber};
-ghost use Rattle.span_registry.specs.Marks.{spans_to_give};
-ghost use Rattle.span_registry.specs.Step.{ShowsCurrent};
-ghost use Rattle.span_registry.specs.Store.{new_registry};
+ghost use Rattle.span_registry.specs.Notice.{is_admitted, notice_of};
 ghost use Rattle.span_registry.specs.View.{current_shown, event_shown, first_shown, metadata_shown, shown};
 
-use crate::extensions::ExtensionsMut;
-use crate::limits::Limits;
 use crate::lookup::LookupSpan;
 use crate::mask::Mask;
-use crate::registry::Registry;
+use crate::notice::Notice;
 use crate::scope::{Scope, SpanRef};
-use crate::span_data::SpanData;
-use crate::stack::StackIter;
 use crate::subscriber::Subscriber;
 use span_core::{Current, Event, FilterId, FilterMap, Id, Lane, Metadata, Parent, Pass};
+use span_extensions::ExtensionsMut;
+use span_store::{Limits, Registry, StackIter};
 use std::alloc::AllocError;
 use std::mem;
 
-/// A shared look at a subscriber, from a lane and under a mask: or at none, and then no span is there.
+/// A shared look at a subscriber, from a lane and under a mask: or at none, and then no span is
+/// there.
 ///
 /// Stands for `tracing_subscriber::layer::Context`.
 pub struct Context<'a, S> {
@@ -71,7 +71,7 @@ impl<'a, S> Context<'a, S> {
         }
     }
 
-    /// The same look, under the filters of this id too, which is attached.
+    /// This look under the filters of this id too, which is attached.
     pub fn with_filter(&self, filter: FilterId) -> Context<'a, S>
         requires { IsTrue (is_attached filter) }
         ensures { Narrows self.now (has_filter filter) result }
@@ -83,7 +83,7 @@ impl<'a, S> Context<'a, S> {
         }
     }
 
-    /// The lane.
+    /// The lane that the look is from.
     pub fn lane(&self) -> Lane
         ensures { result ≡ lane_in self.now }
     {
@@ -92,7 +92,7 @@ impl<'a, S> Context<'a, S> {
 }
 
 impl<'a, S: LookupSpan> Context<'a, S> {
-    /// The same look, at the registry that the subscriber stands on.
+    /// This look, at the registry that the subscriber stands on.
     pub fn to_root(&self) -> Context<'a, Registry>
         ensures { LooksAtRoot S.registry self.now result }
     {
@@ -116,7 +116,7 @@ impl<'a, S: LookupSpan> Context<'a, S> {
             Some(subscriber) => match subscriber.span_data(id) {
                 None => None,
                 Some(found) => {
-                    if found.is_hidden(self.mask) {
+                    if self.mask.hides(&found) {
                         None
                     } else {
                         Some(SpanRef::new(subscriber, found, self.mask))
@@ -136,7 +136,7 @@ impl<'a, S: LookupSpan> Context<'a, S> {
         }
     }
 
-    /// The span is in the store, hidden or not.
+    /// Whether the span is in the store, hidden or not.
     pub fn exists(&self, id: Id) -> bool
         ensures { result ≡ is_some (get (store_in S.registry self.now).spans (number_of id)) }
     {
@@ -146,8 +146,9 @@ impl<'a, S: LookupSpan> Context<'a, S> {
         }
     }
 
-    /// The span that the lane is in, as far as the mask lets it be seen. None where the newest entry of the lane's stack
-    /// that is no duplicate isn't in the store; else the newest one that isn't hidden.
+    /// The span that the lane is in, as far as the mask lets it be seen. None where the newest
+    /// entry of the lane's stack that is no duplicate isn't in the store; else the newest one that
+    /// isn't hidden.
     pub fn lookup_current(&self) -> Option<SpanRef<'a, S>>
         ensures { RefersTo S.registry self.now current_shown result }
     {
@@ -169,8 +170,8 @@ impl<'a, S: LookupSpan> Context<'a, S> {
         }
     }
 
-    /// The span of an event: none for a root event, the one that the lane is in for a contextual event, else the one that
-    /// is named, if it isn't hidden.
+    /// The span of an event: none for a root event, the one that the lane is in for a contextual
+    /// event, else the one that is named, if it isn't hidden.
     pub fn event_span(&self, event: &Event<'_>) -> Option<SpanRef<'a, S>>
         ensures { RefersTo S.registry self.now (event_shown (event_parent event.now)) result }
     {
@@ -201,7 +202,8 @@ impl<'a, S: LookupSpan> Context<'a, S> {
         }
     }
 
-    /// The id is attached, the span is in the store and isn't hidden, and none of the id's filters refused it.
+    /// Whether the id is attached, the span is in the store and isn't hidden, and none of the id's
+    /// filters refused it.
     pub fn is_enabled_for(&self, id: Id, filter: FilterId) -> bool
         ensures { result ≡ enabled_in S.registry self.now filter (number_of id) }
     {
@@ -226,8 +228,8 @@ impl<S: Subscriber> Context<'_, S> {
         }
     }
 
-    /// Whether the subscriber wants a span or an event with this metadata. What its filters say goes into a pass that is
-    /// thrown away. Without a subscriber it is true.
+    /// Whether a span or an event with this metadata is enabled by the subscriber. Its filters'
+    /// answers go into a pass that is thrown away. Without a subscriber it is true.
     pub fn enabled(&self, meta: &Metadata) -> bool
         requires { IfSome (subscriber_in self.now) S.usable }
         ensures asked { AnswersProbe S.registry S.has_form self.now meta.now result }
@@ -259,7 +261,8 @@ fn first_of<'a, S: LookupSpan>(
     None
 }
 
-/// A subscriber lent to a hook, from a lane and under a mask, with what the filters said during the request.
+/// A subscriber lent to a hook, from a lane and under a mask, with the filters' answers during the
+/// request.
 #[derive(Drop)]
 pub struct ContextMut<'a, S> {
     subscriber: &'a mut S,
@@ -282,7 +285,7 @@ impl<'a, S> ContextMut<'a, S> {
         }
     }
 
-    /// Lends the same under the filters of this id too, which is attached.
+    /// Lends the subscriber under the filters of this id too, which is attached.
     pub fn with_filter(mut self, filter: FilterId) -> ContextMut<'a, S>
         requires { IsTrue (is_attached filter) }
         ensures loan { Borrows result (loan_of self.entry) }
@@ -292,9 +295,8 @@ impl<'a, S> ContextMut<'a, S> {
         self
     }
 
-    /// Puts the filters of this id, which is attached, into the mask too, and answers the mask that was.
-    ///
-    /// `restore_mask` puts that back.
+    /// Puts the filters of this id, which is attached, into the mask too, and answers the mask that
+    /// was there. `restore_mask` puts that one back.
     pub fn narrow(&mut self, filter: FilterId) -> Mask
         requires { IsTrue (is_attached filter) }
         ensures before { result ≡ mask_of_loan self.old }
@@ -312,7 +314,7 @@ impl<'a, S> ContextMut<'a, S> {
         self.mask = mask;
     }
 
-    /// The same, lent on until what is answered is given back.
+    /// Lends the subscriber on, until what is answered is given back.
     pub fn lend(&mut self) -> ContextMut<'_, S>
         ensures* writes_back { sem 𝓛 (lends_subscriber S.row self.entry result) }
         ensures lent { LentOn self.old result }
@@ -352,17 +354,17 @@ impl<'a, S> ContextMut<'a, S> {
         look
     }
 
-    /// The lane.
+    /// The lane that the look is from.
     pub fn lane(&self) -> Lane
         ensures { result ≡ lane_lent self.now }
     {
         self.lane
     }
 
-    /// A filter of this id refused during the request, or the id is unattached.
+    /// Whether a filter of this id refused during the request, or the id is unattached.
     ///
-    /// Filters are asked of a new span and of an event alone. The hooks of all else are lent no refusals: there it answers true
-    /// for an unattached id alone.
+    /// Filters are asked of a new span and of an event alone. The hooks of all else are lent no
+    /// refusals: there it is true for an unattached id alone.
     pub fn refuses(&self, filter: FilterId) -> bool
         ensures refused { result ≡ not (is_enabled (refused_lent self.now) filter) }
         ensures unrefused { HasNoRefusals self.now → result ≡ not (is_attached filter) }
@@ -379,8 +381,9 @@ impl<'a, S: LookupSpan> ContextMut<'a, S> {
         self.ctx().span(id)
     }
 
-    /// The span that the lane is in, as far as the mask lets it be seen. None where the newest entry of the lane's stack
-    /// that is no duplicate isn't in the store; else the newest one that isn't hidden.
+    /// The span that the lane is in, as far as the mask lets it be seen. None where the newest
+    /// entry of the lane's stack that is no duplicate isn't in the store; else the newest one that
+    /// isn't hidden.
     pub fn lookup_current(&self) -> Option<SpanRef<'_, S>>
         ensures { RefersToLent S.registry self.now current_shown result }
     {
@@ -408,10 +411,31 @@ impl<'a, S: LookupSpan> ContextMut<'a, S> {
         root.extensions_mut(id)
     }
 
-    /// Takes the registry that the subscriber stands on out of it, and leaves an empty one in its place.
+    /// What stands under the filter of this id is notified of it: of a new span and of an event unless the filter refused it, of all
+    /// else where no filter of the id refused the spans that it is of.
+    #[inline(always)]
+    pub fn admits(&self, notice: Notice<'_, '_>, filter: FilterId) -> bool
+        ensures { result ≡ is_admitted S.registry filter (notice_of notice.entry) self.now }
+    {
+        match notice {
+            Notice::NewSpan(_, _) | Notice::Event(_) => !self.refuses(filter),
+            Notice::FollowsFrom(span, other) => {
+                self.is_enabled_for(span, filter) && self.is_enabled_for(other, filter)
+            }
+            Notice::Record(span, _) | Notice::IdChange(span, _) => {
+                self.is_enabled_for(span, filter)
+            }
+            Notice::Enter(span) | Notice::Exit(span) | Notice::Close(span) => {
+                self.is_enabled_for(span, filter)
+            }
+        }
+    }
+
+    /// Takes the registry that the subscriber stands on out of it, and leaves an empty one in its
+    /// place.
     ///
-    /// `over` lends it from the same lane and under the same mask, and then `put_root` puts it back: the three stand for a
-    /// `to_root`.
+    /// `over` lends it from the same lane and under the same mask, and then `put_root` puts it
+    /// back: the three stand for a `to_root`.
     pub fn take_root(&mut self) -> Registry
         ensures root { result ≡ S.registry (subscriber_lent self.old) }
         ensures rest { Exchanges S.with_registry (new_registry Limits.MAX) self.old self.new }
@@ -429,17 +453,18 @@ impl<'a, S: LookupSpan> ContextMut<'a, S> {
         *place = root;
     }
 
-    /// The span is in the store, and isn't hidden.
+    /// Whether the span is in the store, and isn't hidden.
     fn shows(&self, id: Id) -> bool
         ensures { result ≡ is_shown_to S.registry self.now id }
     {
         match self.subscriber.span_data(id) {
-            Some(found) => !found.is_hidden(self.mask),
+            Some(found) => !self.mask.hides(&found),
             None => false,
         }
     }
 
-    /// The id is attached, the span is in the store and isn't hidden, and none of the id's filters refused it.
+    /// Whether the id is attached, the span is in the store and isn't hidden, and none of the id's
+    /// filters refused it.
     pub fn is_enabled_for(&self, id: Id, filter: FilterId) -> bool
         ensures { result ≡ enabled_lent S.registry self.now filter id }
     {

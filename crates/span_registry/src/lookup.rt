@@ -1,42 +1,43 @@
 //! Spans are found by their ids, in whatever a registry stands in.
 ghost use Rattle.std.specs.Borrow.{sem};
 ghost use Rattle.std.specs.Prelude.{◌≡◌, IfErr, IfOk, OnErr};
+ghost use Rattle.span_store.specs.Data.{FindsData};
+ghost use Rattle.span_store.specs.Step.{HandsOut, RefusesFilter};
+ghost use Rattle.span_store.specs.Store.{IsForest, RegistryState};
 ghost use Rattle.span_registry.specs.Lends.{lends_registry};
-ghost use Rattle.span_registry.specs.References.{FindsSpan, FindsData};
-ghost use Rattle.span_registry.specs.Step.{HandsOut, RefusesFilter};
-ghost use Rattle.span_registry.specs.Store.{IsForest, RegistryState};
+ghost use Rattle.span_registry.specs.References.{FindsSpan};
 
 use crate::mask::Mask;
-use crate::registry::Registry;
 use crate::scope::SpanRef;
-use crate::span_data::Data;
 use span_core::{FilterId, Id, TraceError};
+use span_store::{Data, Registry};
 
 /// What a registry stands in: the registry itself, or layers around it.
 ///
 /// Stands for `tracing_subscriber::registry::LookupSpan`.
 pub trait LookupSpan {
-    /// The registry.
+    /// The registry of the value.
     ghost registry: { Self → RegistryState };
 
-    /// The same with another registry.
+    /// The value with another registry.
     ghost with_registry: { Self → RegistryState → Self };
 
-    /// The registry.
+    /// The registry that the value stands on.
     fn root(&self) -> &Registry
         ensures { result.now ≡ registry self.now };
 
-    /// The registry, to be changed.
+    /// The registry that the value stands on, to be changed.
     fn root_mut(&mut self) -> &mut Registry
         ensures* writes_back { sem 𝓛 (lends_registry Self.row with_registry self.entry result) }
         ensures value { result.now ≡ registry self.old };
 
-    /// What is kept of a span that is in the store, closing or not.
+    /// The data of a span that is in the store, closing or not.
     fn span_data(&self, id: Id) -> Option<Data<'_>>
         ensures found { FindsData (registry self.now).store id result }
         ensures forest { IsForest (registry self.now).store.spans };
 
-    /// Hands out the next filter: 0, 1, and so on. Refused past the limit of 128 (`TooManyFilters`).
+    /// Hands out the next filter: 0, 1, and so on. Refused past the limit of 128
+    /// (`TooManyFilters`).
     ///
     /// Stands for the crate's `register_filter`, which panics there.
     fn register_filter(&mut self) -> Result<FilterId, TraceError>

@@ -3,6 +3,7 @@ ghost use Rattle.std.specs.Prelude.{IsTrue};
 ghost use Rattle.span_core.specs.Filters.{is_attached};
 
 use span_core::{FilterId, FilterMap};
+use span_store::{Data, SpanData};
 
 /// A set of filters: a span that one of them refused is hidden. Each of them has its number.
 #[derive(Clone, Copy)]
@@ -15,9 +16,10 @@ pub struct Mask {
 impl Mask {
     ghost use Rattle.std.specs.Prelude.{◌≡◌, ◌&&◌, false, not};
     ghost use Rattle.span_core.specs.Filters.{has_filter, is_enabled, meets, refuses, union};
+    ghost use Rattle.span_store.specs.Data.{data_span};
     ghost use Rattle.span_registry.specs.Mask.{filters_of};
 
-    /// No filter.
+    /// The mask of no filter.
     pub(crate) fn none() -> Mask
         ensures { filters_of result ≡ (λ n. false) }
     {
@@ -26,7 +28,7 @@ impl Mask {
         }
     }
 
-    /// The filters of this id too, which is attached.
+    /// The mask with the filters of this id too, which is attached.
     pub(crate) fn and(self, filter: FilterId) -> Mask
         requires { IsTrue (is_attached filter) }
         ensures { filters_of result ≡ union (filters_of self) (has_filter filter) }
@@ -36,7 +38,7 @@ impl Mask {
         }
     }
 
-    /// The id is attached, and neither one of its filters nor one of these refused.
+    /// Whether the id is attached, and neither one of its filters nor one of the mask's refused.
     pub(crate) fn passes(self, verdict: FilterMap, filter: FilterId) -> bool
         ensures { result
             ≡ (not (meets (filters_of self) (refuses verdict)) && is_enabled verdict filter) }
@@ -44,10 +46,10 @@ impl Mask {
         verdict.is_enabled(self.filters.and(filter))
     }
 
-    /// One of these filters refused.
-    pub(crate) fn hides(self, verdict: FilterMap) -> bool
-        ensures { result ≡ meets (filters_of self) (refuses verdict) }
+    /// One of these filters refused the span when it was made.
+    pub(crate) fn hides(self, found: &Data<'_>) -> bool
+        ensures { result ≡ meets (filters_of self) (refuses (data_span found.now).verdict) }
     {
-        !verdict.is_enabled(self.filters)
+        !found.is_enabled_for(self.filters)
     }
 }

@@ -2,16 +2,17 @@
 ghost use Rattle.std.specs.List.{list_all};
 ghost use Rattle.std.specs.Prelude.{IsTrue, is_some};
 
-use crate::extensions::Extensions;
 use crate::lookup::LookupSpan;
 use crate::mask::Mask;
-use crate::span_data::{Data, SpanData};
 use smallvec::SmallVec;
 use span_core::{FieldSet, Id, Metadata, TraceError};
+use span_extensions::Extensions;
+use span_store::{Data, SpanData};
 use std::alloc::Global;
 use std::fmt;
 
-/// A span that was found, with the subscriber that it was found in and the mask that it was found under.
+/// A span that was found, with the subscriber that it was found in and the mask that it was found
+/// under.
 ///
 /// Stands for `tracing_subscriber::registry::SpanRef`.
 #[derive(Drop)]
@@ -24,10 +25,10 @@ pub struct SpanRef<'a, R> {
 impl<'a, R> SpanRef<'a, R> {
     ghost use Rattle.std.specs.Prelude.{◌≡◌};
     ghost use Rattle.span_core.specs.Metadata.{fields_of, name_of};
-    ghost use Rattle.span_registry.specs.Shown.{shown_map};
+    ghost use Rattle.span_extensions.specs.Shown.{shown_map};
+    ghost use Rattle.span_store.specs.Data.{data_extensions, data_id, data_span};
     ghost use Rattle.span_registry.specs.Mask.{filters_of};
     ghost use Rattle.span_registry.specs.References.{extensions_of_reference, id_of_reference, mask_of, span_of_reference, subscriber_of};
-    ghost use Rattle.span_registry.specs.References.{data_extensions, data_id, data_span};
 
     /// A reference to the span with these data.
     pub(crate) fn new(subscriber: &'a R, found: Data<'a>, mask: Mask) -> SpanRef<'a, R>
@@ -95,14 +96,14 @@ impl<'a, R: LookupSpan> SpanRef<'a, R> {
         while let Some(id) = next {
             let data = subscriber.span_data(id)?;
             next = data.parent();
-            if !data.is_hidden(mask) {
+            if !mask.hides(&data) {
                 return Some(SpanRef::new(subscriber, data, mask));
             }
         }
         None
     }
 
-    /// The nearest ancestor that the mask doesn't hide, under the same mask.
+    /// The nearest ancestor of the span that the mask doesn't hide, under the same mask.
     pub fn parent(&self) -> Option<SpanRef<'a, R>>
         ensures { option_map reference_of result ≡ parent_of_reference R.registry self.now }
     {
@@ -160,7 +161,8 @@ impl<'a, R: LookupSpan> Iterator for Scope<'a, R> {
 ///
 /// Stands for `tracing_subscriber::registry::ScopeFromRoot`.
 pub struct ScopeFromRoot<'a, R> {
-    /// Leaf first. Each place holds a span: it may be empty since a place without one needs a value too.
+    /// The spans, leaf first. Each place holds one: it may be empty since a place without one needs
+    /// a value too.
     spans: SmallVec<Option<SpanRef<'a, R>>, 16>,
 
     ghost full: { IsTrue (list_all is_some spans.items) },
@@ -177,7 +179,8 @@ impl<'a, R: LookupSpan> Scope<'a, R> {
     ghost use Rattle.std.specs.Prelude.{◌≡◌, ◌≤◌, length, IfErr, IfOk, IsOk};
     ghost use Rattle.span_registry.specs.References.{Reverses, to_give};
 
-    /// The same spans from the root on. Up to 16 need no memory, and more are refused for want of memory alone.
+    /// The spans of the scope from the root on. Up to 16 need no memory, and more are refused for
+    /// want of memory alone.
     pub fn from_root(self, alloc: Global) -> Result<ScopeFromRoot<'a, R>, TraceError>
         ensures reversed { IfOk result (Reverses R.registry self.entry) }
         ensures memory { IfErr result (λ e. e ≡ TraceError.OutOfMemory) }
@@ -207,7 +210,7 @@ impl<'a, R> Iterator for ScopeFromRoot<'a, R> {
         self.spans.pop().flatten()
     }
 
-    /// As many as there are.
+    /// As many spans as there are.
     fn size_hint(&self) -> (usize, Option<usize>)
         ensures lower { IsWithinCount result.0 (item_count to_give_from_root self.now) }
         ensures upper { IfSome result.1 (UpTo (item_count to_give_from_root self.now)) }

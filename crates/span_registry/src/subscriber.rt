@@ -1,6 +1,7 @@
 //! What a stack is asked and notified of.
 ghost use Rattle.std.specs.Prelude.{◌≡◌, ⊤, false, IfErr, IfOk, OnErr, OnOk};
 ghost use Rattle.span_core.specs.Span.{asked_parent};
+ghost use Rattle.span_store.specs.Step.{Clones, Enters, Exits, RefusesClone, RefusesEnter, RefusesNew, ShowsCurrent};
 ghost use Rattle.span_registry.specs.Behaviour.{OnClose, OnEnter, OnEvent, OnExit, OnFollows, OnRecord};
 ghost use Rattle.span_registry.specs.Conducts.{ActsAt, StackPathLaws};
 ghost use Rattle.span_registry.specs.Form.{Form, is_absent, is_base, is_marked};
@@ -8,7 +9,6 @@ ghost use Rattle.span_registry.specs.Hooks.{Notifies, AnswersEnabled, AnswersEve
 ghost use Rattle.span_registry.specs.Levels.{LevelLaws, LevelSteps, takes_level};
 ghost use Rattle.span_registry.specs.Position.{HearSteps};
 ghost use Rattle.span_registry.specs.Question.{ShowsBy, hint_of, refusals};
-ghost use Rattle.span_registry.specs.Step.{Clones, Enters, Exits, RefusesClone, RefusesEnter, RefusesNew, ShowsCurrent};
 
 use crate::lookup::LookupSpan;
 use span_core::{
@@ -17,70 +17,75 @@ use span_core::{
 
 /// A stack: a registry, or a layer on a stack.
 ///
-/// Questions answer by the stack's form and keep what its filters said in the pass. State calls go to the registry first,
-/// and then the layers are notified: of a new span and an event as the pass says, of all else as the verdicts of spans say.
-/// A layer's hook may write extensions, and leaves the rest of the registry alone. Who is notified is promised of stacks in
-/// which no hook sends events (`WritesOnlyExtensions`, of the form). A stack without a form may answer
-/// anything.
+/// Questions answer by the stack's form and keep what its filters said in the pass. State calls go
+/// to the registry first, and then the layers are notified: of a new span and an event as the pass
+/// says, of all else as the verdicts of spans say. A layer's hook may write extensions, and leaves
+/// the rest of the registry alone. Who is notified is promised of stacks in which no hook sends
+/// events (`WritesOnlyExtensions`, of the form). A stack without a form may answer anything.
 ///
 /// Stands for `tracing_core::Subscriber`, with the lane and the pass handed in.
 pub trait Subscriber: LookupSpan {
-    /// It may be asked and notified. Only one that holds a closure says more than that it always may.
+    /// The stack may be asked and notified. Only one that holds a closure says more than that it
+    /// always may.
     ghost usable: { Self → Type 0 } = { λ s. ⊤ };
 
-    /// Which form it has. One that doesn't answer as a form does has none.
+    /// The stack has this form, by which its answers follow. One whose answers follow from no form
+    /// has none.
     ghost has_form: { Self → Form → Type 0 };
 
-    /// How its layers go on when they are notified.
+    /// How the stack's layers go on when they are notified.
     ghost stepped: { StackSteps Self };
 
-    /// Which notices the leaf at a place went through, from one value of the stack to another.
+    /// Which notices the leaf at a place was notified of, from one value of the stack to another.
     ghost hears: { HearSteps Self };
 
-    /// Which conducts the filters have on the path at a place. Only a path of plain filters has any.
+    /// Which conducts the filters have on the path at a place. Only a path of plain filters has
+    /// any.
     ghost acts_at: { ActsAt Self };
 
-    /// How it goes on when a filter's level is set.
+    /// How the stack goes on when a filter's level is set.
     ghost levelled: { LevelSteps Self };
 
-    /// How its layers go on when they are put in use.
+    /// How the stack's layers go on when they are put in use.
     ghost registered: { Self → Self → Type 0 };
 
-    /// Puts all layers in use.
+    /// Puts all layers of the stack in use.
     fn on_register_dispatch(&mut self)
         requires { usable self.old }
         ensures usable { usable self.new }
         ensures registered { registered self.old self.new }
         ensures registry { Self.registry self.new ≡ Self.registry self.old };
 
-    /// Whether the stack wants what this callsite makes. The filters add their interests to the pass.
+    /// Whether what this callsite makes is enabled. The filters add their interests to the pass.
     fn register_callsite(&self, meta: &Metadata, pass: &mut Pass) -> Interest
         requires { usable self.now }
         ensures { AnswersInterest Self.registry has_form self.now meta.now pass.old result
             pass.new };
 
-    /// Whether the stack wants a span or an event with this metadata. The filters' answers go into the pass.
+    /// Whether a span or an event with this metadata is enabled. The filters' answers go into the
+    /// pass.
     fn enabled(&self, lane: Lane, meta: &Metadata, pass: &mut Pass) -> bool
         requires { usable self.now }
         ensures { AnswersEnabled Self.registry has_form self.now lane meta.now pass.old result
             pass.new };
 
-    /// Whether the stack wants this event, after `enabled`. The filters' answers go into the pass.
+    /// Whether this event is enabled, after `enabled`. The filters' answers go into the pass.
     fn event_enabled(&self, lane: Lane, event: &Event<'_>, pass: &mut Pass) -> bool
         requires { usable self.now }
         ensures { AnswersEvent Self.registry has_form self.now lane event.now pass.old result
             pass.new };
 
-    /// The highest level that the stack may want, if it knows one.
+    /// The highest level that may be enabled, if the stack knows one.
     fn max_level_hint(&self) -> Option<LevelFilter>
         requires { usable self.now }
         ensures { ShowsBy (has_form self.now) hint_of result };
 
-    /// Opens a span with one handle, and answers its id, which was never handed out before. The filters that the pass
-    /// holds as refusing are its verdict.
+    /// Opens a span with one handle, and answers its id, which was never handed out before. The
+    /// filters that the pass holds as refusing are its verdict.
     ///
-    /// Refused where the explicit parent isn't open (`UnknownParent`), else where the parent's children are at the
-    /// limit (`CountFull`), else where no place or id is left (`TooManySpans`), else for want of memory.
+    /// Refused where the explicit parent isn't open (`UnknownParent`), else where the parent's
+    /// children are at the limit (`CountFull`), else where no place or id is left (`TooManySpans`),
+    /// else for want of memory.
     fn new_span(
         &mut self,
         lane: Lane,
@@ -136,9 +141,11 @@ pub trait Subscriber: LookupSpan {
         ensures hooks { Notifies Self.registry has_form stepped lane no_filter (OnExit id)
             (Exits lane id) self.old self.new };
 
-    /// Adds a handle, and answers the same id. The lane makes no difference, and no layer is notified.
+    /// Adds a handle to a span, and answers its id. The lane makes no difference, and no layer is
+    /// notified.
     ///
-    /// Refused where the span isn't open (`UnknownSpan`), else where its handles are at the limit (`CountFull`).
+    /// Refused where the span isn't open (`UnknownSpan`), else where its handles are at the limit
+    /// (`CountFull`).
     fn clone_span(&mut self, lane: Lane, id: Id) -> Result<Id, TraceError>
         requires { usable self.old }
         ensures usable { usable self.new }
@@ -148,7 +155,8 @@ pub trait Subscriber: LookupSpan {
         ensures refused { IfErr result (RefusesClone (Self.registry self.old) id) }
         ensures unchanged { OnErr result (self.new ≡ self.old) };
 
-    /// The span that a lane is in. It looks at the newest entry of its stack that is no duplicate, and at no other.
+    /// The span that a lane is in. This looks at the newest entry of the lane's stack that is no
+    /// duplicate, and at no other.
     fn current_span(&self, lane: Lane) -> Current
         ensures { ShowsCurrent (Self.registry self.now).store lane result };
 
@@ -159,7 +167,8 @@ pub trait Subscriber: LookupSpan {
         ensures hooks { Notifies Self.registry has_form stepped lane no_filter (OnClose id) Stays
             self.old self.new };
 
-    /// Sets the level of the filter with this number, and answers whether there is one that takes it. Else nothing changes.
+    /// Sets the level of the filter with this number, and answers whether there is one that takes
+    /// it. Else nothing changes.
     ///
     /// Own to this port.
     fn set_level(&mut self, number: u32, level: LevelFilter) -> bool
@@ -170,35 +179,37 @@ pub trait Subscriber: LookupSpan {
         ensures level { levelled self.old number level self.new }
         ensures unchanged { result ≡ false → self.new ≡ self.old };
 
-    /// A layer of the stack is marked: it stands under a filter of its own.
+    /// Whether a layer of the stack is marked: it stands under a filter of its own.
     fn is_filtered(&self) -> bool
         ensures { ShowsBy (has_form self.now) is_marked result };
 
-    /// A layer of the stack is absent.
+    /// Whether a layer of the stack is absent.
     fn is_absent(&self) -> bool
         ensures { ShowsBy (has_form self.now) is_absent result };
 
-    /// The stack is a registry alone.
+    /// Whether the stack is a registry alone.
     fn is_registry(&self) -> bool
         ensures { ShowsBy (has_form self.now) is_base result };
 
-    /// A notified stack keeps its form, its leaves hear what they are notified of, and another registry makes no difference to
-    /// either.
+    /// A notified stack keeps its form, its leaves are notified of what the plan says, and another
+    /// registry makes no difference to either.
     ghost laws: { StackLaws Self.with_registry usable has_form stepped hears registered };
 
     /// The paths of plain filters act as their conducts say.
     ghost paths: { StackPathLaws Self.with_registry has_form stepped registered acts_at };
 
-    /// Where a level is set the form's rules are kept, no leaf hears of it, and the paths that hold the filter act by it.
+    /// Where a level is set, the form's rules are kept, no leaf is notified, and the paths that
+    /// hold the filter act by the level.
     ghost levels: { LevelLaws has_form levelled hears acts_at };
 }
 
 /// A stack that can be called without a premise, since no closure is in it.
 ///
-/// So what shows no premise can call a dispatcher of it: a guard that leaves a span at its end, a cell, a bridge from other code.
+/// Code that can show no premise can call a dispatcher of it: a guard that leaves a span at its
+/// end, a cell, a bridge from other code.
 ///
 /// Own to this port.
 pub trait AlwaysUsable: Subscriber {
-    /// It may be asked and notified, whatever has become of it.
+    /// The stack may be asked and notified, whatever has become of it.
     ghost always: { (s : Self) → Self.usable s };
 }

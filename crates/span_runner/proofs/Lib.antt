@@ -1,1 +1,6 @@
+mod Begins
+mod Gives
+mod Honest
+mod Naming
+mod Steady
 mod Written

@@ -2,8 +2,8 @@
 use Rattle.std.proofs.Common.{◌≡◌, ◌∙◌, ◌⊎◌, ℕ, List, Option, Some, None, Result, Ok, Err, IfSome, IfErr, IfOk, IsErrAnd, OnOk, ap, inr, subst}
 use Rattle.std.specs.Io.KnownBytes.{Appends}
 use Rattle.std.specs.Str.Lossy.{utf8_lossy}
-use Rattle.span_stacks.specs.declared.fault.RunFault.{RunFault}
-use Rattle.span_stacks.specs.declared.fault.RunFault.TheVariants.{Io}
+use Rattle.span_runner.specs.declared.fault.RunFault.{RunFault}
+use Rattle.span_runner.specs.declared.fault.RunFault.TheVariants.{Io}
 
 module _ (prints : List ℕ → List ℕ → Type 0) where
   -- what was read is the text, and what is printed for it was written

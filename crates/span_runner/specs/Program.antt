@@ -3,15 +3,14 @@ use Rattle.std.specs.Prelude.{◌≡◌, ◌⊎◌, ◌<◌, ℕ, List, ⊤, Opt
 use Rattle.std.specs.Io.KnownBytes.{Appends}
 use Rattle.std.specs.Str.Lossy.{utf8_lossy}
 use Rattle.span_dispatch.specs.declared.request.Request.{Request}
-use Rattle.span_registry.specs.declared.limits.Limits.{Limits}
+use Rattle.span_store.specs.declared.limits.Limits.{Limits}
 use Rattle.span_script.specs.declared.line.Line.{Line}
 use Rattle.span_script.specs.Script.{AskFor, IsSpelled}
-use Rattle.span_script.specs.Fault.{IsWrongLine as IsFirstWrongLine}
-use Rattle.span_stacks.specs.Printed.{AnyAnswers, PrintsServed, Serving}
-use Rattle.span_stacks.specs.Stacks.{Serves}
-use Rattle.span_stacks.specs.declared.fault.RunFault.{RunFault}
-use Rattle.span_stacks.specs.declared.fault.RunFault.TheVariants.{Line as LineFault, Io, Memory}
-use Rattle.span_script.specs.declared.fault.WrongLine.{WrongLine}
+use Rattle.span_script.specs.Fault.{IsWrongLine}
+use Rattle.span_runner.specs.Printed.{AnyAnswers, PrintsServed, Serving}
+use Rattle.span_runner.specs.Stacks.{Serves}
+use Rattle.span_runner.specs.declared.fault.RunFault.{RunFault}
+use Rattle.span_runner.specs.declared.fault.RunFault.TheVariants.{Wrong, Io, Memory}
 use Rattle.span_script.specs.declared.stack_name.StackName.{StackName}
 
 -- the text spells a stack and lines, these ask for requests, and what comes of serving them so is printed
@@ -33,14 +32,14 @@ PrintsShared text output = PrintsBy AnyAnswers text output
 
 -- a fault of a run that has this text: its first line that is wrong, or want of memory
 abbrev pub IsRunFault : List ℕ → RunFault → Type 0
-IsRunFault text (LineFault n) = (w : WrongLine) × ((w.line ≡ n) × IsFirstWrongLine text w)
+IsRunFault text (Wrong w) = IsWrongLine text w
 IsRunFault text Io = ⊥
 IsRunFault text Memory = ⊤
 
 -- the fault is a line that is wrong
-abbrev pub IsWrongLine : RunFault → Type 0
-IsWrongLine (LineFault n) = ⊤
-IsWrongLine fault = ⊥
+abbrev pub BlamesLine : RunFault → Type 0
+BlamesLine (Wrong w) = ⊤
+BlamesLine fault = ⊥
 
 -- Below: what is printed for a text, the bytes that a reader gives, if they are known, and a writer before and after.
 
@@ -54,7 +53,7 @@ Writes prints given contents old new =
 -- a line that is said to be wrong is the first of the bytes that is
 abbrev pub BlamesFirstWrong : Option (List ℕ) → RunFault → Type 0
 BlamesFirstWrong given fault =
-    IsWrongLine fault → IfSome given (λ bytes. IsRunFault (utf8_lossy bytes) fault)
+    BlamesLine fault → IfSome given (λ bytes. IsRunFault (utf8_lossy bytes) fault)
 
 -- nothing is written, unless it is writing that failed: then the bytes are a script
 abbrev pub IsUnwritten : {W : Type 0} → (List ℕ → List ℕ → Type 0) → Option (List ℕ) → W → W
@@ -67,4 +66,4 @@ IsUnwritten prints given old new fault =
 abbrev pub RefusesLong : {A W : Type 0} → Option (List ℕ) → Result A RunFault → W → W → Type 0
 RefusesLong given result old new =
     IfSome given (λ bytes. 1048576 < length bytes
-    → IsErrAnd result (λ fault. ¬ (IsWrongLine fault)) × (new ≡ old))
+    → IsErrAnd result (λ fault. ¬ (BlamesLine fault)) × (new ≡ old))

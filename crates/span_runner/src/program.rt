@@ -3,12 +3,14 @@ ghost use Rattle.std.specs.Prelude.{◌≡◌, string_bytes, IfOk, IfErr, OnOk};
 ghost use Rattle.std.specs.Io.KnownBytes.{Appends};
 ghost use Rattle.span_shared.specs.Journal.{IsLegal};
 ghost use Rattle.span_runner.specs.Program.{BlamesFirstWrong, IsRunFault, IsUnwritten, Prints, PrintsShared, RefusesLong, Writes};
-ghost use Rattle.span_stacks.specs.Stacks.{ArePositive};
+ghost use Rattle.span_runner.specs.Stacks.{ArePositive};
 
+use crate::crew::shared_text;
+use crate::fault::RunFault;
+use crate::stacks::served_text;
 use span_registry::Limits;
 use span_script::{Script, read_script};
 use span_shared::Journal;
-use span_stacks::{RunFault, served_text, shared_text};
 use std::alloc::Global;
 use std::io::{Read, Write};
 use std::sync::Wait;

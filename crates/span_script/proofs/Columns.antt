@@ -39,7 +39,8 @@ pub column-cut : (text : List ℕ) → column_after (cut 32 text) ≡ length tex
 column-cut [] = refl
 column-cut (x ∷ text) = go (x == 32) (column-cut text)
   where
-    go : (b : Bool) → column_after (cut 32 text) ≡ length text + 2 → column_after (cond b ([] ∷ cut 32 text) (onto_first x (cut 32 text))) ≡ suc (length text) + 2
+    go : (b : Bool)
+        → column_after (cut 32 text) ≡ length text + 2 → column_after (cond b ([] ∷ cut 32 text) (onto_first x (cut 32 text))) ≡ suc (length text) + 2
     go true rest = omega arith
     go false rest =
         let some = length-slice_split (λ b. b == 32) text in

@@ -1,12 +1,14 @@
 -- Words that fit forms of lines, and words that right ones begin with.
-use Rattle.std.proofs.Common.{◌≡◌, ◌∙◌, ℕ, suc, zero, ◌+◌, ◌<◌, List, [], ◌∷◌, ◌++◌, length, map, take, Option, Some, None, Bool, true, false, refl, sym, ap, subst, arith}
+use Rattle.std.proofs.Common.{◌≡◌, ◌∙◌, ℕ, suc, zero, ◌+◌, ◌<◌, List, [], ◌∷◌, ◌++◌, length, map, take, Option, Some, None, Bool, true, false, refl, sym, ap}
+use Rattle.std.proofs.Common.{subst, arith}
 use Rattle.std.specs.Prelude.{◌&&◌, ◌||◌, not, IsTrue, IsSomeAnd, codes, is_some, slice_get}
 use Rattle.std.specs.List.{list_all, list_any}
 use Rattle.std.specs.Option.{option_map_or}
 use Rattle.std.specs.Borrow.{Bor}
 use Rattle.std.proofs.lemmas.Bool.{and_parts, or_left, or_right, false≢true}
 use Rattle.std.proofs.lemmas.List.{length-append}
-use Rattle.span_script.specs.Form.{are_sound, begins_any, begins_form, continues_any, fits, is_sound_form, is_sound_slot, labels_any, next_if, next_slot, some_word, takes_labels, FitsForm, FitsForms}
+use Rattle.span_script.specs.Form.{are_sound, begins_any, begins_form, continues_any, fits, is_sound_form, is_sound_slot, labels_any, next_if, next_slot}
+use Rattle.span_script.specs.Form.{some_word, takes_labels, FitsForm, FitsForms}
 use Rattle.span_script.specs.Reason.{Begins, Continues, TakesLabels}
 use Rattle.span_script.specs.Script.{is_label}
 use Rattle.span_script.specs.declared.form.Slot.{Slot}
@@ -68,7 +70,8 @@ fill [] e = tt
 fill (s ∷ form) e = let parts = and_parts (is_sound_slot s) (is_sound_form form) e in ((sound-parts s parts.0).0, fill form parts.1)
 
 -- words that begin a form go on to be its words
-pub filled : (form : List Slot) (ws : List (List ℕ)) → is_sound_form form ≡ true → begins_form form ws ≡ true → (rest : List (List ℕ)) × FitsForm form (ws ++ rest)
+pub filled : (form : List Slot) (ws : List (List ℕ))
+    → is_sound_form form ≡ true → begins_form form ws ≡ true → (rest : List (List ℕ)) × FitsForm form (ws ++ rest)
 filled form [] sound b = (map some_word form, fill form sound)
 filled [] (w ∷ ws) sound b = absurd (false≢true b)
 filled (s ∷ form) (w ∷ ws) sound b =
@@ -77,14 +80,16 @@ filled (s ∷ form) (w ∷ ws) sound b =
     (rec.0, (of-true _ parts.0, rec.1))
 
 -- what is next in a form, behind a word that its first slot takes, and behind one that it doesn't
-next-past : (t : Slot) (v : List ℕ) (form : List Slot) (ws : List (List ℕ)) (s : Slot) → fits t v ≡ true → next_slot (t ∷ form) (v ∷ ws) ≡ Some s → next_slot form ws ≡ Some s
+next-past : (t : Slot) (v : List ℕ) (form : List Slot) (ws : List (List ℕ)) (s : Slot)
+    → fits t v ≡ true → next_slot (t ∷ form) (v ∷ ws) ≡ Some s → next_slot form ws ≡ Some s
 next-past t v form ws s e n = subst (λ b. next_if (b && begins_form form ws) (slice_get form (length ws)) ≡ Some s) e n
 
 next-none : (t : Slot) (v : List ℕ) (form : List Slot) (ws : List (List ℕ)) (s : Slot) → fits t v ≡ false → next_slot (t ∷ form) (v ∷ ws) ≡ Some s → ⊥
 next-none t v form ws s e n = let none : None ≡ Some s = subst (λ b. next_if (b && begins_form form ws) (slice_get form (length ws)) ≡ Some s) e n in cc
 
 -- the same with a word that its next slot takes
-pub filled-next : (form : List Slot) (ws : List (List ℕ)) (s : Slot) (w : List ℕ) → is_sound_form form ≡ true → next_slot form ws ≡ Some s → IsTrue (fits s w) → (rest : List (List ℕ)) × FitsForm form (ws ++ w ∷ rest)
+pub filled-next : (form : List Slot) (ws : List (List ℕ)) (s : Slot) (w : List ℕ)
+    → is_sound_form form ≡ true → next_slot form ws ≡ Some s → IsTrue (fits s w) → (rest : List (List ℕ)) × FitsForm form (ws ++ w ∷ rest)
 filled-next [] [] s w sound n h = cc
 filled-next (t ∷ form) [] s w sound n h =
     let same : t ≡ s = cc in
@@ -93,12 +98,14 @@ filled-next [] (v ∷ ws) s w sound n h = cc
 filled-next (t ∷ form) (v ∷ ws) s w sound n h =
     go (fits t v) refl (λ tail. filled-next form ws s w (and_parts (is_sound_slot t) (is_sound_form form) sound).1 tail h)
   where
-    go : (b : Bool) → fits t v ≡ b → (next_slot form ws ≡ Some s → (rest : List (List ℕ)) × FitsForm form (ws ++ w ∷ rest)) → (rest : List (List ℕ)) × FitsForm (t ∷ form) ((v ∷ ws) ++ w ∷ rest)
+    go : (b : Bool) → fits t v ≡ b → (next_slot form ws ≡ Some s → (rest : List (List ℕ)) × FitsForm form (ws ++ w ∷ rest))
+        → (rest : List (List ℕ)) × FitsForm (t ∷ form) ((v ∷ ws) ++ w ∷ rest)
     go true e rec = let found = rec (next-past t v form ws s e n) in (found.0, (e, found.1))
     go false e rec = absurd (next-none t v form ws s e n)
 
 -- the slot of the last of words that begin a form
-pub last-slot : (form : List Slot) (ws : List (List ℕ)) (w : List ℕ) → begins_form form (ws ++ w ∷ []) ≡ true → (s : Slot) × ((next_slot form ws ≡ Some s) × (fits s w ≡ true))
+pub last-slot : (form : List Slot) (ws : List (List ℕ)) (w : List ℕ)
+    → begins_form form (ws ++ w ∷ []) ≡ true → (s : Slot) × ((next_slot form ws ≡ Some s) × (fits s w ≡ true))
 last-slot [] [] w b = absurd (false≢true b)
 last-slot (s ∷ form) [] w b = (s, (refl, (and_parts (fits s w) _ b).0))
 last-slot [] (v ∷ ws) w b = absurd (false≢true b)
@@ -121,7 +128,8 @@ pub any-at : {X : Type 0} (p : X → Bool) (xs : List X) → list_any p xs ≡ t
 any-at p [] e = absurd (false≢true e)
 any-at p (x ∷ xs) e = go (p x) refl (λ rest. any-at p xs rest)
   where
-    go : (b : Bool) → p x ≡ b → (list_any p xs ≡ true → (i : ℕ) × IsSomeAnd (slice_get xs i) (λ x. p x ≡ true)) → (i : ℕ) × IsSomeAnd (slice_get (x ∷ xs) i) (λ x. p x ≡ true)
+    go : (b : Bool) → p x ≡ b
+        → (list_any p xs ≡ true → (i : ℕ) × IsSomeAnd (slice_get xs i) (λ x. p x ≡ true)) → (i : ℕ) × IsSomeAnd (slice_get (x ∷ xs) i) (λ x. p x ≡ true)
     go true h rec = (0, h)
     go false h rec = let found = rec (subst (λ b. (b || list_any p xs) ≡ true) h e) in (suc found.0, found.1)
 
@@ -131,13 +139,15 @@ at-any p (x ∷ xs) zero h = or_left (p x) (list_any p xs) h
 at-any p (x ∷ xs) (suc i) h = or_right (p x) (list_any p xs) (at-any p xs i h)
 
 -- what holds of the element at a place, where a test passes for all
-pub at-all : {X : Type 0} (p : X → Bool) (xs : List X) (i : ℕ) (P Q : X → Type 0) → list_all p xs ≡ true → IsSomeAnd (slice_get xs i) P → ((x : X) → p x ≡ true → P x → Q x) → IsSomeAnd (slice_get xs i) Q
+pub at-all : {X : Type 0} (p : X → Bool) (xs : List X) (i : ℕ) (P Q : X → Type 0)
+    → list_all p xs ≡ true → IsSomeAnd (slice_get xs i) P → ((x : X) → p x ≡ true → P x → Q x) → IsSomeAnd (slice_get xs i) Q
 at-all p [] i P Q e h f = absurd h
 at-all p (x ∷ xs) zero P Q e h f = f x (and_parts (p x) (list_all p xs) e).0 h
 at-all p (x ∷ xs) (suc i) P Q e h f = at-all p xs i P Q (and_parts (p x) (list_all p xs) e).1 h f
 
 -- an existing thing, out of a fact on a place
-pub out : {X Y : Type 0} (xs : List X) (i : ℕ) (R : Y → X → Type 0) → IsSomeAnd (slice_get xs i) (λ x. (y : Y) × R y x) → (y : Y) × IsSomeAnd (slice_get xs i) (λ x. R y x)
+pub out : {X Y : Type 0} (xs : List X) (i : ℕ) (R : Y → X → Type 0)
+    → IsSomeAnd (slice_get xs i) (λ x. (y : Y) × R y x) → (y : Y) × IsSomeAnd (slice_get xs i) (λ x. R y x)
 out [] i R h = absurd h
 out (x ∷ xs) zero R h = h
 out (x ∷ xs) (suc i) R h = out xs i R h
@@ -157,7 +167,8 @@ label-of (Some s) e = (s, (refl, e))
 
 slot-sound : (form : List Slot) (ws : List (List ℕ)) (s : Slot) → is_sound_form form ≡ true → next_slot form ws ≡ Some s → is_sound_slot s ≡ true
 slot-sound [] [] s sound n = cc
-slot-sound (t ∷ form) [] s sound n = let same : t ≡ s = cc in subst (λ x. is_sound_slot x ≡ true) same (and_parts (is_sound_slot t) (is_sound_form form) sound).0
+slot-sound (t ∷ form) [] s sound n =
+    let same : t ≡ s = cc in subst (λ x. is_sound_slot x ≡ true) same (and_parts (is_sound_slot t) (is_sound_form form) sound).0
 slot-sound [] (v ∷ ws) s sound n = cc
 slot-sound (t ∷ form) (v ∷ ws) s sound n =
     go (fits t v) refl (λ tail. slot-sound form ws s (and_parts (is_sound_slot t) (is_sound_form form) sound).1 tail)
@@ -180,7 +191,8 @@ right-begins forms ws b =
     (at-map forms b.1.0.0 (λ form. FitsForm form.now b.0) _ b.1.0.1 (λ form f. begins-of form.now b.0 ws f b.1.1))
 
 -- one goes on: right words are more
-pub continues-right : (forms : List (Bor (List Slot))) (ws : List (List ℕ)) → are_sound forms ≡ true → continues_any forms ws ≡ true → Continues (FitsForms forms) ws
+pub continues-right : (forms : List (Bor (List Slot))) (ws : List (List ℕ))
+    → are_sound forms ≡ true → continues_any forms ws ≡ true → Continues (FitsForms forms) ws
 continues-right forms ws sound b =
     let at = any-at (λ form. is_some (next_slot form.now ws)) forms b in
     let found = out forms at.0 (λ (more : List ℕ × List (List ℕ)) form. FitsForm form.now (ws ++ more.0 ∷ more.1))
@@ -197,7 +209,8 @@ right-continues forms ws b =
     (at-map forms b.1.0.0 (λ form. FitsForm form.now b.0) _ b.1.0.1 (λ form f. next-of form.now b.0 ws f b.1.1 b.1.2))
 
 -- one takes labels: right words have any label there
-pub labels-right : (forms : List (Bor (List Slot))) (ws : List (List ℕ)) → are_sound forms ≡ true → labels_any forms ws ≡ true → TakesLabels (FitsForms forms) ws
+pub labels-right : (forms : List (Bor (List Slot))) (ws : List (List ℕ))
+    → are_sound forms ≡ true → labels_any forms ws ≡ true → TakesLabels (FitsForms forms) ws
 labels-right forms ws sound b label is =
     let at = any-at (λ form. option_map_or takes_labels (next_slot form.now ws) false) forms b in
     let found = out forms at.0 (λ rest form. FitsForm form.now (ws ++ label ∷ rest))
@@ -205,7 +218,8 @@ labels-right forms ws sound b label is =
     (λ form s b. let slot = label-of (next_slot form.now ws) b in filled-next form.now ws slot.0 label s slot.1.0 (takes slot.0 label slot.1.1 is))) in
     (ws ++ label ∷ found.0, ((at.0, found.1), take-one ws label found.0))
 
-pub right-labels : (forms : List (Bor (List Slot))) (ws : List (List ℕ)) → are_sound forms ≡ true → TakesLabels (FitsForms forms) ws → labels_any forms ws ≡ true
+pub right-labels : (forms : List (Bor (List Slot))) (ws : List (List ℕ))
+    → are_sound forms ≡ true → TakesLabels (FitsForms forms) ws → labels_any forms ws ≡ true
 right-labels forms ws sound b =
     let one : Begins (FitsForms forms) (ws ++ codes "a" ∷ []) = b (codes "a") refl in
     at-any (λ form. option_map_or takes_labels (next_slot form.now ws) false) forms one.1.0.0

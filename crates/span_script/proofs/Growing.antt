@@ -84,13 +84,16 @@ IsScript-add old mid new l r was is asks declares lines requests labels =
     × ((other : List ℕ) → tree.get_by (λ k. slice_cmp nat_cmp other k.now) m ≡ update bytes_eq (place_of old) label (Some (length (lines_of old))) other)))
     (sym labels) declares in
     record {
-      asked = subst (λ (ls : List Line). AskFor ls (requests_of new)) (sym lines) (subst (λ (rs : List Request). AskFor (lines_of old ++ l ∷ []) rs) (sym requests)
+      asked =
+          subst (λ (ls : List Line). AskFor ls (requests_of new)) (sym lines) (subst (λ (rs : List Request). AskFor (lines_of old ++ l ∷ []) rs) (sym requests)
           (more l r is was.asked asks (label-free old new (declared_label l) was d)));
       found = λ label. subst (λ (ls : List Line). IfSome (place_of new label) (λ place. DeclaresAt ls place label)) (sym lines)
           (place-after old new (declared_label l) d label (λ x. IfSome x (λ place. DeclaresAt (lines_of old ++ l ∷ []) place label))
-          (IfSome-map (place_of old label) (λ place. DeclaresAt (lines_of old) place label) _ (was.found label) (λ place h. DeclaresAt-append (lines_of old) (l ∷ []) place label h))
+          (IfSome-map (place_of old label)
+          (λ place. DeclaresAt (lines_of old) place label) _ (was.found label) (λ place h. DeclaresAt-append (lines_of old) (l ∷ []) place label h))
           (λ added e same. DeclaresAt-last (lines_of old) l label (e ∙ ap (λ x. Some x) same)));
-      kept = λ place. subst (λ (ls : List Line). IfSome (slice_get ls place) (λ l. IfSome (declared_label l) (λ label. IsSome (place_of new label)))) (sym lines)
+      kept =
+          λ place. subst (λ (ls : List Line). IfSome (slice_get ls place) (λ l. IfSome (declared_label l) (λ label. IsSome (place_of new label)))) (sym lines)
           (slice_get-grown (lines_of old) l place (λ l. IfSome (declared_label l) (λ label. IsSome (place_of new label)))
           (IfSome-map (slice_get (lines_of old) place) (λ l. IfSome (declared_label l) (λ label. IsSome (place_of old label))) _ (was.kept place)
           (λ other h. IfSome-map (declared_label other) (λ label. IsSome (place_of old label)) _ h
@@ -106,7 +109,8 @@ both-known (Some x) P Q p q = (x, (p, q))
 -- a label that has no place is declared nowhere
 pub undeclared : (s : Script) → IsScript s → (label : List ℕ) → place_of s label ≡ None → (k : ℕ) → ¬ (DeclaresAt (lines_of s) k label)
 undeclared s is label lacks k h =
-    let found = both-known (slice_get (lines_of s) k) (λ l. IfSome (declared_label l) (λ other. IsSome (place_of s other))) (λ l. declared_label l ≡ Some label) (is.kept k) h in
+    let found = both-known (slice_get (lines_of s) k)
+    (λ l. IfSome (declared_label l) (λ other. IsSome (place_of s other))) (λ l. declared_label l ≡ Some label) (is.kept k) h in
     let has : IsSome (place_of s label) = subst (λ (x : Option (List ℕ)). IfSome x (λ other. IsSome (place_of s other))) found.1.1 found.1.0 in
     let none : IsSome {T = ℕ} None = subst (λ (x : Option ℕ). IsSome x) lacks has in absurd (search rules)
 

@@ -16,12 +16,15 @@ use Rattle.span_script.proofs.Growing.{both-known}
 -- a label that is taken is not new
 pub taken-not-new : (before : List Line) (l : Line) → IsTaken before l → ¬ (IsNewIn before l)
 taken-not-new before l taken new =
-    let label = both-known (declared_label l) (λ label. (place : ℕ) → IfSome (slice_get before place) (λ other. declared_label other ≢ Some label)) (λ label. (place : ℕ) × DeclaresAt before place label) new taken in
-    let line = both-known (slice_get before label.1.1.0) (λ other. declared_label other ≢ Some label.0) (λ other. declared_label other ≡ Some label.0) (label.1.0 label.1.1.0) label.1.1.1 in
+    let label = both-known (declared_label l) (λ label. (place : ℕ) → IfSome (slice_get before place) (λ other. declared_label other ≢ Some label))
+    (λ label. (place : ℕ) × DeclaresAt before place label) new taken in
+    let line = both-known (slice_get before label.1.1.0)
+    (λ other. declared_label other ≢ Some label.0) (λ other. declared_label other ≡ Some label.0) (label.1.0 label.1.1.0) label.1.1.1 in
     line.1.0 line.1.1
 
 -- a line that asks for a request, and declares a label that is taken
-pub taken-fault : (n : ℕ) (before : List Line) (l : Line) (words : List (List ℕ)) (r : Request) → Asks before l r → (f : ScriptFault) → Blames n (IsTakenAt before l words) f → Blames n (IsLabelFaultAt before l words) f
+pub taken-fault : (n : ℕ) (before : List Line) (l : Line) (words : List (List ℕ)) (r : Request)
+    → Asks before l r → (f : ScriptFault) → Blames n (IsTakenAt before l words) f → Blames n (IsLabelFaultAt before l words) f
 taken-fault n before l words r asks Memory h = tt
 taken-fault n before l words r asks (Wrong w) h = (
   h.0,

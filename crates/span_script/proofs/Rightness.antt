@@ -1,16 +1,19 @@
 -- Words that are not right.
-use Rattle.std.proofs.Common.{◌≡◌, ◌≢◌, ◌∙◌, ℕ, ◌+◌, ◌<◌, ◌≤◌, List, [], ◌∷◌, ◌++◌, length, get_or, take, Some, true, false, refl, sym, ap, subst, inl, inr, arith}
+use Rattle.std.proofs.Common.{◌≡◌, ◌≢◌, ◌∙◌, ℕ, ◌+◌, ◌<◌, ◌≤◌, List, [], ◌∷◌, ◌++◌, length, get_or, take, Some, true, false, refl, sym, ap, subst, inl, inr}
+use Rattle.std.proofs.Common.{arith}
 use Rattle.std.specs.Prelude.{Bool, if◌then◌else◌, option_map, ◌==◌}
 use Rattle.std.specs.Borrow.{Bor}
 use Rattle.std.proofs.lemmas.Bool.{true≢false}
 use Rattle.std.proofs.lemmas.List.{take-map, take_all}
 use Rattle.std.proofs.lemmas.Option.{slice_get-map, slice_get-get_or}
 use Rattle.span_script.specs.Form.{are_sound, begins_any, FitsForms}
-use Rattle.span_script.specs.Reason.{column_after, Begins, Continues, Describes, Expects, IsFirst, IsFirstMisfit, IsFirstWrong, IsMisfit, IsWordFault, TakesLabels, first_reason}
+use Rattle.span_script.specs.Reason.{column_after, Begins, Continues, Describes, Expects, IsFirst, IsFirstMisfit, IsFirstWrong, IsMisfit, IsWordFault}
+use Rattle.span_script.specs.Reason.{TakesLabels, first_reason}
 use Rattle.span_script.specs.Script.{texts_in}
 use Rattle.span_script.specs.declared.form.Slot.{Slot}
 use Rattle.span_script.specs.declared.reason.Reason.{Reason}
-use Rattle.span_script.specs.declared.reason.Reason.TheVariants.{NoStack, UnknownStack, UnknownWord, NotLabel, TooManyWords, TooFewWords, EmptyWord, CarriageReturn, Undeclared, DeclaredBefore}
+use Rattle.span_script.specs.declared.reason.Reason.TheVariants.{NoStack, UnknownStack, UnknownWord, NotLabel, TooManyWords, TooFewWords, EmptyWord}
+use Rattle.span_script.specs.declared.reason.Reason.TheVariants.{CarriageReturn, Undeclared, DeclaredBefore}
 use Rattle.std.proofs.lemmas.Bool.Decides.{nat_tests}
 use Rattle.span_script.proofs.Columns.{column-positive}
 use Rattle.span_script.proofs.Fitting.{begins-right, right-begins}
@@ -53,12 +56,14 @@ expects-to P Q same words CarriageReturn h = h
 expects-to P Q same words Undeclared h = h
 expects-to P Q same words DeclaredBefore h = h
 
-fault-to : (P Q : List (List ℕ) → Type 0) → IsSame P Q → (before : List (List ℕ)) (word : List ℕ) (offset : ℕ) (reason : Reason) → IsWordFault P before word offset reason → IsWordFault Q before word offset reason
+fault-to : (P Q : List (List ℕ) → Type 0) → IsSame P Q → (before : List (List ℕ)) (word : List ℕ) (offset : ℕ) (reason : Reason)
+    → IsWordFault P before word offset reason → IsWordFault Q before word offset reason
 fault-to P Q same before word offset reason (inl h) = inl h
 fault-to P Q same before word offset reason (inr (inl h)) = inr (inl h)
 fault-to P Q same before word offset reason (inr (inr h)) = inr (inr (h.0, h.1, expects-to P Q same before reason h.2))
 
-wrong-to : (P Q : List (List ℕ) → Type 0) → IsSame P Q → (words : List (List ℕ)) (place : ℕ) (word : List ℕ) → IsFirstWrong P words place word → IsFirstWrong Q words place word
+wrong-to : (P Q : List (List ℕ) → Type 0)
+    → IsSame P Q → (words : List (List ℕ)) (place : ℕ) (word : List ℕ) → IsFirstWrong P words place word → IsFirstWrong Q words place word
 wrong-to P Q same words place word h = record {
   begins = begins-to P Q same (take place words) h.begins;
   stands = h.stands;
@@ -66,7 +71,8 @@ wrong-to P Q same words place word h = record {
 }
 
 -- words are wrong in the same way by both
-pub misfit-to : (P Q : List (List ℕ) → Type 0) → IsSame P Q → (words : List (List ℕ)) (column : ℕ) (reason : Reason) → IsMisfit P words column reason → IsMisfit Q words column reason
+pub misfit-to : (P Q : List (List ℕ) → Type 0)
+    → IsSame P Q → (words : List (List ℕ)) (column : ℕ) (reason : Reason) → IsMisfit P words column reason → IsMisfit Q words column reason
 misfit-to P Q same words column reason (inl h) = inl (h.0, begins-to P Q same words h.1, λ right. h.2 ((same words).1 right), h.3)
 misfit-to P Q same words column reason (inr h) = inr (
   h.0,
@@ -93,7 +99,8 @@ misfit-column P words column reason (inl h) = let some = column-positive words i
 misfit-column P words column reason (inr h) = let some = column-positive (take h.0 words) in omega (arith, some, h.1.1.1.1)
 
 -- a reason of words that are no first line
-pub first-of : (words : List (List ℕ)) (column : ℕ) (reason : Reason) → IsMisfit IsFirst words column reason → IsFirstMisfit words column (first_reason column reason)
+pub first-of : (words : List (List ℕ)) (column : ℕ) (reason : Reason)
+    → IsMisfit IsFirst words column reason → IsFirstMisfit words column (first_reason column reason)
 first-of words column NoStack h = absurd (no-misfit IsFirst words column NoStack h (λ e. cc) (λ e. cc) (λ e. cc) (λ before e. e))
 first-of words column UnknownStack h = absurd (no-misfit IsFirst words column UnknownStack h (λ e. cc) (λ e. cc) (λ e. cc) (λ before e. e))
 first-of words column UnknownWord h = go (column == 1) refl
@@ -111,8 +118,10 @@ first-of words column DeclaredBefore h = h
 
 -- a word that is the first with which no form begins
 pub misfit-word : (forms : List (Bor (List Slot))) (ws : List (Bor (List ℕ))) (place : ℕ) (word : Bor (List ℕ)) (offset column : ℕ) (reason : Reason)
-    → are_sound forms ≡ true → begins_any forms (texts_in (take place ws)) ≡ true → place < length ws → begins_any forms (texts_in (take (place + 1) ws)) ≡ false
-    → column ≡ column_after (texts_in (take place ws)) → word ≡ get_or ws place word → IsWordFault (FitsForms forms) (texts_in (take place ws)) word.now offset reason
+    → are_sound forms ≡ true
+    → begins_any forms (texts_in (take place ws)) ≡ true → place < length ws → begins_any forms (texts_in (take (place + 1) ws)) ≡ false
+    → column ≡ column_after (texts_in (take place ws))
+    → word ≡ get_or ws place word → IsWordFault (FitsForms forms) (texts_in (take place ws)) word.now offset reason
     → IsMisfit (FitsForms forms) (texts_in ws) (column + offset) reason
 misfit-word forms ws place word offset column reason sound begins within wrong columns is fault = inr (
   place,
@@ -123,8 +132,10 @@ misfit-word forms ws place word offset column reason sound begins within wrong c
       (
         record {
           begins = subst (λ xs. Begins (FitsForms forms) xs) (sym same) (begins-right forms (texts_in (take place ws)) sound begins);
-          stands = slice_get-map (λ t. t.now) ws place ∙ ap (λ o. option_map (λ t. t.now) o) (slice_get-get_or ws place word within) ∙ ap (λ (x : Bor (List ℕ)). Some x.now) (sym is);
-          wrong = λ b. true≢false (sym (right-begins forms (take (place + 1) (texts_in ws)) b) ∙ ap (λ xs. begins_any forms xs) (take-map (λ t. t.now) (place + 1) ws) ∙ wrong);
+          stands = slice_get-map (λ t. t.now) ws place
+              ∙ ap (λ o. option_map (λ t. t.now) o) (slice_get-get_or ws place word within) ∙ ap (λ (x : Bor (List ℕ)). Some x.now) (sym is);
+          wrong = λ b. true≢false (sym (right-begins forms (take (place + 1) (texts_in ws)) b)
+              ∙ ap (λ xs. begins_any forms xs) (take-map (λ t. t.now) (place + 1) ws) ∙ wrong);
         },
         ap (λ n. n + offset) (columns ∙ ap (λ xs. column_after xs) (sym same)),
         subst (λ xs. IsWordFault (FitsForms forms) xs word.now offset reason) (sym same) fault,
@@ -137,10 +148,16 @@ misfit-word forms ws place word offset column reason sound begins within wrong c
     same = take-map (λ t. t.now) place ws
 
 -- words that begin a form, to the last
-pub misfit-few : (forms : List (Bor (List Slot))) (ws : List (Bor (List ℕ))) (place column : ℕ) → are_sound forms ≡ true → begins_any forms (texts_in (take place ws)) ≡ true → length ws ≤ place
+pub misfit-few : (forms : List (Bor (List Slot))) (ws : List (Bor (List ℕ))) (place column : ℕ)
+    → are_sound forms ≡ true → begins_any forms (texts_in (take place ws)) ≡ true → length ws ≤ place
     → ¬ (FitsForms forms (texts_in ws)) → column ≡ column_after (texts_in (take place ws)) → IsMisfit (FitsForms forms) (texts_in ws) column TooFewWords
 misfit-few forms ws place column sound begins end wrong columns =
-    inl (refl, subst (λ xs. Begins (FitsForms forms) (texts_in xs)) all (begins-right forms (texts_in (take place ws)) sound begins), wrong, columns ∙ ap (λ xs. column_after (texts_in xs)) all)
+    inl (
+      refl,
+      subst (λ xs. Begins (FitsForms forms) (texts_in xs)) all (begins-right forms (texts_in (take place ws)) sound begins),
+      wrong,
+      columns ∙ ap (λ xs. column_after (texts_in xs)) all,
+    )
   where
     all : take place ws ≡ ws
     all = take_all place ws end

@@ -1,10 +1,12 @@
 -- Which line of a script is the first that is wrong.
-use Rattle.std.proofs.Common.{◌≡◌, ℕ, ◌+◌, ◌<◌, ◌≤◌, List, [], ◌∷◌, length, get_or, take, map, Option, Some, None, Result, Err, IfErr, IfSome, refl, sym, ap, ◌∙◌, inl, inr, subst}
+use Rattle.std.proofs.Common.{◌≡◌, ℕ, ◌+◌, ◌<◌, ◌≤◌, List, [], ◌∷◌, length, get_or, take, map, Option, Some, None, Result, Err, IfErr, IfSome, refl, sym, ap}
+use Rattle.std.proofs.Common.{◌∙◌, inl, inr, subst}
 use Rattle.std.proofs.lemmas.List.{take-map, take_all}
 use Rattle.std.proofs.lemmas.Option.{slice_get-map, slice_get-get_or}
 use Rattle.std.specs.Prelude.{IsSomeAnd, false, not, ◌==◌, filter, ok_or, option_map, slice_get}
 use Rattle.std.specs.Borrow.{Bor}
-use Rattle.span_script.specs.Script.{cut, is_full, lines_of, read_in, requests_of, words_in, words_of, words_of_texts, AskFor, IsLine, IsNoLine, IsScript, NamesNoStack}
+use Rattle.span_script.specs.Script.{cut, is_full, lines_of, read_in, requests_of, words_in, words_of, words_of_texts, AskFor, IsLine, IsNoLine, IsScript}
+use Rattle.span_script.specs.Script.{NamesNoStack}
 use Rattle.span_script.specs.Reason.{IsFirstMisfit, IsLabelFaultIn, IsLater, IsMisfit}
 use Rattle.span_script.specs.Fault.{Blames, IsLabelFaultAt, IsScriptFault, IsWrongFor}
 use Rattle.span_script.specs.declared.fault.ScriptFault.{ScriptFault}
@@ -41,7 +43,8 @@ fault-at text texts place d script (Wrong f) cuts within is spelled w = inr (
 )
   where
     here : Some (get_or texts place d).now ≡ slice_get (cut 10 text) place
-    here = sym (ap (λ xs. slice_get xs place) (sym cuts) ∙ slice_get-map (λ t. t.now) texts place ∙ ap (λ o. option_map (λ t. t.now) o) (slice_get-get_or texts place d within))
+    here = sym (ap (λ xs. slice_get xs place) (sym cuts)
+        ∙ slice_get-map (λ t. t.now) texts place ∙ ap (λ o. option_map (λ t. t.now) o) (slice_get-get_or texts place d within))
 
 nil-of-map : {X Y : Type 0} (f : X → Y) (xs : List X) → [] ≡ map f xs → xs ≡ []
 nil-of-map f [] e = refl
@@ -65,21 +68,26 @@ no-line text texts place None w r is e cuts end spelled = subst (λ r. IfErr r (
 no-line text texts place (Some s) w r is e cuts end spelled = subst (λ r. IfErr r (IsScriptFault text)) (sym e) tt
 
 -- a line that is not empty, and whose words are no first line
-pub first-blamed : (n : ℕ) (script : Option Script) (text : List ℕ) (words : List (List ℕ)) (column : ℕ) (reason : Reason) (f : ScriptFault) → script ≡ None → (length text == 0) ≡ false → words ≡ cut 32 text
-    → NamesNoStack words → IsFirstMisfit words column reason → f ≡ Wrong (record { line = n; column = column; reason = reason }) → Blames n (IsWrongFor (read_in script) text) f
+pub first-blamed : (n : ℕ) (script : Option Script) (text : List ℕ) (words : List (List ℕ)) (column : ℕ) (reason : Reason) (f : ScriptFault)
+    → script ≡ None → (length text == 0) ≡ false → words ≡ cut 32 text
+    → NamesNoStack words
+    → IsFirstMisfit words column reason → f ≡ Wrong (record { line = n; column = column; reason = reason }) → Blames n (IsWrongFor (read_in script) text) f
 first-blamed n script text words column reason f none full cuts wrong misfit is =
     subst (λ f. Blames n (IsWrongFor (read_in script) text) f) (sym is) (subst (λ s. (n ≡ n) × IsWrongFor (read_in s) text column reason) (sym none)
     (refl, ((ap (λ b. not b) full, subst (λ ws. NamesNoStack ws) cuts wrong), subst (λ ws. IsFirstMisfit ws column reason) cuts misfit)))
 
 -- one whose words are no later line
-pub later-blamed : (n : ℕ) (script : Option Script) (s : Script) (text : List ℕ) (words : List (List ℕ)) (column : ℕ) (reason : Reason) (f : ScriptFault) → script ≡ Some s → (length text == 0) ≡ false → words ≡ cut 32 text
-    → IsNoLine words → IsMisfit IsLater words column reason → f ≡ Wrong (record { line = n; column = column; reason = reason }) → Blames n (IsWrongFor (read_in script) text) f
+pub later-blamed : (n : ℕ) (script : Option Script) (s : Script) (text : List ℕ) (words : List (List ℕ)) (column : ℕ) (reason : Reason) (f : ScriptFault)
+    → script ≡ Some s → (length text == 0) ≡ false → words ≡ cut 32 text
+    → IsNoLine words
+    → IsMisfit IsLater words column reason → f ≡ Wrong (record { line = n; column = column; reason = reason }) → Blames n (IsWrongFor (read_in script) text) f
 later-blamed n script s text words column reason f some full cuts wrong misfit is =
     subst (λ f. Blames n (IsWrongFor (read_in script) text) f) (sym is) (subst (λ s. (n ≡ n) × IsWrongFor (read_in s) text column reason) (sym some)
     (refl, ((ap (λ b. not b) full, inl (subst (λ ws. IsNoLine ws) cuts wrong)), inl (subst (λ ws. IsMisfit IsLater ws column reason) cuts misfit))))
 
 -- one whose labels are wrong
-pub label-blamed : (n : ℕ) (script : Option Script) (s : Script) (text : List ℕ) (words : List (List ℕ)) (l : Line) (f : ScriptFault) → script ≡ Some s → (length text == 0) ≡ false → words ≡ cut 32 text
+pub label-blamed : (n : ℕ) (script : Option Script) (s : Script) (text : List ℕ) (words : List (List ℕ)) (l : Line) (f : ScriptFault)
+    → script ≡ Some s → (length text == 0) ≡ false → words ≡ cut 32 text
     → words ≡ words_of l → IsLine l → Blames n (IsLabelFaultAt (lines_of s) l words) f → Blames n (IsWrongFor (read_in script) text) f
 label-blamed n script s text words l Memory some full cuts spelled is h = tt
 label-blamed n script s text words l (Wrong w) some full cuts spelled is h =

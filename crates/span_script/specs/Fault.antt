@@ -15,14 +15,16 @@ use Rattle.span_dispatch.specs.declared.request.Request.{Request}
 abbrev pub IsWrongFor : Option (StackName × List Line) → List ℕ → ℕ → Reason → Type 0
 IsWrongFor before text column reason = IsWrongAfter before text × IsReason before text column reason
 
--- the text at this place can't follow the ones before it, which are read, for this reason, at this column
+-- the text at this place can't follow the ones before it, which are read, for this reason, at this
+-- column
 pub record IsWrongAt (texts : List (List ℕ)) (place column : ℕ) (reason : Reason) : Type 0 where
   pub before : Option (StackName × List Line)
   pub asked : IfSome before (λ read. (requests : List Request) × AskFor read.1 requests)
   pub spelled : words_in before ≡ words_of_texts (take place texts)
   pub wrong : IsSomeAnd (slice_get texts place) (λ text. IsWrongFor before text column reason)
 
--- the first line of a text that is wrong, and why; where all are empty, the first, since no stack is named
+-- the first line of a text that is wrong, and why; where all are empty, the first, since no stack
+-- is named
 abbrev pub IsWrongLine : List ℕ → WrongLine → Type 0
 IsWrongLine text w =
     ((w.line ≡ 1) × (w.column ≡ 1) × (w.reason ≡ NoStack) × (filter is_full (cut 10 text) ≡ []))

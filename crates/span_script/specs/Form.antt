@@ -46,11 +46,11 @@ next_slot form words = next_if (begins_form form words) (slice_get form (length 
 abbrev pub begins_any : List (Bor (List Slot)) → List (List ℕ) → Bool
 begins_any forms words = list_any (λ form. begins_form form.now words) forms
 
--- one of those goes on behind them
+-- whether one of these forms goes on behind the words
 abbrev pub continues_any : List (Bor (List Slot)) → List (List ℕ) → Bool
 continues_any forms words = list_any (λ form. is_some (next_slot form.now words)) forms
 
--- and in one of those each label can stand behind them
+-- whether one of these forms goes on behind the words with a place that each label can stand at
 abbrev pub labels_any : List (Bor (List Slot)) → List (List ℕ) → Bool
 labels_any forms words =
     list_any (λ form. option_map_or takes_labels (next_slot form.now words) false) forms
@@ -62,7 +62,7 @@ FitsForm [] (word ∷ words) = ⊥
 FitsForm (slot ∷ form) [] = ⊥
 FitsForm (slot ∷ form) (word ∷ words) = IsTrue (fits slot word) × FitsForm form words
 
--- the same of one of these forms
+-- the words can stand at the places of one of these forms, one at each
 abbrev pub FitsForms : List (Bor (List Slot)) → List (List ℕ) → Type 0
 FitsForms forms words =
     (place : ℕ) × IsSomeAnd (slice_get forms place) (λ form. FitsForm form.now words)

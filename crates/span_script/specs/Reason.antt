@@ -34,17 +34,17 @@ pub record Describes (forms : List (Bor (List Slot))) (IsRight : List (List ℕ)
 
 -- Below: which words are right.
 
--- right words begin with these
+-- some right words begin with these
 abbrev pub Begins : (List (List ℕ) → Type 0) → List (List ℕ) → Type 0
 Begins IsRight words = (all : List (List ℕ)) × (IsRight all × (take (length words) all ≡ words))
 
--- and are more than these
+-- some right words begin with these and go on
 abbrev pub Continues : (List (List ℕ) → Type 0) → List (List ℕ) → Type 0
 Continues IsRight words =
     (all : List (List ℕ))
     × (IsRight all × (take (length words) all ≡ words) × (length words < length all))
 
--- each label can stand behind these
+-- each label can stand behind these words
 abbrev pub TakesLabels : (List (List ℕ) → Type 0) → List (List ℕ) → Type 0
 TakesLabels IsRight words =
     (label : List ℕ) → IsTrue (is_label label) → Begins IsRight (words ++ label ∷ [])
@@ -80,14 +80,16 @@ IsWordFault IsRight before word offset reason = ((reason ≡ CarriageReturn) × 
     ⊎ (((reason ≡ EmptyWord) × (offset ≡ 0) × (length word ≡ 0))
     ⊎ ((offset ≡ 0) × IsPlainWord word × Expects IsRight before reason))
 
--- the word at this place is the first that is wrong: right words begin with those before it, and none with it too
+-- the word at this place is the first that is wrong: right words begin with those before it, and
+-- none with it too
 pub record IsFirstWrong (IsRight : List (List ℕ) → Type 0) (words : List (List ℕ)) (place : ℕ)
     (word : List ℕ) : Type 0 where
   pub begins : Begins IsRight (take place words)
   pub stands : slice_get words place ≡ Some word
   pub wrong : ¬ (Begins IsRight (take (place + 1) words))
 
--- words that are not right: they are the first ones of right words; or one of them is the first that is wrong
+-- words that are not right: they are the first ones of right words; or one of them is the first
+-- that is wrong
 abbrev pub IsMisfit : (List (List ℕ) → Type 0) → List (List ℕ) → ℕ → Reason → Type 0
 IsMisfit IsRight words column reason =
     ((reason ≡ TooFewWords) × Begins IsRight words × ¬ (IsRight words)
@@ -97,14 +99,16 @@ IsMisfit IsRight words column reason =
     × (column ≡ column_after (take place words) + offset)
     × IsWordFault IsRight (take place words) word offset reason))))
 
--- the same of a first line, in which a wrong word is no `stack` or no stack's name
+-- a first line is no right one: the column of its first wrong word, and the reason, where a wrong
+-- word is no `stack` or no stack's name
 abbrev pub IsFirstMisfit : List (List ℕ) → ℕ → Reason → Type 0
 IsFirstMisfit words column NoStack = (column ≡ 1) × IsMisfit IsFirst words column UnknownWord
 IsFirstMisfit words column UnknownStack = (1 < column) × IsMisfit IsFirst words column UnknownWord
 IsFirstMisfit words column UnknownWord = ⊥
 IsFirstMisfit words column reason = IsMisfit IsFirst words column reason
 
--- a reason as a first line's, which has a wrong word only where the name of a stack is wrong, or `stack`
+-- a reason as a first line's, which has a wrong word only where the name of a stack is wrong, or
+-- `stack`
 abbrev pub first_reason : ℕ → Reason → Reason
 first_reason column UnknownWord = if column == 1 then NoStack else UnknownStack
 first_reason column reason = reason
@@ -141,14 +145,16 @@ abbrev pub IsTaken : List Line → Line → Type 0
 IsTaken before l =
     IsSomeAnd (declared_label l) (λ label. (place : ℕ) × DeclaresAt before place label)
 
--- why a line can't follow these, and at which of its words: it has a name that is not declared; or it has none, and declares, as its fourth word, a label that is taken
+-- why a line can't follow these, and at which of its words: it has a name that is not declared; or
+-- it has none, and declares, as its fourth word, a label that is taken
 abbrev pub IsLabelFault : List Line → Line → ℕ → Reason → Type 0
 IsLabelFault before l place Undeclared = IsUndeclared before (names_of l) place
 IsLabelFault before l place DeclaredBefore =
     (place ≡ 3) × ((r : Request) × Asks before l r) × IsTaken before l
 IsLabelFault before l place reason = ⊥
 
--- the same of a line of these words, at the column that one of them begins at
+-- why a line of these words can't follow the lines before, and the column of the word that is at
+-- fault
 abbrev pub IsLabelFaultIn : List Line → Line → List (List ℕ) → ℕ → Reason → Type 0
 IsLabelFaultIn before l words column reason =
     (place : ℕ) × (IsLabelFault before l place reason × (column ≡ column_after (take place words)))
@@ -158,7 +164,8 @@ abbrev pub IsLabelFaultOf : List Line → List (List ℕ) → ℕ → Reason →
 IsLabelFaultOf before words column reason =
     (l : Line) × (IsLine l × (words ≡ words_of l) × IsLabelFaultIn before l words column reason)
 
--- why a text can't follow what was read, and at which column: its words are no line, or its labels are wrong
+-- why a text can't follow what was read, and at which column: its words are no line, or its labels
+-- are wrong
 abbrev pub IsReason : Option (StackName × List Line) → List ℕ → ℕ → Reason → Type 0
 IsReason None text column reason = IsFirstMisfit (cut 32 text) column reason
 IsReason (Some read) text column reason =

@@ -154,7 +154,7 @@ abbrev pub IsName : Name → Type 0
 IsName Nobody = ⊤
 IsName (Label label) = IsTrue (is_label label.now)
 
--- the lane is a digit, and the name a name
+-- the lane of a pair is a digit, and its name a name
 abbrev pub IsLaneAndName : Lane × Name → Type 0
 IsLaneAndName both = (both.0.0 < 10) × IsName both.1
 
@@ -163,12 +163,12 @@ abbrev pub IsNoLaneAndName : List (List ℕ) → Type 0
 IsNoLaneAndName words =
     (n : ℕ) (name : Name) → n < 10 → IsName name → words ≢ digit n ∷ word_of name ∷ []
 
--- a parent has a name where it is named by one
+-- the name that a parent may have is a name
 abbrev pub IsParentName : ParentName → Type 0
 IsParentName (In name) = IsName name
 IsParentName parent = ⊤
 
--- the same of a parent and a value
+-- the name that the parent of an event's tail may have is a name
 abbrev pub IsTail : ParentName × MuteField → Type 0
 IsTail tail = IsParentName tail.0
 
@@ -178,7 +178,8 @@ IsNoTail words =
     (parent : ParentName) (mute : MuteField) → IsParentName parent
     → words ≢ parent_words parent ++ mute_words mute
 
--- the lane or the filter's number is a digit, the site one of spans, of events, or any, and the names are names
+-- the lane or the filter's number is a digit, the site one of spans, of events, or any, and the
+-- names are names
 abbrev pub IsLine : Line → Type 0
 IsLine (New lane site label parent) =
     (lane.0 < 10) × IsSpanSite site × IsTrue (is_label label.now) × IsParentName parent
@@ -222,13 +223,14 @@ abbrev pub DeclaresAt : List Line → ℕ → List ℕ → Type 0
 DeclaresAt lines place label =
     IsSomeAnd (slice_get lines place) (λ l. declared_label l ≡ Some label)
 
--- after these lines, the name is that of this span: `?` of the id 0, a label of the span that its line's request makes
+-- after these lines, a name names this span: `?` that with the id 0, a label the one that its
+-- line's request makes
 abbrev pub Means : List Line → Name → Which → Type 0
 Means before Nobody (Known id) = number_of id ≡ 0
 Means before (Label label) (Made place) = DeclaresAt before place label.now
 Means before name which = ⊥
 
--- the same of a parent
+-- after these lines, a parent's name names this parent
 abbrev pub MeansParent : List Line → ParentName → WhichParent → Type 0
 MeansParent before Contextual asked.Contextual = ⊤
 MeansParent before Root asked.Root = ⊤
@@ -269,14 +271,15 @@ Asks before l r = ⊥
 abbrev pub HoldsOfNone : {X : Type 0} → (X → Type 0) → Type 0
 HoldsOfNone {X = X} P = (x : X) → ¬ (P x)
 
--- no line declares the label that this one declares
+-- no line before declares the label that a line declares
 abbrev pub IsNewIn : List Line → Line → Type 0
 IsNewIn lines l =
     IfSome (declared_label l)
     (λ label. (place : ℕ)
     → IfSome (slice_get lines place) (λ other. declared_label other ≢ Some label))
 
--- the lines ask for the requests, one for one: each is a line, names what lines before it declare, and declares what none does
+-- the lines ask for the requests, one for one: each is a line, names what lines before it declare,
+-- and declares what none does
 pub data AskFor : List Line → List Request → Type 0 where
   nothing : AskFor [] []
   more : {lines : List Line} {requests : List Request} (l : Line) (r : Request) → IsLine l
@@ -327,7 +330,8 @@ first_words stack = codes "stack" ∷ stack_word stack ∷ []
 abbrev pub NamesNoStack : List (List ℕ) → Type 0
 NamesNoStack words = (stack : StackName) → words ≢ first_words stack
 
--- the words of what was read of a script: of its first line, which names the stack, and of the lines after it
+-- the words of what was read of a script: of its first line, which names the stack, and of the
+-- lines after it
 abbrev pub words_in : Option (StackName × List Line) → List (List (List ℕ))
 words_in None = []
 words_in (Some read) = first_words read.0 ∷ map words_of read.1
@@ -340,11 +344,13 @@ is_full text = not (length text == 0)
 abbrev pub words_of_texts : List (List ℕ) → List (List (List ℕ))
 words_of_texts texts = map (cut 32) (filter is_full texts)
 
--- cut at line feeds and, empty lines aside, at spaces, the text is the first line of this stack and the words of these lines
+-- cut at line feeds and, empty lines aside, at spaces, the text is the first line of this stack and
+-- the words of these lines
 abbrev pub IsSpelled : List ℕ → StackName → List Line → Type 0
 IsSpelled text stack lines = words_of_texts (cut 10 text) ≡ words_in (Some (stack, lines))
 
--- the text is not empty, and can't follow what was read: its words are no first line; or they are no line, or one that can't
+-- the text is not empty, and can't follow what was read: its words are no first line; or they are
+-- no line, or one that can't
 abbrev pub IsWrongAfter : Option (StackName × List Line) → List ℕ → Type 0
 IsWrongAfter None text = IsTrue (is_full text) × NamesNoStack (cut 32 text)
 IsWrongAfter (Some read) text =

@@ -11,7 +11,7 @@ use thiserror::Error;
 /// The first line of a text that is wrong.
 #[derive(Clone, Copy, Debug, PartialEq, Eq)]
 pub struct WrongLine {
-    /// Its number, counted from 1.
+    /// The line's number, counted from 1.
     pub line: u64,
     /// The column of what is wrong, counted in bytes from 1.
     pub column: usize,
@@ -32,7 +32,7 @@ impl fmt::Display for WrongLine {
 /// Why a text is not read as a script.
 #[derive(Clone, Copy, Debug, PartialEq, Eq, Error)]
 pub enum ScriptFault {
-    /// It is no script, since this line is wrong.
+    /// This line is wrong, so the text is no script.
     #[error("{0}")]
     Wrong(WrongLine),
     /// Memory was refused.

@@ -14,27 +14,27 @@ const LABEL_LIMIT: usize = 16;
 /// A span as a line names it.
 #[derive(Clone, Copy, Debug)]
 pub enum Name<'a> {
-    /// By `?`: the id 0, which no span has.
+    /// The name `?`, of the id 0, which no span has.
     Nobody,
-    /// By the label of the line that makes it.
+    /// The label of the line that makes the span.
     Label(&'a str),
 }
 
 /// The parent that a line names.
 #[derive(Clone, Copy, Debug)]
 pub enum ParentName<'a> {
-    /// By nothing: the span that the lane is in.
+    /// Written by nothing: the span that the lane is in.
     Contextual,
-    /// By `root`: none.
+    /// Written by `root`: no parent.
     Root,
-    /// By `in` and a name.
+    /// Written by `in` and a name: the span of that name.
     In(Name<'a>),
 }
 
 /// The value that a line gives to an event's field `mute`.
 #[derive(Clone, Copy, Debug, PartialEq, Eq)]
 pub enum MuteField {
-    /// None, by nothing.
+    /// Written by nothing: no value.
     Absent,
     /// True, by `mute`.
     Given,

@@ -4,7 +4,7 @@ use thiserror::Error;
 /// Why a line of a script is wrong, at a column of it. Its words stand between single spaces.
 #[derive(Clone, Copy, Debug, PartialEq, Eq, Error)]
 pub enum Reason {
-    /// There is no first line, or it doesn't begin with `stack`.
+    /// The first line is missing, or doesn't begin with `stack`.
     #[error("a script begins with `stack` and the name of a stack")]
     NoStack,
     /// The word after `stack` names none.

@@ -1,5 +1,6 @@
 -- A journal that is one entry longer.
-use Rattle.std.proofs.Common.{◌⊎◌, ◌≡◌, ℕ, Bool, List, [], ◌∷◌, ◌++◌, Option, Some, None, MatchOption, Result, Ok, Err, IsErrAnd, inl, inr, refl, ap, sym, ◌∙◌, subst, ◌+◌, length}
+use Rattle.std.proofs.Common.{◌⊎◌, ◌≡◌, ℕ, Bool, List, [], ◌∷◌, ◌++◌, Option, Some, None, MatchOption, Result, Ok, Err, IsErrAnd, inl, inr, refl, ap, sym, ◌∙◌}
+use Rattle.std.proofs.Common.{subst, ◌+◌, length}
 use Rattle.std.proofs.lemmas.Fn.{FoldsTo-push}
 use Rattle.std.proofs.lemmas.List.{length_push}
 use Rattle.std.specs.Cmp.{eq_by_cmp_equiv, nat_cmp_total}
@@ -16,7 +17,8 @@ use Rattle.span_core.specs.declared.span.Id.{Id}
 use Rattle.span_core.specs.declared.span.Lane.{Lane}
 use Rattle.span_dispatch.specs.Call.{DropsSpan, FindsOpen, done_answer, event_answer, look_answer, span_answer, yes_answer}
 use Rattle.span_dispatch.specs.Contract.{SubscriberOf}
-use Rattle.span_dispatch.specs.declared.call.Call.TheVariants.{AddHandle, AskCurrent, DropHandle, Enter, Exit, Follow, OpenSpan, Probe, RecordValues, SendEvent, SetLevel}
+use Rattle.span_dispatch.specs.declared.call.Call.TheVariants.{AddHandle, AskCurrent, DropHandle, Enter, Exit, Follow, OpenSpan, Probe, RecordValues, SendEvent}
+use Rattle.span_dispatch.specs.declared.call.Call.TheVariants.{SetLevel}
 use Rattle.span_dispatch.specs.declared.call.Call.{Call}
 use Rattle.span_dispatch.specs.declared.request.Answer.{Answer}
 use Rattle.span_shared.specs.Journal.{Adds, Entry, Happens, KeepsJournal, Leaves, LoggedState, Placed, bare}
@@ -25,23 +27,29 @@ use Rattle.span_shared.specs.Worker.{SomeLogged}
 use Rattle.span_dispatch.specs.Serve.{stack_of}
 use Rattle.span_dispatch.specs.declared.dispatch.Dispatch.{Dispatch}
 use Rattle.span_shared.specs.declared.entry.EntryWith.TheVariants as entry
+use Rattle.span_store.specs.Closes.{HasNoClosing}
+use Rattle.span_store.specs.Step.{AskedSpan, Clones, Enters, Exits, Opens, ShowsCurrent, begun}
+use Rattle.span_store.specs.Store.{RegistryState, Span, Spans, Store, empty_store}
 use Rattle.span_registry.proofs.CallerLemmas.{settled_aside, settled_cloned, settled_entered, settled_exited, settled_new, settled_opened}
-use Rattle.span_registry.specs.Closes.{HasNoClosing}
-use Rattle.span_registry.specs.Step.{AskedSpan, Clones, Enters, Exits, Opens, ShowsCurrent, begun}
-use Rattle.span_registry.specs.Store.{RegistryState, Span, Spans, Store, empty_store}
 use Rattle.span_registry.specs.Subscriber.{AndHooks, SameButExtensions}
 
-module _ {D A : Type 0} {serves : Result A TraceError → D → D → Type 0} {adds : A × Placed → LoggedState D → LoggedState D → Type 0} {inside now new : LoggedState D} (same : inside ≡ now) where
+module _ {D A : Type 0} {serves : Result A TraceError → D → D → Type 0}
+    {adds : A × Placed → LoggedState D → LoggedState D → Type 0} {inside now new : LoggedState D} (same : inside ≡ now) where
   -- what the dispatcher refuses is refused here, and adds no entry
-  pub logs_refused : (e : TraceError) (r : Answered A) → IsErrAnd r (λ y. y ≡ e) → serves (Err e) inside.dispatch new.dispatch → new.journal ≡ inside.journal → Logs serves adds r now new
+  pub logs_refused : (e : TraceError) (r : Answered A)
+      → IsErrAnd r (λ y. y ≡ e) → serves (Err e) inside.dispatch new.dispatch → new.journal ≡ inside.journal → Logs serves adds r now new
   logs_refused e (Ok x) h k j = absurd h
   logs_refused e (Err y) h k j = record {
     done = tt;
-    refused = inr (subst (λ (l : LoggedState D). serves (Err y) l.dispatch new.dispatch) same (subst (λ z. serves (Err z) inside.dispatch new.dispatch) (sym h) k), j ∙ ap (λ (l : LoggedState D). l.journal) same);
+    refused = inr (
+      subst (λ (l : LoggedState D). serves (Err y) l.dispatch new.dispatch) same (subst (λ z. serves (Err z) inside.dispatch new.dispatch) (sym h) k),
+      j ∙ ap (λ (l : LoggedState D). l.journal) same,
+    );
   }
 
   -- what it serves is served here, and adds its entry
-  pub logs_done : (a b : A) (receipt : Placed) → a ≡ b → serves (Ok a) inside.dispatch new.dispatch → adds (b, receipt) now new → Logs serves adds (Ok (b, receipt)) now new
+  pub logs_done : (a b : A) (receipt : Placed)
+      → a ≡ b → serves (Ok a) inside.dispatch new.dispatch → adds (b, receipt) now new → Logs serves adds (Ok (b, receipt)) now new
   logs_done a b receipt given k added = record {
     done = (subst (λ (l : LoggedState D). serves (Ok b) l.dispatch new.dispatch) same (subst (λ z. serves (Ok z) inside.dispatch new.dispatch) given k), added);
     refused = tt;
@@ -117,7 +125,8 @@ Goes s e t = Happens (bare s.store) e (bare t.store) × (HasNoClosing s.store.sp
 pub goes_aside : (s t u : RegistryState) (e : Entry) → Goes s e t → SameButExtensions t u → Goes s e u
 goes_aside s t u e g h = (subst (λ v. Happens (bare s.store) e v) (sym (bare_same t u h)) g.0, λ k. settled_aside h (g.1 k))
 
-pub goes_on : {S : Type 0} (registry : S → RegistryState) (step : RegistryState → RegistryState → Type 0) (x y : S) (e : Entry) → AndHooks registry step x y → ((s t : RegistryState) → step s t → Goes s e t) → Goes (registry x) e (registry y)
+pub goes_on : {S : Type 0} (registry : S → RegistryState) (step : RegistryState → RegistryState → Type 0) (x y : S) (e : Entry)
+    → AndHooks registry step x y → ((s t : RegistryState) → step s t → Goes s e t) → Goes (registry x) e (registry y)
 goes_on registry step x y e h go = goes_aside (registry x) h.stepped (registry y) e (go (registry x) h.stepped h.taken) h.hooks
 
 pub enters : (lane : Lane) (id : Id) (s t : RegistryState) → Enters lane id s t → Goes s (entry.Enter lane id) t
@@ -138,37 +147,52 @@ follows lane id other s t h = ((h.0, (stays s t h.1).0), (stays s t h.1).1)
 pub clones : (lane : Lane) (id : Id) (s t : RegistryState) → Clones id s t → Goes s (entry.Clone lane id) t
 clones lane id s t h = ((h.is_open, ap (λ (r : RegistryState). bare r.store) h.state), settled_cloned id s t h)
 
-pub opens : (lane : Lane) (span : AskedSpan) (id : Id) (s t : RegistryState) → Opens lane span id s t → Goes s (entry.New lane span.metadata span.parent span.verdict id) t
-opens lane span id s t h =
-    (record { parent = h.parent; chosen = h.finds.chosen; other = h.other; fresh = h.fresh; store = ap (λ (r : RegistryState). bare r.store) h.state }, settled_opened lane span id s t h)
+pub opens : (lane : Lane) (span : AskedSpan) (id : Id) (s t : RegistryState)
+    → Opens lane span id s t → Goes s (entry.New lane span.metadata span.parent span.verdict id) t
+opens lane span id s t h = (
+  record { parent = h.parent; chosen = h.finds.chosen; other = h.other; fresh = h.fresh; store = ap (λ (r : RegistryState). bare r.store) h.state },
+  settled_opened lane span id s t h,
+)
 
 get_inserted : {X : Type 0} (m : FinMap nat_cmp X) (k : ℕ) (v : X) → get (insert m k v) k ≡ Some v
 get_inserted m k v = get-insert nat_cmp_total m k v k ∙ ap (λ b. cond b (Some v) (get m k)) ((eq_by_cmp_equiv nat_cmp_total).refl k)
 
 -- the store keeps the verdict of a span that was opened
-pub kept_verdict : {S : Type 0} (registry : S → RegistryState) (x y : S) (lane : Lane) (span : AskedSpan) (id : Id) → AndHooks registry (Opens lane span id) x y → (kept : Span) × (get (registry y).store.spans (number_of id) ≡ Some kept) × (kept.verdict ≡ span.verdict)
+pub kept_verdict : {S : Type 0} (registry : S → RegistryState) (x y : S) (lane : Lane) (span : AskedSpan) (id : Id)
+    → AndHooks registry (Opens lane span id) x y → (kept : Span) × (get (registry y).store.spans (number_of id) ≡ Some kept) × (kept.verdict ≡ span.verdict)
 kept_verdict registry x y lane span id h =
-    let opened : Span = begun span h.taken.parent in
-    (opened, ap (λ (m : Spans). get m (number_of id)) (h.hooks.spans ∙ ap (λ (r : RegistryState). r.store.spans) h.taken.state) ∙ get_inserted (registry x).store.spans (number_of id) opened, refl)
+    let opened : Span = begun span h.taken.parent in (
+      opened,
+      ap (λ (m : Spans). get m (number_of id)) (h.hooks.spans ∙ ap (λ (r : RegistryState). r.store.spans) h.taken.state)
+          ∙ get_inserted (registry x).store.spans (number_of id) opened,
+      refl,
+    )
 
 -- a drop, from a store where no span is closing
-pub drops : (id : Id) (closes : Bool) (lane : Lane) (s t : RegistryState) → DropsSpan id closes s t → Happens (bare s.store) (entry.Drop lane id closes) (bare t.store)
+pub drops : (id : Id) (closes : Bool) (lane : Lane) (s t : RegistryState)
+    → DropsSpan id closes s t → Happens (bare s.store) (entry.Drop lane id closes) (bare t.store)
 drops id closes lane s t h =
     record { held = h.0; closed = h.1.0; exact = h.1.1.closes; itself = h.1.2; store = ap bare h.1.1.taken.store }
 
 -- the span that a lane is in
-pub shows : (lane : Lane) (c : Current) (s : RegistryState) → ShowsCurrent s.store lane c → (o : Option Id) → o ≡ option_map (λ p. p.0) (current_span c) → Goes s (entry.Current lane o) s
+pub shows : (lane : Lane) (c : Current) (s : RegistryState)
+    → ShowsCurrent s.store lane c → (o : Option Id) → o ≡ option_map (λ p. p.0) (current_span c) → Goes s (entry.Current lane o) s
 shows lane c s h o e = ((subst (λ n. IsCurrentOf n) (sym (ap (λ p. option_map number_of p) e ∙ twice (current_span c))) h.span, refl), λ k. k)
   where
     IsCurrentOf : Option ℕ → Type 0
-    IsCurrentOf n = Rattle.span_registry.specs.Step.IsCurrent s.store lane.0 n
+    IsCurrentOf n = Rattle.span_store.specs.Step.IsCurrent s.store lane.0 n
 
     twice : (p : Option (Id × Metadata)) → option_map number_of (option_map (λ q. q.0) p) ≡ option_map (λ q. number_of q.0) p
     twice (Some q) = refl
     twice None = refl
 
-pub drops_on : {S : Type 0} (registry : S → RegistryState) (x y : S) (lane : Lane) (id : Id) (closes : Bool) → AndHooks registry (DropsSpan id closes) x y → (HasNoClosing (registry x).store.spans → HasNoClosing (registry y).store.spans) → Goes (registry x) (entry.Drop lane id closes) (registry y)
-drops_on registry x y lane id closes h k = (subst (λ v. Happens (bare (registry x).store) (entry.Drop lane id closes) v) (sym (bare_same h.stepped (registry y) h.hooks)) (drops id closes lane (registry x) h.stepped h.taken), k)
+pub drops_on : {S : Type 0} (registry : S → RegistryState) (x y : S) (lane : Lane) (id : Id) (closes : Bool) → AndHooks registry (DropsSpan id closes) x y
+    → (HasNoClosing (registry x).store.spans → HasNoClosing (registry y).store.spans) → Goes (registry x) (entry.Drop lane id closes) (registry y)
+drops_on registry x y lane id closes h k = (
+  subst (λ v. Happens (bare (registry x).store) (entry.Drop lane id closes) v)
+      (sym (bare_same h.stepped (registry y) h.hooks)) (drops id closes lane (registry x) h.stepped h.taken),
+  k,
+)
 
 pub none_of : (o : Option Id) (A : Type 0) (B : Id → Type 0) → o ≡ None → MatchOption o A B → A
 none_of o A B e h = subst (λ p. MatchOption p A B) e h
@@ -186,15 +210,18 @@ module _ {S : Type 0} (registry : S → RegistryState) (usable : S → Type 0) w
   }
 
   -- an entry that is what the dispatcher did, put behind those that were reserved room for
-  pub grown : (old new : Dispatch S) (es rs fs : List Entry) (e : Entry) → KeepsJournal registry usable old es → fs ≡ rs ++ e ∷ [] → rs ≡ es → usable (stack_of new) → Goes (registry (stack_of old)) e (registry (stack_of new)) → KeepsJournal registry usable new fs
+  pub grown : (old new : Dispatch S) (es rs fs : List Entry) (e : Entry) → KeepsJournal registry usable old es
+      → fs ≡ rs ++ e ∷ [] → rs ≡ es → usable (stack_of new) → Goes (registry (stack_of old)) e (registry (stack_of new)) → KeepsJournal registry usable new fs
   grown old new es rs fs e k added same may go = record {
     may = may;
-    leaves = subst (λ l. Leaves l (registry (stack_of new)).store) (sym (added ∙ ap (λ (l : List Entry). l ++ e ∷ []) same)) (FoldsTo-push Happens empty_store es (bare (registry (stack_of old)).store) e (bare (registry (stack_of new)).store) k.leaves go.0);
+    leaves = subst (λ l. Leaves l (registry (stack_of new)).store) (sym (added ∙ ap (λ (l : List Entry). l ++ e ∷ []) same))
+        (FoldsTo-push Happens empty_store es (bare (registry (stack_of old)).store) e (bare (registry (stack_of new)).store) k.leaves go.0);
     settled = go.1 k.settled;
   }
 
   -- nothing but what is kept of callsites changed
-  pub kept_same : (old new : Dispatch S) (es fs : List Entry) → KeepsJournal registry usable old es → fs ≡ es → stack_of new ≡ stack_of old → KeepsJournal registry usable new fs
+  pub kept_same : (old new : Dispatch S) (es fs : List Entry)
+      → KeepsJournal registry usable old es → fs ≡ es → stack_of new ≡ stack_of old → KeepsJournal registry usable new fs
   kept_same old new es fs k is same = record {
     may = subst usable (sym same) k.may;
     leaves = subst (λ l. Leaves l (registry (stack_of new)).store) (sym is) (subst (λ (x : S). Leaves es (registry x).store) (sym same) k.leaves);

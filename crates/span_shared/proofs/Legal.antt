@@ -9,19 +9,21 @@ use Rattle.span_core.specs.declared.span.Lane.{Lane}
 use Rattle.span_dispatch.proofs.Acting.{one_parent}
 use Rattle.span_shared.specs.Journal.{Dropping, Entry, Happens, Opening}
 use Rattle.span_shared.specs.declared.entry.EntryWith.TheVariants as entry
-use Rattle.span_registry.specs.Closes.{Closes, remove_all}
-use Rattle.span_registry.specs.Step.{AskedSpan, begun}
-use Rattle.span_registry.specs.Store.{Spans, Store, take_handle}
+use Rattle.span_store.specs.Closes.{Closes, remove_all}
+use Rattle.span_store.specs.Step.{AskedSpan, begun}
+use Rattle.span_store.specs.Store.{Spans, Store, take_handle}
 
 opened_once : (lane : Lane) (span : AskedSpan) (id : Id) (s t u : Store) → Opening lane span id s t → Opening lane span id s u → t ≡ u
 opened_once lane span id s t u a b =
-    a.store ∙ ap (λ (parent : Option ℕ). record s { spans = insert s.spans (number_of id) (begun span parent); issued = add s.issued (number_of id) }) (one_parent s lane span.parent a.parent b.parent a.chosen b.chosen) ∙ sym b.store
+    a.store ∙ ap (λ (parent : Option ℕ). record s { spans = insert s.spans (number_of id) (begun span parent); issued = add s.issued (number_of id) })
+    (one_parent s lane span.parent a.parent b.parent a.chosen b.chosen) ∙ sym b.store
 
 -- where what a drop closes is one list
 module _ (closed_once : (m : Spans) (x : ℕ) (xs ys : List ℕ) → Closes m x xs → Closes m x ys → xs ≡ ys) where
   dropped_once : (id : Id) (closes : Bool) (s t u : Store) → Dropping id closes s t → Dropping id closes s u → t ≡ u
   dropped_once id closes s t u a b =
-      a.store ∙ ap (λ (closed : List ℕ). record s { spans = remove_all (take_handle s.spans (number_of id)) closed }) (closed_once s.spans (number_of id) a.closed b.closed a.exact b.exact) ∙ sym b.store
+      a.store ∙ ap (λ (closed : List ℕ). record s { spans = remove_all (take_handle s.spans (number_of id)) closed })
+      (closed_once s.spans (number_of id) a.closed b.closed a.exact b.exact) ∙ sym b.store
 
   happens_once : (e : Entry) (s t u : Store) → Happens s e t → Happens s e u → t ≡ u
   happens_once (entry.New lane m asked verdict id) s t u a b = opened_once lane (record { metadata = m; parent = asked; verdict = verdict }) id s t u a b

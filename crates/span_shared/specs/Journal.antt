@@ -13,19 +13,20 @@ use Rattle.span_dispatch.specs.Serve.{stack_of}
 use Rattle.span_dispatch.specs.declared.dispatch.Dispatch.{Dispatch}
 use Rattle.span_shared.specs.declared.entry.EntryWith.TheVariants.{New, Unmade, Event, Probe, Enter, Exit, Record, Follows, Clone, Drop, Level, Current}
 use Rattle.span_shared.specs.declared.entry.EntryWith.{EntryWith}
-use Rattle.span_registry.specs.Closes.{Closes, HasNoClosing, Member, remove_all}
-use Rattle.span_registry.specs.Step.{AskedSpan, IsCurrent, IsParentFor, begun, entered, exited}
-use Rattle.span_registry.specs.Store.{IsHeld, IsOpen, RegistryState, Store, add_handle, empty_store, take_handle}
+use Rattle.span_store.specs.Closes.{Closes, HasNoClosing, Member, remove_all}
+use Rattle.span_store.specs.Step.{AskedSpan, IsCurrent, IsParentFor, begun, entered, exited}
+use Rattle.span_store.specs.Store.{IsHeld, IsOpen, RegistryState, Store, add_handle, empty_store, take_handle}
 
 -- an entry of a journal: an accepted request, with its lane and its answer
 abbrev pub Entry : Type 0
 Entry = EntryWith Metadata FilterMap
 
--- the store, extensions aside
+-- the store without its extensions
 abbrev pub bare : Store → Store
 bare s = record s { extensions = empty }
 
--- a span is opened under an id other than 0 that was never issued, with the parent that it gets by what it asks for
+-- a span is opened under an id other than 0 that was never issued, with the parent that it gets by
+-- what it asks for
 pub record Opening (lane : Lane) (span : AskedSpan) (id : Id) (s t : Store) : Type 0 where
   pub parent : Option ℕ
   pub chosen : IsParentFor s lane span.parent parent
@@ -36,7 +37,8 @@ pub record Opening (lane : Lane) (span : AskedSpan) (id : Id) (s t : Store) : Ty
     issued = add s.issued (number_of id);
   }
 
--- a handle is taken from an open span, and what closes by that is taken out. The answer is whether the span is among it
+-- a handle is taken from an open span, and what closes by that is taken out; the answer is whether
+-- the span is among it
 pub record Dropping (id : Id) (closes : Bool) (s t : Store) : Type 0 where
   pub held : IsHeld s.spans (number_of id)
   pub closed : List ℕ
@@ -61,26 +63,28 @@ Happens s (Drop lane id closes) t = Dropping id closes s t
 Happens s (Level lane number level) t = t ≡ s
 Happens s (Current lane o) t = IsCurrent s lane.0 (option_map number_of o) × (t ≡ s)
 
--- from the empty store on, each entry may happen in the store that those before it leave; all of them leave this one, extensions aside
+-- from the empty store on, each entry of a journal may happen in the store that those before it
+-- leave; all of them leave this store, extensions aside
 abbrev pub Leaves : List Entry → Store → Type 0
 Leaves journal s = FoldsTo Happens empty_store journal (bare s)
 
--- no two stores are left by them, extensions aside
+-- a journal leaves no two stores, extensions aside
 abbrev pub LeavesOne : List Entry → Type 0
 LeavesOne journal = (s t : Store) → Leaves journal s → Leaves journal t → bare s ≡ bare t
 
--- one thread could have made them: they leave some store
+-- a journal is legal, as one thread could have made it: it leaves some store
 abbrev pub IsLegal : List Entry → Type 0
 IsLegal journal = (s : Store) × Leaves journal s
 
--- what is kept between the calls of a logged dispatcher: it may be called, its journal leaves its store, and no span is closing
+-- what holds of a logged dispatcher between its calls: it may be called, its journal leaves its
+-- store, and no span is closing
 pub record KeepsJournal {S : Type 0} (registry : S → RegistryState) (usable : S → Type 0)
     (d : Dispatch S) (journal : List Entry) : Type 0 where
   pub may : usable (stack_of d)
   pub leaves : Leaves journal (registry (stack_of d)).store
   pub settled : HasNoClosing (registry (stack_of d)).store.spans
 
--- a place, and an entry
+-- an entry, and its place in a journal
 pub record Placed : Type 0 where
   pub place : ℕ
   pub entry : Entry
@@ -89,7 +93,8 @@ pub record Placed : Type 0 where
 abbrev pub Stands : List Entry → Placed → Type 0
 Stands journal p = slice_get journal p.place ≡ Some p.entry
 
--- the same, but for where the texts of metadata lie: by an equality that is decided
+-- whether the entry stands at its place in the journal, by an equality that is decided: one that
+-- doesn't see where the texts of metadata lie
 abbrev pub holds_by : (Option Entry → Option Entry → Bool) → List Entry → Placed → Bool
 holds_by eq journal p = eq (slice_get journal p.place) (Some p.entry)
 
@@ -98,12 +103,12 @@ pub record LoggedState (D : Type 0) : Type 0 where
   pub dispatch : D
   pub journal : List Entry
 
--- this entry was put behind a journal, and the receipt is of it
+-- this entry was appended to the journal, and the receipt is of it
 pub record Adds (e : Entry) (old : List Entry) (receipt : Placed) (new : List Entry) : Type 0 where
   pub shown : receipt ≡ record { place = length old; entry = e }
   pub journal : new ≡ old ++ e ∷ []
 
--- the stack and the journal are the same
+-- the stack and the journal are unchanged
 pub record KeepsStack {S : Type 0} (old new : LoggedState (Dispatch S)) : Type 0 where
   pub stack : stack_of new.dispatch ≡ stack_of old.dispatch
   pub journal : new.journal ≡ old.journal

@@ -1,4 +1,5 @@
--- What the contract of each call of a logged dispatcher says: what the dispatcher promises of it, where it isn't refused, and which entry it adds.
+-- What the contract of each call of a logged dispatcher says: what the dispatcher promises of it,
+-- where it isn't refused, and which entry it adds.
 use Rattle.std.specs.Prelude.{◌≡◌, ◌⊎◌, Bool, Option, None, Some, Result, Ok, Err, IfErr, IfOk}
 use Rattle.std.specs.FinMap.{get}
 use Rattle.std.specs.Option.{option_map}
@@ -19,32 +20,35 @@ use Rattle.span_dispatch.specs.declared.call.Call.{Call}
 use Rattle.span_dispatch.specs.declared.dispatch.Dispatch.{Dispatch}
 use Rattle.span_shared.specs.declared.entry.EntryWith.TheVariants as entry
 use Rattle.span_dispatch.specs.declared.request.Answer.{Answer}
-use Rattle.span_registry.specs.Store.{Span, Spans}
+use Rattle.span_store.specs.Store.{Span, Spans}
 
 -- an answer with its receipt, or why the call was refused
 abbrev pub Answered : Type 0 → Type 0
 Answered A = Result (A × Placed) TraceError
 
--- between the dispatchers of two logged ones
+-- this holds between the dispatchers of two logged ones
 abbrev pub On : {D : Type 0} → (D → D → Type 0) → LoggedState D → LoggedState D → Type 0
 On holds old new = holds old.dispatch new.dispatch
 
--- a call that is never refused, of what it gives and the dispatcher before and after it
+-- the promise of a call that is never refused, as one of any result: what it says of a given value,
+-- of the dispatcher before and of the one after
 abbrev pub NeverRefused : {D A : Type 0} → (A → D → D → Type 0) → Result A TraceError → D → D
     → Type 0
 NeverRefused serves (Ok a) old new = serves a old new
 NeverRefused serves (Err e) old new = ⊥
 
--- the call is refused for want of memory, or as the dispatcher refuses it
+-- a call is refused for want of memory, or as the dispatcher refuses it
 abbrev pub OrNoMemory : (TraceError → Type 0) → TraceError → Type 0
 OrNoMemory refuses e = (e ≡ OutOfMemory) ⊎ refuses e
 
--- an entry, which may have what the call gave in it, was put behind the journal, and the receipt is of it
+-- the entry of a call, made of what the call gave, was appended to the journal, and the receipt is
+-- of it
 abbrev pub AddsEntry : {D A : Type 0} → (A → Entry) → A × Placed → LoggedState D → LoggedState D
     → Type 0
 AddsEntry entry r old new = Adds (entry r.0) old.journal r.1 new.journal
 
--- a call is served as the dispatcher serves it, and adds its entry. Refused it adds none; and it may be refused for want of memory for the journal, before the dispatcher is asked
+-- a call is served as the dispatcher serves it, and its entry is appended. A refused call adds
+-- none; it may be refused for want of memory for the journal, before the dispatcher is asked
 pub record Logs {D A : Type 0} (serves : Result A TraceError → D → D → Type 0)
     (adds : A × Placed → LoggedState D → LoggedState D → Type 0) (result : Answered A)
     (old new : LoggedState D) : Type 0 where
@@ -53,12 +57,13 @@ pub record Logs {D A : Type 0} (serves : Result A TraceError → D → D → Typ
       (λ e. ((e ≡ OutOfMemory) × (new ≡ old))
       ⊎ (serves (Err e) old.dispatch new.dispatch × (new.journal ≡ old.journal)))
 
--- what a call gave, with the answer in place of its value; its receipt is the same
+-- what a call gave, as an answer with the same receipt
 abbrev pub answered : {A : Type 0} → (Result A TraceError → Answer) → Answered A → Answered Answer
 answered answer_of (Ok r) = Ok (answer_of (Ok r.0), r.1)
 answered answer_of (Err e) = Err e
 
--- a call gave something of which this is the answer with its receipt, and this holds of what it gave
+-- a call gave a result of which this is the answer with its receipt, and the predicate holds of
+-- that result
 abbrev pub Gave : {A : Type 0} → (Result A TraceError → Answer) → Answered Answer
     → (Answered A → Type 0) → Type 0
 Gave {A} answer_of result holds =
@@ -68,11 +73,12 @@ Gave {A} answer_of result holds =
 abbrev pub event_entry : Lane → Event → Bool → Entry
 event_entry lane e made = entry.Event lane (event_metadata e) (event_parent e) made
 
--- the entry of the current span that was shown
+-- the entry of a current span that was shown
 abbrev pub current_entry : Lane → Current → Entry
 current_entry lane shown = entry.Current lane (option_map (λ o. o.0) (current_span shown))
 
--- the entry of a new span that was made or not, with the verdict that these spans keep of it
+-- the entry of a new span was appended: of one that was made with its verdict in these spans, or of
+-- one that wasn't
 abbrev pub AddsSpan : {D : Type 0} → Lane → Attributes → Spans → Option Id × Placed → LoggedState D
     → LoggedState D → Type 0
 AddsSpan lane attrs spans (None, receipt) old new =
@@ -83,7 +89,7 @@ AddsSpan lane attrs spans (Some id, receipt) old new =
     receipt new.journal
 
 module _ {S : Type 0} (s : SubscriberOf S) where
-  -- the entry of a new span, with the verdict that the store keeps of it
+  -- the entry of a new span was appended, with the verdict that the store has of it
   abbrev pub AddsNewSpan : Lane → Attributes → Option Id × Placed → LoggedState (Dispatch S)
       → LoggedState (Dispatch S) → Type 0
   AddsNewSpan lane attrs r old new =
@@ -94,7 +100,8 @@ module _ {S : Type 0} (s : SubscriberOf S) where
   ShowsSpan lane shown old new =
       Shows s lane old shown × ServesCurrent s lane shown old × (new ≡ old)
 
-  -- a call from this lane, whichever it names, is answered and logged as the call of its kind is
+  -- a call from this lane, whichever lane it names, is answered and logged as the call of its kind
+  -- is
   abbrev pub LogsCall : Lane → Call → Answered Answer → LoggedState (Dispatch S)
       → LoggedState (Dispatch S) → Type 0
   LogsCall lane (OpenSpan l attrs) a old new =

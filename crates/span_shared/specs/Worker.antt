@@ -19,7 +19,7 @@ pub record WorkerState : Type 0 where
 abbrev pub new_worker : Lane → Option LevelFilter → WorkerState
 new_worker lane hint = record { lane = lane; hint = hint; calls = 0 }
 
--- the worker, one call later
+-- the worker after one more accepted call
 abbrev pub called : WorkerState → WorkerState
 called w = record w { calls = w.calls + 1 }
 
@@ -27,12 +27,12 @@ called w = record w { calls = w.calls + 1 }
 abbrev pub calls_of : List WorkerState → ℕ
 calls_of workers = sum_by (λ w. w.calls) workers
 
--- these workers begin, each on the lane of its place, with this hint
+-- these workers are a crew as it begins: each on the lane of its place, with this hint
 abbrev pub AreCrew : Option LevelFilter → List WorkerState → Type 0
 AreCrew hint workers =
     (i : ℕ) (w : WorkerState) → slice_get workers i ≡ Some w → w ≡ new_worker (lane_of i) hint
 
--- these workers begin, with the hint of this dispatcher
+-- these workers are a crew as it begins, with the hint of this dispatcher
 pub record AreCrewOf {S : Type 0} (s : SubscriberOf S) (d : Dispatch S)
     (workers : List WorkerState) : Type 0 where
   pub hint : Option LevelFilter
@@ -42,7 +42,7 @@ pub record AreCrewOf {S : Type 0} (s : SubscriberOf S) (d : Dispatch S)
   pub each : AreCrew hint workers
 
 module _ {S : Type 0} (s : SubscriberOf S) where
-  -- this holds between some dispatcher with a journal, as one is between calls, and what is left
+  -- this holds between some logged dispatcher, as one is between calls, and what its call leaves
   abbrev pub SomeLogged : (LoggedState (Dispatch S) → LoggedState (Dispatch S) → Type 0) → Type 0
   SomeLogged holds =
       (old : LoggedState (Dispatch S)) × (new : LoggedState (Dispatch S))

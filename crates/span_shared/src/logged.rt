@@ -5,8 +5,8 @@ ghost use Rattle.span_shared.specs.Journal.{Adds, KeepsJournal, Leaves, Stands, 
 ghost use Rattle.span_shared.specs.Logged.{AddsEntry, AddsNewSpan, Logs, LogsCall, NeverRefused, On, ShowsSpan, answered, current_entry, event_entry};
 ghost use Rattle.span_dispatch.specs.Call.{done_answer, event_answer, look_answer, span_answer, yes_answer};
 ghost use Rattle.span_dispatch.specs.Serve.{stack_of};
-ghost use Rattle.span_registry.specs.Closes.{HasNoClosing};
-ghost use Rattle.span_registry.specs.Store.{IsFresh};
+ghost use Rattle.span_store.specs.Closes.{HasNoClosing};
+ghost use Rattle.span_store.specs.Store.{IsFresh};
 
 use crate::entry::{Entry, EntryWith};
 use span_core::{
@@ -41,7 +41,7 @@ impl Model for Journal {
 }
 
 impl Journal {
-    /// With no entry.
+    /// A journal without entries.
     fn new(alloc: Global) -> Journal
         ensures { result ≡ [] }
     {
@@ -57,7 +57,7 @@ impl Journal {
         self.entries.len() as u64
     }
 
-    /// There is no entry.
+    /// Whether the journal has no entry.
     pub fn is_empty(&self) -> bool
         ensures { IsTrue result ↔ (self.now ≡ []) }
     {
@@ -88,7 +88,7 @@ fn is_same<T: Eq>(a: &T, b: &T) -> bool
     *a == *b
 }
 
-/// Where an accepted request stands in its journal, and its entry. Only a logged dispatcher makes one.
+/// An accepted request's place in its journal, and its entry. Only a logged dispatcher makes one.
 ///
 /// Own to this port.
 #[derive(Drop, Debug)]
@@ -121,11 +121,12 @@ impl Receipt {
     }
 }
 
-/// A dispatcher with its journal. Between calls each entry could have happened after those before it, and all of them leave the
-/// dispatcher's store, extensions aside.
+/// A dispatcher with its journal. Between calls each entry could have happened after those before
+/// it, and all of them leave the dispatcher's store, extensions aside.
 ///
-/// Its calls are those of `Dispatch`. One that isn't refused adds its entry, and gives the receipt of it beside its answer. Each is
-/// refused for want of memory for the journal first, and then as `Dispatch` refuses it; what is refused adds nothing.
+/// Its calls are those of `Dispatch`. One that isn't refused appends its entry, and gives that
+/// entry's receipt beside its answer. Each is refused for want of memory for the journal first, and
+/// then as `Dispatch` refuses it; a refused call appends nothing.
 ///
 /// Own to this port.
 #[derive(Drop)]
@@ -150,7 +151,7 @@ impl<S: Subscriber> Model for Logged<S> {
 }
 
 impl<S: Subscriber> Logged<S> {
-    /// A dispatcher whose registry is fresh, with no entry.
+    /// A logged dispatcher without entries, over a dispatcher whose registry is fresh.
     pub fn new(alloc: Global, dispatch: Dispatch<S>) -> Logged<S>
         requires usable { S.usable (stack_of dispatch) }
         requires fresh { IsFresh (S.registry (stack_of dispatch)) }
@@ -338,7 +339,7 @@ impl<S: Subscriber> Logged<S> {
         Ok((given, receipt))
     }
 
-    /// Takes a handle away as `Dispatch::drop_span` does.
+    /// Takes a handle from a span as `Dispatch::drop_span` does.
     pub fn drop_span(&mut self, lane: Lane, id: Id) -> Result<(bool, Receipt), TraceError>
         ensures ready { On (StaysReady S.Subscriber) self.old self.new }
         ensures logs { Logs (DropsOneHandle S.Subscriber lane id)
@@ -387,7 +388,7 @@ impl<S: Subscriber> Logged<S> {
         Ok((given, receipt))
     }
 
-    /// Asks this from a lane, whichever lane the call names, as the call of its kind does.
+    /// Serves a call from a lane, whichever lane the call names, as the method of its kind does.
     ///
     /// Own to this port.
     pub fn ask(&mut self, lane: Lane, call: &Call<'_>) -> Result<(Answer, Receipt), TraceError>
@@ -410,7 +411,7 @@ impl<S: Subscriber> Logged<S> {
     }
 }
 
-/// What a new span gave, as an answer with the same receipt.
+/// The answer for what opening a span gave, with the same receipt.
 fn span_answered(
     given: Result<(Option<Id>, Receipt), TraceError>,
 ) -> Result<(Answer, Receipt), TraceError>
@@ -422,7 +423,7 @@ fn span_answered(
     }
 }
 
-/// What an event gave, as an answer.
+/// The answer for what sending an event gave, with the same receipt.
 fn event_answered(
     given: Result<(bool, Receipt), TraceError>,
 ) -> Result<(Answer, Receipt), TraceError>
@@ -434,7 +435,7 @@ fn event_answered(
     }
 }
 
-/// What a call gave that is answered by its being done, as that answer.
+/// The answer for what gives nothing but a refusal, with the same receipt.
 fn done_answered<A: Copy>(
     given: Result<(A, Receipt), TraceError>,
 ) -> Result<(Answer, Receipt), TraceError>
@@ -446,7 +447,7 @@ fn done_answered<A: Copy>(
     }
 }
 
-/// A truth value that a call gave, as an answer.
+/// The answer for what gives a truth value, with the same receipt.
 fn yes_answered(given: Result<(bool, Receipt), TraceError>) -> Result<(Answer, Receipt), TraceError>
     ensures { result ≡ answered yes_answer given }
 {
@@ -456,7 +457,7 @@ fn yes_answered(given: Result<(bool, Receipt), TraceError>) -> Result<(Answer, R
     }
 }
 
-/// What a look at the current span gave, as an answer.
+/// The answer for a look at a lane's span, with the same receipt.
 fn look_answered(
     given: Result<(Current, Receipt), TraceError>,
 ) -> Result<(Answer, Receipt), TraceError>
@@ -468,7 +469,7 @@ fn look_answered(
     }
 }
 
-/// Puts an entry behind the others, where there is room for one more.
+/// Appends an entry, where there is room for one more, and gives its receipt.
 fn noted(entries: &mut Vec<Entry>, entry: Entry) -> Receipt
     requires { vec_len entries.old < vec_capacity entries.old }
     ensures { Adds entry entries.old.items result entries.new.items }

@@ -6,8 +6,8 @@ ghost use Rattle.span_dispatch.specs.Serve.{stack_of};
 ghost use Rattle.span_shared.specs.Journal.{Leaves};
 ghost use Rattle.span_shared.specs.Logged.{AddsEntry, AddsNewSpan, Logs, LogsCall, NeverRefused, ShowsSpan, current_entry, event_entry};
 ghost use Rattle.span_shared.specs.Worker.{AreCrew, AreCrewOf, SomeLogged, called, calls_of, new_worker};
-ghost use Rattle.span_registry.specs.Closes.{HasNoClosing};
-ghost use Rattle.span_registry.specs.Store.{IsFresh};
+ghost use Rattle.span_store.specs.Closes.{HasNoClosing};
+ghost use Rattle.span_store.specs.Store.{IsFresh};
 
 use crate::entry::{Entry, EntryWith};
 use crate::logged::{Journal, Logged, Receipt};
@@ -64,21 +64,21 @@ impl<L: Crew> Worker<L> {
         }
     }
 
-    /// The lane on which its calls are.
+    /// The lane that the worker's calls come from.
     pub fn lane(&self) -> Lane
         ensures { result ≡ self.now.lane }
     {
         self.lane
     }
 
-    /// How many of its calls were accepted.
+    /// How many of the worker's calls were accepted.
     pub fn calls(&self) -> u64
         ensures { result ≡ self.now.calls }
     {
         self.calls
     }
 
-    /// Whether the level passes the hint that the worker was made with. It waits for nobody.
+    /// Whether the level passes the hint that the worker was made with. This waits for nobody.
     pub fn passes_hint(&self, level: Level) -> bool
         ensures { result ≡ not (is_above level self.now.hint) }
     {
@@ -111,7 +111,7 @@ impl<L: Crew> Worker<L> {
     }
 }
 
-/// What lies under the lock: the journal's length stands in a book beside it.
+/// A logged dispatcher under a lock; the journal's length stands in a book beside it.
 #[derive(Drop)]
 struct Locked<S: Subscriber, L: Crew> {
     logged: Logged<S>,
@@ -126,7 +126,8 @@ struct Whole<L: Crew> {
     ghost one_part_each: { L.workers ≡ L.parts },
 }
 
-/// A dispatcher that workers share. A call promises what a `Logged` promises, of some one that it found under the lock.
+/// A dispatcher that workers share. Each call promises what a `Logged` promises, of some one that
+/// it found under the lock.
 pub struct Shared<S: Subscriber, L: Crew> {
     lock: Mutex<Locked<S, L>>,
     workers: u32,
@@ -145,7 +146,7 @@ impl<S: Subscriber + Drop, L: Crew> Drop for Shared<S, L> {
     }
 }
 
-/// A `Shared` of which a worker is missing, and the workers that are not.
+/// A `Shared` of which a worker is missing, and the workers that aren't.
 #[derive(Drop)]
 pub struct Unfinished<S: Subscriber, L: Crew> {
     pub shared: Shared<S, L>,
@@ -189,7 +190,8 @@ fn merged<L: Crew>(workers: Vec<Worker<L>>) -> Option<Share<L>>
 }
 
 impl<S: Subscriber, L: Crew> Shared<S, L> {
-    /// A dispatcher whose registry is fresh, and a worker for each part of the share, on the lanes 0, 1, and so on.
+    /// A shared dispatcher, over one whose registry is fresh, and a worker for each part of the
+    /// share, on the lanes 0, 1, and so on.
     pub fn new(
         alloc: Global,
         book: Book<L>,
@@ -407,7 +409,7 @@ impl<S: Subscriber, L: Crew> Shared<S, L> {
         Ok(given)
     }
 
-    /// Takes a handle away as `Dispatch::drop_span` does.
+    /// Takes a handle from a span as `Dispatch::drop_span` does.
     pub fn drop_span(
         &self,
         rt: &impl Wait,
@@ -429,7 +431,7 @@ impl<S: Subscriber, L: Crew> Shared<S, L> {
         Ok(given)
     }
 
-    /// Sets a level as `Dispatch::set_level` does. What `passes_hint` says stays as it is.
+    /// Sets a level as `Dispatch::set_level` does. What `passes_hint` answers is unchanged.
     pub fn set_level(
         &self,
         rt: &impl Wait,
@@ -473,7 +475,8 @@ impl<S: Subscriber, L: Crew> Shared<S, L> {
         Ok(given)
     }
 
-    /// Asks this from the worker's lane, whichever lane the call names, as the call of its kind does.
+    /// Serves a call from the worker's lane, whichever lane the call names, as the method of its
+    /// kind does.
     ///
     /// Own to this port.
     pub fn ask(

@@ -3,7 +3,7 @@ use Rattle.std.proofs.Common.{◌≡◌, ◌+◌, ◌<◌, ℕ, List, [], ◌∷
 use Rattle.std.proofs.lemmas.List.{take_more}
 use Rattle.std.specs.List.{AllByRecursion}
 use Rattle.span_dispatch.specs.declared.request.Answer.{Answer}
-use Rattle.span_registry.specs.Store.{RegistryState}
+use Rattle.span_store.specs.Store.{RegistryState}
 use Rattle.span_show.specs.Serve.{FoundMemory, HasAllRoom}
 
 -- a registry that is another has the room that this has
@@ -20,6 +20,7 @@ found_behind [] a all found = (found, tt)
 found_behind (x ∷ xs) a all found = (all.0, found_behind xs a all.1 found)
 
 -- one answer more was looked at
-pub found_more : (xs : List Answer) (i : ℕ) (d : Answer) → i < length xs → AllByRecursion FoundMemory (take i xs) → FoundMemory (get_or xs i d) → AllByRecursion FoundMemory (take (i + 1) xs)
+pub found_more : (xs : List Answer) (i : ℕ) (d : Answer)
+    → i < length xs → AllByRecursion FoundMemory (take i xs) → FoundMemory (get_or xs i d) → AllByRecursion FoundMemory (take (i + 1) xs)
 found_more xs i d within all found =
     subst (λ ys. AllByRecursion FoundMemory ys) (sym (take_more xs i d within)) (found_behind (take i xs) (get_or xs i d) all found)

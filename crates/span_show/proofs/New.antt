@@ -1,11 +1,11 @@
 -- A new registry with an honest layer on it is ready.
 use Rattle.std.proofs.Common.{◌≡◌, ◌<◌, ◌≤◌, ◌+◌, ℕ, arith, ap, inr, refl, subst, sym, false}
-use Rattle.std.proofs.lemmas.Bool.{false≢true}
 use Rattle.span_core.specs.declared.filter.TheConstants.FilterId.{LIMIT}
 use Rattle.span_core.specs.declared.level.LevelFilter.{LevelFilter}
 use Rattle.span_dispatch.specs.Serve.{IsReady}
 use Rattle.span_filters.specs.Filter.{settled_answers}
-use Rattle.span_filters.specs.Level.{level_answers, level_honest}
+use Rattle.span_filters.specs.Level.{level_answers}
+use Rattle.span_filters.specs.laws.Level.{level_honest}
 use Rattle.span_layers.proofs.CallerLemmas.{bare_stands, stands_on}
 use Rattle.span_layers.specs.Attach.{Attaches}
 use Rattle.span_layers.specs.Filtered.{IsUnnumbered, filter_of, id_of, layer_of}
@@ -17,19 +17,20 @@ use Rattle.span_layers.specs.Verdict.{NumbersStayOwn}
 use Rattle.span_layers.specs.declared.filtered.Filtered.{Filtered as FilteredLayer}
 use Rattle.span_layers.specs.declared.layered.Layered.{Layered}
 use Rattle.span_layers.specs.declared.observe.Observer.{Observer}
+use Rattle.span_layers.specs.laws.Leaf.{open_honest}
+use Rattle.span_store.specs.Closes.{HasNoClosing}
+use Rattle.span_store.specs.Store.{RegistryState, Store, new_registry}
+use Rattle.span_store.specs.declared.limits.Limits.{Limits}
 use Rattle.span_registry.proofs.CallerLemmas.{settled_new}
-use Rattle.span_registry.specs.Behaviour.{AreHonest}
-use Rattle.span_registry.specs.Closes.{HasNoClosing}
 use Rattle.span_registry.specs.Form.{Base, Filtered, Form, Leaf, OnSubscriber, Parts, Terminal}
 use Rattle.span_registry.specs.Hooks.{StackSteps}
 use Rattle.span_registry.specs.Levels.{LevelSteps}
-use Rattle.span_registry.specs.Store.{RegistryState, Store, new_registry}
-use Rattle.span_registry.specs.declared.limits.Limits.{Limits}
 use Rattle.span_show.specs.Serve.{HasRoomOnNew}
 use Rattle.std.specs.Prelude.{None, Some, true, ⊤}
 
 -- what stands without spans is ready
-pub ready : {S : Type 0} {registry : S → RegistryState} {has_form : S → Form → Type 0} (with_registry : S → RegistryState → S) (stepped : StackSteps S) (levelled : LevelSteps S) (f : Form) (n : ℕ) (x : S) → Stands registry has_form f n x
+pub ready : {S : Type 0} {registry : S → RegistryState} {has_form : S → Form → Type 0}
+    (with_registry : S → RegistryState → S) (stepped : StackSteps S) (levelled : LevelSteps S) (f : Form) (n : ℕ) (x : S) → Stands registry has_form f n x
     → (g : Form) × IsReady registry with_registry has_form stepped levelled g x
 ready {registry = registry} with_registry stepped levelled f n x h = (
   f,
@@ -40,25 +41,25 @@ ready {registry = registry} with_registry stepped levelled f n x h = (
 )
 
 -- what an honest layer on a new registry makes stands
-pub stands_new : {L : Type 0} {usable : L → Type 0} {inner_usable : RegistryState → Type 0} {has_form : L → Form → Type 0} {attached : L → L → Type 0} → NumbersStayOwn → (l : Limits) (s : RegistryState) (layer : L) (x : Layered L RegistryState) → s ≡ new_registry l
+pub stands_new : {L : Type 0} {usable : L → Type 0} {inner_usable : RegistryState → Type 0} {has_form : L → Form → Type 0} {attached : L → L → Type 0}
+    → NumbersStayOwn → (l : Limits) (s : RegistryState) (layer : L) (x : Layered L RegistryState) → s ≡ new_registry l
     → (h : HasRoomOnNew has_form layer) → Attaches itself another inner_usable usable has_form attached layer s x
     → Stands (registry_on itself) (stack_form has_form base_form) (Parts OnSubscriber (numbered h.form 0).0 (Terminal Base)) (numbered h.form 0).1 x
-stands_new law l s layer x new h put = stands_on law (λ t w. refl) (λ t w f has. has) h.form (Terminal Base) 0 layer s x h.has h.honest (bare_stands l s new) put
+stands_new law l s layer x new h put =
+    stands_on law (λ t w. refl) (λ t w f has. has) h.form (Terminal Base) 0 layer s x h.has h.honest (bare_stands l s new) put
 
 -- a new registry has room for it
-pub never_full : {L : Type 0} {has_form : L → Form → Type 0} (l : Limits) (s : RegistryState) (layer : L) → s ≡ new_registry l → (h : HasRoomOnNew has_form layer) → ((f : Form) → has_form layer f → LIMIT < s.filters + filters_in f) → ⊥
+pub never_full : {L : Type 0} {has_form : L → Form → Type 0} (l : Limits) (s : RegistryState) (layer : L)
+    → s ≡ new_registry l → (h : HasRoomOnNew has_form layer) → ((f : Form) → has_form layer f → LIMIT < s.filters + filters_in f) → ⊥
 never_full l s layer new h full =
     let none : s.filters ≡ 0 = ap (λ (t : RegistryState). t.filters) new in
     let more : LIMIT < s.filters + filters_in h.form = full h.form h.has in
     let room = h.room in
     omega (arith, none, more, room)
 
--- a leaf that wants everything answers honestly
-open_honest : AreHonest open_answers
-open_honest = record { always = λ m v e. refl; never = λ m v e. absurd (cc); above = λ m v e. absurd (false≢true e); alike = λ m k e. refl }
-
 -- an observer under a level is honest
-pub levelled_honest : {T : Type 0} (x : FilteredLayer (Observer T) LevelFilter) (layer : Observer T) (level : LevelFilter) → IsUnnumbered x layer level → HasRoomOnNew (filtered_form (settled_answers level_answers) (λ (y : Observer T) f. f ≡ Leaf true open_answers)) x
+pub levelled_honest : {T : Type 0} (x : FilteredLayer (Observer T) LevelFilter) (layer : Observer T) (level : LevelFilter)
+    → IsUnnumbered x layer level → HasRoomOnNew (filtered_form (settled_answers level_answers) (λ (y : Observer T) f. f ≡ Leaf true open_answers)) x
 levelled_honest x layer level new = record {
   form = Filtered None (level_answers (filter_of x)) (Leaf true open_answers);
   has = (new.id, refl, refl);

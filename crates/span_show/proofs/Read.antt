@@ -12,6 +12,7 @@ on_err (Ok a) p f = tt
 on_err (Err b) p f = f b p
 
 -- what holds of bytes that are this text
-pub of_bytes : {Q : List ℕ → Type 0} (known : Option (List ℕ)) (items text : List ℕ) → IfSome known (λ given. items ≡ given) → text ≡ utf8_lossy items → ((bytes : List ℕ) → text ≡ utf8_lossy bytes → Q bytes) → IfSome known Q
+pub of_bytes : {Q : List ℕ → Type 0} (known : Option (List ℕ)) (items text : List ℕ)
+    → IfSome known (λ given. items ≡ given) → text ≡ utf8_lossy items → ((bytes : List ℕ) → text ≡ utf8_lossy bytes → Q bytes) → IfSome known Q
 of_bytes None items text read is f = tt
 of_bytes (Some given) items text read is f = f given (is ∙ ap (λ xs. utf8_lossy xs) read)

@@ -24,13 +24,14 @@ abbrev pub script_fault : ScriptFault → ShowFault
 script_fault (script.Wrong w) = Wrong w
 script_fault script.Memory = Memory
 
--- why a text isn't shown: a line that is said to be wrong is the first that is, and wrong for that reason; else it couldn't be read, or memory was refused
+-- why a text isn't shown: a line that is said to be wrong is the first that is, and wrong for that
+-- reason; else it couldn't be read, or memory was refused
 abbrev pub IsFault : List ℕ → ShowFault → Type 0
 IsFault text (Wrong w) = IsWrongLine text w
 IsFault text Usage = ⊥
 IsFault text Output = ⊥
 IsFault text fault = ⊤
 
--- the same of the bytes that a reader gives, if they are known
+-- why showing the bytes that a reader gives fails, if they are known
 abbrev pub IsFaultOf : Option (List ℕ) → ShowFault → Type 0
 IsFaultOf given fault = IfSome given (λ bytes. IsFault (utf8_lossy bytes) fault)

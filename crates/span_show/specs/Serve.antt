@@ -23,10 +23,10 @@ use Rattle.span_layers.specs.Filtered.{filter_of}
 use Rattle.span_layers.specs.Honest.{IsHonestLayer}
 use Rattle.span_layers.specs.Layered.{inner_of, outer_of}
 use Rattle.span_layers.specs.Number.{filters_in}
+use Rattle.span_store.specs.Store.{RegistryState, empty_store}
+use Rattle.span_store.specs.declared.limits.TheConstants.Limits.{MAX}
 use Rattle.span_registry.specs.Form.{Form}
 use Rattle.span_registry.specs.Position.{Heard}
-use Rattle.span_registry.specs.Store.{RegistryState, empty_store}
-use Rattle.span_registry.specs.declared.limits.TheConstants.Limits.{MAX}
 use Rattle.span_times.specs.Clock.{counts_on, latest_counted}
 use Rattle.span_times.specs.Serving.{KeepsServed, WithTimeline, points_at, timeline_in, timeline_position}
 use Rattle.span_times.specs.Timeline.{clock_of, points_of}
@@ -50,39 +50,41 @@ pub record HasAllRoom (s : RegistryState) : Type 0 where
   pub empty : s.store ≡ empty_store
   pub limits : s.limits ≡ MAX
 
--- such a registry, and outside it an observer that begins so, under the level that lets all by
+-- a registry that has all room, and outside it an observer that begins as it should, under the
+-- level that passes all
 pub record IsNewUnder {T : Type 0} (Begins : T → Type 0) (x : WithObserver T RegistryState) : Type
     0 where
   pub registry : HasAllRoom (inner_of x)
   pub level : filter_of (outer_of x) ≡ TRACE
   pub observer : Begins (observer_in x)
 
--- a tree wrote nothing yet
+-- a tree has written nothing yet
 abbrev pub IsNewTree : Tree → Type 0
 IsNewTree x = tree.text_of x ≡ []
 
--- a `Lines` wrote nothing yet, and knows no span's values
+-- a `Lines` has written nothing yet, and knows no span's values
 pub record AreNewLines (x : Lines) : Type 0 where
   pub text : lines.text_of x ≡ []
   pub known : lines.known_of x ≡ nothing_known
 
--- such a registry, and outside it a timeline of nothing yet, whose clock counts from 0
+-- a registry that has all room, and outside it a timeline without points, whose clock counts from 0
 pub record IsNewTimeline (x : WithTimeline RegistryState Counted) : Type 0 where
   pub registry : HasAllRoom (inner_of x)
   pub points : points_of (timeline_in x) ≡ []
   pub clock : latest_counted (clock_of (timeline_in x)) ≡ 0
 
--- a request wasn't refused for want of memory
+-- an answer isn't a refusal for want of memory
 abbrev pub FoundMemory : Answer → Type 0
 FoundMemory (Refused OutOfMemory) = ⊥
 FoundMemory a = ⊤
 
--- a dispatcher that kept nothing yet gave these answers, and memory was refused to none
+-- a dispatcher that had cached nothing gave these answers, and memory was refused to none
 pub record AnswersAll {S : Type 0} (answers : List Answer) (old : Dispatch S) : Type 0 where
   pub unasked : kept_by old ≡ Some no_callsite
   pub memory : AllByRecursion FoundMemory answers
 
--- such an observer stood outermost while these requests were served, and the text is what is due of all that it was told
+-- an observer that began as it should stood outermost while these requests were served, and the
+-- text is what is due of all that it was notified of
 pub record IsTextOf {T : Type 0} (Begins : T → Type 0) (due : Heard → List ℕ)
     (s : SubscriberOf (WithObserver T RegistryState)) (requests : List Request)
     (text : List ℕ) : Type 0 where
@@ -95,17 +97,19 @@ pub record IsTextOf {T : Type 0} (Begins : T → Type 0) (due : Heard → List �
       requests answers old new
   pub written : text ≡ due (passed_at observer_position (flat served.made))
 
--- of a tree the lines of all this, in order
+-- the text is the lines of a tree that stood outermost while these requests were served, in order
 abbrev pub IsTreeOf : SubscriberOf (WithObserver Tree RegistryState) → List Request → List ℕ
     → Type 0
 IsTreeOf s = IsTextOf IsNewTree heard_text s
 
--- of `Lines` the lines of the events among this, in order
+-- the text is the lines of a `Lines` that stood outermost while these requests were served, one for
+-- each event, in order
 abbrev pub AreLinesOf : SubscriberOf (WithObserver Lines RegistryState) → List Request → List ℕ
     → Type 0
 AreLinesOf s = IsTextOf AreNewLines (heard_lines nothing_known) s
 
--- such a timeline stood outermost while these requests were served, and there is a point for each thing that it was told, in order
+-- a new timeline stood outermost while these requests were served, and there is a point for each
+-- thing that it was notified of, in order
 pub record ArePointsOf (s : SubscriberOf (WithTimeline RegistryState Counted))
     (requests : List Request) (points : List Point) : Type 0 where
   pub answers : List Answer

@@ -19,7 +19,7 @@ use Rattle.span_export.specs.declared.site.Site.{Site}
 use Rattle.span_fmt.specs.declared.lines.Lines as lines
 use Rattle.span_fmt.specs.declared.tree.Tree as tree
 use Rattle.span_fmt.specs.Serve.{WithObserver}
-use Rattle.span_registry.specs.Store.{RegistryState}
+use Rattle.span_store.specs.Store.{RegistryState}
 use Rattle.span_script.specs.Script.{AskFor, IsSpelled}
 use Rattle.span_script.specs.declared.line.Line.{Line}
 use Rattle.span_script.specs.declared.stack_name.StackName.{StackName}
@@ -45,7 +45,7 @@ format_word (Points Svg) = codes "svg"
 abbrev pub said_by : Site → ℕ × Level × List ℕ × List ℕ
 said_by s = (s.callsite, s.level, string_bytes s.name, string_bytes s.target)
 
--- the same, as metadata say it
+-- what metadata say of their callsite: number, level, name and target
 abbrev pub said_of : Metadata → ℕ × Level × List ℕ × List ℕ
 said_of m = (callsite_of m, level_of m, name_of m, target_of m)
 
@@ -98,13 +98,15 @@ pub record IsExportOf (s : SubscriberOf (WithTimeline RegistryState Counted)) (f
 module _ (t : SubscriberOf (WithObserver tree.Tree RegistryState))
     (l : SubscriberOf (WithObserver lines.Lines RegistryState))
     (s : SubscriberOf (WithTimeline RegistryState Counted)) where
-  -- what is shown of these requests: what a tree or `Lines` writes of them, or an export of their points
+  -- what is shown of these requests: what a tree or `Lines` writes of them, or an export of their
+  -- points
   abbrev pub IsShown : Format → List Request → List ℕ → Type 0
   IsShown Tree requests text = IsTreeOf t requests text
   IsShown Lines requests text = AreLinesOf l requests text
   IsShown (Points format) requests text = IsExportOf s format requests text
 
-  -- the text spells a stack, whichever, and lines; these ask for requests, and this is shown of them
+  -- the text spells a stack, whichever, and lines; these ask for requests, and this is shown of
+  -- them
   pub record Shows (format : Format) (text output : List ℕ) : Type 0 where
     pub stack : StackName
     pub lines : List Line
@@ -113,6 +115,6 @@ module _ (t : SubscriberOf (WithObserver tree.Tree RegistryState))
     pub asked : AskFor lines requests
     pub shown : IsShown format requests output
 
-  -- the same of the bytes that a reader gives, if they are known
+  -- what is shown of the bytes that a reader gives, if they are known
   abbrev pub ShowsOf : Format → Option (List ℕ) → List ℕ → Type 0
   ShowsOf format given output = IfSome given (λ bytes. Shows format (utf8_lossy bytes) output)

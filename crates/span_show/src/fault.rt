@@ -13,7 +13,7 @@ pub enum ShowFault {
     /// The arguments aren't a format and a script.
     #[error("usage: span_show tree|lines|chrome|otlp|folded|svg SCRIPT")]
     Usage,
-    /// This line of the script is the first that is wrong.
+    /// The script's first wrong line.
     #[error("{0}")]
     Wrong(WrongLine),
     /// The script can't be read, or is too long.

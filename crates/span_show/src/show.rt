@@ -15,10 +15,11 @@ use span_times::{Counted, WithTimeline};
 use std::alloc::Global;
 use std::io::Read;
 
-/// What is shown of the script that the reader gives.
+/// Shows the script that a reader gives, in a format.
 ///
 /// All of the script is read first. The stack that it names makes no difference: its requests are
-/// served on a new registry with a tree, lines or a timeline outside it, which is told of everything.
+/// served on a new registry with a tree, lines or a timeline outside it, which is notified of
+/// everything.
 pub fn show<R: Read>(alloc: Global, format: Format, reader: &mut R) -> Result<String, ShowFault>
     ensures shown { IfOk result (λ text. ShowsOf ⟦<WithTree<Registry> as Subscriber>⟧
         ⟦<WithLines<Registry> as Subscriber>⟧ ⟦<WithTimeline<Registry, Counted> as Subscriber>⟧
@@ -31,7 +32,7 @@ pub fn show<R: Read>(alloc: Global, format: Format, reader: &mut R) -> Result<St
     show_text(alloc, format, text.as_str())
 }
 
-/// The same of a text.
+/// Shows the script that is in a text, in a format.
 fn show_text(alloc: Global, format: Format, text: &str) -> Result<String, ShowFault>
     ensures shown { IfOk result (λ shown. Shows ⟦<WithTree<Registry> as Subscriber>⟧
         ⟦<WithLines<Registry> as Subscriber>⟧ ⟦<WithTimeline<Registry, Counted> as Subscriber>⟧

@@ -1,12 +1,14 @@
 //! Tests of boxed filters: a box adds nothing to the filter in it.
-ghost use Rattle.span_filters.specs.Filter.{ActsSteadily, settled_answers, settled_laws, steady_levels};
-ghost use Rattle.span_store_tests.specs.Filters.{if_answers, in_span_answers, in_span_honest, since_entered, since_laws, since_levels, wanted_after};
+ghost use Rattle.span_filters.specs.Filter.{ActsSteadily, settled_answers};
+ghost use Rattle.span_filters.specs.laws.Filter.{settled_laws, steady_levels};
+ghost use Rattle.span_store_tests.specs.Filters.{if_answers, in_span_answers, since_entered, wanted_after};
+ghost use Rattle.span_store_tests.specs.laws.Filter.{in_span_honest, since_laws, since_levels};
 ghost use Rattle.std.specs.Prelude.{◌≡◌};
 
 use crate::fixture::{LANE, enter, event_at, is_shown_as, open, open_named, root};
-use span_core::{Attributes, Event, Id, Interest, Level, LevelFilter, Metadata, Pass, Record};
+use span_core::{Event, Id, Interest, Level, LevelFilter, Metadata, Pass};
 use span_filters::{And, BoxedFilter, DynFilter, Filter, FilterExt, Not, Or};
-use span_registry::{Context, ContextMut, LookupSpan, Registry};
+use span_registry::{Context, ContextMut, LookupSpan, Notice, Registry};
 use std::process::Abort;
 use std::test::Fail;
 
@@ -122,15 +124,7 @@ impl<S: LookupSpan> Filter<S> for InSpan {
         None
     }
 
-    fn on_new_span(&mut self, _attrs: &Attributes<'_>, _id: Id, _ctx: &mut ContextMut<'_, S>) {}
-
-    fn on_record(&mut self, _id: Id, _values: &Record<'_>, _ctx: &mut ContextMut<'_, S>) {}
-
-    fn on_enter(&mut self, _id: Id, _ctx: &mut ContextMut<'_, S>) {}
-
-    fn on_exit(&mut self, _id: Id, _ctx: &mut ContextMut<'_, S>) {}
-
-    fn on_close(&mut self, _id: Id, _ctx: &mut ContextMut<'_, S>) {}
+    fn notify(&mut self, _notice: Notice<'_, '_>, _ctx: &mut ContextMut<'_, S>) {}
 
     fn set_level(&mut self, _level: LevelFilter) -> bool {
         false // It goes by no level.
@@ -196,17 +190,11 @@ impl<S: LookupSpan> Filter<S> for SinceEntered {
         None
     }
 
-    fn on_new_span(&mut self, _attrs: &Attributes<'_>, _id: Id, _ctx: &mut ContextMut<'_, S>) {}
-
-    fn on_record(&mut self, _id: Id, _values: &Record<'_>, _ctx: &mut ContextMut<'_, S>) {}
-
-    fn on_enter(&mut self, _id: Id, _ctx: &mut ContextMut<'_, S>) {
-        self.entered = true;
+    fn notify(&mut self, notice: Notice<'_, '_>, _ctx: &mut ContextMut<'_, S>) {
+        if let Notice::Enter(_) = notice {
+            self.entered = true;
+        }
     }
-
-    fn on_exit(&mut self, _id: Id, _ctx: &mut ContextMut<'_, S>) {}
-
-    fn on_close(&mut self, _id: Id, _ctx: &mut ContextMut<'_, S>) {}
 
     fn set_level(&mut self, _level: LevelFilter) -> bool {
         false // It goes by no level.

@@ -1,12 +1,14 @@
 //! Tests of filters made of filters: rows of their tables.
 ghost use Rattle.std.specs.Prelude.{true};
-ghost use Rattle.span_filters.specs.Filter.{ActsSteadily, settled_answers, settled_laws, steady_levels};
-ghost use Rattle.span_store_tests.specs.Filters.{if_answers, if_honest, mute_answers, mute_honest};
+ghost use Rattle.span_filters.specs.Filter.{ActsSteadily, settled_answers};
+ghost use Rattle.span_filters.specs.laws.Filter.{settled_laws, steady_levels};
+ghost use Rattle.span_store_tests.specs.Filters.{if_answers, mute_answers};
+ghost use Rattle.span_store_tests.specs.laws.Filter.{if_honest, mute_honest};
 
 use crate::fixture::{event_at, event_of, hint_of, is_shown_as, lets_by, says, wants};
-use span_core::{Attributes, Event, Id, Interest, Level, LevelFilter, Metadata, Record};
+use span_core::{Event, Interest, Level, LevelFilter, Metadata};
 use span_filters::{Filter, FilterExt, dynamic_filter_fn, filter_fn};
-use span_registry::{Context, ContextMut, LookupSpan, Registry};
+use span_registry::{Context, ContextMut, LookupSpan, Notice, Registry};
 use std::cell::Cell;
 use std::process::Abort;
 use std::test::Fail;
@@ -40,15 +42,7 @@ impl<S: LookupSpan> Filter<S> for Mute {
         None
     }
 
-    fn on_new_span(&mut self, _attrs: &Attributes<'_>, _id: Id, _ctx: &mut ContextMut<'_, S>) {}
-
-    fn on_record(&mut self, _id: Id, _values: &Record<'_>, _ctx: &mut ContextMut<'_, S>) {}
-
-    fn on_enter(&mut self, _id: Id, _ctx: &mut ContextMut<'_, S>) {}
-
-    fn on_exit(&mut self, _id: Id, _ctx: &mut ContextMut<'_, S>) {}
-
-    fn on_close(&mut self, _id: Id, _ctx: &mut ContextMut<'_, S>) {}
+    fn notify(&mut self, _notice: Notice<'_, '_>, _ctx: &mut ContextMut<'_, S>) {}
 
     fn set_level(&mut self, _level: LevelFilter) -> bool {
         false // It goes by no level.
@@ -87,15 +81,7 @@ impl<S: LookupSpan> Filter<S> for Asked<'_> {
         None
     }
 
-    fn on_new_span(&mut self, _attrs: &Attributes<'_>, _id: Id, _ctx: &mut ContextMut<'_, S>) {}
-
-    fn on_record(&mut self, _id: Id, _values: &Record<'_>, _ctx: &mut ContextMut<'_, S>) {}
-
-    fn on_enter(&mut self, _id: Id, _ctx: &mut ContextMut<'_, S>) {}
-
-    fn on_exit(&mut self, _id: Id, _ctx: &mut ContextMut<'_, S>) {}
-
-    fn on_close(&mut self, _id: Id, _ctx: &mut ContextMut<'_, S>) {}
+    fn notify(&mut self, _notice: Notice<'_, '_>, _ctx: &mut ContextMut<'_, S>) {}
 
     fn set_level(&mut self, _level: LevelFilter) -> bool {
         false // It goes by no level.

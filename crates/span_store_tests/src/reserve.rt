@@ -1,8 +1,8 @@
 //! Tests of memory that is held before it is used.
 ghost use Rattle.std.specs.Prelude.{IsOk};
 ghost use Rattle.span_core.specs.Span.{number_of};
-ghost use Rattle.span_registry.specs.Step.{HasNoEntryReserved, HasNoPlaceReserved, HasPlace};
-ghost use Rattle.span_registry.specs.Store.{IsOpen};
+ghost use Rattle.span_store.specs.Step.{HasNoEntryReserved, HasNoPlaceReserved, HasPlace};
+ghost use Rattle.span_store.specs.Store.{IsOpen};
 
 use crate::fixture::{clone_of, span_named};
 use span_core::{Attributes, Id, Lane, Pass, TraceError};

@@ -2,8 +2,8 @@
 ghost use Rattle.std.specs.Prelude.{◌≡◌};
 ghost use Rattle.span_thread_bench.specs.Counter.{counted, notices_of};
 
-use span_layers::{Observe, Observed};
-use span_registry::{ContextMut, Subscriber};
+use span_layers::Observe;
+use span_registry::{ContextMut, Notice, Subscriber};
 
 /// Counts what it is notified of.
 #[derive(Drop)]
@@ -30,7 +30,7 @@ impl Counter {
 impl<S: Subscriber> Observe<S> for Counter {
     ghost observed = { λ x e lane under v y w. (y ≡ counted x) × (w ≡ v) };
 
-    fn observe(&mut self, _notice: Observed<'_, '_>, _ctx: &mut ContextMut<'_, S>) {
+    fn observe(&mut self, _notice: Notice<'_, '_>, _ctx: &mut ContextMut<'_, S>) {
         self.notices = self.notices.saturating_add(1);
     }
 }

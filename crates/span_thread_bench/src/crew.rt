@@ -1,5 +1,5 @@
 //! Workers in threads, and the receiver that they share.
-ghost use Rattle.span_registry.specs.Store.{IsFresh};
+ghost use Rattle.span_store.specs.Store.{IsFresh};
 ghost use Rattle.span_thread_bench.specs.Order.{all_requests};
 ghost use Rattle.std.specs.Prelude.{◌≡◌, ◌<◌, IfOk};
 

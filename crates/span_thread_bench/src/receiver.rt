@@ -1,6 +1,6 @@
 //! The receiver that the threads share: a layer that counts, over one that vetoes what is less severe than info, over a registry.
 ghost use Rattle.span_layers.specs.Layered.{inner_of};
-ghost use Rattle.span_registry.specs.Store.{IsFresh};
+ghost use Rattle.span_store.specs.Store.{IsFresh};
 ghost use Rattle.std.specs.Prelude.{◌≡◌, IfOk};
 
 use crate::counter::Counter;

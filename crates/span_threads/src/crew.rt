@@ -1,5 +1,5 @@
 //! Two workers in two threads, and the receiver that they share.
-ghost use Rattle.span_registry.specs.Store.{IsFresh};
+ghost use Rattle.span_store.specs.Store.{IsFresh};
 ghost use Rattle.std.specs.Prelude.{◌≡◌, ◌+◌, IfOk, vec_len};
 
 use crate::work::{Worked, work};

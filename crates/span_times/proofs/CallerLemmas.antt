@@ -24,11 +24,13 @@ module _ {C : Type 0} (latest : C → ℕ) (gives : C → ℕ → C → Type 0) 
   twice from (x ∷ ts) t h = (h.0, twice x ts t h.1)
 
   -- points in order stay so where one is kept, or none
-  stays_in_order : (told : Told) (x y : Timeline C) → Traces latest gives x told.notice told.lane told.view y → IsInOrder latest x → (b : Bool) → has_failed y ≡ b → IsInOrder latest y
+  stays_in_order : (told : Told) (x y : Timeline C)
+      → Traces latest gives x told.notice told.lane told.view y → IsInOrder latest x → (b : Bool) → has_failed y ≡ b → IsInOrder latest y
   stays_in_order told x y one order true e =
       let times = map (λ (p : Point). p.time) (points_of x) in
       let next = later 0 times (latest (clock_of x)) one.time order one.read.forward in
-      subst (λ (ps : List Point). NeverGoBack 0 (map (λ p. p.time) ps ++ latest (clock_of y) ∷ [])) (sym (one.lost e)) (subst (λ (n : ℕ). NeverGoBack 0 (times ++ n ∷ [])) (sym one.read.kept) next)
+      subst (λ (ps : List Point). NeverGoBack 0 (map (λ p. p.time) ps ++ latest (clock_of y) ∷ []))
+      (sym (one.lost e)) (subst (λ (n : ℕ). NeverGoBack 0 (times ++ n ∷ [])) (sym one.read.kept) next)
   stays_in_order told x y one order false e =
       let times = map (λ (p : Point). p.time) (points_of x) in
       let next = twice 0 times one.time (later 0 times (latest (clock_of x)) one.time order one.read.forward) in
@@ -38,12 +40,14 @@ module _ {C : Type 0} (latest : C → ℕ) (gives : C → ℕ → C → Type 0) 
       (subst (λ (n : ℕ). NeverGoBack 0 ((times ++ one.time ∷ []) ++ n ∷ [])) (sym one.read.kept) next))
 
   -- memory that was refused stays so
-  stays_failed : (told : Told) (x y : Timeline C) → Traces latest gives x told.notice told.lane told.view y → has_failed x ≡ true → (b : Bool) → has_failed y ≡ b → (has_failed y ≡ true) × (points_of y ≡ points_of x)
+  stays_failed : (told : Told) (x y : Timeline C) → Traces latest gives x told.notice told.lane told.view y
+      → has_failed x ≡ true → (b : Bool) → has_failed y ≡ b → (has_failed y ≡ true) × (points_of y ≡ points_of x)
   stays_failed told x y one failed true e = (e, one.lost e)
   stays_failed told x y one failed false e = absurd (true≢false (sym failed ∙ (one.kept e).0))
 
   -- one point, and a beginning of those after it, or none
-  begun : (told : Told) (h : Heard) (x z y : Timeline C) (one : Traces latest gives x told.notice told.lane told.view z) (rest : KeepsAll latest gives z h y) (b : Bool) → has_failed z ≡ b
+  begun : (told : Told) (h : Heard)
+      (x z y : Timeline C) (one : Traces latest gives x told.notice told.lane told.view z) (rest : KeepsAll latest gives z h y) (b : Bool) → has_failed z ≡ b
       → (n : ℕ) × (points_of y ≡ points_of x ++ take n (points_at (one.time ∷ rest.times) (told ∷ h)))
   begun told h x z y one rest true e = (0, (rest.stays e).1 ∙ one.lost e ∙ sym (append-nil (points_of x)))
   begun told h x z y one rest false e =
@@ -60,7 +64,10 @@ module _ {C : Type 0} (latest : C → ℕ) (gives : C → ℕ → C → Type 0) 
         one_each = refl;
         read = ap (λ (t : Timeline C). clock_of t) here;
         forward = tt;
-        kept = λ whole. (ap (λ (t : Timeline C). has_failed t) here ∙ whole, ap (λ (t : Timeline C). points_of t) (sym here) ∙ sym (append-nil (points_of (observer_of x))));
+        kept = λ whole. (
+          ap (λ (t : Timeline C). has_failed t) here ∙ whole,
+          ap (λ (t : Timeline C). points_of t) (sym here) ∙ sym (append-nil (points_of (observer_of x))),
+        );
         beginning = (0, ap (λ (t : Timeline C). points_of t) (sym here) ∙ sym (append-nil (points_of (observer_of x))));
         order = λ order. subst (λ (t : Timeline C). IsInOrder latest t) here order;
         stays = λ failed. (ap (λ (t : Timeline C). has_failed t) (sym here) ∙ failed, ap (λ (t : Timeline C). points_of t) (sym here));
@@ -75,8 +82,11 @@ module _ {C : Type 0} (latest : C → ℕ) (gives : C → ℕ → C → Type 0) 
         forward = (one.read.forward, subst (λ (n : ℕ). NeverGoBack n rest.times) one.read.kept rest.forward);
         kept = λ whole.
             let later = rest.kept whole in
-            let now = one.kept later.0 in
-            (now.0, later.1 ∙ ap (λ ps. ps ++ points_at rest.times h) now.1 ∙ append_assoc (points_of (observer_of x)) (point_of one.time told.lane told.notice told.view ∷ []) (points_at rest.times h));
+            let now = one.kept later.0 in (
+              now.0,
+              later.1 ∙ ap (λ ps. ps ++ points_at rest.times h) now.1
+                  ∙ append_assoc (points_of (observer_of x)) (point_of one.time told.lane told.notice told.view ∷ []) (points_at rest.times h),
+            );
         beginning = begun told h (observer_of x) (observer_of a.0) (observer_of y) one rest (has_failed (observer_of a.0)) refl;
         order = λ order. rest.order (stays_in_order told (observer_of x) (observer_of a.0) one order (has_failed (observer_of a.0)) refl);
         stays = λ failed.

@@ -9,7 +9,7 @@ use Rattle.span_times.specs.declared.happening.Point.{Point}
 use Rattle.span_times.specs.declared.measure.Part.TheVariants as part
 use Rattle.span_times.specs.declared.measure.Part.{Part}
 
--- a sum, as far as a u64 goes
+-- a sum, up to the greatest u64
 abbrev pub capped : ℕ → ℕ
 capped n = min n (2 ^ 64 - 1)
 
@@ -21,23 +21,23 @@ is_about x (Left id) = number_of id == x
 is_about x (Closed id) = number_of id == x
 is_about x other = false
 
--- a busy time begins so
+-- a busy time begins with this
 abbrev pub begins_busy : Happening → Bool
 begins_busy (Entered id) = true
 begins_busy other = false
 
--- and ends so
+-- a busy time ends with this
 abbrev pub ends_busy : Happening → Bool
 ends_busy (Left id) = true
 ends_busy other = false
 
--- an idle time begins so
+-- an idle time begins with this
 abbrev pub begins_idle : Happening → Bool
 begins_idle (Opened id callsite parent) = true
 begins_idle (Left id) = true
 begins_idle other = false
 
--- and ends so
+-- an idle time ends with this
 abbrev pub ends_idle : Happening → Bool
 ends_idle (Entered id) = true
 ends_idle (Closed id) = true
@@ -47,11 +47,11 @@ ends_idle other = false
 abbrev pub is_busy : Happening → Happening → Bool
 is_busy from to = if begins_busy from then ends_busy to else false
 
--- it is idle from its opening or an exit to an entry or its close
+-- a span is idle from its opening or an exit to an entry or its close
 abbrev pub is_idle : Happening → Happening → Bool
 is_idle from to = if begins_idle from then ends_idle to else false
 
--- the one or the other
+-- a time of this part lies between the two
 abbrev pub is_gap : Part → Happening → Happening → Bool
 is_gap part.Busy from to = is_busy from to
 is_gap part.Idle from to = is_idle from to
@@ -61,7 +61,8 @@ abbrev pub gap : (Happening → Happening → Bool) → Option Point → Point �
 gap lies None p = 0
 gap lies (Some last) p = if lies last.what p.what then p.time - last.time else 0
 
--- the sum of such gaps between each point of a span and its next one, where this point of it came last
+-- the sum of such gaps between each point of a span and its next one, where this point of it came
+-- last
 abbrev pub spent : (Happening → Happening → Bool) → ℕ → Option Point → List Point → ℕ
 spent lies x last [] = 0
 spent lies x last (p ∷ ps) =
@@ -72,7 +73,8 @@ spent lies x last (p ∷ ps) =
 abbrev pub busy_in : List Point → ℕ → ℕ
 busy_in ps x = capped (spent is_busy x None ps)
 
--- how long it was idle: the time from its opening or each exit to an entry or a close that comes next
+-- how long a span was idle: the time from its opening or each exit to an entry or a close that
+-- comes next
 abbrev pub idle_in : List Point → ℕ → ℕ
 idle_in ps x = capped (spent is_idle x None ps)
 
@@ -81,7 +83,7 @@ abbrev pub opens : ℕ → Happening → Bool
 opens x (Opened id callsite parent) = number_of id == x
 opens x other = false
 
--- it closes
+-- the span with this number closes
 abbrev pub closes : ℕ → Happening → Bool
 closes x (Closed id) = number_of id == x
 closes x other = false
@@ -111,7 +113,7 @@ abbrev pub is_event : Happening → Bool
 is_event (Sent callsite parent) = true
 is_event other = false
 
--- in how many points such a thing happened
+-- in how many points something of this kind happened
 abbrev pub count_in : (Happening → Bool) → List Point → ℕ
 count_in is [] = 0
 count_in is (p ∷ ps) = (if is p.what then 1 else 0) + count_in is ps

@@ -1,4 +1,4 @@
--- What a timeline keeps of a list of requests.
+-- What a timeline keeps of a list of requests that is served.
 use Rattle.std.specs.Prelude.{◌≡◌, ℕ, false, true, List, [], ◌∷◌, ◌++◌, length, take}
 use Rattle.std.specs.List.{FoldsTo}
 use Rattle.std.specs.declared.alloc.Global.{Global}
@@ -20,13 +20,15 @@ use Rattle.span_times.specs.Timeline.{IsInOrder, clock_of, has_failed, point_of,
 use Rattle.span_times.specs.declared.happening.Point.{Point}
 use Rattle.span_times.specs.declared.timeline.Timeline.{Timeline}
 
--- the points of what was told, each at its time and in what was shown then
+-- the points of what a timeline is notified of, each at its time and in what its context shows then
 abbrev pub points_at : List ℕ → Heard → List Point
 points_at (time ∷ times) (told ∷ heard) =
     point_of time told.lane told.notice told.view ∷ points_at times heard
 points_at times heard = []
 
--- a timeline was told all this: it read its clock once for each, never going back, and has their points, in order, behind the others; where it failed, those of a beginning alone, and none where it had failed before; points that were in order stay so
+-- A timeline is notified of all this: it reads its clock once for each, never going back, and
+-- appends their points in order. Where it fails it has those of a beginning alone, and none where
+-- it had failed before; points that were in order stay so.
 pub record KeepsAll {C : Type 0} (latest : C → ℕ) (gives : C → ℕ → C → Type 0) (x : Timeline C)
     (heard : Heard) (y : Timeline C) : Type 0 where
   pub times : List ℕ
@@ -39,7 +41,8 @@ pub record KeepsAll {C : Type 0} (latest : C → ℕ) (gives : C → ℕ → C �
   pub stays : has_failed x ≡ true → (has_failed y ≡ true) × (points_of y ≡ points_of x)
   pub order : IsInOrder latest x → IsInOrder latest y
 
--- what a stack says of a timeline in it that was told of these: it went through them by its own step, one by one
+-- a timeline in a stack is notified of these, as the stack says it: it goes through them by its own
+-- step, one by one
 abbrev pub TimelineHears : {C : Type 0} → (C → ℕ) → (C → ℕ → C → Type 0) → Observer (Timeline C)
     → Heard → Observer (Timeline C) → Type 0
 TimelineHears latest gives x heard y =
@@ -47,7 +50,7 @@ TimelineHears latest gives x heard y =
     ObserverStep (timeline_steps latest gives) (observer_of x) p e lane under v (observer_of y) w) x
     Here heard y
 
--- so it is of each timeline that is told of something
+-- each timeline keeps a point for all that it is notified of, unless it fails
 abbrev pub TimelinesKeepAll : {C : Type 0} → (C → ℕ) → (C → ℕ → C → Type 0) → Type 0
 TimelinesKeepAll {C} latest gives =
     (x y : Observer (Timeline C)) (heard : Heard) → TimelineHears latest gives x heard y
@@ -67,7 +70,8 @@ timeline_in x = observer_of (outer_of x)
 
 module _ {S C : Type 0} (latest : C → ℕ) (gives : C → ℕ → C → Type 0)
     (s : SubscriberOf (WithTimeline S C)) where
-  -- these requests were served with these answers, and the timeline keeps all that its position was told, in order, unless it failed
+  -- these requests were served with these answers, and the timeline keeps a point for all that its
+  -- position was notified of, in order, unless it failed
   pub record KeepsServed (requests : List Request) (answers : List Answer)
       (old new : Dispatch (WithTimeline S C)) : Type 0 where
     pub served : Served s.registry s.with_registry s.has_form s.stepped s.levelled s.hears s.acts_at
@@ -75,7 +79,8 @@ module _ {S C : Type 0} (latest : C → ℕ) (gives : C → ℕ → C → Type 0
     pub kept : KeepsAll latest gives (timeline_in (stack_of old))
         (passed_at timeline_position (flat served.made)) (timeline_in (stack_of new))
 
-  -- so it is where the dispatcher was ready
+  -- requests that are served by a dispatcher that was ready have these answers, and the timeline
+  -- keeps a point for all that its position was notified of
   abbrev pub ServesTimed : List Request → Dispatch (WithTimeline S C)
       → Dispatch (WithTimeline S C) → Vec Answer Global → Type 0
   ServesTimed requests old new answers =

@@ -1,4 +1,4 @@
--- What a timeline keeps of what it is told.
+-- What a timeline keeps of what it is notified of.
 use Rattle.std.specs.Prelude.{◌≡◌, ◌≤◌, ℕ, Bool, true, false, List, [], ◌∷◌, ◌++◌, Option, Vec, map}
 use Rattle.std.specs.Option.{option_and_then, option_map}
 use Rattle.std.specs.Vec.{vec_capacity, vec_len}
@@ -25,7 +25,7 @@ parent_found x v = option_map id_of (option_and_then (parent_shown v.spans) (sho
 abbrev pub span_found : Parent → View → Option Id
 span_found asked v = option_map id_of (event_shown asked v)
 
--- what a notice tells of, in what a view shows
+-- what happens by a notice, in what a view shows
 abbrev pub happening_of : Notice → View → Happening
 happening_of (OnNewSpan attrs id) v =
     Opened id (callsite_of (metadata_of attrs)) (parent_found (number_of id) v)
@@ -43,27 +43,28 @@ abbrev pub point_of : ℕ → ℕ → Notice → View → Point
 point_of time lane e v =
     record { time = time; lane = record { 0 = lane }; what = happening_of e v }
 
--- the points that it keeps
+-- the points that a timeline keeps
 abbrev pub points_of : {C : Type 0} → Timeline C → List Point
 points_of x = x.points.items
 
--- it found no memory for a point
+-- whether a timeline found no memory for a point
 abbrev pub has_failed : {C : Type 0} → Timeline C → Bool
 has_failed x = x.failed
 
--- its clock
+-- the clock of a timeline
 abbrev pub clock_of : {C : Type 0} → Timeline C → C
 clock_of x = x.clock
 
--- its points never go back in time, and none is after its clock's latest reading
+-- the points of a timeline never go back in time, and none is after its clock's latest reading
 abbrev pub IsInOrder : {C : Type 0} → (C → ℕ) → Timeline C → Type 0
 IsInOrder latest x = NeverGoBack 0 (map (λ p. p.time) (points_of x) ++ latest (clock_of x) ∷ [])
 
--- its list has no room for a further point without more memory
+-- the list of points has no room for one more without more memory
 abbrev pub IsFull : {C : Type 0} → Timeline C → Type 0
 IsFull x = vec_capacity x.points ≤ vec_len x.points
 
--- a timeline is told of something in a view: it reads its clock once, and keeps the point of that reading behind the others, unless memory is refused, which it asks for only where its list is full, or was
+-- A timeline is notified in a view: it reads its clock once, and appends the point of that reading,
+-- unless memory is refused or was before. It asks for memory only where its list is full.
 pub record Traces {C : Type 0} (latest : C → ℕ) (gives : C → ℕ → C → Type 0) (x : Timeline C)
     (e : Notice) (lane : ℕ) (v : View) (y : Timeline C) : Type 0 where
   pub time : ℕ
@@ -73,13 +74,14 @@ pub record Traces {C : Type 0} (latest : C → ℕ) (gives : C → ℕ → C →
   pub lost : has_failed y ≡ true → points_of y ≡ points_of x
   pub full : has_failed x ≡ false → has_failed y ≡ true → IsFull x
 
--- it takes down what it is told of in what its context shows, extensions aside, and leaves the registry alone
+-- a timeline keeps the point of a notice in what its context shows, extensions aside, and leaves
+-- the registry unchanged
 abbrev pub timeline_steps : {C : Type 0} → (C → ℕ) → (C → ℕ → C → Type 0)
     → ObserverSteps (Timeline C)
 timeline_steps latest gives x e lane under v y w =
     Traces latest gives x e lane (plain_view v.store lane under) y × (w ≡ v)
 
--- the points are taken out, and it begins anew on its clock
+-- the points are taken out, and the timeline begins anew on its clock
 pub record TakesPoints {C : Type 0} (points : Vec Point Global) (x y : Timeline C) : Type 0 where
   pub taken : points.items ≡ points_of x
   pub none : points_of y ≡ []

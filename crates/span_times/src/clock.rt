@@ -6,7 +6,7 @@ use std::time::Clock;
 
 /// A clock that a layer owns. It never goes back.
 pub trait Now {
-    /// Its latest reading.
+    /// The clock's latest reading.
     ghost latest: { Self → ℕ };
 
     /// What more is known of a reading: of which clock, which one, and which clock it leaves.

@@ -2,24 +2,24 @@
 ghost use Rattle.std.specs.Prelude.{◌≡◌};
 ghost use Rattle.span_core.specs.Event.{event_parent};
 ghost use Rattle.span_core.specs.Span.{number_of};
-ghost use Rattle.span_layers.specs.Observe.{notice_of};
+ghost use Rattle.span_registry.specs.Notice.{notice_of};
 ghost use Rattle.span_registry.specs.Context.{view_lent};
 ghost use Rattle.span_times.specs.Timeline.{happening_of, parent_found, span_found};
 
 use span_core::{Event, Id, Lane};
-use span_layers::Observed;
-use span_registry::{ContextMut, LookupSpan};
+use span_registry::{ContextMut, LookupSpan, Notice};
 
-/// What a timeline was told of. Callsites are named by their numbers.
+/// What happened, as a timeline was notified of it. Callsites are named by their numbers.
 #[derive(Clone, Copy, Debug, PartialEq, Eq)]
 pub enum Happening {
-    /// A callsite opened a span, whose parent is this: the nearest span above it that the timeline sees.
+    /// A callsite opened a span, whose parent is the nearest span above it that isn't hidden from
+    /// the timeline.
     Opened(Id, u64, Option<Id>),
     /// A span was given values.
     Recorded(Id),
     /// The first span follows from the second.
     Followed(Id, Id),
-    /// A callsite sent an event, which is in this span, as the timeline sees it.
+    /// A callsite sent an event, in this span, as the timeline sees it.
     Sent(u64, Option<Id>),
     /// A span was entered.
     Entered(Id),
@@ -36,32 +36,32 @@ pub enum Happening {
 pub struct Point {
     /// When, in nanoseconds.
     pub time: u64,
-    /// On which lane.
+    /// The lane that it happened on.
     pub lane: Lane,
     /// What.
     pub what: Happening,
 }
 
-/// What a notice tells of, in what a hook sees.
+/// What happens by a notice, in what a hook sees.
 pub(crate) fn happening_in<S: LookupSpan>(
-    notice: Observed<'_, '_>,
+    notice: Notice<'_, '_>,
     ctx: &ContextMut<'_, S>,
 ) -> Happening
     ensures { result ≡ happening_of (notice_of notice.entry) (view_lent S.registry ctx.now) }
 {
     match notice {
-        Observed::NewSpan(attrs, id) => {
+        Notice::NewSpan(attrs, id) => {
             Happening::Opened(id, attrs.metadata().callsite(), parent_found(id, ctx))
         }
-        Observed::Record(id, _) => Happening::Recorded(id),
-        Observed::FollowsFrom(id, other) => Happening::Followed(id, other),
-        Observed::Event(event) => {
+        Notice::Record(id, _) => Happening::Recorded(id),
+        Notice::FollowsFrom(id, other) => Happening::Followed(id, other),
+        Notice::Event(event) => {
             Happening::Sent(event.metadata().callsite(), span_found(event, ctx))
         }
-        Observed::Enter(id) => Happening::Entered(id),
-        Observed::Exit(id) => Happening::Left(id),
-        Observed::IdChange(id, other) => Happening::Renamed(id, other),
-        Observed::Close(id) => Happening::Closed(id),
+        Notice::Enter(id) => Happening::Entered(id),
+        Notice::Exit(id) => Happening::Left(id),
+        Notice::IdChange(id, other) => Happening::Renamed(id, other),
+        Notice::Close(id) => Happening::Closed(id),
     }
 }
 

@@ -7,14 +7,16 @@ ghost use Rattle.span_times.specs.Measure.{busy_in, capped, closes, count_in, ga
 use crate::happening::{Happening, Point};
 use span_core::Id;
 
-/// Two parts of the time in which a span is open. Where it is entered and left in turns, they are all of it.
+/// Two parts of the time in which a span is open. Where it is entered and left in turns, they are
+/// all of it.
 #[derive(Clone, Copy)]
 enum Part {
     Busy,
     Idle,
 }
 
-/// How long a span was busy: from each entry to the next exit, on any lanes, in nanoseconds up to `u64::MAX`.
+/// How long a span was busy: from each entry to the next exit, on any lanes, in nanoseconds up to
+/// `u64::MAX`.
 ///
 /// Where it is entered once more before it is left, the later entry counts.
 pub fn busy_time(points: &[Point], id: Id) -> u64
@@ -23,7 +25,8 @@ pub fn busy_time(points: &[Point], id: Id) -> u64
     time_of(Part::Busy, points, id)
 }
 
-/// How long a span was open and idle: from its opening and each exit to the next entry, or to its close, up to `u64::MAX`.
+/// How long a span was open and idle: from its opening and each exit to the next entry, or to its
+/// close, up to `u64::MAX`.
 ///
 /// Where it is left once more before it is entered, the later exit counts.
 pub fn idle_time(points: &[Point], id: Id) -> u64

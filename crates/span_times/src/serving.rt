@@ -15,7 +15,8 @@ use std::alloc::Global;
 /// A stack, and outside it a timeline.
 pub type WithTimeline<S, C> = Layered<Observer<Timeline<C>>, S>;
 
-/// Serves requests in order, with one answer for each; the timeline keeps a point for each thing that it is told of, unless it failed.
+/// Serves requests in order, with one answer for each; the timeline keeps a point for all that it
+/// is notified of, unless it failed.
 pub fn serve_timed<S: Subscriber, C: Now>(
     alloc: Global,
     dispatch: &mut Dispatch<WithTimeline<S, C>>,

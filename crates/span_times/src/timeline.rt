@@ -4,12 +4,12 @@ ghost use Rattle.span_times.specs.Timeline.{IsInOrder, TakesPoints, clock_of, ha
 
 use crate::clock::Now;
 use crate::happening::{Point, happening_in};
-use span_layers::{AlwaysUsableObserver, Observe, Observed};
-use span_registry::{ContextMut, Subscriber, laws};
+use span_layers::{AlwaysUsableObserver, Observe};
+use span_registry::{ContextMut, Notice, Subscriber, laws};
 use std::alloc::Global;
 use std::mem;
 
-/// Keeps a point for all that it is told of, up to the first that finds no memory.
+/// A layer that keeps a point for all that it is notified of, up to the first that finds no memory.
 pub struct Timeline<C> {
     clock: C,
     alloc: Global,
@@ -51,7 +51,7 @@ impl<C: Now> Timeline<C> {
         &self.points
     }
 
-    /// It found no memory for a point, and has kept none since.
+    /// Whether no memory was found for a point: none is kept since then.
     pub fn failed(&self) -> bool
         ensures { result ≡ has_failed self.now }
     {
@@ -71,7 +71,7 @@ impl<C: Now> Timeline<C> {
 impl<S: Subscriber, C: Now> Observe<S> for Timeline<C> {
     ghost observed = { timeline_steps C.latest C.gives };
 
-    fn observe(&mut self, notice: Observed<'_, '_>, ctx: &mut ContextMut<'_, S>) {
+    fn observe(&mut self, notice: Notice<'_, '_>, ctx: &mut ContextMut<'_, S>) {
         laws::extensions_change_no_look_up();
         let point = Point {
             time: self.clock.now(),

@@ -1,6 +1,6 @@
 use Rattle.std.proofs.Common.{◌++◌, ◌∷◌, [], ap, map}
 use Rattle.span_core.specs.Span.{number_of}
-use Rattle.span_registry.specs.Step.{Begun}
+use Rattle.span_store.specs.Step.{Begun}
 use Rattle.span_registry.proofs.CallerLemmas.{next_closing, removed_next}
 use Rattle.span_examples.proofs.close_all.Goals as goal
 

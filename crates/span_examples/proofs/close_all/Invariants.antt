@@ -1,6 +1,6 @@
 use Rattle.std.proofs.Common.{List, ℕ}
 use Rattle.std.specs.FinMap.{len}
-use Rattle.span_registry.specs.Step.{Removal}
+use Rattle.span_store.specs.Step.{Removal}
 use Rattle.span_examples.specs.Uses.{Lists}
 use Rattle.span_examples.proofs.close_all.Given as goal
 

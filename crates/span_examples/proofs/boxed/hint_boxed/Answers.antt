@@ -14,4 +14,5 @@ max_level_hint-requires c = rw c.new-layer.ensures (in_a_box own-1 at-1-1 (λ j 
 pub returns : goal.returns
 returns c =
     let form = Filtered None (level_answers c.args.level) (Leaf true open_answers) in
-    c.max_level_hint.ensures form (form_in_a_box own-1 at-1-1 (λ j. j.1.dyn_form) c.new-layer.result c.in_ok-new.field-0.value form (rw c.new-layer.ensures c.into_dyn_box.ensures.1) (rw (c.in_ok-new.ensures.ok) c.with_filter-inside.ensures.id, search rules, refl))
+    c.max_level_hint.ensures form (form_in_a_box own-1 at-1-1 (λ j. j.1.dyn_form) c.new-layer.result c.in_ok-new.field-0.value
+    form (rw c.new-layer.ensures c.into_dyn_box.ensures.1) (rw (c.in_ok-new.ensures.ok) c.with_filter-inside.ensures.id, search rules, refl))

@@ -36,4 +36,5 @@ returns-clause-served g c =
       levelled = g.S.Subscriber.levelled;
       registered = g.S.Subscriber.registered;
     } in
-    opens_and_drops s c.args.lane c.args.attrs.now c.in-Some.id _ _ _ _ _ c.in-Some.is c.in_ok-id.ensures.opens.served c.new_span.ensures.ready c.in_ok-drop_span.ensures.drops.served c.drop_span.ensures.ready
+    opens_and_drops s c.args.lane c.args.attrs.now c.in-Some.id
+    _ _ _ _ _ c.in-Some.is c.in_ok-id.ensures.opens.served c.new_span.ensures.ready c.in_ok-drop_span.ensures.drops.served c.drop_span.ensures.ready

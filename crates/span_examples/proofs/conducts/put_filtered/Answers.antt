@@ -20,7 +20,12 @@ pub returns-in-Ok-clause-records : goal.returns-in-Ok-clause-records
 returns-in-Ok-clause-records g c b acts =
     let put = c.in-Ok.ensures.attached in
     let made = c.with_filter-layer.ensures in
-    let number = takes_first g.met.F.Filter.laws c.numbers_are_own.ensures c.args.filter c.requires.answers.0 c.requires.answers.1 _ _ made _ _ c.new-2.ensures _ put in
-    records_alone _ c.other_layers_make_no_difference.ensures.of_requests.requests_alone (Outer (Under Here)) recorder_under ((Some 0, b) ∷ []) _ (put.layer_as_it_was.1 ∙ made.inner ∙ c.new.ensures)
-    (λ y used. (used.0.2, (subst (λ i. IsNumber i (Some 0)) (sym used.0.0) number, subst (λ f. g.F.Filter.acts f b) (sym (used.0.1 ∙ put.layer_as_it_was.0 ∙ made.own)) acts, refl)))
+    let number =
+    takes_first g.met.F.Filter.laws c.numbers_are_own.ensures c.args.filter c.requires.answers.0 c.requires.answers.1 _ _ made _ _ c.new-2.ensures _ put in
+    records_alone _ c.other_layers_make_no_difference.ensures.of_requests.requests_alone
+    (Outer (Under Here)) recorder_under ((Some 0, b) ∷ []) _ (put.layer_as_it_was.1 ∙ made.inner ∙ c.new.ensures)
+    (λ y used. (
+      used.0.2,
+      (subst (λ i. IsNumber i (Some 0)) (sym used.0.0) number, subst (λ f. g.F.Filter.acts f b) (sym (used.0.1 ∙ put.layer_as_it_was.0 ∙ made.own)) acts, refl),
+    ))
     (λ y z h k. heard_records h (recorder_under y) (recorder_under z) k)

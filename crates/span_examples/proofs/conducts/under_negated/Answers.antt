@@ -13,4 +13,6 @@ put_filtered-requires-clause-answers c =
 pub returns-clause-kept : goal.returns-clause-kept
 returns-clause-kept c =
     let a = level_conduct c.args.level in
-    recorded c.args.requests.now c.serve_new.result (c.in_ok-stack.ensures.records (one_conduct not_answers a) (record { inside = a; acts_inside = ap level_conduct (sym c.not.ensures); turned = refl })) c.serve_new.ensures.served
+    recorded c.args.requests.now c.serve_new.result
+    (c.in_ok-stack.ensures.records (one_conduct not_answers a) (record { inside = a; acts_inside = ap level_conduct (sym c.not.ensures); turned = refl }))
+    c.serve_new.ensures.served

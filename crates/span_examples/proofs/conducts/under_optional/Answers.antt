@@ -7,4 +7,5 @@ pub put_filtered-requires-clause-answers : goal.put_filtered-requires-clause-ans
 put_filtered-requires-clause-answers c = (level_answers c.args.level, refl)
 
 pub returns-clause-kept : goal.returns-clause-kept
-returns-clause-kept c = recorded c.args.requests.now c.serve_new.result (c.in_ok-stack.ensures.records (level_conduct c.args.level) refl) c.serve_new.ensures.served
+returns-clause-kept c =
+    recorded c.args.requests.now c.serve_new.result (c.in_ok-stack.ensures.records (level_conduct c.args.level) refl) c.serve_new.ensures.served

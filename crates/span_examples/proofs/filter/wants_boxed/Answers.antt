@@ -2,8 +2,9 @@ use Rattle.std.proofs.Common.{ap, refl, ◌∙◌}
 use Rattle.span_core.specs.Level.{passes_level}
 use Rattle.span_core.specs.Metadata.{level_of}
 use Rattle.span_filters.proofs.CallerLemmas.{answers_in_a_box, in_a_box}
-use Rattle.span_filters.specs.Filter.{settled_laws}
-use Rattle.span_filters.specs.Level.{level_answers, level_honest}
+use Rattle.span_filters.specs.laws.Filter.{settled_laws}
+use Rattle.span_filters.specs.Level.{level_answers}
+use Rattle.span_filters.specs.laws.Level.{level_honest}
 use Rattle.span_examples.proofs.filter.wants_boxed.OwnLists.{own-1, at-1-1}
 use Rattle.span_examples.proofs.filter.wants_boxed.Goals as goal
 

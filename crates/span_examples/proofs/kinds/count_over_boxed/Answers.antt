@@ -15,10 +15,12 @@ put_under-requires-clause-usable c = rw c.new-layer.ensures (in_a_box own-1 at-1
 
 pub put_under-requires-clause-fit : goal.put_under-requires-clause-fit
 put_under-requires-clause-fit c =
-    open_fit c.new-layer.result (form_in_a_box own-1 at-1-1 (λ j. j.1.dyn_form) c.new-layer.result c.in_ok-new.field-0.value (Leaf true open_answers) (rw c.new-layer.ensures c.into_dyn_box.ensures.1) refl)
+    open_fit c.new-layer.result (form_in_a_box own-1
+    at-1-1 (λ j. j.1.dyn_form) c.new-layer.result c.in_ok-new.field-0.value (Leaf true open_answers) (rw c.new-layer.ensures c.into_dyn_box.ensures.1) refl)
 
 pub returns-clause-counted : goal.returns-clause-counted
 returns-clause-counted c =
     let recorder = c.layer.ensures ∙ ap outer_of c.stack.ensures in
-    counts_alone _ (Outer Here) outer_of [] c.args.requests.now (c.in_ok-dispatch.dispatch, c.in_ok-dispatch.answers) c.count-counted.result (c.in_ok-stack.ensures.records _ _ c.in_ok-dispatch.ensures.served)
+    counts_alone _ (Outer Here) outer_of [] c.args.requests.now
+    (c.in_ok-dispatch.dispatch, c.in_ok-dispatch.answers) c.count-counted.result (c.in_ok-stack.ensures.records _ _ c.in_ok-dispatch.ensures.served)
     (subst (λ r. IsCounted r c.count-counted.result) recorder c.count-counted.ensures)

@@ -1,5 +1,5 @@
 use Rattle.std.proofs.Common.{ap, ◌∙◌}
-use Rattle.span_registry.specs.Store.{RegistryState}
+use Rattle.span_store.specs.Store.{RegistryState}
 use Rattle.span_examples.proofs.Standing.{is_ready}
 use Rattle.span_examples.proofs.kinds.serve_new.Goals as goal
 

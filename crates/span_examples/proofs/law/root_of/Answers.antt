@@ -9,12 +9,14 @@ returns-clause-root c =
     let s = c.args.registry.now in
     let law = c.chains_end_at_a_root.ensures s.store.spans (number_of c.args.id) c.a_registry_is_sound.ensures.forest in
     let given = ap (λ items. to_give (λ t. t) items) c.into_iter-span-iterator.ensures.into_iter_gives ∙ c.scope-span-items.ensures in
-    (arrived s c.args.id c.span.result c.in_ok-span.field-0 c.loop-span.root _ _ law c.span.ensures c.in_ok-span.was given c.loop-span.invariant c.in-None.ensures.steps.0).0
+    (arrived s c.args.id
+    c.span.result c.in_ok-span.field-0 c.loop-span.root _ _ law c.span.ensures c.in_ok-span.was given c.loop-span.invariant c.in-None.ensures.steps.0).0
 
 pub returns-clause-arrives : goal.returns-clause-arrives
 returns-clause-arrives c =
     let s = c.args.registry.now in
     let law = c.chains_end_at_a_root.ensures s.store.spans (number_of c.args.id) c.a_registry_is_sound.ensures.forest in
     let given = ap (λ items. to_give (λ t. t) items) c.into_iter-span-iterator.ensures.into_iter_gives ∙ c.scope-span-items.ensures in
-    let at = arrived s c.args.id c.span.result c.in_ok-span.field-0 c.loop-span.root _ _ law c.span.ensures c.in_ok-span.was given c.loop-span.invariant c.in-None.ensures.steps.0 in
+    let at = arrived s c.args.id
+    c.span.result c.in_ok-span.field-0 c.loop-span.root _ _ law c.span.ensures c.in_ok-span.was given c.loop-span.invariant c.in-None.ensures.steps.0 in
     (λ _. at.2, λ _. at.1)

@@ -4,7 +4,7 @@ use Rattle.span_dispatch.specs.Serve.{flat, stack_of}
 use Rattle.span_layers.specs.Filtered.{layer_of}
 use Rattle.span_layers.specs.Layered.{outer_of}
 use Rattle.span_layers.specs.Observe.{observer_of}
-use Rattle.span_registry.specs.Store.{RegistryState}
+use Rattle.span_store.specs.Store.{RegistryState}
 use Rattle.span_examples.proofs.Lines.{new_in_use, whole_text}
 use Rattle.span_examples.specs.Outline.{outline_place}
 use Rattle.span_examples.proofs.outline.serve_outlined.Goals as goal
@@ -23,5 +23,6 @@ returns-clause-served c =
       new = new;
       empty = ap (λ (r : RegistryState). r.store) run.same ∙ starts.empty;
       served = served;
-      text = whole_text (passed_at outline_place (flat served.made)) (layer_of (outer_of (stack_of run.first))) (layer_of (outer_of (stack_of end))) _ c.in_ok-text.text new.text (served.each outline_place) here c.in_ok-text.ensures.text;
+      text = whole_text (passed_at outline_place (flat served.made)) (layer_of (outer_of (stack_of run.first)))
+          (layer_of (outer_of (stack_of end))) _ c.in_ok-text.text new.text (served.each outline_place) here c.in_ok-text.ensures.text;
     }

@@ -14,5 +14,6 @@ returns-in-Ok-clause-made c =
 pub returns-in-Err-clause-refused : goal.returns-in-Err-clause-refused
 returns-in-Err-clause-refused c =
     let back = c.in-Err.ensures.refused in
-    let more : LIMIT < c.args.registry.filters + 1 = back.full (Filtered None (level_answers c.args.level) (Leaf true open_answers)) (c.with_filter-layer.ensures.id, subst (λ f. level_answers c.args.level ≡ level_answers f) (sym c.with_filter-layer.ensures.own) refl, refl) in
+    let more : LIMIT < c.args.registry.filters + 1 = back.full (Filtered None (level_answers c.args.level) (Leaf true open_answers))
+    (c.with_filter-layer.ensures.id, subst (λ f. level_answers c.args.level ≡ level_answers f) (sym c.with_filter-layer.ensures.own) refl, refl) in
     record { full = omega (arith, more); reason = back.error }

@@ -8,5 +8,8 @@ use Rattle.span_export.specs.Chrome.{event_in}
 
 pub loop-point-preserved : goal.loop-point-preserved
 loop-point-preserved c =
-    let grew : c.match-branch-3.events.items ≡ c.loop-point.events.items ++ option_to_list c.in_ok-event.field-0 = elim c.match-branch-3.branch [ in-Some+in_ok-push w ↦ search rules | in_default w ↦ search rules ] in
-    keeps_one_more view (event_in c.args.sites.now c.args.points.now) c.args.points.now c.loop-point.point-index _ c.loop-point.events.items c.match-branch-3.events.items c.in_ok-event.field-0 (omega arith) (c.in_ok-event.ensures c.args.points.now c.in_ok-openers.ensures) grew c.loop-point.invariant
+    let grew : c.match-branch-3.events.items ≡ c.loop-point.events.items ++ option_to_list c.in_ok-event.field-0 =
+    elim c.match-branch-3.branch [ in-Some+in_ok-push w ↦ search rules | in_default w ↦ search rules ] in
+    keeps_one_more view
+    (event_in c.args.sites.now c.args.points.now) c.args.points.now c.loop-point.point-index _ c.loop-point.events.items c.match-branch-3.events.items
+    c.in_ok-event.field-0 (omega arith) (c.in_ok-event.ensures c.args.points.now c.in_ok-openers.ensures) grew c.loop-point.invariant

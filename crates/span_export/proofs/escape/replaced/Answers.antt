@@ -10,7 +10,8 @@ loop-front-preserved c =
     let back = c.in-Some.back in
     let parts = split_parts c.args.character rest (Some (front, back)) c.in-Some.ensures.cases (omega arith) in (
       search rules,
-      cut_written c.args.character c.args.so.now c.args.text.now (string_bytes c.loop-front.new) (string_bytes c.push_str.new.self) (string_bytes c.push_str-in-Some.new.self) rest front.now back.now
+      cut_written c.args.character c.args.so.now
+          c.args.text.now (string_bytes c.loop-front.new) (string_bytes c.push_str.new.self) (string_bytes c.push_str-in-Some.new.self) rest front.now back.now
           c.in_ok-push_str.ensures.bytes c.in_ok-push_str-2.ensures.bytes parts.0 parts.1 c.loop-front.invariant.1,
     )
 
@@ -18,4 +19,5 @@ pub returns : goal.returns
 returns c =
     let rest = c.loop-front.rest.now in
     let none = split_parts c.args.character rest None (rw c.in_default.is at c.split_once.ensures.cases) (omega arith) in
-    c.in_ok-push_str-3.ensures.bytes ∙ ap (λ t. string_bytes c.loop-front.new ++ t) (sym (same c.args.character c.args.so.now rest none)) ∙ c.loop-front.invariant.1
+    c.in_ok-push_str-3.ensures.bytes
+    ∙ ap (λ t. string_bytes c.loop-front.new ++ t) (sym (same c.args.character c.args.so.now rest none)) ∙ c.loop-front.invariant.1

@@ -1,6 +1,6 @@
 use Rattle.std.proofs.Common.{◌≡◌, ◌∙◌, ap, map, reverse, rules}
 use Rattle.span_core.specs.Span.{number_of}
-use Rattle.span_registry.specs.LaneStack.{without_duplicates}
+use Rattle.span_store.specs.LaneStack.{without_duplicates}
 use Rattle.span_export.proofs.Stacks.{map_reverse}
 use Rattle.span_export.proofs.folded.outermost_first.Goals as goal
 

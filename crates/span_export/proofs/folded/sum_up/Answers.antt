@@ -27,8 +27,10 @@ loop-point-preserved c =
           let last : w.unwrap_or-since.result ≡ last_time p.lane.0 before = search rules in
           let time : w.saturating_sub-time.result ≡ stood before p = w.saturating_sub-time.ensures ∙ ap (λ t. p.time - t) last in
           let text : string_bytes w.in_ok-text.text ≡ stack_text c.args.sites.now ps w.in-Some.stack.now = w.in_ok-text.ensures ps c.in_ok-openers.ensures in
-          ap sums_in w.sums-is ∙ w.in_ok-add.ensures ∙ ap (λ t. add t w.saturating_sub-time.result old) text ∙ ap (λ n. add (stack_text c.args.sites.now ps w.in-Some.stack.now) n old) time
-          ∙ sym (stood_some c.args.sites.now ps w.in-Some.stack.now (stood before p) old w.in-Some.ensures.in_spans) ∙ ap (λ s. stood_in c.args.sites.now ps s (stood before p) old) same
+          ap sums_in w.sums-is ∙ w.in_ok-add.ensures
+          ∙ ap (λ t. add t w.saturating_sub-time.result old) text ∙ ap (λ n. add (stack_text c.args.sites.now ps w.in-Some.stack.now) n old) time
+          ∙ sym (stood_some c.args.sites.now ps w.in-Some.stack.now (stood before p) old w.in-Some.ensures.in_spans)
+          ∙ ap (λ s. stood_in c.args.sites.now ps s (stood before p) old) same
       | in_default w ↦
           let same : stack_on p.lane.0 before ≡ [] = search rules in
           ap sums_in w.sums-is ∙ sym (ap (λ s. stood_in c.args.sites.now ps s (stood before p) old) same)
@@ -39,5 +41,6 @@ loop-point-preserved c =
           let more = time_more lane ps i none within in
           let old = c.loop-point.invariant.times lane in
           grind (arith, common_steps);
-      sums = sums_more c.args.sites.now ps ps i none (sums_in c.loop-point.sums) (sums_in c.match-stack_of.sums) (sums_of c.args.sites.now ps) within now c.loop-point.invariant.sums;
+      sums = sums_more c.args.sites.now
+          ps ps i none (sums_in c.loop-point.sums) (sums_in c.match-stack_of.sums) (sums_of c.args.sites.now ps) within now c.loop-point.invariant.sums;
     }

@@ -13,8 +13,11 @@ loop-span-preserved c = λ ps known.
     let spans = map number_of c.in-Some.rest.now in
     let i = c.loop-span.span-index in
     let within : i < length spans = simp length-map (omega arith) in
-    let one : number_of (get_or c.in-Some.rest.now i (record { number = 0 })) ≡ get_or spans i 0 = sym (get_or-map number_of c.in-Some.rest.now i (record { number = 0 }) 0 (omega arith)) in
+    let one : number_of (get_or c.in-Some.rest.now i (record { number = 0 })) ≡ get_or spans i 0 =
+    sym (get_or-map number_of c.in-Some.rest.now i (record { number = 0 }) 0 (omega arith)) in
     let text : c.as_str-in-loop-span.result.now ≡ frame (name_in c.args.sites.now ps (get_or spans i 0)) =
     c.as_str-in-loop-span.ensures.value ∙ c.in_ok-frame-2.ensures ∙ ap frame (named ∙ ap (name_in c.args.sites.now ps) one) in
-    one_more_name (codes ";") (λ x. frame (name_in c.args.sites.now ps x)) spans i 0 (string_bytes c.loop-span.text) (string_bytes c.push_str-in-loop-span.new.self) (string_bytes c.push_str-in-loop-span-2.new.self)
-    (stack_text c.args.sites.now ps c.args.stack.now) within (search rules) (c.in_ok-push_str-3.ensures.bytes ∙ ap (λ n. string_bytes c.push_str-in-loop-span.new.self ++ n) text) so_far
+    one_more_name (codes ";") (λ x. frame (name_in c.args.sites.now ps x))
+    spans i 0 (string_bytes c.loop-span.text) (string_bytes c.push_str-in-loop-span.new.self) (string_bytes c.push_str-in-loop-span-2.new.self)
+    (stack_text c.args.sites.now ps c.args.stack.now) within
+    (search rules) (c.in_ok-push_str-3.ensures.bytes ∙ ap (λ n. string_bytes c.push_str-in-loop-span.new.self ++ n) text) so_far

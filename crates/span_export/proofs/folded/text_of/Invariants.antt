@@ -9,4 +9,5 @@ use Rattle.span_times.specs.declared.happening.Point.{Point}
 abbrev pub invariant-loop-span : goal.invariant-loop-span
 invariant-loop-span l =
     (ps : List Point) → KnowsOpeners l.openers ps
-    → string_bytes l.text ++ flat_map (λ n. codes ";" ++ n) (map (λ x. frame (name_in l.sites ps x)) (drop l.span-index (map number_of l.rest))) ≡ stack_text l.sites ps l.stack
+    → string_bytes l.text ++ flat_map (λ n. codes ";" ++ n) (map (λ x. frame (name_in l.sites ps x)) (drop l.span-index (map number_of l.rest)))
+    ≡ stack_text l.sites ps l.stack

@@ -12,7 +12,8 @@ returns c =
     let begun : string_bytes c.push_str.new.self ≡ head ++ legend =
     c.in_ok-push_str.ensures.bytes ∙ ap (λ t. t ++ LEGEND.now) (c.in_ok-text.ensures ∙ ap (λ n. head_text (n + 96) p.height) plot) in
     let axis : c.as_str.result.now ≡ axis_text s p 9 = c.as_str.ensures.value ∙ c.in_ok-axis.ensures in
-    let lanes : c.as_str-2.result.now ≡ lanes_text (s.plot + 96) p.tops = c.as_str-2.ensures.value ∙ c.in_ok-lanes.ensures ∙ ap (λ n. lanes_text (n + 96) p.tops) plot in
+    let lanes : c.as_str-2.result.now ≡ lanes_text (s.plot + 96) p.tops =
+    c.as_str-2.ensures.value ∙ c.in_ok-lanes.ensures ∙ ap (λ n. lanes_text (n + 96) p.tops) plot in
     let timed : string_bytes c.push_str-2.new.self ≡ (head ++ legend) ++ axis_text s p 9 =
     c.in_ok-push_str-2.ensures.bytes ∙ ap (λ t. t ++ c.as_str.result.now) begun ∙ ap (λ t. (head ++ legend) ++ t) axis in
     c.in_ok-push_str-3.ensures.bytes ∙ ap (λ t. t ++ c.as_str-2.result.now) timed ∙ ap (λ t. ((head ++ legend) ++ axis_text s p 9) ++ t) lanes

@@ -9,4 +9,5 @@ pub returns : goal.returns
 returns c =
     let w = c.args.width in
     let h = c.args.height in
-    IfOk-weaker c.format.result _ _ (λ s e. (let is : string_bytes s ≡ head_in STYLE.now w h = simp append_assoc e in is) ∙ ap (λ look. head_in look w h) style_text) c.format.ensures.ok
+    IfOk-weaker c.format.result
+    _ _ (λ s e. (let is : string_bytes s ≡ head_in STYLE.now w h = simp append_assoc e in is) ∙ ap (λ look. head_in look w h) style_text) c.format.ensures.ok

@@ -7,4 +7,5 @@ use Rattle.span_times.specs.declared.happening.Point.{Point}
 
 -- the events so far
 abbrev pub invariant-loop-point : goal.invariant-loop-point
-invariant-loop-point l = (ps : List Point) → KnowsOpeners l.openers ps → map view l.events.items ≡ events_of l.trace l.sites ps l.id (take l.point-index l.since)
+invariant-loop-point l =
+    (ps : List Point) → KnowsOpeners l.openers ps → map view l.events.items ≡ events_of l.trace l.sites ps l.id (take l.point-index l.since)

@@ -6,4 +6,5 @@ use Rattle.span_export.proofs.otlp.lines_of.Given as goal
 
 -- the lines so far mean the values so far, and are compact
 abbrev pub invariant-loop-value : goal.invariant-loop-value
-invariant-loop-value l = (map read (map string_bytes l.lines.items) ≡ map Some (map view (take l.value-index l.values))) × (map reprinted (map string_bytes l.lines.items) ≡ map string_bytes l.lines.items)
+invariant-loop-value l = (map read (map string_bytes l.lines.items) ≡ map Some (map view (take l.value-index l.values)))
+    × (map reprinted (map string_bytes l.lines.items) ≡ map string_bytes l.lines.items)

@@ -7,6 +7,9 @@ use Rattle.span_export.specs.Otlp.{requests_of}
 
 pub loop-place-preserved : goal.loop-place-preserved
 loop-place-preserved c = λ known.
-    let grew : c.match-branch-2.requests.items ≡ c.loop-place.requests.items ++ option_to_list c.in_ok-request.field-0 = elim c.match-branch-2.branch [ in-Some+in_ok-push w ↦ search rules | in_default w ↦ search rules ] in
+    let grew : c.match-branch-2.requests.items ≡ c.loop-place.requests.items ++ option_to_list c.in_ok-request.field-0 =
+    elim c.match-branch-2.branch [ in-Some+in_ok-push w ↦ search rules | in_default w ↦ search rules ] in
     let ps = c.args.points.now in
-    request_more c.args.trace.now c.args.sites.now ps ps c.loop-place.place _ c.loop-place.requests.items c.match-branch-2.requests.items c.in_ok-request.field-0 (requests_of c.args.trace.now c.args.sites.now ps) (omega arith) (c.in_ok-request.ensures ps known) grew (c.loop-place.invariant known)
+    request_more c.args.trace.now
+    c.args.sites.now ps ps c.loop-place.place _ c.loop-place.requests.items c.match-branch-2.requests.items c.in_ok-request.field-0
+    (requests_of c.args.trace.now c.args.sites.now ps) (omega arith) (c.in_ok-request.ensures ps known) grew (c.loop-place.invariant known)

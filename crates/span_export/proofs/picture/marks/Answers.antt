@@ -15,7 +15,11 @@ loop-point-preserved c = λ known.
     let i = c.loop-point.point-index in
     let p = get_or ps i none in
     let site = site_at c.args.sites.now ps p.what in
-    let same : mark_of scale c.top_of.result (option_copied c.site_of_happening-site.result) p p.what ≡ mark_of scale (top_in c.args.tops.now p.lane.0) site p p.what =
-    ap (λ t. mark_of scale t (option_copied c.site_of_happening-site.result) p p.what) c.top_of.ensures ∙ ap (λ o. mark_of scale (top_in c.args.tops.now p.lane.0) o p p.what) (c.site_of_happening-site.ensures ps known) in
-    one_more_written (λ p. mark_of scale (top_in c.args.tops.now p.lane.0) (site_at c.args.sites.now ps p.what) p p.what) ps i none (string_bytes c.loop-point.text) (string_bytes c.write_mark.new.text)
-    (mark_of scale c.top_of.result (option_copied c.site_of_happening-site.result) p p.what) (omega arith) (c.loop-point.invariant known) c.in_ok-write_mark.ensures same
+    let same : mark_of scale c.top_of.result (option_copied c.site_of_happening-site.result) p p.what
+    ≡ mark_of scale (top_in c.args.tops.now p.lane.0) site p p.what =
+    ap (λ t. mark_of scale t (option_copied c.site_of_happening-site.result) p p.what) c.top_of.ensures
+    ∙ ap (λ o. mark_of scale (top_in c.args.tops.now p.lane.0) o p p.what) (c.site_of_happening-site.ensures ps known) in
+    one_more_written (λ p. mark_of scale (top_in c.args.tops.now p.lane.0) (site_at c.args.sites.now ps p.what) p p.what)
+    ps i none (string_bytes c.loop-point.text) (string_bytes c.write_mark.new.text)
+    (mark_of scale c.top_of.result (option_copied c.site_of_happening-site.result) p p.what) (omega arith)
+    (c.loop-point.invariant known) c.in_ok-write_mark.ensures same

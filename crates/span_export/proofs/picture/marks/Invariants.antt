@@ -5,4 +5,5 @@ use Rattle.span_export.proofs.picture.marks.Given as goal
 
 -- the marks so far
 abbrev pub invariant-loop-point : goal.invariant-loop-point
-invariant-loop-point l = KnowsOpeners l.openers l.points → string_bytes l.text ≡ marks_text l.sites l.points l.scale (top_in l.tops) (take l.point-index l.points)
+invariant-loop-point l =
+    KnowsOpeners l.openers l.points → string_bytes l.text ≡ marks_text l.sites l.points l.scale (top_in l.tops) (take l.point-index l.points)

@@ -15,8 +15,10 @@ returns c =
     let top = top_in plan.tops in
     let all : c.deref-2.result.now ≡ stays_of ps = c.deref-2.ensures.value ∙ c.in_ok-stays.ensures in
     let boxes : string_bytes c.in_ok-boxes.boxes ≡ boxes_text sites ps scale top (stays_of ps) =
-    c.in_ok-boxes.ensures ps c.in_ok-openers.ensures ∙ ap (λ s. boxes_text sites ps s top c.deref-2.result.now) c.of-scale.ensures ∙ ap (boxes_text sites ps scale top) all in
-    let marks : string_bytes c.in_ok-marks.marks ≡ marks_text sites ps scale top ps = c.in_ok-marks.ensures c.in_ok-openers.ensures ∙ ap (λ s. marks_text sites ps s top ps) c.of-scale.ensures in
+    c.in_ok-boxes.ensures ps c.in_ok-openers.ensures
+    ∙ ap (λ s. boxes_text sites ps s top c.deref-2.result.now) c.of-scale.ensures ∙ ap (boxes_text sites ps scale top) all in
+    let marks : string_bytes c.in_ok-marks.marks ≡ marks_text sites ps scale top ps =
+    c.in_ok-marks.ensures c.in_ok-openers.ensures ∙ ap (λ s. marks_text sites ps s top ps) c.of-scale.ensures in
     let frame : string_bytes c.in_ok-frame.frame ≡ frame_text scale plan = c.in_ok-frame.ensures ∙ ap (λ s. frame_text s plan) c.of-scale.ensures in
     IfOk-weaker c.assembled.result _ _ (λ svg whole. record {
       plan = plan;

@@ -16,4 +16,5 @@ returns-then-lasts_in c =
 pub returns : goal.returns
 returns c =
     let none : list_any (lasts_in c.args.lane.0 (number_of c.args.span)) c.loop-place.stays ≡ false = search rules in
-    none_ended c.args.lane.0 (number_of c.args.span) c.args.time c.loop-place.stays none ∙ ap (ended c.args.lane.0 (number_of c.args.span) c.args.time) c.loop-place.invariant.0
+    none_ended c.args.lane.0 (number_of c.args.span) c.args.time c.loop-place.stays none
+    ∙ ap (ended c.args.lane.0 (number_of c.args.span) c.args.time) c.loop-place.invariant.0

@@ -1,4 +1,4 @@
-use Rattle.span_filters.specs.Closure.{test_plain}
+use Rattle.span_filters.specs.laws.Closure.{test_plain}
 use Rattle.span_filters.proofs.laws.tests_are_plain.Goals as goal
 
 pub returns : goal.returns

@@ -1,4 +1,4 @@
-use Rattle.span_filters.specs.Closure.{view_plain}
+use Rattle.span_filters.specs.laws.Closure.{view_plain}
 use Rattle.span_filters.proofs.laws.view_tests_may_be_plain.Goals as goal
 
 pub returns : goal.returns

@@ -10,7 +10,8 @@ loop-line-preserved c =
     let back = c.in-Some.after in
     let parts = split_parts 10 rest (Some (front, back)) c.in-Some.ensures.cases (omega arith) in (
       search rules,
-      cut_written c.args.words.now (string_bytes c.args.text.now) (string_bytes c.loop-line.text) (string_bytes c.push_str.new.self) (string_bytes c.push_str-in-Some.new.self) rest front.now back.now
+      cut_written c.args.words.now (string_bytes c.args.text.now)
+          (string_bytes c.loop-line.text) (string_bytes c.push_str.new.self) (string_bytes c.push_str-in-Some.new.self) rest front.now back.now
           c.in_ok-push_str.ensures.bytes c.in_ok-push_str-2.ensures.bytes parts.0 parts.1 c.loop-line.invariant.1,
     )
 
@@ -18,4 +19,5 @@ pub returns : goal.returns
 returns c =
     let rest = c.loop-line.rest.now in
     let none = split_parts 10 rest None (rw c.in_default.is at c.split_once.ensures.cases) (omega arith) in
-    rest_written c.push_str-2.result c.args.words.now (string_bytes c.args.text.now) (string_bytes c.loop-line.text) (string_bytes c.push_str-2.new.self) rest c.push_str-2.ensures.bytes none c.loop-line.invariant.1
+    rest_written c.push_str-2.result c.args.words.now (string_bytes c.args.text.now)
+    (string_bytes c.loop-line.text) (string_bytes c.push_str-2.new.self) rest c.push_str-2.ensures.bytes none c.loop-line.invariant.1

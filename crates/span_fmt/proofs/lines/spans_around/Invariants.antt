@@ -8,4 +8,5 @@ use Rattle.span_fmt.proofs.lines.spans_around.Given as goal
 -- what is written and what is left make the whole
 abbrev pub invariant-loop-span : goal.invariant-loop-span
 invariant-loop-span g l =
-    string_bytes l.text ++ flat_map (reference_label (known_in l.known)) (to_give_from_root l.span-iterator) ≡ flat_map (reference_label (known_in l.known)) (to_give_from_root l.initial.span-iterator)
+    string_bytes l.text ++ flat_map (reference_label (known_in l.known)) (to_give_from_root l.span-iterator)
+    ≡ flat_map (reference_label (known_in l.known)) (to_give_from_root l.initial.span-iterator)

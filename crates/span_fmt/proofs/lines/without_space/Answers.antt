@@ -7,4 +7,5 @@ use Rattle.span_fmt.proofs.lines.without_space.Goals as goal
 
 pub returns : goal.returns
 returns c =
-    ap (λ (b : Bor (List ℕ)). b.now) c.unwrap_or.ensures ∙ bared c.args.text c.strip_prefix.result (strip_prefix_char 32 c.args.text.now c.strip_prefix.result c.strip_prefix.ensures.cases (omega arith))
+    ap (λ (b : Bor (List ℕ)). b.now) c.unwrap_or.ensures
+    ∙ bared c.args.text c.strip_prefix.result (strip_prefix_char 32 c.args.text.now c.strip_prefix.result c.strip_prefix.ensures.cases (omega arith))

@@ -6,4 +6,5 @@ use Rattle.span_fmt.proofs.tree.head.Given as goal
 -- what is written and what is left make the whole
 abbrev pub invariant-loop-span : goal.invariant-loop-span
 invariant-loop-span g l =
-    string_bytes l.line ++ indent (to_give g.S.LookupSpan.registry l._span-iterator) ≡ head_text l.fn.lane.0 (to_give g.S.LookupSpan.registry l.initial._span-iterator)
+    string_bytes l.line ++ indent (to_give g.S.LookupSpan.registry l._span-iterator)
+    ≡ head_text l.fn.lane.0 (to_give g.S.LookupSpan.registry l.initial._span-iterator)

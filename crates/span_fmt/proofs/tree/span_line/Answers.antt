@@ -23,8 +23,10 @@ returns-clause-text g c =
     c.in_ok-line.ensures ∙ ap (head_text lane) c.above.ensures ∙ above ∙ ap (λ (l : Lane). head_text l.0 (spans_above x v)) c.lane.ensures in
     c.in_ok-write_tail.ensures
     ∙ ap (λ (t : List ℕ). t ++ tail_text c.args.mark.now c.in-Some.metadata c.args.values.now) began
-    ∙ ap (λ (o : Option Metadata). option_map_or (λ m. head_text v.lane (spans_above x v) ++ tail_text c.args.mark.now m c.args.values.now) o []) c.in-Some.ensures
+    ∙ ap (λ (o : Option Metadata). option_map_or (λ m. head_text v.lane (spans_above x v) ++ tail_text c.args.mark.now m c.args.values.now) o [])
+    c.in-Some.ensures
 
 pub returns-in_err-write_tail-clause-refused : goal.returns-in_err-write_tail-clause-refused
 returns-in_err-write_tail-clause-refused g c =
-    at_an_error c.from_residual-in_err-write_tail.result (span_line_filled c.args.mark.now (number_of c.args.id) c.args.values.now (view_lent g.S.LookupSpan.registry c.args.ctx.now) c.in-Some.metadata (sym c.in-Some.ensures))
+    at_an_error c.from_residual-in_err-write_tail.result (span_line_filled c.args.mark.now
+    (number_of c.args.id) c.args.values.now (view_lent g.S.LookupSpan.registry c.args.ctx.now) c.in-Some.metadata (sym c.in-Some.ensures))

@@ -2,7 +2,7 @@ use Rattle.std.proofs.Common.{◌≡◌, take, drop}
 use Rattle.std.specs.List.{All}
 use Rattle.span_layers.proofs.MemberLoops.{Left}
 use Rattle.span_layers.proofs.MembersNotified.{GoesOn}
-use Rattle.span_layers.specs.Observe.{notice_of}
+use Rattle.span_registry.specs.Notice.{notice_of}
 use Rattle.span_registry.specs.Context.{HandsOn, subscriber_lent}
 use Rattle.span_layers.proofs.list.notify_all.Given as goal
 
@@ -13,5 +13,6 @@ invariant-loop-member g l = record {
   left : drop l.member-index l.members ≡ drop l.member-index l.fn.members;
   rest : HandsOn g.S.LookupSpan.registry l.fn.ctx l.ctx;
   goes : Left g.L.Layer.has_form l.fn.members (drop l.member-index l.fn.members)
-      (GoesOn g.S.LookupSpan.registry g.S.LookupSpan.with_registry g.L.Layer.has_form g.L.Layer.stepped (notice_of l.notice) l.fn.ctx l.fn.members l.ctx (take l.member-index l.members) (drop l.member-index l.fn.members));
+      (GoesOn g.S.LookupSpan.registry g.S.LookupSpan.with_registry
+      g.L.Layer.has_form g.L.Layer.stepped (notice_of l.notice) l.fn.ctx l.fn.members l.ctx (take l.member-index l.members) (drop l.member-index l.fn.members));
 }

@@ -26,10 +26,13 @@ loop-member-preserved g c =
       subscriber = c.on_layer.ensures.subscriber;
       attached = zip_more all xs i h.left within g.L.Layer.attached d y in_all h.attached c.on_layer.ensures.attached;
       left = same_rest all xs i h.left within y;
-      alone = filters_further g.S.LookupSpan.registry g.S.LookupSpan.with_registry g.met.S.LookupSpan.registry_with g.met.S.LookupSpan.with_twice c.args.subscriber.now c.loop-member.subscriber c.on_layer.new.subscriber h.alone took.alone;
+      alone = filters_further g.S.LookupSpan.registry g.S.LookupSpan.with_registry g.met.S.LookupSpan.registry_with
+          g.met.S.LookupSpan.with_twice c.args.subscriber.now c.loop-member.subscriber c.on_layer.new.subscriber h.alone took.alone;
       numbers =
-          less_left g.L.Layer.has_form all (TakesOn g.L.Layer.has_form first now (take i xs)) all i (get_or xs i d) in_all (same_here all xs i h.left within d (get_or xs i d) in_all) (TakesOn g.L.Layer.has_form first then (take (i + 1) (set xs i y)))
-          (λ f o r form before. subst (λ done. TakesOn g.L.Layer.has_form first then done f r) (sym (take_more_set xs i y within)) (one_numbered g.L.Layer.has_form first now then (take i xs) y f o r (took.form o form) (took.next o form) before)) h.numbers;
+          less_left g.L.Layer.has_form all (TakesOn g.L.Layer.has_form first now (take i xs)) all i
+          (get_or xs i d) in_all (same_here all xs i h.left within d (get_or xs i d) in_all) (TakesOn g.L.Layer.has_form first then (take (i + 1) (set xs i y)))
+          (λ f o r form before. subst (λ done. TakesOn g.L.Layer.has_form first then done f r) (sym (take_more_set xs i y within))
+          (one_numbered g.L.Layer.has_form first now then (take i xs) y f o r (took.form o form) (took.next o form) before)) h.numbers;
     }
 
 pub returns-clause-numbers : goal.returns-clause-numbers
@@ -45,6 +48,7 @@ returns-clause-numbers g c =
     record {
       alone = h.alone;
       form = none_left g.L.Layer.has_form all (TakesOn g.L.Layer.has_form first now (take i xs)) all i _ all_end
-          (λ f k. subst (λ l. ListForm g.L.Layer.has_form l (numbered f first).0) (take_all i xs end) (all_numbered g.L.Layer.has_form first now (take i xs) f k)) h.numbers;
+          (λ f k. subst (λ l. ListForm g.L.Layer.has_form l (numbered f first).0)
+          (take_all i xs end) (all_numbered g.L.Layer.has_form first now (take i xs) f k)) h.numbers;
       next = none_left g.L.Layer.has_form all (TakesOn g.L.Layer.has_form first now (take i xs)) all i _ all_end (λ f k. sym k.next) h.numbers;
     }

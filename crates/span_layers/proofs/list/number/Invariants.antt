@@ -10,7 +10,9 @@ invariant-loop-member g l = record {
   subscriber : g.S.Subscriber.usable l.subscriber;
   attached : AllZip g.L.Layer.attached (take l.member-index l.fn.members) (take l.member-index l.members);
   left : drop l.member-index l.members ≡ drop l.member-index l.fn.members;
-  alone : l.subscriber ≡ g.S.LookupSpan.with_registry l.fn.subscriber (record (g.S.LookupSpan.registry l.fn.subscriber) { filters = (g.S.LookupSpan.registry l.subscriber).filters });
+  alone : l.subscriber ≡ g.S.LookupSpan.with_registry l.fn.subscriber
+      (record (g.S.LookupSpan.registry l.fn.subscriber) { filters = (g.S.LookupSpan.registry l.subscriber).filters });
   numbers : Left g.L.Layer.has_form l.fn.members (drop l.member-index l.fn.members)
-      (TakesOn g.L.Layer.has_form (g.S.LookupSpan.registry l.fn.subscriber).filters (g.S.LookupSpan.registry l.subscriber).filters (take l.member-index l.members));
+      (TakesOn g.L.Layer.has_form
+      (g.S.LookupSpan.registry l.fn.subscriber).filters (g.S.LookupSpan.registry l.subscriber).filters (take l.member-index l.members));
 }

@@ -27,9 +27,11 @@ loop-member-preserved g c =
       level = zip_more all xs i h.left within (λ a b. g.L.Layer.levelled a n l b) d y in_all h.level c.set_level-one.ensures.level;
       left = same_rest all xs i h.left within y;
       taken =
-          less_left g.L.Layer.has_form all (λ f r. takes_level f n l ≡ c.loop-member.taken || takes_level r n l) all i (get_or xs i d) in_all (same_here all xs i h.left within d (get_or xs i d) in_all)
+          less_left g.L.Layer.has_form all (λ f r. takes_level f n l ≡ c.loop-member.taken || takes_level r n l)
+          all i (get_or xs i d) in_all (same_here all xs i h.left within d (get_or xs i d) in_all)
           (λ f r. takes_level f n l ≡ c.either-taken.result || takes_level r n l)
-          (λ f o r form before. one_more (c.loop-member.taken) (takes_level o n l) (takes_level r n l) c.set_level-one.result c.either-taken.result (takes_level f n l) (c.set_level-one.ensures.taken o form) c.either-taken.ensures before) h.taken;
+          (λ f o r form before. one_more (c.loop-member.taken) (takes_level o n l) (takes_level r n l)
+          c.set_level-one.result c.either-taken.result (takes_level f n l) (c.set_level-one.ensures.taken o form) c.either-taken.ensures before) h.taken;
       unchanged = λ e.
           let no = neither c.set_level-one.result c.loop-member.taken (sym c.either-taken.ensures ∙ e) in
           ap (set xs i) (c.set_level-one.ensures.unchanged no.0) ∙ set-get_or xs i d ∙ h.unchanged no.1;
@@ -39,7 +41,8 @@ pub returns-clause-level : goal.returns-clause-level
 returns-clause-level g c =
     let end : length c.loop-member.members ≤ c.loop-member.member-index = omega (arith, c.loop-member.auto.members, c.loop-member-test.false) in
     let all : length c.args.members.now ≤ c.loop-member.member-index = omega (arith, c.loop-member.auto.members, c.loop-member-test.false) in
-    zip_all (λ a b. g.L.Layer.levelled a c.args.number c.args.level b) c.args.members.now c.loop-member.members c.loop-member.member-index all end c.loop-member.invariant.level
+    zip_all (λ a b. g.L.Layer.levelled a c.args.number c.args.level b)
+    c.args.members.now c.loop-member.members c.loop-member.member-index all end c.loop-member.invariant.level
 
 pub returns-clause-taken : goal.returns-clause-taken
 returns-clause-taken g c =
@@ -48,4 +51,5 @@ returns-clause-taken g c =
     let n = c.args.number in
     let l = c.args.level in
     let all_end : length c.args.members.now ≤ c.loop-member.member-index = omega (arith, c.loop-member.auto.members, c.loop-member-test.false) in
-    none_left g.L.Layer.has_form all (λ f r. takes_level f n l ≡ c.loop-member.taken || takes_level r n l) all c.loop-member.member-index (λ f. c.loop-member.taken ≡ takes_level f n l) all_end (λ f k. none_more c.loop-member.taken (takes_level f n l) k) h.taken
+    none_left g.L.Layer.has_form all (λ f r. takes_level f n l ≡ c.loop-member.taken || takes_level r n l)
+    all c.loop-member.member-index (λ f. c.loop-member.taken ≡ takes_level f n l) all_end (λ f k. none_more c.loop-member.taken (takes_level f n l) k) h.taken

@@ -9,6 +9,7 @@ invariant-loop-member g l = record {
   usable : All g.L.Layer.usable l.members;
   level : AllZip (λ x y. g.L.Layer.levelled x l.fn.number l.fn.level y) (take l.member-index l.fn.members) (take l.member-index l.members);
   left : drop l.member-index l.members ≡ drop l.member-index l.fn.members;
-  taken : Left g.L.Layer.has_form l.fn.members (drop l.member-index l.fn.members) (λ f r. takes_level f l.fn.number l.fn.level ≡ l.taken || takes_level r l.fn.number l.fn.level);
+  taken : Left g.L.Layer.has_form
+      l.fn.members (drop l.member-index l.fn.members) (λ f r. takes_level f l.fn.number l.fn.level ≡ l.taken || takes_level r l.fn.number l.fn.level);
   unchanged : l.taken ≡ false → l.members ≡ l.fn.members;
 }

@@ -1,4 +1,4 @@
-use Rattle.span_registry.specs.KeptForm.{kept_form}
+use Rattle.span_registry.specs.laws.Form.{kept_form}
 use Rattle.span_log.proofs.bridge.forward.Goals as goal
 
 pub returns-in_err-message-clause-ready : goal.returns-in_err-message-clause-ready

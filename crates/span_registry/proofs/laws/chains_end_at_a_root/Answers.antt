@@ -1,4 +1,4 @@
-use Rattle.span_registry.proofs.StoreLaws.{root_above}
+use Rattle.span_store.proofs.StoreLaws.{root_above}
 use Rattle.span_registry.proofs.laws.chains_end_at_a_root.Goals as goal
 
 pub returns : goal.returns

@@ -1,4 +1,4 @@
-use Rattle.span_registry.proofs.StoreLaws.{in_store, not_both, open_or_closing}
+use Rattle.span_store.proofs.StoreLaws.{in_store, not_both, open_or_closing}
 use Rattle.span_registry.proofs.laws.in_store_while_open_or_closing.Goals as goal
 
 pub returns-clause-in_store : goal.returns-clause-in_store

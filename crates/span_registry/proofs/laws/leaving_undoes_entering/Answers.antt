@@ -1,5 +1,5 @@
 use Rattle.std.proofs.Common.{refl}
-use Rattle.span_registry.proofs.StoreLaws.{stacks_restored}
+use Rattle.span_store.proofs.StoreLaws.{stacks_restored}
 use Rattle.span_registry.proofs.laws.leaving_undoes_entering.Goals as goal
 
 pub returns : goal.returns

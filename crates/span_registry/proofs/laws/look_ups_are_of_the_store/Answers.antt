@@ -1,6 +1,6 @@
 use Rattle.std.proofs.Common.{Some, refl}
-use Rattle.span_registry.specs.LaneStack.{without_duplicates}
-use Rattle.span_registry.specs.Store.{stack_on}
+use Rattle.span_store.specs.LaneStack.{without_duplicates}
+use Rattle.span_store.specs.Store.{stack_on}
 use Rattle.span_registry.proofs.Ancestry.{scope_absent, scope_is, seen_at}
 use Rattle.span_registry.proofs.LookupLaws.{chain_descends, current_unhidden, shown_above, whole_chain}
 use Rattle.span_registry.proofs.laws.look_ups_are_of_the_store.Goals as goal

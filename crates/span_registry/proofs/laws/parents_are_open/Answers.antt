@@ -1,4 +1,4 @@
-use Rattle.span_registry.proofs.StoreLaws.{parent_open}
+use Rattle.span_store.proofs.StoreLaws.{parent_open}
 use Rattle.span_registry.proofs.laws.parents_are_open.Goals as goal
 
 pub returns : goal.returns

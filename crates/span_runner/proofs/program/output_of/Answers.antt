@@ -1,6 +1,6 @@
 use Rattle.std.proofs.Common.{string_bytes}
 use Rattle.span_runner.proofs.Written.{one_ok}
-use Rattle.span_stacks.specs.Printed.{Gives}
+use Rattle.span_runner.specs.Printed.{Gives}
 use Rattle.span_runner.specs.Program.{Prints}
 use Rattle.span_script.specs.Script.{lines_of, requests_of, stack_of}
 use Rattle.span_runner.proofs.program.output_of.Goals as goal

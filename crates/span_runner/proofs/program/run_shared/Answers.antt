@@ -5,7 +5,8 @@ use Rattle.span_runner.proofs.Written.{handed_on, printable, refused, written}
 use Rattle.span_runner.proofs.program.run_shared.Goals as goal
 
 pub returns-clause-done : goal.returns-clause-done
-returns-clause-done g c = written PrintsShared {A = Unit {0}} (g.R.Read.remaining c.args.reader.now) c.in_ok-bytes.bytes.items c.as_str.result.now c.as_str-2.result.now
+returns-clause-done g c =
+    written PrintsShared {A = Unit {0}} (g.R.Read.remaining c.args.reader.now) c.in_ok-bytes.bytes.items c.as_str.result.now c.as_str-2.result.now
     (g.W.Write.contents c.args.writer.now) (g.W.Write.contents c.write_output.new.writer) (Ok tt)
     c.in_ok-bytes.ensures.all
     (c.as_str.ensures.value ∙ c.in_ok-text.ensures.lossy ∙ ap (λ xs. utf8_lossy xs) c.deref.ensures.value)

@@ -1,6 +1,6 @@
 use Rattle.std.proofs.Common.{string_bytes}
 use Rattle.span_runner.proofs.Written.{one_ok}
-use Rattle.span_stacks.specs.Printed.{GivesShared}
+use Rattle.span_runner.specs.Printed.{GivesShared}
 use Rattle.span_runner.specs.Program.{PrintsShared}
 use Rattle.span_script.specs.Script.{lines_of, requests_of, stack_of}
 use Rattle.span_runner.proofs.program.shared_output_of.Goals as goal

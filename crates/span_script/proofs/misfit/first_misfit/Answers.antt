@@ -13,4 +13,5 @@ misfit-column-requires-clause-wrong c = λ fits.
 pub returns : goal.returns
 returns c = subst (λ reason. IsFirstMisfit (texts_in c.args.words.now) c.misfit-column.result.0 reason) (sym c.first_reason-reason.ensures)
     (first-of (texts_in c.args.words.now) c.misfit-column.result.0 c.misfit-column.result.1
-    (misfit-to (FitsForms c.first_forms.result.now) IsFirst (same-of c.first_forms.result.now IsFirst c.first_forms.ensures) (texts_in c.args.words.now) c.misfit-column.result.0 c.misfit-column.result.1 c.misfit-column.ensures))
+    (misfit-to (FitsForms c.first_forms.result.now) IsFirst (same-of c.first_forms.result.now IsFirst c.first_forms.ensures)
+    (texts_in c.args.words.now) c.misfit-column.result.0 c.misfit-column.result.1 c.misfit-column.ensures))

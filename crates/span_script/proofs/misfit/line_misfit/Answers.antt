@@ -10,4 +10,5 @@ misfit-requires-clause-wrong c = λ fits.
     let later : IsLater (texts_in c.args.words.now) = c.line_forms.ensures.to (texts_in c.args.words.now) fits in c.requires.wrong later.0 later.1.0 later.1.1
 
 pub returns : goal.returns
-returns c = misfit-to (FitsForms c.line_forms.result.now) IsLater (same-of c.line_forms.result.now IsLater c.line_forms.ensures) (texts_in c.args.words.now) c.misfit.result.0 c.misfit.result.1 c.misfit.ensures
+returns c = misfit-to (FitsForms c.line_forms.result.now)
+    IsLater (same-of c.line_forms.result.now IsLater c.line_forms.ensures) (texts_in c.args.words.now) c.misfit.result.0 c.misfit.result.1 c.misfit.ensures

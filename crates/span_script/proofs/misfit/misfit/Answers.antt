@@ -19,11 +19,14 @@ overflow_add-result c =
 
 pub returns-in-None : goal.returns-in-None
 returns-in-None c =
-    misfit-few c.args.forms.now c.args.words.now c.first_wrong-place.result c.column_after-column.result c.requires.sound c.first_wrong-place.ensures.begins c.in-None.ensures.lookup.3
+    misfit-few c.args.forms.now
+    c.args.words.now c.first_wrong-place.result c.column_after-column.result c.requires.sound c.first_wrong-place.ensures.begins c.in-None.ensures.lookup.3
     c.requires.wrong c.column_after-column.ensures
 
 pub returns-in-Some : goal.returns-in-Some
 returns-in-Some c =
-    misfit-word c.args.forms.now c.args.words.now c.first_wrong-place.result c.in-Some.word.now c.word_fault-offset.result.0 c.column_after-column.result c.word_fault-offset.result.1
-    c.requires.sound c.first_wrong-place.ensures.begins c.in-Some.ensures.lookup.3.0 (c.first_wrong-place.ensures.wrong c.in-Some.ensures.lookup.3.0) c.column_after-column.ensures
+    misfit-word c.args.forms.now
+    c.args.words.now c.first_wrong-place.result c.in-Some.word.now c.word_fault-offset.result.0 c.column_after-column.result c.word_fault-offset.result.1
+    c.requires.sound c.first_wrong-place.ensures.begins
+    c.in-Some.ensures.lookup.3.0 (c.first_wrong-place.ensures.wrong c.in-Some.ensures.lookup.3.0) c.column_after-column.ensures
     c.in-Some.ensures.lookup.1 c.word_fault-offset.ensures.fault

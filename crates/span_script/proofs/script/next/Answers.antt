@@ -15,7 +15,8 @@ first_misfit-column-requires-clause-fits c =
 pub returns-in_default-clause-fault : goal.returns-in_default-clause-fault
 returns-in_default-clause-fault c =
     let none : NamesNoStack (texts_in c.deref.result.now) = search rules in
-    first-blamed c.args.number c.args.script c.args.text.now (texts_in c.deref-in_default.result.now) c.first_misfit-column.result.0 c.first_misfit-column.result.1 c.wrong.result
+    first-blamed c.args.number
+    c.args.script c.args.text.now (texts_in c.deref-in_default.result.now) c.first_misfit-column.result.0 c.first_misfit-column.result.1 c.wrong.result
     c.in-None.is (sym c.is_empty.ensures ∙ c.if-is_empty.false) (ap (λ xs. texts_in xs) c.deref-in_default.ensures.value ∙ c.in_ok-words.ensures)
     (search rules) c.first_misfit-column.ensures c.wrong.ensures
 
@@ -27,14 +28,16 @@ line_misfit-column-requires-clause-fits c =
 
 pub returns-in_default-of-clause-fault : goal.returns-in_default-of-clause-fault
 returns-in_default-of-clause-fault c =
-    later-blamed c.args.number c.args.script c.in-Some.script c.args.text.now (texts_in c.deref-in_default-of.result.now) c.line_misfit-column.result.0 c.line_misfit-column.result.1 c.wrong-in_default-of.result
+    later-blamed c.args.number c.args.script c.in-Some.script
+    c.args.text.now (texts_in c.deref-in_default-of.result.now) c.line_misfit-column.result.0 c.line_misfit-column.result.1 c.wrong-in_default-of.result
     c.in-Some.is (sym c.is_empty.ensures ∙ c.if-is_empty.false) (ap (λ xs. texts_in xs) c.deref-in_default-of.ensures.value ∙ c.in_ok-words.ensures)
     (search rules) c.line_misfit-column.ensures c.wrong-in_default-of.ensures
 
 pub returns-in_err-add-in-Some-clause-fault : goal.returns-in_err-add-in-Some-clause-fault
 returns-in_err-add-in-Some-clause-fault c =
     let wrong : Blames c.args.number (IsWrongFor (read_in c.args.script) c.args.text.now) c.in_err-add-in-Some.field-0.0 =
-    label-blamed c.args.number c.args.script c.in-Some.script c.args.text.now (texts_in c.deref-in-Some-2.result.now) c.in-Some-of-2.line c.in_err-add-in-Some.field-0.0
+    label-blamed c.args.number
+    c.args.script c.in-Some.script c.args.text.now (texts_in c.deref-in-Some-2.result.now) c.in-Some-of-2.line c.in_err-add-in-Some.field-0.0
     c.in-Some.is (sym c.is_empty.ensures ∙ c.if-is_empty.false) (ap (λ xs. texts_in xs) c.deref-in-Some-2.ensures.value ∙ c.in_ok-words.ensures)
     (search rules) c.in-Some-of-2.ensures.line c.in_err-add-in-Some.ensures.fault in
     search rules

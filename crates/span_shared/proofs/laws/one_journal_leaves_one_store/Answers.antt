@@ -1,6 +1,6 @@
 use Rattle.span_shared.proofs.Legal.{leaves_once}
 use Rattle.span_shared.specs.Journal.{bare}
-use Rattle.span_registry.specs.Store.{empty_store}
+use Rattle.span_store.specs.Store.{empty_store}
 use Rattle.span_shared.proofs.laws.one_journal_leaves_one_store.Goals as goal
 
 pub returns : goal.returns

@@ -33,8 +33,14 @@ returns-clause-lines c =
       answers = c.in-Ok.answers.items;
       old = d.result;
       new = c.serve_lines.new.dispatch;
-      begun = record { registry = has_all_room d.ensures.registry put.registry; level = same.1 ∙ put.layer.0 ∙ own.own; observer = record { text = none; known = unknown } };
-      answered = record { unasked = d.ensures.kept.callsites; memory = all_found c.deref.ensures.value (c.one_lacks_memory.ensures c.if-one_lacks_memory.false) };
+      begun = record {
+        registry = has_all_room d.ensures.registry put.registry;
+        level = same.1 ∙ put.layer.0 ∙ own.own;
+        observer = record { text = none; known = unknown };
+      };
+      answered =
+          record { unasked = d.ensures.kept.callsites; memory = all_found c.deref.ensures.value (c.one_lacks_memory.ensures c.if-one_lacks_memory.false) };
       served = w.served;
-      written = c.in_ok-from_str.ensures.ok ∙ c.text.ensures ∙ ap text_of lines ∙ (w.written.text.whole whole).1 ∙ ap (λ t. t ++ heard_lines (known_of (observer_in (stack_of d.result))) heard) none ∙ ap (λ (k : SpanTexts). heard_lines k heard) unknown;
+      written = c.in_ok-from_str.ensures.ok ∙ c.text.ensures ∙ ap text_of lines ∙ (w.written.text.whole whole).1
+          ∙ ap (λ t. t ++ heard_lines (known_of (observer_in (stack_of d.result))) heard) none ∙ ap (λ (k : SpanTexts). heard_lines k heard) unknown;
     }

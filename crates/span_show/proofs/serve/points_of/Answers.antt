@@ -18,15 +18,22 @@ returns-clause-points c =
     let one = d.ensures.ready put.ready.0 put.ready.1 in
     let w = c.in-Ok.ensures.kept (one.0, one.1) in
     let timeline = c.into_observer-timeline.ensures ∙ ap observer_of (c.into_parts-layer.ensures.outer ∙ ap outer_of c.into_stack.ensures) in
-    let whole : has_failed (timeline_in (stack_of c.serve_timed.new.dispatch)) ≡ false = ap has_failed (sym timeline) ∙ sym c.failed.ensures ∙ c.if-failed.false in
+    let whole : has_failed (timeline_in (stack_of c.serve_timed.new.dispatch)) ≡ false =
+    ap has_failed (sym timeline) ∙ sym c.failed.ensures ∙ c.if-failed.false in
     let first = ap observer_of (d.ensures.registered.0 ∙ put.layer) ∙ c.new-layer.ensures in
     let none = ap points_of first ∙ c.new-2.ensures.points in
     record {
       answers = c.in-Ok.answers.items;
       old = d.result;
       new = c.serve_timed.new.dispatch;
-      begun = record { registry = has_all_room d.ensures.registry put.registry; points = none; clock = ap (λ (t : Timeline Counted). latest_counted (clock_of t)) first ∙ ap latest_counted c.new-2.ensures.clock ∙ c.new.ensures };
-      answered = record { unasked = d.ensures.kept.callsites; memory = all_found c.deref.ensures.value (c.one_lacks_memory.ensures c.if-one_lacks_memory.false) };
+      begun = record {
+        registry = has_all_room d.ensures.registry put.registry;
+        points = none;
+        clock = ap (λ (t : Timeline Counted). latest_counted (clock_of t)) first ∙ ap latest_counted c.new-2.ensures.clock ∙ c.new.ensures;
+      };
+      answered =
+          record { unasked = d.ensures.kept.callsites; memory = all_found c.deref.ensures.value (c.one_lacks_memory.ensures c.if-one_lacks_memory.false) };
       served = w;
-      each = c.take_points.ensures.taken.taken ∙ ap points_of timeline ∙ (w.kept.kept whole).1 ∙ ap (λ ps. ps ++ points_at w.kept.times (passed_at timeline_position (flat w.served.made))) none;
+      each = c.take_points.ensures.taken.taken
+          ∙ ap points_of timeline ∙ (w.kept.kept whole).1 ∙ ap (λ ps. ps ++ points_at w.kept.times (passed_at timeline_position (flat w.served.made))) none;
     }

@@ -1,5 +1,5 @@
 use Rattle.std.proofs.Common.{◌∙◌, ap}
-use Rattle.span_registry.specs.Store.{RegistryState}
+use Rattle.span_store.specs.Store.{RegistryState}
 use Rattle.span_show.proofs.New.{never_full, ready, stands_new}
 use Rattle.span_show.proofs.serve.put_on_new.Goals as goal
 

@@ -30,7 +30,9 @@ returns-clause-tree c =
       old = d.result;
       new = c.serve_tree.new.dispatch;
       begun = record { registry = has_all_room d.ensures.registry put.registry; level = same.1 ∙ put.layer.0 ∙ own.own; observer = none };
-      answered = record { unasked = d.ensures.kept.callsites; memory = all_found c.deref.ensures.value (c.one_lacks_memory.ensures c.if-one_lacks_memory.false) };
+      answered =
+          record { unasked = d.ensures.kept.callsites; memory = all_found c.deref.ensures.value (c.one_lacks_memory.ensures c.if-one_lacks_memory.false) };
       served = w.served;
-      written = c.in_ok-from_str.ensures.ok ∙ c.text.ensures ∙ ap text_of tree ∙ (w.written.whole whole).1 ∙ ap (λ t. t ++ heard_text (passed_at observer_position (flat w.served.made))) none;
+      written = c.in_ok-from_str.ensures.ok
+          ∙ c.text.ensures ∙ ap text_of tree ∙ (w.written.whole whole).1 ∙ ap (λ t. t ++ heard_text (passed_at observer_position (flat w.served.made))) none;
     }

@@ -8,7 +8,8 @@ use Rattle.span_show.proofs.show.show.Goals as goal
 pub returns-clause-shown : goal.returns-clause-shown
 returns-clause-shown g c =
     let read = c.as_str.ensures.value ∙ c.in_ok-text.ensures.lossy ∙ ap (λ xs. utf8_lossy xs) c.deref.ensures.value in
-    on_ok c.show_text.result c.show_text.ensures.shown (λ o p. of_bytes (g.R.Read.remaining c.args.reader.now) c.in_ok-bytes.bytes.items c.as_str.result.now c.in_ok-bytes.ensures.all read (λ bytes same. record {
+    on_ok c.show_text.result c.show_text.ensures.shown
+    (λ o p. of_bytes (g.R.Read.remaining c.args.reader.now) c.in_ok-bytes.bytes.items c.as_str.result.now c.in_ok-bytes.ensures.all read (λ bytes same. record {
       stack = p.stack;
       lines = p.lines;
       requests = p.requests;
@@ -20,4 +21,5 @@ returns-clause-shown g c =
 pub returns-clause-fault : goal.returns-clause-fault
 returns-clause-fault g c =
     let read = c.as_str.ensures.value ∙ c.in_ok-text.ensures.lossy ∙ ap (λ xs. utf8_lossy xs) c.deref.ensures.value in
-    on_err c.show_text.result c.show_text.ensures.fault (λ e p. of_bytes (g.R.Read.remaining c.args.reader.now) c.in_ok-bytes.bytes.items c.as_str.result.now c.in_ok-bytes.ensures.all read (λ bytes same. subst (λ t. IsFault t e) same p))
+    on_err c.show_text.result c.show_text.ensures.fault (λ e p. of_bytes (g.R.Read.remaining c.args.reader.now)
+    c.in_ok-bytes.bytes.items c.as_str.result.now c.in_ok-bytes.ensures.all read (λ bytes same. subst (λ t. IsFault t e) same p))

@@ -7,5 +7,6 @@ use Rattle.span_times.proofs.measure.time_of.Given as goal
 abbrev pub invariant-loop-point : goal.invariant-loop-point
 invariant-loop-point l = record {
   fits : l.time < 2 ^ 64;
-  whole : capped (l.time + spent (is_gap l.part) (number_of l.id) l.last (drop l.point-index l.points)) ≡ capped (spent (is_gap l.part) (number_of l.id) None l.points);
+  whole : capped (l.time + spent (is_gap l.part) (number_of l.id) l.last (drop l.point-index l.points))
+      ≡ capped (spent (is_gap l.part) (number_of l.id) None l.points);
 }

@@ -12,5 +12,6 @@ pub returns : goal.returns
 returns g c =
     let root = c.to_root.result in
     answered_at_root g.S.LookupSpan.registry c.args.ctx.now root c.to_root.ensures _ (λ f. asked f c.args.meta.now) _ _ _
-    (subst (λ z. AnswersBy ((goal.DynLayer-dyn g z).dyn_form z.1) (λ f. asked f c.args.meta.now (store_in itself root) (lane_in root).0 (filters_in root)) c.args.pass.now c.dyn_enabled.result c.dyn_enabled.new.pass) c.deref_box-1.ensures.1
+    (subst (λ z. AnswersBy ((goal.DynLayer-dyn g z).dyn_form z.1) (λ f. asked f c.args.meta.now (store_in itself root) (lane_in root).0 (filters_in root))
+    c.args.pass.now c.dyn_enabled.result c.dyn_enabled.new.pass) c.deref_box-1.ensures.1
     c.dyn_enabled.ensures)

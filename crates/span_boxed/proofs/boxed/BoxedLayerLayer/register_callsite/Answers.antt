@@ -8,5 +8,6 @@ dyn_register_callsite-requires g c κs = asked_of_object _ _ _ _ (subst (λ z. (
 
 pub returns : goal.returns
 returns g c =
-    subst (λ z. (filters : ℕ) → SumsBy ((goal.DynLayer-dyn g z).dyn_form z.1) (λ f. interest_of f c.args.meta.now filters) c.args.pass.now c.dyn_register_callsite.result c.dyn_register_callsite.new.pass) c.deref_box-1.ensures.1
+    subst (λ z. (filters : ℕ) → SumsBy ((goal.DynLayer-dyn g z).dyn_form z.1)
+    (λ f. interest_of f c.args.meta.now filters) c.args.pass.now c.dyn_register_callsite.result c.dyn_register_callsite.new.pass) c.deref_box-1.ensures.1
     c.dyn_register_callsite.ensures

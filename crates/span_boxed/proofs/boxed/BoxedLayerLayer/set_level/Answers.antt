@@ -9,16 +9,26 @@ pub dyn_set_level-requires : goal.dyn_set_level-requires
 dyn_set_level-requires g c κs = asked_of_object _ _ _ _ (subst (λ z. (goal.DynLayer-dyn g z).dyn_usable z.1) (sym c.deref_box_mut-1.ensures.value.1) c.requires)
 
 pub returns-clause-taken : goal.returns-clause-taken
-returns-clause-taken g c = subst (λ z. ShowsBy ((goal.DynLayer-dyn g z).dyn_form z.1) (λ f. takes_level f c.args.number c.args.level) c.dyn_set_level.result) c.deref_box_mut-1.ensures.value.1 c.dyn_set_level.ensures.1.0
+returns-clause-taken g c = subst (λ z. ShowsBy ((goal.DynLayer-dyn g z).dyn_form z.1) (λ f. takes_level f c.args.number c.args.level) c.dyn_set_level.result)
+    c.deref_box_mut-1.ensures.value.1 c.dyn_set_level.ensures.1.0
 
 pub returns-clause-level : goal.returns-clause-level
 returns-clause-level g c =
     let d = goal.DynLayer-dyn g in
     let levels = c.dyn_set_level.ensures.1.1.0 in
     in_its_box (λ i x. record c.args.self.now { object = record c.args.self.now.object { vtable = i; value = x } })
-    (λ a b. LevelsLawfully (λ b. (d (b.object.vtable, b.object.value)).dyn_form b.object.value) (LevelsInside (λ b. (d (b.object.vtable, b.object.value)).dyn_levelled)) (HearsInside (λ b. (d (b.object.vtable, b.object.value)).dyn_hears)) (λ b. (d (b.object.vtable, b.object.value)).dyn_acts_at b.object.value) a c.args.number c.args.level b) _ _ c.deref_box_mut-1.ensures.value.1 _
-    (record { taken = (_, refl, levels.taken); follows = levels.follows; heard = λ place. (_, refl, levels.heard place); acts_on = λ place cs a. let k = levels.acts_on place cs a in record { acted = k.acted; plain = k.plain; now = k.now }; leaf = λ f h l. ap (λ v. record c.args.self.now { object = record c.args.self.now.object { vtable = _; value = v } }) (levels.leaf f h l) })
+    (λ a b. LevelsLawfully (λ b. (d (b.object.vtable, b.object.value)).dyn_form b.object.value)
+    (LevelsInside (λ b. (d (b.object.vtable, b.object.value)).dyn_levelled)) (HearsInside (λ b. (d (b.object.vtable, b.object.value)).dyn_hears))
+    (λ b. (d (b.object.vtable, b.object.value)).dyn_acts_at b.object.value) a c.args.number c.args.level b) _ _ c.deref_box_mut-1.ensures.value.1 _
+    (record {
+      taken = (_, refl, levels.taken);
+      follows = levels.follows;
+      heard = λ place. (_, refl, levels.heard place);
+      acts_on = λ place cs a. let k = levels.acts_on place cs a in record { acted = k.acted; plain = k.plain; now = k.now };
+      leaf = λ f h l. ap (λ v. record c.args.self.now { object = record c.args.self.now.object { vtable = _; value = v } }) (levels.leaf f h l);
+    })
 
 pub returns-clause-unchanged : goal.returns-clause-unchanged
 returns-clause-unchanged g c e =
-    boxed_same (λ i x. record c.args.self.now { object = record c.args.self.now.object { vtable = i; value = x } }) _ _ c.deref_box_mut-1.ensures.value.1 _ (c.dyn_set_level.ensures.1.1.1 e)
+    boxed_same (λ i x. record c.args.self.now { object = record c.args.self.now.object { vtable = i; value = x } })
+    _ _ c.deref_box_mut-1.ensures.value.1 _ (c.dyn_set_level.ensures.1.1.1 e)

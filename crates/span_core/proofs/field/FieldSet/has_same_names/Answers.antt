@@ -10,5 +10,6 @@ pub returns : goal.returns
 returns c =
     let xs = names_of c.args.self.now in
     let ys = names_of c.args.other.now in
-    let d = slice_eq-Decides bytes_eq-Decides (map (λ (x : Bor (List ℕ)). x.now) xs) (map (λ (x : Bor (List ℕ)). x.now) ys) c.eq.result (c.eq.ensures ∙ sym (pointwise-map (λ (x : Bor (List ℕ)). x.now) bytes_eq xs ys)) in
+    let d = slice_eq-Decides bytes_eq-Decides (map (λ (x : Bor (List ℕ)). x.now) xs)
+    (map (λ (x : Bor (List ℕ)). x.now) ys) c.eq.result (c.eq.ensures ∙ sym (pointwise-map (λ (x : Bor (List ℕ)). x.now) bytes_eq xs ys)) in
     d

@@ -8,6 +8,8 @@ use Rattle.span_dispatch.proofs.cache.Cache.begin.Goals as goal
 pub returns : goal.returns
 returns g c =
     let new = Filled c.interest-interest.new.self in
-    subst (λ old. GivesInterest g.S.LookupSpan.registry g.S.Subscriber.has_form c.args.stack.now c.args.meta.now c.interest-interest.result old new) (sym c.requires.empty)
-    (gives_begun g.S.LookupSpan.registry g.S.Subscriber.has_form c.args.stack.now c.args.meta.now _ new c.interest-interest.result (λ n. ap (λ es. lookup (nat_eq n) es) c.new.ensures.empty) refl c.max_level_hint.ensures
+    subst (λ old. GivesInterest g.S.LookupSpan.registry g.S.Subscriber.has_form c.args.stack.now c.args.meta.now c.interest-interest.result old new)
+    (sym c.requires.empty)
+    (gives_begun g.S.LookupSpan.registry g.S.Subscriber.has_form
+    c.args.stack.now c.args.meta.now _ new c.interest-interest.result (λ n. ap (λ es. lookup (nat_eq n) es) c.new.ensures.empty) refl c.max_level_hint.ensures
     c.interest-interest.ensures)

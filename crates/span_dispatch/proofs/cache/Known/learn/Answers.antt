@@ -17,7 +17,8 @@ returns-in-Ok g c =
     let k = c.args.self.now in
     let m = c.args.meta.now in
     let one : Callsite = record { metadata = m; interest = c.register_callsite-interest.result } in
-    gives_asked g.S.LookupSpan.registry g.S.Subscriber.has_form c.args.stack.now m k _ c.register_callsite-interest.result c.new.result c.register_callsite-interest.new.pass
+    gives_asked g.S.LookupSpan.registry
+    g.S.Subscriber.has_form c.args.stack.now m k _ c.register_callsite-interest.result c.new.result c.register_callsite-interest.new.pass
     c.requires.below c.requires.unknown refl c.saturating_sub-self.ensures c.new.ensures.interest c.register_callsite-interest.ensures
     (subst (λ key. (n : ℕ) → get nat_eq c.insert.new.self n ≡ cond (nat_eq key n) (Some one) (known_of k n)) c.callsite.ensures c.in-Ok.ensures.updates.0)
 

@@ -8,16 +8,21 @@ use Rattle.span_dispatch.proofs.dispatch.Dispatch.admits.Goals as goal
 
 pub returns-in-Ok-Never-clause-admitted : goal.returns-in-Ok-Never-clause-admitted
 returns-in-Ok-Never-clause-admitted g c = λ f h u.
-    admits_never (kept_by c.args.self.now) f (g.S.LookupSpan.registry (stack_of c.args.self.now)) c.args.lane c.args.meta.now (kept_in c.interest.new.self) h.rules c.args.pass.now c.in-Ok-Never.field-0 (c.in-Ok-Never.ensures.by_form f h.has (rules_of f _ h.rules).answers u) c.in-Ok-Never.field-0-is
+    admits_never (kept_by c.args.self.now) f (g.S.LookupSpan.registry (stack_of c.args.self.now)) c.args.lane c.args.meta.now (kept_in c.interest.new.self)
+    h.rules c.args.pass.now c.in-Ok-Never.field-0 (c.in-Ok-Never.ensures.by_form f h.has (rules_of f _ h.rules).answers u) c.in-Ok-Never.field-0-is
 
 pub returns-in-Ok-Sometimes-clause-admitted : goal.returns-in-Ok-Sometimes-clause-admitted
 returns-in-Ok-Sometimes-clause-admitted g c = λ f h u.
-    admits_asked (kept_by c.args.self.now) f (g.S.LookupSpan.registry (stack_of c.args.self.now)) c.args.lane c.args.meta.now (kept_in c.interest.new.self) h.rules g.S.LookupSpan.registry g.S.Subscriber.has_form (stack_of c.args.self.now) c.args.pass.now c.enabled.new.pass c.in-Ok-Sometimes.field-0 c.enabled.result refl h.has
+    admits_asked (kept_by c.args.self.now)
+    f (g.S.LookupSpan.registry (stack_of c.args.self.now)) c.args.lane c.args.meta.now (kept_in c.interest.new.self) h.rules g.S.LookupSpan.registry
+    g.S.Subscriber.has_form (stack_of c.args.self.now) c.args.pass.now c.enabled.new.pass c.in-Ok-Sometimes.field-0 c.enabled.result refl h.has
     (c.in-Ok-Sometimes.ensures.by_form f h.has (rules_of f _ h.rules).answers u) c.in-Ok-Sometimes.field-0-is c.requires.fresh c.enabled.ensures
 
 pub returns-in-Ok-Always-clause-admitted : goal.returns-in-Ok-Always-clause-admitted
 returns-in-Ok-Always-clause-admitted g c = λ f h u.
-    admits_always (kept_by c.args.self.now) f (g.S.LookupSpan.registry (stack_of c.args.self.now)) c.args.lane c.args.meta.now (kept_in c.interest.new.self) h.rules c.args.pass.now c.in-Ok-Always.field-0 (c.in-Ok-Always.ensures.by_form f h.has (rules_of f _ h.rules).answers u) c.in-Ok-Always.field-0-is c.requires.fresh
+    admits_always (kept_by c.args.self.now)
+    f (g.S.LookupSpan.registry (stack_of c.args.self.now)) c.args.lane c.args.meta.now (kept_in c.interest.new.self) h.rules
+    c.args.pass.now c.in-Ok-Always.field-0 (c.in-Ok-Always.ensures.by_form f h.has (rules_of f _ h.rules).answers u) c.in-Ok-Always.field-0-is c.requires.fresh
 
 pub returns-in-Err-clause-admitted : goal.returns-in-Err-clause-admitted
 returns-in-Err-clause-admitted g c = λ f h u.
@@ -28,13 +33,16 @@ pub returns-in-Err-clause-registered : goal.returns-in-Err-clause-registered
 returns-in-Err-clause-registered g c = registered_still c.args.self.now (record c.args.self.now { cache = c.interest.new.self }) refl c.in-Err.ensures.lasts
 
 pub returns-in-Ok-Never-clause-registered : goal.returns-in-Ok-Never-clause-registered
-returns-in-Ok-Never-clause-registered g c = registered_still c.args.self.now (record c.args.self.now { cache = c.interest.new.self }) refl c.in-Ok-Never.ensures.lasts
+returns-in-Ok-Never-clause-registered g c =
+    registered_still c.args.self.now (record c.args.self.now { cache = c.interest.new.self }) refl c.in-Ok-Never.ensures.lasts
 
 pub returns-in-Ok-Sometimes-clause-registered : goal.returns-in-Ok-Sometimes-clause-registered
-returns-in-Ok-Sometimes-clause-registered g c = registered_still c.args.self.now (record c.args.self.now { cache = c.interest.new.self }) refl c.in-Ok-Sometimes.ensures.lasts
+returns-in-Ok-Sometimes-clause-registered g c =
+    registered_still c.args.self.now (record c.args.self.now { cache = c.interest.new.self }) refl c.in-Ok-Sometimes.ensures.lasts
 
 pub returns-in-Ok-Always-clause-registered : goal.returns-in-Ok-Always-clause-registered
-returns-in-Ok-Always-clause-registered g c = registered_still c.args.self.now (record c.args.self.now { cache = c.interest.new.self }) refl c.in-Ok-Always.ensures.lasts
+returns-in-Ok-Always-clause-registered g c =
+    registered_still c.args.self.now (record c.args.self.now { cache = c.interest.new.self }) refl c.in-Ok-Always.ensures.lasts
 
 pub returns-in-Err-clause-kept : goal.returns-in-Err-clause-kept
 returns-in-Err-clause-kept g c = record {

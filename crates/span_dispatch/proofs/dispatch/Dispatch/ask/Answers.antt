@@ -38,7 +38,8 @@ pub returns-in-SetLevel-clause-ready : goal.returns-in-SetLevel-clause-ready
 returns-in-SetLevel-clause-ready g c = level_by_rules c.in-SetLevel.number c.args.self.now c.set_level.new.self c.set_level.ensures.ready
 
 pub returns-in-Enter-clause-asks : goal.returns-in-Enter-clause-asks
-returns-in-Enter-clause-asks g c = asks_as _ c.args.call.now _ _ c.args.self.now c.enter.new.self c.in-Enter.is (c.enter.result, search rules, c.enter.ensures.enters)
+returns-in-Enter-clause-asks g c =
+    asks_as _ c.args.call.now _ _ c.args.self.now c.enter.new.self c.in-Enter.is (c.enter.result, search rules, c.enter.ensures.enters)
 
 pub returns-in-Enter-clause-registered : goal.returns-in-Enter-clause-registered
 returns-in-Enter-clause-registered g c = registered_by_stack c.args.self.now c.enter.new.self c.enter.ensures.enters.rest

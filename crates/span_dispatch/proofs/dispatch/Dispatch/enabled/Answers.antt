@@ -12,8 +12,17 @@ returns-clause-ready g c = same_ready c.args.self.now c.admits.new.self (ap stac
 pub returns-clause-probes : goal.returns-clause-probes
 returns-clause-probes g c = record {
   rest = search rules;
-  served = λ f h u. served_so ([], record { says = probe_says g.met.S.Subscriber.laws g.met.S.LookupSpan.with_own g.S.Subscriber.levelled c.args.lane c.args.meta.now c.admits.result (g.S.LookupSpan.registry (stack_of c.args.self.now)).store; goes = sym (ap stack_of c.admits.ensures.rest) }) (probed_exactly g.met.S.Subscriber.laws g.met.S.LookupSpan.with_own g.S.Subscriber.levelled c.args.lane c.args.meta.now c.admits.new.pass c.admits.result f (kept_by c.args.self.now) (kept_by c.admits.new.self) (g.S.LookupSpan.registry (stack_of c.args.self.now)) (c.admits.ensures.admitted f h u));
+  served = λ f h u. served_so (
+    [],
+    record {
+      says = probe_says g.met.S.Subscriber.laws g.met.S.LookupSpan.with_own
+          g.S.Subscriber.levelled c.args.lane c.args.meta.now c.admits.result (g.S.LookupSpan.registry (stack_of c.args.self.now)).store;
+      goes = sym (ap stack_of c.admits.ensures.rest);
+    },
+  ) (probed_exactly g.met.S.Subscriber.laws g.met.S.LookupSpan.with_own g.S.Subscriber.levelled c.args.lane c.args.meta.now c.admits.new.pass c.admits.result
+      f (kept_by c.args.self.now) (kept_by c.admits.new.self) (g.S.LookupSpan.registry (stack_of c.args.self.now)) (c.admits.ensures.admitted f h u));
   kept = search rules;
   up_to_date = search rules;
-  asked = asked_of g.S.LookupSpan.registry g.S.Subscriber.has_form c.args.lane (stack_of c.args.self.now) (kept_by c.args.self.now) c.args.meta.now c.args.meta.now c.new-pass.result c.admits.new.pass c.admits.result refl c.new-pass.ensures.refused c.admits.ensures.afresh;
+  asked = asked_of g.S.LookupSpan.registry g.S.Subscriber.has_form c.args.lane (stack_of c.args.self.now) (kept_by c.args.self.now)
+      c.args.meta.now c.args.meta.now c.new-pass.result c.admits.new.pass c.admits.result refl c.new-pass.ensures.refused c.admits.ensures.afresh;
 }

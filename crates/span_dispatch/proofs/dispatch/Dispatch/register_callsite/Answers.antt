@@ -10,7 +10,8 @@ pub returns-in-Ok-clause-registered : goal.returns-in-Ok-clause-registered
 returns-in-Ok-clause-registered g c = registered_still c.args.self.now (record c.args.self.now { cache = c.interest.new.self }) refl c.in-Ok.ensures.lasts
 
 pub returns-in-Err-clause-ready : goal.returns-in-Err-clause-ready
-returns-in-Err-clause-ready g c = same_ready c.args.self.now (record c.args.self.now { cache = c.interest.new.self }) refl (λ f d u. c.in-Err.ensures.kept f d u)
+returns-in-Err-clause-ready g c =
+    same_ready c.args.self.now (record c.args.self.now { cache = c.interest.new.self }) refl (λ f d u. c.in-Err.ensures.kept f d u)
 
 pub returns-in-Ok-clause-ready : goal.returns-in-Ok-clause-ready
 returns-in-Ok-clause-ready g c = same_ready c.args.self.now (record c.args.self.now { cache = c.interest.new.self }) refl (λ f d u. c.in-Ok.ensures.kept f d u)

@@ -2,7 +2,7 @@ use Rattle.std.proofs.Common.{refl, ◌+◌, ap, arith, sym, subst, take, [], �
 use Rattle.std.proofs.lemmas.List.{take_all, take_more}
 use Rattle.span_dispatch.proofs.Asked.{one_asked}
 use Rattle.span_dispatch.specs.Ask.{AsksEach}
-use Rattle.span_registry.specs.Store.{AreIssued, RegistryState}
+use Rattle.span_store.specs.Store.{AreIssued, RegistryState}
 use Rattle.span_dispatch.proofs.Served.{SoFar, all_served, nothing_yet, one_more}
 use Rattle.span_dispatch.proofs.dispatch.Dispatch.serve_into.Goals as goal
 
@@ -11,8 +11,38 @@ loop-request-init g c =
     let e = c.clear.ensures in
     record {
       usable = c.requires.usable;
-      served = subst (SoFar (record { registry = g.S.LookupSpan.registry; with_registry = g.S.LookupSpan.with_registry; usable = g.S.Subscriber.usable; has_form = g.S.Subscriber.has_form; stepped = g.S.Subscriber.stepped; hears = g.S.Subscriber.hears; acts_at = g.S.Subscriber.acts_at; levelled = g.S.Subscriber.levelled; registered = g.S.Subscriber.registered }) c.args.self.now c.args.self.now []) (sym e.items) (nothing_yet (record { registry = g.S.LookupSpan.registry; with_registry = g.S.LookupSpan.with_registry; usable = g.S.Subscriber.usable; has_form = g.S.Subscriber.has_form; stepped = g.S.Subscriber.stepped; hears = g.S.Subscriber.hears; acts_at = g.S.Subscriber.acts_at; levelled = g.S.Subscriber.levelled; registered = g.S.Subscriber.registered }) c.args.self.now);
-      asks = subst (λ us. AsksEach (record { registry = g.S.LookupSpan.registry; with_registry = g.S.LookupSpan.with_registry; usable = g.S.Subscriber.usable; has_form = g.S.Subscriber.has_form; stepped = g.S.Subscriber.stepped; hears = g.S.Subscriber.hears; acts_at = g.S.Subscriber.acts_at; levelled = g.S.Subscriber.levelled; registered = g.S.Subscriber.registered }) [] [] us c.args.self.now c.args.self.now) (sym e.items) refl;
+      served = subst (SoFar (record {
+        registry = g.S.LookupSpan.registry;
+        with_registry = g.S.LookupSpan.with_registry;
+        usable = g.S.Subscriber.usable;
+        has_form = g.S.Subscriber.has_form;
+        stepped = g.S.Subscriber.stepped;
+        hears = g.S.Subscriber.hears;
+        acts_at = g.S.Subscriber.acts_at;
+        levelled = g.S.Subscriber.levelled;
+        registered = g.S.Subscriber.registered;
+      }) c.args.self.now c.args.self.now []) (sym e.items) (nothing_yet (record {
+        registry = g.S.LookupSpan.registry;
+        with_registry = g.S.LookupSpan.with_registry;
+        usable = g.S.Subscriber.usable;
+        has_form = g.S.Subscriber.has_form;
+        stepped = g.S.Subscriber.stepped;
+        hears = g.S.Subscriber.hears;
+        acts_at = g.S.Subscriber.acts_at;
+        levelled = g.S.Subscriber.levelled;
+        registered = g.S.Subscriber.registered;
+      }) c.args.self.now);
+      asks = subst (λ us. AsksEach (record {
+        registry = g.S.LookupSpan.registry;
+        with_registry = g.S.LookupSpan.with_registry;
+        usable = g.S.Subscriber.usable;
+        has_form = g.S.Subscriber.has_form;
+        stepped = g.S.Subscriber.stepped;
+        hears = g.S.Subscriber.hears;
+        acts_at = g.S.Subscriber.acts_at;
+        levelled = g.S.Subscriber.levelled;
+        registered = g.S.Subscriber.registered;
+      }) [] [] us c.args.self.now c.args.self.now) (sym e.items) refl;
       registered = λ r h. h;
       len = search rules;
       room = search rules;
@@ -36,9 +66,31 @@ loop-request-preserved g c =
     record {
       usable = c.serve_one-answer.ensures.usable;
       served =
-          one_more (record { registry = g.S.LookupSpan.registry; with_registry = g.S.LookupSpan.with_registry; usable = g.S.Subscriber.usable; has_form = g.S.Subscriber.has_form; stepped = g.S.Subscriber.stepped; hears = g.S.Subscriber.hears; acts_at = g.S.Subscriber.acts_at; levelled = g.S.Subscriber.levelled; registered = g.S.Subscriber.registered }) c.args.self.now now next (take i xs) (take (i + 1) xs) _ c.loop-request.answers.items c.append.new.answers.items a _ h.served c.deref.ensures.value c.append.ensures.items
+          one_more (record {
+            registry = g.S.LookupSpan.registry;
+            with_registry = g.S.LookupSpan.with_registry;
+            usable = g.S.Subscriber.usable;
+            has_form = g.S.Subscriber.has_form;
+            stepped = g.S.Subscriber.stepped;
+            hears = g.S.Subscriber.hears;
+            acts_at = g.S.Subscriber.acts_at;
+            levelled = g.S.Subscriber.levelled;
+            registered = g.S.Subscriber.registered;
+          }) c.args.self.now now
+          next (take i xs) (take (i + 1) xs) _ c.loop-request.answers.items c.append.new.answers.items a _ h.served c.deref.ensures.value c.append.ensures.items
           (take_more xs i _ c.loop-request-test.true) c.serve_one-answer.ensures.ready c.serve_one-answer.ensures.served;
-      asks = one_asked (record { registry = g.S.LookupSpan.registry; with_registry = g.S.LookupSpan.with_registry; usable = g.S.Subscriber.usable; has_form = g.S.Subscriber.has_form; stepped = g.S.Subscriber.stepped; hears = g.S.Subscriber.hears; acts_at = g.S.Subscriber.acts_at; levelled = g.S.Subscriber.levelled; registered = g.S.Subscriber.registered }) c.args.self.now now next (take i xs) (take (i + 1) xs) _ c.loop-request.answers.items c.append.new.answers.items a _ h.asks c.deref.ensures.value c.append.ensures.items (take_more xs i _ c.loop-request-test.true) c.serve_one-answer.ensures.asks;
+      asks = one_asked (record {
+        registry = g.S.LookupSpan.registry;
+        with_registry = g.S.LookupSpan.with_registry;
+        usable = g.S.Subscriber.usable;
+        has_form = g.S.Subscriber.has_form;
+        stepped = g.S.Subscriber.stepped;
+        hears = g.S.Subscriber.hears;
+        acts_at = g.S.Subscriber.acts_at;
+        levelled = g.S.Subscriber.levelled;
+        registered = g.S.Subscriber.registered;
+      }) c.args.self.now now next (take i xs) (take (i + 1) xs) _ c.loop-request.answers.items c.append.new.answers.items
+          a _ h.asks c.deref.ensures.value c.append.ensures.items (take_more xs i _ c.loop-request-test.true) c.serve_one-answer.ensures.asks;
       registered = λ r known. c.serve_one-answer.ensures.registered r (h.registered r known);
       len = c.append.ensures.len ∙ ap (λ n. n + 1) h.len;
       room = omega (arith, h.room, c.append.ensures.capacity);
@@ -53,14 +105,38 @@ returns-clause-ready g c = record { again = λ f ready. (c.loop-request.invarian
 
 pub returns-clause-served : goal.returns-clause-served
 returns-clause-served g c = λ ready.
-    all_served (record { registry = g.S.LookupSpan.registry; with_registry = g.S.LookupSpan.with_registry; usable = g.S.Subscriber.usable; has_form = g.S.Subscriber.has_form; stepped = g.S.Subscriber.stepped; hears = g.S.Subscriber.hears; acts_at = g.S.Subscriber.acts_at; levelled = g.S.Subscriber.levelled; registered = g.S.Subscriber.registered }) g.met.S.Subscriber.laws g.met.S.Subscriber.paths g.met.S.Subscriber.levels ready.0 c.args.self.now c.loop-request.self c.args.requests.now (take c.loop-request.request-index c.args.requests.now) c.loop-request.answers.items
-    (subst (λ x. AreIssued (g.S.LookupSpan.registry x).store) c.stack.ensures (subst (λ (s : RegistryState). AreIssued s.store) c.root.ensures c.a_registry_is_sound.ensures.issued)) (take_all c.loop-request.request-index c.args.requests.now c.loop-request-test.false) (c.loop-request.invariant.served ready.0 ready.1)
+    all_served (record {
+      registry = g.S.LookupSpan.registry;
+      with_registry = g.S.LookupSpan.with_registry;
+      usable = g.S.Subscriber.usable;
+      has_form = g.S.Subscriber.has_form;
+      stepped = g.S.Subscriber.stepped;
+      hears = g.S.Subscriber.hears;
+      acts_at = g.S.Subscriber.acts_at;
+      levelled = g.S.Subscriber.levelled;
+      registered = g.S.Subscriber.registered;
+    }) g.met.S.Subscriber.laws g.met.S.Subscriber.paths g.met.S.Subscriber.levels
+    ready.0 c.args.self.now c.loop-request.self c.args.requests.now (take c.loop-request.request-index c.args.requests.now) c.loop-request.answers.items
+    (subst (λ x. AreIssued (g.S.LookupSpan.registry x).store)
+    c.stack.ensures (subst (λ (s : RegistryState). AreIssued s.store) c.root.ensures c.a_registry_is_sound.ensures.issued))
+    (take_all c.loop-request.request-index c.args.requests.now c.loop-request-test.false) (c.loop-request.invariant.served ready.0 ready.1)
 
 pub returns-clause-asks : goal.returns-clause-asks
 returns-clause-asks g c = record {
   registered = c.loop-request.invariant.registered;
   each =
-      subst (λ rs. AsksEach (record { registry = g.S.LookupSpan.registry; with_registry = g.S.LookupSpan.with_registry; usable = g.S.Subscriber.usable; has_form = g.S.Subscriber.has_form; stepped = g.S.Subscriber.stepped; hears = g.S.Subscriber.hears; acts_at = g.S.Subscriber.acts_at; levelled = g.S.Subscriber.levelled; registered = g.S.Subscriber.registered }) [] rs c.loop-request.answers.items c.args.self.now c.loop-request.self) (take_all c.loop-request.request-index c.args.requests.now c.loop-request-test.false) c.loop-request.invariant.asks;
+      subst (λ rs. AsksEach (record {
+        registry = g.S.LookupSpan.registry;
+        with_registry = g.S.LookupSpan.with_registry;
+        usable = g.S.Subscriber.usable;
+        has_form = g.S.Subscriber.has_form;
+        stepped = g.S.Subscriber.stepped;
+        hears = g.S.Subscriber.hears;
+        acts_at = g.S.Subscriber.acts_at;
+        levelled = g.S.Subscriber.levelled;
+        registered = g.S.Subscriber.registered;
+      }) [] rs c.loop-request.answers.items c.args.self.now c.loop-request.self)
+      (take_all c.loop-request.request-index c.args.requests.now c.loop-request-test.false) c.loop-request.invariant.asks;
 }
 
 pub returns-clause-room : goal.returns-clause-room

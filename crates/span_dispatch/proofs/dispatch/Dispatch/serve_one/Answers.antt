@@ -14,10 +14,12 @@ pub returns-in-None-clause-asks : goal.returns-in-None-clause-asks
 returns-in-None-clause-asks g c = nothing_asked _ c.args.past.now c.args.request.now c.args.self.now (sym c.call.ensures ∙ c.in-None.is)
 
 pub returns-in-Some-clause-served : goal.returns-in-Some-clause-served
-returns-in-Some-clause-served g c = served_call c.args.past.now c.args.request.now c.in-Some.call c.ask.result c.args.self.now c.ask.new.self (sym c.call.ensures ∙ c.in-Some.is) c.ask.ensures.served
+returns-in-Some-clause-served g c = served_call c.args.past.now
+    c.args.request.now c.in-Some.call c.ask.result c.args.self.now c.ask.new.self (sym c.call.ensures ∙ c.in-Some.is) c.ask.ensures.served
 
 pub returns-in-Some-clause-asks : goal.returns-in-Some-clause-asks
-returns-in-Some-clause-asks g c = asked_for _ c.args.past.now c.args.request.now c.in-Some.call c.ask.result c.args.self.now c.ask.new.self (sym c.call.ensures ∙ c.in-Some.is) c.ask.ensures.asks
+returns-in-Some-clause-asks g c = asked_for _
+    c.args.past.now c.args.request.now c.in-Some.call c.ask.result c.args.self.now c.ask.new.self (sym c.call.ensures ∙ c.in-Some.is) c.ask.ensures.asks
 
 pub returns-in-None-clause-registered : goal.returns-in-None-clause-registered
 returns-in-None-clause-registered g c = λ r h. h

@@ -4,27 +4,38 @@ use Rattle.span_dispatch.proofs.Registered.{registered_before}
 use Rattle.span_dispatch.specs.Cache.{IsUpToDate, kept_in}
 use Rattle.span_dispatch.specs.Serve.{with_stack}
 use Rattle.span_dispatch.specs.declared.cache.Cache.{Cache}
-use Rattle.span_registry.specs.Levels.{same_levels}
+use Rattle.span_registry.specs.laws.Form.{same_levels}
 use Rattle.std.proofs.Common.{[], ap, refl, subst, sym, ◌∙◌, rules}
 use Rattle.span_dispatch.proofs.dispatch.Dispatch.set_level.Goals as goal
 
 pub returns-then-not-set_level-clause-ready : goal.returns-then-not-set_level-clause-ready
-returns-then-not-set_level-clause-ready g c = unset_ready c.args.number c.args.self.now (with_stack c.args.self.now c.set_level.new.self) (ap (with_stack c.args.self.now) (c.set_level.ensures.unchanged c.if-not-set_level.true))
+returns-then-not-set_level-clause-ready g c = unset_ready c.args.number
+    c.args.self.now (with_stack c.args.self.now c.set_level.new.self) (ap (with_stack c.args.self.now) (c.set_level.ensures.unchanged c.if-not-set_level.true))
 
 pub returns-clause-ready : goal.returns-clause-ready
 returns-clause-ready g c = record {
   again = λ f k.
-      ready_levelled g.S.LookupSpan.registry g.S.LookupSpan.with_registry g.S.Subscriber.stepped g.met.S.Subscriber.levels f c.args.number c.args.level c.args.self.now (record c.args.self.now { stack = c.set_level.new.self; cache = c.forget.new.self; epoch = c.next-self.result }) k c.set_level.ensures.level c.set_level.ensures.registry
+      ready_levelled g.S.LookupSpan.registry g.S.LookupSpan.with_registry g.S.Subscriber.stepped g.met.S.Subscriber.levels f c.args.number
+      c.args.level c.args.self.now (record c.args.self.now { stack = c.set_level.new.self; cache = c.forget.new.self; epoch = c.next-self.result })
+      k c.set_level.ensures.level c.set_level.ensures.registry
       (λ h m. subst (λ (k : Cache). IsUpToDate h m k) (sym c.forget.ensures) (forgotten_current h m c.args.self.now.cache));
 }
 
 pub returns-clause-registered : goal.returns-clause-registered
-returns-clause-registered g c = registered_before c.args.self.now (record c.args.self.now { stack = c.set_level.new.self; cache = c.forget.new.self; epoch = c.next-self.result }) c.next-self.ensures
+returns-clause-registered g c = registered_before c.args.self.now
+    (record c.args.self.now { stack = c.set_level.new.self; cache = c.forget.new.self; epoch = c.next-self.result }) c.next-self.ensures
 
 pub returns-then-not-set_level-clause-sets : goal.returns-then-not-set_level-clause-sets
 returns-then-not-set_level-clause-sets g c = record {
   registry = search rules;
-  served = λ f h u. ([], record { says = refl; goes = sym (c.set_level.ensures.unchanged c.if-not-set_level.true); answers = (refl, (refl, sym (c.set_level.ensures.taken f h.has) ∙ c.if-not-set_level.true)) });
+  served = λ f h u. (
+    [],
+    record {
+      says = refl;
+      goes = sym (c.set_level.ensures.unchanged c.if-not-set_level.true);
+      answers = (refl, (refl, sym (c.set_level.ensures.taken f h.has) ∙ c.if-not-set_level.true));
+    },
+  );
   level = search rules;
   taken = search rules;
   none = λ f h. sym c.if-not-set_level.true ∙ c.set_level.ensures.taken f h;
@@ -38,7 +49,16 @@ returns-then-not-set_level-clause-sets g c = record {
 pub returns-clause-sets : goal.returns-clause-sets
 returns-clause-sets g c = record {
   registry = search rules;
-  served = λ f h u. let told = level_told g.S.LookupSpan.registry g.S.LookupSpan.with_registry g.S.Subscriber.stepped g.met.S.Subscriber.levels f c.args.number c.args.level c.args.self.now.stack c.set_level.new.self h (sym (c.set_level.ensures.taken f h.has) ∙ c.if-not-set_level.false) c.set_level.ensures.level c.set_level.ensures.registry in (told.0, record { says = told.1.says; goes = told.1.goes; answers = (ap kept_in c.forget.ensures ∙ forgotten_kept c.args.self.now.cache, sym (c.set_level.ensures.taken f h.has) ∙ c.if-not-set_level.false) });
+  served = λ f h u. let told = level_told g.S.LookupSpan.registry
+      g.S.LookupSpan.with_registry g.S.Subscriber.stepped g.met.S.Subscriber.levels f c.args.number c.args.level c.args.self.now.stack
+      c.set_level.new.self h (sym (c.set_level.ensures.taken f h.has) ∙ c.if-not-set_level.false) c.set_level.ensures.level c.set_level.ensures.registry in (
+        told.0,
+        record {
+          says = told.1.says;
+          goes = told.1.goes;
+          answers = (ap kept_in c.forget.ensures ∙ forgotten_kept c.args.self.now.cache, sym (c.set_level.ensures.taken f h.has) ∙ c.if-not-set_level.false);
+        },
+      );
   level = search rules;
   taken = λ f h. sym c.if-not-set_level.false ∙ c.set_level.ensures.taken f h;
   none = search rules;

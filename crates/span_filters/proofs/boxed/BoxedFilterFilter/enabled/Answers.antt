@@ -11,5 +11,6 @@ dyn_enabled-requires g c κs = asked_of_object _ _ _ _ (subst (λ z. (goal.DynFi
 
 pub returns : goal.returns
 returns g c a h =
-    subst (λ z. SaysEnabled ((goal.DynFilter-dyn g z).dyn_answers z.1) c.args.meta.now (view_in itself c.to_root.result) c.dyn_enabled.result) c.deref_box-1.ensures.1 c.dyn_enabled.ensures a h.answered
+    subst (λ z. SaysEnabled ((goal.DynFilter-dyn g z).dyn_answers z.1) c.args.meta.now (view_in itself c.to_root.result) c.dyn_enabled.result)
+    c.deref_box-1.ensures.1 c.dyn_enabled.ensures a h.answered
     ∙ ap (a.enabled c.args.meta.now) (view_at_root g.S.LookupSpan.registry c.args.cx.now c.to_root.result c.to_root.ensures)

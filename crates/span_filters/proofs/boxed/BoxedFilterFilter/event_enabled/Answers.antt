@@ -11,5 +11,6 @@ dyn_event_enabled-requires g c κs = asked_of_object _ _ _ _ (subst (λ z. (goal
 
 pub returns : goal.returns
 returns g c a h =
-    subst (λ z. SaysEvent ((goal.DynFilter-dyn g z).dyn_answers z.1) c.args.event.now (view_in itself c.to_root.result) c.dyn_event_enabled.result) c.deref_box-1.ensures.1 c.dyn_event_enabled.ensures a h.answered
+    subst (λ z. SaysEvent ((goal.DynFilter-dyn g z).dyn_answers z.1) c.args.event.now (view_in itself c.to_root.result) c.dyn_event_enabled.result)
+    c.deref_box-1.ensures.1 c.dyn_event_enabled.ensures a h.answered
     ∙ ap (a.event c.args.event.now) (view_at_root g.S.LookupSpan.registry c.args.cx.now c.to_root.result c.to_root.ensures)

@@ -5,10 +5,12 @@ use Rattle.span_filters.proofs.BoxLemmas.{asked_of_object, boxed_level, boxed_sa
 use Rattle.span_filters.proofs.boxed.BoxedFilterFilter.set_level.Goals as goal
 
 pub dyn_set_level-requires : goal.dyn_set_level-requires
-dyn_set_level-requires g c κs = asked_of_object _ _ _ _ (subst (λ z. (goal.DynFilter-dyn g z).dyn_usable z.1) (sym c.deref_box_mut-1.ensures.value.1) c.requires)
+dyn_set_level-requires g c κs =
+    asked_of_object _ _ _ _ (subst (λ z. (goal.DynFilter-dyn g z).dyn_usable z.1) (sym c.deref_box_mut-1.ensures.value.1) c.requires)
 
 pub returns-clause-taken : goal.returns-clause-taken
-returns-clause-taken g c a h = subst (λ z. Says ((goal.DynFilter-dyn g z).dyn_answers z.1) (λ a. a.takes c.args.level) c.dyn_set_level.result) c.deref_box_mut-1.ensures.value.1 c.dyn_set_level.ensures.1.0 a h.answered
+returns-clause-taken g c a h = subst (λ z. Says ((goal.DynFilter-dyn g z).dyn_answers z.1) (λ a. a.takes c.args.level) c.dyn_set_level.result)
+    c.deref_box_mut-1.ensures.value.1 c.dyn_set_level.ensures.1.0 a h.answered
 
 pub returns-clause-level : goal.returns-clause-level
 returns-clause-level g c =
@@ -23,4 +25,5 @@ returns-clause-level g c =
 
 pub returns-clause-unchanged : goal.returns-clause-unchanged
 returns-clause-unchanged g c e =
-    boxed_same (λ i x. record c.args.self.now { object = record c.args.self.now.object { vtable = i; value = x } }) _ _ c.deref_box_mut-1.ensures.value.1 _ (c.dyn_set_level.ensures.1.1.1.1 e)
+    boxed_same (λ i x. record c.args.self.now { object = record c.args.self.now.object { vtable = i; value = x } })
+    _ _ c.deref_box_mut-1.ensures.value.1 _ (c.dyn_set_level.ensures.1.1.1.1 e)

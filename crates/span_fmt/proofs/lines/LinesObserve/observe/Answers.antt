@@ -1,6 +1,6 @@
 use Rattle.std.proofs.Common.{ℕ, List, refl, subst, sym}
-use Rattle.span_layers.specs.Observe.{notice_of}
-use Rattle.span_layers.specs.declared.observe.Observed.{Observed}
+use Rattle.span_registry.specs.Notice.{notice_of}
+use Rattle.span_registry.specs.declared.notice.Notice.{Notice as NoticeInCode}
 use Rattle.span_registry.specs.Context.{filters_lent, lane_lent, subscriber_lent}
 use Rattle.span_registry.specs.View.{plain_view, view_of}
 use Rattle.span_fmt.proofs.Around.{event_plainly}
@@ -16,8 +16,9 @@ returns-in-NewSpan-clause-hook g c =
     let x = c.args.self.now in
     let y = c.note.new.self in
     let noted = c.note.ensures in
-    let noticed = new_noticed c.in-NewSpan.attrs.now c.in-NewSpan.id v x y c.values.result.now c.values.ensures noted.text noted.before noted.known noted.failed noted.free in
-    (subst (λ (n : Observed). TakesNotice (notice_of n) v x y) (sym c.in-NewSpan.is) noticed, refl)
+    let noticed =
+    new_noticed c.in-NewSpan.attrs.now c.in-NewSpan.id v x y c.values.result.now c.values.ensures noted.text noted.before noted.known noted.failed noted.free in
+    (subst (λ (n : NoticeInCode). TakesNotice (notice_of n) v x y) (sym c.in-NewSpan.is) noticed, refl)
 
 pub returns-in-Event-clause-hook : goal.returns-in-Event-clause-hook
 returns-in-Event-clause-hook g c =
@@ -32,4 +33,4 @@ returns-in-Event-clause-hook g c =
     let written = c.write.ensures (event_line e (view_of s lane mask) (known_of x)) c.line_due-line.ensures.text c.line_due-line.ensures.refused in
     let plainly = subst (λ (t : List ℕ). Writes t x.page page) (event_plainly s lane mask law e (known_of x)) written in
     let noticed = event_noticed e (plain_view s lane mask) x page plainly in
-    (subst (λ (n : Observed). TakesNotice (notice_of n) (plain_view s lane mask) x (record x { page = page })) (sym c.in-Event.is) noticed, refl)
+    (subst (λ (n : NoticeInCode). TakesNotice (notice_of n) (plain_view s lane mask) x (record x { page = page })) (sym c.in-Event.is) noticed, refl)

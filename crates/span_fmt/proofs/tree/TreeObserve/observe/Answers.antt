@@ -1,5 +1,5 @@
 use Rattle.std.proofs.Common.{ℕ, List, refl, subst}
-use Rattle.span_layers.specs.Observe.{notice_of}
+use Rattle.span_registry.specs.Notice.{notice_of}
 use Rattle.span_registry.specs.Context.{filters_lent, lane_lent, subscriber_lent, view_lent}
 use Rattle.span_fmt.proofs.Plain.{notice_plainly}
 use Rattle.span_fmt.specs.Page.{Writes}

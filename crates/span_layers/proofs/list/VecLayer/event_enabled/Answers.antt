@@ -15,5 +15,8 @@ loop-member-preserved g c =
     let x = c.member-item.result in
     let is = c.member-item.is ∙ ap (λ l. get_or l i x) same in
     let within : c.loop-member.member-index < length c.args.self.now.items = omega (arith, ap length same, c.loop-member-test.true) in
-    let question : Form → FilterSet → Bool × FilterSet = λ f. event_asked f c.args.event.now (store_in g.S.LookupSpan.registry c.args.ctx.now) (lane_in c.args.ctx.now).0 (filters_in c.args.ctx.now) in
-    less_left g.L.Layer.has_form xs _ xs i x within is _ (λ f o r form. one_passes question (λ p q n. refl) c.args.pass.now c.loop-member.pass c.event_enabled.new.pass f o r (c.if-not-event_enabled.ensures o form)) c.loop-member.invariant
+    let question : Form → FilterSet → Bool × FilterSet =
+    λ f. event_asked f c.args.event.now (store_in g.S.LookupSpan.registry c.args.ctx.now) (lane_in c.args.ctx.now).0 (filters_in c.args.ctx.now) in
+    less_left g.L.Layer.has_form xs _ xs i x within is _ (λ f o r form.
+    one_passes question (λ p q n. refl) c.args.pass.now c.loop-member.pass c.event_enabled.new.pass f o r (c.if-not-event_enabled.ensures o form))
+    c.loop-member.invariant

@@ -6,4 +6,5 @@ use Rattle.span_registry.specs.Question.{event_asked}
 use Rattle.span_layers.proofs.list.VecLayer.event_enabled.Given as goal
 
 abbrev pub invariant-loop-member : goal.invariant-loop-member
-invariant-loop-member g l = Left g.L.Layer.has_form l.fn.self.items (drop l.member-index l.fn.self.items) (AsksOn (λ f. event_asked f l.event (store_in g.S.LookupSpan.registry l.ctx) (lane_in l.ctx).0 (filters_in l.ctx)) l.fn.pass l.pass)
+invariant-loop-member g l = Left g.L.Layer.has_form l.fn.self.items (drop l.member-index l.fn.self.items)
+    (AsksOn (λ f. event_asked f l.event (store_in g.S.LookupSpan.registry l.ctx) (lane_in l.ctx).0 (filters_in l.ctx)) l.fn.pass l.pass)

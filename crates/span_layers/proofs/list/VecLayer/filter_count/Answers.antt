@@ -11,9 +11,13 @@ loop-member-preserved g c =
     let x = c.member-item.result in
     let is = c.member-item.is ∙ ap (λ l. get_or l i x) same in
     let within : c.loop-member.member-index < length c.args.self.now.items = omega (arith, ap length same, c.loop-member-test.true) in
-    less_left g.L.Layer.has_form xs _ xs i x within is _ (λ f o r form. one_counted c.loop-member.count c.filter_count.result c.saturating_add-count.result c.saturating_add-count.ensures f o r (c.filter_count.ensures o form)) c.loop-member.invariant
+    less_left g.L.Layer.has_form xs _ xs i x within is _ (λ f o r form.
+    one_counted c.loop-member.count c.filter_count.result c.saturating_add-count.result c.saturating_add-count.ensures f o r (c.filter_count.ensures o form))
+    c.loop-member.invariant
 
 pub returns : goal.returns
 returns g c =
-    let all : length c.args.self.now.items ≤ c.loop-member.member-index = omega (arith, ap length c.deref-member-items.ensures.value, c.loop-member-test.false) in
-    none_left g.L.Layer.has_form c.args.self.now.items _ c.args.self.now.items c.loop-member.member-index _ all (all_counted c.loop-member.count) c.loop-member.invariant
+    let all : length c.args.self.now.items ≤ c.loop-member.member-index =
+    omega (arith, ap length c.deref-member-items.ensures.value, c.loop-member-test.false) in
+    none_left g.L.Layer.has_form
+    c.args.self.now.items _ c.args.self.now.items c.loop-member.member-index _ all (all_counted c.loop-member.count) c.loop-member.invariant

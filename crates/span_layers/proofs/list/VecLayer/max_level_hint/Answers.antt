@@ -11,4 +11,6 @@ loop-member-preserved g c =
     let x = c.member-item.result in
     let is = c.member-item.is ∙ ap (λ l. get_or l i x) same in
     let within : c.loop-member.member-index < length c.args.self.now.items = omega (arith, ap length same, c.loop-member-test.true) in
-    less_left g.L.Layer.has_form xs _ xs i x within is _ (λ f o r form. one_hinted c.loop-member.widest c.max_level_hint.result c.wider_of-widest.result c.wider_of-widest.ensures f o r (c.max_level_hint.ensures o form)) c.loop-member.invariant
+    less_left g.L.Layer.has_form xs _ xs i x within is _ (λ f o r form.
+    one_hinted c.loop-member.widest c.max_level_hint.result c.wider_of-widest.result c.wider_of-widest.ensures f o r (c.max_level_hint.ensures o form))
+    c.loop-member.invariant

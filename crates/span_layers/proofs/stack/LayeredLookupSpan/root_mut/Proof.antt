@@ -14,7 +14,8 @@ use types.Logic.{Logic, sem}
 use contract.BorrowLft.{◌⊑◌}
 use contract.Monad.{fact, fact_i}
 use contract.Running.{tables}
-use types.Kit.{‵, raw, ◌⊛◌, some, later, given, ◌$◌, ◌∵◌, !, qed, move, keep, drop, use0, use1, use2, split, split3, join, group, pick, learn, fsplit3, fjoin, fjoin3, feq_i, feq_l, suffices, frame, await, done}
+use types.Kit.{‵, raw, ◌⊛◌, some, later, given, ◌$◌, ◌∵◌, !, qed, move, keep, drop, use0, use1, use2, split, split3, join, group, pick, learn, fsplit3, fjoin}
+use types.Kit.{fjoin3, feq_i, feq_l, suffices, frame, await, done}
 use types.Mut.{open_ref}
 use types.Run.{stop, fld, addr, no_more, and_then, returns, enter}
 use types.ByLocal.{alloc_all, pass_all, free_all, look_at, get, through, sets, lands_as}
@@ -36,7 +37,7 @@ use denote.Triple.Statement.{Contract}
 use denote.Triple.Table.{framed}
 use denote.Triple.Walked.{Stays, says, stay_dropped, Goes-spent_ref, ends_at}
 use Rattle.std.proofs.raw_atomic.Walks.{proved}
-use Rattle.span_registry.specs.contracts.registry.Registry as N
+use Rattle.span_store.specs.contracts.registry.Registry as N
 use Rattle.span_registry.specs.contracts.lookup.LookupSpan.root_mut as inner
 use Rattle.span_layers.specs.declared.layered.Layered.{Layered}
 use Rattle.span_layers.specs.contracts.layered.Layered as W
@@ -101,12 +102,15 @@ root_mut_spec 𝓤 𝓛 𝓜 𝓡 wired Y I LY LI g d met =
     use1 𝓛 (raw (callee.pre y)) (id⊢ 𝓤 _) $
     calls_at ! (λ k. framed 𝓤 𝓛.H 𝓜 (tables 𝓤 𝓛.H 𝓜 𝓡 𝓡.env) k) callee met.root_mut y (and_then ! (get ! refl) (no_more !)) (λ v.
     use1 𝓛 (later (some (λ (s : MutBor N.the_row.Denot). ((‵ (flft κ q) ⊛ ‵ (flft κI qI) ⊛ ‵ ftrue) ⊛ ‵ ((MutRef (named 0) κ N.the_row).own_val s (v ∷ [])))
-    ⊛ some (λ (ws : Unit {0} × Unit {0}). ‵ (fsep ftrue ftrue) ⊛ ‵ (follows P N.the_row γ' s.ghost_name (g.with_registry x.inner)) ⊛ given (s.now ≡ g.registry x.inner) (‵ ftrue))))) (id⊢ 𝓤 _) $ await ! tt $ pick ! (λ s.
-    split ! $ move ! (1 ∷ []) $ pick ! (λ ws. split3 ! $ drop ! $ move ! (1 ∷ []) $ learn ! (λ value. drop ! $ move ! (1 ∷ []) $ split ! $ move ! (1 ∷ []) $ fsplit3 ! $ feq_l ! (λ e.
+    ⊛ some (λ (ws : Unit {0} × Unit {0}). ‵ (fsep ftrue ftrue)
+    ⊛ ‵ (follows P N.the_row γ' s.ghost_name (g.with_registry x.inner)) ⊛ given (s.now ≡ g.registry x.inner) (‵ ftrue))))) (id⊢ 𝓤 _) $ await ! tt $ pick ! (λ s.
+    split ! $ move ! (1 ∷ [])
+    $ pick ! (λ ws. split3 ! $ drop ! $ move ! (1 ∷ []) $ learn ! (λ value. drop ! $ move ! (1 ∷ []) $ split ! $ move ! (1 ∷ []) $ fsplit3 ! $ feq_l ! (λ e.
     lands_as ! (ap only e) refl (tt, tt) $ returns ! (look_at ! 0 refl) $ free_all ! refl $
     -- [obs; the borrow; the tokens; what the inner stack follows; what the layer follows; the layer's token]
     feq_i ! (List Val) (mut_vals s) (mut_vals s) refl $ fjoin3 ! $ move ! (3 ∷ 2 ∷ []) $
-    use2 𝓛 (‵ (follows R N.the_row γ s.ghost_name (λ w. F (g.with_registry x.inner w)))) (follows_then 𝓛 R P N.the_row F (g.with_registry x.inner) γ γ' s.ghost_name) $
+    use2 𝓛
+    (‵ (follows R N.the_row γ s.ghost_name (λ w. F (g.with_registry x.inner w)))) (follows_then 𝓛 R P N.the_row F (g.with_registry x.inner) γ γ' s.ghost_name) $
     suffices ! _ (ends_at 𝓛 E stayed c ((κs, qs, bounds, a, (mut_vals r, tt)), tt) (vptr s.ref_ptr.0 s.ref_ptr.1) s (tt, tt) (tt, tt)) $
     nothing ! $ nothing ! $ fjoin ! $ move ! (0 ∷ 2 ∷ []) $ join ! $
     -- [what is left and the result; what follows; the tokens; the layer's token]

@@ -5,4 +5,4 @@ use Rattle.span_layers.proofs.stack.LayeredSubscriber.event.Goals as goal
 pub returns-clause-hooks : goal.returns-clause-hooks
 returns-clause-hooks g c =
     stack_notified g.L.Layer.stepped g.I.Subscriber.stepped g.L.Layer.has_form g.I.Subscriber.has_form
-    c.event.ensures.hooks c.new-ctx.ensures.lent refl c.on_event.ensures.rest c.on_event.ensures.alone c.on_event.ensures.hook
+    c.event.ensures.hooks c.new-ctx.ensures.lent refl c.notify.ensures.rest c.notify.ensures.alone c.notify.ensures.hook

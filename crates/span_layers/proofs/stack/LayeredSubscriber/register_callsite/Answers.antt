@@ -8,7 +8,8 @@ pub returns-then-is_filtered : goal.returns-then-is_filtered
 returns-then-is_filtered g c = sums_marked _ OnSubscriber refl c.if-is_filtered.ensures (c.register_callsite-outer.ensures _) c.register_callsite.ensures
 
 pub returns-in-Never : goal.returns-in-Never
-returns-in-Never g c = sums_never _ OnSubscriber refl c.if-is_filtered.ensures (c.in-Never.ensures _) c.clear_interest.ensures.interest c.clear_interest.ensures.refused
+returns-in-Never g c =
+    sums_never _ OnSubscriber refl c.if-is_filtered.ensures (c.in-Never.ensures _) c.clear_interest.ensures.interest c.clear_interest.ensures.refused
 
 pub returns-in-Sometimes : goal.returns-in-Sometimes
 returns-in-Sometimes g c = sums_sometimes _ OnSubscriber refl c.if-is_filtered.ensures (c.in-Sometimes.ensures _) c.register_callsite-in-Sometimes.ensures

@@ -1,7 +1,7 @@
 use Rattle.std.proofs.Common.{IfSome, sym, ap, subst, ◌∙◌}
+use Rattle.span_store.specs.Step.{entered_last}
+use Rattle.span_store.specs.Store.{IsInStore}
 use Rattle.span_registry.specs.Context.{store_at, store_in}
-use Rattle.span_registry.specs.Step.{entered_last}
-use Rattle.span_registry.specs.Store.{IsInStore}
 use Rattle.span_registry.proofs.Finds.{entered_nowhere}
 use Rattle.span_registry.proofs.context.Context.current_span.Goals as goal
 

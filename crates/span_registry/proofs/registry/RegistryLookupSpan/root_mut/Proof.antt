@@ -14,7 +14,7 @@ use denote.Signature.{plain}
 use denote.Steps.{nothing}
 use denote.Triple.Walked.{Stays, says, stay_dropped, Goes-spent_ref, ends_at}
 use Rattle.std.proofs.raw_atomic.Walks.{proved}
-use Rattle.span_registry.specs.contracts.registry.Registry.{the_row}
+use Rattle.span_store.specs.contracts.registry.Registry.{the_row}
 use Rattle.span_registry.proofs.Itself.{follows_itself}
 use Rattle.span_registry.specs.contracts.registry.RegistryLookupSpan.root_mut as f
 use Rattle.span_registry.proofs.registry.RegistryLookupSpan.root_mut.Statement.{statement}

@@ -1,15 +1,14 @@
 use Rattle.std.specs.Prelude.{◌≡◌, refl}
-use Rattle.std.proofs.lemmas.Result.{IfOk-weaker}
+use Rattle.std.proofs.lemmas.Result.{IfOk-weaker, on_ok_weaker}
 use Rattle.span_core.specs.Filters.{FilterSet}
 use Rattle.span_core.specs.declared.span.Lane.{Lane}
+use Rattle.span_store.specs.Step.{Enters, Opens, asked}
+use Rattle.span_store.specs.Store.{RegistryState}
 use Rattle.span_registry.specs.Behaviour.{Notice, OnEnter, OnNewSpan}
 use Rattle.span_registry.specs.Form.{Terminal, Base}
 use Rattle.span_registry.specs.Hooks.{Notifies, OpensAndNotifies, no_filter}
 use Rattle.span_registry.specs.Plan.{Plan}
 use Rattle.span_registry.specs.Question.{refusals}
-use Rattle.span_registry.specs.Step.{Enters, Opens, asked}
-use Rattle.span_registry.specs.Store.{RegistryState}
-use Rattle.span_registry.proofs.States.{on_ok_map}
 use Rattle.span_registry.proofs.registry.RegistrySubscriber.TheImpl.Goals as goal
 
 -- a registry alone has no layer to notify
@@ -41,7 +40,8 @@ new_span-tells c =
 pub enter-tells : goal.enter-tells
 enter-tells c = record {
   usable = tt;
-  entered = on_ok_map c.result c.ensures.entered (λ e. alone c.args.lane no_filter (OnEnter c.args.id) (Enters c.args.lane c.args.id) c.args.self.now c.new.self.now e);
+  entered =
+      on_ok_weaker c.result (alone c.args.lane no_filter (OnEnter c.args.id) (Enters c.args.lane c.args.id) c.args.self.now c.new.self.now) c.ensures.entered;
   refused = c.ensures.refused;
   unchanged = c.ensures.unchanged;
 }

@@ -8,7 +8,8 @@ use Rattle.span_registry.proofs.scope.SpanRef.nearest_shown.Given as goal
 
 -- what is left is the whole scope: only hidden spans were passed
 abbrev pub invariant-loop-next : goal.invariant-loop-next
-invariant-loop-next g l = scope (seen_spans (g.R.LookupSpan.registry l.subscriber).store (filters_of l.mask)) (option_map number_of l.next) ≡ scope (seen_spans (g.R.LookupSpan.registry l.subscriber).store (filters_of l.mask)) (option_map number_of l.fn.from)
+invariant-loop-next g l = scope (seen_spans (g.R.LookupSpan.registry l.subscriber).store (filters_of l.mask)) (option_map number_of l.next)
+    ≡ scope (seen_spans (g.R.LookupSpan.registry l.subscriber).store (filters_of l.mask)) (option_map number_of l.fn.from)
 
 -- the ancestors that are left
 abbrev pub decreases-loop-next : goal.decreases-loop-next

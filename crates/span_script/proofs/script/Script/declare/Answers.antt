@@ -20,7 +20,8 @@ pub returns-in_ok-insert-in-New-clause-labels : goal.returns-in_ok-insert-in-New
 returns-in_ok-insert-in-New-clause-labels c =
     let free : place_of c.args.self.now c.in-New.label.now ≡ None = none _ (sym c.contains_key.ensures ∙ c.if-contains_key.false) in
     let place : c.len.result ≡ length (lines_of c.args.self.now) = search rules in
-    let new : Script = record { stack = c.args.self.now.stack; lines = c.args.self.now.lines; requests = c.args.self.now.requests; labels = c.insert.new.self } in
+    let new : Script =
+    record { stack = c.args.self.now.stack; lines = c.args.self.now.lines; requests = c.args.self.now.requests; labels = c.insert.new.self } in
     let updates : (other : List ℕ) → place_of new other ≡ update bytes_eq (place_of c.args.self.now) c.in-New.label.now (Some c.len.result) other =
     btree_map_updates_str c.in-New.label.now c.args.self.now.labels c.insert.new.self (Some c.len.result) c.in_ok-insert-in-New.ensures.updates in
     subst (λ (l : Line). Declares c.args.self.now l new) (sym c.in-New.is) (free, rw place at updates)

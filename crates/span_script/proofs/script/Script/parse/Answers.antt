@@ -14,5 +14,6 @@ returns-in_err-script-clause-fault c =
 
 -- every text was read, and none is a first line
 pub returns-clause-fault : goal.returns-clause-fault
-returns-clause-fault c = no-line c.args.text.now c.deref-text-items.result.now c.loop-place.place c.loop-place.script c.wrong.result c.ok_or.result c.wrong.ensures c.ok_or.ensures.value
+returns-clause-fault c = no-line c.args.text.now
+    c.deref-text-items.result.now c.loop-place.place c.loop-place.script c.wrong.result c.ok_or.result c.wrong.ensures c.ok_or.ensures.value
     (ap (λ ts. map (λ t. t.now) ts) c.deref-text-items.ensures.value ∙ c.in_ok-texts.ensures) c.loop-place-test.false c.loop-place.invariant.1

@@ -31,10 +31,12 @@ pub returns-in-Probe-clause-ready : goal.returns-in-Probe-clause-ready
 returns-in-Probe-clause-ready g c = ready_by_rules c.args.self.now.dispatch c.enabled.new.self.dispatch c.enabled.ensures.ready
 
 pub returns-in-AskCurrent-clause-ready : goal.returns-in-AskCurrent-clause-ready
-returns-in-AskCurrent-clause-ready g c = ready_by_rules c.args.self.now.dispatch c.current_span.new.self.dispatch (unchanged_ready c.args.self.now.dispatch c.current_span.new.self.dispatch c.current_span.ensures.dispatch)
+returns-in-AskCurrent-clause-ready g c = ready_by_rules c.args.self.now.dispatch
+    c.current_span.new.self.dispatch (unchanged_ready c.args.self.now.dispatch c.current_span.new.self.dispatch c.current_span.ensures.dispatch)
 
 pub returns-in-SetLevel-clause-ready : goal.returns-in-SetLevel-clause-ready
 returns-in-SetLevel-clause-ready g c = level_by_rules c.in-SetLevel.number c.args.self.now.dispatch c.set_level.new.self.dispatch c.set_level.ensures.ready
 
 pub returns-in-Enter-clause-logs : goal.returns-in-Enter-clause-logs
-returns-in-Enter-clause-logs g c = logs_as _ c.args.lane c.args.call.now _ _ c.args.self.now c.enter.new.self c.in-Enter.is (c.enter.result, search rules, c.enter.ensures.logs)
+returns-in-Enter-clause-logs g c =
+    logs_as _ c.args.lane c.args.call.now _ _ c.args.self.now c.enter.new.self c.in-Enter.is (c.enter.result, search rules, c.enter.ensures.logs)

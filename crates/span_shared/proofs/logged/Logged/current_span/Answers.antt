@@ -9,5 +9,7 @@ pub invariant_of-self-2 : goal.invariant_of-self-2
 invariant_of-self-2 g c =
     let old = c.self.inside in
     let e : Entry = entry.Current c.args.lane c.id.result in
-    grown g.S.LookupSpan.registry g.S.Subscriber.usable old.dispatch old.dispatch old.journal c.reserve.new.self.items c.noted-receipt.new.entries.items e c.self.invariant c.noted-receipt.ensures.journal (c.reserve.ensures.items ∙ c.journal.view_is) c.self.invariant.may
-    (shows c.args.lane c.current_span-given.result (g.S.LookupSpan.registry (stack_of old.dispatch)) c.current_span-given.ensures.shown c.id.result c.id.ensures)
+    grown g.S.LookupSpan.registry g.S.Subscriber.usable old.dispatch old.dispatch old.journal c.reserve.new.self.items
+    c.noted-receipt.new.entries.items e c.self.invariant c.noted-receipt.ensures.journal (c.reserve.ensures.items ∙ c.journal.view_is) c.self.invariant.may
+    (shows c.args.lane
+    c.current_span-given.result (g.S.LookupSpan.registry (stack_of old.dispatch)) c.current_span-given.ensures.shown c.id.result c.id.ensures)

@@ -4,18 +4,21 @@ use Rattle.span_shared.proofs.Journalled.{enters, goes_on, grown, logs_refused}
 use Rattle.span_shared.specs.Journal.{Entry}
 use Rattle.span_dispatch.specs.Serve.{stack_of}
 use Rattle.span_shared.specs.declared.entry.EntryWith.TheVariants as entry
-use Rattle.span_registry.specs.Step.{Enters}
+use Rattle.span_store.specs.Step.{Enters}
 use Rattle.span_shared.proofs.logged.Logged.enter.Goals as goal
 
 pub invariant_of-self-2 : goal.invariant_of-self-2
 invariant_of-self-2 g c =
     let old = c.self.inside in
     let e : Entry = entry.Enter c.args.lane c.args.id in
-    grown g.S.LookupSpan.registry g.S.Subscriber.usable old.dispatch c.enter.new.self old.journal c.reserve.new.self.items c.noted-receipt.new.entries.items e c.self.invariant c.noted-receipt.ensures.journal (c.reserve.ensures.items ∙ c.journal.view_is) c.enter.ensures.usable
-    (goes_on g.S.LookupSpan.registry (Enters c.args.lane c.args.id) (stack_of old.dispatch) (stack_of c.enter.new.self) e c.in_ok-enter.ensures.enters.store (enters c.args.lane c.args.id))
+    grown g.S.LookupSpan.registry g.S.Subscriber.usable old.dispatch c.enter.new.self old.journal c.reserve.new.self.items
+    c.noted-receipt.new.entries.items e c.self.invariant c.noted-receipt.ensures.journal (c.reserve.ensures.items ∙ c.journal.view_is) c.enter.ensures.usable
+    (goes_on g.S.LookupSpan.registry
+    (Enters c.args.lane c.args.id) (stack_of old.dispatch) (stack_of c.enter.new.self) e c.in_ok-enter.ensures.enters.store (enters c.args.lane c.args.id))
 
 pub returns-in_err-reserve-clause-ready : goal.returns-in_err-reserve-clause-ready
 returns-in_err-reserve-clause-ready g c = unchanged_ready c.args.self.now.dispatch c.self.inside.dispatch (ap (λ l. l.dispatch) c.self.view_is)
 
 pub returns-in_err-enter-clause-logs : goal.returns-in_err-enter-clause-logs
-returns-in_err-enter-clause-logs g c = logs_refused c.self.view_is c.in_err-enter.field-0.0 c.from_residual-in_err-enter.result c.from_residual-in_err-enter.ensures.1 c.in_err-enter.ensures.enters (c.reserve.ensures.items ∙ c.journal.view_is)
+returns-in_err-enter-clause-logs g c = logs_refused c.self.view_is c.in_err-enter.field-0.0
+    c.from_residual-in_err-enter.result c.from_residual-in_err-enter.ensures.1 c.in_err-enter.ensures.enters (c.reserve.ensures.items ∙ c.journal.view_is)

@@ -11,11 +11,15 @@ pub invariant_of-self-2 : goal.invariant_of-self-2
 invariant_of-self-2 g c =
     let old = c.self.inside in
     let e : Entry = entry.Follows c.args.lane c.args.id c.args.follows in
-    grown g.S.LookupSpan.registry g.S.Subscriber.usable old.dispatch c.follows_from.new.self old.journal c.reserve.new.self.items c.noted-receipt.new.entries.items e c.self.invariant c.noted-receipt.ensures.journal (c.reserve.ensures.items ∙ c.journal.view_is) c.follows_from.ensures.usable
-    (goes_on g.S.LookupSpan.registry (FindsOpen c.args.id) (stack_of old.dispatch) (stack_of c.follows_from.new.self) e c.in_ok-follows_from.ensures.follows.store (follows c.args.lane c.args.id c.args.follows))
+    grown g.S.LookupSpan.registry
+    g.S.Subscriber.usable old.dispatch c.follows_from.new.self old.journal c.reserve.new.self.items c.noted-receipt.new.entries.items
+    e c.self.invariant c.noted-receipt.ensures.journal (c.reserve.ensures.items ∙ c.journal.view_is) c.follows_from.ensures.usable
+    (goes_on g.S.LookupSpan.registry (FindsOpen c.args.id)
+    (stack_of old.dispatch) (stack_of c.follows_from.new.self) e c.in_ok-follows_from.ensures.follows.store (follows c.args.lane c.args.id c.args.follows))
 
 pub returns-in_err-reserve-clause-ready : goal.returns-in_err-reserve-clause-ready
 returns-in_err-reserve-clause-ready g c = unchanged_ready c.args.self.now.dispatch c.self.inside.dispatch (ap (λ l. l.dispatch) c.self.view_is)
 
 pub returns-in_err-follows_from-clause-logs : goal.returns-in_err-follows_from-clause-logs
-returns-in_err-follows_from-clause-logs g c = logs_refused c.self.view_is c.in_err-follows_from.field-0.0 c.from_residual-in_err-follows_from.result c.from_residual-in_err-follows_from.ensures.1 c.in_err-follows_from.ensures.follows (c.reserve.ensures.items ∙ c.journal.view_is)
+returns-in_err-follows_from-clause-logs g c = logs_refused c.self.view_is c.in_err-follows_from.field-0.0 c.from_residual-in_err-follows_from.result
+    c.from_residual-in_err-follows_from.ensures.1 c.in_err-follows_from.ensures.follows (c.reserve.ensures.items ∙ c.journal.view_is)

@@ -10,14 +10,17 @@ pub invariant_of-self-2 : goal.invariant_of-self-2
 invariant_of-self-2 g c =
     let old = c.self.inside in
     let e : Entry = entry.Level c.args.lane c.args.number c.args.level in
-    grown g.S.LookupSpan.registry g.S.Subscriber.usable old.dispatch c.set_level.new.self old.journal c.reserve.new.self.items c.noted-receipt.new.entries.items e c.self.invariant c.noted-receipt.ensures.journal (c.reserve.ensures.items ∙ c.journal.view_is) c.set_level.ensures.usable
+    grown g.S.LookupSpan.registry g.S.Subscriber.usable old.dispatch c.set_level.new.self old.journal c.reserve.new.self.items c.noted-receipt.new.entries.items
+    e c.self.invariant c.noted-receipt.ensures.journal (c.reserve.ensures.items ∙ c.journal.view_is) c.set_level.ensures.usable
     (stays (g.S.LookupSpan.registry (stack_of old.dispatch)) (g.S.LookupSpan.registry (stack_of c.set_level.new.self)) c.set_level.ensures.sets.registry)
 
 pub returns-in_err-reserve-clause-ready : goal.returns-in_err-reserve-clause-ready
 returns-in_err-reserve-clause-ready g c = unset_ready c.args.number c.args.self.now.dispatch c.self.inside.dispatch (ap (λ l. l.dispatch) c.self.view_is)
 
 pub returns-in_err-set_level-clause-ready : goal.returns-in_err-set_level-clause-ready
-returns-in_err-set_level-clause-ready g c = unset_from c.args.number c.args.self.now.dispatch c.self.inside.dispatch c.set_level.new.self (ap (λ l. l.dispatch) c.self.view_is) c.set_level.ensures.ready
+returns-in_err-set_level-clause-ready g c = unset_from c.args.number
+    c.args.self.now.dispatch c.self.inside.dispatch c.set_level.new.self (ap (λ l. l.dispatch) c.self.view_is) c.set_level.ensures.ready
 
 pub returns-in_err-set_level-clause-logs : goal.returns-in_err-set_level-clause-logs
-returns-in_err-set_level-clause-logs g c = logs_refused c.self.view_is c.in_err-set_level.field-0.0 c.from_residual-in_err-set_level.result c.from_residual-in_err-set_level.ensures.1 c.in_err-set_level.ensures.sets (c.reserve.ensures.items ∙ c.journal.view_is)
+returns-in_err-set_level-clause-logs g c = logs_refused c.self.view_is c.in_err-set_level.field-0.0 c.from_residual-in_err-set_level.result
+    c.from_residual-in_err-set_level.ensures.1 c.in_err-set_level.ensures.sets (c.reserve.ensures.items ∙ c.journal.view_is)

@@ -1,5 +1,5 @@
 use Rattle.std.proofs.Common.{rules}
-use Rattle.span_layers.specs.Observe.{notice_of}
+use Rattle.span_registry.specs.Notice.{notice_of}
 use Rattle.span_registry.specs.Context.{filters_lent, lane_lent, subscriber_lent}
 use Rattle.span_times.proofs.Found.{happening_plainly}
 use Rattle.span_times.proofs.timeline.TimelineObserve.observe.Goals as goal

@@ -1,0 +1,35 @@
+//! Tests of what stands above the dispatcher, from outside: of examples for callers, of layers of
+//! many kinds in one receiver, of scripts, of macros, and of what layers write, export and log.
+//! Each is also a caller of their contracts.
+#![tactic(auto)]
+
+#[cfg(test)]
+mod crew;
+#[cfg(test)]
+mod export;
+#[cfg(test)]
+mod fixture;
+#[cfg(test)]
+mod guard;
+#[cfg(test)]
+mod law;
+#[cfg(test)]
+mod logger;
+#[cfg(test)]
+mod long_list;
+#[cfg(test)]
+mod macros;
+#[cfg(test)]
+mod question;
+#[cfg(test)]
+mod receiver;
+#[cfg(test)]
+mod row;
+#[cfg(test)]
+mod run;
+#[cfg(test)]
+mod script;
+#[cfg(test)]
+mod text;
+#[cfg(test)]
+mod times;

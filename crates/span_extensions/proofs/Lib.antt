@@ -1,0 +1,3 @@
+pub mod NumberMaps
+mod Lending
+mod Tabled

@@ -1,0 +1,4 @@
+pub mod Extensions
+pub mod Lends
+pub mod Shown
+pub mod laws

@@ -1,5 +1,0 @@
-use Rattle.span_filters.proofs.BoxLemmas.{law_kept}
-use Rattle.span_filters.proofs.boxed.AnyDynFilter.dyn_on_new_span.Goals as goal
-
-pub returns-clause-keeps : goal.returns-clause-keeps
-returns-clause-keeps g c = law_kept g.met.F.Filter.laws _ _ _ _ _ _ _ c.on_new_span.ensures.hook

@@ -1,7 +1,0 @@
-use Rattle.span_filters.proofs.Hooks.{notified_both}
-use Rattle.span_filters.proofs.combinator.OrFilter.on_exit.Goals as goal
-
-pub returns-clause-hook : goal.returns-clause-hook
-returns-clause-hook g c =
-    notified_both g.S.LookupSpan.registry g.S.LookupSpan.with_registry g.A.Filter.hooked g.B.Filter.hooked _ _ _ c.args.ctx.now c.on_exit.new.ctx c.on_exit-2.new.ctx _ _
-    c.on_exit.ensures.hook c.on_exit.ensures.written c.on_exit-2.ensures.hook

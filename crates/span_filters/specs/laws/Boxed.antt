@@ -1,0 +1,29 @@
+-- What answers honestly, acts plainly and goes on lawfully keeps the law; a box with it keeps it
+-- too.
+use Rattle.span_filters.specs.Boxed.{ActsPlainly, AnswersHonestly, LevelsLawfully, StepsLawfully}
+use Rattle.span_filters.specs.Filter.{FilterLaws, FilterLevelLaws, FilterLevelSteps, FilterSteps}
+use Rattle.span_registry.specs.Behaviour.{Behaviour, Conduct}
+
+-- an object whose level is set lawfully keeps the law of levels
+pub object_levels : {F : Type 0} {has : F → Behaviour → Type 0} {levelled : FilterLevelSteps F}
+    {acts : F → Conduct → Type 0}
+    → FilterLevelLaws (λ f. AnswersHonestly (has f)) (LevelsLawfully has levelled acts)
+    (λ f. ActsPlainly (has f) (acts f))
+object_levels = record {
+  answers = λ f l g a s h. s.law.answers a h.answered;
+  goes_on = λ f l g b s h. s.law.conduct b h.acted;
+}
+
+-- an object that answers honestly, acts plainly and goes on lawfully keeps the law of filters
+pub object_laws : {F : Type 0} {has : F → Behaviour → Type 0} {steps : FilterSteps F}
+    {acts : F → Conduct → Type 0}
+    → FilterLaws (λ f. AnswersHonestly (has f)) (StepsLawfully has steps acts)
+    (λ f. ActsPlainly (has f) (acts f))
+object_laws = record {
+  honest = λ f a h. h.honest;
+  keeps = λ f e lane under v g w a s h. s.law.answers a h.answered;
+  plain = λ f b h. h.plain;
+  now = λ f b h. h.now;
+  only = λ f a b d h. h.only a d.answered;
+  goes_on = λ f e lane under v g w b h s. s.law.conduct b h.acted;
+}

@@ -1,7 +1,0 @@
-use Rattle.std.proofs.Common.{subst}
-use Rattle.span_registry.specs.Slot.{AreHeldIssued}
-use Rattle.span_registry.proofs.SlotCounts.{few_slots, held_issued}
-use Rattle.span_registry.proofs.slot.Slots.is_sound.Goals as goal
-
-pub returns : goal.returns
-returns c = subst AreHeldIssued c.self.view_is (λ x. held_issued c.self.inside.slots.items x (few_slots _ _ _ _ _ c.self.invariant.sound))

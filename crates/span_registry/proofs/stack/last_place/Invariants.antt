@@ -1,8 +1,0 @@
-use Rattle.std.proofs.Common.{◌≡◌, drop, false}
-use Rattle.span_core.specs.Span.{number_of}
-use Rattle.span_registry.specs.Marks.{ids}
-use Rattle.span_registry.specs.LaneStack.{stands}
-use Rattle.span_registry.proofs.stack.last_place.Given as goal
-
-abbrev pub invariant-loop-i : goal.invariant-loop-i
-invariant-loop-i l = stands (number_of l.id) (ids (drop l.i l.entries)) ≡ false
