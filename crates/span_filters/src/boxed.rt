@@ -4,8 +4,8 @@ ghost use Rattle.span_filters.specs.laws.Boxed.{object_laws, object_levels};
 ghost use Rattle.span_filters.specs.Filter.{FilterLevelSteps, FilterSteps, Notified, Says, SaysEnabled, SaysEvent};
 ghost use Rattle.span_registry.specs.Behaviour.{Behaviour, Conduct};
 ghost use Rattle.span_registry.specs.Context.{HasNoRefusalsUnlessAsked, WritesExtensions, view_in, view_lent};
-ghost use Rattle.span_registry.specs.Notice.{notice_of};
-ghost use Rattle.std.specs.Prelude.{◌≡◌, false};
+ghost use Rattle.span_registry.specs.Notice.{is_for_filters, notice_of};
+ghost use Rattle.std.specs.Prelude.{◌≡◌, IsTrue, false};
 
 use crate::filter::Filter;
 use span_core::{Event, Interest, LevelFilter, Metadata};
@@ -53,9 +53,10 @@ pub trait DynFilter: Drop {
         ensures { Says (dyn_answers self.now) (λ a. a.hint) result };
 
     /// Notifies of a new span, of values that a span was given later, or that a span is entered,
-    /// left or closing.
+    /// left or closing: filters are notified of nothing else.
     fn dyn_notify(&mut self, notice: Notice<'_, '_>, ctx: &mut ContextMut<'_, Registry>)
         requires usable { dyn_usable self.old }
+        requires kind { IsTrue (is_for_filters (notice_of notice)) }
         requires refusals { HasNoRefusalsUnlessAsked (notice_of notice) ctx.old }
         ensures usable { dyn_usable self.new }
         ensures hook { Notified dyn_hooked itself (notice_of notice.entry) self.old ctx.old

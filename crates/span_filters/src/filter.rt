@@ -1,9 +1,9 @@
 //! What every filter answers, and what it is notified of.
-ghost use Rattle.std.specs.Prelude.{◌≡◌, ⊤, false};
+ghost use Rattle.std.specs.Prelude.{◌≡◌, ⊤, IsTrue, false};
 ghost use Rattle.span_filters.specs.Filter.{FilterLaws, FilterLevelLaws, FilterLevelSteps, FilterSteps, Notified, Says, SaysEnabled, SaysEvent, unlevelled, unmoved};
 ghost use Rattle.span_registry.specs.Behaviour.{Behaviour, Conduct, OnClose, OnEnter, OnExit, OnNewSpan, OnRecord};
 ghost use Rattle.span_registry.specs.Context.{HasNoRefusals, HasNoRefusalsUnlessAsked, WritesExtensions, view_in};
-ghost use Rattle.span_registry.specs.Notice.{notice_of};
+ghost use Rattle.span_registry.specs.Notice.{is_for_filters, notice_of};
 
 use span_core::{Attributes, Event, Id, Interest, LevelFilter, Metadata, Record};
 use span_registry::{Context, ContextMut, LookupSpan, Notice};
@@ -58,9 +58,10 @@ pub trait Filter<S: LookupSpan> {
         ensures { Says (has_answers self.now) (λ a. a.hint) result };
 
     /// Notifies of a new span, of values that a span was given later, or that a span is entered,
-    /// left or closing.
+    /// left or closing: filters are notified of nothing else.
     fn notify(&mut self, notice: Notice<'_, '_>, ctx: &mut ContextMut<'_, S>)
         requires usable { usable self.old }
+        requires kind { IsTrue (is_for_filters (notice_of notice)) }
         requires refusals { HasNoRefusalsUnlessAsked (notice_of notice) ctx.old }
         ensures usable { usable self.new }
         ensures hook { Notified hooked S.registry (notice_of notice.entry) self.old ctx.old
