@@ -1,12 +1,13 @@
 //! The layers that workloads run on.
 ghost use Rattle.std.specs.Prelude.{◌≡◌, IfOk, vec_len};
 ghost use Rattle.span_bench.specs.Counter.{AreNew, IsNew};
-ghost use Rattle.span_layers.specs.Layered.{inner_of, outer_of};
+ghost use Rattle.span_stacks.specs.Layered.{inner_of, outer_of};
 
 use crate::counter::Counter;
 use crate::fault::Fault;
 use span_core::LevelFilter;
-use span_layers::{Filtered, LayerExt, Layered, Observer};
+use span_layers::Observer;
+use span_stacks::{Filtered, LayerExt, Layered};
 use std::alloc::Global;
 
 /// A layer that counts.

@@ -1,11 +1,12 @@
 //! Layers on stacks, put in use.
 ghost use Rattle.std.specs.Prelude.{IfOk};
 ghost use Rattle.span_dispatch.specs.Serve.{stack_of};
-ghost use Rattle.span_layers.specs.Layered.{inner_of, outer_of};
+ghost use Rattle.span_stacks.specs.Layered.{inner_of, outer_of};
 
 use span_core::TraceError;
 use span_dispatch::Dispatch;
-use span_layers::{Layer, Layered, SubscriberExt};
+use span_layers::Layer;
+use span_stacks::{Layered, SubscriberExt};
 use span_registry::Subscriber;
 use std::alloc::Global;
 

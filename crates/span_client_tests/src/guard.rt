@@ -5,7 +5,8 @@ use span_core::{
 use span_dispatch::{Dispatch, Recorded, Recorder};
 use span_examples::guard::send_within;
 use span_filters::{AlwaysUsableFilter, And, FilterExt, Not};
-use span_layers::{AlwaysUsableLayer, Filtered, Identity, LayerExt, Layered, SubscriberExt};
+use span_layers::{AlwaysUsableLayer, Identity};
+use span_stacks::{Filtered, LayerExt, Layered, SubscriberExt};
 use span_registry::{AlwaysUsable, Registry};
 use std::alloc::Global;
 use std::process::Abort;

@@ -1,7 +1,8 @@
 //! Tests of lists that are long: many requests, many callsites, and many notices.
 use span_core::{FieldSet, Kind, Lane, Level, Metadata, TraceError};
 use span_dispatch::{Answer, Dispatch, Recorded, Recorder, Request, WhichParent};
-use span_layers::{Layer, Layered, SubscriberExt};
+use span_layers::Layer;
+use span_stacks::{Layered, SubscriberExt};
 use span_registry::{Registry, Subscriber};
 use std::alloc::{AllocError, Global};
 use std::process::Abort;

@@ -6,7 +6,8 @@ use span_core::{
     Attributes, Event, FieldSet, Id, Kind, Lane, Level, LevelFilter, Metadata, Parent,
 };
 use span_dispatch::{Dispatch, Request, WhichParent};
-use span_layers::{LayerExt, Observer};
+use span_layers::Observer;
+use span_stacks::LayerExt;
 use span_registry::{Registry, Subscriber};
 use span_times::{
     Counted, Counts, Happening, Now, Point, Timeline, Wall, busy_time, idle_time, open_time,

@@ -13,7 +13,7 @@ use Rattle.span_core.specs.declared.span.Parent.TheVariants.{Contextual, Explici
 use Rattle.span_dispatch.specs.Alone.{ActAlike, Alone, PathsActAlike, acting, learning, form_of_path, passed}
 use Rattle.span_dispatch.specs.Outcome.{GoneLeft, HandleAdded, HandleTaken, LevelSet, Noticed, Outcome, Quiet, Steps, given_in, with_new}
 use Rattle.std.specs.FinSet.{contains}
-use Rattle.span_layers.specs.Verdict.{in_verdict}
+use Rattle.span_stacks.specs.Verdict.{in_verdict}
 use Rattle.span_store.specs.Closes.{without}
 use Rattle.span_store.specs.Step.{IsContext, IsParentFor, begun, entered, exited}
 use Rattle.span_store.specs.Store.{IsOpen, Span, Store, add_handle, take_handle}

@@ -23,15 +23,15 @@ use Rattle.span_dispatch.specs.declared.cache.Cache.TheVariants.{Empty, Filled}
 use Rattle.span_dispatch.specs.declared.cache.Cache.{Cache}
 use Rattle.span_dispatch.specs.declared.cache.Callsite.{Callsite}
 use Rattle.span_dispatch.specs.declared.cache.Known.{Known}
-use Rattle.span_layers.proofs.Asked.{asked_by_all}
-use Rattle.span_layers.proofs.Built.{rules_of}
-use Rattle.span_layers.proofs.Hint.{above_is_unwanted}
-use Rattle.span_layers.proofs.HonestKept.{alike_interest}
-use Rattle.span_layers.proofs.Interest.{always_is_wanted, never_is_unwanted, only_never}
-use Rattle.span_layers.proofs.Pass.{asked_unless_vetoed}
-use Rattle.span_layers.specs.Honest.{IsHonestStack}
-use Rattle.span_layers.specs.Verdict.{vetoes}
-use Rattle.span_layers.specs.Wanted.{IsUnwanted}
+use Rattle.span_stacks.proofs.Asked.{asked_by_all}
+use Rattle.span_stacks.proofs.Built.{rules_of}
+use Rattle.span_stacks.proofs.Hint.{above_is_unwanted}
+use Rattle.span_stacks.proofs.HonestKept.{alike_interest}
+use Rattle.span_stacks.proofs.Interest.{always_is_wanted, never_is_unwanted, only_never}
+use Rattle.span_stacks.proofs.Pass.{asked_unless_vetoed}
+use Rattle.span_stacks.specs.Honest.{IsHonestStack}
+use Rattle.span_stacks.specs.Verdict.{vetoes}
+use Rattle.span_stacks.specs.Wanted.{IsUnwanted}
 use Rattle.span_store.specs.Store.{RegistryState}
 use Rattle.span_registry.specs.Form.{Form}
 use Rattle.span_registry.specs.Hooks.{AnswersEnabled, AnswersInterest, no_filter}

@@ -19,7 +19,7 @@ use Rattle.span_dispatch.specs.Alone.{ActAlike, Alone, PathsActAlike, acting, le
 use Rattle.span_dispatch.specs.Outcome.{IsVerdict, LayersGo, LevelSet, OutcomeAt, Makes, Noticed, Outcome, Quiet, Steps, given_in, with_new}
 use Rattle.std.specs.FinMap.{get}
 use Rattle.span_dispatch.specs.Serve.{Sees, outcome_of}
-use Rattle.span_layers.specs.Verdict.{AreDistinct, in_verdict, numbers_of}
+use Rattle.span_stacks.specs.Verdict.{AreDistinct, in_verdict, numbers_of}
 use Rattle.span_store.specs.Step.{begun}
 use Rattle.span_store.specs.Store.{RegistryState, Span, Spans, Store}
 use Rattle.span_registry.proofs.Agreeing.{agree_aside, agree_refl, agree_sym, agree_trans, views_alike}

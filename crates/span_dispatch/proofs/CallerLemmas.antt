@@ -34,7 +34,7 @@ use Rattle.span_dispatch.specs.declared.request.Request.{Request}
 use Rattle.span_dispatch.specs.declared.request.Which.{Which}
 use Rattle.span_dispatch.specs.declared.request.WhichParent.{WhichParent}
 use Rattle.span_store.specs.Step.{RefusesNew}
-use Rattle.span_layers.specs.Verdict.{vetoes}
+use Rattle.span_stacks.specs.Verdict.{vetoes}
 use Rattle.span_store.specs.Store.{RegistryState}
 use Rattle.span_registry.specs.Path.{path_at}
 use Rattle.span_registry.specs.Behaviour.{OnEvent, OnNewSpan}

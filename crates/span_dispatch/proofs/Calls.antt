@@ -27,11 +27,11 @@ use Rattle.span_dispatch.specs.Outcome.{Steps, given_in, with_new, without_span}
 use Rattle.span_core.specs.declared.filter.FilterMap.{FilterMap}
 use Rattle.span_dispatch.specs.Serve.{ClosesEach, IsReady, outcome_of}
 use Rattle.span_dispatch.specs.declared.request.Answer.TheVariants as answer
-use Rattle.span_layers.proofs.Built.{rules_of}
-use Rattle.span_layers.proofs.RulesKept.{honesty_is_kept}
-use Rattle.span_layers.specs.Honest.{IsHonestStack}
-use Rattle.span_layers.proofs.Pass.{event_fresh, event_unless_vetoed, new_span_fresh, others_afresh}
-use Rattle.span_layers.specs.Verdict.{vetoes, vetoes_event}
+use Rattle.span_stacks.proofs.Built.{rules_of}
+use Rattle.span_stacks.proofs.RulesKept.{honesty_is_kept}
+use Rattle.span_stacks.specs.Honest.{IsHonestStack}
+use Rattle.span_stacks.proofs.Pass.{event_fresh, event_unless_vetoed, new_span_fresh, others_afresh}
+use Rattle.span_stacks.specs.Verdict.{vetoes, vetoes_event}
 use Rattle.span_store.specs.Closes.{HasNoClosing}
 use Rattle.span_store.specs.Step.{Begun, Between, Clones, Enters, Exits, IsCurrent, Opens, ShowsCurrent, begun, entered, exited, RefusesClone, RefusesEnter}
 use Rattle.span_store.specs.Step.{RefusesNew, Releases, Removal, Removed, Removes}

@@ -22,10 +22,10 @@ use Rattle.span_dispatch.specs.declared.cache.Known.{Known}
 use Rattle.span_dispatch.specs.declared.dispatch.Dispatch.{Dispatch}
 use Rattle.span_dispatch.specs.declared.request.Answer.TheVariants as answer
 use Rattle.span_dispatch.specs.declared.request.Answer.{Answer}
-use Rattle.span_layers.proofs.Built.{rules_of}
-use Rattle.span_layers.proofs.HonestKept.{hint_is_kept, interest_is_kept}
-use Rattle.span_layers.proofs.RulesKept.{honesty_is_kept}
-use Rattle.span_layers.specs.Honest.{IsHonestStack}
+use Rattle.span_stacks.proofs.Built.{rules_of}
+use Rattle.span_stacks.proofs.HonestKept.{hint_is_kept, interest_is_kept}
+use Rattle.span_stacks.proofs.RulesKept.{honesty_is_kept}
+use Rattle.span_stacks.specs.Honest.{IsHonestStack}
 use Rattle.span_store.specs.Closes.{HasNoClosing}
 use Rattle.span_store.specs.Step.{TakesOut}
 use Rattle.span_store.specs.Store.{RegistryState, Spans, Store}

@@ -17,7 +17,7 @@ use Rattle.span_dispatch.proofs.Seen.{beneath, some_path}
 use Rattle.span_dispatch.specs.Alone.{form_of_path, passed, passed_at}
 use Rattle.span_dispatch.specs.Outcome.{LevelSet, OutcomeAt, Makes, Noticed, Outcome, Quiet, Steps, given_in}
 use Rattle.span_dispatch.specs.Readable.{ClosesAsItOpened, ShowsItsSpan}
-use Rattle.span_layers.specs.Verdict.{AreDistinct, in_verdict, numbers_of}
+use Rattle.span_stacks.specs.Verdict.{AreDistinct, in_verdict, numbers_of}
 use Rattle.span_store.proofs.Chains.{get_put}
 use Rattle.span_store.specs.Step.{begun}
 use Rattle.span_store.specs.Store.{RegistryState, Span, Spans, Store}

@@ -16,7 +16,7 @@ use Rattle.span_dispatch.specs.Alone.{passed, passed_at}
 use Rattle.span_dispatch.specs.Serve.{Run, ServesAsked, call_of, flat}
 use Rattle.span_dispatch.specs.declared.request.Answer.{Answer}
 use Rattle.span_dispatch.specs.declared.request.Request.{Request}
-use Rattle.span_layers.proofs.Pass.{reached}
+use Rattle.span_stacks.proofs.Pass.{reached}
 use Rattle.span_registry.specs.View.{seen_spans}
 use Rattle.span_registry.specs.Behaviour.{Behaviour, Notice}
 use Rattle.span_registry.specs.Path.{Path, mask_at, mask_of, path_at}

@@ -19,7 +19,7 @@ use Rattle.span_store.specs.Step as step
 use Rattle.span_store.specs.Store.{IsForest, IsOpen, RegistryState, handles_of}
 use Rattle.span_store.specs.declared.registry.Released.TheVariants.{Closing, StillOpen}
 use Rattle.span_store.specs.declared.registry.Released.{Released}
-use Rattle.span_layers.proofs.CallerLemmas.{asked_by_nobody}
+use Rattle.span_stacks.proofs.CallerLemmas.{asked_by_nobody}
 use Rattle.span_core.specs.Event.{event_metadata}
 use Rattle.span_core.specs.Filters.{FilterSet, IsEmpty}
 use Rattle.span_core.specs.declared.event.Event.{Event}

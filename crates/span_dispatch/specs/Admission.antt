@@ -14,9 +14,9 @@ use Rattle.span_core.specs.declared.pass.Pass.{Pass}
 use Rattle.span_core.specs.declared.span.Lane.{Lane}
 use Rattle.span_dispatch.specs.Cache.{Agrees, IsUpToDate, KnowsStill, KeptCallsites, ReadsOnce, RefusesBelow, RefusesInterest, RefusesRoom, hint_in, is_above_read, kept_in, with_callsite, with_room}
 use Rattle.span_dispatch.specs.declared.cache.Cache.{Cache}
-use Rattle.span_layers.specs.Honest.{HasHonestAnswers}
-use Rattle.span_layers.specs.Verdict.{vetoes}
-use Rattle.span_layers.specs.Wanted.{IsUnwanted}
+use Rattle.span_stacks.specs.Honest.{HasHonestAnswers}
+use Rattle.span_stacks.specs.Verdict.{vetoes}
+use Rattle.span_stacks.specs.Wanted.{IsUnwanted}
 use Rattle.span_store.specs.Store.{RegistryState}
 use Rattle.span_registry.specs.Form.{Form}
 use Rattle.span_registry.specs.Hooks.{no_filter}

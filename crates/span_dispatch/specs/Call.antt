@@ -20,7 +20,7 @@ use Rattle.span_dispatch.specs.declared.call.Call.TheVariants.{AddHandle, AskCur
 use Rattle.span_dispatch.specs.declared.call.Call.{Call}
 use Rattle.span_dispatch.specs.declared.request.Answer.TheVariants as answer
 use Rattle.span_dispatch.specs.declared.request.Answer.{Answer}
-use Rattle.span_layers.specs.Verdict.{vetoes, vetoes_event}
+use Rattle.span_stacks.specs.Verdict.{vetoes, vetoes_event}
 use Rattle.span_store.specs.Closes.{AreUnheld, Member}
 use Rattle.span_store.specs.Step.{Drops, FindsParent, HasPlace, IsCurrent, Opens, RefusesClone, RefusesEnter, RefusesNew, RefusesRelease, RefusesUnlessOpen}
 use Rattle.span_store.specs.Store.{IsHeld, IsOpen, RegistryState, Store, handles_of, take_handle}

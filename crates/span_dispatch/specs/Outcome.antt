@@ -11,8 +11,8 @@ use Rattle.span_core.specs.declared.metadata.Metadata.{Metadata}
 use Rattle.span_core.specs.declared.span.Attributes.{Attributes}
 use Rattle.span_core.specs.declared.span.Id.{Id}
 use Rattle.span_core.specs.declared.span.Lane.{Lane}
-use Rattle.span_layers.specs.Honest.{IsHonestStack}
-use Rattle.span_layers.specs.Verdict.{in_verdict}
+use Rattle.span_stacks.specs.Honest.{IsHonestStack}
+use Rattle.span_stacks.specs.Verdict.{in_verdict}
 use Rattle.span_extensions.specs.Extensions.{no_values}
 use Rattle.span_store.specs.Step.{IsParentFor, RetiresLate, entered, exited}
 use Rattle.span_store.specs.Store.{IsClosing, IsHeld, IsOpen, RegistryState, Span, Store, add_handle, take_handle}

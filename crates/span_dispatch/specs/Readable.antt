@@ -8,7 +8,7 @@ use Rattle.span_core.specs.declared.span.Attributes.{Attributes}
 use Rattle.span_core.specs.declared.span.Id.{Id}
 use Rattle.span_core.specs.declared.span.Lane.{Lane}
 use Rattle.span_dispatch.specs.Outcome.{IsVerdict}
-use Rattle.span_layers.specs.Verdict.{AreDistinct, numbers_of}
+use Rattle.span_stacks.specs.Verdict.{AreDistinct, numbers_of}
 use Rattle.span_store.specs.Store.{Span, Store}
 use Rattle.span_registry.specs.Behaviour.{OnClose, OnNewSpan, span_in}
 use Rattle.span_registry.specs.Form.{Form}

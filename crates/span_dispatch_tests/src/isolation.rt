@@ -11,7 +11,8 @@ use span_core::{Id, Level, LevelFilter, Metadata};
 use span_dispatch::{Dispatch, Recorded, Recorder, Request, Which, WhichParent};
 use span_filters::{FunctionIn, dynamic_filter_fn};
 use span_layer_tests::fixture::{LANE, put};
-use span_layers::{Layer, LayerExt, Observe, Observer};
+use span_layers::{Layer, Observe, Observer};
+use span_stacks::LayerExt;
 use span_registry::{
     Context, ContextMut, ExtensionValue, LookupSpan, Notice, Registry, Subscriber, Tag,
 };

@@ -1,6 +1,6 @@
 //! Tests of workers: two lanes that meet, the entry of each request, and the values that a layer is handed.
 ghost use Rattle.span_dispatch.specs.Serve.{stack_of};
-ghost use Rattle.span_layers.specs.Layered.{inner_of, outer_of};
+ghost use Rattle.span_stacks.specs.Layered.{inner_of, outer_of};
 ghost use Rattle.span_store.specs.Store.{IsFresh};
 ghost use Rattle.std.specs.Prelude.{◌≡◌, ◌-◌, ◌<◌, ◌^◌, ⊤, IfOk};
 
@@ -10,7 +10,8 @@ use span_core::{
 };
 use span_dispatch::{Dispatch, Recorder};
 use span_layer_tests::fixture::{LANE, metadata_of};
-use span_layers::{Layer, LayerExt, Layered, Observe, Observer, SubscriberExt};
+use span_layers::{Layer, Observe, Observer};
+use span_stacks::{LayerExt, Layered, SubscriberExt};
 use span_registry::{ContextMut, Notice, Registry, Subscriber};
 use span_shared::{Crew, Entry, Journal, Logged, Receipt, Shared, Unfinished, Worker};
 use std::alloc::Global;

@@ -16,20 +16,20 @@ use Rattle.span_filters.specs.Filter.{settled_answers, unmoved}
 use Rattle.span_filters.specs.Level.{ActsByLevel, level_answers, level_conduct, level_taken}
 use Rattle.span_filters.specs.laws.Level.{level_honest, level_plain}
 use Rattle.span_store.specs.Store.{RegistryState, Store, empty_store, new_registry}
-use Rattle.span_layers.proofs.CallerLemmas.{bare_stands, stands_on}
+use Rattle.span_stacks.proofs.CallerLemmas.{bare_stands, stands_on}
 use Rattle.span_layers.specs.Acts.{LeafActs}
-use Rattle.span_layers.specs.Attach.{Attaches}
-use Rattle.span_layers.specs.Filtered.{IsNumber, IsUnnumbered, filter_of, id_of, layer_of}
+use Rattle.span_stacks.specs.Attach.{Attaches}
+use Rattle.span_stacks.specs.Filtered.{IsNumber, IsUnnumbered, filter_of, id_of, layer_of}
 use Rattle.span_layers.specs.Layer.{HearsBy, LayerSteps}
-use Rattle.span_layers.specs.Layered.{inner_of, outer_of, with_inner}
+use Rattle.span_stacks.specs.Layered.{inner_of, outer_of, with_inner}
 use Rattle.span_layers.specs.Number.{TakesNumbers, filters_in}
 use Rattle.span_layers.specs.Observe.{open_answers}
-use Rattle.span_layers.specs.Honest.{IsHonestLayer}
-use Rattle.span_layers.specs.Stands.{Stands, another, base_form, bare_hears, bare_steps, filtered_acts, filtered_form, filtered_hears, filtered_levels}
-use Rattle.span_layers.specs.Stands.{filtered_steps, itself, registry_on, stack_acts, stack_form, stack_hears, stack_levels, stack_steps}
-use Rattle.span_layers.specs.Verdict.{NumbersStayOwn}
-use Rattle.span_layers.specs.declared.filtered.Filtered.{Filtered as FilteredLayer}
-use Rattle.span_layers.specs.declared.layered.Layered.{Layered}
+use Rattle.span_stacks.specs.Honest.{IsHonestLayer}
+use Rattle.span_stacks.specs.Stands.{Stands, another, base_form, bare_hears, bare_steps, filtered_acts, filtered_form, filtered_hears, filtered_levels}
+use Rattle.span_stacks.specs.Stands.{filtered_steps, itself, registry_on, stack_acts, stack_form, stack_hears, stack_levels, stack_steps}
+use Rattle.span_stacks.specs.Verdict.{NumbersStayOwn}
+use Rattle.span_stacks.specs.declared.filtered.Filtered.{Filtered as FilteredLayer}
+use Rattle.span_stacks.specs.declared.layered.Layered.{Layered}
 use Rattle.span_layers.specs.laws.Leaf.{open_honest}
 use Rattle.span_store.specs.declared.limits.Limits.{Limits}
 use Rattle.span_registry.specs.Levels.{LevelSteps, unlevelled}

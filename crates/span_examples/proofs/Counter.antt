@@ -15,13 +15,14 @@ use Rattle.span_filters.specs.Filter.{settled_answers, unmoved}
 use Rattle.span_filters.specs.Level.{level_answers}
 use Rattle.span_core.specs.declared.filter.TheConstants.FilterId.{LIMIT}
 use Rattle.span_layers.specs.Number.{filters_in, numbered}
-use Rattle.span_layers.specs.Filtered.{FilteredForm, FilteredSteps, IsUnnumbered, filter_of, id_of, layer_of}
+use Rattle.span_stacks.specs.Filtered.{FilteredForm, FilteredSteps, IsUnnumbered, filter_of, id_of, layer_of}
 use Rattle.span_layers.specs.Layer.{LayerSteps}
-use Rattle.span_layers.specs.Layered.{LayeredSteps, PartsForm, inner_of, outer_of}
+use Rattle.span_layers.specs.Parts.{PartsForm}
+use Rattle.span_stacks.specs.Layered.{LayeredSteps, inner_of, outer_of}
 use Rattle.span_layers.specs.Observe.{observer_of, open_answers}
-use Rattle.span_layers.specs.Verdict.{NewSpansAreFresh, VetoesAloneRefuse}
-use Rattle.span_layers.proofs.CallerLemmas.{asked_with_new_pass}
-use Rattle.span_layers.specs.declared.filtered.Filtered.{Filtered as FilteredLayer}
+use Rattle.span_stacks.specs.Verdict.{NewSpansAreFresh, VetoesAloneRefuse}
+use Rattle.span_stacks.proofs.CallerLemmas.{asked_with_new_pass}
+use Rattle.span_stacks.specs.declared.filtered.Filtered.{Filtered as FilteredLayer}
 use Rattle.span_layers.specs.declared.observe.Observer.{Observer}
 use Rattle.span_store.specs.Store.{RegistryState}
 use Rattle.span_registry.specs.Behaviour.{OnNewSpan}

@@ -11,9 +11,9 @@ use Rattle.span_core.specs.Metadata.{name_of}
 use Rattle.span_core.specs.declared.event.Event.{Event}
 use Rattle.span_core.specs.declared.level.LevelFilter.{LevelFilter}
 use Rattle.span_dispatch.specs.Recorder.{RecorderState, new_recorder}
-use Rattle.span_layers.specs.Filtered.{filter_of, id_of, layer_of}
+use Rattle.span_stacks.specs.Filtered.{filter_of, id_of, layer_of}
 use Rattle.span_layers.specs.Layer.{HearsBy}
-use Rattle.span_layers.specs.Layered.{inner_of, outer_of, with_inner}
+use Rattle.span_stacks.specs.Layered.{inner_of, outer_of, with_inner}
 use Rattle.span_layers.specs.Observe.{ObserverStep, observer_of}
 use Rattle.span_store.specs.Store.{RegistryState, Store}
 use Rattle.span_registry.specs.Notice.{notice_of}

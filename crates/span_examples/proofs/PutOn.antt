@@ -7,14 +7,15 @@ use Rattle.span_dispatch.specs.Serve.{IsReady}
 use Rattle.span_filters.specs.Filter.{settled_answers}
 use Rattle.span_filters.specs.Level.{level_answers}
 use Rattle.span_filters.specs.laws.Level.{level_honest}
-use Rattle.span_layers.specs.Filtered.{FilteredForm, IsNumber, IsUnnumbered, filter_of, id_of, layer_of}
-use Rattle.span_layers.specs.Honest.{IsHonestStack}
-use Rattle.span_layers.specs.Layered.{PartsForm, inner_of, outer_of}
+use Rattle.span_stacks.specs.Filtered.{FilteredForm, IsNumber, IsUnnumbered, filter_of, id_of, layer_of}
+use Rattle.span_stacks.specs.Honest.{IsHonestStack}
+use Rattle.span_layers.specs.Parts.{PartsForm}
+use Rattle.span_stacks.specs.Layered.{inner_of, outer_of}
 use Rattle.span_layers.specs.Number.{TakesNumbers, filters_in}
 use Rattle.span_layers.specs.Observe.{open_answers}
-use Rattle.span_layers.specs.Verdict.{HasOwnNumbers, NumbersStayOwn}
-use Rattle.span_layers.specs.declared.filtered.Filtered.{Filtered as FilteredLayer}
-use Rattle.span_layers.specs.declared.layered.Layered.{Layered}
+use Rattle.span_stacks.specs.Verdict.{HasOwnNumbers, NumbersStayOwn}
+use Rattle.span_stacks.specs.declared.filtered.Filtered.{Filtered as FilteredLayer}
+use Rattle.span_stacks.specs.declared.layered.Layered.{Layered}
 use Rattle.span_layers.specs.laws.Leaf.{open_honest}
 use Rattle.span_store.specs.Closes.{HasNoClosing}
 use Rattle.span_store.specs.Store.{RegistryState, Store, empty_store, new_registry}

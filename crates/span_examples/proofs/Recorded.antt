@@ -36,19 +36,19 @@ use Rattle.span_filters.specs.Filter.{settled_answers, unmoved}
 use Rattle.span_filters.specs.Level.{level_answers, level_taken}
 use Rattle.span_filters.specs.laws.Level.{level_honest}
 use Rattle.span_store.specs.Closes.{HasNoClosing}
-use Rattle.span_layers.specs.Filtered.{FilteredSteps, Hooked, IsNumber, IsUnnumbered, filter_of, id_of, layer_of}
-use Rattle.span_layers.proofs.CallerLemmas.{bare_stands, stands_on}
-use Rattle.span_layers.specs.Attach.{Attaches}
-use Rattle.span_layers.specs.Honest.{IsHonestLayer, IsHonestStack}
+use Rattle.span_stacks.specs.Filtered.{FilteredSteps, Hooked, IsNumber, IsUnnumbered, filter_of, id_of, layer_of}
+use Rattle.span_stacks.proofs.CallerLemmas.{bare_stands, stands_on}
+use Rattle.span_stacks.specs.Attach.{Attaches}
+use Rattle.span_stacks.specs.Honest.{IsHonestLayer, IsHonestStack}
 use Rattle.span_layers.specs.Layer.{HearsBy, LayerSteps}
-use Rattle.span_layers.specs.Layered.{inner_of, outer_of, with_inner}
+use Rattle.span_stacks.specs.Layered.{inner_of, outer_of, with_inner}
 use Rattle.span_layers.specs.Number.{TakesNumbers, filters_in}
 use Rattle.span_layers.specs.Observe.{open_answers}
-use Rattle.span_layers.specs.Stands.{another, base_form, bare_hears, bare_steps, filtered_form, filtered_hears, filtered_levels, filtered_steps, itself}
-use Rattle.span_layers.specs.Stands.{stack_form, stack_hears, stack_levels, stack_steps}
+use Rattle.span_stacks.specs.Stands.{another, base_form, bare_hears, bare_steps, filtered_form, filtered_hears, filtered_levels, filtered_steps, itself}
+use Rattle.span_stacks.specs.Stands.{stack_form, stack_hears, stack_levels, stack_steps}
 use Rattle.span_store.specs.Store.{RegistryState, Store, new_registry}
-use Rattle.span_layers.specs.Verdict.{NumbersStayOwn, vetoes}
-use Rattle.span_layers.specs.declared.filtered.Filtered.{Filtered as FilteredLayer}
+use Rattle.span_stacks.specs.Verdict.{NumbersStayOwn, vetoes}
+use Rattle.span_stacks.specs.declared.filtered.Filtered.{Filtered as FilteredLayer}
 use Rattle.span_layers.specs.laws.Leaf.{open_honest}
 use Rattle.span_store.specs.declared.limits.Limits.{Limits}
 use Rattle.span_registry.specs.Levels.{LevelSteps, unlevelled}

@@ -10,9 +10,9 @@ use Rattle.span_dispatch.specs.Serve.{IsReady, IsReadyAfter, IsReadyBy, stack_of
 use Rattle.span_dispatch.specs.declared.dispatch.Dispatch.{Dispatch}
 use Rattle.span_dispatch.specs.declared.request.Answer.TheVariants.{Refused}
 use Rattle.span_filters.specs.Level.{level_taken}
-use Rattle.span_layers.specs.Filtered.{IsNumber, filter_of, id_of, layer_of}
-use Rattle.span_layers.specs.Layered.{inner_of, outer_of, with_inner}
-use Rattle.span_layers.specs.Levels.{LevelsIf}
+use Rattle.span_stacks.specs.Filtered.{IsNumber, filter_of, id_of, layer_of}
+use Rattle.span_stacks.specs.Layered.{inner_of, outer_of, with_inner}
+use Rattle.span_stacks.specs.Levels.{LevelsIf}
 use Rattle.span_registry.specs.Conducts.{filter_numbered}
 use Rattle.span_registry.specs.KeptForm.{KeepsForm}
 use Rattle.span_registry.specs.Form.{Terminal, Filtered, Form, Leaf, Parts}

@@ -25,21 +25,21 @@ use Rattle.span_dispatch.specs.declared.request.Answer.{Answer}
 use Rattle.span_dispatch.specs.Recorder.{RecorderState, Records, kept_notice, new_recorder}
 use Rattle.span_dispatch.specs.Serve.{IsReady, flat, stack_of}
 use Rattle.span_dispatch.specs.declared.request.Request.{Request}
-use Rattle.span_layers.proofs.CallerLemmas.{bare_stands, stands_on}
-use Rattle.span_layers.specs.Attach.{Attaches}
-use Rattle.span_layers.specs.Honest.{IsBuiltLayer, IsHonestLayer, IsHonestStack}
+use Rattle.span_stacks.proofs.CallerLemmas.{bare_stands, stands_on}
+use Rattle.span_stacks.specs.Attach.{Attaches}
+use Rattle.span_stacks.specs.Honest.{IsBuiltLayer, IsHonestLayer, IsHonestStack}
 use Rattle.span_filters.specs.Closure.{AnswersAll, Computes, GoesByWhatShows, HasTestAnswers, RefusesAbove, TestsBy, interest_under, test_answers, view_answers}
 use Rattle.span_filters.specs.declared.closure.FilterFn.{FilterFn}
 use Rattle.span_filters.specs.Filter.{FilterLaws, FilterSteps}
-use Rattle.span_layers.specs.Filtered.{IsNumber, IsUnnumbered, id_of}
-use Rattle.span_layers.specs.Layered.{inner_of, outer_of, with_inner}
+use Rattle.span_stacks.specs.Filtered.{IsNumber, IsUnnumbered, id_of}
+use Rattle.span_stacks.specs.Layered.{inner_of, outer_of, with_inner}
 use Rattle.span_layers.specs.Members.{ListForm}
 use Rattle.span_layers.specs.Number.{filters_in, numbered}
 use Rattle.span_layers.specs.Observe.{open_answers}
-use Rattle.span_layers.specs.Stands.{Stands, another, base_form, filtered_form, itself, registry_on, stack_form}
-use Rattle.span_layers.specs.Verdict.{LeavesRefuseNothing, NumbersStayOwn}
-use Rattle.span_layers.specs.declared.filtered.Filtered.{Filtered as FilteredLayer}
-use Rattle.span_layers.specs.declared.layered.Layered.{Layered}
+use Rattle.span_stacks.specs.Stands.{Stands, another, base_form, filtered_form, itself, registry_on, stack_form}
+use Rattle.span_stacks.specs.Verdict.{LeavesRefuseNothing, NumbersStayOwn}
+use Rattle.span_stacks.specs.declared.filtered.Filtered.{Filtered as FilteredLayer}
+use Rattle.span_stacks.specs.declared.layered.Layered.{Layered}
 use Rattle.span_layers.specs.laws.Leaf.{open_honest}
 use Rattle.span_store.specs.Closes.{HasNoClosing}
 use Rattle.span_store.specs.Store.{RegistryState, Store, empty_store, new_registry}

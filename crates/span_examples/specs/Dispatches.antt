@@ -14,10 +14,10 @@ use Rattle.span_dispatch.specs.declared.recorded.Recorded.TheVariants.{Event, Ne
 use Rattle.span_dispatch.specs.declared.recorded.Recorded.{Recorded as KeptNotice}
 use Rattle.span_dispatch.specs.declared.request.Answer.TheVariants.{Done, Made, Refused}
 use Rattle.span_dispatch.specs.declared.request.Answer.{Answer}
-use Rattle.span_layers.specs.Filtered.{layer_of}
-use Rattle.span_layers.specs.Layered.{outer_of}
-use Rattle.span_layers.specs.declared.filtered.Filtered.{Filtered}
-use Rattle.span_layers.specs.declared.layered.Layered.{Layered}
+use Rattle.span_stacks.specs.Filtered.{layer_of}
+use Rattle.span_stacks.specs.Layered.{outer_of}
+use Rattle.span_stacks.specs.declared.filtered.Filtered.{Filtered}
+use Rattle.span_stacks.specs.declared.layered.Layered.{Layered}
 use Rattle.span_store.specs.Store.{RegistryState}
 
 -- the stack

@@ -9,10 +9,10 @@ use Rattle.span_dispatch.specs.declared.dispatch.Dispatch.{Dispatch}
 use Rattle.span_dispatch.specs.declared.recorded.Recorded.{Recorded as KeptNotice}
 use Rattle.span_dispatch.specs.declared.request.Answer.{Answer}
 use Rattle.span_dispatch.specs.declared.request.Request.{Request}
-use Rattle.span_layers.specs.Filtered.{filter_of, layer_of}
-use Rattle.span_layers.specs.Layered.{inner_of, outer_of}
-use Rattle.span_layers.specs.declared.filtered.Filtered.{Filtered}
-use Rattle.span_layers.specs.declared.layered.Layered.{Layered}
+use Rattle.span_stacks.specs.Filtered.{filter_of, layer_of}
+use Rattle.span_stacks.specs.Layered.{inner_of, outer_of}
+use Rattle.span_stacks.specs.declared.filtered.Filtered.{Filtered}
+use Rattle.span_stacks.specs.declared.layered.Layered.{Layered}
 use Rattle.span_store.specs.Store.{RegistryState}
 use Rattle.span_registry.specs.Conducts.{ActsAt}
 use Rattle.span_registry.specs.Form.{Form}

@@ -12,13 +12,13 @@ use Rattle.span_dispatch.specs.Serve.{IsReadySomehow, Served, flat, stack_of}
 use Rattle.span_dispatch.specs.declared.dispatch.Dispatch.{Dispatch}
 use Rattle.span_dispatch.specs.declared.request.Answer.{Answer}
 use Rattle.span_dispatch.specs.declared.request.Request.{Request}
-use Rattle.span_layers.specs.Filtered.{layer_of}
-use Rattle.span_layers.specs.Layered.{outer_of}
+use Rattle.span_stacks.specs.Filtered.{layer_of}
+use Rattle.span_stacks.specs.Layered.{outer_of}
 use Rattle.span_layers.specs.Number.{filters_in}
-use Rattle.span_layers.specs.Honest.{IsHonestLayer}
-use Rattle.span_layers.specs.Stands.{Stands}
-use Rattle.span_layers.specs.declared.filtered.Filtered.{Filtered}
-use Rattle.span_layers.specs.declared.layered.Layered.{Layered}
+use Rattle.span_stacks.specs.Honest.{IsHonestLayer}
+use Rattle.span_stacks.specs.Stands.{Stands}
+use Rattle.span_stacks.specs.declared.filtered.Filtered.{Filtered}
+use Rattle.span_stacks.specs.declared.layered.Layered.{Layered}
 use Rattle.span_store.specs.Store.{RegistryState, empty_store}
 use Rattle.span_registry.specs.Behaviour.{Behaviour, Conduct, notices_of}
 use Rattle.span_registry.specs.Conducts.{Conducts, numbers_in}

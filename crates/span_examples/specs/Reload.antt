@@ -7,8 +7,8 @@ use Rattle.span_dispatch.specs.Serve.{Served, stack_of}
 use Rattle.span_dispatch.specs.declared.dispatch.Dispatch.{Dispatch}
 use Rattle.span_dispatch.specs.declared.request.Answer.{Answer}
 use Rattle.span_dispatch.specs.declared.request.Request.{Request}
-use Rattle.span_layers.specs.Filtered.{filter_of}
-use Rattle.span_layers.specs.Layered.{inner_of, outer_of}
+use Rattle.span_stacks.specs.Filtered.{filter_of}
+use Rattle.span_stacks.specs.Layered.{inner_of, outer_of}
 use Rattle.span_examples.specs.Dispatches.{Recorded, recorder_of}
 use Rattle.span_examples.specs.Isolation.{IsNewUnder}
 

@@ -9,11 +9,11 @@ use Rattle.span_core.specs.declared.filter.TheConstants.FilterId.{LIMIT}
 use Rattle.span_core.specs.declared.level.LevelFilter.{LevelFilter}
 use Rattle.span_core.specs.declared.span.Attributes.{Attributes}
 use Rattle.span_core.specs.declared.span.Id.{Id}
-use Rattle.span_layers.specs.Filtered.{IsNumber, filter_of, id_of, layer_of}
-use Rattle.span_layers.specs.Layered.{outer_of}
+use Rattle.span_stacks.specs.Filtered.{IsNumber, filter_of, id_of, layer_of}
+use Rattle.span_stacks.specs.Layered.{outer_of}
 use Rattle.span_layers.specs.Observe.{observer_of}
-use Rattle.span_layers.specs.declared.filtered.Filtered.{Filtered}
-use Rattle.span_layers.specs.declared.layered.Layered.{Layered}
+use Rattle.span_stacks.specs.declared.filtered.Filtered.{Filtered}
+use Rattle.span_stacks.specs.declared.layered.Layered.{Layered}
 use Rattle.span_layers.specs.declared.observe.Observer.{Observer}
 use Rattle.span_store.specs.Store.{RegistryState}
 use Rattle.span_registry.specs.Behaviour.{OnNewSpan}

@@ -4,7 +4,8 @@ ghost use Rattle.std.specs.Prelude.{◌≡◌, IfOk, Some};
 use crate::layer::SpanCounter;
 use span_boxed::{BoxedLayer, DynLayer};
 use span_core::LevelFilter;
-use span_layers::{Layer, LayerExt, Observer};
+use span_layers::{Layer, Observer};
+use span_stacks::LayerExt;
 use span_registry::Registry;
 use std::alloc::{AllocError, Global};
 

@@ -16,7 +16,7 @@ use span_dispatch::{Answer, Recorder, Request};
 use span_filters::{
     And, BoxedFilter, DynFilter, Filter, FilterExt, Not, Or, dynamic_filter_fn, filter_fn, laws,
 };
-use span_layers::{Filtered, LayerExt, Layered, SubscriberExt};
+use span_stacks::{Filtered, LayerExt, Layered, SubscriberExt};
 use span_registry::{Context, Registry, Subscriber};
 use std::alloc::Global;
 
@@ -36,7 +36,7 @@ fn put_filtered<F: Filter<Registry> + Drop>(
     ensures records { IfOk result (WillRecordUnder ⟦<Under<F> as Subscriber>⟧ (F.acts filter)) }
     ensures memory { IfErr result (λ e. e ≡ TraceError.OutOfMemory) }
 {
-    span_layers::laws::numbers_are_own();
+    span_stacks::laws::numbers_are_own();
     span_promises::laws::other_layers_make_no_difference::<Under<F>, Under<F>>();
     let layer = Recorder::new(alloc).with_filter(filter);
     match Registry::new(alloc).with(layer) {

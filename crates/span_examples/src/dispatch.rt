@@ -4,7 +4,7 @@ ghost use Rattle.span_examples.specs.Dispatches.{KeepsWhatPasses};
 
 use span_core::{Lane, LevelFilter, Metadata, TraceError};
 use span_dispatch::{Answer, Dispatch, Recorder, Request, Which, WhichParent};
-use span_layers::{Filtered, LayerExt, Layered, SubscriberExt, laws};
+use span_stacks::{Filtered, LayerExt, Layered, SubscriberExt, laws};
 use span_registry::Registry;
 use std::alloc::Global;
 

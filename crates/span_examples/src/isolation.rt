@@ -6,7 +6,7 @@ ghost use Rattle.span_examples.specs.Isolation.{KeepTheSame, ServesFirst};
 use crate::dispatch::Recorded;
 use span_core::{LevelFilter, TraceError};
 use span_dispatch::{Answer, Dispatch, Recorder, Request};
-use span_layers::{Filtered, LayerExt, Layered, SubscriberExt};
+use span_stacks::{Filtered, LayerExt, Layered, SubscriberExt};
 use span_registry::{Registry, Subscriber};
 use std::alloc::Global;
 
@@ -35,7 +35,7 @@ pub fn record_alone_and_beside(
         two.acts_at requests.now)) }
     ensures memory { IfErr result (λ e. e ≡ TraceError.OutOfMemory) }
 {
-    span_layers::laws::numbers_are_own();
+    span_stacks::laws::numbers_are_own();
     span_promises::laws::other_layers_make_no_difference::<Recorded, Beside>();
     let first = Recorder::new(alloc).with_filter(level);
     let alone = match Registry::new(alloc).with(first) {

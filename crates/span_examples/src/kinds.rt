@@ -1,6 +1,6 @@
 //! Layers of each kind in an honest stack, with a recorder outside: the recorder keeps what it would if it stood alone.
 ghost use Rattle.std.specs.Prelude.{◌≡◌, [], IfErr, IfOk};
-ghost use Rattle.span_layers.specs.Layered.{outer_of};
+ghost use Rattle.span_stacks.specs.Layered.{outer_of};
 ghost use Rattle.span_registry.specs.Position.{Here, Outer};
 ghost use Rattle.span_examples.specs.Kinds.{CountsAlone, IsFit, RecordsAlone, ServesReady, StandsSomehow, WillRecord};
 
@@ -10,7 +10,8 @@ use crate::layer::SpanCounter;
 use span_boxed::{BoxedLayer, DynLayer};
 use span_core::TraceError;
 use span_dispatch::{Answer, Dispatch, Recorder, Request};
-use span_layers::{Identity, Layer, Layered, Observer, SubscriberExt};
+use span_layers::{Identity, Layer, Observer};
+use span_stacks::{Layered, SubscriberExt};
 use span_registry::{Registry, Subscriber};
 use std::alloc::Global;
 
@@ -43,7 +44,7 @@ fn put_under<L: Layer<Registry> + Drop>(alloc: Global, layer: L) -> Result<Over<
     ensures records { IfOk result (WillRecord ⟦<Over<L> as Subscriber>⟧ (Outer Here) outer_of []) }
     ensures memory { IfErr result (λ e. e ≡ TraceError.OutOfMemory) }
 {
-    span_layers::laws::numbers_are_own();
+    span_stacks::laws::numbers_are_own();
     span_promises::laws::other_layers_make_no_difference::<Over<L>, Over<L>>();
     let stack = match Registry::new(alloc).with(layer) {
         Ok(stack) => stack,

@@ -7,7 +7,8 @@ use crate::dispatch::Recorded;
 use crate::isolation::serve_first;
 use span_core::{Event, LevelFilter, TraceError};
 use span_dispatch::{Answer, Recorder, Request};
-use span_layers::{Filtered, LayerExt, Layered, Observe, Observer, SubscriberExt};
+use span_layers::{Observe, Observer};
+use span_stacks::{Filtered, LayerExt, Layered, SubscriberExt};
 use span_registry::{ContextMut, Notice, Registry, Subscriber, laws};
 use std::alloc::{AllocError, Global};
 
@@ -138,7 +139,7 @@ fn stack_outlined(
     ensures starts { IfOk result (StartsOutlined ⟦<Outlined as Subscriber>⟧ level other) }
     ensures memory { IfErr result (λ e. e ≡ TraceError.OutOfMemory) }
 {
-    span_layers::laws::numbers_are_own();
+    span_stacks::laws::numbers_are_own();
     let recorder = Recorder::new(alloc).with_filter(other);
     let recorded = match Registry::new(alloc).with(recorder) {
         Ok(stack) => stack,

@@ -5,7 +5,7 @@ ghost use Rattle.span_examples.specs.Reload.{Reloads};
 use crate::dispatch::Recorded;
 use span_core::{LevelFilter, TraceError};
 use span_dispatch::{Dispatch, Recorder, Request};
-use span_layers::{LayerExt, SubscriberExt, laws};
+use span_stacks::{LayerExt, SubscriberExt, laws};
 use span_registry::{Registry, Subscriber};
 use std::alloc::Global;
 

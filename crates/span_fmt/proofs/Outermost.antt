@@ -6,8 +6,8 @@ use Rattle.span_dispatch.specs.Contract.{ServesList, StaysReadyByRules, Subscrib
 use Rattle.span_dispatch.specs.declared.dispatch.Dispatch.{Dispatch}
 use Rattle.span_dispatch.specs.declared.request.Answer.{Answer}
 use Rattle.span_dispatch.specs.declared.request.Request.{Request}
-use Rattle.span_layers.specs.Filtered.{layer_of}
-use Rattle.span_layers.specs.Layered.{outer_of}
+use Rattle.span_stacks.specs.Filtered.{layer_of}
+use Rattle.span_stacks.specs.Layered.{outer_of}
 use Rattle.span_layers.specs.Observe.{ObserverSteps}
 use Rattle.span_registry.specs.Position.{Heard}
 use Rattle.span_fmt.specs.Serve.{ServesOutermost, WithObserver, observer_position}

@@ -11,11 +11,11 @@ use Rattle.span_dispatch.specs.Serve.{IsReadySomehow, Served, flat, stack_of}
 use Rattle.span_dispatch.specs.declared.dispatch.Dispatch.{Dispatch}
 use Rattle.span_dispatch.specs.declared.request.Answer.{Answer}
 use Rattle.span_dispatch.specs.declared.request.Request.{Request}
-use Rattle.span_layers.specs.Filtered.{layer_of}
-use Rattle.span_layers.specs.Layered.{outer_of}
+use Rattle.span_stacks.specs.Filtered.{layer_of}
+use Rattle.span_stacks.specs.Layered.{outer_of}
 use Rattle.span_layers.specs.Observe.{observer_of}
-use Rattle.span_layers.specs.declared.filtered.Filtered.{Filtered}
-use Rattle.span_layers.specs.declared.layered.Layered.{Layered}
+use Rattle.span_stacks.specs.declared.filtered.Filtered.{Filtered}
+use Rattle.span_stacks.specs.declared.layered.Layered.{Layered}
 use Rattle.span_layers.specs.declared.observe.Observer.{Observer}
 use Rattle.span_registry.specs.Position.{Heard, Here, Outer, Position, Under}
 

@@ -7,7 +7,8 @@ use crate::lines::Lines;
 use crate::tree::Tree;
 use span_core::{LevelFilter, TraceError};
 use span_dispatch::{Answer, Dispatch, Request};
-use span_layers::{Filtered, Layered, Observer};
+use span_layers::Observer;
+use span_stacks::{Filtered, Layered};
 use span_registry::Subscriber;
 use std::alloc::Global;
 

@@ -6,7 +6,8 @@ use crate::stack::{hint_of, interest_in, is_text, number_at, open, open_and_ente
 use span_boxed::{BoxedLayer, DynLayer};
 use span_core::{Id, Interest, Level, LevelFilter, Metadata, Pass};
 use span_filters::{Filter, dynamic_filter_fn};
-use span_layers::{Filtered, Identity, Layer, LayerExt};
+use span_layers::{Identity, Layer};
+use span_stacks::{Filtered, LayerExt};
 use span_registry::{Context, ContextMut, LookupSpan, Registry, Subscriber, Tag};
 use std::alloc::Global;
 use std::process::Abort;

@@ -1,10 +1,11 @@
 //! What tests of dispatchers use too: a lane, metadata, and how a stack is put together.
 ghost use Rattle.std.specs.Prelude.{◌≡◌, IfOk};
 ghost use Rattle.span_core.specs.Metadata.{callsite_of, kind_of, level_of};
-ghost use Rattle.span_layers.specs.Layered.{inner_of, outer_of};
+ghost use Rattle.span_stacks.specs.Layered.{inner_of, outer_of};
 
 use span_core::{FieldSet, Kind, Lane, Level, Metadata, TraceError};
-use span_layers::{Layer, Layered, SubscriberExt};
+use span_layers::Layer;
+use span_stacks::{Layered, SubscriberExt};
 use span_registry::Subscriber;
 
 /// The lane that most tests are in.

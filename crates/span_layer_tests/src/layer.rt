@@ -16,7 +16,8 @@ use crate::watcher::{Seen, Watcher, new_watcher};
 use span_core::{
     Event, Id, Interest, Kind, Level, LevelFilter, Metadata, Pass, Record, TraceError,
 };
-use span_layers::{Filtered, Layer, LayerExt, Layered, Observer, SubscriberExt, Unattached};
+use span_layers::{Layer, Observer};
+use span_stacks::{Filtered, LayerExt, Layered, SubscriberExt, Unattached};
 use span_registry::{Context, ContextMut, LookupSpan, Notice, Registry, Subscriber, Tag};
 use std::alloc::{AllocError, Global};
 use std::process::Abort;

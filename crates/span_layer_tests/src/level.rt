@@ -1,7 +1,8 @@
 //! Tests of levels that are set: the filter with the number takes it, and no other does.
 use crate::fixture::put;
 use span_core::{LevelFilter, TraceError};
-use span_layers::{Filtered, Identity, Layer, LayerExt, Layered};
+use span_layers::{Identity, Layer};
+use span_stacks::{Filtered, LayerExt, Layered};
 use span_registry::{Registry, Subscriber};
 use std::alloc::Global;
 use std::process::Abort;

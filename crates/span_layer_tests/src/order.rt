@@ -11,7 +11,8 @@ ghost use Rattle.span_registry.specs.Levels.{unlevelled};
 
 use crate::fixture::put;
 use span_core::{Event, Interest, LevelFilter, Metadata, Pass};
-use span_layers::{Layer, LayerExt, Layered};
+use span_layers::Layer;
+use span_stacks::{LayerExt, Layered};
 use span_registry::{Context, ContextMut, Notice, Registry, Subscriber};
 use std::alloc::{AllocError, Global};
 use std::cell::Cell;

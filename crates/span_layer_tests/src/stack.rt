@@ -1,13 +1,14 @@
 //! Stacks of any layers: how tests ask them, and drive them as a dispatcher does that keeps
 //! nothing.
 ghost use Rattle.std.specs.Prelude.{IfOk};
-ghost use Rattle.span_layers.specs.Layered.{inner_of, outer_of};
+ghost use Rattle.span_stacks.specs.Layered.{inner_of, outer_of};
 
 use crate::fixture::{LANE, metadata_of, put};
 use span_core::{
     Attributes, Event, Id, Interest, Kind, Level, LevelFilter, Pass, Record, TraceError,
 };
-use span_layers::{Layer, LayerExt, Layered};
+use span_layers::Layer;
+use span_stacks::{LayerExt, Layered};
 use span_registry::{LookupSpan, Subscriber, Tag};
 use std::process::Abort;
 use std::test::Fail;

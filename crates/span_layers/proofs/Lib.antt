@@ -1,20 +1,6 @@
-pub mod Asked
-pub mod Built
-pub mod CallerLemmas
-mod FilterNumber
-mod FilteredHooks
-mod FilteredQuestions
-pub mod HonestKept
-pub mod RulesKept
-pub mod Hint
-pub mod Interest
 mod MemberLoops
 mod MembersAsked
 mod MembersNotified
 mod MembersNumbered
-mod Number
 mod SameVec
-mod Parts
-pub mod Pass
-mod Takes
 mod VetoHint

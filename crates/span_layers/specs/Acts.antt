@@ -1,14 +1,12 @@
 -- How the filters in a layer act, path by path: a layer made of parts has the paths of its parts.
 use Rattle.std.specs.Prelude.{◌≡◌, ℕ, List, [], ◌∷◌, None, Option, Some}
 use Rattle.span_core.specs.Filters.{FilterSet}
-use Rattle.span_core.specs.declared.filter.FilterId.{FilterId}
-use Rattle.span_layers.specs.Filtered.{IsNumber}
 use Rattle.span_layers.specs.Layer.{LayerSteps}
 use Rattle.span_store.specs.Store.{RegistryState}
-use Rattle.span_registry.specs.Behaviour.{Conduct, Notice}
+use Rattle.span_registry.specs.Behaviour.{Notice}
 use Rattle.span_registry.specs.Conducts.{ActsAt, ActsNow, ActsOn, ArePlainConducts, Conducts}
 use Rattle.span_registry.specs.Form.{Form}
-use Rattle.span_registry.specs.Position.{Here, Inner, Outer, Position, Under}
+use Rattle.span_registry.specs.Position.{Here, Inner, Outer, Position}
 use Rattle.span_registry.specs.Plan.{Plan}
 
 -- the law of the paths of a layer: they are of plain filters, whose conducts say what these now
@@ -30,19 +28,6 @@ pub record PathLaws {L : Type 0} (has_form : L → Form → Type 0) (stepped : L
 abbrev pub LeafActs : {L : Type 0} → ActsAt L
 LeafActs x Here cs = cs ≡ []
 LeafActs x position cs = ⊥
-
--- the path of what is under a filter starts with that filter; the filter's own path has it alone
-abbrev pub FilteredActs : {L : Type 0} → FilterId → (Conduct → Type 0) → ActsAt L → ActsAt L
-FilteredActs id own inside x Here ((n, b) ∷ []) = IsNumber id n × own b
-FilteredActs id own inside x (Under position) ((n, b) ∷ cs) =
-    IsNumber id n × own b × inside x position cs
-FilteredActs id own inside x position cs = ⊥
-
--- the paths of an outer part over an inner one: each part has its own
-abbrev pub LayeredActs : {L I : Type 0} → ActsAt L → ActsAt I → L → I → Position → Conducts → Type 0
-LayeredActs outer inner x i (Outer position) cs = outer x position cs
-LayeredActs outer inner x i (Inner position) cs = inner i position cs
-LayeredActs outer inner x i position cs = ⊥
 
 -- the paths of a list: each member has its own. The first stands in the outer part, the second in
 -- the inner one's outer part, and so on

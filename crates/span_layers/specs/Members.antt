@@ -1,7 +1,7 @@
 -- A list of layers, by index.
 use Rattle.std.specs.Prelude.{◌≡◌, ⊤, List, [], ◌∷◌}
 use Rattle.span_layers.specs.Layer.{LayerSteps}
-use Rattle.span_layers.specs.Layered.{PartsForm}
+use Rattle.span_layers.specs.Parts.{PartsForm}
 use Rattle.span_store.specs.Store.{RegistryState}
 use Rattle.span_registry.specs.Form.{Terminal, End, Form, InList}
 use Rattle.span_registry.specs.Plan.{Both, Nobody}

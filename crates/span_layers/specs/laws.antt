@@ -1,9 +1,6 @@
 pub mod Box
-pub mod Filtered
 pub mod Leaf
 pub mod Level
 pub mod List
 pub mod Option
-pub mod Pair
 pub mod Path
-pub mod Stack

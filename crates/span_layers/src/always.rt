@@ -1,15 +1,12 @@
-//! Layers and stacks that can be called without a premise.
+//! Layers that can be called without a premise.
 ghost use Rattle.span_filters.specs.laws.Option.{each_part};
 ghost use Rattle.span_layers.specs.laws.List.{each_member};
 
-use crate::filtered::Filtered;
 use crate::identity::Identity;
 use crate::layer::Layer;
-use crate::layered::Layered;
 use crate::observe::{Observe, Observer};
 use span_core::LevelFilter;
-use span_filters::AlwaysUsableFilter;
-use span_registry::{AlwaysUsable, Subscriber};
+use span_registry::Subscriber;
 
 /// A layer that can be called without a premise, since no closure is in it. On an `AlwaysUsable`
 /// stack it makes one more.
@@ -28,22 +25,8 @@ pub trait AlwaysUsableObserver<S: Subscriber>: Observe<S> {
     ghost always: { (x : Self) → Self.usable x };
 }
 
-impl<I: AlwaysUsable, L: AlwaysUsableLayer<I>> AlwaysUsable for Layered<L, I> {
-    ghost always = { λ x. (L.always x.layer, I.always x.inner) };
-}
-
-impl<S: Subscriber, L: AlwaysUsableLayer<S>, I: AlwaysUsableLayer<S>> AlwaysUsableLayer<S>
-    for Layered<L, I> {
-    ghost always = { λ x. (L.always x.layer, I.always x.inner) };
-}
-
 impl<S: Subscriber, T: AlwaysUsableObserver<S>> AlwaysUsableLayer<S> for Observer<T> {
     ghost always = { λ x. T.always x.observer };
-}
-
-impl<S: Subscriber, L: AlwaysUsableLayer<S>, F: AlwaysUsableFilter<S>> AlwaysUsableLayer<S>
-    for Filtered<L, F> {
-    ghost always = { λ x. (F.always x.filter, L.always x.layer) };
 }
 
 impl<S: Subscriber> AlwaysUsableLayer<S> for Identity {

@@ -1,11 +1,12 @@
 //! The stack that calls of dispatchers are tried on.
-ghost use Rattle.span_layers.specs.Layered.{inner_of, outer_of};
+ghost use Rattle.span_stacks.specs.Layered.{inner_of, outer_of};
 ghost use Rattle.std.specs.Prelude.{IfOk};
 
 use crate::fault::Fault;
 use span_core::LevelFilter;
 use span_dispatch::Recorder;
-use span_layers::{Filtered, Layer, LayerExt, Layered, SubscriberExt};
+use span_layers::Layer;
+use span_stacks::{Filtered, LayerExt, Layered, SubscriberExt};
 use span_registry::{Registry, Subscriber};
 use std::alloc::Global;
 

@@ -25,7 +25,7 @@ use Rattle.span_dispatch.specs.declared.call.Call.TheVariants.{AddHandle, AskCur
 use Rattle.span_dispatch.specs.declared.call.Call.TheVariants.{SetLevel}
 use Rattle.span_dispatch.specs.declared.request.Answer.TheVariants as answer
 use Rattle.span_dispatch.specs.declared.request.Answer.{Answer}
-use Rattle.span_layers.specs.Verdict.{vetoes}
+use Rattle.span_stacks.specs.Verdict.{vetoes}
 use Rattle.span_store.specs.Closes.{Closes, Member}
 use Rattle.span_store.specs.Step.{FindsParent, IsCurrent, IsParentFor, RefusesClone, RefusesEnter, RefusesNew, RefusesRelease, RefusesUnlessOpen, entered_last}
 use Rattle.span_store.specs.Store.{IsHeld, IsInStore, IsOpen, RegistryState, Spans, Store, child_count, handles_of}

@@ -42,7 +42,7 @@ use Rattle.span_dispatch.specs.declared.request.Request.{Request}
 use Rattle.span_dispatch.specs.declared.request.Which.TheVariants as which
 use Rattle.span_dispatch.specs.declared.request.WhichParent.TheVariants as asked
 use Rattle.span_filters.specs.Level.{level_answers}
-use Rattle.span_layers.specs.Verdict.{AreDistinct, in_verdict, numbers_of}
+use Rattle.span_stacks.specs.Verdict.{AreDistinct, in_verdict, numbers_of}
 use Rattle.span_store.proofs.Chains.{get_beside, get_put, same_test, test_same}
 use Rattle.span_store.specs.Closes.{AreUnheld, Closes, IsUnheld, Member}
 use Rattle.span_store.specs.Step.{IsParentFor}

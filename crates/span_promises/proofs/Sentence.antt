@@ -27,7 +27,7 @@ use Rattle.span_dispatch.specs.Serve.{Served, flat, kept_by, stack_of}
 use Rattle.span_dispatch.specs.declared.dispatch.Dispatch.{Dispatch}
 use Rattle.span_dispatch.specs.declared.request.Answer.{Answer}
 use Rattle.span_dispatch.specs.declared.request.Request.{Request}
-use Rattle.span_layers.specs.Layered.{inner_of, outer_of, with_inner}
+use Rattle.span_stacks.specs.Layered.{inner_of, outer_of, with_inner}
 use Rattle.span_promises.proofs.Closes.{kept_before}
 use Rattle.span_promises.proofs.Family.{once_apart, opens_made, parent_last}
 use Rattle.span_promises.proofs.Program.{program}
@@ -37,7 +37,7 @@ use Rattle.span_promises.proofs.Watched.{told_all, watched_form, watched_hears, 
 use Rattle.span_promises.specs.Watch.{Watched, lost_by, watcher_of}
 use Rattle.span_store.specs.Store.{AreIssued, Spans, empty_store}
 use Rattle.span_registry.specs.Conducts.{ActsAt}
-use Rattle.span_layers.specs.Filtered.{layer_of}
+use Rattle.span_stacks.specs.Filtered.{layer_of}
 use Rattle.span_promises.proofs.Wanted.{none_wanted_is_dropped}
 use Rattle.span_promises.specs.Begins.{ServesAtFirst}
 use Rattle.span_dispatch.specs.Contract.{SubscriberOf}

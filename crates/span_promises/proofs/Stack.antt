@@ -12,20 +12,21 @@ use Rattle.span_dispatch.specs.Serve.{IsReady}
 use Rattle.span_filters.specs.Filter.{settled_answers, unmoved}
 use Rattle.span_filters.specs.Level.{ActsByLevel, level_answers, level_taken}
 use Rattle.span_filters.specs.laws.Level.{level_honest}
-use Rattle.span_layers.proofs.CallerLemmas.{bare_stands, stands_on}
+use Rattle.span_stacks.proofs.CallerLemmas.{bare_stands, stands_on}
 use Rattle.span_layers.specs.Acts.{LeafActs}
-use Rattle.span_layers.specs.Attach.{Attaches}
-use Rattle.span_layers.specs.Filtered.{FilteredSteps, Hooked, IsNumber, IsUnnumbered, filter_of, id_of, layer_of}
-use Rattle.span_layers.specs.Honest.{IsBuiltLayer, IsHonestLayer, IsHonestStack}
+use Rattle.span_stacks.specs.Attach.{Attaches}
+use Rattle.span_stacks.specs.Filtered.{FilteredSteps, Hooked, IsNumber, IsUnnumbered, filter_of, id_of, layer_of}
+use Rattle.span_stacks.specs.Honest.{IsBuiltLayer, IsHonestLayer, IsHonestStack}
 use Rattle.span_layers.specs.Layer.{HearsBy, LayerSteps}
-use Rattle.span_layers.specs.Layered.{LayeredSteps, PairSteps, PartsForm, inner_of, outer_of, with_inner}
-use Rattle.span_layers.specs.Levels.{LevelsIf}
+use Rattle.span_layers.specs.Parts.{PartsForm}
+use Rattle.span_stacks.specs.Layered.{LayeredSteps, PairSteps, inner_of, outer_of, with_inner}
+use Rattle.span_stacks.specs.Levels.{LevelsIf}
 use Rattle.span_layers.specs.Number.{TakesNumbers, filters_in}
 use Rattle.span_layers.specs.Observe.{open_answers}
-use Rattle.span_layers.specs.Stands.{another, bare_hears, bare_steps, base_form, filtered_acts, filtered_form, filtered_hears, filtered_levels, filtered_steps}
-use Rattle.span_layers.specs.Stands.{itself, stack_acts, stack_form, stack_hears, stack_levels, stack_steps}
-use Rattle.span_layers.specs.Verdict.{NumbersStayOwn}
-use Rattle.span_layers.specs.declared.layered.Layered.{Layered}
+use Rattle.span_stacks.specs.Stands.{another, bare_hears, bare_steps, base_form, filtered_acts, filtered_form, filtered_hears, filtered_levels, filtered_steps}
+use Rattle.span_stacks.specs.Stands.{itself, stack_acts, stack_form, stack_hears, stack_levels, stack_steps}
+use Rattle.span_stacks.specs.Verdict.{NumbersStayOwn}
+use Rattle.span_stacks.specs.declared.layered.Layered.{Layered}
 use Rattle.span_layers.specs.laws.Leaf.{open_honest}
 use Rattle.span_store.specs.Closes.{HasNoClosing}
 use Rattle.span_store.specs.Store.{RegistryState, Store, new_registry}

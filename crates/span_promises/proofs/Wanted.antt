@@ -30,8 +30,8 @@ use Rattle.span_dispatch.specs.declared.request.Answer.{Answer}
 use Rattle.span_dispatch.specs.declared.request.Request.TheVariants as request
 use Rattle.span_dispatch.specs.declared.request.Request.{Request}
 use Rattle.span_filters.specs.Level.{level_answers}
-use Rattle.span_layers.specs.Verdict.{vetoes}
-use Rattle.span_layers.specs.Wanted.{IsUnwanted}
+use Rattle.span_stacks.specs.Verdict.{vetoes}
+use Rattle.span_stacks.specs.Wanted.{IsUnwanted}
 use Rattle.span_store.specs.Store.{RegistryState, Store}
 use Rattle.span_registry.specs.Behaviour.{OnEvent}
 use Rattle.span_registry.specs.Form.{Form}

@@ -14,18 +14,18 @@ use Rattle.span_dispatch.specs.Serve.{IsReady}
 use Rattle.span_filters.specs.Filter.{settled_answers, unmoved}
 use Rattle.span_filters.specs.Level.{level_answers, level_taken}
 use Rattle.span_filters.specs.laws.Level.{level_honest}
-use Rattle.span_layers.proofs.CallerLemmas.{bare_stands, stands_on}
-use Rattle.span_layers.specs.Attach.{Attaches}
-use Rattle.span_layers.specs.Filtered.{IsUnnumbered}
-use Rattle.span_layers.specs.Honest.{IsBuiltLayer, IsHonestLayer, IsHonestStack}
+use Rattle.span_stacks.proofs.CallerLemmas.{bare_stands, stands_on}
+use Rattle.span_stacks.specs.Attach.{Attaches}
+use Rattle.span_stacks.specs.Filtered.{IsUnnumbered}
+use Rattle.span_stacks.specs.Honest.{IsBuiltLayer, IsHonestLayer, IsHonestStack}
 use Rattle.span_layers.specs.Layer.{GoesBy, HearsBy, LayerSteps}
-use Rattle.span_layers.specs.Layered.{inner_of, outer_of, with_inner}
+use Rattle.span_stacks.specs.Layered.{inner_of, outer_of, with_inner}
 use Rattle.span_layers.specs.Number.{TakesNumbers, filters_in}
 use Rattle.span_layers.specs.Observe.{ObserverStep, observer_of}
-use Rattle.span_layers.specs.Stands.{another, bare_hears, bare_steps, base_form, filtered_form, filtered_hears, filtered_levels, filtered_steps, itself}
-use Rattle.span_layers.specs.Stands.{stack_form, stack_hears, stack_levels, stack_steps}
-use Rattle.span_layers.specs.Verdict.{NumbersStayOwn}
-use Rattle.span_layers.specs.declared.filtered.Filtered.{Filtered as FilteredLayer}
+use Rattle.span_stacks.specs.Stands.{another, bare_hears, bare_steps, base_form, filtered_form, filtered_hears, filtered_levels, filtered_steps, itself}
+use Rattle.span_stacks.specs.Stands.{stack_form, stack_hears, stack_levels, stack_steps}
+use Rattle.span_stacks.specs.Verdict.{NumbersStayOwn}
+use Rattle.span_stacks.specs.declared.filtered.Filtered.{Filtered as FilteredLayer}
 use Rattle.span_layers.specs.declared.observe.Observer.{Observer}
 use Rattle.span_layers.specs.laws.Leaf.{open_honest}
 use Rattle.span_store.specs.Closes.{HasNoClosing}

@@ -6,8 +6,8 @@ use Rattle.span_dispatch.specs.Recorder.{new_recorder}
 use Rattle.span_dispatch.specs.Serve.{kept_by, stack_of}
 use Rattle.span_dispatch.specs.declared.dispatch.Dispatch.{Dispatch}
 use Rattle.span_dispatch.specs.declared.request.Answer.{Answer}
-use Rattle.span_layers.specs.Filtered.{IsNumber, filter_of, id_of, layer_of}
-use Rattle.span_layers.specs.Layered.{inner_of, outer_of}
+use Rattle.span_stacks.specs.Filtered.{IsNumber, filter_of, id_of, layer_of}
+use Rattle.span_stacks.specs.Layered.{inner_of, outer_of}
 use Rattle.span_store.specs.Store.{empty_store}
 use Rattle.span_promises.specs.Two.{Answered, One, Two}
 

@@ -8,7 +8,7 @@ ghost use Rattle.span_promises.specs.Promises.{ClosesChildrenFirst, ClosesOnce, 
 
 use span_core::{FieldSet, Kind, Lane, Level, LevelFilter, Metadata, TraceError};
 use span_dispatch::{Answer, Dispatch, Recorder, Request, Which, WhichParent};
-use span_layers::{Filtered, LayerExt, Layered, SubscriberExt, laws};
+use span_stacks::{Filtered, LayerExt, Layered, SubscriberExt, laws};
 use span_registry::{Registry, Subscriber};
 use std::alloc::Global;
 

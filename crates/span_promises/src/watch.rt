@@ -7,7 +7,8 @@ ghost use Rattle.span_registry.specs.View.{is_shown, view_of};
 
 use span_core::{Id, LevelFilter, TraceError};
 use span_dispatch::{Answer, Dispatch, Request};
-use span_layers::{Filtered, LayerExt, Layered, Observe, Observer, SubscriberExt, laws};
+use span_layers::{Observe, Observer};
+use span_stacks::{Filtered, LayerExt, Layered, SubscriberExt, laws};
 use span_registry::{ContextMut, LookupSpan, Notice, Registry, Subscriber};
 use std::alloc::Global;
 

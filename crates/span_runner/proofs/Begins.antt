@@ -6,11 +6,12 @@ use Rattle.span_core.specs.declared.level.TheConstants.LevelFilter.{INFO, TRACE,
 use Rattle.span_dispatch.specs.Recorder.{RecorderState, new_recorder}
 use Rattle.span_filters.specs.Filter.{settled_answers}
 use Rattle.span_filters.specs.Level.{level_answers}
-use Rattle.span_layers.specs.Filtered.{FilteredForm, IsNumber, IsUnnumbered, filter_of, id_of, layer_of}
-use Rattle.span_layers.specs.Layered.{PartsForm, inner_of, outer_of, with_inner}
+use Rattle.span_stacks.specs.Filtered.{FilteredForm, IsNumber, IsUnnumbered, filter_of, id_of, layer_of}
+use Rattle.span_layers.specs.Parts.{PartsForm}
+use Rattle.span_stacks.specs.Layered.{inner_of, outer_of, with_inner}
 use Rattle.span_layers.specs.Number.{numbered}
-use Rattle.span_layers.specs.declared.filtered.Filtered.{Filtered as FilteredLayer}
-use Rattle.span_layers.specs.declared.layered.Layered.{Layered}
+use Rattle.span_stacks.specs.declared.filtered.Filtered.{Filtered as FilteredLayer}
+use Rattle.span_stacks.specs.declared.layered.Layered.{Layered}
 use Rattle.span_store.specs.Store.{RegistryState, new_registry}
 use Rattle.span_store.specs.declared.limits.Limits.{Limits}
 use Rattle.span_registry.specs.Form.{Filtered, Form, InPair, Parts}

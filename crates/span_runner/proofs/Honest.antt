@@ -8,13 +8,13 @@ use Rattle.span_dispatch.specs.Recorder.{RecorderState}
 use Rattle.span_filters.specs.Filter.{unlevelled}
 use Rattle.span_filters.specs.Level.{level_answers, level_taken}
 use Rattle.span_filters.specs.laws.Level.{level_honest}
-use Rattle.span_layers.specs.Filtered.{IsNumber, filter_of, id_of, layer_of}
-use Rattle.span_layers.specs.Honest.{IsBuiltLayer, IsHonestStack}
-use Rattle.span_layers.specs.Layered.{inner_of, outer_of}
+use Rattle.span_stacks.specs.Filtered.{IsNumber, filter_of, id_of, layer_of}
+use Rattle.span_stacks.specs.Honest.{IsBuiltLayer, IsHonestStack}
+use Rattle.span_stacks.specs.Layered.{inner_of, outer_of}
 use Rattle.span_layers.specs.Observe.{open_answers}
 use Rattle.span_layers.specs.Optional.{OptionGoes}
-use Rattle.span_layers.specs.declared.filtered.Filtered.{Filtered as FilteredLayer}
-use Rattle.span_layers.specs.declared.layered.Layered.{Layered}
+use Rattle.span_stacks.specs.declared.filtered.Filtered.{Filtered as FilteredLayer}
+use Rattle.span_stacks.specs.declared.layered.Layered.{Layered}
 use Rattle.span_layers.specs.laws.Leaf.{open_honest}
 use Rattle.span_store.specs.Store.{RegistryState}
 use Rattle.span_store.specs.declared.limits.Limits.{Limits}

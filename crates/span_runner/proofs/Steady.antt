@@ -18,16 +18,18 @@ use Rattle.span_dispatch.specs.declared.request.Answer.{Answer}
 use Rattle.span_dispatch.specs.declared.request.Request.{Request}
 use Rattle.span_filters.specs.Filter.{FilterLevelSteps, settled_answers, unmoved}
 use Rattle.span_filters.specs.Level.{level_answers}
-use Rattle.span_layers.specs.Filtered.{FilteredForm, FilteredSteps, Hooked, IsNumber, filter_of, id_of, layer_of}
-use Rattle.span_layers.specs.Honest.{IsHonestStack}
+use Rattle.span_stacks.specs.Filtered.{FilteredForm, FilteredSteps, Hooked, IsNumber, filter_of, id_of, layer_of}
+use Rattle.span_stacks.specs.Honest.{IsHonestStack}
 use Rattle.span_layers.specs.Idle.{IdleSteps}
 use Rattle.span_layers.specs.Layer.{HearsBy, LayerSteps}
-use Rattle.span_layers.specs.Layered.{LayeredSteps, PartsForm, PairSteps, inner_of, outer_of, with_inner}
-use Rattle.span_layers.specs.Levels.{FilteredLevels, LayeredLevels, LevelsIf, OptionLevels}
+use Rattle.span_layers.specs.Parts.{PartsForm}
+use Rattle.span_stacks.specs.Layered.{LayeredSteps, PairSteps, inner_of, outer_of, with_inner}
+use Rattle.span_layers.specs.Levels.{OptionLevels}
+use Rattle.span_stacks.specs.Levels.{FilteredLevels, LayeredLevels, LevelsIf}
 use Rattle.span_layers.specs.Optional.{OptionForm, OptionGoes, OptionSteps}
 use Rattle.span_layers.specs.Veto.{VetoForm}
-use Rattle.span_layers.specs.declared.filtered.Filtered.{Filtered as FilteredLayer}
-use Rattle.span_layers.specs.declared.layered.Layered.{Layered}
+use Rattle.span_stacks.specs.declared.filtered.Filtered.{Filtered as FilteredLayer}
+use Rattle.span_stacks.specs.declared.layered.Layered.{Layered}
 use Rattle.span_store.specs.Closes.{HasNoClosing}
 use Rattle.span_store.specs.Store.{RegistryState}
 use Rattle.span_store.specs.declared.limits.Limits.{Limits}

@@ -17,12 +17,12 @@ use Rattle.span_dispatch.specs.declared.recorded.Recorded.{Recorded}
 use Rattle.span_dispatch.specs.declared.request.Answer.{Answer}
 use Rattle.span_dispatch.specs.declared.request.Request.{Request}
 use Rattle.span_filters.specs.Level.{level_answers}
-use Rattle.span_layers.specs.Filtered.{IsNumber, filter_of, id_of, layer_of}
-use Rattle.span_layers.specs.Layered.{inner_of, outer_of}
+use Rattle.span_stacks.specs.Filtered.{IsNumber, filter_of, id_of, layer_of}
+use Rattle.span_stacks.specs.Layered.{inner_of, outer_of}
 use Rattle.span_layers.specs.Number.{filters_in}
 use Rattle.span_layers.specs.Observe.{open_answers}
-use Rattle.span_layers.specs.declared.filtered.Filtered.{Filtered as FilteredLayer}
-use Rattle.span_layers.specs.declared.layered.Layered.{Layered}
+use Rattle.span_stacks.specs.declared.filtered.Filtered.{Filtered as FilteredLayer}
+use Rattle.span_stacks.specs.declared.layered.Layered.{Layered}
 use Rattle.span_store.specs.Store.{RegistryState, new_registry}
 use Rattle.span_store.specs.declared.limits.Limits.{Limits}
 use Rattle.span_registry.specs.Form.{Absent, Terminal, Base, Filtered, Form, InPair, Leaf, OnSubscriber, Parts}

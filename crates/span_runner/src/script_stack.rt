@@ -2,8 +2,8 @@
 ghost use Rattle.std.specs.Prelude.{◌≡◌, ◌∷◌, [], ℕ, List, IfErr, IfOk, codes, false, map, refl};
 ghost use Rattle.std.specs.Prelude.{string_bytes};
 ghost use Rattle.span_dispatch.specs.declared.recorded.Recorded.{Recorded};
-ghost use Rattle.span_layers.specs.Filtered.{layer_of};
-ghost use Rattle.span_layers.specs.Layered.{inner_of, outer_of};
+ghost use Rattle.span_stacks.specs.Filtered.{layer_of};
+ghost use Rattle.span_stacks.specs.Layered.{inner_of, outer_of};
 ghost use Rattle.span_runner.specs.Printed.{IsPrinted};
 ghost use Rattle.span_script.specs.Script.{lines_of, recorders_of};
 ghost use Rattle.span_script.specs.declared.stack_name.StackName.{StackName};

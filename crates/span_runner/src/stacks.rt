@@ -2,11 +2,11 @@
 ghost use Rattle.std.specs.Prelude.{◌≡◌, ◌≤◌, ◌∷◌, [], codes, string_bytes, IfErr, IfOk, false};
 ghost use Rattle.span_core.specs.declared.filter.TheConstants.FilterId.{LIMIT};
 ghost use Rattle.span_core.specs.declared.level.TheConstants.LevelFilter.{INFO};
-ghost use Rattle.span_layers.specs.Layered.{inner_of, outer_of};
+ghost use Rattle.span_stacks.specs.Layered.{inner_of, outer_of};
 ghost use Rattle.span_runner.specs.Printed.{Gives, GivesShared, IsPrinted, PrintsInUse};
 ghost use Rattle.span_script.specs.Script.{lines_of, stack_of};
 ghost use Rattle.span_runner.specs.Stacks.{ArePositive, BeginsAbsent, BeginsNested, BeginsPair, BeginsPlain, BeginsVeto, BeginsWarned, HasRoom};
-ghost use Rattle.span_layers.specs.Attach.{Attaches};
+ghost use Rattle.span_stacks.specs.Attach.{Attaches};
 ghost use Rattle.span_store.specs.Store.{IsFresh};
 
 use crate::fault::RunFault;
@@ -17,7 +17,8 @@ use crate::script_stack::ScriptStack;
 use crate::way::{Alone, Way};
 use span_core::LevelFilter;
 use span_dispatch::{Answer, Recorder};
-use span_layers::{Filtered, Layer, LayerExt, Layered, SubscriberExt};
+use span_layers::Layer;
+use span_stacks::{Filtered, LayerExt, Layered, SubscriberExt};
 use span_registry::{Limits, Registry, Subscriber};
 use span_script::{Script, StackName};
 use std::alloc::Global;

@@ -6,16 +6,16 @@ use Rattle.span_dispatch.specs.Serve.{IsReady}
 use Rattle.span_filters.specs.Filter.{settled_answers}
 use Rattle.span_filters.specs.Level.{level_answers}
 use Rattle.span_filters.specs.laws.Level.{level_honest}
-use Rattle.span_layers.proofs.CallerLemmas.{bare_stands, stands_on}
-use Rattle.span_layers.specs.Attach.{Attaches}
-use Rattle.span_layers.specs.Filtered.{IsUnnumbered, filter_of, id_of, layer_of}
-use Rattle.span_layers.specs.Honest.{IsHonestLayer, IsHonestStack}
+use Rattle.span_stacks.proofs.CallerLemmas.{bare_stands, stands_on}
+use Rattle.span_stacks.specs.Attach.{Attaches}
+use Rattle.span_stacks.specs.Filtered.{IsUnnumbered, filter_of, id_of, layer_of}
+use Rattle.span_stacks.specs.Honest.{IsHonestLayer, IsHonestStack}
 use Rattle.span_layers.specs.Number.{filters_in, numbered}
 use Rattle.span_layers.specs.Observe.{open_answers}
-use Rattle.span_layers.specs.Stands.{Stands, another, base_form, filtered_form, itself, registry_on, stack_form}
-use Rattle.span_layers.specs.Verdict.{NumbersStayOwn}
-use Rattle.span_layers.specs.declared.filtered.Filtered.{Filtered as FilteredLayer}
-use Rattle.span_layers.specs.declared.layered.Layered.{Layered}
+use Rattle.span_stacks.specs.Stands.{Stands, another, base_form, filtered_form, itself, registry_on, stack_form}
+use Rattle.span_stacks.specs.Verdict.{NumbersStayOwn}
+use Rattle.span_stacks.specs.declared.filtered.Filtered.{Filtered as FilteredLayer}
+use Rattle.span_stacks.specs.declared.layered.Layered.{Layered}
 use Rattle.span_layers.specs.declared.observe.Observer.{Observer}
 use Rattle.span_layers.specs.laws.Leaf.{open_honest}
 use Rattle.span_store.specs.Closes.{HasNoClosing}

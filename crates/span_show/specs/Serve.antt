@@ -19,9 +19,9 @@ use Rattle.span_fmt.specs.Told.{heard_lines, heard_text}
 use Rattle.span_fmt.specs.Tree as tree
 use Rattle.span_fmt.specs.declared.lines.Lines.{Lines}
 use Rattle.span_fmt.specs.declared.tree.Tree.{Tree}
-use Rattle.span_layers.specs.Filtered.{filter_of}
-use Rattle.span_layers.specs.Honest.{IsHonestLayer}
-use Rattle.span_layers.specs.Layered.{inner_of, outer_of}
+use Rattle.span_stacks.specs.Filtered.{filter_of}
+use Rattle.span_stacks.specs.Honest.{IsHonestLayer}
+use Rattle.span_stacks.specs.Layered.{inner_of, outer_of}
 use Rattle.span_layers.specs.Number.{filters_in}
 use Rattle.span_store.specs.Store.{RegistryState, empty_store}
 use Rattle.span_store.specs.declared.limits.TheConstants.Limits.{MAX}

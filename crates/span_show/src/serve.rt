@@ -1,14 +1,15 @@
 //! Requests, served on a new registry with a tree, with lines or with a timeline outside it.
 ghost use Rattle.std.specs.List.{AllByRecursion};
 ghost use Rattle.std.specs.Prelude.{◌≡◌, IfErr, IfOk, false, string_bytes};
-ghost use Rattle.span_layers.specs.Layered.{inner_of, outer_of};
+ghost use Rattle.span_stacks.specs.Layered.{inner_of, outer_of};
 ghost use Rattle.span_show.specs.Serve.{AreLinesOf, ArePointsOf, FoundMemory, HasAllRoom, HasRoomOnNew, IsReadyStack, IsTreeOf};
 
 use crate::fault::ShowFault;
 use span_core::{LevelFilter, TraceError};
 use span_dispatch::{Answer, Dispatch, Request};
 use span_fmt::{Lines, Tree, WithLines, WithTree, serve_lines, serve_tree};
-use span_layers::{Layer, LayerExt, Layered, Observer, SubscriberExt, laws};
+use span_layers::{Layer, Observer};
+use span_stacks::{LayerExt, Layered, SubscriberExt, laws};
 use span_registry::{Registry, Subscriber};
 use span_times::{Counted, Point, Timeline, WithTimeline, serve_timed};
 use std::alloc::Global;

@@ -1,12 +1,13 @@
 //! The receiver that the threads share: a layer that counts, over one that vetoes what is less severe than info, over a registry.
-ghost use Rattle.span_layers.specs.Layered.{inner_of};
+ghost use Rattle.span_stacks.specs.Layered.{inner_of};
 ghost use Rattle.span_store.specs.Store.{IsFresh};
 ghost use Rattle.std.specs.Prelude.{◌≡◌, IfOk};
 
 use crate::counter::Counter;
 use crate::fault::Fault;
 use span_core::LevelFilter;
-use span_layers::{Layered, Observer, SubscriberExt};
+use span_layers::Observer;
+use span_stacks::{Layered, SubscriberExt};
 use span_registry::Subscriber;
 
 /// A layer that counts, over a stack.

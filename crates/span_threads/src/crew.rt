@@ -5,7 +5,7 @@ ghost use Rattle.std.specs.Prelude.{◌≡◌, ◌+◌, IfOk, vec_len};
 use crate::work::{Worked, work};
 use span_core::TraceError;
 use span_dispatch::{Dispatch, Recorder};
-use span_layers::{Layered, SubscriberExt};
+use span_stacks::{Layered, SubscriberExt};
 use span_registry::{Registry, Subscriber};
 use span_shared::{Crew, Shared, Worker};
 use std::alloc::Global;

@@ -10,9 +10,9 @@ use Rattle.span_dispatch.specs.declared.dispatch.Dispatch.{Dispatch}
 use Rattle.span_dispatch.specs.declared.request.Answer.{Answer}
 use Rattle.span_dispatch.specs.declared.request.Request.{Request}
 use Rattle.span_layers.specs.Layer.{HearsBy}
-use Rattle.span_layers.specs.Layered.{outer_of}
+use Rattle.span_stacks.specs.Layered.{outer_of}
 use Rattle.span_layers.specs.Observe.{ObserverStep, observer_of}
-use Rattle.span_layers.specs.declared.layered.Layered.{Layered}
+use Rattle.span_stacks.specs.declared.layered.Layered.{Layered}
 use Rattle.span_layers.specs.declared.observe.Observer.{Observer}
 use Rattle.span_registry.specs.Position.{Heard, Here, Outer, Position}
 use Rattle.span_times.specs.Clock.{NeverGoBack, Reads}

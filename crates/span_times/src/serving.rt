@@ -8,7 +8,8 @@ use crate::clock::Now;
 use crate::timeline::Timeline;
 use span_core::TraceError;
 use span_dispatch::{Answer, Dispatch, Request};
-use span_layers::{Layered, Observer};
+use span_layers::Observer;
+use span_stacks::Layered;
 use span_registry::Subscriber;
 use std::alloc::Global;
 

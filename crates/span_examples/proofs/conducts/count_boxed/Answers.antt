@@ -2,8 +2,8 @@ use Rattle.std.proofs.Common.{◌∙◌, ap, refl, rules, subst, sym}
 use Rattle.span_filters.proofs.CallerLemmas.{acts_in_a_box, answers_in_a_box, in_a_box}
 use Rattle.span_filters.specs.Level.{level_answers, level_conduct}
 use Rattle.span_filters.specs.laws.Level.{level_laws}
-use Rattle.span_layers.specs.Filtered.{layer_of}
-use Rattle.span_layers.specs.Layered.{outer_of}
+use Rattle.span_stacks.specs.Filtered.{layer_of}
+use Rattle.span_stacks.specs.Layered.{outer_of}
 use Rattle.span_examples.proofs.Standing.{counts_under}
 use Rattle.span_examples.specs.Kinds.{IsCounted}
 use Rattle.span_examples.proofs.conducts.count_boxed.OwnLists.{own-1, at-1-1}

@@ -2,9 +2,9 @@ use Rattle.std.proofs.Common.{◌∙◌, None, ap, refl, rules, subst, sym}
 use Rattle.span_filters.proofs.Views.{shown_by_some}
 use Rattle.span_filters.specs.Closure.{AnswersAllIn, interest_under, view_answers}
 use Rattle.span_filters.specs.laws.Closure.{made_of_test}
-use Rattle.span_layers.specs.Filtered.{layer_of}
-use Rattle.span_layers.specs.Layered.{outer_of}
-use Rattle.span_layers.specs.Stands.{another, itself}
+use Rattle.span_stacks.specs.Filtered.{layer_of}
+use Rattle.span_stacks.specs.Layered.{outer_of}
+use Rattle.span_stacks.specs.Stands.{another, itself}
 use Rattle.span_registry.specs.Context.{view_in}
 use Rattle.span_examples.proofs.Standing.{counts_under, in_span_plain}
 use Rattle.span_examples.specs.Kinds.{IsCounted, in_a_span}

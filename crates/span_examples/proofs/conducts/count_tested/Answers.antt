@@ -4,8 +4,8 @@ use Rattle.span_core.specs.Metadata.{level_of}
 use Rattle.span_core.specs.declared.level.LevelFilter.{LevelFilter}
 use Rattle.span_core.specs.declared.metadata.Metadata.{Metadata}
 use Rattle.span_filters.specs.Closure.{GoesByWhatShows, test_answers}
-use Rattle.span_layers.specs.Filtered.{layer_of}
-use Rattle.span_layers.specs.Layered.{outer_of}
+use Rattle.span_stacks.specs.Filtered.{layer_of}
+use Rattle.span_stacks.specs.Layered.{outer_of}
 use Rattle.span_examples.proofs.Standing.{counts_under, tested}
 use Rattle.span_examples.specs.Kinds.{IsCounted}
 use Rattle.span_examples.proofs.conducts.count_tested.Goals as goal

@@ -1,6 +1,6 @@
 use Rattle.std.proofs.Common.{◌∙◌, [], ◌∷◌, Some, refl, subst, sym}
 use Rattle.span_dispatch.proofs.CallerLemmas.{heard_records}
-use Rattle.span_layers.specs.Filtered.{IsNumber}
+use Rattle.span_stacks.specs.Filtered.{IsNumber}
 use Rattle.span_registry.specs.Position.{Here, Outer, Under}
 use Rattle.span_examples.proofs.Standing.{finds_room, fits, put_on, records_alone, takes_first}
 use Rattle.span_examples.specs.Kinds.{recorder_under}

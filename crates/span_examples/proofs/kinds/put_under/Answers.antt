@@ -1,6 +1,6 @@
 use Rattle.std.proofs.Common.{◌∙◌, [], refl}
 use Rattle.span_dispatch.proofs.CallerLemmas.{heard_records}
-use Rattle.span_layers.specs.Layered.{outer_of}
+use Rattle.span_stacks.specs.Layered.{outer_of}
 use Rattle.span_registry.specs.Position.{Here, Outer}
 use Rattle.span_examples.proofs.Standing.{finds_room, leaves_room, put_over, records_alone}
 use Rattle.span_examples.proofs.kinds.put_under.Goals as goal

@@ -1,5 +1,5 @@
 use Rattle.std.proofs.Common.{◌∙◌, arith, ap, refl}
-use Rattle.span_layers.specs.Layered.{inner_of, with_inner}
+use Rattle.span_stacks.specs.Layered.{inner_of, with_inner}
 use Rattle.span_registry.specs.Form.{Terminal, Base}
 use Rattle.span_examples.proofs.Lines.{new_outlined}
 use Rattle.span_examples.proofs.PutOn.{another, bare_form, bare_stands, form_on, itself, on_form, put_on, ready, room_for_one}

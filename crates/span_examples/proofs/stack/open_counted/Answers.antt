@@ -1,5 +1,5 @@
 use Rattle.std.proofs.Common.{ap, subst, sym}
-use Rattle.span_layers.specs.Filtered.{IsNumber}
+use Rattle.span_stacks.specs.Filtered.{IsNumber}
 use Rattle.std.specs.Prelude.{Some}
 use Rattle.span_examples.specs.Stacks.{IsNumbered, level_in}
 use Rattle.span_examples.proofs.Counter.{either_way, goes, on_ok}

@@ -1,5 +1,5 @@
 use Rattle.std.proofs.Common.{subst, sym}
-use Rattle.span_layers.specs.Filtered.{IsUnnumbered}
+use Rattle.span_stacks.specs.Filtered.{IsUnnumbered}
 use Rattle.span_promises.specs.Two.{One}
 use Rattle.span_promises.proofs.Stack.{finds_room, in_use, put_on}
 use Rattle.span_promises.proofs.two.serve_at_first.Goals as goal

@@ -1,6 +1,6 @@
 use Rattle.std.proofs.Common.{◌≡◌, None, arith, refl, ap, ◌∙◌}
 use Rattle.span_dispatch.specs.Recorder.{RecorderState}
-use Rattle.span_layers.specs.Layered.{outer_of}
+use Rattle.span_stacks.specs.Layered.{outer_of}
 use Rattle.span_store.specs.Store.{RegistryState}
 use Rattle.span_registry.specs.Form.{Absent, Terminal}
 use Rattle.span_runner.specs.Stacks.{leaf}

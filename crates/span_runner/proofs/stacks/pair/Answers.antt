@@ -1,6 +1,6 @@
 use Rattle.std.proofs.Common.{subst, sym}
 use Rattle.span_core.specs.declared.level.TheConstants.LevelFilter.{INFO, TRACE}
-use Rattle.span_layers.specs.Filtered.{IsUnnumbered}
+use Rattle.span_stacks.specs.Filtered.{IsUnnumbered}
 use Rattle.span_runner.proofs.Begins.{Levelled, begins_pair, pair_has_room}
 use Rattle.span_runner.proofs.stacks.pair.Goals as goal
 

@@ -3,8 +3,8 @@ use Rattle.span_dispatch.specs.Recorder.{RecorderState, recorder_steps}
 use Rattle.span_dispatch.specs.Serve.{kept_by, stack_of}
 use Rattle.span_dispatch.specs.declared.recorded.Recorded.{Recorded}
 use Rattle.span_filters.specs.Level.{level_answers}
-use Rattle.span_layers.specs.Filtered.{layer_of}
-use Rattle.span_layers.specs.Layered.{inner_of, outer_of}
+use Rattle.span_stacks.specs.Filtered.{layer_of}
+use Rattle.span_stacks.specs.Layered.{inner_of, outer_of}
 use Rattle.span_registry.specs.Levels.{unlevelled}
 use Rattle.span_registry.specs.Position.{Here, Inner, Outer, Under}
 use Rattle.span_runner.proofs.Gives.{gives, one_ok}

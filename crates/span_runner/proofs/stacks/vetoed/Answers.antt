@@ -1,7 +1,7 @@
 use Rattle.std.proofs.Common.{ap, refl, true, ◌∙◌}
 use Rattle.span_core.specs.declared.level.TheConstants.LevelFilter.{INFO}
 use Rattle.span_filters.specs.Level.{level_answers}
-use Rattle.span_layers.specs.Layered.{inner_of, with_inner}
+use Rattle.span_stacks.specs.Layered.{inner_of, with_inner}
 use Rattle.span_registry.specs.Form.{Leaf}
 use Rattle.span_runner.specs.Mute.{mute_answers}
 use Rattle.span_runner.proofs.Begins.{as_before, no_more}

@@ -5,8 +5,8 @@ use Rattle.span_fmt.specs.Serve.{observer_in, observer_position}
 use Rattle.span_fmt.specs.Known.{SpanTexts, nothing_known}
 use Rattle.span_fmt.specs.Told.{heard_lines}
 use Rattle.span_fmt.specs.Lines.{has_failed, known_of, text_of}
-use Rattle.span_layers.specs.Filtered.{layer_of}
-use Rattle.span_layers.specs.Layered.{outer_of}
+use Rattle.span_stacks.specs.Filtered.{layer_of}
+use Rattle.span_stacks.specs.Layered.{outer_of}
 use Rattle.span_layers.specs.Observe.{observer_of}
 use Rattle.span_show.proofs.Answered.{all_found, has_all_room}
 use Rattle.span_show.proofs.New.{levelled_honest}

@@ -4,8 +4,8 @@ use Rattle.span_dispatch.specs.Serve.{flat, stack_of}
 use Rattle.span_fmt.specs.Serve.{observer_in, observer_position}
 use Rattle.span_fmt.specs.Told.{heard_text}
 use Rattle.span_fmt.specs.Tree.{has_failed, text_of}
-use Rattle.span_layers.specs.Filtered.{layer_of}
-use Rattle.span_layers.specs.Layered.{outer_of}
+use Rattle.span_stacks.specs.Filtered.{layer_of}
+use Rattle.span_stacks.specs.Layered.{outer_of}
 use Rattle.span_layers.specs.Observe.{observer_of}
 use Rattle.span_show.proofs.Answered.{all_found, has_all_room}
 use Rattle.span_show.proofs.New.{levelled_honest}

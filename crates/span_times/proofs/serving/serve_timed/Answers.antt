@@ -1,6 +1,6 @@
 use Rattle.span_dispatch.specs.Alone.{passed_at}
 use Rattle.span_dispatch.specs.Serve.{flat, stack_of}
-use Rattle.span_layers.specs.Layered.{outer_of}
+use Rattle.span_stacks.specs.Layered.{outer_of}
 use Rattle.span_times.proofs.CallerLemmas.{keeps_told}
 use Rattle.span_times.specs.Serving.{timeline_position}
 use Rattle.span_times.proofs.serving.serve_timed.Goals as goal

@@ -1,4 +1,4 @@
-use Rattle.span_layers.proofs.Built.{rules_of}
+use Rattle.span_stacks.proofs.Built.{rules_of}
 use Rattle.std.proofs.Common.{refl, rules}
 use Rattle.span_dispatch.proofs.Admits.{admits_always, admits_asked, admits_never}
 use Rattle.span_dispatch.proofs.Registered.{registered_still}

@@ -1,8 +1,8 @@
 use Rattle.std.proofs.Common.{◌∷◌, [], ℕ, List, IfOk, codes, string_bytes, subst, ap, ◌∙◌, ◌≡◌, false}
 use Rattle.span_dispatch.specs.Recorder.{RecorderState}
 use Rattle.span_dispatch.specs.declared.recorded.Recorded.{Recorded}
-use Rattle.span_layers.specs.Filtered.{layer_of}
-use Rattle.span_layers.specs.Layered.{outer_of}
+use Rattle.span_stacks.specs.Filtered.{layer_of}
+use Rattle.span_stacks.specs.Layered.{outer_of}
 use Rattle.span_runner.proofs.Gives.{two_ok}
 use Rattle.span_runner.specs.Printed.{IsPrinted}
 use Rattle.span_script.specs.Script.{lines_of}

@@ -1,5 +1,0 @@
-use Rattle.span_layers.proofs.Pass.{reached}
-use Rattle.span_layers.proofs.laws.a_leaf_is_notified_by_its_path.Goals as goal
-
-pub returns : goal.returns
-returns c = reached

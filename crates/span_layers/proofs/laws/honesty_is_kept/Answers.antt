@@ -1,5 +1,0 @@
-use Rattle.span_layers.proofs.RulesKept.{honesty_is_kept}
-use Rattle.span_layers.proofs.laws.honesty_is_kept.Goals as goal
-
-pub returns : goal.returns
-returns c = honesty_is_kept

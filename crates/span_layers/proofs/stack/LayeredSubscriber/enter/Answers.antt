@@ -1,7 +1,0 @@
-use Rattle.span_layers.proofs.Parts.{stack_notified}
-use Rattle.span_layers.proofs.stack.LayeredSubscriber.enter.Goals as goal
-
-pub returns-in-Ok-clause-entered : goal.returns-in-Ok-clause-entered
-returns-in-Ok-clause-entered g c =
-    stack_notified g.L.Layer.stepped g.I.Subscriber.stepped g.L.Layer.has_form g.I.Subscriber.has_form
-    c.in-Ok.ensures.entered c.new-ctx.ensures.lent (λ i n. c.new.ensures.refused n i) c.notify.ensures.rest c.notify.ensures.alone c.notify.ensures.hook

@@ -1,8 +1,0 @@
-use Rattle.std.proofs.Common.{refl}
-use Rattle.span_layers.proofs.Parts.{stack_notified}
-use Rattle.span_layers.proofs.stack.LayeredSubscriber.event.Goals as goal
-
-pub returns-clause-hooks : goal.returns-clause-hooks
-returns-clause-hooks g c =
-    stack_notified g.L.Layer.stepped g.I.Subscriber.stepped g.L.Layer.has_form g.I.Subscriber.has_form
-    c.event.ensures.hooks c.new-ctx.ensures.lent refl c.notify.ensures.rest c.notify.ensures.alone c.notify.ensures.hook

@@ -1,0 +1,11 @@
+pub mod Acts
+pub mod Attach
+pub mod Filtered
+pub mod Honest
+pub mod Layered
+pub mod Levels
+pub mod Stands
+pub mod Takes
+pub mod Verdict
+pub mod Wanted
+pub mod laws

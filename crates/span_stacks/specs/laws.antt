@@ -1,0 +1,5 @@
+pub mod Filtered
+pub mod Level
+pub mod Pair
+pub mod Path
+pub mod Stack
