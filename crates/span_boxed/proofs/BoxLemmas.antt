@@ -10,7 +10,7 @@ use Rattle.span_boxed.specs.Boxed.{ActsPlainlyAt, LevelsLawfully, RegistersLawfu
 use Rattle.span_core.specs.Filters.{FilterSet, has_filter, refuses}
 use Rattle.span_core.specs.declared.level.LevelFilter.{LevelFilter}
 use Rattle.span_core.specs.declared.pass.Pass.{Pass}
-use Rattle.span_filters.specs.Boxed.{itself, replaced}
+use Rattle.span_boxed.specs.Filter.{itself, replaced}
 use Rattle.span_layers.specs.Acts.{PathLaws}
 use Rattle.span_layers.specs.Layer.{LayerLaws, LayerSteps, Notified}
 use Rattle.span_layers.specs.Number.{TakesNumbers, numbered}

@@ -8,7 +8,7 @@ use Rattle.span_boxed.proofs.BoxLemmas.{acts_plainly}
 use Rattle.span_boxed.specs.Boxed.{ActsPlainlyAt, ChangesInside, Further, HearsInside, HearsLawfully, Levelled, LevelsInside, Nothing, StepsInside}
 use Rattle.span_boxed.specs.declared.boxed.BoxedLayer.{BoxedLayer}
 use Rattle.span_core.specs.Filters.{FilterSet}
-use Rattle.span_filters.proofs.CallerLemmas.{IsBoxOf, in_a_box}
+use Rattle.span_boxed.proofs.FilterCallerLemmas.{IsBoxOf, in_a_box}
 use Rattle.span_layers.specs.Acts.{PathLaws}
 use Rattle.span_layers.specs.Layer.{LayerSteps}
 use Rattle.span_store.specs.Store.{RegistryState}

@@ -1,2 +1,4 @@
 mod BoxLemmas
 pub mod CallerLemmas
+pub mod FilterCallerLemmas
+mod FilterLemmas

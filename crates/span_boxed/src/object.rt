@@ -1,7 +1,7 @@
 //! Layers over the registry as objects: what a box may hold.
 ghost use Rattle.std.specs.Prelude.{◌≡◌, false, min};
 ghost use Rattle.span_boxed.specs.Boxed.{LevelsLawfully, RegistersLawfully, StepsLawfully};
-ghost use Rattle.span_filters.specs.Boxed.{itself, replaced};
+ghost use Rattle.span_boxed.specs.Filter.{itself, replaced};
 ghost use Rattle.span_layers.specs.Layer.{LayerEnabled, LayerEvent, LayerInterest, LayerSteps, Notified};
 ghost use Rattle.span_layers.specs.Number.{TakesNumbers, filters_in};
 ghost use Rattle.span_registry.specs.Conducts.{ActsAt};

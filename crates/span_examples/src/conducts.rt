@@ -13,9 +13,8 @@ use crate::isolation::WithAnswers;
 use crate::kinds::serve_new;
 use span_core::{LevelFilter, Metadata, TraceError};
 use span_dispatch::{Answer, Recorder, Request};
-use span_filters::{
-    And, BoxedFilter, DynFilter, Filter, FilterExt, Not, Or, dynamic_filter_fn, filter_fn, laws,
-};
+use span_boxed::{BoxedFilter, DynFilter};
+use span_filters::{And, Filter, FilterExt, Not, Or, dynamic_filter_fn, filter_fn, laws, };
 use span_stacks::{Filtered, LayerExt, Layered, SubscriberExt};
 use span_registry::{Context, Registry, Subscriber};
 use std::alloc::Global;

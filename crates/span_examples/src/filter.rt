@@ -10,7 +10,8 @@ ghost use Rattle.span_examples.specs.Filters.{is_marked, view_on, target_answers
 ghost use Rattle.span_examples.specs.laws.Target.{goes_by_target};
 
 use span_core::{Event, Interest, Lane, LevelFilter, Metadata};
-use span_filters::{AlwaysUsableFilter, BoxedFilter, DynFilter, Filter, dynamic_filter_fn};
+use span_boxed::{BoxedFilter, DynFilter};
+use span_filters::{AlwaysUsableFilter, Filter, dynamic_filter_fn};
 use span_registry::{Context, ContextMut, ExtensionValue, LookupSpan, Notice, Registry, Tag};
 use std::alloc::{AllocError, Global};
 

@@ -1,4 +1,3 @@
 pub mod CallerLemmas
-mod BoxLemmas
 mod Hooks
 pub mod Views

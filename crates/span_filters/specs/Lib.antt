@@ -1,4 +1,3 @@
-pub mod Boxed
 pub mod Closure
 pub mod Combinator
 pub mod Filter

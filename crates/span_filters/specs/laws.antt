@@ -1,5 +1,4 @@
 pub mod And
-pub mod Boxed
 pub mod Closure
 pub mod Combinator
 pub mod Filter

@@ -2,7 +2,6 @@
 #![tactic(auto)]
 
 mod always;
-mod boxed;
 mod closure;
 mod combinator;
 mod filter;
@@ -11,7 +10,6 @@ pub mod laws;
 mod level;
 
 pub use always::AlwaysUsableFilter;
-pub use boxed::{BoxedFilter, DynFilter};
 pub use closure::{DynFilterFn, FilterFn, dynamic_filter_fn, filter_fn};
 pub use combinator::{And, FilterExt, Not, Or};
 pub use filter::Filter;

@@ -7,7 +7,8 @@ ghost use Rattle.std.specs.Prelude.{◌≡◌};
 
 use crate::fixture::{LANE, enter, event_at, is_shown_as, open, open_named, root};
 use span_core::{Event, Id, Interest, Level, LevelFilter, Metadata, Pass};
-use span_filters::{And, BoxedFilter, DynFilter, Filter, FilterExt, Not, Or};
+use span_boxed::{BoxedFilter, DynFilter};
+use span_filters::{And, Filter, FilterExt, Not, Or};
 use span_registry::{Context, ContextMut, LookupSpan, Notice, Registry};
 use std::process::Abort;
 use std::test::Fail;

@@ -1,5 +1,5 @@
 use Rattle.std.specs.Prelude.{⊤}
-use Rattle.span_filters.proofs.CallerLemmas.{in_a_box}
+use Rattle.span_boxed.proofs.FilterCallerLemmas.{in_a_box}
 use Rattle.span_client_tests.proofs.Optional.{if_some_of_all}
 use Rattle.span_client_tests.proofs.receiver.a_receiver_of_five.OwnLists.{own-1, at-1-1}
 use Rattle.span_client_tests.proofs.receiver.a_receiver_of_five.Goals as goal

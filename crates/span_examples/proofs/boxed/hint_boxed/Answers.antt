@@ -1,7 +1,7 @@
 use Rattle.std.proofs.Common.{None, refl, rules}
 use Rattle.std.specs.Prelude.{true}
 use Rattle.span_boxed.proofs.CallerLemmas.{form_in_a_box}
-use Rattle.span_filters.proofs.CallerLemmas.{in_a_box}
+use Rattle.span_boxed.proofs.FilterCallerLemmas.{in_a_box}
 use Rattle.span_filters.specs.Level.{level_answers}
 use Rattle.span_layers.specs.Observe.{open_answers}
 use Rattle.span_registry.specs.Form.{Filtered, Leaf}

@@ -1,5 +1,5 @@
 use Rattle.std.proofs.Common.{◌∙◌, ap, refl, rules, subst, sym}
-use Rattle.span_filters.proofs.CallerLemmas.{acts_in_a_box, answers_in_a_box, in_a_box}
+use Rattle.span_boxed.proofs.FilterCallerLemmas.{acts_in_a_box, answers_in_a_box, in_a_box}
 use Rattle.span_filters.specs.Level.{level_answers, level_conduct}
 use Rattle.span_filters.specs.laws.Level.{level_laws}
 use Rattle.span_stacks.specs.Filtered.{layer_of}

@@ -1,7 +1,7 @@
 use Rattle.std.proofs.Common.{ap, refl, ◌∙◌}
 use Rattle.span_core.specs.Level.{passes_level}
 use Rattle.span_core.specs.Metadata.{level_of}
-use Rattle.span_filters.proofs.CallerLemmas.{answers_in_a_box, in_a_box}
+use Rattle.span_boxed.proofs.FilterCallerLemmas.{answers_in_a_box, in_a_box}
 use Rattle.span_filters.specs.laws.Filter.{settled_laws}
 use Rattle.span_filters.specs.Level.{level_answers}
 use Rattle.span_filters.specs.laws.Level.{level_honest}

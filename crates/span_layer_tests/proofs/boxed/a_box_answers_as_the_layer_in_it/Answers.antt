@@ -1,4 +1,4 @@
-use Rattle.span_filters.proofs.CallerLemmas.{in_a_box}
+use Rattle.span_boxed.proofs.FilterCallerLemmas.{in_a_box}
 use Rattle.span_layer_tests.proofs.boxed.a_box_answers_as_the_layer_in_it.OwnLists.{own-1, at-1-1}
 use Rattle.span_layer_tests.proofs.boxed.a_box_answers_as_the_layer_in_it.Goals as goal
 

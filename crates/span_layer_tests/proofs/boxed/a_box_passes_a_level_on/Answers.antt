@@ -1,4 +1,4 @@
-use Rattle.span_filters.proofs.CallerLemmas.{in_a_box}
+use Rattle.span_boxed.proofs.FilterCallerLemmas.{in_a_box}
 use Rattle.span_layer_tests.proofs.boxed.a_box_passes_a_level_on.OwnLists.{own-1, at-1-1}
 use Rattle.span_layer_tests.proofs.boxed.a_box_passes_a_level_on.Goals as goal
 

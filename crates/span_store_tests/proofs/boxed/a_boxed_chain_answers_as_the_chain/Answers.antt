@@ -1,4 +1,4 @@
-use Rattle.span_filters.proofs.CallerLemmas.{in_a_box}
+use Rattle.span_boxed.proofs.FilterCallerLemmas.{in_a_box}
 use Rattle.span_store_tests.proofs.boxed.a_boxed_chain_answers_as_the_chain.OwnLists.{own-1, at-1-1}
 use Rattle.span_store_tests.proofs.boxed.a_boxed_chain_answers_as_the_chain.Goals as goal
 

@@ -1,6 +1,6 @@
 use Rattle.std.proofs.Common.{subst, sym}
 use Rattle.span_boxed.proofs.BoxLemmas.{answered_at_root, asked_of_object}
-use Rattle.span_filters.specs.Boxed.{itself}
+use Rattle.span_boxed.specs.Filter.{itself}
 use Rattle.span_registry.specs.Context.{filters_in, lane_in, store_in}
 use Rattle.span_registry.specs.Question.{AnswersBy, asked}
 use Rattle.span_boxed.proofs.boxed.BoxedLayerLayer.enabled.Goals as goal

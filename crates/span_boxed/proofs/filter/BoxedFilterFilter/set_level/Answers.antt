@@ -1,8 +1,8 @@
 use Rattle.std.proofs.Common.{refl, rules, subst, sym}
-use Rattle.span_filters.specs.Boxed.{LevelsInside}
+use Rattle.span_boxed.specs.Filter.{LevelsInside}
 use Rattle.span_filters.specs.Filter.{Says}
-use Rattle.span_filters.proofs.BoxLemmas.{asked_of_object, boxed_level, boxed_same}
-use Rattle.span_filters.proofs.boxed.BoxedFilterFilter.set_level.Goals as goal
+use Rattle.span_boxed.proofs.FilterLemmas.{asked_of_object, boxed_level, boxed_same}
+use Rattle.span_boxed.proofs.filter.BoxedFilterFilter.set_level.Goals as goal
 
 pub dyn_set_level-requires : goal.dyn_set_level-requires
 dyn_set_level-requires g c κs =

@@ -1,6 +1,6 @@
 -- What answers honestly, acts plainly and goes on lawfully keeps the law; a box with it keeps it
 -- too.
-use Rattle.span_filters.specs.Boxed.{ActsPlainly, AnswersHonestly, LevelsLawfully, StepsLawfully}
+use Rattle.span_boxed.specs.Filter.{ActsPlainly, AnswersHonestly, LevelsLawfully, StepsLawfully}
 use Rattle.span_filters.specs.Filter.{FilterLaws, FilterLevelLaws, FilterLevelSteps, FilterSteps}
 use Rattle.span_registry.specs.Behaviour.{Behaviour, Conduct}
 

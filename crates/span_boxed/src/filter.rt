@@ -1,14 +1,14 @@
 //! Boxed filters: filters whose type is picked while the program runs.
-ghost use Rattle.span_filters.specs.Boxed.{ActsPlainly, AnswersHonestly, KeepsLaw, KeepsLevelLaw, LevelsInside, LevelsLawfully, StepsInside, StepsLawfully, itself, replaced};
-ghost use Rattle.span_filters.specs.laws.Boxed.{object_laws, object_levels};
+ghost use Rattle.span_boxed.specs.Filter.{ActsPlainly, AnswersHonestly, KeepsLaw, KeepsLevelLaw, LevelsInside, LevelsLawfully, StepsInside, StepsLawfully, itself, replaced};
+ghost use Rattle.span_boxed.specs.laws.Filter.{object_laws, object_levels};
 ghost use Rattle.span_filters.specs.Filter.{FilterLevelSteps, FilterSteps, Notified, Says, SaysEnabled, SaysEvent};
 ghost use Rattle.span_registry.specs.Behaviour.{Behaviour, Conduct};
 ghost use Rattle.span_registry.specs.Context.{HasNoRefusalsUnlessAsked, WritesExtensions, view_in, view_lent};
 ghost use Rattle.span_registry.specs.Notice.{is_for_filters, notice_of};
 ghost use Rattle.std.specs.Prelude.{◌≡◌, IsTrue, false};
 
-use crate::filter::Filter;
 use span_core::{Event, Interest, LevelFilter, Metadata};
+use span_filters::Filter;
 use span_registry::{Context, ContextMut, LookupSpan, Notice, Registry};
 use std::fmt;
 

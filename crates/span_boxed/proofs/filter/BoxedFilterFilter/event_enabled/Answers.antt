@@ -1,10 +1,10 @@
 use Rattle.std.proofs.Common.{ap, subst, sym, ◌∙◌}
-use Rattle.span_filters.specs.Boxed.{itself}
+use Rattle.span_boxed.specs.Filter.{itself}
 use Rattle.span_filters.specs.Filter.{SaysEvent}
-use Rattle.span_filters.proofs.BoxLemmas.{asked_of_object}
+use Rattle.span_boxed.proofs.FilterLemmas.{asked_of_object}
 use Rattle.span_registry.proofs.CallerLemmas.{view_at_root}
 use Rattle.span_registry.specs.Context.{view_in}
-use Rattle.span_filters.proofs.boxed.BoxedFilterFilter.event_enabled.Goals as goal
+use Rattle.span_boxed.proofs.filter.BoxedFilterFilter.event_enabled.Goals as goal
 
 pub dyn_event_enabled-requires : goal.dyn_event_enabled-requires
 dyn_event_enabled-requires g c κs = asked_of_object _ _ _ _ (subst (λ z. (goal.DynFilter-dyn g z).dyn_usable z.1) (sym c.deref_box-1.ensures.1) c.requires)

@@ -1,8 +1,8 @@
 use Rattle.std.proofs.Common.{refl, rules, subst, sym, ap, ◌∙◌}
 use Rattle.span_core.specs.declared.span.Lane.{Lane}
-use Rattle.span_filters.specs.Boxed.{StepsInside}
-use Rattle.span_filters.proofs.BoxLemmas.{asked_of_object, boxed_lawfully, carried_over}
-use Rattle.span_filters.proofs.boxed.BoxedFilterFilter.notify.Goals as goal
+use Rattle.span_boxed.specs.Filter.{StepsInside}
+use Rattle.span_boxed.proofs.FilterLemmas.{asked_of_object, boxed_lawfully, carried_over}
+use Rattle.span_boxed.proofs.filter.BoxedFilterFilter.notify.Goals as goal
 use Rattle.span_registry.proofs.Unrefused.{unrefused_unless}
 
 pub dyn_notify-requires : goal.dyn_notify-requires

@@ -1,5 +1,5 @@
-use Rattle.span_filters.proofs.BoxLemmas.{law_kept}
-use Rattle.span_filters.proofs.boxed.AnyDynFilter.dyn_notify.Goals as goal
+use Rattle.span_boxed.proofs.FilterLemmas.{law_kept}
+use Rattle.span_boxed.proofs.filter.AnyDynFilter.dyn_notify.Goals as goal
 
 pub returns-clause-keeps : goal.returns-clause-keeps
 returns-clause-keeps g c = law_kept g.met.F.Filter.laws _ _ _ _ _ _ _ c.notify.ensures.hook

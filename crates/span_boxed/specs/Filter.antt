@@ -4,7 +4,7 @@ use Rattle.std.specs.Prelude.{◌≡◌, ℕ, [], ◌∷◌}
 use Rattle.span_core.specs.Filters.{FilterSet}
 use Rattle.span_core.specs.declared.level.LevelFilter.{LevelFilter}
 use Rattle.span_filters.specs.Filter.{FilterLevelSteps, FilterSteps, KeepsInterestAndHint}
-use Rattle.span_filters.specs.declared.boxed.BoxedFilter.{BoxedFilter}
+use Rattle.span_boxed.specs.declared.filter.BoxedFilter.{BoxedFilter}
 use Rattle.span_store.specs.Store.{RegistryState}
 use Rattle.span_registry.specs.Behaviour.{AnswerAlike, Behaviour, AreHonest, Conduct, IsPlain, Notice, OfNotice}
 use Rattle.span_registry.specs.Conducts.{after_level}

@@ -5,7 +5,7 @@ use Rattle.std.specs.Prelude.{◌≡◌, ℕ, ◌++◌, refl}
 use Rattle.std.proofs.Common.{ap, subst, ◌∙◌}
 use Rattle.span_core.specs.Filters.{FilterSet}
 use Rattle.span_core.specs.declared.level.LevelFilter.{LevelFilter}
-use Rattle.span_filters.specs.Boxed.{KeepsLaw, KeepsLevelLaw, LevelsLawfully, StepsLawfully}
+use Rattle.span_boxed.specs.Filter.{KeepsLaw, KeepsLevelLaw, LevelsLawfully, StepsLawfully}
 use Rattle.span_filters.specs.Filter.{FilterLaws, FilterLevelLaws, FilterLevelSteps, FilterSteps}
 use Rattle.span_store.specs.Store.{RegistryState}
 use Rattle.span_registry.specs.Behaviour.{Behaviour, Conduct, Notice}

@@ -1,7 +1,7 @@
 use Rattle.std.proofs.Common.{subst, sym}
 use Rattle.span_filters.specs.Filter.{Says}
-use Rattle.span_filters.proofs.BoxLemmas.{asked_of_object}
-use Rattle.span_filters.proofs.boxed.BoxedFilterFilter.callsite_enabled.Goals as goal
+use Rattle.span_boxed.proofs.FilterLemmas.{asked_of_object}
+use Rattle.span_boxed.proofs.filter.BoxedFilterFilter.callsite_enabled.Goals as goal
 
 pub dyn_callsite_enabled-requires : goal.dyn_callsite_enabled-requires
 dyn_callsite_enabled-requires g c κs = asked_of_object _ _ _ _ (subst (λ z. (goal.DynFilter-dyn g z).dyn_usable z.1) (sym c.deref_box-1.ensures.1) c.requires)
