@@ -56,7 +56,8 @@ pub struct Order {
 }
 
 impl Order {
-    /// What a line asks for, if it is a workload's name, a stack's and two numbers with one space between.
+    /// What a line asks for, if it is a workload's name, a stack's and two numbers with one space
+    /// between.
     pub fn of(line: &str) -> Option<Order>
         ensures { IfSome result (λ order. StartsWith line.now (name_of order.workload)) }
     {

@@ -8,8 +8,8 @@ use crate::workload::Workload;
 use crate::{layers, rounds};
 use span_dispatch::Dispatch;
 use span_layers::{Identity, Layer, Observer};
-use span_stacks::{LayerExt, SubscriberExt};
 use span_registry::{Registry, Subscriber};
+use span_stacks::{LayerExt, SubscriberExt};
 use std::alloc::Global;
 use std::io::{Read, Write};
 

@@ -13,7 +13,8 @@ pub enum Workload {
     Event,
     /// The same, from one that was registered.
     EventBy,
-    /// A chain of so many spans is opened. Their handles are dropped, the deepest span's last, and all close.
+    /// A chain of so many spans is opened. Their handles are dropped, the deepest span's last, and
+    /// all close.
     Cascade,
     /// A span and its ancestors are walked through, so many in all.
     Scope,

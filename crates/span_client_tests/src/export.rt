@@ -28,7 +28,8 @@ fn sites(alloc: Global) -> Result<Vec<Site>, Fail> {
     Ok(sites)
 }
 
-/// Two spans on one lane, one in the other, with an event within both; a span of an unknown callsite on another lane.
+/// Two spans on one lane, one in the other, with an event within both; a span of an unknown
+/// callsite on another lane.
 fn points() -> [Point; 12] {
     let (outer, inner, other) = (Id::from_u64(1), Id::from_u64(2), Id::from_u64(7));
     [
@@ -171,7 +172,8 @@ const HEAD: &str = "<svg xmlns=\"http://www.w3.org/2000/svg\" width=\"900\" heig
 <style>
 ";
 
-/// The first two of six lines: one each 2 µs, of which 10999 ns are shown on 804, and behind the legend.
+/// The first two of six lines: one each 2 µs, of which 10999 ns are shown on 804, and behind the
+/// legend.
 const AXIS: &str = "<text x=\"462\" y=\"18\">event</text>
 <text class=\"time\" x=\"72\" y=\"42\">0 µs</text><path class=\"line\" d=\"M72.5 48V176\"/>
 <text class=\"time\" x=\"218\" y=\"42\">2 µs</text><path class=\"line\" d=\"M218.5 48V176\"/>
@@ -201,7 +203,8 @@ fn a_name_is_within_xml(rt: HostRuntime) -> Result<(), Fail> {
     Ok(())
 }
 
-/// The third span is below the second, though the first is left by then; nothing leaves it. There is no room for its name.
+/// The third span is below the second, though the first is left by then; nothing leaves it. There
+/// is no room for its name.
 const OUT_OF_ORDER: &str = "\
 <g><title>outer</title><rect class=\"INFO\" x=\"72\" y=\"72\" width=\"112\" height=\"20\"/>\
 <text x=\"77\" y=\"86\">outer</text></g>

@@ -6,8 +6,8 @@ ghost use Rattle.span_stacks.specs.Layered.{inner_of, outer_of};
 use span_core::TraceError;
 use span_dispatch::Dispatch;
 use span_layers::Layer;
-use span_stacks::{Layered, SubscriberExt};
 use span_registry::Subscriber;
+use span_stacks::{Layered, SubscriberExt};
 use std::alloc::Global;
 
 /// Puts a layer on a stack.

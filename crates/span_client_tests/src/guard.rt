@@ -1,4 +1,5 @@
-//! Tests of guards, on a stack of all that can be called without a premise: the span is left however the function returns.
+//! Tests of guards, on a stack of all that can be called without a premise: the span is left
+//! however the function returns.
 use span_core::{
     Attributes, Event, FieldSet, Id, Kind, Lane, Level, LevelFilter, Metadata, TraceError,
 };
@@ -6,8 +7,8 @@ use span_dispatch::{Dispatch, Recorded, Recorder};
 use span_examples::guard::send_within;
 use span_filters::{AlwaysUsableFilter, And, FilterExt, Not};
 use span_layers::{AlwaysUsableLayer, Identity};
-use span_stacks::{Filtered, LayerExt, Layered, SubscriberExt};
 use span_registry::{AlwaysUsable, Registry};
+use span_stacks::{Filtered, LayerExt, Layered, SubscriberExt};
 use std::alloc::Global;
 use std::process::Abort;
 use std::test::Fail;

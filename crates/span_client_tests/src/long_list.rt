@@ -2,8 +2,8 @@
 use span_core::{FieldSet, Kind, Lane, Level, Metadata, TraceError};
 use span_dispatch::{Answer, Dispatch, Recorded, Recorder, Request, WhichParent};
 use span_layers::Layer;
-use span_stacks::{Layered, SubscriberExt};
 use span_registry::{Registry, Subscriber};
+use span_stacks::{Layered, SubscriberExt};
 use std::alloc::{AllocError, Global};
 use std::process::Abort;
 use std::test::Fail;

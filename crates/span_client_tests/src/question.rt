@@ -95,7 +95,8 @@ impl<S: Subscriber> Layer<S> for Asked {
     }
 }
 
-/// A layer of these answers, after one error event: how often it was asked of metadata, of an event, and notified.
+/// A layer of these answers, after one error event: how often it was asked of metadata, of an
+/// event, and notified.
 fn asked_of_an_error(
     alloc: Global,
     metadata_pass: bool,

@@ -1,4 +1,5 @@
-//! Tests over all crates: layers of many kinds in one receiver, a registry full of filters, and what a stack says of itself.
+//! Tests over all crates: layers of many kinds in one receiver, a registry full of filters, and
+//! what a stack says of itself.
 ghost use Rattle.std.specs.Prelude.{⊤, IfOk};
 ghost use Rattle.span_dispatch.specs.Serve.{stack_of};
 ghost use Rattle.span_registry.specs.Context.{WritesExtensions};
@@ -14,8 +15,8 @@ use span_examples::isolation::{Beside, WithAnswers, record_alone_and_beside};
 use span_examples::outline::serve_outlined;
 use span_examples::reload::reload;
 use span_layers::{Layer, Observe, Observer};
-use span_stacks::{Filtered, LayerExt, Layered, SubscriberExt};
 use span_registry::{ContextMut, LookupSpan, Notice, Registry, Subscriber, Tag};
+use span_stacks::{Filtered, LayerExt, Layered, SubscriberExt};
 use std::alloc::Global;
 use std::process::Abort;
 use std::test::Fail;
@@ -133,7 +134,8 @@ fn notices_at(list: &[Recording], place: usize) -> &[Recorded] {
     }
 }
 
-/// Serves a span and an event of each level but the first in it: the trace event is dropped, and three are counted. Answers the span.
+/// Serves a span and an event of each level but the first in it: the trace event is dropped, and
+/// three are counted. Answers the span.
 fn counts_three<S: Subscriber>(
     rt: &impl Abort,
     alloc: Global,
@@ -190,7 +192,8 @@ fn a_receiver_of_five(rt: HostRuntime) -> Result<(), Fail> {
 /// A layer that may be absent, on a list, on a recorder.
 type Recordings = Layered<Option<Recording>, Layered<Vec<Recording>, Recorder>>;
 
-/// The recorder heard all but the trace event, and each other one what its level passes: the new span is of level info.
+/// The recorder heard all but the trace event, and each other one what its level passes: the new
+/// span is of level info.
 fn each_heard_what_passes(rt: &impl Abort, layers: &Recordings, id: Id) -> Result<(), Fail> {
     let new = Recorded::New(LANE, id);
     let debug = Recorded::Event(LANE, 2);
@@ -245,7 +248,8 @@ fn full(alloc: Global) -> Result<Full, Fail>
     Ok(put_two(Registry::new(alloc), Recorder::new(alloc), silent)?)
 }
 
-/// A layer that a stack has no room for: what comes back, and the number of filters that were handed out before.
+/// A layer that a stack has no room for: what comes back, and the number of filters that were
+/// handed out before.
 #[derive(Drop)]
 struct NoRoom<S, O> {
     layer: O,
@@ -363,7 +367,8 @@ fn a_pair_under_filters_has_the_wider_hint(rt: HostRuntime) -> Result<(), Fail> 
     Ok(())
 }
 
-/// Answers and notices of a recorder are the same alone and beside another, which keeps one notice more.
+/// Answers and notices of a recorder are the same alone and beside another, which keeps one notice
+/// more.
 fn are_the_same(rt: &impl Abort, alone: &WithAnswers<Alone>, beside: &WithAnswers<Beside>) {
     assert!(rt; alone.1 == beside.1);
     let kept = alone.0.stack().layer().inner().notices();

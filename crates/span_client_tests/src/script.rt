@@ -198,7 +198,8 @@ fn texts_of_reasons(rt: HostRuntime) -> Result<(), Fail> {
 const EVERY_LINE: &str =
     "stack nested / new 0 0 a / new 1 4 b root / new 2 1 c in a / new 9 3 d in ? / enter 0 a / exit 0 ? / record 3 b / follows 4 a ? / clone b / drop 5 b / event 0 5 / event 0 6 mute / event 0 7 root / event 0 8 root mute / event 0 9 in c / event 0 5 in ? mute / enabled 0 0 / enabled 0 9 / current 0 / level 0 off / level 9 trace";
 
-/// How many events of these are muted. Their one clone is of the second span, and the levels of filters 0 and 9 are set.
+/// How many events of these are muted. Their one clone is of the second span, and the levels of
+/// filters 0 and 9 are set.
 fn muted_events(rt: &impl Abort, requests: &[Request<'_>]) -> usize {
     let mut muted = 0usize;
     for request in requests {

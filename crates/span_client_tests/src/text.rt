@@ -4,8 +4,8 @@ use span_core::{FieldSet, FieldValue, Kind, Lane, Level, LevelFilter, Metadata, 
 use span_dispatch::{Dispatch, Request, Which, WhichParent};
 use span_fmt::{Lines, Tree, serve_lines, serve_tree, write_fields};
 use span_layers::{Layer, Observer};
-use span_stacks::{LayerExt, Layered};
 use span_registry::{Registry, Subscriber};
+use span_stacks::{LayerExt, Layered};
 use std::alloc::Global;
 use std::process::Abort;
 use std::test::Fail;

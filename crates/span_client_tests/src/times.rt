@@ -7,8 +7,8 @@ use span_core::{
 };
 use span_dispatch::{Dispatch, Request, WhichParent};
 use span_layers::Observer;
-use span_stacks::LayerExt;
 use span_registry::{Registry, Subscriber};
+use span_stacks::LayerExt;
 use span_times::{
     Counted, Counts, Happening, Now, Point, Timeline, Wall, busy_time, idle_time, open_time,
     serve_timed,
@@ -102,8 +102,8 @@ fn takes_its_point(rt: &impl Abort, timeline: &mut Timeline<Counted>) {
     assert!(rt; timeline.points().is_empty());
 }
 
-/// Opens three spans, each in the one before, the second at a lower level; sends an event on the lane that is in the second, and
-/// another that asks for it.
+/// Opens three spans, each in the one before, the second at a lower level; sends an event on the
+/// lane that is in the second, and another that asks for it.
 fn nested<S: Subscriber>(dispatch: &mut Dispatch<S>) -> Result<[Id; 3], Fail>
     requires { S.usable (stack_of dispatch.old) }
 {

@@ -6,7 +6,8 @@ ghost use Rattle.span_registry.specs.Notice.{notice_of};
 use span_core::{Id, Lane};
 use span_registry::Notice;
 
-/// What a recorder keeps of a notice: on which lane it came, and of which spans it is, or of an event from which callsite.
+/// What a recorder keeps of a notice: on which lane it came, and of which spans it is, or of an
+/// event from which callsite.
 ///
 /// Own to this port.
 #[derive(Clone, Copy, Debug, PartialEq, Eq)]

@@ -1,4 +1,5 @@
-//! Tests of a dispatcher that keeps its stack's hint and interests: what it asks of filters once, and what each time.
+//! Tests of a dispatcher that keeps its stack's hint and interests: what it asks of filters once,
+//! and what each time.
 ghost use Rattle.span_dispatch.specs.Serve.{stack_of};
 
 use crate::requests::{
@@ -9,8 +10,8 @@ use span_dispatch::{Answer, Dispatch, Recorded, Recorder, Request, Which, WhichP
 use span_filters::{Filter, filter_fn};
 use span_layer_tests::fixture::{LANE, metadata_of, put};
 use span_layers::Layer;
-use span_stacks::{Filtered, LayerExt, Layered};
 use span_registry::{Registry, Subscriber};
+use span_stacks::{Filtered, LayerExt, Layered};
 use std::alloc::Global;
 use std::cell::Cell;
 use std::process::Abort;
@@ -34,7 +35,8 @@ fn send<S: Subscriber>(dispatch: &mut Dispatch<S>, level: Level) -> Result<bool,
     dispatch.event(LANE, &Event::new(metadata_of(5, level, Kind::EVENT), &[]))
 }
 
-/// Sends an event of level info. Answers whether it was made, and the hint that the dispatcher then has.
+/// Sends an event of level info. Answers whether it was made, and the hint that the dispatcher then
+/// has.
 pub(crate) fn sent_under<S: Subscriber>(
     dispatch: &mut Dispatch<S>,
 ) -> (Result<bool, TraceError>, Option<LevelFilter>)
@@ -82,7 +84,8 @@ fn kept_by_two<S: Subscriber + Drop + AsLayer<Recorder>, L: Layer<S> + Drop + As
     ))
 }
 
-/// Puts a recorder's layer on a stack, and one under a filter outside it, and counts what both keep of so many events.
+/// Puts a recorder's layer on a stack, and one under a filter outside it, and counts what both keep
+/// of so many events.
 fn kept_below<
     S: Subscriber + Drop,
     L: Layer<S> + Drop + AsLayer<Recorder>,
@@ -99,7 +102,8 @@ fn kept_below<
 /// A recorder under a filter that is absent.
 type UnderNone = Filtered<Recorder, Option<LevelFilter>>;
 
-/// Puts a recorder under no filter on a stack, and one under a filter outside it, and counts what both keep.
+/// Puts a recorder under no filter on a stack, and one under a filter outside it, and counts what
+/// both keep.
 fn kept_outside<S: Subscriber + Drop, F: Filter<Layered<UnderNone, S>> + Drop>(
     alloc: Global,
     stack: S,
@@ -152,7 +156,8 @@ fn keeps_none<S: Subscriber + Drop + AsLayer<Recorder>, L: Layer<S> + Drop + AsL
     Ok(())
 }
 
-/// Puts a recorder's layer on a stack, and one under a filter outside it: that keeps none of three events, and the other all.
+/// Puts a recorder's layer on a stack, and one under a filter outside it: that keeps none of three
+/// events, and the other all.
 fn keeps_none_below<
     S: Subscriber + Drop,
     L: Layer<S> + Drop + AsLayer<Recorder>,
@@ -254,7 +259,8 @@ fn a_changed_stack_is_asked_again(rt: HostRuntime) -> Result<(), Fail> {
     sends_under_warn(&rt, rt.alloc(), Registry::new(rt.alloc()))
 }
 
-/// An event of each level, from a callsite of its own, each of them again, and one from a callsite that has another level.
+/// An event of each level, from a callsite of its own, each of them again, and one from a callsite
+/// that has another level.
 fn events_of_each_level() -> [Request<'static>; 11] {
     [
         event(3, Level::ERROR),

@@ -1,4 +1,5 @@
-//! Tests of a dispatcher, as a program drives it: calls and lists of requests, and what a recorder keeps of them.
+//! Tests of a dispatcher, as a program drives it: calls and lists of requests, and what a recorder
+//! keeps of them.
 ghost use Rattle.span_dispatch.specs.Serve.{stack_of};
 
 use crate::requests::{
@@ -381,7 +382,8 @@ fn enter<S: Subscriber>(dispatch: &mut Dispatch<S>, id: Id) -> Result<(), TraceE
     dispatch.enter(LANE, id)
 }
 
-/// What a program sees of a dispatcher: the span that the lane is in, and how many notices its recorder keeps.
+/// What a program sees of a dispatcher: the span that the lane is in, and how many notices its
+/// recorder keeps.
 fn seen<S: Subscriber + AsLayer<Recorder>>(dispatch: &Dispatch<S>) -> (Option<Id>, usize, bool) {
     let recorder = dispatch.stack().as_layer();
     (

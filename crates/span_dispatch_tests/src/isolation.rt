@@ -1,4 +1,5 @@
-//! Tests of what other layers' filters make no difference to, and of what they do where a filter reads extensions.
+//! Tests of what other layers' filters make no difference to, and of what they do where a filter
+//! reads extensions.
 ghost use Rattle.span_dispatch.specs.Serve.{stack_of};
 ghost use Rattle.span_dispatch_tests.specs.Marked.{in_marked, is_marked};
 ghost use Rattle.span_registry.specs.Context.{view_in};
@@ -12,16 +13,16 @@ use span_dispatch::{Dispatch, Recorded, Recorder, Request, Which, WhichParent};
 use span_filters::{FunctionIn, dynamic_filter_fn};
 use span_layer_tests::fixture::{LANE, put};
 use span_layers::{Layer, Observe, Observer};
-use span_stacks::LayerExt;
 use span_registry::{
     Context, ContextMut, ExtensionValue, LookupSpan, Notice, Registry, Subscriber, Tag,
 };
+use span_stacks::LayerExt;
 use std::alloc::Global;
 use std::process::Abort;
 use std::test::Fail;
 
-/// Three spans at info, debug, info, each in the one before, all entered; an event of each level where the lane is; then all are
-/// left and dropped.
+/// Three spans at info, debug, info, each in the one before, all entered; an event of each level
+/// where the lane is; then all are left and dropped.
 fn requests() -> [Request<'static>; 17] {
     [
         new_span(0, Level::INFO, WhichParent::Root),
@@ -92,7 +93,8 @@ fn serve_requests<S: Subscriber>(alloc: Global, dispatch: &mut Dispatch<S>) -> R
     Ok([made(&answers, 0)?, made(&answers, 1)?, made(&answers, 2)?])
 }
 
-/// Serves the list by a stack of A and B, C outside them, and looks at what A and B were notified of.
+/// Serves the list by a stack of A and B, C outside them, and looks at what A and B were notified
+/// of.
 fn tells_a_and_b<S: Subscriber + Drop + AsLayers<Recorder>, L: Layer<S> + Drop>(
     rt: &impl Abort,
     alloc: Global,
@@ -110,7 +112,8 @@ fn tells_a_and_b<S: Subscriber + Drop + AsLayers<Recorder>, L: Layer<S> + Drop>(
     Ok(())
 }
 
-/// Puts A on a stack of B, and outside it C, a recorder under this level: A and B are told the same of the list.
+/// Puts A on a stack of B, and outside it C, a recorder under this level: A and B are told the same
+/// of the list.
 fn tells_below_c<S: Subscriber + Drop + AsLayer<Recorder>, L: Layer<S> + Drop + AsLayer<Recorder>>(
     rt: &impl Abort,
     alloc: Global,
@@ -172,8 +175,8 @@ fn another_layers_filter_makes_no_difference(rt: HostRuntime) -> Result<(), Fail
     )
 }
 
-/// The test of a filter: it passes spans, and of events those in a marked span, one with a value under this tag. It reads
-/// extensions, so the filter isn't plain.
+/// The test of a filter: it passes spans, and of events those in a marked span, one with a value
+/// under this tag. It reads extensions, so the filter isn't plain.
 #[derive(Drop)]
 struct InMarked {
     mark: Tag<bool>,

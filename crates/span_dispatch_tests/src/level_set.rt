@@ -1,4 +1,5 @@
-//! Tests of levels that are set: what is asked anew, what a refusal leaves as it was, and what open spans keep.
+//! Tests of levels that are set: what is asked anew, what a refusal leaves as it was, and what open
+//! spans keep.
 ghost use Rattle.span_dispatch.specs.Serve.{stack_of};
 
 use crate::cache::{count_one, sent_under};
@@ -10,8 +11,8 @@ use span_dispatch::{Answer, Dispatch, Recorded, Recorder, Request, Which, WhichP
 use span_filters::{Filter, filter_fn};
 use span_layer_tests::fixture::{LANE, put};
 use span_layers::Layer;
-use span_stacks::{LayerExt, Layered};
 use span_registry::{Registry, Subscriber};
+use span_stacks::{LayerExt, Layered};
 use std::alloc::Global;
 use std::cell::Cell;
 use std::process::Abort;
@@ -124,8 +125,9 @@ fn refused_around(before: Answer) -> [Answer; 4] {
     ]
 }
 
-/// Of a stack whose filters are the level WARN, and one that passes the same and counts how often it is asked: what an event of level
-/// info is answered before the level is INFO, and how often the other filter was asked before, and then.
+/// Of a stack whose filters are the level WARN, and one that passes the same and counts how often
+/// it is asked: what an event of level info is answered before the level is INFO, and how often the
+/// other filter was asked before, and then.
 fn raised_in_lists<S: Subscriber>(
     rt: &impl Abort,
     alloc: Global,
@@ -150,7 +152,8 @@ fn raised_in_lists<S: Subscriber>(
     Ok(())
 }
 
-/// A recorder under WARN, beside one under a closure, is notified of the third of three events: by then its level is INFO.
+/// A recorder under WARN, beside one under a closure, is notified of the third of three events: by
+/// then its level is INFO.
 fn the_third_event_beside_a_closure(
     rt: &impl Abort,
     alloc: Global,
@@ -175,10 +178,12 @@ fn the_third_event_beside_a_closure(
     )
 }
 
-/// A cell that counts how often a filter is asked, what an event is answered at first, and the counts.
+/// A cell that counts how often a filter is asked, what an event is answered at first, and the
+/// counts.
 type Expected<'a> = (&'a Cell<u32>, Answer, [u32; 2]);
 
-/// Puts a recorder under WARN on a stack, and one under another filter outside it, and looks at what both are told.
+/// Puts a recorder under WARN on a stack, and one under another filter outside it, and looks at
+/// what both are told.
 fn told_beside<S: Subscriber + Drop, F: Filter<Layered<UnderOne, S>> + Drop>(
     rt: &impl Abort,
     alloc: Global,
@@ -194,7 +199,8 @@ fn told_beside<S: Subscriber + Drop, F: Filter<Layered<UnderOne, S>> + Drop>(
     told_outside(rt, alloc, keeps, stack, under_warn, other, expected)
 }
 
-/// Puts the recorder under WARN on a stack, and one under another filter outside it, and looks at what both are told.
+/// Puts the recorder under WARN on a stack, and one under another filter outside it, and looks at
+/// what both are told.
 fn told_outside<
     S: Subscriber + Drop,
     L: Layer<S> + Drop + AsLayer<Recorder>,
@@ -250,9 +256,10 @@ fn raised_beside<S: Subscriber + AsLayers<Recorder>>(
     Ok(())
 }
 
-/// Where interests are kept, the closure is asked of the callsite at the first event, and not again for the two levels that are
-/// refused. Behind the level that is set it is asked of it again, and of the event, since the two filters differ now. Where nothing is
-/// kept, it is asked of each event.
+/// Where interests are kept, the closure is asked of the callsite at the first event, and not again
+/// for the two levels that are refused. Behind the level that is set it is asked of it again, and
+/// of the event, since the two filters differ now. Where nothing is kept, it is asked of each
+/// event.
 #[test]
 fn a_level_is_set_in_a_list(rt: HostRuntime) -> Result<(), Fail> {
     the_third_event_beside_a_closure(&rt, rt.alloc(), Keeping::Answers, Answer::Dropped, [1, 3])?;
@@ -264,8 +271,9 @@ fn root(callsite: u64, level: Level) -> Request<'static> {
     new_span(callsite, level, WhichParent::Root)
 }
 
-/// A span of level debug and one of level info, and, the level set to DEBUG, another debug span. With the level OFF the first two are
-/// entered and left, an error event is sent, and all three are dropped.
+/// A span of level debug and one of level info, and, the level set to DEBUG, another debug span.
+/// With the level OFF the first two are entered and left, an error event is sent, and all three are
+/// dropped.
 fn spans_between_levels() -> [Request<'static>; 13] {
     [
         root(1, Level::DEBUG),
@@ -295,7 +303,8 @@ fn serve_between_levels<S: Subscriber>(
     Ok([made(&answers, 0)?, made(&answers, 1)?, made(&answers, 4)?])
 }
 
-/// A recorder that began under INFO: of the first span it is told nothing, and of the other two all but what no level lets by.
+/// A recorder that began under INFO: of the first span it is told nothing, and of the other two all
+/// but what no level lets by.
 fn told_of_its_own(rt: &impl Abort, recorder: &Recorder, [_, info, debug]: [Id; 3]) {
     assert!(rt;
         recorder.notices()

@@ -8,9 +8,9 @@ use span_core::{Attributes, FilterId, Id, Kind, Level, LevelFilter};
 use span_dispatch::Dispatch;
 use span_layer_tests::fixture::{LANE, metadata_of, put};
 use span_layers::{Layer, Observer};
-use span_stacks::LayerExt;
 use span_registry::{LookupSpan, Registry, SpanData, Subscriber, Tag};
 use span_shared::{Crew, Entry, EntryWith, Shared, Worker};
+use span_stacks::LayerExt;
 use std::alloc::Global;
 use std::marker::Brand;
 use std::process::Abort;
@@ -27,8 +27,9 @@ enum By {
     Shared,
 }
 
-/// A span that a dispatcher opens, and what is to be seen of it: the numbers of the filters that refused
-/// it, whether the innermost layer marked it, and its verdict as a word, where there is a journal.
+/// A span that a dispatcher opens, and what is to be seen of it: the numbers of the filters that
+/// refused it, whether the innermost layer marked it, and its verdict as a word, where there is a
+/// journal.
 #[derive(Clone, Copy)]
 struct Case<'a> {
     by: By,
@@ -110,8 +111,8 @@ fn new_span_of(entry: Entry) -> Option<(Id, u128)> {
     }
 }
 
-/// Has the first worker of a dispatcher that threads share open a span. Answers it, and its verdict as
-/// a word.
+/// Has the first worker of a dispatcher that threads share open a span. Answers it, and its verdict
+/// as a word.
 fn opened_by_first<S: Subscriber, C: Crew>(
     rt: &impl Wait,
     shared: &Shared<S, C>,
@@ -200,8 +201,9 @@ fn in_two_more<S: Subscriber + Drop, L: Layer<S> + Drop>(
     on_stack(rt, alloc, case, stack, under_two)
 }
 
-/// Puts two filters round a layer with four, of which the inner one refuses. Numbers are given from the outermost filter on, from 0,
-/// and two filters more will stand outside these: so the inner one here is number 3, which refuses.
+/// Puts two filters round a layer with four, of which the inner one refuses. Numbers are given from
+/// the outermost filter on, from 0, and two filters more will stand outside these: so the inner one
+/// here is number 3, which refuses.
 fn in_four_more<S: Subscriber + Drop, L: Layer<S> + Drop>(
     rt: &(impl Abort + Wait),
     alloc: Global,

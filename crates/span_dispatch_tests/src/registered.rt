@@ -1,4 +1,5 @@
-//! Tests of registered callsites: what is asked by one is answered as it is without, also once a level was set.
+//! Tests of registered callsites: what is asked by one is answered as it is without, also once a
+//! level was set.
 ghost use Rattle.std.specs.Prelude.{◌≡◌};
 ghost use Rattle.span_core.specs.Metadata.{kind_of};
 ghost use Rattle.span_dispatch.specs.Registration.{IsRegistered, KeepsRegistered};
@@ -9,8 +10,8 @@ use span_core::{Attributes, Event, FieldSet, Kind, Level, LevelFilter, Metadata,
 use span_dispatch::{Dispatch, Recorded, Recorder, Registration};
 use span_layer_tests::fixture::LANE;
 use span_layers::Layer;
-use span_stacks::LayerExt;
 use span_registry::{Registry, Subscriber};
+use span_stacks::LayerExt;
 use std::alloc::Global;
 use std::process::Abort;
 use std::test::Fail;
@@ -47,8 +48,8 @@ fn opened_by<S: Subscriber>(
     Ok(dispatch.new_span_by(LANE, callsite, &attrs)?.is_some())
 }
 
-/// Of a stack whose one filter is the level INFO: a span and two events by their callsites, and one more of each while the level is
-/// WARN, which are answered so.
+/// Of a stack whose one filter is the level INFO: a span and two events by their callsites, and one
+/// more of each while the level is WARN, which are answered so.
 fn sent_under_levels<S: Subscriber>(
     rt: &impl Abort,
     dispatch: &mut Dispatch<S>,
@@ -77,8 +78,8 @@ fn told_around_a_span(rt: &impl Abort, recorder: &Recorder) {
     assert!(rt; notices.last() == Some(&Recorded::Event(LANE, 5)));
 }
 
-/// A recorder under INFO is told of what passes its levels. While the level is WARN, an answer says that
-/// something was made where nothing is kept.
+/// A recorder under INFO is told of what passes its levels. While the level is WARN, an answer says
+/// that something was made where nothing is kept.
 fn tells_by_levels<S: Subscriber + Drop, L: Layer<S> + Drop + AsLayer<Recorder>>(
     rt: &impl Abort,
     alloc: Global,

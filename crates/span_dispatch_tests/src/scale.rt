@@ -1,4 +1,5 @@
-//! Many filters, long chains and many entries, each by a dispatcher that keeps hint and interests and by one that keeps nothing.
+//! Many filters, long chains and many entries, each by a dispatcher that keeps hint and interests
+//! and by one that keeps nothing.
 ghost use Rattle.span_dispatch.specs.Serve.{stack_of};
 
 use crate::requests::{AsLayer, Keeping, event, keeps, put_in_use, serve};
@@ -6,8 +7,8 @@ use span_core::{Attributes, FilterId, Id, Kind, Level, LevelFilter, TraceError};
 use span_dispatch::{Answer, Dispatch, Recorded, Recorder};
 use span_layer_tests::fixture::{LANE, metadata_of, put};
 use span_layers::Layer;
-use span_stacks::{Filtered, LayerExt, Layered};
 use span_registry::{LookupSpan, Registry, Subscriber};
+use span_stacks::{Filtered, LayerExt, Layered};
 use std::alloc::{AllocError, Global};
 use std::process::Abort;
 use std::test::Fail;

@@ -1,4 +1,5 @@
-//! Tests of what filters and layers under a dispatcher can read: what one layer's filter hides is hidden from that layer alone.
+//! Tests of what filters and layers under a dispatcher can read: what one layer's filter hides is
+//! hidden from that layer alone.
 ghost use Rattle.span_dispatch.specs.Serve.{stack_of};
 ghost use Rattle.std.specs.Prelude.{⊤};
 
@@ -11,8 +12,8 @@ use span_filters::{Filter, dynamic_filter_fn};
 use span_layer_tests::fixture::{LANE, put};
 use span_layer_tests::watcher::{Seen, Watcher, new_watcher};
 use span_layers::{Layer, Observe, Observer};
-use span_stacks::{LayerExt, Layered};
 use span_registry::{Context, ContextMut, Notice, Registry, Scope, SpanRef, Subscriber};
+use span_stacks::{LayerExt, Layered};
 use std::alloc::Global;
 use std::process::Abort;
 use std::test::Fail;
@@ -93,7 +94,8 @@ fn keep_under<S: Subscriber + Drop + AsLayer<Recorder>, L: Layer<S> + Drop + AsL
     )
 }
 
-/// Of two recorders, the outer one under a filter, the inner one keeps all of the two spans, and the other those outside all spans.
+/// Of two recorders, the outer one under a filter, the inner one keeps all of the two spans, and
+/// the other those outside all spans.
 fn keeps_one_in_another<S: Subscriber + AsLayers<Recorder>>(
     rt: &impl Abort,
     alloc: Global,
@@ -136,7 +138,8 @@ fn both_spans(rt: &impl Abort, recorder: &Recorder, [p, q]: [Id; 2]) {
     );
 }
 
-/// Reads the span of each event, as far as there is memory: its scope, leaf first and root first, and its parent.
+/// Reads the span of each event, as far as there is memory: its scope, leaf first and root first,
+/// and its parent.
 #[derive(Drop)]
 struct Reader {
     alloc: Global,
@@ -199,8 +202,8 @@ fn new_reader(alloc: Global) -> Observer<Reader> {
     })
 }
 
-/// Spans each in the one before, of which INFO passes all but the second. The lane is in the second; an event in the third, one in
-/// the second, and one where the lane is.
+/// Spans each in the one before, of which INFO passes all but the second. The lane is in the
+/// second; an event in the third, one in the second, and one where the lane is.
 fn family() -> [Request<'static>; 8] {
     [
         new_span(0, Level::INFO, WhichParent::Root),
@@ -252,7 +255,8 @@ impl AsLayer<Reader> for Observer<Reader> {
     }
 }
 
-/// Of two readers, each reads the family's scopes as far as its own filter passes them: INFO the outer one.
+/// Of two readers, each reads the family's scopes as far as its own filter passes them: INFO the
+/// outer one.
 fn read_the_family<S: Subscriber + AsLayers<Reader>>(
     rt: &impl Abort,
     alloc: Global,

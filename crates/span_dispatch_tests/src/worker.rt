@@ -1,4 +1,5 @@
-//! Tests of workers: two lanes that meet, the entry of each request, and the values that a layer is handed.
+//! Tests of workers: two lanes that meet, the entry of each request, and the values that a layer is
+//! handed.
 ghost use Rattle.span_dispatch.specs.Serve.{stack_of};
 ghost use Rattle.span_stacks.specs.Layered.{inner_of, outer_of};
 ghost use Rattle.span_store.specs.Store.{IsFresh};
@@ -11,9 +12,9 @@ use span_core::{
 use span_dispatch::{Dispatch, Recorder};
 use span_layer_tests::fixture::{LANE, metadata_of};
 use span_layers::{Layer, Observe, Observer};
-use span_stacks::{LayerExt, Layered, SubscriberExt};
 use span_registry::{ContextMut, Notice, Registry, Subscriber};
 use span_shared::{Crew, Entry, Journal, Logged, Receipt, Shared, Unfinished, Worker};
+use span_stacks::{LayerExt, Layered, SubscriberExt};
 use std::alloc::Global;
 use std::marker::Brand;
 use std::process::Abort;
@@ -36,8 +37,8 @@ fn event_metadata() -> Metadata {
     metadata_of(1, Level::INFO, Kind::EVENT)
 }
 
-/// What a lane brings back: its worker, its receipt, whether its own entry stood at the receipt's place, and whether it saw the
-/// other lane's.
+/// What a lane brings back: its worker, its receipt, whether its own entry stood at the receipt's
+/// place, and whether it saw the other lane's.
 #[derive(Drop)]
 struct Met<L: Crew> {
     worker: Worker<L>,
@@ -242,7 +243,8 @@ fn open<S: Subscriber>(logged: &mut Logged<S>) -> Result<Id, Fail> {
     }
 }
 
-/// Each request once. A level is set that rules out the last span, and one span is left after it was closed.
+/// Each request once. A level is set that rules out the last span, and one span is left after it
+/// was closed.
 fn make_each<S: Subscriber>(logged: &mut Logged<S>) -> Result<(Id, Id), Fail> {
     logged.enabled(LANE, &event_metadata())?;
     let (p, q) = (open(logged)?, open(logged)?);
@@ -345,7 +347,8 @@ fn each_request_adds_its_entry(rt: HostRuntime) -> Result<(), Fail> {
     journal_under_info(&rt, rt.alloc(), Registry::new(rt.alloc()))
 }
 
-/// A layer that keeps the first number that a new span was given, and the first that was recorded of it.
+/// A layer that keeps the first number that a new span was given, and the first that was recorded
+/// of it.
 #[derive(Drop)]
 struct Numbers {
     made: Option<u64>,

@@ -5,8 +5,8 @@ use crate::layer::SpanCounter;
 use span_boxed::{BoxedLayer, DynLayer};
 use span_core::LevelFilter;
 use span_layers::{Layer, Observer};
-use span_stacks::LayerExt;
 use span_registry::Registry;
+use span_stacks::LayerExt;
 use std::alloc::{AllocError, Global};
 
 /// The hint of a layer under a level, in a box: that level.

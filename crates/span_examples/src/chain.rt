@@ -1,4 +1,5 @@
-//! Single calls in a row, and a stack that is put in another's place: a dispatcher that was ready is ready again.
+//! Single calls in a row, and a stack that is put in another's place: a dispatcher that was ready
+//! is ready again.
 ghost use Rattle.std.specs.Prelude.{◌≡◌, ℕ, IfErr, IfOk, OnOk};
 ghost use Rattle.span_dispatch.specs.Serve.{stack_of};
 ghost use Rattle.span_examples.specs.Chain.{IsReadyStack, OpensAndDrops};

@@ -11,12 +11,12 @@ ghost use Rattle.span_examples.specs.Kinds.{CountsUnder, IsCounted, RecordsUnder
 
 use crate::isolation::WithAnswers;
 use crate::kinds::serve_new;
+use span_boxed::{BoxedFilter, DynFilter};
 use span_core::{LevelFilter, Metadata, TraceError};
 use span_dispatch::{Answer, Recorder, Request};
-use span_boxed::{BoxedFilter, DynFilter};
-use span_filters::{And, Filter, FilterExt, Not, Or, dynamic_filter_fn, filter_fn, laws, };
-use span_stacks::{Filtered, LayerExt, Layered, SubscriberExt};
+use span_filters::{And, Filter, FilterExt, Not, Or, dynamic_filter_fn, filter_fn, laws};
 use span_registry::{Context, Registry, Subscriber};
+use span_stacks::{Filtered, LayerExt, Layered, SubscriberExt};
 use std::alloc::Global;
 
 /// A recorder under a filter, on a registry.

@@ -4,8 +4,8 @@ ghost use Rattle.span_examples.specs.Dispatches.{KeepsWhatPasses};
 
 use span_core::{Lane, LevelFilter, Metadata, TraceError};
 use span_dispatch::{Answer, Dispatch, Recorder, Request, Which, WhichParent};
-use span_stacks::{Filtered, LayerExt, Layered, SubscriberExt, laws};
 use span_registry::Registry;
+use span_stacks::{Filtered, LayerExt, Layered, SubscriberExt, laws};
 use std::alloc::Global;
 
 /// A recorder under a level, on a registry.

@@ -9,8 +9,8 @@ ghost use Rattle.span_registry.specs.Context.{view_in};
 ghost use Rattle.span_examples.specs.Filters.{is_marked, view_on, target_answers, wanted_by, wants_target};
 ghost use Rattle.span_examples.specs.laws.Target.{goes_by_target};
 
-use span_core::{Event, Interest, Lane, LevelFilter, Metadata};
 use span_boxed::{BoxedFilter, DynFilter};
+use span_core::{Event, Interest, Lane, LevelFilter, Metadata};
 use span_filters::{AlwaysUsableFilter, Filter, dynamic_filter_fn};
 use span_registry::{Context, ContextMut, ExtensionValue, LookupSpan, Notice, Registry, Tag};
 use std::alloc::{AllocError, Global};

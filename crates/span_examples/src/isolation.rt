@@ -1,4 +1,5 @@
-//! The same recorder under the same level in two stacks: what else stands in a stack makes no difference to it.
+//! The same recorder under the same level in two stacks: what else stands in a stack makes no
+//! difference to it.
 ghost use Rattle.std.specs.Prelude.{IfErr, IfOk, ◌≡◌};
 ghost use Rattle.span_dispatch.specs.Serve.{Served};
 ghost use Rattle.span_examples.specs.Isolation.{KeepTheSame, ServesFirst};
@@ -6,8 +7,8 @@ ghost use Rattle.span_examples.specs.Isolation.{KeepTheSame, ServesFirst};
 use crate::dispatch::Recorded;
 use span_core::{LevelFilter, TraceError};
 use span_dispatch::{Answer, Dispatch, Recorder, Request};
-use span_stacks::{Filtered, LayerExt, Layered, SubscriberExt};
 use span_registry::{Registry, Subscriber};
+use span_stacks::{Filtered, LayerExt, Layered, SubscriberExt};
 use std::alloc::Global;
 
 /// A recorder under a level, outside another on a registry.

@@ -1,4 +1,5 @@
-//! Layers of each kind in an honest stack, with a recorder outside: the recorder keeps what it would if it stood alone.
+//! Layers of each kind in an honest stack, with a recorder outside: the recorder keeps what it
+//! would if it stood alone.
 ghost use Rattle.std.specs.Prelude.{◌≡◌, [], IfErr, IfOk};
 ghost use Rattle.span_stacks.specs.Layered.{outer_of};
 ghost use Rattle.span_registry.specs.Position.{Here, Outer};
@@ -11,8 +12,8 @@ use span_boxed::{BoxedLayer, DynLayer};
 use span_core::TraceError;
 use span_dispatch::{Answer, Dispatch, Recorder, Request};
 use span_layers::{Identity, Layer, Observer};
-use span_stacks::{Layered, SubscriberExt};
 use span_registry::{Registry, Subscriber};
+use span_stacks::{Layered, SubscriberExt};
 use std::alloc::Global;
 
 /// A recorder outside a layer, on a registry.

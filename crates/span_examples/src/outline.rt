@@ -1,4 +1,5 @@
-//! A layer that writes an outline of what it is told: a line for each event, indented by the spans that its own context shows.
+//! A layer that writes an outline of what it is told: a line for each event, indented by the spans
+//! that its own context shows.
 ghost use Rattle.std.specs.Prelude.{◌≡◌, ℕ, List, [], false, string_bytes, IfErr, IfOk};
 ghost use Rattle.span_registry.specs.Context.{view_lent};
 ghost use Rattle.span_examples.specs.Outline.{Copies, ServesOutlined, StartsOutlined, WritesLine, has_failed, indent, line_of, outline_steps, spans_round, text_in};
@@ -8,8 +9,8 @@ use crate::isolation::serve_first;
 use span_core::{Event, LevelFilter, TraceError};
 use span_dispatch::{Answer, Recorder, Request};
 use span_layers::{Observe, Observer};
-use span_stacks::{Filtered, LayerExt, Layered, SubscriberExt};
 use span_registry::{ContextMut, Notice, Registry, Subscriber, laws};
+use span_stacks::{Filtered, LayerExt, Layered, SubscriberExt};
 use std::alloc::{AllocError, Global};
 
 /// A layer that writes a line for each event that it is notified of, up to the first that finds no

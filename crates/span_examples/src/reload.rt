@@ -5,8 +5,8 @@ ghost use Rattle.span_examples.specs.Reload.{Reloads};
 use crate::dispatch::Recorded;
 use span_core::{LevelFilter, TraceError};
 use span_dispatch::{Dispatch, Recorder, Request};
-use span_stacks::{LayerExt, SubscriberExt, laws};
 use span_registry::{Registry, Subscriber};
+use span_stacks::{LayerExt, SubscriberExt, laws};
 use std::alloc::Global;
 
 /// Serves requests with a new recorder under WARN, sets its level to DEBUG, and serves more. The

@@ -8,8 +8,8 @@ ghost use Rattle.span_examples.specs.Stacks.{CountsWhatPasses, HasNoRoom, IsNumb
 use crate::layer::SpanCounter;
 use span_core::{Attributes, Id, Lane, LevelFilter, Pass, TraceError};
 use span_layers::Observer;
-use span_stacks::{Filtered, LayerExt, Layered, SubscriberExt, laws};
 use span_registry::{Registry, Subscriber};
+use span_stacks::{Filtered, LayerExt, Layered, SubscriberExt, laws};
 use std::alloc::Global;
 
 /// A counter of spans under a level, on a registry.

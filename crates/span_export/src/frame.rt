@@ -1,4 +1,5 @@
-//! What stands round the boxes of a picture: the axis of time, the names of lanes, what the colours mean.
+//! What stands round the boxes of a picture: the axis of time, the names of lanes, what the colours
+//! mean.
 ghost use Rattle.std.specs.Prelude.{◌≡◌, ◌++◌, IfOk, OnOk, string_bytes};
 ghost use Rattle.span_export.specs.Frame.{axis_text, frame_text, head_text, lane_text, lanes_text, line_text, tick_text, time_text};
 

@@ -1,4 +1,5 @@
-//! What happened, in the formats of other tools: functions of points and of what callsites are called.
+//! What happened, in the formats of other tools: functions of points and of what callsites are
+//! called.
 #![tactic(auto)]
 
 mod chrome;

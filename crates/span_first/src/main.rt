@@ -1,5 +1,6 @@
-//! A program to begin with. Two threads trace their work through one receiver. At the end it writes a tree of spans and events to
-//! standard error, and a trace that Perfetto opens to the file `trace.json`.
+//! A program to begin with. Two threads trace their work through one receiver. At the end it writes
+//! a tree of spans and events to standard error, and a trace that Perfetto opens to the file
+//! `trace.json`.
 #![tactic(auto)]
 
 mod receiver;
@@ -13,8 +14,8 @@ use span_dispatch::Dispatch;
 use span_export::chrome_text;
 use span_fmt::Tree;
 use span_layers::Observer;
-use span_stacks::{LayerExt, SubscriberExt};
 use span_registry::Registry;
+use span_stacks::{LayerExt, SubscriberExt};
 use span_times::{Timeline, Wall};
 use std::fs;
 

@@ -1,4 +1,5 @@
-//! What the program's two threads do, in spans. Each macro waits for the lock, and holds it for its own calls alone.
+//! What the program's two threads do, in spans. Each macro waits for the lock, and holds it for its
+//! own calls alone.
 ghost use Rattle.span_dispatch.specs.Serve.{stack_of};
 
 use crate::receiver::Receiver;
@@ -32,7 +33,8 @@ where
     Ok((dispatch.into_stack(), count))
 }
 
-/// A thread for each list of texts, on a lane of its own. Where no second thread can be made, the first counts both.
+/// A thread for each list of texts, on a lane of its own. Where no second thread can be made, the
+/// first counts both.
 fn count_side_by_side<S: Subscriber + Send, R: Threads + Wait + Sync>(
     rt: &R,
     shared: &Mutex<Receiver<S>>,
@@ -52,7 +54,8 @@ fn count_side_by_side<S: Subscriber + Send, R: Threads + Wait + Sync>(
     )
 }
 
-/// How many words these texts have. Where a request is refused, that is handed on once the span is left.
+/// How many words these texts have. Where a request is refused, that is handed on once the span is
+/// left.
 fn count_words<S: Subscriber>(
     rt: &impl Wait,
     shared: &Mutex<Receiver<S>>,

@@ -8,8 +8,8 @@ use crate::tree::Tree;
 use span_core::{LevelFilter, TraceError};
 use span_dispatch::{Answer, Dispatch, Request};
 use span_layers::Observer;
-use span_stacks::{Filtered, Layered};
 use span_registry::Subscriber;
+use span_stacks::{Filtered, Layered};
 use std::alloc::Global;
 
 /// A stack, and outside it a tree under a level.

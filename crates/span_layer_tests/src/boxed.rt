@@ -7,8 +7,8 @@ use span_boxed::{BoxedLayer, DynLayer};
 use span_core::{Id, Interest, Level, LevelFilter, Metadata, Pass};
 use span_filters::{Filter, dynamic_filter_fn};
 use span_layers::{Identity, Layer};
-use span_stacks::{Filtered, LayerExt};
 use span_registry::{Context, ContextMut, LookupSpan, Registry, Subscriber, Tag};
+use span_stacks::{Filtered, LayerExt};
 use std::alloc::Global;
 use std::process::Abort;
 use std::test::Fail;
@@ -168,8 +168,8 @@ fn a_box_hands_everything_on(rt: HostRuntime) -> Result<(), Fail> {
     signs_once_in_use(&rt, &mut layer, &mut Registry::new(rt.alloc()))
 }
 
-/// Sets the level of the filter with number 1 to debug, and then that of the filter with number 0: is it taken, and which hint has the
-/// layer then?
+/// Sets the level of the filter with number 1 to debug, and then that of the filter with number 0:
+/// is it taken, and which hint has the layer then?
 fn hints_by_level<L: Layer<Registry>>(layer: &mut L) -> [(bool, Option<LevelFilter>); 2]
     requires { L.usable layer.old }
     ensures { L.usable layer.new }

@@ -5,8 +5,8 @@ ghost use Rattle.span_stacks.specs.Layered.{inner_of, outer_of};
 
 use span_core::{FieldSet, Kind, Lane, Level, Metadata, TraceError};
 use span_layers::Layer;
-use span_stacks::{Layered, SubscriberExt};
 use span_registry::Subscriber;
+use span_stacks::{Layered, SubscriberExt};
 
 /// The lane that most tests are in.
 pub const LANE: Lane = Lane(0);

@@ -5,8 +5,8 @@ use crate::fixture::put;
 use crate::stack::{is_text, notify, open, send_in};
 use span_core::{FilterId, Level, LevelFilter};
 use span_layers::{Layer, Observe, Observer};
-use span_stacks::{Filtered, LayerExt, Layered};
 use span_registry::{ContextMut, Notice, Registry, Subscriber};
+use span_stacks::{Filtered, LayerExt, Layered};
 use std::alloc::Global;
 use std::process::Abort;
 use std::test::Fail;
@@ -66,7 +66,8 @@ impl<L: AsRefusals, S> AsRefusals for Layered<L, S> {
     }
 }
 
-/// What comes of a span on a stack: whether an event was sent, and how often the outermost layer saw that the first filter had refused.
+/// What comes of a span on a stack: whether an event was sent, and how often the outermost layer
+/// saw that the first filter had refused.
 fn refusals_seen<S: Subscriber + AsRefusals>(stack: &mut S) -> Result<(bool, u64, u64), Fail>
     requires { S.usable stack.old }
 {

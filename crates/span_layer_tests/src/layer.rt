@@ -17,8 +17,8 @@ use span_core::{
     Event, Id, Interest, Kind, Level, LevelFilter, Metadata, Pass, Record, TraceError,
 };
 use span_layers::{Layer, Observer};
-use span_stacks::{Filtered, LayerExt, Layered, SubscriberExt, Unattached};
 use span_registry::{Context, ContextMut, LookupSpan, Notice, Registry, Subscriber, Tag};
+use span_stacks::{Filtered, LayerExt, Layered, SubscriberExt, Unattached};
 use std::alloc::{AllocError, Global};
 use std::process::Abort;
 use std::test::Fail;
@@ -181,7 +181,8 @@ fn saw_three_spans(rt: &impl Abort, watcher: &Observer<Watcher>, [root, child, l
     saw(rt, watcher, &three);
 }
 
-/// The outer watcher, under INFO, sees nothing of the second of three spans, and the open one sees all.
+/// The outer watcher, under INFO, sees nothing of the second of three spans, and the open one sees
+/// all.
 fn hides_from_one_alone<S: Subscriber + AsWatchers>(
     rt: &impl Abort,
     stack: &mut S,
@@ -436,7 +437,8 @@ fn filters_under<L: Layer<Registry> + Drop>(registry: Registry, layer: L) -> Res
     Ok(stack.inner().filters())
 }
 
-/// A full registry refuses the first of two layers under a level, and takes the second without: it needs no number.
+/// A full registry refuses the first of two layers under a level, and takes the second without: it
+/// needs no number.
 fn takes_no_filter<L: Layer<Registry> + Drop>(
     rt: &impl Abort,
     full: Registry,
@@ -463,7 +465,8 @@ fn a_registry_has_room_for_128_filters(rt: HostRuntime) -> Result<(), Fail> {
     )
 }
 
-/// A layer under a filter without a number is asked of an event, and is then notified of it: it lets it by, and doesn't hear of it.
+/// A layer under a filter without a number is asked of an event, and is then notified of it: it
+/// lets it by, and doesn't hear of it.
 fn lets_by_and_keeps<S: Subscriber, L: Layer<S> + AsWatcher>(
     rt: &impl Abort,
     layer: &mut L,
@@ -573,7 +576,8 @@ fn marks_two_and_one<S: Subscriber>(
     Ok(())
 }
 
-/// Puts a layer on a stack, where it marks two of three events under the first tag, and one under the second.
+/// Puts a layer on a stack, where it marks two of three events under the first tag, and one under
+/// the second.
 fn marks_on<S: Subscriber + Drop, L: Layer<S> + Drop>(
     rt: &impl Abort,
     stack: S,
@@ -586,7 +590,8 @@ fn marks_on<S: Subscriber + Drop, L: Layer<S> + Drop>(
     marks_two_and_one(rt, &mut put(stack, layer)?, tags)
 }
 
-/// Puts two layers as one on a stack: the inner marks under the second tag, and the outer under the first.
+/// Puts two layers as one on a stack: the inner marks under the second tag, and the outer under the
+/// first.
 fn marks_in_a_pair<S: Subscriber + Drop, L: Layer<S> + Drop>(
     rt: &impl Abort,
     stack: S,

@@ -2,8 +2,8 @@
 use crate::fixture::put;
 use span_core::{LevelFilter, TraceError};
 use span_layers::{Identity, Layer};
-use span_stacks::{Filtered, LayerExt, Layered};
 use span_registry::{Registry, Subscriber};
+use span_stacks::{Filtered, LayerExt, Layered};
 use std::alloc::Global;
 use std::process::Abort;
 use std::test::Fail;
@@ -39,7 +39,8 @@ fn stack_takes<S: Subscriber>(stack: &mut S, number: u32) -> bool
     stack.set_level(number, LevelFilter::TRACE)
 }
 
-/// What comes of a level that is set to trace: whether it was taken, and the levels of two filters then.
+/// What comes of a level that is set to trace: whether it was taken, and the levels of two filters
+/// then.
 type Levels = (bool, LevelFilter, LevelFilter);
 
 /// A layer under a level, and outside it another.
@@ -208,7 +209,8 @@ fn stack_after<S: Subscriber + HasLevels>(stack: &mut S, number: u32) -> Levels
     (taken, outer, inner)
 }
 
-/// Of a stack under a level, and a layer under another on it: of a number that no filter has, and of both.
+/// Of a stack under a level, and a layer under another on it: of a number that no filter has, and
+/// of both.
 fn stack_after_each<S: Subscriber + Drop + HasLevel, L: Layer<S> + Drop + HasLevel>(
     stack: S,
     outer: L,

@@ -4,8 +4,8 @@ use crate::signer::{Signer, signed};
 use crate::stack::{hint_of, interest_in, number_at, open_and_enter, shown_at};
 use span_core::{Id, Interest, Level, LevelFilter, Pass, TraceError};
 use span_layers::Layer;
-use span_stacks::{LayerExt, Layered};
 use span_registry::{ContextMut, LookupSpan, Registry, Subscriber};
+use span_stacks::{LayerExt, Layered};
 use std::alloc::Global;
 use std::process::Abort;
 use std::test::Fail;
@@ -99,7 +99,8 @@ fn a_list_wants_what_a_filtered_member_wants(rt: HostRuntime) -> Result<(), Fail
     Ok(())
 }
 
-/// Puts a stack in use, and notifies it of a new span that the lane enters: which number do signers write of that?
+/// Puts a stack in use, and notifies it of a new span that the lane enters: which number do signers
+/// write of that?
 fn signed_in_use<S: Subscriber>(stack: &mut S) -> Result<Option<u64>, Fail>
     requires { S.usable stack.old }
     ensures { S.usable stack.new }
@@ -109,7 +110,8 @@ fn signed_in_use<S: Subscriber>(stack: &mut S) -> Result<Option<u64>, Fail>
     Ok(number_at(stack, signed(), id))
 }
 
-/// Members 1, 2 and 3 of a list on a registry are put in use once, and sign a span in their order when it is new and when it is entered.
+/// Members 1, 2 and 3 of a list on a registry are put in use once, and sign a span in their order
+/// when it is new and when it is entered.
 fn sign_in_turn(rt: &impl Abort, stack: &mut Layered<Vec<Signer>, Registry>) -> Result<(), Fail> {
     let digits = signed_in_use(stack)?;
     assert!(rt; digits == Some(123123));

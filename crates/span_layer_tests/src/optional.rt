@@ -1,11 +1,12 @@
-//! Tests of layers that add nothing of their own: one that does nothing, one that may be absent, one in a box.
+//! Tests of layers that add nothing of their own: one that does nothing, one that may be absent,
+//! one in a box.
 use crate::fixture::{LANE, put};
 use crate::signer::Signer;
 use crate::stack::{Shown, hint_of, is_text, send, shown};
 use span_core::{Id, Interest, Level, LevelFilter, Pass, TraceError};
 use span_layers::{Identity, Layer};
-use span_stacks::{Filtered, LayerExt, Layered};
 use span_registry::{ContextMut, LookupSpan, Registry, Subscriber};
+use span_stacks::{Filtered, LayerExt, Layered};
 use std::process::Abort;
 use std::test::Fail;
 
@@ -15,7 +16,8 @@ fn is_absent<S: Subscriber>(stack: &S) -> bool
     stack.is_absent()
 }
 
-/// What a stack under this layer answers of an event of this level, and whether the layer is absent.
+/// What a stack under this layer answers of an event of this level, and whether the layer is
+/// absent.
 fn shown_and_absent<S: Subscriber + Drop, L: Layer<S> + Drop>(
     stack: S,
     layer: L,
@@ -40,8 +42,8 @@ fn absent_under<S: Subscriber + Drop, L: Layer<S> + Drop>(
     Ok((is_absent(&stack), hint_of(&stack)))
 }
 
-/// Whether a layer is absent once it stands under one that does nothing, and the hint that the stack then has: where the
-/// layer is absent, the hint is what it would be without that.
+/// Whether a layer is absent once it stands under one that does nothing, and the hint that the
+/// stack then has: where the layer is absent, the hint is what it would be without that.
 fn under_identity<S: Subscriber + Drop, L: Layer<S> + Drop>(
     stack: S,
     layer: L,
@@ -52,7 +54,8 @@ fn under_identity<S: Subscriber + Drop, L: Layer<S> + Drop>(
     absent_under(put(stack, layer)?, Identity)
 }
 
-/// Puts a stack with a layer under INFO in use, and sends an event that INFO passes and one that it doesn't.
+/// Puts a stack with a layer under INFO in use, and sends an event that INFO passes and one that it
+/// doesn't.
 fn use_under_info<S: Subscriber>(rt: &impl Abort, stack: &mut S)
     requires { S.usable stack.old }
     ensures { S.usable stack.new }
@@ -111,7 +114,8 @@ fn a_boxed_layer_is_what_it_holds(rt: HostRuntime) -> Result<(), Fail> {
     Ok(())
 }
 
-/// Notifies a signer that may be absent, in its box, that a span has another id: it is there, and hears of that once.
+/// Notifies a signer that may be absent, in its box, that a span has another id: it is there, and
+/// hears of that once.
 fn hears_of_a_changed_id(
     rt: &impl Abort,
     layer: &mut Box<Option<Signer>>,

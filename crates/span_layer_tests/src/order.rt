@@ -1,4 +1,5 @@
-//! Tests of the order in which layers are put on a registry, and in use. No clause says it: two layers share nothing there.
+//! Tests of the order in which layers are put on a registry, and in use. No clause says it: two
+//! layers share nothing there.
 ghost use Rattle.std.specs.Prelude.{◌≡◌, ⊤, true};
 ghost use Rattle.span_layers.specs.Acts.{LeafActs};
 ghost use Rattle.span_layers.specs.laws.Leaf.{is_leaf, any_laws};
@@ -12,8 +13,8 @@ ghost use Rattle.span_registry.specs.Levels.{unlevelled};
 use crate::fixture::put;
 use span_core::{Event, Interest, LevelFilter, Metadata, Pass};
 use span_layers::Layer;
-use span_stacks::{LayerExt, Layered};
 use span_registry::{Context, ContextMut, Notice, Registry, Subscriber};
+use span_stacks::{LayerExt, Layered};
 use std::alloc::{AllocError, Global};
 use std::cell::Cell;
 use std::process::Abort;

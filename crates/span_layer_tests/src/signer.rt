@@ -1,4 +1,5 @@
-//! A layer that tells what a layer with one method isn't told: that it is put in use, and that ids change.
+//! A layer that tells what a layer with one method isn't told: that it is put in use, and that ids
+//! change.
 ghost use Rattle.std.specs.Prelude.{◌≡◌, ⊤, true};
 ghost use Rattle.span_layers.specs.Acts.{LeafActs};
 ghost use Rattle.span_layers.specs.laws.Leaf.{is_leaf, any_laws};
@@ -14,8 +15,9 @@ use span_core::{Event, Id, Interest, LevelFilter, Metadata, Pass};
 use span_layers::Layer;
 use span_registry::{Context, ContextMut, Notice, Subscriber, Tag};
 
-/// Writes its digit behind those in the extensions of a span that is new, is entered or gets another id, once it is in use. Counts how
-/// often it is put in use, and the events and the changes of ids that it is told of.
+/// Writes its digit behind those in the extensions of a span that is new, is entered or gets
+/// another id, once it is in use. Counts how often it is put in use, and the events and the changes
+/// of ids that it is told of.
 #[derive(Drop)]
 pub(crate) struct Signer {
     digit: u64,

@@ -8,8 +8,8 @@ use span_core::{
     Attributes, Event, Id, Interest, Kind, Level, LevelFilter, Pass, Record, TraceError,
 };
 use span_layers::Layer;
-use span_stacks::{LayerExt, Layered};
 use span_registry::{LookupSpan, Subscriber, Tag};
+use span_stacks::{LayerExt, Layered};
 use std::process::Abort;
 use std::test::Fail;
 
@@ -48,8 +48,8 @@ pub(crate) fn interest_in<S: Subscriber>(stack: &S, level: Level) -> Interest
     stack.register_callsite(&metadata_of(1, level, Kind::EVENT), &mut Pass::new())
 }
 
-/// What is answered of an event of some level, each time with a new pass: the interest, whether its metadata are wanted, and whether it is
-/// wanted once these were let by; and the hint.
+/// What is answered of an event of some level, each time with a new pass: the interest, whether its
+/// metadata are wanted, and whether it is wanted once these were let by; and the hint.
 pub(crate) type Shown = (Interest, bool, bool, Option<LevelFilter>);
 
 /// What a stack answers of an event of this level.

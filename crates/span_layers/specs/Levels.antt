@@ -4,6 +4,7 @@ use Rattle.std.specs.Prelude.{List, Option}
 use Rattle.std.specs.List.{AllZip}
 use Rattle.span_layers.specs.Optional.{OptionGoes}
 use Rattle.span_registry.specs.Levels.{LevelSteps}
+
 -- a level is set in a list: in all members
 abbrev pub ListLevels : {L : Type 0} → LevelSteps L → LevelSteps (List L)
 ListLevels levelled xs n l ys = AllZip (λ x y. levelled x n l y) xs ys

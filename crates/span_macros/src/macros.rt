@@ -1,7 +1,8 @@
-//! The macros take a dispatcher and a lane, behind a `;` a level and a name, and behind another the fields.
+//! The macros take a dispatcher and a lane, behind a `;` a level and a name, and behind another the
+//! fields.
 //!
-//! The dispatcher is a `&mut Dispatch<S>`, and stands in each call that a macro writes. Those are proved in the function that calls the
-//! macro, by the contracts of `Dispatch` and of this crate.
+//! The dispatcher is a `&mut Dispatch<S>`, and stands in each call that a macro writes. Those are
+//! proved in the function that calls the macro, by the contracts of `Dispatch` and of this crate.
 
 /// The metadata of the callsite, with the caller's module as its target.
 #[macro_export]

@@ -6,12 +6,13 @@ use crate::shown::{write_answer, write_start};
 use span_core::LevelFilter;
 use span_dispatch::{Answer, Recorder};
 use span_layers::Layer;
-use span_stacks::{LayerExt, SubscriberExt};
 use span_registry::{LookupSpan, Registry, Subscriber};
+use span_stacks::{LayerExt, SubscriberExt};
 use std::alloc::Global;
 use std::io::Write;
 
-/// Puts a recorder under a level on a registry, and writes how many filters that handed out without that and after it.
+/// Puts a recorder under a level on a registry, and writes how many filters that handed out without
+/// that and after it.
 pub(crate) fn make<W: Write>(alloc: Global, writer: &mut W, call: Attachment) -> Result<(), Fault> {
     let layer = Recorder::new(alloc).with_filter(LevelFilter::INFO);
     put(writer, Registry::new(alloc), layer, call)

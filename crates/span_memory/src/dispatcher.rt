@@ -116,7 +116,8 @@ pub(crate) fn reserve<S: Tried, W: Write>(alloc: Global, writer: &mut W) -> Resu
     write_reserved(writer, &mut dispatcher::<S>(alloc, State::Kept)?)
 }
 
-/// Reserves for as many callsites more as are kept, and writes how it ends and what its dispatcher shows after it.
+/// Reserves for as many callsites more as are kept, and writes how it ends and what its dispatcher
+/// shows after it.
 fn write_reserved<S: Tried, W: Write>(
     writer: &mut W,
     dispatch: &mut Dispatch<S>,
@@ -176,7 +177,8 @@ fn send<S: Subscriber>(dispatch: &mut Dispatch<S>) -> Result<(), Fault>
     Err(Fault::Unprepared)
 }
 
-/// Sends an event that the recorder has no room for, and then another; and writes the same, both after the second.
+/// Sends an event that the recorder has no room for, and then another; and writes the same, both
+/// after the second.
 pub(crate) fn record<S: Tried, W: Write>(alloc: Global, writer: &mut W) -> Result<(), Fault> {
     write_dispatcher(writer, &mut full::<S>(alloc)?)?;
     write_sent(writer, &mut full::<S>(alloc)?)
@@ -217,8 +219,8 @@ fn write_levels<W: Write>(
     Ok(())
 }
 
-/// Writes what becomes of an event and of a span of callsites that weren't asked of, and of an event of one that is kept with other
-/// metadata.
+/// Writes what becomes of an event and of a span of callsites that weren't asked of, and of an
+/// event of one that is kept with other metadata.
 fn write_answers<S: Subscriber, W: Write>(
     writer: &mut W,
     dispatch: &mut Dispatch<S>,

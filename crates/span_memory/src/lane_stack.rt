@@ -9,8 +9,8 @@ use span_registry::SpanStack;
 use std::alloc::Global;
 use std::io::Write;
 
-/// Makes a call of a stack with four spans, where each list of them is full, and writes what it shows without the call and after
-/// it.
+/// Makes a call of a stack with four spans, where each list of them is full, and writes what it
+/// shows without the call and after it.
 pub(crate) fn make<W: Write>(alloc: Global, writer: &mut W, call: StackCall) -> Result<(), Fault> {
     let mut stack = SpanStack::new(alloc);
     for number in 1..=4 {

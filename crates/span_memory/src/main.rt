@@ -1,5 +1,6 @@
-//! Makes calls that standard input names, one a line, and writes what look-ups, stacks, notices and journal show without each call,
-//! how it ended, and what they show after it. `tests/each_call_refused` refuses memory in it.
+//! Makes calls that standard input names, one a line, and writes what look-ups, stacks, notices and
+//! journal show without each call, how it ended, and what they show after it.
+//! `tests/each_call_refused` refuses memory in it.
 #![tactic(auto)]
 
 mod attach;

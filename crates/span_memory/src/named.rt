@@ -8,7 +8,8 @@ use span_registry::Context;
 use std::alloc::{AllocError, Global};
 use std::marker::Model;
 
-/// A test of a name, seen as the bytes of that name. A copy of it takes memory: that of a closure takes none.
+/// A test of a name, seen as the bytes of that name. A copy of it takes memory: that of a closure
+/// takes none.
 #[derive(Debug, Drop)]
 pub struct Named {
     name: String,

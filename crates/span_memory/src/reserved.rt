@@ -18,8 +18,8 @@ fn reserved(alloc: Global) -> Result<Dispatch<Registry>, Fault> {
     Ok(dispatch)
 }
 
-/// Serves the preparation, with room for its answers, and writes what such a dispatcher shows without that, how it ends, and what it
-/// shows then.
+/// Serves the preparation, with room for its answers, and writes what such a dispatcher shows
+/// without that, how it ends, and what it shows then.
 pub(crate) fn serve<W: Write>(alloc: Global, writer: &mut W) -> Result<(), Fault> {
     write_all_of(writer, &mut reserved(alloc)?)?;
     let mut dispatch = reserved(alloc)?;

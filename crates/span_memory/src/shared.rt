@@ -39,7 +39,8 @@ impl<S: Drop> Drop for Finished<S> {
     }
 }
 
-/// Makes a request of a shared dispatcher, and writes what it shows without the request and after it.
+/// Makes a request of a shared dispatcher, and writes what it shows without the request and after
+/// it.
 pub(crate) fn make<S: Tried, W: Write>(
     rt: &impl Wait,
     alloc: Global,
@@ -61,7 +62,8 @@ fn write_after<S: Tried, W: Write>(
     write_finished(writer, &mut finished)
 }
 
-/// What is left of a dispatcher that was shared with a worker, after the preparation and this request, if there is one.
+/// What is left of a dispatcher that was shared with a worker, after the preparation and this
+/// request, if there is one.
 fn after<S: Tried, W: Write>(
     rt: &impl Wait,
     alloc: Global,
@@ -82,7 +84,8 @@ pub(crate) fn share<S: Tried, W: Write>(alloc: Global, writer: &mut W) -> Result
     write_dispatcher(writer, &mut dispatch)
 }
 
-/// Writes all that a dispatcher that was shared shows: its journal, and whether that holds its receipts, too.
+/// Writes all that a dispatcher that was shared shows: its journal, and whether that holds its
+/// receipts, too.
 fn write_finished<S: Tried, W: Write>(
     writer: &mut W,
     finished: &mut Finished<S>,
@@ -124,8 +127,8 @@ fn write_receipts<W: Write>(
     Ok(())
 }
 
-/// Shares a dispatcher with one worker, and writes how that ended. Where it was refused, what came back is shared. Answers the
-/// dispatcher.
+/// Shares a dispatcher with one worker, and writes how that ended. Where it was refused, what came
+/// back is shared. Answers the dispatcher.
 fn shared_once<S: Subscriber + Drop, L: Crew, W: Write>(
     alloc: Global,
     writer: &mut W,
@@ -183,7 +186,8 @@ fn shared_of<S: Subscriber + Drop, L: Crew>(
     }
 }
 
-/// Shares a dispatcher with one worker, that prepares it and makes the request, if there is one, and writes how that ended.
+/// Shares a dispatcher with one worker, that prepares it and makes the request, if there is one,
+/// and writes how that ended.
 fn shared_with_one<S: Subscriber + Drop, L: Crew, W: Write>(
     rt: &impl Wait,
     alloc: Global,

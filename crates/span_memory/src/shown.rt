@@ -28,7 +28,8 @@ fn write_number<W: Write>(writer: &mut W, text: &str, number: u64) -> Result<(),
     Ok(())
 }
 
-/// Writes that the call begins, by one write and without memory: `tests/each_call_refused` refuses memory from here to the next write.
+/// Writes that the call begins, by one write and without memory: `tests/each_call_refused` refuses
+/// memory from here to the next write.
 pub(crate) fn write_start<W: Write>(writer: &mut W) -> Result<(), Fault> {
     Ok(writer.write_all(b"call\n")?)
 }
@@ -107,8 +108,8 @@ fn write_values<W: Write>(writer: &mut W, values: Extensions<'_>) -> Result<(), 
     write_text(writer, "\n")
 }
 
-/// Writes what look-ups, stacks and handles show, and whether there is room for one span more. So lanes leave their spans, all
-/// handles are dropped, and what is left is written.
+/// Writes what look-ups, stacks and handles show, and whether there is room for one span more. So
+/// lanes leave their spans, all handles are dropped, and what is left is written.
 pub(crate) fn write_all_of<S: Subscriber, W: Write>(
     writer: &mut W,
     dispatch: &mut Dispatch<S>,

@@ -50,7 +50,8 @@ fn metadata(callsite: u64, name: &'static str, level: Level, kind: Kind) -> Meta
     Metadata::new(callsite, name, "memory", level, kind, FieldSet::new(&[]))
 }
 
-/// The id of the span that was made as this one, counted from 1: a fresh registry hands them out so.
+/// The id of the span that was made as this one, counted from 1: a fresh registry hands them out
+/// so.
 pub(crate) fn nth(number: u64) -> Id {
     Id::from_u64(number)
 }
@@ -80,7 +81,8 @@ pub(crate) fn other_event() -> Request<'static> {
     event_of(metadata(KEPT_EVENT, "event", Level::WARN, Kind::EVENT))
 }
 
-/// The request with this name, of spans that are prepared, and of a callsite that nothing was asked of.
+/// The request with this name, of spans that are prepared, and of a callsite that nothing was asked
+/// of.
 pub(crate) fn request_named(name: &str) -> Option<Request<'static>> {
     match name {
         "enabled" => Some(Request::Enabled(LANE, event_metadata(UNKNOWN_EVENT))),
@@ -121,8 +123,8 @@ fn request_above(name: &str) -> Option<Request<'static>> {
     }
 }
 
-/// The request with this name that is refused, whatever memory there is: of a span that was never opened, or a filter that isn't
-/// there.
+/// The request with this name that is refused, whatever memory there is: of a span that was never
+/// opened, or a filter that isn't there.
 fn request_in_vain(name: &str) -> Option<Request<'static>> {
     let never = WhichParent::Explicit(known(0));
     match name {
@@ -134,7 +136,8 @@ fn request_in_vain(name: &str) -> Option<Request<'static>> {
     }
 }
 
-/// Requests that take no memory once a dispatcher is prepared: more than a list has room for that was given no more.
+/// Requests that take no memory once a dispatcher is prepared: more than a list has room for that
+/// was given no more.
 pub(crate) fn sparing() -> [Request<'static>; 6] {
     [
         Request::Clone(LANE, known(2)),
@@ -146,8 +149,9 @@ pub(crate) fn sparing() -> [Request<'static>; 6] {
     ]
 }
 
-/// The requests that prepare a dispatcher: spans each in the one before, of which the lane is in some, an event, and what takes no more
-/// memory. Their journal has 32 entries, and 15 callsites are kept: so many that the next needs memory.
+/// The requests that prepare a dispatcher: spans each in the one before, of which the lane is in
+/// some, an event, and what takes no more memory. Their journal has 32 entries, and 15 callsites
+/// are kept: so many that the next needs memory.
 pub(crate) fn preparation() -> [Request<'static>; 32] {
     let mut requests = [new_span(1, WhichParent::Root); 32];
     for place in 1..32 {
@@ -156,7 +160,8 @@ pub(crate) fn preparation() -> [Request<'static>; 32] {
     requests
 }
 
-/// The request at a place of the preparation, but for the first. The last spans are of one callsite.
+/// The request at a place of the preparation, but for the first. The last spans are of one
+/// callsite.
 fn request_at(place: u64) -> Request<'static> {
     match place {
         ..=13 => new_span(place + 1, WhichParent::Explicit(known(place))),

@@ -6,8 +6,8 @@ use crate::fault::Fault;
 use span_core::LevelFilter;
 use span_dispatch::Recorder;
 use span_layers::Layer;
-use span_stacks::{Filtered, LayerExt, Layered, SubscriberExt};
 use span_registry::{Registry, Subscriber};
+use span_stacks::{Filtered, LayerExt, Layered, SubscriberExt};
 use std::alloc::Global;
 
 /// A stack with a recorder under a level.

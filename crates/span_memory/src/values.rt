@@ -8,7 +8,8 @@ use span_registry::{ExtensionsMut, Registry, Tag};
 /// The value that is handed in.
 const VALUE: u64 = 8;
 
-/// No call of these is refused so: here it says that there is no value under a tag, or that another came back.
+/// No call of these is refused so: here it says that there is no value under a tag, or that another
+/// came back.
 const NOTHING: TraceError = TraceError::TooManyFilters;
 
 /// How a call of the extensions of a span ends.

@@ -8,8 +8,8 @@ use crate::shown::write_start;
 use span_dispatch::{Dispatch, Request};
 use span_filters::dynamic_filter_fn;
 use span_layers::Layer;
-use span_stacks::SubscriberExt;
 use span_registry::{Registry, Subscriber};
+use span_stacks::SubscriberExt;
 use std::alloc::Global;
 use std::io::Write;
 

@@ -1,5 +1,6 @@
-//! What a program may count on that puts recorders under levels, and has requests served: promises in plain words, each proved
-//! of whatever requests are served, from what a dispatcher promises of any stack.
+//! What a program may count on that puts recorders under levels, and has requests served: promises
+//! in plain words, each proved of whatever requests are served, from what a dispatcher promises of
+//! any stack.
 #![tactic(auto)]
 
 pub mod laws;

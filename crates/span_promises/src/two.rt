@@ -8,8 +8,8 @@ ghost use Rattle.span_promises.specs.Promises.{ClosesChildrenFirst, ClosesOnce, 
 
 use span_core::{FieldSet, Kind, Lane, Level, LevelFilter, Metadata, TraceError};
 use span_dispatch::{Answer, Dispatch, Recorder, Request, Which, WhichParent};
-use span_stacks::{Filtered, LayerExt, Layered, SubscriberExt, laws};
 use span_registry::{Registry, Subscriber};
+use span_stacks::{Filtered, LayerExt, Layered, SubscriberExt, laws};
 use std::alloc::Global;
 
 /// A recorder under a level.

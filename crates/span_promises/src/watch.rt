@@ -8,8 +8,8 @@ ghost use Rattle.span_registry.specs.View.{is_shown, view_of};
 use span_core::{Id, LevelFilter, TraceError};
 use span_dispatch::{Answer, Dispatch, Request};
 use span_layers::{Observe, Observer};
-use span_stacks::{Filtered, LayerExt, Layered, SubscriberExt, laws};
 use span_registry::{ContextMut, LookupSpan, Notice, Registry, Subscriber};
+use span_stacks::{Filtered, LayerExt, Layered, SubscriberExt, laws};
 use std::alloc::Global;
 
 /// A layer that looks up each span whose close it is notified of, and counts those that it doesn't

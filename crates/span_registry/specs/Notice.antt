@@ -31,8 +31,8 @@ is_for_filters (OnEnter id) = true
 is_for_filters (OnExit id) = true
 is_for_filters (OnClose id) = true
 
--- whether a hook lets a notice by that is for what stands under the filter of this id: a new span and an event where the filter
--- refused neither, all else where the spans' verdicts say so
+-- whether a hook lets a notice by that is for what stands under the filter of this id: a new span
+-- and an event where the filter refused neither, all else where the spans' verdicts say so
 abbrev pub is_admitted : {S : Type 0} → (S → RegistryState) → FilterId → Notice → ContextMut S
     → Bool
 is_admitted registry id (OnNewSpan attrs x) c = is_enabled (refused_lent c) id

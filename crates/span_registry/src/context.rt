@@ -411,8 +411,9 @@ impl<'a, S: LookupSpan> ContextMut<'a, S> {
         root.extensions_mut(id)
     }
 
-    /// What stands under the filter of this id is notified of it: of a new span and of an event unless the filter refused it, of all
-    /// else where no filter of the id refused the spans that it is of.
+    /// What stands under the filter of this id is notified of it: of a new span and of an event
+    /// unless the filter refused it, of all else where no filter of the id refused the spans that
+    /// it is of.
     #[inline(always)]
     pub fn admits(&self, notice: Notice<'_, '_>, filter: FilterId) -> bool
         ensures { result ≡ is_admitted S.registry filter (notice_of notice.entry) self.now }

@@ -4,7 +4,8 @@ ghost use Rattle.span_registry.specs.Notice.{is_for_filters, notice_of};
 
 use span_core::{Attributes, Event, Id, Record};
 
-/// What a layer or a filter is notified of. Filters are notified of new spans, records, enters, exits and closes alone.
+/// What a layer or a filter is notified of. Filters are notified of new spans, records, enters,
+/// exits and closes alone.
 ///
 /// Own to this port: each variant stands for a hook of `tracing_subscriber::Layer`.
 #[derive(Clone, Copy)]

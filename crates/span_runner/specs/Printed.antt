@@ -132,7 +132,8 @@ IsPrinted lines answers sections text =
     (labels : ℕ → Option (List ℕ))
     × (AreLabels lines answers labels × (text ≡ printed (name_by labels) lines answers sections))
 
--- what serves a stack's requests: with which answers, and with which notices that each of its recorders keeps, innermost first
+-- what serves a stack's requests: with which answers, and with which notices that each of its
+-- recorders keeps, innermost first
 abbrev pub Serving : Type 1
 Serving = StackName → List Request → List Answer → List (List Recorded) → Type 0
 
@@ -150,7 +151,8 @@ abbrev pub Gives : Limits → StackName → Script → List ℕ → Type 0
 Gives limits stack script output =
     PrintsServed (Serves limits) stack (lines_of script) (requests_of script) output
 
--- a stack was put in use and served what a script asks for; its recorders kept all, and this is printed of it
+-- a stack was put in use and served what a script asks for; its recorders kept all, and this is
+-- printed of it
 pub record PrintsInUse {S : Type 0} (s : SubscriberOf S)
     (sections : S → List (List ℕ × List Recorded)) (whole : S → Type 0) (script : Script) (x : S)
     (text : List ℕ) : Type 0 where
@@ -163,7 +165,8 @@ pub record PrintsInUse {S : Type 0} (s : SubscriberOf S)
 abbrev pub AnyAnswers : Serving
 AnyAnswers stack requests answers kept = length answers ≡ length requests
 
--- a script whose requests workers ask of this stack gives this text: replies of some answers, and what its recorders kept
+-- a script whose requests workers ask of this stack gives this text: replies of some answers, and
+-- what its recorders kept
 abbrev pub GivesShared : StackName → Script → List ℕ → Type 0
 GivesShared stack script output =
     PrintsServed AnyAnswers stack (lines_of script) (requests_of script) output

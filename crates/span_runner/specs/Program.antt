@@ -13,7 +13,8 @@ use Rattle.span_runner.specs.declared.fault.RunFault.{RunFault}
 use Rattle.span_runner.specs.declared.fault.RunFault.TheVariants.{Wrong, Io, Memory}
 use Rattle.span_script.specs.declared.stack_name.StackName.{StackName}
 
--- the text spells a stack and lines, these ask for requests, and what comes of serving them so is printed
+-- the text spells a stack and lines, these ask for requests, and what comes of serving them so is
+-- printed
 pub record PrintsBy (Served : Serving) (text output : List ℕ) : Type 0 where
   pub stack : StackName
   pub lines : List Line
@@ -41,7 +42,8 @@ abbrev pub BlamesLine : RunFault → Type 0
 BlamesLine (Wrong w) = ⊤
 BlamesLine fault = ⊥
 
--- Below: what is printed for a text, the bytes that a reader gives, if they are known, and a writer before and after.
+-- Below: what is printed for a text, the bytes that a reader gives, if they are known, and a writer
+-- before and after.
 
 -- what is printed for the bytes is written behind what was there
 abbrev pub Writes : {W : Type 0} → (List ℕ → List ℕ → Type 0) → Option (List ℕ)

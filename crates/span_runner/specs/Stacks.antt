@@ -37,7 +37,11 @@ use Rattle.span_script.specs.declared.stack_name.StackName.TheVariants.{Absent a
 abbrev pub leaf : Form
 leaf = Leaf true open_answers
 
--- the form of a stack. Plain: a recorder on the registry. Pair: `a`, which every level passes, and outside it `b`, which info and what is less verbose pass. Nested: `base`, and outside it `deep`, which those levels pass, where the event isn't muted. Veto: `base`, outside it `warn`, which warnings and errors pass, and outside these two leaves that veto, one muted events and the outer one what is more verbose than info. Absent: an absent layer, and outside it `base`
+-- the form of a stack. Plain: a recorder on the registry. Pair: `a`, which every level passes, and
+-- outside it `b`, which info and what is less verbose pass. Nested: `base`, and outside it `deep`,
+-- which those levels pass, where the event isn't muted. Veto: `base`, outside it `warn`, which
+-- warnings and errors pass, and outside these two leaves that veto, one muted events and the outer
+-- one what is more verbose than info. Absent: an absent layer, and outside it `base`
 abbrev pub form_of : StackName → Form
 form_of Plain = Parts OnSubscriber leaf (Terminal Base)
 form_of Pair =
@@ -76,11 +80,13 @@ pub record ArePositive (limits : Limits) : Type 0 where
   pub generations : 1 ≤ limits.generations
   pub count : 1 ≤ limits.count
 
--- its registry before the first request: it has these limits, is empty, and handed out the stack's filters
+-- its registry before the first request: it has these limits, is empty, and handed out the stack's
+-- filters
 abbrev pub start_of : Limits → StackName → RegistryState
 start_of limits stack = record (new_registry limits) { filters = filters_of stack }
 
--- the stack answers these requests so, from its first registry on and with nothing kept at first, and its recorders, innermost first, keep these notices
+-- the stack answers these requests so, from its first registry on and with nothing kept at first,
+-- and its recorders, innermost first, keep these notices
 abbrev pub Serves : Limits → StackName → List Request → List Answer → List (List Recorded) → Type 0
 Serves limits stack requests answers kept =
     (made : List (List OutcomeAt)) × (memory : KeptCallsites) × (after : RegistryState)
@@ -116,7 +122,8 @@ pub record BeginsPair (limits : Limits)
   pub b : BeginsUnder 0 INFO (outer_of (outer_of x))
   pub registry : inner_of x ≡ start_of limits Pair
 
--- a new recorder on the first registry, and outside it one under a level, and that under the filter of muted events
+-- a new recorder on the first registry, and outside it one under a level, and that under the filter
+-- of muted events
 pub record BeginsNested (limits : Limits)
     (x : Layered (FilteredLayer (FilteredLayer RecorderState LevelFilter) Mute)
     (Layered RecorderState RegistryState)) : Type 0 where
@@ -133,7 +140,8 @@ pub record BeginsWarned (limits : Limits)
   pub warn : BeginsUnder 0 WARN (outer_of x)
   pub registry : inner_of (inner_of x) ≡ start_of limits Veto
 
--- outside these a layer that vetoes muted events, and outside that one which vetoes what is more verbose than info
+-- outside these a layer that vetoes muted events, and outside that one which vetoes what is more
+-- verbose than info
 pub record BeginsVeto (limits : Limits)
     (x : Layered LevelFilter
     (Layered MuteVeto (Layered (FilteredLayer RecorderState LevelFilter)
@@ -148,7 +156,8 @@ pub record BeginsAbsent (limits : Limits)
   pub absent : outer_of (inner_of x) ≡ None
   pub registry : inner_of (inner_of x) ≡ start_of limits AbsentStack
 
--- a stack was put in use, with nothing kept yet, and then, if it was ready, it served these requests exactly so
+-- a stack was put in use, with nothing kept yet, and then, if it was ready, it served these
+-- requests exactly so
 pub record ServesInUse {S : Type 0} (s : SubscriberOf S) (requests : List Request) (x : S)
     (given : Vec Answer Global × Dispatch S) : Type 0 where
   pub begun : Dispatch S

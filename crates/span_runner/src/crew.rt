@@ -22,7 +22,8 @@ use std::sync::ledger::Blank;
 /// How many workers there are: one for each lane that a script names.
 const WORKERS: u32 = 10;
 
-/// What a script prints, where workers share the stack that it names, and the journal of its requests.
+/// What a script prints, where workers share the stack that it names, and the journal of its
+/// requests.
 pub(crate) fn shared_text(
     rt: &impl Wait,
     alloc: Global,
@@ -109,7 +110,8 @@ fn serve<S: Subscriber + Drop, L: Crew>(
     Ok((answers, dispatch, journal))
 }
 
-/// One request, by the worker of its lane, where these are the answers so far. A level is set by the first.
+/// One request, by the worker of its lane, where these are the answers so far. A level is set by
+/// the first.
 fn ask_by_lane<S: Subscriber, L: Crew>(
     rt: &impl Wait,
     shared: &Shared<S, L>,

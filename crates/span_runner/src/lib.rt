@@ -1,4 +1,5 @@
-//! What runs scripts: it reads one, has the stack that it names serve it, alone or shared by workers, and writes what comes of it.
+//! What runs scripts: it reads one, has the stack that it names serve it, alone or shared by
+//! workers, and writes what comes of it.
 #![tactic(auto)]
 
 mod crew;

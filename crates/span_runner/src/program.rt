@@ -52,8 +52,8 @@ pub fn run_with<R: Read, W: Write>(
     write_output(writer, output.as_str())
 }
 
-/// The same by ten workers that share a receiver, in one thread: lane L by worker L, and what has no lane by worker 0. Answers
-/// the journal of the accepted requests.
+/// The same by ten workers that share a receiver, in one thread: lane L by worker L, and what has
+/// no lane by worker 0. Answers the journal of the accepted requests.
 pub fn run_shared<R: Read, W: Write>(
     rt: &impl Wait,
     alloc: Global,

@@ -18,9 +18,9 @@ use crate::way::{Alone, Way};
 use span_core::LevelFilter;
 use span_dispatch::{Answer, Recorder};
 use span_layers::Layer;
-use span_stacks::{Filtered, LayerExt, Layered, SubscriberExt};
 use span_registry::{Limits, Registry, Subscriber};
 use span_script::{Script, StackName};
+use span_stacks::{Filtered, LayerExt, Layered, SubscriberExt};
 use std::alloc::Global;
 
 /// A recorder under a level.
@@ -206,7 +206,8 @@ pub(crate) fn text_of_one(
     Ok(text_of(alloc, script.lines(), answers, &sections)?)
 }
 
-/// What is printed of these answers and of two recorders by their names, unless memory was refused to one.
+/// What is printed of these answers and of two recorders by their names, unless memory was refused
+/// to one.
 pub(crate) fn text_of_two(
     alloc: Global,
     script: &Script<'_>,

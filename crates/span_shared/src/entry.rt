@@ -11,7 +11,8 @@ use std::alloc::AllocError;
 pub type Entry = EntryWith<Metadata, FilterMap>;
 
 /// An entry by the types of its metadata and its verdict.
-// No proof follows an enum that holds both itself: metadata hold references, and a verdict has a ghost field.
+// No proof follows an enum that holds both itself: metadata hold references, and a verdict has a
+// ghost field.
 #[derive(Copy, Debug, PartialEq, Eq)]
 pub enum EntryWith<M, V> {
     /// A span was made: its metadata, the parent that it asked for, its verdict and its id.

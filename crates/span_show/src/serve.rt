@@ -9,8 +9,8 @@ use span_core::{LevelFilter, TraceError};
 use span_dispatch::{Answer, Dispatch, Request};
 use span_fmt::{Lines, Tree, WithLines, WithTree, serve_lines, serve_tree};
 use span_layers::{Layer, Observer};
-use span_stacks::{LayerExt, Layered, SubscriberExt, laws};
 use span_registry::{Registry, Subscriber};
+use span_stacks::{LayerExt, Layered, SubscriberExt, laws};
 use span_times::{Counted, Point, Timeline, WithTimeline, serve_timed};
 use std::alloc::Global;
 

@@ -1,5 +1,5 @@
--- How levels are set in a layer under a filter and in two parts: in each part, which keeps the law of
--- levels.
+-- How levels are set in a layer under a filter and in two parts: in each part, which keeps the law
+-- of levels.
 use Rattle.std.specs.Prelude.{◌≡◌, ℕ, Bool, true, false}
 use Rattle.span_core.specs.Filters.{has_filter}
 use Rattle.span_core.specs.declared.filter.FilterId.{FilterId}

@@ -4,9 +4,9 @@ ghost use Rattle.span_stacks.specs.Attach.{Attaches, IsHandedBack, IsPair};
 ghost use Rattle.span_stacks.specs.Filtered.{IsUnnumbered};
 
 use crate::filtered::Filtered;
-use span_layers::Layer;
 use crate::layered::Layered;
 use span_core::{FilterId, TraceError};
+use span_layers::Layer;
 use span_registry::{LookupSpan, Subscriber};
 
 /// A layer that wasn't put on a subscriber, since there is no room for its filters, with that

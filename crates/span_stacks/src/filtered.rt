@@ -12,9 +12,9 @@ ghost use Rattle.span_stacks.specs.laws.Filtered.{filtered_laws};
 ghost use Rattle.span_registry.specs.Context.{HasNoRefusalsUnlessAsked, WritesExtensions};
 ghost use Rattle.span_registry.specs.Notice.{notice_of};
 
-use span_layers::Layer;
 use span_core::{Event, FilterId, Interest, LevelFilter, Metadata, Pass};
 use span_filters::Filter;
+use span_layers::Layer;
 use span_registry::{Context, ContextMut, Notice, Subscriber};
 
 /// A layer that is notified of what its filter enables. What the filter refuses is refused for this

@@ -14,8 +14,8 @@ ghost use Rattle.span_stacks.specs.Layered.{LayeredHears, PairSteps, inner_of, o
 ghost use Rattle.span_registry.specs.Form.{InPair};
 ghost use Rattle.span_registry.specs.Question.{hint_by, is_never};
 
-use span_layers::Layer;
 use span_core::{Event, Interest, LevelFilter, Metadata, Pass};
+use span_layers::Layer;
 use span_registry::{Context, ContextMut, Notice, Subscriber};
 
 /// An outer part over an inner one: a layer where both are layers, a stack where the inner one is a

@@ -10,12 +10,12 @@ ghost use Rattle.span_stacks.specs.Levels.{LayeredLevels};
 ghost use Rattle.span_stacks.specs.laws.Level.{layered_levels};
 ghost use Rattle.span_registry.specs.Form.{OnSubscriber};
 
-use span_layers::Layer;
 use crate::layered::{Hinted, Layered, calmed, hint_over};
 use span_core::{
     Attributes, Current, Event, FilterId, Id, Interest, Lane, LevelFilter, Metadata, Pass, Record,
     TraceError,
 };
+use span_layers::Layer;
 use span_registry::{Context, ContextMut, Data, LookupSpan, Notice, Registry, Subscriber};
 
 impl<L, I: LookupSpan> LookupSpan for Layered<L, I> {

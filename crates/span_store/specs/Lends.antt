@@ -1,4 +1,5 @@
--- What a registry ends as where a `&mut` to a span's extensions is returned, and what the values end as that are kept by keys.
+-- What a registry ends as where a `&mut` to a span's extensions is returned, and what the values
+-- end as that are kept by keys.
 use Rattle.std.specs.Prelude.{ℕ, Option}
 use Rattle.std.specs.Borrow.{Fml, Lends, LendsIf, MutBor, RattleType}
 use Rattle.slab.specs.Slab.{Slab, with_value as with_kept}

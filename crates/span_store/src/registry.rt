@@ -169,8 +169,8 @@ impl Registry {
         self.spans.reserve(self.alloc, places)
     }
 
-    /// Holds memory for so many entries on a lane's stack, those that are there among them. Until it
-    /// has as many, the lane isn't refused a span for want of memory.
+    /// Holds memory for so many entries on a lane's stack, those that are there among them. Until
+    /// it has as many, the lane isn't refused a span for want of memory.
     ///
     /// Refused for want of memory alone, where fewer were reserved for the lane.
     pub fn reserve_entries(&mut self, lane: Lane, entries: usize) -> Result<(), TraceError>
@@ -214,7 +214,8 @@ impl Registry {
         }
     }
 
-    /// Hands out the next filter: 0, 1, and so on. Refused past the limit of 128 (`TooManyFilters`).
+    /// Hands out the next filter: 0, 1, and so on. Refused past the limit of 128
+    /// (`TooManyFilters`).
     pub fn hand_out_filter(&mut self) -> Result<FilterId, TraceError>
         ensures filter { IfOk result (λ id. HandsOut id self.old self.new) }
         ensures refused { IfErr result (RefusesFilter self.old) }
@@ -228,11 +229,12 @@ impl Registry {
         Ok(id)
     }
 
-    /// Opens a span with one handle, and answers its id, which was never handed out before. The filters that the pass
-    /// holds as refusing are its verdict.
+    /// Opens a span with one handle, and answers its id, which was never handed out before. The
+    /// filters that the pass holds as refusing are its verdict.
     ///
-    /// Refused where the explicit parent isn't open (`UnknownParent`), else where the parent's children are at the
-    /// limit (`CountFull`), else where no place or id is left (`TooManySpans`), else for want of memory.
+    /// Refused where the explicit parent isn't open (`UnknownParent`), else where the parent's
+    /// children are at the limit (`CountFull`), else where no place or id is left (`TooManySpans`),
+    /// else for want of memory.
     pub fn open(
         &mut self,
         lane: Lane,
@@ -285,7 +287,8 @@ impl Registry {
         self.stacks.pop(lane, id);
     }
 
-    /// The span that a lane is in. It looks at the newest entry of its stack that is no duplicate, and at no other.
+    /// The span that a lane is in. It looks at the newest entry of its stack that is no duplicate,
+    /// and at no other.
     pub fn current_on(&self, lane: Lane) -> Current
         ensures { ShowsCurrent self.now.store lane result }
     {
@@ -300,7 +303,8 @@ impl Registry {
 
     /// Adds a handle.
     ///
-    /// Refused where the span isn't open (`UnknownSpan`), else where its handles are at the limit (`CountFull`).
+    /// Refused where the span isn't open (`UnknownSpan`), else where its handles are at the limit
+    /// (`CountFull`).
     pub fn add_handle(&mut self, id: Id) -> Result<(), TraceError>
         ensures cloned { OnOk result (Clones id self.old self.new) }
         ensures refused { IfErr result (RefusesClone self.old id) }

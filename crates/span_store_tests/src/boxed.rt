@@ -6,8 +6,8 @@ ghost use Rattle.span_store_tests.specs.laws.Filter.{in_span_honest, since_laws,
 ghost use Rattle.std.specs.Prelude.{◌≡◌};
 
 use crate::fixture::{LANE, enter, event_at, is_shown_as, open, open_named, root};
-use span_core::{Event, Id, Interest, Level, LevelFilter, Metadata, Pass};
 use span_boxed::{BoxedFilter, DynFilter};
+use span_core::{Event, Id, Interest, Level, LevelFilter, Metadata, Pass};
 use span_filters::{And, Filter, FilterExt, Not, Or};
 use span_registry::{Context, ContextMut, LookupSpan, Notice, Registry};
 use std::process::Abort;

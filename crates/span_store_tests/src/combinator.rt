@@ -88,7 +88,8 @@ impl<S: LookupSpan> Filter<S> for Asked<'_> {
     }
 }
 
-/// The second part of a filter is asked so often when that filter is asked for its hint. It has none.
+/// The second part of a filter is asked so often when that filter is asked for its hint. It has
+/// none.
 fn asks_the_second<F: Filter<Registry>>(rt: &impl Abort, filter: &F, hints: &Cell<u32>, times: u32)
     requires { F.usable filter.now }
 {

@@ -1,4 +1,5 @@
-//! Tests of contexts: what one filter refused is hidden from those that stand under it, and from nobody else.
+//! Tests of contexts: what one filter refused is hidden from those that stand under it, and from
+//! nobody else.
 ghost use Rattle.span_core.specs.Filters.{is_attached};
 ghost use Rattle.std.specs.Prelude.{IfOk, IsTrue};
 
@@ -12,7 +13,8 @@ use std::alloc::Global;
 use std::process::Abort;
 use std::test::Fail;
 
-/// Registers a filter, and opens a family of which that refuses the child. The lane has entered all of it.
+/// Registers a filter, and opens a family of which that refuses the child. The lane has entered all
+/// of it.
 fn hide_child(registry: &mut Registry) -> Result<(FilterId, Family), TraceError>
     ensures { IfOk result (λ r. IsTrue (is_attached r.0)) }
 {
@@ -105,7 +107,8 @@ fn an_event_in_a_hidden_span_has_no_scope(rt: HostRuntime) -> Result<(), Fail> {
     hides_from_events(&rt, rt.alloc(), &mut Registry::new(rt.alloc()))
 }
 
-/// What a context shows: the span of an event in the child, the leaf's parent, the child's metadata, and whether the child is there.
+/// What a context shows: the span of an event in the child, the leaf's parent, the child's
+/// metadata, and whether the child is there.
 fn shown_of<S: LookupSpan>(
     ctx: &Context<'_, S>,
     family: Family,
@@ -180,7 +183,8 @@ fn what_a_filter_refused_is_not_enabled_for_it(rt: HostRuntime) -> Result<(), Fa
     enables_its_family(&rt, &mut Registry::new(rt.alloc()))
 }
 
-/// What a context shows of where the lane is: the span of an event there, of one in no span, and the newest.
+/// What a context shows of where the lane is: the span of an event there, of one in no span, and
+/// the newest.
 fn place_of<S: LookupSpan>(
     ctx: &Context<'_, S>,
 ) -> (Option<&'static str>, Option<&'static str>, Option<Id>) {
@@ -259,7 +263,8 @@ fn write<S: LookupSpan>(
     Ok(())
 }
 
-/// Gives the child a value without a mask, and the leaf one under this filter, from which the child is hidden.
+/// Gives the child a value without a mask, and the leaf one under this filter, from which the child
+/// is hidden.
 fn write_to_what_is_seen(
     rt: &impl Abort,
     registry: &mut Registry,

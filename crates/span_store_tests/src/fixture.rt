@@ -1,4 +1,5 @@
-//! What several tests stand on: metadata, the calls of a registry, spans in one another, and what filters say.
+//! What several tests stand on: metadata, the calls of a registry, spans in one another, and what
+//! filters say.
 use span_core::{
     Attributes, Event, FieldSet, FilterId, Id, Interest, Kind, Lane, Level, LevelFilter, Metadata,
     Pass, TraceError,

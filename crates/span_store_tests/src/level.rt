@@ -1,7 +1,7 @@
 //! Tests of filters whose level is set: which of them take one.
 use crate::fixture::{event_at, is_shown_as, wants};
-use span_core::{Level, LevelFilter, Metadata};
 use span_boxed::{BoxedFilter, DynFilter};
+use span_core::{Level, LevelFilter, Metadata};
 use span_filters::{Filter, FilterExt, dynamic_filter_fn, filter_fn};
 use span_registry::{Context, Registry};
 use std::process::Abort;

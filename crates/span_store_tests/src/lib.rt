@@ -1,4 +1,5 @@
-//! Tests of requests' values, of the registry and of filters, from outside: each is also a caller of their contracts.
+//! Tests of requests' values, of the registry and of filters, from outside: each is also a caller
+//! of their contracts.
 #![tactic(auto)]
 
 #[cfg(test)]

@@ -193,7 +193,8 @@ fn begins_at_the_root<R: LookupSpan>(
     Ok(root.id())
 }
 
-/// How long a span's scope is, in both orders: the root comes first in one of them, and the span last.
+/// How long a span's scope is, in both orders: the root comes first in one of them, and the span
+/// last.
 fn is_so_deep<R: LookupSpan>(
     rt: &impl Abort,
     alloc: Global,

@@ -34,7 +34,8 @@ fn come_and_gone(registry: &mut Registry, alloc: Global) -> Result<Id, Fail> {
     Ok(id)
 }
 
-/// Of two places one is retired with its third span, whose id and those before it are unknown then; the other has room.
+/// Of two places one is retired with its third span, whose id and those before it are unknown then;
+/// the other has room.
 fn retires_a_place(rt: &impl Abort, alloc: Global, registry: &mut Registry) -> Result<(), Fail> {
     let a = new_root(registry)?;
     let b = new_root(registry)?;
@@ -103,7 +104,8 @@ fn one_place_for_two_spans(rt: HostRuntime) -> Result<(), Fail> {
     retires_its_one_place(&rt, rt.alloc(), &mut limited(rt.alloc(), 1, 2))
 }
 
-/// Of four places three are used, and two of these freed: the one freed last is used first, and the fourth at last.
+/// Of four places three are used, and two of these freed: the one freed last is used first, and the
+/// fourth at last.
 fn uses_the_last_first(
     rt: &impl Abort,
     alloc: Global,

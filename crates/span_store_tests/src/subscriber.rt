@@ -1,4 +1,5 @@
-//! Generic code over a subscriber, proved from the trait's contract, and each call of the trait once at a registry.
+//! Generic code over a subscriber, proved from the trait's contract, and each call of the trait
+//! once at a registry.
 ghost use Rattle.std.specs.Prelude.{◌≡◌, IfOk, OnOk};
 ghost use Rattle.span_core.specs.Span.{number_of};
 ghost use Rattle.span_store.specs.Store.{SameStacks, handles_of};

@@ -1,4 +1,5 @@
-//! Tests of calls with ids of which no open span is known: ids that were never handed out, of closed spans, of a closing one.
+//! Tests of calls with ids of which no open span is known: ids that were never handed out, of
+//! closed spans, of a closing one.
 use crate::fixture::{
     LANE, child_of, clone_of, closes, current, enter, event_at, let_go, open, root, span_named,
 };
@@ -39,7 +40,8 @@ fn finds_nothing(rt: &impl Abort, ctx: &Context<'_, Registry>, id: Id) {
     assert!(rt; ctx.event_scope(&event).is_none());
 }
 
-/// Makes each call with ids that were never handed out and with that of a closed span, while the lane is in another.
+/// Makes each call with ids that were never handed out and with that of a closed span, while the
+/// lane is in another.
 fn knows_open_spans_alone(
     rt: &impl Abort,
     registry: &mut Registry,

@@ -97,7 +97,8 @@ where
     })
 }
 
-/// Lets workers share a dispatcher, each in a thread of its own. Answers it, and how many requests the journal has.
+/// Lets workers share a dispatcher, each in a thread of its own. Answers it, and how many requests
+/// the journal has.
 fn shared_by<S, L, R>(
     rt: &R,
     alloc: Global,
@@ -126,7 +127,8 @@ where
     finished(shared, workers, order)
 }
 
-/// Takes a receiver apart, whose journal has the requests of this order. Answers the dispatcher, and how many they are.
+/// Takes a receiver apart, whose journal has the requests of this order. Answers the dispatcher,
+/// and how many they are.
 fn finished<S: Subscriber + Drop, L: Crew>(
     shared: Shared<S, L>,
     workers: Vec<Worker<L>>,

@@ -16,7 +16,8 @@ pub enum Fault {
     /// A step of a round was refused, or memory for the receiver.
     #[error("refused: {0}")]
     Refused(TraceError),
-    /// A step of a round didn't do what it should, or the journal has more requests or fewer than were made.
+    /// A step of a round didn't do what it should, or the journal has more requests or fewer than
+    /// were made.
     #[error("a round was not done in full")]
     Undone,
     /// No thread could be made.

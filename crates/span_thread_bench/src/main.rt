@@ -1,4 +1,5 @@
-//! Runs workloads in threads that share a receiver: `bench/run_threads` takes the time of their rounds.
+//! Runs workloads in threads that share a receiver: `bench/run_threads` takes the time of their
+//! rounds.
 #![tactic(auto)]
 
 mod counter;

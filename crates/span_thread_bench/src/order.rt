@@ -18,7 +18,8 @@ pub struct Order {
 }
 
 impl Order {
-    /// What a line asks for, if it is a workload's name, 1, 2 or 4 threads and a number of rounds, with one space between.
+    /// What a line asks for, if it is a workload's name, 1, 2 or 4 threads and a number of rounds,
+    /// with one space between.
     pub fn of(line: &str) -> Option<Order>
         ensures { IfSome result (λ order. StartsWith line.now (name_of order.workload)) }
     {

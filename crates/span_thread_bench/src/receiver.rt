@@ -1,4 +1,5 @@
-//! The receiver that the threads share: a layer that counts, over one that vetoes what is less severe than info, over a registry.
+//! The receiver that the threads share: a layer that counts, over one that vetoes what is less
+//! severe than info, over a registry.
 ghost use Rattle.span_stacks.specs.Layered.{inner_of};
 ghost use Rattle.span_store.specs.Store.{IsFresh};
 ghost use Rattle.std.specs.Prelude.{◌≡◌, IfOk};
@@ -7,8 +8,8 @@ use crate::counter::Counter;
 use crate::fault::Fault;
 use span_core::LevelFilter;
 use span_layers::Observer;
-use span_stacks::{Layered, SubscriberExt};
 use span_registry::Subscriber;
+use span_stacks::{Layered, SubscriberExt};
 
 /// A layer that counts, over a stack.
 pub type Counting<S> = Layered<Observer<Counter>, S>;

@@ -24,7 +24,8 @@ passes_hint 2 3
 passes_hint 4 3
 ";
 
-/// Does what each line asks for, and prints how many requests were made, and how many notices the layer counted.
+/// Does what each line asks for, and prints how many requests were made, and how many notices the
+/// layer counted.
 ///
 /// Where there is no line at all, a few rounds of each workload. A line that is wrong ends the run.
 pub fn run<H: Threads + Wait + Sync, R: Read, W: Write>(

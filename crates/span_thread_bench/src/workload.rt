@@ -11,7 +11,8 @@ pub enum Workload {
     NewAndDrop,
     /// An event that the stack's hint rules out is asked of the receiver, which drops it.
     EventPastHint,
-    /// The worker is asked whether the level passes the hint, and as it doesn't, the receiver is asked nothing.
+    /// The worker is asked whether the level passes the hint, and as it doesn't, the receiver is
+    /// asked nothing.
     PassesHint,
 }
 

@@ -5,9 +5,9 @@ ghost use Rattle.std.specs.Prelude.{◌≡◌, ◌+◌, IfOk, vec_len};
 use crate::work::{Worked, work};
 use span_core::TraceError;
 use span_dispatch::{Dispatch, Recorder};
-use span_stacks::{Layered, SubscriberExt};
 use span_registry::{Registry, Subscriber};
 use span_shared::{Crew, Shared, Worker};
+use span_stacks::{Layered, SubscriberExt};
 use std::alloc::Global;
 use std::marker::Brand;
 use std::sync::Wait;
@@ -48,7 +48,8 @@ pub enum Fault {
     NoThread,
 }
 
-/// Each worker at work in a thread of its own. Answers both, where all of their requests were accepted.
+/// Each worker at work in a thread of its own. Answers both, where all of their requests were
+/// accepted.
 fn at_work<S: Subscriber + Send, L: Crew + Send + Sync, R: Threads + Wait + Sync>(
     rt: &R,
     shared: &Shared<S, L>,

@@ -40,7 +40,8 @@ pub(crate) struct Worked<L: Crew> {
     pub(crate) done: Result<(), TraceError>,
 }
 
-/// Opens a span, is in it while an event happens, and drops it. Each call waits for the lock, for that call alone.
+/// Opens a span, is in it while an event happens, and drops it. Each call waits for the lock, for
+/// that call alone.
 fn trace<S: Subscriber, L: Crew>(
     rt: &impl Wait,
     shared: &Shared<S, L>,
@@ -69,7 +70,8 @@ pub(crate) fn work<S: Subscriber, L: Crew>(
     worker: Worker<L>,
 ) -> Worked<L> {
     let mut worker = worker;
-    // Neither takes the lock: whether the level may be wanted, and whether the worker's count has room.
+    // Neither takes the lock: whether the level may be wanted, and whether the worker's count has
+    // room.
     if !worker.passes_hint(Level::INFO) || worker.calls() >= u64::MAX - REQUESTS {
         return Worked {
             worker,

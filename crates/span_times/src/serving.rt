@@ -9,8 +9,8 @@ use crate::timeline::Timeline;
 use span_core::TraceError;
 use span_dispatch::{Answer, Dispatch, Request};
 use span_layers::Observer;
-use span_stacks::Layered;
 use span_registry::Subscriber;
+use span_stacks::Layered;
 use std::alloc::Global;
 
 /// A stack, and outside it a timeline.

@@ -8,8 +8,14 @@ use Rattle.span_registry.proofs.Unrefused.{unrefused_unless}
 pub dyn_notify-requires : goal.dyn_notify-requires
 dyn_notify-requires g c κs =
     let usable = subst (λ z. (goal.DynFilter-dyn g z).dyn_usable z.1) (sym c.deref_box_mut-1.ensures.value.1) c.requires.usable in
-    asked_of_object _ _ _ _ (usable, (c.requires.kind, unrefused_unless _ _ _ (c.over.ensures.lent.refused ∙ c.take_root-root.ensures.rest.loan.refused)
-        c.requires.refusals))
+    asked_of_object _ _ _ _ (
+      usable,
+      (
+        c.requires.kind,
+        unrefused_unless _ _ _ (c.over.ensures.lent.refused ∙ c.take_root-root.ensures.rest.loan.refused)
+            c.requires.refusals,
+      ),
+    )
 
 pub returns-clause-hook : goal.returns-clause-hook
 returns-clause-hook g c =
