@@ -30,7 +30,7 @@ recorder_of d = layer_of (outer_of (stack_of d))
 
 -- what a recorder keeps of a notice of something with these metadata: the notice, where the level
 -- passes them
-abbrev pub kept_if : LevelFilter → Metadata → Notice → List Notice
+abbrev pub kept_if : LevelFilter → Metadata → KeptNotice → List KeptNotice
 kept_if level m notice = if passes_level level (level_of m) then notice ∷ [] else []
 
 -- a new span was made, or refused: nobody vetoed it
@@ -41,17 +41,17 @@ IsMadeOrRefused other = ⊥
 
 -- what a recorder keeps of a new span, by its answer: that it is new, where it was made and the
 -- level passes it
-abbrev pub kept_span : LevelFilter → Lane → Metadata → Answer → List Notice
+abbrev pub kept_span : LevelFilter → Lane → Metadata → Answer → List KeptNotice
 kept_span level lane m (Made id) = kept_if level m (New lane id)
 kept_span level lane m other = []
 
 -- what a recorder keeps of an event
-abbrev pub kept_event : LevelFilter → Lane → Metadata → List Notice
+abbrev pub kept_event : LevelFilter → Lane → Metadata → List KeptNotice
 kept_event level lane m = kept_if level m (Event lane (callsite_of m))
 
 -- what a recorder keeps of two new spans and an event behind them
 abbrev pub kept_of : LevelFilter → Lane → Metadata → Metadata → Metadata → Answer → Answer
-    → List Notice
+    → List KeptNotice
 kept_of level lane outer inner event first second =
     kept_span level lane outer first
     ++ (kept_span level lane inner second ++ kept_event level lane event)

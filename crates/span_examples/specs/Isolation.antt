@@ -62,7 +62,7 @@ pub record ServesFirst {S : Type 0} (registry : S → RegistryState)
 -- two new recorders were notified of the same, in the same order; where neither failed for want of
 -- memory, they keep the same
 pub record WentThroughTheSame (r q : RecorderState) : Type 0 where
-  pub notices : List Notice
+  pub notices : List KeptNotice
   pub first : Records new_recorder r notices
   pub second : Records new_recorder q notices
   pub kept : r.failed ≡ false → q.failed ≡ false → r.notices ≡ q.notices
