@@ -2,7 +2,7 @@
 use crate::row::{ROWS, lines};
 use crate::run::{chain_replies, chain_script};
 use span_core::Lane;
-use span_runner::{RunFault, run_shared};
+use span_script::{RunFault, run_shared};
 use span_shared::{Entry, Journal};
 use std::alloc::{AllocError, Global};
 use std::process::Abort;

@@ -3,7 +3,7 @@ use crate::row::{ROWS, lines};
 use span_core::{Id, Lane, TraceError};
 use span_dispatch::{Answer, Recorded};
 use span_registry::Limits;
-use span_runner::{RunFault, Section, run, run_with, text_of};
+use span_script::{RunFault, Section, run, run_with, text_of};
 use span_script::{Reason, Script, WrongLine};
 use std::alloc::{AllocError, Global};
 use std::io;

@@ -1,7 +1,7 @@
 //! Runs a script of spans: standard input says what is asked, standard output what comes of it.
 #![tactic(auto)]
 
-use span_runner::run;
+use span_script::run;
 use std::process::ExitCode;
 
 fn main(rt: HostRuntime) -> ExitCode {

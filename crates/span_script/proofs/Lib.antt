@@ -5,3 +5,9 @@ mod Growing
 mod Labels
 mod Rightness
 mod Wrong
+mod Begins
+mod Gives
+mod Honest
+mod Naming
+mod Steady
+mod Written

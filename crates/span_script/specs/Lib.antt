@@ -1,4 +1,10 @@
 pub mod Fault
 pub mod Form
+pub mod Mute
+pub mod Printed
+pub mod Program
 pub mod Reason
+pub mod RunFault
 pub mod Script
+pub mod Stacks
+pub mod laws

@@ -1,6 +1,0 @@
-mod Begins
-mod Gives
-mod Honest
-mod Naming
-mod Steady
-mod Written

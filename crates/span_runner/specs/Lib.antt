@@ -1,6 +1,0 @@
-pub mod Fault
-pub mod Mute
-pub mod Printed
-pub mod Program
-pub mod Stacks
-pub mod laws

@@ -1,0 +1,7 @@
+use Rattle.span_script.proofs.crew.serve_shared.Given as goal
+
+abbrev pub ghosts-serve-L-Crew : goal.ghosts-serve-L-Crew
+ghosts-serve-L-Crew g a = record { workers = a.blank.parts }
+
+abbrev pub ghosts-serve-L-Ledger : goal.ghosts-serve-L-Ledger
+ghosts-serve-L-Ledger g a = record { name = a.blank.name; parts = a.blank.parts }
