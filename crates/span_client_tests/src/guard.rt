@@ -106,7 +106,7 @@ where
 {
     let mut dispatch = in_use(alloc, stack, filter, outer)?;
     let id = sends_within(rt, &mut dispatch)?;
-    was_told_of_all(rt, dispatch.stack().layer().inner().inner(), id);
+    was_told_of_all(rt, dispatch.stack().outer().inner().layer(), id);
     Ok(())
 }
 

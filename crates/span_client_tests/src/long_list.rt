@@ -59,7 +59,7 @@ fn many_events_from_many_callsites(rt: HostRuntime) -> Result<(), Fail> {
     let (dispatch, answers) = serve_by(rt.alloc(), registry, recorder, &requests)?;
     let done = answers.iter().filter(|answer| **answer == Answer::Done);
     assert!(rt; (answers.len(), done.count()) == (5_000, 5_000));
-    let recorder = dispatch.stack().layer();
+    let recorder = dispatch.stack().outer();
     assert!(rt; (recorder.failed(), recorder.notices().len()) == (false, 5_000));
     for (place, callsite) in [(0, 0), (1_499, 1_499), (1_500, 0), (4_999, 499)] {
         let notice = recorder.notices().get(place);

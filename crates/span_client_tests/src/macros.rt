@@ -114,7 +114,7 @@ fn a_layer_is_told_of_fields(rt: HostRuntime) -> Result<(), Fail> {
     };
     let mut dispatch = in_use(rt.alloc(), Registry::new(rt.alloc()), Observer::new(lines))?;
     asks_by_each(&rt, &mut dispatch)?;
-    hold_what_is_told(&rt, dispatch.stack().layer().observer());
+    hold_what_is_told(&rt, dispatch.stack().outer().observer());
     Ok(())
 }
 

@@ -110,7 +110,7 @@ fn asked_of_an_error(
         notified: 0,
     };
     let dispatch = sent_to_layer(alloc, Registry::new(alloc), layer)?;
-    let layer = dispatch.stack().layer();
+    let layer = dispatch.stack().outer();
     Ok((
         layer.of_metadata.get(),
         layer.of_events.get(),

@@ -129,7 +129,7 @@ fn recording(alloc: Global, level: LevelFilter) -> Recording {
 /// What the member at this place of a list was notified of.
 fn notices_at(list: &[Recording], place: usize) -> &[Recorded] {
     match list.get(place) {
-        Some(member) => member.inner().notices(),
+        Some(member) => member.layer().notices(),
         None => &[],
     }
 }
@@ -186,7 +186,7 @@ fn a_receiver_of_five(rt: HostRuntime) -> Result<(), Fail> {
         .and_then(BoxedLayer::new(object))
         .and_then(LevelFilter::DEBUG);
     let (dispatch, id) = in_use_counts_three(&rt, alloc, Registry::new(alloc), layers)?;
-    each_heard_what_passes(&rt, dispatch.stack().layer().inner().inner(), id)
+    each_heard_what_passes(&rt, dispatch.stack().outer().inner().inner(), id)
 }
 
 /// A layer that may be absent, on a list, on a recorder.
@@ -201,13 +201,13 @@ fn each_heard_what_passes(rt: &impl Abort, layers: &Recordings, id: Id) -> Resul
     let warn = Recorded::Event(LANE, 4);
     let base = layers.inner().inner();
     assert!(rt; base.notices() == [new, debug, info, warn].as_slice());
-    let list = layers.inner().layer();
+    let list = layers.inner().outer();
     assert!(rt; notices_at(list, 0) == [new, info, warn].as_slice());
     assert!(rt; notices_at(list, 1) == [warn].as_slice());
-    let Some(optional) = layers.layer() else {
+    let Some(optional) = layers.outer() else {
         return Err(Fail::from("the layer is absent"));
     };
-    assert!(rt; optional.inner().notices() == [warn].as_slice());
+    assert!(rt; optional.layer().notices() == [warn].as_slice());
     Ok(())
 }
 
@@ -281,10 +281,10 @@ fn no_room_for<S: Subscriber + Drop, O: Layer<S> + Drop>(
 
 /// The recorder was told of the error event, and of the list nobody was.
 fn plain_is_told_alone(rt: &impl Abort, stack: &Full) {
-    let kept = stack.inner().layer().notices();
+    let kept = stack.inner().outer().notices();
     assert!(rt; kept == [Recorded::Event(LANE, 7)].as_slice());
-    for member in stack.layer().iter() {
-        assert!(rt; member.inner().notices().is_empty());
+    for member in stack.outer().iter() {
+        assert!(rt; member.layer().notices().is_empty());
     }
 }
 
@@ -371,11 +371,11 @@ fn a_pair_under_filters_has_the_wider_hint(rt: HostRuntime) -> Result<(), Fail> 
 /// more.
 fn are_the_same(rt: &impl Abort, alone: &WithAnswers<Alone>, beside: &WithAnswers<Beside>) {
     assert!(rt; alone.1 == beside.1);
-    let kept = alone.0.stack().layer().inner().notices();
+    let kept = alone.0.stack().outer().layer().notices();
     assert!(rt; kept.len() == 2);
     let stack = beside.0.stack();
-    assert!(rt; stack.inner().layer().inner().notices() == kept);
-    assert!(rt; stack.layer().inner().notices().len() == 3);
+    assert!(rt; stack.inner().outer().layer().notices() == kept);
+    assert!(rt; stack.outer().layer().notices().len() == 3);
 }
 
 #[test]
@@ -409,7 +409,7 @@ fn a_level_is_set_between_requests(rt: HostRuntime) -> Result<(), Fail> {
         event_from(3, Level::TRACE),
     ];
     let dispatch = reload(rt.alloc(), &requests, &requests)?;
-    are_let_by(&rt, dispatch.stack().layer().inner().notices());
+    are_let_by(&rt, dispatch.stack().outer().layer().notices());
     Ok(())
 }
 

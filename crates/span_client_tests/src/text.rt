@@ -135,8 +135,8 @@ fn a_line_for_each_notice(rt: HostRuntime) -> Result<(), Fail> {
     )?;
     let under = Observer::new(Tree::new(rt.alloc())).with_filter(LevelFilter::DEBUG);
     let stack = worked_on(rt.alloc(), all, under)?;
-    wrote(&rt, stack.layer().inner().observer(), UNDER_DEBUG);
-    wrote(&rt, stack.inner().layer().observer(), OF_ALL);
+    wrote(&rt, stack.outer().layer().observer(), UNDER_DEBUG);
+    wrote(&rt, stack.inner().outer().observer(), OF_ALL);
     Ok(())
 }
 
@@ -155,7 +155,7 @@ fn takes_its_text(rt: &impl Abort, alloc: Global, tree: &mut Tree) -> Result<(),
 fn a_text_is_taken_out(rt: HostRuntime) -> Result<(), Fail> {
     let layer = Observer::new(Tree::new(rt.alloc()));
     let mut stack = worked_on(rt.alloc(), Registry::new(rt.alloc()), layer)?;
-    takes_its_text(&rt, rt.alloc(), stack.layer_mut().observer_mut())
+    takes_its_text(&rt, rt.alloc(), stack.outer_mut().observer_mut())
 }
 
 /// A warning, and an event that isn't one.
@@ -173,7 +173,7 @@ fn a_tree_under_a_level_is_served(rt: HostRuntime) -> Result<(), Fail> {
     let layer = Observer::new(Tree::new(rt.alloc())).with_filter(LevelFilter::WARN);
     let mut dispatch = in_use(rt.alloc(), Registry::new(rt.alloc()), layer)?;
     serve_tree(rt.alloc(), &mut dispatch, &said_and_unheard())?;
-    let tree = dispatch.stack().layer().inner().observer();
+    let tree = dispatch.stack().outer().layer().observer();
     wrote(&rt, tree, "0 - WARN app::net: said\n");
     Ok(())
 }
@@ -196,7 +196,7 @@ fn a_line_for_each_event(rt: HostRuntime) -> Result<(), Fail> {
     takes_its_lines(
         &rt,
         rt.alloc(),
-        stack.layer_mut().inner_mut().observer_mut(),
+        stack.outer_mut().layer_mut().observer_mut(),
     )
 }
 
@@ -205,7 +205,7 @@ fn lines_under_a_level_are_served(rt: HostRuntime) -> Result<(), Fail> {
     let layer = Observer::new(Lines::new(rt.alloc())).with_filter(LevelFilter::INFO);
     let mut dispatch = in_use(rt.alloc(), Registry::new(rt.alloc()), layer)?;
     serve_lines(rt.alloc(), &mut dispatch, &[heard(LANE)])?;
-    let lines = dispatch.stack().layer().inner().observer();
+    let lines = dispatch.stack().outer().layer().observer();
     assert!(rt; lines.text() == "0 INFO app: heard\n");
     Ok(())
 }

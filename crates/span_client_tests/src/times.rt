@@ -58,7 +58,7 @@ fn a_span_is_timed(rt: HostRuntime) -> Result<(), Fail> {
     let layer = Observer::new(Timeline::new(rt.alloc(), Counted::new()));
     let mut dispatch = in_use(rt.alloc(), Registry::new(rt.alloc()), layer)?;
     let id = live(&mut dispatch)?;
-    is_timed(&rt, dispatch.into_stack().layer().observer(), id);
+    is_timed(&rt, dispatch.into_stack().outer().observer(), id);
     Ok(())
 }
 
@@ -161,9 +161,9 @@ fn parents_are_those_that_it_sees(rt: HostRuntime) -> Result<(), Fail> {
     let part = Observer::new(Timeline::new(alloc, Counted::new())).with_filter(LevelFilter::INFO);
     let mut dispatch = in_use(alloc, Registry::new(alloc), whole.and_then(part))?;
     let spans = nested(&mut dispatch)?;
-    let both = dispatch.stack().layer();
+    let both = dispatch.stack().outer();
     shows_all(&rt, both.inner().observer(), spans);
-    shows_part(&rt, both.layer().inner().observer(), spans);
+    shows_part(&rt, both.outer().layer().observer(), spans);
     Ok(())
 }
 

@@ -209,7 +209,7 @@ trait Levels: Subscriber {
 
 impl<S: Subscriber> Levels for Layered<UnderOne, S> {
     fn set_levels(&mut self, level: LevelFilter) {
-        *self.layer_mut().filter_mut() = level;
+        *self.outer_mut().filter_mut() = level;
     }
 }
 
@@ -357,7 +357,7 @@ type UnderTwo = Filtered<UnderOne, LevelFilter>;
 impl<S: Levels> Levels for Layered<UnderTwo, S> {
     fn set_levels(&mut self, level: LevelFilter) {
         self.inner_mut().set_levels(level);
-        *self.layer_mut().inner_mut().filter_mut() = level;
+        *self.outer_mut().layer_mut().filter_mut() = level;
     }
 }
 

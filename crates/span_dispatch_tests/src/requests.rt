@@ -53,13 +53,13 @@ impl AsLayer<Recorder> for Recorder {
 
 impl<T, L: AsLayer<T>, F> AsLayer<T> for Filtered<L, F> {
     fn as_layer(&self) -> &T {
-        self.inner().as_layer()
+        self.layer().as_layer()
     }
 }
 
 impl<T, L: AsLayer<T>, S> AsLayer<T> for Layered<L, S> {
     fn as_layer(&self) -> &T {
-        self.layer().as_layer()
+        self.outer().as_layer()
     }
 }
 
@@ -72,7 +72,7 @@ pub(crate) trait AsLayers<T> {
 
 impl<T, L: AsLayer<T>, S: AsLayer<T>> AsLayers<T> for Layered<L, S> {
     fn as_outer(&self) -> &T {
-        self.layer().as_layer()
+        self.outer().as_layer()
     }
 
     fn as_inner(&self) -> &T {

@@ -49,7 +49,7 @@ fn serve_error<S: Subscriber>(
 fn is_told_alone(open: &Recorder, closed: &Closed) -> bool {
     let told = open.notices() == [Recorded::Event(LANE, 1)].as_slice();
     let mut others = closed.iter();
-    told && others.all(|layer| layer.inner().notices().is_empty())
+    told && others.all(|layer| layer.layer().notices().is_empty())
 }
 
 /// Recorders under OFF, as a layer has them.
@@ -76,7 +76,7 @@ impl<L: HasClosed, S: AsLayer<Recorder>> OpenBelowClosed for Layered<L, S> {
     }
 
     fn outside(&self) -> &Closed {
-        self.layer().closed()
+        self.outer().closed()
     }
 }
 

@@ -347,11 +347,11 @@ trait EndsInPair {
 
 impl<L: AsLayers<Watcher>, S> EndsInPair for Layered<L, S> {
     fn outer_of_pair(&self) -> &Watcher {
-        self.layer().as_outer()
+        self.outer().as_outer()
     }
 
     fn inner_of_pair(&self) -> &Watcher {
-        self.layer().as_inner()
+        self.outer().as_inner()
     }
 }
 

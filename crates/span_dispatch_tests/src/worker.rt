@@ -438,7 +438,7 @@ fn handed_in<S: Subscriber + Drop, L: Crew>(
 fn numbers_kept<S: Subscriber>(
     dispatch: &Dispatch<Layered<Observer<Numbers>, S>>,
 ) -> (Option<u64>, Option<u64>) {
-    let numbers = dispatch.stack().layer().observer();
+    let numbers = dispatch.stack().outer().observer();
     (numbers.made, numbers.recorded)
 }
 

@@ -135,7 +135,7 @@ pub fn count_tested(
     laws::tests_are_plain::<Registry, _>(&filter);
     let stack = put_filtered(alloc, filter)?;
     let (dispatch, answers) = serve_new(alloc, stack, requests)?;
-    let counted = count(dispatch.stack().layer().inner());
+    let counted = count(dispatch.stack().outer().layer());
     Ok((answers, counted))
 }
 
@@ -157,7 +157,7 @@ pub fn count_in_span(
     laws::view_tests_may_be_plain::<Registry, _, _>(&filter);
     let stack = put_filtered(alloc, filter)?;
     let (dispatch, answers) = serve_new(alloc, stack, requests)?;
-    let counted = count(dispatch.stack().layer().inner());
+    let counted = count(dispatch.stack().outer().layer());
     Ok((answers, counted))
 }
 
@@ -174,6 +174,6 @@ pub fn count_boxed(
     let filter = BoxedFilter::new(object);
     let stack = put_filtered(alloc, filter)?;
     let (dispatch, answers) = serve_new(alloc, stack, requests)?;
-    let counted = count(dispatch.stack().layer().inner());
+    let counted = count(dispatch.stack().outer().layer());
     Ok((answers, counted))
 }

@@ -143,6 +143,6 @@ pub fn count_over_boxed(
     let layer = BoxedLayer::new(object);
     let stack = put_under(alloc, layer)?;
     let (dispatch, answers) = serve_new(alloc, stack, requests)?;
-    let counted = count(dispatch.stack().layer());
+    let counted = count(dispatch.stack().outer());
     Ok((answers, counted))
 }

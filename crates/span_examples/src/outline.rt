@@ -127,7 +127,7 @@ pub fn serve_outlined(
 {
     let stack = stack_outlined(alloc, level, other)?;
     let (dispatch, answers) = serve_first(alloc, stack, requests)?;
-    let text = copied(alloc, dispatch.stack().layer().inner().observer())?;
+    let text = copied(alloc, dispatch.stack().outer().layer().observer())?;
     Ok((answers, text))
 }
 

@@ -57,5 +57,5 @@ pub fn count_one(
 {
     let mut stack = count_under(Registry::new(alloc), level)?;
     open_counted(&mut stack, lane, attrs)?;
-    Ok(stack.layer().inner().observer().opened())
+    Ok(stack.outer().layer().observer().opened())
 }

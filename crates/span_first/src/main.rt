@@ -30,9 +30,9 @@ fn main(rt: HostRuntime) -> anyhow::Result<()> {
     };
     let (stack, count) = count_in_two_threads(&rt, Dispatch::new(alloc, stack))?;
     println!(rt; "{count} words")?;
-    let layers = stack.layer();
-    let (kept, tree) = (layers.inner(), layers.layer().inner().observer());
-    let (sites, timeline) = (kept.inner().observer(), kept.layer().observer());
+    let layers = stack.outer();
+    let (kept, tree) = (layers.inner(), layers.outer().layer().observer());
+    let (sites, timeline) = (kept.inner().observer(), kept.outer().observer());
     if tree.failed() || timeline.failed() {
         eprintln!(rt; "out of memory: the tree or the trace is cut")?;
     }

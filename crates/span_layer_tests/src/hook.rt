@@ -62,7 +62,7 @@ impl AsRefusals for Observer<Refusals> {
 
 impl<L: AsRefusals, S> AsRefusals for Layered<L, S> {
     fn as_refusals(&self) -> &Refusals {
-        self.layer().as_refusals()
+        self.outer().as_refusals()
     }
 }
 

@@ -105,13 +105,13 @@ impl AsWatcher for Observer<Watcher> {
 
 impl<L: AsWatcher, F> AsWatcher for Filtered<L, F> {
     fn as_watcher(&self) -> &Observer<Watcher> {
-        self.inner().as_watcher()
+        self.layer().as_watcher()
     }
 }
 
 impl<L: AsWatcher, S> AsWatcher for Layered<L, S> {
     fn as_watcher(&self) -> &Observer<Watcher> {
-        self.layer().as_watcher()
+        self.outer().as_watcher()
     }
 }
 
@@ -124,7 +124,7 @@ trait AsWatchers {
 
 impl<L: AsWatcher, S: AsWatcher> AsWatchers for Layered<L, S> {
     fn as_outer(&self) -> &Observer<Watcher> {
-        self.layer().as_watcher()
+        self.outer().as_watcher()
     }
 
     fn as_inner(&self) -> &Observer<Watcher> {
@@ -347,7 +347,7 @@ trait LastSeen {
 
 impl<O: AsWatcher, L: AsWatchers, S> LastSeen for Layered<O, Layered<L, S>> {
     fn last_seen(&self) -> [Option<Seen>; 3] {
-        let pair = self.inner().layer();
+        let pair = self.inner().outer();
         [
             last_seen(self.as_watcher()),
             last_seen(pair.as_outer()),

@@ -49,7 +49,7 @@ type Pair = Layered<Under, Under>;
 /// Of a pair, whose outer part comes first.
 fn pair_after(pair: &mut Pair, number: u32) -> Levels {
     let taken = takes(pair, number);
-    (taken, *pair.layer().filter(), *pair.inner().filter())
+    (taken, *pair.outer().filter(), *pair.inner().filter())
 }
 
 /// A pair of WARN and, outside it, INFO takes what its numbers 0 and 1 name.
@@ -112,7 +112,7 @@ type Nested = Filtered<Under, LevelFilter>;
 /// Of a layer under two levels, of which the outer one comes first.
 fn nested_after(nested: &mut Nested, number: u32) -> Levels {
     let taken = takes(nested, number);
-    (taken, *nested.filter(), *nested.inner().filter())
+    (taken, *nested.filter(), *nested.layer().filter())
 }
 
 /// A layer under WARN and, outside it, INFO takes what its number 1 names, once it has that.
@@ -184,7 +184,7 @@ impl<L> HasLevel for Filtered<L, LevelFilter> {
 
 impl<L: HasLevel, S> HasLevel for Layered<L, S> {
     fn level(&self) -> LevelFilter {
-        self.layer().level()
+        self.outer().level()
     }
 }
 
@@ -195,7 +195,7 @@ trait HasLevels {
 
 impl<L: HasLevel, S: HasLevel> HasLevels for Layered<L, S> {
     fn levels(&self) -> (LevelFilter, LevelFilter) {
-        (self.layer().level(), self.inner().level())
+        (self.outer().level(), self.inner().level())
     }
 }
 

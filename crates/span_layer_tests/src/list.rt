@@ -115,7 +115,7 @@ fn signed_in_use<S: Subscriber>(stack: &mut S) -> Result<Option<u64>, Fail>
 fn sign_in_turn(rt: &impl Abort, stack: &mut Layered<Vec<Signer>, Registry>) -> Result<(), Fail> {
     let digits = signed_in_use(stack)?;
     assert!(rt; digits == Some(123123));
-    for member in stack.layer().iter() {
+    for member in stack.outer().iter() {
         assert!(rt; member.in_use == 1);
     }
     Ok(())

@@ -92,10 +92,10 @@ type MaySign = Layered<Option<Filtered<Signer, LevelFilter>>, Registry>;
 /// The signer is there, and is what it is.
 fn has_a_signer(rt: &impl Abort, stack: &mut MaySign) -> Result<(), Fail> {
     use_under_info(rt, stack);
-    let Some(layer) = stack.layer() else {
+    let Some(layer) = stack.outer() else {
         return Err(Fail::from("the layer is absent"));
     };
-    is_used_once(rt, layer.inner());
+    is_used_once(rt, layer.layer());
     Ok(())
 }
 
@@ -110,7 +110,7 @@ fn a_boxed_layer_is_what_it_holds(rt: HostRuntime) -> Result<(), Fail> {
     let layer = Box::new(rt.alloc(), Signer::new(1).with_filter(LevelFilter::INFO))?;
     let mut stack = put(Registry::new(rt.alloc()), layer)?;
     use_under_info(&rt, &mut stack);
-    is_used_once(&rt, stack.layer().inner());
+    is_used_once(&rt, stack.outer().layer());
     Ok(())
 }
 

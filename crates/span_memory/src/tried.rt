@@ -62,10 +62,10 @@ impl Tried for Stack {
     }
 
     fn level(&self) -> LevelFilter {
-        *self.inner().layer().filter()
+        *self.inner().outer().filter()
     }
 
     fn recorder(&self) -> &Recorder {
-        self.inner().layer().inner()
+        self.inner().outer().layer()
     }
 }

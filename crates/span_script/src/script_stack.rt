@@ -57,7 +57,7 @@ impl ScriptStack for Plain {
         script: &Script<'_>,
         answers: &[Answer],
     ) -> Result<String, RunFault> {
-        text_of_one(alloc, script, answers, self.layer())
+        text_of_one(alloc, script, answers, self.outer())
     }
 }
 
@@ -80,9 +80,9 @@ impl ScriptStack for Pair {
         script: &Script<'_>,
         answers: &[Answer],
     ) -> Result<String, RunFault> {
-        let both = self.layer();
-        let a = both.inner().inner();
-        let b = both.layer().inner();
+        let both = self.outer();
+        let a = both.inner().layer();
+        let b = both.outer().layer();
         text_of_two(alloc, script, answers, ("a", "b"), a, b)
     }
 }
@@ -106,8 +106,8 @@ impl ScriptStack for Nested {
         script: &Script<'_>,
         answers: &[Answer],
     ) -> Result<String, RunFault> {
-        let base = self.inner().layer();
-        let deep = self.layer().inner().inner();
+        let base = self.inner().outer();
+        let deep = self.outer().layer().layer();
         text_of_two(alloc, script, answers, ("base", "deep"), base, deep)
     }
 }
@@ -132,8 +132,8 @@ impl ScriptStack for Veto {
         answers: &[Answer],
     ) -> Result<String, RunFault> {
         let warned = self.inner().inner();
-        let base = warned.inner().layer();
-        let warn = warned.layer().inner();
+        let base = warned.inner().outer();
+        let warn = warned.outer().layer();
         text_of_two(alloc, script, answers, ("base", "warn"), base, warn)
     }
 }
@@ -153,6 +153,6 @@ impl ScriptStack for Absent {
         script: &Script<'_>,
         answers: &[Answer],
     ) -> Result<String, RunFault> {
-        text_of_one(alloc, script, answers, self.layer())
+        text_of_one(alloc, script, answers, self.outer())
     }
 }

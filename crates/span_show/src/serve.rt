@@ -66,7 +66,7 @@ pub(crate) fn tree_text(alloc: Global, requests: &[Request<'_>]) -> Result<Strin
     if one_lacks_memory(&answers) {
         return Err(ShowFault::Memory);
     }
-    let tree = dispatch.stack().layer().inner().observer();
+    let tree = dispatch.stack().outer().layer().observer();
     if tree.failed() {
         return Err(ShowFault::Memory);
     }
@@ -87,7 +87,7 @@ pub(crate) fn lines_text(alloc: Global, requests: &[Request<'_>]) -> Result<Stri
     if one_lacks_memory(&answers) {
         return Err(ShowFault::Memory);
     }
-    let lines = dispatch.stack().layer().inner().observer();
+    let lines = dispatch.stack().outer().layer().observer();
     if lines.failed() {
         return Err(ShowFault::Memory);
     }

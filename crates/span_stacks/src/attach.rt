@@ -1,5 +1,5 @@
 //! Layers are put together, under filters, and on a subscriber.
-ghost use Rattle.std.specs.Prelude.{IfErr, IfOk};
+ghost use Rattle.std.specs.Prelude.{◌≡◌, IfErr, IfOk};
 ghost use Rattle.span_stacks.specs.Attach.{Attaches, IsHandedBack, IsPair};
 ghost use Rattle.span_stacks.specs.Filtered.{IsUnnumbered};
 
@@ -8,6 +8,8 @@ use crate::layered::Layered;
 use span_core::{FilterId, TraceError};
 use span_layers::Layer;
 use span_registry::{LookupSpan, Subscriber};
+use std::error::Error;
+use std::fmt;
 
 /// A layer that wasn't put on a subscriber, since there is no room for its filters, with that
 /// subscriber.
@@ -19,6 +21,23 @@ pub struct Unattached<L, S> {
     pub subscriber: S,
     /// Why the layer wasn't put on the subscriber: `TooManyFilters`.
     pub error: TraceError,
+}
+
+impl<L, S> fmt::Display for Unattached<L, S> {
+    fn fmt<W: fmt::Write>(&self, f: &mut fmt::Formatter<W>) -> fmt::Result {
+        write!(f, "the layer wasn't put on: {}", self.error)
+    }
+}
+
+impl<L: fmt::Debug + Drop, S: fmt::Debug + Drop> Error for Unattached<L, S> {}
+
+/// The layer and the subscriber are let go of.
+impl<L: Drop, S: Drop> From<Unattached<L, S>> for TraceError {
+    ghost from_gives = { λ back error. error ≡ back.error };
+
+    fn from(back: Unattached<L, S>) -> TraceError {
+        back.error
+    }
 }
 
 /// Puts layers on a subscriber.

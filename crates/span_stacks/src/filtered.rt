@@ -59,14 +59,18 @@ impl<L, F> Filtered<L, F> {
     }
 
     /// The layer under the filter, as it now is.
-    pub fn inner(&self) -> &L
+    ///
+    /// Stands for `Filtered::inner`.
+    pub fn layer(&self) -> &L
         ensures { result.now ≡ layer_of self.now }
     {
         &self.layer
     }
 
     /// The layer under the filter, to be changed.
-    pub fn inner_mut(&mut self) -> &mut L
+    ///
+    /// Stands for `Filtered::inner_mut`.
+    pub fn layer_mut(&mut self) -> &mut L
         ensures* writes_back { sem 𝓛
             (Lends (the_row L.row F.row) L.row self.entry result (with_layer self.old)) }
         ensures value { result.now ≡ layer_of self.old }

@@ -30,14 +30,14 @@ pub struct Layered<L, I> {
 
 impl<L, I> Layered<L, I> {
     /// The outer part of the two, as it now is.
-    pub fn layer(&self) -> &L
+    pub fn outer(&self) -> &L
         ensures { result.now ≡ outer_of self.now }
     {
         &self.layer
     }
 
     /// The outer part of the two, to be changed.
-    pub fn layer_mut(&mut self) -> &mut L
+    pub fn outer_mut(&mut self) -> &mut L
         ensures* writes_back { sem 𝓛
             (Lends (the_row L.row I.row) L.row self.entry result (with_outer self.old)) }
         ensures value { result.now ≡ outer_of self.old }

@@ -93,7 +93,7 @@ where
     let (dispatch, requests) = shared_by::<Counting<S>, L, R>(rt, alloc, blank, stack, order)?;
     Ok(Tally {
         requests,
-        notices: dispatch.stack().layer().observer().notices(),
+        notices: dispatch.stack().outer().observer().notices(),
     })
 }
 

@@ -22,7 +22,7 @@ put_filtered-requires-clause-answers c =
 pub returns-clause-counted : goal.returns-clause-counted
 returns-clause-counted c =
     let b = level_conduct c.args.level in
-    let recorder = c.inner.ensures ∙ ap layer_of (c.layer.ensures ∙ ap outer_of c.stack.ensures) in
+    let recorder = c.layer.ensures ∙ ap layer_of (c.outer.ensures ∙ ap outer_of c.stack.ensures) in
     counts_under _ b c.args.requests.now (c.in_ok-dispatch.dispatch, c.in_ok-dispatch.answers)
     c.count-counted.result (c.in_ok-stack.ensures.records b (rw c.new-filter.ensures (acts_in_a_box own-1 at-1-1 (λ j. j.1.dyn_answers)
     (λ j. j.1.dyn_acts) level_laws c.into_dyn_box.ensures.1 b (ap level_conduct (sym c.in_ok-new.ensures.ok)))) _ _ c.in_ok-dispatch.ensures.served)

@@ -31,7 +31,7 @@ returns-clause-counted c =
         },
       ),
     )) a (made_of_test _ _ _ _ _ in_a_span c.dynamic_filter_fn-filter.ensures (λ m n r h. search rules)) in_span_plain in
-    let recorder = c.inner.ensures ∙ ap layer_of (c.layer.ensures ∙ ap outer_of c.stack.ensures) in
+    let recorder = c.layer.ensures ∙ ap layer_of (c.outer.ensures ∙ ap outer_of c.stack.ensures) in
     counts_under _ (λ h. a) c.args.requests.now (c.in_ok-dispatch.dispatch, c.in_ok-dispatch.answers)
     c.count-counted.result (c.in_ok-stack.ensures.records (λ h. a) acts _ _ c.in_ok-dispatch.ensures.served)
     (subst (λ r. IsCounted r c.count-counted.result) recorder c.count-counted.ensures)

@@ -30,7 +30,7 @@ returns-clause-counted c =
     let acts = c.tests_are_plain.ensures a (tested _ _ _ (test_of c.args.level) c.filter_fn-filter.ensures
     (λ m. (test_of c.args.level m, record { shown = record { ref_ptr = (0, 0); now = m }; shows = refl; says = record { met = refl } }))
     (λ m r h. search rules) (goes_by_level c.args.level)) in
-    let recorder = c.inner.ensures ∙ ap layer_of (c.layer.ensures ∙ ap outer_of c.stack.ensures) in
+    let recorder = c.layer.ensures ∙ ap layer_of (c.outer.ensures ∙ ap outer_of c.stack.ensures) in
     counts_under _ (λ h. a) c.args.requests.now (c.in_ok-dispatch.dispatch, c.in_ok-dispatch.answers)
     c.count-counted.result (c.in_ok-stack.ensures.records (λ h. a) acts _ _ c.in_ok-dispatch.ensures.served)
     (subst (λ r. IsCounted r c.count-counted.result) recorder c.count-counted.ensures)

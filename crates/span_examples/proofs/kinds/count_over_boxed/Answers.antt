@@ -20,7 +20,7 @@ put_under-requires-clause-fit c =
 
 pub returns-clause-counted : goal.returns-clause-counted
 returns-clause-counted c =
-    let recorder = c.layer.ensures ∙ ap outer_of c.stack.ensures in
+    let recorder = c.outer.ensures ∙ ap outer_of c.stack.ensures in
     counts_alone _ (Outer Here) outer_of [] c.args.requests.now
     (c.in_ok-dispatch.dispatch, c.in_ok-dispatch.answers) c.count-counted.result (c.in_ok-stack.ensures.records _ _ c.in_ok-dispatch.ensures.served)
     (subst (λ r. IsCounted r c.count-counted.result) recorder c.count-counted.ensures)

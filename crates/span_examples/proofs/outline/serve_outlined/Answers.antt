@@ -16,7 +16,7 @@ returns-clause-served c =
     let served = run.served starts.ready in
     let new = new_in_use c.args.level c.args.other _ (stack_of run.first) run.in_use starts.new in
     let end = c.in_ok-dispatch.dispatch in
-    let here = c.observer.ensures ∙ ap observer_of (c.inner.ensures ∙ ap layer_of (c.layer.ensures ∙ ap outer_of c.stack.ensures)) in
+    let here = c.observer.ensures ∙ ap observer_of (c.layer.ensures ∙ ap layer_of (c.outer.ensures ∙ ap outer_of c.stack.ensures)) in
     record {
       first = run.first;
       last = end;

@@ -22,7 +22,7 @@ returns-clause-tree c =
     let own = c.with_filter-layer.ensures in
     let one = d.ensures.ready put.ready.0 put.ready.1 in
     let w = c.in-Ok.ensures.served.written (one.0, one.1) in
-    let tree = c.observer-tree.ensures ∙ ap observer_of (c.inner.ensures ∙ ap layer_of (c.layer.ensures ∙ ap outer_of c.stack.ensures)) in
+    let tree = c.observer-tree.ensures ∙ ap observer_of (c.layer.ensures ∙ ap layer_of (c.outer.ensures ∙ ap outer_of c.stack.ensures)) in
     let whole : has_failed (observer_in (stack_of c.serve_tree.new.dispatch)) ≡ false = ap has_failed (sym tree) ∙ sym c.failed.ensures ∙ c.if-failed.false in
     let none = ap text_of (ap observer_of (same.2 ∙ put.layer.1 ∙ own.inner) ∙ c.new-2.ensures) ∙ c.new.ensures.text in
     record {

@@ -10,15 +10,15 @@ use Rattle.span_script.proofs.script_stack.NestedScriptStack.text.Goals as goal
 
 pub returns-clause-printed : goal.returns-clause-printed
 returns-clause-printed c =
-    let base = c.layer-base.ensures ∙ ap outer_of c.inner.ensures in
-    let deep = c.inner-deep.ensures ∙ ap layer_of (c.inner-2.ensures ∙ ap layer_of c.layer.ensures) in
+    let base = c.outer-base.ensures ∙ ap outer_of c.inner.ensures in
+    let deep = c.layer-deep.ensures ∙ ap layer_of (c.layer.ensures ∙ ap layer_of c.outer.ensures) in
     subst
     (λ (xs : List (List ℕ × List Recorded)). IfOk c.text_of_two.result (λ s. IsPrinted (lines_of c.args.script.now) c.args.answers.now xs (string_bytes s)))
     (λ i. (codes "base", (base i).notices) ∷ (codes "deep", (deep i).notices) ∷ []) c.text_of_two.ensures.printed
 
 pub returns-clause-whole : goal.returns-clause-whole
 returns-clause-whole c =
-    let base = c.layer-base.ensures ∙ ap outer_of c.inner.ensures in
-    let deep = c.inner-deep.ensures ∙ ap layer_of (c.inner-2.ensures ∙ ap layer_of c.layer.ensures) in
+    let base = c.outer-base.ensures ∙ ap outer_of c.inner.ensures in
+    let deep = c.layer-deep.ensures ∙ ap layer_of (c.layer.ensures ∙ ap layer_of c.outer.ensures) in
     two_ok c.text_of_two.result _ _ _ c.text_of_two.ensures.inner c.text_of_two.ensures.outer
     (λ s x y. (subst (λ (r : RecorderState). r.failed ≡ false) base x, subst (λ (r : RecorderState). r.failed ≡ false) deep y))

@@ -8,7 +8,7 @@ pub returns-clause-printed : goal.returns-clause-printed
 returns-clause-printed c =
     subst (λ (base : RecorderState).
     IfOk c.text_of_one.result (λ s. IsPrinted (lines_of c.args.script.now) c.args.answers.now ((codes "base", base.notices) ∷ []) (string_bytes s)))
-    c.layer.ensures c.text_of_one.ensures.printed
+    c.outer.ensures c.text_of_one.ensures.printed
 
 pub returns-clause-whole : goal.returns-clause-whole
-returns-clause-whole c = subst (λ (base : RecorderState). IfOk c.text_of_one.result (λ s. base.failed ≡ false)) c.layer.ensures c.text_of_one.ensures.whole
+returns-clause-whole c = subst (λ (base : RecorderState). IfOk c.text_of_one.result (λ s. base.failed ≡ false)) c.outer.ensures c.text_of_one.ensures.whole

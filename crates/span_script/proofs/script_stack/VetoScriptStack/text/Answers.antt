@@ -11,8 +11,8 @@ use Rattle.span_script.proofs.script_stack.VetoScriptStack.text.Goals as goal
 pub returns-clause-printed : goal.returns-clause-printed
 returns-clause-printed c =
     let warned = c.inner-warned.ensures ∙ ap inner_of c.inner.ensures in
-    let base = c.layer-base.ensures ∙ ap outer_of (c.inner-2.ensures ∙ ap inner_of warned) in
-    let warn = c.inner-warn.ensures ∙ ap layer_of (c.layer.ensures ∙ ap outer_of warned) in
+    let base = c.outer-base.ensures ∙ ap outer_of (c.inner-2.ensures ∙ ap inner_of warned) in
+    let warn = c.layer-warn.ensures ∙ ap layer_of (c.outer.ensures ∙ ap outer_of warned) in
     subst
     (λ (xs : List (List ℕ × List Recorded)). IfOk c.text_of_two.result (λ s. IsPrinted (lines_of c.args.script.now) c.args.answers.now xs (string_bytes s)))
     (λ i. (codes "base", (base i).notices) ∷ (codes "warn", (warn i).notices) ∷ []) c.text_of_two.ensures.printed
@@ -20,7 +20,7 @@ returns-clause-printed c =
 pub returns-clause-whole : goal.returns-clause-whole
 returns-clause-whole c =
     let warned = c.inner-warned.ensures ∙ ap inner_of c.inner.ensures in
-    let base = c.layer-base.ensures ∙ ap outer_of (c.inner-2.ensures ∙ ap inner_of warned) in
-    let warn = c.inner-warn.ensures ∙ ap layer_of (c.layer.ensures ∙ ap outer_of warned) in
+    let base = c.outer-base.ensures ∙ ap outer_of (c.inner-2.ensures ∙ ap inner_of warned) in
+    let warn = c.layer-warn.ensures ∙ ap layer_of (c.outer.ensures ∙ ap outer_of warned) in
     two_ok c.text_of_two.result _ _ _ c.text_of_two.ensures.inner c.text_of_two.ensures.outer
     (λ s x y. (subst (λ (r : RecorderState). r.failed ≡ false) base x, subst (λ (r : RecorderState). r.failed ≡ false) warn y))
