@@ -10,29 +10,45 @@ use std::sync::Wait;
 use std::test::Fail;
 
 /// Rows of scripts, and the entries of their journals.
-const JOURNALS: [(usize, &str); 7] = [
-    (1, "new / new / drop / drop closes"),
+const JOURNALS: [(usize, &str); 8] = [
+    (1, "new: 0 1 / new: 0 2 / drop: 0 1 / drop closes: 0 2"),
     (
         4,
-        "new / new / enter / enter / drop closes / current none / exit / current",
+        "new: 0 1 / new: 0 2 / enter: 0 1 / enter: 0 2 / drop closes: 0 2 / current none: 0 / \
+         exit: 0 2 / current: 0 1",
     ),
-    (5, "new / new / drop / drop closes / exit"),
+    (
+        5,
+        "new: 0 1 / new: 0 2 / drop: 0 1 / drop closes: 0 2 / exit: 0 2",
+    ),
+    (
+        8,
+        "new: 0 1 / new: 1 2 / enter: 0 1 / enter: 1 2 / enter: 1 1 / enter: 1 2 / current: 0 1 / \
+         current: 1 1 / exit: 1 2 / current: 1 1 / exit: 1 1 / current: 1 2",
+    ),
     (
         16,
-        "event dropped / event / event / event dropped / probe no / probe yes",
+        "event dropped: 0 7 / event: 0 6 / event: 0 7 / event dropped: 0 8 / probe no: 0 8 / \
+         probe yes: 0 7",
     ),
-    (19, "event / level / event / level / event"),
-    (20, "new / level / enter / new / drop / drop closes"),
-    (22, "event / level / event / event"),
+    (
+        19,
+        "event: 0 8 / level: 0 0 / event: 0 8 / level: 0 1 / event: 0 7",
+    ),
+    (
+        20,
+        "new: 0 1 / level: 0 0 / enter: 0 1 / new: 0 2 / drop: 0 1 / drop closes: 0 2",
+    ),
+    (22, "event: 0 7 / level: 0 0 / event: 0 7 / event: 0 6"),
 ];
 
-/// What is written of an entry.
+/// What an entry is.
 fn named(entry: Entry) -> &'static str {
     match entry {
-        Entry::New(_, _, _, _, _) => "new",
+        Entry::New { .. } => "new",
         Entry::Unmade(_, _) => "unmade",
-        Entry::Event(_, _, _, true) => "event",
-        Entry::Event(_, _, _, false) => "event dropped",
+        Entry::Event { made: true, .. } => "event",
+        Entry::Event { made: false, .. } => "event dropped",
         Entry::Probe(_, _, true) => "probe yes",
         Entry::Probe(_, _, false) => "probe no",
         Entry::Enter(_, _) => "enter",
@@ -48,12 +64,41 @@ fn named(entry: Entry) -> &'static str {
     }
 }
 
-/// A line for each entry.
+/// The lane of an entry.
+fn lane_of(entry: Entry) -> u32 {
+    match entry {
+        Entry::New { lane, .. } | Entry::Event { lane, .. } => lane.0,
+        Entry::Unmade(lane, _) | Entry::Probe(lane, _, _) => lane.0,
+        Entry::Enter(lane, _) | Entry::Exit(lane, _) | Entry::Record(lane, _) => lane.0,
+        Entry::Follows(lane, _, _) | Entry::Clone(lane, _) | Entry::Drop(lane, _, _) => lane.0,
+        Entry::Level(lane, _, _) | Entry::Current(lane, _) => lane.0,
+    }
+}
+
+/// The number of an entry's span, else of its callsite or of its filter.
+fn number_of(entry: Entry) -> Option<u64> {
+    match entry {
+        Entry::New { id, .. } => Some(id.into_u64()),
+        Entry::Unmade(_, metadata) | Entry::Probe(_, metadata, _) => Some(metadata.callsite()),
+        Entry::Event { metadata, .. } => Some(metadata.callsite()),
+        Entry::Enter(_, id) | Entry::Exit(_, id) | Entry::Record(_, id) => Some(id.into_u64()),
+        Entry::Follows(_, id, _) | Entry::Clone(_, id) => Some(id.into_u64()),
+        Entry::Drop(_, id, _) => Some(id.into_u64()),
+        Entry::Level(_, number, _) => Some(u64::from(number)),
+        Entry::Current(_, id) => Some(id?.into_u64()),
+    }
+}
+
+/// A line for each entry: what it is, its lane, and its number.
 fn entries_of(alloc: Global, journal: &Journal) -> Result<String, AllocError> {
     let mut text = String::new(alloc);
     for place in 0..journal.len() {
         if let Some(entry) = journal.get(place) {
-            writeln!(text, "{}", named(entry))?;
+            write!(text, "{}: {}", named(entry), lane_of(entry))?;
+            match number_of(entry) {
+                Some(number) => writeln!(text, " {number}")?,
+                None => writeln!(text)?,
+            }
         }
     }
     Ok(text)
@@ -102,7 +147,7 @@ fn journals_of_scripts(rt: HostRuntime) -> Result<(), Fail> {
 fn the_current_span_is_the_first(rt: HostRuntime) -> Result<(), Fail> {
     let (script, _) = ROWS[4];
     let (_, journal) = shared(&rt, rt.alloc(), script)?;
-    let Some(Entry::New(_, _, _, _, first)) = journal.get(0) else {
+    let Some(Entry::New { id: first, .. }) = journal.get(0) else {
         return Err("the first entry is of a span".into());
     };
     assert!(rt; journal.get(7) == Some(Entry::Current(Lane(0), Some(first))));

@@ -20,7 +20,12 @@ const CALLSITES: u64 = 1_500;
 fn event(callsite: u64) -> Request<'static> {
     let fields = FieldSet::new(&[]);
     let metadata = Metadata::new(callsite, "sent", "tests", Level::INFO, Kind::EVENT, fields);
-    Request::Event(LANE, metadata, WhichParent::Contextual, &[])
+    Request::Event {
+        lane: LANE,
+        metadata,
+        parent: WhichParent::Contextual,
+        values: &[],
+    }
 }
 
 /// An event from one callsite after another, and from the first again after the last.

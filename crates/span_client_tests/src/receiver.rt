@@ -27,7 +27,7 @@ const LANE: Lane = Lane(0);
 fn sent_to<S: Subscriber + Drop>(alloc: Global, stack: S) -> Result<Dispatch<S>, TraceError>
     requires { S.usable stack }
 {
-    let mut dispatch = Dispatch::fresh(alloc, stack);
+    let mut dispatch = Dispatch::uncached(alloc, stack);
     let event = Event::new_root(metadata_of(7, Level::ERROR, Kind::EVENT), &[]);
     dispatch.event(LANE, &event)?;
     Ok(dispatch)
@@ -52,13 +52,23 @@ fn metadata_of(callsite: u64, level: Level, kind: Kind) -> Metadata {
 /// A new span from this callsite, in none.
 fn root_from(callsite: u64, level: Level) -> Request<'static> {
     let metadata = metadata_of(callsite, level, Kind::SPAN);
-    Request::NewSpan(LANE, metadata, WhichParent::Root, &[])
+    Request::NewSpan {
+        lane: LANE,
+        metadata,
+        parent: WhichParent::Root,
+        values: &[],
+    }
 }
 
 /// An event from this callsite, in the span that the first request of the list makes.
 fn event_from(callsite: u64, level: Level) -> Request<'static> {
     let metadata = metadata_of(callsite, level, Kind::EVENT);
-    Request::Event(LANE, metadata, WhichParent::Explicit(Which::Made(0)), &[])
+    Request::Event {
+        lane: LANE,
+        metadata,
+        parent: WhichParent::Explicit(Which::Made(0)),
+        values: &[],
+    }
 }
 
 /// The span that the first request of the list made.
@@ -416,19 +426,24 @@ fn a_level_is_set_between_requests(rt: HostRuntime) -> Result<(), Fail> {
 /// A new span from this callsite, in the one that the request with this number makes.
 fn span_in(parent: usize, callsite: u64, level: Level) -> Request<'static> {
     let metadata = metadata_of(callsite, level, Kind::SPAN);
-    Request::NewSpan(
-        LANE,
+    Request::NewSpan {
+        lane: LANE,
         metadata,
-        WhichParent::Explicit(Which::Made(parent)),
-        &[],
-    )
+        parent: WhichParent::Explicit(Which::Made(parent)),
+        values: &[],
+    }
 }
 
 /// An event with this name, in this parent.
 fn named_event(name: &'static str, parent: WhichParent) -> Request<'static> {
     let fields = FieldSet::new(&[]);
     let metadata = Metadata::new(9, name, "tests", Level::WARN, Kind::EVENT, fields);
-    Request::Event(LANE, metadata, parent, &[])
+    Request::Event {
+        lane: LANE,
+        metadata,
+        parent,
+        values: &[],
+    }
 }
 
 #[test]

@@ -217,7 +217,10 @@ fn muted_events(rt: &impl Abort, requests: &[Request<'_>]) -> usize {
                 assert!(rt; *level == wanted);
                 assert!(rt; *number == 0 || *number == 9);
             }
-            Request::Event(_, _, _, [(name, value)]) => {
+            Request::Event {
+                values: [(name, value)],
+                ..
+            } => {
                 assert!(rt; *name == "mute");
                 assert!(rt; *value == FieldValue::Bool(true));
                 muted = muted.saturating_add(1);

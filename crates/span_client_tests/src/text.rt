@@ -68,13 +68,23 @@ fn site(
 
 /// Opens a span in the span that the lane is in.
 fn open<'a>(metadata: Metadata, values: &'a [(&'static str, FieldValue<'a>)]) -> Request<'a> {
-    Request::NewSpan(LANE, metadata, WhichParent::Contextual, values)
+    Request::NewSpan {
+        lane: LANE,
+        metadata,
+        parent: WhichParent::Contextual,
+        values,
+    }
 }
 
 /// An event without values, in the span that the lane is in.
 fn heard(lane: Lane) -> Request<'static> {
     let metadata = site(5, "heard", "app", Level::INFO, Kind::EVENT);
-    Request::Event(lane, metadata, WhichParent::Contextual, NOTHING)
+    Request::Event {
+        lane,
+        metadata,
+        parent: WhichParent::Contextual,
+        values: NOTHING,
+    }
 }
 
 /// Puts a stack in use, serves the requests of the worked run, and gives it back.
@@ -93,7 +103,12 @@ fn worked<S: Subscriber + Drop>(alloc: Global, stack: S) -> Result<S, TraceError
             TRIES,
         ),
         Request::Enter(LANE, inner),
-        Request::Event(LANE, said, WhichParent::Contextual, SAID),
+        Request::Event {
+            lane: LANE,
+            metadata: said,
+            parent: WhichParent::Contextual,
+            values: SAID,
+        },
         Request::Record(OTHER_LANE, outer, LATE),
         heard(OTHER_LANE),
         Request::Exit(LANE, inner),
@@ -163,8 +178,18 @@ fn said_and_unheard() -> [Request<'static>; 2] {
     let said = site(4, "said", "app::net", Level::WARN, Kind::EVENT);
     let unheard = site(5, "unheard", "app::net", Level::INFO, Kind::EVENT);
     [
-        Request::Event(LANE, said, WhichParent::Contextual, &[]),
-        Request::Event(LANE, unheard, WhichParent::Contextual, &[]),
+        Request::Event {
+            lane: LANE,
+            metadata: said,
+            parent: WhichParent::Contextual,
+            values: &[],
+        },
+        Request::Event {
+            lane: LANE,
+            metadata: unheard,
+            parent: WhichParent::Contextual,
+            values: &[],
+        },
     ]
 }
 

@@ -87,7 +87,12 @@ fn a_list_is_timed(rt: HostRuntime) -> Result<(), Fail> {
         Kind::EVENT,
         FieldSet::new(&[]),
     );
-    let requests = [Request::Event(LANE, ping, WhichParent::Root, &[])];
+    let requests = [Request::Event {
+        lane: LANE,
+        metadata: ping,
+        parent: WhichParent::Root,
+        values: &[],
+    }];
     serve_timed(rt.alloc(), &mut dispatch, &requests)?;
     let (layer, _registry) = dispatch.into_stack().into_parts();
     takes_its_point(&rt, &mut layer.into_observer());

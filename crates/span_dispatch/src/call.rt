@@ -62,12 +62,18 @@ impl<'a> Request<'a> {
         ensures { result ≡ call_of past.now self.now }
     {
         match *self {
-            Request::NewSpan(lane, metadata, parent, values) => {
-                Some(Call::OpenSpan(lane, parent.attributes(past, metadata, values)))
-            }
-            Request::Event(lane, metadata, parent, values) => {
-                Some(Call::SendEvent(lane, parent.event(past, metadata, values)))
-            }
+            Request::NewSpan {
+                lane,
+                metadata,
+                parent,
+                values,
+            } => { Some(Call::OpenSpan(lane, parent.attributes(past, metadata, values))) }
+            Request::Event {
+                lane,
+                metadata,
+                parent,
+                values,
+            } => { Some(Call::SendEvent(lane, parent.event(past, metadata, values))) }
             Request::Enter(lane, which) => Some(Call::Enter(lane, which.span_of(past)?)),
             Request::Exit(lane, which) => Some(Call::Exit(lane, which.span_of(past)?)),
             Request::Record(lane, which, values) => Some(Call::RecordValues(

@@ -93,7 +93,7 @@ impl<S: Subscriber> Dispatch<S> {
     /// stack in use, once each.
     ///
     /// Own to this port.
-    pub fn fresh(alloc: Global, stack: S) -> Dispatch<S>
+    pub fn uncached(alloc: Global, stack: S) -> Dispatch<S>
         requires { S.usable stack }
         ensures usable { S.usable (stack_of result) }
         ensures registered { S.registered stack (stack_of result) }
@@ -121,7 +121,7 @@ impl<S: Subscriber> Dispatch<S> {
         &mut self.stack
     }
 
-    /// The highest level that may be enabled, as the stack's hint says. None under `fresh`.
+    /// The highest level that may be enabled, as the stack's hint says. None under `uncached`.
     pub fn max_level_hint(&self) -> Option<LevelFilter>
         requires { S.usable (stack_of self.now) }
         ensures none { kept_by self.now ≡ None → result ≡ None }
@@ -170,7 +170,7 @@ impl<S: Subscriber> Dispatch<S> {
     ///
     /// Where its level isn't above the hint, refused where its callsite is cached with other
     /// metadata (`CallsiteMismatch`), and for want of memory where it isn't cached and none is held
-    /// for one more; never refused under `fresh`.
+    /// for one more; never refused under `uncached`.
     pub fn enabled(&mut self, lane: Lane, meta: &Metadata) -> Result<bool, TraceError>
         requires { S.usable (stack_of self.old) }
         ensures stack { SameStack self.old self.new }
@@ -203,8 +203,8 @@ impl<S: Subscriber> Dispatch<S> {
     }
 
     /// Holds memory for so many callsites more: that many that aren't cached yet are then cached
-    /// with no need of more. Under `fresh` nothing happens. Where no hint was read yet, it is read,
-    /// as by a first request.
+    /// with no need of more. Under `uncached` nothing happens. Where no hint was read yet, it is
+    /// read, as by a first request.
     ///
     /// What `set_level` and `stack_mut` forget is forgotten with its memory, which is then to be
     /// reserved anew.

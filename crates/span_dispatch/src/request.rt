@@ -110,9 +110,27 @@ impl WhichParent {
 #[derive(Clone, Copy, Debug)]
 pub enum Request<'a> {
     /// To open a span.
-    NewSpan(Lane, Metadata, WhichParent, &'a [(&'static str, FieldValue<'a>)]),
+    NewSpan {
+        /// The lane that opens it.
+        lane: Lane,
+        /// What its callsite says of it.
+        metadata: Metadata,
+        /// The parent that is asked for.
+        parent: WhichParent,
+        /// The values of its fields.
+        values: &'a [(&'static str, FieldValue<'a>)],
+    },
     /// To send an event.
-    Event(Lane, Metadata, WhichParent, &'a [(&'static str, FieldValue<'a>)]),
+    Event {
+        /// The lane that sends it.
+        lane: Lane,
+        /// What its callsite says of it.
+        metadata: Metadata,
+        /// The span that it is said to be in.
+        parent: WhichParent,
+        /// The values of its fields.
+        values: &'a [(&'static str, FieldValue<'a>)],
+    },
     /// To let the lane enter the span.
     Enter(Lane, Which),
     /// To let the lane leave the span.

@@ -106,7 +106,7 @@ fn by_dispatcher<S: Subscriber>(
 /// The span that an entry says was made, and its verdict as a word.
 fn new_span_of(entry: Entry) -> Option<(Id, u128)> {
     match entry {
-        EntryWith::New(_, _, _, verdict, id) => Some((id, verdict.word())),
+        EntryWith::New { verdict, id, .. } => Some((id, verdict.word())),
         _ => None,
     }
 }

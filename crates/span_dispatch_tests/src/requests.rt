@@ -14,12 +14,22 @@ use std::test::Fail;
 
 /// A span of a callsite with this number, without values.
 pub(crate) fn new_span(callsite: u64, level: Level, parent: WhichParent) -> Request<'static> {
-    Request::NewSpan(LANE, metadata_of(callsite, level, Kind::SPAN), parent, &[])
+    Request::NewSpan {
+        lane: LANE,
+        metadata: metadata_of(callsite, level, Kind::SPAN),
+        parent,
+        values: &[],
+    }
 }
 
 /// An event of a callsite with this number, without values.
 pub(crate) fn new_event(callsite: u64, level: Level, parent: WhichParent) -> Request<'static> {
-    Request::Event(LANE, metadata_of(callsite, level, Kind::EVENT), parent, &[])
+    Request::Event {
+        lane: LANE,
+        metadata: metadata_of(callsite, level, Kind::EVENT),
+        parent,
+        values: &[],
+    }
 }
 
 /// An event where the lane is.
@@ -111,7 +121,7 @@ pub(crate) fn in_use<S: Subscriber>(alloc: Global, stack: S, keeps: Keeping) -> 
 {
     match keeps {
         Keeping::Answers => Dispatch::new(alloc, stack),
-        Keeping::Nothing => Dispatch::fresh(alloc, stack),
+        Keeping::Nothing => Dispatch::uncached(alloc, stack),
     }
 }
 

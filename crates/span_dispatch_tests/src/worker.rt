@@ -62,7 +62,7 @@ fn sees_another<S: Subscriber, L: Crew>(rt: &impl Wait, shared: &Shared<S, L>, m
     let mut place = 0u64;
     for _ in 0..TURNS {
         match shared.entry(rt, place) {
-            Some(Entry::New(lane, _, _, _, _)) if lane != mine => return true,
+            Some(Entry::New { lane, .. }) if lane != mine => return true,
             Some(_) => place = place.wrapping_add(1),
             None => thread::yield_now(),
         }
@@ -270,15 +270,32 @@ fn entries_of(p: Id, q: Id) -> [Entry; 16] {
     let passed = Pass::new().refused();
     [
         Entry::Probe(LANE, event, true),
-        Entry::New(LANE, span, Parent::Root, passed, p),
-        Entry::New(LANE, span, Parent::Root, passed, q),
+        Entry::New {
+            lane: LANE,
+            metadata: span,
+            parent: Parent::Root,
+            verdict: passed,
+            id: p,
+        },
+        Entry::New {
+            lane: LANE,
+            metadata: span,
+            parent: Parent::Root,
+            verdict: passed,
+            id: q,
+        },
         Entry::Enter(LANE, p),
         Entry::Enter(LANE, q),
         Entry::Record(LANE, p),
         Entry::Follows(LANE, p, q),
         Entry::Clone(LANE, p),
         Entry::Drop(LANE, p, false),
-        Entry::Event(LANE, event, Parent::Contextual, true),
+        Entry::Event {
+            lane: LANE,
+            metadata: event,
+            parent: Parent::Contextual,
+            made: true,
+        },
         Entry::Drop(LANE, q, true),
         Entry::Current(LANE, None),
         Entry::Exit(LANE, q),

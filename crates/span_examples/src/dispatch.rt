@@ -30,12 +30,27 @@ pub fn record_some(
         Ok(stack) => stack,
         Err(back) => return Err(back.error),
     };
-    let mut dispatch = Dispatch::fresh(alloc, stack);
+    let mut dispatch = Dispatch::uncached(alloc, stack);
     let values = &[];
     let requests = [
-        Request::NewSpan(lane, outer, WhichParent::Root, values),
-        Request::NewSpan(lane, inner, WhichParent::Explicit(Which::Made(0)), values),
-        Request::Event(lane, event, WhichParent::Contextual, values),
+        Request::NewSpan {
+            lane,
+            metadata: outer,
+            parent: WhichParent::Root,
+            values,
+        },
+        Request::NewSpan {
+            lane,
+            metadata: inner,
+            parent: WhichParent::Explicit(Which::Made(0)),
+            values,
+        },
+        Request::Event {
+            lane,
+            metadata: event,
+            parent: WhichParent::Contextual,
+            values,
+        },
     ];
     let answers = dispatch.serve(alloc, &requests)?;
     Ok((dispatch, answers))

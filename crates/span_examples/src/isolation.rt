@@ -71,7 +71,7 @@ pub(crate) fn serve_first<S: Subscriber + Drop>(
         S.registered requests.now stack) }
     ensures memory { IfErr result (λ e. e ≡ TraceError.OutOfMemory) }
 {
-    let mut dispatch = Dispatch::fresh(alloc, stack);
+    let mut dispatch = Dispatch::uncached(alloc, stack);
     let answers = dispatch.serve(alloc, requests)?;
     Ok((dispatch, answers))
 }

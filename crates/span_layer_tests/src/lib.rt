@@ -1,5 +1,5 @@
-//! Tests of requests' values, of the store, of filters, layers and boxes, from outside: each is also
-//! a caller of their contracts. What is public, tests of dispatchers use too.
+//! Tests of requests' values, of the store, of filters, layers and boxes, from outside: each is
+//! also a caller of their contracts. What is public, tests of dispatchers use too.
 #![tactic(auto)]
 
 #[cfg(test)]

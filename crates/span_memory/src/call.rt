@@ -38,7 +38,7 @@ pub enum State {
     /// The preparation, by a dispatcher that keeps hint and interests.
     Kept,
     /// The preparation, by one that keeps nothing.
-    Fresh,
+    Uncached,
     /// Nothing, by one that is to keep hint and interests.
     Begun,
 }
@@ -155,7 +155,7 @@ impl State {
     fn of(subject: &str) -> Option<State> {
         match subject {
             "dispatcher" => Some(State::Kept),
-            "fresh" => Some(State::Fresh),
+            "uncached" => Some(State::Uncached),
             "begun" => Some(State::Begun),
             _ => None,
         }

@@ -30,7 +30,7 @@ pub(crate) fn dispatcher<S: Tried>(alloc: Global, state: State) -> Result<Dispat
     match state {
         State::Begun => Ok(Dispatch::new(alloc, stack)),
         State::Kept => prepared(alloc, Dispatch::new(alloc, stack)),
-        State::Fresh => prepared(alloc, Dispatch::fresh(alloc, stack)),
+        State::Uncached => prepared(alloc, Dispatch::uncached(alloc, stack)),
     }
 }
 
@@ -252,12 +252,18 @@ fn asked<S: Subscriber>(dispatch: &mut Dispatch<S>, request: Request<'_>) -> Ans
     ensures { S.usable (stack_of dispatch.new) }
 {
     match request {
-        Request::NewSpan(lane, metadata, parent, values) => {
-            Answer::of_span(dispatch.new_span(lane, &parent.attributes(&[], metadata, values)))
-        }
-        Request::Event(lane, metadata, parent, values) => {
-            Answer::of_event(dispatch.event(lane, &parent.event(&[], metadata, values)))
-        }
+        Request::NewSpan {
+            lane,
+            metadata,
+            parent,
+            values,
+        } => { Answer::of_span(dispatch.new_span(lane, &parent.attributes(&[], metadata, values))) }
+        Request::Event {
+            lane,
+            metadata,
+            parent,
+            values,
+        } => { Answer::of_event(dispatch.event(lane, &parent.event(&[], metadata, values))) }
         Request::Enabled(lane, metadata) => Answer::of_yes(dispatch.enabled(lane, &metadata)),
         Request::Current(lane) => Answer::of_current(dispatch.current_span(lane)),
         Request::SetLevel(number, level) => Answer::of_done(dispatch.set_level(number, level)),

@@ -45,7 +45,7 @@ fn write_called<W: Write>(
 pub(crate) fn close_chain<W: Write>(alloc: Global, writer: &mut W) -> Result<(), Fault> {
     let call = RegistryCall::CloseChain;
     write_registry(alloc, writer, prepared(alloc, call)?)?;
-    let mut dispatch = Dispatch::fresh(alloc, prepared(alloc, call)?);
+    let mut dispatch = Dispatch::uncached(alloc, prepared(alloc, call)?);
     write_closed(writer, &mut dispatch, spans_of(call))
 }
 
@@ -82,7 +82,7 @@ fn write_registry<W: Write>(
     writer: &mut W,
     registry: Registry,
 ) -> Result<(), Fault> {
-    let mut dispatch = Dispatch::fresh(alloc, registry);
+    let mut dispatch = Dispatch::uncached(alloc, registry);
     write_all_of(writer, &mut dispatch)
 }
 

@@ -286,11 +286,21 @@ fn asked<S: Subscriber, L: Crew>(
     ensures unchanged { OnErr result (worker.new ≡ worker.old) }
 {
     match request {
-        Request::NewSpan(_, metadata, parent, values) => {
+        Request::NewSpan {
+            metadata,
+            parent,
+            values,
+            ..
+        } => {
             let attributes = parent.attributes(&[], metadata, values);
             Ok(shared.new_span(rt, worker, &attributes)?.1)
         }
-        Request::Event(_, metadata, parent, values) => {
+        Request::Event {
+            metadata,
+            parent,
+            values,
+            ..
+        } => {
             let event = parent.event(&[], metadata, values);
             Ok(shared.event(rt, worker, &event)?.1)
         }

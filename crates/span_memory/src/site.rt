@@ -63,7 +63,12 @@ pub(crate) fn known(number: u64) -> Which {
 
 /// A request for a new span.
 pub(crate) fn new_span(callsite: u64, parent: WhichParent) -> Request<'static> {
-    Request::NewSpan(LANE, span_metadata(callsite), parent, &[])
+    Request::NewSpan {
+        lane: LANE,
+        metadata: span_metadata(callsite),
+        parent,
+        values: &[],
+    }
 }
 
 /// A request for an event.
@@ -73,7 +78,12 @@ pub(crate) fn event(callsite: u64) -> Request<'static> {
 
 /// The same of these metadata.
 fn event_of(metadata: Metadata) -> Request<'static> {
-    Request::Event(LANE, metadata, WhichParent::Contextual, &[])
+    Request::Event {
+        lane: LANE,
+        metadata,
+        parent: WhichParent::Contextual,
+        values: &[],
+    }
 }
 
 /// An event of a callsite that is kept with other metadata.
@@ -118,7 +128,12 @@ fn request_above(name: &str) -> Option<Request<'static>> {
     match name {
         "enabled_above" => Some(Request::Enabled(LANE, event)),
         "event_above" => Some(event_of(event)),
-        "span_above" => Some(Request::NewSpan(LANE, span, WhichParent::Contextual, &[])),
+        "span_above" => Some(Request::NewSpan {
+            lane: LANE,
+            metadata: span,
+            parent: WhichParent::Contextual,
+            values: &[],
+        }),
         _ => request_in_vain(name),
     }
 }

@@ -54,9 +54,19 @@ pub fn warnings_and_infos(alloc: Global) -> Result<Served, TraceError>
     let late = callsite(1, "late", Level::WARN, Kind::EVENT);
     let values = &[];
     let requests = [
-        Request::NewSpan(lane, request, WhichParent::Contextual, values),
+        Request::NewSpan {
+            lane,
+            metadata: request,
+            parent: WhichParent::Contextual,
+            values,
+        },
         Request::Enter(lane, Which::Made(0)),
-        Request::Event(lane, late, WhichParent::Contextual, values),
+        Request::Event {
+            lane,
+            metadata: late,
+            parent: WhichParent::Contextual,
+            values,
+        },
         Request::Exit(lane, Which::Made(0)),
         Request::Drop(lane, Which::Made(0)),
     ];

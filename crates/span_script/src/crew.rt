@@ -7,12 +7,12 @@ ghost use Rattle.span_script.specs.Stacks.{AreCalled};
 ghost use Rattle.span_script.specs.Script.{stack_of};
 
 use crate::run_fault::RunFault;
+use crate::script::Script;
 use crate::stacks::text_by;
 use crate::way::Way;
 use span_core::Lane;
 use span_dispatch::{Answer, Call, Dispatch, Request};
 use span_registry::{Limits, Subscriber};
-use crate::script::Script;
 use span_shared::{Crew, Journal, Shared, Worker};
 use std::alloc::Global;
 use std::marker::Brand;

@@ -6,11 +6,11 @@ ghost use Rattle.span_script.specs.Program.{BlamesFirstWrong, IsRunFault, IsUnwr
 ghost use Rattle.span_script.specs.Stacks.{ArePositive};
 
 use crate::crew::shared_text;
+use crate::read::read_script;
 use crate::run_fault::RunFault;
+use crate::script::Script;
 use crate::stacks::served_text;
 use span_registry::Limits;
-use crate::read::read_script;
-use crate::script::Script;
 use span_shared::Journal;
 use std::alloc::Global;
 use std::io::{Read, Write};

@@ -2,9 +2,9 @@
 ghost use Rattle.std.specs.Prelude.{◌≡◌, OnOk, IfOk, slice_get, string_bytes};
 ghost use Rattle.span_script.specs.Printed.{all_sections, labels_in, name_in, notice_text, replies, reply_text, section_in, section_text, yes_text, AreLabels, IsContinued, IsNaming, IsPrinted};
 
+use crate::line::Line;
 use span_core::Id;
 use span_dispatch::{Answer, Recorded};
-use crate::line::Line;
 use std::alloc::{AllocError, Global};
 use std::collections::BTreeMap;
 

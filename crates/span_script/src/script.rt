@@ -153,11 +153,21 @@ impl<'a> Script<'a> {
     {
         match line {
             Line::New(lane, site, _, parent) => {
-                Ok(Request::NewSpan(lane, site, self.parent(parent, 4)?, &[]))
+                Ok(Request::NewSpan {
+                    lane,
+                    metadata: site,
+                    parent: self.parent(parent, 4)?,
+                    values: &[],
+                })
             }
             Line::Event(lane, site, parent, mute) => {
                 let parent = self.parent(parent, 3)?;
-                Ok(Request::Event(lane, site, parent, values_of(mute)))
+                Ok(Request::Event {
+                    lane,
+                    metadata: site,
+                    parent,
+                    values: values_of(mute),
+                })
             }
             Line::Enter(lane, name) => Ok(Request::Enter(lane, self.which(name, 2)?)),
             Line::Exit(lane, name) => Ok(Request::Exit(lane, self.which(name, 2)?)),

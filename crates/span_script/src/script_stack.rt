@@ -10,9 +10,9 @@ ghost use Rattle.span_script.specs.declared.stack_name.StackName.{StackName};
 ghost use Rattle.span_script.specs.declared.stack_name.StackName.TheVariants as stack_name;
 
 use crate::run_fault::RunFault;
+use crate::script::Script;
 use crate::stacks::{Absent, Nested, Pair, Plain, Veto, text_of_one, text_of_two};
 use span_dispatch::Answer;
-use crate::script::Script;
 use std::alloc::Global;
 
 /// A stack that scripts name.

@@ -9,18 +9,18 @@ ghost use Rattle.span_script.specs.Stacks.{ArePositive, BeginsAbsent, BeginsNest
 ghost use Rattle.span_stacks.specs.Attach.{Attaches};
 ghost use Rattle.span_store.specs.Store.{IsFresh};
 
-use crate::run_fault::RunFault;
 use crate::mute::Mute;
 use crate::mute_veto::MuteVeto;
 use crate::reply::{Section, text_of};
+use crate::run_fault::RunFault;
+use crate::script::Script;
 use crate::script_stack::ScriptStack;
+use crate::stack_name::StackName;
 use crate::way::{Alone, Way};
 use span_core::LevelFilter;
 use span_dispatch::{Answer, Recorder};
 use span_layers::Layer;
 use span_registry::{Limits, Registry, Subscriber};
-use crate::script::Script;
-use crate::stack_name::StackName;
 use span_stacks::{Filtered, LayerExt, Layered, SubscriberExt};
 use std::alloc::Global;
 

@@ -15,12 +15,32 @@ pub type Entry = EntryWith<Metadata, FilterMap>;
 // ghost field.
 #[derive(Copy, Debug, PartialEq, Eq)]
 pub enum EntryWith<M, V> {
-    /// A span was made: its metadata, the parent that it asked for, its verdict and its id.
-    New(Lane, M, Parent, V, Id),
+    /// A span was made.
+    New {
+        /// The lane that asked for it.
+        lane: Lane,
+        /// What its callsite says of it.
+        metadata: M,
+        /// The parent that it asked for.
+        parent: Parent,
+        /// Which filters refused it.
+        verdict: V,
+        /// Its id.
+        id: Id,
+    },
     /// A new span was dropped.
     Unmade(Lane, M),
-    /// An event, the parent that it asked for, and whether it was made.
-    Event(Lane, M, Parent, bool),
+    /// An event was sent.
+    Event {
+        /// The lane that sent it.
+        lane: Lane,
+        /// What its callsite says of it.
+        metadata: M,
+        /// The parent that it asked for.
+        parent: Parent,
+        /// Whether it was made.
+        made: bool,
+    },
     /// A probe, and its answer.
     Probe(Lane, M, bool),
     /// The lane entered the span.

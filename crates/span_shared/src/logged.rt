@@ -232,13 +232,13 @@ impl<S: Subscriber> Logged<S> {
             let receipt = noted(entries, Entry::Unmade(lane, attrs.metadata()));
             return Ok((None, receipt));
         };
-        let entry = Entry::New(
+        let entry = Entry::New {
             lane,
-            attrs.metadata(),
-            attrs.asked_parent(),
-            pass.refused(),
+            metadata: attrs.metadata(),
+            parent: attrs.asked_parent(),
+            verdict: pass.refused(),
             id,
-        );
+        };
         let receipt = noted(entries, entry);
         Ok((Some(id), receipt))
     }
@@ -253,7 +253,12 @@ impl<S: Subscriber> Logged<S> {
         let Journal { entries } = journal;
         entries.reserve(1)?;
         let made = dispatch.event(lane, event)?;
-        let entry = Entry::Event(lane, event.metadata(), event.asked_parent(), made);
+        let entry = Entry::Event {
+            lane,
+            metadata: event.metadata(),
+            parent: event.asked_parent(),
+            made,
+        };
         let receipt = noted(entries, entry);
         Ok((made, receipt))
     }

@@ -74,7 +74,7 @@ fn metadata_asked(request: &Request<'_>) -> Option<Metadata>
     ensures { result ≡ metadata_asked request.now }
 {
     match request {
-        Request::NewSpan(_, metadata, _, _) | Request::Event(_, metadata, _, _) => Some(*metadata),
+        Request::NewSpan { metadata, .. } | Request::Event { metadata, .. } => Some(*metadata),
         _ => None,
     }
 }

@@ -1,6 +1,6 @@
 use Rattle.span_dispatch.proofs.Calls.{used_so}
 use Rattle.span_dispatch.proofs.Goes.{first_ready}
-use Rattle.span_dispatch.proofs.dispatch.Dispatch.fresh.Goals as goal
+use Rattle.span_dispatch.proofs.dispatch.Dispatch.uncached.Goals as goal
 
 pub returns-clause-ready : goal.returns-clause-ready
 returns-clause-ready g c =
