@@ -1,4 +1,4 @@
-//! Runs the workloads of `crates/span_bench` on the crate `tracing-subscriber`.
+//! Runs the workloads of one thread of `crates/span_bench` on the crate `tracing-subscriber`.
 //!
 //! Input, output and the steps of each round are those of `span_bench`, in modules of the same names. With the argument `macros`
 //! spans and events are made by the macros of `tracing`, else by calls of the stack itself.

@@ -1,4 +1,4 @@
--- The workloads by their names.
+-- The workloads of one thread by their names.
 use Rattle.std.specs.Prelude.{codes, List, ℕ}
 use Rattle.span_bench.specs.declared.workload.Workload.{Workload}
 use Rattle.span_bench.specs.declared.workload.Workload.TheVariants.{NewAndDrop, EnterAndExit, Event, EventBy, Cascade, Scope, FromRoot, Replace}

@@ -1,4 +1,4 @@
-//! The layer that stands under each filter.
+//! The layer that counts: in the stacks of one thread, and in the receiver that threads share.
 ghost use Rattle.std.specs.Prelude.{◌≡◌};
 ghost use Rattle.span_bench.specs.Counter.{counted, notices_of};
 
@@ -17,6 +17,13 @@ impl Counter {
         ensures { notices_of result ≡ 0 }
     {
         Counter { notices: 0 }
+    }
+
+    /// How many notices it counted.
+    pub fn notices(&self) -> u64
+        ensures { result ≡ notices_of self.now }
+    {
+        self.notices
     }
 }
 

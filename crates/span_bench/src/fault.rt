@@ -10,15 +10,20 @@ use thiserror::Error;
 /// Why a run ends early.
 #[derive(Clone, Copy, Debug, PartialEq, Eq, Error)]
 pub enum Fault {
-    /// A line names no workload, no stack, no size or no rounds.
-    #[error("a line is not WORKLOAD STACK SIZE ROUNDS")]
+    /// A line names no workload, neither a stack with a size nor 1, 2 or 4 threads, or no rounds.
+    #[error("a line is not WORKLOAD STACK SIZE ROUNDS, nor WORKLOAD THREADS ROUNDS")]
     Line,
-    /// A step of a round was refused, or a layer can't be put on a registry.
+    /// A step of a round was refused, or a layer can't be put on a registry, or memory for the
+    /// receiver of threads was refused.
     #[error("refused: {0}")]
     Refused(TraceError),
-    /// A step of a round didn't do what it should.
+    /// A step of a round didn't do what it should, or the journal has more requests or fewer than
+    /// were made.
     #[error("a round was not done in full")]
     Undone,
+    /// No thread could be made.
+    #[error("no thread could be made")]
+    NoThread,
     /// Input or output failed.
     #[error("input or output failed")]
     Io,

@@ -1,4 +1,4 @@
-//! What a line asks for.
+//! What a line of four words asks for: rounds of one thread on a stack.
 ghost use Rattle.std.specs.Io.{StartsWith};
 ghost use Rattle.std.specs.Prelude.{IfSome};
 ghost use Rattle.span_bench.specs.Order.{prefix_of};

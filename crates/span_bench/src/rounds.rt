@@ -1,4 +1,4 @@
-//! The rounds of each workload. A round that isn't done in full ends the run.
+//! The rounds of each workload of one thread. A round that isn't done in full ends the run.
 ghost use Rattle.std.specs.Prelude.{◌≡◌, ◌+◌, ◌-◌, ◌<◌, ◌≤◌, IfOk, OnOk, Some, length, slice_get};
 ghost use Rattle.span_bench.specs.Rounds.{AreRegistered, IsDepth, value_in};
 ghost use Rattle.span_dispatch.specs.Serve.{stack_of};

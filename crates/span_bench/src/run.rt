@@ -4,16 +4,20 @@ ghost use Rattle.std.specs.Prelude.{◌≡◌, IfOk};
 use crate::fault::Fault;
 use crate::keeper::Keeper;
 use crate::order::{Order, Stack};
+use crate::thread_order::ThreadOrder;
 use crate::workload::Workload;
-use crate::{layers, rounds};
+use crate::{crew, layers, rounds};
 use span_dispatch::Dispatch;
 use span_layers::{Identity, Layer, Observer};
 use span_registry::{Registry, Subscriber};
 use span_stacks::{LayerExt, SubscriberExt};
 use std::alloc::Global;
 use std::io::{Read, Write};
+use std::sync::Wait;
+use std::thread::Threads;
 
-/// A few rounds of each workload, and of some on each stack.
+/// A few rounds of each workload of one thread, and of some on each stack; then of each workload of
+/// threads.
 const SMALL: &str = "\
 new_and_drop plain 2 3
 enter_and_exit plain 2 3
@@ -30,12 +34,29 @@ event list=16 2 3
 cascade nested=4 2 3
 event nested=16 2 3
 new_and_drop keeper 0 3
+event 1 3
+event 2 3
+event 4 3
+new_and_drop 1 3
+new_and_drop 2 3
+new_and_drop 4 3
+event_past_hint 1 3
+event_past_hint 2 3
+event_past_hint 4 3
+passes_hint 1 3
+passes_hint 2 3
+passes_hint 4 3
 ";
 
-/// Does what each line asks for, and prints it with how many rounds were done.
+/// Does what each line asks for, and prints what was done.
 ///
 /// Where there is no line at all, a few rounds of each workload. A line that is wrong ends the run.
-pub fn run<R: Read, W: Write>(alloc: Global, reader: &mut R, writer: &mut W) -> Result<(), Fault> {
+pub fn run<H: Threads + Wait + Sync, R: Read, W: Write>(
+    rt: &H,
+    alloc: Global,
+    reader: &mut R,
+    writer: &mut W,
+) -> Result<(), Fault> {
     let mut text = String::new(alloc);
     reader.read_to_string(&mut text)?;
     let lines = if text.is_empty() {
@@ -44,12 +65,36 @@ pub fn run<R: Read, W: Write>(alloc: Global, reader: &mut R, writer: &mut W) -> 
         text.as_str()
     };
     for line in lines.lines() {
-        let Some(order) = Order::of(line) else {
-            return Err(Fault::Line);
-        };
-        let done = done(alloc, order)?;
-        writeln!(writer, "{line}: {done}")?;
+        run_line(rt, alloc, line, writer)?;
     }
+    Ok(())
+}
+
+/// Does what a line asks for. Of threads it prints how many requests were made, and how many
+/// notices the layer counted; else how many rounds were done.
+fn run_line<H: Threads + Wait + Sync, W: Write>(
+    rt: &H,
+    alloc: Global,
+    line: &str,
+    writer: &mut W,
+) -> Result<(), Fault> {
+    if let Some(order) = ThreadOrder::of(line) {
+        let tally = crew::done(rt, alloc, order)?;
+        writeln!(
+            writer,
+            "{} {}: {} requests, {} notices",
+            order.workload.name(),
+            order.threads,
+            tally.requests,
+            tally.notices
+        )?;
+        return Ok(());
+    }
+    let Some(order) = Order::of(line) else {
+        return Err(Fault::Line);
+    };
+    let done = done(alloc, order)?;
+    writeln!(writer, "{line}: {done}")?;
     Ok(())
 }
 

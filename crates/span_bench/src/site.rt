@@ -1,4 +1,5 @@
-//! The callsites: their names have 15 letters, their targets 30.
+//! The callsites: those of a table, whose names have 15 letters and whose targets 30, and the three
+//! that threads use.
 ghost use Rattle.std.specs.Prelude.{◌≡◌, IfOk, vec_len};
 ghost use Rattle.span_core.specs.Metadata.{callsite_of, kind_of, level_of};
 
@@ -59,4 +60,37 @@ fn target(number: u32) -> &'static str {
         6 => "my_server::sessions::passwords",
         _ => "my_server::sessions::deadlines",
     }
+}
+
+/// The callsite of all spans that threads open.
+pub fn span() -> Metadata
+    ensures kind { kind_of result ≡ Kind.SPAN }
+    ensures level { level_of result ≡ Level.INFO }
+{
+    of_threads(0, "span", Level::INFO, Kind::SPAN)
+}
+
+/// The callsite of the events that the receiver's layer is told of.
+pub fn event() -> Metadata
+    ensures kind { kind_of result ≡ Kind.EVENT }
+    ensures level { level_of result ≡ Level.INFO }
+{
+    of_threads(1, "event", Level::INFO, Kind::EVENT)
+}
+
+/// The callsite of the events that the receiver's hint rules out.
+pub fn past_hint() -> Metadata
+    ensures kind { kind_of result ≡ Kind.EVENT }
+    ensures level { level_of result ≡ Level.DEBUG }
+{
+    of_threads(2, "detail", Level::DEBUG, Kind::EVENT)
+}
+
+/// A callsite that threads use. A table may have its number too: no dispatcher meets both.
+fn of_threads(callsite: u64, name: &'static str, level: Level, kind: Kind) -> Metadata
+    ensures callsite { callsite_of result ≡ callsite }
+    ensures kind { kind_of result ≡ kind }
+    ensures level { level_of result ≡ level }
+{
+    Metadata::new(callsite, name, "bench", level, kind, FieldSet::new(&[]))
 }

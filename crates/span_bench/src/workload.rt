@@ -1,4 +1,4 @@
-//! The workloads.
+//! The workloads of one thread.
 ghost use Rattle.std.specs.Prelude.{◌≡◌, IfSome};
 ghost use Rattle.span_bench.specs.Workload.{name_of};
 

@@ -1,7 +1,7 @@
-//! Runs the workloads of `crates/span_thread_bench` on the crate `tracing-subscriber`.
+//! Runs the workloads of threads of `crates/span_bench` on the crate `tracing-subscriber`.
 //!
-//! Input, output and the steps of each round are those of `span_thread_bench`, in modules of the same names. With the argument
-//! `one` the layer counts in one number that all threads add to, else each thread in one of its own.
+//! Input, output and the steps of each round are those of `span_bench`, in modules of the same names, but for `thread_` before some of
+//! them there. With the argument `one` the layer counts in one number that all threads add to, else each thread in one of its own.
 
 mod counter;
 mod crew;

@@ -1,6 +1,6 @@
 //! The workloads.
 
-/// What one round does, in each thread, as `span_thread_bench` says.
+/// What one round does, in each thread, as `span_bench` says.
 #[derive(Clone, Copy)]
 pub enum Workload {
     Event,

@@ -1,10 +1,10 @@
-//! The workloads.
+//! The workloads of threads that share a receiver.
 ghost use Rattle.std.specs.Prelude.{◌≡◌, IfSome};
-ghost use Rattle.span_thread_bench.specs.Workload.{name_of, requests_of};
+ghost use Rattle.span_bench.specs.ThreadWorkload.{name_of, requests_of};
 
 /// What one round does, in each thread.
 #[derive(Clone, Copy, Debug, PartialEq, Eq)]
-pub enum Workload {
+pub enum ThreadWorkload {
     /// An event is sent.
     Event,
     /// A span is opened, and closes as its handle is dropped.
@@ -16,16 +16,16 @@ pub enum Workload {
     PassesHint,
 }
 
-impl Workload {
+impl ThreadWorkload {
     /// The workload with this name, if there is one.
-    pub fn of(name: &str) -> Option<Workload>
+    pub fn of(name: &str) -> Option<ThreadWorkload>
         ensures { IfSome result (λ workload. name.now ≡ name_of workload) }
     {
         match name {
-            "event" => Some(Workload::Event),
-            "new_and_drop" => Some(Workload::NewAndDrop),
-            "event_past_hint" => Some(Workload::EventPastHint),
-            "passes_hint" => Some(Workload::PassesHint),
+            "event" => Some(ThreadWorkload::Event),
+            "new_and_drop" => Some(ThreadWorkload::NewAndDrop),
+            "event_past_hint" => Some(ThreadWorkload::EventPastHint),
+            "passes_hint" => Some(ThreadWorkload::PassesHint),
             _ => None,
         }
     }
@@ -35,10 +35,10 @@ impl Workload {
         ensures { result.now ≡ name_of self }
     {
         match self {
-            Workload::Event => "event",
-            Workload::NewAndDrop => "new_and_drop",
-            Workload::EventPastHint => "event_past_hint",
-            Workload::PassesHint => "passes_hint",
+            ThreadWorkload::Event => "event",
+            ThreadWorkload::NewAndDrop => "new_and_drop",
+            ThreadWorkload::EventPastHint => "event_past_hint",
+            ThreadWorkload::PassesHint => "passes_hint",
         }
     }
 
@@ -47,9 +47,9 @@ impl Workload {
         ensures { result ≡ requests_of self }
     {
         match self {
-            Workload::Event | Workload::EventPastHint => 1,
-            Workload::NewAndDrop => 2,
-            Workload::PassesHint => 0,
+            ThreadWorkload::Event | ThreadWorkload::EventPastHint => 1,
+            ThreadWorkload::NewAndDrop => 2,
+            ThreadWorkload::PassesHint => 0,
         }
     }
 }

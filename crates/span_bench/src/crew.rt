@@ -1,13 +1,13 @@
 //! Workers in threads, and the receiver that they share.
+ghost use Rattle.span_bench.specs.ThreadOrder.{all_requests};
 ghost use Rattle.span_store.specs.Store.{IsFresh};
-ghost use Rattle.span_thread_bench.specs.Order.{all_requests};
 ghost use Rattle.std.specs.Prelude.{◌≡◌, ◌<◌, IfOk};
 
 use crate::fault::Fault;
-use crate::order::Order;
-use crate::receiver::{Counting, Vetoing, counting, vetoing};
-use crate::rounds;
-use crate::workload::Workload;
+use crate::receiver::{CountingStack, VetoingStack, counting_stack, vetoing_stack};
+use crate::thread_order::ThreadOrder;
+use crate::thread_rounds;
+use crate::thread_workload::ThreadWorkload;
 use span_core::TraceError;
 use span_dispatch::Dispatch;
 use span_registry::{Registry, Subscriber};
@@ -36,7 +36,11 @@ struct Worked<L: Crew> {
 }
 
 /// Does an order, on a receiver of its own.
-pub fn done<R: Threads + Wait + Sync>(rt: &R, alloc: Global, order: Order) -> Result<Tally, Fault>
+pub fn done<R: Threads + Wait + Sync>(
+    rt: &R,
+    alloc: Global,
+    order: ThreadOrder,
+) -> Result<Tally, Fault>
     ensures { IfOk result (λ t. t.requests ≡ all_requests order) }
 {
     if order.threads == 0 {
@@ -52,7 +56,7 @@ fn done_by_vetoing<S, L, R>(
     alloc: Global,
     blank: Blank,
     stack: S,
-    order: Order,
+    order: ThreadOrder,
 ) -> Result<Tally, Fault>
 where
     S: Subscriber + Send + Drop,
@@ -66,7 +70,7 @@ where
     requires fresh { IsFresh (S.registry stack) }
     ensures { IfOk result (λ t. t.requests ≡ all_requests order) }
 {
-    done_by_counting::<Vetoing<S>, L, R>(rt, alloc, blank, vetoing(stack)?, order)
+    done_by_counting::<VetoingStack<S>, L, R>(rt, alloc, blank, vetoing_stack(stack)?, order)
 }
 
 /// Does an order on this stack, with the layer that counts outside it.
@@ -75,7 +79,7 @@ fn done_by_counting<S, L, R>(
     alloc: Global,
     blank: Blank,
     stack: S,
-    order: Order,
+    order: ThreadOrder,
 ) -> Result<Tally, Fault>
 where
     S: Subscriber + Send + Drop,
@@ -89,8 +93,8 @@ where
     requires fresh { IsFresh (S.registry stack) }
     ensures { IfOk result (λ t. t.requests ≡ all_requests order) }
 {
-    let stack = counting(stack)?;
-    let (dispatch, requests) = shared_by::<Counting<S>, L, R>(rt, alloc, blank, stack, order)?;
+    let stack = counting_stack(stack)?;
+    let (dispatch, requests) = shared_by::<CountingStack<S>, L, R>(rt, alloc, blank, stack, order)?;
     Ok(Tally {
         requests,
         notices: dispatch.stack().outer().observer().notices(),
@@ -104,7 +108,7 @@ fn shared_by<S, L, R>(
     alloc: Global,
     blank: Blank,
     stack: S,
-    order: Order,
+    order: ThreadOrder,
 ) -> Result<(Dispatch<S>, u64), Fault>
 where
     S: Subscriber + Send + Drop,
@@ -132,7 +136,7 @@ where
 fn finished<S: Subscriber + Drop, L: Crew>(
     shared: Shared<S, L>,
     workers: Vec<Worker<L>>,
-    order: Order,
+    order: ThreadOrder,
 ) -> Result<(Dispatch<S>, u64), Fault>
     ensures { IfOk result (λ r. r.1 ≡ all_requests order) }
 {
@@ -151,7 +155,7 @@ fn at_work<S: Subscriber + Send, L: Crew + Send + Sync, R: Threads + Wait + Sync
     alloc: Global,
     shared: &Shared<S, L>,
     workers: Vec<Worker<L>>,
-    order: Order,
+    order: ThreadOrder,
 ) -> Result<Vec<Worker<L>>, Fault> {
     thread::scope(
         thread::scope_env(),
@@ -189,14 +193,29 @@ fn work<S: Subscriber, L: Crew>(
     rt: &impl Wait,
     shared: &Shared<S, L>,
     worker: Worker<L>,
-    order: Order,
+    order: ThreadOrder,
 ) -> Worked<L> {
     let mut worker = worker;
     let done = match order.workload {
-        Workload::Event => rounds::event(rt, shared, &mut worker, order.rounds),
-        Workload::NewAndDrop => rounds::new_and_drop(rt, shared, &mut worker, order.rounds),
-        Workload::EventPastHint => rounds::event_past_hint(rt, shared, &mut worker, order.rounds),
-        Workload::PassesHint => rounds::passes_hint(rt, shared, &mut worker, order.rounds),
+        ThreadWorkload::Event => thread_rounds::event(rt, shared, &mut worker, order.rounds),
+        ThreadWorkload::NewAndDrop => thread_rounds::new_and_drop(
+            rt,
+            shared,
+            &mut worker,
+            order.rounds,
+        ),
+        ThreadWorkload::EventPastHint => thread_rounds::event_past_hint(
+            rt,
+            shared,
+            &mut worker,
+            order.rounds,
+        ),
+        ThreadWorkload::PassesHint => thread_rounds::passes_hint(
+            rt,
+            shared,
+            &mut worker,
+            order.rounds,
+        ),
     };
     Worked { worker, done }
 }

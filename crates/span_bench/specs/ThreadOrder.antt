@@ -1,8 +1,8 @@
 -- What the threads of an order make.
 use Rattle.std.specs.Prelude.{ℕ, ◌*◌}
-use Rattle.span_thread_bench.specs.Workload.{requests_of}
-use Rattle.span_thread_bench.specs.declared.order.Order.{Order}
+use Rattle.span_bench.specs.ThreadWorkload.{requests_of}
+use Rattle.span_bench.specs.declared.thread_order.ThreadOrder.{ThreadOrder}
 
 -- how many requests all threads make
-abbrev pub all_requests : Order → ℕ
+abbrev pub all_requests : ThreadOrder → ℕ
 all_requests o = o.threads * o.rounds * requests_of o.workload

@@ -1,4 +1,4 @@
-use Rattle.span_thread_bench.proofs.crew.done.Given as goal
+use Rattle.span_bench.proofs.crew.done.Given as goal
 
 abbrev pub ghosts-done_by_vetoing-L-Crew : goal.ghosts-done_by_vetoing-L-Crew
 ghosts-done_by_vetoing-L-Crew g a = record { workers = a.blank.parts }

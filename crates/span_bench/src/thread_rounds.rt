@@ -1,5 +1,5 @@
-//! The rounds of each workload, which each thread does. A round that isn't done in full ends the
-//! thread's work.
+//! The rounds of each workload of threads, which each thread does. A round that isn't done in full
+//! ends the thread's work.
 ghost use Rattle.std.specs.Prelude.{◌≡◌, ◌+◌, ◌*◌, OnOk};
 
 use crate::fault::Fault;

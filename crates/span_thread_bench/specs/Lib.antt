@@ -1,4 +1,0 @@
-pub mod Counter
-pub mod Fault
-pub mod Order
-pub mod Workload
