@@ -3,6 +3,7 @@ pub mod Field
 pub mod Filters
 pub mod Interest
 pub mod Level
+pub mod LevelText
 pub mod Metadata
 pub mod NumberSet
 pub mod Pass

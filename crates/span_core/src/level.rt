@@ -1,8 +1,11 @@
 //! Levels of verbosity, and filters by level.
 ghost use Rattle.std.specs.Prelude.{◌≡◌, Some};
 ghost use Rattle.span_core.specs.Level.{filter_number, level_number, level_text, passes_level};
+ghost use Rattle.span_core.specs.LevelText.{IsFilterText, IsLevelText, Reads};
 
 use std::fmt;
+use std::str::FromStr;
+use thiserror::Error;
 
 /// A level of verbosity, from `ERROR`, the least verbose, to `TRACE`, in that order.
 ///
@@ -58,6 +61,40 @@ impl fmt::Display for Level {
     }
 }
 
+/// Reads a level's name, in capitals or in small letters, or its number, from 1 to 5.
+impl FromStr for Level {
+    type Err = ParseLevelError;
+
+    ghost from_str_gives = { λ text r. Reads (IsLevelText text) r };
+
+    fn from_str(s: &str) -> Result<Level, ParseLevelError> {
+        let number = s.parse::<usize>().unwrap_or(0); // No level has the number 0.
+        if number == 1 || s.eq_ignore_ascii_case("error") {
+            Ok(Level::ERROR)
+        } else if number == 2 || s.eq_ignore_ascii_case("warn") {
+            Ok(Level::WARN)
+        } else if number == 3 || s.eq_ignore_ascii_case("info") {
+            Ok(Level::INFO)
+        } else if number == 4 || s.eq_ignore_ascii_case("debug") {
+            Ok(Level::DEBUG)
+        } else if number == 5 || s.eq_ignore_ascii_case("trace") {
+            Ok(Level::TRACE)
+        } else {
+            Err(ParseLevelError { _p: () })
+        }
+    }
+}
+
+/// The text is of no level.
+///
+/// Stands for `tracing_core::metadata::ParseLevelError`.
+#[derive(Clone, Copy, Debug, Error)]
+#[error("error parsing level: expected one of \"error\", \"warn\", \"info\", \"debug\", \"trace\", \
+     or a number 1-5")]
+pub struct ParseLevelError {
+    _p: (),
+}
+
 /// Passes the levels up to one, or none of them. The order is by how much passes, `OFF` first.
 ///
 /// Stands for `tracing_core::LevelFilter`, which a level is compared with: here `passes` is asked.
@@ -107,3 +144,32 @@ impl fmt::Debug for LevelFilter {
         write!(f, "LevelFilter::{name}")
     }
 }
+
+/// Reads `off` or 0 as the filter that passes no level, the empty text as `ERROR`, and else what a
+/// level is read from, as the filter up to that level.
+impl FromStr for LevelFilter {
+    type Err = ParseLevelFilterError;
+
+    ghost from_str_gives = { λ text r. Reads (IsFilterText text) r };
+
+    fn from_str(from: &str) -> Result<LevelFilter, ParseLevelFilterError> {
+        if from.is_empty() {
+            return Ok(LevelFilter::ERROR);
+        }
+        if from.parse::<usize>() == Ok(0) || from.eq_ignore_ascii_case("off") {
+            return Ok(LevelFilter::OFF);
+        }
+        match from.parse::<Level>() {
+            Ok(level) => Ok(LevelFilter(Some(level))),
+            Err(_) => Err(ParseLevelFilterError(())),
+        }
+    }
+}
+
+/// The text is of no filter by level.
+///
+/// Stands for `tracing_core::metadata::ParseLevelFilterError`.
+#[derive(Clone, Copy, Debug, Error)]
+#[error("error parsing level filter: expected one of \"off\", \"error\", \"warn\", \"info\", \
+     \"debug\", \"trace\", or a number 0-5")]
+pub struct ParseLevelFilterError(());

@@ -19,7 +19,7 @@ pub use event::Event;
 pub use field::{FieldSet, FieldValue};
 pub use filter::{FilterId, FilterMap};
 pub use interest::Interest;
-pub use level::{Level, LevelFilter};
+pub use level::{Level, LevelFilter, ParseLevelError, ParseLevelFilterError};
 pub use metadata::{Kind, Metadata};
 pub use pass::Pass;
 pub use span::{Attributes, Current, Id, Lane, Parent, Record};
