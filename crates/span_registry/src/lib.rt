@@ -17,5 +17,7 @@ pub use mask::Mask;
 pub use notice::Notice;
 pub use scope::{Scope, ScopeFromRoot, SpanRef};
 pub use span_extensions::{ExtensionMap, ExtensionValue, Extensions, ExtensionsMut, Tag};
-pub use span_store::{Data, Limits, Registry, Released, SpanData, SpanStack, StackIter};
+pub use span_store::{
+    Data, Limits, Registry, Released, SeededState, SpanData, SpanStack, StackIter,
+};
 pub use subscriber::{AlwaysUsable, Subscriber};

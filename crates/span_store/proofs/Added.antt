@@ -17,7 +17,8 @@ use Rattle.span_store.proofs.Closing.{chain_into}
 use Rattle.span_store.proofs.Entries.{at_is, ordered}
 use Rattle.span_store.proofs.Kept.{Changes, Records, changes_put, child_found, count_added, count_set, get_spans, record_at, span_at, spans_put, spans_same}
 use Rattle.span_store.proofs.Kept.{weight}
-use Rattle.span_store.specs.StoreRepr.{AreKeptIssued, IsKept, KeptSpans, at, children_of, more, parent_in, span_of, spans_of}
+use Rattle.span_store.specs.private.StoreRepr.{AreKeptIssued, IsKept, KeptSpans, at, children_of, more, spans_of}
+use Rattle.span_store.specs.Data.{parent_in, span_of}
 use Rattle.span_store.specs.Step.{IsParentFor}
 use Rattle.span_store.specs.Store.{IsChain, IsForest, IsInStore, Span, Spans, Store, is_parent}
 use Rattle.span_store.specs.declared.span_record.SpanRecord.{SpanRecord}

@@ -11,7 +11,8 @@ use Rattle.std.specs.declared.cmp.Ordering.TheVariants.{Less}
 use Rattle.std.specs.declared.cmp.Ordering.{Ordering}
 use Rattle.span_store.proofs.Entries.{ordered}
 use Rattle.span_store.proofs.Kept.{Records}
-use Rattle.span_store.specs.StoreRepr.{IsKept, at, children_of, parent_in, span_of, spans_in, spans_of}
+use Rattle.span_store.specs.private.StoreRepr.{IsKept, at, children_of, spans_in, spans_of}
+use Rattle.span_store.specs.Data.{parent_in, span_of}
 use Rattle.span_store.specs.Store.{Span, child_count, is_parent}
 use Rattle.span_store.specs.declared.span_record.SpanRecord.{SpanRecord}
 

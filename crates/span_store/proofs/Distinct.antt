@@ -11,7 +11,7 @@ use Rattle.std.specs.Prelude.{Some, if◌then◌else◌}
 use Rattle.span_core.specs.Span.{number_of}
 use Rattle.span_core.specs.declared.span.Id.{Id}
 use Rattle.span_store.specs.LaneStack.{stands, last_entered, leave, leaves_for_good, newest, without_duplicates}
-use Rattle.span_store.specs.Marks.{numbers_down}
+use Rattle.span_store.specs.private.Marks.{numbers_down}
 use Rattle.span_store.proofs.Marks.{flip, leave_apart, leave_split}
 
 -- without the newest entry of x, the same are distinct, or x is gone where that leaves it for good

@@ -16,7 +16,8 @@ use Rattle.std.specs.FinMap.{FinMap, empty, entries, get, insert, remove, find, 
 use Rattle.span_extensions.proofs.NumberMaps.{get_beside_inserted, get_beside_removed, get_inserted, get_removed as taken_out}
 use Rattle.span_store.specs.declared.span_record.SpanRecord.{SpanRecord}
 use Rattle.span_store.specs.Store.{Span, Spans, IsChain, IsForest, is_parent, IsInStore, HasChild, IsOpen, IsClosing}
-use Rattle.span_store.specs.StoreRepr.{span_of, spans_in, spans_of, parent_in, children_of, at, IsKept}
+use Rattle.span_store.specs.private.StoreRepr.{spans_in, spans_of, children_of, at, IsKept}
+use Rattle.span_store.specs.Data.{span_of, parent_in}
 use Rattle.span_store.proofs.Chains.{same_test, other_test, get_put, get_beside, get_removed, get_kept}
 use Rattle.span_store.proofs.Closing.{chain_into}
 use Rattle.span_store.proofs.Entries.{at_is, none, ordered, total_added, total_removed, total_set}

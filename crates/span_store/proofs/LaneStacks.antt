@@ -11,7 +11,7 @@ use Rattle.std.specs.Prelude.{nat_eq}
 use Rattle.span_core.specs.declared.span.Lane.{Lane}
 use Rattle.span_store.specs.LaneStack.{HeldStack, leave, no_entries}
 use Rattle.span_store.specs.Store.{Rooms, Stacks, room_on, stack_on, with_room_on, with_stack_on}
-use Rattle.span_store.specs.StoreRepr.{ChangesStack, KeptStacks, held_on, no_stacks, rooms_of, stacks_of, stacks_with}
+use Rattle.span_store.specs.private.StoreRepr.{ChangesStack, KeptStacks, held_on, no_stacks, rooms_of, stacks_of, stacks_with}
 use Rattle.span_store.proofs.LaneMaps.{LeavesOut, again, beside, get_beside, get_of, of_put, on_beside, on_here, on_of, plain_of, plain_put, put_same}
 use Rattle.span_store.proofs.Chains.{other_test, same_test, test_same}
 

@@ -4,7 +4,7 @@ use Rattle.std.proofs.Common.{count_by, cond, slice_get, refl, sym, ap, subst, â
 use Rattle.std.proofs.lemmas.List.{map-set, map_push, length-map, length_push, get_or-map, get_or-set_same, get_or-set_other, get_or_past}
 use Rattle.std.proofs.lemmas.List.Sums.{sum_by-set, sum_by_push}
 use Rattle.std.proofs.lemmas.Option.{slice_get_within, slice_get-get_or, slice_get_read, get_or_from_slice_get}
-use Rattle.span_store.specs.Keyed.{value_of, IsVacantList, IsLinked}
+use Rattle.span_store.specs.private.Keyed.{value_of, IsVacantList, IsLinked}
 use Rattle.span_store.specs.declared.keyed.Place.{Place}
 use Rattle.span_store.specs.declared.keyed.Place.TheVariants.{Vacant, Filled}
 

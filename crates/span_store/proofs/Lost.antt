@@ -4,7 +4,7 @@ use Rattle.std.specs.FinMap.{entries, get, insert, remove}
 use Rattle.std.specs.Option.{IsSomeAnd, option_map}
 use Rattle.span_core.specs.Span.{number_of}
 use Rattle.span_core.specs.declared.span.Id.{Id}
-use Rattle.span_store.specs.StoreRepr.{CountsOneChild, HasRecord, KeptSpans, TakesOut, Writes, fewer}
+use Rattle.span_store.specs.private.StoreRepr.{CountsOneChild, HasRecord, KeptSpans, TakesOut, Writes, fewer}
 use Rattle.span_store.specs.declared.span_record.SpanRecord.{SpanRecord}
 use Rattle.span_store.proofs.Kept.{Records}
 use Rattle.span_store.proofs.Removed.{ChildGone, Removal, child_gone}

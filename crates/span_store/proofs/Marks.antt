@@ -10,8 +10,8 @@ use Rattle.span_core.specs.Span.{number_of}
 use Rattle.span_store.specs.declared.stack.Entry.{Entry}
 use Rattle.span_store.specs.LaneStack.{stands, leave, leaves_for_good}
 use Rattle.span_store.specs.declared.bloom.Bloom.{Bloom}
-use Rattle.span_store.specs.Bloom.{MayHold}
-use Rattle.span_store.specs.Marks.{ids, ids_down, AreMarkedDown, AreMarked, HoldBelow, HoldsAll, KeepsEntries, IsLastOf}
+use Rattle.span_store.specs.private.Bloom.{MayHold}
+use Rattle.span_store.specs.private.Marks.{ids, ids_down, AreMarkedDown, AreMarked, HoldBelow, HoldsAll, KeepsEntries, IsLastOf}
 
 stands_append : (x : ℕ) (xs ys : List ℕ) → stands x (xs ++ ys) ≡ (stands x xs || stands x ys)
 stands_append x xs ys = list_any-append (nat_eq x) xs ys

@@ -14,8 +14,9 @@ use Rattle.span_store.proofs.Counts.{children_at, len_kept}
 use Rattle.span_store.proofs.Kept.{Records, get_spans}
 use Rattle.span_store.proofs.Entries.{at_is}
 use Rattle.span_store.proofs.Removed.{at_some}
-use Rattle.span_store.specs.StoreRepr.{HasNoRoom, HasNoneReserved, HasRoom, Inserts, IsKept, KeptSpans, more, span_of}
-use Rattle.span_store.specs.State.{state_of}
+use Rattle.span_store.specs.private.StoreRepr.{HasNoRoom, HasNoneReserved, HasRoom, Inserts, IsKept, KeptSpans, more}
+use Rattle.span_store.specs.Data.{span_of}
+use Rattle.span_store.specs.private.State.{state_of}
 use Rattle.span_store.specs.Step.{AskedSpan, FindsParent, HasNoPlaceReserved, HasPlace, IsParentFor, Opens, begun, with_span}
 use Rattle.span_store.specs.Store.{RegistryState, child_count}
 use Rattle.span_store.specs.declared.registry.Registry.TheInside.{Inside}

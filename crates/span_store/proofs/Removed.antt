@@ -10,7 +10,8 @@ use Rattle.std.specs.Map.{keys_of}
 use Rattle.std.specs.FinMap.{entries, get, insert, remove}
 use Rattle.span_store.specs.declared.span_record.SpanRecord.{SpanRecord}
 use Rattle.span_store.specs.Store.{Span, Spans, IsChain, IsForest, is_parent, HasChild, IsClosing, IsOpen, parent_of}
-use Rattle.span_store.specs.StoreRepr.{span_of, spans_of, parent_in, children_of, at, fewer, IsKept}
+use Rattle.span_store.specs.private.StoreRepr.{spans_of, children_of, at, fewer, IsKept}
+use Rattle.span_store.specs.Data.{span_of, parent_in}
 use Rattle.span_store.proofs.Closing.{forest_removed}
 use Rattle.span_store.proofs.Entries.{at_is, ordered}
 use Rattle.span_store.proofs.Kept.{Records, weight, Changes, changes_gone, changes_put, spans_gone, spans_same, get_spans, span_at, record_at, count_removed}

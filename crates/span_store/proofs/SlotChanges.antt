@@ -6,7 +6,7 @@ use Rattle.std.proofs.lemmas.List.{length_push}
 use Rattle.std.proofs.lemmas.List.Sums.{sum_by_push, sum_by-set}
 use Rattle.std.proofs.lemmas.Option.{slice_get_within, slice_get_past, get_or_from_slice_get}
 use Rattle.std.specs.Option.{option_map_or}
-use Rattle.span_store.specs.Slot.{issued_at, is_held, is_free, is_retired, is_free_at, IsSound, first_held}
+use Rattle.span_store.specs.private.Slot.{issued_at, is_held, is_free, is_retired, is_free_at, IsSound, first_held}
 use Rattle.span_store.specs.declared.limits.Limits.{Limits}
 use Rattle.span_store.specs.declared.slot.Slot.{Slot}
 use Rattle.span_store.proofs.Slotting.{ChangesAt}

@@ -7,7 +7,7 @@ use Rattle.std.proofs.lemmas.List.Sums.{sum_by-cons}
 use Rattle.std.proofs.lemmas.Option.{slice_get_past}
 use Rattle.std.specs.FinMap.{get, len}
 use Rattle.std.specs.FinSet.{contains, len as set_len}
-use Rattle.span_store.specs.Slot.{SlotState, HasSlot, HasNoSlot, number_at, issued_at, is_held, is_free, is_retired, IsSound}
+use Rattle.span_store.specs.private.Slot.{SlotState, HasSlot, HasNoSlot, number_at, issued_at, is_held, is_free, is_retired, IsSound}
 use Rattle.span_store.specs.declared.limits.Limits.{Limits}
 use Rattle.span_store.specs.declared.slot.Slot.{Slot}
 use Rattle.span_store.proofs.Slotting.{issued_in, issued_of, key_in, keys_of, len_held, len_issued, number_cases, get_held, get_zero, was_issued}

@@ -9,7 +9,7 @@ use Rattle.std.specs.FinSet.{contains, insert as add}
 use Rattle.std.specs.Prelude.{vec_capacity}
 use Rattle.span_core.specs.Span.{number_of}
 use Rattle.span_core.specs.declared.span.Id.{Id}
-use Rattle.span_store.specs.Slot.{SlotState, HasNoSlotReserved, HasSlot, KeepsSlots, TakesSlot, GivesBack, IsSound, first_held, number_at, slots_of}
+use Rattle.span_store.specs.private.Slot.{SlotState, HasNoSlotReserved, HasSlot, KeepsSlots, TakesSlot, GivesBack, IsSound, first_held, number_at, slots_of}
 use Rattle.span_store.specs.declared.limits.Limits.{Limits}
 use Rattle.span_store.specs.declared.slot.Slot.{Slot}
 use Rattle.span_store.specs.declared.slot.Slots.TheInside.{Inside}

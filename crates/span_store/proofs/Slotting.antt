@@ -11,7 +11,7 @@ use Rattle.std.specs.FinSet.{FinSet, contains, from_list, insert as add, len as 
 use Rattle.std.specs.FinSet.{len-insert as set_insert, same_set}
 use Rattle.std.specs.List.{list_any}
 use Rattle.std.specs.Ordering.{nat_cmp, eq_by_cmp}
-use Rattle.span_store.specs.Slot.{number_at, key_of_slot, issued_at, with_key, held_from, numbers_at, issued_from, is_held}
+use Rattle.span_store.specs.private.Slot.{number_at, key_of_slot, issued_at, with_key, held_from, numbers_at, issued_from, is_held}
 use Rattle.span_store.specs.declared.slot.Slot.{Slot}
 use Rattle.span_store.proofs.Chains.{same_test, other_test}
 

@@ -8,9 +8,10 @@ use Rattle.std.specs.Option.{option_map, unwrap_or, IsSomeAnd}
 use Rattle.span_core.specs.Span.{number_of}
 use Rattle.span_core.specs.declared.error.TraceError.{TraceError}
 use Rattle.span_core.specs.declared.span.Id.{Id}
-use Rattle.span_store.specs.StoreRepr.{CountsAny, CountsNothing, GainsHandle, IsKept, KeptSpans, LosesHandle, RefusesGain, RefusesLoss, RetiresKept}
-use Rattle.span_store.specs.StoreRepr.{TakesOut as TakesKept, at, cloned, counts_in, released, span_of, spans_of, with_record}
-use Rattle.span_store.specs.State.{IsSound, state_of}
+use Rattle.span_store.specs.private.StoreRepr.{CountsAny, CountsNothing, GainsHandle, IsKept, KeptSpans, LosesHandle, RefusesGain, RefusesLoss, RetiresKept}
+use Rattle.span_store.specs.private.StoreRepr.{TakesOut as TakesKept, at, cloned, counts_in, released, spans_of, with_record}
+use Rattle.span_store.specs.Data.{span_of}
+use Rattle.span_store.specs.private.State.{IsSound, state_of}
 use Rattle.span_store.specs.Step.{Clones, RefusesClone, RefusesRelease, Releases, RetiresLate, TakesOut}
 use Rattle.span_store.specs.Store.{IsClosing, IsHeld, IsInStore, IsOpen, RegistryState, Span, Spans, add_handle, child_count, handles_of, take_handle}
 use Rattle.span_store.specs.Store.{with_handles, with_spans}

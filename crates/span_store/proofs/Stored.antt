@@ -23,9 +23,10 @@ use Rattle.span_core.specs.Span.{number_of}
 use Rattle.span_core.specs.declared.span.Id.{Id}
 use Rattle.span_extensions.specs.declared.extensions.ExtensionMap.{ExtensionMap}
 use Rattle.span_extensions.proofs.NumberMaps.{get_inserted, get_removed, get_beside_inserted, get_beside_removed}
-use Rattle.span_store.specs.Slot.{SlotState, TakesSlot}
-use Rattle.span_store.specs.StoreRepr.{CountsAny, GrowsEmpty, HasNoneReserved, Inserts, KeepsSpans, KeptSpans, Writes, counts_in, found_in, kept_of, with_found}
-use Rattle.span_store.specs.StoreRepr.{with_record, with_values}
+use Rattle.span_store.specs.private.Slot.{SlotState, TakesSlot}
+use Rattle.span_store.specs.private.StoreRepr.{CountsAny, GrowsEmpty, HasNoneReserved, Inserts, KeepsSpans, KeptSpans, Writes, counts_in, found_in, kept_of}
+use Rattle.span_store.specs.private.StoreRepr.{with_found}
+use Rattle.span_store.specs.private.StoreRepr.{with_record, with_values}
 use Rattle.span_store.specs.declared.span_record.SpanRecord.{SpanRecord}
 use Rattle.span_store.specs.declared.span_store.SpanStore.TheInside.{Inside}
 use Rattle.span_store.proofs.Entries.{put_back}

@@ -1,13 +1,22 @@
 -- What the data of a span show.
-use Rattle.std.specs.Prelude.{◌≡◌, IfSome, Option}
+use Rattle.std.specs.Prelude.{◌≡◌, ℕ, IfSome, Option}
 use Rattle.std.specs.FinMap.{get}
 use Rattle.std.specs.Option.{option_map}
 use Rattle.span_core.specs.Span.{number_of}
 use Rattle.span_core.specs.declared.span.Id.{Id}
 use Rattle.span_extensions.specs.declared.extensions.ExtensionMap.{ExtensionMap}
 use Rattle.span_store.specs.Store.{Span, Store}
-use Rattle.span_store.specs.StoreRepr.{span_of}
 use Rattle.span_store.specs.declared.span_data.Data.{Data}
+use Rattle.span_store.specs.declared.span_record.SpanRecord.{SpanRecord}
+
+-- the number of the parent
+abbrev pub parent_in : SpanRecord → Option ℕ
+parent_in r = option_map number_of r.parent
+
+-- the span of a record
+abbrev pub span_of : SpanRecord → Span
+span_of r =
+    record { metadata = r.metadata; parent = parent_in r; handles = r.handles; verdict = r.verdict }
 
 -- the span's id
 abbrev pub data_id : Data → Id

@@ -1,6 +1,8 @@
 -- The stack of a lane: the spans entered and not left yet, newest first.
-use Rattle.std.specs.Prelude.{ℕ, max, Bool, nat_eq, ◌&&◌, not, List, [], ◌∷◌, Option, Some, None, if◌then◌else◌}
+use Rattle.std.specs.Prelude.{ℕ, max, Bool, nat_eq, ◌&&◌, not, List, [], ◌∷◌, map, reverse, Option, Some, None, if◌then◌else◌}
 use Rattle.std.specs.List.{list_any}
+use Rattle.span_core.specs.Span.{number_of}
+use Rattle.span_store.specs.declared.stack.StackIter.{StackIter}
 
 -- a stack with the room for it: for how many entries there is memory, whether they are there or not
 pub record HeldStack : Type 0 where
@@ -51,3 +53,7 @@ without_entry x s = record s { spans = leave x s.spans }
 -- the stack with room for so many entries at least
 abbrev pub with_room : ℕ → HeldStack → HeldStack
 with_room depth s = record s { room = max s.room depth }
+
+-- the spans that an iterator over a stack has yet to give
+abbrev pub spans_to_give : StackIter → List ℕ
+spans_to_give s = map number_of (reverse s.0.now)

@@ -1,13 +1,8 @@
-pub mod Bloom
 pub mod Closes
 pub mod Data
-pub mod Keyed
 pub mod LaneStack
 pub mod Lends
-pub mod Marks
-pub mod Slot
-pub mod SlotValue
-pub mod State
+pub mod SeededState
 pub mod Step
 pub mod Store
-pub mod StoreRepr
+pub mod private

@@ -1,7 +1,7 @@
 //! Sets of ids that may hold more than was put in.
 ghost use Rattle.std.specs.Prelude.{◌≡◌, ℕ, ◌<◌, ◌%◌, ◌↔◌, IsTrue};
 ghost use Rattle.span_core.specs.Span.{number_of};
-ghost use Rattle.span_store.specs.Bloom.{MayHold};
+ghost use Rattle.span_store.specs.private.Bloom.{MayHold};
 
 use span_core::Id;
 

@@ -3,7 +3,7 @@ ghost use Rattle.std.specs.Borrow.{Lends, sem};
 ghost use Rattle.std.specs.Option.{option_copied_mut};
 ghost use Rattle.std.specs.Prelude.{◌≡◌, ◌+◌, ◌<◌, ◌≤◌, ◌↔◌, [], length, max, IsSome, IsTrue, None, OnErr, OnOk, Some, option_copied, slice_set};
 ghost use Rattle.slab.specs.Slab.{ContainsKey, HasRoomFor, Updates, get, slab_len};
-ghost use Rattle.span_store.specs.Keyed.{value_of};
+ghost use Rattle.span_store.specs.private.Keyed.{value_of};
 ghost use Rattle.span_store.specs.Lends.{lends_kept, lends_kept_value};
 
 use std::alloc::{AllocError, Global};
@@ -49,7 +49,7 @@ impl<T> Place<T> {
 impl<T> Model for Keyed<T> {
     ghost use Rattle.std.specs.Prelude.{map, vec_capacity};
     ghost use Rattle.slab.specs.Slab.{Slab, slab_code};
-    ghost use Rattle.span_store.specs.Keyed.{IsLinked, value_of};
+    ghost use Rattle.span_store.specs.private.Keyed.{IsLinked, value_of};
 
     ghost Value = { Slab T };
 

@@ -3,10 +3,11 @@ ghost use Rattle.std.specs.Option.{option_map, unwrap_or};
 ghost use Rattle.std.specs.Prelude.{◌≡◌, ◌≤◌, ◌<◌, ◌∷◌, [], IfErr, OnErr, OnOk, length, max};
 ghost use Rattle.span_core.specs.Span.{number_of};
 ghost use Rattle.span_store.specs.LaneStack.{leave, with_entry, with_room};
-ghost use Rattle.span_store.specs.Marks.{WantsEntry, WantsRoom};
+ghost use Rattle.span_store.specs.private.Marks.{WantsEntry, WantsRoom};
 ghost use Rattle.span_store.specs.Store.{room_on, stack_on, with_room_on, with_stack_on};
-ghost use Rattle.span_store.specs.StoreRepr.{ChangesStack, TakesOff, held_on, no_stacks};
+ghost use Rattle.span_store.specs.private.StoreRepr.{ChangesStack, TakesOff, held_on, no_stacks};
 
+use crate::seeded_state::SeededState;
 use crate::stack::LaneStack;
 use span_core::{Id, Lane, TraceError};
 use std::alloc::Global;
@@ -19,13 +20,13 @@ pub(crate) struct LaneStacks {
     /// The stack of lane 0, which is found without a search: a program with one lane has no other.
     first: LaneStack,
     /// The stacks of the other lanes.
-    others: HashMap<u32, LaneStack>,
+    others: HashMap<u32, LaneStack, SeededState>,
 }
 
 impl Model for LaneStacks {
     ghost use Rattle.std.specs.Coded.{codes};
     ghost use Rattle.std.specs.FinMap.{code as map_code};
-    ghost use Rattle.span_store.specs.StoreRepr.{KeptStacks, stacks_with};
+    ghost use Rattle.span_store.specs.private.StoreRepr.{KeptStacks, stacks_with};
 
     ghost Value = { KeptStacks };
 
@@ -36,13 +37,18 @@ impl Model for LaneStacks {
 
 impl LaneStacks {
     /// Lanes that entered no span. They take no memory.
-    pub(crate) fn new(alloc: Global) -> Self
+    pub(crate) fn new(alloc: Global, hasher: SeededState) -> Self
         ensures { result ≡ no_stacks }
     {
         LaneStacks {
             first: LaneStack::new(alloc),
-            others: HashMap::new(alloc),
+            others: HashMap::with_hasher(alloc, hasher),
         }
+    }
+
+    /// What the numbers of lanes are hashed by.
+    pub(crate) fn hasher(&self) -> SeededState {
+        *self.others.hasher()
     }
 
     /// The stack of a lane, if it has one.
@@ -120,7 +126,7 @@ impl LaneStacks {
 /// Refused for want of memory alone, where there isn't room for as many.
 fn reserve_on(
     alloc: Global,
-    stacks: &mut HashMap<u32, LaneStack>,
+    stacks: &mut HashMap<u32, LaneStack, SeededState>,
     lane: Lane,
     depth: usize,
 ) -> Result<(), TraceError>
@@ -141,7 +147,7 @@ fn reserve_on(
 /// Enters a span on one of these lanes. Refused for want of memory alone, where there is no room.
 fn push_on(
     alloc: Global,
-    stacks: &mut HashMap<u32, LaneStack>,
+    stacks: &mut HashMap<u32, LaneStack, SeededState>,
     lane: Lane,
     id: Id,
 ) -> Result<(), TraceError>
@@ -160,7 +166,7 @@ fn push_on(
 }
 
 /// Leaves a span on one of these lanes.
-fn pop_from(stacks: &mut HashMap<u32, LaneStack>, lane: Lane, id: Id)
+fn pop_from(stacks: &mut HashMap<u32, LaneStack, SeededState>, lane: Lane, id: Id)
     ensures { TakesOff lane id stacks.old stacks.new }
 {
     if let Some(stack) = stacks.get_mut(&lane.0) {

@@ -7,6 +7,7 @@ mod lane;
 mod limits;
 mod registry;
 mod room;
+mod seeded_state;
 mod slot;
 mod span_data;
 mod span_record;
@@ -16,6 +17,7 @@ mod stack;
 
 pub use limits::Limits;
 pub use registry::{Registry, Released};
+pub use seeded_state::SeededState;
 pub use span_data::{Data, SpanData};
 pub use span_stack::SpanStack;
 pub use stack::{LaneStack, StackIter};

@@ -6,13 +6,14 @@ ghost use Rattle.std.specs.Option.{option_copied_mut, option_map, unwrap_or};
 ghost use Rattle.std.specs.Prelude.{◌≡◌, ◌≤◌, ◌↔◌, [], OnErr, OnOk, IfErr, IfOk, IsSome, IsTrue, None};
 ghost use Rattle.span_core.specs.Span.{asked_parent, number_of};
 ghost use Rattle.span_store.specs.Data.{FindsData};
-ghost use Rattle.span_store.specs.StoreRepr.{HasParent, IsParentAt, RefusesParentAt};
+ghost use Rattle.span_store.specs.private.StoreRepr.{HasParent, IsParentAt, RefusesParentAt};
 ghost use Rattle.span_store.specs.Lends.{lends_extensions};
 ghost use Rattle.span_store.specs.Step.{Clones, Enters, Exits, HandsOut, Opens, RefusesClone, RefusesEnter, RefusesEntries, RefusesFilter, RefusesNew, RefusesPlaces, RefusesRelease, Releases, Removes, RetiresLate, ShowsCurrent, asked, entered_last, with_entries_reserved, with_places_reserved};
 ghost use Rattle.span_store.specs.Store.{AreIssued, IsClosing, IsForest, IsFresh, IsInStore, IsOpen, new_registry, stack_on};
 
 use crate::lane::LaneStacks;
 use crate::limits::Limits;
+use crate::seeded_state::SeededState;
 use crate::span_data::Data;
 use crate::span_record::SpanRecord;
 use crate::span_store::SpanStore;
@@ -75,7 +76,7 @@ impl Model for Registry {
       bounds.the_row.coded,
     ) };
 
-    ghost use Rattle.span_store.specs.State.{IsSound, state_of};
+    ghost use Rattle.span_store.specs.private.State.{IsSound, state_of};
 
     ghost view = { state_of };
 
@@ -97,19 +98,38 @@ impl Registry {
         requires count { 1 ≤ limits.count }
         ensures { result ≡ new_registry limits }
     {
+        Registry::with_hasher(alloc, limits, SeededState::fixed())
+    }
+
+    /// An empty registry with these limits, which hashes the numbers of lanes so, and dispatchers
+    /// on it those of callsites. It is for numbers that somebody else chooses: under `new` and
+    /// `with_limits` they can be chosen so that calls take long.
+    ///
+    /// Own to this port.
+    pub fn with_hasher(alloc: Global, limits: Limits, hasher: SeededState) -> Self
+        requires places { 1 ≤ limits.places }
+        requires generations { 1 ≤ limits.generations }
+        requires count { 1 ≤ limits.count }
+        ensures { result ≡ new_registry limits }
+    {
         Registry {
             alloc,
             spans: SpanStore::new(alloc, limits),
-            stacks: LaneStacks::new(alloc),
+            stacks: LaneStacks::new(alloc, hasher),
             filters: 0,
         }
     }
 
-    /// An empty registry in the same memory, with limits as high as they go.
+    /// An empty registry in the same memory, with the same hasher, and limits as high as they go.
     pub fn emptied(&self) -> Self
         ensures { result ≡ new_registry Limits.MAX }
     {
-        Registry::new(self.alloc)
+        Registry::with_hasher(self.alloc, Limits::MAX, self.hasher())
+    }
+
+    /// What the numbers of lanes and callsites are hashed by.
+    pub fn hasher(&self) -> SeededState {
+        self.stacks.hasher()
     }
 
     /// Whether no id was issued; then the store has nothing.

@@ -3,7 +3,7 @@ ghost use Rattle.std.specs.FinMap.{get};
 ghost use Rattle.std.specs.FinSet.{len as set_len};
 ghost use Rattle.std.specs.Prelude.{◌≡◌, ◌≤◌, ◌<◌, ◌↔◌, IfErr, IfOk, IfSome, IsSome, IsTrue, MatchBool, None, OnErr, Some, length, max, vec_capacity, ◌++◌, ◌∷◌, [], OnOk};
 ghost use Rattle.span_core.specs.Span.{number_of};
-ghost use Rattle.span_store.specs.Slot.{AreHeldIssued, AreUnused, GivesBack, HasNoSlot, HasNoSlotReserved, HasSlot, IsOfNoSlot, RetiresInTime, TakesSlot, WantsMemory, first_held, key_of_slot, no_slots, number_at};
+ghost use Rattle.span_store.specs.private.Slot.{AreHeldIssued, AreUnused, GivesBack, HasNoSlot, HasNoSlotReserved, HasSlot, IsOfNoSlot, RetiresInTime, TakesSlot, WantsMemory, first_held, key_of_slot, no_slots, number_at};
 
 use crate::limits::Limits;
 use crate::room::make_room;
@@ -29,7 +29,7 @@ pub(crate) struct Slot {
 
 impl Model for Slot {
     ghost use Rattle.std.specs.Prelude.{cond, None, Some};
-    ghost use Rattle.span_store.specs.SlotValue.{SlotValue};
+    ghost use Rattle.span_store.specs.private.SlotValue.{SlotValue};
 
     ghost Value = { SlotValue };
 
@@ -81,7 +81,7 @@ impl Model for Slots {
     ghost use Rattle.std.specs.Coded.{codes};
     ghost use Rattle.std.specs.FinMap.{code as map_code};
     ghost use Rattle.std.specs.FinSet.{code as set_code};
-    ghost use Rattle.span_store.specs.Slot.{KeepsSlots, SlotState, slots_of};
+    ghost use Rattle.span_store.specs.private.Slot.{KeepsSlots, SlotState, slots_of};
     ghost use Rattle.span_store.specs.contracts.limits.Limits as bounds;
 
     ghost Value = { SlotState };

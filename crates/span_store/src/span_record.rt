@@ -1,6 +1,6 @@
 //! What the registry keeps of a span.
 ghost use Rattle.std.specs.Prelude.{◌≡◌, ◌↔◌, IsTrue};
-ghost use Rattle.span_store.specs.StoreRepr.{CountsAny, counts_in};
+ghost use Rattle.span_store.specs.private.StoreRepr.{CountsAny, counts_in};
 
 use crate::registry::Released;
 use span_core::{FilterMap, Id, Metadata};

@@ -2,8 +2,7 @@
 ghost use Rattle.std.specs.Option.{option_map};
 ghost use Rattle.std.specs.Prelude.{◌≡◌, ◌∷◌, [], IfErr, OnErr, OnOk};
 ghost use Rattle.span_core.specs.Span.{number_of};
-ghost use Rattle.span_store.specs.LaneStack.{leave, leaves_for_good, newest, without_duplicates};
-ghost use Rattle.span_store.specs.Marks.{spans_to_give};
+ghost use Rattle.span_store.specs.LaneStack.{leave, leaves_for_good, newest, spans_to_give, without_duplicates};
 
 use crate::stack::{LaneStack, StackIter};
 use span_core::{Id, TraceError};

@@ -5,7 +5,7 @@ ghost use Rattle.std.specs.Option.{option_copied, option_map};
 ghost use Rattle.std.specs.Prelude.{◌≡◌, ◌≤◌, ◌↔◌, IfErr, IfOk, IfSome, None, IsSome, IsTrue, MatchBool, OnErr, OnOk, Some, length, max, slice_set, ◌<◌};
 ghost use Rattle.span_core.specs.Span.{number_of};
 ghost use Rattle.span_extensions.specs.Extensions.{no_values};
-ghost use Rattle.span_store.specs.StoreRepr.{AreKeptIssued, CountsOneChild, GainsHandle, GrowsEmpty, HasNoRoom, HasNoneReserved, HasRecord, HasRoom, Inserts, KeepsNothing, LosesHandle, RefusesGain, RefusesLoss, RetiresKept, TakesOut, Writes, counts_in, fewer, more, no_spans};
+ghost use Rattle.span_store.specs.private.StoreRepr.{AreKeptIssued, CountsOneChild, GainsHandle, GrowsEmpty, HasNoRoom, HasNoneReserved, HasRecord, HasRoom, Inserts, KeepsNothing, LosesHandle, RefusesGain, RefusesLoss, RetiresKept, TakesOut, Writes, counts_in, fewer, more, no_spans};
 
 use crate::keyed::Keyed;
 use crate::limits::Limits;
@@ -34,7 +34,7 @@ impl Model for SpanStore {
     ghost use Rattle.std.specs.FinMap.{code as map_code};
     ghost use Rattle.std.specs.FinSet.{code as set_code};
     ghost use Rattle.span_extensions.specs.contracts.extensions.ExtensionMap as values;
-    ghost use Rattle.span_store.specs.StoreRepr.{KeepsSpans, KeptSpans, kept_of};
+    ghost use Rattle.span_store.specs.private.StoreRepr.{KeepsSpans, KeptSpans, kept_of};
     ghost use Rattle.span_store.specs.contracts.limits.Limits as bounds;
     ghost use Rattle.span_store.specs.contracts.span_record.SpanRecord as kept;
 

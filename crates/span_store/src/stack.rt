@@ -3,8 +3,8 @@ ghost use Rattle.std.specs.Prelude.{◌≡◌, [], IfErr, IsTrue, OnErr, OnOk, t
 ghost use Rattle.std.specs.Iterator.{YieldsFirstBy, item_count};
 ghost use Rattle.std.specs.Option.{option_map};
 ghost use Rattle.span_core.specs.Span.{number_of};
-ghost use Rattle.span_store.specs.LaneStack.{leave, leaves_for_good, newest, no_entries, stands, with_entry, with_room, without_duplicates, without_entry};
-ghost use Rattle.span_store.specs.Marks.{HoldsAll, IsAtLast, WantsEntry, WantsRoom, ids, numbers_down, spans_to_give};
+ghost use Rattle.span_store.specs.LaneStack.{leave, leaves_for_good, newest, no_entries, spans_to_give, stands, with_entry, with_room, without_duplicates, without_entry};
+ghost use Rattle.span_store.specs.private.Marks.{HoldsAll, IsAtLast, WantsEntry, WantsRoom, ids, numbers_down};
 
 use crate::bloom::Bloom;
 use crate::room::make_room;
@@ -34,7 +34,7 @@ struct Entries {
 impl Model for Entries {
     ghost use Rattle.std.specs.Prelude.{◌≤◌, vec_capacity};
     ghost use Rattle.span_store.specs.LaneStack.{HeldStack};
-    ghost use Rattle.span_store.specs.Marks.{KeepsEntries, ids_down};
+    ghost use Rattle.span_store.specs.private.Marks.{KeepsEntries, ids_down};
 
     ghost Value = { HeldStack };
 
@@ -126,7 +126,7 @@ pub struct LaneStack {
 impl Model for LaneStack {
     ghost use Rattle.std.specs.Prelude.{◌≤◌, vec_capacity};
     ghost use Rattle.span_store.specs.LaneStack.{HeldStack};
-    ghost use Rattle.span_store.specs.Marks.{KeepsDistinct};
+    ghost use Rattle.span_store.specs.private.Marks.{KeepsDistinct};
 
     ghost Value = { HeldStack };
 

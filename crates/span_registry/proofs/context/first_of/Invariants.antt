@@ -1,6 +1,6 @@
 use Rattle.std.proofs.Common.{◌≡◌, length}
 use Rattle.std.specs.List.{find}
-use Rattle.span_store.specs.Marks.{spans_to_give}
+use Rattle.span_store.specs.LaneStack.{spans_to_give}
 use Rattle.span_registry.specs.Context.{view_in}
 use Rattle.span_registry.specs.View.{is_shown}
 use Rattle.span_registry.proofs.context.first_of.Given as goal

@@ -1,6 +1,6 @@
 use Rattle.std.proofs.Common.{refl, sym, subst, arith}
 use Rattle.std.proofs.lemmas.Result.{err_from_is_err_and}
-use Rattle.span_store.specs.StoreRepr.{GrowsEmpty}
+use Rattle.span_store.specs.private.StoreRepr.{GrowsEmpty}
 use Rattle.span_store.proofs.Stored.{grown_longer, grown_none, grown_more}
 use Rattle.span_store.proofs.span_store.reach.Goals as goal
 

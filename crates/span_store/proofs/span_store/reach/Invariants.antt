@@ -1,5 +1,5 @@
 use Rattle.std.proofs.Common.{◌-◌, length}
-use Rattle.span_store.specs.StoreRepr.{GrowsEmpty}
+use Rattle.span_store.specs.private.StoreRepr.{GrowsEmpty}
 use Rattle.span_store.proofs.span_store.reach.Given as goal
 
 abbrev pub invariant-loop-alloc : goal.invariant-loop-alloc

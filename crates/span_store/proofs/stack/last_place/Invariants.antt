@@ -1,6 +1,6 @@
 use Rattle.std.proofs.Common.{◌≡◌, drop, false}
 use Rattle.span_core.specs.Span.{number_of}
-use Rattle.span_store.specs.Marks.{ids}
+use Rattle.span_store.specs.private.Marks.{ids}
 use Rattle.span_store.specs.LaneStack.{stands}
 use Rattle.span_store.proofs.stack.last_place.Given as goal
 

@@ -3,7 +3,7 @@ use Rattle.std.proofs.lemmas.Bool.{eqb-true}
 use Rattle.span_core.specs.Span.{number_of}
 use Rattle.span_core.specs.declared.span.Id.{Id}
 use Rattle.span_store.specs.LaneStack.{leave, stands}
-use Rattle.span_store.specs.Marks.{numbers_down}
+use Rattle.span_store.specs.private.Marks.{numbers_down}
 use Rattle.span_store.proofs.Distinct.{none_taken, taken}
 use Rattle.span_store.proofs.stack.take_out.Goals as goal
 

@@ -1,7 +1,7 @@
 use Rattle.std.proofs.Common.{Some, sym, ap, ◌∙◌, arith}
 use Rattle.std.proofs.lemmas.List.{map-set, length-map}
 use Rattle.span_store.specs.declared.keyed.Place.TheVariants.{Vacant, Filled}
-use Rattle.span_store.specs.Keyed.{value_of}
+use Rattle.span_store.specs.private.Keyed.{value_of}
 use Rattle.span_store.proofs.Linked.{full_at_end, next_within, read_at_next, next_is_not_filled, count-set, IsLinked-push, IsLinked-fill}
 use Rattle.slab.proofs.SlabLemmas.{Updates-set}
 use Rattle.span_store.proofs.keyed.Keyed.insert_reserved.Goals as goal

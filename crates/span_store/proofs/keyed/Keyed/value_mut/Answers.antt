@@ -1,7 +1,7 @@
 use Rattle.std.proofs.Common.{None, refl, sym, ap, ◌∙◌}
 use Rattle.std.proofs.lemmas.List.{map-set, get_or-map}
 use Rattle.std.proofs.lemmas.Option.{slice_get_within}
-use Rattle.span_store.specs.Keyed.{value_of}
+use Rattle.span_store.specs.private.Keyed.{value_of}
 use Rattle.span_store.proofs.Linked.{filled_at, IsLinked-rewrite}
 use Rattle.span_store.proofs.keyed.Keyed.value_mut.Goals as goal
 

@@ -2,7 +2,7 @@ use Rattle.std.proofs.Common.{◌≡◌, ◌∙◌, ap, sym, Bor, Option, None, 
 use Rattle.std.specs.Option.{option_copied, option_map, unwrap_or}
 use Rattle.span_store.specs.LaneStack.{HeldStack, no_entries}
 use Rattle.span_store.specs.Store.{stack_on}
-use Rattle.span_store.specs.StoreRepr.{KeptStacks}
+use Rattle.span_store.specs.private.StoreRepr.{KeptStacks}
 use Rattle.span_store.proofs.LaneStacks.{held_first, held_other}
 use Rattle.span_store.proofs.lane.LaneStacks.get.Goals as goal
 

@@ -6,7 +6,7 @@ use Rattle.span_core.specs.Span.{number_of}
 use Rattle.span_core.specs.declared.span.Lane.{Lane}
 use Rattle.span_store.specs.LaneStack.{HeldStack, leave, no_entries, without_entry}
 use Rattle.span_store.specs.Store.{stack_on, with_stack_on}
-use Rattle.span_store.specs.StoreRepr.{ChangesStack, KeptStacks, stacks_with}
+use Rattle.span_store.specs.private.StoreRepr.{ChangesStack, KeptStacks, stacks_with}
 use Rattle.span_store.proofs.LaneStacks.{first_by, no_stack, other_by, spans_alone, stacks_none}
 use Rattle.span_store.proofs.lane.LaneStacks.pop.Goals as goal
 

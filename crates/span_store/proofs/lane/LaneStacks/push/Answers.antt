@@ -1,9 +1,9 @@
 use Rattle.std.proofs.Common.{◌∙◌, ap, ◌∷◌}
 use Rattle.span_core.specs.Span.{number_of}
 use Rattle.span_store.specs.LaneStack.{HeldStack, with_entry}
-use Rattle.span_store.specs.Marks.{WantsEntry}
+use Rattle.span_store.specs.private.Marks.{WantsEntry}
 use Rattle.span_store.specs.Store.{stack_on}
-use Rattle.span_store.specs.StoreRepr.{KeptStacks, stacks_with}
+use Rattle.span_store.specs.private.StoreRepr.{KeptStacks, stacks_with}
 use Rattle.span_store.proofs.LaneStacks.{first_by, first_holds, other_by, other_holds, spans_alone}
 use Rattle.span_store.proofs.States.{if_err_map, on_ok_map}
 use Rattle.span_store.proofs.lane.LaneStacks.push.Goals as goal

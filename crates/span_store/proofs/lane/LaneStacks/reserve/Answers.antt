@@ -1,8 +1,8 @@
 use Rattle.std.proofs.Common.{◌∙◌, ap, max}
 use Rattle.span_store.specs.LaneStack.{HeldStack, with_room}
-use Rattle.span_store.specs.Marks.{WantsRoom}
+use Rattle.span_store.specs.private.Marks.{WantsRoom}
 use Rattle.span_store.specs.Store.{room_on}
-use Rattle.span_store.specs.StoreRepr.{KeptStacks, stacks_with}
+use Rattle.span_store.specs.private.StoreRepr.{KeptStacks, stacks_with}
 use Rattle.span_store.proofs.LaneStacks.{first_by, first_holds, other_by, other_holds, room_alone, room_same}
 use Rattle.span_store.proofs.States.{if_err_map, on_ok_map}
 use Rattle.span_store.proofs.lane.LaneStacks.reserve.Goals as goal

@@ -6,7 +6,7 @@ use Rattle.span_core.specs.declared.span.Lane.{Lane}
 use Rattle.span_core.specs.declared.span.Parent.TheVariants.{Contextual}
 use Rattle.span_store.specs.Step.{entered_last}
 use Rattle.span_store.specs.Store.{IsOpen, RegistryState, child_count}
-use Rattle.span_store.specs.StoreRepr.{HasParent, IsParentAt}
+use Rattle.span_store.specs.private.StoreRepr.{HasParent, IsParentAt}
 use Rattle.span_store.proofs.registry.Registry.context.Goals as goal
 
 -- what was entered last is the parent, where it is one

@@ -2,7 +2,7 @@ use Rattle.std.proofs.Common.{◌≡◌, sym, subst, ap, ◌∙◌, ℕ, None, O
 use Rattle.std.specs.FinMap.{entries, get}
 use Rattle.std.specs.Option.{option_map}
 use Rattle.span_core.specs.Span.{number_of}
-use Rattle.span_store.specs.StoreRepr.{at}
+use Rattle.span_store.specs.private.StoreRepr.{at}
 use Rattle.span_store.specs.Store.{RegistryState, Spans, IsInStore}
 use Rattle.span_store.proofs.Entries.{at_is}
 use Rattle.span_store.proofs.Kept.{nowhere, span_at}

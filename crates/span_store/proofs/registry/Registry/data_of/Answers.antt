@@ -2,8 +2,7 @@ use Rattle.std.proofs.Common.{refl, sym, ap, ◌∙◌}
 use Rattle.std.specs.FinMap as map
 use Rattle.std.specs.Option.{option_map}
 use Rattle.span_core.specs.Span.{number_of}
-use Rattle.span_store.specs.StoreRepr.{span_of}
-use Rattle.span_store.specs.Data.{data_extensions, data_span}
+use Rattle.span_store.specs.Data.{data_extensions, data_span, span_of}
 use Rattle.span_store.specs.Store.{RegistryState}
 use Rattle.span_store.proofs.States.{span_got}
 use Rattle.span_store.proofs.registry.Registry.data_of.Goals as goal

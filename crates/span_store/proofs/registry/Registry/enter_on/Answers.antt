@@ -1,10 +1,10 @@
 use Rattle.std.proofs.Common.{sym, ap, ◌∙◌}
 use Rattle.std.specs.FinSet.{len as set_len}
 use Rattle.span_core.specs.Span.{number_of}
-use Rattle.span_store.specs.State.{state_of}
+use Rattle.span_store.specs.private.State.{state_of}
 use Rattle.span_store.specs.Step.{entered}
 use Rattle.span_store.specs.Store.{RegistryState}
-use Rattle.span_store.specs.StoreRepr.{KeptStacks}
+use Rattle.span_store.specs.private.StoreRepr.{KeptStacks}
 use Rattle.span_store.proofs.Begins.{has_some}
 use Rattle.span_store.proofs.States.{on_ok_map}
 use Rattle.span_store.proofs.registry.Registry.enter_on.Goals as goal

@@ -5,8 +5,8 @@ use Rattle.std.specs.Option.{option_and_then}
 use Rattle.slab.specs.Slab.{get as under}
 use Rattle.span_core.specs.Span.{number_of}
 use Rattle.span_extensions.specs.declared.extensions.ExtensionMap.{ExtensionMap}
-use Rattle.span_store.specs.StoreRepr.{KeptSpans, kept_of}
-use Rattle.span_store.specs.State.{state_of}
+use Rattle.span_store.specs.private.StoreRepr.{KeptSpans, kept_of}
+use Rattle.span_store.specs.private.State.{state_of}
 use Rattle.span_store.specs.Store.{RegistryState, with_extensions}
 use Rattle.span_store.specs.declared.span_record.SpanRecord.{SpanRecord}
 use Rattle.span_store.specs.declared.span_store.SpanStore.TheInside.{Inside}

@@ -2,8 +2,8 @@ use Rattle.std.proofs.Common.{◌≡◌, ◌∙◌, ap, sym}
 use Rattle.std.specs.FinMap.{entries}
 use Rattle.std.specs.FinSet.{len as set_len, len-empty as set_empty}
 use Rattle.std.specs.Ordering.{nat_cmp}
-use Rattle.span_store.specs.StoreRepr.{spans_of}
-use Rattle.span_store.specs.State.{state_of}
+use Rattle.span_store.specs.private.StoreRepr.{spans_of}
+use Rattle.span_store.specs.private.State.{state_of}
 use Rattle.span_store.specs.Store.{RegistryState, Store, empty_store}
 use Rattle.span_store.specs.declared.span_record.SpanRecord.{SpanRecord}
 use Rattle.span_store.proofs.Entries.{none}

@@ -1,9 +1,9 @@
 use Rattle.std.proofs.Common.{ap, ◌∙◌}
 use Rattle.span_core.specs.Span.{number_of}
-use Rattle.span_store.specs.State.{state_of}
+use Rattle.span_store.specs.private.State.{state_of}
 use Rattle.span_store.specs.Step.{exited}
 use Rattle.span_store.specs.Store.{RegistryState}
-use Rattle.span_store.specs.StoreRepr.{KeptStacks}
+use Rattle.span_store.specs.private.StoreRepr.{KeptStacks}
 use Rattle.span_store.proofs.Begins.{leaves_none}
 use Rattle.span_store.proofs.registry.Registry.leave_on.Goals as goal
 

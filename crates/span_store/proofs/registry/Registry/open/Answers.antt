@@ -8,8 +8,8 @@ use Rattle.span_core.specs.declared.error.TraceError.TheVariants.{OutOfMemory, T
 use Rattle.span_core.specs.declared.span.Id.{Id}
 use Rattle.span_core.specs.declared.span.Lane.{Lane}
 use Rattle.span_core.specs.declared.span.Parent.{Parent}
-use Rattle.span_store.specs.StoreRepr.{KeptSpans}
-use Rattle.span_store.specs.State.{state_of}
+use Rattle.span_store.specs.private.StoreRepr.{KeptSpans}
+use Rattle.span_store.specs.private.State.{state_of}
 use Rattle.span_store.specs.Step.{AskedSpan, FindsParent, Opens, RefusesNew}
 use Rattle.span_store.specs.Store.{RegistryState}
 use Rattle.span_store.specs.declared.limits.Limits.{Limits}

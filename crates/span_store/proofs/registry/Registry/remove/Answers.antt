@@ -4,7 +4,7 @@ use Rattle.std.specs.FinSet.{len as set_len}
 use Rattle.std.specs.Option.{IsSomeAnd}
 use Rattle.span_core.specs.Span.{number_of}
 use Rattle.span_core.specs.declared.span.Id.{Id}
-use Rattle.span_store.specs.StoreRepr.{IsKept, KeptSpans, spans_of}
+use Rattle.span_store.specs.private.StoreRepr.{IsKept, KeptSpans, spans_of}
 use Rattle.span_store.specs.Store.{RegistryState, Spans, IsClosing, IsOpen, parent_of}
 use Rattle.span_store.proofs.Drops.{fewer_spans}
 use Rattle.span_store.proofs.Entries.{at_is}

@@ -4,7 +4,7 @@ use Rattle.std.specs.FinMap.{get}
 use Rattle.std.specs.Option.{option_copied, option_map}
 use Rattle.span_core.specs.Span.{number_of}
 use Rattle.span_store.specs.Store.{RegistryState, Span}
-use Rattle.span_store.specs.StoreRepr.{span_of}
+use Rattle.span_store.specs.Data.{span_of}
 use Rattle.span_store.specs.declared.span_record.SpanRecord.{SpanRecord}
 use Rattle.span_store.proofs.States.{span_got}
 use Rattle.span_store.proofs.registry.Registry.verdict_of.Goals as goal

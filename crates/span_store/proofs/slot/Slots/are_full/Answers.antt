@@ -1,7 +1,7 @@
 use Rattle.std.proofs.Common.{MatchBool, inl, inr, sym, ◌∙◌, subst, leb, true≢false, arith}
 use Rattle.std.proofs.lemmas.Bool.{leb-true, leb-false, eqb-true, eqb-false}
 use Rattle.std.specs.Prelude.{vec_len}
-use Rattle.span_store.specs.Slot.{SlotState, HasSlot, HasNoSlot}
+use Rattle.span_store.specs.private.Slot.{SlotState, HasSlot, HasNoSlot}
 use Rattle.span_store.proofs.SlotCounts.{full_by}
 use Rattle.span_store.proofs.slot.Slots.are_full.Goals as goal
 

@@ -3,7 +3,7 @@ use Rattle.std.proofs.lemmas.Bool.{eqb-true, eq-eqb}
 use Rattle.std.specs.FinMap.{from_entries}
 use Rattle.std.specs.FinSet.{from_list, len as set_len}
 use Rattle.std.specs.Prelude.{vec_len}
-use Rattle.span_store.specs.Slot.{AreUnused, SlotState, held_from, issued_from, slots_of}
+use Rattle.span_store.specs.private.Slot.{AreUnused, SlotState, held_from, issued_from, slots_of}
 use Rattle.span_store.specs.declared.slot.Slot.{Slot}
 use Rattle.span_store.proofs.SlotCounts.{no_slots_yet, none_issued}
 use Rattle.span_store.proofs.slot.Slots.is_fresh.Goals as goal

@@ -1,5 +1,5 @@
 use Rattle.std.proofs.Common.{subst}
-use Rattle.span_store.specs.Slot.{AreHeldIssued}
+use Rattle.span_store.specs.private.Slot.{AreHeldIssued}
 use Rattle.span_store.proofs.SlotCounts.{few_slots, held_issued}
 use Rattle.span_store.proofs.slot.Slots.is_sound.Goals as goal
 

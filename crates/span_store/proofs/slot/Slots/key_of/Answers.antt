@@ -3,7 +3,7 @@ use Rattle.std.proofs.lemmas.Bool.{ltb-true}
 use Rattle.std.proofs.lemmas.Option.{slice_get_read}
 use Rattle.std.specs.FinMap.{get}
 use Rattle.span_core.specs.Span.{number_of}
-use Rattle.span_store.specs.Slot.{SlotState}
+use Rattle.span_store.specs.private.Slot.{SlotState}
 use Rattle.span_store.specs.declared.slot.Slot.{Slot}
 use Rattle.span_store.proofs.SlotCounts.{few_slots, key_nowhere, key_past, key_there}
 use Rattle.span_store.proofs.slot.Slots.key_of.Goals as goal

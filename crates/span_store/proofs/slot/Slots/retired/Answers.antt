@@ -1,5 +1,5 @@
 use Rattle.std.proofs.Common.{subst}
-use Rattle.span_store.specs.Slot.{RetiresInTime}
+use Rattle.span_store.specs.private.Slot.{RetiresInTime}
 use Rattle.span_store.proofs.SlotCounts.{late}
 use Rattle.span_store.proofs.slot.Slots.retired.Goals as goal
 

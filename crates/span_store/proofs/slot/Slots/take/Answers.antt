@@ -1,6 +1,6 @@
 use Rattle.std.proofs.Common.{ap, ◌∙◌, arith, inl, inr}
 use Rattle.std.proofs.lemmas.Result.{err_from_is_err_and}
-use Rattle.span_store.specs.Slot.{number_at}
+use Rattle.span_store.specs.private.Slot.{number_at}
 use Rattle.span_store.proofs.SlotChanges.{sound_room}
 use Rattle.span_store.proofs.SlotSteps.{free_within, may_make_at, none_reserved, sound_again, sound_new, takes_again, takes_from, takes_new}
 use Rattle.span_store.proofs.slot.Slots.take.Goals as goal

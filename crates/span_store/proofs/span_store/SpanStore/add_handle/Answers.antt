@@ -2,7 +2,7 @@ use Rattle.std.proofs.Common.{◌<◌, ◌≤◌, Option, IfSome, arith, refl, s
 use Rattle.std.proofs.lemmas.Bool.{true≢false}
 use Rattle.std.specs.FinMap.{get}
 use Rattle.span_core.specs.Span.{number_of}
-use Rattle.span_store.specs.StoreRepr.{CountsAny, cloned, counts_in}
+use Rattle.span_store.specs.private.StoreRepr.{CountsAny, cloned, counts_in}
 use Rattle.span_store.specs.declared.limits.Limits.{Limits}
 use Rattle.span_store.specs.declared.span_record.SpanRecord.{SpanRecord}
 use Rattle.span_store.proofs.Removed.{some_and}

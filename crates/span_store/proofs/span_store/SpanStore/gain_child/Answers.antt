@@ -1,7 +1,7 @@
 use Rattle.std.proofs.Common.{◌<◌, sym, ◌∙◌, arith}
 use Rattle.std.specs.FinMap.{get}
 use Rattle.span_core.specs.Span.{number_of}
-use Rattle.span_store.specs.StoreRepr.{more}
+use Rattle.span_store.specs.private.StoreRepr.{more}
 use Rattle.span_store.proofs.Removed.{at_some}
 use Rattle.span_store.proofs.Stored.{has_key, lends_some, lent_record, writes_record}
 use Rattle.span_store.proofs.span_store.SpanStore.gain_child.Goals as goal

@@ -3,8 +3,8 @@ use Rattle.std.proofs.lemmas.Result.{err_from_is_err_and}
 use Rattle.std.specs.FinMap.{len}
 use Rattle.std.specs.FinSet.{len as set_len}
 use Rattle.slab.specs.Slab.{Slab, Updates, get as under}
-use Rattle.span_store.specs.StoreRepr.{Inserts, KeepsSpans, KeptSpans, kept_of}
-use Rattle.span_store.specs.Slot.{SlotState}
+use Rattle.span_store.specs.private.StoreRepr.{Inserts, KeepsSpans, KeptSpans, kept_of}
+use Rattle.span_store.specs.private.Slot.{SlotState}
 use Rattle.span_store.specs.declared.span_record.SpanRecord.{SpanRecord}
 use Rattle.span_store.proofs.Stored.{keeps_grown, kept_grown, len-found, none_reserved, puts_in}
 use Rattle.span_store.proofs.span_store.SpanStore.insert.Goals as goal

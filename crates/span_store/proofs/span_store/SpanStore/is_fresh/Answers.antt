@@ -1,6 +1,6 @@
 use Rattle.std.proofs.Common.{subst, slice_get}
 use Rattle.slab.specs.Slab.{get as under}
-use Rattle.span_store.specs.StoreRepr.{KeepsNothing, kept_of}
+use Rattle.span_store.specs.private.StoreRepr.{KeepsNothing, kept_of}
 use Rattle.span_store.proofs.Stored.{found_none}
 use Rattle.span_store.proofs.span_store.SpanStore.is_fresh.Goals as goal
 

@@ -1,6 +1,6 @@
 use Rattle.std.proofs.Common.{ℕ, ◌+◌, ◌≤◌, ◌<◌, Bool, true, false, MatchBool, sym, subst}
 use Rattle.slab.specs.Slab.{get as under}
-use Rattle.span_store.specs.StoreRepr.{HasNoRoom, HasRoom, KeptSpans}
+use Rattle.span_store.specs.private.StoreRepr.{HasNoRoom, HasRoom, KeptSpans}
 use Rattle.span_store.proofs.Stored.{len-found}
 use Rattle.span_store.proofs.span_store.SpanStore.is_full.Goals as goal
 

@@ -2,7 +2,7 @@ use Rattle.std.proofs.Common.{Option, IsSome, sym, ap, subst, ◌∙◌}
 use Rattle.std.specs.FinMap.{get}
 use Rattle.std.specs.FinSet.{contains}
 use Rattle.slab.specs.Slab.{get as under}
-use Rattle.span_store.specs.StoreRepr.{KeptSpans}
+use Rattle.span_store.specs.private.StoreRepr.{KeptSpans}
 use Rattle.span_store.specs.declared.span_record.SpanRecord.{SpanRecord}
 use Rattle.span_store.proofs.Stored.{keyed, seen_record}
 use Rattle.span_store.proofs.span_store.SpanStore.is_sound.Goals as goal

@@ -2,7 +2,7 @@ use Rattle.std.proofs.Common.{◌≡◌, ◌<◌, ◌-◌, ℕ, Option, IfSome, 
 use Rattle.std.specs.FinMap.{get}
 use Rattle.span_core.specs.Span.{number_of}
 use Rattle.span_core.specs.declared.span.Id.{Id}
-use Rattle.span_store.specs.StoreRepr.{CountsAny, CountsOneChild, HasRecord, counts_in, fewer}
+use Rattle.span_store.specs.private.StoreRepr.{CountsAny, CountsOneChild, HasRecord, counts_in, fewer}
 use Rattle.span_store.specs.declared.span_record.Counts.{Counts}
 use Rattle.span_store.specs.declared.span_record.SpanRecord.{SpanRecord}
 use Rattle.span_store.proofs.Removed.{at_some, some_and}

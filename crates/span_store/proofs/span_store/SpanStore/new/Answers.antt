@@ -4,7 +4,7 @@ use Rattle.std.specs.FinMap.{FinMap, get, empty, get-empty, len, len-empty}
 use Rattle.std.specs.List.{count_by}
 use Rattle.slab.specs.Slab.{get as under}
 use Rattle.span_extensions.specs.declared.extensions.ExtensionMap.{ExtensionMap}
-use Rattle.span_store.specs.Slot.{SlotState}
+use Rattle.span_store.specs.private.Slot.{SlotState}
 use Rattle.span_store.proofs.Stored.{found_none}
 use Rattle.span_store.proofs.span_store.SpanStore.new.Goals as goal
 

@@ -2,7 +2,7 @@ use Rattle.std.proofs.Common.{◌≡◌, ◌↔◌, Option, IfSome, arith, refl,
 use Rattle.std.proofs.lemmas.Bool.{true≢false}
 use Rattle.std.specs.FinMap.{get}
 use Rattle.span_core.specs.Span.{number_of}
-use Rattle.span_store.specs.StoreRepr.{CountsAny, counts_in, released}
+use Rattle.span_store.specs.private.StoreRepr.{CountsAny, counts_in, released}
 use Rattle.span_store.specs.declared.registry.Released.TheVariants.{Closing, StillOpen}
 use Rattle.span_store.specs.declared.span_record.Counts.{Counts}
 use Rattle.span_store.specs.declared.span_record.SpanRecord.{SpanRecord}

@@ -4,7 +4,7 @@ use Rattle.std.specs.FinMap.{get, remove}
 use Rattle.std.specs.Option.{option_and_then}
 use Rattle.slab.specs.Slab.{get as under}
 use Rattle.span_core.specs.Span.{number_of}
-use Rattle.span_store.specs.StoreRepr.{KeptSpans}
+use Rattle.span_store.specs.private.StoreRepr.{KeptSpans}
 use Rattle.span_store.specs.declared.span_record.SpanRecord.{SpanRecord}
 use Rattle.span_store.proofs.Stored.{keyed, keeps_rest, seen_record, records_rest, extensions_rest, within}
 use Rattle.span_store.proofs.span_store.SpanStore.remove.Goals as goal

@@ -1,7 +1,7 @@
 use Rattle.std.proofs.Common.{ap, subst, arith, ◌∙◌, count_by, is_some, sym}
 use Rattle.slab.specs.Slab.{Slab}
-use Rattle.span_store.specs.Slot.{SlotState}
-use Rattle.span_store.specs.StoreRepr.{KeepsSpans, kept_of}
+use Rattle.span_store.specs.private.Slot.{SlotState}
+use Rattle.span_store.specs.private.StoreRepr.{KeepsSpans, kept_of}
 use Rattle.span_store.specs.declared.span_record.SpanRecord.{SpanRecord}
 use Rattle.span_store.proofs.Stored.{keeps_grown, kept_grown, reserves}
 use Rattle.span_store.proofs.States.{on_err_any}

@@ -2,7 +2,7 @@ use Rattle.std.proofs.Common.{ℕ, ◌∙◌, ap, sym, subst, List, length, slic
 use Rattle.span_core.specs.Span.{number_of}
 use Rattle.span_store.specs.declared.stack.Entry.{Entry}
 use Rattle.span_store.specs.LaneStack.{HeldStack, stands, leaves_for_good, without_entry}
-use Rattle.span_store.specs.Marks.{HoldsAll, ids, IsLastOf, ids_down, KeepsEntries}
+use Rattle.span_store.specs.private.Marks.{HoldsAll, ids, IsLastOf, ids_down, KeepsEntries}
 use Rattle.span_store.proofs.Marks.{for_good, none_left, taken_last, taken_within}
 use Rattle.span_store.proofs.stack.Entries.pop.Goals as goal
 use Rattle.span_store.proofs.stack.Entries.pop.Goals.{then-place-len, else-place-len}

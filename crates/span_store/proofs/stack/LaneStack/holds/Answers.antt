@@ -1,7 +1,7 @@
 use Rattle.std.proofs.Common.{◌∙◌, ap}
 use Rattle.span_core.specs.Span.{number_of}
 use Rattle.span_store.specs.LaneStack.{HeldStack, stands}
-use Rattle.span_store.specs.Marks.{numbers_down}
+use Rattle.span_store.specs.private.Marks.{numbers_down}
 use Rattle.span_store.proofs.Distinct.{stands_distinct}
 use Rattle.span_store.proofs.stack.LaneStack.holds.Goals as goal
 

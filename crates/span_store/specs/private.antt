@@ -1,0 +1,7 @@
+pub mod Bloom
+pub mod Keyed
+pub mod Marks
+pub mod Slot
+pub mod SlotValue
+pub mod State
+pub mod StoreRepr
