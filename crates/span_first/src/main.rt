@@ -24,10 +24,7 @@ fn main(rt: HostRuntime) -> anyhow::Result<()> {
     let sites = Observer::new(Sites::new(alloc));
     let timeline = Observer::new(Timeline::new(alloc, Wall::new(rt.clone()?)));
     let tree = Observer::new(Tree::new(alloc)).with_filter(LevelFilter::INFO);
-    let stack = match Registry::new(alloc).with(sites.and_then(timeline).and_then(tree)) {
-        Ok(stack) => stack,
-        Err(back) => return Err(back.error.into()),
-    };
+    let stack = Registry::new(alloc).with(sites.and_then(timeline).and_then(tree))?;
     let (stack, count) = count_in_two_threads(&rt, Dispatch::new(alloc, stack))?;
     println!(rt; "{count} words")?;
     let layers = stack.outer();

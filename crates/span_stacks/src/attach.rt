@@ -13,7 +13,7 @@ use std::fmt;
 
 /// A layer that wasn't put on a subscriber, since there is no room for its filters, with that
 /// subscriber.
-#[derive(Debug, Drop)]
+#[derive(Drop)]
 pub struct Unattached<L, S> {
     /// The layer, unchanged.
     pub layer: L,
@@ -29,7 +29,14 @@ impl<L, S> fmt::Display for Unattached<L, S> {
     }
 }
 
-impl<L: fmt::Debug + Drop, S: fmt::Debug + Drop> Error for Unattached<L, S> {}
+/// It shows neither part, so that it is an error also where a part has no `Debug`.
+impl<L, S> fmt::Debug for Unattached<L, S> {
+    fn fmt<W: fmt::Write>(&self, f: &mut fmt::Formatter<W>) -> fmt::Result {
+        f.debug_struct("Unattached").finish_non_exhaustive()
+    }
+}
+
+impl<L: Drop, S: Drop> Error for Unattached<L, S> {}
 
 /// The layer and the subscriber are let go of.
 impl<L: Drop, S: Drop> From<Unattached<L, S>> for TraceError {
