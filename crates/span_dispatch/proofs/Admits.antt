@@ -2,8 +2,8 @@
 use Rattle.std.proofs.Common.{◌≡◌, ◌&&◌, ◌-◌, ℕ, Bool, true, false, not, ◌==◌, if◌then◌else◌, Option, Some, None, Result, Ok, Err, inl, inr, refl, sym, ap}
 use Rattle.std.proofs.Common.{subst, ◌∙◌}
 use Rattle.std.proofs.lemmas.Bool.{eqb-true, false≢true, not-false, not-true, true≢false}
-use Rattle.std.specs.Prelude.{IfErr, IsSome, OnErr, OnOk, is_some}
-use Rattle.std.specs.Option.{option_map}
+use Rattle.std.specs.Prelude.{⊤, IfErr, IfOk, IsSome, OnErr, OnOk, is_some}
+use Rattle.std.specs.Option.{option_map, unwrap_or}
 use Rattle.span_core.specs.Filters.{FilterSet, IsEmpty}
 use Rattle.span_core.specs.Level.{is_above}
 use Rattle.span_core.specs.Metadata.{ShowSame, callsite_of, level_of}
@@ -15,8 +15,10 @@ use Rattle.span_core.specs.declared.interest.Interest.{Interest}
 use Rattle.span_core.specs.declared.metadata.Metadata.{Metadata}
 use Rattle.span_core.specs.declared.pass.Pass.{Pass}
 use Rattle.span_core.specs.declared.span.Lane.{Lane}
-use Rattle.span_dispatch.specs.Admission.{GivesInterest, HasInterestBy, IsAdmitted, IsDecided, IsInterestBy, MayLearn, interests_nobody, is_above_hint}
-use Rattle.span_dispatch.specs.Admission.{is_let_by, learned_if}
+use Rattle.span_dispatch.specs.Admission.{IsDecided, MayLearn, interests_nobody, is_above_hint}
+use Rattle.span_dispatch.specs.private.Step.{IsAdmitted}
+use Rattle.span_dispatch.specs.private.Interest.{GivesInterest, HasInterestBy, IsInterestBy}
+use Rattle.span_dispatch.specs.Admission.{decided, decided_by, deciding_interest, is_let_by, learned_if}
 use Rattle.span_dispatch.specs.Cache.{Callsites, MatchesStack, KeptCallsites, ReadHint, ReadsOnce, RefusesBelow, RefusesInterest, callsites_of, hint_in}
 use Rattle.span_dispatch.specs.Cache.{is_above_read, kept_in, known_of, no_callsite, with_callsite}
 use Rattle.span_dispatch.specs.declared.cache.Cache.TheVariants.{Empty, Filled}
@@ -63,9 +65,9 @@ module _ (memory : KeptCallsites) (f : Form) (s : RegistryState) (lane : Lane) (
       by_hint false e = ap (λ a. not a && not (interests_nobody memory f s.filters m)) e ∙ ap not (h.never e)
 
   -- what the interest says, and then the leaves
-  decided : (i j : Interest) (said : Bool) → IsInterestBy memory f s.filters m after i
+  decided_so : (i j : Interest) (said : Bool) → IsInterestBy memory f s.filters m after i
       → i ≡ j → said ≡ not (is_never j) && Unvetoed → IsDecided memory f s lane m (vetoes f m s.store lane.0) said after
-  decided i j said h same e = record {
+  decided_so i j said h same e = record {
     agrees = h.agrees;
     wanted = e ∙ sym (ap (λ k. not (is_never k) && Unvetoed) same) ∙ sym (ap (λ b. b && Unvetoed) (let_by i h));
     unwanted = by_hint (is_above_hint memory f m) refl;
@@ -79,7 +81,7 @@ module _ (memory : KeptCallsites) (f : Form) (s : RegistryState) (lane : Lane) (
 
   -- never: they are ruled out
   pub admits_never : (pass : Pass) (i : Interest) → IsInterestBy memory f s.filters m after i → i ≡ Never → IsAdmitted memory f s lane m pass after (Ok false)
-  admits_never pass i h same = (decided i Never false h same refl, λ no. absurd (false≢true no))
+  admits_never pass i h same = (decided_so i Never false h same refl, λ no. absurd (false≢true no))
 
   -- where all are asked, a leaf vetoes or none does
   said_so : (said : Bool) → said ≡ (asked f m s.store lane.0 no_filter no_filter).0 → said ≡ Unvetoed
@@ -92,19 +94,39 @@ module _ (memory : KeptCallsites) (f : Form) (s : RegistryState) (lane : Lane) (
       let wanted = always_is_wanted f s.filters m s.store lane.0 honest (h.always same) in
       let asks : asked f m s.store lane.0 no_filter no_filter ≡ (true, refusals pass) =
       asked_by_all f s.filters m s.store lane.0 honest wanted ∙ (λ k. (true, λ n. sym (empty n) k)) in
-      (decided i Always true h same (said_so true (sym (ap (λ (p : Bool × FilterSet). p.0) asks))), λ e. asks)
+      (decided_so i Always true h same (said_so true (sym (ap (λ (p : Bool × FilterSet). p.0) asks))), λ e. asks)
 
   -- sometimes: all are asked
   pub admits_asked : {S : Type 0} (registry : S → RegistryState) (has_form : S → Form → Type 0) (x : S) (fresh pass : Pass) (i : Interest) (said : Bool)
       → registry x ≡ s → has_form x f → IsInterestBy memory f s.filters m after i → i ≡ Sometimes → IsEmpty (refusals fresh)
       → AnswersEnabled registry has_form x lane m fresh said pass → IsAdmitted memory f s lane m pass after (Ok said)
   admits_asked registry has_form x fresh pass i said at d h same empty a = (
-    decided i Sometimes said h same (said_so said ((a f d).answer ∙ sym (ap (λ (p : Bool × FilterSet). p.0) here))),
+    decided_so i Sometimes said h same (said_so said ((a f d).answer ∙ sym (ap (λ (p : Bool × FilterSet). p.0) here))),
     λ e. here ∙ (λ k. ((sym (a f d).answer ∙ e) k, sym (a f d).refused k)),
   )
     where
       here : asked f m s.store lane.0 no_filter no_filter ≡ asked f m (registry x).store lane.0 no_filter (refusals fresh)
       here = λ k. asked f m (sym at k).store lane.0 no_filter (λ n. sym (empty n) k)
+
+-- ---- what is decided of any stack
+
+module _ (memory : KeptCallsites) (f : Form) (s : RegistryState) (lane : Lane) (m : Metadata) (i : Interest)
+    (decides : i ≡ deciding_interest memory f s.filters m) where
+  -- what the interest decides is decided
+  by_interest : (j : Interest) → i ≡ j → decided_by j (asked f m s.store lane.0 no_filter no_filter) ≡ decided memory f s lane m
+  by_interest j same = ap (λ k. decided_by k (asked f m s.store lane.0 no_filter no_filter)) (sym same ∙ decides)
+
+  pub decides_never : (pass : Pass) → i ≡ Never → IsEmpty (refusals pass) → (false, refusals pass) ≡ decided memory f s lane m
+  decides_never pass same empty = (λ k. (false, λ n. empty n k)) ∙ by_interest Never same
+
+  pub decides_always : (pass : Pass) → i ≡ Always → IsEmpty (refusals pass) → (true, refusals pass) ≡ decided memory f s lane m
+  decides_always pass same empty = (λ k. (true, λ n. empty n k)) ∙ by_interest Always same
+
+  pub decides_asked : {S : Type 0} (registry : S → RegistryState) (has_form : S → Form → Type 0) (x : S) (fresh pass : Pass) (said : Bool)
+      → registry x ≡ s → has_form x f → i ≡ Sometimes → IsEmpty (refusals fresh)
+      → AnswersEnabled registry has_form x lane m fresh said pass → (said, refusals pass) ≡ decided memory f s lane m
+  decides_asked registry has_form x fresh pass said at d same empty a =
+      (λ k. ((a f d).answer k, (a f d).refused k)) ∙ (λ k. asked f m (at k).store lane.0 no_filter (λ n. empty n k)) ∙ by_interest Sometimes same
 
 -- ---- what a cache gives
 
@@ -150,6 +172,18 @@ fails_above true above e f = absurd (true≢false f)
 fails_above false above e f = not-false above (sym e)
 
 module _ {S : Type 0} (registry : S → RegistryState) (has_form : S → Form → Type 0) (x : S) (m : Metadata) where
+  -- the stack's interest in what a filled cache has of the callsite, or else in the metadata
+  abbrev known_interest : Form → Known → Interest
+  known_interest f k = (interest_of f (unwrap_or ((callsites_of k).known (callsite_of m)) m) (registry x).filters None).0
+
+  -- below the hint it decides
+  decides_below : (f : Form) (k : Known) (known : Option Metadata) (i : Interest) → is_above (level_of m) (hint_of f) ≡ false
+      → (callsites_of k).known (callsite_of m) ≡ known → i ≡ (interest_of f (unwrap_or known m) (registry x).filters None).0
+      → i ≡ deciding_interest (Some (callsites_of k)) f (registry x).filters m
+  decides_below f k known i below at same =
+      same ∙ sym (ap (λ (o : Option Metadata). (interest_of f (unwrap_or o m) (registry x).filters None).0) at)
+      ∙ sym (ap (λ b. if b then Never else known_interest f k) below)
+
   -- the level is above the hint
   pub gives_above : (k : Known) → is_above (level_of m) k.hint ≡ true → GivesInterest registry has_form x m (Ok Never) (Filled k) (Filled k)
   gives_above k e = record {
@@ -170,6 +204,7 @@ module _ {S : Type 0} (registry : S → RegistryState) (has_form : S → Form �
           always = λ a. absurd (cc);
           learned = sym (ap (λ b. learned_if b (Some (callsites_of k)) m) above);
         };
+    decides = λ f d u. sym (ap (λ b. if b then Never else (known_interest f k)) (ap (is_above (level_of m)) (sym u.hint) ∙ e));
     kept = λ f d u. u;
     lasts = λ n one e. e;
   }
@@ -209,6 +244,8 @@ module _ {S : Type 0} (registry : S → RegistryState) (has_form : S → Form �
           always = λ a. sym interest ∙ a;
           learned = sym (ap (λ c. Some c) (kept_still (callsites_of k) one.metadata there)) ∙ sym (ap (λ b. learned_if b (Some (callsites_of k)) m) below);
         };
+    decides = λ f d u. decides_below f k (Some one.metadata) one.interest (ap (is_above (level_of m)) (sym u.hint) ∙ passes) there
+        (u.interest (callsite_of m) one at);
     kept = λ f d u. u;
     lasts = λ n one e. e;
   }
@@ -234,6 +271,7 @@ module _ {S : Type 0} (registry : S → RegistryState) (has_form : S → Form �
     mismatch = λ r. let no : Some r.1.0 ≡ None = sym r.1.1 ∙ ap (option_map (λ (c : Callsite). c.metadata)) at in absurd (cc);
     refused = (passes, (ap (option_map (λ (c : Callsite). c.metadata)) at, none));
     by_form = λ f d h u. (ap (is_above (level_of m)) (sym u.hint) ∙ passes, ap (λ c. Some c) kept);
+    decides = tt;
     kept = λ f d u. matches_still f (registry x).filters k l hint same u;
     lasts = λ n one e. same n ∙ e;
   }
@@ -264,6 +302,8 @@ module _ {S : Type 0} (registry : S → RegistryState) (has_form : S → Form �
           always = λ b. sym (interest f d) ∙ b;
           learned = ap (λ c. Some c) grown ∙ sym (ap (λ b. learned_if b (Some (callsites_of k)) m) below);
         };
+    decides = λ f d u. decides_below f k None i (ap (is_above (level_of m)) (sym u.hint) ∙ passes)
+        (ap (option_map (λ (c : Callsite). c.metadata)) at) (interest f d);
     kept = λ f d u. record { hint = hint ∙ u.hint; number = λ n one e. numbered f u n one e; interest = λ n one e. answered f d u n one e };
     lasts = λ n one e. known_still n one e (callsite_of m == n) refl;
   }
@@ -321,10 +361,20 @@ module _ {S : Type 0} (registry : S → RegistryState) (has_form : S → Form �
         mismatch = λ r. let no : Some r.1.0 ≡ None = sym r.1.1 in absurd (cc);
         refused = begun i (λ e r. subst (λ c. RefusesInterest (Some c) m e) none r.1) h.refused;
         by_form = λ f d g u. subst (λ c. HasInterestBy (Some c) f (registry x).filters m (kept_in new) i) none (h.by_form f d g (current f d));
+        decides = decided_begun i none current h.decides;
         kept = λ f d u. h.kept f d (current f d);
         lasts = λ n one e. let no : None ≡ Some one = e in absurd (cc);
       }
     where
+      decided_begun : (r : Result Interest TraceError) → callsites_of k ≡ no_callsite
+          → ((f : Form) → has_form x f → MatchesStack f (registry x).filters k)
+          → IfOk r (λ j. (f : Form) → has_form x f → MatchesStack f (registry x).filters k
+          → j ≡ deciding_interest (Some (callsites_of k)) f (registry x).filters m)
+          → IfOk r (λ j. (f : Form) → has_form x f → ⊤ → j ≡ deciding_interest (Some no_callsite) f (registry x).filters m)
+      decided_begun (Ok j) none current h =
+          λ f d u. subst (λ c. j ≡ deciding_interest (Some c) f (registry x).filters m) none (h f d (current f d))
+      decided_begun (Err e) none current h = tt
+
       begun : (r : Result Interest TraceError)
           → ((e : TraceError) → RefusesBelow (Some k.hint) (Some (callsites_of k)) m e → RefusesInterest (Some no_callsite) m e)
           → IfErr r (RefusesBelow (Some k.hint) (Some (callsites_of k)) m) → IfErr r (RefusesBelow None (Some no_callsite) m)

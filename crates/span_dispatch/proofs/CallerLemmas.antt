@@ -22,7 +22,8 @@ use Rattle.span_dispatch.specs.Outcome.{OutcomeAt, Makes, Noticed}
 use Rattle.span_dispatch.specs.Alone.{passed, passed_at}
 use Rattle.span_dispatch.specs.Recorder.{RecorderState, Records, kept_notice, recorder_steps}
 use Rattle.span_dispatch.proofs.Recording.{records_more, records_nothing}
-use Rattle.span_dispatch.specs.Serve.{IsReady, KeepsUpToDate, Run, Serves, ServesRequest, call_of, forgetful, resolved, resolved_parent, with_stack}
+use Rattle.span_dispatch.specs.Serve.{IsReady, KeepsUpToDate, Run, Serves, call_of, forgetful, resolved, resolved_parent, with_stack}
+use Rattle.span_dispatch.specs.private.Step.{ServesRequest}
 use Rattle.span_layers.specs.Layer.{HearsBy}
 use Rattle.span_dispatch.specs.declared.cache.Cache.TheVariants as cache
 use Rattle.span_dispatch.specs.declared.cache.Cache.{Cache}

@@ -18,14 +18,15 @@ use Rattle.span_core.specs.declared.span.Lane.{Lane}
 use Rattle.span_core.specs.declared.span.Record.{Record}
 use Rattle.span_dispatch.proofs.Goes.{with_others, Done, SameAside, StepsTo, StillReady, aside_state, by_call, by_change, by_none, changed, ended_by}
 use Rattle.span_dispatch.proofs.Goes.{filters_same, honest_after, honest_quietly, its_own, keeps_again, same_aside, settled_aside}
-use Rattle.span_dispatch.specs.Admission.{IsAdmitted, IsDecided}
+use Rattle.span_dispatch.specs.Admission.{IsDecided}
+use Rattle.span_dispatch.specs.private.Step.{ClosesEach, IsAdmitted, closes_of}
+use Rattle.span_dispatch.specs.Call.{AnswersWith, HasRoomFor, OutcomesOf, current_answer, done_answer, vetoes_whole, yes_answer}
 use Rattle.span_dispatch.specs.Cache.{KeptCallsites}
-use Rattle.span_dispatch.specs.Call.{OutcomesOf, AnswersWith, HasRoomFor, closes_of, current_answer, done_answer, vetoes_whole, yes_answer}
 use Rattle.span_dispatch.specs.declared.call.Call.TheVariants.{AddHandle, AskCurrent, DropHandle, Enter, Exit, Follow, OpenSpan, Probe, RecordValues, SendEvent}
 use Rattle.span_dispatch.specs.Outcome.{GoneLeft, HandleAdded, HandleTaken, IsHonest, IsVerdict, Ends, OutcomeAt, Makes, Noticed, Notices, Outcome, Quiet}
 use Rattle.span_dispatch.specs.Outcome.{Steps, given_in, with_new, without_span}
 use Rattle.span_core.specs.declared.filter.FilterMap.{FilterMap}
-use Rattle.span_dispatch.specs.Serve.{ClosesEach, IsReady, outcome_of}
+use Rattle.span_dispatch.specs.Serve.{IsReady, outcome_of}
 use Rattle.span_dispatch.specs.declared.request.Answer.TheVariants as answer
 use Rattle.span_stacks.proofs.Built.{rules_of}
 use Rattle.span_stacks.proofs.RulesKept.{honesty_is_kept}

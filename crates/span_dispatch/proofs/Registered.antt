@@ -3,7 +3,8 @@ use Rattle.std.proofs.Common.{◌≡◌, ◌≤◌, ◌<◌, ◌+◌, ℕ, Optio
 use Rattle.std.specs.Prelude.{IfSome}
 use Rattle.span_core.specs.declared.interest.Interest.{Interest}
 use Rattle.span_core.specs.declared.metadata.Metadata.{Metadata}
-use Rattle.span_dispatch.specs.Cache.{KnowsInterest, KnowsStill}
+use Rattle.span_dispatch.specs.Cache.{KnowsInterest}
+use Rattle.span_dispatch.specs.private.Interest.{KnowsStill}
 use Rattle.span_dispatch.specs.Registration.{HoldsStill, KeepsRegistered, last_epoch, next_epoch, registered_metadata}
 use Rattle.span_dispatch.specs.declared.cache.Cache.{Cache}
 use Rattle.span_dispatch.specs.declared.dispatch.Dispatch.{Dispatch}

@@ -8,9 +8,10 @@ use Rattle.span_dispatch.proofs.Readable.{told_can_be_read}
 use Rattle.span_dispatch.proofs.Seen.{run_folds}
 use Rattle.span_dispatch.specs.Cache.{KeptCallsites}
 use Rattle.span_dispatch.specs.declared.call.Call.{Call}
-use Rattle.span_dispatch.specs.Contract.{AnswersDrop, ReadyAfter, ServesNext, StaysReadyByRules, SubscriberOf}
+use Rattle.span_dispatch.specs.Contract.{AnswersDrop, ReadyAfter, StaysReadyByRules, SubscriberOf}
+use Rattle.span_dispatch.specs.private.Step.{ServesNext, ServesRequest}
 use Rattle.span_dispatch.specs.Outcome.{OutcomeAt}
-use Rattle.span_dispatch.specs.Serve.{IsReadyBy, Run, Served, ServesAsked, ServesRequest, call_of, flat, kept_by, stack_of}
+use Rattle.span_dispatch.specs.Serve.{IsReadyBy, Run, Served, ServesAsked, call_of, flat, kept_by, stack_of}
 use Rattle.span_dispatch.specs.declared.dispatch.Dispatch.{Dispatch}
 use Rattle.span_dispatch.specs.declared.request.Answer.TheVariants as answer
 use Rattle.span_dispatch.specs.declared.request.Answer.{Answer}

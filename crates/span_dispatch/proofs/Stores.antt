@@ -8,10 +8,12 @@ use Rattle.span_core.specs.Pass.{refused_of}
 use Rattle.span_core.specs.declared.span.Attributes.{Attributes}
 use Rattle.span_core.specs.declared.span.Id.{Id}
 use Rattle.span_core.specs.declared.span.Lane.{Lane}
-use Rattle.span_dispatch.specs.Cache.{KeptCallsites, RefusesInterest}
+use Rattle.span_dispatch.specs.Admission.{decided}
+use Rattle.span_dispatch.specs.Cache.{KeptCallsites}
 use Rattle.span_dispatch.specs.Call.{DropsSpan, FindsOpen, HasRoomFor, OpensFor}
 use Rattle.span_dispatch.specs.Contract.{OpensByPass, OpensSpan, OpensSpanSo, SubscriberOf}
-use Rattle.span_dispatch.specs.Serve.{ClosesEach, stack_of}
+use Rattle.span_dispatch.specs.Serve.{stack_of}
+use Rattle.span_dispatch.specs.private.Step.{ClosesEach}
 use Rattle.span_dispatch.specs.declared.dispatch.Dispatch.{Dispatch}
 use Rattle.span_store.specs.Closes.{HasNoClosing}
 use Rattle.span_store.specs.Step.{Clones, Exits, Opens, Releases, Removal}
@@ -19,17 +21,16 @@ use Rattle.span_store.specs.Step as step
 use Rattle.span_store.specs.Store.{IsForest, IsOpen, RegistryState, handles_of}
 use Rattle.span_store.specs.declared.registry.Released.TheVariants.{Closing, StillOpen}
 use Rattle.span_store.specs.declared.registry.Released.{Released}
-use Rattle.span_stacks.proofs.CallerLemmas.{asked_by_nobody}
 use Rattle.span_core.specs.Event.{event_metadata}
-use Rattle.span_core.specs.Filters.{FilterSet, IsEmpty}
+use Rattle.span_core.specs.Filters.{FilterSet}
 use Rattle.span_core.specs.declared.event.Event.{Event}
 use Rattle.span_core.specs.declared.metadata.Metadata.{Metadata}
 use Rattle.span_core.specs.declared.pass.Pass.{Pass}
 use Rattle.span_registry.proofs.CallerLemmas.{closes_itself, closes_with_hooks, drops_open, same_itself, settled_closed, settled_still}
 use Rattle.span_registry.specs.Form.{Form}
-use Rattle.span_registry.specs.Hooks.{AnswersEnabled, AnswersEvent, OpensAndNotifies, StackSteps, Stays, no_filter}
+use Rattle.span_registry.specs.Hooks.{AnswersEvent, OpensAndNotifies, StackSteps, Stays, no_filter}
 use Rattle.span_registry.specs.Levels.{LevelSteps}
-use Rattle.span_registry.specs.Question.{asked, event_asked, refusals}
+use Rattle.span_registry.specs.Question.{event_asked, refusals}
 use Rattle.span_registry.specs.Law.{ClosesAll}
 use Rattle.span_registry.specs.Subscriber.{AndHooks, SameButExtensions}
 
@@ -45,66 +46,53 @@ second_false : (p q : Bool) → q ≡ false → false ≡ p && q
 second_false true q a = sym a
 second_false false q a = refl
 
--- ---- what is wanted, where nothing is kept
+-- ---- what is wanted
 
-module _ {S : Type 0} (registry : S → RegistryState) (has_form : S → Form → Type 0) (lane : Lane) (x : S) where
-  -- what `WantsMetadata` and `WantsEvent` say of a dispatcher that keeps this and has this stack
-  abbrev pub Wanted : KeptCallsites → Metadata → Bool → Type 0
-  Wanted memory m wanted = memory ≡ None → (f : Form) → has_form x f → wanted ≡ (asked f m (registry x).store lane.0 no_filter no_filter).0
+module _ {S : Type 0} (registry : S → RegistryState) (has_form : S → Form → Type 0) (lane : Lane) (x : S) (kept : KeptCallsites)
+    (current : Form → Type 0) where
+  -- what `Decides`, `WantsMetadata` and `WantsEvent` say of a dispatcher that caches this and has this stack
+  abbrev pub Decided : Metadata → Bool → Pass → Type 0
+  Decided m said pass = (f : Form) → has_form x f → current f → (said, refusals pass) ≡ decided kept f (registry x) lane m
 
-  abbrev pub WantedEvent : KeptCallsites → Event → Bool → Type 0
-  WantedEvent memory e wanted =
-      memory ≡ None → (f : Form) → has_form x f
-      → let first = asked f (event_metadata e) (registry x).store lane.0 no_filter no_filter in
+  abbrev pub Wanted : Metadata → Bool → Type 0
+  Wanted m wanted = (f : Form) → has_form x f → current f → wanted ≡ (decided kept f (registry x) lane m).0
+
+  abbrev pub WantedEvent : Event → Bool → Type 0
+  WantedEvent e wanted =
+      (f : Form) → has_form x f → current f
+      → let first = decided kept f (registry x) lane (event_metadata e) in
       wanted ≡ first.0 && (event_asked f e (registry x).store lane.0 no_filter first.1).0
 
-  -- asking with an empty pass is asking with none
-  asked_same : (f : Form) (m meta : Metadata) (fresh : Pass) → m ≡ meta → IsEmpty (refusals fresh)
-      → (asked f m (registry x).store lane.0 no_filter (refusals fresh)).0 ≡ (asked f meta (registry x).store lane.0 no_filter no_filter).0
-  asked_same f m meta fresh same empty = λ k. (asked f (same k) (registry x).store lane.0 no_filter (λ n. empty n k)).0
+  pub metadata_wanted : (m meta : Metadata) (pass : Pass) (said : Bool) → m ≡ meta → Decided m said pass → Wanted meta said
+  metadata_wanted m meta pass said same a = λ f d u. ap (λ (p : Bool × FilterSet). p.0) (a f d u ∙ ap (decided kept f (registry x) lane) same)
 
-  pub metadata_wanted : (memory : KeptCallsites) (m meta : Metadata) (fresh pass : Pass) (said : Bool)
-      → m ≡ meta → IsEmpty (refusals fresh) → (memory ≡ None → AnswersEnabled registry has_form x lane m fresh said pass) → Wanted memory meta said
-  metadata_wanted memory m meta fresh pass said same empty a = λ none f d. (a none f d).answer ∙ asked_same f m meta fresh same empty
-
-  -- where nothing is kept no interest is wanting
-  pub unrefused : (memory : KeptCallsites) (m meta : Metadata) (e : TraceError) → RefusesInterest memory m e → Wanted memory meta true
-  unrefused memory m meta e h = λ none. absurd (subst (λ kept. RefusesInterest kept m e) none h)
-
-  pub asked_of : (memory : KeptCallsites) (m meta : Metadata) (fresh pass : Pass) (said : Result Bool TraceError) → m ≡ meta
-      → IsEmpty (refusals fresh) → (memory ≡ None → IfOk said (λ b. AnswersEnabled registry has_form x lane m fresh b pass)) → IfOk said (Wanted memory meta)
-  asked_of memory m meta fresh pass (Ok said) same empty a = metadata_wanted memory m meta fresh pass said same empty a
-  asked_of memory m meta fresh pass (Err e) same empty a = tt
+  pub asked_of : (m : Metadata) (pass : Pass) (said : Result Bool TraceError) → IfOk said (λ b. Decided m b pass) → IfOk said (Wanted m)
+  asked_of m pass (Ok said) a = metadata_wanted m m pass said refl a
+  asked_of m pass (Err e) a = tt
 
   -- an event whose metadata aren't wanted isn't
-  pub event_unwanted : (memory : KeptCallsites) (e : Event) (m : Metadata) (fresh pass : Pass) (said : Bool)
-      → m ≡ event_metadata e → IsEmpty (refusals fresh) → said ≡ false → (memory ≡ None → AnswersEnabled registry has_form x lane m fresh said pass)
-      → WantedEvent memory e false
-  event_unwanted memory e m fresh pass said same empty no_one a =
-      λ none f d. first_false _ _ (sym (asked_same f m (event_metadata e) fresh same empty) ∙ sym (a none f d).answer ∙ no_one)
+  pub event_unwanted : (e : Event) (m : Metadata) (pass : Pass) (said : Bool)
+      → m ≡ event_metadata e → said ≡ false → Decided m said pass → WantedEvent e false
+  event_unwanted e m pass said same no_one a = λ f d u. first_false _ _ (sym (metadata_wanted m (event_metadata e) pass said same a f d u) ∙ no_one)
 
   -- of one whose metadata are wanted, the second question says
-  asked_second : (f : Form) (e : Event) (m : Metadata) (fresh first second : Pass) (said wanted : Bool)
-      → has_form x f → m ≡ event_metadata e → IsEmpty (refusals fresh) → AnswersEnabled registry has_form x lane m fresh said first
-      → AnswersEvent registry has_form x lane e first wanted second
-      → (event_asked f e (registry x).store lane.0 no_filter (asked f (event_metadata e) (registry x).store lane.0 no_filter no_filter).1).0 ≡ wanted
-  asked_second f e m fresh first second said wanted d same empty a b =
-      let before = (a f d).refused ∙ asked_by_nobody f (registry x).store lane.0 fresh m (event_metadata e) same empty in
-      sym (ap (λ (r : FilterSet). (event_asked f e (registry x).store lane.0 no_filter r).0) before) ∙ sym (b f d).answer
+  asked_second : (f : Form) (e : Event) (m : Metadata) (first second : Pass) (said wanted : Bool) → has_form x f → current f → m ≡ event_metadata e
+      → Decided m said first → AnswersEvent registry has_form x lane e first wanted second
+      → (event_asked f e (registry x).store lane.0 no_filter (decided kept f (registry x) lane (event_metadata e)).1).0 ≡ wanted
+  asked_second f e m first second said wanted d u same a b =
+      sym (ap (λ (p : Bool × FilterSet). (event_asked f e (registry x).store lane.0 no_filter p.1).0) (a f d u ∙ ap (decided kept f (registry x) lane) same))
+      ∙ sym (b f d).answer
 
-  pub event_refused : (memory : KeptCallsites) (e : Event) (m : Metadata) (fresh first second : Pass) (said wanted : Bool)
-      → m ≡ event_metadata e → IsEmpty (refusals fresh) → wanted ≡ false → (memory ≡ None → AnswersEnabled registry has_form x lane m fresh said first)
-      → AnswersEvent registry has_form x lane e first wanted second → WantedEvent memory e false
-  event_refused memory e m fresh first second said wanted same empty no_one a b =
-      λ none f d. second_false _ _ (asked_second f e m fresh first second said wanted d same empty (a none) b ∙ no_one)
+  pub event_refused : (e : Event) (m : Metadata) (first second : Pass) (said wanted : Bool) → m ≡ event_metadata e → wanted ≡ false
+      → Decided m said first → AnswersEvent registry has_form x lane e first wanted second → WantedEvent e false
+  event_refused e m first second said wanted same no_one a b =
+      λ f d u. second_false _ _ (asked_second f e m first second said wanted d u same a b ∙ no_one)
 
-  pub event_wanted : (memory : KeptCallsites) (e : Event) (m : Metadata) (fresh first second : Pass) (said wanted : Bool)
-      → m ≡ event_metadata e → IsEmpty (refusals fresh) → said ≡ true → wanted ≡ true
-      → (memory ≡ None → AnswersEnabled registry has_form x lane m fresh said first)
-      → AnswersEvent registry has_form x lane e first wanted second → WantedEvent memory e true
-  event_wanted memory e m fresh first second said wanted same empty agreed more a b = λ none f d.
-      sym (and_from _ _ (sym (asked_same f m (event_metadata e) fresh same empty) ∙ sym (a none f d).answer ∙ agreed)
-      (asked_second f e m fresh first second said wanted d same empty (a none) b ∙ more))
+  pub event_wanted : (e : Event) (m : Metadata) (first second : Pass) (said wanted : Bool) → m ≡ event_metadata e → said ≡ true → wanted ≡ true
+      → Decided m said first → AnswersEvent registry has_form x lane e first wanted second → WantedEvent e true
+  event_wanted e m first second said wanted same agreed more a b = λ f d u.
+      sym (and_from _ _ (sym (metadata_wanted m (event_metadata e) first said same a f d u) ∙ agreed)
+      (asked_second f e m first second said wanted d u same a b ∙ more))
 
 -- a handle was added where there was room for it
 pub room_to_clone : (lane : Lane) (id : Id) (r : Result Id TraceError) (s t : RegistryState)

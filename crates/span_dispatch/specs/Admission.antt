@@ -1,26 +1,23 @@
 -- Which new spans, events and probes a dispatcher finds enabled. A caching one goes by its cached
 -- hint and interests first; an uncached one asks its stack of each.
-use Rattle.std.specs.Prelude.{◌≡◌, ◌⊎◌, ◌&&◌, not, ℕ, Bool, true, false, Option, Some, None, Result, Ok, Err, IfErr, OnErr, OnOk}
-use Rattle.std.specs.Option.{option_map}
+use Rattle.std.specs.Prelude.{◌≡◌, ◌⊎◌, ◌&&◌, not, ℕ, Bool, true, false, if◌then◌else◌, Option, Some, None}
+use Rattle.std.specs.Option.{option_map, unwrap_or}
+use Rattle.span_core.specs.Filters.{FilterSet}
 use Rattle.span_core.specs.Level.{is_above}
-use Rattle.span_core.specs.Metadata.{level_of}
-use Rattle.span_core.specs.declared.error.TraceError.TheVariants.{CallsiteMismatch}
+use Rattle.span_core.specs.Metadata.{callsite_of, level_of}
 use Rattle.span_core.specs.declared.error.TraceError.{TraceError}
 use Rattle.span_core.specs.declared.interest.Interest.TheVariants.{Always, Never, Sometimes}
 use Rattle.span_core.specs.declared.interest.Interest.{Interest}
 use Rattle.span_core.specs.declared.level.LevelFilter.{LevelFilter}
 use Rattle.span_core.specs.declared.metadata.Metadata.{Metadata}
-use Rattle.span_core.specs.declared.pass.Pass.{Pass}
 use Rattle.span_core.specs.declared.span.Lane.{Lane}
-use Rattle.span_dispatch.specs.Cache.{Agrees, IsUpToDate, KnowsStill, KeptCallsites, ReadsOnce, RefusesBelow, RefusesInterest, RefusesRoom, hint_in, is_above_read, kept_in, with_callsite, with_room}
-use Rattle.span_dispatch.specs.declared.cache.Cache.{Cache}
-use Rattle.span_stacks.specs.Honest.{HasHonestAnswers}
+use Rattle.span_dispatch.specs.Cache.{Agrees, KeptCallsites, RefusesInterest, with_callsite}
 use Rattle.span_stacks.specs.Verdict.{vetoes}
 use Rattle.span_stacks.specs.Wanted.{IsUnwanted}
 use Rattle.span_store.specs.Store.{RegistryState}
 use Rattle.span_registry.specs.Form.{Form}
 use Rattle.span_registry.specs.Hooks.{no_filter}
-use Rattle.span_registry.specs.Question.{asked, hint_of, interest_of, is_never, refusals}
+use Rattle.span_registry.specs.Question.{asked, hint_of, interest_of, is_never}
 
 -- the hint that a dispatcher goes by: its stack's; none where it is uncached
 abbrev pub hint_kept : KeptCallsites → Form → Option LevelFilter
@@ -40,6 +37,29 @@ interests_nobody (Some callsites) f filters m = is_never (interest_of f m filter
 -- whether hint and interest leave metadata enabled
 abbrev pub is_let_by : KeptCallsites → Form → ℕ → Metadata → Bool
 is_let_by kept f filters m = not (is_above_hint kept f m) && not (interests_nobody kept f filters m)
+
+-- The interest by which a dispatcher decides on metadata, whatever its stack: sometimes where it is
+-- uncached; else never above the hint, and below it the interest that is cached of the callsite,
+-- or the stack's where none is.
+abbrev pub deciding_interest : KeptCallsites → Form → ℕ → Metadata → Interest
+deciding_interest None f filters m = Sometimes
+deciding_interest (Some callsites) f filters m =
+    if is_above (level_of m) (hint_of f) then Never
+    else (interest_of f (unwrap_or (callsites.known (callsite_of m)) m) filters None).0
+
+-- what an interest decides: whether metadata are enabled, and which filters refuse them; where it
+-- is sometimes, as the stack answers
+abbrev pub decided_by : Interest → Bool × FilterSet → Bool × FilterSet
+decided_by Never answer = (false, no_filter)
+decided_by Sometimes answer = answer
+decided_by Always answer = (true, no_filter)
+
+-- whether a dispatcher finds metadata enabled, and which filters refuse them, by what it caches and
+-- by the form of its stack, whatever that is
+abbrev pub decided : KeptCallsites → Form → RegistryState → Lane → Metadata → Bool × FilterSet
+decided kept f s lane m =
+    decided_by (deciding_interest kept f s.filters m)
+    (asked f m s.store lane.0 no_filter no_filter)
 
 -- what is cached of callsites after a question: where the test is false, the metadata's callsite
 -- too
@@ -69,66 +89,3 @@ pub record IsUnknown (kept : KeptCallsites) (f : Form) (m : Metadata) (e : Trace
 -- the metadata's callsite
 abbrev pub MayLearn : KeptCallsites → Metadata → KeptCallsites → Type 0
 MayLearn memory m after = (after ≡ memory) ⊎ (after ≡ learned_if false memory m)
-
--- Below: steps of the code, which no public clause cites.
-
--- the interest that decides a question by metadata: never above the hint, sometimes where a
--- dispatcher is uncached, else the stack's
-pub record IsInterestBy (memory : KeptCallsites) (f : Form) (filters : ℕ) (m : Metadata)
-    (after : KeptCallsites) (i : Interest) : Type 0 where
-  pub above : is_above_hint memory f m ≡ true → i ≡ Never
-  pub agrees : is_above_hint memory f m ≡ false → Agrees memory m
-  pub never : is_above_hint memory f m ≡ false → interests_nobody memory f filters m ≡ is_never i
-  pub always : i ≡ Always → (interest_of f m filters None).0 ≡ Always
-  pub learned : after ≡ learned_if (is_above_hint memory f m) memory m
-
--- the interest that decides a question by metadata is found; or it can't be had, and what is cached
--- is unchanged
-abbrev pub HasInterestBy : KeptCallsites → Form → ℕ → Metadata → KeptCallsites
-    → Result Interest TraceError → Type 0
-HasInterestBy memory f filters m after (Ok i) = IsInterestBy memory f filters m after i
-HasInterestBy memory f filters m after (Err e) =
-    (is_above_hint memory f m ≡ false) × (after ≡ memory)
-
--- A cache gives an interest. Of any stack: the interest is never above the cached hint, and below
--- it a callsite that is cached with other metadata is refused; a refusal leaves what is cached
--- unchanged. Of an honest stack with a cache up to date: it is the stack's own, and the cache stays
--- up to date.
-pub record GivesInterest {S : Type 0} (registry : S → RegistryState) (has_form : S → Form → Type 0)
-    (x : S) (m : Metadata) (i : Result Interest TraceError) (old new : Cache) : Type 0 where
-  pub off : kept_in old ≡ None → i ≡ Ok Sometimes
-  pub learns : MayLearn (kept_in old) m (kept_in new)
-  pub keeps : OnOk i (kept_in new ≡ learned_if (is_above_read (hint_in new) m) (kept_in old) m)
-  pub leaves : OnErr i (kept_in new ≡ kept_in old)
-  pub reads : ReadsOnce (kept_in old) (hint_in old) (hint_in new)
-  pub above : is_above_read (hint_in new) m ≡ true → i ≡ Ok Never
-  pub mismatch : RefusesBelow (hint_in old) (kept_in old) m CallsiteMismatch
-      → i ≡ Err CallsiteMismatch
-  pub refused : IfErr i (RefusesBelow (hint_in old) (kept_in old) m)
-  pub by_form : (f : Form) → has_form x f → HasHonestAnswers f
-      → IsUpToDate f (registry x).filters old
-      → HasInterestBy (kept_in old) f (registry x).filters m (kept_in new) i
-  pub kept : (f : Form) → has_form x f → IsUpToDate f (registry x).filters old
-      → IsUpToDate f (registry x).filters new
-  pub lasts : KnowsStill old new
-
--- A cache holds memory for this many callsites more, unless it is off. Each callsite that it knew
--- stays known, and it stays up to date.
-pub record HoldsRoom {S A : Type 0} (registry : S → RegistryState) (has_form : S → Form → Type 0)
-    (x : S) (n : ℕ) (given : Result A TraceError) (old new : Cache) : Type 0 where
-  pub held : OnOk given (kept_in new ≡ option_map (with_room n) (kept_in old))
-  pub leaves : OnErr given (kept_in new ≡ kept_in old)
-  pub reads : ReadsOnce (kept_in old) (hint_in old) (hint_in new)
-  pub refused : IfErr given (RefusesRoom n (kept_in old))
-  pub kept : (f : Form) → has_form x f → IsUpToDate f (registry x).filters old
-      → IsUpToDate f (registry x).filters new
-  pub lasts : KnowsStill old new
-
--- what comes of the question whether metadata are enabled: where they are, the pass is what a new
--- one becomes once every filter was asked
-abbrev pub IsAdmitted : KeptCallsites → Form → RegistryState → Lane → Metadata → Pass
-    → KeptCallsites → Result Bool TraceError → Type 0
-IsAdmitted memory f s lane m pass after (Ok said) =
-    IsDecided memory f s lane m (vetoes f m s.store lane.0) said after
-    × (said ≡ true → asked f m s.store lane.0 no_filter no_filter ≡ (true, refusals pass))
-IsAdmitted memory f s lane m pass after (Err e) = IsUnknown memory f m e after

@@ -119,21 +119,11 @@ abbrev pub forgotten : Cache → Cache
 forgotten (cache.Filled k) = cache.Empty
 forgotten other = other
 
--- a filled cache has this entry of the metadata's callsite, with metadata that show the same
-pub record IsKept (k : Known) (m : Metadata) (one : Callsite) : Type 0 where
-  pub there : known_of k (callsite_of m) ≡ Some one
-  pub same : ShowSame one.metadata m
-
 -- a cache has this interest for the metadata's callsite, with metadata that show the same
 pub record KnowsInterest (c : Cache) (m : Metadata) (i : Interest) : Type 0 where
   pub metadata : Metadata
   pub there : entry_in c (callsite_of m) ≡ Some (record { metadata = metadata; interest = i })
   pub same : ShowSame metadata m
-
--- each entry of the old cache is in the new one
-abbrev pub KnowsStill : Cache → Cache → Type 0
-KnowsStill old new =
-    (n : ℕ) (one : Callsite) → entry_in old n ≡ Some one → entry_in new n ≡ Some one
 
 -- each entry and the hint of a filled cache are what a stack of this form would answer now, on a
 -- registry that handed out this many filters

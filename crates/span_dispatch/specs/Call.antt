@@ -41,10 +41,6 @@ pub record LeavesSpan (lane : Lane) (id : Id) (s : Store) (os : List Outcome) : 
   pub there : IsOpen s.spans (number_of id) → os ≡ Noticed lane (OnExit id) ∷ []
   pub gone : ¬ (IsOpen s.spans (number_of id)) → os ≡ Quiet (GoneLeft lane id) ∷ []
 
--- the outcomes of closes: a notice for each of these spans
-abbrev pub closes_of : Lane → List ℕ → List Outcome
-closes_of lane closed = map (λ x. Noticed lane (OnClose (id_of x))) closed
-
 -- what comes of dropping a handle: the handle is taken, and each span that nothing holds then
 -- closes, children first; the answer is whether this span is among them
 pub record DropsHandle (lane : Lane) (id : Id) (s : Store) (closes : Bool)

@@ -19,13 +19,13 @@ use Rattle.span_core.specs.declared.span.Id.{Id}
 use Rattle.span_core.specs.declared.span.Lane.{Lane}
 use Rattle.span_core.specs.declared.span.Parent.{Parent}
 use Rattle.span_core.specs.declared.span.Record.{Record}
-use Rattle.span_dispatch.specs.Admission.{IsAdmitted, MayLearn, hint_kept, learned_if}
+use Rattle.span_dispatch.specs.Admission.{MayLearn, decided, hint_kept, learned_if}
 use Rattle.span_dispatch.specs.Cache.{KeptCallsites, ReadsOnce, RefusesBelow, RefusesInterest, RefusesRoom, is_above_read, with_room}
 use Rattle.span_dispatch.specs.Call.{DropsSpan, FindsOpen, OpensFor, current_answer, done_answer, event_answer, span_answer, yes_answer}
 use Rattle.span_dispatch.specs.declared.call.Call.{Call}
 use Rattle.span_dispatch.specs.declared.call.Call.TheVariants.{AddHandle, AskCurrent, DropHandle, Enter, Exit, Follow, OpenSpan, Probe, RecordValues, SendEvent, SetLevel}
 use Rattle.span_dispatch.specs.Outcome.{IsHonest, OutcomeAt, Makes}
-use Rattle.span_dispatch.specs.Serve.{IsReady, IsReadyAfter, IsReadyBy, IsReadySomehow, IsServed, KeepsUpToDate, Sees, Served, ServesRequest, forgetful, hint_by, kept_by, stack_of, with_stack}
+use Rattle.span_dispatch.specs.Serve.{IsReady, IsReadyAfter, IsReadyBy, IsReadySomehow, IsServed, KeepsUpToDate, Sees, Served, forgetful, hint_by, kept_by, stack_of, with_stack}
 use Rattle.span_dispatch.specs.declared.dispatch.Dispatch.{Dispatch}
 use Rattle.span_dispatch.specs.declared.request.Answer.TheVariants.{Done}
 use Rattle.span_dispatch.specs.declared.request.Answer.{Answer}
@@ -37,11 +37,11 @@ use Rattle.span_store.specs.Store.{IsOpen, RegistryState}
 use Rattle.span_store.specs.declared.registry.Released.TheVariants.{Closing, StillOpen}
 use Rattle.span_registry.specs.Conducts.{ActsAt}
 use Rattle.span_registry.specs.Form.{Form}
-use Rattle.span_registry.specs.Hooks.{AnswersEnabled, StackSteps, Stays, no_filter}
+use Rattle.span_registry.specs.Hooks.{StackSteps, Stays, no_filter}
 use Rattle.span_registry.specs.KeptForm.{KeepsForm}
 use Rattle.span_registry.specs.Levels.{FollowsLevel, KeepsRules, LevelSteps, LevelsForm, takes_level}
 use Rattle.span_registry.specs.Position.{HearSteps}
-use Rattle.span_registry.specs.Question.{ShowsBy, asked, event_asked}
+use Rattle.span_registry.specs.Question.{ShowsBy, event_asked}
 use Rattle.span_registry.specs.Subscriber.{AndHooks, SameButExtensions}
 
 -- what the type of a stack says of it: where its registry is; the stack on another registry;
@@ -227,21 +227,6 @@ module _ {S : Type 0} (s : SubscriberOf S) where
   abbrev pub ServesCurrent : Lane → Current → Dispatch S → Type 0
   ServesCurrent lane given d = AnswersCall (AskCurrent lane) (current_answer given) d d
 
-  -- what comes of asking an honest stack with a cache up to date whether metadata are enabled
-  abbrev pub Admits : Lane → Metadata → Dispatch S → Pass → Result Bool TraceError → Dispatch S
-      → Type 0
-  Admits lane m old pass said new =
-      (f : Form) → HonestBy f old → CurrentBy f old
-      → IsAdmitted (kept_by old) f (registry_of old) lane m pass (kept_by new) said
-
-  -- a dispatcher that is ready serves the next request with this answer
-  pub record ServesNext (past : List Answer) (r : Request) (a : Answer)
-      (old new : Dispatch S) : Type 0 where
-    pub served : IsReadySomehow s.registry s.with_registry s.has_form s.stepped s.levelled old
-        → (made : List OutcomeAt)
-        × ServesRequest s.registry s.with_registry s.has_form s.stepped s.levelled past r
-        (kept_by old) (stack_of old) a made (kept_by new) (stack_of new)
-
   -- a dispatcher that is ready serves the list of requests with these answers
   abbrev pub ServesList : List Request → Dispatch S → Dispatch S → Vec Answer Global → Type 0
   ServesList requests old new answers =
@@ -283,34 +268,26 @@ module _ {S : Type 0} (s : SubscriberOf S) where
       (f : Form) (n : ℕ) → s.has_form (stack_of d) f → KeepsUpToDate f n d
       → hint ≡ hint_kept (kept_by d) f
 
-  -- an uncached dispatcher finds metadata enabled exactly if its stack does, by each form that it
-  -- has, asked with a new pass
+  -- metadata are found enabled exactly if they are decided so
   abbrev pub WantsMetadata : Lane → Metadata → Dispatch S → Bool → Type 0
   WantsMetadata lane m d wanted =
-      kept_by d ≡ None → (f : Form) → s.has_form (stack_of d) f
-      → wanted ≡ (asked f m (registry_of d).store lane.0 no_filter no_filter).0
+      (f : Form) → s.has_form (stack_of d) f → CurrentBy f d
+      → wanted ≡ (decided (kept_by d) f (registry_of d) lane m).0
 
-  -- an uncached dispatcher drops a new span exactly if its stack doesn't find it enabled, and
-  -- refuses none but an enabled one
+  -- a new span is dropped exactly if its metadata aren't found enabled, and refused only if they
+  -- are, or if their interest can't be had
   abbrev pub WantsSpan : Lane → Attributes → Dispatch S → Result (Option Id) TraceError → Type 0
   WantsSpan lane attrs d (Ok made) = WantsMetadata lane (metadata_of attrs) d (is_some made)
-  WantsSpan lane attrs d (Err e) = WantsMetadata lane (metadata_of attrs) d true
+  WantsSpan lane attrs d (Err e) =
+      RefusesInterest (kept_by d) (metadata_of attrs) e
+      ⊎ WantsMetadata lane (metadata_of attrs) d true
 
-  -- an uncached dispatcher finds an event enabled exactly if its stack finds its metadata and then
-  -- the event itself enabled
+  -- an event is found enabled exactly if its metadata are, and the stack finds the event so
   abbrev pub WantsEvent : Lane → Event → Dispatch S → Bool → Type 0
   WantsEvent lane e d wanted =
-      kept_by d ≡ None → (f : Form) → s.has_form (stack_of d) f
-      → let first =
-      asked f (event_metadata e) (registry_of d).store lane.0 no_filter no_filter in
+      (f : Form) → s.has_form (stack_of d) f → CurrentBy f d
+      → let first = decided (kept_by d) f (registry_of d) lane (event_metadata e) in
       wanted ≡ first.0 && (event_asked f e (registry_of d).store lane.0 no_filter first.1).0
-
-  -- an uncached dispatcher asks its stack, by this pass
-  abbrev pub AsksStack : Lane → Metadata → Dispatch S → Pass → Result Bool TraceError → Pass
-      → Type 0
-  AsksStack lane m d before said after =
-      kept_by d ≡ None → IfOk said
-      (λ wanted. AnswersEnabled s.registry s.has_form (stack_of d) lane m before wanted after)
 
   -- ---- what is promised of any stack at all
 

@@ -11,3 +11,4 @@ pub mod Recorder
 pub mod Registration
 pub mod Serve
 pub mod laws
+pub mod private

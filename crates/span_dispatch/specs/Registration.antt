@@ -1,5 +1,5 @@
 -- Callsites that a dispatcher caches, and registrations by which it is asked without a search.
-use Rattle.std.specs.Prelude.{◌≡◌, ◌≤◌, ◌<◌, ◌+◌, ◌-◌, ◌^◌, ◌==◌, if◌then◌else◌, ℕ, min, Option, Some, None, IfSome}
+use Rattle.std.specs.Prelude.{◌≡◌, ◌≤◌, ◌<◌, ◌+◌, ◌-◌, ◌^◌, ℕ, min, IfSome}
 use Rattle.span_core.specs.declared.interest.Interest.{Interest}
 use Rattle.span_core.specs.declared.metadata.Metadata.{Metadata}
 use Rattle.span_dispatch.specs.Cache.{KnowsInterest}
@@ -39,20 +39,3 @@ IsRegistered d r = IfSome r.kept (HoldsStill d (registered_metadata r))
 -- each registration that was valid at the old dispatcher is valid at the new one
 abbrev pub KeepsRegistered : {S : Type 0} → Dispatch S → Dispatch S → Type 0
 KeepsRegistered old new = (r : Registration) → IsRegistered old r → IsRegistered new r
-
--- Below: steps of the code, which no public clause cites.
-
--- what a registration keeps is this interest, of this epoch, which ends
-pub record IsKeptIn (epoch : Epoch) (given : Option Interest) (k : Kept) : Type 0 where
-  pub here : k.epoch ≡ epoch
-  pub ends : epoch.0 < last_epoch
-  pub interest : given ≡ Some k.interest
-
--- the interest that a registration keeps, if it is of this epoch
-abbrev pub kept_interest : Epoch → Option Kept → Option Interest
-kept_interest epoch None = None
-kept_interest epoch (Some k) = if k.epoch.0 == epoch.0 then Some k.interest else None
-
--- the interest that a registration has in this epoch
-abbrev pub interest_in : Epoch → Registration → Option Interest
-interest_in epoch r = kept_interest epoch r.kept

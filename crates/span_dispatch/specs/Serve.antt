@@ -10,7 +10,7 @@ use Rattle.span_core.specs.declared.span.Parent.{Parent}
 use Rattle.span_dispatch.specs.Alone.{Alone, passed_at}
 use Rattle.span_dispatch.specs.Cache.{IsUpToDate, KeptCallsites, ReadHint, forgotten, hint_in, kept_in}
 use Rattle.span_dispatch.specs.Registration.{next_epoch}
-use Rattle.span_dispatch.specs.Call.{OutcomesOf, AnswersWith, closes_of}
+use Rattle.span_dispatch.specs.Call.{OutcomesOf, AnswersWith}
 use Rattle.span_dispatch.specs.declared.call.Call.{Call}
 use Rattle.span_dispatch.specs.declared.call.Call.TheVariants.{AddHandle, AskCurrent, DropHandle, Enter, Exit, Follow, OpenSpan, Probe, RecordValues, SendEvent, SetLevel}
 use Rattle.span_dispatch.specs.Outcome.{IsHonest, OutcomeAt, Makes, Noticed, Outcome}
@@ -25,18 +25,14 @@ use Rattle.span_dispatch.specs.declared.request.Which.{Which}
 use Rattle.span_dispatch.specs.declared.request.WhichParent.TheVariants as asked
 use Rattle.span_dispatch.specs.declared.request.WhichParent.{WhichParent}
 use Rattle.span_store.specs.Closes.{HasNoClosing, Member}
-use Rattle.span_store.specs.Step.{Removal}
 use Rattle.span_store.specs.Store.{RegistryState, Store}
 use Rattle.span_registry.specs.Behaviour.{OnClose}
-use Rattle.span_core.specs.declared.span.Lane.{Lane}
-use Rattle.span_registry.specs.KeptForm.{KeepsForm}
 use Rattle.span_registry.specs.Form.{Form}
 use Rattle.span_registry.specs.Agree.{AgreeAt}
 use Rattle.span_registry.specs.Conducts.{ActsAt, Conducts, numbers_in}
 use Rattle.span_registry.specs.Hooks.{StackSteps}
 use Rattle.span_registry.specs.Levels.{LevelSteps}
 use Rattle.span_registry.specs.Position.{HearSteps, Position}
-use Rattle.span_registry.specs.Subscriber.{SameButExtensions}
 
 -- the stack of a dispatcher
 abbrev pub stack_of : {S : Type 0} → Dispatch S → S
@@ -172,11 +168,6 @@ module _ {S : Type 0} (registry : S → RegistryState) (with_registry : S → Re
   ServesAsked (Some call) kept x a made after y =
       (f : Form) × IsReady f x × Serves call f kept x a made after y
 
-  -- one request is served as the call that it asks for, given the answers so far
-  abbrev pub ServesRequest : List Answer → Request → KeptCallsites → S → Answer → List OutcomeAt
-      → KeptCallsites → S → Type 0
-  ServesRequest past r kept x a made after y = ServesAsked (call_of past r) kept x a made after y
-
   -- a list of requests is served, one after another, given the answers so far
   abbrev pub Run : List Answer → List Request → List Answer → List (List OutcomeAt)
       → KeptCallsites → S → KeptCallsites → S → Type 0
@@ -208,16 +199,3 @@ module _ {S : Type 0} (registry : S → RegistryState) (with_registry : S → Re
     pub once : StandOnce (flat_map (λ m. closed_by m.outcome) (flat made))
     -- A layer that is notified of a span can read it in its own context, even one that closes.
     pub shown : (position : Position) → AllByRecursion ShowsItsSpan (passed_at position (flat made))
-
-  -- a span that is closing is taken out, and then each parent that closes by that; before each is,
-  -- a notice of its close is given
-  pub record ClosesEach (lane : Lane) (id : Id) (x y : S) : Type 0 where
-    pub closed : List ℕ
-    pub removal : Removal SameButExtensions (registry x) id closed None (registry y)
-    pub notices : (f : Form) → IsHonest registry with_registry has_form stepped levelled f x
-        → (made : List OutcomeAt)
-        × FoldsTo (Makes registry with_registry has_form stepped levelled) x made y
-        × (map outcome_of made ≡ closes_of lane closed)
-        × ((g : Form) × IsHonest registry with_registry has_form stepped levelled g y
-        × KeepsForm f g
-        × ((registry y).filters ≡ (registry x).filters))

@@ -5,7 +5,7 @@ ghost use Rattle.span_core.specs.Level.{is_above};
 ghost use Rattle.span_core.specs.Metadata.{callsite_of, level_of};
 
 use span_core::{Interest, Level, LevelFilter, Metadata, Pass, TraceError};
-use span_registry::Subscriber;
+use span_registry::{SeededState, Subscriber};
 use std::alloc::Global;
 use std::collections::HashMap;
 
@@ -25,7 +25,7 @@ pub(crate) enum Cache {
 #[derive(Debug, Drop)]
 pub(crate) struct Known {
     hint: Option<LevelFilter>,
-    callsites: HashMap<u64, Callsite>,
+    callsites: HashMap<u64, Callsite, SeededState>,
     room: usize,
     ghost held: { room ≤ spare callsites },
 }
@@ -38,7 +38,7 @@ struct Callsite {
 }
 
 impl Cache {
-    ghost use Rattle.span_dispatch.specs.Admission.{GivesInterest, HoldsRoom};
+    ghost use Rattle.span_dispatch.specs.private.Interest.{GivesInterest, HoldsRoom};
     ghost use Rattle.span_dispatch.specs.Cache.{KnowsInterest, forgotten};
     ghost use Rattle.span_dispatch.specs.declared.cache.Cache.TheVariants.{Empty};
 
@@ -93,7 +93,7 @@ impl Cache {
             Cache::Empty => {
                 let mut known = Known {
                     hint: stack.max_level_hint(),
-                    callsites: HashMap::new(alloc),
+                    callsites: HashMap::with_hasher(alloc, stack.root().hasher()),
                     room: 0,
                 };
                 let reserved = known.reserve(callsites);
@@ -131,7 +131,7 @@ impl Cache {
     {
         let mut known = Known {
             hint: stack.max_level_hint(),
-            callsites: HashMap::new(alloc),
+            callsites: HashMap::with_hasher(alloc, stack.root().hasher()),
             room: 0,
         };
         let interest = known.interest(stack, meta, None);
@@ -141,7 +141,7 @@ impl Cache {
 }
 
 impl Known {
-    ghost use Rattle.span_dispatch.specs.Admission.{GivesInterest};
+    ghost use Rattle.span_dispatch.specs.private.Interest.{GivesInterest};
     ghost use Rattle.span_dispatch.specs.Cache.{KnowsInterest, RefusesRoom, callsites_of, known_of, with_room};
     ghost use Rattle.span_dispatch.specs.declared.cache.Cache.TheVariants.{Filled};
 

@@ -5,10 +5,11 @@ ghost use Rattle.span_core.specs.Event.{event_metadata};
 ghost use Rattle.span_core.specs.Filters.{IsEmpty};
 ghost use Rattle.span_core.specs.Span.{metadata_of, number_of};
 ghost use Rattle.span_dispatch.specs.Cache.{no_callsite};
-ghost use Rattle.span_dispatch.specs.Contract.{Admits, AsksStack, BecomesReady, ChangesKept, ClonesSpan, DropsOneHandle, EntersSpan, ExitsSpan, FollowsSpan, GoesByKept, KeepsOnly, LearnsCallsite, OpensSpan, OpensSpanWith, Probes, RecordsValues, RefusesMetadata, ReservesCallsites, SameStack, SendsEvent, ServesCurrent, SetsOneLevel, Shows, ShowsHint, ShowsKept, StaysReady, StaysReadyBut, StaysUpToDate};
+ghost use Rattle.span_dispatch.specs.Contract.{BecomesReady, ChangesKept, ClonesSpan, DropsOneHandle, EntersSpan, ExitsSpan, FollowsSpan, GoesByKept, KeepsOnly, LearnsCallsite, OpensSpan, OpensSpanWith, Probes, RecordsValues, RefusesMetadata, ReservesCallsites, SameStack, SendsEvent, ServesCurrent, SetsOneLevel, Shows, ShowsHint, ShowsKept, StaysReady, StaysReadyBut, StaysUpToDate};
+ghost use Rattle.span_dispatch.specs.private.Step.{Admits, ClosesEach, Decides};
 ghost use Rattle.span_dispatch.specs.contracts.dispatch.Dispatch.{the_row};
 ghost use Rattle.span_dispatch.specs.Registration.{IsRegistered, KeepsRegistered, Knows, registered_metadata};
-ghost use Rattle.span_dispatch.specs.Serve.{ClosesEach, KeepsUpToDate, forgetful, hint_by, kept_by, stack_of, with_stack};
+ghost use Rattle.span_dispatch.specs.Serve.{KeepsUpToDate, forgetful, hint_by, kept_by, stack_of, with_stack};
 ghost use Rattle.span_store.specs.Store.{IsClosing};
 ghost use Rattle.span_registry.specs.Form.{Form};
 ghost use Rattle.span_registry.specs.Question.{refusals};
@@ -72,6 +73,9 @@ impl<S> Dispatch<S> {
 impl<S: Subscriber> Dispatch<S> {
     /// A dispatcher that caches: it goes by the stack's hint, and caches the interest in each
     /// callsite that the stack is asked of. Puts all layers of the stack in use, once each.
+    ///
+    /// The numbers of callsites are hashed as the stack's registry hashes those of lanes: see
+    /// `Registry::with_hasher`.
     pub fn new(alloc: Global, stack: S) -> Dispatch<S>
         requires { S.usable stack }
         ensures usable { S.usable (stack_of result) }
@@ -153,7 +157,8 @@ impl<S: Subscriber> Dispatch<S> {
         ensures registered { KeepsRegistered self.old self.new }
         ensures up_to_date { StaysUpToDate S.Subscriber self.old self.new }
         ensures admitted { Admits S.Subscriber lane meta.now self.old pass.new result self.new }
-        ensures afresh { AsksStack S.Subscriber lane meta.now self.old pass.old result pass.new }
+        ensures decided { IfOk result
+            (λ said. Decides S.Subscriber lane meta.now self.old (said, refusals pass.new)) }
         ensures kept { GoesByKept meta.now false (RefusesMetadata meta.now self.old) result self.old
             self.new }
     {

@@ -1,6 +1,7 @@
 //! Callsites that a dispatcher knows.
 ghost use Rattle.std.specs.Prelude.{◌≡◌, IfSome};
-ghost use Rattle.span_dispatch.specs.Registration.{IsKeptIn, interest_in, next_epoch, registered_metadata};
+ghost use Rattle.span_dispatch.specs.Registration.{next_epoch, registered_metadata};
+ghost use Rattle.span_dispatch.specs.private.Registration.{IsKeptIn, interest_in};
 
 use span_core::{Interest, Metadata};
 

@@ -1,7 +1,8 @@
 //! Lists of requests, served in order.
 ghost use Rattle.std.specs.Prelude.{◌≡◌, ◌∷◌, [], ◌++◌, IfOk, IfErr, ◌<◌, ◌≤◌, ◌+◌, length, vec_len, vec_capacity};
 ghost use Rattle.span_dispatch.specs.Ask.{AsksCall, AsksFor, AsksList};
-ghost use Rattle.span_dispatch.specs.Contract.{AnswersDrop, ServesList, ServesNext, StaysReadyByRules};
+ghost use Rattle.span_dispatch.specs.Contract.{AnswersDrop, ServesList, StaysReadyByRules};
+ghost use Rattle.span_dispatch.specs.private.Step.{ServesNext};
 ghost use Rattle.span_dispatch.specs.Registration.{KeepsRegistered};
 ghost use Rattle.span_dispatch.specs.Serve.{call_of, stack_of};
 

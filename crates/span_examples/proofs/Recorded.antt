@@ -24,7 +24,8 @@ use Rattle.span_dispatch.specs.Outcome.{LayersGo, LevelSet, OutcomeAt, Makes, No
 use Rattle.span_dispatch.specs.Recorder.{RecorderState, Records, kept_notice, new_recorder, recorder_steps}
 use Rattle.span_dispatch.specs.Cache.{KeptCallsites}
 use Rattle.span_dispatch.specs.Alone.{passed, passed_at}
-use Rattle.span_dispatch.specs.Serve.{IsReady, Run, Served, ServesRequest, flat, kept_by, stack_of}
+use Rattle.span_dispatch.specs.Serve.{IsReady, Run, Served, flat, kept_by, stack_of}
+use Rattle.span_dispatch.specs.private.Step.{ServesRequest}
 use Rattle.span_dispatch.specs.declared.dispatch.Dispatch.{Dispatch}
 use Rattle.span_dispatch.specs.declared.recorded.Recorded.{Recorded as KeptNotice}
 use Rattle.span_dispatch.specs.declared.request.Answer.TheVariants as answer

@@ -16,7 +16,8 @@ use Rattle.span_dispatch.proofs.Goes.{left_aside}
 use Rattle.span_dispatch.proofs.Once.{closed_in, closing_on, never_again, onward_on}
 use Rattle.span_dispatch.specs.Cache.{KeptCallsites}
 use Rattle.span_dispatch.specs.Outcome.{HandleAdded, HandleTaken, LevelSet, Makes, Noticed, Opened, Outcome, OutcomeAt, Quiet, Steps}
-use Rattle.span_dispatch.specs.Serve.{Run, StandOnce, closed_by, ServesRequest, flat, resolved_parent}
+use Rattle.span_dispatch.specs.Serve.{Run, StandOnce, closed_by, flat, resolved_parent}
+use Rattle.span_dispatch.specs.private.Step.{ServesRequest}
 use Rattle.span_dispatch.specs.declared.request.Answer.TheVariants as answer
 use Rattle.span_dispatch.specs.declared.request.Answer.{Answer}
 use Rattle.span_dispatch.specs.declared.request.Request.TheVariants as request

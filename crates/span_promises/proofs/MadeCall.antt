@@ -14,7 +14,8 @@ use Rattle.span_dispatch.proofs.Acting.{acting_numbers, alone_over, none_within,
 use Rattle.span_dispatch.proofs.Alone.{agree_same, steps_alone}
 use Rattle.span_dispatch.proofs.Goes.{left_aside}
 use Rattle.span_dispatch.specs.Alone.{Alone, acting, form_of_path, passed_at}
-use Rattle.span_dispatch.specs.Call.{OutcomesOf, closes_of}
+use Rattle.span_dispatch.specs.Call.{OutcomesOf}
+use Rattle.span_dispatch.specs.private.Step.{closes_of}
 use Rattle.span_dispatch.specs.Contract.{SubscriberOf}
 use Rattle.span_dispatch.specs.declared.call.Call.TheVariants.{AddHandle, AskCurrent, DropHandle, Enter, Exit, Follow, OpenSpan, Probe, RecordValues, SendEvent}
 use Rattle.span_dispatch.specs.declared.call.Call.TheVariants.{SetLevel}

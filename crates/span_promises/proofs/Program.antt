@@ -26,7 +26,8 @@ use Rattle.span_dispatch.proofs.CallerLemmas.{next_served, none_served, seen_app
 use Rattle.span_dispatch.proofs.Goes.{left_aside}
 use Rattle.span_dispatch.specs.Alone.{passed, passed_at}
 use Rattle.span_dispatch.specs.Cache.{KeptCallsites}
-use Rattle.span_dispatch.specs.Call.{DropsHandle, closes_of}
+use Rattle.span_dispatch.specs.Call.{DropsHandle}
+use Rattle.span_dispatch.specs.private.Step.{closes_of}
 use Rattle.span_dispatch.specs.Fixed.{Formed, set_at}
 use Rattle.span_dispatch.specs.Outcome.{HandleTaken, IsVerdict, Noticed, Opened, Outcome, OutcomeAt, Quiet, Steps, given_in}
 use Rattle.span_dispatch.specs.Readable.{ClosesAsItOpened}

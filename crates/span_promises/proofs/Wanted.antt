@@ -18,10 +18,11 @@ use Rattle.span_core.specs.declared.span.Lane.{Lane}
 use Rattle.span_core.specs.declared.span.Parent.{Parent}
 use Rattle.span_dispatch.specs.Admission.{IsDecided, is_let_by}
 use Rattle.span_dispatch.specs.Cache.{KeptCallsites}
-use Rattle.span_dispatch.specs.Call.{AnswersWith, LeavesSpan, closes_of, vetoes_whole}
+use Rattle.span_dispatch.specs.Call.{AnswersWith, LeavesSpan, vetoes_whole}
+use Rattle.span_dispatch.specs.private.Step.{ServesRequest, closes_of}
 use Rattle.span_dispatch.specs.Fixed.{Formed, set_at}
 use Rattle.span_dispatch.specs.Outcome.{LayersGo, LevelSet, Makes, Noticed, Outcome, OutcomeAt, Quiet}
-use Rattle.span_dispatch.specs.Serve.{Run, ServesAsked, ServesRequest, call_of, resolved, resolved_parent}
+use Rattle.span_dispatch.specs.Serve.{Run, ServesAsked, call_of, resolved, resolved_parent}
 use Rattle.span_dispatch.specs.declared.call.Call.{Call}
 use Rattle.span_dispatch.specs.declared.call.Call.TheVariants.{AddHandle, AskCurrent, DropHandle, Enter, Exit, Follow, OpenSpan, Probe, RecordValues, SendEvent}
 use Rattle.span_dispatch.specs.declared.call.Call.TheVariants.{SetLevel}

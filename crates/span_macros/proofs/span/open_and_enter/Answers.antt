@@ -73,7 +73,7 @@ returns-in-Err-clause-opens g c =
         });
       };
       up_to_date = search rules;
-      asked = seen.asked;
+      asked = inr seen.asked;
       entered = tt;
     }
 

@@ -1,6 +1,6 @@
 use Rattle.span_stacks.proofs.Built.{rules_of}
 use Rattle.std.proofs.Common.{refl, rules}
-use Rattle.span_dispatch.proofs.Admits.{admits_always, admits_asked, admits_never}
+use Rattle.span_dispatch.proofs.Admits.{admits_always, admits_asked, admits_never, decides_always, decides_asked, decides_never}
 use Rattle.span_dispatch.proofs.Registered.{registered_still}
 use Rattle.span_dispatch.specs.Cache.{kept_in}
 use Rattle.span_dispatch.specs.Serve.{kept_by, stack_of}
@@ -23,6 +23,22 @@ returns-in-Ok-Always-clause-admitted g c = λ f h u.
     admits_always (kept_by c.args.self.now)
     f (g.S.LookupSpan.registry (stack_of c.args.self.now)) c.args.lane c.args.meta.now (kept_in c.interest.new.self) h.rules
     c.args.pass.now c.in-Ok-Always.field-0 (c.in-Ok-Always.ensures.by_form f h.has (rules_of f _ h.rules).answers u) c.in-Ok-Always.field-0-is c.requires.fresh
+
+pub returns-in-Ok-Never-clause-decided : goal.returns-in-Ok-Never-clause-decided
+returns-in-Ok-Never-clause-decided g c = λ f d u.
+    decides_never (kept_by c.args.self.now) f (g.S.LookupSpan.registry (stack_of c.args.self.now)) c.args.lane c.args.meta.now
+    c.in-Ok-Never.field-0 (c.in-Ok-Never.ensures.decides f d u) c.args.pass.now c.in-Ok-Never.field-0-is c.requires.fresh
+
+pub returns-in-Ok-Sometimes-clause-decided : goal.returns-in-Ok-Sometimes-clause-decided
+returns-in-Ok-Sometimes-clause-decided g c = λ f d u.
+    decides_asked (kept_by c.args.self.now) f (g.S.LookupSpan.registry (stack_of c.args.self.now)) c.args.lane c.args.meta.now
+    c.in-Ok-Sometimes.field-0 (c.in-Ok-Sometimes.ensures.decides f d u) g.S.LookupSpan.registry g.S.Subscriber.has_form (stack_of c.args.self.now)
+    c.args.pass.now c.enabled.new.pass c.enabled.result refl d c.in-Ok-Sometimes.field-0-is c.requires.fresh c.enabled.ensures
+
+pub returns-in-Ok-Always-clause-decided : goal.returns-in-Ok-Always-clause-decided
+returns-in-Ok-Always-clause-decided g c = λ f d u.
+    decides_always (kept_by c.args.self.now) f (g.S.LookupSpan.registry (stack_of c.args.self.now)) c.args.lane c.args.meta.now
+    c.in-Ok-Always.field-0 (c.in-Ok-Always.ensures.decides f d u) c.args.pass.now c.in-Ok-Always.field-0-is c.requires.fresh
 
 pub returns-in-Err-clause-admitted : goal.returns-in-Err-clause-admitted
 returns-in-Err-clause-admitted g c = λ f h u.

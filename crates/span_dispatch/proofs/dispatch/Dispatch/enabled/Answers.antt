@@ -3,7 +3,7 @@ use Rattle.std.proofs.Common.{[], refl, sym, rules, ap}
 use Rattle.span_dispatch.proofs.Calls.{probe_says, probed_exactly}
 use Rattle.span_dispatch.proofs.Goes.{served_so}
 use Rattle.span_dispatch.proofs.Stores.{asked_of}
-use Rattle.span_dispatch.specs.Serve.{kept_by, stack_of}
+use Rattle.span_dispatch.specs.Serve.{KeepsUpToDate, kept_by, stack_of}
 use Rattle.span_dispatch.proofs.dispatch.Dispatch.enabled.Goals as goal
 
 pub returns-clause-ready : goal.returns-clause-ready
@@ -24,5 +24,6 @@ returns-clause-probes g c = record {
   kept = search rules;
   up_to_date = search rules;
   asked = asked_of g.S.LookupSpan.registry g.S.Subscriber.has_form c.args.lane (stack_of c.args.self.now) (kept_by c.args.self.now)
-      c.args.meta.now c.args.meta.now c.new-pass.result c.admits.new.pass c.admits.result refl c.new-pass.ensures.refused c.admits.ensures.afresh;
+      (λ f. KeepsUpToDate f (g.S.LookupSpan.registry (stack_of c.args.self.now)).filters c.args.self.now) c.args.meta.now
+      c.admits.new.pass c.admits.result c.admits.ensures.decided;
 }

@@ -3,13 +3,14 @@ use Rattle.std.proofs.Common.{[], Err, None, Ok, Some, ap, inl, inr, refl, subst
 use Rattle.span_core.specs.Span.{asked_parent, metadata_of}
 use Rattle.span_dispatch.proofs.Calls.{dropped_exactly, made_exactly, refused_exactly, span_made, unknown_exactly}
 use Rattle.span_dispatch.proofs.Goes.{served_so}
-use Rattle.span_dispatch.proofs.Stores.{Wanted, metadata_wanted, opened_by, room_for, unrefused}
+use Rattle.span_dispatch.proofs.Stores.{Wanted, metadata_wanted, opened_by, room_for}
 use Rattle.span_dispatch.proofs.Admits.{below_before, let_by_below}
-use Rattle.span_dispatch.specs.Admission.{IsAdmitted}
-use Rattle.span_dispatch.specs.Serve.{hint_by, kept_by, stack_of, with_stack}
+use Rattle.span_dispatch.specs.private.Step.{IsAdmitted}
+use Rattle.span_dispatch.specs.Serve.{KeepsUpToDate, hint_by, kept_by, stack_of, with_stack}
 use Rattle.span_store.specs.Step.{RefusesNew}
 use Rattle.span_registry.specs.Hooks.{OpensAndNotifies}
 use Rattle.span_dispatch.proofs.Sends.{dropped_by, made_by, of_same, refused_first, refused_then}
+use Rattle.span_dispatch.specs.Cache.{RefusesInterest}
 use Rattle.span_dispatch.specs.Contract.{RefusesOpening}
 use Rattle.span_dispatch.proofs.dispatch.Dispatch.open.Goals as goal
 
@@ -42,8 +43,7 @@ returns-in-Err-clause-opens g c = record {
       (refused_first None (RefusesOpening g.S.LookupSpan.registry c.args.lane c.metadata.result (asked_parent c.args.attrs.now) c.args.self.now)
       (c.in-Err.ensures.kept.refused.0, inl c.in-Err.ensures.kept.refused.1) c.in-Err.ensures.kept);
   up_to_date = c.admits.ensures.up_to_date;
-  asked = unrefused g.S.LookupSpan.registry g.S.Subscriber.has_form c.args.lane
-      (stack_of c.args.self.now) (kept_by c.args.self.now) c.metadata.result (metadata_of c.args.attrs.now) c.in-Err.error c.in-Err.ensures.kept.refused.1;
+  asked = inl (subst (λ m. RefusesInterest (kept_by c.args.self.now) m c.in-Err.error) c.metadata.ensures c.in-Err.ensures.kept.refused.1);
   store = tt;
   unchanged = (ap stack_of c.admits.ensures.rest);
 }
@@ -60,10 +60,12 @@ returns-in-Ok-false-clause-opens g c = record {
       (dropped_by None
       (RefusesOpening g.S.LookupSpan.registry c.args.lane c.metadata.result (asked_parent c.args.attrs.now) c.args.self.now) c.in-Ok-false.ensures.kept);
   up_to_date = c.admits.ensures.up_to_date;
-  asked = subst (λ b. Wanted g.S.LookupSpan.registry
-      g.S.Subscriber.has_form c.args.lane (stack_of c.args.self.now) (kept_by c.args.self.now) (metadata_of c.args.attrs.now) b) c.in-Ok-false.field-0-test
-      (metadata_wanted g.S.LookupSpan.registry g.S.Subscriber.has_form c.args.lane (stack_of c.args.self.now) (kept_by c.args.self.now) c.metadata.result
-      (metadata_of c.args.attrs.now) c.args.pass.now c.admits.new.pass c.in-Ok-false.field-0 c.metadata.ensures c.requires.fresh c.in-Ok-false.ensures.afresh);
+  asked = subst (λ b. Wanted g.S.LookupSpan.registry g.S.Subscriber.has_form c.args.lane (stack_of c.args.self.now) (kept_by c.args.self.now)
+      (λ f. KeepsUpToDate f (g.S.LookupSpan.registry (stack_of c.args.self.now)).filters c.args.self.now) (metadata_of c.args.attrs.now) b)
+      c.in-Ok-false.field-0-test
+      (metadata_wanted g.S.LookupSpan.registry g.S.Subscriber.has_form c.args.lane (stack_of c.args.self.now) (kept_by c.args.self.now)
+      (λ f. KeepsUpToDate f (g.S.LookupSpan.registry (stack_of c.args.self.now)).filters c.args.self.now) c.metadata.result
+      (metadata_of c.args.attrs.now) c.admits.new.pass c.in-Ok-false.field-0 c.metadata.ensures c.in-Ok-false.ensures.decided);
   store = (ap stack_of c.admits.ensures.rest);
   unchanged = tt;
 }
@@ -88,10 +90,12 @@ returns-in-Ok-clause-opens g c = record {
       (made_by None (RefusesOpening g.S.LookupSpan.registry c.args.lane c.metadata.result (asked_parent c.args.attrs.now) c.args.self.now)
       (Some c.in-Ok.id) c.new_span.new.self c.in-Ok-true.field-0-test c.in-Ok-true.ensures.kept);
   up_to_date = c.admits.ensures.up_to_date;
-  asked = subst (λ b. Wanted g.S.LookupSpan.registry
-      g.S.Subscriber.has_form c.args.lane (stack_of c.args.self.now) (kept_by c.args.self.now) (metadata_of c.args.attrs.now) b) c.in-Ok-true.field-0-test
-      (metadata_wanted g.S.LookupSpan.registry g.S.Subscriber.has_form c.args.lane (stack_of c.args.self.now) (kept_by c.args.self.now) c.metadata.result
-      (metadata_of c.args.attrs.now) c.args.pass.now c.admits.new.pass c.in-Ok-true.field-0 c.metadata.ensures c.requires.fresh c.in-Ok-true.ensures.afresh);
+  asked = subst (λ b. Wanted g.S.LookupSpan.registry g.S.Subscriber.has_form c.args.lane (stack_of c.args.self.now) (kept_by c.args.self.now)
+      (λ f. KeepsUpToDate f (g.S.LookupSpan.registry (stack_of c.args.self.now)).filters c.args.self.now) (metadata_of c.args.attrs.now) b)
+      c.in-Ok-true.field-0-test
+      (metadata_wanted g.S.LookupSpan.registry g.S.Subscriber.has_form c.args.lane (stack_of c.args.self.now) (kept_by c.args.self.now)
+      (λ f. KeepsUpToDate f (g.S.LookupSpan.registry (stack_of c.args.self.now)).filters c.args.self.now) c.metadata.result
+      (metadata_of c.args.attrs.now) c.admits.new.pass c.in-Ok-true.field-0 c.metadata.ensures c.in-Ok-true.ensures.decided);
   store = opened_by g.S.LookupSpan.registry c.args.lane c.args.attrs.now c.admits.new.pass (stack_of c.args.self.now) c.new_span.new.self c.in-Ok.id
       (subst (λ x. OpensAndNotifies g.S.LookupSpan.registry g.S.Subscriber.has_form g.S.Subscriber.stepped
       c.args.lane c.args.attrs.now c.admits.new.pass x c.new_span.new.self c.in-Ok.id) (ap stack_of c.admits.ensures.rest) c.in-Ok.ensures.opened);
@@ -118,10 +122,12 @@ returns-in-Err-new_span-clause-opens g c = record {
             (ap stack_of c.admits.ensures.rest) c.in-Err-new_span.ensures.refused),
       ) c.in-Ok-true.ensures.kept);
   up_to_date = c.admits.ensures.up_to_date;
-  asked = subst (λ b. Wanted g.S.LookupSpan.registry
-      g.S.Subscriber.has_form c.args.lane (stack_of c.args.self.now) (kept_by c.args.self.now) (metadata_of c.args.attrs.now) b) c.in-Ok-true.field-0-test
-      (metadata_wanted g.S.LookupSpan.registry g.S.Subscriber.has_form c.args.lane (stack_of c.args.self.now) (kept_by c.args.self.now) c.metadata.result
-      (metadata_of c.args.attrs.now) c.args.pass.now c.admits.new.pass c.in-Ok-true.field-0 c.metadata.ensures c.requires.fresh c.in-Ok-true.ensures.afresh);
+  asked = inr (subst (λ b. Wanted g.S.LookupSpan.registry g.S.Subscriber.has_form c.args.lane (stack_of c.args.self.now) (kept_by c.args.self.now)
+      (λ f. KeepsUpToDate f (g.S.LookupSpan.registry (stack_of c.args.self.now)).filters c.args.self.now) (metadata_of c.args.attrs.now) b)
+      c.in-Ok-true.field-0-test
+      (metadata_wanted g.S.LookupSpan.registry g.S.Subscriber.has_form c.args.lane (stack_of c.args.self.now) (kept_by c.args.self.now)
+      (λ f. KeepsUpToDate f (g.S.LookupSpan.registry (stack_of c.args.self.now)).filters c.args.self.now) c.metadata.result
+      (metadata_of c.args.attrs.now) c.admits.new.pass c.in-Ok-true.field-0 c.metadata.ensures c.in-Ok-true.ensures.decided));
   store = tt;
   unchanged = c.in-Err-new_span.ensures.unchanged ∙ (ap stack_of c.admits.ensures.rest);
 }

@@ -3,12 +3,12 @@ use Rattle.span_core.specs.Event.{event_metadata}
 use Rattle.std.proofs.Common.{[], true, false, Ok, Err, refl, subst, sym, ap}
 use Rattle.span_dispatch.proofs.Calls.{event_dropped_exactly, event_made, event_made_exactly, event_unknown_exactly, event_vetoed_exactly}
 use Rattle.span_dispatch.proofs.Goes.{served_so}
-use Rattle.span_dispatch.proofs.Stores.{event_refused, event_unwanted, event_wanted, no_step}
-use Rattle.span_dispatch.specs.Admission.{IsAdmitted}
-use Rattle.span_dispatch.specs.Serve.{kept_by, stack_of, with_stack}
+use Rattle.span_dispatch.proofs.Stores.{Decided, event_refused, event_unwanted, event_wanted, no_step}
+use Rattle.span_dispatch.specs.private.Step.{IsAdmitted}
+use Rattle.span_dispatch.specs.Serve.{KeepsUpToDate, kept_by, stack_of, with_stack}
 use Rattle.span_registry.proofs.CallerLemmas.{and_hooks}
 use Rattle.span_registry.specs.Behaviour.{OnEvent}
-use Rattle.span_registry.specs.Hooks.{AnswersEnabled, AnswersEvent, Notifies, Stays}
+use Rattle.span_registry.specs.Hooks.{AnswersEvent, Notifies, Stays}
 use Rattle.span_registry.specs.Question.{refusals}
 use Rattle.span_registry.specs.Subscriber.{AndHooks}
 use Rattle.span_dispatch.proofs.Sends.{dropped_by, made_by, of_same}
@@ -48,10 +48,12 @@ returns-in-Ok-false-clause-sends g c = record {
       c.metadata.result (event_metadata c.args.event.now) false (Ok false) c.args.self.now c.admits.new.self c.metadata.ensures
       (dropped_by false (RefusesMetadata c.metadata.result c.args.self.now) c.in-Ok-false.ensures.kept);
   up_to_date = c.admits.ensures.up_to_date;
-  asked = event_unwanted g.S.LookupSpan.registry g.S.Subscriber.has_form c.args.lane
-      (stack_of c.args.self.now) (kept_by c.args.self.now) c.args.event.now c.metadata.result c.new-pass.result c.admits.new.pass _ c.metadata.ensures
-      c.new-pass.ensures.refused refl (λ e. subst (λ b. AnswersEnabled g.S.LookupSpan.registry g.S.Subscriber.has_form (stack_of c.args.self.now)
-      c.args.lane c.metadata.result c.new-pass.result b c.admits.new.pass) c.in-Ok-false.field-0-test (c.in-Ok-false.ensures.afresh e));
+  asked = event_unwanted g.S.LookupSpan.registry g.S.Subscriber.has_form c.args.lane (stack_of c.args.self.now) (kept_by c.args.self.now)
+      (λ f. KeepsUpToDate f (g.S.LookupSpan.registry (stack_of c.args.self.now)).filters c.args.self.now) c.args.event.now
+      c.metadata.result c.admits.new.pass _ c.metadata.ensures refl
+      (subst (λ b. Decided g.S.LookupSpan.registry g.S.Subscriber.has_form c.args.lane (stack_of c.args.self.now) (kept_by c.args.self.now)
+      (λ f. KeepsUpToDate f (g.S.LookupSpan.registry (stack_of c.args.self.now)).filters c.args.self.now) c.metadata.result b c.admits.new.pass)
+      c.in-Ok-false.field-0-test c.in-Ok-false.ensures.decided);
   store = subst (λ y. AndHooks g.S.LookupSpan.registry Stays (stack_of c.args.self.now) y)
       (sym (ap stack_of c.admits.ensures.rest)) (no_step g.S.LookupSpan.registry (stack_of c.args.self.now));
   dropped = λ i. (ap stack_of c.admits.ensures.rest);
@@ -74,10 +76,10 @@ returns-then-not-event_enabled-clause-sends g c = record {
       c.metadata.result (event_metadata c.args.event.now) false (Ok false) c.args.self.now c.admits.new.self c.metadata.ensures
       (dropped_by false (RefusesMetadata c.metadata.result c.args.self.now) c.in-Ok-true.ensures.kept);
   up_to_date = c.admits.ensures.up_to_date;
-  asked = event_refused g.S.LookupSpan.registry g.S.Subscriber.has_form c.args.lane (stack_of c.args.self.now)
-      (kept_by c.args.self.now) c.args.event.now c.metadata.result c.new-pass.result c.admits.new.pass c.event_enabled.new.pass _ c.event_enabled.result
-      c.metadata.ensures c.new-pass.ensures.refused c.if-not-event_enabled.true (λ e. subst (λ b. AnswersEnabled g.S.LookupSpan.registry g.S.Subscriber.has_form
-      (stack_of c.args.self.now) c.args.lane c.metadata.result c.new-pass.result b c.admits.new.pass) c.in-Ok-true.field-0-test (c.in-Ok-true.ensures.afresh e))
+  asked = event_refused g.S.LookupSpan.registry g.S.Subscriber.has_form c.args.lane (stack_of c.args.self.now) (kept_by c.args.self.now)
+      (λ f. KeepsUpToDate f (g.S.LookupSpan.registry (stack_of c.args.self.now)).filters c.args.self.now) c.args.event.now
+      c.metadata.result c.admits.new.pass c.event_enabled.new.pass _ c.event_enabled.result c.metadata.ensures
+      c.if-not-event_enabled.true c.in-Ok-true.ensures.decided
       (subst (λ x. AnswersEvent g.S.LookupSpan.registry g.S.Subscriber.has_form x c.args.lane
       c.args.event.now c.admits.new.pass c.event_enabled.result c.event_enabled.new.pass) (ap stack_of c.admits.ensures.rest) c.event_enabled.ensures);
   store = subst (λ y. AndHooks g.S.LookupSpan.registry Stays (stack_of c.args.self.now) y)
@@ -118,9 +120,9 @@ returns-else-not-event_enabled-clause-sends g c = record {
       (made_by false (RefusesMetadata c.metadata.result c.args.self.now) true c.event.new.self c.in-Ok-true.field-0-test c.in-Ok-true.ensures.kept);
   up_to_date = c.admits.ensures.up_to_date;
   asked = event_wanted g.S.LookupSpan.registry g.S.Subscriber.has_form c.args.lane (stack_of c.args.self.now) (kept_by c.args.self.now)
-      c.args.event.now c.metadata.result c.new-pass.result c.admits.new.pass c.event_enabled.new.pass _ c.event_enabled.result c.metadata.ensures
-      c.new-pass.ensures.refused refl c.if-not-event_enabled.false (λ e. subst (λ b. AnswersEnabled g.S.LookupSpan.registry g.S.Subscriber.has_form
-      (stack_of c.args.self.now) c.args.lane c.metadata.result c.new-pass.result b c.admits.new.pass) c.in-Ok-true.field-0-test (c.in-Ok-true.ensures.afresh e))
+      (λ f. KeepsUpToDate f (g.S.LookupSpan.registry (stack_of c.args.self.now)).filters c.args.self.now) c.args.event.now
+      c.metadata.result c.admits.new.pass c.event_enabled.new.pass _ c.event_enabled.result c.metadata.ensures
+      c.in-Ok-true.field-0-test c.if-not-event_enabled.false c.in-Ok-true.ensures.decided
       (subst (λ x. AnswersEvent g.S.LookupSpan.registry g.S.Subscriber.has_form x c.args.lane
       c.args.event.now c.admits.new.pass c.event_enabled.result c.event_enabled.new.pass) (ap stack_of c.admits.ensures.rest) c.event_enabled.ensures);
   store = and_hooks

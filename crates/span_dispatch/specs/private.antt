@@ -1,0 +1,3 @@
+pub mod Interest
+pub mod Registration
+pub mod Step

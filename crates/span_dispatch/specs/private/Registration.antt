@@ -1,0 +1,22 @@
+-- What a registration keeps.
+use Rattle.std.specs.Prelude.{◌≡◌, ◌<◌, ◌==◌, if◌then◌else◌, Option, Some, None}
+use Rattle.span_core.specs.declared.interest.Interest.{Interest}
+use Rattle.span_dispatch.specs.declared.registration.Epoch.{Epoch}
+use Rattle.span_dispatch.specs.declared.registration.Kept.{Kept}
+use Rattle.span_dispatch.specs.declared.registration.Registration.{Registration}
+use Rattle.span_dispatch.specs.Registration.{last_epoch}
+
+-- what a registration keeps is this interest, of this epoch, which ends
+pub record IsKeptIn (epoch : Epoch) (given : Option Interest) (k : Kept) : Type 0 where
+  pub here : k.epoch ≡ epoch
+  pub ends : epoch.0 < last_epoch
+  pub interest : given ≡ Some k.interest
+
+-- the interest that a registration keeps, if it is of this epoch
+abbrev pub kept_interest : Epoch → Option Kept → Option Interest
+kept_interest epoch None = None
+kept_interest epoch (Some k) = if k.epoch.0 == epoch.0 then Some k.interest else None
+
+-- the interest that a registration has in this epoch
+abbrev pub interest_in : Epoch → Registration → Option Interest
+interest_in epoch r = kept_interest epoch r.kept
