@@ -1,9 +1,8 @@
 mod Columns
-mod Fitting
-mod Forms
+mod Misfits
+mod Lines
 mod Growing
 mod Labels
-mod Rightness
 mod Wrong
 mod Begins
 mod Gives

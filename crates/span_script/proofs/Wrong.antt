@@ -5,17 +5,20 @@ use Rattle.std.proofs.lemmas.List.{take-map, take_all}
 use Rattle.std.proofs.lemmas.Option.{slice_get-map, slice_get-get_or}
 use Rattle.std.specs.Prelude.{IsSomeAnd, false, not, ◌==◌, filter, ok_or, option_map, slice_get}
 use Rattle.std.specs.Borrow.{Bor}
-use Rattle.span_script.specs.Script.{cut, is_full, lines_of, read_in, requests_of, words_in, words_of, words_of_texts, AskFor, IsLine, IsNoLine, IsScript}
-use Rattle.span_script.specs.Script.{NamesNoStack}
-use Rattle.span_script.specs.Reason.{IsFirstMisfit, IsLabelFaultIn, IsLater, IsMisfit}
+use Rattle.span_script.specs.Script.{cut, is_full, lines_of, read_in, requests_of, words_in, words_of, words_of_texts, AskFor, IsFirst, IsLater, IsLine}
+use Rattle.span_script.specs.Script.{IsScript}
+use Rattle.span_script.specs.Misfit.{column_of, IsMisfit}
+use Rattle.span_script.specs.Reason.{first_reason, IsFirstMisfit, IsLabelFaultIn, IsMisfitAt}
 use Rattle.span_script.specs.Fault.{Blames, IsLabelFaultAt, IsScriptFault, IsWrongFor}
 use Rattle.span_script.specs.declared.fault.ScriptFault.{ScriptFault}
 use Rattle.span_script.specs.declared.fault.ScriptFault.TheVariants.{Memory, Wrong}
 use Rattle.span_dispatch.specs.declared.request.Request.{Request}
 use Rattle.span_script.specs.declared.line.Line.{Line}
+use Rattle.span_script.specs.declared.misfit.Misfit.{Misfit}
 use Rattle.span_script.specs.declared.reason.Reason.{Reason}
 use Rattle.span_script.specs.declared.reason.Reason.TheVariants.{NoStack}
 use Rattle.span_script.specs.declared.script.Script.{Script}
+use Rattle.span_script.proofs.Misfits.{misfit-wrong}
 
 -- a script's lines ask for requests
 asked-of : (script : Option Script) → IfSome script IsScript → IfSome (read_in script) (λ read. (requests : List Request) × AskFor read.1 requests)
@@ -68,22 +71,32 @@ no-line text texts place None w r is e cuts end spelled = subst (λ r. IfErr r (
 no-line text texts place (Some s) w r is e cuts end spelled = subst (λ r. IfErr r (IsScriptFault text)) (sym e) tt
 
 -- a line that is not empty, and whose words are no first line
-pub first-blamed : (n : ℕ) (script : Option Script) (text : List ℕ) (words : List (List ℕ)) (column : ℕ) (reason : Reason) (f : ScriptFault)
+pub first-blamed : (n : ℕ) (script : Option Script) (text : List ℕ) (words : List (List ℕ)) (m : Misfit) (column : ℕ) (reason : Reason) (f : ScriptFault)
     → script ≡ None → (length text == 0) ≡ false → words ≡ cut 32 text
-    → NamesNoStack words
-    → IsFirstMisfit words column reason → f ≡ Wrong (record { line = n; column = column; reason = reason }) → Blames n (IsWrongFor (read_in script) text) f
-first-blamed n script text words column reason f none full cuts wrong misfit is =
-    subst (λ f. Blames n (IsWrongFor (read_in script) text) f) (sym is) (subst (λ s. (n ≡ n) × IsWrongFor (read_in s) text column reason) (sym none)
-    (refl, ((ap (λ b. not b) full, subst (λ ws. NamesNoStack ws) cuts wrong), subst (λ ws. IsFirstMisfit ws column reason) cuts misfit)))
+    → IsMisfit IsFirst words m → column ≡ column_of words m → reason ≡ first_reason column m.reason
+    → f ≡ Wrong (record { line = n; column = column; reason = reason }) → Blames n (IsWrongFor (read_in script) text) f
+first-blamed n script text words m column reason f none full cuts misfit columns named is =
+    subst (λ f. Blames n (IsWrongFor (read_in script) text) f) (sym is) (subst (λ s. (n ≡ n) × IsWrongFor (read_in s) text column reason) (sym none) (
+      refl,
+      (
+        (ap (λ b. not b) full, subst (λ ws. ¬ (IsFirst ws)) cuts (misfit-wrong IsFirst words m misfit)),
+        subst (λ ws. IsFirstMisfit ws column reason) cuts (m.reason, (m, misfit, columns, refl), named),
+      ),
+    ))
 
 -- one whose words are no later line
-pub later-blamed : (n : ℕ) (script : Option Script) (s : Script) (text : List ℕ) (words : List (List ℕ)) (column : ℕ) (reason : Reason) (f : ScriptFault)
+pub later-blamed : (n : ℕ) (script : Option Script) (s : Script) (text : List ℕ) (words : List (List ℕ)) (m : Misfit) (column : ℕ) (f : ScriptFault)
     → script ≡ Some s → (length text == 0) ≡ false → words ≡ cut 32 text
-    → IsNoLine words
-    → IsMisfit IsLater words column reason → f ≡ Wrong (record { line = n; column = column; reason = reason }) → Blames n (IsWrongFor (read_in script) text) f
-later-blamed n script s text words column reason f some full cuts wrong misfit is =
-    subst (λ f. Blames n (IsWrongFor (read_in script) text) f) (sym is) (subst (λ s. (n ≡ n) × IsWrongFor (read_in s) text column reason) (sym some)
-    (refl, ((ap (λ b. not b) full, inl (subst (λ ws. IsNoLine ws) cuts wrong)), inl (subst (λ ws. IsMisfit IsLater ws column reason) cuts misfit))))
+    → IsMisfit IsLater words m → column ≡ column_of words m
+    → f ≡ Wrong (record { line = n; column = column; reason = m.reason }) → Blames n (IsWrongFor (read_in script) text) f
+later-blamed n script s text words m column f some full cuts misfit columns is =
+    subst (λ f. Blames n (IsWrongFor (read_in script) text) f) (sym is) (subst (λ s. (n ≡ n) × IsWrongFor (read_in s) text column m.reason) (sym some) (
+      refl,
+      (
+        (ap (λ b. not b) full, inl (subst (λ ws. ¬ (IsLater ws)) cuts (misfit-wrong IsLater words m misfit))),
+        inl (subst (λ ws. IsMisfitAt IsLater ws column m.reason) cuts (m, misfit, columns, refl)),
+      ),
+    ))
 
 -- one whose labels are wrong
 pub label-blamed : (n : ℕ) (script : Option Script) (s : Script) (text : List ℕ) (words : List (List ℕ)) (l : Line) (f : ScriptFault)

@@ -1,6 +1,7 @@
 -- Which line of a text is the first that is wrong, and why.
 use Rattle.std.specs.Prelude.{◌≡◌, ◌⊎◌, ℕ, ◌+◌, List, [], ⊤, Option, IsSomeAnd, IfSome, filter, take, slice_get}
-use Rattle.span_script.specs.Reason.{column_after, IsLabelFaultIn, IsReason, IsTaken}
+use Rattle.span_script.specs.Misfit.{column_after}
+use Rattle.span_script.specs.Reason.{IsLabelFaultIn, IsReason, IsTaken}
 use Rattle.span_script.specs.Script.{cut, is_full, words_in, words_of_texts, AskFor, CanFollow, IsWrongAfter}
 use Rattle.span_script.specs.declared.fault.ScriptFault.{ScriptFault}
 use Rattle.span_script.specs.declared.fault.ScriptFault.TheVariants as fault

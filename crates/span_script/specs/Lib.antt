@@ -1,5 +1,5 @@
 pub mod Fault
-pub mod Form
+pub mod Misfit
 pub mod Mute
 pub mod Printed
 pub mod Program

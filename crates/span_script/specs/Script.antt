@@ -43,9 +43,9 @@ use Rattle.span_script.specs.declared.stack_name.StackName.TheVariants.{Plain, P
 abbrev pub texts_in : List (Bor (List ℕ)) → List (List ℕ)
 texts_in borrowed = map (λ text. text.now) borrowed
 
--- nothing that is right is spelled so
-abbrev pub SpellsNone : {X Y : Type 0} → (X → Type 0) → (X → Y) → Y → Type 0
-SpellsNone {X = X} IsRight spelling spelled = (x : X) → IsRight x → spelled ≢ spelling x
+-- something right is spelled so
+abbrev pub Spells : {X Y : Type 0} → (X → Type 0) → (X → Y) → Y → Type 0
+Spells {X = X} IsRight spelling spelled = (x : X) × IsRight x × (spelled ≡ spelling x)
 
 -- a word that no label is
 abbrev pub is_keyword : List ℕ → Bool
@@ -91,6 +91,14 @@ IsAnySite site = IsSpanSite site ⊎ IsEventSite site
 abbrev pub digit : ℕ → List ℕ
 digit n = (48 + n) ∷ []
 
+-- a number of one digit
+abbrev pub IsDigit : ℕ → Type 0
+IsDigit n = n < 10
+
+-- the word of a callsite
+abbrev pub site_word : Metadata → List ℕ
+site_word site = digit (callsite_of site)
+
 -- the word of a name
 abbrev pub word_of : Name → List ℕ
 word_of Nobody = codes "?"
@@ -130,9 +138,9 @@ level_word level = option_map_or (λ most. verbosity_word most.0) level.0 (codes
 -- the words of a line
 abbrev pub words_of : Line → List (List ℕ)
 words_of (New lane site label parent) =
-    codes "new" ∷ digit lane.0 ∷ digit (callsite_of site) ∷ label.now ∷ parent_words parent
+    codes "new" ∷ digit lane.0 ∷ site_word site ∷ label.now ∷ parent_words parent
 words_of (Event lane site parent mute) =
-    codes "event" ∷ digit lane.0 ∷ digit (callsite_of site) ∷ tail_words (parent, mute)
+    codes "event" ∷ digit lane.0 ∷ site_word site ∷ tail_words (parent, mute)
 words_of (Enter lane name) = codes "enter" ∷ lane_words (lane, name)
 words_of (Exit lane name) = codes "exit" ∷ lane_words (lane, name)
 words_of (Record lane name) = codes "record" ∷ lane_words (lane, name)
@@ -140,7 +148,7 @@ words_of (Follows lane name other) =
     codes "follows" ∷ digit lane.0 ∷ word_of name ∷ word_of other ∷ []
 words_of (Clone name) = codes "clone" ∷ word_of name ∷ []
 words_of (Drop lane name) = codes "drop" ∷ lane_words (lane, name)
-words_of (Enabled lane site) = codes "enabled" ∷ digit lane.0 ∷ digit (callsite_of site) ∷ []
+words_of (Enabled lane site) = codes "enabled" ∷ digit lane.0 ∷ site_word site ∷ []
 words_of (Current lane) = codes "current" ∷ digit lane.0 ∷ []
 words_of (LevelLine number level) = codes "level" ∷ digit number ∷ level_word level ∷ []
 
@@ -158,11 +166,6 @@ IsName (Label label) = IsTrue (is_label label.now)
 abbrev pub IsLaneAndName : Lane × Name → Type 0
 IsLaneAndName both = (both.0.0 < 10) × IsName both.1
 
--- the words are no lane and name
-abbrev pub IsNoLaneAndName : List (List ℕ) → Type 0
-IsNoLaneAndName words =
-    (n : ℕ) (name : Name) → n < 10 → IsName name → words ≢ digit n ∷ word_of name ∷ []
-
 -- the name that a parent may have is a name
 abbrev pub IsParentName : ParentName → Type 0
 IsParentName (In name) = IsName name
@@ -171,12 +174,6 @@ IsParentName parent = ⊤
 -- the name that the parent of an event's tail may have is a name
 abbrev pub IsTail : ParentName × MuteField → Type 0
 IsTail tail = IsParentName tail.0
-
--- the words are no parent and value
-abbrev pub IsNoTail : List (List ℕ) → Type 0
-IsNoTail words =
-    (parent : ParentName) (mute : MuteField) → IsParentName parent
-    → words ≢ parent_words parent ++ mute_words mute
 
 -- the lane or the filter's number is a digit, the site one of spans, of events, or any, and the
 -- names are names
@@ -194,9 +191,13 @@ IsLine (Enabled lane site) = (lane.0 < 10) × IsAnySite site
 IsLine (Current lane) = lane.0 < 10
 IsLine (LevelLine number level) = number < 10
 
--- the words are no line
-abbrev pub IsNoLine : List (List ℕ) → Type 0
-IsNoLine words = SpellsNone IsLine words_of words
+-- the words are a right line, whatever its labels
+abbrev pub IsLater : List (List ℕ) → Type 0
+IsLater = Spells IsLine words_of
+
+-- the words are those of a right line behind this one
+abbrev pub IsBehind : List ℕ → List (List ℕ) → Type 0
+IsBehind word words = IsLater (word ∷ words)
 
 -- the parts of a text between these bytes
 abbrev pub cut : ℕ → List ℕ → List (List ℕ)
@@ -326,9 +327,9 @@ recorders_of AbsentStack = codes "base" ∷ []
 abbrev pub first_words : StackName → List (List ℕ)
 first_words stack = codes "stack" ∷ stack_word stack ∷ []
 
--- the words are no first line
-abbrev pub NamesNoStack : List (List ℕ) → Type 0
-NamesNoStack words = (stack : StackName) → words ≢ first_words stack
+-- the words are a right first line
+abbrev pub IsFirst : List (List ℕ) → Type 0
+IsFirst = Spells (λ _. ⊤) first_words
 
 -- the words of what was read of a script: of its first line, which names the stack, and of the
 -- lines after it
@@ -352,10 +353,10 @@ IsSpelled text stack lines = words_of_texts (cut 10 text) ≡ words_in (Some (st
 -- the text is not empty, and can't follow what was read: its words are no first line; or they are
 -- no line, or one that can't
 abbrev pub IsWrongAfter : Option (StackName × List Line) → List ℕ → Type 0
-IsWrongAfter None text = IsTrue (is_full text) × NamesNoStack (cut 32 text)
+IsWrongAfter None text = IsTrue (is_full text) × ¬ (IsFirst (cut 32 text))
 IsWrongAfter (Some read) text =
     IsTrue (is_full text)
-    × (IsNoLine (cut 32 text)
+    × (¬ (IsLater (cut 32 text))
     ⊎ ((l : Line) × (IsLine l × (cut 32 text ≡ words_of l) × ¬ (CanFollow read.1 l))))
 
 -- what was read of a script, if its first line was

@@ -4,7 +4,6 @@
 
 mod crew;
 mod fault;
-mod form;
 mod line;
 mod misfit;
 mod mute;

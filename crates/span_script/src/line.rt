@@ -1,10 +1,12 @@
 //! The lines of a script.
-ghost use Rattle.std.specs.Prelude.{◌≡◌, ◌≢◌, ◌<◌, ◌∷◌, ℕ, codes, IfNone, IfSome, is_some, slice_index};
+ghost use Rattle.std.specs.Prelude.{◌≡◌, ◌<◌, ◌∷◌, ⊤, codes, IfErr, IfOk, IsTrue, slice_index};
 ghost use Rattle.std.specs.Char.{is_ascii_lowercase};
 ghost use Rattle.std.specs.List.{list_all};
-ghost use Rattle.span_core.specs.declared.level.LevelFilter.{LevelFilter};
-ghost use Rattle.span_script.specs.Script.{digit, is_keyword, is_label, is_letter_or_digit, lane_words, level_word, parent_words, tail_words, texts_in, word_of, words_of, IsLaneAndName, IsLine, IsName, IsNoLaneAndName, IsNoLine, IsNoTail, IsParentName, IsTail, SpellsNone};
+ghost use Rattle.span_script.specs.Misfit.{IsMisfit, IsNoFirst};
+ghost use Rattle.span_script.specs.Script.{digit, is_keyword, is_label, is_letter_or_digit, lane_words, level_word, mute_words, parent_words, tail_words, texts_in, word_of, words_of, IsBehind, IsDigit, IsLaneAndName, IsLater, IsLine, IsName, IsParentName, IsTail, Spells};
 
+use crate::misfit::{Misfit, Taken, end, first, misfit_of};
+use crate::reason::Reason;
 use crate::site::{any_site, event_site, span_site};
 use span_core::{Lane, LevelFilter, Metadata};
 
@@ -67,205 +69,277 @@ pub enum Line<'a> {
     Level(u32, LevelFilter),
 }
 
-impl<'a> Name<'a> {
-    /// The name that a word is, if it is one.
-    fn of(word: &'a str) -> Option<Name<'a>>
-        ensures spelled { IfSome result (λ name. word.now ≡ word_of name) }
-        ensures name { IfSome result IsName }
-        ensures none { IfNone result (SpellsNone IsName word_of word.now) }
-    {
-        match word {
-            "?" => Some(Name::Nobody),
-            _ => Some(Name::Label(label_of(word)?)),
-        }
-    }
-}
-
-impl<'a> ParentName<'a> {
-    /// The parent that the last words of a line are, if they are one.
-    fn of(words: &[&'a str]) -> Option<ParentName<'a>>
-        ensures spelled { IfSome result (λ parent. texts_in words.now ≡ parent_words parent) }
-        ensures name { IfSome result IsParentName }
-        ensures none { IfNone result (SpellsNone IsParentName parent_words (texts_in words.now)) }
-    {
-        match words {
-            [] => Some(ParentName::Contextual),
-            ["root"] => Some(ParentName::Root),
-            ["in", name] => Some(ParentName::In(Name::of(name)?)),
-            _ => None,
-        }
-    }
-}
-
 impl<'a> Line<'a> {
-    /// The line that the words are, if they are one.
-    pub fn of(words: &[&'a str]) -> Option<Line<'a>>
-        ensures spelled { IfSome result (λ line. texts_in words.now ≡ words_of line) }
-        ensures line { IfSome result IsLine }
-        ensures none { IfNone result (IsNoLine (texts_in words.now)) }
+    /// The line that the words are, or else which of them is wrong, and why.
+    pub(crate) fn of(words: &[&'a str]) -> Result<Line<'a>, Misfit>
+        ensures spelled { IfOk result (λ line. texts_in words.now ≡ words_of line) }
+        ensures line { IfOk result IsLine }
+        ensures fault { IfErr result (IsMisfit IsLater (texts_in words.now)) }
     {
-        let (verb, words) = words.split_first()?;
-        match *verb {
-            "new" => new_of(words),
-            "event" => event_of(words),
-            "follows" => follows_of(words),
-            "clone" => match words {
-                [name] => Some(Line::Clone(Name::of(name)?)),
-                _ => None,
-            },
+        let (verb, behind) = first(words)?;
+        match verb {
+            "new" => new(behind),
+            "event" => event(behind),
             "enter" => {
-                let (lane, name) = lane_and_name(words)?;
-                Some(Line::Enter(lane, name))
+                let (lane, name) = lane_and_name(behind)?;
+                Ok(Line::Enter(lane, name))
             }
             "exit" => {
-                let (lane, name) = lane_and_name(words)?;
-                Some(Line::Exit(lane, name))
+                let (lane, name) = lane_and_name(behind)?;
+                Ok(Line::Exit(lane, name))
             }
             "record" => {
-                let (lane, name) = lane_and_name(words)?;
-                Some(Line::Record(lane, name))
+                let (lane, name) = lane_and_name(behind)?;
+                Ok(Line::Record(lane, name))
             }
             "drop" => {
-                let (lane, name) = lane_and_name(words)?;
-                Some(Line::Drop(lane, name))
+                let (lane, name) = lane_and_name(behind)?;
+                Ok(Line::Drop(lane, name))
             }
-            "enabled" => match words {
-                [lane, site] => Some(Line::Enabled(lane_of(lane)?, any_site(site)?)),
-                _ => None,
-            },
-            "current" => match words {
-                [lane] => Some(Line::Current(lane_of(lane)?)),
-                _ => None,
-            },
-            "level" => match words {
-                [number, level] => Some(Line::Level(digit_of(number)?, level_of(level)?)),
-                _ => None,
-            },
-            _ => None,
+            "follows" => follows(behind),
+            "clone" => clone(behind),
+            "enabled" => enabled(behind),
+            "current" => current(behind),
+            "level" => set_level(behind),
+            _ => Err(misfit_of(words, Reason::UnknownWord)),
         }
     }
 }
 
-/// The line that the words after `new` make, if they make one.
-fn new_of<'a>(words: &[&'a str]) -> Option<Line<'a>>
-    ensures spelled { IfSome result (λ line. codes "new" ∷ texts_in words.now ≡ words_of line) }
-    ensures line { IfSome result IsLine }
-    ensures none { IfNone result (IsNoLine (codes "new" ∷ texts_in words.now)) }
+/// The line that the words behind `new` make.
+fn new<'a>(words: &[&'a str]) -> Result<Line<'a>, Misfit>
+    ensures spelled { IfOk result (λ line. codes "new" ∷ texts_in words.now ≡ words_of line) }
+    ensures line { IfOk result IsLine }
+    ensures fault { IfErr result (IsMisfit (IsBehind (codes "new")) (texts_in words.now)) }
 {
-    match words {
-        [lane, site, label, parent @ ..] => Some(Line::New(
-            lane_of(lane)?,
-            span_site(site)?,
-            label_of(label)?,
-            ParentName::of(parent)?,
-        )),
-        _ => None,
-    }
+    let (lane, words) = lane(words)?;
+    let (site, words) = span_site(words)?;
+    let (label, words) = label(words)?;
+    Ok(Line::New(lane, site, label, parent(words)?))
 }
 
-/// The line that the words after `event` make, if they make one.
-fn event_of<'a>(words: &[&'a str]) -> Option<Line<'a>>
-    ensures spelled { IfSome result (λ line. codes "event" ∷ texts_in words.now ≡ words_of line) }
-    ensures line { IfSome result IsLine }
-    ensures none { IfNone result (IsNoLine (codes "event" ∷ texts_in words.now)) }
+/// The line that the words behind `event` make.
+fn event<'a>(words: &[&'a str]) -> Result<Line<'a>, Misfit>
+    ensures spelled { IfOk result (λ line. codes "event" ∷ texts_in words.now ≡ words_of line) }
+    ensures line { IfOk result IsLine }
+    ensures fault { IfErr result (IsMisfit (IsBehind (codes "event")) (texts_in words.now)) }
 {
-    match words {
-        [lane, site, tail @ ..] => {
-            let (lane, site) = (lane_of(lane)?, event_site(site)?);
-            let (parent, mute) = tail_of(tail)?;
-            Some(Line::Event(lane, site, parent, mute))
-        }
-        _ => None,
-    }
+    let (lane, words) = lane(words)?;
+    let (site, words) = event_site(words)?;
+    let (parent, mute) = tail(words)?;
+    Ok(Line::Event(lane, site, parent, mute))
 }
 
-/// The parent and the value that the last words of an event's line are, if they are both.
-fn tail_of<'a>(words: &[&'a str]) -> Option<(ParentName<'a>, MuteField)>
-    ensures spelled { IfSome result (λ tail. texts_in words.now ≡ tail_words tail) }
-    ensures tail { IfSome result IsTail }
-    ensures none { IfNone result (IsNoTail (texts_in words.now)) }
+/// The line that the words behind `follows` make.
+fn follows<'a>(words: &[&'a str]) -> Result<Line<'a>, Misfit>
+    ensures spelled { IfOk result (λ line. codes "follows" ∷ texts_in words.now ≡ words_of line) }
+    ensures line { IfOk result IsLine }
+    ensures fault { IfErr result (IsMisfit (IsBehind (codes "follows")) (texts_in words.now)) }
 {
-    match words {
-        ["mute"] => Some((ParentName::Contextual, MuteField::Given)),
-        ["root", "mute"] => Some((ParentName::Root, MuteField::Given)),
-        ["in", name, "mute"] => Some((ParentName::In(Name::of(name)?), MuteField::Given)),
-        _ => Some((ParentName::of(words)?, MuteField::Absent)),
-    }
+    let (lane, words) = lane(words)?;
+    let (span, words) = span_name(words)?;
+    let (other, words) = span_name(words)?;
+    end(words)?;
+    Ok(Line::Follows(lane, span, other))
 }
 
-/// The line that the words after `follows` make, if they make one.
-fn follows_of<'a>(words: &[&'a str]) -> Option<Line<'a>>
-    ensures spelled { IfSome result (λ line. codes "follows" ∷ texts_in words.now ≡ words_of line) }
-    ensures line { IfSome result IsLine }
-    ensures none { IfNone result (IsNoLine (codes "follows" ∷ texts_in words.now)) }
+/// The line that the words behind `clone` make.
+fn clone<'a>(words: &[&'a str]) -> Result<Line<'a>, Misfit>
+    ensures spelled { IfOk result (λ line. codes "clone" ∷ texts_in words.now ≡ words_of line) }
+    ensures line { IfOk result IsLine }
+    ensures fault { IfErr result (IsMisfit (IsBehind (codes "clone")) (texts_in words.now)) }
 {
-    match words {
-        [lane, name, other] => Some(Line::Follows(
-            lane_of(lane)?,
-            Name::of(name)?,
-            Name::of(other)?,
-        )),
-        _ => None,
-    }
+    let (name, words) = span_name(words)?;
+    end(words)?;
+    Ok(Line::Clone(name))
 }
 
-/// The lane and the name that the words are, if they are both.
-fn lane_and_name<'a>(words: &[&'a str]) -> Option<(Lane, Name<'a>)>
-    ensures spelled { IfSome result (λ both. texts_in words.now ≡ lane_words both) }
-    ensures both { IfSome result IsLaneAndName }
-    ensures none { IfNone result (IsNoLaneAndName (texts_in words.now)) }
+/// The line that the words behind `enabled` make.
+fn enabled<'a>(words: &[&'a str]) -> Result<Line<'a>, Misfit>
+    ensures spelled { IfOk result (λ line. codes "enabled" ∷ texts_in words.now ≡ words_of line) }
+    ensures line { IfOk result IsLine }
+    ensures fault { IfErr result (IsMisfit (IsBehind (codes "enabled")) (texts_in words.now)) }
 {
-    match words {
-        [lane, name] => Some((lane_of(lane)?, Name::of(name)?)),
-        _ => None,
-    }
+    let (lane, words) = lane(words)?;
+    let (site, words) = any_site(words)?;
+    end(words)?;
+    Ok(Line::Enabled(lane, site))
 }
 
-/// The lane that a word of one digit is.
-fn lane_of(word: &str) -> Option<Lane>
-    ensures spelled { IfSome result (λ lane. (lane.0 < 10) × (word.now ≡ digit lane.0)) }
-    ensures none { IfNone result ((n : ℕ) → n < 10 → word.now ≢ digit n) }
+/// The line that the words behind `current` make.
+fn current<'a>(words: &[&'a str]) -> Result<Line<'a>, Misfit>
+    ensures spelled { IfOk result (λ line. codes "current" ∷ texts_in words.now ≡ words_of line) }
+    ensures line { IfOk result IsLine }
+    ensures fault { IfErr result (IsMisfit (IsBehind (codes "current")) (texts_in words.now)) }
 {
-    Some(Lane(digit_of(word)?))
+    let (lane, words) = lane(words)?;
+    end(words)?;
+    Ok(Line::Current(lane))
 }
 
-/// The number that a word of one digit is.
-fn digit_of(word: &str) -> Option<u32>
-    ensures spelled { IfSome result (λ number. (number < 10) × (word.now ≡ digit number)) }
-    ensures none { IfNone result ((n : ℕ) → n < 10 → word.now ≢ digit n) }
+/// The line that the words behind `level` make.
+fn set_level<'a>(words: &[&'a str]) -> Result<Line<'a>, Misfit>
+    ensures spelled { IfOk result (λ line. codes "level" ∷ texts_in words.now ≡ words_of line) }
+    ensures line { IfOk result IsLine }
+    ensures fault { IfErr result (IsMisfit (IsBehind (codes "level")) (texts_in words.now)) }
 {
-    match word.as_bytes() {
-        [number @ b'0'..=b'9'] => Some(u32::from(*number - b'0')),
-        _ => None,
-    }
+    let (number, words) = number(words)?;
+    let (level, words) = level(words)?;
+    end(words)?;
+    Ok(Line::Level(number, level))
 }
 
-/// The filter by level that the word names, if it names one.
-fn level_of(word: &str) -> Option<LevelFilter>
-    ensures spelled { IfSome result (λ level. word.now ≡ level_word level) }
-    ensures none { IfNone result ((level : LevelFilter) → word.now ≢ level_word level) }
+/// The lane and the name that the words are.
+fn lane_and_name<'a>(words: &[&'a str]) -> Result<(Lane, Name<'a>), Misfit>
+    ensures spelled { IfOk result (λ both. texts_in words.now ≡ lane_words both) }
+    ensures both { IfOk result IsLaneAndName }
+    ensures fault { IfErr result (IsMisfit (Spells IsLaneAndName lane_words) (texts_in words.now)) }
 {
+    let (lane, words) = lane(words)?;
+    let (name, words) = span_name(words)?;
+    end(words)?;
+    Ok((lane, name))
+}
+
+/// The parent that the words are.
+fn parent<'a>(words: &[&'a str]) -> Result<ParentName<'a>, Misfit>
+    ensures spelled { IfOk result (λ parent. texts_in words.now ≡ parent_words parent) }
+    ensures name { IfOk result IsParentName }
+    ensures fault { IfErr result
+        (IsMisfit (Spells IsParentName parent_words) (texts_in words.now)) }
+{
+    let Ok((word, behind)) = first(words) else {
+        return Ok(ParentName::Contextual);
+    };
     match word {
-        "off" => Some(LevelFilter::OFF),
-        "error" => Some(LevelFilter::ERROR),
-        "warn" => Some(LevelFilter::WARN),
-        "info" => Some(LevelFilter::INFO),
-        "debug" => Some(LevelFilter::DEBUG),
-        "trace" => Some(LevelFilter::TRACE),
-        _ => None,
+        "root" => {
+            end(behind)?;
+            Ok(ParentName::Root)
+        }
+        "in" => {
+            let (name, behind) = span_name(behind)?;
+            end(behind)?;
+            Ok(ParentName::In(name))
+        }
+        _ => Err(misfit_of(words, Reason::UnknownWord)),
     }
 }
 
-/// The word as a label, if it is one.
-fn label_of(word: &str) -> Option<&str>
-    ensures found { is_some result ≡ is_label word.now }
-    ensures same { IfSome result (λ label. label.now ≡ word.now) }
+/// The parent and the value that the last words of an event's line are.
+fn tail<'a>(words: &[&'a str]) -> Result<(ParentName<'a>, MuteField), Misfit>
+    ensures spelled { IfOk result (λ tail. texts_in words.now ≡ tail_words tail) }
+    ensures tail { IfOk result IsTail }
+    ensures fault { IfErr result (IsMisfit (Spells IsTail tail_words) (texts_in words.now)) }
 {
-    if is_label(word) { Some(word) } else { None }
+    let Ok((word, behind)) = first(words) else {
+        return Ok((ParentName::Contextual, MuteField::Absent));
+    };
+    match word {
+        "root" => Ok((ParentName::Root, mute(behind)?)),
+        "in" => {
+            let (name, behind) = span_name(behind)?;
+            Ok((ParentName::In(name), mute(behind)?))
+        }
+        "mute" => {
+            end(behind)?;
+            Ok((ParentName::Contextual, MuteField::Given))
+        }
+        _ => Err(misfit_of(words, Reason::UnknownWord)),
+    }
+}
+
+/// The value that the words are.
+fn mute(words: &[&str]) -> Result<MuteField, Misfit>
+    ensures spelled { IfOk result (λ mute. texts_in words.now ≡ mute_words mute) }
+    ensures fault { IfErr result (IsMisfit (Spells (λ _. ⊤) mute_words) (texts_in words.now)) }
+{
+    let Ok((word, behind)) = first(words) else {
+        return Ok(MuteField::Absent);
+    };
+    match word {
+        "mute" => {
+            end(behind)?;
+            Ok(MuteField::Given)
+        }
+        _ => Err(misfit_of(words, Reason::UnknownWord)),
+    }
+}
+
+/// The lane that the first word is.
+fn lane<'w, 'a>(words: &'w [&'a str]) -> Taken<'w, 'a, Lane>
+    ensures spelled { IfOk result (λ t. texts_in words.now ≡ digit t.0.0 ∷ texts_in t.1.now) }
+    ensures lane { IfOk result (λ t. t.0.0 < 10) }
+    ensures fault { IfErr result (IsNoFirst IsDigit digit Reason.UnknownWord (texts_in words.now)) }
+{
+    let (number, words) = number(words)?;
+    Ok((Lane(number), words))
+}
+
+/// The number that the first word, of one digit, is.
+fn number<'w, 'a>(words: &'w [&'a str]) -> Taken<'w, 'a, u32>
+    ensures spelled { IfOk result (λ t. texts_in words.now ≡ digit t.0 ∷ texts_in t.1.now) }
+    ensures number { IfOk result (λ t. t.0 < 10) }
+    ensures fault { IfErr result (IsNoFirst IsDigit digit Reason.UnknownWord (texts_in words.now)) }
+{
+    let (word, behind) = first(words)?;
+    match word.as_bytes() {
+        [number @ b'0'..=b'9'] => Ok((u32::from(*number - b'0'), behind)),
+        _ => Err(misfit_of(words, Reason::UnknownWord)),
+    }
+}
+
+/// The filter by level that the first word names.
+fn level<'w, 'a>(words: &'w [&'a str]) -> Taken<'w, 'a, LevelFilter>
+    ensures spelled { IfOk result (λ t. texts_in words.now ≡ level_word t.0 ∷ texts_in t.1.now) }
+    ensures fault { IfErr result
+        (IsNoFirst (λ _. ⊤) level_word Reason.UnknownWord (texts_in words.now)) }
+{
+    let (word, behind) = first(words)?;
+    let level = match word {
+        "off" => LevelFilter::OFF,
+        "error" => LevelFilter::ERROR,
+        "warn" => LevelFilter::WARN,
+        "info" => LevelFilter::INFO,
+        "debug" => LevelFilter::DEBUG,
+        "trace" => LevelFilter::TRACE,
+        _ => return Err(misfit_of(words, Reason::UnknownWord)),
+    };
+    Ok((level, behind))
+}
+
+/// The name that the first word is.
+fn span_name<'w, 'a>(words: &'w [&'a str]) -> Taken<'w, 'a, Name<'a>>
+    ensures spelled { IfOk result (λ t. texts_in words.now ≡ word_of t.0 ∷ texts_in t.1.now) }
+    ensures name { IfOk result (λ t. IsName t.0) }
+    ensures fault { IfErr result (IsNoFirst IsName word_of Reason.NotLabel (texts_in words.now)) }
+{
+    let (word, behind) = first(words)?;
+    match word {
+        "?" => Ok((Name::Nobody, behind)),
+        _ => {
+            let (label, behind) = label(words)?;
+            Ok((Name::Label(label), behind))
+        }
+    }
+}
+
+/// The label that the first word is.
+fn label<'w, 'a>(words: &'w [&'a str]) -> Taken<'w, 'a, &'a str>
+    ensures spelled { IfOk result (λ t. texts_in words.now ≡ t.0.now ∷ texts_in t.1.now) }
+    ensures label { IfOk result (λ t. IsTrue (is_label t.0.now)) }
+    ensures fault { IfErr result (IsNoFirst (λ label. IsTrue (is_label label)) (λ label. label)
+        Reason.NotLabel (texts_in words.now)) }
+{
+    let (word, behind) = first(words)?;
+    if is_label(word) {
+        Ok((word, behind))
+    } else {
+        Err(misfit_of(words, Reason::NotLabel))
+    }
 }
 
 /// The word is made as a label is, and has no other meaning.
-pub fn is_label(word: &str) -> bool
+fn is_label(word: &str) -> bool
     ensures { result ≡ is_label word.now }
 {
     if is_keyword(word) || word.len() > LABEL_LIMIT {

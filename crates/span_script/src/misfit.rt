@@ -1,119 +1,87 @@
-//! Words that are no line: which of them is wrong, and why.
-ghost use Rattle.std.specs.Prelude.{◌≡◌, ◌<◌, ◌≤◌, ◌+◌, ◌^◌, [], false, length, slice_get, take, true, MatchOption};
+//! Words that can't be read: which of them is wrong, and why.
+ghost use Rattle.std.specs.Prelude.{◌≡◌, ◌≤◌, ◌<◌, ◌+◌, ◌-◌, ◌^◌, ◌∷◌, [], false, length, take, IfOk, IfErr, MatchOption};
 ghost use Rattle.std.specs.List.{list_any};
-ghost use Rattle.span_script.specs.Form.{are_sound, begins_any, FitsForms};
-ghost use Rattle.span_script.specs.Reason.{column_after, first_reason, is_return, Describes, Expects, IsFirst, IsFirstMisfit, IsLater, IsMisfit, IsReturnAt, IsWordFault};
-ghost use Rattle.span_script.specs.Script.{texts_in, IsNoLine, NamesNoStack};
+ghost use Rattle.span_script.specs.Misfit.{column_after, column_of, is_return, IsFault, IsReturnAt, IsSaid};
+ghost use Rattle.span_script.specs.Script.{texts_in};
 
-use crate::form::{FIRST_FORMS, FORMS, Slot, begins_any, continues_any, labels_any};
 use crate::reason::Reason;
 
-/// Why the words are no first line, and the column that it begins at.
-pub fn first_misfit(words: &[&str]) -> (usize, Reason)
-    requires wrong { NamesNoStack (texts_in words.now) }
-    requires fits { column_after (texts_in words.now) < 2 ^ 64 }
-    ensures { IsFirstMisfit (texts_in words.now) result.0 result.1 }
-{
-    let (column, reason) = misfit(first_forms(), words);
-    let reason = first_reason(column, reason);
-    (column, reason)
+/// What is wrong with words.
+#[derive(Clone, Copy, Debug)]
+pub struct Misfit {
+    /// How many words there are from the first wrong one on: 0 where one more is needed.
+    pub left: usize,
+    /// Where it is wrong, in bytes.
+    pub offset: usize,
+    /// Why it is.
+    pub reason: Reason,
 }
 
-/// The reason as a first line's.
-fn first_reason(column: usize, reason: Reason) -> Reason
-    ensures { result ≡ first_reason column reason }
-{
-    match reason {
-        Reason::UnknownWord if column == 1 => Reason::NoStack,
-        Reason::UnknownWord => Reason::UnknownStack,
-        _ => reason,
+/// What words begin with, and the words behind that.
+pub type Taken<'w, 'a, T> = Result<(T, &'w [&'a str]), Misfit>;
+
+impl Misfit {
+    /// The column, if the words stand between single spaces.
+    pub fn column(&self, words: &[&str]) -> usize
+        requires left { self.now.left ≤ length words.now }
+        requires fits { column_of (texts_in words.now) self.now < 2 ^ 64 }
+        ensures { result ≡ column_of (texts_in words.now) self.now }
+    {
+        column_after(&words[..words.len() - self.left]) + self.offset
     }
 }
 
-/// Why the words are no line after the first, and the column that it begins at.
-pub fn line_misfit(words: &[&str]) -> (usize, Reason)
-    requires wrong { IsNoLine (texts_in words.now) }
-    requires fits { column_after (texts_in words.now) < 2 ^ 64 }
-    ensures { IsMisfit IsLater (texts_in words.now) result.0 result.1 }
+/// The first word, or else one more is needed.
+pub fn first<'w, 'a>(words: &'w [&'a str]) -> Taken<'w, 'a, &'a str>
+    ensures taken { IfOk result (λ t. texts_in words.now ≡ t.0.now ∷ texts_in t.1.now) }
+    ensures none { IfErr result (λ _. texts_in words.now ≡ []) }
+    ensures few { IfErr result (IsSaid Reason.TooFewWords (texts_in words.now)) }
 {
-    misfit(line_forms(), words)
-}
-
-/// The forms of lines after the first.
-fn line_forms() -> &'static [&'static [Slot]]
-    ensures { Describes result.now IsLater }
-{
-    FORMS
-}
-
-/// The forms of first lines.
-fn first_forms() -> &'static [&'static [Slot]]
-    ensures { Describes result.now IsFirst }
-{
-    FIRST_FORMS
-}
-
-/// Why the words have none of these forms, and the column that it begins at.
-fn misfit(forms: &[&[Slot]], words: &[&str]) -> (usize, Reason)
-    requires sound { are_sound forms.now ≡ true }
-    requires some { begins_any forms.now [] ≡ true }
-    requires wrong { ¬ (FitsForms forms.now (texts_in words.now)) }
-    requires fits { column_after (texts_in words.now) < 2 ^ 64 }
-    ensures { IsMisfit (FitsForms forms.now) (texts_in words.now) result.0 result.1 }
-{
-    let place = first_wrong(forms, words);
-    let before = &words[..place];
-    let column = column_after(before);
-    match words.get(place) {
-        None => (column, Reason::TooFewWords),
-        Some(word) => {
-            let (offset, reason) = word_fault(forms, before, word);
-            (column + offset, reason)
-        }
+    match words {
+        [word, words @ ..] => Ok((word, words)),
+        [] => Err(misfit_of(words, Reason::TooFewWords)),
     }
 }
 
-/// The place of the first word with which the words begin none of these forms, or their number.
-fn first_wrong(forms: &[&[Slot]], words: &[&str]) -> usize
-    requires { begins_any forms.now [] ≡ true }
-    ensures within { result ≤ length words.now }
-    ensures begins { begins_any forms.now (texts_in (take result words.now)) ≡ true }
-    ensures wrong { result < length words.now
-        → begins_any forms.now (texts_in (take (result + 1) words.now)) ≡ false }
+/// No words, or else there are too many.
+pub fn end(words: &[&str]) -> Result<(), Misfit>
+    ensures none { IfOk result (λ _. texts_in words.now ≡ []) }
+    ensures some { IfErr result (λ _. 0 < length (texts_in words.now)) }
+    ensures many { IfErr result (IsSaid Reason.TooManyWords (texts_in words.now)) }
 {
-    for place in 0..words.len() {
-        if !begins_any(forms, &words[..place + 1]) {
-            return place;
-        }
+    match words {
+        [] => Ok(()),
+        _ => Err(misfit_of(words, Reason::TooManyWords)),
     }
-    words.len()
 }
 
-/// The column behind words that each have a space behind them.
-pub fn column_after(words: &[&str]) -> usize
-    requires { column_after (texts_in words.now) < 2 ^ 64 }
-    ensures { result ≡ column_after (texts_in words.now) }
+/// What is said of words of which the first is wrong: that it is empty, that a carriage return
+/// stands in it, or else this; and of none, that there are too few.
+pub fn misfit_of(words: &[&str], reason: Reason) -> Misfit
+    ensures { IsSaid reason (texts_in words.now) result }
 {
-    let mut column = 1;
-    for word in words {
-        column += word.len() + 1;
+    let left = words.len();
+    let (offset, reason) = match words {
+        [] => (0, Reason::TooFewWords),
+        [word, ..] => fault(word, reason),
+    };
+    Misfit {
+        left,
+        offset,
+        reason,
     }
-    column
 }
 
-/// What is wrong with a word behind these, and where in it.
-fn word_fault(forms: &[&[Slot]], before: &[&str], word: &str) -> (usize, Reason)
-    requires sound { are_sound forms.now ≡ true }
-    ensures within { result.0 ≤ length word.now }
-    ensures fault { IsWordFault (FitsForms forms.now) (texts_in before.now) word.now result.0
-        result.1 }
+/// What is said of a word, and where in it.
+fn fault(word: &str, reason: Reason) -> (usize, Reason)
+    ensures { IsFault reason word.now result.0 result.1 }
 {
     if word.is_empty() {
         return (0, Reason::EmptyWord);
     }
     match return_in(word) {
         Some(offset) => (offset, Reason::CarriageReturn),
-        None => (0, expected(forms, before)),
+        None => (0, reason),
     }
 }
 
@@ -130,16 +98,14 @@ fn return_in(word: &str) -> Option<usize>
     None
 }
 
-/// What is said of a word that none of these forms has behind these.
-fn expected(forms: &[&[Slot]], before: &[&str]) -> Reason
-    requires { are_sound forms.now ≡ true }
-    ensures { Expects (FitsForms forms.now) (texts_in before.now) result }
+/// The column behind words that each have a space behind them.
+pub fn column_after(words: &[&str]) -> usize
+    requires { column_after (texts_in words.now) < 2 ^ 64 }
+    ensures { result ≡ column_after (texts_in words.now) }
 {
-    if labels_any(forms, before) {
-        Reason::NotLabel
-    } else if continues_any(forms, before) {
-        Reason::UnknownWord
-    } else {
-        Reason::TooManyWords
+    let mut column = 1;
+    for word in words {
+        column += word.len() + 1;
     }
+    column
 }

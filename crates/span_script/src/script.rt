@@ -1,12 +1,13 @@
 //! A script: its lines, and the requests that they ask for.
 ghost use Rattle.std.specs.Prelude.{◌≡◌, ◌∷◌, [], ◌++◌, ◌<◌, ◌^◌, IfNone, IfOk, IfErr, OnOk, IfSome};
 ghost use Rattle.span_script.specs.Fault.{Blames, IsLabelFaultAt, IsScriptFault, IsTakenAt, IsWrongFor};
-ghost use Rattle.span_script.specs.Reason.{column_after, names_of, names_of_parent, IsUndeclared};
+ghost use Rattle.span_script.specs.Misfit.{column_after};
+ghost use Rattle.span_script.specs.Reason.{first_reason, names_of, names_of_parent, IsUndeclared};
 ghost use Rattle.span_script.specs.Script.{cut, lines_of, mute_values, words_of, read_in, requests_of, stack_of, texts_in, values_in, Asks, Declares, HoldsOfNone, IsLine, IsScript, IsSpelled, Means, MeansParent, ReadsText};
 
 use crate::fault::{ScriptFault, WrongLine};
 use crate::line::{Line, MuteField, Name, ParentName};
-use crate::misfit::{column_after, first_misfit, line_misfit};
+use crate::misfit::column_after;
 use crate::reason::Reason;
 use crate::stack_name::StackName;
 use span_core::{FieldValue, Id, Lane};
@@ -238,21 +239,32 @@ fn next<'a>(
     }
     let words = parts_of(alloc, text, ' ')?;
     match script {
-        None => {
-            let Some(stack) = StackName::of(&words) else {
-                let (column, reason) = first_misfit(&words);
-                return Err(wrong(number, column, reason));
-            };
-            Ok(Some(Script::new(alloc, stack)))
-        }
-        Some(mut script) => {
-            let Some(line) = Line::of(&words) else {
-                let (column, reason) = line_misfit(&words);
-                return Err(wrong(number, column, reason));
-            };
-            script.add(line, &words, number)?;
-            Ok(Some(script))
-        }
+        None => match StackName::of(&words) {
+            Ok(stack) => Ok(Some(Script::new(alloc, stack))),
+            Err(misfit) => {
+                let column = misfit.column(&words);
+                let reason = first_reason(column, misfit.reason);
+                Err(wrong(number, column, reason))
+            }
+        },
+        Some(mut script) => match Line::of(&words) {
+            Ok(line) => {
+                script.add(line, &words, number)?;
+                Ok(Some(script))
+            }
+            Err(misfit) => Err(wrong(number, misfit.column(&words), misfit.reason)),
+        },
+    }
+}
+
+/// The reason as a first line's.
+fn first_reason(column: usize, reason: Reason) -> Reason
+    ensures { result ≡ first_reason column reason }
+{
+    match reason {
+        Reason::UnknownWord if column == 1 => Reason::NoStack,
+        Reason::UnknownWord => Reason::UnknownStack,
+        _ => reason,
     }
 }
 

@@ -1,51 +1,61 @@
 //! The callsites that a script names by one digit.
-ghost use Rattle.std.specs.Prelude.{◌≡◌, ◌≢◌, ◌<◌, ◌≤◌, ◌∷◌, [], ℕ, IfNone, IfSome, codes};
+ghost use Rattle.std.specs.Prelude.{◌≡◌, ◌∷◌, [], IfErr, IfOk, codes};
 ghost use Rattle.span_core.specs.Metadata.{callsite_of, fields_of, kind_of, level_of, name_of, names_of, target_of};
-ghost use Rattle.span_script.specs.Script.{digit, texts_in, IsAnySite, IsEventSite, IsSpanSite};
+ghost use Rattle.span_script.specs.Misfit.{IsNoFirst};
+ghost use Rattle.span_script.specs.Script.{site_word, texts_in, IsAnySite, IsEventSite, IsSpanSite};
 
+use crate::misfit::{Taken, first, misfit_of};
+use crate::reason::Reason;
 use span_core::{FieldSet, Kind, Level, Metadata};
 
-/// The metadata of the callsite of spans that the word names, if it names one.
-pub fn span_site(word: &str) -> Option<Metadata>
-    ensures spelled { IfSome result (λ site. word.now ≡ digit (callsite_of site)) }
-    ensures site { IfSome result IsSpanSite }
-    ensures none { IfNone result ((n : ℕ) → n < 5 → word.now ≢ digit n) }
+/// The callsite of spans that the first word names.
+pub fn span_site<'w, 'a>(words: &'w [&'a str]) -> Taken<'w, 'a, Metadata>
+    ensures spelled { IfOk result (λ t. texts_in words.now ≡ site_word t.0 ∷ texts_in t.1.now) }
+    ensures site { IfOk result (λ t. IsSpanSite t.0) }
+    ensures fault { IfErr result
+        (IsNoFirst IsSpanSite site_word Reason.UnknownWord (texts_in words.now)) }
 {
-    match word {
-        "0" => Some(span_of(0, "s0", Level::ERROR)),
-        "1" => Some(span_of(1, "s1", Level::WARN)),
-        "2" => Some(span_of(2, "s2", Level::INFO)),
-        "3" => Some(span_of(3, "s3", Level::DEBUG)),
-        "4" => Some(span_of(4, "s4", Level::TRACE)),
-        _ => None,
-    }
+    let (word, behind) = first(words)?;
+    let site = match word {
+        "0" => span_of(0, "s0", Level::ERROR),
+        "1" => span_of(1, "s1", Level::WARN),
+        "2" => span_of(2, "s2", Level::INFO),
+        "3" => span_of(3, "s3", Level::DEBUG),
+        "4" => span_of(4, "s4", Level::TRACE),
+        _ => return Err(misfit_of(words, Reason::UnknownWord)),
+    };
+    Ok((site, behind))
 }
 
-/// The metadata of the callsite of events that the word names, if it names one.
-pub fn event_site(word: &str) -> Option<Metadata>
-    ensures spelled { IfSome result (λ site. word.now ≡ digit (callsite_of site)) }
-    ensures site { IfSome result IsEventSite }
-    ensures none { IfNone result ((n : ℕ) → 5 ≤ n → n < 10 → word.now ≢ digit n) }
+/// The callsite of events that the first word names.
+pub fn event_site<'w, 'a>(words: &'w [&'a str]) -> Taken<'w, 'a, Metadata>
+    ensures spelled { IfOk result (λ t. texts_in words.now ≡ site_word t.0 ∷ texts_in t.1.now) }
+    ensures site { IfOk result (λ t. IsEventSite t.0) }
+    ensures fault { IfErr result
+        (IsNoFirst IsEventSite site_word Reason.UnknownWord (texts_in words.now)) }
 {
-    match word {
-        "5" => Some(event_of(5, "s5", Level::ERROR)),
-        "6" => Some(event_of(6, "s6", Level::WARN)),
-        "7" => Some(event_of(7, "s7", Level::INFO)),
-        "8" => Some(event_of(8, "s8", Level::DEBUG)),
-        "9" => Some(event_of(9, "s9", Level::TRACE)),
-        _ => None,
-    }
+    let (word, behind) = first(words)?;
+    let site = match word {
+        "5" => event_of(5, "s5", Level::ERROR),
+        "6" => event_of(6, "s6", Level::WARN),
+        "7" => event_of(7, "s7", Level::INFO),
+        "8" => event_of(8, "s8", Level::DEBUG),
+        "9" => event_of(9, "s9", Level::TRACE),
+        _ => return Err(misfit_of(words, Reason::UnknownWord)),
+    };
+    Ok((site, behind))
 }
 
-/// The metadata of the callsite that the word names, if it names one.
-pub fn any_site(word: &str) -> Option<Metadata>
-    ensures spelled { IfSome result (λ site. word.now ≡ digit (callsite_of site)) }
-    ensures site { IfSome result IsAnySite }
-    ensures none { IfNone result ((n : ℕ) → n < 10 → word.now ≢ digit n) }
+/// The callsite that the first word names.
+pub fn any_site<'w, 'a>(words: &'w [&'a str]) -> Taken<'w, 'a, Metadata>
+    ensures spelled { IfOk result (λ t. texts_in words.now ≡ site_word t.0 ∷ texts_in t.1.now) }
+    ensures site { IfOk result (λ t. IsAnySite t.0) }
+    ensures fault { IfErr result
+        (IsNoFirst IsAnySite site_word Reason.UnknownWord (texts_in words.now)) }
 {
-    match span_site(word) {
-        Some(site) => Some(site),
-        None => event_site(word),
+    match span_site(words) {
+        Ok(taken) => Ok(taken),
+        Err(_) => event_site(words),
     }
 }
 

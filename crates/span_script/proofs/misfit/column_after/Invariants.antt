@@ -1,5 +1,5 @@
 use Rattle.std.proofs.Common.{◌≡◌, take}
-use Rattle.span_script.specs.Reason.{column_after}
+use Rattle.span_script.specs.Misfit.{column_after}
 use Rattle.span_script.specs.Script.{texts_in}
 use Rattle.span_script.proofs.misfit.column_after.Given as goal
 

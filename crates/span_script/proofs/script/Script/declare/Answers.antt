@@ -5,7 +5,8 @@ use Rattle.std.specs.Map.{update}
 use Rattle.span_script.specs.Script.{Declares, place_of, lines_of, texts_in}
 use Rattle.std.proofs.lemmas.List.{take-map}
 use Rattle.span_script.specs.Fault.{Blames, IsTakenAt}
-use Rattle.span_script.specs.Reason.{column_after, IsTaken}
+use Rattle.span_script.specs.Misfit.{column_after}
+use Rattle.span_script.specs.Reason.{IsTaken}
 use Rattle.span_script.proofs.Growing.{taken-at}
 use Rattle.span_script.specs.declared.line.Line.{Line}
 use Rattle.span_script.specs.declared.script.Script.{Script}
