@@ -2,6 +2,9 @@
 use Rattle.std.specs.Prelude.{ℕ, ◌||◌, Bool, List, bytes_eq, Option, None, Some, codes, filter, map, not}
 use Rattle.std.specs.Borrow.{Bor}
 use Rattle.log.specs.Kv.{Pair}
+use Rattle.log.specs.declared.kv.to_value.Primitive.{Primitive}
+use Rattle.log.specs.declared.kv.value.Value.TheVariants as log
+use Rattle.log.specs.declared.kv.value.Value.{Value}
 use Rattle.span_core.specs.Field.{value_text}
 use Rattle.span_core.specs.declared.field.FieldValue.{FieldValue}
 use Rattle.span_core.specs.declared.field.FieldValue.TheVariants as value
@@ -10,6 +13,13 @@ use Rattle.span_log.specs.declared.fields.Fields.{Fields}
 -- the fields that are handed on as pairs
 abbrev pub fields_in : Fields → List (Bor (List ℕ) × FieldValue)
 fields_in fields = fields.0.now
+
+-- a value as one of `log`, of the same kind
+abbrev pub log_value_of : FieldValue → Value Primitive
+log_value_of (value.U64 number) = log.U64 number
+log_value_of (value.I64 number) = log.I64 number
+log_value_of (value.Bool flag) = log.Bool flag
+log_value_of (value.Text text) = log.Str text
 
 -- the text that a value is, if it is one
 abbrev pub text_in : FieldValue → Option (List ℕ)

@@ -2,7 +2,7 @@
 ghost use Rattle.std.specs.Prelude.{◌≡◌, Some};
 ghost use Rattle.log.specs.Kv as kv;
 ghost use Rattle.span_core.specs.Field.{value_text};
-ghost use Rattle.span_log.specs.Fields.{fields_in, is_pair, pairs_of};
+ghost use Rattle.span_log.specs.Fields.{fields_in, is_pair, log_value_of, pairs_of};
 
 use log::kv::{self, Primitive, Source, Value, VisitSource};
 use span_core::FieldValue;
@@ -42,9 +42,10 @@ fn is_pair(name: &str) -> bool
     name != "message" && name != "log.target"
 }
 
-/// A value as one of `log`.
-fn log_value<'a>(value: FieldValue<'a>) -> Value<'a, Primitive>
-    ensures { kv.value_text ⟦<Primitive as Display>⟧.output result
+/// A value as one of `log`, of the same kind and with the same text.
+pub fn log_value<'a>(value: FieldValue<'a>) -> Value<'a, Primitive>
+    ensures kind { result ≡ log_value_of value.entry }
+    ensures text { kv.value_text ⟦<Primitive as Display>⟧.output result
         ≡ Some (value_text value.entry) }
 {
     match value {

@@ -1,9 +1,11 @@
 //! A layer that hands events to a logger.
 ghost use Rattle.std.specs.Prelude.{◌≡◌};
-ghost use Rattle.span_log.specs.Layer.{log_steps, logger_of};
+ghost use Rattle.span_log.specs.Layer.{IsWantedRecordOf, log_steps, logger_of};
 
+use crate::fields::Fields;
 use crate::record::event_record;
-use log::Log;
+use log::{Log, Record};
+use span_core::{Event, FieldValue};
 use span_layers::{AlwaysUsableObserver, Observe};
 use span_registry::{ContextMut, Notice, Subscriber};
 
@@ -30,6 +32,22 @@ impl<L: Log> LogLayer<L> {
         &self.log
     }
 
+    /// The record of an event that the logger is handed, which is asked first: none where it isn't
+    /// enabled for the record's level and target.
+    pub fn wanted_record<'a>(
+        &self,
+        event: &Event<'a>,
+    ) -> Option<Record<'a, FieldValue<'a>, Fields<'a>>>
+        ensures { IsWantedRecordOf (L.enables (logger_of self.now)) event.now result }
+    {
+        let record = event_record(event);
+        if self.log.enabled(record.metadata()) {
+            Some(record)
+        } else {
+            None
+        }
+    }
+
     /// The logger, taken out.
     pub fn into_log(self) -> L
         ensures { result ≡ logger_of self }
@@ -45,8 +63,7 @@ impl<S: Subscriber, L: Log> Observe<S> for LogLayer<L> {
         let Notice::Event(event) = notice else {
             return;
         };
-        let record = event_record(event);
-        if self.log.enabled(record.metadata()) {
+        if let Some(record) = self.wanted_record(event) {
             self.log.log(&record);
         }
     }

@@ -9,7 +9,7 @@ mod level;
 mod record;
 
 pub use bridge::{forward, record_metadata};
-pub use fields::Fields;
+pub use fields::{Fields, log_value};
 pub use layer::LogLayer;
 pub use level::{AsLog, AsTrace};
 pub use record::event_record;
