@@ -7,8 +7,8 @@ use Rattle.std.specs.declared.cmp.Ordering.{Ordering}
 use Rattle.std.specs.declared.cmp.Ordering.TheVariants.{Equal, Greater, Less}
 use Rattle.span_times.specs.Measure.{capped}
 use Rattle.span_times.specs.declared.happening.Point.{Point}
+use Rattle.span_export.specs.Entry.{lasting, spans_in}
 use Rattle.span_export.specs.Folded.{LinesHaveAllTime, Sums, add, in_spans, stack_text, stood, stood_in, sums_from, time_from}
-use Rattle.span_export.specs.Lanes.{stack_on}
 use Rattle.span_export.specs.declared.site.Site.{Site}
 
 total : Sums → ℕ
@@ -42,7 +42,7 @@ whole : (sites : List Site) (all : List Point) (sums : Sums) (before rest : List
     → total sums + time_from before rest < 2 ^ 64 → total (sums_from sites all sums before rest) ≡ total sums + time_from before rest
 whole sites all sums before [] fits = omega arith
 whole sites all sums before (p ∷ rest) fits =
-    let stack = stack_on p.lane.0 before in
+    let stack = spans_in p.lane.0 (lasting before) in
     let next = stood_in sites all stack (stood before p) sums in
     let here : total next ≡ total sums + in_spans stack (stood before p) = one_point sites all stack (stood before p) sums (omega arith) in
     whole sites all next (before ++ p ∷ []) rest (omega arith) ∙ omega arith

@@ -1,16 +1,21 @@
 -- How deep what is written nests.
-use Rattle.std.proofs.Common.{arith, ◌≤◌, ◌+◌, ℕ, List, [], ◌∷◌, Option, None, Some, codes, decimal, filter_map}
+use Rattle.std.proofs.Common.{arith, ◌≤◌, ◌+◌, ℕ, Bool, true, false, List, [], ◌∷◌, ◌++◌, Option, None, Some, codes, decimal, filter_map, map}
 use Rattle.std.specs.List.{cons_option}
+use Rattle.std.specs.Option.{option_to_list}
 use Rattle.std.specs.Ordering.{match_ordering}
 use Rattle.std.specs.Prelude.{⊤}
 use Rattle.std.specs.declared.cmp.Ordering.{Ordering}
 use Rattle.std.specs.declared.cmp.Ordering.TheVariants.{Equal, Greater, Less}
 use Rattle.serde_json.specs.Data.{Data, Members, array, depth, items_depth, member, members_depth, no_members, put, string}
 use Rattle.serde_json.specs.View.{items_of}
-use Rattle.span_export.specs.Chrome.{event_as, event_in, head, instant, span_event, trace_of}
 use Rattle.span_core.specs.Span.{number_of}
-use Rattle.span_export.specs.Site.{site_at}
-use Rattle.span_export.specs.Json.{members, object_of}
+use Rattle.span_export.specs.Chrome.{Change, begin_of, change_event, changes, events_at, events_from, events_of, head, instant, is_known, lane_named, naming}
+use Rattle.span_export.specs.Chrome.{own_event, span_event, time_in, trace_of}
+use Rattle.span_export.specs.Chrome.Change.{Begins, Ends}
+use Rattle.span_export.specs.Entry.{lasting}
+use Rattle.span_export.specs.Json.{members, object_of, whole}
+use Rattle.span_export.specs.Site.{named_in, site_of}
+use Rattle.span_export.specs.declared.entry.Entry.{Entry}
 use Rattle.span_export.specs.declared.site.Site.{Site}
 use Rattle.span_times.specs.declared.happening.Happening.TheVariants.{Closed, Entered, Followed, Left, Opened, Recorded, Renamed, Sent}
 use Rattle.span_times.specs.declared.happening.Happening.{Happening}
@@ -56,28 +61,77 @@ pub items_within : {A : Type 0} (n : ℕ) (f : A → Option Data) → ((x : A) �
 items_within n f h [] = omega arith
 items_within n f h (x ∷ xs) = one_more n (f x) (filter_map f xs) (h x) (items_within n f h xs)
 
-span_flat : (phase : List ℕ) (site : Option Site) (x : ℕ) (p : Point) → depth (span_event phase site x p) ≤ 1
-span_flat phase site x p =
-    object_within 0 ((codes "id", string (decimal x)) ∷ head phase site p)
-    (omega arith, (omega arith, (omega arith, (omega arith, (omega arith, (omega arith, (omega arith, tt)))))))
+-- what stands before others and behind
+joined_within : (n : ℕ) (ds es : List Data) → items_depth (items_of ds) ≤ n → items_depth (items_of es) ≤ n → items_depth (items_of (ds ++ es)) ≤ n
+joined_within n [] es h k = k
+joined_within n (d ∷ ds) es h k = omega (arith, joined_within n ds es (omega (arith, h)) k)
 
-instant_flat : (site : Option Site) (p : Point) → depth (instant site p) ≤ 1
-instant_flat site p =
-    object_within 0 ((codes "s", string (codes "t")) ∷ head (codes "i") site p)
-    (omega arith, (omega arith, (omega arith, (omega arith, (omega arith, (omega arith, (omega arith, tt)))))))
+-- each is so for something
+mapped_within : {A : Type 0} (n : ℕ) (f : A → Data) → ((x : A) → depth (f x) ≤ n) → (xs : List A) → items_depth (items_of (map f xs)) ≤ n
+mapped_within n f h [] = omega arith
+mapped_within n f h (x ∷ xs) = omega (arith, h x, mapped_within n f h xs)
 
-event_flat : (site : Option Site) (what : Happening) (p : Point) → IsWithin 1 (event_as site what p)
-event_flat site (Entered id) p = span_flat (codes "B") site (number_of id) p
-event_flat site (Left id) p = span_flat (codes "E") site (number_of id) p
-event_flat site (Opened id callsite parent) p = span_flat (codes "b") site (number_of id) p
-event_flat site (Closed id) p = span_flat (codes "e") site (number_of id) p
-event_flat site (Sent callsite parent) p = instant_flat site p
-event_flat site (Recorded id) p = tt
-event_flat site (Followed id other) p = tt
-event_flat site (Renamed id other) p = tt
+span_flat : (phase : List ℕ) (site : Option Site) (x lane time : ℕ) → depth (span_event phase site x lane time) ≤ 2
+span_flat phase site x lane time =
+    omega (
+      arith,
+      object_within 0 ((codes "id", string (decimal x)) ∷ head phase site lane time)
+          (omega arith, (omega arith, (omega arith, (omega arith, (omega arith, (omega arith, (omega arith, tt))))))),
+    )
 
--- a trace nests three deep
+instant_flat : (site : Option Site) (lane time : ℕ) → depth (instant site lane time) ≤ 2
+instant_flat site lane time =
+    omega (
+      arith,
+      object_within 0 ((codes "s", string (codes "t")) ∷ head (codes "i") site lane time)
+          (omega arith, (omega arith, (omega arith, (omega arith, (omega arith, (omega arith, (omega arith, tt))))))),
+    )
+
+lane_flat : (lane : ℕ) → depth (lane_named lane) ≤ 2
+lane_flat lane =
+    let args = object_within 0 ((codes "name", string (codes "lane " ++ decimal lane)) ∷ []) (omega arith, tt) in
+    object_within 1 ((codes "ph", string (codes "M"))
+    ∷ (codes "name", string (codes "thread_name")) ∷ (codes "pid", whole 1) ∷ (codes "tid", whole lane)
+    ∷ (codes "args", object_of ((codes "name", string (codes "lane " ++ decimal lane)) ∷ [])) ∷ [])
+    (omega arith, (omega arith, (omega arith, (omega arith, (omega (arith, args), tt)))))
+
+change_flat : (named : ℕ → Option Site) (time : ℕ) (c : Change) → depth (change_event named time c) ≤ 2
+change_flat named time (Begins lane x) = span_flat (codes "B") (named x) x lane time
+change_flat named time (Ends lane x) = span_flat (codes "E") (named x) x lane time
+
+own_flat : (sites : List Site) (named : ℕ → Option Site) (lane time : ℕ) (what : Happening)
+    → items_depth (items_of (option_to_list (own_event sites named lane time what))) ≤ 2
+own_flat sites named lane time (Opened id callsite parent) = omega (arith, span_flat (codes "b") (named (number_of id)) (number_of id) lane time)
+own_flat sites named lane time (Closed id) = omega (arith, span_flat (codes "e") (named (number_of id)) (number_of id) lane time)
+own_flat sites named lane time (Sent callsite parent) = omega (arith, instant_flat (site_of sites callsite) lane time)
+own_flat sites named lane time (Entered id) = omega arith
+own_flat sites named lane time (Left id) = omega arith
+own_flat sites named lane time (Recorded id) = omega arith
+own_flat sites named lane time (Followed id other) = omega arith
+own_flat sites named lane time (Renamed id other) = omega arith
+
+naming_flat : (known : Bool) (lane : ℕ) → items_depth (items_of (naming known lane)) ≤ 2
+naming_flat true lane = omega arith
+naming_flat false lane = omega (arith, lane_flat lane)
+
+point_flat : (sites : List Site) (named : ℕ → Option Site) (es : List Entry) (time : ℕ) (p : Point)
+    → items_depth (items_of (events_at sites named es time p)) ≤ 2
+point_flat sites named es time p =
+    joined_within 2 (map (change_event named time) (changes es p p.what)) (option_to_list (own_event sites named p.lane.0 time p.what))
+    (mapped_within 2 (change_event named time) (change_flat named time) (changes es p p.what)) (own_flat sites named p.lane.0 time p.what)
+
+all_flat : (sites : List Site) (named : ℕ → Option Site) (begin : ℕ) (before ps : List Point)
+    → items_depth (items_of (events_from sites named begin before ps)) ≤ 2
+all_flat sites named begin before [] = omega arith
+all_flat sites named begin before (p ∷ ps) =
+    let name = naming (is_known before p.lane.0) p.lane.0 in
+    let here = events_at sites named (lasting before) (time_in begin p) p in
+    joined_within 2 (name ++ here) (events_from sites named begin (before ++ p ∷ []) ps)
+    (joined_within 2 name here (naming_flat (is_known before p.lane.0) p.lane.0) (point_flat sites named (lasting before) (time_in begin p) p))
+    (all_flat sites named begin (before ++ p ∷ []) ps)
+
+-- a trace nests four deep
 pub trace_depth : (sites : List Site) (ps : List Point) → depth (trace_of sites ps) ≤ 127
 trace_depth sites ps =
-    let events = items_within 1 (event_in sites ps) (λ p. event_flat (site_at sites ps p.what) p.what p) ps in
-    omega (arith, object_within 2 ((codes "traceEvents", array (items_of (filter_map (event_in sites ps) ps))) ∷ []) (omega arith, tt))
+    let events = all_flat sites (named_in sites ps) (begin_of ps) [] ps in
+    omega (arith, object_within 3 ((codes "traceEvents", array (items_of (events_of sites ps))) ∷ []) (omega (arith, events), tt))

@@ -2,17 +2,17 @@
 use Rattle.std.proofs.Common.{◌≡◌, ◌≢◌, ◌∙◌, ◌<◌, ◌+◌, ℕ, List, [], ◌∷◌, ◌++◌, ap, drop, get_or, length, refl, sym, take, if◌then◌else◌, ◌==◌}
 use Rattle.std.proofs.lemmas.List.{drop_more, take_more}
 use Rattle.std.proofs.lemmas.List.Sums.{fold_more}
+use Rattle.span_export.specs.Entry.{entries_after, lasting, spans_in}
 use Rattle.span_export.specs.Folded.{Sums, add, last_time, stack_text, stood, stood_in, sums_from}
-use Rattle.span_export.specs.Lanes.{goes_on, stack_on}
 use Rattle.span_export.specs.declared.site.Site.{Site}
 use Rattle.span_times.specs.declared.happening.Point.{Point}
 
--- one more point goes on with the stack of each lane
-pub stack_more : (lane : ℕ) (ps : List Point) (i : ℕ) (d : Point)
-    → i < length ps → stack_on lane (take (i + 1) ps) ≡ goes_on lane (stack_on lane (take i ps)) (get_or ps i d)
-stack_more lane ps i d within = fold_more (goes_on lane) [] ps i d within
+-- one more point goes on with the entries
+pub entries_more : (ps : List Point) (i : ℕ) (d : Point)
+    → i < length ps → lasting (take (i + 1) ps) ≡ entries_after (lasting (take i ps)) (get_or ps i d) (get_or ps i d).what
+entries_more ps i d within = fold_more (λ es p. entries_after es p p.what) [] ps i d within
 
--- and is the last of its lane
+-- it is the last of its lane
 pub time_more : (lane : ℕ) (ps : List Point) (i : ℕ) (d : Point)
     → i < length ps → last_time lane (take (i + 1) ps) ≡ (if (get_or ps i d).lane.0 == lane then (get_or ps i d).time else last_time lane (take i ps))
 time_more lane ps i d within = fold_more (λ time p. if p.lane.0 == lane then p.time else time) 0 ps i d within
@@ -25,7 +25,7 @@ stood_some sites ps (x ∷ stack) time sums some = refl
 
 -- one more point adds to the sums
 pub sums_more : (sites : List Site) (all ps : List Point) (i : ℕ) (d : Point) (old new whole : Sums) → i < length ps
-    → new ≡ stood_in sites all (stack_on (get_or ps i d).lane.0 (take i ps)) (stood (take i ps) (get_or ps i d)) old
+    → new ≡ stood_in sites all (spans_in (get_or ps i d).lane.0 (lasting (take i ps))) (stood (take i ps) (get_or ps i d)) old
     → sums_from sites all old (take i ps) (drop i ps) ≡ whole → sums_from sites all new (take (i + 1) ps) (drop (i + 1) ps) ≡ whole
 sums_more sites all ps i d old new whole within now so_far =
     ap (λ before. sums_from sites all new before (drop (i + 1) ps)) (take_more ps i d within)

@@ -1,49 +1,130 @@
 -- Points in Chrome's trace format, which Perfetto opens.
-use Rattle.std.specs.Prelude.{◌≡◌, ℕ, ◌/◌, Bool, false, List, [], ◌∷◌, Option, None, Some, codes, count_by, decimal, filter_map}
-use Rattle.std.specs.Option.{option_and_then, option_map_or}
+use Rattle.std.specs.Prelude.{◌≡◌, ◌==◌, ◌&&◌, ◌-◌, ◌/◌, ℕ, Bool, false, if◌then◌else◌, not, List, [], ◌∷◌, ◌++◌, Option, None, Some, codes, count_by, decimal, filter, flat_map, fold, map, reverse, slice_get}
+use Rattle.std.specs.List.{list_any}
+use Rattle.std.specs.Option.{option_and_then, option_map, option_map_or, option_to_list}
 use Rattle.std.specs.Str.{bytes_eq}
 use Rattle.serde_json.specs.Data.{Data, Items, array, string}
 use Rattle.serde_json.specs.Find.{as_str, get}
 use Rattle.serde_json.specs.View.{items_of}
 use Rattle.span_core.specs.Span.{number_of}
+use Rattle.span_export.specs.Entry.{is_into, is_of, lasting, since_newest, since_oldest, spans_on}
 use Rattle.span_export.specs.Json.{object_of, whole}
-use Rattle.span_export.specs.Site.{called, site_at, targeted}
+use Rattle.span_export.specs.Site.{called, named_in, site_of, targeted}
+use Rattle.span_export.specs.declared.entry.Entry.{Entry}
 use Rattle.span_export.specs.declared.site.Site.{Site}
-use Rattle.span_times.specs.Measure.{begins_busy, count_in, ends_busy, is_close, is_event, is_opening}
+use Rattle.span_times.specs.Measure.{count_in, is_close, is_event, is_opening}
 use Rattle.span_times.specs.declared.happening.Happening.TheVariants.{Closed, Entered, Left, Opened, Sent}
 use Rattle.span_times.specs.declared.happening.Happening.{Happening}
 use Rattle.span_times.specs.declared.happening.Point.{Point}
 
--- the members that all trace events have: a phase, a name, a category, when in microseconds, and
--- which lane
-abbrev pub head : List ℕ → Option Site → Point → List (List ℕ × Data)
-head phase site p =
+-- when a trace begins: with its first point
+abbrev pub begin_of : List Point → ℕ
+begin_of ps = option_map_or (λ p. p.time) (slice_get ps 0) 0
+
+-- when a point is, in microseconds since its trace began
+abbrev pub time_in : ℕ → Point → ℕ
+time_in begin p = (p.time - begin) / 1000
+
+-- the members that the trace events of spans and events have: a phase, a name, a category, when,
+-- and which lane
+abbrev pub head : List ℕ → Option Site → ℕ → ℕ → List (List ℕ × Data)
+head phase site lane time =
     (codes "ph", string phase) ∷ (codes "name", string (called site))
-    ∷ (codes "cat", string (targeted site)) ∷ (codes "ts", whole (p.time / 1000))
-    ∷ (codes "pid", whole 1) ∷ (codes "tid", whole p.lane.0) ∷ []
+    ∷ (codes "cat", string (targeted site)) ∷ (codes "ts", whole time)
+    ∷ (codes "pid", whole 1) ∷ (codes "tid", whole lane) ∷ []
 
 -- the trace event of a span in some phase
-abbrev pub span_event : List ℕ → Option Site → ℕ → Point → Data
-span_event phase site x p =
-    object_of ((codes "id", string (decimal x)) ∷ head phase site p)
+abbrev pub span_event : List ℕ → Option Site → ℕ → ℕ → ℕ → Data
+span_event phase site x lane time =
+    object_of ((codes "id", string (decimal x)) ∷ head phase site lane time)
 
 -- that of an event: an instant of its lane
-abbrev pub instant : Option Site → Point → Data
-instant site p = object_of ((codes "s", string (codes "t")) ∷ head (codes "i") site p)
+abbrev pub instant : Option Site → ℕ → ℕ → Data
+instant site lane time =
+    object_of ((codes "s", string (codes "t")) ∷ head (codes "i") site lane time)
 
--- the trace event of a point: a duration of the lane from an entry to an exit, one of the span from
--- its opening to its close
-abbrev pub event_as : Option Site → Happening → Point → Option Data
-event_as site (Entered id) p = Some (span_event (codes "B") site (number_of id) p)
-event_as site (Left id) p = Some (span_event (codes "E") site (number_of id) p)
-event_as site (Opened id callsite parent) p = Some (span_event (codes "b") site (number_of id) p)
-event_as site (Closed id) p = Some (span_event (codes "e") site (number_of id) p)
-event_as site (Sent callsite parent) p = Some (instant site p)
-event_as site other p = None
+-- the one by which viewers call a lane so
+abbrev pub lane_named : ℕ → Data
+lane_named lane =
+    object_of ((codes "ph", string (codes "M")) ∷ (codes "name", string (codes "thread_name"))
+    ∷ (codes "pid", whole 1) ∷ (codes "tid", whole lane)
+    ∷ (codes "args", object_of ((codes "name", string (codes "lane " ++ decimal lane)) ∷ [])) ∷ [])
 
--- the trace event of one point among these, if it has one
-abbrev pub event_in : List Site → List Point → Point → Option Data
-event_in sites ps p = event_as (site_at sites ps p.what) p.what p
+-- on a lane the box of a span begins or ends
+pub data Change : Type 0 where
+  Begins : ℕ → ℕ → Change
+  Ends : ℕ → ℕ → Change
+
+-- on a lane the boxes of these spans end, the newest first, and those but for this span's begin
+-- again
+abbrev pub redrawn : ℕ → ℕ → List ℕ → List Change
+redrawn x lane spans =
+    map (Ends lane) (reverse spans) ++ map (Begins lane) (filter (λ y. not (y == x)) spans)
+
+-- the lanes that are in a span, each once
+abbrev pub lanes_in : ℕ → List Entry → List ℕ
+lanes_in x [] = []
+lanes_in x (e ∷ es) =
+    if is_into x e && not (list_any (is_of e.lane.0 x) es) then e.lane.0 ∷ lanes_in x es
+    else lanes_in x es
+
+-- a lane leaves a span: the boxes end up to that of its newest entry into it
+abbrev pub left_on : ℕ → List Entry → ℕ → List Change
+left_on x es lane = redrawn x lane (spans_on lane (since_newest lane x es))
+
+-- a span closes: a lane's boxes end up to that of its oldest entry into it
+abbrev pub closed_on : ℕ → List Entry → ℕ → List Change
+closed_on x es lane = redrawn x lane (spans_on lane (since_oldest lane x es))
+
+-- what changes with a point, where these entries last before it
+abbrev pub changes : List Entry → Point → Happening → List Change
+changes es p (Entered id) = Begins p.lane.0 (number_of id) ∷ []
+changes es p (Left id) = left_on (number_of id) es p.lane.0
+changes es p (Closed id) = flat_map (closed_on (number_of id) es) (lanes_in (number_of id) es)
+changes es p other = []
+
+-- the trace event of a change, by the sites of spans
+abbrev pub change_event : (ℕ → Option Site) → ℕ → Change → Data
+change_event named time (Begins lane x) = span_event (codes "B") (named x) x lane time
+change_event named time (Ends lane x) = span_event (codes "E") (named x) x lane time
+
+-- the trace event of a point itself: a span begins with its opening and ends with its close, which
+-- is another duration than those of lanes
+abbrev pub own_event : List Site → (ℕ → Option Site) → ℕ → ℕ → Happening → Option Data
+own_event sites named lane time (Opened id callsite parent) =
+    Some (span_event (codes "b") (named (number_of id)) (number_of id) lane time)
+own_event sites named lane time (Closed id) =
+    Some (span_event (codes "e") (named (number_of id)) (number_of id) lane time)
+own_event sites named lane time (Sent callsite parent) =
+    Some (instant (site_of sites callsite) lane time)
+own_event sites named lane time other = None
+
+-- the name of a lane, unless it has one
+abbrev pub naming : Bool → ℕ → List Data
+naming known lane = if known then [] else lane_named lane ∷ []
+
+-- some of these points is of this lane
+abbrev pub is_known : List Point → ℕ → Bool
+is_known ps lane = list_any (λ p. p.lane.0 == lane) ps
+
+-- the trace events of a point, where these entries last before it: what changes, and its own
+abbrev pub events_at : List Site → (ℕ → Option Site) → List Entry → ℕ → Point → List Data
+events_at sites named es time p =
+    map (change_event named time) (changes es p p.what)
+    ++ option_to_list (own_event sites named p.lane.0 time p.what)
+
+-- the trace events of points, in their order; the others stand before them. The first point of a
+-- lane names it
+abbrev pub events_from : List Site → (ℕ → Option Site) → ℕ → List Point → List Point → List Data
+events_from sites named begin before [] = []
+events_from sites named begin before (p ∷ rest) =
+    naming (is_known before p.lane.0) p.lane.0
+    ++ events_at sites named (lasting before) (time_in begin p) p
+    ++ events_from sites named begin (before ++ p ∷ []) rest
+
+-- the trace events of points
+abbrev pub events_of : List Site → List Point → List Data
+events_of sites ps = events_from sites (named_in sites ps) (begin_of ps) [] ps
 
 -- a trace of such events
 abbrev pub trace_with : Items → Data
@@ -51,7 +132,7 @@ trace_with events = object_of ((codes "traceEvents", array events) ∷ [])
 
 -- a trace: the trace events of points, in their order
 abbrev pub trace_of : List Site → List Point → Data
-trace_of sites ps = trace_with (items_of (filter_map (event_in sites ps) ps))
+trace_of sites ps = trace_with (items_of (events_of sites ps))
 
 -- a trace event has this phase
 abbrev pub has_phase : List ℕ → Data → Bool
@@ -60,13 +141,11 @@ has_phase phase d =
 
 -- how many trace events of points have this phase
 abbrev pub count_phase : List ℕ → List Site → List Point → ℕ
-count_phase phase sites ps = count_by (has_phase phase) (filter_map (event_in sites ps) ps)
+count_phase phase sites ps = count_by (has_phase phase) (events_of sites ps)
 
--- whatever sites there are, each entry begins a duration on its lane and each exit ends one, each
--- opening and close those of spans, and each event is an instant
+-- whatever sites there are, each opening and close begins and ends the duration of a span, and each
+-- event is an instant
 pub record CountsAll (sites : List Site) (ps : List Point) : Type 0 where
-  pub entries : count_phase (codes "B") sites ps ≡ count_in begins_busy ps
-  pub exits : count_phase (codes "E") sites ps ≡ count_in ends_busy ps
   pub openings : count_phase (codes "b") sites ps ≡ count_in is_opening ps
   pub closes : count_phase (codes "e") sites ps ≡ count_in is_close ps
   pub events : count_phase (codes "i") sites ps ≡ count_in is_event ps
@@ -74,3 +153,29 @@ pub record CountsAll (sites : List Site) (ps : List Point) : Type 0 where
 -- the trace of any points counts all: what begins and ends, and events
 abbrev pub TracesCountAll : Type 0
 TracesCountAll = (sites : List Site) (ps : List Point) → CountsAll sites ps
+
+-- all changes with points, in their order; the others stand before them
+abbrev pub changes_from : List Point → List Point → List Change
+changes_from before [] = []
+changes_from before (p ∷ rest) =
+    changes (lasting before) p p.what ++ changes_from (before ++ p ∷ []) rest
+
+-- a box ends: it has to be the newest
+abbrev pub without_box : ℕ → List ℕ → Option (List ℕ)
+without_box x [] = None
+without_box x (y ∷ boxes) = if y == x then Some boxes else None
+
+-- the boxes of a lane after a change, by nesting, the newest first
+abbrev pub boxes_after : ℕ → Option (List ℕ) → Change → Option (List ℕ)
+boxes_after lane boxes (Begins other x) =
+    if other == lane then option_map (λ ys. x ∷ ys) boxes else boxes
+boxes_after lane boxes (Ends other x) =
+    if other == lane then option_and_then (without_box x) boxes else boxes
+
+-- each end is that of the newest box of its lane, and the boxes that are open after points are
+-- those of the spans that the lane is in
+abbrev pub TracesNest : Type 0
+TracesNest =
+    (ps : List Point) (lane : ℕ)
+    → fold (boxes_after lane) (Some []) (changes_from [] ps)
+    ≡ Some (reverse (spans_on lane (lasting ps)))

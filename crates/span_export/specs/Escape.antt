@@ -16,12 +16,12 @@ is_in_xml c =
 
 -- a character within XML: it begins or ends no tag, begins no entity, and where XML doesn't have
 -- it, U+FFFD stands for it
-abbrev pub escape : ℕ → List ℕ
-escape c =
+abbrev pub xml_of : ℕ → List ℕ
+xml_of c =
     if c == 38 then codes "&amp;" else if c == 60 then codes "&lt;"
     else if c == 62 then codes "&gt;" else if is_in_xml c then encode_utf8 c
     else encode_utf8 65533
 
 -- a text within XML, character by character
-abbrev pub escaped : List ℕ → List ℕ
-escaped text = flat_map escape (chars text)
+abbrev pub xml_text : List ℕ → List ℕ
+xml_text text = flat_map xml_of (chars text)

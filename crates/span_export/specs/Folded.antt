@@ -1,12 +1,12 @@
 -- Points as folded stacks, of which flame graphs are made.
-use Rattle.std.specs.Prelude.{◌≡◌, ◌<◌, ◌+◌, ◌-◌, ◌^◌, ◌==◌, ℕ, if◌then◌else◌, List, [], ◌∷◌, ◌++◌, codes, decimal, flat_map, fold, map, reverse, sum_by}
+use Rattle.std.specs.Prelude.{◌≡◌, ◌<◌, ◌+◌, ◌-◌, ◌^◌, ◌==◌, ℕ, if◌then◌else◌, List, [], ◌∷◌, ◌++◌, codes, decimal, flat_map, fold, length, map, sum_by}
 use Rattle.std.specs.Cmp.Lexicographic.{slice_cmp}
 use Rattle.std.specs.Ordering.{match_ordering, nat_cmp}
-use Rattle.span_store.specs.LaneStack.{without_duplicates}
+use Rattle.span_fmt.specs.Escape.{escaped}
 use Rattle.span_times.specs.Measure.{capped}
 use Rattle.span_times.specs.declared.happening.Point.{Point}
+use Rattle.span_export.specs.Entry.{lasting, spans_in}
 use Rattle.span_export.specs.Escape.{replace}
-use Rattle.span_export.specs.Lanes.{stack_on}
 use Rattle.span_export.specs.Site.{name_in}
 use Rattle.span_export.specs.declared.site.Site.{Site}
 
@@ -15,14 +15,16 @@ abbrev pub frames_text : List (List ℕ) → List ℕ
 frames_text [] = []
 frames_text (name ∷ names) = name ++ flat_map (λ n. codes ";" ++ n) names
 
--- a name as a frame: a semicolon in it is written as a colon, a space and a line feed as _
+-- a name as a frame: escaped, and a semicolon as well, with _ for each space; an empty one as no
+-- other is written
 abbrev pub frame : List ℕ → List ℕ
-frame name = replace 10 (codes "_") (replace 32 (codes "_") (replace 59 (codes ":") name))
+frame name =
+    if length name == 0 then codes "\\u{}"
+    else replace 32 (codes "_") (replace 59 (codes "\\u{3b}") (escaped name))
 
--- a stack as text: the names of its spans, outermost first, each span once
+-- a stack as text: the names of its spans, outermost first
 abbrev pub stack_text : List Site → List Point → List ℕ → List ℕ
-stack_text sites ps stack =
-    frames_text (map (λ x. frame (name_in sites ps x)) (reverse (without_duplicates stack)))
+stack_text sites ps stack = frames_text (map (λ x. frame (name_in sites ps x)) stack)
 
 -- when the last point of a lane was
 abbrev pub last_time : ℕ → List Point → ℕ
@@ -53,7 +55,8 @@ stood_in sites ps (x ∷ stack) time sums = add (stack_text sites ps (x ∷ stac
 abbrev pub sums_from : List Site → List Point → Sums → List Point → List Point → Sums
 sums_from sites ps sums before [] = sums
 sums_from sites ps sums before (p ∷ rest) =
-    sums_from sites ps (stood_in sites ps (stack_on p.lane.0 before) (stood before p) sums)
+    sums_from sites ps
+    (stood_in sites ps (spans_in p.lane.0 (lasting before)) (stood before p) sums)
     (before ++ p ∷ []) rest
 
 -- how long lanes stood in each stack
@@ -78,7 +81,8 @@ in_spans (x ∷ stack) time = time
 abbrev pub time_from : List Point → List Point → ℕ
 time_from before [] = 0
 time_from before (p ∷ rest) =
-    in_spans (stack_on p.lane.0 before) (stood before p) + time_from (before ++ p ∷ []) rest
+    in_spans (spans_in p.lane.0 (lasting before)) (stood before p)
+    + time_from (before ++ p ∷ []) rest
 
 -- how long lanes were in some span
 abbrev pub time_in_spans : List Point → ℕ

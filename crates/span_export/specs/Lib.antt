@@ -1,9 +1,10 @@
 pub mod Chrome
+pub mod Entry
 pub mod Escape
 pub mod Folded
 pub mod Frame
 pub mod Json
-pub mod Lanes
+pub mod Moment
 pub mod Otlp
 pub mod Picture
 pub mod Scale

@@ -1,5 +1,5 @@
 -- Points as a picture: a box for each time that a lane is in a span.
-use Rattle.std.specs.Prelude.{◌≡◌, ◌≤◌, ◌+◌, ◌-◌, ◌*◌, ◌/◌, ◌&&◌, ◌==◌, ℕ, Bool, if◌then◌else◌, max, nat_le, List, [], ◌∷◌, ◌++◌, Option, None, Some, codes, decimal, flat_map, fold, is_none, length, unwrap_or}
+use Rattle.std.specs.Prelude.{◌≡◌, ◌≤◌, ◌+◌, ◌-◌, ◌*◌, ◌/◌, ◌&&◌, ◌==◌, ℕ, Bool, if◌then◌else◌, max, nat_le, List, [], ◌∷◌, ◌++◌, Option, None, Some, codes, decimal, flat_map, fold, is_none, length, map, unwrap_or}
 use Rattle.std.specs.BTreeMap.{BTreeMap, get}
 use Rattle.std.specs.List.{AllByRecursion, list_any}
 use Rattle.std.specs.Ordering.{nat_cmp}
@@ -8,7 +8,7 @@ use Rattle.span_times.specs.Measure.{capped}
 use Rattle.span_times.specs.declared.happening.Happening.TheVariants.{Closed, Entered, Left, Sent}
 use Rattle.span_times.specs.declared.happening.Happening.{Happening}
 use Rattle.span_times.specs.declared.happening.Point.{Point}
-use Rattle.span_export.specs.Escape.{escaped}
+use Rattle.span_export.specs.Escape.{xml_text}
 use Rattle.span_export.specs.Frame.{frame_text}
 use Rattle.span_export.specs.Scale.{scale_of, x_at}
 use Rattle.span_export.specs.Site.{called, leveled, site_at}
@@ -37,6 +37,11 @@ ended lane x time (s ∷ stays) =
     if list_any (lasts_in lane x) stays then s ∷ ended lane x time stays
     else if lasts_in lane x s then record s { left = Some time } ∷ stays else s ∷ stays
 
+-- a stay, over by now if this span is its own
+abbrev pub closed_by : ℕ → ℕ → Stay → Stay
+closed_by x time s =
+    if number_of s.span == x && is_none s.left then record s { left = Some time } else s
+
 -- what a point makes of the stays so far
 abbrev pub stays_after : List Stay → Point → Happening → List Stay
 stays_after stays p (Entered id) =
@@ -48,7 +53,7 @@ stays_after stays p (Entered id) =
       left = None;
     } ∷ []
 stays_after stays p (Left id) = ended p.lane.0 (number_of id) p.time stays
-stays_after stays p (Closed id) = ended p.lane.0 (number_of id) p.time stays
+stays_after stays p (Closed id) = map (closed_by (number_of id) p.time) stays
 stays_after stays p other = stays
 
 -- the stays of lanes in spans, in the order in which they began
@@ -93,7 +98,7 @@ box_text name level area label =
 -- the box of a stay in a span with this site, on a lane with this top
 abbrev pub box_of : Scale → ℕ → Option Site → Stay → List ℕ
 box_of scale top site s =
-    let name = escaped (called site) in
+    let name = xml_text (called site) in
     let area = area_of scale top s in
     box_text name (leveled site) area (label_text name area)
 
@@ -111,7 +116,7 @@ circle_text name level x y =
 -- the mark of a point on a lane with this top, if it is an event with this site
 abbrev pub mark_of : Scale → ℕ → Option Site → Point → Happening → List ℕ
 mark_of scale top site p (Sent callsite parent) =
-    circle_text (escaped (called site)) (leveled site) (x_at scale p.time) (capped (top + 8))
+    circle_text (xml_text (called site)) (leveled site) (x_at scale p.time) (capped (top + 8))
 mark_of scale top site p other = []
 
 -- the marks of points

@@ -60,6 +60,14 @@ leveled site = option_map_or (λ s. level_text s.level) site (codes "?")
 abbrev pub KnowsOpeners : BTreeMap ℕ ℕ → List Point → Type 0
 KnowsOpeners openers ps = (x : ℕ) → get nat_cmp openers x ≡ opener_in ps x
 
+-- the site of a span
+abbrev pub named_in : List Site → List Point → ℕ → Option Site
+named_in sites ps x = option_and_then (site_of sites) (opener_in ps x)
+
 -- the name of a span
 abbrev pub name_in : List Site → List Point → ℕ → List ℕ
-name_in sites ps x = called (option_and_then (site_of sites) (opener_in ps x))
+name_in sites ps x = called (named_in sites ps x)
+
+-- the site of a span, by a map
+abbrev pub named_by : List Site → BTreeMap ℕ ℕ → ℕ → Option Site
+named_by sites openers x = option_and_then (site_of sites) (get nat_cmp openers x)

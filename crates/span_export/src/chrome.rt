@@ -1,26 +1,43 @@
 //! Points in Chrome's trace format, which Perfetto opens.
-ghost use Rattle.std.specs.Prelude.{◌≡◌, IfOk, List, decimal, filter_map, map, string_bytes};
-ghost use Rattle.std.specs.Option.{option_copied, option_map};
+ghost use Rattle.std.specs.BTreeSet.{contains};
+ghost use Rattle.std.specs.List.{list_any};
+ghost use Rattle.std.specs.Ordering.{nat_cmp};
+ghost use Rattle.std.specs.Option.{option_map};
+ghost use Rattle.std.specs.Prelude.{◌≡◌, ◌++◌, ◌==◌, ◌||◌, [], ◌∷◌, ℕ, IfOk, OnOk, codes, decimal, filter, flat_map, map, not, reverse, string_bytes};
 ghost use Rattle.serde_json.specs.Data.{string};
 ghost use Rattle.serde_json.specs.View.{items_view, view};
 ghost use Rattle.span_core.specs.Span.{number_of};
-ghost use Rattle.span_export.specs.Chrome.{event_as, event_in, instant, span_event, trace_of, trace_with};
+ghost use Rattle.span_export.specs.Chrome.{begin_of, change_event, changes, closed_on, events_at, events_of, instant, lane_named, lanes_in, naming, own_event, redrawn, span_event, trace_of, trace_with};
+ghost use Rattle.span_export.specs.Chrome.Change.{Begins, Ends};
 ghost use Rattle.span_export.specs.Json.{Means};
-ghost use Rattle.span_export.specs.Site.{KnowsOpeners};
-ghost use Rattle.span_times.specs.declared.happening.Point.{Point};
+ghost use Rattle.span_export.specs.Entry.{is_of, spans_on};
+ghost use Rattle.span_export.specs.Moment.{names};
+ghost use Rattle.span_export.specs.Site.{site_of};
 
-use crate::site::{Openers, Site, name_of, openers_of, site_of_happening, target_of};
+use crate::entry::{Entry, go_on, since_newest, since_oldest, spans_on};
+use crate::site::{Openers, Site, find_site, name_of, openers_of, site_of_span, target_of};
 use serde_json::{Value, json};
-use span_core::Id;
+use span_core::{Id, Lane};
 use span_times::{Happening, Point};
 use std::alloc::{AllocError, Global};
+use std::collections::BTreeSet;
+
+/// When something happens in a trace, and how spans are called.
+#[derive(Clone, Copy)]
+pub(crate) struct Moment<'a> {
+    sites: &'a [Site],
+    openers: &'a Openers,
+    /// In microseconds since the trace began.
+    time: u64,
+}
 
 /// These points in Chrome's trace format, which Perfetto opens: a text in JSON.
 ///
-/// Each entry and exit begins and ends a duration of its lane, each opening and close one of its
-/// span; an event is an instant. Times are in whole microseconds. The format wants durations of a
-/// lane to end in order: where a lane leaves spans out of order, or one that it isn't in, viewers
-/// differ.
+/// Each entry begins a box of its lane, which ends with the exit, or where the span closes: an exit
+/// from it then writes nothing. The format has the boxes of a lane end in order, the newest first.
+/// Where another has to end, those above it end too, and begin again. Each opening and close begins
+/// and ends a duration of its span; an event is an instant. The lane with the number 3 is called
+/// `lane 3`. Times are in whole microseconds since the first point.
 pub fn chrome_text(alloc: Global, sites: &[Site], points: &[Point]) -> Result<String, AllocError>
     ensures { IfOk result
         (λ text. Means (string_bytes text) (trace_of sites.now points.now)) }
@@ -39,36 +56,239 @@ fn trace_value(alloc: Global, events: Vec<Value>) -> Result<Value, AllocError>
 
 /// The trace events of points, in their order.
 fn trace_events(alloc: Global, sites: &[Site], points: &[Point]) -> Result<Vec<Value>, AllocError>
-    ensures { IfOk result (λ events. map view events.items
-        ≡ filter_map (event_in sites.now points.now) points.now) }
+    ensures { IfOk result
+        (λ events. map view events.items ≡ events_of sites.now points.now) }
 {
     let openers = openers_of(alloc, points)?;
+    let begin = begin_of(points);
     let mut events = Vec::new(alloc);
+    let mut entries = Vec::new(alloc);
+    let mut known = BTreeSet::new(alloc);
     for point in points {
-        if let Some(event) = trace_event(alloc, sites, &openers, point)? {
-            events.push(event)?;
-        }
+        name_lane(alloc, &mut events, &mut known, point.lane)?;
+        let moment = Moment {
+            sites,
+            openers: &openers,
+            time: point.time.saturating_sub(begin) / 1000,
+        };
+        write_point(alloc, &mut events, &moment, &entries, point)?;
+        go_on(&mut entries, point)?;
     }
     Ok(events)
 }
 
-/// The trace event of a point, if it has one.
-fn trace_event(
-    alloc: Global,
-    sites: &[Site],
-    openers: &Openers,
-    point: &Point,
-) -> Result<Option<Value>, AllocError>
-    ensures { (points : List Point) → KnowsOpeners openers.now points
-        → IfOk result (λ event. option_map view event ≡ event_in sites.now points point.now) }
+/// When a trace of these points begins.
+fn begin_of(points: &[Point]) -> u64
+    ensures { result ≡ begin_of points.now }
 {
-    let site = site_of_happening(sites, openers, point.what);
+    match points.first() {
+        Some(point) => point.time,
+        None => 0,
+    }
+}
+
+/// Writes the name of a lane, unless it has one.
+fn name_lane(
+    alloc: Global,
+    events: &mut Vec<Value>,
+    known: &mut BTreeSet<u32>,
+    lane: Lane,
+) -> Result<(), AllocError>
+    ensures events { OnOk result (map view events.new.items
+        ≡ map view events.old.items ++ naming (contains nat_cmp known.old lane.0) lane.0) }
+    ensures known { OnOk result ((n : ℕ) → contains nat_cmp known.new n
+        ≡ (contains nat_cmp known.old n || lane.0 == n)) }
+{
+    if known.insert(lane.0)? {
+        events.push(lane_named(alloc, lane)?)?;
+    }
+    Ok(())
+}
+
+/// The trace event by which viewers call a lane so.
+fn lane_named(alloc: Global, lane: Lane) -> Result<Value, AllocError>
+    ensures { IfOk result (λ event. view event ≡ lane_named lane.0) }
+{
+    let name = format!(in alloc; "lane {}", lane.0)?;
+    json!(in alloc; {
+        "ph": "M",
+        "name": "thread_name",
+        "pid": 1u64,
+        "tid": lane.0,
+        "args": json!(in alloc; {"name": Value::String(name)})?
+    })
+}
+
+/// Writes the trace events of a point, where these entries last before it.
+fn write_point(
+    alloc: Global,
+    events: &mut Vec<Value>,
+    moment: &Moment<'_>,
+    entries: &[Entry],
+    point: &Point,
+) -> Result<(), AllocError>
+    ensures { OnOk result (map view events.new.items ≡ map view events.old.items
+        ++ events_at moment.now.sites.now (names moment.now) entries.now moment.now.time
+        point.now) }
+{
+    write_changes(alloc, events, moment, entries, point)?;
+    if let Some(event) = own_event(alloc, moment, point)? {
+        events.push(event)?;
+    }
+    Ok(())
+}
+
+/// Writes what changes of the boxes with a point, where these entries last before it.
+fn write_changes(
+    alloc: Global,
+    events: &mut Vec<Value>,
+    moment: &Moment<'_>,
+    entries: &[Entry],
+    point: &Point,
+) -> Result<(), AllocError>
+    ensures { OnOk result (map view events.new.items ≡ map view events.old.items
+        ++ map (change_event (names moment.now) moment.now.time)
+        (changes entries.now point.now point.now.what)) }
+{
+    match point.what {
+        Happening::Entered(id) => write_begins(alloc, events, moment, point.lane, id),
+        Happening::Left(id) => {
+            let since = since_newest(entries, point.lane, id);
+            redraw(alloc, events, moment, since, point.lane, id)
+        }
+        Happening::Closed(id) => close(alloc, events, moment, entries, id),
+        _ => Ok(()),
+    }
+}
+
+/// Writes that a box begins.
+fn write_begins(
+    alloc: Global,
+    events: &mut Vec<Value>,
+    moment: &Moment<'_>,
+    lane: Lane,
+    id: Id,
+) -> Result<(), AllocError>
+    ensures { OnOk result (map view events.new.items ≡ map view events.old.items
+        ++ change_event (names moment.now) moment.now.time (Begins lane.0 (number_of id)) ∷ []) }
+{
+    events.push(span_event(alloc, "B", moment, lane, id)?)?;
+    Ok(())
+}
+
+/// Writes that a box ends.
+fn write_ends(
+    alloc: Global,
+    events: &mut Vec<Value>,
+    moment: &Moment<'_>,
+    lane: Lane,
+    id: Id,
+) -> Result<(), AllocError>
+    ensures { OnOk result (map view events.new.items ≡ map view events.old.items
+        ++ change_event (names moment.now) moment.now.time (Ends lane.0 (number_of id)) ∷ []) }
+{
+    events.push(span_event(alloc, "E", moment, lane, id)?)?;
+    Ok(())
+}
+
+/// Writes for each lane that is in a span that its boxes end up to the oldest of the span, and that
+/// those of others begin again.
+fn close(
+    alloc: Global,
+    events: &mut Vec<Value>,
+    moment: &Moment<'_>,
+    entries: &[Entry],
+    id: Id,
+) -> Result<(), AllocError>
+    ensures { OnOk result (map view events.new.items ≡ map view events.old.items
+        ++ map (change_event (names moment.now) moment.now.time)
+        (flat_map (closed_on (number_of id) entries.now) (lanes_in (number_of id) entries.now))) }
+{
+    for place in 0..entries.len() {
+        let lane = entries[place].lane;
+        if entries[place].span == id && !is_among(&entries[place + 1..], lane, id) {
+            let since = since_oldest(entries, lane, id);
+            redraw(alloc, events, moment, since, lane, id)?;
+        }
+    }
+    Ok(())
+}
+
+/// Whether one of these entries is of this lane into this span.
+fn is_among(entries: &[Entry], lane: Lane, id: Id) -> bool
+    ensures { result ≡ list_any (is_of lane.0 (number_of id)) entries.now }
+{
+    entries.iter().any(|entry| entry.is_of(lane, id))
+}
+
+/// Writes that the boxes of a lane's entries among these end, and that those but for this span's
+/// begin again.
+fn redraw(
+    alloc: Global,
+    events: &mut Vec<Value>,
+    moment: &Moment<'_>,
+    entries: &[Entry],
+    lane: Lane,
+    id: Id,
+) -> Result<(), AllocError>
+    ensures { OnOk result (map view events.new.items ≡ map view events.old.items
+        ++ map (change_event (names moment.now) moment.now.time)
+        (redrawn (number_of id) lane.0 (spans_on lane.0 entries.now))) }
+{
+    let spans = spans_on(alloc, entries, lane)?;
+    end_all(alloc, events, moment, &spans, lane)?;
+    begin_others(alloc, events, moment, &spans, lane, id)
+}
+
+/// Writes that the boxes of these spans end, the last first.
+fn end_all(
+    alloc: Global,
+    events: &mut Vec<Value>,
+    moment: &Moment<'_>,
+    spans: &[Id],
+    lane: Lane,
+) -> Result<(), AllocError>
+    ensures { OnOk result (map view events.new.items ≡ map view events.old.items
+        ++ map (change_event (names moment.now) moment.now.time)
+        (map (Ends lane.0) (reverse (map number_of spans.now)))) }
+{
+    for place in (0..spans.len()).rev() {
+        write_ends(alloc, events, moment, lane, spans[place])?;
+    }
+    Ok(())
+}
+
+/// Writes that the boxes of these spans begin, but for this span's.
+fn begin_others(
+    alloc: Global,
+    events: &mut Vec<Value>,
+    moment: &Moment<'_>,
+    spans: &[Id],
+    lane: Lane,
+    id: Id,
+) -> Result<(), AllocError>
+    ensures { OnOk result (map view events.new.items ≡ map view events.old.items
+        ++ map (change_event (names moment.now) moment.now.time)
+        (map (Begins lane.0) (filter (λ x. not (x == number_of id)) (map number_of spans.now)))) }
+{
+    for span in spans {
+        if *span != id {
+            write_begins(alloc, events, moment, lane, *span)?;
+        }
+    }
+    Ok(())
+}
+
+/// The trace event of a point itself, if it has one.
+fn own_event(alloc: Global, moment: &Moment<'_>, point: &Point) -> Result<Option<Value>, AllocError>
+    ensures { IfOk result (λ event. option_map view event
+        ≡ own_event moment.now.sites.now (names moment.now) point.now.lane.0 moment.now.time
+        point.now.what) }
+{
     let event = match point.what {
-        Happening::Entered(id) => span_event(alloc, "B", site, id, point)?,
-        Happening::Left(id) => span_event(alloc, "E", site, id, point)?,
-        Happening::Opened(id, _, _) => span_event(alloc, "b", site, id, point)?,
-        Happening::Closed(id) => span_event(alloc, "e", site, id, point)?,
-        Happening::Sent(_, _) => instant(alloc, site, point)?,
+        Happening::Opened(id, _, _) => span_event(alloc, "b", moment, point.lane, id)?,
+        Happening::Closed(id) => span_event(alloc, "e", moment, point.lane, id)?,
+        Happening::Sent(callsite, _) => instant(alloc, moment, point.lane, callsite)?,
         _ => return Ok(None),
     };
     Ok(Some(event))
@@ -78,20 +298,22 @@ fn trace_event(
 fn span_event(
     alloc: Global,
     phase: &str,
-    site: Option<&Site>,
+    moment: &Moment<'_>,
+    lane: Lane,
     id: Id,
-    point: &Point,
 ) -> Result<Value, AllocError>
     ensures { IfOk result (λ event. view event
-        ≡ span_event phase.now (option_copied site.entry) (number_of id) point.now) }
+        ≡ span_event phase.now (names moment.now (number_of id)) (number_of id) lane.0
+        moment.now.time) }
 {
+    let site = site_of_span(moment.sites, moment.openers, id);
     json!(in alloc; {
         "ph": phase,
         "name": name_of(site),
         "cat": target_of(site),
-        "ts": point.time / 1000,
+        "ts": moment.time,
         "pid": 1u64,
-        "tid": point.lane.0,
+        "tid": lane.0,
         "id": id_text(alloc, id)?
     })
 }
@@ -105,17 +327,23 @@ fn id_text(alloc: Global, id: Id) -> Result<Value, AllocError>
 }
 
 /// The trace event of an event: an instant of its lane.
-fn instant(alloc: Global, site: Option<&Site>, point: &Point) -> Result<Value, AllocError>
-    ensures { IfOk result
-        (λ event. view event ≡ instant (option_copied site.entry) point.now) }
+fn instant(
+    alloc: Global,
+    moment: &Moment<'_>,
+    lane: Lane,
+    callsite: u64,
+) -> Result<Value, AllocError>
+    ensures { IfOk result (λ event. view event
+        ≡ instant (site_of moment.now.sites.now callsite) lane.0 moment.now.time) }
 {
+    let site = find_site(moment.sites, callsite);
     json!(in alloc; {
         "ph": "i",
         "name": name_of(site),
         "cat": target_of(site),
-        "ts": point.time / 1000,
+        "ts": moment.time,
         "pid": 1u64,
-        "tid": point.lane.0,
+        "tid": lane.0,
         "s": "t"
     })
 }

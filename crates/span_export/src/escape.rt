@@ -1,25 +1,25 @@
 //! Texts in which characters are written in another way.
 ghost use Rattle.std.specs.Prelude.{◌≡◌, ◌<◌, ◌++◌, IfOk, OnOk, string_bytes};
-ghost use Rattle.span_export.specs.Escape.{escape, escaped, is_in_xml, replace};
+ghost use Rattle.span_export.specs.Escape.{is_in_xml, replace, xml_of, xml_text};
 
 use std::alloc::{AllocError, Global};
 
 /// A text within XML: no character in it begins or ends a tag, or begins an entity, and XML has
 /// each of them.
-pub(crate) fn escaped(alloc: Global, text: &str) -> Result<String, AllocError>
-    ensures { IfOk result (λ new. string_bytes new ≡ escaped text.now) }
+pub(crate) fn xml_text(alloc: Global, text: &str) -> Result<String, AllocError>
+    ensures { IfOk result (λ new. string_bytes new ≡ xml_text text.now) }
 {
     let mut new = String::new(alloc);
     for character in text.chars() {
-        write_escaped(&mut new, character)?;
+        write_in_xml(&mut new, character)?;
     }
     Ok(new)
 }
 
 /// Writes a character as it stands within XML.
-fn write_escaped(text: &mut String, character: char) -> Result<(), AllocError>
+fn write_in_xml(text: &mut String, character: char) -> Result<(), AllocError>
     ensures { OnOk result
-        (string_bytes text.new ≡ string_bytes text.old ++ escape character) }
+        (string_bytes text.new ≡ string_bytes text.old ++ xml_of character) }
 {
     match character {
         '&' => text.push_str("&amp;"),

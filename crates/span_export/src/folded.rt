@@ -1,19 +1,18 @@
 //! Points as folded stacks, of which flame graphs are made.
 ghost use Rattle.std.specs.BTreeMap.{get};
 ghost use Rattle.std.specs.Ordering.{nat_cmp};
-ghost use Rattle.std.specs.Prelude.{◌≡◌, ◌++◌, IfOk, List, OnOk, decimal, flat_map, map, reverse, string_bytes};
+ghost use Rattle.std.specs.Prelude.{◌≡◌, ◌++◌, IfOk, List, OnOk, decimal, flat_map, map, string_bytes};
 ghost use Rattle.span_core.specs.Span.{number_of};
-ghost use Rattle.span_store.specs.LaneStack.{without_duplicates};
 ghost use Rattle.span_times.specs.declared.happening.Point.{Point};
 ghost use Rattle.span_export.specs.Folded.{add, folded, frame, line_text, stack_text, sums_of};
 ghost use Rattle.span_export.specs.Site.{KnowsOpeners, name_in};
 ghost use Rattle.span_export.specs.Sums.{sums_in};
 
+use crate::entry::{go_on, spans_in};
 use crate::escape::replaced;
-use crate::lanes::{Lanes, go_on, stack_of};
 use crate::site::{Openers, Site, name_of_span, openers_of};
 use span_core::Id;
-use span_registry::SpanStack;
+use span_fmt::write_escaped;
 use span_times::Point;
 use std::alloc::{AllocError, Global};
 use std::collections::BTreeMap;
@@ -26,8 +25,14 @@ type Sums = BTreeMap<String, u64>;
 ///
 /// A line has the names of the spans, outermost first, with semicolons between, and how long lanes
 /// stood so, in nanoseconds up to `u64::MAX`: each time is that from one point of a lane to its
-/// next. What comes after a lane's last point isn't counted. In a name a semicolon is written as a
-/// colon, a space and a line feed as `_`.
+/// next. What comes after a lane's last point isn't counted. Where a span closes, each lane leaves
+/// it by that; what such a lane stood since its last point counts without the span.
+///
+/// A stack has the spans that its lane is in, whatever their parents: a span that is entered on
+/// another lane than its parent is outermost there, as a root is.
+///
+/// Names are escaped, as `span_fmt::write_escaped` has them, and a semicolon as `\u{3b}`. A
+/// space is written as `_`, and an empty name as `\u{}`.
 pub fn folded_text(alloc: Global, sites: &[Site], points: &[Point]) -> Result<String, AllocError>
     ensures { IfOk result (λ text. string_bytes text ≡ folded sites.now points.now) }
 {
@@ -45,16 +50,17 @@ fn sum_up(alloc: Global, sites: &[Site], points: &[Point]) -> Result<Sums, Alloc
 {
     let openers = openers_of(alloc, points)?;
     let mut sums = BTreeMap::new(alloc);
-    let mut lanes = Lanes::new(alloc);
+    let mut entries = Vec::new(alloc);
     let mut times: BTreeMap<u32, u64> = BTreeMap::new(alloc);
     for point in points {
-        if let Some(stack) = stack_of(&lanes, point.lane) {
+        let stack = spans_in(alloc, &entries, point.lane)?;
+        if !stack.is_empty() {
             let since = times.get(&point.lane.0).copied().unwrap_or(0);
-            let text = text_of(alloc, sites, &openers, stack)?;
+            let text = text_of(alloc, sites, &openers, &stack)?;
             let time = point.time.saturating_sub(since);
             add(&mut sums, text, time)?;
         }
-        go_on(alloc, &mut lanes, point)?;
+        go_on(&mut entries, point)?;
         times.insert(point.lane.0, point.time)?;
     }
     Ok(sums)
@@ -69,19 +75,19 @@ fn add(sums: &mut Sums, stack: String, time: u64) -> Result<(), AllocError>
     Ok(())
 }
 
-/// A stack as text: the names of its spans, outermost first, each span once.
+/// A stack as text: the names of its spans, outermost first.
 fn text_of(
     alloc: Global,
     sites: &[Site],
     openers: &Openers,
-    stack: &SpanStack,
+    stack: &[Id],
 ) -> Result<String, AllocError>
     ensures { (points : List Point) → KnowsOpeners openers.now points
-        → IfOk result (λ text. string_bytes text ≡ stack_text sites.now points stack.now) }
+        → IfOk result (λ text. string_bytes text
+        ≡ stack_text sites.now points (map number_of stack.now)) }
 {
-    let spans = outermost_first(alloc, stack)?;
     let mut text = String::new(alloc);
-    let Some((outermost, rest)) = spans.split_first() else {
+    let Some((outermost, rest)) = stack.split_first() else {
         return Ok(text);
     };
     let frame = frame_of(alloc, name_of_span(sites, openers, *outermost))?;
@@ -94,26 +100,18 @@ fn text_of(
     Ok(text)
 }
 
-/// A name as a frame: a semicolon in it is written as a colon, a space and a line feed as `_`.
+/// A name as a frame: escaped, and a semicolon as well, with `_` for each space; an empty one as no
+/// other is written.
 ///
-/// A number behind a space would be read as a second count.
+/// A semicolon would end the frame, and a number behind a space be read as a second count.
 fn frame_of(alloc: Global, name: &str) -> Result<String, AllocError>
     ensures { IfOk result (λ new. string_bytes new ≡ frame name.now) }
 {
-    let name = replaced(alloc, name, ';', ":")?;
-    let name = replaced(alloc, name.as_str(), ' ', "_")?;
-    replaced(alloc, name.as_str(), '\n', "_")
-}
-
-/// The spans of a stack, each once, the outermost first.
-fn outermost_first(alloc: Global, stack: &SpanStack) -> Result<Vec<Id>, AllocError>
-    ensures { IfOk result
-        (λ spans. map number_of spans.items ≡ reverse (without_duplicates stack.now)) }
-{
-    let mut spans = Vec::new(alloc);
-    for span in stack.iter() {
-        spans.push(span)?;
+    if name.is_empty() {
+        return String::from_str(alloc, "\\u{}");
     }
-    spans.reverse();
-    Ok(spans)
+    let mut frame = String::new(alloc);
+    write_escaped(&mut frame, name)?;
+    let frame = replaced(alloc, frame.as_str(), ';', "\\u{3b}")?;
+    replaced(alloc, frame.as_str(), ' ', "_")
 }

@@ -3,10 +3,10 @@
 #![tactic(auto)]
 
 mod chrome;
+mod entry;
 mod escape;
 mod folded;
 mod frame;
-mod lanes;
 pub mod laws;
 mod otlp;
 mod picture;

@@ -6,7 +6,7 @@ ghost use Rattle.span_export.specs.Picture.{IsPicture, area_of, box_of, box_text
 ghost use Rattle.span_export.specs.Scale.{scale_of, x_at};
 ghost use Rattle.span_export.specs.Site.{KnowsOpeners};
 
-use crate::escape::escaped;
+use crate::escape::xml_text;
 use crate::frame::{Plan, Tops, frame};
 use crate::site::{Openers, Site, level_of, name_of, openers_of, site_of_happening};
 use crate::stay::{Stay, stays};
@@ -123,7 +123,7 @@ fn write_box(
     ensures { OnOk result (string_bytes text.new ≡ string_bytes text.old
         ++ box_of scale.now top (option_copied site.entry) stay.now) }
 {
-    let name = escaped(alloc, name_of(site))?;
+    let name = xml_text(alloc, name_of(site))?;
     let area = Area::of(scale, top, stay);
     let label = label(alloc, name.as_str(), area)?;
     write_rect(text, name.as_str(), level_of(site), area, label.as_str())
@@ -242,7 +242,7 @@ fn write_mark(
     let Happening::Sent(_, _) = point.what else {
         return Ok(());
     };
-    let name = escaped(alloc, name_of(site))?;
+    let name = xml_text(alloc, name_of(site))?;
     let x = scale.x(point.time);
     write_circle(
         text,

@@ -5,7 +5,7 @@ ghost use Rattle.std.specs.Ordering.{nat_cmp};
 ghost use Rattle.std.specs.Prelude.{◌≡◌, ℕ, IfOk, List, string_bytes};
 ghost use Rattle.span_core.specs.Metadata.{callsite_of, level_of, name_of, target_of};
 ghost use Rattle.span_core.specs.Span.{number_of};
-ghost use Rattle.span_export.specs.Site.{KnowsOpeners, called, leveled, name_in, site_at, site_of, targeted};
+ghost use Rattle.span_export.specs.Site.{KnowsOpeners, called, leveled, name_in, named_by, site_at, site_of, targeted};
 ghost use Rattle.span_times.specs.declared.happening.Point.{Point};
 
 use span_core::{Id, Level, Metadata};
@@ -92,19 +92,24 @@ pub(crate) fn site_of_happening<'a>(
     find_site(sites, callsite)
 }
 
+/// The site of a span.
+pub(crate) fn site_of_span<'a>(sites: &'a [Site], openers: &Openers, id: Id) -> Option<&'a Site>
+    ensures { option_copied result ≡ named_by sites.now openers.now (number_of id) }
+{
+    let callsite = *openers.get(&id.into_u64())?;
+    find_site(sites, callsite)
+}
+
 /// The name of a span.
 pub(crate) fn name_of_span<'a>(sites: &'a [Site], openers: &Openers, id: Id) -> &'a str
     ensures { (points : List Point) → KnowsOpeners openers.now points
         → result.now ≡ name_in sites.now points (number_of id) }
 {
-    match openers.get(&id.into_u64()) {
-        Some(callsite) => name_of(find_site(sites, *callsite)),
-        None => name_of(None),
-    }
+    name_of(site_of_span(sites, openers, id))
 }
 
 /// The site with this number.
-fn find_site(sites: &[Site], callsite: u64) -> Option<&Site>
+pub(crate) fn find_site(sites: &[Site], callsite: u64) -> Option<&Site>
     ensures { option_copied result ≡ site_of sites.now callsite }
 {
     sites.iter().find(|site| site.callsite == callsite)

@@ -1,7 +1,7 @@
 //! Stays of lanes in spans.
-ghost use Rattle.std.specs.Prelude.{◌≡◌, IfOk};
+ghost use Rattle.std.specs.Prelude.{◌≡◌, IfOk, map};
 ghost use Rattle.span_core.specs.Span.{number_of};
-ghost use Rattle.span_export.specs.Picture.{depth_on, ended, lasts, lasts_in, stays_of};
+ghost use Rattle.span_export.specs.Picture.{closed_by, depth_on, ended, lasts, lasts_in, stays_of};
 
 use span_core::{Id, Lane};
 use span_times::{Happening, Point};
@@ -26,6 +26,19 @@ impl Stay {
         self.lane == lane && self.left.is_none()
     }
 
+    /// The stay, over by now if this span is its own.
+    fn closed(self, span: Id, time: u64) -> Stay
+        ensures { result ≡ closed_by (number_of span) time self }
+    {
+        if self.span == span && self.left.is_none() {
+            return Stay {
+                left: Some(time),
+                ..self
+            };
+        }
+        self
+    }
+
     /// Whether the stay is on this lane, of this span, and not over.
     fn lasts_in(&self, lane: Lane, span: Id) -> bool
         ensures { result ≡ lasts_in lane.0 (number_of span) self.now }
@@ -35,7 +48,7 @@ impl Stay {
 }
 
 /// The stays of lanes in spans, in the order in which they began. One ends where its span is left,
-/// or closes there.
+/// or where that closes, on whichever lane.
 pub(crate) fn stays(alloc: Global, points: &[Point]) -> Result<Vec<Stay>, AllocError>
     ensures { IfOk result (λ stays. stays.items ≡ stays_of points.now) }
 {
@@ -49,9 +62,8 @@ pub(crate) fn stays(alloc: Global, points: &[Point]) -> Result<Vec<Stay>, AllocE
                 entered: point.time,
                 left: None,
             })?,
-            Happening::Left(span) | Happening::Closed(span) => {
-                end(&mut stays, point.lane, span, point.time);
-            }
+            Happening::Left(span) => end(&mut stays, point.lane, span, point.time),
+            Happening::Closed(span) => close(&mut stays, span, point.time),
             _ => {}
         }
     }
@@ -80,5 +92,14 @@ fn end(stays: &mut [Stay], lane: Lane, span: Id, time: u64)
             stays[place].left = Some(time);
             return;
         }
+    }
+}
+
+/// Ends the stays of a span that aren't over.
+fn close(stays: &mut [Stay], span: Id, time: u64)
+    ensures { stays.new ≡ map (closed_by (number_of span) time) stays.old }
+{
+    for stay in stays.iter_mut() {
+        *stay = stay.closed(span, time);
     }
 }

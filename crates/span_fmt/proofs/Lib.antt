@@ -4,7 +4,8 @@ mod Filled
 mod Given
 mod Noticed
 mod Outermost
-mod OneLine
 mod Scopes
 mod Plain
 mod Told
+mod Differ
+mod Unescaped

@@ -1,3 +1,4 @@
+pub mod Escape
 pub mod Known
 pub mod Lines
 pub mod Page

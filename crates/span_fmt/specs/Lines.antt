@@ -8,13 +8,14 @@ use Rattle.span_core.specs.Level.{level_text}
 use Rattle.span_core.specs.Metadata.{level_of, name_of}
 use Rattle.span_core.specs.declared.event.Event.{Event}
 use Rattle.span_core.specs.declared.level.Level.{Level}
+use Rattle.span_fmt.specs.Escape.{escaped}
 use Rattle.span_layers.specs.Observe.{ObserverSteps}
 use Rattle.span_registry.specs.Behaviour.{Notice, OnEvent}
 use Rattle.span_registry.specs.References.{Reference}
 use Rattle.span_registry.specs.View.{View, plain_view}
 use Rattle.span_fmt.specs.Known.{SpanTexts, added_text, known_after, known_in, known_still}
 use Rattle.span_fmt.specs.Page.{is_cut, written}
-use Rattle.span_fmt.specs.Text.{one_line, rest_text}
+use Rattle.span_fmt.specs.Text.{rest_text}
 use Rattle.span_fmt.specs.Tree.{spans_round}
 use Rattle.span_fmt.specs.declared.lines.Lines.{Lines}
 
@@ -35,7 +36,7 @@ spaced (b ∷ bytes) = (b ∷ bytes) ++ codes " "
 
 -- the text of a span in a line: its name, its values in braces, and a colon
 abbrev pub label_text : List ℕ → List ℕ → List ℕ
-label_text name values = one_line name ++ braced values ++ codes ":"
+label_text name values = escaped name ++ braced values ++ codes ":"
 
 -- the text of the span that a reference is to
 abbrev pub reference_label : {R : Type 0} → SpanTexts → Reference R → List ℕ

@@ -1,5 +1,5 @@
 -- The text of fields, and of a line.
-use Rattle.std.specs.Prelude.{◌≡◌, ◌==◌, if◌then◌else◌, ℕ, List, [], ◌∷◌, ◌++◌, String, codes, decimal, flat_map, string_bytes}
+use Rattle.std.specs.Prelude.{◌≡◌, ℕ, List, ◌++◌, String, codes, decimal, flat_map, string_bytes}
 use Rattle.std.specs.Borrow.{Bor}
 use Rattle.span_core.specs.Field.{value_text}
 use Rattle.span_core.specs.Level.{level_text}
@@ -7,29 +7,20 @@ use Rattle.span_core.specs.Metadata.{level_of, name_of, target_of}
 use Rattle.span_core.specs.declared.field.FieldValue.{FieldValue}
 use Rattle.span_core.specs.declared.field.FieldValue.TheVariants as value
 use Rattle.span_core.specs.declared.metadata.Metadata.{Metadata}
+use Rattle.span_fmt.specs.Escape.{escaped}
 
 -- a text has these bytes appended
 abbrev pub IsContinued : {A : Type 0} → String A → String A → List ℕ → Type 0
 IsContinued old new bytes = string_bytes new ≡ string_bytes old ++ bytes
 
--- the text of a byte in one line: a line feed is written as
--- , any other byte as it is
-abbrev pub byte_text : ℕ → List ℕ
-byte_text b = if b == 10 then codes "\\n" else b ∷ []
-
--- a text in one line: each line feed in it is written as
--- , all else as it is
-abbrev pub one_line : List ℕ → List ℕ
-one_line bytes = flat_map byte_text bytes
-
--- the text of a value, in one line
+-- the text of a value: a text escaped
 abbrev pub shown_text : FieldValue → List ℕ
-shown_text (value.Text t) = one_line t.now
+shown_text (value.Text t) = escaped t.now
 shown_text other = value_text other
 
 -- the text of a field, behind a space
 abbrev pub field_text : List ℕ → FieldValue → List ℕ
-field_text name value = codes " " ++ one_line name ++ codes "=" ++ shown_text value
+field_text name value = codes " " ++ escaped name ++ codes "=" ++ shown_text value
 
 -- the text of fields, one after the other
 abbrev pub fields_text : List (Bor (List ℕ) × FieldValue) → List ℕ
@@ -46,7 +37,7 @@ head_text lane spans = decimal lane ++ codes " " ++ indent spans
 -- how a line ends: with the target, the name, and these values
 abbrev pub rest_text : Metadata → List (Bor (List ℕ) × FieldValue) → List ℕ
 rest_text m values =
-    one_line (target_of m) ++ codes ": " ++ one_line (name_of m) ++ fields_text values ++ codes "\n"
+    escaped (target_of m) ++ codes ": " ++ escaped (name_of m) ++ fields_text values ++ codes "\n"
 
 -- how a line goes on: with a mark, the level, and its end
 abbrev pub tail_text : List ℕ → Metadata → List (Bor (List ℕ) × FieldValue) → List ℕ

@@ -1,11 +1,13 @@
 //! Names and values of fields as text, in one line.
 ghost use Rattle.std.specs.Prelude.{◌≡◌, OnOk};
-ghost use Rattle.span_fmt.specs.Text.{IsContinued, field_text, fields_text, one_line, rest_text, shown_text};
+ghost use Rattle.span_fmt.specs.Text.{IsContinued, field_text, fields_text, rest_text, shown_text};
 
+use crate::escape::write_escaped;
 use span_core::{FieldValue, Metadata};
 use std::alloc::AllocError;
 
-/// Writes each field behind a space, as `name=value`. A line feed in a text is written as `\n`.
+/// Writes each field behind a space, as `name=value`. Texts are escaped, as
+/// `span_fmt::write_escaped` has them.
 ///
 /// Where memory is refused, no clause says what of it is written: throw the text away.
 pub fn write_fields(
@@ -25,7 +27,7 @@ fn write_field(text: &mut String, name: &str, value: FieldValue<'_>) -> Result<(
     ensures { OnOk result (IsContinued text.old text.new (field_text name.now value.entry)) }
 {
     text.push_str(" ")?;
-    write_in_one_line(text, name)?;
+    write_escaped(text, name)?;
     text.push_str("=")?;
     write_value(text, value)
 }
@@ -38,9 +40,9 @@ pub(crate) fn write_rest(
 ) -> Result<(), AllocError>
     ensures { OnOk result (IsContinued text.old text.new (rest_text metadata values.now)) }
 {
-    write_in_one_line(text, metadata.target())?;
+    write_escaped(text, metadata.target())?;
     text.push_str(": ")?;
-    write_in_one_line(text, metadata.name())?;
+    write_escaped(text, metadata.name())?;
     write_fields(text, values)?;
     text.push_str("\n")
 }
@@ -50,20 +52,7 @@ fn write_value(text: &mut String, value: FieldValue<'_>) -> Result<(), AllocErro
     ensures { OnOk result (IsContinued text.old text.new (shown_text value.entry)) }
 {
     if let FieldValue::Text(words) = value {
-        return write_in_one_line(text, words);
+        return write_escaped(text, words);
     }
     write!(text, "{value}")
-}
-
-/// Writes a text, and each line feed in it as `\n`.
-pub(crate) fn write_in_one_line(text: &mut String, words: &str) -> Result<(), AllocError>
-    ensures { OnOk result (IsContinued text.old text.new (one_line words.now)) }
-{
-    let mut rest = words;
-    while let Some((line, after)) = rest.split_once('\n') {
-        text.push_str(line)?;
-        text.push_str("\\n")?;
-        rest = after;
-    }
-    text.push_str(rest)
 }

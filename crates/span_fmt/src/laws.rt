@@ -1,4 +1,5 @@
 //! Laws for callers: functions whose contract is the law, and that do nothing.
+ghost use Rattle.span_fmt.specs.Escape.{EscapedTextsDiffer};
 ghost use Rattle.span_fmt.specs.Told.{KnowsWhatWasGiven, LinesWriteEvents, TreesWriteAll};
 
 /// A tree writes the lines of all that it is notified of, in order, wherever it stands in a stack,
@@ -17,4 +18,9 @@ pub fn lines_are_of_what_they_are_told()
 /// order.
 pub fn what_spans_were_given_is_known()
     ensures { KnowsWhatWasGiven }
+{}
+
+/// Texts that are escaped alike are the same: none poses as another.
+pub fn escaped_texts_differ()
+    ensures { EscapedTextsDiffer }
 {}

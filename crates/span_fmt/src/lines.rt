@@ -8,7 +8,8 @@ ghost use Rattle.span_fmt.specs.Lines.{bare, begun_text, braced, event_line, has
 ghost use Rattle.span_fmt.specs.Text.{IsContinued, fields_text};
 ghost use Rattle.span_fmt.specs.Tree.{given};
 
-use crate::fields::{write_in_one_line, write_rest};
+use crate::escape::write_escaped;
+use crate::fields::write_rest;
 use crate::known::Known;
 use crate::page::Page;
 use span_core::{Event, FieldValue, Id, Lane, Level};
@@ -179,7 +180,7 @@ fn spans_around<S: LookupSpan>(
 fn write_span(text: &mut String, name: &str, values: &str) -> Result<(), AllocError>
     ensures { OnOk result (IsContinued text.old text.new (label_text name.now values.now)) }
 {
-    write_in_one_line(text, name)?;
+    write_escaped(text, name)?;
     write_braced(text, values)?;
     text.push_str(":")
 }

@@ -1,18 +1,25 @@
 -- Why nothing is shown.
-use Rattle.std.specs.Prelude.{ℕ, ⊤, List, Option, IfSome}
+use Rattle.std.specs.Prelude.{ℕ, ⊤, Bool, true, false, List, Option, IfSome}
 use Rattle.std.specs.Str.Lossy.{utf8_lossy}
 use Rattle.span_script.specs.Fault.{IsWrongLine}
 use Rattle.span_script.specs.declared.fault.ReadFault.TheVariants as read
 use Rattle.span_script.specs.declared.fault.ReadFault.{ReadFault}
 use Rattle.span_script.specs.declared.fault.ScriptFault.TheVariants as script
 use Rattle.span_script.specs.declared.fault.ScriptFault.{ScriptFault}
-use Rattle.span_show.specs.declared.fault.ShowFault.TheVariants.{Input, Memory, Output, Usage, Wrong}
+use Rattle.span_show.specs.declared.fault.ShowFault.TheVariants.{Input, Memory, Output, TooLong, Unopened, Usage, Wrong}
 use Rattle.span_show.specs.declared.fault.ShowFault.{ShowFault}
 
 -- a wrong line ends with 2, all else with 1
 abbrev pub status_of : ShowFault → ℕ
 status_of (Wrong w) = 2
 status_of fault = 1
+
+-- the script's file can't be opened or read, or is too long
+abbrev pub is_of_file : ShowFault → Bool
+is_of_file Unopened = true
+is_of_file TooLong = true
+is_of_file Input = true
+is_of_file fault = false
 
 -- the fault where a script can't be read
 abbrev pub read_fault : ReadFault → ShowFault
@@ -29,6 +36,8 @@ script_fault script.Memory = Memory
 abbrev pub IsFault : List ℕ → ShowFault → Type 0
 IsFault text (Wrong w) = IsWrongLine text w
 IsFault text Usage = ⊥
+IsFault text Unopened = ⊥
+IsFault text TooLong = ⊥
 IsFault text Output = ⊥
 IsFault text fault = ⊤
 

@@ -1,6 +1,6 @@
 //! Why nothing is shown.
 ghost use Rattle.std.specs.Prelude.{◌≡◌};
-ghost use Rattle.span_show.specs.Fault.{read_fault, script_fault, status_of};
+ghost use Rattle.span_show.specs.Fault.{is_of_file, read_fault, script_fault, status_of};
 ghost use Rattle.span_show.specs.declared.fault.ShowFault.TheVariants.{Memory};
 
 use span_script::{ReadFault, ScriptFault, WrongLine};
@@ -16,8 +16,14 @@ pub enum ShowFault {
     /// The script's first wrong line.
     #[error("{0}")]
     Wrong(WrongLine),
-    /// The script can't be read, or is too long.
-    #[error("input failed")]
+    /// There is no such script, or it can't be opened.
+    #[error("can't be opened")]
+    Unopened,
+    /// The script's file has more than `SCRIPT_LIMIT` bytes.
+    #[error("has more than 1 MiB")]
+    TooLong,
+    /// The script can't be read, or gives too much.
+    #[error("can't be read, or has more than 1 MiB")]
     Input,
     /// What is shown can't be written.
     #[error("output failed")]
@@ -34,7 +40,22 @@ impl ShowFault {
     {
         match self {
             ShowFault::Wrong(_) => 2,
-            ShowFault::Usage | ShowFault::Input | ShowFault::Output | ShowFault::Memory => 1,
+            ShowFault::Usage
+            | ShowFault::Unopened
+            | ShowFault::TooLong
+            | ShowFault::Input
+            | ShowFault::Output
+            | ShowFault::Memory => 1,
+        }
+    }
+
+    /// Whether it is said of the script as a file.
+    pub fn is_of_file(&self) -> bool
+        ensures { result ≡ is_of_file self.now }
+    {
+        match self {
+            ShowFault::Unopened | ShowFault::TooLong | ShowFault::Input => true,
+            ShowFault::Usage | ShowFault::Wrong(_) | ShowFault::Output | ShowFault::Memory => false,
         }
     }
 }

@@ -1,15 +1,40 @@
-use Rattle.std.proofs.Common.{◌≡◌, ◌++◌, arith, rules}
-use Rattle.std.specs.Option.{option_to_list}
+use Rattle.std.proofs.Common.{◌≡◌, ◌∙◌, ◌++◌, ◌<◌, ◌-◌, ◌/◌, ◌||◌, ℕ, None, Option, arith, ap, get_or, length, map, sym}
+use Rattle.std.specs.Option.{option_and_then}
+use Rattle.std.specs.BTreeSet.{contains}
+use Rattle.std.specs.Ordering.{nat_cmp}
+use Rattle.std.specs.Prelude.{◌==◌}
 use Rattle.serde_json.specs.View.{view}
-use Rattle.span_export.proofs.Kept.{keeps_one_more}
+use Rattle.span_export.proofs.Summing.{entries_more}
+use Rattle.span_export.proofs.Traced.{known_more, one_more_point}
+use Rattle.span_export.specs.Chrome.{begin_of, events_at, events_of}
+use Rattle.span_export.specs.Entry.{entries_after}
+use Rattle.span_export.specs.Site.{named_by, named_in, site_of}
+use Rattle.span_export.specs.declared.site.Site.{Site}
 use Rattle.span_export.proofs.chrome.trace_events.Goals as goal
-use Rattle.span_export.proofs.chrome.trace_events.Goals.{in-Some+in_ok-push, in_default}
-use Rattle.span_export.specs.Chrome.{event_in}
+use Rattle.span_times.specs.declared.happening.Happening.TheVariants.{Opened}
+use Rattle.span_times.specs.declared.happening.Point.{Point}
 
 pub loop-point-preserved : goal.loop-point-preserved
 loop-point-preserved c =
-    let grew : c.match-branch-3.events.items ≡ c.loop-point.events.items ++ option_to_list c.in_ok-event.field-0 =
-    elim c.match-branch-3.branch [ in-Some+in_ok-push w ↦ search rules | in_default w ↦ search rules ] in
-    keeps_one_more view
-    (event_in c.args.sites.now c.args.points.now) c.args.points.now c.loop-point.point-index _ c.loop-point.events.items c.match-branch-3.events.items
-    c.in_ok-event.field-0 (omega arith) (c.in_ok-event.ensures c.args.points.now c.in_ok-openers.ensures) grew c.loop-point.invariant
+    let ps = c.args.points.now in
+    let i = c.loop-point.point-index in
+    let within : i < length ps = omega arith in
+    let none : Point = record { time = 0; lane = record { 0 = 0 }; what = Opened (record { number = 0 }) 0 None } in
+    let p = get_or ps i none in
+    let same : named_by c.args.sites.now c.in_ok-openers.openers ≡ named_in c.args.sites.now ps =
+    λ j x. ap (option_and_then (site_of c.args.sites.now)) (c.in_ok-openers.ensures x) j in
+    record {
+      entries = c.in_ok-go_on.ensures ∙ ap (λ es. entries_after es p p.what) c.loop-point.invariant.entries ∙ sym (entries_more ps i none within);
+      known = λ lane.
+          c.in_ok-name_lane.ensures.known lane ∙ ap (λ b. b || (p.lane.0 == lane)) (c.loop-point.invariant.known lane) ∙ sym (known_more ps i none lane within);
+      events = one_more_point c.args.sites.now (named_in c.args.sites.now ps) (begin_of ps) ps i none (map view c.loop-point.events.items)
+          (map view c.name_lane.new.events.items) (map view c.write_point.new.events.items) (events_of c.args.sites.now ps)
+          (contains nat_cmp c.loop-point.known p.lane.0) c.deref.result.now (c.saturating_sub.result / 1000) within
+          (c.loop-point.invariant.known p.lane.0) c.in_ok-name_lane.ensures.events
+          (c.deref.ensures.value ∙ c.loop-point.invariant.entries)
+          (ap (λ n. n / 1000) (c.saturating_sub.ensures ∙ ap (λ b. p.time - b) c.begin_of-begin.ensures))
+          (c.in_ok-write_point.ensures
+          ∙ ap (λ (n : ℕ
+          → Option Site). map view c.name_lane.new.events.items ++ events_at c.args.sites.now n c.deref.result.now (c.saturating_sub.result / 1000) p) same)
+          c.loop-point.invariant.events;
+    }

@@ -1,8 +1,18 @@
-use Rattle.std.proofs.Common.{◌≡◌, filter_map, map, take}
+use Rattle.std.proofs.Common.{◌≡◌, ◌++◌, ℕ, drop, map, take}
+use Rattle.std.specs.BTreeSet.{contains}
+use Rattle.std.specs.Ordering.{nat_cmp}
 use Rattle.serde_json.specs.View.{view}
-use Rattle.span_export.specs.Chrome.{event_in}
+use Rattle.span_export.specs.Chrome.{begin_of, events_from, events_of, is_known}
+use Rattle.span_export.specs.Entry.{lasting}
+use Rattle.span_export.specs.Site.{named_in}
 use Rattle.span_export.proofs.chrome.trace_events.Given as goal
 
--- the events so far
+-- the entries and the lanes are those of the points so far, and the points to come make the events so far the whole
 abbrev pub invariant-loop-point : goal.invariant-loop-point
-invariant-loop-point l = map view l.events.items ≡ filter_map (event_in l.sites l.points) (take l.point-index l.points)
+invariant-loop-point l = record {
+  entries : l.entries.items ≡ lasting (take l.point-index l.points);
+  known : (lane : ℕ) → contains nat_cmp l.known lane ≡ is_known (take l.point-index l.points) lane;
+  events : map view l.events.items
+      ++ events_from l.sites (named_in l.sites l.points) (begin_of l.points) (take l.point-index l.points) (drop l.point-index l.points)
+      ≡ events_of l.sites l.points;
+}

@@ -1,46 +1,53 @@
-use Rattle.std.proofs.Common.{◌≡◌, ◌∙◌, ◌<◌, ◌-◌, [], None, arith, ap, get_or, length, rules, string_bytes, sym, take}
+use Rattle.std.proofs.Common.{◌≡◌, ◌∙◌, ◌<◌, ◌-◌, None, arith, ap, get_or, length, map, rules, string_bytes, sym, take}
 use Rattle.std.proofs.lemmas.Grind.{common_steps}
-use Rattle.span_export.proofs.Summing.{stack_more, stood_some, sums_more, time_more}
+use Rattle.span_core.specs.Span.{number_of}
+use Rattle.span_export.proofs.Entries.{none_there, some_there}
+use Rattle.span_export.proofs.Summing.{entries_more, stood_some, sums_more, time_more}
 use Rattle.span_export.proofs.folded.sum_up.Goals as goal
-use Rattle.span_export.proofs.folded.sum_up.Goals.{in-Some+in_ok-text+in_ok-add, in_default}
+use Rattle.span_export.proofs.folded.sum_up.Goals.{then-not-is_empty+in_ok-text+in_ok-add, else-not-is_empty}
+use Rattle.span_export.specs.Entry.{entries_after, lasting, spans_in}
 use Rattle.span_export.specs.Folded.{add, last_time, stack_text, stood, stood_in, sums_of}
-use Rattle.span_export.specs.Lanes.{goes_on, stack_in, stack_on}
 use Rattle.span_export.specs.Sums.{sums_in}
 use Rattle.span_times.specs.declared.happening.Happening.TheVariants.{Opened}
 use Rattle.span_times.specs.declared.happening.Point.{Point}
 
 pub loop-point-preserved : goal.loop-point-preserved
 loop-point-preserved c =
+    let sites = c.args.sites.now in
     let ps = c.args.points.now in
     let i = c.loop-point.point-index in
     let within : i < length ps = omega arith in
     let none : Point = record { time = 0; lane = record { 0 = 0 }; what = Opened (record { number = 0 }) 0 None } in
     let p = get_or ps i none in
     let before = take i ps in
-    let stack : stack_in c.loop-point.lanes p.lane.0 ≡ stack_on p.lane.0 before = c.loop-point.invariant.stacks p.lane.0 in
+    let ids = c.in_ok-stack.stack.items in
+    let stack = map number_of ids in
+    let same : stack ≡ spans_in p.lane.0 (lasting before) =
+    c.in_ok-stack.ensures ∙ ap (spans_in p.lane.0) (c.deref.ensures.value ∙ c.loop-point.invariant.entries) in
     let since = c.loop-point.invariant.times p.lane.0 in
     let old = sums_in c.loop-point.sums in
-    let now : sums_in c.match-stack_of.sums ≡ stood_in c.args.sites.now ps (stack_on p.lane.0 before) (stood before p) old =
-    elim c.match-stack_of.branch [
-      | in-Some+in_ok-text+in_ok-add w ↦
-          let same : w.in-Some.stack.now ≡ stack_on p.lane.0 before = w.in-Some.ensures.found ∙ stack in
+    let shown : sums_in c.if-not-is_empty.sums ≡ stood_in sites ps stack (stood before p) old =
+    elim c.if-not-is_empty.branch [
+      | then-not-is_empty+in_ok-text+in_ok-add w ↦
+          let some : 0 < length ids = grind (arith, c.is_empty.ensures, w.if-not-is_empty.true) in
           let last : w.unwrap_or-since.result ≡ last_time p.lane.0 before = search rules in
           let time : w.saturating_sub-time.result ≡ stood before p = w.saturating_sub-time.ensures ∙ ap (λ t. p.time - t) last in
-          let text : string_bytes w.in_ok-text.text ≡ stack_text c.args.sites.now ps w.in-Some.stack.now = w.in_ok-text.ensures ps c.in_ok-openers.ensures in
+          let text : string_bytes w.in_ok-text.text ≡ stack_text sites ps stack =
+          w.in_ok-text.ensures ps c.in_ok-openers.ensures ∙ ap (λ ys. stack_text sites ps (map number_of ys)) w.deref-then-not-is_empty.ensures.value in
           ap sums_in w.sums-is ∙ w.in_ok-add.ensures
-          ∙ ap (λ t. add t w.saturating_sub-time.result old) text ∙ ap (λ n. add (stack_text c.args.sites.now ps w.in-Some.stack.now) n old) time
-          ∙ sym (stood_some c.args.sites.now ps w.in-Some.stack.now (stood before p) old w.in-Some.ensures.in_spans)
-          ∙ ap (λ s. stood_in c.args.sites.now ps s (stood before p) old) same
-      | in_default w ↦
-          let same : stack_on p.lane.0 before ≡ [] = search rules in
-          ap sums_in w.sums-is ∙ sym (ap (λ s. stood_in c.args.sites.now ps s (stood before p) old) same)
+          ∙ ap (λ t. add t w.saturating_sub-time.result old) text ∙ ap (λ n. add (stack_text sites ps stack) n old) time
+          ∙ sym (stood_some sites ps stack (stood before p) old (some_there ids some))
+      | else-not-is_empty w ↦
+          let empty : length ids ≡ 0 = grind (arith, c.is_empty.ensures, w.if-not-is_empty.false) in
+          ap sums_in w.sums-is ∙ sym (ap (λ s. stood_in sites ps s (stood before p) old) (none_there ids empty))
     ] in
+    let now = shown ∙ ap (λ s. stood_in sites ps s (stood before p) old) same in
     record {
-      stacks = λ lane. c.in_ok-go_on.ensures lane ∙ ap (λ s. goes_on lane s p) (c.loop-point.invariant.stacks lane) ∙ sym (stack_more lane ps i none within);
+      entries = c.in_ok-go_on.ensures ∙ ap (λ es. entries_after es p p.what) c.loop-point.invariant.entries ∙ sym (entries_more ps i none within);
       times = λ lane.
           let more = time_more lane ps i none within in
           let old = c.loop-point.invariant.times lane in
           grind (arith, common_steps);
-      sums = sums_more c.args.sites.now
-          ps ps i none (sums_in c.loop-point.sums) (sums_in c.match-stack_of.sums) (sums_of c.args.sites.now ps) within now c.loop-point.invariant.sums;
+      sums =
+          sums_more sites ps ps i none (sums_in c.loop-point.sums) (sums_in c.if-not-is_empty.sums) (sums_of sites ps) within now c.loop-point.invariant.sums;
     }

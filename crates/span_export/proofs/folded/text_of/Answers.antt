@@ -19,5 +19,5 @@ loop-span-preserved c = λ ps known.
     c.as_str-in-loop-span.ensures.value ∙ c.in_ok-frame-2.ensures ∙ ap frame (named ∙ ap (name_in c.args.sites.now ps) one) in
     one_more_name (codes ";") (λ x. frame (name_in c.args.sites.now ps x))
     spans i 0 (string_bytes c.loop-span.text) (string_bytes c.push_str-in-loop-span.new.self) (string_bytes c.push_str-in-loop-span-2.new.self)
-    (stack_text c.args.sites.now ps c.args.stack.now) within
+    (stack_text c.args.sites.now ps (map number_of c.args.stack.now)) within
     (search rules) (c.in_ok-push_str-3.ensures.bytes ∙ ap (λ n. string_bytes c.push_str-in-loop-span.new.self ++ n) text) so_far

@@ -10,4 +10,4 @@ abbrev pub invariant-loop-span : goal.invariant-loop-span
 invariant-loop-span l =
     (ps : List Point) → KnowsOpeners l.openers ps
     → string_bytes l.text ++ flat_map (λ n. codes ";" ++ n) (map (λ x. frame (name_in l.sites ps x)) (drop l.span-index (map number_of l.rest)))
-    ≡ stack_text l.sites ps l.stack
+    ≡ stack_text l.sites ps (map number_of l.stack)

@@ -1,0 +1,8 @@
+use Rattle.std.proofs.Common.{◌≡◌, ◌++◌, flat_map, string_bytes}
+use Rattle.std.specs.Str.{encode_utf8_all}
+use Rattle.span_fmt.specs.Escape.{escape}
+use Rattle.span_fmt.proofs.escape.write_escaped.Given as goal
+
+-- the characters so far are written
+abbrev pub invariant-loop-character : goal.invariant-loop-character
+invariant-loop-character l = string_bytes l.text ≡ string_bytes l.fn.text ++ encode_utf8_all (flat_map escape l.yielded)

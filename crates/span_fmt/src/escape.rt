@@ -1,0 +1,63 @@
+//! Texts in which control characters and the like are escaped.
+ghost use Rattle.std.specs.Prelude.{◌≡◌, ◌++◌, OnOk, string_bytes, true};
+ghost use Rattle.std.specs.Str.{encode_utf8_all};
+ghost use Rattle.span_fmt.specs.Escape.{escape, escaped, is_escaped};
+
+use std::alloc::AllocError;
+
+/// Writes a text so that it acts on no terminal and stays in its line: in it `\n`, `\r`, `\t` and
+/// `\\` stand for a line feed, a carriage return, a tab and a backslash, and the like of `\u{1b}`
+/// for each other control character, for the separators of lines and paragraphs, and for what turns
+/// the direction of writing.
+///
+/// Where memory is refused, no clause says what of it is written: throw the text away.
+pub fn write_escaped(text: &mut String, words: &str) -> Result<(), AllocError>
+    ensures { OnOk result
+        (string_bytes text.new ≡ string_bytes text.old ++ escaped words.now) }
+{
+    if is_plain(words) {
+        return text.push_str(words);
+    }
+    for character in words.chars() {
+        write_character(text, character)?;
+    }
+    Ok(())
+}
+
+/// Whether a text stays as it is.
+fn is_plain(words: &str) -> bool
+    ensures { result ≡ true → escaped words.now ≡ words.now }
+{
+    !words.chars().any(is_escaped)
+}
+
+/// Writes a character, escaped if it has to be.
+fn write_character(text: &mut String, character: char) -> Result<(), AllocError>
+    ensures { OnOk result (string_bytes text.new
+        ≡ string_bytes text.old ++ encode_utf8_all (escape character)) }
+{
+    if !is_escaped(character) {
+        return text.push(character);
+    }
+    for part in character.escape_default() {
+        text.push(part)?;
+    }
+    Ok(())
+}
+
+/// Whether a character is escaped: a backslash, a control character, a separator of lines or
+/// paragraphs, or what turns the direction of writing.
+fn is_escaped(character: char) -> bool
+    ensures { result ≡ is_escaped character }
+{
+    match character {
+        '\\'
+        | '\u{0}'..='\u{1F}'
+        | '\u{7F}'..='\u{9F}'
+        | '\u{61C}'
+        | '\u{200E}'..='\u{200F}'
+        | '\u{2028}'..='\u{202E}'
+        | '\u{2066}'..='\u{2069}' => true,
+        _ => false,
+    }
+}
