@@ -49,18 +49,20 @@ fn points() -> [Point; 12] {
 }
 
 const TRACE: &str = "{\"traceEvents\":[\
-{\"cat\":\"app\",\"id\":\"1\",\"name\":\"outer\",\"ph\":\"b\",\"pid\":1,\"tid\":0,\"ts\":1},\
-{\"cat\":\"app\",\"id\":\"1\",\"name\":\"outer\",\"ph\":\"B\",\"pid\":1,\"tid\":0,\"ts\":2},\
-{\"cat\":\"app::net\",\"id\":\"2\",\"name\":\"inner\",\"ph\":\"b\",\"pid\":1,\"tid\":0,\"ts\":3},\
-{\"cat\":\"app::net\",\"id\":\"2\",\"name\":\"inner\",\"ph\":\"B\",\"pid\":1,\"tid\":0,\"ts\":4},\
-{\"cat\":\"app\",\"name\":\"<said>\",\"ph\":\"i\",\"pid\":1,\"s\":\"t\",\"tid\":0,\"ts\":5},\
-{\"cat\":\"?\",\"id\":\"7\",\"name\":\"?\",\"ph\":\"b\",\"pid\":1,\"tid\":1,\"ts\":6},\
-{\"cat\":\"?\",\"id\":\"7\",\"name\":\"?\",\"ph\":\"B\",\"pid\":1,\"tid\":1,\"ts\":6},\
-{\"cat\":\"app::net\",\"id\":\"2\",\"name\":\"inner\",\"ph\":\"E\",\"pid\":1,\"tid\":0,\"ts\":7},\
-{\"cat\":\"app::net\",\"id\":\"2\",\"name\":\"inner\",\"ph\":\"e\",\"pid\":1,\"tid\":0,\"ts\":8},\
-{\"cat\":\"?\",\"id\":\"7\",\"name\":\"?\",\"ph\":\"E\",\"pid\":1,\"tid\":1,\"ts\":9},\
-{\"cat\":\"app\",\"id\":\"1\",\"name\":\"outer\",\"ph\":\"E\",\"pid\":1,\"tid\":0,\"ts\":10},\
-{\"cat\":\"app\",\"id\":\"1\",\"name\":\"outer\",\"ph\":\"e\",\"pid\":1,\"tid\":0,\"ts\":11}\
+{\"args\":{\"name\":\"lane 0\"},\"name\":\"thread_name\",\"ph\":\"M\",\"pid\":1,\"tid\":0},\
+{\"cat\":\"app\",\"id\":\"1\",\"name\":\"outer\",\"ph\":\"b\",\"pid\":1,\"tid\":0,\"ts\":0},\
+{\"cat\":\"app\",\"id\":\"1\",\"name\":\"outer\",\"ph\":\"B\",\"pid\":1,\"tid\":0,\"ts\":1},\
+{\"cat\":\"app::net\",\"id\":\"2\",\"name\":\"inner\",\"ph\":\"b\",\"pid\":1,\"tid\":0,\"ts\":2},\
+{\"cat\":\"app::net\",\"id\":\"2\",\"name\":\"inner\",\"ph\":\"B\",\"pid\":1,\"tid\":0,\"ts\":3},\
+{\"cat\":\"app\",\"name\":\"<said>\",\"ph\":\"i\",\"pid\":1,\"s\":\"t\",\"tid\":0,\"ts\":4},\
+{\"args\":{\"name\":\"lane 1\"},\"name\":\"thread_name\",\"ph\":\"M\",\"pid\":1,\"tid\":1},\
+{\"cat\":\"?\",\"id\":\"7\",\"name\":\"?\",\"ph\":\"b\",\"pid\":1,\"tid\":1,\"ts\":5},\
+{\"cat\":\"?\",\"id\":\"7\",\"name\":\"?\",\"ph\":\"B\",\"pid\":1,\"tid\":1,\"ts\":5},\
+{\"cat\":\"app::net\",\"id\":\"2\",\"name\":\"inner\",\"ph\":\"E\",\"pid\":1,\"tid\":0,\"ts\":6},\
+{\"cat\":\"app::net\",\"id\":\"2\",\"name\":\"inner\",\"ph\":\"e\",\"pid\":1,\"tid\":0,\"ts\":7},\
+{\"cat\":\"?\",\"id\":\"7\",\"name\":\"?\",\"ph\":\"E\",\"pid\":1,\"tid\":1,\"ts\":8},\
+{\"cat\":\"app\",\"id\":\"1\",\"name\":\"outer\",\"ph\":\"E\",\"pid\":1,\"tid\":0,\"ts\":9},\
+{\"cat\":\"app\",\"id\":\"1\",\"name\":\"outer\",\"ph\":\"e\",\"pid\":1,\"tid\":0,\"ts\":10}\
 ]}";
 
 #[test]
@@ -68,6 +70,68 @@ fn a_trace_for_perfetto(rt: HostRuntime) -> Result<(), Fail> {
     let alloc = rt.alloc();
     let text = chrome_text(alloc, &sites(alloc)?, &points())?;
     assert!(rt; text.as_str() == TRACE);
+    Ok(())
+}
+
+/// A span that two lanes are in closes on one of them, while the other is in another above it. Then
+/// that lane leaves both.
+fn closed_while_in() -> [Point; 8] {
+    let (outer, inner) = (Id::from_u64(1), Id::from_u64(2));
+    [
+        at(0, 0, Happening::Opened(outer, 1, None)),
+        at(0, 0, Happening::Opened(inner, 2, None)),
+        at(1000, 0, Happening::Entered(outer)),
+        at(2000, 0, Happening::Entered(inner)),
+        at(3000, 1, Happening::Entered(outer)),
+        at(4000, 1, Happening::Closed(outer)),
+        at(5000, 0, Happening::Left(outer)),
+        at(6000, 0, Happening::Left(inner)),
+    ]
+}
+
+/// What follows the entries: the first lane's inner box makes way for the outer one to end.
+const AT_THE_CLOSE: &str = "\
+{\"cat\":\"app::net\",\"id\":\"2\",\"name\":\"inner\",\"ph\":\"E\",\"pid\":1,\"tid\":0,\"ts\":4},\
+{\"cat\":\"app\",\"id\":\"1\",\"name\":\"outer\",\"ph\":\"E\",\"pid\":1,\"tid\":0,\"ts\":4},\
+{\"cat\":\"app::net\",\"id\":\"2\",\"name\":\"inner\",\"ph\":\"B\",\"pid\":1,\"tid\":0,\"ts\":4},\
+{\"cat\":\"app\",\"id\":\"1\",\"name\":\"outer\",\"ph\":\"E\",\"pid\":1,\"tid\":1,\"ts\":4},\
+{\"cat\":\"app\",\"id\":\"1\",\"name\":\"outer\",\"ph\":\"e\",\"pid\":1,\"tid\":1,\"ts\":4},\
+{\"cat\":\"app::net\",\"id\":\"2\",\"name\":\"inner\",\"ph\":\"E\",\"pid\":1,\"tid\":0,\"ts\":6}\
+]}";
+
+#[test]
+fn a_box_ends_where_its_span_closes(rt: HostRuntime) -> Result<(), Fail> {
+    let alloc = rt.alloc();
+    let text = chrome_text(alloc, &sites(alloc)?, &closed_while_in())?;
+    assert!(rt; text.as_str().ends_with(AT_THE_CLOSE));
+    let stacks = folded_text(alloc, &sites(alloc)?, &closed_while_in())?;
+    assert!(rt; stacks.as_str() == "inner 4000\nouter 2000\n");
+    Ok(())
+}
+
+/// The first span is left before the second, and once more, which writes nothing.
+const OUT_OF_TURN: &str = "\
+{\"cat\":\"app::net\",\"id\":\"2\",\"name\":\"inner\",\"ph\":\"E\",\"pid\":1,\"tid\":0,\"ts\":3},\
+{\"cat\":\"app\",\"id\":\"1\",\"name\":\"outer\",\"ph\":\"E\",\"pid\":1,\"tid\":0,\"ts\":3},\
+{\"cat\":\"app::net\",\"id\":\"2\",\"name\":\"inner\",\"ph\":\"B\",\"pid\":1,\"tid\":0,\"ts\":3},\
+{\"cat\":\"app::net\",\"id\":\"2\",\"name\":\"inner\",\"ph\":\"E\",\"pid\":1,\"tid\":0,\"ts\":5}\
+]}";
+
+#[test]
+fn no_end_is_of_another_box(rt: HostRuntime) -> Result<(), Fail> {
+    let alloc = rt.alloc();
+    let (outer, inner) = (Id::from_u64(1), Id::from_u64(2));
+    let points = [
+        at(7000, 0, Happening::Opened(outer, 1, None)),
+        at(7000, 0, Happening::Opened(inner, 2, None)),
+        at(8000, 0, Happening::Entered(outer)),
+        at(9000, 0, Happening::Entered(inner)),
+        at(10000, 0, Happening::Left(outer)),
+        at(11000, 0, Happening::Left(outer)),
+        at(12000, 0, Happening::Left(inner)),
+    ];
+    let text = chrome_text(alloc, &sites(alloc)?, &points)?;
+    assert!(rt; text.as_str().ends_with(OUT_OF_TURN));
     Ok(())
 }
 
@@ -84,19 +148,32 @@ fn stacks_for_a_flame_graph(rt: HostRuntime) -> Result<(), Fail> {
     Ok(())
 }
 
+/// The name `a;b` and so on, and within it the empty one, which another lane is in too.
+const ODD: &str = "\\u{} 4
+a\\u{3b}b\\nc_2\\r\\\\ 6
+a\\u{3b}b\\nc_2\\r\\\\;\\u{} 1
+";
+
 #[test]
 fn a_name_stays_one_frame(rt: HostRuntime) -> Result<(), Fail> {
     let alloc = rt.alloc();
     let fields = FieldSet::new(&[]);
-    let odd = Metadata::new(5, "a;b\nc 2", "app", Level::INFO, Kind::SPAN, fields);
-    let id = Id::from_u64(1);
+    let odd = Metadata::new(5, "a;b\nc 2\r\\", "app", Level::INFO, Kind::SPAN, fields);
+    let empty = Metadata::new(6, "", "app", Level::INFO, Kind::SPAN, fields);
+    let (outer, inner) = (Id::from_u64(1), Id::from_u64(2));
     let points = [
-        at(0, 0, Happening::Opened(id, 5, None)),
-        at(2, 0, Happening::Entered(id)),
-        at(9, 0, Happening::Left(id)),
+        at(0, 0, Happening::Opened(outer, 5, None)),
+        at(0, 0, Happening::Opened(inner, 6, None)),
+        at(2, 0, Happening::Entered(outer)),
+        at(5, 0, Happening::Entered(inner)),
+        at(6, 0, Happening::Left(inner)),
+        at(9, 0, Happening::Left(outer)),
+        at(9, 1, Happening::Entered(inner)),
+        at(13, 1, Happening::Left(inner)),
     ];
-    let text = folded_text(alloc, &[Site::of(alloc, odd)?], &points)?;
-    assert!(rt; text.as_str() == "a:b_c_2 7\n");
+    let sites = [Site::of(alloc, odd)?, Site::of(alloc, empty)?];
+    let text = folded_text(alloc, &sites, &points)?;
+    assert!(rt; text.as_str() == ODD);
     Ok(())
 }
 

@@ -2,6 +2,7 @@
 ghost use Rattle.span_dispatch.specs.Serve.{stack_of};
 
 use crate::fixture::in_use;
+use log::kv::{self, Source, Value, VisitSource};
 use log::sink::Memory;
 use log::{Log, Logged, Record};
 use span_core::{
@@ -9,9 +10,10 @@ use span_core::{
 };
 use span_dispatch::Dispatch;
 use span_layers::Observer;
-use span_log::{AsLog, AsTrace, LogLayer, forward, record_metadata};
+use span_log::{AsLog, AsTrace, Fields, LogLayer, forward, record_metadata};
 use span_registry::{Registry, Subscriber};
-use std::alloc::Global;
+use std::alloc::{AllocError, Global};
+use std::fmt::Display;
 use std::process::Abort;
 use std::test::Fail;
 
@@ -62,21 +64,21 @@ fn records_and_events_are_logged(rt: HostRuntime) -> Result<(), Fail> {
     send(rt.alloc(), &mut dispatch)?;
     let (layer, _registry) = dispatch.into_stack().into_parts();
     let lines = layer.into_observer().into_log().into_lines();
-    are_the_three(&rt, lines.as_slice());
+    are_lines(&rt, lines.as_slice(), &LINES);
     Ok(())
 }
 
-/// Of the record and the two events there is a line each.
-fn are_the_three(rt: &impl Abort, lines: &[String]) {
-    assert!(rt; lines.len() == 3);
-    for (line, want) in lines.iter().zip(LINES) {
-        assert!(rt; line.as_str() == want);
+/// These lines were written, and no other.
+fn are_lines(rt: &impl Abort, lines: &[String], wanted: &[&str]) {
+    assert!(rt; lines.len() == wanted.len());
+    for (line, want) in lines.iter().zip(wanted) {
+        assert!(rt; line.as_str() == *want);
     }
 }
 
-/// A logger that wants warnings alone is handed nothing else.
+/// A logger that goes by a level writes what is up to that.
 #[test]
-fn a_logger_is_asked_first(rt: HostRuntime) -> Result<(), Fail> {
+fn a_logger_of_warnings_writes_no_more(rt: HostRuntime) -> Result<(), Fail> {
     let alloc = rt.alloc();
     let logger = Logged::new(rt, log::Level::Warn, Memory::new(alloc));
     let mut dispatch = in_use(
@@ -88,7 +90,57 @@ fn a_logger_is_asked_first(rt: HostRuntime) -> Result<(), Fail> {
     let (layer, _registry) = dispatch.into_stack().into_parts();
     let (_rt, memory) = layer.into_observer().into_log().into_parts();
     let lines = memory.into_lines();
-    assert!(rt; lines.len() == 1);
+    are_lines(&rt, lines.as_slice(), &["[WARN  db] 42 rows"]);
+    Ok(())
+}
+
+/// Writes of each pair its key and the kind of its value.
+#[derive(Drop)]
+struct Kinds {
+    text: String,
+}
+
+/// The kind of a value.
+fn kind_of<D>(value: Value<'_, D>) -> &'static str {
+    match value {
+        Value::U64(_) => "u64",
+        Value::I64(_) => "i64",
+        Value::Bool(_) => "bool",
+        Value::Str(_) => "text",
+        _ => "another",
+    }
+}
+
+/// Writes a line of a key and a kind.
+fn write_kind(text: &mut String, key: &str, kind: &str) -> Result<(), AllocError> {
+    writeln!(text, "{key} {kind}")
+}
+
+impl VisitSource for Kinds {
+    fn visit_pair<D: Display>(&mut self, key: &str, value: Value<'_, D>) -> Result<(), kv::Error> {
+        match write_kind(&mut self.text, key, kind_of(value)) {
+            Ok(()) => Ok(()),
+            Err(_) => Err(kv::Error::msg("no memory")),
+        }
+    }
+}
+
+/// A field is a pair of its own kind, unless it is the message or the target.
+#[test]
+fn pairs_are_of_the_kinds_of_fields(rt: HostRuntime) -> Result<(), Fail> {
+    let values = [
+        ("bytes", FieldValue::U64(7)),
+        ("message", FieldValue::Text("sent")),
+        ("change", FieldValue::I64(-1)),
+        ("ok", FieldValue::Bool(true)),
+        ("log.target", FieldValue::Text("db")),
+        ("by", FieldValue::Text("true")),
+    ];
+    let mut kinds = Kinds {
+        text: String::new(rt.alloc()),
+    };
+    Fields::new(&values).visit(&mut kinds)?;
+    assert!(rt; kinds.text.as_str() == "bytes u64\nchange i64\nok bool\nby text\n");
     Ok(())
 }
 

@@ -377,15 +377,26 @@ fn a_pair_under_filters_has_the_wider_hint(rt: HostRuntime) -> Result<(), Fail> 
     Ok(())
 }
 
-/// Answers and notices of a recorder are the same alone and beside another, which keeps one notice
-/// more.
-fn are_the_same(rt: &impl Abort, alone: &WithAnswers<Alone>, beside: &WithAnswers<Beside>) {
-    assert!(rt; alone.1 == beside.1);
+/// A recorder under INFO is told of the span and of the event at warn, alone and beside another,
+/// which is told of the event at debug, too.
+fn are_the_same(
+    rt: &impl Abort,
+    alone: &WithAnswers<Alone>,
+    beside: &WithAnswers<Beside>,
+) -> Result<(), Fail> {
+    let id = first_made(&alone.1)?;
+    let answers = [Answer::Made(id), Answer::Done, Answer::Done];
+    assert!(rt; alone.1.as_slice() == answers.as_slice());
+    assert!(rt; beside.1.as_slice() == answers.as_slice());
+    let new = Recorded::New(LANE, id);
+    let debug = Recorded::Event(LANE, 1);
+    let warn = Recorded::Event(LANE, 2);
     let kept = alone.0.stack().outer().layer().notices();
-    assert!(rt; kept.len() == 2);
+    assert!(rt; kept == [new, warn].as_slice());
     let stack = beside.0.stack();
-    assert!(rt; stack.inner().outer().layer().notices() == kept);
-    assert!(rt; stack.outer().layer().notices().len() == 3);
+    assert!(rt; stack.inner().outer().layer().notices() == [new, warn].as_slice());
+    assert!(rt; stack.outer().layer().notices() == [new, debug, warn].as_slice());
+    Ok(())
 }
 
 #[test]
@@ -397,8 +408,7 @@ fn a_recorder_keeps_the_same_alone_and_beside_another(rt: HostRuntime) -> Result
     ];
     let (level, other) = (LevelFilter::INFO, LevelFilter::TRACE);
     let (alone, beside) = record_alone_and_beside(rt.alloc(), level, other, &requests)?;
-    are_the_same(&rt, &alone, &beside);
-    Ok(())
+    are_the_same(&rt, &alone, &beside)
 }
 
 /// A warning, and, once the level is DEBUG, a span, the warning, and an event of level debug.

@@ -2,7 +2,7 @@
 use crate::fixture::{in_use, put};
 use span_core::{FieldSet, FieldValue, Kind, Lane, Level, LevelFilter, Metadata, TraceError};
 use span_dispatch::{Dispatch, Request, Which, WhichParent};
-use span_fmt::{Lines, Tree, serve_lines, serve_tree, write_fields};
+use span_fmt::{Lines, Tree, serve_lines, serve_tree, write_escaped, write_fields};
 use span_layers::{Layer, Observer};
 use span_registry::{Registry, Subscriber};
 use span_stacks::{LayerExt, Layered};
@@ -248,5 +248,87 @@ fn fields_in_one_line(rt: HostRuntime) -> Result<(), Fail> {
     let whole =
         "begun first=\\nx\\n\\n second= most=18446744073709551615 least=-9223372036854775808";
     assert!(rt; text.as_str() == whole);
+    Ok(())
+}
+
+/// What acts on a terminal: that rings, clears the screen, goes back to the line's start, and the
+/// like.
+const ACTING: [(&str, &str); 8] = [
+    ("\u{7}", "\\u{7}"),
+    ("a\u{1b}[2Jb", "a\\u{1b}[2Jb"),
+    ("100%\r0%", "100%\\r0%"),
+    ("a\tb\u{0}\u{7f}", "a\\tb\\u{0}\\u{7f}"),
+    ("\u{9b}31m\u{9f}\u{a0}", "\\u{9b}31m\\u{9f}\u{a0}"),
+    ("a\nb\u{2028}c\u{2029}", "a\\nb\\u{2028}c\\u{2029}"),
+    (
+        "\u{202e}txt\u{202c}\u{2066}\u{2069}\u{61c}\u{200f}",
+        "\\u{202e}txt\\u{202c}\\u{2066}\\u{2069}\\u{61c}\\u{200f}",
+    ),
+    ("C:\\new \\u{1b}", "C:\\\\new \\\\u{1b}"),
+];
+
+#[test]
+fn what_acts_is_escaped(rt: HostRuntime) -> Result<(), Fail> {
+    for (words, escaped) in ACTING {
+        let mut text = String::new(rt.alloc());
+        write_escaped(&mut text, words)?;
+        assert!(rt; text.as_str() == escaped);
+    }
+    Ok(())
+}
+
+#[test]
+fn what_is_plain_stays(rt: HostRuntime) -> Result<(), Fail> {
+    let plain = " ~\u{a0}\u{200d}\u{202f}\u{206a}é€\u{1f600}\"'/{}=";
+    let mut text = String::from_str(rt.alloc(), "> ")?;
+    write_escaped(&mut text, plain)?;
+    assert!(rt; text.as_str().strip_prefix("> ") == Some(plain));
+    Ok(())
+}
+
+const BREAKING: &[(&str, FieldValue<'static>)] = &[("k\n", FieldValue::Text("v\r"))];
+
+const POSING: &[(&str, FieldValue<'static>)] = &[(
+    "f\u{2028}",
+    FieldValue::Text("\n0 - INFO app: forged"),
+)];
+
+/// An event whose texts would begin a line of their own, within a span whose name does.
+fn forging() -> [Request<'static>; 3] {
+    [
+        open(site(1, "s\u{85}", "app", Level::INFO, Kind::SPAN), BREAKING),
+        Request::Enter(LANE, Which::Made(0)),
+        Request::Event {
+            lane: LANE,
+            metadata: site(2, "e\u{1b}", "app\n0", Level::WARN, Kind::EVENT),
+            parent: WhichParent::Contextual,
+            values: POSING,
+        },
+    ]
+}
+
+const FORGED: &str = "0 > INFO app: s\\u{85} k\\n=v\\r
+0   - WARN app\\n0: e\\u{1b} f\\u{2028}=\\n0 - INFO app: forged
+";
+
+#[test]
+fn no_text_begins_a_line_of_a_tree(rt: HostRuntime) -> Result<(), Fail> {
+    let layer = Observer::new(Tree::new(rt.alloc())).with_filter(LevelFilter::TRACE);
+    let mut dispatch = in_use(rt.alloc(), Registry::new(rt.alloc()), layer)?;
+    serve_tree(rt.alloc(), &mut dispatch, &forging())?;
+    wrote(&rt, dispatch.stack().outer().layer().observer(), FORGED);
+    Ok(())
+}
+
+const FORGED_EVENT: &str =
+    "0 WARN s\\u{85}{k\\n=v\\r}: app\\n0: e\\u{1b} f\\u{2028}=\\n0 - INFO app: forged\n";
+
+#[test]
+fn no_text_begins_a_line_of_lines(rt: HostRuntime) -> Result<(), Fail> {
+    let layer = Observer::new(Lines::new(rt.alloc())).with_filter(LevelFilter::TRACE);
+    let mut dispatch = in_use(rt.alloc(), Registry::new(rt.alloc()), layer)?;
+    serve_lines(rt.alloc(), &mut dispatch, &forging())?;
+    let lines = dispatch.stack().outer().layer().observer();
+    assert!(rt; lines.text() == FORGED_EVENT);
     Ok(())
 }

@@ -65,6 +65,16 @@ fn serve_events<S: Subscriber>(
     Ok(())
 }
 
+/// How many of these events a recorder keeps. Fails where it keeps anything else.
+fn events_in(recorder: &Recorder) -> Result<usize, Fail> {
+    let notices = recorder.notices();
+    let mut kept = notices.iter();
+    if !kept.all(|notice| *notice == Recorded::Event(LANE, 5)) {
+        return Err(Fail::from("another notice"));
+    }
+    Ok(notices.len())
+}
+
 /// How many of so many events two recorders keep, the inner one first.
 fn kept_by_two<S: Subscriber + Drop + AsLayer<Recorder>, L: Layer<S> + Drop + AsLayer<Recorder>>(
     alloc: Global,
@@ -78,10 +88,7 @@ fn kept_by_two<S: Subscriber + Drop + AsLayer<Recorder>, L: Layer<S> + Drop + As
     let mut dispatch = put_in_use(alloc, stack, layer, Keeping::Answers)?;
     serve_events(alloc, &mut dispatch, count)?;
     let stack = dispatch.stack();
-    Ok((
-        stack.as_inner().notices().len(),
-        stack.as_outer().notices().len(),
-    ))
+    Ok((events_in(stack.as_inner())?, events_in(stack.as_outer())?))
 }
 
 /// Puts a recorder's layer on a stack, and one under a filter outside it, and counts what both keep

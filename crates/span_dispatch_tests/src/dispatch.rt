@@ -509,7 +509,8 @@ fn serves_one_span_at_last<S: Subscriber + Drop, L: Layer<S> + Drop + AsLayer<Re
     Ok(())
 }
 
-/// It passes too where any one allocation is refused, as `rt try --test --fail-alloc N` does.
+/// It passes too where any one allocation is refused: `tests/each_refusal_within_a_test` refuses
+/// one after another.
 #[test]
 fn a_refusal_of_memory_changes_nothing(rt: HostRuntime) -> Result<(), Fail> {
     let recorder = Recorder::new(rt.alloc());
@@ -545,7 +546,8 @@ fn sends_at_last<S: Subscriber + Drop, L: Layer<S> + Drop + AsLayer<Recorder>>(
     Ok(())
 }
 
-/// It passes too where any one allocation is refused.
+/// It passes too where any one allocation is refused: `tests/each_refusal_within_a_test` refuses
+/// one after another.
 #[test]
 fn a_refused_interest_changes_nothing(rt: HostRuntime) -> Result<(), Fail> {
     let recorder = Recorder::new(rt.alloc());

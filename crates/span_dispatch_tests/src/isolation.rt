@@ -205,8 +205,8 @@ fn is_marked<S: LookupSpan>(mark: Tag<bool>, cx: &Context<'_, S>) -> bool
 
 /// Marks each new span, as far as there is memory.
 #[derive(Drop)]
-pub(crate) struct SpanMarker {
-    pub(crate) mark: Tag<bool>,
+struct SpanMarker {
+    mark: Tag<bool>,
 }
 
 impl<S: Subscriber> Observe<S> for SpanMarker {

@@ -4,6 +4,8 @@
 #[cfg(test)]
 mod cache;
 #[cfg(test)]
+mod chosen;
+#[cfg(test)]
 mod dispatch;
 #[cfg(test)]
 mod isolation;

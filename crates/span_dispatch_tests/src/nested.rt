@@ -1,25 +1,26 @@
-//! Eight filters round one layer, of which number 3 refuses, through each kind of dispatcher.
+//! Eight filters round one recorder, of which number 3 passes less than the others: outside a
+//! recorder without a filter, with a list of recorders outside both, and through each kind of
+//! dispatcher.
 ghost use Rattle.span_dispatch.specs.Serve.{stack_of};
-ghost use Rattle.std.specs.Prelude.{◌≡◌};
+ghost use Rattle.std.specs.Prelude.{◌≡◌, ◌-◌, ◌<◌, ◌^◌};
 
-use crate::isolation::SpanMarker;
-use crate::requests::{Keeping, in_use};
+use crate::requests::{AsLayer, AsLayers, HasList, Keeping, UnderOne, in_use, keeps};
 use span_core::{Attributes, FilterId, Id, Kind, Level, LevelFilter};
-use span_dispatch::Dispatch;
+use span_dispatch::{Dispatch, Recorded, Recorder};
 use span_layer_tests::fixture::{LANE, metadata_of, put};
-use span_layers::{Layer, Observer};
-use span_registry::{LookupSpan, Registry, SpanData, Subscriber, Tag};
+use span_layers::Layer;
+use span_registry::{LookupSpan, Registry, SpanData, Subscriber};
 use span_shared::{Crew, Entry, EntryWith, Shared, Worker};
-use span_stacks::LayerExt;
-use std::alloc::Global;
+use span_stacks::{LayerExt, Layered};
+use std::alloc::{AllocError, Global};
 use std::marker::Brand;
 use std::process::Abort;
 use std::sync::Wait;
 use std::sync::ledger::Blank;
 use std::test::Fail;
 
-/// Which dispatcher opens a span.
-#[derive(Clone, Copy, Debug, PartialEq, Eq)]
+/// Which dispatcher opens the spans.
+#[derive(Clone, Copy, PartialEq, Eq)]
 enum By {
     /// One of its own, which keeps this.
     Own(Keeping),
@@ -27,26 +28,50 @@ enum By {
     Shared,
 }
 
-/// A span that a dispatcher opens, and what is to be seen of it: the numbers of the filters that
-/// refused it, whether the innermost layer marked it, and its verdict as a word, where there is a
-/// journal.
-#[derive(Clone, Copy)]
-struct Case<'a> {
-    by: By,
-    level: Level,
-    refused_by: &'a [u32],
-    is_marked: bool,
-    verdict: Option<u128>,
+/// How many recorders the list has. Each stands under a filter of its own.
+const LISTED: u32 = 56;
+
+/// What has a recorder without a filter innermost, one deep under filters outside it, and a list of
+/// recorders outside both.
+trait HasThree {
+    fn base(&self) -> &Recorder;
+
+    fn deep(&self) -> &Recorder;
+
+    fn listed(&self) -> &[UnderOne];
 }
 
-/// The tag of the marks.
-fn mark() -> Tag<bool> {
-    Tag::new(0)
+impl<L: HasList, S: AsLayers<Recorder>> HasThree for Layered<L, S> {
+    fn base(&self) -> &Recorder {
+        self.inner().as_inner()
+    }
+
+    fn deep(&self) -> &Recorder {
+        self.inner().as_outer()
+    }
+
+    fn listed(&self) -> &[UnderOne] {
+        self.outer().list()
+    }
 }
 
-/// A root of this level.
-fn root_of(level: Level) -> Attributes<'static> {
-    Attributes::new_root(metadata_of(3, level, Kind::SPAN), &[])
+/// The list: each of its recorders is told of all levels.
+fn listed(alloc: Global) -> Result<Vec<UnderOne>, AllocError> {
+    let mut layers = Vec::new(alloc);
+    for _ in 0..LISTED {
+        layers.push(Recorder::new(alloc).with_filter(LevelFilter::TRACE))?;
+    }
+    Ok(layers)
+}
+
+/// A root of level info.
+fn info_root() -> Attributes<'static> {
+    Attributes::new_root(metadata_of(3, Level::INFO, Kind::SPAN), &[])
+}
+
+/// A root of level warn.
+fn warn_root() -> Attributes<'static> {
+    Attributes::new_root(metadata_of(4, Level::WARN, Kind::SPAN), &[])
 }
 
 /// The numbers of the filters that refused a span, out of all that a registry has room for. Fails
@@ -62,77 +87,99 @@ fn refused_by<S: LookupSpan>(alloc: Global, stack: &S, id: Id) -> Result<Vec<u32
     Ok(numbers)
 }
 
-/// A span has the innermost layer's mark.
-fn is_marked<S: LookupSpan>(stack: &S, id: Id) -> bool {
-    match stack.span(id) {
-        Some(span) => span.extensions().get(mark()).is_some(),
-        None => false,
-    }
-}
-
-/// A stack shows of a span with this verdict what is to be seen.
-fn shows<S: LookupSpan>(
+/// Number 3 alone refused the info span, and none the warn span.
+fn has_verdicts<S: LookupSpan>(
     rt: &impl Abort,
     alloc: Global,
-    case: Case<'_>,
     stack: &S,
-    id: Id,
-    verdict: Option<u128>,
+    [info, warn]: [Id; 2],
 ) -> Result<(), Fail> {
-    let by = case.by;
-    let numbers = refused_by(alloc, stack, id)?;
-    assert!(rt; numbers.as_slice() == case.refused_by, "{by:?}");
-    assert!(rt;
-        (is_marked(stack, id), verdict) == (case.is_marked, case.verdict),
-        "{by:?}"
-    );
+    assert!(rt; refused_by(alloc, stack, info)?.as_slice() == [3].as_slice());
+    assert!(rt; refused_by(alloc, stack, warn)?.is_empty());
     Ok(())
 }
 
-/// Has a dispatcher open a span, and looks at it.
-fn by_dispatcher<S: Subscriber>(
+/// The recorder under eight filters is told of the warn span, and each other one of both spans.
+fn tells_each<S: HasThree>(rt: &impl Abort, stack: &S, [info, warn]: [Id; 2]) {
+    let both = [Recorded::New(LANE, info), Recorded::New(LANE, warn)];
+    keeps(rt, stack.base(), &both);
+    keeps(rt, stack.deep(), &[Recorded::New(LANE, warn)]);
+    assert!(rt; stack.listed().len() == LISTED as usize);
+    for member in stack.listed() {
+        keeps(rt, member.layer(), &both);
+    }
+}
+
+/// A stack shows of both spans what is to be seen.
+fn shows<S: LookupSpan + HasThree>(
     rt: &impl Abort,
     alloc: Global,
-    case: Case<'_>,
+    stack: &S,
+    spans: [Id; 2],
+) -> Result<(), Fail> {
+    has_verdicts(rt, alloc, stack, spans)?;
+    tells_each(rt, stack, spans);
+    Ok(())
+}
+
+/// Has a dispatcher open both spans, and looks at them.
+fn by_dispatcher<S: Subscriber + HasThree>(
+    rt: &impl Abort,
+    alloc: Global,
     dispatch: &mut Dispatch<S>,
 ) -> Result<(), Fail>
     requires { S.usable (stack_of dispatch.old) }
 {
-    let made = dispatch.new_span(LANE, &root_of(case.level))?;
-    let id = made.ok_or("a layer vetoes")?;
-    shows(rt, alloc, case, dispatch.stack(), id, None)
+    let info = dispatch.new_span(LANE, &info_root())?;
+    let warn = dispatch.new_span(LANE, &warn_root())?;
+    let spans = [info.ok_or("a layer vetoes")?, warn.ok_or("a layer vetoes")?];
+    shows(rt, alloc, dispatch.stack(), spans)
 }
 
-/// The span that an entry says was made, and its verdict as a word.
-fn new_span_of(entry: Entry) -> Option<(Id, u128)> {
-    match entry {
-        EntryWith::New { verdict, id, .. } => Some((id, verdict.word())),
-        _ => None,
-    }
+/// An entry says that a span was made, and prints its verdict so.
+fn prints_verdict(rt: &impl Abort, alloc: Global, entry: Entry, wanted: &str) -> Result<(), Fail> {
+    let EntryWith::New { verdict, .. } = entry else {
+        return Err(Fail::from("no span was made"));
+    };
+    assert!(rt; format!(in alloc; "{verdict:?}")?.as_str() == wanted);
+    Ok(())
 }
 
-/// Has the first worker of a dispatcher that threads share open a span. Answers it, and its verdict
-/// as a word.
+/// Has a worker open both spans, and looks at their entries.
+fn opened_by_worker<S: Subscriber, C: Crew>(
+    rt: &(impl Abort + Wait),
+    alloc: Global,
+    shared: &Shared<S, C>,
+    worker: &mut Worker<C>,
+) -> Result<[Id; 2], Fail>
+    requires { worker.old.calls < 2 ^ 64 - 2 }
+{
+    let (info, first) = shared.new_span(rt, worker, &info_root())?;
+    let (warn, second) = shared.new_span(rt, worker, &warn_root())?;
+    prints_verdict(rt, alloc, first.entry(), "FilterMap { disabled_by: {3} }")?;
+    prints_verdict(rt, alloc, second.entry(), "FilterMap { disabled_by: {} }")?;
+    Ok([info.ok_or("a layer vetoes")?, warn.ok_or("a layer vetoes")?])
+}
+
+/// Has the first worker of a dispatcher that threads share open both spans.
 fn opened_by_first<S: Subscriber, C: Crew>(
-    rt: &impl Wait,
+    rt: &(impl Abort + Wait),
+    alloc: Global,
     shared: &Shared<S, C>,
     workers: &mut Vec<Worker<C>>,
-    level: Level,
-) -> Result<(Id, u128), Fail> {
+) -> Result<[Id; 2], Fail> {
     let worker = workers.first_mut().ok_or("no worker")?;
     if worker.calls() > 0 {
         return Err(Fail::from("the worker isn't new"));
     }
-    let (_, receipt) = shared.new_span(rt, worker, &root_of(level))?;
-    Ok(new_span_of(receipt.entry()).ok_or("no span was made")?)
+    opened_by_worker(rt, alloc, shared, worker)
 }
 
-/// Has one worker of a dispatcher that threads can share open a span, and looks at it.
-fn by_worker<S: Subscriber + Drop, C: Crew>(
+/// Has one worker of a dispatcher that threads can share open both spans, and looks at them.
+fn by_worker<S: Subscriber + Drop + HasThree, C: Crew>(
     rt: &(impl Abort + Wait),
     alloc: Global,
     blank: Blank,
-    case: Case<'_>,
     stack: S,
 ) -> Result<(), Fail>
     requires name { blank.name ≡ C.name }
@@ -147,48 +194,74 @@ fn by_worker<S: Subscriber + Drop, C: Crew>(
     let Ok((shared, mut workers)) = Shared::new(alloc, book, all, dispatch, 1) else {
         return Err(Fail::from("no memory"));
     };
-    let (id, verdict) = opened_by_first(rt, &shared, &mut workers, case.level)?;
+    let spans = opened_by_first(rt, alloc, &shared, &mut workers)?;
     match shared.finish(workers) {
-        Ok((dispatch, _)) => shows(rt, alloc, case, dispatch.stack(), id, Some(verdict)),
+        Ok((dispatch, _)) => shows(rt, alloc, dispatch.stack(), spans),
         Err(_) => Err(Fail::from("a worker is missing")),
     }
 }
 
-/// Has a dispatcher of a stack with eight filters open a span, and looks at it.
-fn by_case<S: Subscriber + Drop>(
+/// Has such a dispatcher of a stack with 64 filters open both spans, and looks at them.
+fn opened_by<S: Subscriber + Drop + HasThree>(
     rt: &(impl Abort + Wait),
     alloc: Global,
-    case: Case<'_>,
+    by: By,
     stack: S,
 ) -> Result<(), Fail>
     requires { S.usable stack }
 {
-    assert!(rt; stack.root().filters() == 8);
-    match case.by {
-        By::Own(keeps) => by_dispatcher(rt, alloc, case, &mut in_use(alloc, stack, keeps)),
-        By::Shared => by_worker::<S, Brand>(rt, alloc, Blank::new(1), case, stack),
+    assert!(rt; stack.root().filters() == 64);
+    match by {
+        By::Own(keeps) => by_dispatcher(rt, alloc, &mut in_use(alloc, stack, keeps)),
+        By::Shared => by_worker::<S, Brand>(rt, alloc, Blank::new(1), stack),
     }
 }
 
-/// Puts a layer with eight filters on a stack without any, and has a dispatcher open a span.
-fn on_stack<S: Subscriber + Drop, L: Layer<S> + Drop>(
+/// Puts a list's layer on a stack of two recorders, and has a dispatcher open both spans.
+fn under_list<S: Subscriber + Drop + AsLayers<Recorder>, L: Layer<S> + Drop + HasList>(
     rt: &(impl Abort + Wait),
     alloc: Global,
-    case: Case<'_>,
+    by: By,
+    stack: S,
+    list: L,
+) -> Result<(), Fail>
+    requires stack { S.usable stack }
+    requires layer { L.usable list }
+{
+    opened_by(rt, alloc, by, put(stack, list)?)
+}
+
+/// Puts the list on a stack of two recorders.
+fn under_listed<S: Subscriber + Drop + AsLayers<Recorder>>(
+    rt: &(impl Abort + Wait),
+    alloc: Global,
+    by: By,
+    stack: S,
+) -> Result<(), Fail>
+    requires { S.usable stack }
+{
+    under_list(rt, alloc, by, stack, listed(alloc)?)
+}
+
+/// Puts a recorder under eight filters on a stack of another.
+fn on_stack<S: Subscriber + Drop + AsLayer<Recorder>, L: Layer<S> + Drop + AsLayer<Recorder>>(
+    rt: &(impl Abort + Wait),
+    alloc: Global,
+    by: By,
     stack: S,
     layer: L,
 ) -> Result<(), Fail>
     requires stack { S.usable stack }
     requires layer { L.usable layer }
 {
-    by_case(rt, alloc, case, put(stack, layer)?)
+    under_listed(rt, alloc, by, put(stack, layer)?)
 }
 
 /// Puts two filters that pass all round a layer with six, and the layer on a stack.
-fn in_two_more<S: Subscriber + Drop, L: Layer<S> + Drop>(
+fn in_two_more<S: Subscriber + Drop + AsLayer<Recorder>, L: Layer<S> + Drop + AsLayer<Recorder>>(
     rt: &(impl Abort + Wait),
     alloc: Global,
-    case: Case<'_>,
+    by: By,
     stack: S,
     layer: L,
 ) -> Result<(), Fail>
@@ -198,16 +271,16 @@ fn in_two_more<S: Subscriber + Drop, L: Layer<S> + Drop>(
     let under_two = layer
         .with_filter(LevelFilter::TRACE)
         .with_filter(LevelFilter::TRACE);
-    on_stack(rt, alloc, case, stack, under_two)
+    on_stack(rt, alloc, by, stack, under_two)
 }
 
 /// Puts two filters round a layer with four, of which the inner one refuses. Numbers are given from
 /// the outermost filter on, from 0, and two filters more will stand outside these: so the inner one
 /// here is number 3, which refuses.
-fn in_four_more<S: Subscriber + Drop, L: Layer<S> + Drop>(
+fn in_four_more<S: Subscriber + Drop + AsLayer<Recorder>, L: Layer<S> + Drop + AsLayer<Recorder>>(
     rt: &(impl Abort + Wait),
     alloc: Global,
-    case: Case<'_>,
+    by: By,
     stack: S,
     layer: L,
 ) -> Result<(), Fail>
@@ -215,16 +288,16 @@ fn in_four_more<S: Subscriber + Drop, L: Layer<S> + Drop>(
     requires layer { L.usable layer }
 {
     let under_two = layer
-        .with_filter(LevelFilter::ERROR)
+        .with_filter(LevelFilter::WARN)
         .with_filter(LevelFilter::TRACE);
-    in_two_more(rt, alloc, case, stack, under_two)
+    in_two_more(rt, alloc, by, stack, under_two)
 }
 
 /// Puts two filters that pass all round a layer with two, and then four more.
-fn in_six_more<S: Subscriber + Drop, L: Layer<S> + Drop>(
+fn in_six_more<S: Subscriber + Drop + AsLayer<Recorder>, L: Layer<S> + Drop + AsLayer<Recorder>>(
     rt: &(impl Abort + Wait),
     alloc: Global,
-    case: Case<'_>,
+    by: By,
     stack: S,
     layer: L,
 ) -> Result<(), Fail>
@@ -234,54 +307,55 @@ fn in_six_more<S: Subscriber + Drop, L: Layer<S> + Drop>(
     let under_two = layer
         .with_filter(LevelFilter::TRACE)
         .with_filter(LevelFilter::TRACE);
-    in_four_more(rt, alloc, case, stack, under_two)
+    in_four_more(rt, alloc, by, stack, under_two)
 }
 
-/// Puts eight filters round a layer that marks the spans that it is told of, on a registry.
-fn in_eight(rt: &(impl Abort + Wait), alloc: Global, case: Case<'_>) -> Result<(), Fail> {
-    let under_two = Observer::new(SpanMarker { mark: mark() })
+/// Puts eight filters round a recorder, on a stack of another.
+fn in_eight<S: Subscriber + Drop + AsLayer<Recorder>>(
+    rt: &(impl Abort + Wait),
+    alloc: Global,
+    by: By,
+    stack: S,
+) -> Result<(), Fail>
+    requires { S.usable stack }
+{
+    let under_two = Recorder::new(alloc)
         .with_filter(LevelFilter::TRACE)
         .with_filter(LevelFilter::TRACE);
-    in_six_more(rt, alloc, case, Registry::new(alloc), under_two)
+    in_six_more(rt, alloc, by, stack, under_two)
 }
 
-/// An info span is refused by number 3 alone. It is in the registry all the same, and the innermost
-/// layer isn't told of it.
+/// Puts a recorder without a filter on a stack, and one under eight filters outside it.
+fn outside_base<S: Subscriber + Drop, L: Layer<S> + Drop + AsLayer<Recorder>>(
+    rt: &(impl Abort + Wait),
+    alloc: Global,
+    by: By,
+    stack: S,
+    base: L,
+) -> Result<(), Fail>
+    requires stack { S.usable stack }
+    requires layer { L.usable base }
+{
+    in_eight(rt, alloc, by, put(stack, base)?)
+}
+
+/// Has such a dispatcher open an info span, of which all but the recorder under eight filters are
+/// told, and a warn span, of which all are.
+fn tells_by(rt: &(impl Abort + Wait), alloc: Global, by: By) -> Result<(), Fail> {
+    outside_base(rt, alloc, by, Registry::new(alloc), Recorder::new(alloc))
+}
+
 #[test]
 fn of_eight_filters_number_3_refuses(rt: HostRuntime) -> Result<(), Fail> {
-    for (by, verdict) in [
-        (By::Own(Keeping::Answers), None),
-        (By::Own(Keeping::Nothing), None),
-        (By::Shared, Some(0b1000)),
-    ] {
-        let case = Case {
-            by,
-            level: Level::INFO,
-            refused_by: &[3],
-            is_marked: false,
-            verdict,
-        };
-        in_eight(&rt, rt.alloc(), case)?;
-    }
-    Ok(())
+    tells_by(&rt, rt.alloc(), By::Own(Keeping::Answers))
 }
 
-/// An error span passes all eight.
 #[test]
-fn eight_filters_pass(rt: HostRuntime) -> Result<(), Fail> {
-    for (by, verdict) in [
-        (By::Own(Keeping::Answers), None),
-        (By::Own(Keeping::Nothing), None),
-        (By::Shared, Some(0)),
-    ] {
-        let case = Case {
-            by,
-            level: Level::ERROR,
-            refused_by: &[],
-            is_marked: true,
-            verdict,
-        };
-        in_eight(&rt, rt.alloc(), case)?;
-    }
-    Ok(())
+fn of_eight_filters_number_3_refuses_where_nothing_is_kept(rt: HostRuntime) -> Result<(), Fail> {
+    tells_by(&rt, rt.alloc(), By::Own(Keeping::Nothing))
+}
+
+#[test]
+fn of_eight_filters_number_3_refuses_where_workers_share(rt: HostRuntime) -> Result<(), Fail> {
+    tells_by(&rt, rt.alloc(), By::Shared)
 }

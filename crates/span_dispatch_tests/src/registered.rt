@@ -5,8 +5,8 @@ ghost use Rattle.span_core.specs.Metadata.{kind_of};
 ghost use Rattle.span_dispatch.specs.Registration.{IsRegistered, KeepsRegistered};
 ghost use Rattle.span_dispatch.specs.Serve.{stack_of};
 
-use crate::requests::{AsLayer, Keeping, put_in_use};
-use span_core::{Attributes, Event, FieldSet, Kind, Level, LevelFilter, Metadata, TraceError};
+use crate::requests::{AsLayer, Keeping, keeps, put_in_use};
+use span_core::{Attributes, Event, FieldSet, Id, Kind, Level, LevelFilter, Metadata, TraceError};
 use span_dispatch::{Dispatch, Recorded, Recorder, Registration};
 use span_layer_tests::fixture::LANE;
 use span_layers::Layer;
@@ -34,48 +34,40 @@ fn sent_by<S: Subscriber>(
     dispatch.event_by(LANE, callsite, &Event::new(callsite.metadata(), &[]))
 }
 
-/// Opens a span by a registered callsite, and says whether it was made.
+/// Opens a span by a registered callsite. Answers it, if it was made.
 fn opened_by<S: Subscriber>(
     dispatch: &mut Dispatch<S>,
     callsite: &Registration,
-) -> Result<bool, TraceError>
+) -> Result<Option<Id>, TraceError>
     requires usable { S.usable (stack_of dispatch.old) }
     requires registered { IsRegistered dispatch.old callsite.now }
     ensures usable { S.usable (stack_of dispatch.new) }
     ensures registered { KeepsRegistered dispatch.old dispatch.new }
 {
     let attrs = Attributes::new_root(callsite.metadata(), &[]);
-    Ok(dispatch.new_span_by(LANE, callsite, &attrs)?.is_some())
+    dispatch.new_span_by(LANE, callsite, &attrs)
 }
 
 /// Of a stack whose one filter is the level INFO: a span and two events by their callsites, and one
-/// more of each while the level is WARN, which are answered so.
+/// more of each while the level is WARN, which are answered so. Answers the first span.
 fn sent_under_levels<S: Subscriber>(
     rt: &impl Abort,
     dispatch: &mut Dispatch<S>,
     under_warn: bool,
-) -> Result<(), Fail>
+) -> Result<Id, Fail>
     requires { S.usable (stack_of dispatch.old) }
     ensures { S.usable (stack_of dispatch.new) }
 {
     let event = dispatch.register_callsite(&callsite(5, Kind::EVENT))?;
     let span = dispatch.register_callsite(&callsite(6, Kind::SPAN))?;
     assert!(rt; sent_by(dispatch, &event) == Ok(true));
-    assert!(rt; opened_by(dispatch, &span) == Ok(true));
+    let id = opened_by(dispatch, &span)?.ok_or("a layer vetoes")?;
     dispatch.set_level(0, LevelFilter::WARN)?;
     assert!(rt; sent_by(dispatch, &event) == Ok(under_warn));
-    assert!(rt; opened_by(dispatch, &span) == Ok(under_warn));
+    assert!(rt; opened_by(dispatch, &span)?.is_some() == under_warn);
     dispatch.set_level(0, LevelFilter::INFO)?;
     assert!(rt; sent_by(dispatch, &event) == Ok(true));
-    Ok(())
-}
-
-/// A recorder was told of three things, of which the first and the last are events.
-fn told_around_a_span(rt: &impl Abort, recorder: &Recorder) {
-    let notices = recorder.notices();
-    assert!(rt; notices.len() == 3);
-    assert!(rt; notices.first() == Some(&Recorded::Event(LANE, 5)));
-    assert!(rt; notices.last() == Some(&Recorded::Event(LANE, 5)));
+    Ok(id)
 }
 
 /// A recorder under INFO is told of what passes its levels. While the level is WARN, an answer says
@@ -85,14 +77,19 @@ fn tells_by_levels<S: Subscriber + Drop, L: Layer<S> + Drop + AsLayer<Recorder>>
     alloc: Global,
     stack: S,
     layer: L,
-    keeps: Keeping,
+    kept: Keeping,
 ) -> Result<(), Fail>
     requires stack { S.usable stack }
     requires layer { L.usable layer }
 {
-    let mut dispatch = put_in_use(alloc, stack, layer, keeps)?;
-    sent_under_levels(rt, &mut dispatch, keeps == Keeping::Nothing)?;
-    told_around_a_span(rt, dispatch.stack().as_layer());
+    let mut dispatch = put_in_use(alloc, stack, layer, kept)?;
+    let id = sent_under_levels(rt, &mut dispatch, kept == Keeping::Nothing)?;
+    let event = Recorded::Event(LANE, 5);
+    keeps(
+        rt,
+        dispatch.stack().as_layer(),
+        &[event, Recorded::New(LANE, id), event],
+    );
     Ok(())
 }
 

@@ -105,6 +105,17 @@ pub(crate) fn plain(alloc: Global) -> Result<Plain, TraceError> {
 /// A recorder under a level.
 pub(crate) type UnderOne = Filtered<Recorder, LevelFilter>;
 
+/// Recorders under levels, as a layer has them.
+pub(crate) trait HasList {
+    fn list(&self) -> &[UnderOne];
+}
+
+impl HasList for Vec<UnderOne> {
+    fn list(&self) -> &[UnderOne] {
+        self.as_slice()
+    }
+}
+
 /// What a dispatcher keeps of what its stack answers.
 #[derive(Clone, Copy, Debug, PartialEq, Eq)]
 pub(crate) enum Keeping {

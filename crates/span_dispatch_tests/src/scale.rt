@@ -2,13 +2,13 @@
 //! and by one that keeps nothing.
 ghost use Rattle.span_dispatch.specs.Serve.{stack_of};
 
-use crate::requests::{AsLayer, Keeping, event, keeps, put_in_use, serve};
+use crate::requests::{AsLayer, HasList, Keeping, UnderOne, event, keeps, put_in_use, serve};
 use span_core::{Attributes, FilterId, Id, Kind, Level, LevelFilter, TraceError};
 use span_dispatch::{Answer, Dispatch, Recorded, Recorder};
 use span_layer_tests::fixture::{LANE, metadata_of, put};
 use span_layers::Layer;
 use span_registry::{LookupSpan, Registry, Subscriber};
-use span_stacks::{Filtered, LayerExt, Layered};
+use span_stacks::{LayerExt, Layered};
 use std::alloc::{AllocError, Global};
 use std::process::Abort;
 use std::test::Fail;
@@ -19,11 +19,8 @@ const DEPTH: usize = 10_000;
 /// How often a lane enters a span.
 const ENTRIES: u32 = 1_000;
 
-/// Recorders, each under OFF.
-type Closed = Vec<Filtered<Recorder, LevelFilter>>;
-
-/// As many as there is room for.
-fn closed(alloc: Global) -> Result<Closed, AllocError> {
+/// Recorders, each under OFF: as many as there is room for.
+fn closed(alloc: Global) -> Result<Vec<UnderOne>, AllocError> {
     let mut layers = Vec::new(alloc);
     for _ in 0..FilterId::LIMIT {
         layers.push(Recorder::new(alloc).with_filter(LevelFilter::OFF))?;
@@ -46,37 +43,26 @@ fn serve_error<S: Subscriber>(
 }
 
 /// The open recorder alone was told of the event.
-fn is_told_alone(open: &Recorder, closed: &Closed) -> bool {
+fn is_told_alone(open: &Recorder, closed: &[UnderOne]) -> bool {
     let told = open.notices() == [Recorded::Event(LANE, 1)].as_slice();
     let mut others = closed.iter();
     told && others.all(|layer| layer.layer().notices().is_empty())
-}
-
-/// Recorders under OFF, as a layer has them.
-trait HasClosed {
-    fn closed(&self) -> &Closed;
-}
-
-impl HasClosed for Closed {
-    fn closed(&self) -> &Closed {
-        self
-    }
 }
 
 /// Has an open recorder and, outside it, those under OFF.
 trait OpenBelowClosed {
     fn open(&self) -> &Recorder;
 
-    fn outside(&self) -> &Closed;
+    fn outside(&self) -> &[UnderOne];
 }
 
-impl<L: HasClosed, S: AsLayer<Recorder>> OpenBelowClosed for Layered<L, S> {
+impl<L: HasList, S: AsLayer<Recorder>> OpenBelowClosed for Layered<L, S> {
     fn open(&self) -> &Recorder {
         self.inner().as_layer()
     }
 
-    fn outside(&self) -> &Closed {
-        self.outer().closed()
+    fn outside(&self) -> &[UnderOne] {
+        self.outer().list()
     }
 }
 
@@ -95,7 +81,7 @@ fn tells_the_open_one<S: Subscriber + OpenBelowClosed>(
 }
 
 /// Puts the layer that has the recorders under OFF on a stack, and sends it events.
-fn tells_under<S: Subscriber + Drop + AsLayer<Recorder>, L: Layer<S> + Drop + HasClosed>(
+fn tells_under<S: Subscriber + Drop + AsLayer<Recorder>, L: Layer<S> + Drop + HasList>(
     rt: &impl Abort,
     alloc: Global,
     stack: S,

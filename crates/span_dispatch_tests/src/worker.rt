@@ -5,6 +5,7 @@ ghost use Rattle.span_stacks.specs.Layered.{inner_of, outer_of};
 ghost use Rattle.span_store.specs.Store.{IsFresh};
 ghost use Rattle.std.specs.Prelude.{◌≡◌, ◌-◌, ◌<◌, ◌^◌, ⊤, IfOk};
 
+use crate::requests::UnderOne;
 use span_core::{
     Attributes, Event, FieldValue, Id, Kind, Lane, Level, LevelFilter, Metadata, Parent, Pass,
     Record,
@@ -169,14 +170,27 @@ fn both_meet<S: Subscriber + Send, L: Crew + Send + Sync, R: Threads + Wait + Sy
     in_two_threads(rt, shared, first, second)
 }
 
-/// Each saw its own entry and the other's, on lanes that follow each other.
+/// Each saw its own entry and the other's, on lanes that follow each other, and has no hint.
 fn assert_met<L: Crew>(rt: &impl Abort, one: &Met<L>, other: &Met<L>) {
     assert!(rt; one.own && one.seen);
     assert!(rt; other.own && other.seen);
     assert!(rt; (one.worker.lane(), other.worker.lane()) == (Lane(0), Lane(1)));
+    assert!(rt; one.worker.passes_hint(Level::TRACE) && other.worker.passes_hint(Level::TRACE));
 }
 
-/// A journal of two calls holds both receipts.
+/// The entry of a lane's new span at this place of a journal of new spans: their ids count from 1.
+fn new_span_at(place: u64, lane: Lane) -> Entry {
+    Entry::New {
+        lane,
+        metadata: span_metadata(),
+        parent: Parent::Contextual,
+        verdict: Pass::new().refused(),
+        id: Id::from_u64(place.wrapping_add(1)),
+    }
+}
+
+/// A journal of two calls holds the receipts of lanes 0 and 1, each with the entry that is due at
+/// its place.
 fn assert_held(
     rt: &impl Abort,
     journal: &Journal,
@@ -184,9 +198,12 @@ fn assert_held(
     receipts: [Option<Receipt>; 2],
 ) -> Result<(), Fail> {
     assert!(rt; (calls, journal.len()) == (2, 2));
+    let mut lane = 0;
     for receipt in receipts {
         let receipt = receipt.ok_or("a receipt")?;
         assert!(rt; journal.holds(&receipt));
+        assert!(rt; journal.get(receipt.place()) == Some(new_span_at(receipt.place(), Lane(lane))));
+        lane = 1;
     }
     Ok(())
 }
@@ -362,6 +379,87 @@ fn journal_under_info<S: Subscriber + Drop>(
 #[test]
 fn each_request_adds_its_entry(rt: HostRuntime) -> Result<(), Fail> {
     journal_under_info(&rt, rt.alloc(), Registry::new(rt.alloc()))
+}
+
+/// A worker's hint passes warn, info and debug, or not.
+fn passed<L: Crew>(worker: &Worker<L>) -> [bool; 3] {
+    [
+        worker.passes_hint(Level::WARN),
+        worker.passes_hint(Level::INFO),
+        worker.passes_hint(Level::DEBUG),
+    ]
+}
+
+/// A worker under INFO goes on with that hint once the level is DEBUG, and once it is WARN, though
+/// a debug event is made while it is DEBUG, and an info event isn't while it is WARN.
+fn goes_on_with_its_hint<S: Subscriber, L: Crew>(
+    rt: &(impl Abort + Wait),
+    shared: &Shared<S, L>,
+    worker: &mut Worker<L>,
+) -> Result<(), Fail>
+    requires { worker.old.calls < 2 ^ 64 - 4 }
+{
+    let debug = Event::new(metadata_of(2, Level::DEBUG, Kind::EVENT), &[]);
+    let info = Event::new(event_metadata(), &[]);
+    assert!(rt; passed(worker) == [true, true, false]);
+    shared.set_level(rt, worker, 0, LevelFilter::DEBUG)?;
+    assert!(rt; passed(worker) == [true, true, false]);
+    assert!(rt; shared.event(rt, worker, &debug)?.0);
+    shared.set_level(rt, worker, 0, LevelFilter::WARN)?;
+    assert!(rt; passed(worker) == [true, true, false]);
+    assert!(rt; !shared.event(rt, worker, &info)?.0);
+    Ok(())
+}
+
+/// A new worker goes on with its hint.
+fn a_new_one_goes_on<S: Subscriber, L: Crew>(
+    rt: &(impl Abort + Wait),
+    shared: &Shared<S, L>,
+    workers: Vec<Worker<L>>,
+) -> Result<(), Fail> {
+    let mut workers = workers;
+    let mut worker = workers.pop().ok_or("a worker")?;
+    if worker.calls() > 0 {
+        return Err("a new worker".into());
+    }
+    goes_on_with_its_hint(rt, shared, &mut worker)
+}
+
+/// The one worker of a stack under INFO goes on with its hint.
+fn one_goes_on<S: Subscriber + Drop, L: Crew>(
+    rt: &(impl Abort + Wait),
+    alloc: Global,
+    blank: Blank,
+    stack: S,
+) -> Result<(), Fail>
+    requires name { blank.name ≡ L.name }
+    requires parts { (blank.parts ≡ L.parts) × (L.parts ≡ 1) × (L.workers ≡ 1) }
+    requires usable { S.usable stack }
+    requires fresh { IsFresh (S.registry stack) }
+{
+    let (book, all) = blank.open::<L>();
+    match Shared::new(alloc, book, all, Dispatch::new(alloc, stack), 1) {
+        Ok((shared, workers)) => a_new_one_goes_on(rt, &shared, workers),
+        Err(_) => Err("no memory".into()),
+    }
+}
+
+/// Puts a recorder under INFO on a stack, whose one worker goes on with its hint.
+fn one_goes_on_under_info<S: Subscriber + Drop>(
+    rt: &(impl Abort + Wait),
+    alloc: Global,
+    stack: S,
+) -> Result<(), Fail>
+    requires usable { S.usable stack }
+    requires fresh { IsFresh (S.registry stack) }
+{
+    let stack = put(stack, Recorder::new(alloc).with_filter(LevelFilter::INFO))?;
+    one_goes_on::<Layered<UnderOne, S>, Brand>(rt, alloc, Blank::new(1), stack)
+}
+
+#[test]
+fn a_worker_goes_on_with_its_hint(rt: HostRuntime) -> Result<(), Fail> {
+    one_goes_on_under_info(&rt, rt.alloc(), Registry::new(rt.alloc()))
 }
 
 /// A layer that keeps the first number that a new span was given, and the first that was recorded

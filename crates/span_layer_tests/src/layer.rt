@@ -429,6 +429,15 @@ fn is_the_129th<L>(rt: &impl Abort, back: &Unattached<Filtered<L, LevelFilter>, 
     );
 }
 
+/// A refusal is written so; of neither part is anything shown.
+fn is_written<L, S>(rt: &impl Abort, alloc: Global, back: &Unattached<L, S>) -> Result<(), Fail> {
+    let text = format!(in alloc; "{back} ({back:?})")?;
+    assert!(rt;
+        text.as_str() == "the layer wasn't put on: there are too many filters (Unattached { .. })"
+    );
+    Ok(())
+}
+
 /// How many filters a registry has under a layer.
 fn filters_under<L: Layer<Registry> + Drop>(registry: Registry, layer: L) -> Result<u32, TraceError>
     requires { L.usable layer }
@@ -441,6 +450,7 @@ fn filters_under<L: Layer<Registry> + Drop>(registry: Registry, layer: L) -> Res
 /// needs no number.
 fn takes_no_filter<L: Layer<Registry> + Drop>(
     rt: &impl Abort,
+    alloc: Global,
     full: Registry,
     layers: (L, L),
 ) -> Result<(), Fail>
@@ -450,6 +460,7 @@ fn takes_no_filter<L: Layer<Registry> + Drop>(
     let (first, second) = layers;
     let back = refused(full, first.with_filter(LevelFilter::INFO))?;
     is_the_129th(rt, &back);
+    is_written(rt, alloc, &back)?;
     let count = filters_under(back.subscriber, second)?;
     assert!(rt; count == 128);
     Ok(())
@@ -460,9 +471,65 @@ fn a_registry_has_room_for_128_filters(rt: HostRuntime) -> Result<(), Fail> {
     let full = without_numbers(rt.alloc())?;
     takes_no_filter(
         &rt,
+        rt.alloc(),
         full,
         (new_watcher(rt.alloc()), new_watcher(rt.alloc())),
     )
+}
+
+/// Puts a layer on a stack. Both are let go of where the stack refuses it.
+fn put_or_drop<S: Subscriber + Drop, L: Layer<S> + Drop>(
+    stack: S,
+    layer: L,
+) -> Result<Layered<L, S>, TraceError>
+    requires layer { L.usable layer }
+    requires stack { S.usable stack }
+{
+    Ok(stack.with(layer)?)
+}
+
+/// The same in a program that goes by `anyhow`.
+fn put_or_say<S: Subscriber + Drop, L: Layer<S> + Drop>(
+    stack: S,
+    layer: L,
+) -> anyhow::Result<Layered<L, S>>
+    requires layer { L.usable layer }
+    requires stack { S.usable stack }
+{
+    Ok(stack.with(layer)?)
+}
+
+/// Why a full registry refuses a layer under a level.
+fn refusal<L: Layer<Registry> + Drop>(full: Registry, layer: L) -> Option<TraceError>
+    requires { L.usable layer }
+{
+    put_or_drop(full, layer.with_filter(LevelFilter::INFO)).err()
+}
+
+/// What `anyhow` says where a full registry refuses a layer under a level.
+fn said<L: Layer<Registry> + Drop>(full: Registry, layer: L) -> Option<anyhow::Error>
+    requires { L.usable layer }
+{
+    put_or_say(full, layer.with_filter(LevelFilter::INFO)).err()
+}
+
+#[test]
+fn a_refused_layer_is_said(rt: HostRuntime) -> Result<(), Fail> {
+    let full = without_numbers(rt.alloc())?;
+    let Some(error) = said(full, new_watcher(rt.alloc())) else {
+        return Err(Fail::from("a 129th filter got a number"));
+    };
+    let text = format!(in rt.alloc(); "{error}")?;
+    assert!(rt; text.as_str() == "the layer wasn't put on: there are too many filters");
+    Ok(())
+}
+
+#[test]
+fn a_refused_layer_becomes_its_reason(rt: HostRuntime) -> Result<(), Fail> {
+    let full = without_numbers(rt.alloc())?;
+    let reason = refusal(full, new_watcher(rt.alloc()));
+    assert!(rt; reason == Some(TraceError::TooManyFilters));
+    Ok(())
 }
 
 /// A layer under a filter without a number is asked of an event, and is then notified of it: it

@@ -193,6 +193,15 @@ fn begins_at_the_root<R: LookupSpan>(
     Ok(root.id())
 }
 
+/// The spans of a chain in a new registry, the last first: their numbers count from 1.
+fn counts_down(rt: &impl Abort, chain: &[Id]) {
+    let mut left = chain.len() as u64;
+    for id in chain {
+        assert!(rt; id.into_u64() == left);
+        left = left.saturating_sub(1);
+    }
+}
+
 /// How long a span's scope is, in both orders: the root comes first in one of them, and the span
 /// last.
 fn is_so_deep<R: LookupSpan>(
@@ -201,7 +210,9 @@ fn is_so_deep<R: LookupSpan>(
     leaf: &SpanRef<'_, R>,
     depth: usize,
 ) -> Result<(), Fail> {
-    assert!(rt; ids(alloc, leaf.scope())?.len() == depth);
+    let up = ids(alloc, leaf.scope())?;
+    assert!(rt; up.len() == depth);
+    counts_down(rt, &up);
     let mut scope = leaf.scope().from_root(alloc)?;
     let root = begins_at_the_root(rt, &mut scope, depth)?;
     assert!(rt; last_of(scope, root) == leaf.id());

@@ -2,7 +2,7 @@
 use crate::store_fixture::is_shown_as;
 use span_core::{
     Attributes, Current, Event, FieldSet, FieldValue, FilterId, Id, Interest, Kind, Lane, Level,
-    LevelFilter, Metadata, Parent, Pass, Record, Rejected, TraceError, laws,
+    LevelFilter, Metadata, Parent, Pass, Record, Rejected, TraceError,
 };
 use std::alloc::Global;
 use std::fmt;
@@ -169,11 +169,86 @@ fn levels_pass(rt: HostRuntime) -> Result<(), Fail> {
         (LevelFilter::TRACE, 5, "LevelFilter::TRACE"),
     ];
     for (filter, passed, text) in filters {
-        assert!(rt; levels.iter().filter(|level| filter.passes(**level)).count() == passed);
+        for (place, level) in levels.iter().enumerate() {
+            assert!(rt; filter.passes(*level) == (place < passed));
+        }
         is_shown_as(&rt, rt.alloc(), &filter, text)?;
     }
     assert!(rt; Level::ERROR < Level::WARN && Level::DEBUG < Level::TRACE);
     assert!(rt; LevelFilter::OFF < LevelFilter::ERROR && LevelFilter::INFO < LevelFilter::DEBUG);
+    Ok(())
+}
+
+/// No level is read from this text, and what is answered says what could be.
+fn is_no_level(rt: &impl Abort, alloc: Global, text: &str) -> Result<(), Fail> {
+    let Err(refusal) = text.parse::<Level>() else {
+        return Err(Fail::from("a level was read"));
+    };
+    is_written_as(
+        rt,
+        alloc,
+        &refusal,
+        "error parsing level: expected one of \"error\", \"warn\", \"info\", \"debug\", \
+         \"trace\", or a number 1-5",
+    )
+}
+
+#[test]
+fn levels_are_read(rt: HostRuntime) -> Result<(), Fail> {
+    let texts = [
+        ("error", Level::ERROR),
+        ("Warn", Level::WARN),
+        ("INFO", Level::INFO),
+        ("dEBUG", Level::DEBUG),
+        ("trace", Level::TRACE),
+        ("1", Level::ERROR),
+        ("2", Level::WARN),
+        ("003", Level::INFO),
+        ("+4", Level::DEBUG),
+        ("5", Level::TRACE),
+    ];
+    for (text, level) in texts {
+        assert!(rt; text.parse::<Level>().ok() == Some(level));
+    }
+    for text in ["", "off", "0", "6", "-1", "warning", "war", " info", "2 "] {
+        is_no_level(&rt, rt.alloc(), text)?;
+    }
+    Ok(())
+}
+
+/// No filter is read from this text, and what is answered says what could be.
+fn is_no_filter(rt: &impl Abort, alloc: Global, text: &str) -> Result<(), Fail> {
+    let Err(refusal) = text.parse::<LevelFilter>() else {
+        return Err(Fail::from("a filter was read"));
+    };
+    is_written_as(
+        rt,
+        alloc,
+        &refusal,
+        "error parsing level filter: expected one of \"off\", \"error\", \"warn\", \"info\", \
+         \"debug\", \"trace\", or a number 0-5",
+    )
+}
+
+#[test]
+fn filters_by_level_are_read(rt: HostRuntime) -> Result<(), Fail> {
+    let texts = [
+        ("", LevelFilter::ERROR),
+        ("off", LevelFilter::OFF),
+        ("OFF", LevelFilter::OFF),
+        ("0", LevelFilter::OFF),
+        ("error", LevelFilter::ERROR),
+        ("Warn", LevelFilter::WARN),
+        ("INFO", LevelFilter::INFO),
+        ("debug", LevelFilter::DEBUG),
+        ("5", LevelFilter::TRACE),
+    ];
+    for (text, filter) in texts {
+        assert!(rt; text.parse::<LevelFilter>().ok() == Some(filter));
+    }
+    for text in ["6", "-0", "of", "none", " ", "LevelFilter::INFO"] {
+        is_no_filter(&rt, rt.alloc(), text)?;
+    }
     Ok(())
 }
 
@@ -188,8 +263,10 @@ fn metadata_is_read_back(rt: HostRuntime) -> Result<(), Fail> {
     assert!(rt; metadata.is_span() && !metadata.is_event());
     assert!(rt; event_metadata().is_event() && !event_metadata().is_span());
     let fields = metadata.fields();
-    assert!(rt; fields.names().len() == 2);
-    assert!(rt; fields.len() == 2);
+    assert!(rt; (fields.len(), fields.names().len()) == (2, 2));
+    for (name, wanted) in fields.names().iter().zip(FIELDS) {
+        assert!(rt; *name == wanted);
+    }
     assert!(rt; !fields.is_empty() && event_metadata().fields().is_empty());
     assert!(rt; fields.contains("retries") && !fields.contains("retry"));
     Ok(())
@@ -258,6 +335,19 @@ fn texts_are_told_apart_by_each_letter(rt: HostRuntime) -> Result<(), Fail> {
     Ok(())
 }
 
+/// These are the values, under their names.
+fn are_values(
+    rt: &impl Abort,
+    values: &[(&'static str, FieldValue<'_>)],
+    wanted: &[(&'static str, FieldValue<'_>)],
+) {
+    assert!(rt; values.len() == wanted.len());
+    for (value, want) in values.iter().zip(wanted) {
+        assert!(rt; value.0 == want.0);
+        assert!(rt; value.1 == want.1);
+    }
+}
+
 #[test]
 fn attributes_are_read_back(rt: HostRuntime) -> Result<(), Fail> {
     let values = [
@@ -269,13 +359,13 @@ fn attributes_are_read_back(rt: HostRuntime) -> Result<(), Fail> {
     let root = Attributes::new_root(metadata, &values);
     let child = Attributes::child_of(Id::from_u64(5), metadata, &values);
     assert!(rt; contextual.metadata() == metadata);
-    assert!(rt; contextual.values().len() == 2);
+    are_values(&rt, contextual.values(), &values);
     assert!(rt; contextual.is_contextual() && !contextual.is_root());
     assert!(rt; root.is_root() && !root.is_contextual());
     assert!(rt; root.parent() == None);
     assert!(rt; child.parent() == Some(Id::from_u64(5)));
     assert!(rt; child.asked_parent() == Parent::Explicit(Id::from_u64(5)));
-    assert!(rt; Record::new(&values).values().len() == 2);
+    are_values(&rt, Record::new(&values).values(), &values);
     Ok(())
 }
 
@@ -290,7 +380,7 @@ fn events_are_read_back(rt: HostRuntime) -> Result<(), Fail> {
     let root = Event::new_root(metadata, &values);
     let child = Event::new_child_of(Id::from_u64(5), metadata, &values);
     assert!(rt; contextual.metadata() == metadata);
-    assert!(rt; contextual.values().len() == 2);
+    are_values(&rt, contextual.values(), &values);
     assert!(rt; contextual.is_contextual() && !contextual.is_root());
     assert!(rt; root.is_root() && !root.is_contextual());
     assert!(rt; root.parent() == None);
@@ -340,23 +430,6 @@ fn refusals_are_written(rt: HostRuntime) -> Result<(), Fail> {
     assert!(rt; rejected.value == 11);
     assert!(rt; rejected.error.number() == 5);
     Ok(())
-}
-
-#[test]
-fn laws_can_be_called() {
-    laws::order_is_by_number();
-    laws::numbers_tell_levels_apart();
-    laws::levels_have_their_numbers();
-    laws::kinds_differ();
-    laws::levels_pass_by_number();
-    laws::more_verbose_filters_pass_more();
-    laws::sum_rule();
-    laws::sums_in_any_order();
-    laws::unions();
-    laws::filters_in_common();
-    laws::hiding();
-    laws::members();
-    laws::filters_are_128();
 }
 
 #[test]
