@@ -16,7 +16,7 @@ mod text;
 
 pub use error::{Rejected, TraceError};
 pub use event::Event;
-pub use field::{FieldSet, FieldValue};
+pub use field::{FieldSet, FieldValue, Float, FloatText};
 pub use filter::{FilterId, FilterMap};
 pub use interest::Interest;
 pub use level::{Level, LevelFilter, ParseLevelError, ParseLevelFilterError};
