@@ -6,7 +6,8 @@ use log::kv::{self, Source, Value, VisitSource};
 use log::sink::Memory;
 use log::{Log, Logged, Record};
 use span_core::{
-    Event, FieldSet, FieldValue, Kind, Lane, Level, LevelFilter, Metadata, TraceError,
+    Event, FieldSet, FieldValue, Float, FloatText, Kind, Lane, Level, LevelFilter, Metadata,
+    TraceError,
 };
 use span_dispatch::Dispatch;
 use span_layers::Observer;
@@ -19,13 +20,14 @@ use std::test::Fail;
 
 const LANE: Lane = Lane(0);
 
-const LINES: [&str; 3] = [
+const LINES: [&str; 4] = [
     "[WARN  db] 42 rows",
     "[DEBUG app::net] sent bytes=7 ok=true",
     "[TRACE app::net] -1",
+    "[INFO  app::net] told half=1.5 deep=-9223372036854775809",
 ];
 
-/// Sends a record, and then two events.
+/// Sends a record, and then three events.
 fn send<S: Subscriber>(alloc: Global, dispatch: &mut Dispatch<S>) -> Result<(), TraceError>
     requires { S.usable (stack_of dispatch.old) }
 {
@@ -38,7 +40,8 @@ fn send<S: Subscriber>(alloc: Global, dispatch: &mut Dispatch<S>) -> Result<(), 
     send_events(dispatch)
 }
 
-/// Sends two events, of which one has a field `message`.
+/// Sends three events, of which one has a field `message`, and one a field `message` without a
+/// value.
 fn send_events<S: Subscriber>(dispatch: &mut Dispatch<S>) -> Result<(), TraceError>
     requires { S.usable (stack_of dispatch.old) }
 {
@@ -49,6 +52,14 @@ fn send_events<S: Subscriber>(dispatch: &mut Dispatch<S>) -> Result<(), TraceErr
     dispatch.event(LANE, &Event::new(site(1, "sent", Level::DEBUG), &values))?;
     let values = [("message", FieldValue::I64(-1))];
     dispatch.event(LANE, &Event::new(site(2, "seen", Level::TRACE), &values))?;
+    let mut room = FloatText::new();
+    let values = [
+        ("message", FieldValue::Absent),
+        ("half", FieldValue::F64(Float::new(1.5, &mut room))),
+        ("gone", FieldValue::Absent),
+        ("deep", FieldValue::I128(-9_223_372_036_854_775_809)),
+    ];
+    dispatch.event(LANE, &Event::new(site(3, "told", Level::INFO), &values))?;
     Ok(())
 }
 
@@ -105,6 +116,8 @@ fn kind_of<D>(value: Value<'_, D>) -> &'static str {
     match value {
         Value::U64(_) => "u64",
         Value::I64(_) => "i64",
+        Value::U128(_) => "u128",
+        Value::I128(_) => "i128",
         Value::Bool(_) => "bool",
         Value::Str(_) => "text",
         _ => "another",
@@ -125,9 +138,20 @@ impl VisitSource for Kinds {
     }
 }
 
-/// A field is a pair of its own kind, unless it is the message or the target.
+const KINDS: &str = "bytes u64
+change i64
+ok bool
+by text
+wide u128
+deep i128
+half text
+";
+
+/// A field is a pair of its own kind, but for a float, which is a text, unless it has no value, or
+/// is the message or the target.
 #[test]
 fn pairs_are_of_the_kinds_of_fields(rt: HostRuntime) -> Result<(), Fail> {
+    let mut room = FloatText::new();
     let values = [
         ("bytes", FieldValue::U64(7)),
         ("message", FieldValue::Text("sent")),
@@ -135,12 +159,16 @@ fn pairs_are_of_the_kinds_of_fields(rt: HostRuntime) -> Result<(), Fail> {
         ("ok", FieldValue::Bool(true)),
         ("log.target", FieldValue::Text("db")),
         ("by", FieldValue::Text("true")),
+        ("gone", FieldValue::Absent),
+        ("wide", FieldValue::U128(18_446_744_073_709_551_616)),
+        ("deep", FieldValue::I128(-1)),
+        ("half", FieldValue::F64(Float::new(0.5, &mut room))),
     ];
     let mut kinds = Kinds {
         text: String::new(rt.alloc()),
     };
     Fields::new(&values).visit(&mut kinds)?;
-    assert!(rt; kinds.text.as_str() == "bytes u64\nchange i64\nok bool\nby text\n");
+    assert!(rt; kinds.text.as_str() == KINDS);
     Ok(())
 }
 

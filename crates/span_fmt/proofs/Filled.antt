@@ -1,20 +1,18 @@
 -- A line is never empty.
-use Rattle.std.proofs.Common.{false, length, ◌≡◌, ◌≢◌, ℕ, List, [], ◌∷◌, ◌++◌, Option, Some, Result, Ok, Err, ap, refl, sym, ◌∙◌}
+use Rattle.std.proofs.Common.{◌≡◌, ◌≢◌, ℕ, List, [], ◌∷◌, ◌++◌, Option, Some, Result, Ok, Err, ap, refl, sym, ◌∙◌}
 use Rattle.std.specs.Borrow.{Bor}
 use Rattle.std.specs.Option.{option_map_or}
-use Rattle.std.specs.Prelude.{◌==◌, IfErr, OnErr, codes, decimal}
+use Rattle.std.specs.Prelude.{IfErr, OnErr, codes, decimal}
 use Rattle.span_core.specs.declared.event.Event.{Event}
 use Rattle.span_core.specs.Event.{event_metadata, event_values}
 use Rattle.span_core.specs.declared.field.FieldValue.{FieldValue}
 use Rattle.span_core.specs.declared.metadata.Metadata.{Metadata}
 use Rattle.span_registry.specs.View.{View, metadata_shown}
-use Rattle.std.proofs.lemmas.Bool.{true≢false}
 use Rattle.span_core.specs.Level.{level_text}
 use Rattle.span_core.specs.Metadata.{level_of}
-use Rattle.span_fmt.specs.Escape.{escaped}
 use Rattle.span_fmt.specs.Known.{SpanTexts}
 use Rattle.span_fmt.specs.Lines.{around_text, begun_text, event_line, spaced}
-use Rattle.span_fmt.specs.Text.{field_text, fields_text, head_text, indent, rest_text, shown_text, tail_text}
+use Rattle.span_fmt.specs.Text.{head_text, indent, rest_text, tail_text}
 use Rattle.span_fmt.specs.Tree.{event_text, span_text, spans_above, spans_round}
 
 not_empty : (x : ℕ) (xs : List ℕ) → (x ∷ xs) ≢ []
@@ -37,11 +35,6 @@ begun lane spans more =
 pub at_an_error : {T E P : Type 0} (r : Result T E) → P → IfErr r (λ e. P)
 at_an_error (Ok v) p = tt
 at_an_error (Err e) p = p
-
--- values are written as some text
-pub fields_filled : (values : List (Bor (List ℕ) × FieldValue)) → (length values == 0) ≡ false → fields_text values ≢ []
-fields_filled [] filled = absurd (true≢false filled)
-fields_filled (f ∷ fs) filled = longer (field_text f.0.now f.1) (fields_text fs) (not_empty 32 (escaped f.0.now ++ codes "=" ++ shown_text f.1))
 
 -- what holds anyway holds where memory is refused
 pub without_error : {T E P : Type 0} (r : Result T E) → P → OnErr r P

@@ -6,6 +6,7 @@ mod Noticed
 mod Outermost
 mod Scopes
 mod Plain
+mod Present
 mod Told
 mod Differ
 mod Unescaped

@@ -1,7 +1,7 @@
 -- The text of fields, and of a line.
-use Rattle.std.specs.Prelude.{◌≡◌, ℕ, List, ◌++◌, String, codes, decimal, flat_map, string_bytes}
+use Rattle.std.specs.Prelude.{◌≡◌, ℕ, List, ◌++◌, String, codes, decimal, filter, flat_map, not, string_bytes}
 use Rattle.std.specs.Borrow.{Bor}
-use Rattle.span_core.specs.Field.{value_text}
+use Rattle.span_core.specs.Field.{is_absent, value_text}
 use Rattle.span_core.specs.Level.{level_text}
 use Rattle.span_core.specs.Metadata.{level_of, name_of, target_of}
 use Rattle.span_core.specs.declared.field.FieldValue.{FieldValue}
@@ -22,9 +22,13 @@ shown_text other = value_text other
 abbrev pub field_text : List ℕ → FieldValue → List ℕ
 field_text name value = codes " " ++ escaped name ++ codes "=" ++ shown_text value
 
--- the text of fields, one after the other
+-- the fields that have a value
+abbrev pub present : List (Bor (List ℕ) × FieldValue) → List (Bor (List ℕ) × FieldValue)
+present values = filter (λ f. not (is_absent f.1)) values
+
+-- the text of the fields that have a value, one after the other
 abbrev pub fields_text : List (Bor (List ℕ) × FieldValue) → List ℕ
-fields_text values = flat_map (λ f. field_text f.0.now f.1) values
+fields_text values = flat_map (λ f. field_text f.0.now f.1) (present values)
 
 -- two spaces for each member of a list
 abbrev pub indent : {A : Type 0} → List A → List ℕ

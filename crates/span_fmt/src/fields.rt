@@ -1,12 +1,12 @@
 //! Names and values of fields as text, in one line.
-ghost use Rattle.std.specs.Prelude.{◌≡◌, OnOk};
-ghost use Rattle.span_fmt.specs.Text.{IsContinued, field_text, fields_text, rest_text, shown_text};
+ghost use Rattle.std.specs.Prelude.{◌≡◌, ◌↔◌, [], IsTrue, OnOk};
+ghost use Rattle.span_fmt.specs.Text.{IsContinued, field_text, fields_text, present, rest_text, shown_text};
 
 use crate::escape::write_escaped;
 use span_core::{FieldValue, Metadata};
 use std::alloc::AllocError;
 
-/// Writes each field behind a space, as `name=value`. Texts are escaped, as
+/// Writes each field that has a value behind a space, as `name=value`. Texts are escaped, as
 /// `span_fmt::write_escaped` has them.
 ///
 /// Where memory is refused, no clause says what of it is written: throw the text away.
@@ -17,9 +17,18 @@ pub fn write_fields(
     ensures { OnOk result (IsContinued text.old text.new (fields_text values.now)) }
 {
     for field in values {
-        write_field(text, field.0, field.1)?;
+        if !field.1.is_absent() {
+            write_field(text, field.0, field.1)?;
+        }
     }
     Ok(())
+}
+
+/// Whether no field has a value.
+pub(crate) fn are_absent(values: &[(&'static str, FieldValue<'_>)]) -> bool
+    ensures { IsTrue result ↔ present values.now ≡ [] }
+{
+    values.iter().all(|field| field.1.is_absent())
 }
 
 /// Writes one field behind a space.

@@ -4,7 +4,7 @@ ghost use Rattle.span_core.specs.Span.{number_of};
 ghost use Rattle.span_fmt.specs.Known.{known_in, nothing_known, with_text, with_values};
 ghost use Rattle.span_fmt.specs.Text.{fields_text};
 
-use crate::fields::write_fields;
+use crate::fields::{are_absent, write_fields};
 use span_core::{FieldValue, Id};
 use std::alloc::{AllocError, Global};
 use std::collections::BTreeMap;
@@ -35,7 +35,7 @@ impl Known {
         }
     }
 
-    /// Adds values of a span to what is known. Where there are none, no memory is needed.
+    /// Adds values of a span to what is known. Where no field has a value, no memory is needed.
     pub(crate) fn add(
         &mut self,
         alloc: Global,
@@ -47,7 +47,7 @@ impl Known {
         ensures unchanged { OnErr result (known_in self.new ≡ known_in self.old) }
         ensures refused { OnErr result (fields_text values.now ≢ []) }
     {
-        if values.is_empty() {
+        if are_absent(values) {
             return Ok(());
         }
         // A copy: where memory is refused, what is known stays as it was.

@@ -1,8 +1,8 @@
 -- The record of a record's event.
-use Rattle.std.proofs.Common.{◌≡◌, ℕ, List, [], ◌∷◌, Option, Some, codes, refl, ap}
+use Rattle.std.proofs.Common.{◌≡◌, ℕ, false, List, [], ◌∷◌, Option, Some, codes, refl, ap}
 use Rattle.std.specs.Borrow.{Bor}
 use Rattle.std.specs.Option.{option_and_then, option_map_or}
-use Rattle.span_core.specs.Field.{value_text}
+use Rattle.span_core.specs.Field.{is_absent, value_text}
 use Rattle.span_core.specs.declared.field.FieldValue.{FieldValue}
 use Rattle.span_core.specs.declared.field.FieldValue.TheVariants as value
 use Rattle.span_log.specs.Fields.{pairs_of, text_in, texts_of}
@@ -24,7 +24,22 @@ text_written : (v : FieldValue) (text : List ℕ) → text_in v ≡ Some text �
 text_written (value.Text t) text is = cc
 text_written (value.U64 n) text is = cc
 text_written (value.I64 n) text is = cc
+text_written (value.U128 n) text is = cc
+text_written (value.I128 n) text is = cc
+text_written (value.F64 f) text is = cc
 text_written (value.Bool b) text is = cc
+text_written value.Absent text is = cc
+
+-- and is there
+text_there : (v : FieldValue) (text : List ℕ) → text_in v ≡ Some text → is_absent v ≡ false
+text_there (value.Text t) text is = refl
+text_there (value.U64 n) text is = refl
+text_there (value.I64 n) text is = refl
+text_there (value.U128 n) text is = refl
+text_there (value.I128 n) text is = refl
+text_there (value.F64 f) text is = refl
+text_there (value.Bool b) text is = refl
+text_there value.Absent text is = cc
 
 -- fields that are the message and the target as texts are found to be so
 pub has_only : (values : List (Bor (List ℕ) × FieldValue)) (message target : List ℕ)
@@ -40,5 +55,7 @@ has_only (a ∷ b ∷ []) message target is =
     let said : text_in a.1 ≡ Some message = ap (λ p. p.1) one in
     let origin : text_in b.1 ≡ Some target = ap (λ p. p.1) other in
     let written : value_text a.1 ≡ message = text_written a.1 message said in
-    (λ name. rw first written, λ own. rw (first, second, origin) refl, rw (first, second) refl)
+    let there : is_absent a.1 ≡ false = text_there a.1 message said in
+    let other_there : is_absent b.1 ≡ false = text_there b.1 target origin in
+    (λ name. simp (there, first) written, λ own. simp (there, other_there, first, second, origin), simp (there, other_there, first, second))
 has_only (a ∷ b ∷ d ∷ rest) message target is = cc

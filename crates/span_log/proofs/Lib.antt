@@ -1,2 +1,3 @@
 mod Back
+mod Found
 mod Likes

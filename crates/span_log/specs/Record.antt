@@ -9,14 +9,14 @@ use Rattle.span_core.specs.Field.{value_text}
 use Rattle.span_core.specs.Metadata.{level_of, name_of, target_of}
 use Rattle.span_core.specs.declared.event.Event.{Event}
 use Rattle.span_core.specs.declared.field.FieldValue.{FieldValue}
-use Rattle.span_log.specs.Fields.{fields_in, text_in}
+use Rattle.span_log.specs.Fields.{fields_in, present, text_in}
 use Rattle.span_log.specs.Level.{SameLevel}
 use Rattle.span_log.specs.declared.fields.Fields.{Fields}
 
--- the value of the first field with this name
+-- the value of the first field with this name that has one
 abbrev pub value_under : List (Bor (List ℕ) × FieldValue) → List ℕ → Option FieldValue
 value_under values name =
-    option_map (λ field. field.1) (find (λ field. bytes_eq field.0.now name) values)
+    option_map (λ field. field.1) (find (λ field. bytes_eq field.0.now name) (present values))
 
 -- what an event says: the text of its field `message`, or else its name
 abbrev pub message_of : Event → List ℕ

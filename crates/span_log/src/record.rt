@@ -9,7 +9,7 @@ use span_core::{Event, FieldValue};
 
 /// An event as a record of `log`: at the same level, with its first field `message` or else its
 /// name as the message, with the text of its first field `log.target` or else its target, and with
-/// the fields of other names as pairs.
+/// the fields of other names as pairs. Fields without a value are left out.
 ///
 /// Stands for what `tracing` hands to `log`, with the target by `tracing_log::NormalizeEvent`,
 /// which takes it of records alone.
@@ -35,13 +35,15 @@ pub fn event_record<'a>(event: &Event<'a>) -> Record<'a, FieldValue<'a>, Fields<
     )
 }
 
-/// The value of the first field with this name.
+/// The value of the first field with this name that has one.
 fn value_under<'a>(
     values: &'a [(&'static str, FieldValue<'a>)],
     name: &str,
 ) -> Option<FieldValue<'a>>
     ensures { result ≡ value_under values.now name.now }
 {
-    let field = values.iter().find(|field| field.0 == name)?;
+    let field = values
+        .iter()
+        .find(|field| !field.1.is_absent() && field.0 == name)?;
     Some(field.1)
 }
