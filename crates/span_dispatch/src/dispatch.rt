@@ -3,6 +3,7 @@ ghost use Rattle.std.specs.Borrow.{Lends, sem};
 ghost use Rattle.std.specs.Prelude.{◌≡◌, ℕ, None, Ok, Some, true, false, IfErr, IfOk, IfSome, OnErr, OnOk};
 ghost use Rattle.span_core.specs.Event.{event_metadata};
 ghost use Rattle.span_core.specs.Filters.{IsEmpty};
+ghost use Rattle.span_core.specs.Metadata.{ShowSame};
 ghost use Rattle.span_core.specs.Span.{metadata_of, number_of};
 ghost use Rattle.span_dispatch.specs.Cache.{no_callsite};
 ghost use Rattle.span_dispatch.specs.Contract.{BecomesReady, ChangesKept, ClonesSpan, DropsOneHandle, EntersSpan, ExitsSpan, FollowsSpan, GoesByKept, KeepsOnly, LearnsCallsite, OpensSpan, OpensSpanWith, Probes, RecordsValues, RefusesMetadata, ReservesCallsites, SameStack, SendsEvent, ServesCurrent, SetsOneLevel, Shows, ShowsHint, ShowsKept, StaysReady, StaysReadyBut, StaysUpToDate};
@@ -243,7 +244,8 @@ impl<S: Subscriber> Dispatch<S> {
         self.open(lane, attrs, None, &mut pass)
     }
 
-    /// Opens a span as `new_span` does, for a callsite that this dispatcher registered.
+    /// Opens a span as `new_span` does, for a callsite that this dispatcher registered: the
+    /// attributes' metadata show the same.
     #[inline(always)]
     pub fn new_span_by(
         &mut self,
@@ -253,7 +255,7 @@ impl<S: Subscriber> Dispatch<S> {
     ) -> Result<Option<Id>, TraceError>
         requires usable { S.usable (stack_of self.old) }
         requires known { IsRegistered self.old callsite.now }
-        requires same { metadata_of attrs.now ≡ registered_metadata callsite.now }
+        requires same { ShowSame (registered_metadata callsite.now) (metadata_of attrs.now) }
         ensures usable { S.usable (stack_of self.new) }
         ensures registered { KeepsRegistered self.old self.new }
         ensures ready { StaysReady S.Subscriber self.old self.new }
@@ -327,7 +329,8 @@ impl<S: Subscriber> Dispatch<S> {
         self.send(lane, event, None)
     }
 
-    /// Notifies of an event as `event` does, for a callsite that this dispatcher registered.
+    /// Notifies of an event as `event` does, for a callsite that this dispatcher registered: the
+    /// event's metadata show the same.
     #[inline(always)]
     pub fn event_by(
         &mut self,
@@ -337,7 +340,7 @@ impl<S: Subscriber> Dispatch<S> {
     ) -> Result<bool, TraceError>
         requires usable { S.usable (stack_of self.old) }
         requires known { IsRegistered self.old callsite.now }
-        requires same { event_metadata event.now ≡ registered_metadata callsite.now }
+        requires same { ShowSame (registered_metadata callsite.now) (event_metadata event.now) }
         ensures usable { S.usable (stack_of self.new) }
         ensures registered { KeepsRegistered self.old self.new }
         ensures ready { StaysReady S.Subscriber self.old self.new }
