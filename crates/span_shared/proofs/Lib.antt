@@ -1,2 +1,2 @@
-mod Journalled
+pub mod Journalled
 mod Legal
