@@ -1,0 +1,5 @@
+pub mod Field
+pub mod Receiver
+pub mod Span
+pub mod Tracer
+pub mod private

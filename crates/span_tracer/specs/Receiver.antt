@@ -1,0 +1,33 @@
+-- What a receiver keeps between its calls, and what is said of a call that is served behind a lock.
+use Rattle.std.specs.Prelude.{◌≡◌, ◌-◌, ◌^◌, ℕ, List, length, min}
+use Rattle.span_dispatch.specs.Contract.{SubscriberOf}
+use Rattle.span_dispatch.specs.declared.dispatch.Dispatch.{Dispatch}
+use Rattle.span_shared.specs.Journal.{Entry, KeepsJournal}
+use Rattle.span_store.specs.Store.{RegistryState}
+
+-- a dispatcher, and how many calls of it were accepted
+pub record ServedState (D : Type 0) : Type 0 where
+  pub dispatch : D
+  pub calls : ℕ
+
+-- the last number to which calls are counted
+abbrev pub last_count : ℕ
+last_count = 2 ^ 64 - 1
+
+-- the number of a journal's entries, counted up to the last number
+abbrev pub count_of : List Entry → ℕ
+count_of journal = min (length journal) last_count
+
+-- a dispatcher may be called, no span is closing, and there is a journal that one thread could have
+-- made: it leaves the dispatcher's store, extensions aside, and has so many entries
+abbrev pub Journalled : {S : Type 0} → (S → RegistryState) → (S → Type 0) → Dispatch S → ℕ → Type 0
+Journalled registry usable d calls =
+    (journal : List Entry) × KeepsJournal registry usable d journal × (calls ≡ count_of journal)
+
+module _ {S : Type 0} (s : SubscriberOf S) where
+  -- this holds between some dispatcher, as a receiver keeps it between its calls, and what its call
+  -- leaves
+  abbrev pub ServesSome : (Dispatch S → Dispatch S → Type 0) → Type 0
+  ServesSome holds =
+      (old : Dispatch S) × (new : Dispatch S) × (calls : ℕ)
+      × Journalled s.registry s.usable old calls × holds old new

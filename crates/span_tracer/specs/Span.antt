@@ -1,0 +1,44 @@
+-- What a handle of a span holds, and what becomes of it.
+use Rattle.std.specs.Prelude.{Bool, IfSome, Option, Result, Ok, Err}
+use Rattle.span_core.specs.declared.error.TraceError.{TraceError}
+use Rattle.span_core.specs.declared.span.Id.{Id}
+use Rattle.span_core.specs.declared.span.Lane.{Lane}
+use Rattle.span_dispatch.specs.Contract.{DropsOneHandle, ExitsSpan, SubscriberOf}
+use Rattle.span_tracer.specs.Receiver.{ServesSome}
+use Rattle.span_tracer.specs.declared.span.Entered.{Entered}
+use Rattle.span_tracer.specs.declared.span.EnteredSpan.{EnteredSpan}
+use Rattle.span_tracer.specs.declared.span.Span.{Span}
+use Rattle.span_tracer.specs.declared.tracer.Tracer.{Tracer}
+
+module _ {R S : Type 0} where
+  -- the span of a handle, if one was made
+  abbrev pub span_id : Span R S → Option Id
+  span_id h = h.id
+
+  -- the tracer by which a handle's calls are made
+  abbrev pub span_tracer : Span R S → Tracer R S
+  span_tracer h = h.tracer
+
+  -- the handle whose span a guard leaves
+  abbrev pub span_of : Entered R S → Span R S
+  span_of g = g.span.now
+
+  -- the handle that a guard leaves and drops
+  abbrev pub held_span : EnteredSpan R S → Span R S
+  held_span g = g.span
+
+  -- the span that was opened, or why it was refused
+  abbrev pub opened : Result (Span R S) TraceError → Result (Option Id) TraceError
+  opened (Ok h) = Ok (span_id h)
+  opened (Err e) = Err e
+
+module _ {S : Type 0} (s : SubscriberOf S) where
+  -- a lane left a span, if there is one
+  abbrev pub LeavesSpan : Lane → Option Id → Type 0
+  LeavesSpan lane o = IfSome o (λ id. ServesSome s (ExitsSpan s lane id))
+
+  -- a handle was taken from a span, if there is one, with some answer
+  abbrev pub DropsHandle : Lane → Option Id → Type 0
+  DropsHandle lane o =
+      IfSome o
+      (λ id. (given : Result Bool TraceError) × ServesSome s (DropsOneHandle s lane id given))

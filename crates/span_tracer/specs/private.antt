@@ -1,0 +1,2 @@
+pub mod Callsite
+pub mod Served

@@ -1,0 +1,62 @@
+//! The callsites that a receiver registered, by the low digits of their numbers.
+ghost use Rattle.std.specs.Prelude.{◌≡◌, IfSome, Some};
+ghost use Rattle.span_core.specs.Metadata.{ShowSame};
+ghost use Rattle.span_dispatch.specs.Contract.{SameStack};
+ghost use Rattle.span_dispatch.specs.Registration.{registered_metadata};
+ghost use Rattle.span_dispatch.specs.Serve.{stack_of};
+ghost use Rattle.span_tracer.specs.private.Callsite.{AreRegistered, IsEmpty, is_at};
+
+use span_core::Metadata;
+use span_dispatch::{Dispatch, Registration};
+use span_registry::Subscriber;
+use std::alloc::Global;
+
+/// How many callsites a table has room for. A callsite takes the place of its number's remainder.
+pub(crate) const PLACES: u64 = 64;
+
+/// A table without a callsite. Where memory is refused it has no room, and requests are served
+/// without it.
+pub(crate) fn empty_table(alloc: Global) -> Vec<Option<Registration>>
+    ensures { IsEmpty result.items }
+{
+    let mut table = Vec::new(alloc);
+    let _ = table.resize(PLACES as usize, None);
+    table
+}
+
+/// The registration of the callsite with these metadata, if the table has it.
+#[inline(always)]
+pub(crate) fn find<'a>(
+    table: &'a [Option<Registration>],
+    meta: &Metadata,
+) -> Option<&'a Registration>
+    ensures there { IfSome result (λ r. is_at table.now meta.now ≡ Some (Some r.now)) }
+    ensures same { IfSome result (λ r. ShowSame (registered_metadata r.now) meta.now) }
+{
+    match table.get((meta.callsite() % PLACES) as usize) {
+        Some(Some(known)) if known.metadata().shows_same(meta) => Some(known),
+        _ => None,
+    }
+}
+
+/// Registers a callsite, and keeps its registration at its place. Where that is refused, nothing is
+/// kept.
+#[inline(never)]
+pub(crate) fn learn<S: Subscriber>(
+    dispatch: &mut Dispatch<S>,
+    table: &mut Vec<Option<Registration>>,
+    meta: &Metadata,
+)
+    requires usable { S.usable (stack_of dispatch.old) }
+    requires registered { AreRegistered dispatch.old table.old.items }
+    ensures stack { SameStack dispatch.old dispatch.new }
+    ensures registered { AreRegistered dispatch.new table.new.items }
+{
+    let Ok(registration) = dispatch.register_callsite(meta) else {
+        return;
+    };
+    let place = (meta.callsite() % PLACES) as usize;
+    if place < table.len() {
+        table[place] = Some(registration);
+    }
+}

@@ -1,0 +1,149 @@
+//! Handles of spans, and guards that leave their span however they end.
+ghost use Rattle.std.specs.Prelude.{◌≡◌, IfOk};
+ghost use Rattle.span_tracer.specs.Span.{DropsHandle, LeavesSpan, held_span, span_id, span_of, span_tracer};
+ghost use Rattle.span_tracer.specs.Tracer.{tracer_lane};
+
+use crate::tracer::Tracer;
+use span_core::{Id, Parent, Record, TraceError};
+use span_registry::Subscriber;
+use std::alloc::AllocError;
+use std::sync::Wait;
+
+/// A handle of a span, or none where no span was made. Let go, the handle is dropped, and with the
+/// last one the span closes.
+///
+/// Stands for `tracing::Span`.
+pub struct Span<'a, R: Wait, S: Subscriber> {
+    pub(crate) tracer: Tracer<'a, R, S>,
+    pub(crate) id: Option<Id>,
+}
+
+impl<R: Wait, S: Subscriber> Drop for Span<'_, R, S> {
+    fn drop(self)
+        ensures { DropsHandle S.Subscriber (tracer_lane (span_tracer self.entry)) (span_id self.entry) }
+    {
+        let Span { tracer, id } = self;
+        if let Some(id) = id {
+            // It is refused alone where the span's handles were dropped by its id.
+            let _ = tracer.drop_span(id);
+        }
+    }
+}
+
+impl<R: Wait, S: Subscriber> Clone for Span<'_, R, S> {
+    fn clone(&self) -> Result<Self, AllocError> {
+        match self.another() {
+            Ok(span) => Ok(span),
+            Err(_) => Err(AllocError),
+        }
+    }
+}
+
+impl<'a, R: Wait, S: Subscriber> Span<'a, R, S> {
+    /// The span's id, if one was made.
+    pub fn id(&self) -> Option<Id>
+        ensures { result ≡ span_id self.now }
+    {
+        self.id
+    }
+
+    /// Whether no span was made.
+    pub fn is_disabled(&self) -> bool {
+        self.id.is_none()
+    }
+
+    /// Another handle of the span. Refused as `Dispatch::clone_span` is.
+    pub fn another(&self) -> Result<Span<'a, R, S>, TraceError> {
+        match self.id {
+            Some(id) => {
+                let id = self.tracer.clone_span(id)?;
+                Ok(Span {
+                    tracer: self.tracer,
+                    id: Some(id),
+                })
+            }
+            None => Ok(self.tracer.no_span()),
+        }
+    }
+
+    /// Notifies of values that the span was given later, if there is one.
+    pub fn record(&self, values: &Record<'_>) -> Result<(), TraceError> {
+        match self.id {
+            Some(id) => self.tracer.record(id, values),
+            None => Ok(()),
+        }
+    }
+
+    /// Enters the span, if there is one. The guard leaves it.
+    pub fn enter<'s>(&'s self) -> Result<Entered<'s, 'a, R, S>, TraceError> {
+        if let Some(id) = self.id {
+            self.tracer.enter_span(id)?;
+        }
+        Ok(Entered { span: self })
+    }
+
+    /// Does something within the span, if there is one. Refused as `enter` is, and then nothing is
+    /// done.
+    pub fn in_scope<T, F: FnOnce() -> T>(&self, body: F) -> Result<T, TraceError>
+        requires { F.IsAlwaysCallable body }
+        ensures { IfOk result (F.post body) }
+    {
+        let _entered = self.enter()?;
+        Ok(body())
+    }
+
+    /// Enters the span, if there is one, for good: the guard leaves it, and drops this handle.
+    pub fn entered(self) -> Result<EnteredSpan<'a, R, S>, TraceError> {
+        if let Some(id) = self.id {
+            self.tracer.enter_span(id)?;
+        }
+        Ok(EnteredSpan { span: self })
+    }
+}
+
+/// A lane is in a span until this is let go. The span's handle stays.
+///
+/// Stands for `tracing::span::Entered`.
+pub struct Entered<'s, 'a, R: Wait, S: Subscriber> {
+    span: &'s Span<'a, R, S>,
+}
+
+impl<R: Wait, S: Subscriber> Drop for Entered<'_, '_, R, S> {
+    fn drop(self)
+        ensures { LeavesSpan S.Subscriber (tracer_lane (span_tracer (span_of self.entry)))
+            (span_id (span_of self.entry)) }
+    {
+        let Entered { span } = self;
+        if let Some(id) = span.id {
+            span.tracer.exit_span(id);
+        }
+    }
+}
+
+/// A lane is in a span until this is let go; then the span's handle is dropped.
+///
+/// Stands for `tracing::span::EnteredSpan`.
+pub struct EnteredSpan<'a, R: Wait, S: Subscriber> {
+    span: Span<'a, R, S>,
+}
+
+impl<R: Wait, S: Subscriber> Drop for EnteredSpan<'_, R, S> {
+    fn drop(self)
+        ensures left { LeavesSpan S.Subscriber (tracer_lane (span_tracer (held_span self.entry)))
+            (span_id (held_span self.entry)) }
+        ensures dropped { DropsHandle S.Subscriber
+            (tracer_lane (span_tracer (held_span self.entry))) (span_id (held_span self.entry)) }
+    {
+        let EnteredSpan { span } = self;
+        if let Some(id) = span.id {
+            span.tracer.exit_span(id);
+        }
+    }
+}
+
+impl<'a, R: Wait, S: Subscriber> EnteredSpan<'a, R, S> {
+    /// The span's id, if one was made.
+    pub fn id(&self) -> Option<Id> {
+        self.span.id
+    }
+}

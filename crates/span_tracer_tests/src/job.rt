@@ -1,0 +1,87 @@
+//! Jobs that fail, return early or break within a span: a guard leaves it on each way out.
+ghost use Rattle.span_store.specs.Store.{IsFresh};
+
+use crate::receiver::traced;
+use span_core::TraceError;
+use span_fmt::Tree;
+use span_layers::Observer;
+use span_registry::{Registry, Subscriber};
+use span_stacks::SubscriberExt;
+use span_tracer::{Tracer, info, info_span};
+use std::alloc::Global;
+use std::process::Abort;
+use std::sync::Wait;
+use std::test::Fail;
+use thiserror::Error;
+
+/// Why a job failed.
+#[derive(Debug, Drop, Error)]
+enum JobError {
+    #[error("not a number: {0}")]
+    NotANumber(u64),
+    #[error("not traced")]
+    Trace(#[from] TraceError),
+}
+
+/// Four jobs. The second fails, and is left by `?`.
+const OF_JOBS: &str = "0 > INFO span_tracer_tests::job: job id=1
+0   - INFO span_tracer_tests::job: parsed number=1
+0 < INFO span_tracer_tests::job: job
+0 > INFO span_tracer_tests::job: job id=2
+0 < INFO span_tracer_tests::job: job
+0 > INFO span_tracer_tests::job: job id=3
+0   - INFO span_tracer_tests::job: parsed number=3
+0 < INFO span_tracer_tests::job: job
+0 > INFO span_tracer_tests::job: job id=4
+0   - INFO span_tracer_tests::job: parsed number=4
+0 < INFO span_tracer_tests::job: job
+";
+
+fn parse(job: u64) -> Result<u64, JobError> {
+    if job == 2 {
+        Err(JobError::NotANumber(job))
+    } else {
+        Ok(job)
+    }
+}
+
+fn run<R: Wait, S: Subscriber>(tracer: Tracer<'_, R, S>, job: u64) -> Result<u64, JobError> {
+    let _span = info_span!(tracer; "job", id = job)?.entered()?;
+    let number = parse(job)?;
+    info!(tracer; number, "parsed")?;
+    Ok(number)
+}
+
+/// Runs four jobs on a receiver over this stack. Answers the stack, how many jobs failed, and how
+/// many calls were accepted.
+fn run_all<R: Wait, S: Subscriber + Drop>(
+    rt: &R,
+    alloc: Global,
+    stack: S,
+) -> Result<(S, u8, u64), Fail>
+    requires usable { S.usable stack }
+    requires fresh { IsFresh (S.registry stack) }
+{
+    let receiver = traced(alloc, stack);
+    let tracer = receiver.tracer(rt)?;
+    let mut failed = 0u8;
+    for job in 1..5u64 {
+        if run(tracer, job).is_err() {
+            failed = failed.saturating_add(1);
+        }
+    }
+    let (dispatch, calls) = receiver.into_parts();
+    Ok((dispatch.into_stack(), failed, calls))
+}
+
+/// Each of four jobs is within a span of its own that closes, also the one that fails.
+#[test]
+fn each_job_leaves_its_span(rt: HostRuntime) -> Result<(), Fail> {
+    let alloc = rt.alloc();
+    let stack = Registry::new(alloc).with(Observer::new(Tree::new(alloc)))?;
+    let (stack, failed, calls) = run_all(&rt, alloc, stack)?;
+    assert!(&rt; failed == 1);
+    assert!(&rt; calls == 21);
+    assert!(&rt; stack.outer().observer().text() == OF_JOBS);
+    Ok(())
+}

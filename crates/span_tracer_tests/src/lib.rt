@@ -1,0 +1,9 @@
+//! Tests of tracers, guards and macros, from outside.
+#![tactic(auto)]
+
+#[cfg(test)]
+mod job;
+#[cfg(test)]
+mod macros;
+#[cfg(test)]
+mod receiver;
