@@ -9,4 +9,5 @@ pub mod Otlp
 pub mod Picture
 pub mod Scale
 pub mod Site
+pub mod Sites
 pub mod Sums

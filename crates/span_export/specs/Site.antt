@@ -1,6 +1,8 @@
 -- What the callsites of spans and events are called.
-use Rattle.std.specs.Prelude.{◌≡◌, ◌==◌, ℕ, if◌then◌else◌, List, [], ◌∷◌, Option, None, Some, codes, find, string_bytes}
+use Rattle.std.specs.Prelude.{◌≡◌, ◌==◌, ℕ, Bool, if◌then◌else◌, List, [], ◌∷◌, Option, None, Some, codes, find, string_bytes}
 use Rattle.std.specs.BTreeMap.{BTreeMap, get}
+use Rattle.std.specs.BTreeSet.{BTreeSet, contains}
+use Rattle.std.specs.List.{list_any}
 use Rattle.std.specs.Option.{option_and_then, option_map_or, option_or}
 use Rattle.std.specs.Ordering.{nat_cmp}
 use Rattle.span_core.specs.Level.{level_text}
@@ -39,6 +41,14 @@ callsite_in ps what = option_and_then (opener_in ps) (span_of what)
 -- the site with this number
 abbrev pub site_of : List Site → ℕ → Option Site
 site_of sites n = find (λ s. s.callsite == n) sites
+
+-- whether one of the sites has this number
+abbrev pub has_site : List Site → ℕ → Bool
+has_site sites n = list_any (λ s. s.callsite == n) sites
+
+-- a set has just the numbers of these sites
+abbrev pub AreNumbersOf : BTreeSet ℕ → List Site → Type 0
+AreNumbersOf numbers sites = (n : ℕ) → contains nat_cmp numbers n ≡ has_site sites n
 
 -- the site of what happened
 abbrev pub site_at : List Site → List Point → Happening → Option Site

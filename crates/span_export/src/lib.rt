@@ -1,5 +1,5 @@
 //! What happened, in the formats of other tools: functions of points and of what callsites are
-//! called.
+//! called, and a layer that keeps what these are called.
 #![tactic(auto)]
 
 mod chrome;
@@ -11,6 +11,7 @@ pub mod laws;
 mod otlp;
 mod picture;
 mod site;
+mod sites;
 mod stay;
 
 pub use chrome::chrome_text;
@@ -18,3 +19,4 @@ pub use folded::folded_text;
 pub use otlp::{Trace, otlp_lines};
 pub use picture::timeline_svg;
 pub use site::Site;
+pub use sites::Sites;
