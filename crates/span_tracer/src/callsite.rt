@@ -4,7 +4,7 @@ ghost use Rattle.span_core.specs.Metadata.{ShowSame};
 ghost use Rattle.span_dispatch.specs.Contract.{SameStack};
 ghost use Rattle.span_dispatch.specs.Registration.{registered_metadata};
 ghost use Rattle.span_dispatch.specs.Serve.{stack_of};
-ghost use Rattle.span_tracer.specs.private.Callsite.{AreRegistered, IsEmpty, is_at};
+ghost use Rattle.span_tracer.specs.private.Callsite.{AreRegistered, HasNoRegistration, at_place};
 
 use span_core::Metadata;
 use span_dispatch::{Dispatch, Registration};
@@ -17,7 +17,7 @@ pub(crate) const PLACES: u64 = 64;
 /// A table without a callsite. Where memory is refused it has no room, and requests are served
 /// without it.
 pub(crate) fn empty_table(alloc: Global) -> Vec<Option<Registration>>
-    ensures { IsEmpty result.items }
+    ensures { HasNoRegistration result.items }
 {
     let mut table = Vec::new(alloc);
     let _ = table.resize(PLACES as usize, None);
@@ -30,7 +30,7 @@ pub(crate) fn find<'a>(
     table: &'a [Option<Registration>],
     meta: &Metadata,
 ) -> Option<&'a Registration>
-    ensures there { IfSome result (λ r. is_at table.now meta.now ≡ Some (Some r.now)) }
+    ensures there { IfSome result (λ r. at_place table.now meta.now ≡ Some (Some r.now)) }
     ensures same { IfSome result (λ r. ShowSame (registered_metadata r.now) meta.now) }
 {
     match table.get((meta.callsite() % PLACES) as usize) {

@@ -4,7 +4,7 @@ ghost use Rattle.span_tracer.specs.Span.{DropsHandle, LeavesSpan, held_span, spa
 ghost use Rattle.span_tracer.specs.Tracer.{tracer_lane};
 
 use crate::tracer::Tracer;
-use span_core::{Id, Parent, Record, TraceError};
+use span_core::{Id, Record, TraceError};
 use span_registry::Subscriber;
 use std::alloc::AllocError;
 use std::sync::Wait;
@@ -20,11 +20,12 @@ pub struct Span<'a, R: Wait, S: Subscriber> {
 
 impl<R: Wait, S: Subscriber> Drop for Span<'_, R, S> {
     fn drop(self)
-        ensures { DropsHandle S.Subscriber (tracer_lane (span_tracer self.entry)) (span_id self.entry) }
+        ensures { DropsHandle S.Subscriber (tracer_lane (span_tracer self.entry))
+            (span_id self.entry) }
     {
         let Span { tracer, id } = self;
         if let Some(id) = id {
-            // It is refused alone where the span's handles were dropped by its id.
+            // It is refused only where the span's handles were dropped by its id.
             let _ = tracer.drop_span(id);
         }
     }

@@ -63,8 +63,8 @@ impl<'a, R: Wait, S: Subscriber> Tracer<'a, R, S> {
         }
     }
 
-    /// Whether a span or an event with this metadata is worth its values: its level passes the hint,
-    /// and the dispatcher wanted the callsite when it was last asked, else wants it now.
+    /// Whether a span or an event with this metadata is worth its values: its level passes the
+    /// hint, and the dispatcher wanted the callsite when it was last asked, else wants it now.
     ///
     /// Refused as `Dispatch::enabled` is.
     #[inline(always)]
