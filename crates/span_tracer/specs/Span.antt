@@ -1,9 +1,9 @@
 -- What a handle of a span holds, and what becomes of it.
-use Rattle.std.specs.Prelude.{Bool, IfSome, Option, Result, Ok, Err}
+use Rattle.std.specs.Prelude.{◌≡◌, Bool, IfSome, Option, None, Some, Result, Ok, Err}
 use Rattle.span_core.specs.declared.error.TraceError.{TraceError}
 use Rattle.span_core.specs.declared.span.Id.{Id}
 use Rattle.span_core.specs.declared.span.Lane.{Lane}
-use Rattle.span_dispatch.specs.Contract.{DropsOneHandle, ExitsSpan, SubscriberOf}
+use Rattle.span_dispatch.specs.Contract.{DropsOneHandle, EntersSpan, ExitsSpan, SubscriberOf}
 use Rattle.span_tracer.specs.Receiver.{ServesSome}
 use Rattle.span_tracer.specs.declared.span.Entered.{Entered}
 use Rattle.span_tracer.specs.declared.span.EnteredSpan.{EnteredSpan}
@@ -32,7 +32,17 @@ module _ {R S : Type 0} where
   opened (Ok h) = Ok (span_id h)
   opened (Err e) = Err e
 
+-- whether a call was done, or why it was refused
+abbrev pub done_of : {A : Type 0} → Result A TraceError → Result (Unit {0}) TraceError
+done_of (Ok a) = Ok tt
+done_of (Err e) = Err e
+
 module _ {S : Type 0} (s : SubscriberOf S) where
+  -- a lane asked to enter a span, with this answer; where there is none, nothing is refused
+  abbrev pub EntersIfMade : Lane → Option Id → Result (Unit {0}) TraceError → Type 0
+  EntersIfMade lane None given = given ≡ Ok tt
+  EntersIfMade lane (Some id) given = ServesSome s (EntersSpan s lane id given)
+
   -- a lane left a span, if there is one
   abbrev pub LeavesSpan : Lane → Option Id → Type 0
   LeavesSpan lane o = IfSome o (λ id. ServesSome s (ExitsSpan s lane id))

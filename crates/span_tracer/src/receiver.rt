@@ -1,5 +1,5 @@
 //! A dispatcher that threads share, and of whose calls no journal is kept.
-ghost use Rattle.std.specs.Prelude.{◌≡◌};
+ghost use Rattle.std.specs.Prelude.{◌≡◌, IfOk};
 ghost use Rattle.span_dispatch.specs.Serve.{stack_of};
 ghost use Rattle.span_store.specs.Store.{IsFresh};
 ghost use Rattle.span_tracer.specs.Receiver.{Journalled};
@@ -69,7 +69,9 @@ impl<S: Subscriber> Receiver<S> {
     }
 
     /// A tracer on a lane that no other call of this has handed out: 0, 1, and so on.
-    pub fn tracer<'a, R: Wait>(&'a self, rt: &'a R) -> Result<Tracer<'a, R, S>, LanesExhausted> {
+    pub fn tracer<'a, R: Wait>(&'a self, rt: &'a R) -> Result<Tracer<'a, R, S>, LanesExhausted>
+        ensures hint { IfOk result (λ t. HasHint S.Subscriber (tracer_hint t)) }
+    {
         let number = self.lanes.fetch_add(1, Ordering::SeqCst);
         match u32::try_from(number) {
             Ok(lane) => Ok(self.tracer_on(rt, Lane(lane))),

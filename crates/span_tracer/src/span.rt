@@ -1,6 +1,8 @@
 //! Handles of spans, and guards that leave their span however they end.
-ghost use Rattle.std.specs.Prelude.{◌≡◌, IfOk};
-ghost use Rattle.span_tracer.specs.Span.{DropsHandle, LeavesSpan, held_span, span_id, span_of, span_tracer};
+ghost use Rattle.std.specs.Prelude.{◌≡◌, ◌↔◌, IfOk, IfSome, IsTrue, None};
+ghost use Rattle.span_dispatch.specs.Contract.{RecordsValues};
+ghost use Rattle.span_tracer.specs.Receiver.{ServesSome};
+ghost use Rattle.span_tracer.specs.Span.{DropsHandle, EntersIfMade, LeavesSpan, done_of, held_span, span_id, span_of, span_tracer};
 ghost use Rattle.span_tracer.specs.Tracer.{tracer_lane};
 
 use crate::tracer::Tracer;
@@ -49,12 +51,16 @@ impl<'a, R: Wait, S: Subscriber> Span<'a, R, S> {
     }
 
     /// Whether no span was made.
-    pub fn is_disabled(&self) -> bool {
+    pub fn is_disabled(&self) -> bool
+        ensures { IsTrue result ↔ (span_id self.now ≡ None) }
+    {
         self.id.is_none()
     }
 
     /// Another handle of the span. Refused as `Dispatch::clone_span` is.
-    pub fn another(&self) -> Result<Span<'a, R, S>, TraceError> {
+    pub fn another(&self) -> Result<Span<'a, R, S>, TraceError>
+        ensures { IfOk result (λ h. span_id h ≡ span_id self.now) }
+    {
         match self.id {
             Some(id) => {
                 let id = self.tracer.clone_span(id)?;
@@ -68,7 +74,10 @@ impl<'a, R: Wait, S: Subscriber> Span<'a, R, S> {
     }
 
     /// Notifies of values that the span was given later, if there is one.
-    pub fn record(&self, values: &Record<'_>) -> Result<(), TraceError> {
+    pub fn record(&self, values: &Record<'_>) -> Result<(), TraceError>
+        ensures { IfSome (span_id self.now) (λ id. ServesSome S.Subscriber
+            (RecordsValues S.Subscriber (tracer_lane (span_tracer self.now)) id values.now result)) }
+    {
         match self.id {
             Some(id) => self.tracer.record(id, values),
             None => Ok(()),
@@ -76,11 +85,26 @@ impl<'a, R: Wait, S: Subscriber> Span<'a, R, S> {
     }
 
     /// Enters the span, if there is one. The guard leaves it.
-    pub fn enter<'s>(&'s self) -> Result<Entered<'s, 'a, R, S>, TraceError> {
-        if let Some(id) = self.id {
-            self.tracer.enter_span(id)?;
+    pub fn enter<'s>(&'s self) -> Result<Entered<'s, 'a, R, S>, TraceError>
+        ensures span { IfOk result (λ g. span_of g ≡ self.now) }
+        ensures enters { EntersIfMade S.Subscriber (tracer_lane (span_tracer self.now))
+            (span_id self.now) (done_of result) }
+    {
+        match self.ask_to_enter() {
+            Ok(()) => Ok(Entered { span: self }),
+            Err(error) => Err(error),
         }
-        Ok(Entered { span: self })
+    }
+
+    /// Asks to enter the span, if there is one.
+    fn ask_to_enter(&self) -> Result<(), TraceError>
+        ensures { EntersIfMade S.Subscriber (tracer_lane (span_tracer self.now)) (span_id self.now)
+            result }
+    {
+        match self.id {
+            Some(id) => self.tracer.enter_span(id),
+            None => Ok(()),
+        }
     }
 
     /// Does something within the span, if there is one. Refused as `enter` is, and then nothing is
@@ -94,11 +118,15 @@ impl<'a, R: Wait, S: Subscriber> Span<'a, R, S> {
     }
 
     /// Enters the span, if there is one, for good: the guard leaves it, and drops this handle.
-    pub fn entered(self) -> Result<EnteredSpan<'a, R, S>, TraceError> {
-        if let Some(id) = self.id {
-            self.tracer.enter_span(id)?;
+    pub fn entered(self) -> Result<EnteredSpan<'a, R, S>, TraceError>
+        ensures span { IfOk result (λ g. held_span g ≡ self.entry) }
+        ensures enters { EntersIfMade S.Subscriber (tracer_lane (span_tracer self.entry))
+            (span_id self.entry) (done_of result) }
+    {
+        match self.ask_to_enter() {
+            Ok(()) => Ok(EnteredSpan { span: self }),
+            Err(error) => Err(error),
         }
-        Ok(EnteredSpan { span: self })
     }
 }
 
@@ -144,7 +172,9 @@ impl<R: Wait, S: Subscriber> Drop for EnteredSpan<'_, R, S> {
 
 impl<'a, R: Wait, S: Subscriber> EnteredSpan<'a, R, S> {
     /// The span's id, if one was made.
-    pub fn id(&self) -> Option<Id> {
+    pub fn id(&self) -> Option<Id>
+        ensures { result ≡ span_id (held_span self.now) }
+    {
         self.span.id
     }
 }

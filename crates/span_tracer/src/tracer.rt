@@ -1,9 +1,9 @@
 //! A handle by which one lane traces through a receiver.
-ghost use Rattle.std.specs.Prelude.{◌≡◌, IfOk, not};
+ghost use Rattle.std.specs.Prelude.{◌≡◌, IfOk, None, not};
 ghost use Rattle.span_core.specs.Level.{is_above};
 ghost use Rattle.span_dispatch.specs.Contract.{ClonesSpan, DropsOneHandle, EntersSpan, ExitsSpan, FollowsSpan, RecordsValues, SetsOneLevel, Shows};
 ghost use Rattle.span_tracer.specs.Receiver.{ServesSome};
-ghost use Rattle.span_tracer.specs.Span.{opened, span_tracer};
+ghost use Rattle.span_tracer.specs.Span.{opened, span_id, span_tracer};
 ghost use Rattle.span_tracer.specs.Tracer.{TracesEvent, TracesProbe, TracesSpan, tracer_hint, tracer_lane};
 
 use crate::receiver::Receiver;
@@ -79,7 +79,10 @@ impl<'a, R: Wait, S: Subscriber> Tracer<'a, R, S> {
     }
 
     /// A handle of no span.
-    pub fn no_span(&self) -> Span<'a, R, S> {
+    pub fn no_span(&self) -> Span<'a, R, S>
+        ensures tracer { span_tracer result ≡ self.now }
+        ensures none { span_id result ≡ None }
+    {
         Span {
             tracer: *self,
             id: None,
