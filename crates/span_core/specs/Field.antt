@@ -1,5 +1,6 @@
 -- What values of fields show.
-use Rattle.std.specs.Prelude.{◌≡◌, ℕ, ℤ, List, [], Bool, true, false, IsTrue, Some, codes, decimal}
+use Rattle.std.specs.Prelude.{◌≡◌, ℕ, ℤ, List, [], Bool, true, false, IsTrue, Some, codes, decimal, filter, not}
+use Rattle.std.specs.Borrow.{Bor}
 use Rattle.std.specs.Float.{Float as Number, binary64, float_is_finite}
 use Rattle.std.specs.Fmt.{signed_decimal}
 use Rattle.ryu.specs.Parse.{parse_float}
@@ -42,3 +43,7 @@ value_text value.Absent = []
 abbrev pub is_absent : FieldValue → Bool
 is_absent value.Absent = true
 is_absent _ = false
+
+-- the fields that have a value
+abbrev pub present : List (Bor (List ℕ) × FieldValue) → List (Bor (List ℕ) × FieldValue)
+present values = filter (λ field. not (is_absent field.1)) values

@@ -4,6 +4,7 @@ ghost use Rattle.span_core.specs.Field.{ReadsBack, float_text, float_value, is_a
 ghost use Rattle.span_core.specs.Metadata.{names_of};
 ghost use Rattle.span_core.specs.declared.field.FieldValue.TheVariants as value;
 
+use crate::text::same_texts;
 use std::fmt;
 
 /// The names of a callsite's fields.
@@ -35,10 +36,7 @@ impl FieldSet {
             (map (λ name. name.now) (names_of self.now)
             ≡ map (λ name. name.now) (names_of other.now)) }
     {
-        if self.names.is_empty() {
-            return other.names.is_empty(); // Most callsites have no fields, and `==` is dear.
-        }
-        self.names == other.names
+        same_texts(self.names, other.names)
     }
 
     /// How many names there are.

@@ -1,5 +1,16 @@
 //! Texts, compared in few steps: names and targets are compared at each event.
-ghost use Rattle.std.specs.Prelude.{◌≡◌, ◌↔◌, ◌≤◌, IsTrue, length};
+ghost use Rattle.std.specs.Prelude.{◌≡◌, ◌↔◌, ◌≤◌, IsTrue, length, map};
+
+/// Whether two lists of texts are the same, text by text.
+pub(crate) fn same_texts(a: &[&str], b: &[&str]) -> bool
+    ensures { IsTrue result ↔ (map (λ text. text.now) a.now ≡ map (λ text. text.now) b.now) }
+{
+    match (a, b) {
+        ([x, others @ ..], [y, rest @ ..]) => same_text(x, y) && same_texts(others, rest),
+        ([], []) => true,
+        _ => false,
+    }
+}
 
 /// Whether two texts have the same bytes.
 ///

@@ -7,10 +7,10 @@ use Rattle.std.proofs.lemmas.List.{append-nil}
 use Rattle.std.specs.Borrow.{Bor}
 use Rattle.std.specs.List.{list_all}
 use Rattle.std.specs.Prelude.{◌&&◌, flat_map}
-use Rattle.span_core.specs.Field.{is_absent}
+use Rattle.span_core.specs.Field.{is_absent, present}
 use Rattle.span_core.specs.declared.field.FieldValue.{FieldValue}
 use Rattle.span_fmt.specs.Known.{SpanTexts, with_text, with_values}
-use Rattle.span_fmt.specs.Text.{field_text, fields_text, present}
+use Rattle.span_fmt.specs.Text.{field_text, fields_text}
 
 abbrev Fields : Type 0
 Fields = List (Bor (List ℕ) × FieldValue)

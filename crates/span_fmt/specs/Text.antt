@@ -1,7 +1,7 @@
 -- The text of fields, and of a line.
-use Rattle.std.specs.Prelude.{◌≡◌, ℕ, List, ◌++◌, String, codes, decimal, filter, flat_map, not, string_bytes}
+use Rattle.std.specs.Prelude.{◌≡◌, ℕ, List, ◌++◌, String, codes, decimal, flat_map, string_bytes}
 use Rattle.std.specs.Borrow.{Bor}
-use Rattle.span_core.specs.Field.{is_absent, value_text}
+use Rattle.span_core.specs.Field.{present, value_text}
 use Rattle.span_core.specs.Level.{level_text}
 use Rattle.span_core.specs.Metadata.{level_of, name_of, target_of}
 use Rattle.span_core.specs.declared.field.FieldValue.{FieldValue}
@@ -21,10 +21,6 @@ shown_text other = value_text other
 -- the text of a field, behind a space
 abbrev pub field_text : List ℕ → FieldValue → List ℕ
 field_text name value = codes " " ++ escaped name ++ codes "=" ++ shown_text value
-
--- the fields that have a value
-abbrev pub present : List (Bor (List ℕ) × FieldValue) → List (Bor (List ℕ) × FieldValue)
-present values = filter (λ f. not (is_absent f.1)) values
 
 -- the text of the fields that have a value, one after the other
 abbrev pub fields_text : List (Bor (List ℕ) × FieldValue) → List ℕ

@@ -1,6 +1,7 @@
 //! Names and values of fields as text, in one line.
 ghost use Rattle.std.specs.Prelude.{◌≡◌, ◌↔◌, [], IsTrue, OnOk};
-ghost use Rattle.span_fmt.specs.Text.{IsContinued, field_text, fields_text, present, rest_text, shown_text};
+ghost use Rattle.span_core.specs.Field.{present};
+ghost use Rattle.span_fmt.specs.Text.{IsContinued, field_text, fields_text, rest_text, shown_text};
 
 use crate::escape::write_escaped;
 use span_core::{FieldValue, Metadata};

@@ -5,7 +5,7 @@ use Rattle.log.specs.Kv.{Pair, value_str}
 use Rattle.log.specs.declared.kv.to_value.Primitive.{Primitive}
 use Rattle.log.specs.declared.kv.value.Value.TheVariants as log
 use Rattle.log.specs.declared.kv.value.Value.{Value}
-use Rattle.span_core.specs.Field.{float_text, is_absent, value_text}
+use Rattle.span_core.specs.Field.{float_text, present, value_text}
 use Rattle.span_core.specs.declared.field.FieldValue.{FieldValue}
 use Rattle.span_core.specs.declared.field.FieldValue.TheVariants as value
 use Rattle.span_log.specs.declared.fields.Fields.{Fields}
@@ -13,10 +13,6 @@ use Rattle.span_log.specs.declared.fields.Fields.{Fields}
 -- the fields that are handed on as pairs
 abbrev pub fields_in : Fields → List (Bor (List ℕ) × FieldValue)
 fields_in fields = fields.0.now
-
--- the fields that have a value
-abbrev pub present : List (Bor (List ℕ) × FieldValue) → List (Bor (List ℕ) × FieldValue)
-present fields = filter (λ field. not (is_absent field.1)) fields
 
 -- a value as one of `log`: of the same kind, but for a float, which becomes its text, and for no
 -- value, which becomes an empty text

@@ -5,11 +5,11 @@ use Rattle.std.specs.Option.{option_and_then, option_map_or}
 use Rattle.log.specs.Record.{metadata_level, metadata_target, record_args, record_key_values, record_metadata}
 use Rattle.log.specs.declared.record.Record.{Record}
 use Rattle.span_core.specs.Event.{event_metadata, event_values}
-use Rattle.span_core.specs.Field.{value_text}
+use Rattle.span_core.specs.Field.{present, value_text}
 use Rattle.span_core.specs.Metadata.{level_of, name_of, target_of}
 use Rattle.span_core.specs.declared.event.Event.{Event}
 use Rattle.span_core.specs.declared.field.FieldValue.{FieldValue}
-use Rattle.span_log.specs.Fields.{fields_in, present, text_in}
+use Rattle.span_log.specs.Fields.{fields_in, text_in}
 use Rattle.span_log.specs.Level.{SameLevel}
 use Rattle.span_log.specs.declared.fields.Fields.{Fields}
 
