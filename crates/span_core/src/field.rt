@@ -31,11 +31,15 @@ impl FieldSet {
     }
 
     /// Whether two callsites' fields have the same names in the same order.
+    #[inline(always)]
     pub fn has_same_names(&self, other: &FieldSet) -> bool
         ensures { IsTrue result ↔
             (map (λ name. name.now) (names_of self.now)
             ≡ map (λ name. name.now) (names_of other.now)) }
     {
+        if self.names.is_empty() {
+            return other.names.is_empty(); // Most callsites have no fields.
+        }
         same_texts(self.names, other.names)
     }
 

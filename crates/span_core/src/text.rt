@@ -2,6 +2,7 @@
 ghost use Rattle.std.specs.Prelude.{◌≡◌, ◌↔◌, ◌≤◌, IsTrue, length, map};
 
 /// Whether two lists of texts are the same, text by text.
+#[inline(never)]
 pub(crate) fn same_texts(a: &[&str], b: &[&str]) -> bool
     ensures { IsTrue result ↔ (map (λ text. text.now) a.now ≡ map (λ text. text.now) b.now) }
 {
