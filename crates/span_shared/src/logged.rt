@@ -201,6 +201,7 @@ impl<S: Subscriber> Logged<S> {
     }
 
     /// Asks as `Dispatch::enabled` does.
+    #[inline(always)]
     pub fn enabled(&mut self, lane: Lane, meta: &Metadata) -> Result<(bool, Receipt), TraceError>
         ensures ready { On (StaysReady S.Subscriber) self.old self.new }
         ensures logs { Logs (Probes S.Subscriber lane meta.now)
@@ -215,6 +216,7 @@ impl<S: Subscriber> Logged<S> {
     }
 
     /// Opens a span as `Dispatch::new_span` does.
+    #[inline(always)]
     pub fn new_span(
         &mut self,
         lane: Lane,
@@ -244,6 +246,7 @@ impl<S: Subscriber> Logged<S> {
     }
 
     /// Notifies of an event as `Dispatch::event` does.
+    #[inline(always)]
     pub fn event(&mut self, lane: Lane, event: &Event<'_>) -> Result<(bool, Receipt), TraceError>
         ensures ready { On (StaysReady S.Subscriber) self.old self.new }
         ensures logs { Logs (SendsEvent S.Subscriber lane event.now)
@@ -264,6 +267,7 @@ impl<S: Subscriber> Logged<S> {
     }
 
     /// Enters a span as `Dispatch::enter` does.
+    #[inline(always)]
     pub fn enter(&mut self, lane: Lane, id: Id) -> Result<((), Receipt), TraceError>
         ensures ready { On (StaysReady S.Subscriber) self.old self.new }
         ensures logs { Logs (EntersSpan S.Subscriber lane id)
@@ -278,6 +282,7 @@ impl<S: Subscriber> Logged<S> {
     }
 
     /// Leaves a span as `Dispatch::exit` does.
+    #[inline(always)]
     pub fn exit(&mut self, lane: Lane, id: Id) -> Result<((), Receipt), TraceError>
         ensures ready { On (StaysReady S.Subscriber) self.old self.new }
         ensures logs { Logs (NeverRefused (λ _. ExitsSpan S.Subscriber lane id))
@@ -345,6 +350,7 @@ impl<S: Subscriber> Logged<S> {
     }
 
     /// Takes a handle from a span as `Dispatch::drop_span` does.
+    #[inline(always)]
     pub fn drop_span(&mut self, lane: Lane, id: Id) -> Result<(bool, Receipt), TraceError>
         ensures ready { On (StaysReady S.Subscriber) self.old self.new }
         ensures logs { Logs (DropsOneHandle S.Subscriber lane id)
@@ -475,6 +481,7 @@ fn look_answered(
 }
 
 /// Appends an entry, where there is room for one more, and gives its receipt.
+#[inline(always)]
 fn noted(entries: &mut Vec<Entry>, entry: Entry) -> Receipt
     requires { vec_len entries.old < vec_capacity entries.old }
     ensures { Adds entry entries.old.items result entries.new.items }

@@ -231,6 +231,7 @@ impl<S: Subscriber, L: Crew> Shared<S, L> {
     }
 
     /// Asks as `Dispatch::enabled` does.
+    #[inline(always)]
     pub fn enabled(
         &self,
         rt: &impl Wait,
@@ -253,6 +254,7 @@ impl<S: Subscriber, L: Crew> Shared<S, L> {
     }
 
     /// Opens a span as `Dispatch::new_span` does.
+    #[inline(always)]
     pub fn new_span(
         &self,
         rt: &impl Wait,
@@ -275,6 +277,7 @@ impl<S: Subscriber, L: Crew> Shared<S, L> {
     }
 
     /// Notifies of an event as `Dispatch::event` does.
+    #[inline(always)]
     pub fn event(
         &self,
         rt: &impl Wait,
@@ -297,6 +300,7 @@ impl<S: Subscriber, L: Crew> Shared<S, L> {
     }
 
     /// Enters a span as `Dispatch::enter` does.
+    #[inline(always)]
     pub fn enter(
         &self,
         rt: &impl Wait,
@@ -319,6 +323,7 @@ impl<S: Subscriber, L: Crew> Shared<S, L> {
     }
 
     /// Leaves a span as `Dispatch::exit` does.
+    #[inline(always)]
     pub fn exit(
         &self,
         rt: &impl Wait,
@@ -410,6 +415,7 @@ impl<S: Subscriber, L: Crew> Shared<S, L> {
     }
 
     /// Takes a handle from a span as `Dispatch::drop_span` does.
+    #[inline(always)]
     pub fn drop_span(
         &self,
         rt: &impl Wait,
