@@ -1,7 +1,7 @@
 -- A journal that isn't kept, one entry longer.
-use Rattle.std.proofs.Common.{◌≡◌, ◌+◌, ℕ, List, [], ◌∷◌, ◌++◌, MatchOption, Option, Some, None, Result, Ok, Err, ap, arith, length, min, refl, sym, subst, ◌∙◌}
+use Rattle.std.proofs.Common.{◌≡◌, ◌+◌, ℕ, List, [], ◌∷◌, ◌++◌, MatchOption, Option, Some, None, Result, Ok, Err, ap, arith, length, min, refl}
 use Rattle.std.proofs.lemmas.List.{length_push}
-use Rattle.std.specs.Prelude.{IfOk, OnErr, OnOk, slice_get}
+use Rattle.std.specs.Prelude.{IfOk, OnErr, OnOk}
 use Rattle.span_core.specs.declared.error.TraceError.{TraceError}
 use Rattle.span_core.specs.Span.{asked_parent, metadata_of}
 use Rattle.span_core.specs.declared.span.Attributes.{Attributes}
@@ -10,17 +10,16 @@ use Rattle.span_core.specs.declared.span.Lane.{Lane}
 use Rattle.span_dispatch.specs.Call.{OpensFor}
 use Rattle.span_registry.specs.Subscriber.{AndHooks}
 use Rattle.span_store.specs.Step.{AskedSpan}
-use Rattle.span_dispatch.specs.Contract.{ChangesStack, SameStack, SubscriberOf}
+use Rattle.span_dispatch.specs.Contract.{SameStack}
 use Rattle.span_dispatch.specs.Registration.{KeepsRegistered}
 use Rattle.span_dispatch.specs.Serve.{stack_of}
 use Rattle.span_dispatch.specs.declared.dispatch.Dispatch.{Dispatch}
 use Rattle.span_dispatch.specs.declared.registration.Registration.{Registration}
-use Rattle.span_dispatch.proofs.CallerLemmas.{registered_by_stack}
 use Rattle.span_shared.proofs.Journalled.{Goes, begun_journal, goes_aside, grown, kept_same, opens, stays}
 use Rattle.span_shared.specs.declared.entry.EntryWith.TheVariants as entry
 use Rattle.span_shared.specs.Journal.{Entry}
 use Rattle.span_store.specs.Store.{RegistryState, empty_store}
-use Rattle.span_tracer.specs.Receiver.{Journalled, ServesSome, count_of, last_count}
+use Rattle.span_tracer.specs.Receiver.{Journalled, count_of, last_count}
 use Rattle.span_tracer.specs.private.Callsite.{AreRegistered}
 use Rattle.span_tracer.specs.private.Served.{count_after}
 

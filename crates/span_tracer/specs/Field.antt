@@ -1,5 +1,5 @@
 -- What macros make of values and parents.
-use Rattle.std.specs.Prelude.{◌≡◌, ℕ, List, Option, None, Some}
+use Rattle.std.specs.Prelude.{◌≡◌, ◌⊎◌, ℕ, IfSome, List, Option, None, Some}
 use Rattle.std.specs.Borrow.{Bor}
 use Rattle.std.specs.Float.{Float as Number}
 use Rattle.span_core.specs.Field.{ReadsBack, float_text, float_value}
@@ -18,6 +18,12 @@ parent_by None = Root
 -- the value is this text
 abbrev pub IsText : List ℕ → FieldValue → Type 0
 IsText text v = (t : Bor (List ℕ)) × (v ≡ value.Text t) × (t.now ≡ text)
+
+-- the value is a text, which is this one where it is known; absent where memory was refused for it
+abbrev pub ShowsText : Option (List ℕ) → FieldValue → Type 0
+ShowsText known v =
+    (v ≡ value.Absent)
+    ⊎ ((t : Bor (List ℕ)) × (v ≡ value.Text t) × IfSome known (λ text. t.now ≡ text))
 
 -- the value is this float, with a text that reads back as it
 abbrev pub IsFloat : Number → FieldValue → Type 0

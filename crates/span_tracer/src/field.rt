@@ -6,7 +6,7 @@ ghost use Rattle.span_core.specs.declared.field.FieldValue.{FieldValue};
 ghost use Rattle.span_core.specs.declared.field.FieldValue.TheVariants as value;
 ghost use Rattle.span_core.specs.declared.span.Parent.TheVariants.{Explicit};
 ghost use Rattle.span_core.specs.declared.span.Parent.{Parent as Asked};
-ghost use Rattle.span_tracer.specs.Field.{GivesOne, IsFloat, IsOptional, IsText, parent_by};
+ghost use Rattle.span_tracer.specs.Field.{GivesOne, IsFloat, IsOptional, IsText, ShowsText, parent_by};
 ghost use Rattle.span_tracer.specs.Span.{span_id};
 
 use crate::span::Span;
@@ -187,6 +187,7 @@ pub fn with_display<V: Display, T, F: FnOnce(FieldValue<'_>) -> T>(
     body: F,
 ) -> T
     requires { F.IsAlwaysCallable body }
+    ensures { GivesOne (ShowsText (V.output value.now)) (F.post body) result }
 {
     match format!(in alloc; "{value}") {
         Ok(text) => body(FieldValue::Text(&text)),
@@ -203,6 +204,7 @@ pub fn with_debug<V: Debug, T, F: FnOnce(FieldValue<'_>) -> T>(
     body: F,
 ) -> T
     requires { F.IsAlwaysCallable body }
+    ensures { GivesOne (ShowsText (V.debug_output value.now)) (F.post body) result }
 {
     match format!(in alloc; "{value:?}") {
         Ok(text) => body(FieldValue::Text(&text)),

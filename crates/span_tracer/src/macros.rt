@@ -223,21 +223,25 @@ macro_rules! traced {
     ($call:ident, $kind:ident, $t:expr, $l:ident, $g:expr, $p:expr, $n:expr,
         [$(($key:ident $mark:tt $value:expr))+]) => {{
         let tracer = &$t;
-        let metadata = $crate::numbered_metadata(
-            $crate::Kind::$kind,
-            $crate::Level::$l,
-            $n,
-            $g,
-            $crate::FieldSet::new(&[$(stringify!($key)),+]),
-        );
-        match tracer.wants(&metadata) {
-            Ok(true) => match $crate::IntoParent::into_parent($p) {
-                parent => $crate::computed!(
-                    $call, tracer, metadata, parent, []; $(($key $mark $value))+
-                ),
-            },
-            Ok(false) => $crate::unwanted!($call, tracer),
-            Err(error) => Err(error),
+        if tracer.passes_hint($crate::Level::$l) {
+            let metadata = $crate::numbered_metadata(
+                $crate::Kind::$kind,
+                $crate::Level::$l,
+                $n,
+                $g,
+                $crate::FieldSet::new(&[$(stringify!($key)),+]),
+            );
+            match tracer.wants(&metadata) {
+                Ok(true) => match $crate::IntoParent::into_parent($p) {
+                    parent => $crate::computed!(
+                        $call, tracer, metadata, parent, []; $(($key $mark $value))+
+                    ),
+                },
+                Ok(false) => $crate::unwanted!($call, tracer),
+                Err(error) => Err(error),
+            }
+        } else {
+            $crate::unwanted!($call, tracer)
         }
     }};
 }

@@ -120,6 +120,15 @@ impl<S: Subscriber> Receiver<S> {
     /// What stands behind the lock.
     #[inline(always)]
     pub(crate) fn served<'a>(&'a self, rt: &impl Wait) -> MutexGuard<'a, Served<S>> {
+        match self.lock.try_lock() {
+            Some(served) => served,
+            None => self.served_later(rt),
+        }
+    }
+
+    /// What stands behind the lock, once another lets it go.
+    #[inline(never)]
+    fn served_later<'a>(&'a self, rt: &impl Wait) -> MutexGuard<'a, Served<S>> {
         self.lock.lock(rt)
     }
 
@@ -133,9 +142,9 @@ impl<S: Subscriber> Receiver<S> {
         }
     }
 
-    /// Remembers whether a callsite is wanted.
-    pub(crate) fn remember(&self, meta: &Metadata, wanted: bool) {
-        let number = meta.callsite();
+    /// Remembers whether the callsite with this number is wanted.
+    #[inline(never)]
+    pub(crate) fn remember(&self, number: u64, wanted: bool) {
         if let Some(place) = self.wanted.get((number % WANTED) as usize) {
             place.store(if wanted { number } else { !number }, Ordering::SeqCst);
         }

@@ -1,4 +1,5 @@
 //! What stands behind a receiver's lock.
+ghost use Rattle.std.specs.Fn.{FnOnceReturnsAt};
 ghost use Rattle.std.specs.Prelude.{◌≡◌, IfOk};
 ghost use Rattle.span_dispatch.specs.Contract.{ClonesSpan, DropsOneHandle, EntersSpan, ExitsSpan, FollowsSpan, OpensSpan, Probes, RecordsValues, SendsEvent, SetsOneLevel, Shows};
 ghost use Rattle.span_dispatch.specs.Serve.{stack_of};
@@ -132,14 +133,27 @@ impl<S: Subscriber> Served<S> {
             calls,
             alloc: _,
         } = self;
-        let meta = attrs.metadata();
-        if let Some(known) = find(callsites, &meta) {
+        if let Some(known) = find(callsites, &attrs.metadata()) {
             let given = dispatch.new_span_by(lane, known, attrs);
             *calls = counted(*calls, &given);
             return given;
         }
-        learn(dispatch, callsites, &meta);
-        let given = dispatch.new_span(lane, attrs);
+        self.new_span_anew(lane, *attrs)
+    }
+
+    /// Opens a span as `new_span` does, and registers its callsite first.
+    #[inline(never)]
+    fn new_span_anew(&mut self, lane: Lane, attrs: Attributes<'_>) -> Result<Option<Id>, TraceError>
+        ensures { ServesSome S.Subscriber (OpensSpan S.Subscriber lane attrs.entry result) }
+    {
+        let Served {
+            dispatch,
+            callsites,
+            calls,
+            alloc: _,
+        } = self;
+        learn(dispatch, callsites, &attrs.metadata());
+        let given = dispatch.new_span(lane, &attrs);
         *calls = counted(*calls, &given);
         given
     }
@@ -155,14 +169,27 @@ impl<S: Subscriber> Served<S> {
             calls,
             alloc: _,
         } = self;
-        let meta = event.metadata();
-        if let Some(known) = find(callsites, &meta) {
+        if let Some(known) = find(callsites, &event.metadata()) {
             let given = dispatch.event_by(lane, known, event);
             *calls = counted(*calls, &given);
             return given;
         }
-        learn(dispatch, callsites, &meta);
-        let given = dispatch.event(lane, event);
+        self.event_anew(lane, *event)
+    }
+
+    /// Notifies of an event as `event` does, and registers its callsite first.
+    #[inline(never)]
+    fn event_anew(&mut self, lane: Lane, event: Event<'_>) -> Result<bool, TraceError>
+        ensures { ServesSome S.Subscriber (SendsEvent S.Subscriber lane event.entry result) }
+    {
+        let Served {
+            dispatch,
+            callsites,
+            calls,
+            alloc: _,
+        } = self;
+        learn(dispatch, callsites, &event.metadata());
+        let given = dispatch.event(lane, &event);
         *calls = counted(*calls, &given);
         given
     }
@@ -277,6 +304,21 @@ impl<S: Subscriber> Served<S> {
         *callsites = empty_table(*alloc);
         *calls = counted(*calls, &given);
         given
+    }
+
+    /// Does something with the dispatcher's stack.
+    pub(crate) fn with_stack<T, F: FnOnce(&S) -> T>(&self, body: F) -> T
+        requires { F.IsAlwaysCallable body }
+        ensures { ServesSome S.Subscriber
+            (λ old new. FnOnceReturnsAt F.FnOnce body (stack_of old) result) }
+    {
+        let Served {
+            dispatch,
+            callsites: _,
+            calls: _,
+            alloc: _,
+        } = self;
+        body(dispatch.stack())
     }
 
     /// The span that a lane is in, as `Dispatch::current_span` shows it.

@@ -117,6 +117,15 @@ impl<'a, R: Wait, S: Subscriber> Span<'a, R, S> {
         Ok(body())
     }
 
+    /// The tracer and the span's id, whose handle the caller is to drop.
+    fn into_parts(self) -> (Tracer<'a, R, S>, Option<Id>)
+        ensures tracer { result.0 ≡ span_tracer self.entry }
+        ensures id { result.1 ≡ span_id self.entry }
+    {
+        let Span { tracer, id } = self;
+        (tracer, id)
+    }
+
     /// Enters the span, if there is one, for good: the guard leaves it, and drops this handle.
     pub fn entered(self) -> Result<EnteredSpan<'a, R, S>, TraceError>
         ensures span { IfOk result (λ g. held_span g ≡ self.entry) }
@@ -164,8 +173,9 @@ impl<R: Wait, S: Subscriber> Drop for EnteredSpan<'_, R, S> {
             (tracer_lane (span_tracer (held_span self.entry))) (span_id (held_span self.entry)) }
     {
         let EnteredSpan { span } = self;
-        if let Some(id) = span.id {
-            span.tracer.exit_span(id);
+        let (tracer, id) = span.into_parts();
+        if let Some(id) = id {
+            tracer.exit_and_drop(id);
         }
     }
 }

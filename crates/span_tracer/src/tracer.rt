@@ -1,9 +1,12 @@
 //! A handle by which one lane traces through a receiver.
-ghost use Rattle.std.specs.Prelude.{◌≡◌, IfOk, None, not};
+ghost use Rattle.std.specs.Fn.{FnOnceReturnsAt};
+ghost use Rattle.std.specs.Prelude.{◌≡◌, ◌⊎◌, IfOk, None, Ok, Some, false, not, true};
 ghost use Rattle.span_core.specs.Level.{is_above};
+ghost use Rattle.span_core.specs.Metadata.{level_of};
 ghost use Rattle.span_dispatch.specs.Contract.{ClonesSpan, DropsOneHandle, EntersSpan, ExitsSpan, FollowsSpan, RecordsValues, SetsOneLevel, Shows};
+ghost use Rattle.span_dispatch.specs.Serve.{stack_of};
 ghost use Rattle.span_tracer.specs.Receiver.{ServesSome};
-ghost use Rattle.span_tracer.specs.Span.{opened, span_id, span_tracer};
+ghost use Rattle.span_tracer.specs.Span.{DropsHandle, EntersIfMade, LeavesSpan, held_span, opened, span_id, span_tracer};
 ghost use Rattle.span_tracer.specs.Tracer.{TracesEvent, TracesProbe, TracesSpan, tracer_hint, tracer_lane};
 
 use crate::receiver::Receiver;
@@ -68,14 +71,19 @@ impl<'a, R: Wait, S: Subscriber> Tracer<'a, R, S> {
     ///
     /// Refused as `Dispatch::enabled` is.
     #[inline(always)]
-    pub fn wants(&self, meta: &Metadata) -> Result<bool, TraceError> {
+    pub fn wants(&self, meta: &Metadata) -> Result<bool, TraceError>
+        ensures above { is_above (level_of meta.now) (tracer_hint self.now) ≡ true
+            → result ≡ Ok false }
+        ensures asked { (result ≡ Ok true) ⊎ TracesProbe S.Subscriber (tracer_lane self.now)
+            (tracer_hint self.now) meta.now result }
+    {
         if !self.passes_hint(meta.level()) {
             return Ok(false);
         }
         if self.receiver.remembers(meta) {
             return Ok(true);
         }
-        self.asks(meta)
+        self.asks(*meta)
     }
 
     /// A handle of no span.
@@ -96,10 +104,15 @@ impl<'a, R: Wait, S: Subscriber> Tracer<'a, R, S> {
 
     /// Asks whether a callsite is wanted, and remembers the answer.
     #[inline(never)]
-    fn asks(&self, meta: &Metadata) -> Result<bool, TraceError> {
-        let wanted = self.enabled(meta)?;
-        self.receiver.remember(meta, wanted);
-        Ok(wanted)
+    fn asks(&self, meta: Metadata) -> Result<bool, TraceError>
+        ensures { TracesProbe S.Subscriber (tracer_lane self.now) (tracer_hint self.now) meta
+            result }
+    {
+        let given = self.enabled(&meta);
+        if let Ok(wanted) = given {
+            self.receiver.remember(meta.callsite(), wanted);
+        }
+        given
     }
 
     /// Asks as `Dispatch::enabled` does, unless the hint rules it out.
@@ -136,8 +149,8 @@ impl<'a, R: Wait, S: Subscriber> Tracer<'a, R, S> {
             result }
     {
         let given = self.event(event);
-        if given == Ok(false) {
-            self.receiver.remember(&event.metadata(), false);
+        if let Ok(false) = given {
+            self.receiver.remember(event.metadata().callsite(), false);
         }
         given
     }
@@ -170,8 +183,20 @@ impl<'a, R: Wait, S: Subscriber> Tracer<'a, R, S> {
     /// Opens a span and enters it. The answer leaves it and drops its handle at its end.
     ///
     /// Refused as `span` is, and where memory to enter is refused: then the span is dropped again.
-    pub fn enter(&self, attrs: &Attributes<'_>) -> Result<EnteredSpan<'a, R, S>, TraceError> {
-        self.span(attrs)?.entered()
+    pub fn enter(&self, attrs: &Attributes<'_>) -> Result<EnteredSpan<'a, R, S>, TraceError>
+        ensures tracer { IfOk result (λ g. span_tracer (held_span g) ≡ self.now) }
+        ensures opens { IfOk result (λ g. TracesSpan S.Subscriber (tracer_lane self.now)
+            (tracer_hint self.now) attrs.now (Ok (span_id (held_span g)))) }
+        ensures enters { IfOk result (λ g. EntersIfMade S.Subscriber (tracer_lane self.now)
+            (span_id (held_span g)) (Ok tt)) }
+    {
+        match self.span(attrs) {
+            Ok(span) => match span.entered() {
+                Ok(guard) => Ok(guard),
+                Err(error) => Err(error),
+            },
+            Err(error) => Err(error),
+        }
     }
 
     /// Notifies of values that a span was given later, as `Dispatch::record` does.
@@ -208,6 +233,16 @@ impl<'a, R: Wait, S: Subscriber> Tracer<'a, R, S> {
         self.receiver.served(self.rt).current_span(self.lane)
     }
 
+    /// Does something with the dispatcher's stack, while the lock is held: a call of a tracer of
+    /// this receiver in there would wait for good.
+    pub fn with_stack<T, F: FnOnce(&S) -> T>(&self, body: F) -> T
+        requires { F.IsAlwaysCallable body }
+        ensures { ServesSome S.Subscriber
+            (λ old new. FnOnceReturnsAt F.FnOnce body (stack_of old) result) }
+    {
+        self.receiver.served(self.rt).with_stack(body)
+    }
+
     /// Enters a span as `Dispatch::enter` does.
     pub(crate) fn enter_span(&self, id: Id) -> Result<(), TraceError>
         ensures { ServesSome S.Subscriber
@@ -223,6 +258,19 @@ impl<'a, R: Wait, S: Subscriber> Tracer<'a, R, S> {
     {
         let mut served = self.receiver.served(self.rt);
         served.exit(self.lane, id);
+    }
+
+    /// Leaves a span as `Dispatch::exit` does, and drops a handle of it as `Dispatch::drop_span`
+    /// does, with no call of another in between.
+    pub(crate) fn exit_and_drop(&self, id: Id)
+        ensures left { LeavesSpan S.Subscriber (tracer_lane self.now) (Some id) }
+        ensures dropped { DropsHandle S.Subscriber (tracer_lane self.now) (Some id) }
+    {
+        let lane = self.lane;
+        let mut served = self.receiver.served(self.rt);
+        served.exit(lane, id);
+        // It is refused only where the span's handles were dropped by its id.
+        let _ = served.drop_span(lane, id);
     }
 
     /// Adds a handle as `Dispatch::clone_span` does.

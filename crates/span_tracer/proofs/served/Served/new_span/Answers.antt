@@ -1,6 +1,5 @@
-use Rattle.std.proofs.Common.{ap, subst, sym}
-use Rattle.span_dispatch.specs.Serve.{stack_of}
-use Rattle.span_tracer.proofs.Counted.{after_call, if_ok, opened_grows, no_more, still_registered}
+use Rattle.std.proofs.Common.{subst, sym}
+use Rattle.span_tracer.proofs.Counted.{after_call, if_ok, opened_grows, still_registered}
 use Rattle.span_tracer.specs.Receiver.{Journalled}
 use Rattle.span_tracer.proofs.served.Served.new_span.Goals as goal
 
@@ -15,28 +14,4 @@ invariant_of-self g c =
           (if_ok c.new_span_by-given.result (λ made h. opened_grows g.S.LookupSpan.registry g.S.Subscriber.usable from new c.args.lane c.args.attrs.now made h)
           c.new_span_by-given.ensures.opens.store) c.new_span_by-given.ensures.opens.unchanged),
       still_registered from new old.callsites.items c.new_span_by-given.ensures.registered c.self.invariant.1,
-    )
-
-pub invariant_of-self-2 : goal.invariant_of-self-2
-invariant_of-self-2 g c =
-    let old = c.self.inside in
-    let from = c.learn.new.dispatch in
-    let new = c.new_span-given.new.self in (
-      subst (Journalled g.S.LookupSpan.registry g.S.Subscriber.usable new) (sym c.counted-2.ensures)
-          (after_call g.S.LookupSpan.registry g.S.Subscriber.usable from new old.calls c.new_span-given.result
-          (no_more g.S.LookupSpan.registry g.S.Subscriber.usable old.dispatch from old.calls c.self.invariant.0 c.learn.ensures.stack)
-          c.new_span-given.ensures.usable
-          (if_ok c.new_span-given.result (λ made h. opened_grows g.S.LookupSpan.registry g.S.Subscriber.usable from new c.args.lane c.args.attrs.now made h)
-          c.new_span-given.ensures.opens.store) c.new_span-given.ensures.opens.unchanged),
-      still_registered from new c.learn.new.table.items c.new_span-given.ensures.registered c.learn.ensures.registered,
-    )
-
-pub returns : goal.returns
-returns g c =
-    let old = c.self.inside in (
-      c.learn.new.dispatch,
-      c.new_span-given.new.self,
-      old.calls,
-      no_more g.S.LookupSpan.registry g.S.Subscriber.usable old.dispatch c.learn.new.dispatch old.calls c.self.invariant.0 c.learn.ensures.stack,
-      c.new_span-given.ensures.opens,
     )
