@@ -85,3 +85,62 @@ fn each_job_leaves_its_span(rt: HostRuntime) -> Result<(), Fail> {
     assert!(&rt; stack.outer().observer().text() == OF_JOBS);
     Ok(())
 }
+
+/// Two searches: one returns from within a span, the other breaks out of one.
+const OF_SEARCHES: &str = "0 > INFO app: try number=1
+0 < INFO app: try
+0 > INFO app: try number=4
+0 < INFO app: try
+0 > INFO app: try number=1
+0 < INFO app: try
+0 > INFO app: try number=101
+0 < INFO app: try
+0 - INFO app: none
+";
+
+/// The first even number, each tried within a span. A number above 100 ends the search.
+fn first_even<R: Wait, S: Subscriber>(
+    tracer: Tracer<'_, R, S>,
+    numbers: &[u64],
+) -> Result<Option<u64>, TraceError> {
+    for number in numbers {
+        let _span = info_span!(tracer; target: "app", "try", number = *number)?.entered()?;
+        if *number % 2 == 0 {
+            return Ok(Some(*number));
+        }
+        if *number > 100 {
+            break;
+        }
+    }
+    info!(tracer; target: "app", "none")?;
+    Ok(None)
+}
+
+/// Searches twice on a receiver over this stack. Answers the stack, and what was found.
+fn search_twice<R: Wait, S: Subscriber + Drop>(
+    rt: &R,
+    alloc: Global,
+    stack: S,
+) -> Result<(S, Option<u64>, Option<u64>), Fail>
+    requires usable { S.usable stack }
+    requires fresh { IsFresh (S.registry stack) }
+{
+    let receiver = traced(alloc, stack);
+    let tracer = receiver.tracer(rt)?;
+    let first = first_even(tracer, &[1, 4, 6])?;
+    let second = first_even(tracer, &[1, 101, 6])?;
+    let (dispatch, _) = receiver.into_parts();
+    Ok((dispatch.into_stack(), first, second))
+}
+
+/// A span is left also where its block ends by `return` or `break`.
+#[test]
+fn return_and_break_leave_their_span(rt: HostRuntime) -> Result<(), Fail> {
+    let alloc = rt.alloc();
+    let stack = Registry::new(alloc).with(Observer::new(Tree::new(alloc)))?;
+    let (stack, first, second) = search_twice(&rt, alloc, stack)?;
+    assert!(&rt; first == Some(4));
+    assert!(&rt; second.is_none());
+    assert!(&rt; stack.outer().observer().text() == OF_SEARCHES);
+    Ok(())
+}

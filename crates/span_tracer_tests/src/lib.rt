@@ -7,3 +7,5 @@ mod job;
 mod macros;
 #[cfg(test)]
 mod receiver;
+#[cfg(test)]
+mod task;
