@@ -9,3 +9,5 @@ mod macros;
 mod receiver;
 #[cfg(test)]
 mod task;
+#[cfg(test)]
+mod trace;

@@ -1,0 +1,3 @@
+mod Around
+mod Keeping
+mod Taking
