@@ -78,6 +78,9 @@ fn done_on<S: rounds::Stack>(way: Way, stack: S, order: Order) -> Result<u32, Fa
         (Way::Macros, Workload::NewAndDrop) => Ok(macros::new_and_drop(rounds)),
         (Way::Macros, Workload::EnterAndExit) => Ok(macros::enter_and_exit(rounds)),
         (Way::Macros, Workload::Event) => Ok(macros::event(rounds)),
-        (Way::Macros, _) => Err(Fault::Line),
+        (Way::Macros, Workload::Values) => Ok(macros::values(rounds)),
+        (Way::Macros, Workload::AboveHint) => Ok(macros::above_hint(rounds)),
+        (Way::Macros, Workload::Guarded) => Ok(macros::guarded(rounds)),
+        _ => Err(Fault::Line),
     }
 }

@@ -6,8 +6,8 @@ ghost use Rattle.std.specs.Prelude.{◌≡◌, ◌<◌, IfOk};
 use crate::fault::Fault;
 use crate::receiver::{CountingStack, VetoingStack, counting_stack, vetoing_stack};
 use crate::thread_order::ThreadOrder;
-use crate::thread_rounds;
 use crate::thread_workload::ThreadWorkload;
+use crate::{thread_rounds, traced_crew};
 use span_core::TraceError;
 use span_dispatch::Dispatch;
 use span_registry::{Registry, Subscriber};
@@ -94,7 +94,11 @@ where
     ensures { IfOk result (λ t. t.requests ≡ all_requests order) }
 {
     let stack = counting_stack(stack)?;
-    let (dispatch, requests) = shared_by::<CountingStack<S>, L, R>(rt, alloc, blank, stack, order)?;
+    let (dispatch, requests) = if order.workload.is_traced() {
+        traced_crew::done::<CountingStack<S>, R>(rt, alloc, stack, order)?
+    } else {
+        shared_by::<CountingStack<S>, L, R>(rt, alloc, blank, stack, order)?
+    };
     Ok(Tally {
         requests,
         notices: dispatch.stack().outer().observer().notices(),
@@ -216,6 +220,7 @@ fn work<S: Subscriber, L: Crew>(
             &mut worker,
             order.rounds,
         ),
+        ThreadWorkload::TracedEvent | ThreadWorkload::TracedSpan => Err(Fault::Undone),
     };
     Worked { worker, done }
 }

@@ -3,6 +3,7 @@ ghost use Rattle.std.specs.Prelude.{◌≡◌};
 ghost use Rattle.span_bench.specs.Fault.{status_of};
 
 use span_core::TraceError;
+use span_tracer::LanesExhausted;
 use std::alloc::{AllocError, AllocFailed};
 use std::io;
 use thiserror::Error;
@@ -47,6 +48,12 @@ impl Fault {
 impl From<TraceError> for Fault {
     fn from(error: TraceError) -> Fault {
         Fault::Refused(error)
+    }
+}
+
+impl From<LanesExhausted> for Fault {
+    fn from(_error: LanesExhausted) -> Fault {
+        Fault::Undone
     }
 }
 

@@ -16,6 +16,8 @@ mod site;
 mod thread_order;
 mod thread_rounds;
 mod thread_workload;
+mod traced_crew;
+mod traced_rounds;
 mod workload;
 
 use std::process::ExitCode;

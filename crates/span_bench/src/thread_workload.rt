@@ -9,6 +9,10 @@ pub enum ThreadWorkload {
     Event,
     /// A span is opened, and closes as its handle is dropped.
     NewAndDrop,
+    /// An event is sent by the macro of a tracer.
+    TracedEvent,
+    /// A span is opened by the macro of a tracer, and closes as its handle is let go.
+    TracedSpan,
     /// An event that the stack's hint rules out is asked of the receiver, which drops it.
     EventPastHint,
     /// The worker is asked whether the level passes the hint, and as it doesn't, the receiver is
@@ -24,6 +28,8 @@ impl ThreadWorkload {
         match name {
             "event" => Some(ThreadWorkload::Event),
             "new_and_drop" => Some(ThreadWorkload::NewAndDrop),
+            "traced_event" => Some(ThreadWorkload::TracedEvent),
+            "traced_span" => Some(ThreadWorkload::TracedSpan),
             "event_past_hint" => Some(ThreadWorkload::EventPastHint),
             "passes_hint" => Some(ThreadWorkload::PassesHint),
             _ => None,
@@ -37,9 +43,19 @@ impl ThreadWorkload {
         match self {
             ThreadWorkload::Event => "event",
             ThreadWorkload::NewAndDrop => "new_and_drop",
+            ThreadWorkload::TracedEvent => "traced_event",
+            ThreadWorkload::TracedSpan => "traced_span",
             ThreadWorkload::EventPastHint => "event_past_hint",
             ThreadWorkload::PassesHint => "passes_hint",
         }
+    }
+
+    /// Whether a tracer does it.
+    pub fn is_traced(self) -> bool {
+        matches!(
+            self,
+            ThreadWorkload::TracedEvent | ThreadWorkload::TracedSpan
+        )
     }
 
     /// How many requests a round makes.
@@ -47,8 +63,9 @@ impl ThreadWorkload {
         ensures { result ≡ requests_of self }
     {
         match self {
-            ThreadWorkload::Event | ThreadWorkload::EventPastHint => 1,
-            ThreadWorkload::NewAndDrop => 2,
+            ThreadWorkload::Event | ThreadWorkload::TracedEvent | ThreadWorkload::EventPastHint =>
+                1,
+            ThreadWorkload::NewAndDrop | ThreadWorkload::TracedSpan => 2,
             ThreadWorkload::PassesHint => 0,
         }
     }

@@ -13,6 +13,14 @@ pub enum Workload {
     Event,
     /// The same, from one that was registered.
     EventBy,
+    /// An event is sent by a tracer's macro, from one callsite.
+    TracedEvent,
+    /// The same, with a number and a text.
+    TracedValues,
+    /// The same, of a level that the hint rules out.
+    TracedAboveHint,
+    /// A span is opened by a tracer's macro and entered. Its guard leaves it, and drops its handle.
+    TracedSpan,
     /// A chain of so many spans is opened. Their handles are dropped, the deepest span's last, and
     /// all close.
     Cascade,
@@ -34,6 +42,10 @@ impl Workload {
             "enter_and_exit" => Some(Workload::EnterAndExit),
             "event" => Some(Workload::Event),
             "event_by" => Some(Workload::EventBy),
+            "traced_event" => Some(Workload::TracedEvent),
+            "traced_values" => Some(Workload::TracedValues),
+            "traced_above_hint" => Some(Workload::TracedAboveHint),
+            "traced_span" => Some(Workload::TracedSpan),
             "cascade" => Some(Workload::Cascade),
             "scope" => Some(Workload::Scope),
             "from_root" => Some(Workload::FromRoot),

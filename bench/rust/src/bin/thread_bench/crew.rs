@@ -68,8 +68,10 @@ fn work<C: Count>(dispatch: &Dispatch, lane: usize, order: Order) -> Result<u64,
         .downcast_ref::<Stack<Counter<C>>>()
         .ok_or(Fault::Undone)?;
     match order.workload {
-        Workload::Event => rounds::event(stack, order.rounds),
-        Workload::NewAndDrop => rounds::new_and_drop(stack, order.rounds),
+        Workload::Event | Workload::TracedEvent => rounds::event(stack, order.rounds),
+        Workload::NewAndDrop | Workload::TracedSpan => {
+            rounds::new_and_drop(stack, order.rounds)
+        }
         Workload::EventPastHint => rounds::event_past_hint(stack, order.rounds),
         Workload::PassesHint => rounds::passes_hint(order.rounds),
     }

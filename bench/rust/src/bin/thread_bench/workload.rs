@@ -5,6 +5,8 @@
 pub enum Workload {
     Event,
     NewAndDrop,
+    TracedEvent,
+    TracedSpan,
     EventPastHint,
     PassesHint,
 }
@@ -15,6 +17,8 @@ impl Workload {
         match name {
             "event" => Some(Workload::Event),
             "new_and_drop" => Some(Workload::NewAndDrop),
+            "traced_event" => Some(Workload::TracedEvent),
+            "traced_span" => Some(Workload::TracedSpan),
             "event_past_hint" => Some(Workload::EventPastHint),
             "passes_hint" => Some(Workload::PassesHint),
             _ => None,
@@ -26,6 +30,8 @@ impl Workload {
         match self {
             Workload::Event => "event",
             Workload::NewAndDrop => "new_and_drop",
+            Workload::TracedEvent => "traced_event",
+            Workload::TracedSpan => "traced_span",
             Workload::EventPastHint => "event_past_hint",
             Workload::PassesHint => "passes_hint",
         }
