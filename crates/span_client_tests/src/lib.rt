@@ -30,6 +30,4 @@ mod run;
 #[cfg(test)]
 mod script;
 #[cfg(test)]
-mod text;
-#[cfg(test)]
 mod times;

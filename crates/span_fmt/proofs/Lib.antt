@@ -1,4 +1,5 @@
 mod Around
+pub mod CallerLemmas
 mod Bare
 mod Filled
 mod Given
@@ -10,3 +11,8 @@ mod Present
 mod Told
 mod Differ
 mod Unescaped
+mod FormsTold
+mod Handed
+mod Noted
+mod Put
+mod Streamed

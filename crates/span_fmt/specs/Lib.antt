@@ -1,8 +1,14 @@
 pub mod Escape
+pub mod Form
+pub mod Forms
+pub mod FormsTold
 pub mod Known
 pub mod Lines
+pub mod Outlet
 pub mod Page
 pub mod Serve
+pub mod Stream
+pub mod Streamed
 pub mod Text
 pub mod Told
 pub mod Tree

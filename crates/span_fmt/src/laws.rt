@@ -1,6 +1,12 @@
 //! Laws for callers: functions whose contract is the law, and that do nothing.
 ghost use Rattle.span_fmt.specs.Escape.{EscapedTextsDiffer};
+ghost use Rattle.span_fmt.specs.FormsTold.{LinesFormsGiveEvents, TreeFormsGiveAll};
+ghost use Rattle.span_fmt.specs.Streamed.{StreamsWriteAll};
 ghost use Rattle.span_fmt.specs.Told.{KnowsWhatWasGiven, LinesWriteEvents, TreesWriteAll};
+
+use crate::form::Form;
+use span_registry::Subscriber;
+use std::io::Write;
 
 /// A tree writes the lines of all that it is notified of, in order, wherever it stands in a stack,
 /// unless it failed.
@@ -23,4 +29,21 @@ pub fn what_spans_were_given_is_known()
 /// Texts that are escaped alike are the same: none poses as another.
 pub fn escaped_texts_differ()
     ensures { EscapedTextsDiffer }
+{}
+
+/// A stream hands its writer a piece of each line that its form gives, in order, wherever it stands
+/// in a stack: the whole line, or a beginning of it, and then it counts that line as lost. Where it
+/// lost none, the writer got exactly the lines.
+pub fn a_stream_writes_what_it_is_told<S: Subscriber, F: Form<S>, W: Write>()
+    ensures { StreamsWriteAll F.gives F.misses W.contents }
+{}
+
+/// The form of a tree gives the lines of all that it is notified of, in order.
+pub fn a_tree_form_gives_its_lines()
+    ensures { TreeFormsGiveAll }
+{}
+
+/// The form of `Lines` gives a line for each event that it is notified of, in order.
+pub fn a_lines_form_gives_its_lines()
+    ensures { LinesFormsGiveEvents }
 {}

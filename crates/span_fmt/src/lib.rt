@@ -3,15 +3,22 @@
 
 mod escape;
 mod fields;
+mod form;
+mod forms;
 mod known;
 pub mod laws;
 mod lines;
+mod outlet;
 mod page;
 mod serve;
+mod stream;
 mod tree;
 
 pub use escape::write_escaped;
 pub use fields::write_fields;
+pub use form::Form;
+pub use forms::{LinesForm, TreeForm};
 pub use lines::Lines;
-pub use serve::{WithLines, WithTree, serve_lines, serve_tree};
+pub use serve::{WithLines, WithStream, WithTree, serve_lines, serve_stream, serve_tree};
+pub use stream::Stream;
 pub use tree::Tree;

@@ -124,7 +124,7 @@ impl<S: Subscriber> Observe<S> for Lines {
 }
 
 /// The line of an event in what a hook sees, with what is known of spans.
-fn line_due<S: Subscriber>(
+pub(crate) fn line_due<S: Subscriber>(
     alloc: Global,
     event: &Event<'_>,
     known: &Known,

@@ -86,7 +86,7 @@ impl<S: Subscriber> Observe<S> for Tree {
 }
 
 /// The line of a notice in what a hook sees, or nothing.
-fn text_due<S: Subscriber>(
+pub(crate) fn text_due<S: Subscriber>(
     alloc: Global,
     notice: Notice<'_, '_>,
     ctx: &ContextMut<'_, S>,

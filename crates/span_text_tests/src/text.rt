@@ -10,7 +10,7 @@ use std::alloc::Global;
 use std::process::Abort;
 use std::test::Fail;
 
-const LANE: Lane = Lane(0);
+pub(crate) const LANE: Lane = Lane(0);
 
 const OTHER_LANE: Lane = Lane(3);
 
@@ -27,7 +27,7 @@ const SAID: &[(&str, FieldValue<'static>)] = &[
 
 const LATE: &[(&str, FieldValue<'static>)] = &[("late", FieldValue::Bool(false))];
 
-const OF_ALL: &str = "0 > INFO app: outer user=7
+pub(crate) const OF_ALL: &str = "0 > INFO app: outer user=7
 0   > TRACE app: step
 0     > DEBUG app::net: inner try=-2
 0       - WARN app::net: said what=a\\nb ok=true
@@ -51,7 +51,8 @@ const UNDER_DEBUG: &str = "0 > INFO app: outer user=7
 ";
 
 /// The span `step` is hidden here too.
-const OF_EVENTS: &str = "0 WARN outer{user=7}:inner{try=-2}: app::net: said what=a\\nb ok=true
+pub(crate) const OF_EVENTS: &str =
+    "0 WARN outer{user=7}:inner{try=-2}: app::net: said what=a\\nb ok=true
 3 INFO app: heard
 0 INFO outer{user=7 late=false}: app: heard
 ";
@@ -77,7 +78,7 @@ fn open<'a>(metadata: Metadata, values: &'a [(&'static str, FieldValue<'a>)]) ->
 }
 
 /// An event without values, in the span that the lane is in.
-fn heard(lane: Lane) -> Request<'static> {
+pub(crate) fn heard(lane: Lane) -> Request<'static> {
     let metadata = site(5, "heard", "app", Level::INFO, Kind::EVENT);
     Request::Event {
         lane,
@@ -130,7 +131,7 @@ fn wrote(rt: &impl Abort, tree: &Tree, text: &str) {
 }
 
 /// Puts a layer on a stack, has that serve the worked run, and gives it back.
-fn worked_on<S: Subscriber + Drop, L: Layer<S> + Drop>(
+pub(crate) fn worked_on<S: Subscriber + Drop, L: Layer<S> + Drop>(
     alloc: Global,
     stack: S,
     layer: L,

@@ -1,0 +1,9 @@
+//! Tests of trees, lines, streams and their forms, from outside.
+#![tactic(auto)]
+
+#[cfg(test)]
+mod fixture;
+#[cfg(test)]
+mod stream;
+#[cfg(test)]
+mod text;
