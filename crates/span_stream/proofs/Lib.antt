@@ -1,0 +1,6 @@
+mod Coloured
+mod Given
+mod Lined
+mod Shallow
+mod Timed
+mod Valued

@@ -1,0 +1,18 @@
+//! Forms of lines with times and colours, and lines of JSON.
+#![tactic(auto)]
+
+mod clocks;
+mod json_form;
+mod line;
+mod members;
+mod object;
+mod painted;
+mod stamp;
+mod time;
+mod values;
+
+pub use clocks::{Uptime, Utc};
+pub use json_form::JsonForm;
+pub use painted::Painted;
+pub use stamp::Stamped;
+pub use time::{TimeStyle, write_time};

@@ -1,0 +1,101 @@
+//! Objects in JSON of events and spans.
+ghost use Rattle.std.specs.Prelude.{◌≡◌, IfOk, OnOk, map, string_bytes};
+ghost use Rattle.serde_json.specs.View.{members_view, view};
+ghost use Rattle.span_core.specs.Event.{event_metadata, event_values};
+ghost use Rattle.span_stream.specs.Object.{event_data, fields_data, plain_members, span_data, with_spans};
+
+use crate::values::put_values;
+use serde_json::{Map, Value, put};
+use span_core::{Event, FieldValue};
+use std::alloc::{AllocError, Global};
+
+/// The object of an event in these spans, with the text of its time.
+pub(crate) fn event_object(
+    alloc: Global,
+    stamp: String,
+    event: &Event<'_>,
+    spans: Vec<Value>,
+) -> Result<Value, AllocError>
+    ensures { IfOk result (λ object. view object
+        ≡ event_data (string_bytes stamp) event.now (map view spans.items)) }
+{
+    let mut members = plain_members(alloc, stamp, event)?;
+    put_spans(&mut members, alloc, spans)?;
+    Ok(Value::Object(members))
+}
+
+/// The object of a span: its values and its name.
+pub(crate) fn span_object(
+    alloc: Global,
+    name: &str,
+    values: Map<String, Value>,
+) -> Result<Value, AllocError>
+    ensures { IfOk result (λ object. view object
+        ≡ span_data name.now (members_view values.entries)) }
+{
+    let mut members = values;
+    put(
+        &mut members,
+        alloc,
+        "name",
+        Value::try_from_str(alloc, name)?,
+    )?;
+    Ok(Value::Object(members))
+}
+
+/// The members of an event's object, but for the spans round it.
+fn plain_members(
+    alloc: Global,
+    stamp: String,
+    event: &Event<'_>,
+) -> Result<Map<String, Value>, AllocError>
+    ensures { IfOk result (λ members. members_view members.entries
+        ≡ plain_members (string_bytes stamp) (event_metadata event.now)
+        (event_values event.now)) }
+{
+    let metadata = event.metadata();
+    let level = Value::try_from_str(alloc, metadata.level().as_str())?;
+    let target = Value::try_from_str(alloc, metadata.target())?;
+    let fields = fields_of(alloc, metadata.name(), event.values())?;
+    let mut members = Map::new(alloc);
+    put(&mut members, alloc, "timestamp", Value::String(stamp))?;
+    put(&mut members, alloc, "level", level)?;
+    put(&mut members, alloc, "target", target)?;
+    put(&mut members, alloc, "fields", fields)?;
+    Ok(members)
+}
+
+/// An event's name as its message, and its values.
+fn fields_of(
+    alloc: Global,
+    name: &str,
+    values: &[(&'static str, FieldValue<'_>)],
+) -> Result<Value, AllocError>
+    ensures { IfOk result (λ fields. view fields ≡ fields_data name.now values.now) }
+{
+    let mut fields = Map::new(alloc);
+    put(
+        &mut fields,
+        alloc,
+        "message",
+        Value::try_from_str(alloc, name)?,
+    )?;
+    put_values(&mut fields, alloc, values)?;
+    Ok(Value::Object(fields))
+}
+
+/// Puts the last of some spans and all of them into an object, if there is one.
+fn put_spans(
+    members: &mut Map<String, Value>,
+    alloc: Global,
+    spans: Vec<Value>,
+) -> Result<(), AllocError>
+    ensures { OnOk result (members_view members.new.entries
+        ≡ with_spans (map view spans.items) (members_view members.old.entries)) }
+{
+    let Some(innermost) = spans.last() else {
+        return Ok(());
+    };
+    put(members, alloc, "span", innermost.clone()?)?;
+    put(members, alloc, "spans", Value::Array(spans))
+}

@@ -1,0 +1,131 @@
+//! Lines with times, in colours and in JSON: those of the worked run.
+use crate::text::{OF_EVENTS, worked_on};
+use span_core::LevelFilter;
+use span_fmt::{Form, LinesForm, Stream};
+use span_layers::Observer;
+use span_registry::Registry;
+use span_stacks::LayerExt;
+use span_stream::{JsonForm, Painted, Stamped, TimeStyle, Uptime, Utc, write_time};
+use span_times::{Counted, Now};
+use std::alloc::Global;
+use std::process::Abort;
+use std::test::Fail;
+
+/// What a form writes of the worked run, under a level.
+fn written<F: Form<Registry> + Drop>(alloc: Global, form: F) -> Result<Vec<u8>, Fail> {
+    let bytes: Vec<u8> = Vec::new(alloc);
+    let layer = Observer::new(Stream::new(form, bytes)).with_filter(LevelFilter::DEBUG);
+    let stack = worked_on(alloc, Registry::new(alloc), layer)?;
+    let mut copy = Vec::new(alloc);
+    copy.extend_from_slice(stack.outer().layer().observer().writer())?;
+    Ok(copy)
+}
+
+/// What is written of the worked run with counted times in this style.
+fn stamped(alloc: Global, style: TimeStyle) -> Result<Vec<u8>, Fail> {
+    let form = Stamped::new(alloc, LinesForm::new(alloc), Counted::new(), style);
+    written(alloc, form)
+}
+
+const WITH_TIMES: &str =
+    "1970-01-01T00:00:00.000001Z 0 WARN outer{user=7}:inner{try=-2}: app::net: said what=a\\nb ok=true
+1970-01-01T00:00:00.000002Z 3 INFO app: heard
+1970-01-01T00:00:00.000003Z 0 INFO outer{user=7 late=false}: app: heard
+";
+
+const WITH_SECONDS: &str =
+    "0.000001s 0 WARN outer{user=7}:inner{try=-2}: app::net: said what=a\\nb ok=true
+0.000002s 3 INFO app: heard
+0.000003s 0 INFO outer{user=7 late=false}: app: heard
+";
+
+#[test]
+fn lines_have_times(rt: HostRuntime) -> Result<(), Fail> {
+    let utc = stamped(rt.alloc(), TimeStyle::Utc)?;
+    assert!(rt; utc.as_slice() == WITH_TIMES.as_bytes());
+    let seconds = stamped(rt.alloc(), TimeStyle::Seconds)?;
+    assert!(rt; seconds.as_slice() == WITH_SECONDS.as_bytes());
+    Ok(())
+}
+
+/// Times in nanoseconds, with their texts in both styles.
+const TIMES: [(u64, &str, &str); 5] = [
+    (0, "1970-01-01T00:00:00.000000Z", "0.000000s"),
+    (999, "1970-01-01T00:00:00.000000Z", "0.000000s"),
+    (
+        1_709_210_096_789_012_999,
+        "2024-02-29T12:34:56.789012Z",
+        "1709210096.789012s",
+    ),
+    (
+        4_102_444_799_999_999_999,
+        "2099-12-31T23:59:59.999999Z",
+        "4102444799.999999s",
+    ),
+    (
+        u64::MAX,
+        "2554-07-21T23:34:33.709551Z",
+        "18446744073.709551s",
+    ),
+];
+
+#[test]
+fn times_have_six_places(rt: HostRuntime) -> Result<(), Fail> {
+    for (time, utc, seconds) in TIMES {
+        let mut text = String::new(rt.alloc());
+        write_time(&mut text, TimeStyle::Utc, time)?;
+        assert!(rt; text.as_str() == utc);
+        let mut text = String::new(rt.alloc());
+        write_time(&mut text, TimeStyle::Seconds, time)?;
+        assert!(rt; text.as_str() == seconds);
+    }
+    Ok(())
+}
+
+/// A clock that is read twice doesn't go back.
+fn goes_on<C: Now + Drop>(rt: &impl Abort, clock: C) {
+    let mut clock = clock;
+    let first = clock.now();
+    assert!(rt; first <= clock.now());
+}
+
+#[test]
+fn clocks_go_on(rt: HostRuntime) -> Result<(), Fail> {
+    goes_on(&rt, Utc::new(rt.clone()?));
+    goes_on(&rt, Uptime::new(rt.clone()?));
+    Ok(())
+}
+
+const IN_COLOURS: &str =
+    "\x1b[33m0 WARN outer{user=7}:inner{try=-2}: app::net: said what=a\\nb ok=true\x1b[0m
+\x1b[32m3 INFO app: heard\x1b[0m
+\x1b[32m0 INFO outer{user=7 late=false}: app: heard\x1b[0m
+";
+
+/// What is written of the worked run in colours or without.
+fn painted(alloc: Global, colours: bool) -> Result<Vec<u8>, Fail> {
+    written(alloc, Painted::new(alloc, LinesForm::new(alloc), colours))
+}
+
+#[test]
+fn lines_have_colours_where_asked(rt: HostRuntime) -> Result<(), Fail> {
+    let in_colours = painted(rt.alloc(), true)?;
+    assert!(rt; in_colours.as_slice() == IN_COLOURS.as_bytes());
+    let plain = painted(rt.alloc(), false)?;
+    assert!(rt; plain.as_slice() == OF_EVENTS.as_bytes());
+    Ok(())
+}
+
+const IN_JSON: &str =
+    r#"{"fields":{"message":"said","ok":true,"what":"a\nb"},"level":"WARN","span":{"name":"inner","try":-2},"spans":[{"name":"outer","user":7},{"name":"inner","try":-2}],"target":"app::net","timestamp":"1970-01-01T00:00:00.000001Z"}
+{"fields":{"message":"heard"},"level":"INFO","target":"app","timestamp":"1970-01-01T00:00:00.000002Z"}
+{"fields":{"message":"heard"},"level":"INFO","span":{"late":false,"name":"outer","user":7},"spans":[{"late":false,"name":"outer","user":7}],"target":"app","timestamp":"1970-01-01T00:00:00.000003Z"}
+"#;
+
+#[test]
+fn lines_of_json(rt: HostRuntime) -> Result<(), Fail> {
+    let form = JsonForm::new(rt.alloc(), Counted::new(), TimeStyle::Utc);
+    let lines = written(rt.alloc(), form)?;
+    assert!(rt; lines.as_slice() == IN_JSON.as_bytes());
+    Ok(())
+}
