@@ -19,9 +19,10 @@ use Rattle.span_dispatch.specs.Admission.{IsDecided, MayLearn, interests_nobody,
 use Rattle.span_dispatch.specs.private.Step.{IsAdmitted}
 use Rattle.span_dispatch.specs.private.Interest.{GivesInterest, HasInterestBy, IsInterestBy}
 use Rattle.span_dispatch.specs.Admission.{decided, decided_by, deciding_interest, is_let_by, learned_if}
-use Rattle.span_dispatch.specs.Cache.{Callsites, MatchesStack, KeptCallsites, ReadHint, ReadsOnce, RefusesBelow, RefusesInterest, callsites_of, hint_in}
+use Rattle.span_dispatch.specs.Cache.{Callsites, KnowsInterest, MatchesStack, KeptCallsites, ReadHint, ReadsOnce, RefusesBelow, RefusesInterest, callsites_of}
+use Rattle.span_dispatch.specs.Cache.{hint_in}
 use Rattle.span_dispatch.specs.Cache.{is_above_read, kept_in, known_of, no_callsite, with_callsite}
-use Rattle.span_dispatch.specs.declared.cache.Cache.TheVariants.{Empty, Filled}
+use Rattle.span_dispatch.specs.declared.cache.Cache.TheVariants.{Empty, Filled, Off}
 use Rattle.span_dispatch.specs.declared.cache.Cache.{Cache}
 use Rattle.span_dispatch.specs.declared.cache.Callsite.{Callsite}
 use Rattle.span_dispatch.specs.declared.cache.Known.{Known}
@@ -171,6 +172,10 @@ pub fails_above : (passes above : Bool) → passes ≡ not above → passes ≡ 
 fails_above true above e f = absurd (true≢false f)
 fails_above false above e f = not-false above (sym e)
 
+-- nothing is an entry
+no_entry : (one : Callsite) → None ≡ Some one → ⊥
+no_entry one e = absurd (cc)
+
 module _ {S : Type 0} (registry : S → RegistryState) (has_form : S → Form → Type 0) (x : S) (m : Metadata) where
   -- the stack's interest in what a filled cache has of the callsite, or else in the metadata
   abbrev known_interest : Form → Known → Interest
@@ -256,6 +261,13 @@ module _ {S : Type 0} (registry : S → RegistryState) (has_form : S → Form �
       shown : (other : Metadata) → (callsites_of k).known (callsite_of m) ≡ Some other → ShowSame other m
       shown other e =
           let which : Some other ≡ Some one.metadata = sym e ∙ there in let it : other ≡ one.metadata = cc in subst (λ z. ShowSame z m) (sym it) same
+
+  -- an interest that is cached is what the cache gives
+  pub gives_cached : (c : Cache) (i : Interest) → KnowsInterest c m i → GivesInterest registry has_form x m (Ok i) c c
+  gives_cached Off i h = absurd (no_entry (record { metadata = h.metadata; interest = i }) h.there)
+  gives_cached Empty i h = absurd (no_entry (record { metadata = h.metadata; interest = i }) h.there)
+  gives_cached (Filled k) i h = gives_kept k (record { metadata = h.metadata; interest = i })
+      (ap (λ l. is_above l k.hint) (sym h.same.level) ∙ k.below (callsite_of m) (record { metadata = h.metadata; interest = i }) h.there) h.there h.same
 
   -- it isn't kept, no memory is held for it, and memory was refused
   pub gives_no_memory : (k l : Known) → is_above (level_of m) k.hint ≡ false

@@ -1,10 +1,14 @@
 -- What was registered stays so.
-use Rattle.std.proofs.Common.{◌≡◌, ◌≤◌, ◌<◌, ◌+◌, ℕ, Option, Some, None, sym, ap, subst, arith, min, ◌∙◌}
+use Rattle.std.proofs.Common.{◌≡◌, ◌≤◌, ◌<◌, ◌+◌, ◌==◌, if◌then◌else◌, ℕ, Bool, true, false, Option, Some, None, sym, ap, subst, refl, arith, min, ◌∙◌}
+use Rattle.std.proofs.lemmas.Bool.{eqb-true}
 use Rattle.std.specs.Prelude.{IfSome}
+use Rattle.span_core.specs.Metadata.{ShowSame}
 use Rattle.span_core.specs.declared.interest.Interest.{Interest}
 use Rattle.span_core.specs.declared.metadata.Metadata.{Metadata}
-use Rattle.span_dispatch.specs.Cache.{KnowsInterest}
+use Rattle.span_dispatch.specs.Cache.{KnowsInterest, entry_in}
 use Rattle.span_dispatch.specs.private.Interest.{KnowsStill}
+use Rattle.span_dispatch.specs.private.Registration.{IsRegisteredAs, interest_in, kept_interest}
+use Rattle.span_dispatch.specs.declared.registration.Registration.{Registration}
 use Rattle.span_dispatch.specs.Registration.{HoldsStill, KeepsRegistered, last_epoch, next_epoch, registered_metadata}
 use Rattle.span_dispatch.specs.declared.cache.Cache.{Cache}
 use Rattle.span_dispatch.specs.declared.dispatch.Dispatch.{Dispatch}
@@ -48,3 +52,36 @@ module _ {S : Type 0} (old new : Dispatch S) where
 
           never : (n m : ℕ) → n ≤ m → n < last_epoch → n ≡ min (m + 1) last_epoch → ⊥
           never n m le lt e = grind (arith)
+
+-- what shows the same as another, and that as a third
+show_same : (x y z : Metadata) → ShowSame x y → ShowSame y z → ShowSame x z
+show_same x y z h k = record {
+  callsite = h.callsite ∙ k.callsite;
+  name = h.name ∙ k.name;
+  target = h.target ∙ k.target;
+  level = h.level ∙ k.level;
+  kind = h.kind ∙ k.kind;
+  fields = h.fields ∙ k.fields;
+}
+
+-- the interest of a valid registration is cached
+module _ {S : Type 0} (d : Dispatch S) (m : Metadata) (r : Registration) (i : Interest) (h : IsRegisteredAs m d r) where
+  by_test : (k : Kept) → HoldsStill d (registered_metadata r) k → (b : Bool) → (k.epoch.0 == d.epoch.0) ≡ b
+      → (if b then Some k.interest else None) ≡ Some i → KnowsInterest d.cache m i
+  by_test k v false t e = absurd (cc)
+  by_test k v true t e =
+      let known = v.holds (eqb-true k.epoch.0 d.epoch.0 t) in
+      let it : k.interest ≡ i = cc in
+      record {
+        metadata = known.metadata;
+        there = subst (λ n. entry_in d.cache n ≡ Some (record { metadata = known.metadata; interest = i })) h.same.callsite
+            (known.there ∙ ap (λ j. Some (record { metadata = known.metadata; interest = j })) it);
+        same = show_same known.metadata (registered_metadata r) m known.same h.same;
+      }
+
+  by_kept : (k : Option Kept) → IfSome k (HoldsStill d (registered_metadata r)) → kept_interest d.epoch k ≡ Some i → KnowsInterest d.cache m i
+  by_kept None v e = absurd (cc)
+  by_kept (Some k) v e = by_test k v (k.epoch.0 == d.epoch.0) refl e
+
+  pub registered_interest : interest_in d.epoch r ≡ Some i → KnowsInterest d.cache m i
+  registered_interest e = by_kept r.kept h.valid e

@@ -12,7 +12,6 @@ use Rattle.span_core.specs.declared.level.LevelFilter.{LevelFilter}
 use Rattle.span_core.specs.declared.metadata.Metadata.{Metadata}
 use Rattle.span_core.specs.declared.span.Lane.{Lane}
 use Rattle.span_dispatch.specs.Cache.{Agrees, KeptCallsites, RefusesInterest, with_callsite}
-use Rattle.span_stacks.specs.Verdict.{vetoes}
 use Rattle.span_stacks.specs.Wanted.{IsUnwanted}
 use Rattle.span_store.specs.Store.{RegistryState}
 use Rattle.span_registry.specs.Form.{Form}

@@ -1,8 +1,10 @@
 //! What a dispatcher keeps of its stack's answers.
+ghost use Rattle.std.specs.HashMap as hash;
 ghost use Rattle.std.specs.HashMap.{spare};
-ghost use Rattle.std.specs.Prelude.{◌≡◌, ◌≤◌, ℕ, IfErr, IfSome, None, OnErr, OnOk, Some, false, not};
+ghost use Rattle.std.specs.Prelude.{◌≡◌, ◌≤◌, ℕ, IfErr, IfSome, None, OnErr, OnOk, Some, false, nat_eq, not};
 ghost use Rattle.span_core.specs.Level.{is_above};
 ghost use Rattle.span_core.specs.Metadata.{callsite_of, level_of};
+ghost use Rattle.span_dispatch.specs.declared.cache.Callsite.{Callsite};
 
 use span_core::{Interest, Level, LevelFilter, Metadata, Pass, TraceError};
 use span_registry::{SeededState, Subscriber};
@@ -28,6 +30,8 @@ pub(crate) struct Known {
     callsites: HashMap<u64, Callsite, SeededState>,
     room: usize,
     ghost held: { room ≤ spare callsites },
+    ghost below: { (n : ℕ) (one : Callsite) → hash.get nat_eq callsites n ≡ Some one
+        → is_above (level_of one.metadata) hint ≡ false },
 }
 
 /// The interest in a callsite, with the metadata of which it was asked.

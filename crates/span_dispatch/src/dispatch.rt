@@ -7,6 +7,7 @@ ghost use Rattle.span_core.specs.Metadata.{ShowSame};
 ghost use Rattle.span_core.specs.Span.{metadata_of, number_of};
 ghost use Rattle.span_dispatch.specs.Cache.{no_callsite};
 ghost use Rattle.span_dispatch.specs.Contract.{BecomesReady, ChangesKept, ClonesSpan, DropsOneHandle, EntersSpan, ExitsSpan, FollowsSpan, GoesByKept, KeepsOnly, LearnsCallsite, OpensSpan, OpensSpanWith, Probes, RecordsValues, RefusesMetadata, ReservesCallsites, SameStack, SendsEvent, ServesCurrent, SetsOneLevel, Shows, ShowsHint, ShowsKept, StaysReady, StaysReadyBut, StaysUpToDate};
+ghost use Rattle.span_dispatch.specs.private.Registration.{IsRegisteredAs};
 ghost use Rattle.span_dispatch.specs.private.Step.{Admits, ClosesEach, Decides};
 ghost use Rattle.span_dispatch.specs.contracts.dispatch.Dispatch.{the_row};
 ghost use Rattle.span_dispatch.specs.Registration.{IsRegistered, KeepsRegistered, Knows, registered_metadata};
@@ -171,6 +172,87 @@ impl<S: Subscriber> Dispatch<S> {
         }
     }
 
+    /// Asks as `admits` does, by a registration where one is given. Where that has the interest
+    /// always, nothing is called.
+    #[inline(always)]
+    fn admits_by(
+        &mut self,
+        lane: Lane,
+        meta: Metadata,
+        callsite: Option<&Registration>,
+        pass: &mut Pass,
+    ) -> Result<bool, TraceError>
+        requires usable { S.usable (stack_of self.old) }
+        requires known { IfSome callsite (λ r. IsRegisteredAs meta self.old r.now) }
+        requires fresh { IsEmpty (refusals pass.old) }
+        ensures rest { ChangesKept self.old self.new }
+        ensures registered { KeepsRegistered self.old self.new }
+        ensures up_to_date { StaysUpToDate S.Subscriber self.old self.new }
+        ensures admitted { Admits S.Subscriber lane meta self.old pass.new result self.new }
+        ensures decided { IfOk result
+            (λ said. Decides S.Subscriber lane meta self.old (said, refusals pass.new)) }
+        ensures kept { GoesByKept meta false (RefusesMetadata meta self.old) result self.old
+            self.new }
+    {
+        let Some(callsite) = callsite else {
+            return self.admits(lane, &meta, None, pass);
+        };
+        if callsite.is_always_in(self.epoch) {
+            return Ok(true);
+        }
+        self.admits_later(lane, meta, callsite, pass)
+    }
+
+    /// Asks as `admits_by` does, with a call: the room for its answer is cleared only here.
+    #[inline(always)]
+    fn admits_later(
+        &mut self,
+        lane: Lane,
+        meta: Metadata,
+        callsite: &Registration,
+        pass: &mut Pass,
+    ) -> Result<bool, TraceError>
+        requires usable { S.usable (stack_of self.old) }
+        requires known { IsRegisteredAs meta self.old callsite.now }
+        ensures rest { ChangesKept self.old self.new }
+        ensures registered { KeepsRegistered self.old self.new }
+        ensures up_to_date { StaysUpToDate S.Subscriber self.old self.new }
+        ensures admitted { Admits S.Subscriber lane meta self.old pass.new result self.new }
+        ensures decided { IfOk result
+            (λ said. Decides S.Subscriber lane meta self.old (said, refusals pass.new)) }
+        ensures kept { GoesByKept meta false (RefusesMetadata meta self.old) result self.old
+            self.new }
+    {
+        let (said, asked) = self.admits_anew(lane, meta, callsite);
+        *pass = asked;
+        said
+    }
+
+    /// Asks as `admits` does, with a new pass: the answer, and what the pass becomes.
+    #[inline(never)]
+    fn admits_anew(
+        &mut self,
+        lane: Lane,
+        meta: Metadata,
+        callsite: &Registration,
+    ) -> (Result<bool, TraceError>, Pass)
+        requires usable { S.usable (stack_of self.old) }
+        requires known { IsRegisteredAs meta self.old callsite.now }
+        ensures rest { ChangesKept self.old self.new }
+        ensures registered { KeepsRegistered self.old self.new }
+        ensures up_to_date { StaysUpToDate S.Subscriber self.old self.new }
+        ensures admitted { Admits S.Subscriber lane meta self.old result.1 result.0 self.new }
+        ensures decided { IfOk result.0
+            (λ said. Decides S.Subscriber lane meta self.old (said, refusals result.1)) }
+        ensures kept { GoesByKept meta false (RefusesMetadata meta self.old) result.0 self.old
+            self.new }
+    {
+        let kept = callsite.interest_in(self.epoch);
+        let mut pass = Pass::new();
+        let said = self.admits(lane, &meta, kept, &mut pass);
+        (said, pass)
+    }
+
     /// Whether a span or an event with this metadata would be made, as far as metadata decide:
     /// neither hint nor interest rules it out, and no layer vetoes it.
     ///
@@ -262,8 +344,7 @@ impl<S: Subscriber> Dispatch<S> {
         ensures opens { OpensSpan S.Subscriber lane attrs.now result self.old self.new }
     {
         let mut pass = Pass::new();
-        let kept = callsite.interest_in(self.epoch);
-        self.open(lane, attrs, kept, &mut pass)
+        self.open(lane, attrs, Some(callsite), &mut pass)
     }
 
     /// Opens a span as `new_span` does, with a new pass of the caller's. Where one is made, the
@@ -288,17 +369,18 @@ impl<S: Subscriber> Dispatch<S> {
         self.open(lane, attrs, None, pass)
     }
 
-    /// Opens a span as `new_span_with` does. `kept`, if given, is the cached interest.
+    /// Opens a span as `new_span_with` does. By a registration, if one is given.
     #[inline(always)]
     fn open(
         &mut self,
         lane: Lane,
         attrs: &Attributes<'_>,
-        kept: Option<Interest>,
+        callsite: Option<&Registration>,
         pass: &mut Pass,
     ) -> Result<Option<Id>, TraceError>
         requires usable { S.usable (stack_of self.old) }
-        requires known { IfSome kept (Knows self.old (metadata_of attrs.now)) }
+        requires known { IfSome callsite (λ r.
+            IsRegisteredAs (metadata_of attrs.now) self.old r.now) }
         requires fresh { IsEmpty (refusals pass.old) }
         ensures usable { S.usable (stack_of self.new) }
         ensures registered { KeepsRegistered self.old self.new }
@@ -306,7 +388,7 @@ impl<S: Subscriber> Dispatch<S> {
         ensures opens { OpensSpanWith S.Subscriber pass.new lane attrs.now result self.old
             self.new }
     {
-        match self.admits(lane, &attrs.metadata(), kept, pass) {
+        match self.admits_by(lane, attrs.metadata(), callsite, pass) {
             Err(error) => Err(error),
             Ok(false) => Ok(None),
             Ok(true) => match self.stack.new_span(lane, attrs, pass) {
@@ -346,27 +428,27 @@ impl<S: Subscriber> Dispatch<S> {
         ensures ready { StaysReady S.Subscriber self.old self.new }
         ensures sends { SendsEvent S.Subscriber lane event.now result self.old self.new }
     {
-        let kept = callsite.interest_in(self.epoch);
-        self.send(lane, event, kept)
+        self.send(lane, event, Some(callsite))
     }
 
-    /// Notifies of an event as `event` does. `kept`, if given, is the cached interest.
+    /// Notifies of an event as `event` does. By a registration, if one is given.
     #[inline(always)]
     fn send(
         &mut self,
         lane: Lane,
         event: &Event<'_>,
-        kept: Option<Interest>,
+        callsite: Option<&Registration>,
     ) -> Result<bool, TraceError>
         requires usable { S.usable (stack_of self.old) }
-        requires known { IfSome kept (Knows self.old (event_metadata event.now)) }
+        requires known { IfSome callsite (λ r.
+            IsRegisteredAs (event_metadata event.now) self.old r.now) }
         ensures usable { S.usable (stack_of self.new) }
         ensures registered { KeepsRegistered self.old self.new }
         ensures ready { StaysReady S.Subscriber self.old self.new }
         ensures sends { SendsEvent S.Subscriber lane event.now result self.old self.new }
     {
         let mut pass = Pass::new();
-        match self.admits(lane, &event.metadata(), kept, &mut pass) {
+        match self.admits_by(lane, event.metadata(), callsite, &mut pass) {
             Err(error) => Err(error),
             Ok(false) => Ok(false),
             Ok(true) => {

@@ -1,5 +1,6 @@
 //! Callsites that a dispatcher knows.
-ghost use Rattle.std.specs.Prelude.{◌≡◌, IfSome};
+ghost use Rattle.std.specs.Prelude.{◌≡◌, IfSome, Some, true};
+ghost use Rattle.span_core.specs.declared.interest.Interest.TheVariants.{Always};
 ghost use Rattle.span_dispatch.specs.Registration.{next_epoch, registered_metadata};
 ghost use Rattle.span_dispatch.specs.private.Registration.{IsKeptIn, interest_in};
 
@@ -69,6 +70,17 @@ impl Registration {
         match self.kept {
             Some(kept) if kept.epoch.0 == epoch.0 => Some(kept.interest),
             _ => None,
+        }
+    }
+
+    /// Whether the callsite's interest that is cached in this epoch is always.
+    #[inline(always)]
+    pub(crate) fn is_always_in(&self, epoch: Epoch) -> bool
+        ensures { result ≡ true → interest_in epoch self.now ≡ Some Always }
+    {
+        match &self.kept {
+            Some(kept) => kept.epoch.0 == epoch.0 && kept.interest.is_always(),
+            None => false,
         }
     }
 }

@@ -1,9 +1,9 @@
 -- What a handle of a span holds, and what becomes of it.
-use Rattle.std.specs.Prelude.{◌≡◌, Bool, IfSome, Option, None, Some, Result, Ok, Err}
+use Rattle.std.specs.Prelude.{◌≡◌, Bool, IfSome, Option, None, Some, Result, Ok, Err, IsOk, is_ok}
 use Rattle.span_core.specs.declared.error.TraceError.{TraceError}
 use Rattle.span_core.specs.declared.span.Id.{Id}
 use Rattle.span_core.specs.declared.span.Lane.{Lane}
-use Rattle.span_dispatch.specs.Contract.{DropsOneHandle, EntersSpan, ExitsSpan, SubscriberOf}
+use Rattle.span_dispatch.specs.Contract.{ClonesSpan, DropsOneHandle, EntersSpan, ExitsSpan, SubscriberOf}
 use Rattle.span_tracer.specs.Receiver.{ServesSome}
 use Rattle.span_tracer.specs.declared.span.Entered.{Entered}
 use Rattle.span_tracer.specs.declared.span.EnteredSpan.{EnteredSpan}
@@ -42,6 +42,14 @@ module _ {S : Type 0} (s : SubscriberOf S) where
   abbrev pub EntersIfMade : Lane → Option Id → Result (Unit {0}) TraceError → Type 0
   EntersIfMade lane None given = given ≡ Ok tt
   EntersIfMade lane (Some id) given = ServesSome s (EntersSpan s lane id given)
+
+  -- a lane asked for a handle more of a span, with this answer; where there is none, nothing is
+  -- refused
+  abbrev pub AddsHandle : {A E : Type 0} → Lane → Option Id → Result A E → Type 0
+  AddsHandle lane None given = IsOk given
+  AddsHandle lane (Some id) given =
+      (cloned : Result Id TraceError)
+      × (is_ok cloned ≡ is_ok given) × ServesSome s (ClonesSpan s lane id cloned)
 
   -- a lane left a span, if there is one
   abbrev pub LeavesSpan : Lane → Option Id → Type 0

@@ -9,31 +9,34 @@ ghost use Rattle.span_tracer.specs.private.Callsite.{AreRegistered, HasNoRegistr
 use span_core::Metadata;
 use span_dispatch::{Dispatch, Registration};
 use span_registry::Subscriber;
-use std::alloc::Global;
 
 /// How many callsites a table has room for. A callsite takes the place of its number's remainder.
-pub(crate) const PLACES: u64 = 64;
+pub(crate) const PLACES: usize = 64;
 
-/// A table without a callsite. Where memory is refused it has no room, and requests are served
-/// without it.
-pub(crate) fn empty_table(alloc: Global) -> Vec<Option<Registration>>
-    ensures { HasNoRegistration result.items }
-{
-    let mut table = Vec::new(alloc);
-    let _ = table.resize(PLACES as usize, None);
-    table
+/// The registrations of callsites, each at its place.
+#[derive(Drop)]
+pub(crate) struct Table {
+    places: [Option<Registration>; PLACES],
+}
+
+impl Table {
+    /// A table without a callsite.
+    pub(crate) fn new() -> Table
+        ensures { HasNoRegistration result.places }
+    {
+        Table {
+            places: [None; PLACES],
+        }
+    }
 }
 
 /// The registration of the callsite with these metadata, if the table has it.
 #[inline(always)]
-pub(crate) fn find<'a>(
-    table: &'a [Option<Registration>],
-    meta: &Metadata,
-) -> Option<&'a Registration>
-    ensures there { IfSome result (λ r. at_place table.now meta.now ≡ Some (Some r.now)) }
+pub(crate) fn find<'a>(table: &'a Table, meta: &Metadata) -> Option<&'a Registration>
+    ensures there { IfSome result (λ r. at_place table.now.places meta.now ≡ Some (Some r.now)) }
     ensures same { IfSome result (λ r. ShowSame (registered_metadata r.now) meta.now) }
 {
-    match table.get((meta.callsite() % PLACES) as usize) {
+    match table.places.get((meta.callsite() % PLACES as u64) as usize) {
         Some(Some(known)) if known.metadata().shows_same(meta) => Some(known),
         _ => None,
     }
@@ -42,21 +45,16 @@ pub(crate) fn find<'a>(
 /// Registers a callsite, and keeps its registration at its place. Where that is refused, nothing is
 /// kept.
 #[inline(never)]
-pub(crate) fn learn<S: Subscriber>(
-    dispatch: &mut Dispatch<S>,
-    table: &mut Vec<Option<Registration>>,
-    meta: &Metadata,
-)
+pub(crate) fn learn<S: Subscriber>(dispatch: &mut Dispatch<S>, table: &mut Table, meta: &Metadata)
     requires usable { S.usable (stack_of dispatch.old) }
-    requires registered { AreRegistered dispatch.old table.old.items }
+    requires registered { AreRegistered dispatch.old table.old.places }
     ensures stack { SameStack dispatch.old dispatch.new }
-    ensures registered { AreRegistered dispatch.new table.new.items }
+    ensures registered { AreRegistered dispatch.new table.new.places }
 {
     let Ok(registration) = dispatch.register_callsite(meta) else {
         return;
     };
-    let place = (meta.callsite() % PLACES) as usize;
-    if place < table.len() {
-        table[place] = Some(registration);
-    }
+    let place = (meta.callsite() % PLACES as u64) as usize;
+    let places = &mut table.places[..];
+    places[place] = Some(registration);
 }

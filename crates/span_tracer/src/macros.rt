@@ -293,7 +293,7 @@ macro_rules! asked {
         $t.event_as_wanted(&$crate::event_in($p, $m, &[$($field)*]))
     };
     (span, $t:ident, $m:ident, $p:expr, [$($field:tt)*]) => {
-        $t.span(&$crate::span_in($p, $m, &[$($field)*]))
+        $t.span_as_wanted(&$crate::span_in($p, $m, &[$($field)*]))
     };
 }
 

@@ -55,13 +55,14 @@ impl<S: Subscriber> Receiver<S> {
         requires fresh { IsFresh (S.registry (stack_of dispatch)) }
     {
         let mut wanted = Vec::new(alloc);
-        for _ in 0..WANTED {
-            if wanted.push(AtomicU64::new(0)).is_err() {
+        for place in 0..WANTED {
+            // No callsite with that number takes this place.
+            if wanted.push(AtomicU64::new(place + 1)).is_err() {
                 break;
             }
         }
         Receiver {
-            lock: Mutex::new(Served::new(alloc, dispatch)),
+            lock: Mutex::new(Served::new(dispatch)),
             wanted,
             lanes: AtomicU64::new(0),
             alloc,

@@ -8,11 +8,10 @@ ghost use Rattle.span_tracer.specs.Receiver.{Journalled, ServesSome};
 ghost use Rattle.span_tracer.specs.Tracer.{HasHint};
 ghost use Rattle.span_tracer.specs.private.Served.{count_after};
 
-use crate::callsite::{empty_table, find, learn};
+use crate::callsite::{Table, find, learn};
 use span_core::{Attributes, Current, Event, Id, Lane, LevelFilter, Metadata, Record, TraceError};
-use span_dispatch::{Dispatch, Registration};
+use span_dispatch::Dispatch;
 use span_registry::Subscriber;
-use std::alloc::Global;
 use std::marker::Model;
 
 /// How many calls were accepted, after one more with this result.
@@ -31,9 +30,8 @@ fn counted<A>(calls: u64, given: &Result<A, TraceError>) -> u64
 #[derive(Drop)]
 pub(crate) struct Served<S: Subscriber> {
     dispatch: Dispatch<S>,
-    callsites: Vec<Option<Registration>>,
+    callsites: Table,
     calls: u64,
-    alloc: Global,
 }
 
 impl<S: Subscriber> Model for Served<S> {
@@ -50,12 +48,12 @@ impl<S: Subscriber> Model for Served<S> {
     ghost view = { λ l. record { dispatch = l.dispatch; calls = l.calls } };
 
     ghost invariant = { λ l. Journalled S.registry S.usable l.dispatch l.calls
-        × AreRegistered l.dispatch l.callsites.items };
+        × AreRegistered l.dispatch l.callsites.places };
 }
 
 impl<S: Subscriber> Served<S> {
     /// A dispatcher that served no call yet.
-    pub(crate) fn new(alloc: Global, dispatch: Dispatch<S>) -> Served<S>
+    pub(crate) fn new(dispatch: Dispatch<S>) -> Served<S>
         requires usable { S.usable (stack_of dispatch) }
         requires fresh { IsFresh (S.registry (stack_of dispatch)) }
         ensures dispatch { result.dispatch ≡ dispatch }
@@ -63,9 +61,8 @@ impl<S: Subscriber> Served<S> {
     {
         Served {
             dispatch,
-            callsites: empty_table(alloc),
+            callsites: Table::new(),
             calls: 0,
-            alloc,
         }
     }
 
@@ -77,7 +74,6 @@ impl<S: Subscriber> Served<S> {
             dispatch,
             callsites: _,
             calls: _,
-            alloc: _,
         } = self;
         dispatch.max_level_hint()
     }
@@ -99,7 +95,6 @@ impl<S: Subscriber> Served<S> {
             dispatch,
             callsites,
             calls,
-            alloc: _,
         } = self;
         (dispatch, calls)
     }
@@ -112,7 +107,6 @@ impl<S: Subscriber> Served<S> {
             dispatch,
             callsites: _,
             calls,
-            alloc: _,
         } = self;
         let given = dispatch.enabled(lane, meta);
         *calls = counted(*calls, &given);
@@ -131,7 +125,6 @@ impl<S: Subscriber> Served<S> {
             dispatch,
             callsites,
             calls,
-            alloc: _,
         } = self;
         if let Some(known) = find(callsites, &attrs.metadata()) {
             let given = dispatch.new_span_by(lane, known, attrs);
@@ -150,7 +143,6 @@ impl<S: Subscriber> Served<S> {
             dispatch,
             callsites,
             calls,
-            alloc: _,
         } = self;
         learn(dispatch, callsites, &attrs.metadata());
         let given = dispatch.new_span(lane, &attrs);
@@ -167,13 +159,20 @@ impl<S: Subscriber> Served<S> {
             dispatch,
             callsites,
             calls,
-            alloc: _,
         } = self;
         if let Some(known) = find(callsites, &event.metadata()) {
             let given = dispatch.event_by(lane, known, event);
             *calls = counted(*calls, &given);
             return given;
         }
+        self.event_later(lane, event)
+    }
+
+    /// Notifies of an event as `event_anew` does: the room for its answer is cleared only here.
+    #[inline(always)]
+    fn event_later(&mut self, lane: Lane, event: &Event<'_>) -> Result<bool, TraceError>
+        ensures { ServesSome S.Subscriber (SendsEvent S.Subscriber lane event.now result) }
+    {
         self.event_anew(lane, *event)
     }
 
@@ -186,7 +185,6 @@ impl<S: Subscriber> Served<S> {
             dispatch,
             callsites,
             calls,
-            alloc: _,
         } = self;
         learn(dispatch, callsites, &event.metadata());
         let given = dispatch.event(lane, &event);
@@ -202,7 +200,6 @@ impl<S: Subscriber> Served<S> {
             dispatch,
             callsites: _,
             calls,
-            alloc: _,
         } = self;
         let given = dispatch.enter(lane, id);
         *calls = counted(*calls, &given);
@@ -217,7 +214,6 @@ impl<S: Subscriber> Served<S> {
             dispatch,
             callsites: _,
             calls,
-            alloc: _,
         } = self;
         dispatch.exit(lane, id);
         *calls = counted(*calls, &Ok(()));
@@ -237,7 +233,6 @@ impl<S: Subscriber> Served<S> {
             dispatch,
             callsites: _,
             calls,
-            alloc: _,
         } = self;
         let given = dispatch.record(lane, id, values);
         *calls = counted(*calls, &given);
@@ -252,7 +247,6 @@ impl<S: Subscriber> Served<S> {
             dispatch,
             callsites: _,
             calls,
-            alloc: _,
         } = self;
         let given = dispatch.follows_from(lane, id, follows);
         *calls = counted(*calls, &given);
@@ -268,7 +262,6 @@ impl<S: Subscriber> Served<S> {
             dispatch,
             callsites: _,
             calls,
-            alloc: _,
         } = self;
         let given = dispatch.clone_span(lane, id);
         *calls = counted(*calls, &given);
@@ -283,7 +276,6 @@ impl<S: Subscriber> Served<S> {
             dispatch,
             callsites: _,
             calls,
-            alloc: _,
         } = self;
         let given = dispatch.drop_span(lane, id);
         *calls = counted(*calls, &given);
@@ -298,10 +290,9 @@ impl<S: Subscriber> Served<S> {
             dispatch,
             callsites,
             calls,
-            alloc,
         } = self;
         let given = dispatch.set_level(number, level);
-        *callsites = empty_table(*alloc);
+        *callsites = Table::new();
         *calls = counted(*calls, &given);
         given
     }
@@ -316,7 +307,6 @@ impl<S: Subscriber> Served<S> {
             dispatch,
             callsites: _,
             calls: _,
-            alloc: _,
         } = self;
         body(dispatch.stack())
     }
@@ -329,7 +319,6 @@ impl<S: Subscriber> Served<S> {
             dispatch,
             callsites: _,
             calls: _,
-            alloc: _,
         } = self;
         dispatch.current_span(lane)
     }

@@ -1,8 +1,8 @@
 //! Handles of spans, and guards that leave their span however they end.
-ghost use Rattle.std.specs.Prelude.{◌≡◌, ◌↔◌, IfOk, IfSome, IsTrue, None};
+ghost use Rattle.std.specs.Prelude.{◌≡◌, ◌↔◌, IfOk, IfSome, IsTrue, None, OnOk};
 ghost use Rattle.span_dispatch.specs.Contract.{RecordsValues};
 ghost use Rattle.span_tracer.specs.Receiver.{ServesSome};
-ghost use Rattle.span_tracer.specs.Span.{DropsHandle, EntersIfMade, LeavesSpan, done_of, held_span, span_id, span_of, span_tracer};
+ghost use Rattle.span_tracer.specs.Span.{AddsHandle, DropsHandle, EntersIfMade, LeavesSpan, done_of, held_span, span_id, span_of, span_tracer};
 ghost use Rattle.span_tracer.specs.Tracer.{tracer_lane};
 
 use crate::tracer::Tracer;
@@ -59,17 +59,20 @@ impl<'a, R: Wait, S: Subscriber> Span<'a, R, S> {
 
     /// Another handle of the span. Refused as `Dispatch::clone_span` is.
     pub fn another(&self) -> Result<Span<'a, R, S>, TraceError>
-        ensures { IfOk result (λ h. span_id h ≡ span_id self.now) }
+        ensures span { IfOk result (λ h. span_id h ≡ span_id self.now) }
+        ensures tracer { IfOk result (λ h. span_tracer h ≡ span_tracer self.now) }
+        ensures added { AddsHandle S.Subscriber (tracer_lane (span_tracer self.now))
+            (span_id self.now) result }
     {
-        match self.id {
-            Some(id) => {
-                let id = self.tracer.clone_span(id)?;
-                Ok(Span {
-                    tracer: self.tracer,
-                    id: Some(id),
-                })
-            }
-            None => Ok(self.tracer.no_span()),
+        let Some(id) = self.id else {
+            return Ok(self.tracer.no_span());
+        };
+        match self.tracer.clone_span(id) {
+            Ok(_) => Ok(Span {
+                tracer: self.tracer,
+                id: Some(id),
+            }),
+            Err(error) => Err(error),
         }
     }
 
@@ -111,10 +114,16 @@ impl<'a, R: Wait, S: Subscriber> Span<'a, R, S> {
     /// done.
     pub fn in_scope<T, F: FnOnce() -> T>(&self, body: F) -> Result<T, TraceError>
         requires { F.IsAlwaysCallable body }
-        ensures { IfOk result (F.post body) }
+        ensures given { IfOk result (F.post body) }
+        ensures entered { EntersIfMade S.Subscriber (tracer_lane (span_tracer self.now))
+            (span_id self.now) (done_of result) }
+        ensures left { OnOk result (LeavesSpan S.Subscriber (tracer_lane (span_tracer self.now))
+            (span_id self.now)) }
     {
-        let _entered = self.enter()?;
-        Ok(body())
+        match self.enter() {
+            Ok(_entered) => Ok(body()),
+            Err(error) => Err(error),
+        }
     }
 
     /// The tracer and the span's id, whose handle the caller is to drop.

@@ -7,7 +7,7 @@ ghost use Rattle.span_dispatch.specs.Contract.{ClonesSpan, DropsOneHandle, Enter
 ghost use Rattle.span_dispatch.specs.Serve.{stack_of};
 ghost use Rattle.span_tracer.specs.Receiver.{ServesSome};
 ghost use Rattle.span_tracer.specs.Span.{DropsHandle, EntersIfMade, LeavesSpan, held_span, opened, span_id, span_tracer};
-ghost use Rattle.span_tracer.specs.Tracer.{TracesEvent, TracesProbe, TracesSpan, tracer_hint, tracer_lane};
+ghost use Rattle.span_tracer.specs.Tracer.{HasHint, TracesEvent, TracesProbe, TracesSpan, tracer_hint, tracer_lane};
 
 use crate::receiver::Receiver;
 use crate::span::{EnteredSpan, Span};
@@ -50,7 +50,8 @@ impl<'a, R: Wait, S: Subscriber> Tracer<'a, R, S> {
 
     /// A tracer on the same lane, with the hint that the dispatcher has now.
     pub fn renewed(&self) -> Tracer<'a, R, S>
-        ensures { tracer_lane result ≡ tracer_lane self.now }
+        ensures lane { tracer_lane result ≡ tracer_lane self.now }
+        ensures hint { HasHint S.Subscriber (tracer_hint result) }
     {
         self.receiver.tracer_on(self.rt, self.lane)
     }
@@ -148,11 +149,14 @@ impl<'a, R: Wait, S: Subscriber> Tracer<'a, R, S> {
         ensures { TracesEvent S.Subscriber (tracer_lane self.now) (tracer_hint self.now) event.now
             result }
     {
-        let given = self.event(event);
-        if let Ok(false) = given {
-            self.receiver.remember(event.metadata().callsite(), false);
+        match self.event(event) {
+            Ok(true) => Ok(true),
+            Ok(false) => {
+                self.receiver.remember(event.metadata().callsite(), false);
+                Ok(false)
+            }
+            Err(error) => Err(error),
         }
-        given
     }
 
     /// Opens a span as `Dispatch::new_span` does, unless the hint rules it out. The answer holds
@@ -164,6 +168,24 @@ impl<'a, R: Wait, S: Subscriber> Tracer<'a, R, S> {
     {
         match self.open(attrs) {
             Ok(id) => Ok(Span { tracer: *self, id }),
+            Err(error) => Err(error),
+        }
+    }
+
+    /// Opens a span as `span` does. Where none is made, its callsite is asked again before values
+    /// are computed for it.
+    pub fn span_as_wanted(&self, attrs: &Attributes<'_>) -> Result<Span<'a, R, S>, TraceError>
+        ensures tracer { IfOk result (λ h. span_tracer h ≡ self.now) }
+        ensures opens { TracesSpan S.Subscriber (tracer_lane self.now) (tracer_hint self.now)
+            attrs.now (opened result) }
+    {
+        match self.open(attrs) {
+            Ok(id) => {
+                if id.is_none() {
+                    self.receiver.remember(attrs.metadata().callsite(), false);
+                }
+                Ok(Span { tracer: *self, id })
+            }
             Err(error) => Err(error),
         }
     }

@@ -78,6 +78,15 @@ fn send_high<R: Wait, S: Subscriber>(
     debug!(tracer; value = value?, "value")
 }
 
+/// Opens a span with a value, of a level that isn't above the hint. Answers whether one was made.
+fn open_value<R: Wait, S: Subscriber>(
+    tracer: Tracer<'_, R, S>,
+    value: Result<u8, TraceError>,
+) -> Result<bool, TraceError> {
+    let span = info_span!(tracer; "value", value = value?)?;
+    Ok(!span.is_disabled())
+}
+
 /// Values are computed where the callsite is wanted: not above the hint, and not above a level that
 /// was set, once the callsite was refused.
 fn compute_where_wanted<R: Wait, S: Subscriber>(
@@ -88,9 +97,13 @@ fn compute_where_wanted<R: Wait, S: Subscriber>(
     assert!(rt; send_high(tracer, none) == Ok(false));
     assert!(rt; send_value(tracer, Ok(1)) == Ok(true));
     assert!(rt; send_value(tracer, none) == none.map(|_| true));
+    assert!(rt; open_value(tracer, Ok(1)) == Ok(true));
+    assert!(rt; open_value(tracer, none) == none.map(|_| true));
     tracer.set_level(0, LevelFilter::ERROR)?;
     assert!(rt; send_value(tracer, Ok(1)) == Ok(false));
     assert!(rt; send_value(tracer, none) == Ok(false));
+    assert!(rt; open_value(tracer, Ok(1)) == Ok(false));
+    assert!(rt; open_value(tracer, none) == Ok(false));
     Ok(())
 }
 

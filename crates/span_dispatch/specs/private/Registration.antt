@@ -4,7 +4,10 @@ use Rattle.span_core.specs.declared.interest.Interest.{Interest}
 use Rattle.span_dispatch.specs.declared.registration.Epoch.{Epoch}
 use Rattle.span_dispatch.specs.declared.registration.Kept.{Kept}
 use Rattle.span_dispatch.specs.declared.registration.Registration.{Registration}
-use Rattle.span_dispatch.specs.Registration.{last_epoch}
+use Rattle.span_core.specs.Metadata.{ShowSame}
+use Rattle.span_core.specs.declared.metadata.Metadata.{Metadata}
+use Rattle.span_dispatch.specs.declared.dispatch.Dispatch.{Dispatch}
+use Rattle.span_dispatch.specs.Registration.{IsRegistered, last_epoch, registered_metadata}
 
 -- what a registration keeps is this interest, of this epoch, which ends
 pub record IsKeptIn (epoch : Epoch) (given : Option Interest) (k : Kept) : Type 0 where
@@ -20,3 +23,9 @@ kept_interest epoch (Some k) = if k.epoch.0 == epoch.0 then Some k.interest else
 -- the interest that a registration has in this epoch
 abbrev pub interest_in : Epoch → Registration → Option Interest
 interest_in epoch r = kept_interest epoch r.kept
+
+-- a registration is valid at a dispatcher, and its metadata show the same as these
+pub record IsRegisteredAs {S : Type 0} (m : Metadata) (d : Dispatch S) (r : Registration)
+    : Type 0 where
+  pub valid : IsRegistered d r
+  pub same : ShowSame (registered_metadata r) m

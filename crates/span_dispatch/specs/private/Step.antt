@@ -1,5 +1,5 @@
 -- Steps of a dispatcher's calls.
-use Rattle.std.specs.Prelude.{◌≡◌, ℕ, List, [], map, None, Bool, true, Result, Ok, Err}
+use Rattle.std.specs.Prelude.{◌≡◌, ℕ, List, map, None, Bool, true, Result, Ok, Err}
 use Rattle.std.specs.List.{FoldsTo}
 use Rattle.span_core.specs.Span.{id_of}
 use Rattle.span_core.specs.declared.span.Id.{Id}

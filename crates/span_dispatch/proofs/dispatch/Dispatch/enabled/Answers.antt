@@ -1,5 +1,5 @@
 use Rattle.span_dispatch.proofs.Ready.{same_ready}
-use Rattle.std.proofs.Common.{[], refl, sym, rules, ap}
+use Rattle.std.proofs.Common.{[], sym, rules, ap}
 use Rattle.span_dispatch.proofs.Calls.{probe_says, probed_exactly}
 use Rattle.span_dispatch.proofs.Goes.{served_so}
 use Rattle.span_dispatch.proofs.Stores.{asked_of}

@@ -20,5 +20,5 @@ invariant_of-self g c =
           (λ u h. (e, clones c.args.lane c.args.id (g.S.LookupSpan.registry (stack_of old.dispatch)) (g.S.LookupSpan.registry (stack_of new)) h.0))
           c.clone_span-given.ensures.clones.store)
           (on_err c.clone_span-given.result (λ same. ap stack_of same) c.clone_span-given.ensures.clones.unchanged)),
-      still_registered old.dispatch new old.callsites.items (registered_by_stack old.dispatch new c.clone_span-given.ensures.clones.rest) c.self.invariant.1,
+      still_registered old.dispatch new old.callsites.places (registered_by_stack old.dispatch new c.clone_span-given.ensures.clones.rest) c.self.invariant.1,
     )

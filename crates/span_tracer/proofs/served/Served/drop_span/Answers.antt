@@ -20,5 +20,5 @@ invariant_of-self g c =
                 (h c.self.invariant.0.1.settled) c.drop_span-given.ensures.drops.settled,
           )) c.drop_span-given.ensures.drops.store)
           (on_err c.drop_span-given.result (λ same. ap stack_of same) c.drop_span-given.ensures.drops.unchanged)),
-      still_registered old.dispatch new old.callsites.items (registered_by_stack old.dispatch new c.drop_span-given.ensures.drops.rest) c.self.invariant.1,
+      still_registered old.dispatch new old.callsites.places (registered_by_stack old.dispatch new c.drop_span-given.ensures.drops.rest) c.self.invariant.1,
     )

@@ -19,5 +19,5 @@ invariant_of-self g c =
                 (ap g.S.LookupSpan.registry c.enabled-given.ensures.stack),
           )))
           (all_err c.enabled-given.result c.enabled-given.ensures.stack)),
-      still_registered old.dispatch new old.callsites.items c.enabled-given.ensures.registered c.self.invariant.1,
+      still_registered old.dispatch new old.callsites.places c.enabled-given.ensures.registered c.self.invariant.1,
     )

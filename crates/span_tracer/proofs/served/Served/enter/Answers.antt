@@ -21,5 +21,5 @@ invariant_of-self g c =
           (λ u h. (e, goes_on g.S.LookupSpan.registry (Enters c.args.lane c.args.id) (stack_of old.dispatch) (stack_of new) e h (enters c.args.lane c.args.id)))
           c.enter-given.ensures.enters.store)
           (on_err c.enter-given.result (λ same. ap stack_of same) c.enter-given.ensures.enters.unchanged)),
-      still_registered old.dispatch new old.callsites.items (registered_by_stack old.dispatch new c.enter-given.ensures.enters.rest) c.self.invariant.1,
+      still_registered old.dispatch new old.callsites.places (registered_by_stack old.dispatch new c.enter-given.ensures.enters.rest) c.self.invariant.1,
     )

@@ -21,5 +21,5 @@ invariant_of-self g c =
             goes_on g.S.LookupSpan.registry Stays (stack_of from) (stack_of new)
                 (entry.Event c.args.lane (event_metadata c.args.event.now) (event_parent c.args.event.now) made) c.event_by-given.ensures.sends.store stays,
           ))) c.event_by-given.ensures.sends.unchanged),
-      still_registered from new old.callsites.items c.event_by-given.ensures.registered c.self.invariant.1,
+      still_registered from new old.callsites.places c.event_by-given.ensures.registered c.self.invariant.1,
     )

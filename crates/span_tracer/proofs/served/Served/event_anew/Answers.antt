@@ -22,7 +22,7 @@ invariant_of-self g c =
             goes_on g.S.LookupSpan.registry Stays (stack_of from) (stack_of new)
                 (entry.Event c.args.lane (event_metadata c.args.event) (event_parent c.args.event) made) c.event-given.ensures.sends.store stays,
           ))) c.event-given.ensures.sends.unchanged),
-      still_registered from new c.learn.new.table.items c.event-given.ensures.registered c.learn.ensures.registered,
+      still_registered from new c.learn.new.table.places c.event-given.ensures.registered c.learn.ensures.registered,
     )
 
 pub returns : goal.returns

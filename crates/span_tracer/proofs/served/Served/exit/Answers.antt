@@ -18,5 +18,5 @@ invariant_of-self g c =
           (one_more g.S.LookupSpan.registry g.S.Subscriber.usable old.dispatch new old.calls e c.self.invariant.0 c.exit.ensures.usable
           (goes_on g.S.LookupSpan.registry (Exits c.args.lane c.args.id) (stack_of old.dispatch) (stack_of new) e c.exit.ensures.exits.store
           (exits c.args.lane c.args.id))),
-      still_registered old.dispatch new old.callsites.items (registered_by_stack old.dispatch new c.exit.ensures.exits.rest) c.self.invariant.1,
+      still_registered old.dispatch new old.callsites.places (registered_by_stack old.dispatch new c.exit.ensures.exits.rest) c.self.invariant.1,
     )

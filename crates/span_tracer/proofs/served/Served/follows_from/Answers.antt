@@ -22,5 +22,6 @@ invariant_of-self g c =
             goes_on g.S.LookupSpan.registry (FindsOpen c.args.id) (stack_of old.dispatch) (stack_of new) e h (follows c.args.lane c.args.id c.args.follows),
           )) c.follows_from-given.ensures.follows.store)
           (on_err c.follows_from-given.result (λ same. ap stack_of same) c.follows_from-given.ensures.follows.unchanged)),
-      still_registered old.dispatch new old.callsites.items (registered_by_stack old.dispatch new c.follows_from-given.ensures.follows.rest) c.self.invariant.1,
+      still_registered old.dispatch
+          new old.callsites.places (registered_by_stack old.dispatch new c.follows_from-given.ensures.follows.rest) c.self.invariant.1,
     )

@@ -13,5 +13,5 @@ invariant_of-self g c =
           g.S.LookupSpan.registry g.S.Subscriber.usable from new old.calls c.new_span_by-given.result c.self.invariant.0 c.new_span_by-given.ensures.usable
           (if_ok c.new_span_by-given.result (λ made h. opened_grows g.S.LookupSpan.registry g.S.Subscriber.usable from new c.args.lane c.args.attrs.now made h)
           c.new_span_by-given.ensures.opens.store) c.new_span_by-given.ensures.opens.unchanged),
-      still_registered from new old.callsites.items c.new_span_by-given.ensures.registered c.self.invariant.1,
+      still_registered from new old.callsites.places c.new_span_by-given.ensures.registered c.self.invariant.1,
     )

@@ -14,7 +14,7 @@ invariant_of-self g c =
           c.new_span-given.ensures.usable
           (if_ok c.new_span-given.result (λ made h. opened_grows g.S.LookupSpan.registry g.S.Subscriber.usable from new c.args.lane c.args.attrs made h)
           c.new_span-given.ensures.opens.store) c.new_span-given.ensures.opens.unchanged),
-      still_registered from new c.learn.new.table.items c.new_span-given.ensures.registered c.learn.ensures.registered,
+      still_registered from new c.learn.new.table.places c.new_span-given.ensures.registered c.learn.ensures.registered,
     )
 
 pub returns : goal.returns

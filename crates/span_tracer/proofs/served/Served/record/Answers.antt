@@ -21,5 +21,5 @@ invariant_of-self g c =
           (λ u h. (e, goes_on g.S.LookupSpan.registry (FindsOpen c.args.id) (stack_of old.dispatch) (stack_of new) e h (records c.args.lane c.args.id)))
           c.record-given.ensures.records.store)
           (on_err c.record-given.result (λ same. ap stack_of same) c.record-given.ensures.records.unchanged)),
-      still_registered old.dispatch new old.callsites.items (registered_by_stack old.dispatch new c.record-given.ensures.records.rest) c.self.invariant.1,
+      still_registered old.dispatch new old.callsites.places (registered_by_stack old.dispatch new c.record-given.ensures.records.rest) c.self.invariant.1,
     )

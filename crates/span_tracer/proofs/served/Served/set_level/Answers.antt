@@ -18,5 +18,5 @@ invariant_of-self g c =
             stays (g.S.LookupSpan.registry (stack_of old.dispatch)) (g.S.LookupSpan.registry (stack_of new)) c.set_level-given.ensures.sets.registry,
           )))
           (on_err c.set_level-given.result (λ same. ap stack_of same) c.set_level-given.ensures.sets.unchanged)),
-      (λ place r at. absurd (c.empty_table.ensures place r at)),
+      (λ place r at. absurd (c.new.ensures place r at)),
     )
