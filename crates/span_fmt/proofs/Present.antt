@@ -1,4 +1,13 @@
 -- Fields that have a value, and those that have none.
+use Rattle.std.proofs.Common.{rules, ap, subst}
+use Rattle.std.specs.BTreeMap as tree
+use Rattle.std.specs.Option.{option_map_or}
+use Rattle.std.specs.Ordering.{nat_cmp}
+use Rattle.std.specs.Prelude.{Some, OnErr, OnOk, Result, Ok, Err, String, if◌then◌else◌, string_bytes}
+use Rattle.std.specs.Result.{is_ok}
+use Rattle.std.specs.declared.alloc.Global.{Global}
+use Rattle.span_fmt.specs.Known.{known_in}
+use Rattle.span_fmt.specs.declared.known.Known.{Known}
 use Rattle.std.proofs.Common.{◌≡◌, ◌≢◌, ◌∙◌, ℕ, Bool, true, false, IsTrue, List, [], ◌∷◌, ◌++◌, arith, not, refl, sym}
 use Rattle.std.proofs.Math.Bool.{cond}
 use Rattle.std.proofs.lemmas.Bool.{true≢false}
@@ -47,3 +56,35 @@ as_before x n known = grind (arith, nat_tests, append-nil)
 -- so is one that is given fields of which none has a value
 pub none_noted : (x : ℕ) (values : Fields) (known : SpanTexts) → present values ≡ [] → known ≡ with_values x values known
 none_noted x values known none = rw none (λ i n. as_before x n known i)
+
+-- a map of texts in which one is another now, and the rest are as they were
+pub updated : (k n : Known) (x : ℕ) (w : String Global) → tree.UpdatesBy nat_cmp (nat_cmp x) k.texts n.texts (Some w)
+    → known_in n ≡ with_text x (string_bytes w) (known_in k)
+updated k n x w h = λ i q. one q i
+  where
+    one : (q : ℕ) → known_in n q ≡ with_text x (string_bytes w) (known_in k) q
+    one q = search rules
+
+-- a text that is written over itself
+as_was : (x n : ℕ) (known : SpanTexts) → with_text x (known x) known n ≡ known n
+as_was x n known = grind (arith, nat_tests)
+
+module _ (k n : Known) (x y : ℕ) (was now : String Global) (added : List ℕ) (same : y ≡ x)
+    (there : Some was ≡ tree.get_by (nat_cmp y) k.texts) (written : tree.UpdatesBy nat_cmp (nat_cmp y) k.texts n.texts (Some now)) where
+  -- the text that is there is what is known
+  here : string_bytes was ≡ known_in k y
+  here = ap (λ o. option_map_or string_bytes o []) there
+
+  -- where the text grows, these values are known too
+  pub grown : {U E : Type 0} (r : Result U E) (values : Fields) → string_bytes now ≡ (if is_ok r then string_bytes was ++ added else string_bytes was)
+      → added ≡ fields_text values → OnOk r (known_in n ≡ with_values x values (known_in k))
+  grown (Err e) values bytes text = tt
+  grown (Ok u) values bytes text = subst (λ z. known_in n ≡ with_values z values (known_in k)) same
+      (updated k n y now written
+      ∙ ap (λ t. with_text y t (known_in k)) (bytes ∙ ap (λ b. b ++ added) here ∙ ap (λ a. known_in k y ++ a) text))
+
+  -- where it doesn't, what was known is
+  pub kept : {U E : Type 0} (r : Result U E) → string_bytes now ≡ (if is_ok r then string_bytes was ++ added else string_bytes was)
+      → OnErr r (known_in n ≡ known_in k)
+  kept (Ok u) bytes = tt
+  kept (Err e) bytes = updated k n y now written ∙ ap (λ t. with_text y t (known_in k)) (bytes ∙ here) ∙ (λ i q. as_was y q (known_in k) i)

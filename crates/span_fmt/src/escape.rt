@@ -1,7 +1,7 @@
 //! Texts in which control characters and the like are escaped.
-ghost use Rattle.std.specs.Prelude.{◌≡◌, ◌++◌, OnOk, string_bytes, true};
+ghost use Rattle.std.specs.Prelude.{◌≡◌, ◌==◌, ◌&&◌, ◌++◌, not, OnOk, string_bytes, true};
 ghost use Rattle.std.specs.Str.{encode_utf8_all};
-ghost use Rattle.span_fmt.specs.Escape.{escape, escaped, is_escaped};
+ghost use Rattle.span_fmt.specs.Escape.{escape, escaped, is_among, is_escaped};
 
 use std::alloc::AllocError;
 
@@ -28,7 +28,15 @@ pub fn write_escaped(text: &mut String, words: &str) -> Result<(), AllocError>
 fn is_plain(words: &str) -> bool
     ensures { result ≡ true → escaped words.now ≡ words.now }
 {
-    !words.chars().any(is_escaped)
+    // Bytes are read faster than characters.
+    words.as_bytes().iter().all(|byte| is_plain_byte(*byte)) || !words.chars().any(is_escaped)
+}
+
+/// Whether a byte is a character by itself that isn't escaped.
+fn is_plain_byte(byte: u8) -> bool
+    ensures { result ≡ (is_among 32 126 byte && not (byte == 92)) }
+{
+    (b' '..=b'~').contains(&byte) && byte != b'\\'
 }
 
 /// Writes a character, escaped if it has to be.

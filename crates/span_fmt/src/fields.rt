@@ -7,6 +7,9 @@ use crate::escape::write_escaped;
 use span_core::{FieldValue, Metadata};
 use std::alloc::AllocError;
 
+/// How many bytes a line has room for before it grows: most lines are shorter.
+pub(crate) const ROOM: usize = 128;
+
 /// Writes each field that has a value behind a space, as `name=value`. Texts are escaped, as
 /// `span_fmt::write_escaped` has them.
 ///

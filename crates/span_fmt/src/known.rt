@@ -50,10 +50,13 @@ impl Known {
         if are_absent(values) {
             return Ok(());
         }
-        // A copy: where memory is refused, what is known stays as it was.
-        let mut text = String::from_str(alloc, self.text(id))?;
-        write_fields(&mut text, values)?;
-        match self.texts.insert(id.into_u64(), text) {
+        // First by themselves: where memory is refused, what is known stays as it was.
+        let mut added = String::new(alloc);
+        write_fields(&mut added, values)?;
+        if let Some(text) = self.texts.get_mut(&id.into_u64()) {
+            return text.push_str(&added);
+        }
+        match self.texts.insert(id.into_u64(), added) {
             Ok(_) => Ok(()),
             Err(_) => Err(AllocError),
         }

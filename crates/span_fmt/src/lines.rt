@@ -9,7 +9,7 @@ ghost use Rattle.span_fmt.specs.Text.{IsContinued, fields_text};
 ghost use Rattle.span_fmt.specs.Tree.{given};
 
 use crate::escape::write_escaped;
-use crate::fields::write_rest;
+use crate::fields::{ROOM, write_rest};
 use crate::known::Known;
 use crate::page::Page;
 use span_core::{Event, FieldValue, Id, Lane, Level};
@@ -148,7 +148,7 @@ pub(crate) fn line_due<S: Subscriber>(
 fn begun(alloc: Global, lane: Lane, level: Level) -> Result<String, AllocError>
     ensures { IfOk result (λ line. string_bytes line ≡ begun_text lane.0 level) }
 {
-    let mut line = String::new(alloc);
+    let mut line = String::with_capacity(alloc, ROOM)?;
     write!(line, "{} {level} ", lane.0)?;
     Ok(line)
 }
@@ -163,10 +163,10 @@ fn spans_around<S: LookupSpan>(
         ≡ flat_map (reference_label (known_in known.now))
         (reverse (given S.registry spans.entry))) }
 {
-    let mut text = String::new(alloc);
     let Some(spans) = spans else {
-        return Ok(text);
+        return Ok(String::new(alloc));
     };
+    let mut text = String::with_capacity(alloc, ROOM)?;
     let Ok(spans) = spans.from_root(alloc) else {
         return Err(AllocError);
     };

@@ -7,7 +7,7 @@ ghost use Rattle.span_registry.specs.Context.{view_lent};
 ghost use Rattle.span_fmt.specs.Text.{IsContinued, head_text, tail_text};
 ghost use Rattle.span_fmt.specs.Tree.{event_text, given, has_failed, notice_text, span_text, text_of, tree_steps};
 
-use crate::fields::write_rest;
+use crate::fields::{ROOM, write_rest};
 use crate::page::Page;
 use span_core::{Event, FieldValue, Id, Lane, Metadata};
 use span_layers::{AlwaysUsableObserver, Observe};
@@ -161,7 +161,7 @@ fn head<S: LookupSpan>(
     ensures { IfOk result (λ line. string_bytes line
         ≡ head_text lane.0 (given S.registry spans.entry)) }
 {
-    let mut line = String::new(alloc);
+    let mut line = String::with_capacity(alloc, ROOM)?;
     write!(line, "{} ", lane.0)?;
     let Some(spans) = spans else {
         return Ok(line);
