@@ -1,0 +1,11 @@
+mod Back
+mod Edits
+mod Levels
+mod Longest
+mod Meaning
+mod Most
+mod Places
+mod Reading
+mod Takes
+mod Texts
+mod Written

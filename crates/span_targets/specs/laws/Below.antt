@@ -1,0 +1,62 @@
+-- No more passes at a target than by a directive or at the empty target.
+use Rattle.std.proofs.Common.{◌≡◌, ℕ, zero, suc, ◌≤◌, List, [], ◌∷◌, Option, Some, None, length, take, refl, sym, subst, arith}
+use Rattle.std.proofs.lemmas.Bool.{cond_both, leb-false, leb-true}
+use Rattle.std.specs.Option.{IfSome, option_or, unwrap_or}
+use Rattle.std.specs.Prelude.{nat_le}
+use Rattle.span_core.specs.Level.{filter_number, greater}
+use Rattle.span_core.specs.declared.level.LevelFilter.{LevelFilter}
+use Rattle.span_core.specs.declared.level.TheConstants.LevelFilter.{OFF}
+use Rattle.span_targets.specs.Targets.{directives_of, most_by, names_of}
+use Rattle.span_targets.specs.Names.{Names, level_for, longest}
+use Rattle.span_targets.specs.Directive.{has_target, level_by, listed, most_of}
+use Rattle.span_targets.specs.declared.directive.Directive.{Directive}
+use Rattle.span_targets.specs.declared.targets.Targets.{Targets}
+
+abbrev AtMost : ℕ → LevelFilter → Type 0
+AtMost k l = filter_number l ≤ k
+
+greater_first : (f g : LevelFilter) → filter_number f ≤ filter_number (greater f g)
+greater_first f g = cond_both (nat_le (filter_number f) (filter_number g)) g f (λ h. filter_number f ≤ filter_number h) (λ e. leb-true _ _ e) (λ e. omega arith)
+
+greater_second : (f g : LevelFilter) → filter_number g ≤ filter_number (greater f g)
+greater_second f g = cond_both (nat_le (filter_number f) (filter_number g)) g f (λ h. filter_number g ≤ filter_number h) (λ e. omega arith) (λ e. omega (arith, leb-false _ _ e))
+
+most_above : (a : LevelFilter) (ds : List Directive) → filter_number a ≤ filter_number (most_of a ds)
+most_above a [] = omega arith
+most_above a (x ∷ ds) = omega (arith, greater_first a (level_by x), most_above (greater a (level_by x)) ds)
+
+listed_below : (a : LevelFilter) (ds : List Directive) (u : List ℕ) → IfSome (listed ds u) (AtMost (filter_number (most_of a ds)))
+listed_below a [] u = tt
+listed_below a (x ∷ ds) u =
+    let b = greater a (level_by x) in
+    cond_both (has_target u x) (Some (level_by x)) (listed ds u) (λ o. IfSome o (AtMost (filter_number (most_of b ds))))
+    (λ e. omega (arith, greater_second a (level_by x), most_above b ds))
+    (λ e. listed_below b ds u)
+
+either : (k : ℕ) (o p : Option LevelFilter) → IfSome o (AtMost k)
+    → filter_number (unwrap_or p OFF) ≤ k → filter_number (unwrap_or (option_or o p) OFF) ≤ k
+either k None p h g = g
+either k (Some l) p h g = h
+
+grouped : (o p q : Option LevelFilter) → option_or (option_or o p) q ≡ option_or o (option_or p q)
+grouped None p q = refl
+grouped (Some l) p q = refl
+
+longest_below : (k : ℕ) (m : Names) (t : List ℕ) → ((u : List ℕ) → IfSome (m (Some u)) (AtMost k))
+    → filter_number (level_for m []) ≤ k → (n : ℕ)
+    → filter_number (unwrap_or (option_or (longest m t n) (m None)) OFF) ≤ k
+longest_below k m t h e zero = e
+longest_below k m t h e (suc n) =
+    let rest : filter_number (unwrap_or (option_or (longest m t n) (m None)) OFF) ≤ k =
+    longest_below k m t h e n in
+    let whole = either k (m (Some (take (suc n) t))) (option_or (longest m t n) (m None)) (h (take (suc n) t)) rest in
+    subst (λ o. filter_number (unwrap_or o OFF) ≤ k)
+    (sym (grouped (m (Some (take (suc n) t))) (longest m t n) (m None))) whole
+
+-- nowhere do more levels pass than the most that passes by a directive, or at the empty target
+pub level_below : (f : Targets) (t : List ℕ)
+    → filter_number (level_for (names_of f) t) ≤ filter_number (most_by f)
+level_below f t =
+    longest_below (filter_number (most_by f)) (names_of f) t
+    (listed_below (level_for (names_of f) []) (directives_of f))
+    (most_above (level_for (names_of f) []) (directives_of f)) (length t)

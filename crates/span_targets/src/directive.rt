@@ -1,0 +1,108 @@
+//! A target, and the levels that pass there.
+ghost use Rattle.std.specs.Prelude.{◌≡◌, IfOk, Some};
+ghost use Rattle.span_targets.specs.Directive.{directive_text, word_of};
+
+use span_core::LevelFilter;
+use std::alloc::{AllocError, Global};
+use std::fmt;
+
+/// A target, and the levels that pass where a target begins with it.
+#[derive(Debug, Drop)]
+pub struct Directive {
+    target: String,
+    level: LevelFilter,
+}
+
+impl Directive {
+    ghost use Rattle.span_targets.specs.Directive.{has_target, level_by, target_of};
+    ghost use Rattle.span_targets.specs.private.Order.{begins, precedes};
+
+    /// A directive of these parts.
+    pub(crate) fn new(
+        alloc: Global,
+        target: &str,
+        level: LevelFilter,
+    ) -> Result<Directive, AllocError>
+        ensures { IfOk result (λ d. (target_of d ≡ target.now) × (level_by d ≡ level)) }
+    {
+        let target = String::from_str(alloc, target)?;
+        Ok(Directive { target, level })
+    }
+
+    /// What a target begins with.
+    pub fn target(&self) -> &str
+        ensures { result.now ≡ target_of self.now }
+    {
+        self.target.as_str()
+    }
+
+    /// The levels that pass.
+    pub fn level(&self) -> LevelFilter
+        ensures { result ≡ level_by self.now }
+    {
+        self.level
+    }
+
+    /// Lets other levels pass.
+    pub(crate) fn set_level(&mut self, level: LevelFilter)
+        ensures target { target_of self.new ≡ target_of self.old }
+        ensures level { level_by self.new ≡ level }
+    {
+        self.level = level;
+    }
+
+    /// Whether the text begins with its target.
+    pub(crate) fn begins(&self, text: &str) -> bool
+        ensures { result ≡ begins text.now self.now }
+    {
+        text.as_bytes().starts_with(self.target.as_bytes())
+    }
+
+    /// Whether its target is this one.
+    pub(crate) fn has_target(&self, target: &str) -> bool
+        ensures { result ≡ has_target target.now self.now }
+    {
+        self.target.as_str() == target
+    }
+
+    /// Whether it stands before a new directive with this target.
+    pub(crate) fn precedes(&self, target: &str) -> bool
+        ensures { result ≡ precedes target.now self.now }
+    {
+        if self.target.len() == target.len() {
+            self.target.as_str() > target
+        } else {
+            self.target.len() > target.len()
+        }
+    }
+}
+
+/// Writes what is read as the directive: `target=level`.
+impl fmt::Display for Directive {
+    ghost output = { λ directive. Some (directive_text directive) };
+
+    fn fmt<W: fmt::Write>(&self, f: &mut fmt::Formatter<W>) -> fmt::Result {
+        let target = self.target();
+        let word = level_word(self.level);
+        write!(f, "{target}={word}")
+    }
+}
+
+/// The word for what passes.
+pub(crate) fn level_word(level: LevelFilter) -> &'static str
+    ensures { result.now ≡ word_of level }
+{
+    if level == LevelFilter::OFF {
+        "off"
+    } else if level == LevelFilter::ERROR {
+        "error"
+    } else if level == LevelFilter::WARN {
+        "warn"
+    } else if level == LevelFilter::INFO {
+        "info"
+    } else if level == LevelFilter::DEBUG {
+        "debug"
+    } else {
+        "trace"
+    }
+}

@@ -1,0 +1,27 @@
+//! Targets from an environment variable.
+ghost use Rattle.span_targets.specs.Text.{ReadsSomeText};
+
+use crate::error::FromEnvError;
+use crate::targets::Targets;
+use std::alloc::AllocGlobal;
+use std::env;
+use std::env::VarError;
+use std::rt::Env;
+
+impl Targets {
+    /// Reads the environment variable of this name, such as `RUST_LOG`; one that isn't set is as an
+    /// empty one, by which errors pass.
+    ///
+    /// Stands for `tracing_subscriber::filter::EnvFilter::try_from_env`, which refuses a variable
+    /// that isn't set.
+    pub fn from_env<R: Env + AllocGlobal>(rt: &R, name: &str) -> Result<Targets, FromEnvError>
+        ensures { ReadsSomeText result }
+    {
+        let text = match env::var(rt, name) {
+            Ok(text) => text,
+            Err(VarError::NotPresent) => String::new(rt.alloc()),
+            Err(error) => return Err(FromEnvError::Env(error)),
+        };
+        Targets::parse(rt.alloc(), text.as_str()).map_err(FromEnvError::Parse)
+    }
+}
