@@ -126,7 +126,8 @@ unless_wrong (w ∷ ws) m = Err w
 abbrev pub reading : List ℕ → Result Names WrongDirective
 reading s = unless_wrong (wrong_in s) (named_by s)
 
--- the filter names what was read; where there is none, the directive is wrong, or memory was refused
+-- the filter names what was read; where there is none, this directive is wrong, or memory was
+-- refused
 abbrev pub Reads : Result Names WrongDirective → Result Targets ParseError → Type 0
 Reads r (Ok f) = r ≡ Ok (names_of f)
 Reads r (Err (Wrong w)) = r ≡ Err w

@@ -8,7 +8,7 @@ use crate::read::read_directive;
 use crate::targets::Targets;
 use std::alloc::{AllocError, Global};
 
-/// How many directives are read of a text.
+/// How many directives of a text are read.
 pub const MAX_DIRECTIVES: usize = 1024;
 
 impl Targets {
@@ -19,8 +19,8 @@ impl Targets {
     /// level passes then. A level is what `LevelFilter` reads: `off`, `error`, `warn`, `info`,
     /// `debug` or `trace`, in any case, or a number from 0 to 5; the empty text is `error`.
     ///
-    /// Takes no longer than a text's length asks: no more than `MAX_DIRECTIVES` are read, and one
-    /// more is wrong.
+    /// Of a text with more than `MAX_DIRECTIVES` the next one is wrong, and none behind it is read:
+    /// so the time grows with the text's length alone.
     pub fn parse(alloc: Global, text: &str) -> Result<Targets, ParseError>
         ensures { Reads (reading text.now) result }
     {
@@ -48,7 +48,8 @@ impl Targets {
 
     /// Takes the directives of a text, and notes which are wrong.
     fn take_all(&mut self, text: &str, wrong: &mut Vec<WrongDirective>) -> Result<(), AllocError>
-        ensures { OnOk result (TakesAll text.now self.old wrong.old.items self.new wrong.new.items) }
+        ensures { OnOk result
+            (TakesAll text.now self.old wrong.old.items self.new wrong.new.items) }
     {
         let mut rest = text;
         for index in 0..MAX_DIRECTIVES {

@@ -20,7 +20,7 @@ use std::{fmt, slice};
 /// there is none, the default does; where there is none either, nothing passes.
 ///
 /// Stands for `tracing_subscriber::filter::Targets`, without fields in directives.
-#[derive(Drop)]
+#[derive(Debug, Drop)]
 pub struct Targets {
     directives: Vec<Directive>,
     default: Option<LevelFilter>,

@@ -16,20 +16,29 @@ abbrev AtMost : ℕ → LevelFilter → Type 0
 AtMost k l = filter_number l ≤ k
 
 greater_first : (f g : LevelFilter) → filter_number f ≤ filter_number (greater f g)
-greater_first f g = cond_both (nat_le (filter_number f) (filter_number g)) g f (λ h. filter_number f ≤ filter_number h) (λ e. leb-true _ _ e) (λ e. omega arith)
+greater_first f g =
+    cond_both (nat_le (filter_number f) (filter_number g)) g f
+    (λ h. filter_number f ≤ filter_number h) (λ e. leb-true _ _ e) (λ e. omega arith)
 
 greater_second : (f g : LevelFilter) → filter_number g ≤ filter_number (greater f g)
-greater_second f g = cond_both (nat_le (filter_number f) (filter_number g)) g f (λ h. filter_number g ≤ filter_number h) (λ e. omega arith) (λ e. omega (arith, leb-false _ _ e))
+greater_second f g =
+    cond_both (nat_le (filter_number f) (filter_number g)) g f
+    (λ h. filter_number g ≤ filter_number h) (λ e. omega arith)
+    (λ e. omega (arith, leb-false _ _ e))
 
-most_above : (a : LevelFilter) (ds : List Directive) → filter_number a ≤ filter_number (most_of a ds)
+most_above : (a : LevelFilter) (ds : List Directive)
+    → filter_number a ≤ filter_number (most_of a ds)
 most_above a [] = omega arith
-most_above a (x ∷ ds) = omega (arith, greater_first a (level_by x), most_above (greater a (level_by x)) ds)
+most_above a (x ∷ ds) =
+    omega (arith, greater_first a (level_by x), most_above (greater a (level_by x)) ds)
 
-listed_below : (a : LevelFilter) (ds : List Directive) (u : List ℕ) → IfSome (listed ds u) (AtMost (filter_number (most_of a ds)))
+listed_below : (a : LevelFilter) (ds : List Directive) (u : List ℕ)
+    → IfSome (listed ds u) (AtMost (filter_number (most_of a ds)))
 listed_below a [] u = tt
 listed_below a (x ∷ ds) u =
     let b = greater a (level_by x) in
-    cond_both (has_target u x) (Some (level_by x)) (listed ds u) (λ o. IfSome o (AtMost (filter_number (most_of b ds))))
+    let most = filter_number (most_of b ds) in
+    cond_both (has_target u x) (Some (level_by x)) (listed ds u) (λ o. IfSome o (AtMost most))
     (λ e. omega (arith, greater_second a (level_by x), most_above b ds))
     (λ e. listed_below b ds u)
 
@@ -49,9 +58,10 @@ longest_below k m t h e zero = e
 longest_below k m t h e (suc n) =
     let rest : filter_number (unwrap_or (option_or (longest m t n) (m None)) OFF) ≤ k =
     longest_below k m t h e n in
-    let whole = either k (m (Some (take (suc n) t))) (option_or (longest m t n) (m None)) (h (take (suc n) t)) rest in
-    subst (λ o. filter_number (unwrap_or o OFF) ≤ k)
-    (sym (grouped (m (Some (take (suc n) t))) (longest m t n) (m None))) whole
+    let here = m (Some (take (suc n) t)) in
+    let whole = either k here (option_or (longest m t n) (m None)) (h (take (suc n) t)) rest in
+    subst (λ o. filter_number (unwrap_or o OFF) ≤ k) (sym (grouped here (longest m t n) (m None)))
+    whole
 
 -- nowhere do more levels pass than the most that passes by a directive, or at the empty target
 pub level_below : (f : Targets) (t : List ℕ)

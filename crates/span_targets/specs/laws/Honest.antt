@@ -14,12 +14,15 @@ use Rattle.span_targets.specs.Names.{level_for}
 use Rattle.span_targets.specs.declared.targets.Targets.{Targets}
 
 goes_by_what_shows : (f : Targets) → GoesByWhatShows (wants f)
-goes_by_what_shows f m k e = λ i. nat_le (level_number (e.level i)) (filter_number (level_for (names_of f) (e.target i)))
+goes_by_what_shows f m k e =
+    λ i. nat_le (level_number (e.level i)) (filter_number (level_for (names_of f) (e.target i)))
 
 refuses_above : (f : Targets) → RefusesAbove (wants f) (Some (most_by f))
 refuses_above f m e =
-    let above : filter_number (most_by f) < level_number (level_of m) = leb-false _ _ (not-true _ e) in
+    let above : filter_number (most_by f) < level_number (level_of m) =
+    leb-false _ _ (not-true _ e) in
     lt-leb _ _ (omega (arith, level_below f (target_of m)))
 
 pub targets_honest : (f : Targets) → AreHonest (targets_answers f)
-targets_honest f = test_answers_honest (wants f) (Some (most_by f)) (goes_by_what_shows f) (refuses_above f)
+targets_honest f =
+    test_answers_honest (wants f) (Some (most_by f)) (goes_by_what_shows f) (refuses_above f)

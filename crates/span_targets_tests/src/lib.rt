@@ -1,0 +1,9 @@
+//! Tests of filters by targets, from outside: each is also a caller of their contracts.
+#![tactic(auto)]
+
+#[cfg(test)]
+mod env;
+#[cfg(test)]
+mod filter;
+#[cfg(test)]
+mod text;
