@@ -17,7 +17,7 @@ use Rattle.span_core.specs.declared.level.TheConstants.LevelFilter.{DEBUG, ERROR
 use Rattle.span_core.specs.declared.level.Verbosity.TheVariants.{Debug, Error, Info, Trace, Warn}
 use Rattle.span_core.specs.declared.level.Verbosity.{Verbosity}
 use Rattle.span_targets.proofs.Texts.{same}
-use Rattle.span_targets.specs.Text.{is_numeral, level_called, level_counted, level_named, level_numbered}
+use Rattle.span_targets.specs.Text.{NamesLevels, is_numeral, level_called, level_counted, level_named, level_numbered}
 
 -- ---- numerals
 
@@ -178,6 +178,9 @@ of_filter s (Some level) h = of_level s level.0 h
 named_if : (s : List ℕ) (l : LevelFilter) → IsFilterText s l → level_named s ≡ Some l
 named_if s l (inl h) = of_filter s l.0 h
 named_if s l (inr h) = ap level_named h.0 ∙ ap (λ (x : LevelFilter). Some x) (error_is l h.1)
+
+pub names_levels : (s : List ℕ) → NamesLevels s
+names_levels s l = (text_if s l, named_if s l)
 
 pub levels_read : {E : Type 0} (s : List ℕ) (r : Result LevelFilter E) → Reads (IsFilterText s) r → result_ok r ≡ level_named s
 levels_read s (Ok l) h = sym (named_if s l h)

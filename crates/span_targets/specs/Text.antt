@@ -1,10 +1,11 @@
 -- What a text says: directives, with commas between them.
-use Rattle.std.specs.Prelude.{◌≡◌, ℕ, ◌+◌, List, [], ◌∷◌, ◌++◌, map, codes, bytes_eq, ◌==◌, nat_lt, Bool, false, if◌then◌else◌, ⊤}
+use Rattle.std.specs.Prelude.{◌≡◌, ◌↔◌, ℕ, ◌+◌, List, [], ◌∷◌, ◌++◌, map, codes, bytes_eq, ◌==◌, nat_lt, Bool, false, if◌then◌else◌, ⊤}
 use Rattle.std.specs.Prelude.{Option, None, Some, Result, Ok, Err}
 use Rattle.std.specs.Char.{digit_value, to_ascii_lowercase}
 use Rattle.std.specs.List.{after_first, before_first, list_all, list_any, slice_split}
 use Rattle.std.specs.Option.{option_or}
 use Rattle.std.specs.Str.Parse.{digits_value, without_leading_plus}
+use Rattle.span_core.specs.LevelText.{IsFilterText}
 use Rattle.span_core.specs.declared.level.LevelFilter.{LevelFilter}
 use Rattle.span_core.specs.declared.level.TheConstants.LevelFilter.{OFF, ERROR, WARN, INFO, DEBUG, TRACE}
 use Rattle.span_targets.specs.Names.{Names, naming, nothing}
@@ -49,6 +50,10 @@ level_counted s = if is_numeral s then level_numbered (digits_value 10 s) else N
 abbrev pub level_named : List ℕ → Option LevelFilter
 level_named s =
     option_or (level_counted (without_leading_plus s)) (level_called (map to_ascii_lowercase s))
+
+-- the text names the levels that `span_core` reads of it, and no others
+abbrev pub NamesLevels : List ℕ → Type 0
+NamesLevels s = (l : LevelFilter) → (level_named s ≡ Some l) ↔ IsFilterText s l
 
 -- whether the byte is one of the text's
 abbrev pub has : ℕ → List ℕ → Bool

@@ -1,5 +1,6 @@
-//! Filters by targets, and texts. The function makes no call: what it ensures is the law.
+//! Filters by targets, and texts. The functions make no call: what they ensure are the laws.
 ghost use Rattle.span_targets.specs.Back.{CanBeWritten, IsReadBack};
+ghost use Rattle.span_targets.specs.Text.{NamesLevels};
 
 use crate::targets::Targets;
 
@@ -8,4 +9,9 @@ use crate::targets::Targets;
 pub fn texts_are_read_back(filter: &Targets)
     requires { CanBeWritten filter.now }
     ensures { IsReadBack filter.now }
+{}
+
+/// A text names the levels that `LevelFilter` reads of it, and no others.
+pub fn levels_are_those_read(text: &str)
+    ensures { NamesLevels text.now }
 {}

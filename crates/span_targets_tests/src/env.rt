@@ -7,7 +7,7 @@ use std::env::{FillError, VarError};
 use std::rt::Env;
 use std::test::Fail;
 
-/// An environment in which `FILTER` has this value, and no other variable is set.
+/// An environment in which `RUST_LOG` has this value, and no other variable is set.
 #[derive(Drop)]
 struct OneVariable<'a> {
     alloc: Global,
@@ -28,7 +28,7 @@ impl Env for OneVariable<'_> {
     }
 
     fn var(&self, name: &str, buf: &mut [u8]) -> Result<usize, FillError> {
-        if name != "FILTER" {
+        if name != "RUST_LOG" {
             return Err(FillError::NotPresent);
         }
         let len = self.value.len();
@@ -50,7 +50,7 @@ fn a_variable_is_read(rt: HostRuntime) -> Result<(), Fail> {
         alloc: rt.alloc(),
         value: b"warn,db=debug",
     };
-    let targets = Targets::from_env(&env, "FILTER")?;
+    let targets = Targets::from_env(&env, "RUST_LOG")?;
     assert!(rt; targets.default_level() == Some(LevelFilter::WARN));
     assert!(rt; targets.max_level() == LevelFilter::DEBUG);
     let unset = Targets::from_env(&env, "OTHER")?;
@@ -65,7 +65,7 @@ fn a_variable_that_is_no_text(rt: HostRuntime) -> Result<(), Fail> {
         alloc: rt.alloc(),
         value: b"\xff",
     };
-    let refused = match Targets::from_env(&env, "FILTER") {
+    let refused = match Targets::from_env(&env, "RUST_LOG") {
         Err(FromEnvError::Env(VarError::NotUnicode)) => true,
         _ => false,
     };
