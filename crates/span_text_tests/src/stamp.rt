@@ -12,7 +12,7 @@ use std::process::Abort;
 use std::test::Fail;
 
 /// What a form writes of the worked run, under a level.
-fn written<F: Form<Registry> + Drop>(alloc: Global, form: F) -> Result<Vec<u8>, Fail> {
+pub(crate) fn written<F: Form<Registry> + Drop>(alloc: Global, form: F) -> Result<Vec<u8>, Fail> {
     let bytes: Vec<u8> = Vec::new(alloc);
     let layer = Observer::new(Stream::new(form, bytes)).with_filter(LevelFilter::DEBUG);
     let stack = worked_on(alloc, Registry::new(alloc), layer)?;

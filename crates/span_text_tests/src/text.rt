@@ -12,7 +12,7 @@ use std::test::Fail;
 
 pub(crate) const LANE: Lane = Lane(0);
 
-const OTHER_LANE: Lane = Lane(3);
+pub(crate) const OTHER_LANE: Lane = Lane(3);
 
 const NOTHING: &[(&str, FieldValue<'static>)] = &[];
 
@@ -57,7 +57,7 @@ pub(crate) const OF_EVENTS: &str =
 0 INFO outer{user=7 late=false}: app: heard
 ";
 
-fn site(
+pub(crate) fn site(
     callsite: u64,
     name: &'static str,
     target: &'static str,
@@ -68,7 +68,10 @@ fn site(
 }
 
 /// Opens a span in the span that the lane is in.
-fn open<'a>(metadata: Metadata, values: &'a [(&'static str, FieldValue<'a>)]) -> Request<'a> {
+pub(crate) fn open<'a>(
+    metadata: Metadata,
+    values: &'a [(&'static str, FieldValue<'a>)],
+) -> Request<'a> {
     Request::NewSpan {
         lane: LANE,
         metadata,
@@ -295,7 +298,7 @@ const POSING: &[(&str, FieldValue<'static>)] = &[(
 )];
 
 /// An event whose texts would begin a line of their own, within a span whose name does.
-fn forging() -> [Request<'static>; 3] {
+pub(crate) fn forging() -> [Request<'static>; 3] {
     [
         open(site(1, "s\u{85}", "app", Level::INFO, Kind::SPAN), BREAKING),
         Request::Enter(LANE, Which::Made(0)),

@@ -1,0 +1,9 @@
+mod Leading
+mod Present
+mod Appended
+mod Around
+mod Written
+mod Plain
+mod Noted
+mod Unquoted
+mod Filled

@@ -1,0 +1,70 @@
+-- How lines look.
+use Rattle.std.specs.Prelude.{◌-◌, if◌then◌else◌, ℕ, Bool, true, false, List, [], ◌∷◌, ◌++◌, codes, decimal, length, replicate}
+use Rattle.span_core.specs.Level.{level_text}
+use Rattle.span_core.specs.Metadata.{target_of}
+use Rattle.span_core.specs.declared.level.Level.{Level}
+use Rattle.span_core.specs.declared.metadata.Metadata.{Metadata}
+use Rattle.span_fmt.specs.Escape.{escaped}
+use Rattle.span_fmt.specs.Known.{nothing_known}
+use Rattle.span_format.specs.Lane.{names_in}
+use Rattle.span_format.specs.declared.layout.Layout.{Layout}
+use Rattle.span_format.specs.declared.look.Look.{Look}
+
+-- how lines look: how they are laid out, whether they show levels, targets and lanes, and by lanes'
+-- numbers the lanes' names, empty where there is none
+pub record Looks : Type 0 where
+  pub layout : Layout
+  pub level : Bool
+  pub target : Bool
+  pub lanes : Bool
+  pub names : ℕ → List ℕ
+
+-- how they look where nothing else is asked for
+abbrev pub new_looks : Layout → Looks
+new_looks how = record {
+  layout = how;
+  level = true;
+  target = true;
+  lanes = false;
+  names = nothing_known;
+}
+
+-- how lines by this look
+abbrev pub looks : Look → Looks
+looks x = record {
+  layout = x.layout;
+  level = x.level;
+  target = x.target;
+  lanes = x.lanes;
+  names = names_in x.names;
+}
+
+-- the spaces in front of a level that is at the right of five columns
+abbrev pub margin : Level → List ℕ
+margin level = replicate (5 - length (level_text level)) 32
+
+-- a level at the right of five columns, and a space, where levels are shown
+abbrev pub level_column : Looks → Level → List ℕ
+level_column look level =
+    if look.level then margin level ++ level_text level ++ codes " " else []
+
+-- a name, escaped, or this number where there is none
+abbrev pub name_or_number : List ℕ → ℕ → List ℕ
+name_or_number [] n = decimal n
+name_or_number (b ∷ bytes) n = escaped (b ∷ bytes)
+
+-- a lane by its name, or by its number where it has none
+abbrev pub lane_text : Looks → ℕ → List ℕ
+lane_text look lane = name_or_number (look.names lane) lane
+
+-- a lane and a space, where lanes are shown
+abbrev pub lane_column : Looks → ℕ → List ℕ
+lane_column look lane = if look.lanes then lane_text look lane ++ codes " " else []
+
+-- how a line begins: with its level and its lane
+abbrev pub begun_text : Looks → ℕ → Level → List ℕ
+begun_text look lane level = level_column look level ++ lane_column look lane
+
+-- a target and a colon, where targets are shown
+abbrev pub target_text : Looks → Metadata → List ℕ
+target_text look m = if look.target then escaped (target_of m) ++ codes ": " else []

@@ -1,0 +1,16 @@
+//! Events' lines in the formats that people know: full, compact and pretty.
+#![tactic(auto)]
+
+mod field;
+mod format;
+mod kept;
+mod lane;
+mod layout;
+mod line;
+mod look;
+mod part;
+mod quote;
+
+pub use format::Format;
+pub use layout::Layout;
+pub use quote::write_quoted;

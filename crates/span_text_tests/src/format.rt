@@ -1,0 +1,196 @@
+//! The lines of formats: those of the worked run in each layout, and of texts that pose as others.
+use crate::fixture::in_use;
+use crate::stamp::written;
+use crate::text::{LANE, OTHER_LANE, forging, open, site};
+use span_core::{FieldValue, Kind, Level, LevelFilter};
+use span_dispatch::{Request, Which, WhichParent};
+use span_fmt::{Form, Stream, serve_stream};
+use span_format::{Format, Layout, write_quoted};
+use span_layers::Observer;
+use span_registry::Registry;
+use span_stacks::LayerExt;
+use span_stream::{Painted, Stamped, TimeStyle};
+use span_times::Counted;
+use std::alloc::{AllocError, Global};
+use std::test::Fail;
+
+const IN_FULL: &str = r#" WARN outer{user=7}:inner{try=-2}: app::net: said what="a\nb" ok=true
+ INFO app: heard
+ INFO outer{user=7 late=false}: app: heard
+"#;
+
+const IN_SHORT: &str = r#" WARN outer:inner: app::net: said what="a\nb" ok=true user=7 try=-2
+ INFO app: heard
+ INFO outer: app: heard user=7 late=false
+"#;
+
+const TO_READ: &str = r#" WARN said, what: "a\nb", ok: true
+    at app::net
+    in app::net::inner with try: -2
+    in app::outer with user: 7
+
+ INFO heard
+    at app
+
+ INFO heard
+    at app
+    in app::outer with user: 7, late: false
+
+"#;
+
+#[test]
+fn a_line_in_each_layout(rt: HostRuntime) -> Result<(), Fail> {
+    let full = written(rt.alloc(), Format::new(rt.alloc(), Layout::Full))?;
+    assert!(rt; full.as_slice() == IN_FULL.as_bytes());
+    let short = written(rt.alloc(), Format::new(rt.alloc(), Layout::Compact))?;
+    assert!(rt; short.as_slice() == IN_SHORT.as_bytes());
+    let long = written(rt.alloc(), Format::new(rt.alloc(), Layout::Pretty))?;
+    assert!(rt; long.as_slice() == TO_READ.as_bytes());
+    Ok(())
+}
+
+/// Lines in a layout that show lanes, of which one has a name, and neither levels nor targets.
+fn with_lanes_alone(alloc: Global, layout: Layout) -> Result<Format, AllocError> {
+    let mut format = Format::new(alloc, layout)
+        .with_level(false)
+        .with_target(false)
+        .with_lanes(true);
+    format.name_lane(OTHER_LANE, "worker-3")?;
+    Ok(format)
+}
+
+const FULL_BY_LANES: &str = r#"0 outer{user=7}:inner{try=-2}: said what="a\nb" ok=true
+worker-3 heard
+0 outer{user=7 late=false}: heard
+"#;
+
+const PRETTY_BY_LANES: &str = r#"said, what: "a\nb", ok: true
+    on 0
+    in inner with try: -2
+    in outer with user: 7
+
+heard
+    on worker-3
+
+heard
+    on 0
+    in outer with user: 7, late: false
+
+"#;
+
+#[test]
+fn lanes_are_shown_by_their_names(rt: HostRuntime) -> Result<(), Fail> {
+    let full = written(rt.alloc(), with_lanes_alone(rt.alloc(), Layout::Full)?)?;
+    assert!(rt; full.as_slice() == FULL_BY_LANES.as_bytes());
+    let pretty = written(rt.alloc(), with_lanes_alone(rt.alloc(), Layout::Pretty)?)?;
+    assert!(rt; pretty.as_slice() == PRETTY_BY_LANES.as_bytes());
+    Ok(())
+}
+
+const STAMPED: &str =
+    "\x1b[33m0.000001s  WARN outer{user=7}:inner{try=-2}: app::net: said what=\"a\\nb\" ok=true\x1b[0m
+\x1b[32m0.000002s  INFO app: heard\x1b[0m
+\x1b[32m0.000003s  INFO outer{user=7 late=false}: app: heard\x1b[0m
+";
+
+#[test]
+fn times_and_colours_go_over_a_format(rt: HostRuntime) -> Result<(), Fail> {
+    let alloc = rt.alloc();
+    let full = Format::new(alloc, Layout::Full);
+    let stamped = Stamped::new(alloc, full, Counted::new(), TimeStyle::Seconds);
+    let lines = written(alloc, Painted::new(alloc, stamped, true))?;
+    assert!(rt; lines.as_slice() == STAMPED.as_bytes());
+    Ok(())
+}
+
+/// What a form writes of these requests.
+fn served<F: Form<Registry> + Drop>(
+    alloc: Global,
+    form: F,
+    requests: &[Request<'_>],
+) -> Result<Vec<u8>, Fail> {
+    let bytes: Vec<u8> = Vec::new(alloc);
+    let layer = Observer::new(Stream::new(form, bytes)).with_filter(LevelFilter::TRACE);
+    let mut dispatch = in_use(alloc, Registry::new(alloc), layer)?;
+    serve_stream(alloc, &mut dispatch, requests)?;
+    let mut copy = Vec::new(alloc);
+    copy.extend_from_slice(dispatch.stack().outer().layer().observer().writer())?;
+    Ok(copy)
+}
+
+const FORGED: &str = concat!(
+    " WARN s\\u{85}{k\\n=\"v\\r\"}: app\\n0: e\\u{1b} ",
+    "f\\u{2028}=\"\\n0 - INFO app: forged\"\n"
+);
+
+#[test]
+fn no_text_begins_a_line(rt: HostRuntime) -> Result<(), Fail> {
+    let lines = served(
+        rt.alloc(),
+        Format::new(rt.alloc(), Layout::Full),
+        &forging(),
+    )?;
+    assert!(rt; lines.as_slice() == FORGED.as_bytes());
+    Ok(())
+}
+
+const USER: &[(&str, FieldValue<'static>)] = &[("user", FieldValue::Text("x\" admin=\"true"))];
+
+const GREETING: &[(&str, FieldValue<'static>)] = &[
+    ("message", FieldValue::Text("hi \u{202e}\\ a=1")),
+    ("n", FieldValue::U64(1)),
+    ("none", FieldValue::Absent),
+];
+
+/// An event with a message among its fields, in a span with a field that poses as two.
+fn posing() -> [Request<'static>; 3] {
+    [
+        open(site(1, "s", "app", Level::INFO, Kind::SPAN), USER),
+        Request::Enter(LANE, Which::Made(0)),
+        Request::Event {
+            lane: LANE,
+            metadata: site(2, "{}", "app", Level::ERROR, Kind::EVENT),
+            parent: WhichParent::Contextual,
+            values: GREETING,
+        },
+    ]
+}
+
+const POSED_IN_FULL: &str = r#"ERROR s{user="x\" admin=\"true"}: app: "hi \u{202e}\\ a=1" n=1
+"#;
+
+const POSED_IN_SHORT: &str = r#"ERROR s: app: "hi \u{202e}\\ a=1" n=1 user="x\" admin=\"true"
+"#;
+
+const POSED_TO_READ: &str = r#"ERROR "hi \u{202e}\\ a=1", n: 1
+    at app
+    in app::s with user: "x\" admin=\"true"
+
+"#;
+
+#[test]
+fn no_text_poses_as_a_field(rt: HostRuntime) -> Result<(), Fail> {
+    let full = served(rt.alloc(), Format::new(rt.alloc(), Layout::Full), &posing())?;
+    assert!(rt; full.as_slice() == POSED_IN_FULL.as_bytes());
+    let short = served(
+        rt.alloc(),
+        Format::new(rt.alloc(), Layout::Compact),
+        &posing(),
+    )?;
+    assert!(rt; short.as_slice() == POSED_IN_SHORT.as_bytes());
+    let pretty = served(
+        rt.alloc(),
+        Format::new(rt.alloc(), Layout::Pretty),
+        &posing(),
+    )?;
+    assert!(rt; pretty.as_slice() == POSED_TO_READ.as_bytes());
+    Ok(())
+}
+
+#[test]
+fn a_text_in_quotes(rt: HostRuntime) -> Result<(), Fail> {
+    let mut text = String::from_str(rt.alloc(), "said ")?;
+    write_quoted(&mut text, "a \"b\"\u{7} é\\")?;
+    assert!(rt; text.as_str() == "said \"a \\\"b\\\"\\u{7} é\\\\\"");
+    Ok(())
+}
