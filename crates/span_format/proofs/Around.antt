@@ -15,7 +15,7 @@ use Rattle.span_format.specs.declared.part.Part.{Part}
 use Rattle.span_registry.specs.Context.{GivesScope, LooksAtLent, filters_in, filters_lent, lane_lent, subscriber_lent, view_lent}
 use Rattle.span_registry.specs.Law.{ShowsPlainly}
 use Rattle.span_registry.specs.References.{Reference, reference_to}
-use Rattle.span_registry.specs.View.{View, event_shown, plain_view, scope, see, view_of}
+use Rattle.span_registry.specs.View.{event_shown, plain_view, see, view_of}
 use Rattle.span_registry.specs.declared.context.Context.{Context}
 use Rattle.span_registry.specs.declared.context.ContextMut.{ContextMut}
 use Rattle.span_registry.specs.declared.scope.Scope.{Scope}

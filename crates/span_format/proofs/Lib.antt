@@ -6,4 +6,6 @@ mod Written
 mod Plain
 mod Noted
 mod Unquoted
+mod Closing
+mod Told
 mod Filled

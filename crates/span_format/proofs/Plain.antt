@@ -1,5 +1,5 @@
 -- Lines are the same, extensions aside.
-use Rattle.std.proofs.Common.{◌≡◌, ◌≢◌, ◌∙◌, ℕ, List, [], ◌∷◌, ◌++◌, ap}
+use Rattle.std.proofs.Common.{◌≡◌, ◌≢◌, ℕ, List, [], ◌∷◌, ◌++◌, ap}
 use Rattle.std.specs.Prelude.{codes}
 use Rattle.span_core.specs.Event.{event_metadata}
 use Rattle.span_core.specs.Filters.{FilterSet}

@@ -6,7 +6,7 @@ use Rattle.std.proofs.lemmas.Bool.Decides.{nat_tests}
 use Rattle.std.proofs.lemmas.List.{append-nil}
 use Rattle.std.specs.Borrow.{Bor}
 use Rattle.std.specs.List.{list_all, list_any}
-use Rattle.std.specs.Prelude.{◌&&◌, ◌||◌, codes, flat_map}
+use Rattle.std.specs.Prelude.{◌&&◌, ◌||◌, flat_map}
 use Rattle.span_core.specs.Field.{is_absent, present}
 use Rattle.span_core.specs.declared.field.FieldValue.{FieldValue}
 use Rattle.span_fmt.specs.Known.{SpanTexts, with_text}

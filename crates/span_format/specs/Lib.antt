@@ -6,3 +6,4 @@ pub mod Line
 pub mod Look
 pub mod Part
 pub mod Quote
+pub mod Told

@@ -1,6 +1,6 @@
 -- The line of an event in each layout: a function of it, of what the layer's own context shows, and
 -- of the fields that open spans were given.
-use Rattle.std.specs.Prelude.{◌||◌, if◌then◌else◌, ℕ, Bool, List, [], ◌++◌, codes}
+use Rattle.std.specs.Prelude.{◌||◌, if◌then◌else◌, ℕ, List, [], ◌++◌, codes}
 use Rattle.span_core.specs.Event.{event_metadata, event_values}
 use Rattle.span_core.specs.Metadata.{level_of, target_of}
 use Rattle.span_core.specs.declared.event.Event.{Event}

@@ -5,6 +5,7 @@ mod field;
 mod format;
 mod kept;
 mod lane;
+pub mod laws;
 mod layout;
 mod line;
 mod look;

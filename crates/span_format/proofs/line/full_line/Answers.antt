@@ -1,4 +1,4 @@
-use Rattle.std.proofs.Common.{◌≡◌, ◌∙◌, ◌++◌, List, ℕ, ap, string_bytes}
+use Rattle.std.proofs.Common.{◌∙◌, ◌++◌, List, ℕ, ap}
 use Rattle.span_core.specs.Metadata.{level_of}
 use Rattle.span_core.specs.declared.span.Lane.{Lane}
 use Rattle.span_format.proofs.Around.{parts_from_root}

@@ -1,4 +1,4 @@
-use Rattle.std.proofs.Common.{◌≡◌, ◌∙◌, ◌++◌, List, ℕ, ap, string_bytes}
+use Rattle.std.proofs.Common.{◌∙◌, ◌++◌, List, ℕ, ap}
 use Rattle.span_core.specs.Metadata.{level_of}
 use Rattle.span_core.specs.declared.span.Lane.{Lane}
 use Rattle.span_format.proofs.Around.{parts_outwards}
@@ -10,7 +10,6 @@ use Rattle.span_format.specs.Part.{reference_part}
 use Rattle.span_format.specs.declared.part.Part.{Part}
 use Rattle.span_fmt.specs.Tree.{given}
 use Rattle.std.specs.Prelude.{flat_map}
-use Rattle.span_format.specs.declared.part.Part.TheVariants as part
 use Rattle.span_registry.specs.Context.{view_lent}
 use Rattle.span_format.proofs.line.pretty_line.Goals as goal
 

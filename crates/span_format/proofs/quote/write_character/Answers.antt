@@ -1,7 +1,6 @@
-use Rattle.std.proofs.Common.{ap, ◌∙◌, ◌++◌, string_bytes, rules, ◌∷◌, [], List, ℕ}
+use Rattle.std.proofs.Common.{ap, ◌∙◌, ◌++◌, string_bytes, rules, List, ℕ}
 use Rattle.std.proofs.lemmas.Bool.{ne_eqb}
 use Rattle.std.proofs.lemmas.Result.{on_ok_weaker}
-use Rattle.std.specs.Borrow.{Bor}
 use Rattle.span_fmt.specs.Escape.{escaped}
 use Rattle.span_format.proofs.Unquoted.{one_escaped}
 use Rattle.span_format.proofs.quote.write_character.Goals as goal

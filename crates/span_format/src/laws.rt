@@ -1,0 +1,21 @@
+//! Laws for callers: functions whose contract is the law, and that do nothing.
+ghost use Rattle.span_format.specs.Quote.{QuotedTextsEnd};
+ghost use Rattle.span_format.specs.Told.{FormatsGiveEvents, KeepsWhatWasGiven};
+
+/// A format gives a line for each event that it is notified of, in order, each in its own view and
+/// with the fields that open spans were given by then; and it looks the same all the time.
+pub fn a_format_gives_its_lines()
+    ensures { FormatsGiveEvents }
+{}
+
+/// Until a span closes, the fields that it was given, at its opening and by records, are kept in
+/// order; and once it has closed, nothing of it is kept.
+pub fn what_open_spans_were_given_is_kept()
+    ensures { KeepsWhatWasGiven }
+{}
+
+/// A text in quotes ends at the first quote that no backslash guards, whatever it says: it poses as
+/// nothing that stands behind it.
+pub fn a_quoted_text_ends_at_its_quote()
+    ensures { QuotedTextsEnd }
+{}
