@@ -7,3 +7,4 @@ pub mod Look
 pub mod Part
 pub mod Quote
 pub mod Told
+pub mod Written

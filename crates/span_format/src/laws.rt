@@ -1,12 +1,25 @@
 //! Laws for callers: functions whose contract is the law, and that do nothing.
 ghost use Rattle.span_format.specs.Quote.{QuotedTextsEnd};
 ghost use Rattle.span_format.specs.Told.{FormatsGiveEvents, KeepsWhatWasGiven};
+ghost use Rattle.span_format.specs.Written.{FormatsAreWritten};
+
+use crate::format::Format;
+use span_registry::Subscriber;
+use std::io::Write;
 
 /// A format gives a line for each event that it is notified of, in order, each in its own view and
 /// with the fields that open spans were given by then; and it looks the same all the time.
 pub fn a_format_gives_its_lines()
     ensures { FormatsGiveEvents }
 {}
+
+/// The bytes that a stream's writer holds grow by exactly the lines of its format, wherever it
+/// stands in a stack, where it lost none.
+pub fn a_format_is_written_as_it_is_given<S: Subscriber, W: Write>()
+    ensures { FormatsAreWritten W.contents }
+{
+    span_fmt::laws::a_stream_writes_what_it_is_told::<S, Format, W>();
+}
 
 /// Until a span closes, the fields that it was given, at its opening and by records, are kept in
 /// order; and once it has closed, nothing of it is kept.

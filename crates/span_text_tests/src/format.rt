@@ -1,7 +1,8 @@
 //! The lines of formats: those of the worked run in each layout, and of texts that pose as others.
 use crate::fixture::in_use;
 use crate::stamp::written;
-use crate::text::{LANE, OTHER_LANE, forging, open, site};
+use crate::stream::{Faulty, handed_some, lost_on_a_full_disk};
+use crate::text::{LANE, OTHER_LANE, forging, open, site, worked_on};
 use span_core::{FieldValue, Kind, Level, LevelFilter};
 use span_dispatch::{Request, Which, WhichParent};
 use span_fmt::{Form, Stream, serve_stream};
@@ -192,5 +193,27 @@ fn a_text_in_quotes(rt: HostRuntime) -> Result<(), Fail> {
     let mut text = String::from_str(rt.alloc(), "said ")?;
     write_quoted(&mut text, "a \"b\"\u{7} é\\")?;
     assert!(rt; text.as_str() == "said \"a \\\"b\\\"\\u{7} é\\\\\"");
+    Ok(())
+}
+
+/// The line that was cut, and behind those that were lost the next one on a line of its own.
+const CUT: &str = " WARN outer{user=7}:inner{t
+ INFO outer{user=7 late=false}: app: heard
+";
+
+#[test]
+fn a_line_that_is_not_taken_is_lost(rt: HostRuntime) -> Result<(), Fail> {
+    let faulty = Faulty::new(rt.alloc(), 9, 5, 8);
+    let stream = Stream::new(Format::new(rt.alloc(), Layout::Full), faulty);
+    let layer = Observer::new(stream).with_filter(LevelFilter::DEBUG);
+    let stack = worked_on(rt.alloc(), Registry::new(rt.alloc()), layer)?;
+    handed_some(&rt, stack.outer().layer().observer(), CUT, 2);
+    Ok(())
+}
+
+#[test]
+fn a_full_disk_loses_each_event(rt: HostRuntime) -> Result<(), Fail> {
+    let pretty = Format::new(rt.alloc(), Layout::Pretty);
+    assert!(rt; lost_on_a_full_disk(&rt, pretty)? == 3);
     Ok(())
 }

@@ -56,7 +56,7 @@ fn a_stream_under_a_level_is_served(rt: HostRuntime) -> Result<(), Fail> {
 /// A writer that takes a few bytes at each call, is interrupted now and then, and is full from some
 /// call on until another.
 #[derive(Drop)]
-struct Faulty {
+pub(crate) struct Faulty {
     bytes: Vec<u8>,
     most: usize,
     calls: usize,
@@ -65,7 +65,7 @@ struct Faulty {
 }
 
 impl Faulty {
-    fn new(alloc: Global, most: usize, full: usize, again: usize) -> Faulty {
+    pub(crate) fn new(alloc: Global, most: usize, full: usize, again: usize) -> Faulty {
         Faulty {
             bytes: Vec::new(alloc),
             most,
@@ -102,7 +102,7 @@ impl Write for Faulty {
 }
 
 /// What a stream handed to such a writer, and how many lines it lost.
-fn handed_some<F>(rt: &impl Abort, stream: &Stream<F, Faulty>, text: &str, lost: u64) {
+pub(crate) fn handed_some<F>(rt: &impl Abort, stream: &Stream<F, Faulty>, text: &str, lost: u64) {
     assert!(rt; stream.writer().bytes.as_slice() == text.as_bytes());
     assert!(rt; stream.failed() == (lost != 0));
     assert!(rt; stream.lost() == lost);
@@ -133,7 +133,10 @@ fn a_line_that_is_not_taken_is_lost(rt: HostRuntime) -> Result<(), Fail> {
 }
 
 /// How many of the worked run's lines a full disk loses.
-fn lost_on_a_full_disk<F: Form<Registry> + Drop>(rt: &HostRuntime, form: F) -> Result<u64, Fail> {
+pub(crate) fn lost_on_a_full_disk<F: Form<Registry> + Drop>(
+    rt: &HostRuntime,
+    form: F,
+) -> Result<u64, Fail> {
     let disk = fs::create(rt, "/dev/full")?;
     let layer = Observer::new(Stream::new(form, disk));
     let stack = worked_on(rt.alloc(), Registry::new(rt.alloc()), layer)?;
