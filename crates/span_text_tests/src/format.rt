@@ -5,7 +5,7 @@ use crate::stream::{Faulty, handed_some, lost_on_a_full_disk};
 use crate::text::{LANE, OTHER_LANE, forging, open, site, worked_on};
 use span_core::{FieldValue, Kind, Level, LevelFilter};
 use span_dispatch::{Request, Which, WhichParent};
-use span_fmt::{Form, Stream, serve_stream};
+use span_fmt::{Stream, serve_stream};
 use span_format::{Format, Layout, write_quoted};
 use span_layers::Observer;
 use span_registry::Registry;
@@ -104,14 +104,10 @@ fn times_and_colours_go_over_a_format(rt: HostRuntime) -> Result<(), Fail> {
     Ok(())
 }
 
-/// What a form writes of these requests.
-fn served<F: Form<Registry> + Drop>(
-    alloc: Global,
-    form: F,
-    requests: &[Request<'_>],
-) -> Result<Vec<u8>, Fail> {
-    let bytes: Vec<u8> = Vec::new(alloc);
-    let layer = Observer::new(Stream::new(form, bytes)).with_filter(LevelFilter::TRACE);
+/// What is written of these requests in a layout.
+fn served(alloc: Global, layout: Layout, requests: &[Request<'_>]) -> Result<Vec<u8>, Fail> {
+    let stream = Stream::new(Format::new(alloc, layout), Vec::new(alloc));
+    let layer = Observer::new(stream).with_filter(LevelFilter::TRACE);
     let mut dispatch = in_use(alloc, Registry::new(alloc), layer)?;
     serve_stream(alloc, &mut dispatch, requests)?;
     let mut copy = Vec::new(alloc);
@@ -126,11 +122,7 @@ const FORGED: &str = concat!(
 
 #[test]
 fn no_text_begins_a_line(rt: HostRuntime) -> Result<(), Fail> {
-    let lines = served(
-        rt.alloc(),
-        Format::new(rt.alloc(), Layout::Full),
-        &forging(),
-    )?;
+    let lines = served(rt.alloc(), Layout::Full, &forging())?;
     assert!(rt; lines.as_slice() == FORGED.as_bytes());
     Ok(())
 }
@@ -171,19 +163,11 @@ const POSED_TO_READ: &str = r#"ERROR "hi \u{202e}\\ a=1", n: 1
 
 #[test]
 fn no_text_poses_as_a_field(rt: HostRuntime) -> Result<(), Fail> {
-    let full = served(rt.alloc(), Format::new(rt.alloc(), Layout::Full), &posing())?;
+    let full = served(rt.alloc(), Layout::Full, &posing())?;
     assert!(rt; full.as_slice() == POSED_IN_FULL.as_bytes());
-    let short = served(
-        rt.alloc(),
-        Format::new(rt.alloc(), Layout::Compact),
-        &posing(),
-    )?;
+    let short = served(rt.alloc(), Layout::Compact, &posing())?;
     assert!(rt; short.as_slice() == POSED_IN_SHORT.as_bytes());
-    let pretty = served(
-        rt.alloc(),
-        Format::new(rt.alloc(), Layout::Pretty),
-        &posing(),
-    )?;
+    let pretty = served(rt.alloc(), Layout::Pretty, &posing())?;
     assert!(rt; pretty.as_slice() == POSED_TO_READ.as_bytes());
     Ok(())
 }
