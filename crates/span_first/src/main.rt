@@ -1,22 +1,25 @@
 //! A program to begin with. Two threads count the words of texts, and trace that through one
-//! receiver, which writes a line for each event to standard error as it comes.
+//! receiver, which writes a line for each event that `RUST_LOG` lets by to standard error as it
+//! comes.
 #![tactic(auto)]
 
 ghost use Rattle.span_store.specs.Store.{IsFresh};
 
 use anyhow::Context;
-use span_core::{LevelFilter, TraceError};
+use span_core::TraceError;
 use span_dispatch::Dispatch;
-use span_fmt::{LinesForm, Stream};
+use span_fmt::Stream;
+use span_format::{Format, Layout};
 use span_layers::Observer;
 use span_registry::{Registry, Subscriber};
 use span_stacks::{LayerExt, SubscriberExt};
 use span_stream::{Stamped, TimeStyle, Utc};
+use span_targets::Targets;
 use span_tracer::{Receiver, Tracer, info, info_span, warn};
 use std::alloc::Global;
 use std::sync::Wait;
-use std::thread;
 use std::thread::Threads;
+use std::{env, thread};
 
 /// The texts of the first thread.
 const QUESTIONS: [&str; 3] = ["to be or not to be", "", "that is the question"];
@@ -26,9 +29,11 @@ const ANSWERS: [&str; 2] = ["the rest is silence", "words words words"];
 
 fn main(rt: HostRuntime) -> anyhow::Result<()> {
     let alloc = rt.alloc();
-    let lines = LinesForm::new(alloc);
+    let lines = Format::new(alloc, Layout::Full).with_lanes(true);
     let lines = Stamped::new(alloc, lines, Utc::new(rt.clone()?), TimeStyle::Utc);
-    let layer = Observer::new(Stream::new(lines, rt.stderr())).with_filter(LevelFilter::INFO);
+    let asked = env::var(&rt, "RUST_LOG").unwrap_or(String::from_str(alloc, "info")?);
+    let filter = Targets::parse(alloc, asked.as_str())?;
+    let layer = Observer::new(Stream::new(lines, rt.stderr())).with_filter(filter);
     let stack = Registry::new(alloc).with(layer)?;
     let words = count_in_two_threads(&rt, alloc, stack)?;
     println!(rt; "{words} words")?;
