@@ -369,6 +369,10 @@ impl<'a, S> ContextMut<'a, S> {
         ensures refused { result ≡ not (is_enabled (refused_lent self.now) filter) }
         ensures unrefused { HasNoRefusals self.now → result ≡ not (is_attached filter) }
     {
+        // Where nothing is refused, a loop over layers then compares no sets.
+        if self.refused.word() == 0 {
+            return filter.is_unattached();
+        }
         !self.refused.is_enabled(filter)
     }
 }
