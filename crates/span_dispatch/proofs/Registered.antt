@@ -4,6 +4,7 @@ use Rattle.std.proofs.lemmas.Bool.{eqb-true}
 use Rattle.std.specs.Prelude.{IfSome}
 use Rattle.span_core.specs.Metadata.{ShowSame}
 use Rattle.span_core.specs.declared.interest.Interest.{Interest}
+use Rattle.span_core.specs.declared.interest.Interest.TheVariants.{Always}
 use Rattle.span_core.specs.declared.metadata.Metadata.{Metadata}
 use Rattle.span_dispatch.specs.Cache.{KnowsInterest, entry_in}
 use Rattle.span_dispatch.specs.private.Interest.{KnowsStill}
@@ -27,7 +28,15 @@ if_some to (Some x) h = to x h
 module _ {S : Type 0} (old new : Dispatch S) where
   -- in the same epoch, where all is known that was
   pub registered_still : new.epoch ≡ old.epoch → KnowsStill old.cache new.cache → KeepsRegistered old new
-  registered_still same still r h = if_some (λ k e. holds k e) r.kept h
+  registered_still same still r h = record {
+    kept = if_some (λ k e. holds k e) r.kept h.kept;
+    always = record {
+      past = subst (λ (x : Epoch). r.always_until ≤ x.0 + 1) (sym same) h.always.past;
+      ends = h.always.ends;
+      holds = λ lt. knows_still old.cache new.cache (registered_metadata r) Always still
+          (h.always.holds (subst (λ (x : Epoch). x.0 < r.always_until) same lt));
+    };
+  }
     where
       holds : (k : Kept) → HoldsStill old (registered_metadata r) k → HoldsStill new (registered_metadata r) k
       holds k e = record {
@@ -38,8 +47,21 @@ module _ {S : Type 0} (old new : Dispatch S) where
 
   -- in the next epoch, whatever is known then
   pub registered_before : new.epoch ≡ next_epoch old.epoch → KeepsRegistered old new
-  registered_before next r h = if_some (λ k e. holds k e) r.kept h
+  registered_before next r h = record {
+    kept = if_some (λ k e. holds k e) r.kept h.kept;
+    always = record {
+      past = subst (λ (x : Epoch). r.always_until ≤ x.0 + 1) (sym next) (on r.always_until old.epoch.0 h.always.past h.always.ends);
+      ends = h.always.ends;
+      holds = λ lt. absurd (over r.always_until old.epoch.0 h.always.past h.always.ends (subst (λ (x : Epoch). x.0 < r.always_until) next lt));
+    };
+  }
     where
+      on : (u m : ℕ) → u ≤ m + 1 → u ≤ last_epoch → u ≤ min (m + 1) last_epoch + 1
+      on u m le lt = grind (arith)
+
+      over : (u m : ℕ) → u ≤ m + 1 → u ≤ last_epoch → min (m + 1) last_epoch < u → ⊥
+      over u m le lt e = grind (arith)
+
       holds : (k : Kept) → HoldsStill old (registered_metadata r) k → HoldsStill new (registered_metadata r) k
       holds k e = record {
         past = subst (λ (x : Epoch). k.epoch.0 ≤ x.0) (sym next) (later k.epoch.0 old.epoch.0 e.past e.ends);
@@ -84,4 +106,18 @@ module _ {S : Type 0} (d : Dispatch S) (m : Metadata) (r : Registration) (i : In
   by_kept (Some k) v e = by_test k v (k.epoch.0 == d.epoch.0) refl e
 
   pub registered_interest : interest_in d.epoch r ≡ Some i → KnowsInterest d.cache m i
-  registered_interest e = by_kept r.kept h.valid e
+  registered_interest e = by_kept r.kept h.valid.kept e
+
+-- what shows the same as metadata that are cached is cached, too
+pub known_as : {S : Type 0} (d : Dispatch S) (m : Metadata) (r : Registration) (i : Interest) → ShowSame (registered_metadata r) m
+    → KnowsInterest d.cache (registered_metadata r) i → KnowsInterest d.cache m i
+known_as d m r i same known = record {
+  metadata = known.metadata;
+  there = subst (λ n. entry_in d.cache n ≡ Some (record { metadata = known.metadata; interest = i })) same.callsite known.there;
+  same = show_same known.metadata (registered_metadata r) m known.same same;
+}
+
+-- before the epoch until which it is, the interest of a valid registration is cached as always
+pub registered_always : {S : Type 0} (d : Dispatch S) (m : Metadata) (r : Registration) → IsRegisteredAs m d r → d.epoch.0 < r.always_until
+    → KnowsInterest d.cache m Always
+registered_always d m r h lt = known_as d m r Always h.same (h.valid.always.holds lt)

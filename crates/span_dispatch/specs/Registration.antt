@@ -1,6 +1,7 @@
 -- Callsites that a dispatcher caches, and registrations by which it is asked without a search.
 use Rattle.std.specs.Prelude.{◌≡◌, ◌≤◌, ◌<◌, ◌+◌, ◌-◌, ◌^◌, ℕ, min, IfSome}
 use Rattle.span_core.specs.declared.interest.Interest.{Interest}
+use Rattle.span_core.specs.declared.interest.Interest.TheVariants.{Always}
 use Rattle.span_core.specs.declared.metadata.Metadata.{Metadata}
 use Rattle.span_dispatch.specs.Cache.{KnowsInterest}
 use Rattle.span_dispatch.specs.declared.dispatch.Dispatch.{Dispatch}
@@ -31,10 +32,18 @@ pub record HoldsStill {S : Type 0} (d : Dispatch S) (m : Metadata) (k : Kept) : 
   pub ends : k.epoch.0 < last_epoch
   pub holds : k.epoch.0 ≡ d.epoch.0 → Knows d m k.interest
 
+-- the epoch before which an interest of always holds for these metadata: it isn't behind the
+-- dispatcher's next one, and as long as it is ahead of the dispatcher's, that interest is cached
+pub record HoldsUntil {S : Type 0} (d : Dispatch S) (m : Metadata) (until : ℕ) : Type 0 where
+  pub past : until ≤ d.epoch.0 + 1
+  pub ends : until ≤ last_epoch
+  pub holds : d.epoch.0 < until → Knows d m Always
+
 -- a registration is valid at a dispatcher: it has no interest, or one of an epoch that is over
 -- there, or one that is cached there
-abbrev pub IsRegistered : {S : Type 0} → Dispatch S → Registration → Type 0
-IsRegistered d r = IfSome r.kept (HoldsStill d (registered_metadata r))
+pub record IsRegistered {S : Type 0} (d : Dispatch S) (r : Registration) : Type 0 where
+  pub kept : IfSome r.kept (HoldsStill d (registered_metadata r))
+  pub always : HoldsUntil d (registered_metadata r) r.always_until
 
 -- each registration that was valid at the old dispatcher is valid at the new one
 abbrev pub KeepsRegistered : {S : Type 0} → Dispatch S → Dispatch S → Type 0

@@ -2,6 +2,7 @@
 use Rattle.std.specs.Prelude.{◌≡◌, ℕ, List, [], ◌∷◌, ◌++◌, map, Option, Some, None, slice_get}
 use Rattle.std.specs.List.{AllByRecursion, FoldsTo, flat_map}
 use Rattle.std.specs.Option.{option_and_then, option_map, option_map_or}
+use Rattle.std.specs.declared.alloc.Global.{Global}
 use Rattle.span_core.specs.Event.{event_of}
 use Rattle.span_core.specs.Span.{attributes_of, number_of, record_of}
 use Rattle.span_core.specs.declared.span.Id.{Id}
@@ -37,6 +38,10 @@ use Rattle.span_registry.specs.Position.{HearSteps, Position}
 -- the stack of a dispatcher
 abbrev pub stack_of : {S : Type 0} → Dispatch S → S
 stack_of d = d.stack
+
+-- the memory that a dispatcher's cache takes from
+abbrev pub alloc_of : {S : Type 0} → Dispatch S → Global
+alloc_of d = d.alloc
 
 -- the dispatcher with another stack
 abbrev pub with_stack : {S : Type 0} → Dispatch S → S → Dispatch S

@@ -11,7 +11,7 @@ ghost use Rattle.span_dispatch.specs.private.Registration.{IsRegisteredAs};
 ghost use Rattle.span_dispatch.specs.private.Step.{Admits, ClosesEach, Decides};
 ghost use Rattle.span_dispatch.specs.contracts.dispatch.Dispatch.{the_row};
 ghost use Rattle.span_dispatch.specs.Registration.{IsRegistered, KeepsRegistered, Knows, registered_metadata};
-ghost use Rattle.span_dispatch.specs.Serve.{KeepsUpToDate, forgetful, hint_by, kept_by, stack_of, with_stack};
+ghost use Rattle.span_dispatch.specs.Serve.{KeepsUpToDate, alloc_of, forgetful, hint_by, kept_by, stack_of, with_stack};
 ghost use Rattle.span_store.specs.Store.{IsClosing};
 ghost use Rattle.span_registry.specs.Form.{Form};
 ghost use Rattle.span_registry.specs.Question.{refusals};
@@ -55,6 +55,15 @@ impl<S> Dispatch<S> {
         ensures { result.now ≡ stack_of self.now }
     {
         &self.stack
+    }
+
+    /// The memory that the dispatcher's cache takes from.
+    ///
+    /// Own to this port.
+    pub fn alloc(&self) -> Global
+        ensures { result ≡ alloc_of self.now }
+    {
+        self.alloc
     }
 
     /// The dispatcher's stack, taken out. Layers stay in use, and a new dispatcher puts them in use

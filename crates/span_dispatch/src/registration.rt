@@ -1,8 +1,7 @@
 //! Callsites that a dispatcher knows.
-ghost use Rattle.std.specs.Prelude.{◌≡◌, IfSome, Some, true};
-ghost use Rattle.span_core.specs.declared.interest.Interest.TheVariants.{Always};
+ghost use Rattle.std.specs.Prelude.{◌≡◌, ◌<◌, IfSome, IsTrue};
 ghost use Rattle.span_dispatch.specs.Registration.{next_epoch, registered_metadata};
-ghost use Rattle.span_dispatch.specs.private.Registration.{IsKeptIn, interest_in};
+ghost use Rattle.span_dispatch.specs.private.Registration.{IsAlwaysUntil, IsKeptIn, interest_in};
 
 use span_core::{Interest, Metadata};
 
@@ -33,6 +32,8 @@ impl Epoch {
 pub struct Registration {
     metadata: Metadata,
     kept: Option<Kept>,
+    // Before this epoch the interest is cached as always; 0 where it isn't.
+    always_until: u64,
 }
 
 /// An interest, and the epoch in which it is cached.
@@ -47,12 +48,22 @@ impl Registration {
     pub(crate) fn new(metadata: Metadata, interest: Option<Interest>, epoch: Epoch) -> Registration
         ensures metadata { registered_metadata result ≡ metadata }
         ensures kept { IfSome result.kept (IsKeptIn epoch interest) }
+        ensures always { IsAlwaysUntil epoch interest result.always_until }
     {
-        let kept = match interest {
-            Some(interest) if epoch.0 < u64::MAX => Some(Kept { interest, epoch }),
-            _ => None,
+        let mut registration = Registration {
+            metadata,
+            kept: None,
+            always_until: 0,
         };
-        Registration { metadata, kept }
+        if let Some(interest) = interest
+            && epoch.0 < u64::MAX
+        {
+            registration.kept = Some(Kept { interest, epoch });
+            if interest.is_always() {
+                registration.always_until = epoch.0 + 1;
+            }
+        }
+        registration
     }
 
     /// What the callsite's spans or events say of themselves.
@@ -76,11 +87,8 @@ impl Registration {
     /// Whether the callsite's interest that is cached in this epoch is always.
     #[inline(always)]
     pub(crate) fn is_always_in(&self, epoch: Epoch) -> bool
-        ensures { result ≡ true → interest_in epoch self.now ≡ Some Always }
+        ensures { IsTrue result → epoch.0 < self.now.always_until }
     {
-        match &self.kept {
-            Some(kept) => kept.epoch.0 == epoch.0 && kept.interest.is_always(),
-            None => false,
-        }
+        epoch.0 < self.always_until
     }
 }

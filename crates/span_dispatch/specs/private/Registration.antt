@@ -1,6 +1,7 @@
 -- What a registration keeps.
-use Rattle.std.specs.Prelude.{◌≡◌, ◌<◌, ◌==◌, if◌then◌else◌, Option, Some, None}
+use Rattle.std.specs.Prelude.{◌≡◌, ◌≤◌, ◌<◌, ◌+◌, ◌==◌, if◌then◌else◌, ℕ, Option, Some, None}
 use Rattle.span_core.specs.declared.interest.Interest.{Interest}
+use Rattle.span_core.specs.declared.interest.Interest.TheVariants.{Always}
 use Rattle.span_dispatch.specs.declared.registration.Epoch.{Epoch}
 use Rattle.span_dispatch.specs.declared.registration.Kept.{Kept}
 use Rattle.span_dispatch.specs.declared.registration.Registration.{Registration}
@@ -14,6 +15,13 @@ pub record IsKeptIn (epoch : Epoch) (given : Option Interest) (k : Kept) : Type 
   pub here : k.epoch ≡ epoch
   pub ends : epoch.0 < last_epoch
   pub interest : given ≡ Some k.interest
+
+-- until which epoch an interest of this epoch is always: until the next one, if it is and its epoch
+-- ends, else never
+pub record IsAlwaysUntil (epoch : Epoch) (given : Option Interest) (until : ℕ) : Type 0 where
+  pub past : until ≤ epoch.0 + 1
+  pub ends : until ≤ last_epoch
+  pub holds : epoch.0 < until → given ≡ Some Always
 
 -- the interest that a registration keeps, if it is of this epoch
 abbrev pub kept_interest : Epoch → Option Kept → Option Interest
