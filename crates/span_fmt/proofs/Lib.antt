@@ -10,7 +10,10 @@ mod Plain
 mod Present
 mod Told
 mod Differ
+mod Runs
 mod Unescaped
+mod Unquoted
+mod Closing
 mod FormsTold
 mod Handed
 mod Noted

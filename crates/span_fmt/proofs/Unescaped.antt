@@ -8,7 +8,7 @@ use Rattle.std.proofs.lemmas.Str.{chars-IsAscii, encodes-IsAscii, encodes-chars}
 use Rattle.std.proofs.lemmas.Str.Ascii.{IsAscii-cons, IsAscii-nil}
 use Rattle.span_fmt.specs.Escape.{escape, escaped, is_among, is_escaped}
 
-neither : (a b : Bool) → not (a || b) ≡ true → (a ≡ false) × (b ≡ false)
+pub neither : (a b : Bool) → not (a || b) ≡ true → (a ≡ false) × (b ≡ false)
 neither false false e = (refl, refl)
 neither false true e = cc
 neither true b e = cc
@@ -28,15 +28,15 @@ abbrev pub is_plain_code : ℕ → Bool
 is_plain_code c = is_among 32 126 c && not (c == 92)
 
 -- such a character is a byte by itself, and isn't escaped
-is_plain_byte : (c : ℕ) → is_plain_code c ≡ true → (c < 128) × (is_escaped c ≡ false)
+pub is_plain_byte : (c : ℕ) → is_plain_code c ≡ true → (c < 128) × (is_escaped c ≡ false)
 is_plain_byte c e = search (rules, tests)
 
-both : (a b : Bool) → a && b ≡ true → (a ≡ true) × (b ≡ true)
+pub both : (a b : Bool) → a && b ≡ true → (a ≡ true) × (b ≡ true)
 both true true e = (refl, refl)
 both true false e = cc
 both false b e = cc
 
-all_ascii : (bs : List ℕ) → list_all is_plain_code bs ≡ true → IsAscii bs
+pub all_ascii : (bs : List ℕ) → list_all is_plain_code bs ≡ true → IsAscii bs
 all_ascii [] e = IsAscii-nil
 all_ascii (b ∷ bs) e =
     let two = both (is_plain_code b) (list_all is_plain_code bs) e in IsAscii-cons b bs (is_plain_byte b two.0).0 (all_ascii bs two.1)

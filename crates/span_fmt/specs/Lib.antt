@@ -6,6 +6,7 @@ pub mod Known
 pub mod Lines
 pub mod Outlet
 pub mod Page
+pub mod Quote
 pub mod Serve
 pub mod Stream
 pub mod Streamed

@@ -8,14 +8,15 @@ use Rattle.span_core.specs.declared.field.FieldValue.{FieldValue}
 use Rattle.span_core.specs.declared.field.FieldValue.TheVariants as value
 use Rattle.span_core.specs.declared.metadata.Metadata.{Metadata}
 use Rattle.span_fmt.specs.Escape.{escaped}
+use Rattle.span_fmt.specs.Quote.{quoted}
 
 -- a text has these bytes appended
 abbrev pub IsContinued : {A : Type 0} → String A → String A → List ℕ → Type 0
 IsContinued old new bytes = string_bytes new ≡ string_bytes old ++ bytes
 
--- the text of a value: a text escaped
+-- the text of a value: a text in quotes
 abbrev pub shown_text : FieldValue → List ℕ
-shown_text (value.Text t) = escaped t.now
+shown_text (value.Text t) = quoted t.now
 shown_text other = value_text other
 
 -- the text of a field, behind a space

@@ -33,14 +33,14 @@ fn is_plain(words: &str) -> bool
 }
 
 /// Whether a byte is a character by itself that isn't escaped.
-fn is_plain_byte(byte: u8) -> bool
+pub(crate) fn is_plain_byte(byte: u8) -> bool
     ensures { result ≡ (is_among 32 126 byte && not (byte == 92)) }
 {
     (b' '..=b'~').contains(&byte) && byte != b'\\'
 }
 
 /// Writes a character, escaped if it has to be.
-fn write_character(text: &mut String, character: char) -> Result<(), AllocError>
+pub(crate) fn write_character(text: &mut String, character: char) -> Result<(), AllocError>
     ensures { OnOk result (string_bytes text.new
         ≡ string_bytes text.old ++ encode_utf8_all (escape character)) }
 {
@@ -55,7 +55,7 @@ fn write_character(text: &mut String, character: char) -> Result<(), AllocError>
 
 /// Whether a character is escaped: a backslash, a control character, a separator of lines or
 /// paragraphs, or what turns the direction of writing.
-fn is_escaped(character: char) -> bool
+pub(crate) fn is_escaped(character: char) -> bool
     ensures { result ≡ is_escaped character }
 {
     match character {

@@ -4,14 +4,15 @@ ghost use Rattle.span_core.specs.Field.{present};
 ghost use Rattle.span_fmt.specs.Text.{IsContinued, field_text, fields_text, rest_text, shown_text};
 
 use crate::escape::write_escaped;
+use crate::quote::write_quoted;
 use span_core::{FieldValue, Metadata};
 use std::alloc::AllocError;
 
 /// How many bytes a line has room for before it grows: most lines are shorter.
 pub(crate) const ROOM: usize = 128;
 
-/// Writes each field that has a value behind a space, as `name=value`. Texts are escaped, as
-/// `span_fmt::write_escaped` has them.
+/// Writes each field that has a value behind a space, as `name=value`. Names are escaped, as
+/// `write_escaped` has them, and texts stand in quotes, as `write_quoted` has them.
 ///
 /// Where memory is refused, no clause says what of it is written: throw the text away.
 pub fn write_fields(
@@ -60,12 +61,14 @@ pub(crate) fn write_rest(
     text.push_str("\n")
 }
 
-/// Writes a value.
-fn write_value(text: &mut String, value: FieldValue<'_>) -> Result<(), AllocError>
+/// Writes a value, a text in quotes.
+///
+/// Where memory is refused, no clause says what of it is written: throw the text away.
+pub fn write_value(text: &mut String, value: FieldValue<'_>) -> Result<(), AllocError>
     ensures { OnOk result (IsContinued text.old text.new (shown_text value.entry)) }
 {
     if let FieldValue::Text(words) = value {
-        return write_escaped(text, words);
+        return write_quoted(text, words);
     }
     write!(text, "{value}")
 }

@@ -1,6 +1,7 @@
 //! Laws for callers: functions whose contract is the law, and that do nothing.
 ghost use Rattle.span_fmt.specs.Escape.{EscapedTextsDiffer};
 ghost use Rattle.span_fmt.specs.FormsTold.{LinesFormsGiveEvents, TreeFormsGiveAll};
+ghost use Rattle.span_fmt.specs.Quote.{QuotedTextsEnd};
 ghost use Rattle.span_fmt.specs.Streamed.{StreamsWriteAll};
 ghost use Rattle.span_fmt.specs.Told.{KnowsWhatWasGiven, LinesWriteEvents, TreesWriteAll};
 
@@ -29,6 +30,12 @@ pub fn what_spans_were_given_is_known()
 /// Texts that are escaped alike are the same: none poses as another.
 pub fn escaped_texts_differ()
     ensures { EscapedTextsDiffer }
+{}
+
+/// A text in quotes ends at the first quote that no backslash guards, whatever it says: it poses as
+/// nothing that stands behind it.
+pub fn a_quoted_text_ends_at_its_quote()
+    ensures { QuotedTextsEnd }
 {}
 
 /// A stream hands its writer a piece of each line that its form gives, in order, wherever it stands

@@ -10,15 +10,17 @@ pub mod laws;
 mod lines;
 mod outlet;
 mod page;
+mod quote;
 mod serve;
 mod stream;
 mod tree;
 
 pub use escape::write_escaped;
-pub use fields::write_fields;
+pub use fields::{write_fields, write_value};
 pub use form::Form;
 pub use forms::{LinesForm, TreeForm};
 pub use lines::Lines;
+pub use quote::write_quoted;
 pub use serve::{WithLines, WithStream, WithTree, serve_lines, serve_stream, serve_tree};
 pub use stream::Stream;
 pub use tree::Tree;

@@ -5,7 +5,5 @@ mod Around
 mod Written
 mod Plain
 mod Noted
-mod Unquoted
-mod Closing
 mod Told
 mod Filled

@@ -2,13 +2,12 @@
 use Rattle.std.specs.Prelude.{◌==◌, if◌then◌else◌, ℕ, Bool, List, [], ◌∷◌, ◌++◌, bytes_eq, codes, flat_map}
 use Rattle.std.specs.Borrow.{Bor}
 use Rattle.std.specs.List.{list_any}
-use Rattle.span_core.specs.Field.{present, value_text}
+use Rattle.span_core.specs.Field.{present}
 use Rattle.span_core.specs.Metadata.{name_of}
 use Rattle.span_core.specs.declared.field.FieldValue.{FieldValue}
-use Rattle.span_core.specs.declared.field.FieldValue.TheVariants as value
 use Rattle.span_core.specs.declared.metadata.Metadata.{Metadata}
 use Rattle.span_fmt.specs.Escape.{escaped}
-use Rattle.span_format.specs.Quote.{quoted}
+use Rattle.span_fmt.specs.Text.{shown_text}
 use Rattle.span_format.specs.declared.layout.Layout.{Layout}
 use Rattle.span_format.specs.declared.layout.Layout.TheVariants as layout
 
@@ -22,11 +21,6 @@ abbrev pub mark : Layout → List ℕ
 mark layout.Pretty = codes ": "
 mark other = codes "="
 
--- the text of a value: a text in quotes
-abbrev pub value_shown : FieldValue → List ℕ
-value_shown (value.Text t) = quoted t.now
-value_shown other = value_text other
-
 -- a field with this name is a message
 abbrev pub is_message : List ℕ → Bool
 is_message name = bytes_eq name (codes "message")
@@ -37,7 +31,7 @@ name_text how name = if is_message name then [] else escaped name ++ mark how
 
 -- the text of a field
 abbrev pub field_text : Layout → List ℕ → FieldValue → List ℕ
-field_text how name value = separator how ++ name_text how name ++ value_shown value
+field_text how name value = separator how ++ name_text how name ++ shown_text value
 
 -- the text of the fields that have a value, one after the other
 abbrev pub fields_text : Layout → List (Bor (List ℕ) × FieldValue) → List ℕ

@@ -5,6 +5,5 @@ pub mod Lane
 pub mod Line
 pub mod Look
 pub mod Part
-pub mod Quote
 pub mod Told
 pub mod Written

@@ -6,6 +6,7 @@ use Rattle.span_core.specs.declared.level.Level.{Level}
 use Rattle.span_core.specs.declared.metadata.Metadata.{Metadata}
 use Rattle.span_fmt.specs.Escape.{escaped}
 use Rattle.span_fmt.specs.Known.{nothing_known}
+use Rattle.span_fmt.specs.Quote.{quoted}
 use Rattle.span_format.specs.Lane.{names_in}
 use Rattle.span_format.specs.declared.layout.Layout.{Layout}
 use Rattle.span_format.specs.declared.look.Look.{Look}
@@ -48,12 +49,12 @@ abbrev pub level_column : Looks → Level → List ℕ
 level_column look level =
     if look.level then margin level ++ level_text level ++ codes " " else []
 
--- a name, escaped, or this number where there is none
+-- a name in quotes, or this number where there is none
 abbrev pub name_or_number : List ℕ → ℕ → List ℕ
 name_or_number [] n = decimal n
-name_or_number (b ∷ bytes) n = escaped (b ∷ bytes)
+name_or_number (b ∷ bytes) n = quoted (b ∷ bytes)
 
--- a lane by its name, or by its number where it has none
+-- a lane by its name in quotes, or by its number where it has none
 abbrev pub lane_text : Looks → ℕ → List ℕ
 lane_text look lane = name_or_number (look.names lane) lane
 

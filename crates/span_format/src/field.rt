@@ -2,13 +2,15 @@
 ghost use Rattle.std.specs.Prelude.{◌≡◌, ◌<◌, ◌↔◌, [], IsTrue, OnOk};
 ghost use Rattle.span_core.specs.Field.{present};
 ghost use Rattle.span_fmt.specs.Text.{IsContinued};
-ghost use Rattle.span_format.specs.Field.{bare, field_text, fields_text, has_message, is_message, name_text, unled, value_shown, words_text};
+ghost use Rattle.span_format.specs.Field.{bare, field_text, fields_text, has_message, is_message, name_text, unled, words_text};
 
 use crate::layout::Layout;
-use crate::quote::write_quoted;
 use span_core::{FieldValue, Metadata};
-use span_fmt::write_escaped;
+use span_fmt::{write_escaped, write_value};
 use std::alloc::{AllocError, Global};
+
+/// How many bytes a line has room for before it grows: most lines are shorter.
+pub(crate) const ROOM: usize = 128;
 
 /// Writes each field that has a value behind what stands in front of it.
 pub(crate) fn write_fields(
@@ -52,16 +54,6 @@ fn write_name(text: &mut String, layout: Layout, name: &str) -> Result<(), Alloc
     text.push_str(layout.mark())
 }
 
-/// Writes a value, a text in quotes.
-fn write_value(text: &mut String, value: FieldValue<'_>) -> Result<(), AllocError>
-    ensures { OnOk result (IsContinued text.old text.new (value_shown value.entry)) }
-{
-    if let FieldValue::Text(words) = value {
-        return write_quoted(text, words);
-    }
-    write!(text, "{value}")
-}
-
 /// Writes what an event says: its message, which is its name where no field is one, and its fields.
 pub(crate) fn write_words(
     text: &mut String,
@@ -76,7 +68,7 @@ pub(crate) fn write_words(
         write_escaped(text, metadata.name())?;
         return write_fields(text, layout, values);
     }
-    let mut fields = String::new(alloc);
+    let mut fields = String::with_capacity(alloc, ROOM)?;
     write_fields(&mut fields, layout, values)?;
     text.push_str(unled(fields.as_str()))
 }

@@ -74,7 +74,7 @@ impl Format {
         self
     }
 
-    /// The same, and lanes are shown or not: each by its name, or else by its number.
+    /// The same, and lanes are shown or not: each by its name in quotes, or else by its number.
     ///
     /// Stands for `Format::with_thread_names`.
     pub fn with_lanes(mut self, shown: bool) -> Format

@@ -1,5 +1,4 @@
 //! Laws for callers: functions whose contract is the law, and that do nothing.
-ghost use Rattle.span_format.specs.Quote.{QuotedTextsEnd};
 ghost use Rattle.span_format.specs.Told.{FormatsGiveEvents, KeepsWhatWasGiven};
 ghost use Rattle.span_format.specs.Written.{FormatsAreWritten};
 
@@ -25,10 +24,4 @@ pub fn a_format_is_written_as_it_is_given<S: Subscriber, W: Write>()
 /// order; and once it has closed, nothing of it is kept.
 pub fn what_open_spans_were_given_is_kept()
     ensures { KeepsWhatWasGiven }
-{}
-
-/// A text in quotes ends at the first quote that no backslash guards, whatever it says: it poses as
-/// nothing that stands behind it.
-pub fn a_quoted_text_ends_at_its_quote()
-    ensures { QuotedTextsEnd }
 {}

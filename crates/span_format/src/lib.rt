@@ -10,8 +10,6 @@ mod layout;
 mod line;
 mod look;
 mod part;
-mod quote;
 
 pub use format::Format;
 pub use layout::Layout;
-pub use quote::write_quoted;

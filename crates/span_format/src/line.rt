@@ -6,7 +6,7 @@ ghost use Rattle.span_format.specs.Kept.{kept_in};
 ghost use Rattle.span_format.specs.Line.{at_text, compact_line, event_line, full_line, place_part, pretty_line};
 ghost use Rattle.span_format.specs.Look.{looks};
 
-use crate::field::write_words;
+use crate::field::{ROOM, write_words};
 use crate::kept::Kept;
 use crate::layout::Layout;
 use crate::look::Look;
@@ -49,7 +49,7 @@ fn full_line<S: Subscriber>(
 {
     let seen = ctx.ctx();
     let metadata = event.metadata();
-    let mut line = String::new(alloc);
+    let mut line = String::with_capacity(alloc, ROOM)?;
     look.begin(&mut line, ctx.lane(), metadata.level())?;
     write_spaced(&mut line, alloc, Part::Label, seen.event_scope(event), kept)?;
     look.write_target(&mut line, metadata)?;
@@ -71,7 +71,7 @@ fn compact_line<S: Subscriber>(
 {
     let seen = ctx.ctx();
     let metadata = event.metadata();
-    let mut line = String::new(alloc);
+    let mut line = String::with_capacity(alloc, ROOM)?;
     look.begin(&mut line, ctx.lane(), metadata.level())?;
     write_spaced(&mut line, alloc, Part::Name, seen.event_scope(event), kept)?;
     look.write_target(&mut line, metadata)?;
@@ -100,7 +100,7 @@ fn pretty_line<S: Subscriber>(
 {
     let seen = ctx.ctx();
     let metadata = event.metadata();
-    let mut line = String::new(alloc);
+    let mut line = String::with_capacity(alloc, ROOM)?;
     look.write_level(&mut line, metadata.level())?;
     write_words(&mut line, alloc, look.layout, metadata, event.values())?;
     line.push_str("\n")?;

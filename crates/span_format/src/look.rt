@@ -6,7 +6,7 @@ ghost use Rattle.span_format.specs.Look.{begun_text, lane_text, level_column, lo
 use crate::lane::LaneNames;
 use crate::layout::Layout;
 use span_core::{Lane, Level, Metadata};
-use span_fmt::write_escaped;
+use span_fmt::{write_escaped, write_quoted};
 use std::alloc::AllocError;
 
 /// How lines look: how they are laid out, what they show beside spans, message and fields, and what
@@ -52,7 +52,7 @@ impl Look {
         text.push_str(" ")
     }
 
-    /// Writes a lane's name, or its number where it has none.
+    /// Writes a lane's name in quotes, or its number where it has none.
     pub(crate) fn write_lane(&self, text: &mut String, lane: Lane) -> Result<(), AllocError>
         ensures { OnOk result
             (IsContinued text.old text.new (lane_text (looks self.now) lane.0)) }
@@ -61,7 +61,7 @@ impl Look {
         if name.is_empty() {
             return write!(text, "{}", lane.0);
         }
-        write_escaped(text, name)
+        write_quoted(text, name)
     }
 
     /// Writes a target, a colon and a space, if targets are shown.

@@ -1,5 +1,6 @@
 //! Objects in JSON of events and spans.
 ghost use Rattle.std.specs.Prelude.{◌≡◌, IfOk, OnOk, map, string_bytes};
+ghost use Rattle.serde_json.specs.Data.{string};
 ghost use Rattle.serde_json.specs.View.{members_view, view};
 ghost use Rattle.span_core.specs.Event.{event_metadata, event_values};
 ghost use Rattle.span_stream.specs.Object.{event_data, fields_data, plain_members, span_data, with_spans};
@@ -8,6 +9,10 @@ use crate::values::put_values;
 use serde_json::{Map, Value, put};
 use span_core::{Event, FieldValue};
 use std::alloc::{AllocError, Global};
+
+/// How many bytes a text has room for beyond its own. The allocator keeps a few blocks of each size
+/// at hand, and names of members take those of the smallest.
+const SPARE: usize = 32;
 
 /// The object of an event in these spans, with the text of its time.
 pub(crate) fn event_object(
@@ -34,12 +39,7 @@ pub(crate) fn span_object(
         ≡ span_data name.now (members_view values.entries)) }
 {
     let mut members = values;
-    put(
-        &mut members,
-        alloc,
-        "name",
-        Value::try_from_str(alloc, name)?,
-    )?;
+    put(&mut members, alloc, "name", text_of(alloc, name)?)?;
     Ok(Value::Object(members))
 }
 
@@ -54,8 +54,8 @@ fn plain_members(
         (event_values event.now)) }
 {
     let metadata = event.metadata();
-    let level = Value::try_from_str(alloc, metadata.level().as_str())?;
-    let target = Value::try_from_str(alloc, metadata.target())?;
+    let level = text_of(alloc, metadata.level().as_str())?;
+    let target = text_of(alloc, metadata.target())?;
     let fields = fields_of(alloc, metadata.name(), event.values())?;
     let mut members = Map::new(alloc);
     put(&mut members, alloc, "timestamp", Value::String(stamp))?;
@@ -74,12 +74,7 @@ fn fields_of(
     ensures { IfOk result (λ fields. view fields ≡ fields_data name.now values.now) }
 {
     let mut fields = Map::new(alloc);
-    put(
-        &mut fields,
-        alloc,
-        "message",
-        Value::try_from_str(alloc, name)?,
-    )?;
+    put(&mut fields, alloc, "message", text_of(alloc, name)?)?;
     put_values(&mut fields, alloc, values)?;
     Ok(Value::Object(fields))
 }
@@ -98,4 +93,13 @@ fn put_spans(
     };
     put(members, alloc, "span", innermost.clone()?)?;
     put(members, alloc, "spans", Value::Array(spans))
+}
+
+/// A text in JSON.
+fn text_of(alloc: Global, words: &str) -> Result<Value, AllocError>
+    ensures { IfOk result (λ made. view made ≡ string words.now) }
+{
+    let mut text = String::with_capacity(alloc, words.len().saturating_add(SPARE))?;
+    text.push_str(words)?;
+    Ok(Value::String(text))
 }

@@ -2,11 +2,11 @@
 use crate::fixture::in_use;
 use crate::stamp::written;
 use crate::stream::{Faulty, handed_some, lost_on_a_full_disk};
-use crate::text::{LANE, OTHER_LANE, forging, open, site, worked_on};
-use span_core::{FieldValue, Kind, Level, LevelFilter};
-use span_dispatch::{Request, Which, WhichParent};
+use crate::text::{OTHER_LANE, forging, posing, worked_on};
+use span_core::LevelFilter;
+use span_dispatch::Request;
 use span_fmt::{Stream, serve_stream};
-use span_format::{Format, Layout, write_quoted};
+use span_format::{Format, Layout};
 use span_layers::Observer;
 use span_registry::Registry;
 use span_stacks::LayerExt;
@@ -61,7 +61,7 @@ fn with_lanes_alone(alloc: Global, layout: Layout) -> Result<Format, AllocError>
 }
 
 const FULL_BY_LANES: &str = r#"0 outer{user=7}:inner{try=-2}: said what="a\nb" ok=true
-worker-3 heard
+"worker-3" heard
 0 outer{user=7 late=false}: heard
 "#;
 
@@ -71,7 +71,7 @@ const PRETTY_BY_LANES: &str = r#"said, what: "a\nb", ok: true
     in outer with user: 7
 
 heard
-    on worker-3
+    on "worker-3"
 
 heard
     on 0
@@ -127,28 +127,6 @@ fn no_text_begins_a_line(rt: HostRuntime) -> Result<(), Fail> {
     Ok(())
 }
 
-const USER: &[(&str, FieldValue<'static>)] = &[("user", FieldValue::Text("x\" admin=\"true"))];
-
-const GREETING: &[(&str, FieldValue<'static>)] = &[
-    ("message", FieldValue::Text("hi \u{202e}\\ a=1")),
-    ("n", FieldValue::U64(1)),
-    ("none", FieldValue::Absent),
-];
-
-/// An event with a message among its fields, in a span with a field that poses as two.
-fn posing() -> [Request<'static>; 3] {
-    [
-        open(site(1, "s", "app", Level::INFO, Kind::SPAN), USER),
-        Request::Enter(LANE, Which::Made(0)),
-        Request::Event {
-            lane: LANE,
-            metadata: site(2, "{}", "app", Level::ERROR, Kind::EVENT),
-            parent: WhichParent::Contextual,
-            values: GREETING,
-        },
-    ]
-}
-
 const POSED_IN_FULL: &str = r#"ERROR s{user="x\" admin=\"true"}: app: "hi \u{202e}\\ a=1" n=1
 "#;
 
@@ -169,14 +147,6 @@ fn no_text_poses_as_a_field(rt: HostRuntime) -> Result<(), Fail> {
     assert!(rt; short.as_slice() == POSED_IN_SHORT.as_bytes());
     let pretty = served(rt.alloc(), Layout::Pretty, &posing())?;
     assert!(rt; pretty.as_slice() == POSED_TO_READ.as_bytes());
-    Ok(())
-}
-
-#[test]
-fn a_text_in_quotes(rt: HostRuntime) -> Result<(), Fail> {
-    let mut text = String::from_str(rt.alloc(), "said ")?;
-    write_quoted(&mut text, "a \"b\"\u{7} é\\")?;
-    assert!(rt; text.as_str() == "said \"a \\\"b\\\"\\u{7} é\\\\\"");
     Ok(())
 }
 

@@ -28,13 +28,13 @@ fn stamped(alloc: Global, style: TimeStyle) -> Result<Vec<u8>, Fail> {
 }
 
 const WITH_TIMES: &str =
-    "1970-01-01T00:00:00.000001Z 0 WARN outer{user=7}:inner{try=-2}: app::net: said what=a\\nb ok=true
+    "1970-01-01T00:00:00.000001Z 0 WARN outer{user=7}:inner{try=-2}: app::net: said what=\"a\\nb\" ok=true
 1970-01-01T00:00:00.000002Z 3 INFO app: heard
 1970-01-01T00:00:00.000003Z 0 INFO outer{user=7 late=false}: app: heard
 ";
 
 const WITH_SECONDS: &str =
-    "0.000001s 0 WARN outer{user=7}:inner{try=-2}: app::net: said what=a\\nb ok=true
+    "0.000001s 0 WARN outer{user=7}:inner{try=-2}: app::net: said what=\"a\\nb\" ok=true
 0.000002s 3 INFO app: heard
 0.000003s 0 INFO outer{user=7 late=false}: app: heard
 ";
@@ -97,7 +97,7 @@ fn clocks_go_on(rt: HostRuntime) -> Result<(), Fail> {
 }
 
 const IN_COLOURS: &str =
-    "\x1b[33m0 WARN outer{user=7}:inner{try=-2}: app::net: said what=a\\nb ok=true\x1b[0m
+    "\x1b[33m0 WARN outer{user=7}:inner{try=-2}: app::net: said what=\"a\\nb\" ok=true\x1b[0m
 \x1b[32m3 INFO app: heard\x1b[0m
 \x1b[32m0 INFO outer{user=7 late=false}: app: heard\x1b[0m
 ";

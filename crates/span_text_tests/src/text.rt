@@ -2,7 +2,7 @@
 use crate::fixture::{in_use, put};
 use span_core::{FieldSet, FieldValue, Kind, Lane, Level, LevelFilter, Metadata, TraceError};
 use span_dispatch::{Dispatch, Request, Which, WhichParent};
-use span_fmt::{Lines, Tree, serve_lines, serve_tree, write_escaped, write_fields};
+use span_fmt::{Lines, Tree, serve_lines, serve_tree, write_escaped, write_fields, write_quoted};
 use span_layers::{Layer, Observer};
 use span_registry::{Registry, Subscriber};
 use span_stacks::{LayerExt, Layered};
@@ -30,7 +30,7 @@ const LATE: &[(&str, FieldValue<'static>)] = &[("late", FieldValue::Bool(false))
 pub(crate) const OF_ALL: &str = "0 > INFO app: outer user=7
 0   > TRACE app: step
 0     > DEBUG app::net: inner try=-2
-0       - WARN app::net: said what=a\\nb ok=true
+0       - WARN app::net: said what=\"a\\nb\" ok=true
 3 ~ INFO app: outer late=false
 3 - INFO app: heard
 3     < DEBUG app::net: inner
@@ -42,7 +42,7 @@ pub(crate) const OF_ALL: &str = "0 > INFO app: outer user=7
 /// The span `step` is hidden, so it counts for no depth.
 const UNDER_DEBUG: &str = "0 > INFO app: outer user=7
 0   > DEBUG app::net: inner try=-2
-0     - WARN app::net: said what=a\\nb ok=true
+0     - WARN app::net: said what=\"a\\nb\" ok=true
 3 ~ INFO app: outer late=false
 3 - INFO app: heard
 3   < DEBUG app::net: inner
@@ -52,7 +52,7 @@ const UNDER_DEBUG: &str = "0 > INFO app: outer user=7
 
 /// The span `step` is hidden here too.
 pub(crate) const OF_EVENTS: &str =
-    "0 WARN outer{user=7}:inner{try=-2}: app::net: said what=a\\nb ok=true
+    "0 WARN outer{user=7}:inner{try=-2}: app::net: said what=\"a\\nb\" ok=true
 3 INFO app: heard
 0 INFO outer{user=7 late=false}: app: heard
 ";
@@ -250,7 +250,7 @@ fn fields_in_one_line(rt: HostRuntime) -> Result<(), Fail> {
     ];
     write_fields(&mut text, &values)?;
     let whole =
-        "begun first=\\nx\\n\\n second= most=18446744073709551615 least=-9223372036854775808";
+        r#"begun first="\nx\n\n" second="" most=18446744073709551615 least=-9223372036854775808"#;
     assert!(rt; text.as_str() == whole);
     Ok(())
 }
@@ -290,6 +290,25 @@ fn what_is_plain_stays(rt: HostRuntime) -> Result<(), Fail> {
     Ok(())
 }
 
+/// Texts, and what is written of each in quotes.
+const QUOTED: [(&str, &str); 5] = [
+    ("", r#""""#),
+    ("a=1: {b} 'c'", r#""a=1: {b} 'c'""#),
+    ("é\u{a0}€\u{1f600}", "\"é\u{a0}€\u{1f600}\""),
+    ("a \"b\"\u{7} é\\", r#""a \"b\"\u{7} é\\""#),
+    ("\\\" \u{2028}", r#""\\\" \u{2028}""#),
+];
+
+#[test]
+fn texts_in_quotes(rt: HostRuntime) -> Result<(), Fail> {
+    for (words, quoted) in QUOTED {
+        let mut text = String::new(rt.alloc());
+        write_quoted(&mut text, words)?;
+        assert!(rt; text.as_str() == quoted);
+    }
+    Ok(())
+}
+
 const BREAKING: &[(&str, FieldValue<'static>)] = &[("k\n", FieldValue::Text("v\r"))];
 
 const POSING: &[(&str, FieldValue<'static>)] = &[(
@@ -311,9 +330,9 @@ pub(crate) fn forging() -> [Request<'static>; 3] {
     ]
 }
 
-const FORGED: &str = "0 > INFO app: s\\u{85} k\\n=v\\r
-0   - WARN app\\n0: e\\u{1b} f\\u{2028}=\\n0 - INFO app: forged
-";
+const FORGED: &str = r#"0 > INFO app: s\u{85} k\n="v\r"
+0   - WARN app\n0: e\u{1b} f\u{2028}="\n0 - INFO app: forged"
+"#;
 
 #[test]
 fn no_text_begins_a_line_of_a_tree(rt: HostRuntime) -> Result<(), Fail> {
@@ -325,7 +344,8 @@ fn no_text_begins_a_line_of_a_tree(rt: HostRuntime) -> Result<(), Fail> {
 }
 
 const FORGED_EVENT: &str =
-    "0 WARN s\\u{85}{k\\n=v\\r}: app\\n0: e\\u{1b} f\\u{2028}=\\n0 - INFO app: forged\n";
+    r#"0 WARN s\u{85}{k\n="v\r"}: app\n0: e\u{1b} f\u{2028}="\n0 - INFO app: forged"
+"#;
 
 #[test]
 fn no_text_begins_a_line_of_lines(rt: HostRuntime) -> Result<(), Fail> {
@@ -334,5 +354,56 @@ fn no_text_begins_a_line_of_lines(rt: HostRuntime) -> Result<(), Fail> {
     serve_lines(rt.alloc(), &mut dispatch, &forging())?;
     let lines = dispatch.stack().outer().layer().observer();
     assert!(rt; lines.text() == FORGED_EVENT);
+    Ok(())
+}
+
+const TWO_IN_ONE: &[(&str, FieldValue<'static>)] = &[(
+    "user",
+    FieldValue::Text("x\" admin=\"true"),
+)];
+
+const GREETING: &[(&str, FieldValue<'static>)] = &[
+    ("message", FieldValue::Text("hi \u{202e}\\ a=1")),
+    ("n", FieldValue::U64(1)),
+    ("none", FieldValue::Absent),
+];
+
+/// An event with a message among its fields, in a span with a field that poses as two.
+pub(crate) fn posing() -> [Request<'static>; 3] {
+    [
+        open(site(1, "s", "app", Level::INFO, Kind::SPAN), TWO_IN_ONE),
+        Request::Enter(LANE, Which::Made(0)),
+        Request::Event {
+            lane: LANE,
+            metadata: site(2, "{}", "app", Level::ERROR, Kind::EVENT),
+            parent: WhichParent::Contextual,
+            values: GREETING,
+        },
+    ]
+}
+
+const POSED: &str = r#"0 > INFO app: s user="x\" admin=\"true"
+0   - ERROR app: {} message="hi \u{202e}\\ a=1" n=1
+"#;
+
+#[test]
+fn no_text_poses_as_a_field_of_a_tree(rt: HostRuntime) -> Result<(), Fail> {
+    let layer = Observer::new(Tree::new(rt.alloc())).with_filter(LevelFilter::TRACE);
+    let mut dispatch = in_use(rt.alloc(), Registry::new(rt.alloc()), layer)?;
+    serve_tree(rt.alloc(), &mut dispatch, &posing())?;
+    wrote(&rt, dispatch.stack().outer().layer().observer(), POSED);
+    Ok(())
+}
+
+const POSED_EVENT: &str =
+    r#"0 ERROR s{user="x\" admin=\"true"}: app: {} message="hi \u{202e}\\ a=1" n=1
+"#;
+
+#[test]
+fn no_text_poses_as_a_field_of_lines(rt: HostRuntime) -> Result<(), Fail> {
+    let layer = Observer::new(Lines::new(rt.alloc())).with_filter(LevelFilter::TRACE);
+    let mut dispatch = in_use(rt.alloc(), Registry::new(rt.alloc()), layer)?;
+    serve_lines(rt.alloc(), &mut dispatch, &posing())?;
+    assert!(rt; dispatch.stack().outer().layer().observer().text() == POSED_EVENT);
     Ok(())
 }

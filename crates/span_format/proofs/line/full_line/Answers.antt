@@ -24,6 +24,6 @@ returns g c =
     } in
     full_written look e (view_lent registry ctx) kept c.lane.result.0 c.level.result c.metadata-metadata.result c.values.result.now of
     _ _ _ _ _ _
-    (c.in_ok-begin.ensures ∙ ap (λ (t : List ℕ). t ++ begun_text look c.lane.result.0 c.level.result) c.new-line.ensures.bytes)
+    (c.in_ok-begin.ensures ∙ ap (λ (t : List ℕ). t ++ begun_text look c.lane.result.0 c.level.result) c.in_ok-line.ensures.bytes)
     c.in_ok-write_spaced.ensures c.in_ok-write_target.ensures c.in_ok-write_words.ensures c.in_ok-push_str.ensures.bytes
     (parts_from_root registry ctx c.ctx-seen.result e c.event_scope.result part.Label kept c.ctx-seen.ensures c.event_scope.ensures)

@@ -28,7 +28,7 @@ returns g c =
     } in
     pretty_written look e (view_lent registry ctx) kept c.lane.result.0 c.level.result c.metadata-metadata.result c.values.result.now of
     _ _ _ _ _ _ _
-    (c.in_ok-write_level.ensures ∙ ap (λ (t : List ℕ). t ++ level_column look c.level.result) c.new-line.ensures.bytes)
+    (c.in_ok-write_level.ensures ∙ ap (λ (t : List ℕ). t ++ level_column look c.level.result) c.in_ok-line.ensures.bytes)
     c.in_ok-write_words.ensures c.in_ok-push_str.ensures.bytes c.in_ok-write_at.ensures c.in_ok-write_outwards.ensures c.in_ok-push_str-2.ensures.bytes
     (ap (λ (p : Part). flat_map (reference_part p kept) (given registry c.event_scope.result)) c.place_part.ensures
     ∙ parts_outwards registry ctx c.ctx-seen.result e c.event_scope.result (place_part look) kept c.ctx-seen.ensures c.event_scope.ensures)

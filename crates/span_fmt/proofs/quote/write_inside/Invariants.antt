@@ -1,7 +1,7 @@
 use Rattle.std.proofs.Common.{◌≡◌, ◌++◌, flat_map, string_bytes}
 use Rattle.std.specs.Str.{encode_utf8_all}
-use Rattle.span_format.specs.Quote.{quote_inside}
-use Rattle.span_format.proofs.quote.write_inside.Given as goal
+use Rattle.span_fmt.specs.Quote.{quote_inside}
+use Rattle.span_fmt.proofs.quote.write_inside.Given as goal
 
 -- the characters so far are written
 abbrev pub invariant-loop-character : goal.invariant-loop-character

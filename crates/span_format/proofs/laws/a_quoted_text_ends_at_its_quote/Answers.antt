@@ -1,5 +1,0 @@
-use Rattle.span_format.proofs.Closing.{quoted_ends}
-use Rattle.span_format.proofs.laws.a_quoted_text_ends_at_its_quote.Goals as goal
-
-pub returns : goal.returns
-returns c = quoted_ends
