@@ -1,3 +1,4 @@
+mod Behind
 pub mod CallerLemmas
 mod Opened
 mod Settled

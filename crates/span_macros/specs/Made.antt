@@ -45,3 +45,20 @@ pub record IsSpanAt (site : Callsite) (given : List FieldValue) (a : Attributes)
   pub names : map (λ field. field.0.now) (values_of a) ≡ site.fields
   pub values : map (λ field. field.1) (values_of a) ≡ given
   pub parent : asked_parent a ≡ Contextual
+
+-- an event with these metadata in the span that its lane is in, with such values under these names
+pub record IsEventOf (m : Metadata) (fields : List (List ℕ)) (Are : List FieldValue → Type 0)
+    (e : Event) : Type 0 where
+  pub metadata : event_metadata e ≡ m
+  pub names : map (λ field. field.0.now) (event_values e) ≡ fields
+  pub values : Are (map (λ field. field.1) (event_values e))
+  pub parent : event_parent e ≡ Contextual
+
+-- a new span with these metadata in the span that its lane is in, with such values under these
+-- names
+pub record IsSpanOf (m : Metadata) (fields : List (List ℕ)) (Are : List FieldValue → Type 0)
+    (a : Attributes) : Type 0 where
+  pub metadata : metadata_of a ≡ m
+  pub names : map (λ field. field.0.now) (values_of a) ≡ fields
+  pub values : Are (map (λ field. field.1) (values_of a))
+  pub parent : asked_parent a ≡ Contextual

@@ -2,11 +2,11 @@
 ghost use Rattle.std.specs.Prelude.{[]};
 ghost use Rattle.span_dispatch.specs.Contract.{StaysReady};
 ghost use Rattle.span_dispatch.specs.Serve.{stack_of};
-ghost use Rattle.span_macros.specs.Asked.{Opens, RunsInSpan, Sends};
-ghost use Rattle.span_macros.specs.Example.{copied_site, copy_site, copy_values, done_site, done_values, idle_site, read_site};
+ghost use Rattle.span_macros.specs.Asked.{AsksThenOpens, AsksThenSends, Opens, RunsInSpan, Sends};
+ghost use Rattle.span_macros.specs.Example.{AreOfFailed, AreOfJob, copied_site, copy_site, copy_values, done_site, done_values, ended_site, failed_site, idle_site, job_site, read_site};
 ghost use Rattle.span_macros.specs.Made.{IsEventAt, IsSpanAt, ShowsCallsite};
 
-use crate::{event, in_span, metadata, new_span};
+use crate::{debug, event, in_span, info_span, metadata, new_span, warn};
 use span_core::{Id, Lane, Metadata, TraceError};
 use span_dispatch::Dispatch;
 use span_registry::Subscriber;
@@ -18,7 +18,7 @@ pub fn read_metadata() -> Metadata
     metadata!(EVENT, INFO, "read", bytes, ok)
 }
 
-/// Sends an event with a field of each kind.
+/// Sends an event with numbers, a truth value and a text.
 pub fn report<S: Subscriber>(
     dispatch: &mut Dispatch<S>,
     lane: Lane,
@@ -78,4 +78,47 @@ pub fn copy<S: Subscriber>(
     in_span!(dispatch, lane; INFO, "copy"; from = from, to = to => {
         event!(dispatch, lane; TRACE, "copied")
     })
+}
+
+/// Sends an event with two fields, where its callsite is wanted.
+pub fn fail<S: Subscriber>(
+    dispatch: &mut Dispatch<S>,
+    lane: Lane,
+    code: u16,
+    by: &str,
+) -> Result<bool, TraceError>
+    requires { S.usable (stack_of dispatch.old) }
+    ensures usable { S.usable (stack_of dispatch.new) }
+    ensures ready { StaysReady S.Subscriber dispatch.old dispatch.new }
+    ensures sent { AsksThenSends S.Subscriber failed_site (AreOfFailed code by.now) lane result
+        dispatch.old dispatch.new }
+{
+    warn!(dispatch, lane; code, by, "failed")
+}
+
+/// Opens a span with a float and a number that may be missing, where its callsite is wanted.
+pub fn open_job<S: Subscriber>(
+    dispatch: &mut Dispatch<S>,
+    lane: Lane,
+    share: f64,
+    user: Option<u64>,
+) -> Result<Option<Id>, TraceError>
+    requires { S.usable (stack_of dispatch.old) }
+    ensures usable { S.usable (stack_of dispatch.new) }
+    ensures ready { StaysReady S.Subscriber dispatch.old dispatch.new }
+    ensures opened { AsksThenOpens S.Subscriber job_site (AreOfJob share user) lane result
+        dispatch.old dispatch.new }
+{
+    info_span!(dispatch, lane; "job", share, user)
+}
+
+/// Sends an event without fields.
+pub fn end<S: Subscriber>(dispatch: &mut Dispatch<S>, lane: Lane) -> Result<bool, TraceError>
+    requires { S.usable (stack_of dispatch.old) }
+    ensures usable { S.usable (stack_of dispatch.new) }
+    ensures ready { StaysReady S.Subscriber dispatch.old dispatch.new }
+    ensures sent { Sends S.Subscriber (IsEventAt ended_site []) lane result dispatch.old
+        dispatch.new }
+{
+    debug!(dispatch, lane; "ended")
 }

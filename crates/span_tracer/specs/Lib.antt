@@ -1,4 +1,3 @@
-pub mod Field
 pub mod Receiver
 pub mod Span
 pub mod Tracer

@@ -3,17 +3,15 @@
 #![tactic(auto)]
 
 mod callsite;
-mod field;
-mod macros;
 mod receiver;
 mod served;
 mod span;
 mod tracer;
 
-pub use field::{IntoParent, Value, event_in, span_in, with_debug, with_display, with_value};
 pub use receiver::{LanesExhausted, Receiver};
 pub use span::{Entered, EnteredSpan, Span};
+pub use span_macros::{
+    IntoParent, Value, debug, debug_span, error, error_span, info, info_span, trace, trace_span,
+    warn, warn_span,
+};
 pub use tracer::Tracer;
-// The names by which macros find them.
-pub use span_core::{FieldSet, Kind, Level, Parent};
-pub use span_macros::numbered_metadata;

@@ -1,24 +1,16 @@
-//! What macros make of the values and parents that they are given.
+//! What macros make of the values that they are given.
 ghost use Rattle.std.specs.Prelude.{◌≡◌, string_bytes};
-ghost use Rattle.span_core.specs.Event.{event_of};
-ghost use Rattle.span_core.specs.Span.{attributes_of};
 ghost use Rattle.span_core.specs.declared.field.FieldValue.{FieldValue};
 ghost use Rattle.span_core.specs.declared.field.FieldValue.TheVariants as value;
-ghost use Rattle.span_core.specs.declared.span.Parent.TheVariants.{Explicit};
-ghost use Rattle.span_core.specs.declared.span.Parent.{Parent as Asked};
-ghost use Rattle.span_tracer.specs.Field.{GivesOne, IsFloat, IsOptional, IsText, ShowsText, parent_by};
-ghost use Rattle.span_tracer.specs.Span.{span_id};
+ghost use Rattle.span_macros.specs.Field.{GivesOne, IsFloat, IsOptional, IsText, ShowsText};
 
-use crate::span::Span;
-use span_core::{Attributes, Event, FieldValue, Float, FloatText, Id, Metadata, Parent};
-use span_registry::Subscriber;
+use span_core::{FieldValue, Float, FloatText};
 use std::alloc::Global;
 use std::fmt::{Debug, Display};
-use std::sync::Wait;
 
 /// What a macro takes as the value of a field: numbers, truth values and texts, or none of them.
 ///
-/// Stands for `tracing_core::field::Value`.
+/// Stands for a part of `tracing_core::field::Value`: it has no `f32`, and no references.
 pub trait Value {
     /// Whether this is the value that it becomes.
     ghost becomes: { Self → FieldValue → Type 0 };
@@ -209,82 +201,5 @@ pub fn with_debug<V: Debug, T, F: FnOnce(FieldValue<'_>) -> T>(
     match format!(in alloc; "{value:?}") {
         Ok(text) => body(FieldValue::Text(&text)),
         Err(_) => body(FieldValue::Absent),
-    }
-}
-
-/// What a macro takes as the parent of a span or an event.
-pub trait IntoParent {
-    /// The parent that it names.
-    ghost parent_of: { Self → Asked };
-
-    /// The parent.
-    fn into_parent(self) -> Parent
-        ensures { result ≡ parent_of self };
-}
-
-impl IntoParent for Parent {
-    ghost parent_of = { λ parent. parent };
-
-    fn into_parent(self) -> Parent {
-        self
-    }
-}
-
-impl IntoParent for Id {
-    ghost parent_of = { Explicit };
-
-    fn into_parent(self) -> Parent {
-        Parent::Explicit(self)
-    }
-}
-
-impl IntoParent for Option<Id> {
-    ghost parent_of = { parent_by };
-
-    fn into_parent(self) -> Parent {
-        match self {
-            Some(id) => Parent::Explicit(id),
-            None => Parent::Root,
-        }
-    }
-}
-
-impl<R: Wait, S: Subscriber> IntoParent for &Span<'_, R, S> {
-    ghost parent_of = { λ span. parent_by (span_id span.now) };
-
-    fn into_parent(self) -> Parent {
-        self.id().into_parent()
-    }
-}
-
-/// An event with this parent.
-#[inline(always)]
-pub fn event_in<'a>(
-    parent: Parent,
-    metadata: Metadata,
-    values: &'a [(&'static str, FieldValue<'a>)],
-) -> Event<'a>
-    ensures { result ≡ event_of metadata values.entry parent }
-{
-    match parent {
-        Parent::Contextual => Event::new(metadata, values),
-        Parent::Root => Event::new_root(metadata, values),
-        Parent::Explicit(id) => Event::new_child_of(id, metadata, values),
-    }
-}
-
-/// Attributes of a span with this parent.
-#[inline(always)]
-pub fn span_in<'a>(
-    parent: Parent,
-    metadata: Metadata,
-    values: &'a [(&'static str, FieldValue<'a>)],
-) -> Attributes<'a>
-    ensures { result ≡ attributes_of metadata values.entry parent }
-{
-    match parent {
-        Parent::Contextual => Attributes::new(metadata, values),
-        Parent::Root => Attributes::new_root(metadata, values),
-        Parent::Explicit(id) => Attributes::child_of(id, metadata, values),
     }
 }
