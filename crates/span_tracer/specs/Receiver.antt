@@ -25,6 +25,10 @@ Journalled registry usable d calls =
     (journal : List Entry) × KeepsJournal registry usable d journal × (calls ≡ count_of journal)
 
 module _ {S : Type 0} (s : SubscriberOf S) where
+  -- so many calls were accepted by some dispatcher, as a receiver keeps it between its calls
+  abbrev pub HasCounted : ℕ → Type 0
+  HasCounted calls = (d : Dispatch S) × Journalled s.registry s.usable d calls
+
   -- this holds between some dispatcher, as a receiver keeps it between its calls, and what its call
   -- leaves
   abbrev pub ServesSome : (Dispatch S → Dispatch S → Type 0) → Type 0

@@ -1,10 +1,14 @@
 -- What a handle of a span holds, and what becomes of it.
-use Rattle.std.specs.Prelude.{◌≡◌, Bool, IfSome, Option, None, Some, Result, Ok, Err, IsOk, is_ok}
+use Rattle.std.specs.Prelude.{◌≡◌, ◌⊎◌, Bool, IfSome, Option, None, Some, Result, Ok, Err}
 use Rattle.span_core.specs.declared.error.TraceError.{TraceError}
+use Rattle.span_core.specs.declared.level.LevelFilter.{LevelFilter}
+use Rattle.span_core.specs.declared.span.Attributes.{Attributes}
 use Rattle.span_core.specs.declared.span.Id.{Id}
 use Rattle.span_core.specs.declared.span.Lane.{Lane}
 use Rattle.span_dispatch.specs.Contract.{ClonesSpan, DropsOneHandle, EntersSpan, ExitsSpan, SubscriberOf}
+use Rattle.span_dispatch.specs.declared.dispatch.Dispatch.{Dispatch}
 use Rattle.span_tracer.specs.Receiver.{ServesSome}
+use Rattle.span_tracer.specs.Tracer.{TracesSpan}
 use Rattle.span_tracer.specs.declared.span.Entered.{Entered}
 use Rattle.span_tracer.specs.declared.span.EnteredSpan.{EnteredSpan}
 use Rattle.span_tracer.specs.declared.span.Span.{Span}
@@ -45,18 +49,38 @@ module _ {S : Type 0} (s : SubscriberOf S) where
 
   -- a lane asked for a handle more of a span, with this answer; where there is none, nothing is
   -- refused
-  abbrev pub AddsHandle : {A E : Type 0} → Lane → Option Id → Result A E → Type 0
-  AddsHandle lane None given = IsOk given
+  abbrev pub AddsHandle : Lane → Option Id → Result (Unit {0}) TraceError → Type 0
+  AddsHandle lane None given = given ≡ Ok tt
   AddsHandle lane (Some id) given =
       (cloned : Result Id TraceError)
-      × (is_ok cloned ≡ is_ok given) × ServesSome s (ClonesSpan s lane id cloned)
+      × (given ≡ done_of cloned) × ServesSome s (ClonesSpan s lane id cloned)
 
   -- a lane left a span, if there is one
   abbrev pub LeavesSpan : Lane → Option Id → Type 0
   LeavesSpan lane o = IfSome o (λ id. ServesSome s (ExitsSpan s lane id))
+
+  -- a lane left a span, and then a handle was taken from it, with this answer
+  pub record ExitsThenDrops (lane : Lane) (id : Id) (given : Result Bool TraceError)
+      (old new : Dispatch S) : Type 0 where
+    pub between : Dispatch S
+    pub left : ExitsSpan s lane id old between
+    pub dropped : DropsOneHandle s lane id given between new
+
+  -- a lane left a span, and then a handle was taken from it, with some answer and no call between,
+  -- if there is one
+  abbrev pub LeavesAndDrops : Lane → Option Id → Type 0
+  LeavesAndDrops lane o =
+      IfSome o
+      (λ id. (given : Result Bool TraceError) × ServesSome s (ExitsThenDrops lane id given))
 
   -- a handle was taken from a span, if there is one, with some answer
   abbrev pub DropsHandle : Lane → Option Id → Type 0
   DropsHandle lane o =
       IfSome o
       (λ id. (given : Result Bool TraceError) × ServesSome s (DropsOneHandle s lane id given))
+
+  -- why no span is opened and entered: it is refused, or it is opened and to enter it is
+  abbrev pub RefusesToTrace : Lane → Option LevelFilter → Attributes → TraceError → Type 0
+  RefusesToTrace lane hint attrs e =
+      TracesSpan s lane hint attrs (Err e)
+      ⊎ ((id : Id) × TracesSpan s lane hint attrs (Ok (Some id)) × EntersIfMade lane (Some id) (Err e))

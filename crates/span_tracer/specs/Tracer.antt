@@ -1,5 +1,6 @@
 -- What is said of a tracer's calls.
 use Rattle.std.specs.Prelude.{◌≡◌, Bool, true, false, Option, None, Result, Ok}
+use Rattle.std.specs.declared.alloc.Global.{Global}
 use Rattle.span_core.specs.Event.{event_metadata}
 use Rattle.span_core.specs.Level.{is_above}
 use Rattle.span_core.specs.Metadata.{level_of}
@@ -13,7 +14,12 @@ use Rattle.span_core.specs.declared.span.Id.{Id}
 use Rattle.span_core.specs.declared.span.Lane.{Lane}
 use Rattle.span_dispatch.specs.Contract.{OpensSpan, Probes, SendsEvent, ShowsHint, ShowsKept, SubscriberOf}
 use Rattle.span_tracer.specs.Receiver.{ServesSome}
+use Rattle.span_tracer.specs.declared.receiver.Receiver.{Receiver}
 use Rattle.span_tracer.specs.declared.tracer.Tracer.{Tracer}
+
+-- the memory that a receiver takes from
+abbrev pub alloc_of : {S : Type 0} → Receiver S → Global
+alloc_of r = r.alloc
 
 module _ {R S : Type 0} where
   -- the lane that a tracer's calls come from
@@ -23,6 +29,10 @@ module _ {R S : Type 0} where
   -- the hint that a tracer was made with
   abbrev pub tracer_hint : Tracer R S → Option LevelFilter
   tracer_hint t = t.hint
+
+  -- the memory that a tracer takes from
+  abbrev pub tracer_alloc : Tracer R S → Global
+  tracer_alloc t = alloc_of t.receiver.now
 
 -- a call is dropped where its level is above a hint, else it is served
 pub record DropsAboveHint (hint : Option LevelFilter) (m : Metadata) (drops serves : Type 0)

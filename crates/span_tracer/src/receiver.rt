@@ -2,8 +2,8 @@
 ghost use Rattle.std.specs.Prelude.{◌≡◌, IfOk};
 ghost use Rattle.span_dispatch.specs.Serve.{stack_of};
 ghost use Rattle.span_store.specs.Store.{IsFresh};
-ghost use Rattle.span_tracer.specs.Receiver.{Journalled};
-ghost use Rattle.span_tracer.specs.Tracer.{HasHint, tracer_hint, tracer_lane};
+ghost use Rattle.span_tracer.specs.Receiver.{HasCounted, Journalled};
+ghost use Rattle.span_tracer.specs.Tracer.{HasHint, alloc_of, tracer_hint, tracer_lane};
 
 use crate::served::Served;
 use crate::tracer::Tracer;
@@ -53,6 +53,7 @@ impl<S: Subscriber> Receiver<S> {
     pub fn new(alloc: Global, dispatch: Dispatch<S>) -> Receiver<S>
         requires usable { S.usable (stack_of dispatch) }
         requires fresh { IsFresh (S.registry (stack_of dispatch)) }
+        ensures { alloc_of result ≡ alloc }
     {
         let mut wanted = Vec::new(alloc);
         for place in 0..WANTED {
@@ -95,7 +96,9 @@ impl<S: Subscriber> Receiver<S> {
     }
 
     /// How many calls were accepted until now.
-    pub fn calls(&self, rt: &impl Wait) -> u64 {
+    pub fn calls(&self, rt: &impl Wait) -> u64
+        ensures { HasCounted S.Subscriber result }
+    {
         self.lock.lock(rt).calls()
     }
 
@@ -114,7 +117,9 @@ impl<S: Subscriber> Receiver<S> {
     }
 
     /// The memory that texts of values are taken from.
-    pub(crate) fn alloc(&self) -> Global {
+    pub(crate) fn alloc(&self) -> Global
+        ensures { result ≡ alloc_of self.now }
+    {
         self.alloc
     }
 

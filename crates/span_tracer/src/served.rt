@@ -4,7 +4,8 @@ ghost use Rattle.std.specs.Prelude.{◌≡◌, IfOk};
 ghost use Rattle.span_dispatch.specs.Contract.{ClonesSpan, DropsOneHandle, EntersSpan, ExitsSpan, FollowsSpan, OpensSpan, Probes, RecordsValues, SendsEvent, SetsOneLevel, Shows};
 ghost use Rattle.span_dispatch.specs.Serve.{stack_of};
 ghost use Rattle.span_store.specs.Store.{IsFresh};
-ghost use Rattle.span_tracer.specs.Receiver.{Journalled, ServesSome};
+ghost use Rattle.span_tracer.specs.Receiver.{HasCounted, Journalled, ServesSome};
+ghost use Rattle.span_tracer.specs.Span.{ExitsThenDrops};
 ghost use Rattle.span_tracer.specs.Tracer.{HasHint};
 ghost use Rattle.span_tracer.specs.private.Served.{count_after};
 
@@ -80,7 +81,7 @@ impl<S: Subscriber> Served<S> {
 
     /// How many calls were accepted.
     pub(crate) fn calls(&self) -> u64
-        ensures { result ≡ self.now.calls }
+        ensures { HasCounted S.Subscriber result }
     {
         self.calls
     }
@@ -114,6 +115,7 @@ impl<S: Subscriber> Served<S> {
     }
 
     /// Opens a span as `Dispatch::new_span` does, its callsite registered.
+    #[inline(always)]
     pub(crate) fn new_span(
         &mut self,
         lane: Lane,
@@ -127,7 +129,8 @@ impl<S: Subscriber> Served<S> {
             calls,
         } = self;
         if let Some(known) = find(callsites, &attrs.metadata()) {
-            let given = dispatch.new_span_by(lane, known, attrs);
+            let own = *attrs; // What is lent to a call is read anew behind a lock.
+            let given = dispatch.new_span_by(lane, known, &own);
             *calls = counted(*calls, &given);
             return given;
         }
@@ -277,6 +280,23 @@ impl<S: Subscriber> Served<S> {
             callsites: _,
             calls,
         } = self;
+        let given = dispatch.drop_span(lane, id);
+        *calls = counted(*calls, &given);
+        given
+    }
+
+    /// Leaves a span as `Dispatch::exit` does, and takes a handle from it as `Dispatch::drop_span`
+    /// does, with no call in between.
+    pub(crate) fn exit_and_drop(&mut self, lane: Lane, id: Id) -> Result<bool, TraceError>
+        ensures { ServesSome S.Subscriber (ExitsThenDrops S.Subscriber lane id result) }
+    {
+        let Served {
+            dispatch,
+            callsites: _,
+            calls,
+        } = self;
+        dispatch.exit(lane, id);
+        *calls = counted(*calls, &Ok(()));
         let given = dispatch.drop_span(lane, id);
         *calls = counted(*calls, &given);
         given

@@ -1,12 +1,14 @@
 //! Handles of spans, and guards that leave their span however they end.
 ghost use Rattle.std.specs.Prelude.{◌≡◌, ◌↔◌, IfOk, IfSome, IsTrue, None, OnOk};
 ghost use Rattle.span_dispatch.specs.Contract.{RecordsValues};
+ghost use Rattle.span_macros.specs.Field.{parent_by};
 ghost use Rattle.span_tracer.specs.Receiver.{ServesSome};
-ghost use Rattle.span_tracer.specs.Span.{AddsHandle, DropsHandle, EntersIfMade, LeavesSpan, done_of, held_span, span_id, span_of, span_tracer};
+ghost use Rattle.span_tracer.specs.Span.{AddsHandle, DropsHandle, EntersIfMade, LeavesAndDrops, LeavesSpan, done_of, held_span, span_id, span_of, span_tracer};
 ghost use Rattle.span_tracer.specs.Tracer.{tracer_lane};
 
 use crate::tracer::Tracer;
-use span_core::{Id, Record, TraceError};
+use span_core::{Id, Parent, Record, TraceError};
+use span_macros::IntoParent;
 use span_registry::Subscriber;
 use std::alloc::AllocError;
 use std::sync::Wait;
@@ -33,7 +35,17 @@ impl<R: Wait, S: Subscriber> Drop for Span<'_, R, S> {
     }
 }
 
+impl<R: Wait, S: Subscriber> IntoParent for &Span<'_, R, S> {
+    ghost parent_of = { λ span. parent_by (span_id span.now) };
+
+    fn into_parent(self) -> Parent {
+        self.id().into_parent()
+    }
+}
+
 impl<R: Wait, S: Subscriber> Clone for Span<'_, R, S> {
+    ghost is_clone = { λ x y. (span_id y ≡ span_id x) × (span_tracer y ≡ span_tracer x) };
+
     fn clone(&self) -> Result<Self, AllocError> {
         match self.another() {
             Ok(span) => Ok(span),
@@ -62,7 +74,7 @@ impl<'a, R: Wait, S: Subscriber> Span<'a, R, S> {
         ensures span { IfOk result (λ h. span_id h ≡ span_id self.now) }
         ensures tracer { IfOk result (λ h. span_tracer h ≡ span_tracer self.now) }
         ensures added { AddsHandle S.Subscriber (tracer_lane (span_tracer self.now))
-            (span_id self.now) result }
+            (span_id self.now) (done_of result) }
     {
         let Some(id) = self.id else {
             return Ok(self.tracer.no_span());
@@ -176,9 +188,7 @@ pub struct EnteredSpan<'a, R: Wait, S: Subscriber> {
 
 impl<R: Wait, S: Subscriber> Drop for EnteredSpan<'_, R, S> {
     fn drop(self)
-        ensures left { LeavesSpan S.Subscriber (tracer_lane (span_tracer (held_span self.entry)))
-            (span_id (held_span self.entry)) }
-        ensures dropped { DropsHandle S.Subscriber
+        ensures { LeavesAndDrops S.Subscriber
             (tracer_lane (span_tracer (held_span self.entry))) (span_id (held_span self.entry)) }
     {
         let EnteredSpan { span } = self;

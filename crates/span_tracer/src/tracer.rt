@@ -1,13 +1,13 @@
 //! A handle by which one lane traces through a receiver.
 ghost use Rattle.std.specs.Fn.{FnOnceReturnsAt};
-ghost use Rattle.std.specs.Prelude.{◌≡◌, ◌⊎◌, IfOk, None, Ok, Some, false, not, true};
+ghost use Rattle.std.specs.Prelude.{◌≡◌, ◌⊎◌, IfErr, IfOk, None, Ok, Some, false, not, true};
 ghost use Rattle.span_core.specs.Level.{is_above};
 ghost use Rattle.span_core.specs.Metadata.{level_of};
 ghost use Rattle.span_dispatch.specs.Contract.{ClonesSpan, DropsOneHandle, EntersSpan, ExitsSpan, FollowsSpan, RecordsValues, SetsOneLevel, Shows};
 ghost use Rattle.span_dispatch.specs.Serve.{stack_of};
 ghost use Rattle.span_tracer.specs.Receiver.{ServesSome};
-ghost use Rattle.span_tracer.specs.Span.{DropsHandle, EntersIfMade, LeavesSpan, held_span, opened, span_id, span_tracer};
-ghost use Rattle.span_tracer.specs.Tracer.{HasHint, TracesEvent, TracesProbe, TracesSpan, tracer_hint, tracer_lane};
+ghost use Rattle.span_tracer.specs.Span.{EntersIfMade, LeavesAndDrops, RefusesToTrace, held_span, opened, span_id, span_tracer};
+ghost use Rattle.span_tracer.specs.Tracer.{HasHint, TracesEvent, TracesProbe, TracesSpan, tracer_alloc, tracer_hint, tracer_lane};
 
 use crate::receiver::Receiver;
 use crate::span::{EnteredSpan, Span};
@@ -35,6 +35,8 @@ pub struct Tracer<'a, R: Wait, S: Subscriber> {
 impl<R: Wait, S: Subscriber> Copy for Tracer<'_, R, S> {}
 
 impl<R: Wait, S: Subscriber> Clone for Tracer<'_, R, S> {
+    ghost is_clone = { λ x y. y ≡ x };
+
     fn clone(&self) -> Result<Self, std::alloc::AllocError> {
         Ok(*self)
     }
@@ -99,7 +101,9 @@ impl<'a, R: Wait, S: Subscriber> Tracer<'a, R, S> {
     }
 
     /// The memory that texts of values are taken from.
-    pub fn alloc(&self) -> Global {
+    pub fn alloc(&self) -> Global
+        ensures { result ≡ tracer_alloc self.now }
+    {
         self.receiver.alloc()
     }
 
@@ -174,6 +178,7 @@ impl<'a, R: Wait, S: Subscriber> Tracer<'a, R, S> {
 
     /// Opens a span as `span` does. Where none is made, its callsite is asked again before values
     /// are computed for it.
+    #[inline(always)]
     pub fn span_as_wanted(&self, attrs: &Attributes<'_>) -> Result<Span<'a, R, S>, TraceError>
         ensures tracer { IfOk result (λ h. span_tracer h ≡ self.now) }
         ensures opens { TracesSpan S.Subscriber (tracer_lane self.now) (tracer_hint self.now)
@@ -191,6 +196,7 @@ impl<'a, R: Wait, S: Subscriber> Tracer<'a, R, S> {
     }
 
     /// Opens a span as `span` does, and answers its id.
+    #[inline(always)]
     fn open(&self, attrs: &Attributes<'_>) -> Result<Option<Id>, TraceError>
         ensures { TracesSpan S.Subscriber (tracer_lane self.now) (tracer_hint self.now) attrs.now
             result }
@@ -211,6 +217,8 @@ impl<'a, R: Wait, S: Subscriber> Tracer<'a, R, S> {
             (tracer_hint self.now) attrs.now (Ok (span_id (held_span g)))) }
         ensures enters { IfOk result (λ g. EntersIfMade S.Subscriber (tracer_lane self.now)
             (span_id (held_span g)) (Ok tt)) }
+        ensures refused { IfErr result (RefusesToTrace S.Subscriber (tracer_lane self.now)
+            (tracer_hint self.now) attrs.now) }
     {
         match self.span(attrs) {
             Ok(span) => match span.entered() {
@@ -285,14 +293,11 @@ impl<'a, R: Wait, S: Subscriber> Tracer<'a, R, S> {
     /// Leaves a span as `Dispatch::exit` does, and drops a handle of it as `Dispatch::drop_span`
     /// does, with no call of another in between.
     pub(crate) fn exit_and_drop(&self, id: Id)
-        ensures left { LeavesSpan S.Subscriber (tracer_lane self.now) (Some id) }
-        ensures dropped { DropsHandle S.Subscriber (tracer_lane self.now) (Some id) }
+        ensures { LeavesAndDrops S.Subscriber (tracer_lane self.now) (Some id) }
     {
-        let lane = self.lane;
         let mut served = self.receiver.served(self.rt);
-        served.exit(lane, id);
         // It is refused only where the span's handles were dropped by its id.
-        let _ = served.drop_span(lane, id);
+        let _ = served.exit_and_drop(self.lane, id);
     }
 
     /// Adds a handle as `Dispatch::clone_span` does.

@@ -23,3 +23,6 @@ invariant_of-self g c =
           ))) c.event_by-given.ensures.sends.unchanged),
       still_registered from new old.callsites.places c.event_by-given.ensures.registered c.self.invariant.1,
     )
+
+pub event_by-given-requires-clause-known : goal.event_by-given-requires-clause-known
+event_by-given-requires-clause-known g c = c.self.invariant.1 _ _ c.in-Some.ensures.there

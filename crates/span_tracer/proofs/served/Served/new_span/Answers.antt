@@ -15,3 +15,6 @@ invariant_of-self g c =
           c.new_span_by-given.ensures.opens.store) c.new_span_by-given.ensures.opens.unchanged),
       still_registered from new old.callsites.places c.new_span_by-given.ensures.registered c.self.invariant.1,
     )
+
+pub new_span_by-given-requires-clause-known : goal.new_span_by-given-requires-clause-known
+new_span_by-given-requires-clause-known g c = c.self.invariant.1 _ _ c.in-Some.ensures.there
