@@ -163,6 +163,9 @@ fn calls_examples<S: Subscriber>(rt: &impl Abort, dispatch: &mut Dispatch<S>) ->
     assert!(rt; example::rest(dispatch, LANE)?.is_some());
     assert!(rt; example::open_copy(dispatch, LANE, 1, 2)?.is_some());
     assert!(rt; example::copy(dispatch, LANE, 1, 2)?);
+    assert!(rt; example::fail(dispatch, LANE, 1, "me")?);
+    assert!(rt; example::open_job(dispatch, LANE, 0.5, Some(1))?.is_some());
+    assert!(rt; example::end(dispatch, LANE)?);
     Ok(())
 }
 
@@ -199,5 +202,14 @@ fn a_shared_number_is_refused(rt: HostRuntime) -> Result<(), Fail> {
     let alloc = rt.alloc();
     let refused = reports_and_collides(&mut Dispatch::new(alloc, Registry::new(alloc)))?;
     assert!(rt; refused == Err(TraceError::CallsiteMismatch));
+    Ok(())
+}
+
+/// Texts of values may take what a dispatcher's cache takes from.
+#[test]
+fn a_text_is_made_where_a_dispatcher_is_at_hand(rt: HostRuntime) -> Result<(), Fail> {
+    let dispatch = Dispatch::new(rt.alloc(), Registry::new(rt.alloc()));
+    let text = String::from_str(dispatch.alloc(), "made")?;
+    assert!(rt; text.as_str() == "made");
     Ok(())
 }

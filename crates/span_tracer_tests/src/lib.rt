@@ -2,6 +2,8 @@
 #![tactic(auto)]
 
 #[cfg(test)]
+mod handle;
+#[cfg(test)]
 mod job;
 #[cfg(test)]
 mod macros;

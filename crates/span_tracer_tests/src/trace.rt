@@ -24,12 +24,12 @@ enum JobError {
 }
 
 /// What the error of a job says.
-const OF_ERROR: &str = "not a number
+const OF_ERROR: &str = r#"not a number
    0: span_tracer_tests::trace::parse
-           with word=two
+           with word="two"
    1: span_tracer_tests::trace::job
-           with id=7 user=x
-   2: span_tracer_tests::trace::all";
+           with id=7 user="x"
+   2: span_tracer_tests::trace::all"#;
 
 /// Reads a number, in a span of its own.
 fn parse<R: Wait, S: Subscriber>(tracer: Tracer<'_, R, S>, word: &str) -> Result<u64, JobError> {
