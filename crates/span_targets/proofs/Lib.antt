@@ -1,5 +1,7 @@
+mod Around
 mod Back
 mod Edits
+mod EnvMeaning
 mod Levels
 mod Longest
 mod Meaning

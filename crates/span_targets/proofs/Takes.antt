@@ -58,10 +58,10 @@ wrong n r fault f ws vs e items = record {
 
 -- ---- directives in a row
 
-within : (n : ℕ) → n ≤ MAX_DIRECTIVES → nat_lt MAX_DIRECTIVES n ≡ false
+pub within : (n : ℕ) → n ≤ MAX_DIRECTIVES → nat_lt MAX_DIRECTIVES n ≡ false
 within n l = false_from_ne_true _ (λ e. omega (arith, ltb-true _ _ e))
 
-behind : (n : ℕ) → MAX_DIRECTIVES < n → nat_lt MAX_DIRECTIVES n ≡ true
+pub behind : (n : ℕ) → MAX_DIRECTIVES < n → nat_lt MAX_DIRECTIVES n ≡ true
 behind n l = lt-ltb _ _ l
 
 pub named_more : (n : ℕ) (p : List ℕ) (ps : List (List ℕ)) (m : Names)

@@ -1,6 +1,8 @@
 pub mod Answers
 pub mod Back
 pub mod Directive
+pub mod EnvFilter
+pub mod EnvText
 pub mod Names
 pub mod Targets
 pub mod Text

@@ -1,2 +1,3 @@
+pub mod EnvTake
 pub mod Order
 pub mod Take

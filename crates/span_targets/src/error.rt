@@ -18,6 +18,10 @@ pub enum Fault {
     /// Its target has a `[`: a filter by targets knows nothing of spans and fields.
     #[error("its target has a '['")]
     Bracket,
+    /// What follows its `[` names no spans: a filter by spans takes a name, `]`, and then nothing or
+    /// `=` and a level. It knows nothing of fields.
+    #[error("after its '[' it wants a span's name, ']', and perhaps '=' and a level")]
+    Span,
     /// As many as are read stand before it.
     #[error("more than 1024 directives aren't read")]
     TooMany,

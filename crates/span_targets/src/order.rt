@@ -54,7 +54,7 @@ pub(crate) fn most_of(directives: &[Directive], level: LevelFilter) -> LevelFilt
 }
 
 /// The one that passes more.
-fn greater(a: LevelFilter, b: LevelFilter) -> LevelFilter
+pub(crate) fn greater(a: LevelFilter, b: LevelFilter) -> LevelFilter
     ensures { result ≡ greater a b }
 {
     if a <= b { b } else { a }

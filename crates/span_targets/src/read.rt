@@ -60,14 +60,14 @@ fn read_alone(text: &str) -> Result<Said<'_>, Fault>
 }
 
 /// Whether the byte is one of the text's.
-fn has_byte(text: &str, byte: u8) -> bool
+pub(crate) fn has_byte(text: &str, byte: u8) -> bool
     ensures { result ≡ has byte text.now }
 {
     text.as_bytes().contains(&byte)
 }
 
 /// The levels that a text names.
-fn level_of(text: &str) -> Option<LevelFilter>
+pub(crate) fn level_of(text: &str) -> Option<LevelFilter>
     ensures { result ≡ level_named text.now }
 {
     text.parse::<LevelFilter>().ok()

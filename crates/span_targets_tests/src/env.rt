@@ -1,7 +1,7 @@
 //! Tests of filters from environment variables, with an environment of one variable.
 
 use span_core::LevelFilter;
-use span_targets::{FromEnvError, Targets};
+use span_targets::{EnvFilter, FromEnvError, Targets};
 use std::alloc::Global;
 use std::env::{FillError, VarError};
 use std::rt::Env;
@@ -70,5 +70,20 @@ fn a_variable_that_is_no_text(rt: HostRuntime) -> Result<(), Fail> {
         _ => false,
     };
     assert!(rt; refused);
+    Ok(())
+}
+
+#[test]
+fn a_variable_that_names_spans(rt: HostRuntime) -> Result<(), Fail> {
+    let env = OneVariable {
+        alloc: rt.alloc(),
+        value: b"warn,[job]=debug",
+    };
+    let filter = EnvFilter::from_env(&env, "RUST_LOG")?;
+    assert!(rt; filter.targets().default_level() == Some(LevelFilter::WARN));
+    assert!(rt; filter.spans().len() == 1);
+    let unset = EnvFilter::from_env(&env, "OTHER")?;
+    assert!(rt; unset.targets().default_level() == Some(LevelFilter::ERROR));
+    assert!(rt; unset.spans().is_empty());
     Ok(())
 }

@@ -6,4 +6,6 @@ mod env;
 #[cfg(test)]
 mod filter;
 #[cfg(test)]
+mod span;
+#[cfg(test)]
 mod text;

@@ -15,12 +15,13 @@ use Rattle.span_targets.specs.declared.targets.Targets.{Targets}
 abbrev AtMost : ℕ → LevelFilter → Type 0
 AtMost k l = filter_number l ≤ k
 
-greater_first : (f g : LevelFilter) → filter_number f ≤ filter_number (greater f g)
+-- the greater is no less than either
+pub greater_first : (f g : LevelFilter) → filter_number f ≤ filter_number (greater f g)
 greater_first f g =
     cond_both (nat_le (filter_number f) (filter_number g)) g f
     (λ h. filter_number f ≤ filter_number h) (λ e. leb-true _ _ e) (λ e. omega arith)
 
-greater_second : (f g : LevelFilter) → filter_number g ≤ filter_number (greater f g)
+pub greater_second : (f g : LevelFilter) → filter_number g ≤ filter_number (greater f g)
 greater_second f g =
     cond_both (nat_le (filter_number f) (filter_number g)) g f
     (λ h. filter_number g ≤ filter_number h) (λ e. omega arith)

@@ -1,0 +1,154 @@
+//! A filter by targets, and by the spans that a lane is in.
+ghost use Rattle.std.specs.Prelude.{◌≡◌, [], OnErr, OnOk};
+ghost use Rattle.std.specs.Option.{option_copied};
+ghost use Rattle.span_filters.specs.Filter.{ActsSteadily, settled_answers};
+ghost use Rattle.span_filters.specs.laws.Filter.{settled_laws, steady_levels};
+ghost use Rattle.span_registry.specs.Context.{view_in};
+ghost use Rattle.span_targets.specs.EnvFilter.{env_answers, passes_anywhere, passes_around, spans_of, targets_in};
+ghost use Rattle.span_targets.specs.Names.{naming};
+ghost use Rattle.span_targets.specs.Targets.{names_of};
+ghost use Rattle.span_targets.specs.laws.EnvHonest.{env_honest};
+
+use crate::read::Said;
+use crate::span_directive::{SpanDirective, most_within, passes_somewhere, passes_within};
+use crate::targets::Targets;
+use span_core::{Event, Interest, Level, LevelFilter, Metadata};
+use span_filters::{AlwaysUsableFilter, Filter};
+use span_registry::{Context, ContextMut, LookupSpan, Notice};
+use std::alloc::{AllocError, Global};
+
+/// Decides by target and level as `Targets` does, and lets more by within spans of some names.
+///
+/// Metadata pass by `[job]=debug` where their level is debug at most, and the lane is in a span
+/// `job` or in one whose parents lead there, or they are such a span's own. By `db[job]=debug` the
+/// span's target has to begin with `db`. Spans are those that the filter's own context shows: one
+/// that the filter refused is none.
+///
+/// Stands for `tracing_subscriber::filter::EnvFilter`, which knows fields too.
+#[derive(Debug, Drop)]
+pub struct EnvFilter {
+    targets: Targets,
+    spans: Vec<SpanDirective>,
+}
+
+impl EnvFilter {
+    ghost use Rattle.span_targets.specs.EnvFilter.{AddsSpan, IsSameFilter};
+
+    /// A filter that goes by targets alone.
+    pub fn new(alloc: Global, targets: Targets) -> EnvFilter
+        ensures targets { targets_in result ≡ targets }
+        ensures spans { spans_of result ≡ [] }
+    {
+        EnvFilter {
+            targets,
+            spans: Vec::new(alloc),
+        }
+    }
+
+    /// Lets these levels pass within spans of this name, whose target begins with this one, too.
+    ///
+    /// Stands for a part of `EnvFilter::add_directive`.
+    pub fn add_span(
+        &mut self,
+        target: &str,
+        name: &str,
+        level: LevelFilter,
+    ) -> Result<(), AllocError>
+        ensures ok { OnOk result (AddsSpan target.now name.now level self.old self.new) }
+        ensures err { OnErr result (IsSameFilter self.old self.new) }
+    {
+        let span = SpanDirective::new(*self.spans.allocator(), target, name, level)?;
+        self.spans.push(span)?;
+        Ok(())
+    }
+
+    /// Takes what a directive says of targets.
+    pub(crate) fn set(&mut self, said: Said<'_>) -> Result<(), AllocError>
+        ensures targets { OnOk result (names_of (targets_in self.new)
+            ≡ naming (option_copied said.entry.target) said.entry.level
+            (names_of (targets_in self.old))) }
+        ensures spans { spans_of self.new ≡ spans_of self.old }
+    {
+        self.targets.set(said)
+    }
+
+    /// What passes by targets.
+    pub fn targets(&self) -> &Targets
+        ensures { result.now ≡ targets_in self.now }
+    {
+        &self.targets
+    }
+
+    /// What passes within spans.
+    pub fn spans(&self) -> &[SpanDirective]
+        ensures { result.now ≡ spans_of self.now }
+    {
+        &self.spans
+    }
+
+    /// Whether metadata pass on each lane: by their target, or as those of a span that is named.
+    fn passes_anywhere(&self, meta: &Metadata) -> bool
+        ensures { result ≡ passes_anywhere self.now meta.now }
+    {
+        self.targets.would_enable(meta.target(), meta.level())
+            || (meta.is_span() && passes_within(&self.spans, meta, meta.level()))
+    }
+}
+
+/// Whether the level passes in the span that a lane is in, or in one above that.
+fn passes_around<S: LookupSpan>(spans: &[SpanDirective], level: Level, cx: &Context<'_, S>) -> bool
+    ensures { result ≡ passes_around spans.now level (view_in S.registry cx.now) }
+{
+    let Some(current) = cx.lookup_current() else {
+        return false;
+    };
+    for span in current.scope() {
+        if passes_within(spans, &span.metadata(), level) {
+            return true;
+        }
+    }
+    false
+}
+
+impl<S: LookupSpan> Filter<S> for EnvFilter {
+    ghost has_answers = { settled_answers env_answers };
+
+    ghost acts = { ActsSteadily (settled_answers env_answers) };
+
+    ghost laws = { settled_laws env_answers env_honest };
+
+    ghost levels = { steady_levels };
+
+    fn enabled(&self, meta: &Metadata, cx: &Context<'_, S>) -> bool {
+        self.passes_anywhere(meta) || passes_around(&self.spans, meta.level(), cx)
+    }
+
+    fn callsite_enabled(&self, meta: &Metadata) -> Interest {
+        if self.passes_anywhere(meta) {
+            Interest::Always
+        } else if passes_somewhere(&self.spans, meta.level()) {
+            Interest::Sometimes
+        } else {
+            Interest::Never
+        }
+    }
+
+    fn event_enabled(&self, _event: &Event<'_>, _cx: &Context<'_, S>) -> bool {
+        true
+    }
+
+    fn max_level_hint(&self) -> Option<LevelFilter> {
+        Some(most_within(&self.spans, self.targets.max_level()))
+    }
+
+    #[inline(always)]
+    fn notify(&mut self, _notice: Notice<'_, '_>, _ctx: &mut ContextMut<'_, S>) {}
+
+    fn set_level(&mut self, _level: LevelFilter) -> bool {
+        false // It goes by targets and spans.
+    }
+}
+
+impl<S: LookupSpan> AlwaysUsableFilter<S> for EnvFilter {
+    ghost always = { λ f. tt };
+}
