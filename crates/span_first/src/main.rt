@@ -14,9 +14,10 @@ use span_layers::Observer;
 use span_registry::{Registry, Subscriber};
 use span_stacks::{LayerExt, SubscriberExt};
 use span_stream::{Stamped, TimeStyle, Utc};
-use span_targets::Targets;
+use span_targets::EnvFilter;
 use span_tracer::{Receiver, Tracer, info, info_span, warn};
 use std::alloc::Global;
+use std::env::VarError;
 use std::sync::Wait;
 use std::thread::Threads;
 use std::{env, thread};
@@ -31,12 +32,14 @@ fn main(rt: HostRuntime) -> anyhow::Result<()> {
     let alloc = rt.alloc();
     let lines = Format::new(alloc, Layout::Full).with_lanes(true);
     let lines = Stamped::new(alloc, lines, Utc::new(rt.clone()?), TimeStyle::Utc);
-    let asked = env::var(&rt, "RUST_LOG").unwrap_or(String::from_str(alloc, "info")?);
-    let filter = Targets::parse(alloc, asked.as_str())?;
+    let asked = match env::var(&rt, "RUST_LOG") {
+        Err(VarError::NotPresent) => String::from_str(alloc, "info")?,
+        asked => asked?,
+    };
+    let filter = EnvFilter::parse(alloc, asked.as_str())?;
     let layer = Observer::new(Stream::new(lines, rt.stderr())).with_filter(filter);
     let stack = Registry::new(alloc).with(layer)?;
-    let words = count_in_two_threads(&rt, alloc, stack)?;
-    println!(rt; "{words} words")?;
+    println!(rt; "{} words", count_in_two_threads(&rt, alloc, stack)?)?;
     Ok(())
 }
 
