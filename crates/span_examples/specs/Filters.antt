@@ -6,7 +6,7 @@ use Rattle.std.specs.Option.{option_and_then}
 use Rattle.span_core.specs.Metadata.{target_of}
 use Rattle.span_core.specs.declared.metadata.Metadata.{Metadata}
 use Rattle.span_core.specs.declared.span.Lane.{Lane}
-use Rattle.span_examples.specs.declared.filter.Targets.{Targets}
+use Rattle.span_examples.specs.declared.filter.Wanted.{Wanted}
 use Rattle.span_filters.specs.Closure.{test_answers}
 use Rattle.span_extensions.specs.Extensions.{Place, value_under}
 use Rattle.span_extensions.specs.declared.extensions.ExtensionMap.{ExtensionMap}
@@ -16,15 +16,15 @@ use Rattle.span_registry.specs.Behaviour.{Behaviour}
 use Rattle.span_registry.specs.View.{View, current_shown, extensions_shown, view_of}
 
 -- the targets that a filter by targets enables
-abbrev pub wanted_by : Targets → List (Bor (List ℕ))
+abbrev pub wanted_by : Wanted → List (Bor (List ℕ))
 wanted_by f = f.wanted.now
 
 -- whether the target of metadata is one of a filter's
-abbrev pub wants_target : Targets → Metadata → Bool
+abbrev pub wants_target : Wanted → Metadata → Bool
 wants_target f m = list_any (λ t. bytes_eq t.now (target_of m)) (wanted_by f)
 
 -- what a filter by targets answers: that test, and no hint
-abbrev pub target_answers : Targets → Behaviour
+abbrev pub target_answers : Wanted → Behaviour
 target_answers f = test_answers (wants_target f) None
 
 -- the view of a lane, on a registry where no filter hides a span

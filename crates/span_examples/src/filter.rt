@@ -17,16 +17,16 @@ use std::alloc::{AllocError, Global};
 
 /// A filter by targets: it enables what has one of these.
 #[derive(Drop)]
-pub struct Targets {
+pub struct Wanted {
     wanted: &'static [&'static str],
 }
 
-impl Targets {
+impl Wanted {
     /// A filter that enables these targets.
-    pub fn new(wanted: &'static [&'static str]) -> Targets
+    pub fn new(wanted: &'static [&'static str]) -> Wanted
         ensures { wanted_by result ≡ wanted.now }
     {
-        Targets { wanted }
+        Wanted { wanted }
     }
 
     /// Whether the target of metadata is one of the filter's, byte for byte.
@@ -38,7 +38,7 @@ impl Targets {
     }
 }
 
-impl<S: LookupSpan> Filter<S> for Targets {
+impl<S: LookupSpan> Filter<S> for Wanted {
     ghost has_answers = { settled_answers target_answers };
 
     ghost acts = { ActsSteadily (settled_answers target_answers) };
@@ -75,7 +75,7 @@ impl<S: LookupSpan> Filter<S> for Targets {
     fn notify(&mut self, _notice: Notice<'_, '_>, _ctx: &mut ContextMut<'_, S>) {}
 }
 
-impl<S: LookupSpan> AlwaysUsableFilter<S> for Targets {
+impl<S: LookupSpan> AlwaysUsableFilter<S> for Wanted {
     ghost always = { λ f. tt };
 }
 
