@@ -6,9 +6,9 @@ use Rattle.std.specs.Option.{option_copied, option_map, option_map_or}
 use Rattle.std.specs.Prelude.{◌≡◌, ℕ, Bool, [], ◌++◌, None, Option, Some, refl}
 use Rattle.std.proofs.Common.{ap, subst, sym, ◌∙◌}
 use Rattle.std.proofs.Math.Path.{transport}
-use Rattle.span_boxed.specs.Boxed.{ActsPlainlyAt, LevelsLawfully, RegistersLawfully, StepsLawfully}
+use Rattle.span_boxed.specs.Boxed.{ActsPlainlyAt, ReloadsLawfully, RegistersLawfully, StepsLawfully}
 use Rattle.span_core.specs.Filters.{FilterSet, has_filter, refuses}
-use Rattle.span_core.specs.declared.level.LevelFilter.{LevelFilter}
+use Rattle.span_targets.specs.declared.setting.Setting.{Setting}
 use Rattle.span_core.specs.declared.pass.Pass.{Pass}
 use Rattle.span_boxed.specs.Filter.{itself, replaced}
 use Rattle.span_layers.specs.Acts.{PathLaws}
@@ -20,7 +20,7 @@ use Rattle.span_registry.specs.Conducts.{ActsAt, Conducts}
 use Rattle.span_registry.specs.Context.{Exchanges, LendsOver, LooksAtRoot, filters_in, lane_in, lane_lent, mask_lent, refused_lent, store_at, store_in}
 use Rattle.span_registry.specs.Context.{subscriber_lent}
 use Rattle.span_registry.specs.Form.{Form}
-use Rattle.span_registry.specs.Levels.{LevelLaws, LevelSteps}
+use Rattle.span_registry.specs.Reload.{ReloadLaws, ReloadSteps}
 use Rattle.span_registry.specs.Position.{HearSteps, Here, Position}
 use Rattle.span_registry.specs.Plan.{Plan, by_pass}
 use Rattle.span_registry.specs.Question.{AnswersBy, AnswersSo, refusals}
@@ -74,11 +74,11 @@ module _ {L : Type 0} {form : L → Form → Type 0} {steps : LayerSteps L} {hea
   }
 
 -- and takes levels so
-pub levels_lawfully : {L : Type 0} {form : L → Form → Type 0}
-    {steps : LayerSteps L} {registered : L → L → Type 0} {levelled : LevelSteps L} {hears : HearSteps L} {acts_at : ActsAt L}
-    → LayerLaws form steps hears registered → PathLaws form steps registered acts_at → LevelLaws form levelled hears acts_at
-    → (x : L) (n : ℕ) (l : LevelFilter) (y : L) → levelled x n l y → LevelsLawfully form levelled hears acts_at x n l y
-levels_lawfully laws paths levels x n l y s = record {
+pub reloads_lawfully : {L : Type 0} {form : L → Form → Type 0}
+    {steps : LayerSteps L} {registered : L → L → Type 0} {reloaded : ReloadSteps L} {hears : HearSteps L} {acts_at : ActsAt L}
+    → LayerLaws form steps hears registered → PathLaws form steps registered acts_at → ReloadLaws form reloaded hears acts_at
+    → (x : L) (n : ℕ) (l : Setting) (y : L) → reloaded x n l y → ReloadsLawfully form reloaded hears acts_at x n l y
+reloads_lawfully laws paths levels x n l y s = record {
   taken = s;
   follows = λ f h. levels.keeps x n l y f s h;
   heard = λ position. levels.heard x n l y position s;

@@ -5,7 +5,7 @@ use Rattle.std.proofs.lemmas.List.{append-nil}
 use Rattle.std.specs.declared.dyn_box.DynBox.{DynBox}
 use denote.Param.Table.{Entry, Table}
 use Rattle.span_boxed.proofs.BoxLemmas.{acts_plainly}
-use Rattle.span_boxed.specs.Boxed.{ActsPlainlyAt, ChangesInside, Further, HearsInside, HearsLawfully, Levelled, LevelsInside, Nothing, StepsInside}
+use Rattle.span_boxed.specs.Boxed.{ActsPlainlyAt, ChangesInside, Further, HearsInside, HearsLawfully, Reloaded, ReloadsInside, Nothing, StepsInside}
 use Rattle.span_boxed.specs.declared.boxed.BoxedLayer.{BoxedLayer}
 use Rattle.span_core.specs.Filters.{FilterSet}
 use Rattle.span_boxed.proofs.FilterCallerLemmas.{IsBoxOf, in_a_box}
@@ -15,7 +15,7 @@ use Rattle.span_store.specs.Store.{RegistryState}
 use Rattle.span_registry.specs.Behaviour.{Notice}
 use Rattle.span_registry.specs.Conducts.{ActsAt, Conducts}
 use Rattle.span_registry.specs.Form.{Form}
-use Rattle.span_registry.specs.Levels.{LevelSteps}
+use Rattle.span_registry.specs.Reload.{ReloadSteps}
 use Rattle.span_registry.specs.Path.{mask_at}
 use Rattle.span_registry.specs.Position.{Heard, HearLaws, HearSteps, Position, heard_by, told_in}
 use Rattle.span_registry.specs.Plan.{Plan}
@@ -70,12 +70,12 @@ module _ {G : Type 0 → Type 1} {C : Type 0} (T : Table G C) (at : T.I) where
   steps_in_a_box steps x b p e lane under v c w made s = changes_in_a_box (λ j y z. steps j y p e lane under v z w) x b c made s
 
   module _ (form : (j : Entry G C) → j.0.Denot → Form → Type 0) (steps : (j : Entry G C) → LayerSteps j.0.Denot)
-      (levelled : (j : Entry G C) → LevelSteps j.0.Denot) (hears : (j : Entry G C) → HearSteps j.0.Denot) (acts_at : (j : Entry G C) → ActsAt j.0.Denot)
+      (reloaded : (j : Entry G C) → ReloadSteps j.0.Denot) (hears : (j : Entry G C) → HearSteps j.0.Denot) (acts_at : (j : Entry G C) → ActsAt j.0.Denot)
       (laws : HearLaws (hears (T.entry at))) (x : (T.entry at).0.Denot) (b : Boxed) (made : Holds b x) (position : Position) where
     -- what a box hears, lawfully
     abbrev pub BoxHearsLawfully : HearSteps Boxed
     BoxHearsLawfully = HearsLawfully (λ k. form (T.entry k.object.vtable) k.object.value) (StepsInside (λ k. steps (T.entry k.object.vtable)))
-        (LevelsInside (λ k. levelled (T.entry k.object.vtable))) (HearsInside (λ k. hears (T.entry k.object.vtable)))
+        (ReloadsInside (λ k. reloaded (T.entry k.object.vtable))) (HearsInside (λ k. hears (T.entry k.object.vtable)))
         (λ k. acts_at (T.entry k.object.vtable) k.object.value)
 
     -- and hears as the layer does
@@ -87,7 +87,7 @@ module _ {G : Type 0 → Type 1} {C : Type 0} (T : Table G C) (at : T.I) where
         let k = heard_by p position (told_in e v.store lane (mask_at f position under)) in
         let t = changes_in_a_box (λ j a o. hears j a position k o) u.0 y z u.1 (s.heard position f has) in
         (t.0, t.1, laws.further x u.0 t.0 position h k u.2 t.2)
-    hears_in_a_box (Levelled {h} {y} {z} before n l s) =
+    hears_in_a_box (Reloaded {h} {y} {z} before n l s) =
         let u = hears_in_a_box before in
         let t = changes_in_a_box (λ j a o. hears j a position [] o) u.0 y z u.1 (s.heard position) in
         (t.0, t.1, subst (λ k. hears (T.entry at) x position k t.0) (append-nil h) (laws.further x u.0 t.0 position h [] u.2 t.2))

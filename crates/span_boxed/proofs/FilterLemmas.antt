@@ -4,9 +4,9 @@ use base.Fml.{Incl, Lft}
 use Rattle.std.specs.Prelude.{◌≡◌, ℕ, ◌++◌, refl}
 use Rattle.std.proofs.Common.{ap, subst, ◌∙◌}
 use Rattle.span_core.specs.Filters.{FilterSet}
-use Rattle.span_core.specs.declared.level.LevelFilter.{LevelFilter}
-use Rattle.span_boxed.specs.Filter.{KeepsLaw, KeepsLevelLaw, LevelsLawfully, StepsLawfully}
-use Rattle.span_filters.specs.Filter.{FilterLaws, FilterLevelLaws, FilterLevelSteps, FilterSteps}
+use Rattle.span_targets.specs.declared.setting.Setting.{Setting}
+use Rattle.span_boxed.specs.Filter.{KeepsLaw, KeepsReloadLaw, ReloadsLawfully, StepsLawfully}
+use Rattle.span_filters.specs.Filter.{FilterLaws, FilterReloadLaws, FilterReloadSteps, FilterSteps}
 use Rattle.span_store.specs.Store.{RegistryState}
 use Rattle.span_registry.specs.Behaviour.{Behaviour, Conduct, Notice}
 use Rattle.span_registry.specs.View.{view_of}
@@ -24,10 +24,10 @@ law_kept laws f e lane under v g w s = record {
 }
 
 -- the same of levels
-pub level_law_kept : {F : Type 0} {has : F → Behaviour → Type 0} {steps : FilterSteps F} {levelled : FilterLevelSteps F} {acts : F → Conduct → Type 0}
-    → FilterLaws has steps acts → FilterLevelLaws has levelled acts
-    → (f : F) (l : LevelFilter) (g : F) → levelled f l g → KeepsLevelLaw has acts l f g
-level_law_kept laws levels f l g s = record {
+pub reload_law_kept : {F : Type 0} {has : F → Behaviour → Type 0} {steps : FilterSteps F} {reloaded : FilterReloadSteps F} {acts : F → Conduct → Type 0}
+    → FilterLaws has steps acts → FilterReloadLaws has reloaded acts
+    → (f : F) (l : Setting) (g : F) → reloaded f l g → KeepsReloadLaw has acts l f g
+reload_law_kept laws levels f l g s = record {
   answers = λ a h. let x = levels.answers f l g a s h in (x.0, record { answered = x.1; honest = laws.honest g x.0 x.1 });
   conduct = λ b h.
       let n = levels.goes_on f l g b s h in
@@ -63,11 +63,11 @@ carried_over {has = has} {inside = inside}
 
 -- the same where a level is set
 pub boxed_level : {I : Type 0} {V : I → Type 0}
-    {B : Type 0} (boxed : (i : I) → V i → B) (has : B → Behaviour → Type 0) (inside : FilterLevelSteps B) (acts : B → Conduct → Type 0)
-    (x y : (i : I) × V i) → x ≡ y → (l : LevelFilter) (z : V x.0) → inside (boxed x.0 x.1) l (boxed x.0 z)
-    → KeepsLevelLaw (λ k. has (boxed x.0 k)) (λ k. acts (boxed x.0 k)) l x.1 z → LevelsLawfully has inside acts (boxed y.0 y.1) l (boxed x.0 z)
+    {B : Type 0} (boxed : (i : I) → V i → B) (has : B → Behaviour → Type 0) (inside : FilterReloadSteps B) (acts : B → Conduct → Type 0)
+    (x y : (i : I) × V i) → x ≡ y → (l : Setting) (z : V x.0) → inside (boxed x.0 x.1) l (boxed x.0 z)
+    → KeepsReloadLaw (λ k. has (boxed x.0 k)) (λ k. acts (boxed x.0 k)) l x.1 z → ReloadsLawfully has inside acts (boxed y.0 y.1) l (boxed x.0 z)
 boxed_level {I} {V} boxed has inside acts x y same l z taken law =
-    subst (λ (p : (i : I) × V i). LevelsLawfully has inside acts (boxed p.0 p.1) l (boxed x.0 z)) same
+    subst (λ (p : (i : I) × V i). ReloadsLawfully has inside acts (boxed p.0 p.1) l (boxed x.0 z)) same
     (record { taken = taken; law = record { answers = law.answers; conduct = law.conduct } })
 
 -- where the object stays as it is, so does the box

@@ -2,14 +2,14 @@
 use Rattle.std.specs.Prelude.{◌≡◌, ℕ, [], ◌++◌}
 use Rattle.span_boxed.specs.declared.boxed.BoxedLayer.{BoxedLayer}
 use Rattle.span_core.specs.Filters.{FilterSet}
-use Rattle.span_core.specs.declared.level.LevelFilter.{LevelFilter}
+use Rattle.span_targets.specs.declared.setting.Setting.{Setting}
 use Rattle.span_layers.specs.Layer.{IsLeaf, LayerSteps}
 use Rattle.span_store.specs.Store.{RegistryState}
 use Rattle.span_registry.specs.Behaviour.{Notice}
-use Rattle.span_registry.specs.Conducts.{ActsAt, ActsNow, ActsOn, ArePlainConducts, Conducts, setting}
+use Rattle.span_registry.specs.Conducts.{ActsAt, ActsNow, ActsOn, ArePlainConducts, Conducts, reloading}
 use Rattle.span_registry.specs.Form.{Form}
 use Rattle.span_registry.specs.KeptForm.{HasKeptForm}
-use Rattle.span_registry.specs.Levels.{FollowsLevel, LevelSteps}
+use Rattle.span_registry.specs.Reload.{FollowsReload, ReloadSteps}
 use Rattle.span_registry.specs.Path.{mask_at}
 use Rattle.span_registry.specs.Plan.{Itself, Plan}
 use Rattle.span_registry.specs.Position.{Heard, HearSteps, Position, heard_by, told_in}
@@ -68,41 +68,41 @@ abbrev pub HearsInside : {I : Type 0} {V : I → Type 0}
     → ((x : BoxedLayer I V) → HearSteps (V x.object.vtable)) → HearSteps (BoxedLayer I V)
 HearsInside hears x position h y = ChangesInside (λ b o z. hears b o position h z) x y
 
--- a layer in which a level is set goes on by its step, and keeps the laws: it has a form in which
--- that filter alone answers otherwise, no leaf is notified, each path goes on by the level, and a
--- leaf is unchanged
-pub record LevelsLawfully {L : Type 0} (form : L → Form → Type 0) (levelled : LevelSteps L)
-    (hears : HearSteps L) (acts_at : ActsAt L) (x : L) (n : ℕ) (l : LevelFilter) (y : L) : Type
+-- a layer that is reloaded goes on by its step, and keeps the laws: it has a form in which that
+-- filter alone answers otherwise, no leaf is notified, each path goes on by the setting, and a leaf
+-- is unchanged
+pub record ReloadsLawfully {L : Type 0} (form : L → Form → Type 0) (reloaded : ReloadSteps L)
+    (hears : HearSteps L) (acts_at : ActsAt L) (x : L) (n : ℕ) (l : Setting) (y : L) : Type
     0 where
-  pub taken : levelled x n l y
-  pub follows : (f : Form) → form x f → FollowsLevel (form y) n f
+  pub taken : reloaded x n l y
+  pub follows : (f : Form) → form x f → FollowsReload (form y) n f
   pub heard : (position : Position) → hears x position [] y
   pub acts_on : (position : Position) (cs : Conducts) → acts_at x position cs
-      → ActsPlainlyAt form acts_at y position (setting n l cs)
+      → ActsPlainlyAt form acts_at y position (reloading n l cs)
   pub leaf : (f : Form) → form x f → IsLeaf f → y ≡ x
 
--- a level is set in the object in a box: the box then holds another value of the same type
-abbrev pub LevelsInside : {I : Type 0} {V : I → Type 0}
-    → ((x : BoxedLayer I V) → LevelSteps (V x.object.vtable)) → LevelSteps (BoxedLayer I V)
-LevelsInside levelled x n l y = ChangesInside (λ b o z. levelled b o n l z) x y
+-- the object in a box is reloaded: the box then holds another value of the same type
+abbrev pub ReloadsInside : {I : Type 0} {V : I → Type 0}
+    → ((x : BoxedLayer I V) → ReloadSteps (V x.object.vtable)) → ReloadSteps (BoxedLayer I V)
+ReloadsInside reloaded x n l y = ChangesInside (λ b o z. reloaded b o n l z) x y
 
 -- what the leaf at a position was notified of, in turn: nothing, or further notices where the
--- object was notified; setting a level adds none
+-- object was notified; reloading adds none
 pub data HearsInTurn {L : Type 0} (form : L → Form → Type 0) (stepped : LayerSteps L)
-    (levelled : LevelSteps L) (x : L) (position : Position) : Heard → L → Type 0 where
-  Nothing : HearsInTurn form stepped levelled x position [] x
-  Further : {h : Heard} {y z : L} → HearsInTurn form stepped levelled x position h y
+    (reloaded : ReloadSteps L) (x : L) (position : Position) : Heard → L → Type 0 where
+  Nothing : HearsInTurn form stepped reloaded x position [] x
+  Further : {h : Heard} {y z : L} → HearsInTurn form stepped reloaded x position h y
       → (p : Plan) (e : Notice) (lane : ℕ) (under : FilterSet) (v w : RegistryState) (f : Form)
       → stepped y p e lane under v z w → form y f
-      → HearsInTurn form stepped levelled x position
+      → HearsInTurn form stepped reloaded x position
       (h ++ heard_by p position (told_in e v.store lane (mask_at f position under))) z
-  Levelled : {h : Heard} {y z : L} → HearsInTurn form stepped levelled x position h y
-      → (n : ℕ) (l : LevelFilter) → levelled y n l z
-      → HearsInTurn form stepped levelled x position h z
+  Reloaded : {h : Heard} {y z : L} → HearsInTurn form stepped reloaded x position h y
+      → (n : ℕ) (l : Setting) → reloaded y n l z
+      → HearsInTurn form stepped reloaded x position h z
 
 -- what the leaf at a position was notified of, where the object went on lawfully each time
-abbrev pub HearsLawfully : {L : Type 0} → (L → Form → Type 0) → LayerSteps L → LevelSteps L
+abbrev pub HearsLawfully : {L : Type 0} → (L → Form → Type 0) → LayerSteps L → ReloadSteps L
     → HearSteps L → ActsAt L → HearSteps L
-HearsLawfully form steps levelled hears acts_at =
+HearsLawfully form steps reloaded hears acts_at =
     HearsInTurn form (StepsLawfully form steps hears acts_at)
-    (LevelsLawfully form levelled hears acts_at)
+    (ReloadsLawfully form reloaded hears acts_at)

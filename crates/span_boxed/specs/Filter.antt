@@ -2,12 +2,12 @@
 -- is honest and plain.
 use Rattle.std.specs.Prelude.{◌≡◌, ℕ, [], ◌∷◌}
 use Rattle.span_core.specs.Filters.{FilterSet}
-use Rattle.span_core.specs.declared.level.LevelFilter.{LevelFilter}
-use Rattle.span_filters.specs.Filter.{FilterLevelSteps, FilterSteps, KeepsInterestAndHint}
+use Rattle.span_targets.specs.declared.setting.Setting.{Setting}
+use Rattle.span_filters.specs.Filter.{FilterReloadSteps, FilterSteps, KeepsInterestAndHint}
 use Rattle.span_boxed.specs.declared.filter.BoxedFilter.{BoxedFilter}
 use Rattle.span_store.specs.Store.{RegistryState}
 use Rattle.span_registry.specs.Behaviour.{AnswerAlike, Behaviour, AreHonest, Conduct, IsPlain, Notice, OfNotice}
-use Rattle.span_registry.specs.Conducts.{after_level}
+use Rattle.span_registry.specs.Conducts.{after_reload}
 use Rattle.span_registry.specs.View.{View, view_of}
 
 -- the registry that a registry stands on: itself
@@ -55,23 +55,23 @@ StepsInside {V = V} steps f e lane under v g w =
     (y : V f.object.vtable) × (g.object ≡ record f.object { value = y })
     × steps f f.object.value e lane under v y w
 
--- the filter f, whose level was set to this one, is now g, and the law of levels is kept
-pub record KeepsLevelLaw {F : Type 0} (has : F → Behaviour → Type 0) (acts : F → Conduct → Type 0)
-    (l : LevelFilter) (f g : F) : Type 0 where
+-- the filter f, which was to take this setting, is now g, and the law of reloading is kept
+pub record KeepsReloadLaw {F : Type 0} (has : F → Behaviour → Type 0) (acts : F → Conduct → Type 0)
+    (l : Setting) (f g : F) : Type 0 where
   pub answers : (a : Behaviour) → has f a → (b : Behaviour) × AnswersHonestly (has g) b
-  pub conduct : (b : Conduct) → acts f b → ActsPlainly (has g) (acts g) (after_level l b)
+  pub conduct : (b : Conduct) → acts f b → ActsPlainly (has g) (acts g) (after_reload l b)
 
--- a filter whose level is set goes on by its step, and keeps the law of levels
-pub record LevelsLawfully {F : Type 0} (has : F → Behaviour → Type 0)
-    (levelled : FilterLevelSteps F) (acts : F → Conduct → Type 0) (f : F) (l : LevelFilter)
+-- a filter that is reloaded goes on by its step, and keeps the law of reloading
+pub record ReloadsLawfully {F : Type 0} (has : F → Behaviour → Type 0)
+    (reloaded : FilterReloadSteps F) (acts : F → Conduct → Type 0) (f : F) (l : Setting)
     (g : F) : Type 0 where
-  pub taken : levelled f l g
-  pub law : KeepsLevelLaw has acts l f g
+  pub taken : reloaded f l g
+  pub law : KeepsReloadLaw has acts l f g
 
--- the level of the object in a box is set: the box then holds another value of the same type
-abbrev pub LevelsInside : {I : Type 0} {V : I → Type 0}
-    → ((f : BoxedFilter I V) → FilterLevelSteps (V f.object.vtable))
-    → FilterLevelSteps (BoxedFilter I V)
-LevelsInside {V = V} levelled f l g =
+-- the object in a box is reloaded: the box then holds another value of the same type
+abbrev pub ReloadsInside : {I : Type 0} {V : I → Type 0}
+    → ((f : BoxedFilter I V) → FilterReloadSteps (V f.object.vtable))
+    → FilterReloadSteps (BoxedFilter I V)
+ReloadsInside {V = V} reloaded f l g =
     (y : V f.object.vtable) × (g.object ≡ record f.object { value = y })
-    × levelled f f.object.value l y
+    × reloaded f f.object.value l y

@@ -1,12 +1,13 @@
 //! Boxed layers: layers whose type is picked while the program runs.
 ghost use Rattle.std.specs.Prelude.{◌≡◌};
-ghost use Rattle.span_boxed.specs.Boxed.{ActsPlainlyAt, ChangesInside, HearsInside, HearsLawfully, LevelsInside, LevelsLawfully, RegistersLawfully, StepsInside, StepsLawfully};
-ghost use Rattle.span_boxed.specs.laws.Boxed.{object_laws, object_levels, object_path_laws};
+ghost use Rattle.span_boxed.specs.Boxed.{ActsPlainlyAt, ChangesInside, HearsInside, HearsLawfully, ReloadsInside, ReloadsLawfully, RegistersLawfully, StepsInside, StepsLawfully};
+ghost use Rattle.span_boxed.specs.laws.Boxed.{object_laws, object_reloads, object_path_laws};
 
 use crate::object::DynLayer;
 use span_core::{Event, Interest, LevelFilter, Metadata, Pass};
 use span_layers::Layer;
 use span_registry::{Context, ContextMut, Notice, Subscriber};
+use span_targets::Setting;
 use std::fmt;
 
 /// A layer in a box, which adds nothing to it: it has the form of the layer in the box. It is a
@@ -48,15 +49,15 @@ impl<S: Subscriber> Layer<S> for BoxedLayer {
 
     ghost hears = { HearsLawfully (λ x. (DynLayer-box x.object).dyn_form x.object.value)
         (StepsInside (λ x. (DynLayer-box x.object).dyn_stepped))
-        (LevelsInside (λ x. (DynLayer-box x.object).dyn_levelled))
+        (ReloadsInside (λ x. (DynLayer-box x.object).dyn_reloaded))
         (HearsInside (λ x. (DynLayer-box x.object).dyn_hears))
         (λ x. (DynLayer-box x.object).dyn_acts_at x.object.value) };
 
     ghost acts_at = { ActsPlainlyAt (λ x. (DynLayer-box x.object).dyn_form x.object.value)
         (λ x. (DynLayer-box x.object).dyn_acts_at x.object.value) };
 
-    ghost levelled = { LevelsLawfully (λ x. (DynLayer-box x.object).dyn_form x.object.value)
-        (LevelsInside (λ x. (DynLayer-box x.object).dyn_levelled))
+    ghost reloaded = { ReloadsLawfully (λ x. (DynLayer-box x.object).dyn_form x.object.value)
+        (ReloadsInside (λ x. (DynLayer-box x.object).dyn_reloaded))
         (HearsInside (λ x. (DynLayer-box x.object).dyn_hears))
         (λ x. (DynLayer-box x.object).dyn_acts_at x.object.value) };
 
@@ -70,14 +71,14 @@ impl<S: Subscriber> Layer<S> for BoxedLayer {
 
     ghost paths = { object_path_laws };
 
-    ghost levels = { object_levels };
+    ghost reloads = { object_reloads };
 
     fn on_register_dispatch(&mut self) {
         self.object.dyn_on_register_dispatch();
     }
 
-    fn set_level(&mut self, number: u32, level: LevelFilter) -> bool {
-        self.object.dyn_set_level(number, level)
+    fn reload(&mut self, number: u32, setting: Setting) -> bool {
+        self.object.dyn_reload(number, setting)
     }
 
     fn on_layer(&mut self, subscriber: &mut S) {

@@ -1,7 +1,7 @@
 //! Boxed filters: filters whose type is picked while the program runs.
-ghost use Rattle.span_boxed.specs.Filter.{ActsPlainly, AnswersHonestly, KeepsLaw, KeepsLevelLaw, LevelsInside, LevelsLawfully, StepsInside, StepsLawfully, itself, replaced};
-ghost use Rattle.span_boxed.specs.laws.Filter.{object_laws, object_levels};
-ghost use Rattle.span_filters.specs.Filter.{FilterLevelSteps, FilterSteps, Notified, Says, SaysEnabled, SaysEvent};
+ghost use Rattle.span_boxed.specs.Filter.{ActsPlainly, AnswersHonestly, KeepsLaw, KeepsReloadLaw, ReloadsInside, ReloadsLawfully, StepsInside, StepsLawfully, itself, replaced};
+ghost use Rattle.span_boxed.specs.laws.Filter.{object_laws, object_reloads};
+ghost use Rattle.span_filters.specs.Filter.{FilterReloadSteps, FilterSteps, Notified, Says, SaysEnabled, SaysEvent};
 ghost use Rattle.span_registry.specs.Behaviour.{Behaviour, Conduct};
 ghost use Rattle.span_registry.specs.Context.{HasNoRefusalsUnlessAsked, WritesExtensions, view_in, view_lent};
 ghost use Rattle.span_registry.specs.Notice.{is_for_filters, notice_of};
@@ -10,6 +10,7 @@ ghost use Rattle.std.specs.Prelude.{◌≡◌, IsTrue, false};
 use span_core::{Event, Interest, LevelFilter, Metadata};
 use span_filters::Filter;
 use span_registry::{Context, ContextMut, LookupSpan, Notice, Registry};
+use span_targets::Setting;
 use std::fmt;
 
 /// A filter over the registry, as an object. Each `Filter<Registry>` that can be let go of is one.
@@ -26,10 +27,10 @@ pub trait DynFilter: Drop {
     /// How the filter goes on when it is notified.
     ghost dyn_hooked: { FilterSteps Self };
 
-    /// How the filter goes on when its level is set.
-    ghost dyn_levelled: { FilterLevelSteps Self };
+    /// How the filter goes on when it is reloaded.
+    ghost dyn_reloaded: { FilterReloadSteps Self };
 
-    /// How the filter will answer after each list of notices and levels.
+    /// How the filter will answer after each list of notices and settings.
     ghost dyn_acts: { Self → Conduct → Type 0 };
 
     /// Whether the filter enables a span or an event with this metadata.
@@ -65,13 +66,13 @@ pub trait DynFilter: Drop {
             (view_lent itself ctx.old) self.old self.new }
         ensures written { WritesExtensions itself replaced ctx.old ctx.new };
 
-    /// Sets the filter's level, and answers whether it takes one. Else nothing changes.
-    fn dyn_set_level(&mut self, level: LevelFilter) -> bool
+    /// Has the filter take a setting, and answers whether it takes it. Else nothing changes.
+    fn dyn_reload(&mut self, setting: Setting) -> bool
         requires { dyn_usable self.old }
         ensures usable { dyn_usable self.new }
-        ensures taken { Says (dyn_answers self.old) (λ a. a.takes level) result }
-        ensures level { dyn_levelled self.old level self.new }
-        ensures keeps { KeepsLevelLaw dyn_answers dyn_acts level self.old self.new }
+        ensures taken { Says (dyn_answers self.old) (λ a. a.takes setting) result }
+        ensures reloaded { dyn_reloaded self.old setting self.new }
+        ensures keeps { KeepsReloadLaw dyn_answers dyn_acts setting self.old self.new }
         ensures unchanged { result ≡ false → self.new ≡ self.old };
 }
 
@@ -82,7 +83,7 @@ impl<F: Filter<Registry> + Drop> DynFilter for F {
 
     ghost dyn_hooked = { F.hooked };
 
-    ghost dyn_levelled = { F.levelled };
+    ghost dyn_reloaded = { F.reloaded };
 
     ghost dyn_acts = { F.acts };
 
@@ -106,8 +107,8 @@ impl<F: Filter<Registry> + Drop> DynFilter for F {
         self.notify(notice, ctx);
     }
 
-    fn dyn_set_level(&mut self, level: LevelFilter) -> bool {
-        self.set_level(level)
+    fn dyn_reload(&mut self, setting: Setting) -> bool {
+        self.reload(setting)
     }
 }
 
@@ -147,8 +148,8 @@ impl<S: LookupSpan> Filter<S> for BoxedFilter {
         (StepsInside (λ f. (DynFilter-box f.object).dyn_hooked))
         (λ f. (DynFilter-box f.object).dyn_acts f.object.value) };
 
-    ghost levelled = { LevelsLawfully (λ f. (DynFilter-box f.object).dyn_answers f.object.value)
-        (LevelsInside (λ f. (DynFilter-box f.object).dyn_levelled))
+    ghost reloaded = { ReloadsLawfully (λ f. (DynFilter-box f.object).dyn_answers f.object.value)
+        (ReloadsInside (λ f. (DynFilter-box f.object).dyn_reloaded))
         (λ f. (DynFilter-box f.object).dyn_acts f.object.value) };
 
     ghost acts = { λ f. ActsPlainly ((DynFilter-box f.object).dyn_answers f.object.value)
@@ -156,7 +157,7 @@ impl<S: LookupSpan> Filter<S> for BoxedFilter {
 
     ghost laws = { object_laws };
 
-    ghost levels = { object_levels };
+    ghost reloads = { object_reloads };
 
     fn enabled(&self, meta: &Metadata, cx: &Context<'_, S>) -> bool {
         self.object.dyn_enabled(meta, &cx.to_root())
@@ -180,8 +181,8 @@ impl<S: LookupSpan> Filter<S> for BoxedFilter {
         ctx.put_root(root);
     }
 
-    fn set_level(&mut self, level: LevelFilter) -> bool {
-        self.object.dyn_set_level(level)
+    fn reload(&mut self, setting: Setting) -> bool {
+        self.object.dyn_reload(setting)
     }
 }
 

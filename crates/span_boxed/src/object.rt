@@ -1,13 +1,13 @@
 //! Layers over the registry as objects: what a box may hold.
 ghost use Rattle.std.specs.Prelude.{◌≡◌, false, min};
-ghost use Rattle.span_boxed.specs.Boxed.{LevelsLawfully, RegistersLawfully, StepsLawfully};
+ghost use Rattle.span_boxed.specs.Boxed.{ReloadsLawfully, RegistersLawfully, StepsLawfully};
 ghost use Rattle.span_boxed.specs.Filter.{itself, replaced};
 ghost use Rattle.span_layers.specs.Layer.{LayerEnabled, LayerEvent, LayerInterest, LayerSteps, Notified};
 ghost use Rattle.span_layers.specs.Number.{TakesNumbers, filters_in};
 ghost use Rattle.span_registry.specs.Conducts.{ActsAt};
 ghost use Rattle.span_registry.specs.Context.{HandsOn, HasNoRefusalsUnlessAsked};
 ghost use Rattle.span_registry.specs.Form.{Form, is_absent, is_marked};
-ghost use Rattle.span_registry.specs.Levels.{LevelSteps, takes_level};
+ghost use Rattle.span_registry.specs.Reload.{ReloadSteps, takes_setting};
 ghost use Rattle.span_registry.specs.Notice.{notice_of};
 ghost use Rattle.span_registry.specs.Position.{HearSteps};
 ghost use Rattle.span_registry.specs.Question.{ShowsBy, hint_of};
@@ -15,6 +15,7 @@ ghost use Rattle.span_registry.specs.Question.{ShowsBy, hint_of};
 use span_core::{Event, Interest, LevelFilter, Metadata, Pass};
 use span_layers::Layer;
 use span_registry::{Context, ContextMut, Notice, Registry};
+use span_targets::Setting;
 
 /// A layer over the registry, as an object. Each `Layer<Registry>` that can be let go of is one.
 ///
@@ -37,8 +38,8 @@ pub trait DynLayer: Drop {
     /// Which conducts the filters have on the path at a place.
     ghost dyn_acts_at: { ActsAt Self };
 
-    /// How the layer goes on when a filter's level is set.
-    ghost dyn_levelled: { LevelSteps Self };
+    /// How the layer goes on when a filter is reloaded.
+    ghost dyn_reloaded: { ReloadSteps Self };
 
     /// How the layer goes on when it is put in use.
     ghost dyn_registered: { Self → Self → Type 0 };
@@ -53,14 +54,14 @@ pub trait DynLayer: Drop {
         ensures registered { RegistersLawfully dyn_form dyn_registered dyn_acts_at self.old
             self.new };
 
-    /// Sets the level of the layer's filter with this number, and answers whether there is one that
+    /// Has the layer's filter with this number take a setting, and answers whether there is one that
     /// takes it. Else nothing changes.
-    fn dyn_set_level(&mut self, number: u32, level: LevelFilter) -> bool
+    fn dyn_reload(&mut self, number: u32, setting: Setting) -> bool
         requires { dyn_usable self.old }
         ensures usable { dyn_usable self.new }
-        ensures taken { ShowsBy (dyn_form self.old) (λ f. takes_level f number level) result }
-        ensures level { LevelsLawfully dyn_form dyn_levelled dyn_hears dyn_acts_at self.old number
-            level self.new }
+        ensures taken { ShowsBy (dyn_form self.old) (λ f. takes_setting f number setting) result }
+        ensures reloaded { ReloadsLawfully dyn_form dyn_reloaded dyn_hears dyn_acts_at self.old
+            number setting self.new }
         ensures unchanged { result ≡ false → self.new ≡ self.old };
 
     /// Gives the layer's filters the next numbers of the registry.
@@ -134,7 +135,7 @@ impl<L: Layer<Registry> + Drop> DynLayer for L {
 
     ghost dyn_acts_at = { L.acts_at };
 
-    ghost dyn_levelled = { L.levelled };
+    ghost dyn_reloaded = { L.reloaded };
 
     ghost dyn_registered = { L.registered };
 
@@ -144,8 +145,8 @@ impl<L: Layer<Registry> + Drop> DynLayer for L {
         self.on_register_dispatch();
     }
 
-    fn dyn_set_level(&mut self, number: u32, level: LevelFilter) -> bool {
-        self.set_level(number, level)
+    fn dyn_reload(&mut self, number: u32, setting: Setting) -> bool {
+        self.reload(number, setting)
     }
 
     fn dyn_on_layer(&mut self, root: &mut Registry) {

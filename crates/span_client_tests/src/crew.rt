@@ -57,17 +57,17 @@ const JOURNALS: [(usize, &str); 13] = [
     ),
     (
         19,
-        "event: 0 s8 contextual / level: 0 0 LevelFilter::DEBUG / event: 0 s8 contextual / \
-         level: 0 1 LevelFilter::OFF / event: 0 s7 contextual",
+        "event: 0 s8 contextual / reload: 0 0 Some(LevelFilter::DEBUG) / event: 0 s8 contextual / \
+         reload: 0 1 Some(LevelFilter::OFF) / event: 0 s7 contextual",
     ),
     (
         20,
-        "new: 0 1 s3 contextual refused 1 / level: 0 0 LevelFilter::DEBUG / enter: 0 1 / \
+        "new: 0 1 s3 contextual refused 1 / reload: 0 0 Some(LevelFilter::DEBUG) / enter: 0 1 / \
          new: 0 2 s3 contextual / drop: 0 1 / drop closes: 0 2",
     ),
     (
         22,
-        "event: 0 s7 contextual / level: 0 0 LevelFilter::INFO / event: 0 s7 contextual / \
+        "event: 0 s7 contextual / reload: 0 0 Some(LevelFilter::INFO) / event: 0 s7 contextual / \
          event: 0 s6 contextual",
     ),
 ];
@@ -88,7 +88,7 @@ fn named(entry: Entry) -> &'static str {
         Entry::Clone(_, _) => "clone",
         Entry::Drop(_, _, true) => "drop closes",
         Entry::Drop(_, _, false) => "drop",
-        Entry::Level(_, _, _) => "level",
+        Entry::Reload(_, _, _) => "reload",
         Entry::Current(_, None) => "current none",
         Entry::Current(_, Some(_)) => "current",
     }
@@ -101,7 +101,7 @@ fn lane_of(entry: Entry) -> u32 {
         Entry::Unmade(lane, _) | Entry::Probe(lane, _, _) => lane.0,
         Entry::Enter(lane, _) | Entry::Exit(lane, _) | Entry::Record(lane, _) => lane.0,
         Entry::Follows(lane, _, _) | Entry::Clone(lane, _) | Entry::Drop(lane, _, _) => lane.0,
-        Entry::Level(lane, _, _) | Entry::Current(lane, _) => lane.0,
+        Entry::Reload(lane, _, _) | Entry::Current(lane, _) => lane.0,
     }
 }
 
@@ -113,7 +113,7 @@ fn number_of(entry: Entry) -> Option<u64> {
         Entry::Enter(_, id) | Entry::Exit(_, id) | Entry::Record(_, id) => Some(id.into_u64()),
         Entry::Follows(_, id, _) | Entry::Clone(_, id) => Some(id.into_u64()),
         Entry::Drop(_, id, _) => Some(id.into_u64()),
-        Entry::Level(_, number, _) => Some(u64::from(number)),
+        Entry::Reload(_, number, _) => Some(u64::from(number)),
         Entry::Current(_, id) => Some(id?.into_u64()),
     }
 }
@@ -188,7 +188,7 @@ fn write_rest(text: &mut String, entry: Entry) -> Result<(), AllocError> {
             word => write!(text, " refused {word}"),
         },
         Entry::Follows(_, _, other) => write!(text, " {}", other.into_u64()),
-        Entry::Level(_, _, level) => write!(text, " {level:?}"),
+        Entry::Reload(_, _, level) => write!(text, " {level:?}"),
         _ => Ok(()),
     }
 }

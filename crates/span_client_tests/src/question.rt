@@ -4,9 +4,9 @@ ghost use Rattle.span_layers.specs.Acts.{LeafActs};
 ghost use Rattle.span_layers.specs.laws.Leaf.{is_leaf};
 ghost use Rattle.span_layers.specs.laws.Path.{leaf_path_laws};
 ghost use Rattle.span_layers.specs.Layer.{HearsBy};
-ghost use Rattle.span_layers.specs.laws.Level.{leaf_levels};
+ghost use Rattle.span_layers.specs.laws.Reload.{leaf_reloads};
 ghost use Rattle.span_registry.specs.Form.{Leaf};
-ghost use Rattle.span_registry.specs.Levels.{unlevelled};
+ghost use Rattle.span_registry.specs.Reload.{unreloaded};
 ghost use Rattle.span_client_tests.specs.Fixed.{FixedSteps, fixed_answers};
 ghost use Rattle.span_client_tests.specs.laws.Fixed.{fixed_answers_laws};
 
@@ -14,6 +14,7 @@ use crate::receiver::sent_to_layer;
 use span_core::{Event, Interest, LevelFilter, Metadata, Pass};
 use span_layers::Layer;
 use span_registry::{Context, ContextMut, Notice, Registry, Subscriber};
+use span_targets::Setting;
 use std::alloc::Global;
 use std::cell::Cell;
 use std::test::Fail;
@@ -37,7 +38,7 @@ impl<S: Subscriber> Layer<S> for Asked {
 
     ghost acts_at = { LeafActs };
 
-    ghost levelled = { unlevelled };
+    ghost reloaded = { unreloaded };
 
     ghost registered = { λ x y. y ≡ x };
 
@@ -47,7 +48,7 @@ impl<S: Subscriber> Layer<S> for Asked {
 
     ghost paths = { leaf_path_laws (λ x f h. is_leaf h) };
 
-    ghost levels = { leaf_levels (fixed_answers_laws (λ x. x.metadata_pass) (λ x. x.events_pass)) };
+    ghost reloads = { leaf_reloads (fixed_answers_laws (λ x. x.metadata_pass) (λ x. x.events_pass)) };
 
     fn on_register_dispatch(&mut self) {}
 
@@ -72,7 +73,7 @@ impl<S: Subscriber> Layer<S> for Asked {
         None
     }
 
-    fn set_level(&mut self, _number: u32, _level: LevelFilter) -> bool {
+    fn reload(&mut self, _number: u32, _setting: Setting) -> bool {
         false // No filter is in it.
     }
 

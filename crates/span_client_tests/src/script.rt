@@ -208,13 +208,13 @@ fn muted_events(rt: &impl Abort, requests: &[Request<'_>]) -> usize {
                 assert!(rt; *lane == Lane(0));
                 assert!(rt; *which == Which::Made(1));
             }
-            Request::SetLevel(number, level) => {
+            Request::Reload(number, setting) => {
                 let wanted = if *number == 0 {
                     LevelFilter::OFF
                 } else {
                     LevelFilter::TRACE
                 };
-                assert!(rt; *level == wanted);
+                assert!(rt; setting.level() == Some(wanted));
                 assert!(rt; *number == 0 || *number == 9);
             }
             Request::Event {

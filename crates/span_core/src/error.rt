@@ -40,8 +40,8 @@ pub enum TraceError {
     /// Memory was refused.
     #[error("out of memory")]
     OutOfMemory,
-    /// No attached filter has this number, or the one that has it takes no level.
-    #[error("the filter takes no level")]
+    /// No attached filter has this number, or the one that has it doesn't take the setting.
+    #[error("no filter takes the setting")]
     NotSettable(u32),
 }
 

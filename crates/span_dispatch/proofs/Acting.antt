@@ -5,13 +5,13 @@ use Rattle.std.proofs.lemmas.Bool.{eq-eqb, eqb-true, false≢true, true≢false,
 use Rattle.span_core.specs.Event.{event_metadata}
 use Rattle.span_core.specs.Filters.{FilterSet, union}
 use Rattle.span_core.specs.Span.{asked_parent, metadata_of, number_of}
-use Rattle.span_core.specs.declared.level.LevelFilter.{LevelFilter}
+use Rattle.span_targets.specs.declared.setting.Setting.{Setting}
 use Rattle.span_core.specs.declared.metadata.Metadata.{Metadata}
 use Rattle.span_core.specs.declared.span.Lane.{Lane}
 use Rattle.span_core.specs.declared.span.Parent.{Parent}
 use Rattle.span_core.specs.declared.span.Parent.TheVariants.{Contextual, Explicit, Root}
 use Rattle.span_dispatch.specs.Alone.{ActAlike, Alone, PathsActAlike, acting, learning, form_of_path, passed}
-use Rattle.span_dispatch.specs.Outcome.{GoneLeft, HandleAdded, HandleTaken, LevelSet, Noticed, Outcome, Quiet, Steps, given_in, with_new}
+use Rattle.span_dispatch.specs.Outcome.{GoneLeft, HandleAdded, HandleTaken, Reloaded, Noticed, Outcome, Quiet, Steps, given_in, with_new}
 use Rattle.std.specs.FinSet.{contains}
 use Rattle.span_stacks.specs.Verdict.{in_verdict}
 use Rattle.span_store.specs.Closes.{without}
@@ -22,9 +22,9 @@ use Rattle.span_registry.proofs.Agreeing.{parent_alike, passed_alike, taken_agre
 use Rattle.span_registry.proofs.Agreeing.{SpansAgree}
 use Rattle.span_registry.proofs.CallerLemmas.{histories_alike}
 use Rattle.span_registry.specs.Agree.{AgreeAt}
-use Rattle.span_registry.specs.Behaviour.{Behaviour, AreAlike, ArePlain, Conduct, IsPlain, OfLevel, Notice, OnClose, OnEnter, OnEvent, OnExit, OnFollows}
+use Rattle.span_registry.specs.Behaviour.{Behaviour, AreAlike, ArePlain, Conduct, IsPlain, OfReload, Notice, OnClose, OnEnter, OnEvent, OnExit, OnFollows}
 use Rattle.span_registry.specs.Behaviour.{OnIdChange, OnNewSpan, OnRecord, OfNotice}
-use Rattle.span_registry.specs.Conducts.{ArePlainConducts, Conducts, after_level, after_notice, filter_numbered, numbers_in, path_now, setting}
+use Rattle.span_registry.specs.Conducts.{ArePlainConducts, Conducts, after_reload, after_notice, filter_numbered, numbers_in, path_now, reloading}
 use Rattle.span_registry.specs.Hooks.{no_filter}
 use Rattle.span_registry.proofs.Plain.{plain_views_agree}
 use Rattle.span_registry.specs.Path.{mask_of, passes_path}
@@ -64,8 +64,8 @@ after_notice_alike (OnClose id) v w b c a p = record {
 after_notice_alike other v w b c a p = p
 
 -- so do they once they took a level
-level_alike : (l : LevelFilter) (b c : Conduct) → ActAlike b c → ActAlike (after_level l b) (after_level l c)
-level_alike l b c p = record { plain = λ h. p.plain (OfLevel l ∷ h); same = λ h k s. p.same (OfLevel l ∷ h) (OfLevel l ∷ k) (refl, s) }
+level_alike : (l : Setting) (b c : Conduct) → ActAlike b c → ActAlike (after_reload l b) (after_reload l c)
+level_alike l b c p = record { plain = λ h. p.plain (OfReload l ∷ h); same = λ h k s. p.same (OfReload l ∷ h) (OfReload l ∷ k) (refl, s) }
 
 -- ---- paths of them
 
@@ -208,13 +208,13 @@ by_test false true cs ds es fs e a b = absurd (false≢true e)
 by_test false false cs ds es fs e a b = b
 
 -- what such paths are once a level was set
-pub setting_alike : (n : ℕ) (l : LevelFilter) (cs ds : Conducts) → PathsActAlike cs ds → PathsActAlike (setting n l cs) (setting n l ds)
-setting_alike n l [] [] p = p
-setting_alike n l ((k, b) ∷ cs) ((m, c) ∷ ds) p =
+pub reloading_alike : (n : ℕ) (l : Setting) (cs ds : Conducts) → PathsActAlike cs ds → PathsActAlike (reloading n l cs) (reloading n l ds)
+reloading_alike n l [] [] p = p
+reloading_alike n l ((k, b) ∷ cs) ((m, c) ∷ ds) p =
     by_test (filter_numbered k n)
-    (filter_numbered m n) ((k, after_level l b) ∷ cs) ((k, b) ∷ setting n l cs) ((m, after_level l c) ∷ ds) ((m, c) ∷ setting n l ds)
-    (ap (λ (o : Option ℕ). filter_numbered o n) p.0) (p.0, level_alike l b c p.1, p.2) (p.0, p.1, setting_alike n l cs ds p.2)
-setting_alike n l other rest p = absurd p
+    (filter_numbered m n) ((k, after_reload l b) ∷ cs) ((k, b) ∷ reloading n l cs) ((m, after_reload l c) ∷ ds) ((m, c) ∷ reloading n l ds)
+    (ap (λ (o : Option ℕ). filter_numbered o n) p.0) (p.0, level_alike l b c p.1, p.2) (p.0, p.1, reloading_alike n l cs ds p.2)
+reloading_alike n l other rest p = absurd p
 
 -- what such paths learn from a notice: asked in the stores before it, given in these
 pub learnt_alike : (numbers : FilterSet) (cs ds : Conducts) (e : Notice) (s t u v : Store) (lane : ℕ) (under : FilterSet)
@@ -250,16 +250,16 @@ learning_numbers ((Some n, b) ∷ cs) e s u lane under =
 learning_numbers other e s u lane under = refl
 
 -- to set a level makes no difference to the numbers
-setting_numbers : (n : ℕ) (l : LevelFilter) (cs : Conducts) → numbers_in (setting n l cs) ≡ numbers_in cs
-setting_numbers n l [] = refl
-setting_numbers n l ((None, b) ∷ cs) = setting_numbers n l cs
-setting_numbers n l ((Some m, b) ∷ cs) = numbers_tested (filter_numbered (Some m) n)
-    ((Some m, after_level l b) ∷ cs) ((Some m, b) ∷ setting n l cs) (numbers_in ((Some m, b) ∷ cs)) refl (λ i. union (single m) (setting_numbers n l cs i))
+reloading_numbers : (n : ℕ) (l : Setting) (cs : Conducts) → numbers_in (reloading n l cs) ≡ numbers_in cs
+reloading_numbers n l [] = refl
+reloading_numbers n l ((None, b) ∷ cs) = reloading_numbers n l cs
+reloading_numbers n l ((Some m, b) ∷ cs) = numbers_tested (filter_numbered (Some m) n)
+    ((Some m, after_reload l b) ∷ cs) ((Some m, b) ∷ reloading n l cs) (numbers_in ((Some m, b) ∷ cs)) refl (λ i. union (single m) (reloading_numbers n l cs i))
 
 pub acting_numbers : (cs : Conducts) (o : Outcome) (s t : Store) → numbers_in (acting cs o s t) ≡ numbers_in cs
 acting_numbers cs (Noticed lane e) s t = learning_numbers cs e s (given_in e s t) lane.0 no_filter
 acting_numbers cs (Quiet c) s t = refl
-acting_numbers cs (LevelSet n l) s t = setting_numbers n l cs
+acting_numbers cs (Reloaded n l) s t = reloading_numbers n l cs
 
 pub itself_within : (a : FilterSet) → Within a a
 itself_within a n t = t
@@ -279,7 +279,7 @@ acting_alike cs ds (Noticed lane e) s t u v p before after =
     learnt_alike numbers cs ds
     e s t (given_in e s u) (given_in e t v) lane.0 no_filter before (given_alike numbers e s t u v before after) p (itself_within numbers) (none_within numbers)
 acting_alike cs ds (Quiet c) s t u v p before after = p
-acting_alike cs ds (LevelSet n l) s t u v p before after = setting_alike n l cs ds p
+acting_alike cs ds (Reloaded n l) s t u v p before after = reloading_alike n l cs ds p
 
 pub passed_both : (cs ds : Conducts) (o : Outcome) (s t u v : Store) → PathsActAlike cs ds → AgreeAt (numbers_in cs) s t → AgreeAt (numbers_in cs) u v
     → passed (Some (path_now cs)) o s u ≡ passed (Some (path_now ds)) o t v
@@ -346,7 +346,7 @@ steps_agree cs ds (Noticed lane (OnClose id)) s t u v p agree h k =
     changed (numbers_in cs) _ _ u v h.1 k.1 (without_agrees (numbers_in cs) s t (number_of id ∷ []) agree)
 steps_agree cs ds (Quiet (HandleAdded id)) s t u v p agree h k = changed (numbers_in cs) _ _ u v h.1 k.1 (added_agrees (numbers_in cs) s t (number_of id) agree)
 steps_agree cs ds (Quiet (HandleTaken id)) s t u v p agree h k = changed (numbers_in cs) _ _ u v h.1 k.1 (taken_agrees (numbers_in cs) s t (number_of id) agree)
-steps_agree cs ds (LevelSet n l) s t u v p agree h k = changed (numbers_in cs) s t u v h k agree
+steps_agree cs ds (Reloaded n l) s t u v p agree h k = changed (numbers_in cs) s t u v h k agree
 steps_agree cs ds (Quiet (GoneLeft lane id)) s t u v p agree h k =
     changed (numbers_in cs) _ _ u v h.1 k.1 (exited_agrees (numbers_in cs) s t lane.0 (number_of id) agree)
 steps_agree cs ds other s t u v p agree h k = changed (numbers_in cs) s t u v h.1 k.1 agree

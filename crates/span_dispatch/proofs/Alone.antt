@@ -16,7 +16,7 @@ use Rattle.span_dispatch.proofs.Acting.{acting_numbers, after_notice_alike, alon
 use Rattle.span_dispatch.proofs.Acting.{passed_both, paths_further, paths_itself, same_numbers}
 use Rattle.span_dispatch.proofs.Seen.{beneath, goes_through, some_path}
 use Rattle.span_dispatch.specs.Alone.{ActAlike, Alone, PathsActAlike, acting, learning, form_of_path, passed, passed_at}
-use Rattle.span_dispatch.specs.Outcome.{IsVerdict, LayersGo, LevelSet, OutcomeAt, Makes, Noticed, Outcome, Quiet, Steps, given_in, with_new}
+use Rattle.span_dispatch.specs.Outcome.{IsVerdict, LayersGo, Reloaded, OutcomeAt, Makes, Noticed, Outcome, Quiet, Steps, given_in, with_new}
 use Rattle.std.specs.FinMap.{get}
 use Rattle.span_dispatch.specs.Serve.{Sees, outcome_of}
 use Rattle.span_stacks.specs.Verdict.{AreDistinct, in_verdict, numbers_of}
@@ -27,10 +27,10 @@ use Rattle.span_registry.proofs.Agreeing.{SpansAgree}
 use Rattle.span_registry.specs.Agree.{AgreeAt, known_to}
 use Rattle.span_registry.specs.Behaviour.{AnswerAlike, Behaviour, Conduct, IsPlain, Notice, OnEvent, OnIdChange, OnNewSpan}
 use Rattle.span_registry.specs.Conducts.{ActOn, ActsAt, ArePlainConducts, Conducts, ConductAfter, PathsAnswerAlike, StackPathLaws, after_notice, numbers_in}
-use Rattle.span_registry.specs.Conducts.{path_now, setting}
+use Rattle.span_registry.specs.Conducts.{path_now, reloading}
 use Rattle.span_registry.specs.Form.{Terminal, Filtered, Form, Leaf, Parts}
 use Rattle.span_registry.specs.Hooks.{StackLaws, StackSteps, no_filter}
-use Rattle.span_registry.specs.Levels.{LevelLaws, LevelSteps}
+use Rattle.span_registry.specs.Reload.{ReloadLaws, ReloadSteps}
 use Rattle.span_registry.specs.Path.{Path, mask_of, passes_path, path_at}
 use Rattle.span_registry.specs.Position.{HearSteps, Here, Inner, Outer, Position, Under, told_in}
 use Rattle.span_registry.specs.Plan.{Itself, Nobody, Plan, Through, asked_afresh, passes}
@@ -357,8 +357,8 @@ passed_alone path cs (Noticed lane e) s t alike =
 passed_alone path cs other s t alike = refl
 
 module _ {S : Type 0} (registry : S → RegistryState) {with_registry : S → RegistryState → S}
-    {has_form : S → Form → Type 0} {stepped : StackSteps S} {levelled : LevelSteps S} {registered : S → S → Type 0} {hears : HearSteps S} {acts_at : ActsAt S}
-    (paths : StackPathLaws with_registry has_form stepped registered acts_at) (levels : LevelLaws has_form levelled hears acts_at) where
+    {has_form : S → Form → Type 0} {stepped : StackSteps S} {reloaded : ReloadSteps S} {registered : S → S → Type 0} {hears : HearSteps S} {acts_at : ActsAt S}
+    (paths : StackPathLaws with_registry has_form stepped registered acts_at) (levels : ReloadLaws has_form reloaded hears acts_at) where
   -- what was made leaves, alone: a store that agrees, conducts as they are learnt from it, and what is told in the store that it is given in
   abbrev LeavesAlone : (position : Position) (cs : Conducts) (o : Outcome) (s t : Store) (y : S) → Type 0
   LeavesAlone position cs o s t y =
@@ -366,7 +366,7 @@ module _ {S : Type 0} (registry : S → RegistryState) {with_registry : S → Re
       × (ds : Conducts) × acts_at y position ds × PathsActAlike ds (acting cs o s u) × (passed (Some (path_now cs)) o s t ≡ passed (Some (path_now cs)) o s u)
 
   leaves_alone : (f : Form) (o : Outcome) (s t : Store) (x y : S) (position : Position) (cs : Conducts) → has_form x f → AreDistinct f
-      → acts_at x position cs → Steps f o s t → SameAside t (registry y).store → LayersGo registry with_registry has_form stepped levelled f o s t x y
+      → acts_at x position cs → Steps f o s t → SameAside t (registry y).store → LayersGo registry with_registry has_form stepped reloaded f o s t x y
       → LeavesAlone position cs o s t y
   leaves_alone f (Noticed lane e) s t x y position cs has distinct acts steps aside n =
       let numbers = numbers_in cs in
@@ -401,27 +401,27 @@ module _ {S : Type 0} (registry : S → RegistryState) {with_registry : S → Re
         paths_itself cs (paths.plain x position cs acts),
         refl,
       )
-  leaves_alone f (LevelSet n l) s t x y position cs has distinct acts steps aside set =
+  leaves_alone f (Reloaded n l) s t x y position cs has distinct acts steps aside set =
       let numbers = numbers_in cs in
       let later = levels.acts x n l y position cs set.1 acts in (
         t,
         steps,
         agree_sym numbers t (registry y).store (agree_same numbers t (registry y).store aside),
-        setting n l cs,
+        reloading n l cs,
         later,
-        paths_itself (setting n l cs) (paths.plain y position (setting n l cs) later),
+        paths_itself (reloading n l cs) (paths.plain y position (reloading n l cs) later),
         refl,
       )
 
   -- on the stack's own store
-  pub sees_own : (x : S) (ms : List OutcomeAt) (y : S) (position : Position) (cs : Conducts) → FoldsTo (Makes registry with_registry has_form stepped levelled)
+  pub sees_own : (x : S) (ms : List OutcomeAt) (y : S) (position : Position) (cs : Conducts) → FoldsTo (Makes registry with_registry has_form stepped reloaded)
       x ms y → acts_at x position cs → Alone cs (registry x).store (map outcome_of ms) (passed_at position ms)
   sees_own x [] y position cs h acts = refl
   sees_own x (m ∷ ms) y position cs h acts =
       let made = h.1 in
       let s = m.before in
       let step = leaves_alone m.form m.outcome s m.after x h.0 position cs made.honest.has
-      made.honest.rules.numbers.distinct acts made.steps (left_aside registry with_registry has_form stepped levelled x m h.0 made) made.layers in
+      made.honest.rules.numbers.distinct acts made.steps (left_aside registry with_registry has_form stepped reloaded x m h.0 made) made.layers in
       let rest = sees_own h.0 ms y position step.3 h.2 step.4 in
       let same : numbers_in cs ≡ numbers_in step.3 = sym (same_numbers step.3 (acting cs m.outcome s step.0) step.5 ∙ acting_numbers cs m.outcome s step.0) in
       let agree = subst (λ (numbers : FilterSet). AgreeAt numbers (registry h.0).store step.0) same step.2 in
@@ -436,18 +436,18 @@ module _ {S : Type 0} (registry : S → RegistryState) {with_registry : S → Re
       )
 
   -- what a leaf sees of what was made, it sees alone on any store that agrees
-  pub sees_alone : (x : S) (made : List OutcomeAt) (y : S) → FoldsTo (Makes registry with_registry has_form stepped levelled) x made y
+  pub sees_alone : (x : S) (made : List OutcomeAt) (y : S) → FoldsTo (Makes registry with_registry has_form stepped reloaded) x made y
       → (position : Position) (cs : Conducts) (s : Store)
       → acts_at x position cs → AgreeAt (numbers_in cs) (registry x).store s → Alone cs s (map outcome_of made) (passed_at position made)
   sees_alone x made y h position cs s acts agree = alone_over cs cs (registry x).store
       s (map outcome_of made) (passed_at position made) (paths_itself cs (paths.plain x position cs acts)) agree (sees_own x made y position cs h acts)
 
 module _ {S : Type 0} (registry : S → RegistryState) {with_registry : S → RegistryState → S} {usable : S → Type 0}
-    {has_form : S → Form → Type 0} {stepped : StackSteps S} {levelled : LevelSteps S} {hears : HearSteps S} {registered : S → S → Type 0} {acts_at : ActsAt S}
+    {has_form : S → Form → Type 0} {stepped : StackSteps S} {reloaded : ReloadSteps S} {hears : HearSteps S} {registered : S → S → Type 0} {acts_at : ActsAt S}
     (laws : StackLaws with_registry usable has_form stepped hears registered) (paths : StackPathLaws with_registry has_form stepped registered acts_at)
-    (levels : LevelLaws has_form levelled hears acts_at) where
+    (levels : ReloadLaws has_form reloaded hears acts_at) where
   -- each leaf goes through what it sees of what was made, and sees it alone
   pub sees_what_is_made : {x y : S} (made : List OutcomeAt)
-      → FoldsTo (Makes registry with_registry has_form stepped levelled) x made y → Sees registry hears acts_at x made y
+      → FoldsTo (Makes registry with_registry has_form stepped reloaded) x made y → Sees registry hears acts_at x made y
   sees_what_is_made {x} {y} made folds =
       record { each = λ position. goes_through registry laws levels x made y position folds; alone = sees_alone registry paths levels x made y folds }

@@ -41,7 +41,7 @@ use Rattle.span_registry.specs.Path.{path_at}
 use Rattle.span_registry.specs.Behaviour.{OnEvent, OnNewSpan}
 use Rattle.span_registry.specs.Form.{Form}
 use Rattle.span_registry.specs.Hooks.{StackSteps}
-use Rattle.span_registry.specs.Levels.{LevelSteps}
+use Rattle.span_registry.specs.Reload.{ReloadSteps}
 use Rattle.span_registry.specs.Position.{Heard, Here, Position}
 
 -- of two lists in a row a leaf sees what it sees of each
@@ -80,21 +80,21 @@ record_asked past lane l w values id r e = by_span (resolved past w) e
         (cc, cc, ap recorded_values (sym same))
 
 module _ {S : Type 0} (registry : S → RegistryState)
-    (with_registry : S → RegistryState → S) (has_form : S → Form → Type 0) (stepped : StackSteps S) (levelled : LevelSteps S) where
+    (with_registry : S → RegistryState → S) (has_form : S → Form → Type 0) (stepped : StackSteps S) (reloaded : ReloadSteps S) where
   -- a list that begins with a request: it has an answer, and the rest was served behind that
   pub next_served : (past : List Answer) (r : Request) (rs : List Request) (answers : List Answer)
       (made : List (List OutcomeAt)) (memory : KeptCallsites) (x : S) (after : KeptCallsites) (y : S) (G : List Answer → List (List OutcomeAt) → Type 0)
       → ((a : Answer) (rest : List Answer) (ms : List OutcomeAt) (more : List (List OutcomeAt)) (between : KeptCallsites) (z : S)
-      → ServesRequest registry with_registry has_form stepped levelled past r memory x a ms between z
-      → Run registry with_registry has_form stepped levelled (past ++ (a ∷ [])) rs rest more between z after y → G (a ∷ rest) (ms ∷ more))
-      → Run registry with_registry has_form stepped levelled past (r ∷ rs) answers made memory x after y → G answers made
+      → ServesRequest registry with_registry has_form stepped reloaded past r memory x a ms between z
+      → Run registry with_registry has_form stepped reloaded (past ++ (a ∷ [])) rs rest more between z after y → G (a ∷ rest) (ms ∷ more))
+      → Run registry with_registry has_form stepped reloaded past (r ∷ rs) answers made memory x after y → G answers made
   next_served past r rs (a ∷ rest) (ms ∷ more) memory x after y G k h = k a rest ms more h.0 h.1 h.2 h.3
   next_served past r rs other made memory x after y rest k h = absurd h
 
   -- an empty list has no answer, and nothing was made of it
   pub none_served : (past : List Answer) (answers : List Answer)
       (made : List (List OutcomeAt)) (memory : KeptCallsites) (x : S) (after : KeptCallsites) (y : S) (G : List Answer → List (List OutcomeAt) → Type 0)
-      → G [] [] → Run registry with_registry has_form stepped levelled past [] answers made memory x after y → G answers made
+      → G [] [] → Run registry with_registry has_form stepped reloaded past [] answers made memory x after y → G answers made
   none_served past [] [] memory x after y G k h = k
   none_served past other made memory x after y rest k h = absurd h
 
@@ -112,11 +112,11 @@ module _ {S : Type 0} (registry : S → RegistryState)
   abbrev pub MadeSpan : List Answer → Request → Lane → KeptCallsites → S → Goal → Type 0
   MadeSpan past r lane memory x G = (id : Id) (attrs : Attributes) (f : Form) (one : OutcomeAt) (after : KeptCallsites) (z : S)
       → call_of past r ≡ Some (OpenSpan lane attrs) → SpanDecided memory f x lane attrs true after
-      → one.outcome ≡ Noticed lane (OnNewSpan attrs id) → Makes registry with_registry has_form stepped levelled x one z → G (answer.Made id) (one ∷ []) after z
+      → one.outcome ≡ Noticed lane (OnNewSpan attrs id) → Makes registry with_registry has_form stepped reloaded x one z → G (answer.Made id) (one ∷ []) after z
 
   abbrev pub DroppedSpan : List Answer → Request → Lane → KeptCallsites → S → Goal → Type 0
   DroppedSpan past r lane memory x G = (attrs : Attributes) (f : Form) (after : KeptCallsites)
-      → call_of past r ≡ Some (OpenSpan lane attrs) → IsReady registry with_registry has_form stepped levelled f x
+      → call_of past r ≡ Some (OpenSpan lane attrs) → IsReady registry with_registry has_form stepped reloaded f x
       → SpanDecided memory f x lane attrs false after → G answer.Dropped [] after x
 
   abbrev pub RefusedSpan : List Answer → Request → Lane → KeptCallsites → S → Goal → Type 0
@@ -126,8 +126,8 @@ module _ {S : Type 0} (registry : S → RegistryState)
 
   opened : (past : List Answer) (r : Request) (lane : Lane) (attrs : Attributes) (f : Form) (memory : KeptCallsites) (x : S)
       (a : Answer) (made : List OutcomeAt) (after : KeptCallsites) (y : S) (G : Goal) → MadeSpan past r lane memory x G → DroppedSpan past r lane memory x G
-      → RefusedSpan past r lane memory x G → call_of past r ≡ Some (OpenSpan lane attrs) → IsReady registry with_registry has_form stepped levelled f x
-      → Serves registry with_registry has_form stepped levelled (OpenSpan lane attrs) f memory x a made after y → G a made after y
+      → RefusedSpan past r lane memory x G → call_of past r ≡ Some (OpenSpan lane attrs) → IsReady registry with_registry has_form stepped reloaded f x
+      → Serves registry with_registry has_form stepped reloaded (OpenSpan lane attrs) f memory x a made after y → G a made after y
   opened past r lane attrs f memory x (answer.Made id) [] after y G new dropped refused asks ready s = let e = s.says in absurd (cc)
   opened past r lane attrs f memory x (answer.Made id) (one ∷ []) after y G new dropped refused asks ready s =
       let e = s.says in
@@ -149,7 +149,7 @@ module _ {S : Type 0} (registry : S → RegistryState)
       (p : WhichParent) (values : _) (memory : KeptCallsites) (x : S) (a : Answer) (made : List OutcomeAt) (after : KeptCallsites) (y : S) (G : Goal)
       → MadeSpan past (request.NewSpan lane m p values) lane memory x G
       → DroppedSpan past (request.NewSpan lane m p values) lane memory x G → RefusedSpan past (request.NewSpan lane m p values) lane memory x G
-      → ServesRequest registry with_registry has_form stepped levelled past (request.NewSpan lane m p values) memory x a made after y → G a made after y
+      → ServesRequest registry with_registry has_form stepped reloaded past (request.NewSpan lane m p values) memory x a made after y → G a made after y
   span_served past lane m p values memory x a made after y G new dropped refused h =
       opened past
       (request.NewSpan lane m p values) lane (attributes_of m values (resolved_parent past p)) h.0 memory x a made after y G new dropped refused refl h.1 h.2
@@ -163,11 +163,11 @@ module _ {S : Type 0} (registry : S → RegistryState)
   abbrev pub MadeEvent : List Answer → Request → Lane → KeptCallsites → S → Goal → Type 0
   MadeEvent past r lane memory x G = (e : Event) (f : Form) (one : OutcomeAt) (after : KeptCallsites) (z : S)
       → call_of past r ≡ Some (SendEvent lane e) → EventDecided memory f x lane e true after → one.outcome ≡ Noticed lane (OnEvent e)
-      → Makes registry with_registry has_form stepped levelled x one z → G answer.Done (one ∷ []) after z
+      → Makes registry with_registry has_form stepped reloaded x one z → G answer.Done (one ∷ []) after z
 
   abbrev pub DroppedEvent : List Answer → Request → Lane → KeptCallsites → S → Goal → Type 0
   DroppedEvent past r lane memory x G =
-      (e : Event) (f : Form) (after : KeptCallsites) → call_of past r ≡ Some (SendEvent lane e) → IsReady registry with_registry has_form stepped levelled f x
+      (e : Event) (f : Form) (after : KeptCallsites) → call_of past r ≡ Some (SendEvent lane e) → IsReady registry with_registry has_form stepped reloaded f x
       → EventDecided memory f x lane e false after → G answer.Dropped [] after x
 
   abbrev pub RefusedEvent : List Answer → Request → Lane → KeptCallsites → S → Goal → Type 0
@@ -177,8 +177,8 @@ module _ {S : Type 0} (registry : S → RegistryState)
 
   sent : (past : List Answer) (r : Request) (lane : Lane) (event : Event) (f : Form) (memory : KeptCallsites) (x : S)
       (a : Answer) (made : List OutcomeAt) (after : KeptCallsites) (y : S) (G : Goal) → MadeEvent past r lane memory x G → DroppedEvent past r lane memory x G
-      → RefusedEvent past r lane memory x G → call_of past r ≡ Some (SendEvent lane event) → IsReady registry with_registry has_form stepped levelled f x
-      → Serves registry with_registry has_form stepped levelled (SendEvent lane event) f memory x a made after y → G a made after y
+      → RefusedEvent past r lane memory x G → call_of past r ≡ Some (SendEvent lane event) → IsReady registry with_registry has_form stepped reloaded f x
+      → Serves registry with_registry has_form stepped reloaded (SendEvent lane event) f memory x a made after y → G a made after y
   sent past r lane event f memory x answer.Done [] after y G new dropped refused asks ready s = let e = s.says in absurd (cc)
   sent past r lane event f memory x answer.Done (one ∷ []) after y G new dropped refused asks ready s =
       let e = s.says in
@@ -198,7 +198,7 @@ module _ {S : Type 0} (registry : S → RegistryState)
       (p : WhichParent) (values : _) (memory : KeptCallsites) (x : S) (a : Answer) (made : List OutcomeAt) (after : KeptCallsites) (y : S) (G : Goal)
       → MadeEvent past (request.Event lane m p values) lane memory x G
       → DroppedEvent past (request.Event lane m p values) lane memory x G → RefusedEvent past (request.Event lane m p values) lane memory x G
-      → ServesRequest registry with_registry has_form stepped levelled past (request.Event lane m p values) memory x a made after y → G a made after y
+      → ServesRequest registry with_registry has_form stepped reloaded past (request.Event lane m p values) memory x a made after y → G a made after y
   event_served past lane m p values memory x a made after y G new dropped refused h =
       sent past (request.Event lane m p values) lane (event_of m values (resolved_parent past p)) h.0 memory x a made after y G new dropped refused refl h.1 h.2
 

@@ -44,7 +44,7 @@ use Rattle.span_registry.specs.KeptForm.{KeepsForm}
 use Rattle.span_registry.specs.laws.Form.{kept_form, kept_rules}
 use Rattle.span_registry.specs.Form.{Form}
 use Rattle.span_registry.specs.Hooks.{AnswersEvent, Notifies, OpensAndNotifies, StackLaws, StackSteps, Stays, no_filter}
-use Rattle.span_registry.specs.Levels.{LevelSteps}
+use Rattle.span_registry.specs.Reload.{ReloadSteps}
 use Rattle.span_registry.specs.Position.{HearSteps}
 use Rattle.span_registry.specs.Plan.{asked_afresh, by_pass}
 use Rattle.span_registry.specs.Question.{asked, event_asked, refusals}
@@ -109,12 +109,12 @@ opens_to f lane attrs id s t v said o =
 module _ {S : Type 0} {registry : S → RegistryState} {with_registry : S → RegistryState → S}
     {usable : S → Type 0} {has_form : S → Form → Type 0} {stepped : StackSteps S} {hears : HearSteps S} {registered : S → S → Type 0}
     (laws : StackLaws with_registry usable has_form stepped hears registered) (with_own : (s : S) → with_registry s (registry s) ≡ s)
-    (levelled : LevelSteps S) where
+    (reloaded : ReloadSteps S) where
   abbrev pub Ready : Form → S → Type 0
-  Ready f x = IsReady registry with_registry has_form stepped levelled f x
+  Ready f x = IsReady registry with_registry has_form stepped reloaded f x
 
   abbrev pub Honest : Form → S → Type 0
-  Honest f x = IsHonest registry with_registry has_form stepped levelled f x
+  Honest f x = IsHonest registry with_registry has_form stepped reloaded f x
 
   -- ---- questions
 
@@ -124,8 +124,8 @@ module _ {S : Type 0} {registry : S → RegistryState} {with_registry : S → Re
   current_number s lane (Some p) h = h
 
   pub current_so : (lane : Lane) (c : Current) (f : Form) (x : S)
-      → ShowsCurrent (registry x).store lane c → Honest f x → Done laws with_own levelled (AskCurrent lane) (current_answer c) f x x
-  current_so lane c f x shown h = by_none laws with_own levelled (AskCurrent lane) (current_answer c) f x x h refl refl
+      → ShowsCurrent (registry x).store lane c → Honest f x → Done laws with_own reloaded (AskCurrent lane) (current_answer c) f x x
+  current_so lane c f x shown h = by_none laws with_own reloaded (AskCurrent lane) (current_answer c) f x x h refl refl
 
   pub current_exact : (lane : Lane) (c : Current) (f : Form) (memory : KeptCallsites) (s : RegistryState)
       → ShowsCurrent s.store lane c → AnswersWith (AskCurrent lane) memory f s (current_answer c) memory
@@ -151,7 +151,7 @@ module _ {S : Type 0} {registry : S → RegistryState} {with_registry : S → Re
   pub span_made : (lane : Lane) (attrs : Attributes) (m : Metadata) (pass : Pass) (id : Id) (f : Form) (x y : S)
       → m ≡ metadata_of attrs → asked f m (registry x).store lane.0 no_filter no_filter ≡ (true, refusals pass)
       → OpensAndNotifies registry has_form stepped lane attrs pass x y id
-      → Honest f x → Done laws with_own levelled (OpenSpan lane attrs) (answer.Made id) f x y
+      → Honest f x → Done laws with_own reloaded (OpenSpan lane attrs) (answer.Made id) f x y
   span_made lane attrs m pass id f x y same a n h =
       let s = (registry x).store in
       let d = subst (λ n. asked f n s lane.0 no_filter no_filter ≡ (true, refusals pass)) same a in
@@ -159,7 +159,7 @@ module _ {S : Type 0} {registry : S → RegistryState} {with_registry : S → Re
       let law = new_span_fresh f attrs id s lane.0 h.rules.numbers.distinct (ap (λ (p : Bool × FilterSet). p.0) d) in
       let plan = subst (λ r. by_pass f (OnNewSpan attrs id) n.left.store.spans no_filter r ≡ asked_afresh f (OnNewSpan attrs id) s lane.0 no_filter)
       refused (law.plan n.left.store.spans) in
-      by_call laws with_own levelled (OpenSpan lane attrs) (answer.Made id) f lane (OnNewSpan attrs id) (refusals pass) _ x y h refl
+      by_call laws with_own reloaded (OpenSpan lane attrs) (answer.Made id) f lane (OnNewSpan attrs id) (refusals pass) _ x y h refl
       n plan (opens_to f lane attrs id (registry x) n.left (refused_of pass) (λ k. ap (λ (r : FilterSet). r k) (sym refused) ∙ law.verdict k) n.taken)
 
   -- and exactly so
@@ -190,7 +190,7 @@ module _ {S : Type 0} {registry : S → RegistryState} {with_registry : S → Re
   pub event_made : (lane : Lane) (e : Event) (m : Metadata) (first second : Pass) (wanted : Bool) (f : Form) (x y : S)
       → m ≡ event_metadata e → asked f m (registry x).store lane.0 no_filter no_filter ≡ (true, refusals first) → wanted ≡ true
       → AnswersEvent registry has_form x lane e first wanted second → Notifies registry has_form stepped lane (refusals second) (OnEvent e) Stays x y
-      → Honest f x → Done laws with_own levelled (SendEvent lane e) answer.Done f x y
+      → Honest f x → Done laws with_own reloaded (SendEvent lane e) answer.Done f x y
   event_made lane e m first second wanted f x y same a agreed b n h =
       let s = (registry x).store in
       let d = subst (λ n. asked f n s lane.0 no_filter no_filter ≡ (true, refusals first)) same a in
@@ -202,7 +202,7 @@ module _ {S : Type 0} {registry : S → RegistryState} {with_registry : S → Re
       (b f h.has).refused ∙ ap (λ r. (event_asked f e s lane.0 no_filter r).1) (sym (ap (λ (p : Bool × FilterSet). p.1) d)) in
       let plan = subst (λ r. by_pass f (OnEvent e) n.left.store.spans no_filter r ≡ asked_afresh f (OnEvent e) s lane.0 no_filter)
       (sym refused) (law n.left.store.spans) in
-      by_call laws with_own levelled (SendEvent lane e)
+      by_call laws with_own reloaded (SendEvent lane e)
       answer.Done f lane (OnEvent e) (refusals second) _ x y h refl n plan (stays_to f lane (OnEvent e) (registry x) n.left refl refl (λ r. refl) n.taken)
 
   -- and exactly so
@@ -261,12 +261,12 @@ module _ {S : Type 0} {registry : S → RegistryState} {with_registry : S → Re
 
   pub entered_so : (lane : Lane) (id : Id) (r : Result (Unit {0}) TraceError) (f : Form) (x y : S) → OnOk r
       (Notifies registry has_form stepped lane no_filter (OnEnter id) (Enters lane id) x y) → IfErr r (RefusesEnter (registry x) lane id) → OnErr r (y ≡ x)
-      → Honest f x → Done laws with_own levelled (Enter lane id) (done_answer r) f x y
+      → Honest f x → Done laws with_own reloaded (Enter lane id) (done_answer r) f x y
   entered_so lane id (Ok u) f x y n r e h =
-      by_call laws with_own levelled (Enter lane id) answer.Done f lane (OnEnter id) no_filter _ x y h refl
+      by_call laws with_own reloaded (Enter lane id) answer.Done f lane (OnEnter id) no_filter _ x y h refl
       n (kept_plan f (OnEnter id) x lane _ (ap (λ (t : RegistryState). t.store.spans) n.taken.state)
       (others_afresh f (OnEnter id) (registry x).store lane.0 no_filter no_filter)) (enters_to f lane id (registry x) n.left n.taken)
-  entered_so lane id (Err error) f x y n r e h = by_none laws with_own levelled (Enter lane id) (answer.Refused error) f x y h e refl
+  entered_so lane id (Err error) f x y n r e h = by_none laws with_own reloaded (Enter lane id) (answer.Refused error) f x y h e refl
 
   pub enter_exactly : {A : Type 0} (lane : Lane) (id : Id) (r : Result A TraceError) (f : Form) (memory : KeptCallsites) (s : RegistryState)
       → IfErr r (RefusesEnter s lane id) → AnswersWith (Enter lane id) memory f s (done_answer r) memory
@@ -274,38 +274,38 @@ module _ {S : Type 0} {registry : S → RegistryState} {with_registry : S → Re
   enter_exactly lane id (Err e) f memory s r = (refl, r)
 
   pub left_so : (lane : Lane) (id : Id) (f : Form) (x y : S) → IsOpen (registry x).store.spans (number_of id) → Notifies registry
-      has_form stepped lane no_filter (OnExit id) (Exits lane id) x y → Honest f x → Done laws with_own levelled (Exit lane id) answer.Done f x y
+      has_form stepped lane no_filter (OnExit id) (Exits lane id) x y → Honest f x → Done laws with_own reloaded (Exit lane id) answer.Done f x y
   left_so lane id f x y there n h =
       by_call laws
-      with_own levelled (Exit lane id) answer.Done f lane (OnExit id) no_filter _ x y h (record { there = λ o. refl; gone = λ shut. absurd (shut there) })
+      with_own reloaded (Exit lane id) answer.Done f lane (OnExit id) no_filter _ x y h (record { there = λ o. refl; gone = λ shut. absurd (shut there) })
       n (kept_plan f (OnExit id) x lane _ (ap (λ (t : RegistryState). t.store.spans) n.taken)
       (others_afresh f (OnExit id) (registry x).store lane.0 no_filter no_filter)) (leaves_to f lane id (registry x) n.left there n.taken)
 
   pub gone_so : ((s : S) (w : RegistryState) → registry (with_registry s w) ≡ w) → (lane : Lane) (id : Id) (f : Form) (x : S) (w : RegistryState)
       → ¬ (IsOpen (registry x).store.spans (number_of id)) → Exits lane id (registry x) w → Honest f x
-      → Done laws with_own levelled (Exit lane id) answer.Done f x (with_registry x w)
+      → Done laws with_own reloaded (Exit lane id) answer.Done f x (with_registry x w)
   gone_so registry_with lane id f x w shut e h =
       by_change laws
-      with_own levelled (Exit lane id) answer.Done f (GoneLeft lane id) x (with_registry x w) h (record { there = λ o. absurd (shut o); gone = λ s. refl })
+      with_own reloaded (Exit lane id) answer.Done f (GoneLeft lane id) x (with_registry x w) h (record { there = λ o. absurd (shut o); gone = λ s. refl })
       (exited (registry x).store lane.0 (number_of id)) (shut, refl)
-      (registry_with x w ∙ e) (its_own laws with_own levelled registry_with x w) (filters_same (registry_with x w ∙ e))
+      (registry_with x w ∙ e) (its_own laws with_own reloaded registry_with x w) (filters_same (registry_with x w ∙ e))
       (λ s. subst (λ (t : RegistryState). HasNoClosing t.store.spans)
       (sym (registry_with x w)) (subst HasNoClosing (sym (ap (λ (t : RegistryState). t.store.spans) e)) s))
 
   pub recorded_so : (lane : Lane) (id : Id) (values : Record) (f : Form) (x y : S)
       → IsOpen (registry x).store.spans (number_of id) → Notifies registry has_form stepped lane no_filter (OnRecord id values) Stays x y → Honest f x
-      → Done laws with_own levelled (RecordValues lane id values) answer.Done f x y
+      → Done laws with_own reloaded (RecordValues lane id values) answer.Done f x y
   recorded_so lane id values f x y there n h =
-      by_call laws with_own levelled (RecordValues lane id values) answer.Done f lane (OnRecord id values) no_filter _ x y h refl
+      by_call laws with_own reloaded (RecordValues lane id values) answer.Done f lane (OnRecord id values) no_filter _ x y h refl
       n (kept_plan f (OnRecord id values)
       x lane _ (ap (λ (t : RegistryState). t.store.spans) n.taken) (others_afresh f (OnRecord id values) (registry x).store lane.0 no_filter no_filter))
       (stays_to f lane (OnRecord id values) (registry x) n.left (there, refl) refl (λ r. refl) n.taken)
 
   pub followed_so : (lane : Lane) (id other : Id) (f : Form) (x y : S)
       → IsOpen (registry x).store.spans (number_of id) → Notifies registry has_form stepped lane no_filter (OnFollows id other) Stays x y → Honest f x
-      → Done laws with_own levelled (Follow lane id other) answer.Done f x y
+      → Done laws with_own reloaded (Follow lane id other) answer.Done f x y
   followed_so lane id other f x y there n h =
-      by_call laws with_own levelled (Follow lane id other) answer.Done f lane (OnFollows id other) no_filter _ x y h refl
+      by_call laws with_own reloaded (Follow lane id other) answer.Done f lane (OnFollows id other) no_filter _ x y h refl
       n (kept_plan f (OnFollows id other)
       x lane _ (ap (λ (t : RegistryState). t.store.spans) n.taken) (others_afresh f (OnFollows id other) (registry x).store lane.0 no_filter no_filter))
       (stays_to f lane (OnFollows id other) (registry x) n.left (there, refl) refl (λ r. refl) n.taken)
@@ -314,12 +314,12 @@ module _ {S : Type 0} {registry : S → RegistryState} {with_registry : S → Re
 
   pub cloned_so : (lane : Lane) (id : Id) (r : Result Id TraceError) (f : Form) (x y : S)
       → OnOk r (Clones id (registry x) (registry y)) → y ≡ with_registry x (registry y) → IfErr r (RefusesClone (registry x) id) → OnErr r (y ≡ x)
-      → Honest f x → Done laws with_own levelled (AddHandle lane id) (done_answer r) f x y
+      → Honest f x → Done laws with_own reloaded (AddHandle lane id) (done_answer r) f x y
   cloned_so lane id (Ok other) f x y n rest r e h =
-      by_change laws with_own levelled (AddHandle lane id) answer.Done f (HandleAdded id) x y h refl
+      by_change laws with_own reloaded (AddHandle lane id) answer.Done f (HandleAdded id) x y h refl
       (record (registry x).store { spans = add_handle (registry x).store.spans (number_of id) }) (n.is_open, refl)
       n.state rest (filters_same n.state) (settled_cloned id (registry x) (registry y) n)
-  cloned_so lane id (Err error) f x y n rest r e h = by_none laws with_own levelled (AddHandle lane id) (answer.Refused error) f x y h e refl
+  cloned_so lane id (Err error) f x y n rest r e h = by_none laws with_own reloaded (AddHandle lane id) (answer.Refused error) f x y h e refl
 
   pub clone_exactly : (lane : Lane) (id : Id) (r : Result Id TraceError) (f : Form) (memory : KeptCallsites) (s : RegistryState)
       → IfOk r (λ other. handles_of s.store.spans (number_of id) < s.limits.count)
@@ -329,13 +329,13 @@ module _ {S : Type 0} {registry : S → RegistryState} {with_registry : S → Re
 
   pub still_open_so : ((s : S) (w : RegistryState) → registry (with_registry s w) ≡ w) → (lane : Lane) (id : Id)
       (a : Released) (f : Form) (x : S) (w : RegistryState) → Releases id a (registry x) w → a ≡ StillOpen → IsForest (registry x).store.spans → Ready f x
-      → Done laws with_own levelled (DropHandle lane id) (answer.Yes false) f x (with_registry x w)
+      → Done laws with_own reloaded (DropHandle lane id) (answer.Yes false) f x (with_registry x w)
   still_open_so registry_with lane id a f x w r same forest h =
       let drops = drops_open forest h.settled r same in
-      by_change laws with_own levelled (DropHandle lane id) (answer.Yes false) f (HandleTaken id) x (with_registry x w) h.honest
+      by_change laws with_own reloaded (DropHandle lane id) (answer.Yes false) f (HandleTaken id) x (with_registry x w) h.honest
       (record { closed = []; exact = drops.closes; outcomes = refl; itself = (λ t. absurd (true≢false (sym t)), λ n. absurd n) })
       (record (registry x).store { spans = take_handle (registry x).store.spans (number_of id) }) (r.held, refl)
-      (registry_with x w ∙ r.state) (its_own laws with_own levelled registry_with x w) (filters_same (registry_with x w ∙ r.state))
+      (registry_with x w ∙ r.state) (its_own laws with_own reloaded registry_with x w) (filters_same (registry_with x w ∙ r.state))
       (λ s. subst (λ (t : RegistryState). HasNoClosing t.store.spans) (sym (registry_with x w)) (settled_still s r same))
 
   -- ---- closes
@@ -343,14 +343,14 @@ module _ {S : Type 0} {registry : S → RegistryState} {with_registry : S → Re
   -- all that closes by a drop closes
   pub closed_so : ((s : S) (w : RegistryState) → registry (with_registry s w) ≡ w) → (lane : Lane) (id : Id)
       (a : Released) (f : Form) (x y : S) (w : RegistryState) → Releases id a (registry x) w → a ≡ Closing → IsForest (registry x).store.spans
-      → ClosesEach registry with_registry has_form stepped levelled lane id (with_registry x w) y
-      → Ready f x → Done laws with_own levelled (DropHandle lane id) (answer.Yes true) f x y
+      → ClosesEach registry with_registry has_form stepped reloaded lane id (with_registry x w) y
+      → Ready f x → Done laws with_own reloaded (DropHandle lane id) (answer.Yes true) f x y
   closed_so registry_with lane id a f x y w r same forest k h =
       let z = with_registry x w in
       let t : Store = record (registry x).store { spans = take_handle (registry x).store.spans (number_of id) } in
       let m : OutcomeAt = record { form = f; before = (registry x).store; after = t; outcome = Quiet (HandleTaken id) } in
-      let rest = its_own laws with_own levelled registry_with x w in
-      let after = honest_quietly laws with_own levelled f x z h.honest rest (filters_same (registry_with x w ∙ r.state)) in
+      let rest = its_own laws with_own reloaded registry_with x w in
+      let after = honest_quietly laws with_own reloaded f x z h.honest rest (filters_same (registry_with x w ∙ r.state)) in
       let notices = k.notices after.0 after.1 in
       let release : Releases id Closing (registry x) (registry z) =
       subst (λ t. Releases id Closing (registry x) t) (sym (registry_with x w)) (subst (λ b. Releases id b (registry x) w) same r) in
@@ -367,7 +367,7 @@ module _ {S : Type 0} {registry : S → RegistryState} {with_registry : S → Re
               outcomes = ap (λ os. Quiet (HandleTaken id) ∷ os) notices.2;
               itself = (λ _. itself, λ _. refl);
             };
-            goes = (z, changed laws with_own levelled f (HandleTaken id) x z t h.honest (r.held, refl) (registry_with x w ∙ r.state) rest, notices.1);
+            goes = (z, changed laws with_own reloaded f (HandleTaken id) x z t h.honest (r.held, refl) (registry_with x w ∙ r.state) rest, notices.1);
           },
         ),
         λ s. (
@@ -381,9 +381,9 @@ module _ {S : Type 0} {registry : S → RegistryState} {with_registry : S → Re
   -- so far these spans have closed, and this one is closing now
   pub record SoFar (lane : Lane) (id : Id) (x : S) (xs : List ℕ) (next : Option Id) (y : S) : Type 0 where
     pub removal : Removal SameButExtensions (registry x) id xs next (registry y)
-    pub notices : (f : Form) → IsHonest registry with_registry has_form stepped levelled f x
-        → (made : List OutcomeAt) × FoldsTo (Makes registry with_registry has_form stepped levelled) x made y × (map outcome_of made ≡ closes_of lane xs)
-        × ((g : Form) × IsHonest registry with_registry has_form stepped levelled g y × KeepsForm f g × ((registry y).filters ≡ (registry x).filters))
+    pub notices : (f : Form) → IsHonest registry with_registry has_form stepped reloaded f x
+        → (made : List OutcomeAt) × FoldsTo (Makes registry with_registry has_form stepped reloaded) x made y × (map outcome_of made ≡ closes_of lane xs)
+        × ((g : Form) × IsHonest registry with_registry has_form stepped reloaded g y × KeepsForm f g × ((registry y).filters ≡ (registry x).filters))
 
   pub nothing_yet : (lane : Lane) (id : Id) (x : S) → SoFar lane id x [] (Some id) x
   nothing_yet lane id x = record { removal = Begun; notices = λ f h. ([], refl, refl, (f, h, kept_form f, refl)) }
@@ -396,9 +396,9 @@ module _ {S : Type 0} {registry : S → RegistryState} {with_registry : S → Re
   outcomes_more [] m = refl
   outcomes_more (n ∷ ms) m = ap (λ (os : List Outcome). n.outcome ∷ os) (outcomes_more ms m)
 
-  folds_more : (x : S) (ms : List OutcomeAt) (y : S) (m : OutcomeAt) (z : S) → FoldsTo (Makes registry with_registry has_form stepped levelled) x ms y
-      → Makes registry with_registry has_form stepped levelled y m z → FoldsTo (Makes registry with_registry has_form stepped levelled) x (ms ++ (m ∷ [])) z
-  folds_more x [] y m z p q = (z, subst (λ w. Makes registry with_registry has_form stepped levelled w m z) (sym p) q, refl)
+  folds_more : (x : S) (ms : List OutcomeAt) (y : S) (m : OutcomeAt) (z : S) → FoldsTo (Makes registry with_registry has_form stepped reloaded) x ms y
+      → Makes registry with_registry has_form stepped reloaded y m z → FoldsTo (Makes registry with_registry has_form stepped reloaded) x (ms ++ (m ∷ [])) z
+  folds_more x [] y m z p q = (z, subst (λ w. Makes registry with_registry has_form stepped reloaded w m z) (sym p) q, refl)
   folds_more x (n ∷ ms) y m z p q = (p.0, p.1, folds_more p.0 ms y m z p.2 q)
 
   -- the span that is next is closing
@@ -426,7 +426,7 @@ module _ {S : Type 0} {registry : S → RegistryState} {with_registry : S → Re
             let plan = ap (λ v. by_pass g (OnClose span) v no_filter no_filter) (ap (λ (t : RegistryState). t.store.spans) n.taken)
             ∙ others_afresh g (OnClose span) (registry y).store lane.0 no_filter no_filter in
             let t = without_span (registry y).store (number_of span) in
-            let notice : Notices registry with_registry has_form stepped levelled g lane (OnClose span) (registry y).store t y u = record {
+            let notice : Notices registry with_registry has_form stepped reloaded g lane (OnClose span) (registry y).store t y u = record {
               left = n.left;
               given = n.taken;
               notified = z;
@@ -437,7 +437,7 @@ module _ {S : Type 0} {registry : S → RegistryState} {with_registry : S → Re
               rest = ap (λ t. with_registry z t) (sym (registry_with z w));
             } in
             let last =
-            honest_after laws with_own levelled g lane (OnClose span) (registry y).store t y u before.3.1 notice (removes.taken.filters ∙ aside.filters) in
+            honest_after laws with_own reloaded g lane (OnClose span) (registry y).store t y u before.3.1 notice (removes.taken.filters ∙ aside.filters) in
             let m : OutcomeAt = record { form = g; before = (registry y).store; after = t; outcome = Noticed lane (OnClose span) } in (
               before.0 ++ (m ∷ []),
               folds_more x before.0 y m u before.1 (record { honest = before.3.1; before = refl; steps = (closing, refl); layers = notice }),
@@ -447,7 +447,7 @@ module _ {S : Type 0} {registry : S → RegistryState} {with_registry : S → Re
       }
 
   pub all_closed : (lane : Lane) (id : Id) (x : S) (xs : List ℕ) (o : Option Id) (y : S)
-      → SoFar lane id x xs o y → o ≡ None → ClosesEach registry with_registry has_form stepped levelled lane id x y
+      → SoFar lane id x xs o y → o ≡ None → ClosesEach registry with_registry has_form stepped reloaded lane id x y
   all_closed lane id x xs o y c same = record {
     closed = xs;
     removal = subst (λ (p : Option Id). Removal SameButExtensions (registry x) id xs p (registry y)) same c.removal;
@@ -456,7 +456,7 @@ module _ {S : Type 0} {registry : S → RegistryState} {with_registry : S → Re
 
   -- ---- a stack that is put in use
 
-  pub used_so : (f : Form) (x y : S) → registered x y → registry y ≡ registry x → Ready f x → StillReady laws with_own levelled f x y
+  pub used_so : (f : Form) (x y : S) → registered x y → registry y ≡ registry x → Ready f x → StillReady laws with_own reloaded f x y
   used_so f x y used same h =
       let next = laws.put_in_use x y f used h.honest.has in (
         next.0,

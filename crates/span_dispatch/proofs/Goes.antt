@@ -3,7 +3,7 @@ use Rattle.std.proofs.Common.{◌≡◌, ℕ, true, List, [], ◌∷◌, map, Op
 use Rattle.std.specs.FinMap.{remove}
 use Rattle.std.specs.List.{FoldsTo}
 use Rattle.std.specs.Option.{option_map}
-use Rattle.span_core.specs.declared.level.LevelFilter.{LevelFilter}
+use Rattle.span_targets.specs.declared.setting.Setting.{Setting}
 use Rattle.span_core.specs.Filters.{FilterSet}
 use Rattle.span_core.specs.Span.{number_of}
 use Rattle.span_core.specs.declared.interest.Interest.{Interest}
@@ -12,8 +12,8 @@ use Rattle.span_core.specs.declared.span.Lane.{Lane}
 use Rattle.span_dispatch.specs.Cache.{KeptCallsites, MatchesStack, IsUpToDate, forgotten, kept_in, no_callsite}
 use Rattle.span_dispatch.specs.Call.{OutcomesOf, AnswersWith}
 use Rattle.span_dispatch.specs.declared.call.Call.{Call}
-use Rattle.span_dispatch.specs.declared.call.Call.TheVariants.{SetLevel}
-use Rattle.span_dispatch.specs.Outcome.{Change, Ends, without_span, IsHonest, LayersGo, LevelSet, OutcomeAt, Makes, Noticed, Notices, Outcome, Quiet, Steps}
+use Rattle.span_dispatch.specs.declared.call.Call.TheVariants.{Reload}
+use Rattle.span_dispatch.specs.Outcome.{Change, Ends, without_span, IsHonest, LayersGo, Reloaded, OutcomeAt, Makes, Noticed, Notices, Outcome, Quiet, Steps}
 use Rattle.span_dispatch.specs.Outcome.{given_in}
 use Rattle.span_dispatch.specs.Serve.{IsReady, IsReadyAfter, IsReadyBy, IsServed, stack_of}
 use Rattle.span_dispatch.specs.declared.cache.Cache.TheVariants as cache
@@ -31,10 +31,10 @@ use Rattle.span_store.specs.Step.{TakesOut}
 use Rattle.span_store.specs.Store.{RegistryState, Spans, Store}
 use Rattle.span_registry.specs.Behaviour.{Notice, OnClose}
 use Rattle.span_registry.specs.KeptForm.{HasKeptForm, KeepsForm}
-use Rattle.span_registry.specs.laws.Form.{answers_again, kept_form, kept_rules, level_rules, same_levels}
+use Rattle.span_registry.specs.laws.Form.{answers_again, kept_form, kept_rules, reload_rules, same_reloads}
 use Rattle.span_registry.specs.Form.{Terminal, Filtered, Form, Leaf, Parts}
 use Rattle.span_registry.specs.Hooks.{Notifies, StackLaws, StackSteps, no_filter}
-use Rattle.span_registry.specs.Levels.{KeepsRules, LevelLaws, LevelSteps, LevelsForm, takes_level}
+use Rattle.span_registry.specs.Reload.{KeepsRules, ReloadLaws, ReloadSteps, ReloadedForm, takes_setting}
 use Rattle.span_registry.specs.Conducts.{ActsAt}
 use Rattle.span_registry.specs.Position.{HearSteps}
 use Rattle.span_registry.specs.Plan.{asked_afresh, by_pass}
@@ -106,32 +106,32 @@ ended_by id s t h = (
 )
 
 module _ {S : Type 0} (registry : S → RegistryState)
-    (with_registry : S → RegistryState → S) (has_form : S → Form → Type 0) (stepped : StackSteps S) (levelled : LevelSteps S) where
+    (with_registry : S → RegistryState → S) (has_form : S → Form → Type 0) (stepped : StackSteps S) (reloaded : ReloadSteps S) where
   -- of a call that was answered so this was made, as its answer says, and the stack went through it
   pub record Tells (call : Call) (x : S) (a : Answer) (made : List OutcomeAt) (y : S) : Type 0 where
     pub says : OutcomesOf call a (registry x).store (map (λ m. m.outcome) made)
-    pub goes : FoldsTo (Makes registry with_registry has_form stepped levelled) x made y
+    pub goes : FoldsTo (Makes registry with_registry has_form stepped reloaded) x made y
 
   -- something was made so of a call
   abbrev pub IsTold : Call → Answer → S → S → Type 0
   IsTold call a x y = (made : List OutcomeAt) × Tells call x a made y
 
   -- what was made leaves its store, extensions aside
-  pub left_aside : (x : S) (m : OutcomeAt) (y : S) → Makes registry with_registry has_form stepped levelled x m y → SameAside m.after (registry y).store
+  pub left_aside : (x : S) (m : OutcomeAt) (y : S) → Makes registry with_registry has_form stepped reloaded x m y → SameAside m.after (registry y).store
   left_aside x m y h = by_outcome m.outcome m.before m.after h.before h.steps h.layers
     where
       by_outcome : (o : Outcome) (s t : Store) → s ≡ (registry x).store
-          → Steps m.form o s t → LayersGo registry with_registry has_form stepped levelled m.form o s t x y → SameAside t (registry y).store
+          → Steps m.form o s t → LayersGo registry with_registry has_form stepped reloaded m.form o s t x y → SameAside t (registry y).store
       by_outcome (Noticed lane e) s t before steps n =
           ended m.form lane e s t n.left (registry n.notified) (registry y) steps (ap (λ (r : RegistryState). r.store) n.given) n.hooks n.ends
       by_outcome (Quiet c) s t before steps quiet = same_aside t (registry y).store (ap (λ (r : RegistryState). r.store) quiet.0)
-      by_outcome (LevelSet n l) s t before steps set = same_aside t (registry y).store (ap (λ (r : RegistryState). r.store) set.2 ∙ sym before ∙ sym steps)
+      by_outcome (Reloaded n l) s t before steps set = same_aside t (registry y).store (ap (λ (r : RegistryState). r.store) set.2 ∙ sym before ∙ sym steps)
 
 -- what was made of a call, and how it was answered: so it is served
 pub served_so : {S : Type 0} {registry : S → RegistryState} {with_registry : S → RegistryState → S} {has_form : S → Form → Type 0}
-    {stepped : StackSteps S} {levelled : LevelSteps S} {call : Call} {f : Form} {kept after : KeptCallsites} {x y : S} {a : Answer}
-    → IsTold registry with_registry has_form stepped levelled call a x y
-    → AnswersWith call kept f (registry x) a after → IsServed registry with_registry has_form stepped levelled call f kept x a after y
+    {stepped : StackSteps S} {reloaded : ReloadSteps S} {call : Call} {f : Form} {kept after : KeptCallsites} {x y : S} {a : Answer}
+    → IsTold registry with_registry has_form stepped reloaded call a x y
+    → AnswersWith call kept f (registry x) a after → IsServed registry with_registry has_form stepped reloaded call f kept x a after y
 served_so t e = (t.0, record { says = t.1.says; goes = t.1.goes; answers = e })
 
 -- a registry that took a step to this one
@@ -156,9 +156,9 @@ pub record StepsTo (f : Form) (lane : Lane) (e : Notice) (s t : RegistryState) :
 module _ {S : Type 0} {registry : S → RegistryState} {with_registry : S → RegistryState → S}
     {usable : S → Type 0} {has_form : S → Form → Type 0} {stepped : StackSteps S} {hears : HearSteps S} {registered : S → S → Type 0}
     (laws : StackLaws with_registry usable has_form stepped hears registered) (with_own : (s : S) → with_registry s (registry s) ≡ s)
-    (levelled : LevelSteps S) where
+    (reloaded : ReloadSteps S) where
   abbrev pub Honest : Form → S → Type 0
-  Honest f x = IsHonest registry with_registry has_form stepped levelled f x
+  Honest f x = IsHonest registry with_registry has_form stepped reloaded f x
 
   -- a form that follows, on as many filters, is honest
   abbrev pub StillHonest : Form → S → S → Type 0
@@ -177,7 +177,7 @@ module _ {S : Type 0} {registry : S → RegistryState} {with_registry : S → Re
 
   -- after a notice an honest stack is honest
   pub honest_after : (f : Form) (lane : Lane) (e : Notice) (s t : Store) (x y : S)
-      → Honest f x → Notices registry with_registry has_form stepped levelled f lane e s t x y → (registry y).filters ≡ (registry x).filters → StillHonest f x y
+      → Honest f x → Notices registry with_registry has_form stepped reloaded f lane e s t x y → (registry y).filters ≡ (registry x).filters → StillHonest f x y
   honest_after f lane e s t x y h n filters =
       let next = laws.keeps x _ e lane.0 n.left n.notified (registry n.notified) f n.layers h.has in
       followed f x y h (elsewhere f n.notified y (registry y) n.rest next) filters
@@ -189,7 +189,7 @@ module _ {S : Type 0} {registry : S → RegistryState} {with_registry : S → Re
   -- ---- a call that is served by one outcome, or by none
 
   abbrev pub Ready : Form → S → Type 0
-  Ready f x = IsReady registry with_registry has_form stepped levelled f x
+  Ready f x = IsReady registry with_registry has_form stepped reloaded f x
 
   -- it is ready again, by a form that keeps what the old one had, on as many filters
   abbrev pub StillReady : Form → S → S → Type 0
@@ -197,7 +197,7 @@ module _ {S : Type 0} {registry : S → RegistryState} {with_registry : S → Re
 
   -- it is told, and the stack is ready again where no span was closing
   abbrev pub Done : Call → Answer → Form → S → S → Type 0
-  Done call a f x y = IsTold registry with_registry has_form stepped levelled call a x y × (HasNoClosing (registry x).store.spans → StillReady f x y)
+  Done call a f x y = IsTold registry with_registry has_form stepped reloaded call a x y × (HasNoClosing (registry x).store.spans → StillReady f x y)
 
   pub by_none : (call : Call) (a : Answer) (f : Form) (x y : S) → Honest f x → y ≡ x → OutcomesOf call a (registry x).store [] → Done call a f x y
   by_none call a f x y h e says = (
@@ -212,7 +212,7 @@ module _ {S : Type 0} {registry : S → RegistryState} {with_registry : S → Re
       ≡ asked_afresh f e (registry x).store lane.0 no_filter → StepsTo f lane e (registry x) n.left → Done call a f x y
   by_call call a f lane e refused step x y h says n plan to =
       let m : OutcomeAt = record { form = f; before = (registry x).store; after = to.after; outcome = Noticed lane e } in
-      let notices : Notices registry with_registry has_form stepped levelled f lane e (registry x).store to.after x y = record {
+      let notices : Notices registry with_registry has_form stepped reloaded f lane e (registry x).store to.after x y = record {
         left = n.left;
         given = to.given;
         notified = y;
@@ -229,7 +229,7 @@ module _ {S : Type 0} {registry : S → RegistryState} {with_registry : S → Re
   -- this was made by a quiet change
   pub changed : (f : Form) (c : Change) (x y : S) (t : Store)
       → Honest f x → Steps f (Quiet c) (registry x).store t → registry y ≡ record (registry x) { store = t } → y ≡ with_registry x (registry y)
-      → Makes registry with_registry has_form stepped levelled x (record { form = f; before = (registry x).store; after = t; outcome = Quiet c }) y
+      → Makes registry with_registry has_form stepped reloaded x (record { form = f; before = (registry x).store; after = t; outcome = Quiet c }) y
   changed f c x y t h steps store rest = record { honest = h; before = refl; steps = steps; layers = (store, rest) }
 
   pub by_change : (call : Call) (a : Answer) (f : Form) (c : Change) (x y : S) → Honest f x → OutcomesOf call a (registry x).store (Quiet c ∷ [])
@@ -251,29 +251,29 @@ module _ {S : Type 0} {registry : S → RegistryState} {with_registry : S → Re
 -- ---- a level that is set
 
 module _ {S : Type 0} (registry : S → RegistryState) (with_registry : S → RegistryState → S) {has_form : S → Form → Type 0}
-    (stepped : StackSteps S) {levelled : LevelSteps S} {hears : HearSteps S} {acts_at : ActsAt S} (levels : LevelLaws has_form levelled hears acts_at) where
+    (stepped : StackSteps S) {reloaded : ReloadSteps S} {hears : HearSteps S} {acts_at : ActsAt S} (levels : ReloadLaws has_form reloaded hears acts_at) where
   -- a stack in which a filter took a level is honest, by a form in which that filter alone answers otherwise
-  pub honest_levelled : (f : Form) (n : ℕ) (l : LevelFilter) (x y : S)
-      → IsHonest registry with_registry has_form stepped levelled f x → levelled x n l y → registry y ≡ registry x
-      → (g : Form) × IsHonest registry with_registry has_form stepped levelled g y × LevelsForm n f g
-  honest_levelled f n l x y h goes same =
+  pub honest_reloaded : (f : Form) (n : ℕ) (l : Setting) (x y : S)
+      → IsHonest registry with_registry has_form stepped reloaded f x → reloaded x n l y → registry y ≡ registry x
+      → (g : Form) × IsHonest registry with_registry has_form stepped reloaded g y × ReloadedForm n f g
+  honest_reloaded f n l x y h goes same =
       let k = levels.keeps x n l y f goes h.has in (
         k.0,
         record {
           has = k.1;
           rules = subst (λ (s : RegistryState). IsHonestStack k.0 s.filters)
-              (sym same) (honesty_is_kept f k.0 (registry x).filters (level_rules n f k.0 k.2) h.rules);
+              (sym same) (honesty_is_kept f k.0 (registry x).filters (reload_rules n f k.0 k.2) h.rules);
         },
         k.2,
       )
 
   -- and so ready, where nothing is kept any more
-  pub ready_levelled : (f : Form) (n : ℕ) (l : LevelFilter) (old new : Dispatch S)
-      → IsReadyBy registry with_registry has_form stepped levelled f old → levelled (stack_of old) n l (stack_of new)
+  pub ready_reloaded : (f : Form) (n : ℕ) (l : Setting) (old new : Dispatch S)
+      → IsReadyBy registry with_registry has_form stepped reloaded f old → reloaded (stack_of old) n l (stack_of new)
       → registry (stack_of new) ≡ registry (stack_of old)
-      → ((g : Form) (m : ℕ) → IsUpToDate g m new.cache) → IsReadyAfter registry with_registry has_form stepped levelled (LevelsForm n) f new
-  ready_levelled f n l old new h goes same kept =
-      let k = honest_levelled f n l (stack_of old) (stack_of new) h.stack.honest goes same in (
+      → ((g : Form) (m : ℕ) → IsUpToDate g m new.cache) → IsReadyAfter registry with_registry has_form stepped reloaded (ReloadedForm n) f new
+  ready_reloaded f n l old new h goes same kept =
+      let k = honest_reloaded f n l (stack_of old) (stack_of new) h.stack.honest goes same in (
         k.0,
         record {
           stack = record { honest = k.1; settled = subst (λ (s : RegistryState). HasNoClosing s.store.spans) (sym same) h.stack.settled };
@@ -283,11 +283,11 @@ module _ {S : Type 0} (registry : S → RegistryState) (with_registry : S → Re
       )
 
   -- a level was set
-  pub level_told : (f : Form) (n : ℕ) (l : LevelFilter) (x y : S)
-      → IsHonest registry with_registry has_form stepped levelled f x → takes_level f n l ≡ true → levelled x n l y → registry y ≡ registry x
-      → IsTold registry with_registry has_form stepped levelled (SetLevel n l) answer.Done x y
-  level_told f n l x y h taken goes same =
-      let m : OutcomeAt = record { form = f; before = (registry x).store; after = (registry x).store; outcome = LevelSet n l } in
+  pub reload_told : (f : Form) (n : ℕ) (l : Setting) (x y : S)
+      → IsHonest registry with_registry has_form stepped reloaded f x → takes_setting f n l ≡ true → reloaded x n l y → registry y ≡ registry x
+      → IsTold registry with_registry has_form stepped reloaded (Reload n l) answer.Done x y
+  reload_told f n l x y h taken goes same =
+      let m : OutcomeAt = record { form = f; before = (registry x).store; after = (registry x).store; outcome = Reloaded n l } in
       (m ∷ [], record { says = refl; goes = (y, record { honest = h; before = refl; steps = refl; layers = (taken, goes, same) }, refl) })
 
 -- a cache that forgot is up to date, and keeps no callsite
@@ -316,16 +316,16 @@ up_to_date_again f g n (cache.Filled k) e h = current_again f g n k e h
 up_to_date_again f g n other e h = h
 
 module _ {S : Type 0} (registry : S → RegistryState)
-    (with_registry : S → RegistryState → S) (has_form : S → Form → Type 0) (stepped : StackSteps S) (levelled : LevelSteps S) where
+    (with_registry : S → RegistryState → S) (has_form : S → Form → Type 0) (stepped : StackSteps S) (reloaded : ReloadSteps S) where
   abbrev pub ReadyBy : Form → Dispatch S → Type 0
-  ReadyBy f d = IsReadyBy registry with_registry has_form stepped levelled f d
+  ReadyBy f d = IsReadyBy registry with_registry has_form stepped reloaded f d
 
   abbrev pub After : (Form → Form → Type 0) → Form → Dispatch S → Type 0
-  After keeps f d = IsReadyAfter registry with_registry has_form stepped levelled keeps f d
+  After keeps f d = IsReadyAfter registry with_registry has_form stepped reloaded keeps f d
 
   -- whose stack is ready again, and which keeps what the old stack would answer
   pub ready_again : (f : Form) (old new : Dispatch S)
-      → (g : Form) × IsReady registry with_registry has_form stepped levelled g (stack_of new)
+      → (g : Form) × IsReady registry with_registry has_form stepped reloaded g (stack_of new)
       × KeepsForm f g × ((registry (stack_of new)).filters ≡ (registry (stack_of old)).filters)
       → IsUpToDate f (registry (stack_of old)).filters new.cache → After KeepsForm f new
   ready_again f old new h k = (
@@ -338,18 +338,18 @@ module _ {S : Type 0} (registry : S → RegistryState)
   pub stays_same : (f : Form) (old new : Dispatch S) → new ≡ old → ReadyBy f old → After KeepsForm f new
   stays_same f old new e h = (f, subst (λ d. ReadyBy f d) (sym e) h, kept_form f)
 
-  pub same_but : (f : Form) (n : ℕ) (old new : Dispatch S) → new ≡ old → ReadyBy f old → After (LevelsForm n) f new
-  same_but f n old new e h = (f, subst (λ d. ReadyBy f d) (sym e) h, same_levels n f)
+  pub same_but : (f : Form) (n : ℕ) (old new : Dispatch S) → new ≡ old → ReadyBy f old → After (ReloadedForm n) f new
+  same_but f n old new e h = (f, subst (λ d. ReadyBy f d) (sym e) h, same_reloads n f)
 
   -- whatever it keeps, it keeps the rules
   pub by_keeping : (f : Form) (d : Dispatch S) → After KeepsForm f d → After KeepsRules f d
   by_keeping f d h = (h.0, h.1, kept_rules f h.0 h.2)
 
-  pub by_level : (n : ℕ) (f : Form) (d : Dispatch S) → After (LevelsForm n) f d → After KeepsRules f d
-  by_level n f d h = (h.0, h.1, level_rules n f h.0 h.2)
+  pub by_level : (n : ℕ) (f : Form) (d : Dispatch S) → After (ReloadedForm n) f d → After KeepsRules f d
+  by_level n f d h = (h.0, h.1, reload_rules n f h.0 h.2)
 
   -- one that is new, and keeps nothing yet
   pub first_ready : (f : Form) (x : S) (d : Dispatch S)
-      → (g : Form) × IsReady registry with_registry has_form stepped levelled g (stack_of d)
+      → (g : Form) × IsReady registry with_registry has_form stepped reloaded g (stack_of d)
       × KeepsForm f g × ((registry (stack_of d)).filters ≡ (registry x).filters) → ((g : Form) (n : ℕ) → IsUpToDate g n d.cache) → After KeepsForm f d
   first_ready f x d h k = (h.0, record { stack = h.1; kept = k h.0 (registry (stack_of d)).filters }, h.2)

@@ -10,7 +10,7 @@ use Rattle.span_core.specs.Span.{number_of}
 use Rattle.span_core.specs.declared.span.Id.{Id}
 use Rattle.span_core.specs.declared.span.Lane.{Lane}
 use Rattle.span_dispatch.proofs.Goes.{left_aside}
-use Rattle.span_dispatch.specs.Outcome.{GoneLeft, HandleAdded, HandleTaken, LevelSet, OutcomeAt, Makes, Noticed, Opened, Outcome, Quiet, Steps}
+use Rattle.span_dispatch.specs.Outcome.{GoneLeft, HandleAdded, HandleTaken, Reloaded, OutcomeAt, Makes, Noticed, Opened, Outcome, Quiet, Steps}
 use Rattle.span_core.specs.declared.span.Attributes.{Attributes}
 use Rattle.span_dispatch.specs.Serve.{StandOnce, closed_by}
 use Rattle.span_store.proofs.Chains.{get_beside, get_kept, get_removed, same_test, test_same}
@@ -19,7 +19,7 @@ use Rattle.span_store.specs.Store.{AreIssued, IsInStore, RegistryState, Span, Sp
 use Rattle.span_registry.specs.Behaviour.{OnClose, OnEnter, OnEvent, OnExit, OnIdChange, OnNewSpan}
 use Rattle.span_registry.specs.Form.{Form}
 use Rattle.span_registry.specs.Hooks.{StackSteps}
-use Rattle.span_registry.specs.Levels.{LevelSteps}
+use Rattle.span_registry.specs.Reload.{ReloadSteps}
 
 -- the spans that close by what was made, in order
 abbrev pub closed_in : List OutcomeAt → List ℕ
@@ -111,7 +111,7 @@ onward_steps f (Quiet (HandleTaken id)) s t b =
     onward_shrinks s t (ap (λ (r : Store). r.issued) b.1) (λ y h.
     handles_back _ s.spans (number_of id) y (get s.spans (number_of id)) refl (subst (λ (m : Spans). IsInStore m y) (ap (λ (r : Store). r.spans) b.1) h))
 onward_steps f (Quiet (GoneLeft lane id)) s t b = onward_same s t (ap (λ (r : Store). r.issued) b.1) (ap (λ (r : Store). r.spans) b.1)
-onward_steps f (LevelSet n l) s t b = store_same s t b
+onward_steps f (Reloaded n l) s t b = store_same s t b
 onward_steps f other s t b = store_same s t b.1
 
 -- ---- lists of closes
@@ -127,10 +127,10 @@ closes_join (Noticed lane (OnClose id)) ys h k = (k (number_of id) (inl refl), h
 closes_join other ys h k = h
 
 module _ {S : Type 0} (registry : S → RegistryState)
-    (with_registry : S → RegistryState → S) (has_form : S → Form → Type 0) (stepped : StackSteps S) (levelled : LevelSteps S) where
-  pub onward_on : (x : S) (m : OutcomeAt) (y : S) → Makes registry with_registry has_form stepped levelled x m y → Onward (registry x).store (registry y).store
+    (with_registry : S → RegistryState → S) (has_form : S → Form → Type 0) (stepped : StackSteps S) (reloaded : ReloadSteps S) where
+  pub onward_on : (x : S) (m : OutcomeAt) (y : S) → Makes registry with_registry has_form stepped reloaded x m y → Onward (registry x).store (registry y).store
   onward_on x m y h =
-      let aside = left_aside registry with_registry has_form stepped levelled x m y h in
+      let aside = left_aside registry with_registry has_form stepped reloaded x m y h in
       subst (λ (u : Store). Onward u (registry y).store) h.before
       (onward_further m.before
       m.after (registry y).store (onward_steps m.form m.outcome m.before m.after h.steps) (onward_same m.after (registry y).store aside.issued aside.spans))
@@ -145,16 +145,16 @@ module _ {S : Type 0} (registry : S → RegistryState)
       )
   closing_step f other s t c g h = absurd h
 
-  pub closing_on : (x : S) (m : OutcomeAt) (y : S) (c : ℕ) → Makes registry with_registry has_form stepped levelled x m y
+  pub closing_on : (x : S) (m : OutcomeAt) (y : S) (c : ℕ) → Makes registry with_registry has_form stepped reloaded x m y
       → Member c (closed_by m.outcome) → IsInStore (registry x).store.spans c × (IsInStore (registry y).store.spans c → ⊥)
   closing_on x m y c h k =
       let both = closing_step m.form m.outcome m.before m.after c h.steps k in (
         subst (λ (u : Store). IsInStore u.spans c) h.before both.0,
-        λ there. both.1 (subst (λ (v : Spans). IsInStore v c) (left_aside registry with_registry has_form stepped levelled x m y h).spans there),
+        λ there. both.1 (subst (λ (v : Spans). IsInStore v c) (left_aside registry with_registry has_form stepped reloaded x m y h).spans there),
       )
 
   -- an issued id that isn't in the store closes no more
-  pub never_again : (x : S) (ms : List OutcomeAt) (y : S) (c : ℕ) → FoldsTo (Makes registry with_registry has_form stepped levelled) x ms y
+  pub never_again : (x : S) (ms : List OutcomeAt) (y : S) (c : ℕ) → FoldsTo (Makes registry with_registry has_form stepped reloaded) x ms y
       → contains (registry x).store.issued c ≡ true → (IsInStore (registry x).store.spans c → ⊥) → Member c (closed_in ms) → ⊥
   never_again x [] y c h issued out k = k
   never_again x (m ∷ ms) y c h issued out k =
@@ -166,7 +166,7 @@ module _ {S : Type 0} (registry : S → RegistryState)
 
   -- over a whole run no span closes twice
   pub closed_once : (x : S) (ms : List OutcomeAt) (y : S)
-      → AreIssued (registry x).store → FoldsTo (Makes registry with_registry has_form stepped levelled) x ms y → StandOnce (closed_in ms)
+      → AreIssued (registry x).store → FoldsTo (Makes registry with_registry has_form stepped reloaded) x ms y → StandOnce (closed_in ms)
   closed_once x [] y sound h = tt
   closed_once x (m ∷ ms) y sound h =
       let on = onward_on x m h.0 h.1 in

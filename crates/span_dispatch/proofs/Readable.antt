@@ -15,7 +15,7 @@ use Rattle.span_core.specs.declared.span.Lane.{Lane}
 use Rattle.span_dispatch.proofs.Alone.{no_verdict, on_path, verdict_of_path}
 use Rattle.span_dispatch.proofs.Seen.{beneath, some_path}
 use Rattle.span_dispatch.specs.Alone.{form_of_path, passed, passed_at}
-use Rattle.span_dispatch.specs.Outcome.{LevelSet, OutcomeAt, Makes, Noticed, Outcome, Quiet, Steps, given_in}
+use Rattle.span_dispatch.specs.Outcome.{Reloaded, OutcomeAt, Makes, Noticed, Outcome, Quiet, Steps, given_in}
 use Rattle.span_dispatch.specs.Readable.{ClosesAsItOpened, ShowsItsSpan}
 use Rattle.span_stacks.specs.Verdict.{AreDistinct, in_verdict, numbers_of}
 use Rattle.span_store.proofs.Chains.{get_put}
@@ -25,7 +25,7 @@ use Rattle.span_registry.proofs.Plain.{shown_as_passed}
 use Rattle.span_registry.specs.Behaviour.{Behaviour, Notice, OnClose, OnEnter, OnEvent, OnExit, OnFollows, OnIdChange, OnNewSpan, OnRecord}
 use Rattle.span_registry.specs.Form.{Terminal, Filtered, Form, Leaf, Parts}
 use Rattle.span_registry.specs.Hooks.{StackSteps, no_filter}
-use Rattle.span_registry.specs.Levels.{KeepsRules, LevelSteps}
+use Rattle.span_registry.specs.Reload.{KeepsRules, ReloadSteps}
 use Rattle.span_registry.specs.Path.{Path, mask_of, passes_path, path_at}
 use Rattle.span_registry.specs.Position.{Heard, Here, Inner, Outer, Position, Told, Under, told_in}
 use Rattle.span_registry.specs.Plan.{is_passed, passes}
@@ -109,9 +109,9 @@ passed_down spans id ((Some n, a) ∷ path) e s lane under asks here h =
 -- ---- all that is told
 
 module _ {S : Type 0} (registry : S → RegistryState)
-    (with_registry : S → RegistryState → S) (has_form : S → Form → Type 0) (stepped : StackSteps S) (levelled : LevelSteps S) where
+    (with_registry : S → RegistryState → S) (has_form : S → Form → Type 0) (stepped : StackSteps S) (reloaded : ReloadSteps S) where
   abbrev MakesOne : S → OutcomeAt → S → Type 0
-  MakesOne = Makes registry with_registry has_form stepped levelled
+  MakesOne = Makes registry with_registry has_form stepped reloaded
 
   -- a span that is in the store, asked for by the notice itself
   told_of_one : (path : Path) (e : Notice) (s given : Store) (lane : ℕ) (id : Id) (r : Span) → given.spans ≡ s.spans
@@ -166,8 +166,8 @@ module _ {S : Type 0} (registry : S → RegistryState)
           (λ t. told_of_span m.form position path lane e m.before m.after made.honest.rules.numbers.distinct h g t)
       by_outcome (Quiet c) None h g = tt
       by_outcome (Quiet c) (Some path) h g = tt
-      by_outcome (LevelSet n l) None h g = tt
-      by_outcome (LevelSet n l) (Some path) h g = tt
+      by_outcome (Reloaded n l) None h g = tt
+      by_outcome (Reloaded n l) (Some path) h g = tt
 
   both_show : (h k : Heard) → ShowTheirSpans h → ShowTheirSpans k → ShowTheirSpans (h ++ k)
   both_show [] k a b = b

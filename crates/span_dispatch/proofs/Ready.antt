@@ -10,7 +10,7 @@ use Rattle.span_registry.specs.Form.{Form}
 
 module _ {S : Type 0} (s : SubscriberOf S) where
   abbrev IsReadyStack : Form → S → Type 0
-  IsReadyStack f x = IsReady s.registry s.with_registry s.has_form s.stepped s.levelled f x
+  IsReadyStack f x = IsReady s.registry s.with_registry s.has_form s.stepped s.reloaded f x
 
   -- it is ready again, by a form that keeps what the old one had, on as many filters
   abbrev IsReadyAgain : Form → S → S → Type 0
@@ -22,7 +22,7 @@ module _ {S : Type 0} {s : SubscriberOf S} where
       → StaysUpToDate s old new → StaysReady s old new
   stays_ready old new goes current = record {
     again =
-        λ f k. ready_again s.registry s.with_registry s.has_form s.stepped s.levelled f old new (goes f k.stack k.kept) (current f k.stack.honest.has k.kept);
+        λ f k. ready_again s.registry s.with_registry s.has_form s.stepped s.reloaded f old new (goes f k.stack k.kept) (current f k.stack.honest.has k.kept);
   }
 
   -- one whose stack is the same
@@ -32,18 +32,18 @@ module _ {S : Type 0} {s : SubscriberOf S} where
 
   -- one that is the same
   pub unchanged_ready : (old new : Dispatch S) → new ≡ old → StaysReady s old new
-  unchanged_ready old new e = record { again = λ f k. stays_same s.registry s.with_registry s.has_form s.stepped s.levelled f old new e k }
+  unchanged_ready old new e = record { again = λ f k. stays_same s.registry s.with_registry s.has_form s.stepped s.reloaded f old new e k }
 
   -- one of which no level was set
   pub unset_ready : (n : ℕ) (old new : Dispatch S) → new ≡ old → StaysReadyBut s n old new
-  unset_ready n old new e = record { again = λ f k. same_but s.registry s.with_registry s.has_form s.stepped s.levelled f n old new e k }
+  unset_ready n old new e = record { again = λ f k. same_but s.registry s.with_registry s.has_form s.stepped s.reloaded f n old new e k }
 
   -- whatever is kept, the rules are
   pub ready_by_rules : (old new : Dispatch S) → StaysReady s old new → StaysReadyByRules s old new
-  ready_by_rules old new h = record { again = λ f k. by_keeping s.registry s.with_registry s.has_form s.stepped s.levelled f new (h.again f k) }
+  ready_by_rules old new h = record { again = λ f k. by_keeping s.registry s.with_registry s.has_form s.stepped s.reloaded f new (h.again f k) }
 
   pub level_by_rules : (n : ℕ) (old new : Dispatch S) → StaysReadyBut s n old new → StaysReadyByRules s old new
-  level_by_rules n old new h = record { again = λ f k. by_level s.registry s.with_registry s.has_form s.stepped s.levelled n f new (h.again f k) }
+  level_by_rules n old new h = record { again = λ f k. by_level s.registry s.with_registry s.has_form s.stepped s.reloaded n f new (h.again f k) }
 
   -- the same from where another is
   pub unset_from : (n : ℕ) (old between new : Dispatch S) → between ≡ old → StaysReadyBut s n between new → StaysReadyBut s n old new

@@ -4,12 +4,12 @@ use Rattle.std.proofs.lemmas.List.{append-nil}
 use Rattle.std.specs.List.{FoldsTo}
 use Rattle.std.specs.Option.{option_map}
 use Rattle.span_core.specs.Filters.{FilterSet, union}
-use Rattle.span_core.specs.declared.level.LevelFilter.{LevelFilter}
+use Rattle.span_targets.specs.declared.setting.Setting.{Setting}
 use Rattle.span_core.specs.declared.span.Lane.{Lane}
 use Rattle.span_dispatch.proofs.Goes.{SameAside, same_aside}
 use Rattle.span_dispatch.specs.Cache.{KeptCallsites}
 use Rattle.span_dispatch.specs.declared.call.Call.{Call}
-use Rattle.span_dispatch.specs.Outcome.{Change, LayersGo, LevelSet, OutcomeAt, Makes, Noticed, Outcome, Quiet, given_in}
+use Rattle.span_dispatch.specs.Outcome.{Change, LayersGo, Reloaded, OutcomeAt, Makes, Noticed, Outcome, Quiet, given_in}
 use Rattle.std.specs.FinMap.{empty}
 use Rattle.span_store.specs.Store.{RegistryState, Store, stack_on}
 use Rattle.span_dispatch.specs.Alone.{passed, passed_at}
@@ -22,7 +22,7 @@ use Rattle.span_registry.specs.Behaviour.{Behaviour, Notice}
 use Rattle.span_registry.specs.Path.{Path, mask_at, mask_of, path_at}
 use Rattle.span_registry.specs.Form.{Terminal, Filtered, Form, Leaf, Parts}
 use Rattle.span_registry.specs.Hooks.{StackLaws, StackSteps, no_filter}
-use Rattle.span_registry.specs.Levels.{LevelLaws, LevelSteps}
+use Rattle.span_registry.specs.Reload.{ReloadLaws, ReloadSteps}
 use Rattle.span_registry.specs.Conducts.{ActsAt}
 use Rattle.span_registry.specs.Position.{HearSteps, Heard, Here, Inner, Outer, Position, Under, heard_by, is_notified, told_in}
 use Rattle.span_registry.specs.Plan.{Nobody, Through, asked_afresh, passes}
@@ -117,13 +117,13 @@ nothing_passed : (o : Option Path) (c : Change) (s given : Store) → passed o (
 nothing_passed None c s given = refl
 nothing_passed (Some path) c s given = refl
 
-no_level_passed : (o : Option Path) (n : ℕ) (l : LevelFilter) (s given : Store) → passed o (LevelSet n l) s given ≡ []
-no_level_passed None n l s given = refl
-no_level_passed (Some path) n l s given = refl
+no_reload_passed : (o : Option Path) (n : ℕ) (l : Setting) (s given : Store) → passed o (Reloaded n l) s given ≡ []
+no_reload_passed None n l s given = refl
+no_reload_passed (Some path) n l s given = refl
 
 module _ {S : Type 0} (registry : S → RegistryState) {with_registry : S → RegistryState → S} {usable : S → Type 0}
-    {has_form : S → Form → Type 0} {stepped : StackSteps S} {levelled : LevelSteps S} {hears : HearSteps S} {registered : S → S → Type 0} {acts_at : ActsAt S}
-    (laws : StackLaws with_registry usable has_form stepped hears registered) (levels : LevelLaws has_form levelled hears acts_at) where
+    {has_form : S → Form → Type 0} {stepped : StackSteps S} {reloaded : ReloadSteps S} {hears : HearSteps S} {registered : S → S → Type 0} {acts_at : ActsAt S}
+    (laws : StackLaws with_registry usable has_form stepped hears registered) (levels : ReloadLaws has_form reloaded hears acts_at) where
   -- another registry makes no difference to a leaf
   aside : (x y z : S) (position : Position) (h : Heard) → hears x position h y → z ≡ with_registry y (registry z) → hears x position h z
   aside x y z position h a e =
@@ -131,7 +131,7 @@ module _ {S : Type 0} (registry : S → RegistryState) {with_registry : S → Re
       subst (λ k. hears x position k z) (append-nil h) (laws.heard.further x y z position h [] a more)
 
   by_outcome : (f : Form) (o : Outcome) (s t : Store) (x y : S) (position : Position)
-      → has_form x f → LayersGo registry with_registry has_form stepped levelled f o s t x y → hears x position (passed (path_at f position) o s t) y
+      → has_form x f → LayersGo registry with_registry has_form stepped reloaded f o s t x y → hears x position (passed (path_at f position) o s t) y
   by_outcome f (Noticed lane e) s t x y position has n =
       let plan = asked_afresh f e s lane.0 no_filter in
       let mask = mask_at f position no_filter in
@@ -143,34 +143,34 @@ module _ {S : Type 0} (registry : S → RegistryState) {with_registry : S → Re
       subst (λ h. hears x position h y) told there
   by_outcome f (Quiet c) s t x y position has quiet =
       subst (λ h. hears x position h y) (sym (nothing_passed (path_at f position) c s t)) (aside x x y position [] (laws.heard.nothing x position) quiet.1)
-  by_outcome f (LevelSet n l) s t x y position has set =
-      subst (λ h. hears x position h y) (sym (no_level_passed (path_at f position) n l s t)) (levels.heard x n l y position set.1)
+  by_outcome f (Reloaded n l) s t x y position has set =
+      subst (λ h. hears x position h y) (sym (no_reload_passed (path_at f position) n l s t)) (levels.heard x n l y position set.1)
 
   -- each leaf went through what it sees of what was made
   pub goes_through : (x : S) (ms : List OutcomeAt) (y : S) (position : Position)
-      → FoldsTo (Makes registry with_registry has_form stepped levelled) x ms y → hears x position (passed_at position ms) y
+      → FoldsTo (Makes registry with_registry has_form stepped reloaded) x ms y → hears x position (passed_at position ms) y
   goes_through x [] y position h = subst (λ z. hears x position [] z) h (laws.heard.nothing x position)
   goes_through x (m ∷ ms) y position h =
       laws.heard.further x
       h.0 y position _ _ (by_outcome m.form m.outcome m.before m.after x h.0 position h.1.honest.has h.1.layers) (goes_through h.0 ms y position h.2)
 
 module _ {S : Type 0} (registry : S → RegistryState)
-    (with_registry : S → RegistryState → S) (has_form : S → Form → Type 0) (stepped : StackSteps S) (levelled : LevelSteps S) where
+    (with_registry : S → RegistryState → S) (has_form : S → Form → Type 0) (stepped : StackSteps S) (reloaded : ReloadSteps S) where
   folds_append : (x : S) (ms ns : List OutcomeAt) (y z : S)
-      → FoldsTo (Makes registry with_registry has_form stepped levelled) x ms y → FoldsTo (Makes registry with_registry has_form stepped levelled) y ns z
-      → FoldsTo (Makes registry with_registry has_form stepped levelled) x (ms ++ ns) z
-  folds_append x [] ns y z h k = subst (λ w. FoldsTo (Makes registry with_registry has_form stepped levelled) w ns z) (sym h) k
+      → FoldsTo (Makes registry with_registry has_form stepped reloaded) x ms y → FoldsTo (Makes registry with_registry has_form stepped reloaded) y ns z
+      → FoldsTo (Makes registry with_registry has_form stepped reloaded) x (ms ++ ns) z
+  folds_append x [] ns y z h k = subst (λ w. FoldsTo (Makes registry with_registry has_form stepped reloaded) w ns z) (sym h) k
   folds_append x (m ∷ ms) ns y z h k = (h.0, h.1, folds_append h.0 ms ns y z h.2 k)
 
   asked_folds : (o : Option Call) (kept : KeptCallsites) (x : S) (a : Answer) (ms : List OutcomeAt) (after : KeptCallsites) (y : S) → ServesAsked registry
-      with_registry has_form stepped levelled o kept x a ms after y → FoldsTo (Makes registry with_registry has_form stepped levelled) x ms y
-  asked_folds None kept x a ms after y h = subst (λ ns. FoldsTo (Makes registry with_registry has_form stepped levelled) x ns y) (sym h.1) (sym h.3)
+      with_registry has_form stepped reloaded o kept x a ms after y → FoldsTo (Makes registry with_registry has_form stepped reloaded) x ms y
+  asked_folds None kept x a ms after y h = subst (λ ns. FoldsTo (Makes registry with_registry has_form stepped reloaded) x ns y) (sym h.1) (sym h.3)
   asked_folds (Some call) kept x a ms after y h = h.2.goes
 
   -- a run goes through all that was made, one after another
   pub run_folds : (past : List Answer) (rs : List Request) (answers : List Answer) (made : List (List OutcomeAt))
-      (kept : KeptCallsites) (x : S) (after : KeptCallsites) (y : S) → Run registry with_registry has_form stepped levelled past rs answers made kept x after y
-      → FoldsTo (Makes registry with_registry has_form stepped levelled) x (flat made) y
+      (kept : KeptCallsites) (x : S) (after : KeptCallsites) (y : S) → Run registry with_registry has_form stepped reloaded past rs answers made kept x after y
+      → FoldsTo (Makes registry with_registry has_form stepped reloaded) x (flat made) y
   run_folds past [] [] [] kept x after y h = sym h.1
   run_folds past (q ∷ rs) (b ∷ answers) (ms ∷ made) kept x after y h =
       folds_append x

@@ -20,7 +20,7 @@ use Rattle.span_registry.proofs.Agreeing.{agree_refl}
 use Rattle.span_registry.specs.Conducts.{StackPathLaws, numbers_in}
 use Rattle.span_registry.specs.Form.{Form}
 use Rattle.span_registry.specs.Hooks.{StackLaws}
-use Rattle.span_registry.specs.Levels.{KeepsRules, LevelLaws}
+use Rattle.span_registry.specs.Reload.{KeepsRules, ReloadLaws}
 use Rattle.span_registry.specs.laws.Form.{own_rules, rules_again}
 
 module _ {S : Type 0} {s : SubscriberOf S} where
@@ -31,7 +31,7 @@ module _ {S : Type 0} {s : SubscriberOf S} where
     served = λ k.
         let t = served k.1.stack.settled k.0 k.1.stack.honest k.1.kept in (
           t.0,
-          subst (λ o. ServesAsked s.registry s.with_registry s.has_form s.stepped s.levelled o (kept_by old) (stack_of old) a t.0 (kept_by new) (stack_of new))
+          subst (λ o. ServesAsked s.registry s.with_registry s.has_form s.stepped s.reloaded o (kept_by old) (stack_of old) a t.0 (kept_by new) (stack_of new))
               (sym asks) (k.0, k.1.stack, t.1),
         );
   }
@@ -41,17 +41,17 @@ module _ {S : Type 0} {s : SubscriberOf S} where
   served_nothing past r d none = record {
     served = λ k. (
       [],
-      subst (λ o. ServesAsked s.registry s.with_registry s.has_form s.stepped s.levelled o (kept_by d) (stack_of d) answer.Dropped [] (kept_by d) (stack_of d))
+      subst (λ o. ServesAsked s.registry s.with_registry s.has_form s.stepped s.reloaded o (kept_by d) (stack_of d) answer.Dropped [] (kept_by d) (stack_of d))
           (sym none) (refl, refl, refl, refl),
     );
   }
 
 module _ {S : Type 0} (s : SubscriberOf S) where
   abbrev AnswersRequest : List Answer → Request → KeptCallsites → S → Answer → List OutcomeAt → KeptCallsites → S → Type 0
-  AnswersRequest past r memory x a ms after y = ServesRequest s.registry s.with_registry s.has_form s.stepped s.levelled past r memory x a ms after y
+  AnswersRequest past r memory x a ms after y = ServesRequest s.registry s.with_registry s.has_form s.stepped s.reloaded past r memory x a ms after y
 
   abbrev Runs : List Answer → List Request → List Answer → List (List OutcomeAt) → KeptCallsites → S → KeptCallsites → S → Type 0
-  Runs past rs answers made memory x after y = Run s.registry s.with_registry s.has_form s.stepped s.levelled past rs answers made memory x after y
+  Runs past rs answers made memory x after y = Run s.registry s.with_registry s.has_form s.stepped s.reloaded past rs answers made memory x after y
 
   -- a run, and then one request more
   run_more : (past : List Answer) (rs : List Request) (answers : List Answer) (made : List (List OutcomeAt))
@@ -75,7 +75,7 @@ module _ {S : Type 0} (s : SubscriberOf S) where
   -- from whatever form the dispatcher was ready by
   abbrev pub SoFar : Dispatch S → Dispatch S → List Request → List Answer → Type 0
   SoFar first now done answers =
-      (f : Form) → IsReadyBy s.registry s.with_registry s.has_form s.stepped s.levelled f first → ServedSoFar f first now done answers
+      (f : Form) → IsReadyBy s.registry s.with_registry s.has_form s.stepped s.reloaded f first → ServedSoFar f first now done answers
 
   pub nothing_yet : (first : Dispatch S) → SoFar first first [] []
   nothing_yet first = λ f ready. record { ready = (f, ready, own_rules f); made = []; run = (refl, refl) }
@@ -97,15 +97,15 @@ module _ {S : Type 0} (s : SubscriberOf S) where
 
   -- what was made of a list that was served
   module _ (laws : StackLaws s.with_registry s.usable s.has_form s.stepped s.hears s.registered)
-      (paths : StackPathLaws s.with_registry s.has_form s.stepped s.registered s.acts_at) (levels : LevelLaws s.has_form s.levelled s.hears s.acts_at) where
+      (paths : StackPathLaws s.with_registry s.has_form s.stepped s.registered s.acts_at) (levels : ReloadLaws s.has_form s.reloaded s.hears s.acts_at) where
     -- all were served
     pub all_served : (f : Form) (first now : Dispatch S) (all done : List Request) (answers : List Answer)
         → AreIssued (s.registry (stack_of first)).store → done ≡ all → ServedSoFar f first now done answers
-        → Served s.registry s.with_registry s.has_form s.stepped s.levelled s.hears s.acts_at all answers first now
+        → Served s.registry s.with_registry s.has_form s.stepped s.reloaded s.hears s.acts_at all answers first now
     all_served f first now all done answers issued same h =
         let run = subst (λ rs. Runs [] rs answers h.made (kept_by first) (stack_of first) (kept_by now) (stack_of now)) same h.run in
         let folds = run_folds s.registry
-        s.with_registry s.has_form s.stepped s.levelled [] all answers h.made (kept_by first) (stack_of first) (kept_by now) (stack_of now) run in
+        s.with_registry s.has_form s.stepped s.reloaded [] all answers h.made (kept_by first) (stack_of first) (kept_by now) (stack_of now) run in
         let seen = sees_what_is_made s.registry laws paths levels (flat h.made) folds in
         record {
           made = h.made;
@@ -113,7 +113,7 @@ module _ {S : Type 0} (s : SubscriberOf S) where
           each = seen.each;
           alone = λ position cs acts.
               seen.alone position cs (s.registry (stack_of first)).store acts (agree_refl (numbers_in cs) (s.registry (stack_of first)).store);
-          once = closed_once s.registry s.with_registry s.has_form s.stepped s.levelled (stack_of first) (flat h.made) (stack_of now) issued folds;
+          once = closed_once s.registry s.with_registry s.has_form s.stepped s.reloaded (stack_of first) (flat h.made) (stack_of now) issued folds;
           shown = λ position.
-              told_can_be_read s.registry s.with_registry s.has_form s.stepped s.levelled (stack_of first) (flat h.made) (stack_of now) position folds;
+              told_can_be_read s.registry s.with_registry s.has_form s.stepped s.reloaded (stack_of first) (flat h.made) (stack_of now) position folds;
         }

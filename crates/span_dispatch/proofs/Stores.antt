@@ -29,7 +29,7 @@ use Rattle.span_core.specs.declared.pass.Pass.{Pass}
 use Rattle.span_registry.proofs.CallerLemmas.{closes_itself, closes_with_hooks, drops_open, same_itself, settled_closed, settled_still}
 use Rattle.span_registry.specs.Form.{Form}
 use Rattle.span_registry.specs.Hooks.{AnswersEvent, OpensAndNotifies, StackSteps, Stays, no_filter}
-use Rattle.span_registry.specs.Levels.{LevelSteps}
+use Rattle.span_registry.specs.Reload.{ReloadSteps}
 use Rattle.span_registry.specs.Question.{event_asked, refusals}
 use Rattle.span_registry.specs.Law.{ClosesAll}
 use Rattle.span_registry.specs.Subscriber.{AndHooks, SameButExtensions}
@@ -171,11 +171,11 @@ module _ {S : Type 0} (registry : S → RegistryState) where
           )
 
     -- and then each was taken out that closed by that
-    pub closed_taken : (has_form : S → Form → Type 0) (stepped : StackSteps S) (levelled : LevelSteps S)
+    pub closed_taken : (has_form : S → Form → Type 0) (stepped : StackSteps S) (reloaded : ReloadSteps S)
         → ((s : S) (w : RegistryState) → registry (with_registry s w) ≡ w)
         → (lane : Lane) (id : Id) (a : Released) (old new : Dispatch S) (w : RegistryState) → Releases id a (registry (stack_of old)) w → a ≡ Closing
-        → ClosesEach registry with_registry has_form stepped levelled lane id (with_registry (stack_of old) w) (stack_of new) → TakenAndClosed id old new
-    closed_taken has_form stepped levelled registry_with lane id a old new w r same k =
+        → ClosesEach registry with_registry has_form stepped reloaded lane id (with_registry (stack_of old) w) (stack_of new) → TakenAndClosed id old new
+    closed_taken has_form stepped reloaded registry_with lane id a old new w r same k =
         let z = with_registry (stack_of old) w in (
           registry z,
           subst (λ t. Releases id Closing (registry (stack_of old)) t)
@@ -183,12 +183,12 @@ module _ {S : Type 0} (registry : S → RegistryState) where
           (k.closed, k.removal),
         )
 
-    pub closed_store : (has_form : S → Form → Type 0) (stepped : StackSteps S) (levelled : LevelSteps S)
+    pub closed_store : (has_form : S → Form → Type 0) (stepped : StackSteps S) (reloaded : ReloadSteps S)
         → ((s : S) (w : RegistryState) → registry (with_registry s w) ≡ w)
         → (lane : Lane) (id : Id) (a : Released) (x y : S) (w : RegistryState) → Releases id a (registry x) w → a ≡ Closing
-        → IsForest (registry x).store.spans → ClosesEach registry with_registry has_form stepped levelled lane id (with_registry x w) y
+        → IsForest (registry x).store.spans → ClosesEach registry with_registry has_form stepped reloaded lane id (with_registry x w) y
         → HasNoClosing (registry x).store.spans → AndHooks registry (DropsSpan id true) x y × HasNoClosing (registry y).store.spans
-    closed_store has_form stepped levelled registry_with lane id a x y w r same forest k h =
+    closed_store has_form stepped reloaded registry_with lane id a x y w r same forest k h =
         let z = with_registry x w in
         let release : Releases id Closing (registry x) (registry z) =
         subst (λ t. Releases id Closing (registry x) t) (sym (registry_with x w)) (subst (λ b. Releases id b (registry x) w) same r) in

@@ -3,10 +3,10 @@
 use Rattle.std.specs.Prelude.{◌≡◌, ⊤, ℕ, if◌then◌else◌, List, [], ◌∷◌, ◌++◌, Option, Some, None}
 use Rattle.std.specs.List.{flat_map}
 use Rattle.span_core.specs.Filters.{FilterSet, union}
-use Rattle.span_dispatch.specs.Outcome.{LevelSet, OutcomeAt, Noticed, Outcome, Quiet, Steps, given_in}
+use Rattle.span_dispatch.specs.Outcome.{Reloaded, OutcomeAt, Noticed, Outcome, Quiet, Steps, given_in}
 use Rattle.span_store.specs.Store.{Store}
 use Rattle.span_registry.specs.Behaviour.{AreAlikeHistories, ArePlain, Conduct, History, Notice}
-use Rattle.span_registry.specs.Conducts.{Conducts, after_notice, path_now, setting}
+use Rattle.span_registry.specs.Conducts.{Conducts, after_notice, path_now, reloading}
 use Rattle.span_registry.specs.Form.{End, Filtered, Form, Terminal}
 use Rattle.span_registry.specs.Hooks.{no_filter}
 use Rattle.span_registry.specs.Path.{Path, mask_of, passes_path, path_at}
@@ -48,12 +48,12 @@ learning ((Some n, b) ∷ cs) e s u lane under =
     u lane (union under (single n))
     else (Some n, b) ∷ cs
 
--- the conducts of a path's filters after an outcome: where a level was set, the filter with that
--- number, if it is on the path, goes on by that level
+-- the conducts of a path's filters after an outcome: where a filter was reloaded, the one with that
+-- number, if it is on the path, goes on by the setting
 abbrev pub acting : Conducts → Outcome → Store → Store → Conducts
 acting cs (Noticed lane e) s t = learning cs e s (given_in e s t) lane.0 no_filter
 acting cs (Quiet c) s t = cs
-acting cs (LevelSet n l) s t = setting n l cs
+acting cs (Reloaded n setting) s t = reloading n setting cs
 
 -- what a leaf is notified of, from these outcomes on this store, as if it stood alone under filters
 -- of these conducts: one by one, the notices that its path passes, asked afresh

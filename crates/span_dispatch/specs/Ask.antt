@@ -6,10 +6,10 @@ use Rattle.std.specs.declared.vec.Vec.{Vec}
 use Rattle.span_core.specs.declared.error.TraceError.{TraceError}
 use Rattle.span_core.specs.declared.span.Current.{Current}
 use Rattle.span_dispatch.specs.Call.{current_answer, done_answer, event_answer, span_answer, yes_answer}
-use Rattle.span_dispatch.specs.Contract.{ClonesSpan, DropsOneHandle, EntersSpan, ExitsSpan, FollowsSpan, OpensSpan, Probes, RecordsValues, SendsEvent, SetsOneLevel, Shows, SubscriberOf}
+use Rattle.span_dispatch.specs.Contract.{ClonesSpan, DropsOneHandle, EntersSpan, ExitsSpan, FollowsSpan, OpensSpan, Probes, RecordsValues, SendsEvent, ReloadsFilter, Shows, SubscriberOf}
 use Rattle.span_dispatch.specs.Registration.{KeepsRegistered}
 use Rattle.span_dispatch.specs.Serve.{call_of}
-use Rattle.span_dispatch.specs.declared.call.Call.TheVariants.{AddHandle, AskCurrent, DropHandle, Enter, Exit, Follow, OpenSpan, Probe, RecordValues, SendEvent, SetLevel}
+use Rattle.span_dispatch.specs.declared.call.Call.TheVariants.{AddHandle, AskCurrent, DropHandle, Enter, Exit, Follow, OpenSpan, Probe, RecordValues, SendEvent, Reload}
 use Rattle.span_dispatch.specs.declared.call.Call.{Call}
 use Rattle.span_dispatch.specs.declared.dispatch.Dispatch.{Dispatch}
 use Rattle.span_dispatch.specs.declared.request.Answer.TheVariants.{Done, Dropped}
@@ -43,8 +43,8 @@ module _ {S : Type 0} (s : SubscriberOf S) where
   AsksCall (Probe lane m) a old new = Gives yes_answer a (λ given. Probes s lane m given old new)
   AsksCall (AskCurrent lane) a old new =
       (shown : Current) × (a ≡ current_answer shown) × Shows s lane old shown × (new ≡ old)
-  AsksCall (SetLevel n level) a old new =
-      Gives {A = Unit {0}} done_answer a (λ given. SetsOneLevel s n level given old new)
+  AsksCall (Reload n setting) a old new =
+      Gives {A = Unit {0}} done_answer a (λ given. ReloadsFilter s n setting given old new)
 
   -- the call that is asked for, if any, keeps its promise; where none is, the answer is Dropped and
   -- nothing changes

@@ -15,8 +15,8 @@ use Rattle.span_core.specs.declared.span.Lane.{Lane}
 use Rattle.span_core.specs.declared.span.Parent.{Parent}
 use Rattle.span_dispatch.specs.Admission.{IsDecided, IsUnknown}
 use Rattle.span_dispatch.specs.Cache.{KeptCallsites, no_callsite}
-use Rattle.span_dispatch.specs.Outcome.{HandleAdded, HandleTaken, GoneLeft, LevelSet, Noticed, Outcome, Quiet}
-use Rattle.span_dispatch.specs.declared.call.Call.TheVariants.{AddHandle, AskCurrent, DropHandle, Enter, Exit, Follow, OpenSpan, Probe, RecordValues, SendEvent, SetLevel}
+use Rattle.span_dispatch.specs.Outcome.{HandleAdded, HandleTaken, GoneLeft, Reloaded, Noticed, Outcome, Quiet}
+use Rattle.span_dispatch.specs.declared.call.Call.TheVariants.{AddHandle, AskCurrent, DropHandle, Enter, Exit, Follow, OpenSpan, Probe, RecordValues, SendEvent, Reload}
 use Rattle.span_dispatch.specs.declared.call.Call.{Call}
 use Rattle.span_dispatch.specs.declared.request.Answer.TheVariants as answer
 use Rattle.span_dispatch.specs.declared.request.Answer.{Answer}
@@ -26,7 +26,7 @@ use Rattle.span_store.specs.Step.{Drops, FindsParent, HasPlace, IsCurrent, Opens
 use Rattle.span_store.specs.Store.{IsHeld, IsOpen, RegistryState, Store, handles_of, take_handle}
 use Rattle.span_registry.specs.Behaviour.{OnClose, OnEnter, OnEvent, OnExit, OnFollows, OnNewSpan, OnRecord}
 use Rattle.span_registry.specs.Form.{Form}
-use Rattle.span_registry.specs.Levels.{takes_level}
+use Rattle.span_registry.specs.Reload.{takes_setting}
 
 -- whether a leaf with no filter round it refuses an event, by its metadata or the event itself
 abbrev pub vetoes_whole : Form → Event → Store → Lane → Bool
@@ -62,7 +62,7 @@ OutcomesOf (RecordValues lane id r) answer.Done s os = os ≡ Noticed lane (OnRe
 OutcomesOf (Follow lane id other) answer.Done s os = os ≡ Noticed lane (OnFollows id other) ∷ []
 OutcomesOf (AddHandle lane id) answer.Done s os = os ≡ Quiet (HandleAdded id) ∷ []
 OutcomesOf (DropHandle lane id) (answer.Yes closes) s os = DropsHandle lane id s closes os
-OutcomesOf (SetLevel n l) answer.Done s os = os ≡ LevelSet n l ∷ []
+OutcomesOf (Reload n setting) answer.Done s os = os ≡ Reloaded n setting ∷ []
 OutcomesOf (Probe lane m) (answer.Yes said) s os = os ≡ []
 OutcomesOf (AskCurrent lane) (answer.Current o) s os = os ≡ []
 OutcomesOf call answer.Dropped s os = os ≡ []
@@ -70,7 +70,7 @@ OutcomesOf call (answer.Refused e) s os = os ≡ []
 OutcomesOf call a s os = ⊥
 
 -- how a call is answered that isn't decided by metadata: refused as the registry refuses it, or
--- since no filter takes a level, and never dropped; a handle is added where there is room for one,
+-- since no filter with that number takes it, and never dropped; a handle is added where there is room for one,
 -- and the current span is the lane's
 abbrev pub AnswersOther : Call → Form → RegistryState → Answer → Type 0
 AnswersOther (Enter lane id) f s (answer.Refused e) = RefusesEnter s lane id e
@@ -78,8 +78,8 @@ AnswersOther (RecordValues lane id values) f s (answer.Refused e) = RefusesUnles
 AnswersOther (Follow lane id other) f s (answer.Refused e) = RefusesUnlessOpen s id e
 AnswersOther (AddHandle lane id) f s (answer.Refused e) = RefusesClone s id e
 AnswersOther (DropHandle lane id) f s (answer.Refused e) = RefusesRelease s id e
-AnswersOther (SetLevel n l) f s (answer.Refused e) =
-    (e ≡ NotSettable n) × (takes_level f n l ≡ false)
+AnswersOther (Reload n setting) f s (answer.Refused e) =
+    (e ≡ NotSettable n) × (takes_setting f n setting ≡ false)
 AnswersOther call f s (answer.Refused e) = ⊥
 AnswersOther call f s answer.Dropped = ⊥
 AnswersOther (AddHandle lane id) f s a = handles_of s.store.spans (number_of id) < s.limits.count
@@ -108,11 +108,11 @@ AnswersWith (SendEvent lane e) kept f s answer.Dropped after =
 AnswersWith (Probe lane m) kept f s (answer.Refused e) after = IsUnknown kept f m e after
 AnswersWith (Probe lane m) kept f s (answer.Yes said) after =
     IsDecided kept f s lane m (vetoes f m s.store lane.0) said after
-AnswersWith (SetLevel n l) kept f s answer.Done after =
-    (after ≡ option_map (λ callsites. no_callsite) kept) × (takes_level f n l ≡ true)
+AnswersWith (Reload n setting) kept f s answer.Done after =
+    (after ≡ option_map (λ callsites. no_callsite) kept) × (takes_setting f n setting ≡ true)
 AnswersWith call kept f s a after = (after ≡ kept) × AnswersOther call f s a
 
--- the lane that a call comes from: none for a call that sets a level
+-- the lane that a call comes from: none for a call that reloads a filter
 abbrev pub lane_of_call : Call → Option Lane
 lane_of_call (OpenSpan lane attrs) = Some lane
 lane_of_call (SendEvent lane e) = Some lane
@@ -124,7 +124,7 @@ lane_of_call (AddHandle lane id) = Some lane
 lane_of_call (DropHandle lane id) = Some lane
 lane_of_call (Probe lane m) = Some lane
 lane_of_call (AskCurrent lane) = Some lane
-lane_of_call (SetLevel n l) = None
+lane_of_call (Reload n setting) = None
 
 -- Below: what a call that isn't refused does to a registry, whatever the stack answers. Hooks may
 -- write extensions after it.

@@ -11,6 +11,7 @@ use Rattle.span_core.specs.declared.error.TraceError.TheVariants.{CallsiteMismat
 use Rattle.span_core.specs.declared.error.TraceError.{TraceError}
 use Rattle.span_core.specs.declared.event.Event.{Event}
 use Rattle.span_core.specs.declared.level.LevelFilter.{LevelFilter}
+use Rattle.span_targets.specs.declared.setting.Setting.{Setting}
 use Rattle.span_core.specs.declared.metadata.Metadata.{Metadata}
 use Rattle.span_core.specs.declared.pass.Pass.{Pass}
 use Rattle.span_core.specs.declared.span.Attributes.{Attributes}
@@ -23,7 +24,7 @@ use Rattle.span_dispatch.specs.Admission.{MayLearn, decided, hint_kept, learned_
 use Rattle.span_dispatch.specs.Cache.{KeptCallsites, ReadsOnce, RefusesBelow, RefusesInterest, RefusesRoom, is_above_read, with_room}
 use Rattle.span_dispatch.specs.Call.{DropsSpan, FindsOpen, OpensFor, current_answer, done_answer, event_answer, span_answer, yes_answer}
 use Rattle.span_dispatch.specs.declared.call.Call.{Call}
-use Rattle.span_dispatch.specs.declared.call.Call.TheVariants.{AddHandle, AskCurrent, DropHandle, Enter, Exit, Follow, OpenSpan, Probe, RecordValues, SendEvent, SetLevel}
+use Rattle.span_dispatch.specs.declared.call.Call.TheVariants.{AddHandle, AskCurrent, DropHandle, Enter, Exit, Follow, OpenSpan, Probe, RecordValues, SendEvent, Reload}
 use Rattle.span_dispatch.specs.Outcome.{IsHonest, OutcomeAt, Makes}
 use Rattle.span_dispatch.specs.Serve.{IsReady, IsReadyAfter, IsReadyBy, IsReadySomehow, IsServed, KeepsUpToDate, Sees, Served, forgetful, hint_by, kept_by, stack_of, with_stack}
 use Rattle.span_dispatch.specs.declared.dispatch.Dispatch.{Dispatch}
@@ -39,14 +40,14 @@ use Rattle.span_registry.specs.Conducts.{ActsAt}
 use Rattle.span_registry.specs.Form.{Form}
 use Rattle.span_registry.specs.Hooks.{StackSteps, Stays, no_filter}
 use Rattle.span_registry.specs.KeptForm.{KeepsForm}
-use Rattle.span_registry.specs.Levels.{FollowsLevel, KeepsRules, LevelSteps, LevelsForm, takes_level}
+use Rattle.span_registry.specs.Reload.{FollowsReload, KeepsRules, ReloadSteps, ReloadedForm, takes_setting}
 use Rattle.span_registry.specs.Position.{HearSteps}
 use Rattle.span_registry.specs.Question.{ShowsBy, event_asked}
 use Rattle.span_registry.specs.Subscriber.{AndHooks, SameButExtensions}
 
 -- what the type of a stack says of it: where its registry is; the stack on another registry;
 -- whether it may be called; which form it has; how its layers go on when they are notified; what
--- its leaves are notified of; how its filters act; how they take levels; how it is put in use
+-- its leaves are notified of; how its filters act; how they take settings; how it is put in use
 abbrev pub SubscriberOf : Type 0 → Type 1
 SubscriberOf S = record {
   registry : S → RegistryState;
@@ -56,7 +57,7 @@ SubscriberOf S = record {
   stepped : StackSteps S;
   hears : HearSteps S;
   acts_at : ActsAt S;
-  levelled : LevelSteps S;
+  reloaded : ReloadSteps S;
   registered : S → S → Type 0;
 }
 
@@ -163,13 +164,13 @@ module _ {S : Type 0} (s : SubscriberOf S) where
   abbrev pub Shows : Lane → Dispatch S → Current → Type 0
   Shows lane d current = step.ShowsCurrent (registry_of d).store lane current
 
-  -- the stack goes on as one does whose filter with this number is given this level
-  abbrev pub GivesLevel : ℕ → LevelFilter → Dispatch S → Dispatch S → Type 0
-  GivesLevel n l old new = s.levelled (stack_of old) n l (stack_of new)
+  -- the stack goes on as one does whose filter with this number is given this setting
+  abbrev pub GivesSetting : ℕ → Setting → Dispatch S → Dispatch S → Type 0
+  GivesSetting n w old new = s.reloaded (stack_of old) n w (stack_of new)
 
   -- the dispatcher's stack is honest by this form
   abbrev pub HonestBy : Form → Dispatch S → Type 0
-  HonestBy f d = IsHonest s.registry s.with_registry s.has_form s.stepped s.levelled f (stack_of d)
+  HonestBy f d = IsHonest s.registry s.with_registry s.has_form s.stepped s.reloaded f (stack_of d)
 
   -- the dispatcher's cache is what its stack would answer now, by this form
   abbrev pub CurrentBy : Form → Dispatch S → Type 0
@@ -178,7 +179,7 @@ module _ {S : Type 0} (s : SubscriberOf S) where
   -- the dispatcher is ready by a form that keeps this much of the old one
   abbrev pub ReadyAfter : (Form → Form → Type 0) → Form → Dispatch S → Type 0
   ReadyAfter keeps f d =
-      IsReadyAfter s.registry s.with_registry s.has_form s.stepped s.levelled keeps f d
+      IsReadyAfter s.registry s.with_registry s.has_form s.stepped s.reloaded keeps f d
 
   -- ---- what is promised of an honest stack
 
@@ -186,13 +187,13 @@ module _ {S : Type 0} (s : SubscriberOf S) where
   -- nothing is cached yet.
   abbrev pub BecomesReady : S → Dispatch S → Type 0
   BecomesReady x d =
-      (f : Form) → IsReady s.registry s.with_registry s.has_form s.stepped s.levelled f x
+      (f : Form) → IsReady s.registry s.with_registry s.has_form s.stepped s.reloaded f x
       → ReadyAfter KeepsForm f d
 
   -- a dispatcher that was ready is ready again, by a form that keeps this much of the old one
   pub record StaysReadyWith (keeps : Form → Form → Type 0) (old new : Dispatch S) : Type 0 where
     pub again : (f : Form)
-        → IsReadyBy s.registry s.with_registry s.has_form s.stepped s.levelled f old
+        → IsReadyBy s.registry s.with_registry s.has_form s.stepped s.reloaded f old
         → ReadyAfter keeps f new
 
   -- a dispatcher that was ready is ready again, by a form with the old interest and hint of each
@@ -203,10 +204,10 @@ module _ {S : Type 0} (s : SubscriberOf S) where
   -- a dispatcher that was ready is ready again, by a form in which only the filter with this number
   -- answers otherwise
   abbrev pub StaysReadyBut : ℕ → Dispatch S → Dispatch S → Type 0
-  StaysReadyBut n old new = StaysReadyWith (LevelsForm n) old new
+  StaysReadyBut n old new = StaysReadyWith (ReloadedForm n) old new
 
   -- a dispatcher that was ready is ready again, by a form that keeps the old one's rules, whatever
-  -- levels were set
+  -- settings filters took
   abbrev pub StaysReadyByRules : Dispatch S → Dispatch S → Type 0
   StaysReadyByRules old new = StaysReadyWith KeepsRules old new
 
@@ -214,7 +215,7 @@ module _ {S : Type 0} (s : SubscriberOf S) where
   abbrev pub AnswersCall : Call → Answer → Dispatch S → Dispatch S → Type 0
   AnswersCall call a old new =
       (f : Form) → HonestBy f old → CurrentBy f old
-      → IsServed s.registry s.with_registry s.has_form s.stepped s.levelled call f (kept_by old)
+      → IsServed s.registry s.with_registry s.has_form s.stepped s.reloaded call f (kept_by old)
       (stack_of old) a (kept_by new) (stack_of new)
 
   -- an honest stack with a cache up to date serves the drop of a handle with this answer, where no
@@ -230,8 +231,8 @@ module _ {S : Type 0} (s : SubscriberOf S) where
   -- a dispatcher that is ready serves the list of requests with these answers
   abbrev pub ServesList : List Request → Dispatch S → Dispatch S → Vec Answer Global → Type 0
   ServesList requests old new answers =
-      IsReadySomehow s.registry s.with_registry s.has_form s.stepped s.levelled old
-      → Served s.registry s.with_registry s.has_form s.stepped s.levelled s.hears s.acts_at requests
+      IsReadySomehow s.registry s.with_registry s.has_form s.stepped s.reloaded old
+      → Served s.registry s.with_registry s.has_form s.stepped s.reloaded s.hears s.acts_at requests
       answers.items old new
 
   -- whatever is made between two stacks, each leaf is notified of what its path passes of it, as if
@@ -239,7 +240,7 @@ module _ {S : Type 0} (s : SubscriberOf S) where
   abbrev pub SeesWhatIsMade : Type 0
   SeesWhatIsMade =
       (old new : S) (made : List OutcomeAt)
-      → FoldsTo (Makes s.registry s.with_registry s.has_form s.stepped s.levelled) old made new
+      → FoldsTo (Makes s.registry s.with_registry s.has_form s.stepped s.reloaded) old made new
       → Sees s.registry s.hears s.acts_at old made new
 
   -- ---- what is promised of any stack that has a form
@@ -250,16 +251,16 @@ module _ {S : Type 0} (s : SubscriberOf S) where
       (f : Form) → s.has_form (stack_of old) f → CurrentBy f old
       → KeepsUpToDate f (registry_of old).filters new
 
-  -- the truth value says whether a filter with this number takes this level, by each form that the
+  -- the truth value says whether a filter with this number takes this setting, by each form that the
   -- stack has
-  abbrev pub TakesLevel : ℕ → LevelFilter → Dispatch S → Bool → Type 0
-  TakesLevel n l d taken = ShowsBy (s.has_form (stack_of d)) (λ f. takes_level f n l) taken
+  abbrev pub TakesSetting : ℕ → Setting → Dispatch S → Bool → Type 0
+  TakesSetting n w d taken = ShowsBy (s.has_form (stack_of d)) (λ f. takes_setting f n w) taken
 
   -- for each form that the stack had, it has one in which only the filter with this number answers
   -- otherwise
-  abbrev pub ChangesLevel : ℕ → Dispatch S → Dispatch S → Type 0
-  ChangesLevel n old new =
-      (f : Form) → s.has_form (stack_of old) f → FollowsLevel (s.has_form (stack_of new)) n f
+  abbrev pub ChangesSetting : ℕ → Dispatch S → Dispatch S → Type 0
+  ChangesSetting n old new =
+      (f : Form) → s.has_form (stack_of old) f → FollowsReload (s.has_form (stack_of new)) n f
 
   -- the shown hint is the stack's, by each form that the stack has and by which the cache is up to
   -- date
@@ -478,15 +479,15 @@ module _ {S : Type 0} (s : SubscriberOf S) where
     pub refused : IfErr given (Refuses RefusesRelease id old)
     pub unchanged : OnErr given (new ≡ old)
 
-  -- `set_level`: only the filter with this number answers otherwise, and nothing is cached any more
-  pub record SetsOneLevel {A : Type 0} (n : ℕ) (l : LevelFilter) (given : Result A TraceError)
+  -- `reload`: only the filter with this number answers otherwise, and nothing is cached any more
+  pub record ReloadsFilter {A : Type 0} (n : ℕ) (w : Setting) (given : Result A TraceError)
       (old new : Dispatch S) : Type 0 where
     pub registry : SameRegistry old new
-    pub served : AnswersCall (SetLevel n l) (done_answer given) old new
-    pub level : OnOk given (GivesLevel n l old new)
-    pub taken : OnOk given (TakesLevel n l old true)
-    pub none : OnErr given (TakesLevel n l old false)
-    pub rest : ChangesLevel n old new
+    pub served : AnswersCall (Reload n w) (done_answer given) old new
+    pub reloaded : OnOk given (GivesSetting n w old new)
+    pub taken : OnOk given (TakesSetting n w old true)
+    pub none : OnErr given (TakesSetting n w old false)
+    pub rest : ChangesSetting n old new
     pub forgets : OnOk given (Forgets old new)
     pub refused : IfErr given (λ e. e ≡ NotSettable n)
     pub unchanged : OnErr given (new ≡ old)

@@ -1,4 +1,4 @@
--- What comes of a request: notices, quiet changes of the store, and levels that filters take; and
+-- What comes of a request: notices, quiet changes of the store, and settings that filters take; and
 -- what each does to a store, and to a stack.
 use Rattle.std.specs.Prelude.{◌≡◌, ◌≤◌, ◌+◌, ℕ, true, false, Option}
 use Rattle.std.specs.FinMap.{insert, remove}
@@ -6,7 +6,7 @@ use Rattle.std.specs.FinSet.{contains, insert as add}
 use Rattle.span_core.specs.Filters.{refuses}
 use Rattle.span_core.specs.Span.{asked_parent, metadata_of, number_of}
 use Rattle.span_core.specs.declared.filter.FilterMap.{FilterMap}
-use Rattle.span_core.specs.declared.level.LevelFilter.{LevelFilter}
+use Rattle.span_targets.specs.declared.setting.Setting.{Setting}
 use Rattle.span_core.specs.declared.metadata.Metadata.{Metadata}
 use Rattle.span_core.specs.declared.span.Attributes.{Attributes}
 use Rattle.span_core.specs.declared.span.Id.{Id}
@@ -19,7 +19,7 @@ use Rattle.span_store.specs.Store.{IsClosing, IsHeld, IsOpen, RegistryState, Spa
 use Rattle.span_registry.specs.Behaviour.{Notice, OnClose, OnEnter, OnExit, OnFollows, OnIdChange, OnNewSpan, OnRecord}
 use Rattle.span_registry.specs.Form.{Form}
 use Rattle.span_registry.specs.Hooks.{StackSteps, no_filter}
-use Rattle.span_registry.specs.Levels.{LevelSteps, takes_level}
+use Rattle.span_registry.specs.Reload.{ReloadSteps, takes_setting}
 use Rattle.span_registry.specs.Plan.{asked_afresh}
 
 -- a change of the store that no layer is notified of: a span has a handle more, or a handle less,
@@ -29,12 +29,12 @@ pub data Change : Type 0 where
   HandleTaken : Id → Change
   GoneLeft : Lane → Id → Change
 
--- one thing that comes of a request: a notice from a lane, a quiet change, or a level that the
--- filter with a number takes
+-- one thing that comes of a request: a notice from a lane, a quiet change, or a setting
+-- that the filter with a number takes
 pub data Outcome : Type 0 where
   Noticed : Lane → Notice → Outcome
   Quiet : Change → Outcome
-  LevelSet : ℕ → LevelFilter → Outcome
+  Reloaded : ℕ → Setting → Outcome
 
 -- the verdict of a new span: the filters that refuse it while every filter round them passes it
 abbrev pub IsVerdict : Form → Metadata → Store → Lane → FilterMap → Type 0
@@ -109,7 +109,7 @@ Ends (OnClose id) s t =
 Ends e s t = t ≡ s
 
 module _ {S : Type 0} (registry : S → RegistryState) (with_registry : S → RegistryState → S)
-    (has_form : S → Form → Type 0) (stepped : StackSteps S) (levelled : LevelSteps S) where
+    (has_form : S → Form → Type 0) (stepped : StackSteps S) (reloaded : ReloadSteps S) where
   -- a notice is given in a store: each filter and leaf whose path passes it, asked afresh on the
   -- store before it, goes on by its own step, and may write extensions
   pub record Notices (f : Form) (lane : Lane) (e : Notice) (s t : Store) (x y : S) : Type 0 where
@@ -125,14 +125,14 @@ module _ {S : Type 0} (registry : S → RegistryState) (with_registry : S → Re
     pub rest : y ≡ with_registry notified (registry y)
 
   -- how a stack of this form goes on by an outcome between two stores: it is notified; or only its
-  -- registry's store changes; or its layers go on by a level that a filter takes, with the registry
+  -- registry's store changes; or its layers go on by a setting that a filter takes, with the registry
   -- unchanged
   abbrev pub LayersGo : Form → Outcome → Store → Store → S → S → Type 0
   LayersGo f (Noticed lane e) s t x y = Notices f lane e s t x y
   LayersGo f (Quiet c) s t x y =
       (registry y ≡ record (registry x) { store = t }) × (y ≡ with_registry x (registry y))
-  LayersGo f (LevelSet n l) s t x y =
-      (takes_level f n l ≡ true) × levelled x n l y × (registry y ≡ registry x)
+  LayersGo f (Reloaded n w) s t x y =
+      (takes_setting f n w ≡ true) × reloaded x n w y × (registry y ≡ registry x)
 
   -- a stack has this form, and is honest
   pub record IsHonest (f : Form) (x : S) : Type 0 where

@@ -13,7 +13,7 @@ use Rattle.span_store.specs.Store.{Span, Store}
 use Rattle.span_registry.specs.Behaviour.{OnClose, OnNewSpan, span_in}
 use Rattle.span_registry.specs.Form.{Form}
 use Rattle.span_registry.specs.Hooks.{no_filter}
-use Rattle.span_registry.specs.Levels.{KeepsRules}
+use Rattle.span_registry.specs.Reload.{KeepsRules}
 use Rattle.span_registry.specs.Path.{Path, passes_path, path_at}
 use Rattle.span_registry.specs.Position.{Position, Told}
 use Rattle.span_registry.specs.View.{is_shown}

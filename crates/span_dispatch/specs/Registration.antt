@@ -32,8 +32,9 @@ pub record HoldsStill {S : Type 0} (d : Dispatch S) (m : Metadata) (k : Kept) : 
   pub ends : k.epoch.0 < last_epoch
   pub holds : k.epoch.0 ≡ d.epoch.0 → Knows d m k.interest
 
--- the epoch before which an interest of always holds for these metadata: it isn't behind the
--- dispatcher's next one, and as long as it is ahead of the dispatcher's, that interest is cached
+-- the epoch before which an interest of always holds for these metadata: it isn't ahead of the
+-- dispatcher's next one, nor of the last; as long as it is ahead of the dispatcher's, that
+-- interest is cached
 pub record HoldsUntil {S : Type 0} (d : Dispatch S) (m : Metadata) (until : ℕ) : Type 0 where
   pub past : until ≤ d.epoch.0 + 1
   pub ends : until ≤ last_epoch

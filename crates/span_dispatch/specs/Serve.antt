@@ -13,7 +13,7 @@ use Rattle.span_dispatch.specs.Cache.{IsUpToDate, KeptCallsites, ReadHint, forgo
 use Rattle.span_dispatch.specs.Registration.{next_epoch}
 use Rattle.span_dispatch.specs.Call.{OutcomesOf, AnswersWith}
 use Rattle.span_dispatch.specs.declared.call.Call.{Call}
-use Rattle.span_dispatch.specs.declared.call.Call.TheVariants.{AddHandle, AskCurrent, DropHandle, Enter, Exit, Follow, OpenSpan, Probe, RecordValues, SendEvent, SetLevel}
+use Rattle.span_dispatch.specs.declared.call.Call.TheVariants.{AddHandle, AskCurrent, DropHandle, Enter, Exit, Follow, OpenSpan, Probe, RecordValues, SendEvent, Reload}
 use Rattle.span_dispatch.specs.Outcome.{IsHonest, OutcomeAt, Makes, Noticed, Outcome}
 use Rattle.span_dispatch.specs.Readable.{ShowsItsSpan}
 use Rattle.span_dispatch.specs.declared.dispatch.Dispatch.{Dispatch}
@@ -32,7 +32,7 @@ use Rattle.span_registry.specs.Form.{Form}
 use Rattle.span_registry.specs.Agree.{AgreeAt}
 use Rattle.span_registry.specs.Conducts.{ActsAt, Conducts, numbers_in}
 use Rattle.span_registry.specs.Hooks.{StackSteps}
-use Rattle.span_registry.specs.Levels.{LevelSteps}
+use Rattle.span_registry.specs.Reload.{ReloadSteps}
 use Rattle.span_registry.specs.Position.{HearSteps, Position}
 
 -- the stack of a dispatcher
@@ -99,7 +99,7 @@ call_of past (request.Clone lane w) = option_map (λ x. AddHandle lane x) (resol
 call_of past (request.Drop lane w) = option_map (λ x. DropHandle lane x) (resolved past w)
 call_of past (request.Enabled lane m) = Some (Probe lane m)
 call_of past (request.Current lane) = Some (AskCurrent lane)
-call_of past (request.SetLevel number level) = Some (SetLevel number level)
+call_of past (request.Reload number setting) = Some (Reload number setting)
 
 -- the outcome in what was made
 abbrev pub outcome_of : OutcomeAt → Outcome
@@ -130,11 +130,11 @@ pub record Sees {S : Type 0} (registry : S → RegistryState) (hears : HearSteps
       → Alone cs s (map outcome_of made) (passed_at position made)
 
 module _ {S : Type 0} (registry : S → RegistryState) (with_registry : S → RegistryState → S)
-    (has_form : S → Form → Type 0) (stepped : StackSteps S) (levelled : LevelSteps S) where
+    (has_form : S → Form → Type 0) (stepped : StackSteps S) (reloaded : ReloadSteps S) where
   -- a stack is ready, as it is between two requests: no span is closing, and it is honest by this
   -- form
   pub record IsReady (f : Form) (x : S) : Type 0 where
-    pub honest : IsHonest registry with_registry has_form stepped levelled f x
+    pub honest : IsHonest registry with_registry has_form stepped reloaded f x
     pub settled : HasNoClosing (registry x).store.spans
 
   -- a dispatcher is ready by a form: its stack is, and its cache is up to date
@@ -156,7 +156,7 @@ module _ {S : Type 0} (registry : S → RegistryState) (with_registry : S → Re
   pub record Serves (call : Call) (f : Form) (kept : KeptCallsites) (x : S) (a : Answer)
       (made : List OutcomeAt) (after : KeptCallsites) (y : S) : Type 0 where
     pub says : OutcomesOf call a (registry x).store (map (λ m. m.outcome) made)
-    pub goes : FoldsTo (Makes registry with_registry has_form stepped levelled) x made y
+    pub goes : FoldsTo (Makes registry with_registry has_form stepped reloaded) x made y
     pub answers : AnswersWith call kept f (registry x) a after
 
   -- a stack of this form serves a call with this answer, whatever was made of it

@@ -4,9 +4,10 @@ ghost use Rattle.span_dispatch.specs.Call.{lane_of_call};
 ghost use Rattle.span_dispatch.specs.Serve.{call_of};
 
 use crate::request::{Answer, Request};
-use span_core::{Attributes, Event, Id, Lane, LevelFilter, Metadata, Record};
+use span_core::{Attributes, Event, Id, Lane, Metadata, Record};
+use span_targets::Setting;
 
-/// One thing that a dispatcher is asked, from a lane, or from none where a level is set.
+/// One thing that a dispatcher is asked, from a lane, or from none where a filter is reloaded.
 ///
 /// Own to this port.
 #[derive(Clone, Copy, Debug)]
@@ -31,12 +32,12 @@ pub enum Call<'a> {
     Probe(Lane, Metadata),
     /// Which span the lane is in.
     AskCurrent(Lane),
-    /// To set the level of the filter with this number.
-    SetLevel(u32, LevelFilter),
+    /// To have the filter with this number take a setting.
+    Reload(u32, Setting),
 }
 
 impl Call<'_> {
-    /// The lane that the call comes from: none where a level is set.
+    /// The lane that the call comes from: none where a filter is reloaded.
     pub fn lane(&self) -> Option<Lane>
         ensures { result ≡ lane_of_call self.now }
     {
@@ -51,7 +52,7 @@ impl Call<'_> {
             | Call::DropHandle(lane, _)
             | Call::Probe(lane, _)
             | Call::AskCurrent(lane) => Some(lane),
-            Call::SetLevel(_, _) => None,
+            Call::Reload(_, _) => None,
         }
     }
 }
@@ -90,7 +91,7 @@ impl<'a> Request<'a> {
             Request::Drop(lane, which) => Some(Call::DropHandle(lane, which.span_of(past)?)),
             Request::Enabled(lane, metadata) => Some(Call::Probe(lane, metadata)),
             Request::Current(lane) => Some(Call::AskCurrent(lane)),
-            Request::SetLevel(number, level) => Some(Call::SetLevel(number, level)),
+            Request::Reload(number, setting) => Some(Call::Reload(number, setting)),
         }
     }
 }

@@ -6,7 +6,7 @@ ghost use Rattle.span_core.specs.Filters.{IsEmpty};
 ghost use Rattle.span_core.specs.Metadata.{ShowSame};
 ghost use Rattle.span_core.specs.Span.{metadata_of, number_of};
 ghost use Rattle.span_dispatch.specs.Cache.{no_callsite};
-ghost use Rattle.span_dispatch.specs.Contract.{BecomesReady, ChangesKept, ClonesSpan, DropsOneHandle, EntersSpan, ExitsSpan, FollowsSpan, GoesByKept, KeepsOnly, LearnsCallsite, OpensSpan, OpensSpanWith, Probes, RecordsValues, RefusesMetadata, ReservesCallsites, SameStack, SendsEvent, ServesCurrent, SetsOneLevel, Shows, ShowsHint, ShowsKept, StaysReady, StaysReadyBut, StaysUpToDate};
+ghost use Rattle.span_dispatch.specs.Contract.{BecomesReady, ChangesKept, ClonesSpan, DropsOneHandle, EntersSpan, ExitsSpan, FollowsSpan, GoesByKept, KeepsOnly, LearnsCallsite, OpensSpan, OpensSpanWith, Probes, RecordsValues, RefusesMetadata, ReservesCallsites, SameStack, SendsEvent, ServesCurrent, ReloadsFilter, Shows, ShowsHint, ShowsKept, StaysReady, StaysReadyBut, StaysUpToDate};
 ghost use Rattle.span_dispatch.specs.private.Registration.{IsRegisteredAs};
 ghost use Rattle.span_dispatch.specs.private.Step.{Admits, ClosesEach, Decides};
 ghost use Rattle.span_dispatch.specs.contracts.dispatch.Dispatch.{the_row};
@@ -22,6 +22,7 @@ use span_core::{
     Attributes, Current, Event, Id, Interest, Lane, LevelFilter, Metadata, Pass, Record, TraceError,
 };
 use span_registry::{Released, Subscriber};
+use span_targets::Setting;
 use std::alloc::Global;
 
 /// A stack behind one door: it takes requests, asks the stack's layers, and notifies them.
@@ -303,7 +304,7 @@ impl<S: Subscriber> Dispatch<S> {
     /// with no need of more. Under `uncached` nothing happens. Where no hint was read yet, it is
     /// read, as by a first request.
     ///
-    /// What `set_level` and `stack_mut` forget is forgotten with its memory, which is then to be
+    /// What `reload` and `stack_mut` forget is forgotten with its memory, which is then to be
     /// reserved anew.
     ///
     /// Refused for want of memory alone, where it isn't held already.
@@ -558,21 +559,21 @@ impl<S: Subscriber> Dispatch<S> {
         }
     }
 
-    /// Sets the level of the filter with this number. The cached hint and interests are forgotten;
+    /// Has the filter with this number take a setting. The cached hint and interests are forgotten;
     /// open spans keep their verdicts, and no layer is notified.
     ///
-    /// Refused where no attached filter has the number, or the one that has it takes no level
-    /// (`NotSettable`).
+    /// Refused where no attached filter has the number, or the one that has it doesn't take
+    /// the setting (`NotSettable`).
     ///
-    /// Own to this port.
-    pub fn set_level(&mut self, number: u32, level: LevelFilter) -> Result<(), TraceError>
+    /// Stands for `tracing_subscriber::reload::Handle::reload`.
+    pub fn reload(&mut self, number: u32, setting: Setting) -> Result<(), TraceError>
         requires { S.usable (stack_of self.old) }
         ensures usable { S.usable (stack_of self.new) }
         ensures registered { KeepsRegistered self.old self.new }
         ensures ready { StaysReadyBut S.Subscriber number self.old self.new }
-        ensures sets { SetsOneLevel S.Subscriber number level result self.old self.new }
+        ensures sets { ReloadsFilter S.Subscriber number setting result self.old self.new }
     {
-        if !self.stack.set_level(number, level) {
+        if !self.stack.reload(number, setting) {
             return Err(TraceError::NotSettable(number));
         }
         Cache::forget(&mut self.cache);
@@ -594,7 +595,7 @@ fn close_all<S: Subscriber>(stack: &mut S, lane: Lane, id: Id)
     requires usable { S.usable stack.old }
     requires closing { IsClosing (S.registry stack.old).store.spans (number_of id) }
     ensures usable { S.usable stack.new }
-    ensures closes { ClosesEach S.registry S.with_registry S.has_form S.stepped S.levelled lane id
+    ensures closes { ClosesEach S.registry S.with_registry S.has_form S.stepped S.reloaded lane id
         stack.old stack.new }
 {
     let mut next = Some(id);

@@ -13,7 +13,7 @@ pub fn leaves_see_what_their_paths_pass<S: Subscriber>()
 {}
 
 /// A path passes a span's close exactly if it passed the span, by the form that the span opened
-/// under or any that keeps its rules, also where levels were set between.
+/// under or any that keeps its rules, also where filters were reloaded between.
 pub fn a_close_is_told_to_whom_the_span_was()
     ensures { ClosesAsItOpened }
 {}

@@ -6,15 +6,16 @@ ghost use Rattle.span_layers.specs.Acts.{LeafActs};
 ghost use Rattle.span_layers.specs.laws.Leaf.{is_leaf};
 ghost use Rattle.span_layers.specs.laws.Path.{leaf_path_laws};
 ghost use Rattle.span_layers.specs.Layer.{HearsBy};
-ghost use Rattle.span_layers.specs.laws.Level.{leaf_levels};
+ghost use Rattle.span_layers.specs.laws.Reload.{leaf_reloads};
 ghost use Rattle.span_layers.specs.Observe.{open_answers};
 ghost use Rattle.span_registry.specs.Form.{Leaf};
-ghost use Rattle.span_registry.specs.Levels.{unlevelled};
+ghost use Rattle.span_registry.specs.Reload.{unreloaded};
 
 use crate::recorded::Recorded;
 use span_core::{Event, Interest, LevelFilter, Metadata, Pass};
 use span_layers::{AlwaysUsableLayer, Layer};
 use span_registry::{Context, ContextMut, Notice, Subscriber};
+use span_targets::Setting;
 use std::alloc::Global;
 use std::marker::Model;
 
@@ -95,7 +96,7 @@ impl<S: Subscriber> Layer<S> for Recorder {
 
     ghost acts_at = { LeafActs };
 
-    ghost levelled = { unlevelled };
+    ghost reloaded = { unreloaded };
 
     ghost registered = { λ x y. y ≡ x };
 
@@ -105,7 +106,7 @@ impl<S: Subscriber> Layer<S> for Recorder {
 
     ghost paths = { leaf_path_laws (λ x f h. is_leaf h) };
 
-    ghost levels = { leaf_levels recorder_laws };
+    ghost reloads = { leaf_reloads recorder_laws };
 
     fn on_register_dispatch(&mut self) {
         // It has nothing to do.
@@ -131,7 +132,7 @@ impl<S: Subscriber> Layer<S> for Recorder {
         None // It wants all levels.
     }
 
-    fn set_level(&mut self, _number: u32, _level: LevelFilter) -> bool {
+    fn reload(&mut self, _number: u32, _setting: Setting) -> bool {
         false // No filter is in it.
     }
 

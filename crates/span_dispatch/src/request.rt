@@ -6,9 +6,8 @@ ghost use Rattle.span_core.specs.Span.{asked_parent, attributes_of, metadata_of,
 ghost use Rattle.span_dispatch.specs.Call.{current_answer, look_answer, done_answer, event_answer, span_answer, yes_answer};
 ghost use Rattle.span_dispatch.specs.Serve.{resolved, resolved_parent};
 
-use span_core::{
-    Attributes, Current, Event, FieldValue, Id, Lane, LevelFilter, Metadata, Parent, TraceError,
-};
+use span_core::{Attributes, Current, Event, FieldValue, Id, Lane, Metadata, Parent, TraceError};
+use span_targets::Setting;
 
 /// A span that a request names.
 ///
@@ -147,8 +146,8 @@ pub enum Request<'a> {
     Enabled(Lane, Metadata),
     /// Which span the lane is in.
     Current(Lane),
-    /// To set the level of the filter with this number.
-    SetLevel(u32, LevelFilter),
+    /// To have the filter with this number take a setting.
+    Reload(u32, Setting),
 }
 
 /// The answer to a request.

@@ -104,7 +104,7 @@ impl<S: Subscriber> Dispatch<S> {
             Call::DropHandle(lane, id) => Answer::of_yes(self.drop_span(*lane, *id)),
             Call::Probe(lane, metadata) => Answer::of_yes(self.enabled(*lane, metadata)),
             Call::AskCurrent(lane) => Answer::of_current(self.current_span(*lane)),
-            Call::SetLevel(number, level) => Answer::of_done(self.set_level(*number, *level)),
+            Call::Reload(number, setting) => Answer::of_done(self.reload(*number, *setting)),
         }
     }
 }

@@ -13,6 +13,7 @@ use span_layer_tests::fixture::{LANE, put};
 use span_layers::Layer;
 use span_registry::{Registry, Subscriber};
 use span_stacks::{LayerExt, Layered};
+use span_targets::Setting;
 use std::alloc::Global;
 use std::cell::Cell;
 use std::process::Abort;
@@ -28,7 +29,7 @@ fn set<S: Subscriber>(
     requires { S.usable (stack_of dispatch.old) }
     ensures { S.usable (stack_of dispatch.new) }
 {
-    dispatch.set_level(number, level)
+    dispatch.reload(number, Setting::Level(level))
 }
 
 /// What a dispatcher says of an event of level info: whether it was made, and the hint then.
@@ -109,8 +110,8 @@ fn a_level_is_set_by_a_call(rt: HostRuntime) -> Result<(), Fail> {
 fn refused_levels() -> [Request<'static>; 4] {
     [
         event(5, Level::INFO),
-        Request::SetLevel(2, LevelFilter::INFO),
-        Request::SetLevel(1, LevelFilter::INFO),
+        Request::Reload(2, Setting::Level(LevelFilter::INFO)),
+        Request::Reload(1, Setting::Level(LevelFilter::INFO)),
         event(5, Level::INFO),
     ]
 }
@@ -143,7 +144,7 @@ fn raised_in_lists<S: Subscriber>(
     assert!(rt; answers.as_slice() == refused_around(before).as_slice());
     let asked_before = asked.get();
     let raised = [
-        Request::SetLevel(0, LevelFilter::INFO),
+        Request::Reload(0, Setting::Level(LevelFilter::INFO)),
         event(5, Level::INFO),
     ];
     let answers = serve(alloc, dispatch, &raised)?;
@@ -278,10 +279,10 @@ fn spans_between_levels() -> [Request<'static>; 13] {
     [
         root(1, Level::DEBUG),
         root(0, Level::INFO),
-        Request::SetLevel(0, LevelFilter::DEBUG),
+        Request::Reload(0, Setting::Level(LevelFilter::DEBUG)),
         Request::Enter(LANE, Which::Made(0)),
         root(1, Level::DEBUG),
-        Request::SetLevel(0, LevelFilter::OFF),
+        Request::Reload(0, Setting::Level(LevelFilter::OFF)),
         Request::Enter(LANE, Which::Made(1)),
         event(5, Level::ERROR),
         Request::Exit(LANE, Which::Made(1)),

@@ -12,6 +12,7 @@ use span_layer_tests::fixture::LANE;
 use span_layers::Layer;
 use span_registry::{Registry, Subscriber};
 use span_stacks::LayerExt;
+use span_targets::Setting;
 use std::alloc::Global;
 use std::process::Abort;
 use std::test::Fail;
@@ -62,10 +63,10 @@ fn sent_under_levels<S: Subscriber>(
     let span = dispatch.register_callsite(&callsite(6, Kind::SPAN))?;
     assert!(rt; sent_by(dispatch, &event) == Ok(true));
     let id = opened_by(dispatch, &span)?.ok_or("a layer vetoes")?;
-    dispatch.set_level(0, LevelFilter::WARN)?;
+    dispatch.reload(0, Setting::Level(LevelFilter::WARN))?;
     assert!(rt; sent_by(dispatch, &event) == Ok(under_warn));
     assert!(rt; opened_by(dispatch, &span)?.is_some() == under_warn);
-    dispatch.set_level(0, LevelFilter::INFO)?;
+    dispatch.reload(0, Setting::Level(LevelFilter::INFO))?;
     assert!(rt; sent_by(dispatch, &event) == Ok(true));
     Ok(id)
 }

@@ -16,6 +16,7 @@ use span_layers::{Layer, Observe, Observer};
 use span_registry::{ContextMut, Notice, Registry, Subscriber};
 use span_shared::{Crew, Entry, Journal, Logged, Receipt, Shared, Unfinished, Worker};
 use span_stacks::{LayerExt, Layered, SubscriberExt};
+use span_targets::Setting;
 use std::alloc::Global;
 use std::marker::Brand;
 use std::process::Abort;
@@ -276,7 +277,7 @@ fn make_each<S: Subscriber>(logged: &mut Logged<S>) -> Result<(Id, Id), Fail> {
     logged.current_span(LANE)?;
     logged.exit(LANE, q)?;
     logged.current_span(LANE)?;
-    logged.set_level(LANE, 0, LevelFilter::WARN)?;
+    logged.reload(LANE, 0, Setting::Level(LevelFilter::WARN))?;
     logged.new_span(LANE, &Attributes::new(span_metadata(), &[]))?;
     Ok((p, q))
 }
@@ -317,7 +318,7 @@ fn entries_of(p: Id, q: Id) -> [Entry; 16] {
         Entry::Current(LANE, None),
         Entry::Exit(LANE, q),
         Entry::Current(LANE, Some(p)),
-        Entry::Level(LANE, 0, LevelFilter::WARN),
+        Entry::Reload(LANE, 0, Some(LevelFilter::WARN)),
         Entry::Unmade(LANE, span),
     ]
 }
@@ -402,10 +403,10 @@ fn goes_on_with_its_hint<S: Subscriber, L: Crew>(
     let debug = Event::new(metadata_of(2, Level::DEBUG, Kind::EVENT), &[]);
     let info = Event::new(event_metadata(), &[]);
     assert!(rt; passed(worker) == [true, true, false]);
-    shared.set_level(rt, worker, 0, LevelFilter::DEBUG)?;
+    shared.reload(rt, worker, 0, Setting::Level(LevelFilter::DEBUG))?;
     assert!(rt; passed(worker) == [true, true, false]);
     assert!(rt; shared.event(rt, worker, &debug)?.0);
-    shared.set_level(rt, worker, 0, LevelFilter::WARN)?;
+    shared.reload(rt, worker, 0, Setting::Level(LevelFilter::WARN))?;
     assert!(rt; passed(worker) == [true, true, false]);
     assert!(rt; !shared.event(rt, worker, &info)?.0);
     Ok(())

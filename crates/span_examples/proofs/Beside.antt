@@ -25,14 +25,14 @@ use Rattle.span_stacks.specs.Layered.{inner_of, outer_of, with_inner}
 use Rattle.span_layers.specs.Number.{TakesNumbers, filters_in}
 use Rattle.span_layers.specs.Observe.{open_answers}
 use Rattle.span_stacks.specs.Honest.{IsHonestLayer}
-use Rattle.span_stacks.specs.Stands.{Stands, another, base_form, bare_hears, bare_steps, filtered_acts, filtered_form, filtered_hears, filtered_levels}
-use Rattle.span_stacks.specs.Stands.{filtered_steps, itself, registry_on, stack_acts, stack_form, stack_hears, stack_levels, stack_steps}
+use Rattle.span_stacks.specs.Stands.{Stands, another, base_form, bare_hears, bare_steps, filtered_acts, filtered_form, filtered_hears, filtered_reloads}
+use Rattle.span_stacks.specs.Stands.{filtered_steps, itself, registry_on, stack_acts, stack_form, stack_hears, stack_reloads, stack_steps}
 use Rattle.span_stacks.specs.Verdict.{NumbersStayOwn}
 use Rattle.span_stacks.specs.declared.filtered.Filtered.{Filtered as FilteredLayer}
 use Rattle.span_stacks.specs.declared.layered.Layered.{Layered}
 use Rattle.span_layers.specs.laws.Leaf.{open_honest}
 use Rattle.span_store.specs.declared.limits.Limits.{Limits}
-use Rattle.span_registry.specs.Levels.{LevelSteps, unlevelled}
+use Rattle.span_registry.specs.Reload.{ReloadSteps, unreloaded}
 use Rattle.span_registry.proofs.Agreeing.{agree_refl}
 use Rattle.span_registry.specs.Conducts.{ActsAt, Conducts, no_conducts, numbers_in}
 use Rattle.span_registry.specs.Form.{Terminal, Base, Filtered, Form, Leaf, OnSubscriber, Parts}
@@ -65,8 +65,8 @@ levelled_hears = filtered_hears (HearsBy recorder_steps)
 abbrev levelled_acts : ActsAt Levelled
 levelled_acts = filtered_acts ActsByLevel LeafActs
 
-abbrev levelled_levels : LevelSteps Levelled
-levelled_levels = filtered_levels level_taken unlevelled
+abbrev levelled_levels : ReloadSteps Levelled
+levelled_levels = filtered_reloads level_taken unreloaded
 
 -- the first stack
 abbrev form_1 : Recorded → Form → Type 0
@@ -75,8 +75,8 @@ form_1 = stack_form levelled_form base_form
 abbrev steps_1 : StackSteps Recorded
 steps_1 = stack_steps another levelled_steps bare_steps
 
-abbrev levels_1 : LevelSteps Recorded
-levels_1 = stack_levels levelled_levels unlevelled
+abbrev levels_1 : ReloadSteps Recorded
+levels_1 = stack_reloads levelled_levels unreloaded
 
 abbrev hears_1 : HearSteps Recorded
 hears_1 = stack_hears levelled_hears bare_hears
@@ -97,8 +97,8 @@ form_2 = stack_form levelled_form form_1
 abbrev steps_2 : StackSteps Beside
 steps_2 = stack_steps with_inner levelled_steps steps_1
 
-abbrev levels_2 : LevelSteps Beside
-levels_2 = stack_levels levelled_levels levels_1
+abbrev levels_2 : ReloadSteps Beside
+levels_2 = stack_reloads levelled_levels levels_1
 
 abbrev hears_2 : HearSteps Beside
 hears_2 = stack_hears levelled_hears hears_1
@@ -151,9 +151,9 @@ module _ {I : Type 0} (registry : I → RegistryState) (with_registry : I → Re
       }
 
 module _ {S : Type 0} (registry : S → RegistryState)
-    (with_registry : S → RegistryState → S) (has_form : S → Form → Type 0) (stepped : StackSteps S) (levelled : LevelSteps S) where
+    (with_registry : S → RegistryState → S) (has_form : S → Form → Type 0) (stepped : StackSteps S) (reloaded : ReloadSteps S) where
   -- what stands so is ready
-  pub ready : (f : Form) (n : ℕ) (x : S) → Stands registry has_form f n x → (g : Form) × IsReady registry with_registry has_form stepped levelled g x
+  pub ready : (f : Form) (n : ℕ) (x : S) → Stands registry has_form f n x → (g : Form) × IsReady registry with_registry has_form stepped reloaded g x
   ready f n x h = (f, is_ready f n x h)
 
 -- ---- both runs

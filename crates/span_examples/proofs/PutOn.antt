@@ -23,7 +23,7 @@ use Rattle.span_store.specs.declared.limits.Limits.{Limits}
 use Rattle.span_registry.proofs.CallerLemmas.{settled_new}
 use Rattle.span_registry.specs.Form.{Terminal, Base, Filtered, Form, Leaf, OnSubscriber, Parts}
 use Rattle.span_registry.specs.Hooks.{StackSteps}
-use Rattle.span_registry.specs.Levels.{LevelSteps}
+use Rattle.span_registry.specs.Reload.{ReloadSteps}
 use Rattle.span_examples.proofs.Level.{has_room, leaf_under, took}
 
 -- a leaf that refuses nothing, under a level
@@ -121,9 +121,9 @@ module _ {K I : Type 0} (registry : I → RegistryState)
       omega (arith, filters, room, more)
 
 module _ {S : Type 0} (registry : S → RegistryState)
-    (with_registry : S → RegistryState → S) (has_form : S → Form → Type 0) (stepped : StackSteps S) (levelled : LevelSteps S) where
+    (with_registry : S → RegistryState → S) (has_form : S → Form → Type 0) (stepped : StackSteps S) (reloaded : ReloadSteps S) where
   -- what stands so is ready
-  pub ready : (f : Form) (n : ℕ) (x : S) → Stands registry has_form f n x → (g : Form) × IsReady registry with_registry has_form stepped levelled g x
+  pub ready : (f : Form) (n : ℕ) (x : S) → Stands registry has_form f n x → (g : Form) × IsReady registry with_registry has_form stepped reloaded g x
   ready f n x h = (
     f,
     record {

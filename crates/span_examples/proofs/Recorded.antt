@@ -20,7 +20,7 @@ use Rattle.span_core.specs.declared.span.Lane.{Lane}
 use Rattle.span_dispatch.proofs.CallerLemmas.{event_asked, event_served, heard_records, known_unkept, next_served, none_served, seen_append, span_asked}
 use Rattle.span_dispatch.proofs.CallerLemmas.{span_served, unkept_still, vetoed_unkept}
 use Rattle.span_dispatch.specs.Call.{vetoes_whole}
-use Rattle.span_dispatch.specs.Outcome.{LayersGo, LevelSet, OutcomeAt, Makes, Noticed, Outcome, Quiet}
+use Rattle.span_dispatch.specs.Outcome.{LayersGo, Reloaded, OutcomeAt, Makes, Noticed, Outcome, Quiet}
 use Rattle.span_dispatch.specs.Recorder.{RecorderState, Records, kept_notice, new_recorder, recorder_steps}
 use Rattle.span_dispatch.specs.Cache.{KeptCallsites}
 use Rattle.span_dispatch.specs.Alone.{passed, passed_at}
@@ -45,14 +45,14 @@ use Rattle.span_layers.specs.Layer.{HearsBy, LayerSteps}
 use Rattle.span_stacks.specs.Layered.{inner_of, outer_of, with_inner}
 use Rattle.span_layers.specs.Number.{TakesNumbers, filters_in}
 use Rattle.span_layers.specs.Observe.{open_answers}
-use Rattle.span_stacks.specs.Stands.{another, base_form, bare_hears, bare_steps, filtered_form, filtered_hears, filtered_levels, filtered_steps, itself}
-use Rattle.span_stacks.specs.Stands.{stack_form, stack_hears, stack_levels, stack_steps}
+use Rattle.span_stacks.specs.Stands.{another, base_form, bare_hears, bare_steps, filtered_form, filtered_hears, filtered_reloads, filtered_steps, itself}
+use Rattle.span_stacks.specs.Stands.{stack_form, stack_hears, stack_reloads, stack_steps}
 use Rattle.span_store.specs.Store.{RegistryState, Store, new_registry}
 use Rattle.span_stacks.specs.Verdict.{NumbersStayOwn, vetoes}
 use Rattle.span_stacks.specs.declared.filtered.Filtered.{Filtered as FilteredLayer}
 use Rattle.span_layers.specs.laws.Leaf.{open_honest}
 use Rattle.span_store.specs.declared.limits.Limits.{Limits}
-use Rattle.span_registry.specs.Levels.{LevelSteps, unlevelled}
+use Rattle.span_registry.specs.Reload.{ReloadSteps, unreloaded}
 use Rattle.span_registry.specs.Path.{path_at}
 use Rattle.span_registry.proofs.CallerLemmas.{settled_new}
 use Rattle.span_registry.specs.Behaviour.{Notice, OnClose, OnEnter, OnEvent, OnExit, OnFollows, OnIdChange, OnNewSpan, OnRecord}
@@ -84,8 +84,8 @@ abbrev pub recorded_steps : StackSteps Recorded
 recorded_steps = stack_steps another under_level bare_steps
 
 -- and where a level is set
-abbrev pub recorded_levels : LevelSteps Recorded
-recorded_levels = stack_levels (filtered_levels level_taken unlevelled) unlevelled
+abbrev pub recorded_levels : ReloadSteps Recorded
+recorded_levels = stack_reloads (filtered_reloads level_taken unreloaded) unreloaded
 
 -- what its leaf hears
 abbrev pub recorded_hears : HearSteps Recorded
@@ -134,12 +134,12 @@ filter_stays true e x y lane under v w h = stays e _ _ _ _ _ _ h.filter
 filter_stays false e x y lane under v w h = h.0
 
 -- no level was set
-abbrev IsNoLevel : Outcome → Type 0
-IsNoLevel (LevelSet n l) = ⊥
-IsNoLevel o = ⊤
+abbrev IsNoReload : Outcome → Type 0
+IsNoReload (Reloaded n l) = ⊥
+IsNoReload o = ⊤
 
 -- whatever is made of the stack, unless its level is set, its filter stays
-goes_under : (level : LevelFilter) (f : Form) (o : Outcome) (s t : Store) (x y : Recorded) → IsNoLevel o
+goes_under : (level : LevelFilter) (f : Form) (o : Outcome) (s t : Store) (x y : Recorded) → IsNoReload o
     → IsUnder level (outer_of x) → HasForm x f → LayersGo inner_of with_inner HasForm recorded_steps recorded_levels f o s t x y → IsUnder level (outer_of y)
 goes_under level f (Noticed lane e) s t x y none u has n =
     let form = formed level x f u has in
@@ -147,7 +147,7 @@ goes_under level f (Noticed lane e) s t x y none u has n =
     let outer = goes.layers.second in
     stays_under level (outer_of x) (outer_of y) (ap (λ (z : Recorded). id_of (outer_of z)) goes.rest ∙ outer.0)
     (ap (λ (z : Recorded). filter_of (outer_of z)) goes.rest ∙ filter_stays _ e (outer_of x) (outer_of goes.notified) lane.0 _ _ _ outer.1) u
-goes_under level f (LevelSet n l) s t x y none u has q = absurd none
+goes_under level f (Reloaded n l) s t x y none u has q = absurd none
 goes_under level f (Quiet c) s t x y none u has quiet =
     stays_under level (outer_of x) (outer_of y) (ap (λ (z : Recorded). id_of (outer_of z)) quiet.1) (ap (λ (z : Recorded). filter_of (outer_of z)) quiet.1) u
 
@@ -188,7 +188,7 @@ kept_new level lane m x u id attrs one z same is made =
     record {
       keeps = seen_so ∙ by_level (passes_level level (level_of (metadata_of attrs))) (told_in (OnNewSpan attrs id) one.after lane.0 _)
           ∙ ap (λ k. kept_span level lane k (answer.Made id)) same;
-      under = goes_under level one.form one.outcome one.before one.after x z (subst IsNoLevel (sym is) tt) u made.honest.has made.layers;
+      under = goes_under level one.form one.outcome one.before one.after x z (subst IsNoReload (sym is) tt) u made.honest.has made.layers;
     }
 
 kept_sent : (level : LevelFilter) (lane : Lane) (m : Metadata) (x : Recorded) → IsUnder level (outer_of x)
@@ -202,7 +202,7 @@ kept_sent level lane m x u e one z same is made =
     record {
       keeps = seen_so
           ∙ by_level_twice (passes_level level (level_of (event_metadata e))) (told_in (OnEvent e) one.after lane.0 _) ∙ ap (λ k. kept_event level lane k) same;
-      under = goes_under level one.form one.outcome one.before one.after x z (subst IsNoLevel (sym is) tt) u made.honest.has made.layers;
+      under = goes_under level one.form one.outcome one.before one.after x z (subst IsNoReload (sym is) tt) u made.honest.has made.layers;
     }
 
 abbrev ServesOne : List Answer → Request → Recorded → Answer → List OutcomeAt → KeptCallsites → Recorded → Type 0

@@ -12,15 +12,16 @@ use Rattle.span_dispatch.specs.declared.request.Answer.TheVariants.{Refused}
 use Rattle.span_filters.specs.Level.{level_taken}
 use Rattle.span_stacks.specs.Filtered.{IsNumber, filter_of, id_of, layer_of}
 use Rattle.span_stacks.specs.Layered.{inner_of, outer_of, with_inner}
-use Rattle.span_stacks.specs.Levels.{LevelsIf}
+use Rattle.span_stacks.specs.Reload.{ReloadsIf}
 use Rattle.span_registry.specs.Conducts.{filter_numbered}
 use Rattle.span_registry.specs.KeptForm.{KeepsForm}
 use Rattle.span_registry.specs.Form.{Terminal, Filtered, Form, Leaf, Parts}
-use Rattle.span_registry.specs.Levels.{KeepsRules, takes_level, unlevelled}
+use Rattle.span_registry.specs.Reload.{KeepsRules, takes_setting, unreloaded}
 use Rattle.span_registry.specs.laws.Form.{kept_rules, rules_again}
 use Rattle.span_examples.proofs.Recorded.{HasForm, form_of, recorded_levels, recorded_steps}
 use Rattle.span_examples.specs.Dispatches.{Recorded}
 use Rattle.span_examples.specs.Reload.{IsSetTo}
+use Rattle.span_targets.specs.declared.setting.Setting.TheVariants.{Level}
 
 abbrev ReadyBy : Form → Dispatch Recorded → Type 0
 ReadyBy f d = IsReadyBy inner_of with_inner HasForm recorded_steps recorded_levels f d
@@ -51,9 +52,9 @@ ready_still keeps rules d e h step =
 
 -- its filter takes every level, and has the number 0
 takes : (level l : LevelFilter) (x : Recorded) (f : Form)
-    → KeepsRules (form_of level 0) f → HasForm x f → (takes_level f 0 l ≡ true) × IsNumber (id_of (outer_of x)) (Some 0)
+    → KeepsRules (form_of level 0) f → HasForm x f → (takes_setting f 0 (Level l) ≡ true) × IsNumber (id_of (outer_of x)) (Some 0)
 takes level l x (Parts k (Filtered m a g) i) keeps has = (
-  λ j. (if filter_numbered (keeps.1.0 j) 0 then (has.1.1 j).takes l else takes_level g 0 l) || takes_level i 0 l,
+  λ j. (if filter_numbered (keeps.1.0 j) 0 then (has.1.1 j).takes (Level l) else takes_setting g 0 (Level l)) || takes_setting i 0 (Level l),
   subst (λ o. IsNumber (id_of (outer_of x)) o) keeps.1.0 has.1.0,
 )
 takes level l x (Parts k (Leaf still a) i) keeps has = absurd has.1
@@ -64,17 +65,17 @@ takes level l x (Filtered n a g) keeps has = absurd has
 takes level l x (Terminal v) keeps has = absurd has
 
 -- so it is never refused
-pub never_refused : (d : Dispatch Recorded) (l : LevelFilter) → IsReadyFirst d → ((f : Form) → HasForm (stack_of d) f → false ≡ takes_level f 0 l) → ⊥
+pub never_refused : (d : Dispatch Recorded) (l : LevelFilter) → IsReadyFirst d → ((f : Form) → HasForm (stack_of d) f → false ≡ takes_setting f 0 (Level l)) → ⊥
 never_refused d l h none =
     let taken = takes h.level l (stack_of d) h.form h.rules h.ready.stack.honest.has in
     true≢false (sym (none h.form h.ready.stack.honest.has ∙ taken.0))
 
 -- and its level is set
-pub is_set : (d e : Dispatch Recorded) (l : LevelFilter) → IsReadyFirst d → recorded_levels (stack_of d) 0 l (stack_of e) → IsSetTo l d e
+pub is_set : (d e : Dispatch Recorded) (l : LevelFilter) → IsReadyFirst d → recorded_levels (stack_of d) 0 (Level l) (stack_of e) → IsSetTo l d e
 is_set d e l h steps =
     let x = outer_of (stack_of d) in
     let y = outer_of (stack_of e) in
     let number = (takes h.level l (stack_of d) h.form h.rules h.ready.stack.honest.has).1 in
     let has : has_filter (id_of x) 0 ≡ true = ap (λ (s : FilterSet). s 0) number.1 in
-    let own = subst (λ b. LevelsIf level_taken unlevelled b (filter_of x) (layer_of x) 0 l (filter_of y) (layer_of y)) has steps.0.1 in
+    let own = subst (λ b. ReloadsIf level_taken unreloaded b (filter_of x) (layer_of x) 0 (Level l) (filter_of y) (layer_of y)) has steps.0.1 in
     record { now = own.0; kept = own.1; spans = steps.1 }

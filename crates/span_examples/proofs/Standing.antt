@@ -51,7 +51,7 @@ use Rattle.span_registry.specs.Behaviour.{Behaviour, AreAlike, ArePlain, Conduct
 use Rattle.span_registry.specs.Conducts.{Conducts, numbers_in}
 use Rattle.span_registry.specs.Form.{Terminal, Base, End, Filtered, Form, InList, Leaf, OnSubscriber, Parts}
 use Rattle.span_registry.specs.Hooks.{StackSteps}
-use Rattle.span_registry.specs.Levels.{LevelSteps}
+use Rattle.span_registry.specs.Reload.{ReloadSteps}
 use Rattle.span_registry.specs.Position.{Heard, Here, Outer, Position, Under}
 use Rattle.span_registry.specs.View.{SeenSpan, SeenSpans, View, current_among, current_shown}
 use Rattle.span_promises.specs.Isolation.{SeenAlone, SeesCalls}
@@ -64,8 +64,8 @@ use Rattle.span_examples.specs.Kinds.{in_a_span, recorder_under}
 
 -- an honest stack on a registry without spans is ready
 pub is_ready : {S : Type 0} {registry : S → RegistryState}
-    {with_registry : S → RegistryState → S} {has_form : S → Form → Type 0} {stepped : StackSteps S} {levelled : LevelSteps S} (f : Form) (n : ℕ) (x : S)
-    → Stands registry has_form f n x → IsReady registry with_registry has_form stepped levelled f x
+    {with_registry : S → RegistryState → S} {has_form : S → Form → Type 0} {stepped : StackSteps S} {reloaded : ReloadSteps S} (f : Form) (n : ℕ) (x : S)
+    → Stands registry has_form f n x → IsReady registry with_registry has_form stepped reloaded f x
 is_ready {registry = registry} f n x h = record {
   honest = record { has = h.has; rules = subst (IsHonestStack f) (sym h.filters) h.rules };
   settled = subst HasNoClosing (sym (ap (λ (s : Store). s.spans) h.empty)) (settled_new (registry x).limits);
@@ -143,7 +143,7 @@ module _ {L : Type 0} {has_form : L → Form → Type 0}
 -- ---- what a recorder keeps
 
 -- a recorder that is new, stays new in use and keeps what it hears, under filters that then act so, will record so
-pub records_alone : {S : Type 0} (s : SubscriberOf S) → SeenAlone (SeesCalls s.registry s.with_registry s.has_form s.stepped s.levelled s.hears s.acts_at)
+pub records_alone : {S : Type 0} (s : SubscriberOf S) → SeenAlone (SeesCalls s.registry s.with_registry s.has_form s.stepped s.reloaded s.hears s.acts_at)
     AloneOf → (position : Position) (recorder : S → RecorderState) (cs : Conducts) (x : S)
     → recorder x ≡ new_recorder → ((y : S) → s.registered x y → (recorder y ≡ recorder x) × s.acts_at y position cs)
     → ((y z : S) (h : Heard) → s.hears y position h z → Records (recorder y) (recorder z) (map kept_notice h)) → WillRecord s position recorder cs x
@@ -153,7 +153,7 @@ records_alone s law position recorder cs x new used hears requests done h =
     let in_use = used y h.in_use in
     let made = flat h.served.made in
     let calls : SeesCalls s.registry s.with_registry
-    s.has_form s.stepped s.levelled s.hears s.acts_at cs empty_store (made_calls (numbers_in cs) [] requests done.1.items) (passed_at position made) = record {
+    s.has_form s.stepped s.reloaded s.hears s.acts_at cs empty_store (made_calls (numbers_in cs) [] requests done.1.items) (passed_at position made) = record {
       old = h.first;
       new = done.0;
       requests = requests;

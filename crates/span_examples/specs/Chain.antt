@@ -17,13 +17,13 @@ module _ {S : Type 0} (s : SubscriberOf S) where
   -- the stack is ready
   abbrev pub IsReadyStack : S → Type 0
   IsReadyStack x =
-      (f : Form) × IsReady s.registry s.with_registry s.has_form s.stepped s.levelled f x
+      (f : Form) × IsReady s.registry s.with_registry s.has_form s.stepped s.reloaded f x
 
   -- a dispatcher that was ready gave a call its one answer, notified its layers, and is ready for
   -- the next
   pub record AnswersReady (call : Call) (a : Answer) (old new : Dispatch S) : Type 0 where
     pub form : Form
-    pub served : IsServed s.registry s.with_registry s.has_form s.stepped s.levelled call form
+    pub served : IsServed s.registry s.with_registry s.has_form s.stepped s.reloaded call form
         (kept_by old) (stack_of old) a (kept_by new) (stack_of new)
     pub next : IsReadyNow s new
 

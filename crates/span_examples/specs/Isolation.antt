@@ -17,7 +17,7 @@ use Rattle.span_store.specs.Store.{RegistryState}
 use Rattle.span_registry.specs.Conducts.{ActsAt}
 use Rattle.span_registry.specs.Form.{Form}
 use Rattle.span_registry.specs.Hooks.{StackSteps}
-use Rattle.span_registry.specs.Levels.{LevelSteps}
+use Rattle.span_registry.specs.Reload.{ReloadSteps}
 use Rattle.span_registry.specs.Position.{HearSteps}
 use Rattle.span_registry.specs.Question.{single}
 use Rattle.span_promises.specs.MadeCall.{MadeCall, made_calls}
@@ -49,14 +49,14 @@ pub record IsNewUnder (level : LevelFilter) (x : Filtered RecorderState LevelFil
 -- these requests from then on, and gave these answers
 pub record ServesFirst {S : Type 0} (registry : S → RegistryState)
     (with_registry : S → RegistryState → S) (has_form : S → Form → Type 0) (stepped : StackSteps S)
-    (levelled : LevelSteps S) (hears : HearSteps S) (acts_at : ActsAt S)
+    (reloaded : ReloadSteps S) (hears : HearSteps S) (acts_at : ActsAt S)
     (registered : S → S → Type 0) (requests : List Request) (x : S) (done : WithAnswers S) : Type
     0 where
   pub first : Dispatch S
   pub in_use : registered x (stack_of first)
   pub same : registry (stack_of first) ≡ registry x
-  pub served : (f : Form) × IsReady registry with_registry has_form stepped levelled f x
-      → Served registry with_registry has_form stepped levelled hears acts_at requests done.1.items
+  pub served : (f : Form) × IsReady registry with_registry has_form stepped reloaded f x
+      → Served registry with_registry has_form stepped reloaded hears acts_at requests done.1.items
       first done.0
 
 -- two new recorders were notified of the same, in the same order; where neither failed for want of

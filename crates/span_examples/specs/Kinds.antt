@@ -49,12 +49,12 @@ SeesAlone cs requests answers heard =
 module _ {S : Type 0} (s : SubscriberOf S) where
   -- the dispatcher is ready, and its cache is up to date
   abbrev pub IsReadyNow : Dispatch S → Type 0
-  IsReadyNow d = IsReadySomehow s.registry s.with_registry s.has_form s.stepped s.levelled d
+  IsReadyNow d = IsReadySomehow s.registry s.with_registry s.has_form s.stepped s.reloaded d
 
   -- a list was served, with these answers
   abbrev pub ServedList : List Request → List Answer → Dispatch S → Dispatch S → Type 0
   ServedList requests answers old new =
-      Served s.registry s.with_registry s.has_form s.stepped s.levelled s.hears s.acts_at requests
+      Served s.registry s.with_registry s.has_form s.stepped s.reloaded s.hears s.acts_at requests
       answers old new
 
   -- a stack on a registry without spans was put in use, and was ready; then a list was served, and
@@ -106,11 +106,11 @@ module _ {F : Type 0} (s : SubscriberOf (UnderFilter F)) where
   WillRecordUnder acts x =
       (b : Conduct) → acts b → WillRecord s (Outer (Under Here)) recorder_under ((Some 0, b) ∷ []) x
 
--- the conduct of a filter of two parts, which take no level
+-- the conduct of a filter of two parts, which take no setting
 abbrev pub both_conduct : (Behaviour → Behaviour → Behaviour) → Conduct → Conduct → Conduct
 both_conduct join left right h = join (left (notices_of h)) (right (notices_of h))
 
--- the conduct of a filter of one part, which takes no level
+-- the conduct of a filter of one part, which takes no setting
 abbrev pub one_conduct : (Behaviour → Behaviour) → Conduct → Conduct
 one_conduct turn inside h = turn (inside (notices_of h))
 

@@ -115,7 +115,7 @@ module _ (s : SubscriberOf Outlined) where
   -- the outline's stack as it begins, ready, on a registry without spans
   pub record StartsOutlined (level other : LevelFilter) (x : Outlined) : Type 0 where
     pub new : IsNewOutlined level other x
-    pub ready : (f : Form) × IsReady s.registry s.with_registry s.has_form s.stepped s.levelled f x
+    pub ready : (f : Form) × IsReady s.registry s.with_registry s.has_form s.stepped s.reloaded f x
     pub usable : s.usable x
     pub empty : (s.registry x).store ≡ empty_store
 
@@ -128,6 +128,6 @@ module _ (s : SubscriberOf Outlined) where
     pub last : Dispatch Outlined
     pub new : IsNewOutlined level other (stack_of first)
     pub empty : (s.registry (stack_of first)).store ≡ empty_store
-    pub served : Served s.registry s.with_registry s.has_form s.stepped s.levelled s.hears s.acts_at
+    pub served : Served s.registry s.with_registry s.has_form s.stepped s.reloaded s.hears s.acts_at
         requests done.0.items first last
     pub text : string_bytes done.1 ≡ text_of (passed_at outline_place (flat served.made))

@@ -24,7 +24,7 @@ module _ (s : SubscriberOf Recorded) where
   abbrev pub ServesAll : List Request → Dispatch Recorded → Dispatch Recorded → Type 0
   ServesAll requests old new =
       (answers : List Answer)
-      × Served s.registry s.with_registry s.has_form s.stepped s.levelled s.hears s.acts_at requests
+      × Served s.registry s.with_registry s.has_form s.stepped s.reloaded s.hears s.acts_at requests
       answers old new
 
   -- the first list was served with a new recorder under WARN, then its level was set to DEBUG, and

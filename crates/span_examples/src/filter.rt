@@ -4,7 +4,7 @@ ghost use Rattle.span_core.specs.Level.{passes_level};
 ghost use Rattle.span_core.specs.Metadata.{level_of};
 ghost use Rattle.span_filters.specs.laws.Closure.{unhinted_honest};
 ghost use Rattle.span_filters.specs.Filter.{ActsSteadily, settled_answers};
-ghost use Rattle.span_filters.specs.laws.Filter.{settled_laws, steady_levels};
+ghost use Rattle.span_filters.specs.laws.Filter.{settled_laws, steady_reloads};
 ghost use Rattle.span_registry.specs.Context.{view_in};
 ghost use Rattle.span_examples.specs.Filters.{is_marked, view_on, target_answers, wanted_by, wants_target};
 ghost use Rattle.span_examples.specs.laws.Target.{goes_by_target};
@@ -13,6 +13,7 @@ use span_boxed::{BoxedFilter, DynFilter};
 use span_core::{Event, Interest, Lane, LevelFilter, Metadata};
 use span_filters::{AlwaysUsableFilter, Filter, dynamic_filter_fn};
 use span_registry::{Context, ContextMut, ExtensionValue, LookupSpan, Notice, Registry, Tag};
+use span_targets::Setting;
 use std::alloc::{AllocError, Global};
 
 /// A filter by targets: it enables what has one of these.
@@ -46,9 +47,9 @@ impl<S: LookupSpan> Filter<S> for Wanted {
     ghost laws = { settled_laws target_answers
         (λ f. unhinted_honest (wants_target f) (goes_by_target f)) };
 
-    ghost levels = { steady_levels };
+    ghost reloads = { steady_reloads };
 
-    fn set_level(&mut self, _level: LevelFilter) -> bool {
+    fn reload(&mut self, _setting: Setting) -> bool {
         false // It goes by the target.
     }
 

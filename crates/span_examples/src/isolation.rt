@@ -30,9 +30,9 @@ pub fn record_alone_and_beside(
 ) -> Result<(WithAnswers<Recorded>, WithAnswers<Beside>), TraceError>
     ensures same { let one = ⟦<Recorded as Subscriber>⟧ in let two = ⟦<Beside as Subscriber>⟧ in
         IfOk result (KeepTheSame level other requests.now
-        (Served one.registry one.with_registry one.has_form one.stepped one.levelled one.hears
+        (Served one.registry one.with_registry one.has_form one.stepped one.reloaded one.hears
         one.acts_at requests.now)
-        (Served two.registry two.with_registry two.has_form two.stepped two.levelled two.hears
+        (Served two.registry two.with_registry two.has_form two.stepped two.reloaded two.hears
         two.acts_at requests.now)) }
     ensures memory { IfErr result (λ e. e ≡ TraceError.OutOfMemory) }
 {
@@ -67,7 +67,7 @@ pub(crate) fn serve_first<S: Subscriber + Drop>(
 ) -> Result<WithAnswers<S>, TraceError>
     requires { S.usable stack }
     ensures served { IfOk result
-        (ServesFirst S.registry S.with_registry S.has_form S.stepped S.levelled S.hears S.acts_at
+        (ServesFirst S.registry S.with_registry S.has_form S.stepped S.reloaded S.hears S.acts_at
         S.registered requests.now stack) }
     ensures memory { IfErr result (λ e. e ≡ TraceError.OutOfMemory) }
 {

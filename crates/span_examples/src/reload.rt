@@ -7,6 +7,7 @@ use span_core::{LevelFilter, TraceError};
 use span_dispatch::{Dispatch, Recorder, Request};
 use span_registry::{Registry, Subscriber};
 use span_stacks::{LayerExt, SubscriberExt, laws};
+use span_targets::Setting;
 use std::alloc::Global;
 
 /// Serves requests with a new recorder under WARN, sets its level to DEBUG, and serves more. The
@@ -27,7 +28,7 @@ pub fn reload(
     };
     let mut dispatch = Dispatch::new(alloc, stack);
     dispatch.serve(alloc, first)?;
-    dispatch.set_level(0, LevelFilter::DEBUG)?;
+    dispatch.reload(0, Setting::Level(LevelFilter::DEBUG))?;
     dispatch.serve(alloc, rest)?;
     Ok(dispatch)
 }

@@ -1,7 +1,5 @@
 -- What a caller's proof may need of a filter: a closure that answers in every context answers on every view.
 use Rattle.std.specs.Prelude.{◌≡◌, Bool}
-use denote.Param.Object.{Made, read_made}
-use denote.Param.Table.{Entry, Table}
 use Rattle.span_core.specs.declared.metadata.Metadata.{Metadata}
 use Rattle.span_filters.proofs.Views.{shown_by_some}
 use Rattle.span_filters.specs.Closure.{AnswersAllIn}

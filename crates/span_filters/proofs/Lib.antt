@@ -1,3 +1,4 @@
-pub mod CallerLemmas
+mod Around
 mod Hooks
+pub mod CallerLemmas
 pub mod Views

@@ -5,7 +5,7 @@ use Rattle.span_core.specs.Level.{lesser, wider_hint}
 use Rattle.span_core.specs.declared.interest.Interest.TheVariants.{Always, Never, Sometimes}
 use Rattle.span_core.specs.declared.interest.Interest.{Interest}
 use Rattle.span_core.specs.declared.level.LevelFilter.{LevelFilter}
-use Rattle.span_filters.specs.Filter.{FilterLevelSteps, FilterSteps}
+use Rattle.span_filters.specs.Filter.{FilterReloadSteps, FilterSteps}
 use Rattle.span_filters.specs.declared.combinator.And.{And}
 use Rattle.span_filters.specs.declared.combinator.Not.{Not}
 use Rattle.span_filters.specs.declared.combinator.Or.{Or}
@@ -98,7 +98,7 @@ pub record StepsBoth {A B : Type 0} (first : FilterSteps A) (second : FilterStep
   pub extensions : SameButExtensions v between
   pub right : second b e lane under between d w
 
--- a filter of two parts has the conduct of its parts, which are notified, and take no level
+-- a filter of two parts has the conduct of its parts, which are notified, and take no setting
 pub record ActsBoth {A B : Type 0} (join : Behaviour → Behaviour → Behaviour)
     (first : A → Conduct → Type 0) (second : B → Conduct → Type 0) (a : A) (b : B)
     (c : Conduct) : Type 0 where
@@ -159,11 +159,11 @@ StepsPart steps (Some f) e lane under v None w = ⊥
 StepsPart steps None e lane under v (Some g) w = ⊥
 StepsPart steps None e lane under v None w = w ≡ v
 
--- the level of an optional filter is set: that of the filter that it holds
-abbrev pub LevelsPart : {F : Type 0} → FilterLevelSteps F → FilterLevelSteps (Option F)
-LevelsPart levelled (Some f) l (Some g) = levelled f l g
-LevelsPart levelled None l None = ⊤
-LevelsPart levelled f l g = ⊥
+-- an optional filter is reloaded: the filter that it holds is
+abbrev pub ReloadsPart : {F : Type 0} → FilterReloadSteps F → FilterReloadSteps (Option F)
+ReloadsPart reloaded (Some f) l (Some g) = reloaded f l g
+ReloadsPart reloaded None l None = ⊤
+ReloadsPart reloaded f l g = ⊥
 
 -- the conduct of an optional filter: that of the filter that it holds; where it holds none,
 -- everything is enabled

@@ -3,14 +3,14 @@
 use Rattle.std.specs.Prelude.{◌≡◌, ℕ, Bool, [], ◌∷◌}
 use Rattle.span_core.specs.Filters.{FilterSet}
 use Rattle.span_core.specs.declared.event.Event.{Event}
-use Rattle.span_core.specs.declared.level.LevelFilter.{LevelFilter}
 use Rattle.span_core.specs.declared.metadata.Metadata.{Metadata}
 use Rattle.span_store.specs.Store.{RegistryState}
 use Rattle.span_registry.specs.Behaviour.{AnswerAlike, Behaviour, AreHonest, ArePlain, Conduct, IsPlain, Notice, SameInterestAndHint, OfNotice}
-use Rattle.span_registry.specs.Conducts.{after_level}
+use Rattle.span_registry.specs.Conducts.{after_reload}
 use Rattle.span_registry.specs.Context.{filters_lent, lane_lent, subscriber_lent}
 use Rattle.span_registry.specs.View.{View, view_of}
 use Rattle.span_registry.specs.declared.context.ContextMut.{ContextMut}
+use Rattle.span_targets.specs.declared.setting.Setting.{Setting}
 
 -- an answer is what a filter's answers give
 abbrev pub Says : {A : Type 0} → (Behaviour → Type 0) → (Behaviour → A) → A → Type 0
@@ -62,23 +62,23 @@ pub record FilterLaws {F : Type 0} (has_answers : F → Behaviour → Type 0) (h
       (w : RegistryState) (b : Conduct) → acts f b → hooked f e lane under v g w
       → acts g (λ h. b (OfNotice e (view_of v.store lane under) ∷ h))
 
--- how a filter goes on when its level is set: which filter becomes which by this level; one that
+-- how a filter goes on when it is reloaded: which filter becomes which by this setting; one that
 -- takes none is unchanged
-abbrev pub FilterLevelSteps : Type 0 → Type 1
-FilterLevelSteps F = F → LevelFilter → F → Type 0
+abbrev pub FilterReloadSteps : Type 0 → Type 1
+FilterReloadSteps F = F → Setting → F → Type 0
 
--- a filter takes no level, and is unchanged
-abbrev pub unlevelled : {F : Type 0} → FilterLevelSteps F
-unlevelled f l g = g ≡ f
+-- a filter takes no setting, and is unchanged
+abbrev pub unreloaded : {F : Type 0} → FilterReloadSteps F
+unreloaded f s g = g ≡ f
 
--- the law of levels of every filter: it has answers afterwards, and all that it has are honest; its
--- conduct goes on with the level, so that it is plain where it was
-pub record FilterLevelLaws {F : Type 0} (has_answers : F → Behaviour → Type 0)
-    (levelled : FilterLevelSteps F) (acts : F → Conduct → Type 0) : Type 0 where
-  pub answers : (f : F) (l : LevelFilter) (g : F) (a : Behaviour) → levelled f l g → has_answers f a
+-- the law of reloading of every filter: it has answers afterwards, and all that it has are honest;
+-- its conduct goes on with the setting, so that it is plain where it was
+pub record FilterReloadLaws {F : Type 0} (has_answers : F → Behaviour → Type 0)
+    (reloaded : FilterReloadSteps F) (acts : F → Conduct → Type 0) : Type 0 where
+  pub answers : (f : F) (s : Setting) (g : F) (a : Behaviour) → reloaded f s g → has_answers f a
       → (b : Behaviour) × has_answers g b
-  pub goes_on : (f : F) (l : LevelFilter) (g : F) (b : Conduct) → levelled f l g → acts f b
-      → acts g (after_level l b)
+  pub goes_on : (f : F) (s : Setting) (g : F) (b : Conduct) → reloaded f s g → acts f b
+      → acts g (after_reload s b)
 
 -- a filter always answers alike, as this conduct says, and extensions make no difference to that
 pub record ActsSteadily {F : Type 0} (has : F → Behaviour → Type 0) (f : F)

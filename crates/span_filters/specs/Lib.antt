@@ -1,6 +1,9 @@
 pub mod Closure
 pub mod Combinator
+pub mod EnvFilter
 pub mod Filter
 pub mod Function
 pub mod Level
+pub mod Setting
+pub mod Targets
 pub mod laws

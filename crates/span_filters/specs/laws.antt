@@ -1,8 +1,11 @@
 pub mod And
 pub mod Closure
 pub mod Combinator
+pub mod EnvFilter
 pub mod Filter
 pub mod Level
 pub mod Not
 pub mod Option
 pub mod Or
+pub mod Setting
+pub mod Targets

@@ -2,7 +2,7 @@
 ghost use Rattle.std.specs.Prelude.{◌≡◌, None, Some, IfErr, IfOk, IfSome, IsOk};
 ghost use Rattle.span_core.specs.declared.error.TraceError.TheVariants.{OutOfMemory};
 ghost use Rattle.span_filters.specs.Filter.{ActsSteadily, CopiesAlike};
-ghost use Rattle.span_filters.specs.laws.Filter.{steady_levels};
+ghost use Rattle.span_filters.specs.laws.Filter.{steady_reloads};
 ghost use Rattle.span_filters.specs.Closure.{ClosuresAre, HasTestAnswers, HasViewAnswers, TestsBy, TestsInBy, callsite_in, test_in, view_hint_in, view_test_in};
 ghost use Rattle.span_filters.specs.laws.Closure.{test_laws, view_laws};
 
@@ -10,6 +10,7 @@ use crate::filter::Filter;
 use crate::function::{Function, FunctionIn, NoCallsite};
 use span_core::{Event, Interest, LevelFilter, Metadata, TraceError};
 use span_registry::{Context, ContextMut, LookupSpan, Notice};
+use span_targets::Setting;
 use std::fmt;
 
 /// A filter by a test of metadata alone.
@@ -87,7 +88,7 @@ impl<S: LookupSpan, F: Function<Metadata, bool>> Filter<S> for FilterFn<F> {
 
     ghost laws = { test_laws F.gives };
 
-    ghost levels = { steady_levels };
+    ghost reloads = { steady_reloads };
 
     fn enabled(&self, meta: &Metadata, _cx: &Context<'_, S>) -> bool {
         self.enabled.apply(meta)
@@ -112,8 +113,8 @@ impl<S: LookupSpan, F: Function<Metadata, bool>> Filter<S> for FilterFn<F> {
     #[inline(always)]
     fn notify(&mut self, _notice: Notice<'_, '_>, _ctx: &mut ContextMut<'_, S>) {}
 
-    fn set_level(&mut self, _level: LevelFilter) -> bool {
-        false // Its closure goes by no level.
+    fn reload(&mut self, _setting: Setting) -> bool {
+        false // It goes by its closure.
     }
 }
 
@@ -246,7 +247,7 @@ impl<S: LookupSpan, F: FunctionIn<Metadata, S, bool>, R: Function<Metadata, Inte
 
     ghost laws = { view_laws S.registry F.gives_in R.gives };
 
-    ghost levels = { steady_levels };
+    ghost reloads = { steady_reloads };
 
     fn enabled(&self, meta: &Metadata, cx: &Context<'_, S>) -> bool {
         self.enabled.apply_in(meta, cx)
@@ -273,8 +274,8 @@ impl<S: LookupSpan, F: FunctionIn<Metadata, S, bool>, R: Function<Metadata, Inte
     #[inline(always)]
     fn notify(&mut self, _notice: Notice<'_, '_>, _ctx: &mut ContextMut<'_, S>) {}
 
-    fn set_level(&mut self, _level: LevelFilter) -> bool {
-        false // Its closure goes by no level.
+    fn reload(&mut self, _setting: Setting) -> bool {
+        false // It goes by its closure.
     }
 }
 

@@ -1,10 +1,10 @@
 //! Filters made of filters.
-ghost use Rattle.span_filters.specs.Combinator.{ActsBoth, ActsOne, ActsPart, AndPartsAre, HasBoth, HasOne, HasPart, IsAnd, IsNot, IsOr, LevelsPart, OrPartsAre, StepsBoth, StepsPart, and_answers, first_of_and, first_of_or, not_answers, or_answers, part_of_not, second_of_and, second_of_or};
+ghost use Rattle.span_filters.specs.Combinator.{ActsBoth, ActsOne, ActsPart, AndPartsAre, HasBoth, HasOne, HasPart, IsAnd, IsNot, IsOr, ReloadsPart, OrPartsAre, StepsBoth, StepsPart, and_answers, first_of_and, first_of_or, not_answers, or_answers, part_of_not, second_of_and, second_of_or};
 ghost use Rattle.span_core.specs.Level.{greater, lesser};
 ghost use Rattle.span_filters.specs.laws.And.{and_alike, and_honest, and_plain, and_same};
-ghost use Rattle.span_filters.specs.laws.Combinator.{both_laws, both_levels, one_laws, one_levels};
+ghost use Rattle.span_filters.specs.laws.Combinator.{both_laws, both_reloads, one_laws, one_reloads};
 ghost use Rattle.span_filters.specs.laws.Not.{not_alike, not_honest, not_plain, not_same};
-ghost use Rattle.span_filters.specs.laws.Option.{part_laws, part_levels};
+ghost use Rattle.span_filters.specs.laws.Option.{part_laws, part_reloads};
 ghost use Rattle.span_filters.specs.laws.Or.{or_alike, or_honest, or_plain, or_same};
 ghost use Rattle.span_core.specs.declared.error.TraceError.TheVariants.{OutOfMemory};
 ghost use Rattle.span_filters.specs.Filter.{CopiesAlike};
@@ -13,6 +13,7 @@ ghost use Rattle.std.specs.Prelude.{◌≡◌, IfErr, IfOk, IfSome, IsOk};
 use crate::filter::Filter;
 use span_core::{Event, Interest, LevelFilter, Metadata, TraceError};
 use span_registry::{Context, ContextMut, LookupSpan, Notice};
+use span_targets::Setting;
 use std::fmt;
 
 /// A filter that enables what both of its parts do. The first part is asked first, and the second
@@ -114,7 +115,7 @@ impl<S: LookupSpan, A: Filter<S>> Filter<S> for Not<A> {
 
     ghost laws = { one_laws not_answers (λ f. f.a) A.laws not_honest not_same not_plain not_alike };
 
-    ghost levels = { one_levels (λ f. f.a) };
+    ghost reloads = { one_reloads (λ f. f.a) };
 
     fn enabled(&self, meta: &Metadata, cx: &Context<'_, S>) -> bool {
         !self.a.enabled(meta, cx)
@@ -141,7 +142,7 @@ impl<S: LookupSpan, A: Filter<S>> Filter<S> for Not<A> {
         self.a.notify(notice, ctx);
     }
 
-    fn set_level(&mut self, _level: LevelFilter) -> bool {
+    fn reload(&mut self, _setting: Setting) -> bool {
         false // Its part has no number of its own.
     }
 }
@@ -159,7 +160,7 @@ impl<S: LookupSpan, A: Filter<S>, B: Filter<S>> Filter<S> for And<A, B> {
     ghost laws = { both_laws and_answers (λ f. f.a) (λ f. f.b) A.laws B.laws and_honest and_same
         and_plain and_alike };
 
-    ghost levels = { both_levels (λ f. f.a) (λ f. f.b) };
+    ghost reloads = { both_reloads (λ f. f.a) (λ f. f.b) };
 
     fn enabled(&self, meta: &Metadata, cx: &Context<'_, S>) -> bool {
         if !self.a.enabled(meta, cx) {
@@ -205,7 +206,7 @@ impl<S: LookupSpan, A: Filter<S>, B: Filter<S>> Filter<S> for And<A, B> {
         self.b.notify(notice, ctx);
     }
 
-    fn set_level(&mut self, _level: LevelFilter) -> bool {
+    fn reload(&mut self, _setting: Setting) -> bool {
         false // Its parts have no numbers of their own.
     }
 }
@@ -223,7 +224,7 @@ impl<S: LookupSpan, A: Filter<S>, B: Filter<S>> Filter<S> for Or<A, B> {
     ghost laws = { both_laws or_answers (λ f. f.a) (λ f. f.b) A.laws B.laws or_honest or_same
         or_plain or_alike };
 
-    ghost levels = { both_levels (λ f. f.a) (λ f. f.b) };
+    ghost reloads = { both_reloads (λ f. f.a) (λ f. f.b) };
 
     fn enabled(&self, meta: &Metadata, cx: &Context<'_, S>) -> bool {
         if self.a.enabled(meta, cx) {
@@ -265,7 +266,7 @@ impl<S: LookupSpan, A: Filter<S>, B: Filter<S>> Filter<S> for Or<A, B> {
         self.b.notify(notice, ctx);
     }
 
-    fn set_level(&mut self, _level: LevelFilter) -> bool {
+    fn reload(&mut self, _setting: Setting) -> bool {
         false // Its parts have no numbers of their own.
     }
 }
@@ -311,13 +312,13 @@ impl<S: LookupSpan, F: Filter<S>> Filter<S> for Option<F> {
 
     ghost hooked = { StepsPart F.hooked };
 
-    ghost levelled = { LevelsPart F.levelled };
+    ghost reloaded = { ReloadsPart F.reloaded };
 
     ghost acts = { ActsPart F.acts };
 
     ghost laws = { part_laws F.laws };
 
-    ghost levels = { part_levels F.levels };
+    ghost reloads = { part_reloads F.reloads };
 
     fn enabled(&self, meta: &Metadata, cx: &Context<'_, S>) -> bool {
         match self {
@@ -354,9 +355,9 @@ impl<S: LookupSpan, F: Filter<S>> Filter<S> for Option<F> {
         }
     }
 
-    fn set_level(&mut self, level: LevelFilter) -> bool {
+    fn reload(&mut self, setting: Setting) -> bool {
         match self {
-            Some(filter) => filter.set_level(level),
+            Some(filter) => filter.reload(setting),
             None => false,
         }
     }

@@ -1,12 +1,13 @@
 //! What every filter answers, and what it is notified of.
 ghost use Rattle.std.specs.Prelude.{◌≡◌, ⊤, IsTrue, false};
-ghost use Rattle.span_filters.specs.Filter.{FilterLaws, FilterLevelLaws, FilterLevelSteps, FilterSteps, Notified, Says, SaysEnabled, SaysEvent, unlevelled, unmoved};
+ghost use Rattle.span_filters.specs.Filter.{FilterLaws, FilterReloadLaws, FilterReloadSteps, FilterSteps, Notified, Says, SaysEnabled, SaysEvent, unreloaded, unmoved};
 ghost use Rattle.span_registry.specs.Behaviour.{Behaviour, Conduct, OnClose, OnEnter, OnExit, OnNewSpan, OnRecord};
 ghost use Rattle.span_registry.specs.Context.{HasNoRefusals, HasNoRefusalsUnlessAsked, WritesExtensions, view_in};
 ghost use Rattle.span_registry.specs.Notice.{is_for_filters, notice_of};
 
 use span_core::{Attributes, Event, Id, Interest, LevelFilter, Metadata, Record};
 use span_registry::{Context, ContextMut, LookupSpan, Notice};
+use span_targets::Setting;
 
 /// Decides which spans and events a layer is notified of, on a subscriber of the type `S`.
 ///
@@ -30,10 +31,10 @@ pub trait Filter<S: LookupSpan> {
     /// How the filter goes on when it is notified. By default it is unchanged, and writes nothing.
     ghost hooked: { FilterSteps Self } = { unmoved };
 
-    /// How the filter goes on when its level is set. By default it takes none, and is unchanged.
-    ghost levelled: { FilterLevelSteps Self } = { unlevelled };
+    /// How the filter goes on when it is reloaded. By default it takes no setting, and is unchanged.
+    ghost reloaded: { FilterReloadSteps Self } = { unreloaded };
 
-    /// How the filter will answer after each list of notices and levels. Only a filter to which
+    /// How the filter will answer after each list of notices and settings. Only a filter to which
     /// extensions make no difference has such a conduct: it is plain.
     ghost acts: { Self → Conduct → Type 0 };
 
@@ -68,22 +69,22 @@ pub trait Filter<S: LookupSpan> {
             self.new ctx.new }
         ensures written { WritesExtensions S.registry S.with_registry ctx.old ctx.new };
 
-    /// Sets the filter's level, and answers whether it takes one. Else nothing changes.
+    /// Has the filter take a setting, and answers whether it takes it. Else nothing changes.
     ///
     /// Own to this port.
-    fn set_level(&mut self, level: LevelFilter) -> bool
+    fn reload(&mut self, setting: Setting) -> bool
         requires { usable self.old }
         ensures usable { usable self.new }
-        ensures taken { Says (has_answers self.old) (λ a. a.takes level) result }
-        ensures level { levelled self.old level self.new }
+        ensures taken { Says (has_answers self.old) (λ a. a.takes setting) result }
+        ensures reloaded { reloaded self.old setting self.new }
         ensures unchanged { result ≡ false → self.new ≡ self.old };
 
     /// The filter's answers are honest, its hooks keep interest and hint, and it is plain where it
     /// says so.
     ghost laws: { FilterLaws has_answers hooked acts };
 
-    /// The filter has honest answers after a level too, and is plain where it was.
-    ghost levels: { FilterLevelLaws has_answers levelled acts };
+    /// The filter has honest answers after a setting too, and is plain where it was.
+    ghost reloads: { FilterReloadLaws has_answers reloaded acts };
 
     /// Notifies of a new span.
     final fn on_new_span(&mut self, attrs: &Attributes<'_>, id: Id, ctx: &mut ContextMut<'_, S>)

@@ -1,22 +1,23 @@
 //! A filter by level.
 ghost use Rattle.span_filters.specs.Filter.{settled_answers};
 ghost use Rattle.span_filters.specs.Level.{ActsByLevel, level_answers, level_taken};
-ghost use Rattle.span_filters.specs.laws.Level.{level_laws, level_levels};
+ghost use Rattle.span_filters.specs.laws.Level.{level_laws, level_reloads};
 
 use crate::filter::Filter;
 use span_core::{Event, Interest, LevelFilter, Metadata};
 use span_registry::{Context, ContextMut, LookupSpan, Notice};
+use span_targets::Setting;
 
 impl<S: LookupSpan> Filter<S> for LevelFilter {
     ghost has_answers = { settled_answers level_answers };
 
-    ghost levelled = { level_taken };
+    ghost reloaded = { level_taken };
 
     ghost acts = { ActsByLevel };
 
     ghost laws = { level_laws };
 
-    ghost levels = { level_levels };
+    ghost reloads = { level_reloads };
 
     fn enabled(&self, meta: &Metadata, _cx: &Context<'_, S>) -> bool {
         self.passes(meta.level())
@@ -41,8 +42,13 @@ impl<S: LookupSpan> Filter<S> for LevelFilter {
     #[inline(always)]
     fn notify(&mut self, _notice: Notice<'_, '_>, _ctx: &mut ContextMut<'_, S>) {}
 
-    fn set_level(&mut self, level: LevelFilter) -> bool {
-        *self = level;
-        true
+    fn reload(&mut self, setting: Setting) -> bool {
+        match setting.level() {
+            Some(level) => {
+                *self = level;
+                true
+            }
+            None => false,
+        }
     }
 }

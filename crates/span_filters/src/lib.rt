@@ -4,10 +4,13 @@
 mod always;
 mod closure;
 mod combinator;
+mod env_filter;
 mod filter;
 mod function;
 pub mod laws;
 mod level;
+mod setting;
+mod targets;
 
 pub use always::AlwaysUsableFilter;
 pub use closure::{DynFilterFn, FilterFn, dynamic_filter_fn, filter_fn};

@@ -38,7 +38,7 @@ module _ {T S : Type 0} (writes : Heard → T → T → Type 0)
   -- its position was notified of
   pub record WritesServed (requests : List Request) (answers : List Answer)
       (old new : Dispatch (WithObserver T S)) : Type 0 where
-    pub served : Served s.registry s.with_registry s.has_form s.stepped s.levelled s.hears
+    pub served : Served s.registry s.with_registry s.has_form s.stepped s.reloaded s.hears
         s.acts_at requests answers old new
     pub written : writes (passed_at observer_position (flat served.made))
         (observer_in (stack_of old)) (observer_in (stack_of new))
@@ -48,7 +48,7 @@ module _ {T S : Type 0} (writes : Heard → T → T → Type 0)
   abbrev pub ServesWritten : List Request → Dispatch (WithObserver T S)
       → Dispatch (WithObserver T S) → Vec Answer Global → Type 0
   ServesWritten requests old new answers =
-      IsReadySomehow s.registry s.with_registry s.has_form s.stepped s.levelled old
+      IsReadySomehow s.registry s.with_registry s.has_form s.stepped s.reloaded old
       → WritesServed requests answers.items old new
 
   -- what serving such a list promises, whether it is refused or not, beside that the stack may be

@@ -2,7 +2,7 @@
 use Rattle.std.specs.Prelude.{Bool, true, false, [], ◌∷◌, None, is_some}
 use Rattle.span_core.specs.declared.interest.Interest.TheVariants.{Always}
 use Rattle.span_filters.specs.Closure.{interest_under, view_answers}
-use Rattle.span_registry.specs.Behaviour.{Behaviour, Conduct, OfLevel, Notice, OnEnter, OfNotice}
+use Rattle.span_registry.specs.Behaviour.{Behaviour, Conduct, OfReload, Notice, OnEnter, OfNotice}
 use Rattle.span_registry.specs.View.{current_shown}
 
 -- all metadata, and no event
@@ -32,4 +32,4 @@ wanted_after e wanted = wanted
 abbrev pub since_entered : Bool → Conduct
 since_entered wanted [] = if_answers wanted
 since_entered wanted (OfNotice e v ∷ h) = since_entered (wanted_after e wanted) h
-since_entered wanted (OfLevel l ∷ h) = since_entered wanted h
+since_entered wanted (OfReload l ∷ h) = since_entered wanted h

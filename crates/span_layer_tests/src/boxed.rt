@@ -9,6 +9,7 @@ use span_filters::{Filter, dynamic_filter_fn};
 use span_layers::{Identity, Layer};
 use span_registry::{Context, ContextMut, LookupSpan, Registry, Subscriber, Tag};
 use span_stacks::{Filtered, LayerExt};
+use span_targets::Setting;
 use std::alloc::Global;
 use std::process::Abort;
 use std::test::Fail;
@@ -174,9 +175,9 @@ fn hints_by_level<L: Layer<Registry>>(layer: &mut L) -> [(bool, Option<LevelFilt
     requires { L.usable layer.old }
     ensures { L.usable layer.new }
 {
-    let other = layer.set_level(1, LevelFilter::DEBUG);
+    let other = layer.reload(1, Setting::Level(LevelFilter::DEBUG));
     let before = layer.max_level_hint();
-    let own = layer.set_level(0, LevelFilter::DEBUG);
+    let own = layer.reload(0, Setting::Level(LevelFilter::DEBUG));
     [(other, before), (own, layer.max_level_hint())]
 }
 

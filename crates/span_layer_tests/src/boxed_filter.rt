@@ -1,6 +1,6 @@
 //! Tests of boxed filters: a box adds nothing to the filter in it.
 ghost use Rattle.span_filters.specs.Filter.{ActsSteadily, settled_answers};
-ghost use Rattle.span_filters.specs.laws.Filter.{settled_laws, steady_levels};
+ghost use Rattle.span_filters.specs.laws.Filter.{settled_laws, steady_reloads};
 ghost use Rattle.span_layer_tests.specs.Filters.{if_answers, in_span_answers, since_entered, wanted_after};
 ghost use Rattle.span_layer_tests.specs.laws.Filter.{in_span_honest, since_laws, since_levels};
 ghost use Rattle.std.specs.Prelude.{◌≡◌};
@@ -10,6 +10,7 @@ use span_boxed::{BoxedFilter, DynFilter};
 use span_core::{Event, Id, Interest, Level, LevelFilter, Metadata, Pass};
 use span_filters::{And, Filter, FilterExt, Not, Or};
 use span_registry::{Context, ContextMut, LookupSpan, Notice, Registry};
+use span_targets::Setting;
 use std::process::Abort;
 use std::test::Fail;
 
@@ -108,7 +109,7 @@ impl<S: LookupSpan> Filter<S> for InSpan {
 
     ghost laws = { settled_laws (λ f. in_span_answers) (λ f. in_span_honest) };
 
-    ghost levels = { steady_levels };
+    ghost reloads = { steady_reloads };
 
     fn enabled(&self, _meta: &Metadata, cx: &Context<'_, S>) -> bool {
         cx.lookup_current().is_some()
@@ -128,7 +129,7 @@ impl<S: LookupSpan> Filter<S> for InSpan {
 
     fn notify(&mut self, _notice: Notice<'_, '_>, _ctx: &mut ContextMut<'_, S>) {}
 
-    fn set_level(&mut self, _level: LevelFilter) -> bool {
+    fn reload(&mut self, _setting: Setting) -> bool {
         false // It goes by no level.
     }
 }
@@ -174,7 +175,7 @@ impl<S: LookupSpan> Filter<S> for SinceEntered {
 
     ghost laws = { since_laws (λ f. f.entered) };
 
-    ghost levels = { since_levels (λ f. f.entered) };
+    ghost reloads = { since_levels (λ f. f.entered) };
 
     fn enabled(&self, _meta: &Metadata, _cx: &Context<'_, S>) -> bool {
         self.entered
@@ -198,7 +199,7 @@ impl<S: LookupSpan> Filter<S> for SinceEntered {
         }
     }
 
-    fn set_level(&mut self, _level: LevelFilter) -> bool {
+    fn reload(&mut self, _setting: Setting) -> bool {
         false // It goes by no level.
     }
 }

@@ -1,7 +1,7 @@
 //! Tests of filters made of filters: rows of their tables.
 ghost use Rattle.std.specs.Prelude.{true};
 ghost use Rattle.span_filters.specs.Filter.{ActsSteadily, settled_answers};
-ghost use Rattle.span_filters.specs.laws.Filter.{settled_laws, steady_levels};
+ghost use Rattle.span_filters.specs.laws.Filter.{settled_laws, steady_reloads};
 ghost use Rattle.span_layer_tests.specs.Filters.{if_answers, mute_answers};
 ghost use Rattle.span_layer_tests.specs.laws.Filter.{if_honest, mute_honest};
 
@@ -9,6 +9,7 @@ use crate::store_fixture::{event_at, event_of, hint_of, is_shown_as, lets_by, sa
 use span_core::{Event, Interest, Level, LevelFilter, Metadata};
 use span_filters::{Filter, FilterExt, dynamic_filter_fn, filter_fn};
 use span_registry::{Context, ContextMut, LookupSpan, Notice, Registry};
+use span_targets::Setting;
 use std::cell::Cell;
 use std::process::Abort;
 use std::test::Fail;
@@ -24,7 +25,7 @@ impl<S: LookupSpan> Filter<S> for Mute {
 
     ghost laws = { settled_laws (λ f. mute_answers) (λ f. mute_honest) };
 
-    ghost levels = { steady_levels };
+    ghost reloads = { steady_reloads };
 
     fn enabled(&self, _meta: &Metadata, _cx: &Context<'_, S>) -> bool {
         true
@@ -44,7 +45,7 @@ impl<S: LookupSpan> Filter<S> for Mute {
 
     fn notify(&mut self, _notice: Notice<'_, '_>, _ctx: &mut ContextMut<'_, S>) {}
 
-    fn set_level(&mut self, _level: LevelFilter) -> bool {
+    fn reload(&mut self, _setting: Setting) -> bool {
         false // It goes by no level.
     }
 }
@@ -62,7 +63,7 @@ impl<S: LookupSpan> Filter<S> for Asked<'_> {
 
     ghost laws = { settled_laws (λ f. if_answers true) (λ f. if_honest true) };
 
-    ghost levels = { steady_levels };
+    ghost reloads = { steady_reloads };
 
     fn enabled(&self, _meta: &Metadata, _cx: &Context<'_, S>) -> bool {
         true
@@ -83,7 +84,7 @@ impl<S: LookupSpan> Filter<S> for Asked<'_> {
 
     fn notify(&mut self, _notice: Notice<'_, '_>, _ctx: &mut ContextMut<'_, S>) {}
 
-    fn set_level(&mut self, _level: LevelFilter) -> bool {
+    fn reload(&mut self, _setting: Setting) -> bool {
         false // It goes by no level.
     }
 }

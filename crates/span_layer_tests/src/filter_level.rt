@@ -4,6 +4,7 @@ use span_boxed::{BoxedFilter, DynFilter};
 use span_core::{Level, LevelFilter, Metadata};
 use span_filters::{Filter, FilterExt, dynamic_filter_fn, filter_fn};
 use span_registry::{Context, Registry};
+use span_targets::Setting;
 use std::process::Abort;
 use std::test::Fail;
 
@@ -13,7 +14,7 @@ fn takes_a_level<F: Filter<Registry>>(rt: &impl Abort, filter: &mut F)
     ensures { F.usable filter.new }
 {
     assert!(rt; !wants(filter, event_at(Level::INFO)));
-    assert!(rt; filter.set_level(LevelFilter::INFO));
+    assert!(rt; filter.reload(Setting::Level(LevelFilter::INFO)));
     assert!(rt; wants(filter, event_at(Level::INFO)));
     assert!(rt; !wants(filter, event_at(Level::DEBUG)));
 }
@@ -24,9 +25,9 @@ fn takes_no_level<F: Filter<Registry>>(rt: &impl Abort, filter: &mut F, wanted: 
     ensures { F.usable filter.new }
 {
     assert!(rt; wants(filter, event_at(Level::INFO)) == wanted);
-    assert!(rt; !filter.set_level(LevelFilter::TRACE));
+    assert!(rt; !filter.reload(Setting::Level(LevelFilter::TRACE)));
     assert!(rt; wants(filter, event_at(Level::INFO)) == wanted);
-    assert!(rt; !filter.set_level(LevelFilter::OFF));
+    assert!(rt; !filter.reload(Setting::Level(LevelFilter::OFF)));
     assert!(rt; wants(filter, event_at(Level::INFO)) == wanted);
 }
 

@@ -4,10 +4,10 @@ ghost use Rattle.span_layers.specs.Acts.{LeafActs};
 ghost use Rattle.span_layers.specs.laws.Leaf.{is_leaf, any_laws};
 ghost use Rattle.span_layers.specs.laws.Path.{leaf_path_laws};
 ghost use Rattle.span_layers.specs.Layer.{HearsBy, AnySteps};
-ghost use Rattle.span_layers.specs.laws.Level.{leaf_levels};
+ghost use Rattle.span_layers.specs.laws.Reload.{leaf_reloads};
 ghost use Rattle.span_layers.specs.Observe.{open_answers};
 ghost use Rattle.span_registry.specs.Form.{Leaf};
-ghost use Rattle.span_registry.specs.Levels.{unlevelled};
+ghost use Rattle.span_registry.specs.Reload.{unreloaded};
 
 use crate::fixture::{LANE, metadata_of, put};
 use crate::marker::new_marker;
@@ -19,6 +19,7 @@ use span_core::{
 use span_layers::{Layer, Observer};
 use span_registry::{Context, ContextMut, LookupSpan, Notice, Registry, Subscriber, Tag};
 use span_stacks::{Filtered, LayerExt, Layered, SubscriberExt, Unattached};
+use span_targets::Setting;
 use std::alloc::{AllocError, Global};
 use std::process::Abort;
 use std::test::Fail;
@@ -36,7 +37,7 @@ impl<S: Subscriber> Layer<S> for Echo {
 
     ghost acts_at = { LeafActs };
 
-    ghost levelled = { unlevelled };
+    ghost reloaded = { unreloaded };
 
     ghost registered = { λ x y. y ≡ x };
 
@@ -46,7 +47,7 @@ impl<S: Subscriber> Layer<S> for Echo {
 
     ghost paths = { leaf_path_laws (λ x f h. is_leaf h) };
 
-    ghost levels = { leaf_levels (any_laws (Leaf false open_answers) (λ x y. y ≡ x) tt) };
+    ghost reloads = { leaf_reloads (any_laws (Leaf false open_answers) (λ x y. y ≡ x) tt) };
 
     fn on_register_dispatch(&mut self) {}
 
@@ -87,7 +88,7 @@ impl<S: Subscriber> Layer<S> for Echo {
         }
     }
 
-    fn set_level(&mut self, _number: u32, _level: LevelFilter) -> bool {
+    fn reload(&mut self, _number: u32, _setting: Setting) -> bool {
         false // No filter is in it.
     }
 }

@@ -4,6 +4,7 @@ use span_core::{LevelFilter, TraceError};
 use span_layers::{Identity, Layer};
 use span_registry::{Registry, Subscriber};
 use span_stacks::{Filtered, LayerExt, Layered};
+use span_targets::Setting;
 use std::alloc::Global;
 use std::process::Abort;
 use std::test::Fail;
@@ -28,7 +29,7 @@ fn takes<L: Layer<Registry>>(layer: &mut L, number: u32) -> bool
     requires { L.usable layer.old }
     ensures { L.usable layer.new }
 {
-    layer.set_level(number, LevelFilter::TRACE)
+    layer.reload(number, Setting::Level(LevelFilter::TRACE))
 }
 
 /// Sets the level of the filter with this number in a stack to trace.
@@ -36,7 +37,7 @@ fn stack_takes<S: Subscriber>(stack: &mut S, number: u32) -> bool
     requires { S.usable stack.old }
     ensures { S.usable stack.new }
 {
-    stack.set_level(number, LevelFilter::TRACE)
+    stack.reload(number, Setting::Level(LevelFilter::TRACE))
 }
 
 /// What comes of a level that is set to trace: whether it was taken, and the levels of two filters

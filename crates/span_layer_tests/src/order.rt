@@ -4,17 +4,18 @@ ghost use Rattle.std.specs.Prelude.{◌≡◌, ⊤, true};
 ghost use Rattle.span_layers.specs.Acts.{LeafActs};
 ghost use Rattle.span_layers.specs.laws.Leaf.{is_leaf, any_laws};
 ghost use Rattle.span_layers.specs.laws.Path.{leaf_path_laws};
-ghost use Rattle.span_layers.specs.laws.Level.{leaf_levels};
+ghost use Rattle.span_layers.specs.laws.Reload.{leaf_reloads};
 ghost use Rattle.span_layers.specs.Layer.{HearsBy, AnySteps};
 ghost use Rattle.span_layers.specs.Observe.{open_answers};
 ghost use Rattle.span_registry.specs.Form.{Leaf};
-ghost use Rattle.span_registry.specs.Levels.{unlevelled};
+ghost use Rattle.span_registry.specs.Reload.{unreloaded};
 
 use crate::fixture::put;
 use span_core::{Event, Interest, LevelFilter, Metadata, Pass};
 use span_layers::Layer;
 use span_registry::{Context, ContextMut, Notice, Registry, Subscriber};
 use span_stacks::{LayerExt, Layered};
+use span_targets::Setting;
 use std::alloc::{AllocError, Global};
 use std::cell::Cell;
 use std::process::Abort;
@@ -69,7 +70,7 @@ impl<S: Subscriber> Layer<S> for Newcomer {
 
     ghost acts_at = { LeafActs };
 
-    ghost levelled = { unlevelled };
+    ghost reloaded = { unreloaded };
 
     ghost registered = { λ x y. ⊤ };
 
@@ -79,7 +80,7 @@ impl<S: Subscriber> Layer<S> for Newcomer {
 
     ghost paths = { leaf_path_laws (λ x f h. is_leaf h) };
 
-    ghost levels = { leaf_levels (any_laws (Leaf true open_answers) (λ x y. ⊤) tt) };
+    ghost reloads = { leaf_reloads (any_laws (Leaf true open_answers) (λ x y. ⊤) tt) };
 
     fn on_register_dispatch(&mut self) {
         sign(&self.in_use, self.digit);
@@ -119,7 +120,7 @@ impl<S: Subscriber> Layer<S> for Newcomer {
 
     fn notify(&mut self, _notice: Notice<'_, '_>, _ctx: &mut ContextMut<'_, S>) {}
 
-    fn set_level(&mut self, _number: u32, _level: LevelFilter) -> bool {
+    fn reload(&mut self, _number: u32, _setting: Setting) -> bool {
         false // No filter is in it.
     }
 }

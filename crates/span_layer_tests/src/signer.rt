@@ -5,15 +5,16 @@ ghost use Rattle.span_layers.specs.Acts.{LeafActs};
 ghost use Rattle.span_layers.specs.laws.Leaf.{is_leaf, any_laws};
 ghost use Rattle.span_layers.specs.laws.Path.{leaf_path_laws};
 ghost use Rattle.span_layers.specs.Layer.{HearsBy, AnySteps};
-ghost use Rattle.span_layers.specs.laws.Level.{leaf_levels};
+ghost use Rattle.span_layers.specs.laws.Reload.{leaf_reloads};
 ghost use Rattle.span_layers.specs.Observe.{open_answers};
 ghost use Rattle.span_registry.specs.Context.{WritesExtensions};
 ghost use Rattle.span_registry.specs.Form.{Leaf};
-ghost use Rattle.span_registry.specs.Levels.{unlevelled};
+ghost use Rattle.span_registry.specs.Reload.{unreloaded};
 
 use span_core::{Event, Id, Interest, LevelFilter, Metadata, Pass};
 use span_layers::Layer;
 use span_registry::{Context, ContextMut, Notice, Subscriber, Tag};
+use span_targets::Setting;
 
 /// Writes its digit behind those in the extensions of a span that is new, is entered or gets
 /// another id, once it is in use. Counts how often it is put in use, and the events and the changes
@@ -70,7 +71,7 @@ impl<S: Subscriber> Layer<S> for Signer {
 
     ghost acts_at = { LeafActs };
 
-    ghost levelled = { unlevelled };
+    ghost reloaded = { unreloaded };
 
     ghost registered = { λ x y. ⊤ };
 
@@ -80,7 +81,7 @@ impl<S: Subscriber> Layer<S> for Signer {
 
     ghost paths = { leaf_path_laws (λ x f h. is_leaf h) };
 
-    ghost levels = { leaf_levels (any_laws (Leaf true open_answers) (λ x y. ⊤) tt) };
+    ghost reloads = { leaf_reloads (any_laws (Leaf true open_answers) (λ x y. ⊤) tt) };
 
     fn on_register_dispatch(&mut self) {
         self.in_use = self.in_use.saturating_add(1);
@@ -128,7 +129,7 @@ impl<S: Subscriber> Layer<S> for Signer {
         }
     }
 
-    fn set_level(&mut self, _number: u32, _level: LevelFilter) -> bool {
+    fn reload(&mut self, _number: u32, _setting: Setting) -> bool {
         false // No filter is in it.
     }
 }

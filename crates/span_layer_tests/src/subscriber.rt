@@ -9,6 +9,7 @@ use span_core::{
     Attributes, Event, Id, Interest, Lane, Level, LevelFilter, Pass, Record, TraceError,
 };
 use span_registry::{LookupSpan, Registry, Subscriber};
+use span_targets::Setting;
 use std::process::Abort;
 use std::test::Fail;
 
@@ -75,7 +76,7 @@ fn notify<S: Subscriber>(rt: &impl Abort, stack: &mut S) -> Result<(), Fail>
     assert!(rt; stack.current_span(LANE).is_none());
     enter_and_exit(stack, LANE, id)?;
     stack.close_hooks(LANE, id);
-    assert!(rt; !stack.set_level(0, LevelFilter::INFO));
+    assert!(rt; !stack.reload(0, Setting::Level(LevelFilter::INFO)));
     Ok(())
 }
 

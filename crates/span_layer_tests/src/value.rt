@@ -417,7 +417,11 @@ fn refusals_are_written(rt: HostRuntime) -> Result<(), Fail> {
         (TraceError::CountFull(id), 7, "the span's count is full"),
         (TraceError::TooManySpans, 8, "there are too many spans"),
         (TraceError::OutOfMemory, 9, "out of memory"),
-        (TraceError::NotSettable(7), 10, "the filter takes no level"),
+        (
+            TraceError::NotSettable(7),
+            10,
+            "no filter takes the setting",
+        ),
     ];
     for (refusal, number, text) in refusals {
         assert!(rt; refusal.number() == number);

@@ -2,7 +2,7 @@
 use Rattle.std.specs.Prelude.{◌≡◌, Box}
 use Rattle.std.specs.Box.{with_value}
 use Rattle.span_layers.specs.Layer.{LayerSteps}
-use Rattle.span_registry.specs.Levels.{LevelSteps}
+use Rattle.span_registry.specs.Reload.{ReloadSteps}
 use Rattle.span_registry.specs.Position.{HearSteps}
 
 -- the layer in a box goes on by this relation, and nothing else of the box changes
@@ -17,6 +17,6 @@ BoxSteps stepped x p e lane under v y w = BoxGoes (λ a b. stepped a p e lane un
 abbrev pub BoxHears : {L Z : Type 0} → HearSteps L → HearSteps (Box L Z)
 BoxHears hears x position h y = BoxGoes (λ a b. hears a position h b) x y
 
--- a level is set in a boxed layer as in the layer in the box
-abbrev pub BoxLevels : {L Z : Type 0} → LevelSteps L → LevelSteps (Box L Z)
-BoxLevels levelled x n l y = BoxGoes (λ a b. levelled a n l b) x y
+-- a boxed layer is reloaded as the layer in the box
+abbrev pub BoxReloads : {L Z : Type 0} → ReloadSteps L → ReloadSteps (Box L Z)
+BoxReloads reloaded x n l y = BoxGoes (λ a b. reloaded a n l b) x y

@@ -2,11 +2,11 @@ pub mod Acts
 pub mod Boxed
 pub mod Idle
 pub mod Layer
-pub mod Levels
 pub mod Members
 pub mod Number
 pub mod Observe
 pub mod Optional
 pub mod Parts
+pub mod Reload
 pub mod Veto
 pub mod laws

@@ -1,12 +1,13 @@
 //! A layer in a box.
 ghost use Rattle.span_layers.specs.laws.Path.{box_path_laws};
-ghost use Rattle.span_layers.specs.Boxed.{BoxHears, BoxLevels, BoxSteps};
+ghost use Rattle.span_layers.specs.Boxed.{BoxHears, BoxReloads, BoxSteps};
 ghost use Rattle.span_layers.specs.laws.Box.{box_laws};
-ghost use Rattle.span_layers.specs.laws.Level.{box_levels};
+ghost use Rattle.span_layers.specs.laws.Reload.{box_reloads};
 
 use crate::layer::Layer;
 use span_core::{Event, Interest, LevelFilter, Metadata, Pass};
 use span_registry::{Context, ContextMut, Notice, Subscriber};
+use span_targets::Setting;
 
 /// A boxed layer acts as the layer in the box does.
 impl<S: Subscriber, L: Layer<S>> Layer<S> for Box<L> {
@@ -20,7 +21,7 @@ impl<S: Subscriber, L: Layer<S>> Layer<S> for Box<L> {
 
     ghost acts_at = { λ x. L.acts_at x.value };
 
-    ghost levelled = { BoxLevels L.levelled };
+    ghost reloaded = { BoxReloads L.reloaded };
 
     ghost registered = { λ x y. L.registered x.value y.value };
 
@@ -30,7 +31,7 @@ impl<S: Subscriber, L: Layer<S>> Layer<S> for Box<L> {
 
     ghost paths = { box_path_laws L.paths };
 
-    ghost levels = { box_levels L.levels };
+    ghost reloads = { box_reloads L.reloads };
 
     fn on_register_dispatch(&mut self) {
         (**self).on_register_dispatch();
@@ -73,7 +74,7 @@ impl<S: Subscriber, L: Layer<S>> Layer<S> for Box<L> {
         (**self).notify(notice, ctx);
     }
 
-    fn set_level(&mut self, number: u32, level: LevelFilter) -> bool {
-        (**self).set_level(number, level)
+    fn reload(&mut self, number: u32, setting: Setting) -> bool {
+        (**self).reload(number, setting)
     }
 }

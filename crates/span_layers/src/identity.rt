@@ -5,14 +5,15 @@ ghost use Rattle.span_layers.specs.laws.Leaf.{is_leaf, idle_laws};
 ghost use Rattle.span_layers.specs.laws.Path.{leaf_path_laws};
 ghost use Rattle.span_layers.specs.Idle.{IdleSteps, identity};
 ghost use Rattle.span_layers.specs.Layer.{HearsBy};
-ghost use Rattle.span_layers.specs.laws.Level.{leaf_levels};
+ghost use Rattle.span_layers.specs.laws.Reload.{leaf_reloads};
 ghost use Rattle.span_layers.specs.Observe.{open_answers};
 ghost use Rattle.span_registry.specs.Form.{Leaf};
-ghost use Rattle.span_registry.specs.Levels.{unlevelled};
+ghost use Rattle.span_registry.specs.Reload.{unreloaded};
 
 use crate::layer::Layer;
 use span_core::{Event, Interest, LevelFilter, Metadata, Pass};
 use span_registry::{Context, ContextMut, Notice, Subscriber};
+use span_targets::Setting;
 
 /// A layer that enables everything and does nothing.
 ///
@@ -46,7 +47,7 @@ impl<S: Subscriber> Layer<S> for Identity {
 
     ghost acts_at = { LeafActs };
 
-    ghost levelled = { unlevelled };
+    ghost reloaded = { unreloaded };
 
     ghost registered = { λ x y. y ≡ x };
 
@@ -56,7 +57,7 @@ impl<S: Subscriber> Layer<S> for Identity {
 
     ghost paths = { leaf_path_laws (λ x f h. is_leaf h) };
 
-    ghost levels = { leaf_levels
+    ghost reloads = { leaf_reloads
         (idle_laws (λ x f. f ≡ Leaf true open_answers) (λ x f h. is_leaf h)) };
 
     fn on_register_dispatch(&mut self) {
@@ -98,7 +99,7 @@ impl<S: Subscriber> Layer<S> for Identity {
     #[inline(always)]
     fn notify(&mut self, _notice: Notice<'_, '_>, _ctx: &mut ContextMut<'_, S>) {}
 
-    fn set_level(&mut self, _number: u32, _level: LevelFilter) -> bool {
+    fn reload(&mut self, _number: u32, _setting: Setting) -> bool {
         false // No filter is in it.
     }
 }

@@ -7,13 +7,14 @@ ghost use Rattle.span_registry.specs.Behaviour.{OnClose, OnEnter, OnEvent, OnExi
 ghost use Rattle.span_registry.specs.Conducts.{ActsAt};
 ghost use Rattle.span_registry.specs.Context.{HandsOn, HasNoRefusals, HasNoRefusalsUnlessAsked};
 ghost use Rattle.span_registry.specs.Form.{Form, is_absent, is_marked};
-ghost use Rattle.span_registry.specs.Levels.{LevelLaws, LevelSteps, takes_level};
+ghost use Rattle.span_registry.specs.Reload.{ReloadLaws, ReloadSteps, takes_setting};
 ghost use Rattle.span_registry.specs.Notice.{notice_of};
 ghost use Rattle.span_registry.specs.Position.{HearSteps};
 ghost use Rattle.span_registry.specs.Question.{ShowsBy, hint_of};
 
 use span_core::{Attributes, Event, Id, Interest, LevelFilter, Metadata, Pass, Record};
 use span_registry::{Context, ContextMut, Notice, Subscriber};
+use span_targets::Setting;
 
 /// A part of a stack, on a subscriber of the type `S`.
 ///
@@ -43,8 +44,8 @@ pub trait Layer<S: Subscriber> {
     /// any.
     ghost acts_at: { ActsAt Self };
 
-    /// How the layer goes on when a filter's level is set.
-    ghost levelled: { LevelSteps Self };
+    /// How the layer goes on when a filter is reloaded.
+    ghost reloaded: { ReloadSteps Self };
 
     /// How the layer goes on when it is put in use.
     ghost registered: { Self → Self → Type 0 };
@@ -93,15 +94,15 @@ pub trait Layer<S: Subscriber> {
         requires { usable self.now }
         ensures { ShowsBy (has_form self.now) hint_of result };
 
-    /// Sets the level of the layer's filter with this number, and answers whether there is one that
+    /// Has the layer's filter with this number take a setting, and answers whether there is one that
     /// takes it. Else nothing changes.
     ///
     /// Own to this port.
-    fn set_level(&mut self, number: u32, level: LevelFilter) -> bool
+    fn reload(&mut self, number: u32, setting: Setting) -> bool
         requires { usable self.old }
         ensures usable { usable self.new }
-        ensures taken { ShowsBy (has_form self.old) (λ f. takes_level f number level) result }
-        ensures level { levelled self.old number level self.new }
+        ensures taken { ShowsBy (has_form self.old) (λ f. takes_setting f number setting) result }
+        ensures reloaded { reloaded self.old number setting self.new }
         ensures unchanged { result ≡ false → self.new ≡ self.old };
 
     /// How many filters the layer has, 4,294,967,295 at most.
@@ -134,9 +135,9 @@ pub trait Layer<S: Subscriber> {
     /// The paths of plain filters act as their conducts say.
     ghost paths: { PathLaws has_form stepped registered acts_at };
 
-    /// Where a level is set the form's rules are kept, no leaf is notified, and the paths that hold
-    /// the filter act by it.
-    ghost levels: { LevelLaws has_form levelled hears acts_at };
+    /// Where a filter takes a setting the form's rules are kept, no leaf is notified, and the paths
+    /// that hold the filter act by the setting.
+    ghost reloads: { ReloadLaws has_form reloaded hears acts_at };
 
     /// Notifies of a new span, while it can be read.
     final fn on_new_span(&mut self, attrs: &Attributes<'_>, id: Id, ctx: &mut ContextMut<'_, S>)

@@ -6,19 +6,20 @@ ghost use Rattle.span_core.specs.Level.{wider_hint};
 ghost use Rattle.span_layers.specs.Acts.{ListActs};
 ghost use Rattle.span_layers.specs.laws.Path.{list_path_laws};
 ghost use Rattle.span_layers.specs.Layer.{LeavesAlone, MayNotify, Notified};
-ghost use Rattle.span_layers.specs.Levels.{ListLevels};
-ghost use Rattle.span_layers.specs.laws.Level.{list_levels};
+ghost use Rattle.span_layers.specs.Reload.{ListReloads};
+ghost use Rattle.span_layers.specs.laws.Reload.{list_reloads};
 ghost use Rattle.span_layers.specs.Members.{ListForm, ListHears, ListSteps};
 ghost use Rattle.span_layers.specs.laws.List.{list_laws};
 ghost use Rattle.span_layers.specs.Number.{TakesNumbers};
 ghost use Rattle.span_registry.specs.Context.{HandsOn, HasNoRefusalsUnlessAsked};
-ghost use Rattle.span_registry.specs.Levels.{takes_level};
+ghost use Rattle.span_registry.specs.Reload.{takes_setting};
 ghost use Rattle.span_registry.specs.Notice.{notice_of};
 ghost use Rattle.span_registry.specs.Question.{ShowsBy, higher};
 
 use crate::layer::Layer;
 use span_core::{Event, Interest, LevelFilter, Metadata, Pass};
 use span_registry::{Context, ContextMut, Notice, Subscriber};
+use span_targets::Setting;
 
 /// The higher of the two interests.
 fn higher_of(i: Interest, j: Interest) -> Interest
@@ -75,23 +76,19 @@ fn either(one: bool, other: bool) -> bool
     one || other
 }
 
-/// Sets the level of the filter with this number in all members of a list, and answers whether
+/// Has the filter with this number take a setting in all members of a list, and answers whether
 /// there is one that takes it.
-fn set_levels<S: Subscriber, L: Layer<S>>(
-    members: &mut [L],
-    number: u32,
-    level: LevelFilter,
-) -> bool
+fn reload_each<S: Subscriber, L: Layer<S>>(members: &mut [L], number: u32, setting: Setting) -> bool
     requires { All L.usable members.old }
     ensures usable { All L.usable members.new }
-    ensures taken { ShowsBy (ListForm L.has_form members.old) (λ f. takes_level f number level)
+    ensures taken { ShowsBy (ListForm L.has_form members.old) (λ f. takes_setting f number setting)
         result }
-    ensures level { ListLevels L.levelled members.old number level members.new }
+    ensures reloaded { ListReloads L.reloaded members.old number setting members.new }
     ensures unchanged { result ≡ false → members.new ≡ members.old }
 {
     let mut taken = false;
     for member in members.iter_mut() {
-        let one = member.set_level(number, level);
+        let one = member.reload(number, setting);
         taken = either(one, taken);
     }
     taken
@@ -130,7 +127,7 @@ impl<S: Subscriber, L: Layer<S>> Layer<S> for Vec<L> {
 
     ghost acts_at = { λ x. ListActs L.acts_at x.items };
 
-    ghost levelled = { λ x n l y. ListLevels L.levelled x.items n l y.items };
+    ghost reloaded = { λ x n l y. ListReloads L.reloaded x.items n l y.items };
 
     ghost registered = { λ x y. AllZip L.registered x.items y.items };
 
@@ -140,7 +137,7 @@ impl<S: Subscriber, L: Layer<S>> Layer<S> for Vec<L> {
 
     ghost paths = { list_path_laws L.paths (λ x. x.items) };
 
-    ghost levels = { list_levels L.levels (λ x. x.items) };
+    ghost reloads = { list_reloads L.reloads (λ x. x.items) };
 
     fn on_register_dispatch(&mut self) {
         put_in_use(self.as_mut_slice());
@@ -215,7 +212,7 @@ impl<S: Subscriber, L: Layer<S>> Layer<S> for Vec<L> {
         notify_all(self.as_mut_slice(), notice, ctx);
     }
 
-    fn set_level(&mut self, number: u32, level: LevelFilter) -> bool {
-        set_levels(self.as_mut_slice(), number, level)
+    fn reload(&mut self, number: u32, setting: Setting) -> bool {
+        reload_each(self.as_mut_slice(), number, setting)
     }
 }

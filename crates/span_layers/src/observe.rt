@@ -5,17 +5,18 @@ ghost use Rattle.span_layers.specs.Acts.{LeafActs};
 ghost use Rattle.span_layers.specs.laws.Leaf.{is_leaf, observer_laws};
 ghost use Rattle.span_layers.specs.laws.Path.{leaf_path_laws};
 ghost use Rattle.span_layers.specs.Layer.{HearsBy};
-ghost use Rattle.span_layers.specs.laws.Level.{leaf_levels};
+ghost use Rattle.span_layers.specs.laws.Reload.{leaf_reloads};
 ghost use Rattle.span_layers.specs.Observe.{ObserverStep, ObserverSteps, Observes, observer_of, open_answers, with_observer};
 ghost use Rattle.span_layers.specs.contracts.observe.Observer.{the_row};
 ghost use Rattle.span_registry.specs.Context.{HasNoRefusalsUnlessAsked, WritesExtensions, subscriber_lent};
 ghost use Rattle.span_registry.specs.Form.{Leaf};
-ghost use Rattle.span_registry.specs.Levels.{unlevelled};
+ghost use Rattle.span_registry.specs.Reload.{unreloaded};
 ghost use Rattle.span_registry.specs.Notice.{notice_of};
 
 use crate::layer::Layer;
 use span_core::{Event, Interest, LevelFilter, Metadata, Pass};
 use span_registry::{Context, ContextMut, Notice, Subscriber};
+use span_targets::Setting;
 
 /// A layer that refuses nothing and writes only the method that it needs. `Observer` makes a layer
 /// of it.
@@ -89,7 +90,7 @@ impl<S: Subscriber, T: Observe<S>> Layer<S> for Observer<T> {
 
     ghost acts_at = { LeafActs };
 
-    ghost levelled = { unlevelled };
+    ghost reloaded = { unreloaded };
 
     ghost registered = { λ x y. y ≡ x };
 
@@ -99,7 +100,7 @@ impl<S: Subscriber, T: Observe<S>> Layer<S> for Observer<T> {
 
     ghost paths = { leaf_path_laws (λ x f h. is_leaf h) };
 
-    ghost levels = { leaf_levels (observer_laws T.observed (λ x. x.observer)) };
+    ghost reloads = { leaf_reloads (observer_laws T.observed (λ x. x.observer)) };
 
     fn on_register_dispatch(&mut self) {
         // It has nothing to do.
@@ -142,7 +143,7 @@ impl<S: Subscriber, T: Observe<S>> Layer<S> for Observer<T> {
         self.observer.observe(notice, ctx);
     }
 
-    fn set_level(&mut self, _number: u32, _level: LevelFilter) -> bool {
+    fn reload(&mut self, _number: u32, _setting: Setting) -> bool {
         false // No filter is in it.
     }
 }

@@ -2,14 +2,15 @@
 ghost use Rattle.std.specs.Prelude.{IfSome};
 ghost use Rattle.span_layers.specs.Acts.{OptionActs};
 ghost use Rattle.span_layers.specs.laws.Path.{option_path_laws};
-ghost use Rattle.span_layers.specs.Levels.{OptionLevels};
-ghost use Rattle.span_layers.specs.laws.Level.{option_levels};
+ghost use Rattle.span_layers.specs.Reload.{OptionReloads};
+ghost use Rattle.span_layers.specs.laws.Reload.{option_reloads};
 ghost use Rattle.span_layers.specs.Optional.{OptionForm, OptionGoes, OptionHears, OptionSteps};
 ghost use Rattle.span_layers.specs.laws.Option.{option_laws};
 
 use crate::layer::Layer;
 use span_core::{Event, Interest, LevelFilter, Metadata, Pass};
 use span_registry::{Context, ContextMut, Notice, Subscriber};
+use span_targets::Setting;
 
 /// `None` is an absent layer: it refuses nothing, does nothing, and its hint is `OFF`. `Some` acts
 /// as the layer that it holds.
@@ -24,7 +25,7 @@ impl<S: Subscriber, L: Layer<S>> Layer<S> for Option<L> {
 
     ghost acts_at = { OptionActs L.acts_at };
 
-    ghost levelled = { OptionLevels L.levelled };
+    ghost reloaded = { OptionReloads L.reloaded };
 
     ghost registered = { OptionGoes L.registered };
 
@@ -34,7 +35,7 @@ impl<S: Subscriber, L: Layer<S>> Layer<S> for Option<L> {
 
     ghost paths = { option_path_laws L.paths };
 
-    ghost levels = { option_levels L.levels };
+    ghost reloads = { option_reloads L.reloads };
 
     fn on_register_dispatch(&mut self) {
         if let Some(layer) = self {
@@ -104,9 +105,9 @@ impl<S: Subscriber, L: Layer<S>> Layer<S> for Option<L> {
         }
     }
 
-    fn set_level(&mut self, number: u32, level: LevelFilter) -> bool {
+    fn reload(&mut self, number: u32, setting: Setting) -> bool {
         match self {
-            Some(layer) => layer.set_level(number, level),
+            Some(layer) => layer.reload(number, setting),
             None => false,
         }
     }

@@ -5,14 +5,15 @@ ghost use Rattle.span_layers.specs.laws.Leaf.{is_leaf, veto_laws};
 ghost use Rattle.span_layers.specs.laws.Path.{leaf_path_laws};
 ghost use Rattle.span_layers.specs.Idle.{IdleSteps};
 ghost use Rattle.span_layers.specs.Layer.{HearsBy};
-ghost use Rattle.span_layers.specs.laws.Level.{leaf_levels};
+ghost use Rattle.span_layers.specs.laws.Reload.{leaf_reloads};
 ghost use Rattle.span_layers.specs.Veto.{VetoForm};
-ghost use Rattle.span_registry.specs.Levels.{unlevelled};
+ghost use Rattle.span_registry.specs.Reload.{unreloaded};
 
 use crate::layer::Layer;
 use span_core::{Event, Interest, LevelFilter, Metadata, Pass};
 use span_filters::{DynFilterFn, Filter, FilterFn};
 use span_registry::{Context, ContextMut, Notice, Subscriber};
+use span_targets::Setting;
 
 /// A filter that is a layer, too. As a layer it takes no number and no level, and no hook of it is
 /// called: each of these has hooks that do nothing.
@@ -35,7 +36,7 @@ impl<S: Subscriber, F: Veto + Filter<S>> Layer<S> for F {
 
     ghost acts_at = { LeafActs };
 
-    ghost levelled = { unlevelled };
+    ghost reloaded = { unreloaded };
 
     ghost registered = { λ x y. y ≡ x };
 
@@ -45,7 +46,7 @@ impl<S: Subscriber, F: Veto + Filter<S>> Layer<S> for F {
 
     ghost paths = { leaf_path_laws (λ x f h. is_leaf h.2) };
 
-    ghost levels = { leaf_levels (veto_laws F.has_answers) };
+    ghost reloads = { leaf_reloads (veto_laws F.has_answers) };
 
     fn on_register_dispatch(&mut self) {
         // It has nothing to do.
@@ -86,7 +87,7 @@ impl<S: Subscriber, F: Veto + Filter<S>> Layer<S> for F {
     #[inline(always)]
     fn notify(&mut self, _notice: Notice<'_, '_>, _ctx: &mut ContextMut<'_, S>) {}
 
-    fn set_level(&mut self, _number: u32, _level: LevelFilter) -> bool {
+    fn reload(&mut self, _number: u32, _setting: Setting) -> bool {
         false // It has no number: what it refuses is refused for all.
     }
 }

@@ -266,7 +266,7 @@ fn asked<S: Subscriber>(dispatch: &mut Dispatch<S>, request: Request<'_>) -> Ans
         } => { Answer::of_event(dispatch.event(lane, &parent.event(&[], metadata, values))) }
         Request::Enabled(lane, metadata) => Answer::of_yes(dispatch.enabled(lane, &metadata)),
         Request::Current(lane) => Answer::of_current(dispatch.current_span(lane)),
-        Request::SetLevel(number, level) => Answer::of_done(dispatch.set_level(number, level)),
+        Request::Reload(number, setting) => Answer::of_done(dispatch.reload(number, setting)),
         _ => asked_of_span(dispatch, request),
     }
 }

@@ -306,7 +306,7 @@ fn asked<S: Subscriber, L: Crew>(
         }
         Request::Enabled(_, metadata) => Ok(shared.enabled(rt, worker, &metadata)?.1),
         Request::Current(_) => Ok(shared.current_span(rt, worker)?.1),
-        Request::SetLevel(number, level) => Ok(shared.set_level(rt, worker, number, level)?.1),
+        Request::Reload(number, setting) => Ok(shared.reload(rt, worker, number, setting)?.1),
         _ => asked_of_span(rt, shared, worker, request),
     }
 }

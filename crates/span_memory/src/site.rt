@@ -2,6 +2,7 @@
 
 use span_core::{FieldSet, Id, Kind, Lane, Level, LevelFilter, Metadata};
 use span_dispatch::{Request, Which, WhichParent};
+use span_targets::Setting;
 
 /// The lane of all that is prepared.
 pub const LANE: Lane = Lane(0);
@@ -104,7 +105,7 @@ pub(crate) fn request_named(name: &str) -> Option<Request<'static>> {
         "follows_from" => Some(Request::Follows(LANE, known(1), known(2))),
         "clone_span" => Some(Request::Clone(LANE, known(1))),
         "drop_span" => Some(Request::Drop(LANE, known(SPANS))),
-        "set_level" => Some(Request::SetLevel(0, LevelFilter::WARN)),
+        "set_level" => Some(Request::Reload(0, Setting::Level(LevelFilter::WARN))),
         "current_span" => Some(Request::Current(LANE)),
         _ => request_of_kept(name),
     }
@@ -146,7 +147,7 @@ fn request_in_vain(name: &str) -> Option<Request<'static>> {
         "enter_unknown" => Some(Request::Enter(LANE, known(0))),
         "span_in_unknown" => Some(new_span(UNKNOWN_SPAN, never)),
         "span_kept_in_unknown" => Some(new_span(KEPT_SPAN, never)),
-        "set_level_of_none" => Some(Request::SetLevel(9, LevelFilter::WARN)),
+        "set_level_of_none" => Some(Request::Reload(9, Setting::Level(LevelFilter::WARN))),
         _ => None,
     }
 }

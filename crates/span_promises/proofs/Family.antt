@@ -15,7 +15,7 @@ use Rattle.span_core.specs.declared.span.Parent.{Parent}
 use Rattle.span_dispatch.proofs.Goes.{left_aside}
 use Rattle.span_dispatch.proofs.Once.{closed_in, closing_on, never_again, onward_on}
 use Rattle.span_dispatch.specs.Cache.{KeptCallsites}
-use Rattle.span_dispatch.specs.Outcome.{HandleAdded, HandleTaken, LevelSet, Makes, Noticed, Opened, Outcome, OutcomeAt, Quiet, Steps}
+use Rattle.span_dispatch.specs.Outcome.{HandleAdded, HandleTaken, Reloaded, Makes, Noticed, Opened, Outcome, OutcomeAt, Quiet, Steps}
 use Rattle.span_dispatch.specs.Serve.{Run, StandOnce, closed_by, flat, resolved_parent}
 use Rattle.span_dispatch.specs.private.Step.{ServesRequest}
 use Rattle.span_dispatch.specs.declared.request.Answer.TheVariants as answer
@@ -30,7 +30,7 @@ use Rattle.span_store.specs.Store.{AreIssued, IsInStore, RegistryState, Span, Sp
 use Rattle.span_registry.specs.Behaviour.{OnClose, OnEvent, OnIdChange, OnNewSpan}
 use Rattle.span_registry.specs.Form.{Form}
 use Rattle.span_registry.specs.Hooks.{StackSteps}
-use Rattle.span_registry.specs.Levels.{LevelSteps}
+use Rattle.span_registry.specs.Reload.{ReloadSteps}
 use Rattle.span_promises.specs.Parents.{IsChildIn, StandsBefore, opened_by}
 use Rattle.span_promises.specs.Promises.{OpensNow, OpensUnder}
 
@@ -108,7 +108,7 @@ child_stays f (Quiet (HandleAdded id)) s t c p b issued not h =
 child_stays f (Quiet (HandleTaken id)) s t c p b issued not h =
     subst (λ (m : Spans). HasParent m c p) (sym (ap (λ (r : Store). r.spans) b.1))
     (child_with_handles _ s.spans (number_of id) c p (get s.spans (number_of id)) refl h)
-child_stays f (LevelSet n l) s t c p b issued not h = child_same s t c p (ap (λ (r : Store). r.spans) b) h
+child_stays f (Reloaded n l) s t c p b issued not h = child_same s t c p (ap (λ (r : Store). r.spans) b) h
 child_stays f other s t c p b issued not h = child_same s t c p (ap (λ (r : Store). r.spans) b.1) h
 
 -- a span that closes has no child in the store
@@ -169,29 +169,29 @@ opens_first c p (m ∷ ms) ns (inl h) = inl h
 opens_first c p (m ∷ ms) ns (inr h) = inr (opens_first c p ms ns h)
 
 module _ {S : Type 0} (registry : S → RegistryState) (with_registry : S → RegistryState → S) (has_form : S → Form → Type 0) (stepped : StackSteps S)
-    (levelled : LevelSteps S) where
+    (reloaded : ReloadSteps S) where
   abbrev Goes : S → List OutcomeAt → S → Type 0
-  Goes x ms y = FoldsTo (Makes registry with_registry has_form stepped levelled) x ms y
+  Goes x ms y = FoldsTo (Makes registry with_registry has_form stepped reloaded) x ms y
 
   -- a child in the store closes before its parent
   child_first : (c p : ℕ) (x : S) (ms : List OutcomeAt) (y : S) → Goes x ms y → AreIssued (registry x).store → HasParent (registry x).store.spans c p
       → StandsBefore p c (closed_in ms) → ⊥
   child_first c p x [] y h issued has b = b
   child_first c p x (m ∷ ms) y h issued has b =
-      let on = onward_on registry with_registry has_form stepped levelled x m h.0 h.1 in
+      let on = onward_on registry with_registry has_form stepped reloaded x m h.0 h.1 in
       let has_now = subst (λ (u : Store). HasParent u.spans c p) (sym h.1.before) has in
       let issued_now = subst (λ (u : Store). AreIssued u) (sym h.1.before) issued in
       elim (before_head m.outcome p c (closed_in ms) b) [
         | inl now ↦ childless m.form m.outcome m.before m.after c p h.1.steps now.0 has_now
         | inr later ↦ elim (closes_or_not m.outcome c) [
           | inl gone ↦
-              let out = closing_on registry with_registry has_form stepped levelled x m h.0 c h.1 gone in
-              never_again registry with_registry has_form stepped levelled h.0 ms y c h.2 (on.issued c (issued c out.0)) out.1
+              let out = closing_on registry with_registry has_form stepped reloaded x m h.0 c h.1 gone in
+              never_again registry with_registry has_form stepped reloaded h.0 ms y c h.2 (on.issued c (issued c out.0)) out.1
               (before_member p c (closed_in ms) later)
           | inr stays ↦
               let after = child_stays m.form m.outcome m.before m.after c p h.1.steps issued_now stays has_now in
               child_first c p h.0 ms y h.2 (on.sound issued)
-              (child_same m.after (registry h.0).store c p (left_aside registry with_registry has_form stepped levelled x m h.0 h.1).spans after) later
+              (child_same m.after (registry h.0).store c p (left_aside registry with_registry has_form stepped reloaded x m h.0 h.1).spans after) later
         ]
       ]
 
@@ -202,7 +202,7 @@ module _ {S : Type 0} (registry : S → RegistryState) (with_registry : S → Re
   gone_parent c p x (m ∷ ms) y h issued out (inl o) =
       out (subst (λ (u : Store). IsInStore u.spans p) h.1.before (names_parent m.form m.outcome m.before m.after c p h.1.steps o.0 o.1))
   gone_parent c p x (m ∷ ms) y h issued out (inr o) =
-      let on = onward_on registry with_registry has_form stepped levelled x m h.0 h.1 in
+      let on = onward_on registry with_registry has_form stepped reloaded x m h.0 h.1 in
       gone_parent c p h.0 ms y h.2 (on.issued p issued) (λ there. out (on.back p there issued)) o
 
   -- so of what was opened under a parent the close comes before the parent's
@@ -210,16 +210,16 @@ module _ {S : Type 0} (registry : S → RegistryState) (with_registry : S → Re
       → StandsBefore p c (closed_in ms) → ⊥
   parent_last c p x [] y h issued o b = o
   parent_last c p x (m ∷ ms) y h issued (inl o) b =
-      let on = onward_on registry with_registry has_form stepped levelled x m h.0 h.1 in
+      let on = onward_on registry with_registry has_form stepped reloaded x m h.0 h.1 in
       let there = parent_there m.after.spans c p o.1 in
       child_first c p h.0 ms y h.2 (on.sound issued)
-      (child_same m.after (registry h.0).store c p (left_aside registry with_registry has_form stepped levelled x m h.0 h.1).spans there)
+      (child_same m.after (registry h.0).store c p (left_aside registry with_registry has_form stepped reloaded x m h.0 h.1).spans there)
       (subst (StandsBefore p c) (opens_alone m.outcome c (closed_in ms) o.0) b)
   parent_last c p x (m ∷ ms) y h issued (inr o) b =
-      let on = onward_on registry with_registry has_form stepped levelled x m h.0 h.1 in
+      let on = onward_on registry with_registry has_form stepped reloaded x m h.0 h.1 in
       elim (before_head m.outcome p c (closed_in ms) b) [
         | inl now ↦
-            let out = closing_on registry with_registry has_form stepped levelled x m h.0 p h.1 now.0 in
+            let out = closing_on registry with_registry has_form stepped reloaded x m h.0 p h.1 now.0 in
             gone_parent c p h.0 ms y h.2 (on.issued p (issued p out.0)) out.1 o
         | inr later ↦ parent_last c p h.0 ms y h.2 (on.sound issued) o later
       ]
@@ -236,7 +236,7 @@ module _ {S : Type 0} (registry : S → RegistryState) (with_registry : S → Re
 
   opens_now : (past : List Answer) (r : Request) (a : Answer) (ms : List OutcomeAt) (kept : KeptCallsites) (x : S) (after : KeptCallsites) (y : S)
       (child pid : Id)
-      → ServesRequest registry with_registry has_form stepped levelled past r kept x a ms after y → OpensNow past r a child pid
+      → ServesRequest registry with_registry has_form stepped reloaded past r kept x a ms after y → OpensNow past r a child pid
       → IsChildIn (number_of child) (number_of pid) ms
   opens_now past (request.NewSpan lane m (asked.Explicit which) values) (answer.Made id) ms kept x after y child pid h o =
       subst (λ c. IsChildIn c (number_of pid) ms) (ap number_of o.0)
@@ -247,7 +247,7 @@ module _ {S : Type 0} (registry : S → RegistryState) (with_registry : S → Re
   -- what requests name as a parent is so in what was made of them
   pub opens_made : (past : List Answer) (rs : List Request) (answers : List Answer) (made : List (List OutcomeAt)) (kept : KeptCallsites) (x : S)
       (after : KeptCallsites) (y : S) (child pid : Id)
-      → Run registry with_registry has_form stepped levelled past rs answers made kept x after y → OpensUnder past rs answers child pid
+      → Run registry with_registry has_form stepped reloaded past rs answers made kept x after y → OpensUnder past rs answers child pid
       → IsChildIn (number_of child) (number_of pid) (flat made)
   opens_made past (r ∷ rs) (a ∷ answers) (ms ∷ made) kept x after y child pid h (inl now) =
       opens_first (number_of child) (number_of pid) ms (flat made) (opens_now past r a ms kept x h.0 h.1 child pid h.2 now)

@@ -7,7 +7,7 @@ use Rattle.span_dispatch.specs.Contract.{SubscriberOf}
 use Rattle.span_dispatch.specs.Outcome.{Outcome}
 use Rattle.span_store.specs.Store.{Store}
 use Rattle.span_registry.specs.Conducts.{Conducts, StackPathLaws}
-use Rattle.span_registry.specs.Levels.{LevelLaws}
+use Rattle.span_registry.specs.Reload.{ReloadLaws}
 use Rattle.span_registry.specs.Position.{Heard}
 use Rattle.span_promises.specs.Isolation.{MadeIn, OutcomesSeenTheSame, SeeTheSame, ServedIn, Sight}
 
@@ -40,7 +40,7 @@ module _ {S : Type 0} (s : SubscriberOf S) where
   PathsOf = StackPathLaws s.with_registry s.has_form s.stepped s.registered s.acts_at
 
   abbrev pub LevelsOf : Type 0
-  LevelsOf = LevelLaws s.has_form s.levelled s.hears s.acts_at
+  LevelsOf = ReloadLaws s.has_form s.reloaded s.hears s.acts_at
 
   -- so whatever is seen in a stack is seen alone
   seen_made : PathsOf → LevelsOf → IsSeenAlone (MadeIn s)

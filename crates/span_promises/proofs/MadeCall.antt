@@ -8,7 +8,7 @@ use Rattle.std.specs.FinMap.{get}
 use Rattle.std.specs.List.{FoldsTo}
 use Rattle.span_core.specs.Filters.{FilterSet}
 use Rattle.span_core.specs.Span.{number_of}
-use Rattle.span_core.specs.declared.level.LevelFilter.{LevelFilter}
+use Rattle.span_targets.specs.declared.setting.Setting.{Setting}
 use Rattle.span_core.specs.declared.span.Lane.{Lane}
 use Rattle.span_dispatch.proofs.Acting.{acting_numbers, alone_over, none_within, paths_itself, step_over, steps_agree}
 use Rattle.span_dispatch.proofs.Alone.{agree_same, steps_alone}
@@ -18,9 +18,9 @@ use Rattle.span_dispatch.specs.Call.{OutcomesOf}
 use Rattle.span_dispatch.specs.private.Step.{closes_of}
 use Rattle.span_dispatch.specs.Contract.{SubscriberOf}
 use Rattle.span_dispatch.specs.declared.call.Call.TheVariants.{AddHandle, AskCurrent, DropHandle, Enter, Exit, Follow, OpenSpan, Probe, RecordValues, SendEvent}
-use Rattle.span_dispatch.specs.declared.call.Call.TheVariants.{SetLevel}
+use Rattle.span_dispatch.specs.declared.call.Call.TheVariants.{Reload}
 use Rattle.span_dispatch.specs.declared.call.Call.{Call}
-use Rattle.span_dispatch.specs.Outcome.{HandleTaken, LevelSet, OutcomeAt, Makes, Noticed, Outcome, Quiet, Steps}
+use Rattle.span_dispatch.specs.Outcome.{HandleTaken, Reloaded, OutcomeAt, Makes, Noticed, Outcome, Quiet, Steps}
 use Rattle.span_dispatch.specs.Cache.{KeptCallsites}
 use Rattle.span_dispatch.specs.Serve.{Run, ServesAsked, call_of, flat, kept_by, outcome_of, stack_of}
 use Rattle.span_dispatch.specs.declared.request.Answer.TheVariants as answer
@@ -30,7 +30,7 @@ use Rattle.span_store.specs.Closes.{Closes}
 use Rattle.span_store.specs.Store.{IsClosing, IsInStore, IsOpen, Span, Spans, Store}
 use Rattle.span_registry.proofs.Agreeing.{agree_refl, agree_sym, agree_trans, agree_within, closes_alike, not_open_alike, open_alike}
 use Rattle.span_registry.specs.Agree.{AgreeAt}
-use Rattle.span_registry.specs.Conducts.{Conducts, after_level, filter_numbered, numbers_in, setting}
+use Rattle.span_registry.specs.Conducts.{Conducts, after_reload, filter_numbered, numbers_in, reloading}
 use Rattle.span_registry.specs.Hooks.{no_filter}
 use Rattle.span_registry.specs.Position.{Heard}
 use Rattle.span_promises.proofs.Isolation.{PathsOf, one_alone}
@@ -105,12 +105,12 @@ in_effect (AskCurrent lane) (answer.Refused y) s os = either_way
 in_effect (AskCurrent lane) answer.Done s os = either_way
 in_effect (AskCurrent lane) (answer.Yes b) s os = either_way
 in_effect (AskCurrent lane) (answer.Current o) s os = either_way
-in_effect (SetLevel n l) (answer.Made y) s os = either_way
-in_effect (SetLevel n l) answer.Dropped s os = either_way
-in_effect (SetLevel n l) (answer.Refused y) s os = either_way
-in_effect (SetLevel n l) answer.Done s os = either_way
-in_effect (SetLevel n l) (answer.Yes b) s os = either_way
-in_effect (SetLevel n l) (answer.Current o) s os = either_way
+in_effect (Reload n l) (answer.Made y) s os = either_way
+in_effect (Reload n l) answer.Dropped s os = either_way
+in_effect (Reload n l) (answer.Refused y) s os = either_way
+in_effect (Reload n l) answer.Done s os = either_way
+in_effect (Reload n l) (answer.Yes b) s os = either_way
+in_effect (Reload n l) (answer.Current o) s os = either_way
 
 -- what has outcomes on the one store has the same on one that agrees
 effect_over : (e : Effect) (numbers : FilterSet) (s t : Store) (os : List Outcome) → AgreeAt numbers s t → HasOutcomes e s os → HasOutcomes e t os
@@ -208,8 +208,8 @@ module _ (while : InStoreWhile) (never : NeverBoth) (once : OneClosure) where
 
 -- ---- outcomes that concern some filters
 
-by_level : (b : Bool) (n : ℕ) (l : LevelFilter) (os : List Outcome) (s u t : Store) → u ≡ s → GoesThrough u os t
-    → GoesThrough s (cond b (LevelSet n l ∷ os) os) t
+by_level : (b : Bool) (n : ℕ) (l : Setting) (os : List Outcome) (s u t : Store) → u ≡ s → GoesThrough u os t
+    → GoesThrough s (cond b (Reloaded n l ∷ os) os) t
 by_level true n l os s u t e h = (u, e, h)
 by_level false n l os s u t e h = subst (λ (v : Store). GoesThrough v os t) e h
 
@@ -217,7 +217,7 @@ through_concerning : (numbers : FilterSet) (os : List Outcome) (s t : Store) →
 through_concerning numbers [] s t h = h
 through_concerning numbers (Noticed lane e ∷ os) s t h = (h.0, h.1, through_concerning numbers os h.0 t h.2)
 through_concerning numbers (Quiet c ∷ os) s t h = (h.0, h.1, through_concerning numbers os h.0 t h.2)
-through_concerning numbers (LevelSet n l ∷ os) s t h =
+through_concerning numbers (Reloaded n l ∷ os) s t h =
     by_level (numbers n) n l (filter (concerns numbers) os) s h.0 t h.1 (through_concerning numbers os h.0 t h.2)
 
 closes_concern : (numbers : FilterSet) (lane : Lane) (closed : List ℕ) → filter (concerns numbers) (closes_of lane closed) ≡ closes_of lane closed
@@ -258,20 +258,20 @@ by_concern numbers call a s t all os calls false e h through rest =
 
 module _ {S : Type 0} (s : SubscriberOf S) where
   abbrev MakesOne : S → OutcomeAt → S → Type 0
-  MakesOne x m y = Makes s.registry s.with_registry s.has_form s.stepped s.levelled x m y
+  MakesOne x m y = Makes s.registry s.with_registry s.has_form s.stepped s.reloaded x m y
 
   abbrev Serves : Option Call → KeptCallsites → S → Answer → List OutcomeAt → KeptCallsites → S → Type 0
-  Serves o kept x a ms after y = ServesAsked s.registry s.with_registry s.has_form s.stepped s.levelled o kept x a ms after y
+  Serves o kept x a ms after y = ServesAsked s.registry s.with_registry s.has_form s.stepped s.reloaded o kept x a ms after y
 
   abbrev Runs : List Answer → List Request → List Answer → List (List OutcomeAt) → KeptCallsites → S → KeptCallsites → S → Type 0
-  Runs past rs answers made kept x after y = Run s.registry s.with_registry s.has_form s.stepped s.levelled past rs answers made kept x after y
+  Runs past rs answers made kept x after y = Run s.registry s.with_registry s.has_form s.stepped s.reloaded past rs answers made kept x after y
 
   -- an outcome leaves the store that it leaves without any filter, as far as no filter goes
   made_bare : (x : S) (m : OutcomeAt) (y : S) → MakesOne x m y
       → (t : Store) × Steps (form_of_path []) m.outcome (s.registry x).store t × AgreeAt no_filter (s.registry y).store t
   made_bare x m y h =
       let step = steps_alone m.form [] (λ meta before q v said k. refl) m.outcome m.before m.after h.steps in
-      let left = left_aside s.registry s.with_registry s.has_form s.stepped s.levelled x m y h in
+      let left = left_aside s.registry s.with_registry s.has_form s.stepped s.reloaded x m y h in
       let near = agree_sym no_filter m.after (s.registry y).store (agree_same no_filter m.after (s.registry y).store left) in (
         step.0,
         subst (λ (u : Store). Steps (form_of_path []) m.outcome u step.0) h.before step.1,
@@ -321,16 +321,17 @@ module _ {S : Type 0} (s : SubscriberOf S) where
 -- ---- what a leaf sees of calls
 
 -- a level that no filter on the path takes makes no difference to them
-setting_other : (n : ℕ) (l : LevelFilter) (cs : Conducts) → numbers_in cs n ≡ false → setting n l cs ≡ cs
-setting_other n l [] h = refl
-setting_other n l ((None, b) ∷ cs) h = ap (λ ds. (None, b) ∷ ds) (setting_other n l cs h)
-setting_other n l ((Some m, b) ∷ cs) h =
+reloading_other : (n : ℕ) (l : Setting) (cs : Conducts) → numbers_in cs n ≡ false → reloading n l cs ≡ cs
+reloading_other n l [] h = refl
+reloading_other n l ((None, b) ∷ cs) h = ap (λ ds. (None, b) ∷ ds) (reloading_other n l cs h)
+reloading_other n l ((Some m, b) ∷ cs) h =
     let parts = or_parts (filter_numbered (Some m) n) (numbers_in cs n) h in
-    ap (λ p. if p then (Some m, after_level l b) ∷ cs else (Some m, b) ∷ setting n l cs) parts.0 ∙ ap (λ ds. (Some m, b) ∷ ds) (setting_other n l cs parts.1)
+    ap (λ p. if p then (Some m, after_reload l b) ∷ cs else (Some m, b) ∷ reloading n l cs) parts.0
+    ∙ ap (λ ds. (Some m, b) ∷ ds) (reloading_other n l cs parts.1)
 
-level_concerning : (b : Bool) (numbers : FilterSet) (cs : Conducts) (s : Store) (n : ℕ) (l : LevelFilter) (os : List Outcome) (h : Heard)
-    → (b ≡ false → setting n l cs ≡ cs) → (a : Alone cs s (LevelSet n l ∷ os) h) → Alone (setting n l cs) a.0 (filter (concerns numbers) os) a.1
-    → Alone cs s (cond b (LevelSet n l ∷ filter (concerns numbers) os) (filter (concerns numbers) os)) h
+level_concerning : (b : Bool) (numbers : FilterSet) (cs : Conducts) (s : Store) (n : ℕ) (l : Setting) (os : List Outcome) (h : Heard)
+    → (b ≡ false → reloading n l cs ≡ cs) → (a : Alone cs s (Reloaded n l ∷ os) h) → Alone (reloading n l cs) a.0 (filter (concerns numbers) os) a.1
+    → Alone cs s (cond b (Reloaded n l ∷ filter (concerns numbers) os) (filter (concerns numbers) os)) h
 level_concerning true numbers cs s n l os h same a rest = (a.0, a.1, a.2, rest, a.4)
 level_concerning false numbers cs s n l os h same a rest =
     let own = subst (λ (ds : Conducts). Alone ds a.0 (filter (concerns numbers) os) a.1) (same refl) rest in
@@ -343,9 +344,9 @@ alone_concerning numbers cs s [] h e a = a
 alone_concerning numbers cs s (Noticed lane n ∷ os) h e a =
     (a.0, a.1, a.2, alone_concerning numbers (acting cs (Noticed lane n) s a.0) a.0 os a.1 (acting_numbers cs (Noticed lane n) s a.0 ∙ e) a.3, a.4)
 alone_concerning numbers cs s (Quiet c ∷ os) h e a = (a.0, a.1, a.2, alone_concerning numbers cs a.0 os a.1 e a.3, a.4)
-alone_concerning numbers cs s (LevelSet n l ∷ os) h e a =
-    level_concerning (numbers n) numbers cs s n l os h (λ none. setting_other n l cs ((λ i. e i n) ∙ none)) a
-    (alone_concerning numbers (setting n l cs) a.0 os a.1 (acting_numbers cs (LevelSet n l) s a.0 ∙ e) a.3)
+alone_concerning numbers cs s (Reloaded n l ∷ os) h e a =
+    level_concerning (numbers n) numbers cs s n l os h (λ none. reloading_other n l cs ((λ i. e i n) ∙ none)) a
+    (alone_concerning numbers (reloading n l cs) a.0 os a.1 (acting_numbers cs (Reloaded n l) s a.0 ∙ e) a.3)
 
 module _ {S : Type 0} (s : SubscriberOf S) (paths : PathsOf s) where
   -- what a leaf sees of served requests it sees of their made calls alone

@@ -22,7 +22,7 @@ use Rattle.span_dispatch.specs.Outcome.{HandleAdded, HandleTaken, Makes, Noticed
 use Rattle.span_dispatch.specs.Serve.{Serves}
 use Rattle.span_dispatch.specs.declared.call.Call.{Call}
 use Rattle.span_dispatch.specs.declared.call.Call.TheVariants.{AddHandle, AskCurrent, DropHandle, Enter, Exit, Follow, OpenSpan, Probe, RecordValues, SendEvent}
-use Rattle.span_dispatch.specs.declared.call.Call.TheVariants.{SetLevel}
+use Rattle.span_dispatch.specs.declared.call.Call.TheVariants.{Reload}
 use Rattle.span_dispatch.specs.declared.request.Answer.TheVariants as answer
 use Rattle.span_dispatch.specs.declared.request.Answer.{Answer}
 use Rattle.span_stacks.specs.Verdict.{vetoes}
@@ -32,7 +32,7 @@ use Rattle.span_store.specs.Store.{IsHeld, IsInStore, IsOpen, RegistryState, Spa
 use Rattle.span_registry.specs.Behaviour.{OnEnter, OnFollows, OnRecord}
 use Rattle.span_registry.specs.Form.{Form}
 use Rattle.span_registry.specs.Hooks.{StackSteps}
-use Rattle.span_registry.specs.Levels.{LevelSteps}
+use Rattle.span_registry.specs.Reload.{ReloadSteps}
 use Rattle.span_promises.specs.Answers.{AnswersAreOne, HadMemory, IsSameAnswer}
 
 -- ---- why something is refused, want of memory aside
@@ -181,7 +181,7 @@ IsKind (RecordValues lane id values) answer.Done = ⊤
 IsKind (Follow lane id other) answer.Done = ⊤
 IsKind (AddHandle lane id) answer.Done = ⊤
 IsKind (DropHandle lane id) (answer.Yes closes) = ⊤
-IsKind (SetLevel n l) answer.Done = ⊤
+IsKind (Reload n l) answer.Done = ⊤
 IsKind (Probe lane m) (answer.Yes said) = ⊤
 IsKind (AskCurrent lane) (answer.Current o) = ⊤
 IsKind call answer.Dropped = ⊤
@@ -197,7 +197,7 @@ kind_of (RecordValues lane id values) answer.Done s os h = tt
 kind_of (Follow lane id other) answer.Done s os h = tt
 kind_of (AddHandle lane id) answer.Done s os h = tt
 kind_of (DropHandle lane id) (answer.Yes closes) s os h = tt
-kind_of (SetLevel n l) answer.Done s os h = tt
+kind_of (Reload n l) answer.Done s os h = tt
 kind_of (Probe lane m) (answer.Yes said) s os h = tt
 kind_of (AskCurrent lane) (answer.Current o) s os h = tt
 kind_of call answer.Dropped s os h = tt
@@ -216,16 +216,16 @@ Facts (DropHandle lane id) (answer.Yes closes) s = IsHeld s.store.spans (number_
 Facts call a s = ⊤
 
 module _ {S : Type 0} (registry : S → RegistryState) (with_registry : S → RegistryState → S) (has_form : S → Form → Type 0) (stepped : StackSteps S)
-    (levelled : LevelSteps S) where
+    (reloaded : ReloadSteps S) where
   first_step : (x : S) (made : List OutcomeAt) (y : S) (o : Outcome) (os : List Outcome) → map (λ m. m.outcome) made ≡ o ∷ os
-      → FoldsTo (Makes registry with_registry has_form stepped levelled) x made y → (f : Form) × (t : Store) × Steps f o (registry x).store t
+      → FoldsTo (Makes registry with_registry has_form stepped reloaded) x made y → (f : Form) × (t : Store) × Steps f o (registry x).store t
   first_step x [] y o os e h = let no : ⊥ = cc in absurd no
   first_step x (m ∷ made) y o os e h =
       let same : m.outcome ≡ o = cc in
       (m.form, m.after, subst (λ s. Steps m.form o s m.after) h.1.before (subst (λ p. Steps m.form p m.before m.after) same h.1.steps))
 
   pub facts_of : (call : Call) (f : Form) (kept : KeptCallsites) (x : S) (a : Answer) (made : List OutcomeAt) (after : KeptCallsites) (y : S)
-      → Serves registry with_registry has_form stepped levelled call f kept x a made after y → Facts call a (registry x)
+      → Serves registry with_registry has_form stepped reloaded call f kept x a made after y → Facts call a (registry x)
   facts_of (Enter lane id) f kept x answer.Done made after y h = (first_step x made y (Noticed lane (OnEnter id)) [] h.says h.goes).2.0
   facts_of (RecordValues lane id values) f kept x answer.Done made after y h = (first_step x made y (Noticed lane (OnRecord id values)) [] h.says h.goes).2.0
   facts_of (Follow lane id other) f kept x answer.Done made after y h = (first_step x made y (Noticed lane (OnFollows id other)) [] h.says h.goes).2.0
@@ -242,7 +242,7 @@ module _ {S : Type 0} (registry : S → RegistryState) (with_registry : S → Re
   facts_of (DropHandle lane id) f kept x other made after y h = tt
   facts_of (Probe lane m) f kept x a made after y h = tt
   facts_of (AskCurrent lane) f kept x a made after y h = tt
-  facts_of (SetLevel n l) f kept x a made after y h = tt
+  facts_of (Reload n l) f kept x a made after y h = tt
 
 -- ---- one answer
 
@@ -408,27 +408,27 @@ module _ (once : (m : Spans) (x : ℕ) (xs ys : List ℕ) → Closes m x xs → 
   one (AskCurrent lane) (answer.Current a) other c d u v i j h p k q = absurd j
   one (AskCurrent lane) (answer.Refused x) other c d u v i j h p k q = absurd h.1
   one (AskCurrent lane) answer.Dropped other c d u v i j h p k q = absurd h.1
-  one (SetLevel n l) answer.Done answer.Done c d u v i j h p k q = refl
-  one (SetLevel n l) answer.Done (answer.Refused e) c d u v i j h p k q = absurd (true≢false (sym h.1 ∙ k.1.1))
-  one (SetLevel n l) answer.Done answer.Dropped c d u v i j h p k q = absurd k.1
-  one (SetLevel n l) answer.Done other c d u v i j h p k q = absurd j
-  one (SetLevel n l) (answer.Refused x) answer.Done c d u v i j h p k q = absurd (true≢false (sym k.1 ∙ h.1.1))
-  one (SetLevel n l) (answer.Refused x) (answer.Refused e) c d u v i j h p k q = ap (λ z. answer.Refused z) (h.1.0 ∙ sym k.1.0)
-  one (SetLevel n l) (answer.Refused x) answer.Dropped c d u v i j h p k q = absurd k.1
-  one (SetLevel n l) (answer.Refused x) other c d u v i j h p k q = absurd j
-  one (SetLevel n l) answer.Dropped other c d u v i j h p k q = absurd h.1
+  one (Reload n l) answer.Done answer.Done c d u v i j h p k q = refl
+  one (Reload n l) answer.Done (answer.Refused e) c d u v i j h p k q = absurd (true≢false (sym h.1 ∙ k.1.1))
+  one (Reload n l) answer.Done answer.Dropped c d u v i j h p k q = absurd k.1
+  one (Reload n l) answer.Done other c d u v i j h p k q = absurd j
+  one (Reload n l) (answer.Refused x) answer.Done c d u v i j h p k q = absurd (true≢false (sym k.1 ∙ h.1.1))
+  one (Reload n l) (answer.Refused x) (answer.Refused e) c d u v i j h p k q = ap (λ z. answer.Refused z) (h.1.0 ∙ sym k.1.0)
+  one (Reload n l) (answer.Refused x) answer.Dropped c d u v i j h p k q = absurd k.1
+  one (Reload n l) (answer.Refused x) other c d u v i j h p k q = absurd j
+  one (Reload n l) answer.Dropped other c d u v i j h p k q = absurd h.1
   one call other b c d u v i j h p k q = absurd i
 
 -- two servings of one call
 pub answers_one : {S T : Type 0} {registry : S → RegistryState} {with_registry : S → RegistryState → S} {has_form : S → Form → Type 0}
-    {stepped : StackSteps S} {levelled : LevelSteps S} {other : T → RegistryState} {with_other : T → RegistryState → T} {other_form : T → Form → Type 0}
-    {other_steps : StackSteps T} {other_levels : LevelSteps T}
+    {stepped : StackSteps S} {reloaded : ReloadSteps S} {other : T → RegistryState} {with_other : T → RegistryState → T} {other_form : T → Form → Type 0}
+    {other_steps : StackSteps T} {other_levels : ReloadSteps T}
     → ((m : Spans) (x : ℕ) (xs ys : List ℕ) → Closes m x xs → Closes m x ys → xs ≡ ys)
-    → AnswersAreOne registry other (Serves registry with_registry has_form stepped levelled) (Serves other with_other other_form other_steps other_levels)
-answers_one {registry = registry} {with_registry = with_registry} {has_form = has_form} {stepped = stepped} {levelled = levelled} {other = other}
+    → AnswersAreOne registry other (Serves registry with_registry has_form stepped reloaded) (Serves other with_other other_form other_steps other_levels)
+answers_one {registry = registry} {with_registry = with_registry} {has_form = has_form} {stepped = stepped} {reloaded = reloaded} {other = other}
     {with_other = with_other} {other_form = other_form} {other_steps = other_steps} {other_levels = other_levels}
     law call f kept after later x y z w a b made more same h k u v =
-    let facts = facts_of registry with_registry has_form stepped levelled call f kept x a made after y h in
+    let facts = facts_of registry with_registry has_form stepped reloaded call f kept x a made after y h in
     let others = facts_of other with_other other_form other_steps other_levels call f kept z b more later w k in
     one law f kept (registry x) call a b after later u v (kind_of call a (registry x).store _ h.says) (kind_of call b (other z).store _ k.says) h.answers facts
     (subst (λ s. AnswersWith call kept f s b later) (sym same) k.answers) (subst (Facts call b) (sym same) others)

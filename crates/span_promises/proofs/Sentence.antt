@@ -62,8 +62,8 @@ where_served (Err e) h k = tt
 -- `run`: of any stack, a parent closes last
 pub parents_last : {S : Type 0} (s : SubscriberOf S) → ParentsCloseLast s
 parents_last s requests answers old new h child parent issued opens =
-    parent_last s.registry s.with_registry s.has_form s.stepped s.levelled child parent (stack_of old) (flat h.made) (stack_of new)
-    (run_folds s.registry s.with_registry s.has_form s.stepped s.levelled [] requests answers h.made (kept_by old) (stack_of old) (kept_by new)
+    parent_last s.registry s.with_registry s.has_form s.stepped s.reloaded child parent (stack_of old) (flat h.made) (stack_of new)
+    (run_folds s.registry s.with_registry s.has_form s.stepped s.reloaded [] requests answers h.made (kept_by old) (stack_of old) (kept_by new)
     (stack_of new) h.run)
     issued opens
 

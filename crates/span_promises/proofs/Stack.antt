@@ -6,11 +6,12 @@ use Rattle.span_core.specs.Filters.{FilterSet}
 use Rattle.span_core.specs.declared.filter.FilterId.{FilterId}
 use Rattle.span_core.specs.declared.filter.TheConstants.FilterId.{LIMIT}
 use Rattle.span_core.specs.declared.level.LevelFilter.{LevelFilter}
+use Rattle.span_targets.specs.declared.setting.Setting.{Setting}
 use Rattle.span_dispatch.specs.Fixed.{set_at}
 use Rattle.span_dispatch.specs.Recorder.{RecorderState, new_recorder, recorder_steps}
 use Rattle.span_dispatch.specs.Serve.{IsReady}
 use Rattle.span_filters.specs.Filter.{settled_answers, unmoved}
-use Rattle.span_filters.specs.Level.{ActsByLevel, level_answers, level_taken}
+use Rattle.span_filters.specs.Level.{ActsByLevel, answers_set, level_answers, level_taken}
 use Rattle.span_filters.specs.laws.Level.{level_honest}
 use Rattle.span_stacks.proofs.CallerLemmas.{bare_stands, stands_on}
 use Rattle.span_layers.specs.Acts.{LeafActs}
@@ -20,11 +21,11 @@ use Rattle.span_stacks.specs.Honest.{IsBuiltLayer, IsHonestLayer, IsHonestStack}
 use Rattle.span_layers.specs.Layer.{HearsBy, LayerSteps}
 use Rattle.span_layers.specs.Parts.{PartsForm}
 use Rattle.span_stacks.specs.Layered.{LayeredSteps, PairSteps, inner_of, outer_of, with_inner}
-use Rattle.span_stacks.specs.Levels.{LevelsIf}
+use Rattle.span_stacks.specs.Reload.{ReloadsIf}
 use Rattle.span_layers.specs.Number.{TakesNumbers, filters_in}
 use Rattle.span_layers.specs.Observe.{open_answers}
-use Rattle.span_stacks.specs.Stands.{another, bare_hears, bare_steps, base_form, filtered_acts, filtered_form, filtered_hears, filtered_levels, filtered_steps}
-use Rattle.span_stacks.specs.Stands.{itself, stack_acts, stack_form, stack_hears, stack_levels, stack_steps}
+use Rattle.span_stacks.specs.Stands.{another, bare_hears, bare_steps, base_form, filtered_acts, filtered_form, filtered_hears, filtered_reloads, filtered_steps}
+use Rattle.span_stacks.specs.Stands.{itself, stack_acts, stack_form, stack_hears, stack_reloads, stack_steps}
 use Rattle.span_stacks.specs.Verdict.{NumbersStayOwn}
 use Rattle.span_stacks.specs.declared.layered.Layered.{Layered}
 use Rattle.span_layers.specs.laws.Leaf.{open_honest}
@@ -36,12 +37,15 @@ use Rattle.span_registry.specs.Behaviour.{Notice, OnClose, OnEnter, OnEvent, OnE
 use Rattle.span_registry.specs.Conducts.{ActsAt, filter_numbered, no_conducts}
 use Rattle.span_registry.specs.Form.{Arrangement, Base, Filtered, Form, InPair, Leaf, OnSubscriber, Parts, Terminal}
 use Rattle.span_registry.specs.Hooks.{StackSteps, no_filter}
-use Rattle.span_registry.specs.Levels.{LevelSteps, unlevelled}
+use Rattle.span_registry.specs.Reload.{ReloadSteps, unreloaded}
 use Rattle.span_registry.specs.Plan.{Both, Nobody, Plan, Through}
 use Rattle.span_registry.specs.Position.{HearSteps, Here, Inner, Outer, Position, Under}
 use Rattle.span_promises.specs.Begins.{BeginsWith, IsNewUnder}
 use Rattle.span_promises.specs.Promises.{Levels}
 use Rattle.span_promises.specs.Two.{One, Two}
+use Rattle.span_targets.specs.Setting.{level_in}
+use Rattle.span_targets.specs.declared.setting.Setting.TheVariants.{Directives, Level}
+use Rattle.std.specs.Option.{unwrap_or}
 
 -- ---- what the types say
 
@@ -57,8 +61,8 @@ one_steps = filtered_steps unmoved recorder_steps
 abbrev one_hears : HearSteps One
 one_hears = filtered_hears (HearsBy recorder_steps)
 
-abbrev one_levels : LevelSteps One
-one_levels = filtered_levels level_taken unlevelled
+abbrev one_reloads : ReloadSteps One
+one_reloads = filtered_reloads level_taken unreloaded
 
 abbrev one_acts : ActsAt One
 one_acts = filtered_acts ActsByLevel LeafActs
@@ -78,8 +82,8 @@ two_form = stack_form pair_form base_form
 abbrev pub two_steps : StackSteps Two
 two_steps = stack_steps another pair_steps bare_steps
 
-abbrev pub two_levels : LevelSteps Two
-two_levels = stack_levels (stack_levels one_levels one_levels) unlevelled
+abbrev pub two_levels : ReloadSteps Two
+two_levels = stack_reloads (stack_reloads one_reloads one_reloads) unreloaded
 
 abbrev pub two_hears : HearSteps Two
 two_hears = stack_hears (stack_hears one_hears one_hears) bare_hears
@@ -193,36 +197,49 @@ aside x f w s = record { over = s.over; below = s.below; form = s.form }
 
 -- ---- and where a level is set, as that says
 
-level_if : (t : Bool) (f : LevelFilter) (x : RecorderState) (n : ℕ) (l g : LevelFilter) (y : RecorderState) → LevelsIf level_taken unlevelled t f x n l g y
-    → g ≡ (if t then l else f)
+level_if : (t : Bool) (f : LevelFilter) (x : RecorderState) (n : ℕ) (l : Setting) (g : LevelFilter) (y : RecorderState)
+    → ReloadsIf level_taken unreloaded t f x n l g y
+    → g ≡ (if t then unwrap_or (level_in l) f else f)
 level_if true f x n l g y h = h.0
 level_if false f x n l g y h = h.0
 
-one_set : (k : ℕ) (x : One) (n : ℕ) (l : LevelFilter) (y : One) → IsNumber (id_of x) (Some k) → one_levels x n l y → (id_of y ≡ id_of x)
-    × (filter_of y ≡ (if filter_numbered (Some k) n then l else filter_of x))
-one_set k x n l y s h =
-    (h.0, level_if _ (filter_of x) (layer_of x) n l (filter_of y) (layer_of y) h.1 ∙ ap (λ (set : FilterSet). if set n then l else filter_of x) s.1)
+one_set : (k : ℕ) (x : One) (n : ℕ) (l : Setting) (y : One) → IsNumber (id_of x) (Some k) → one_reloads x n l y → (id_of y ≡ id_of x)
+    × (filter_of y ≡ (if filter_numbered (Some k) n then unwrap_or (level_in l) (filter_of x) else filter_of x))
+one_set k x n l y s h = (
+  h.0,
+  level_if _ (filter_of x) (layer_of x) n l (filter_of y) (layer_of y) h.1
+      ∙ ap (λ (set : FilterSet). if set n then unwrap_or (level_in l) (filter_of x) else filter_of x) s.1,
+)
 
--- the levels, where the filter with this number takes this one
-abbrev pub levels_set : Levels → ℕ → LevelFilter → Levels
-levels_set now n l = (if filter_numbered (Some 0) n then l else now.0, if filter_numbered (Some 1) n then l else now.1)
+-- the levels, where the filter with this number was to take this setting
+abbrev pub levels_set : Levels → ℕ → Setting → Levels
+levels_set now n l = (
+  if filter_numbered (Some 0) n then unwrap_or (level_in l) now.0 else now.0,
+  if filter_numbered (Some 1) n then unwrap_or (level_in l) now.1 else now.1,
+)
 
-pub form_set : (now : Levels) (n : ℕ) (l : LevelFilter) → set_at n l (form_by now) ≡ form_by (levels_set now n l)
+-- what a filter by level then answers
+set_answers : (l : Setting) (f : LevelFilter) → answers_set l (level_answers f) ≡ level_answers (unwrap_or (level_in l) f)
+set_answers (Level k) f = refl
+set_answers (Directives d) f = refl
+
+pub form_set : (now : Levels) (n : ℕ) (l : Setting) → set_at n l (form_by now) ≡ form_by (levels_set now n l)
 form_set now n l = by_test (filter_numbered (Some 0) n) (filter_numbered (Some 1) n)
   where
     one_by : (t : Bool) (m : ℕ) (f : LevelFilter)
-        → (if t then Filtered (Some m) (level_answers l) leaf else Filtered (Some m) (level_answers f) leaf) ≡ Filtered (Some m)
-        (level_answers (if t then l else f)) leaf
-    one_by true m f = refl
+        → (if t then Filtered (Some m) (answers_set l (level_answers f)) leaf else Filtered (Some m) (level_answers f) leaf) ≡ Filtered (Some m)
+        (level_answers (if t then unwrap_or (level_in l) f else f)) leaf
+    one_by true m f = ap (λ a. Filtered (Some m) a leaf) (set_answers l f)
     one_by false m f = refl
 
     by_test : (t u : Bool)
-        → Parts OnSubscriber (Parts InPair (if t then Filtered (Some 0) (level_answers l) leaf else Filtered (Some 0) (level_answers now.0) leaf)
-        (if u then Filtered (Some 1) (level_answers l) leaf else Filtered (Some 1) (level_answers now.1) leaf)) (Terminal Base)
-        ≡ form_by (if t then l else now.0, if u then l else now.1)
+        → Parts OnSubscriber
+        (Parts InPair (if t then Filtered (Some 0) (answers_set l (level_answers now.0)) leaf else Filtered (Some 0) (level_answers now.0) leaf)
+        (if u then Filtered (Some 1) (answers_set l (level_answers now.1)) leaf else Filtered (Some 1) (level_answers now.1) leaf)) (Terminal Base)
+        ≡ form_by (if t then unwrap_or (level_in l) now.0 else now.0, if u then unwrap_or (level_in l) now.1 else now.1)
     by_test t u = λ i. Parts OnSubscriber (Parts InPair (one_by t 0 now.0 i) (one_by u 1 now.1 i)) (Terminal Base)
 
-pub set : (x : Two) (f : Form) (n : ℕ) (l : LevelFilter) (y : Two) → two_levels x n l y → Stays x f → Stays y (set_at n l f)
+pub set : (x : Two) (f : Form) (n : ℕ) (l : Setting) (y : Two) → two_levels x n l y → Stays x f → Stays y (set_at n l f)
 set x f n l y h s =
     let a = one_set 0 (outer_of (outer_of x)) n l (outer_of (outer_of y)) s.over h.0.0 in
     let b = one_set 1 (inner_of (outer_of x)) n l (inner_of (outer_of y)) s.below h.0.1 in

@@ -11,7 +11,7 @@ use Rattle.span_core.specs.Level.{passes_level}
 use Rattle.span_core.specs.Metadata.{level_of}
 use Rattle.span_core.specs.Span.{attributes_of, record_of}
 use Rattle.span_core.specs.declared.field.FieldValue.{FieldValue}
-use Rattle.span_core.specs.declared.level.LevelFilter.{LevelFilter}
+use Rattle.span_targets.specs.declared.setting.Setting.{Setting}
 use Rattle.span_core.specs.declared.metadata.Metadata.{Metadata}
 use Rattle.span_core.specs.declared.span.Id.{Id}
 use Rattle.span_core.specs.declared.span.Lane.{Lane}
@@ -21,11 +21,11 @@ use Rattle.span_dispatch.specs.Cache.{KeptCallsites}
 use Rattle.span_dispatch.specs.Call.{AnswersWith, LeavesSpan, vetoes_whole}
 use Rattle.span_dispatch.specs.private.Step.{ServesRequest, closes_of}
 use Rattle.span_dispatch.specs.Fixed.{Formed, set_at}
-use Rattle.span_dispatch.specs.Outcome.{LayersGo, LevelSet, Makes, Noticed, Outcome, OutcomeAt, Quiet}
+use Rattle.span_dispatch.specs.Outcome.{LayersGo, Reloaded, Makes, Noticed, Outcome, OutcomeAt, Quiet}
 use Rattle.span_dispatch.specs.Serve.{Run, ServesAsked, call_of, resolved, resolved_parent}
 use Rattle.span_dispatch.specs.declared.call.Call.{Call}
 use Rattle.span_dispatch.specs.declared.call.Call.TheVariants.{AddHandle, AskCurrent, DropHandle, Enter, Exit, Follow, OpenSpan, Probe, RecordValues, SendEvent}
-use Rattle.span_dispatch.specs.declared.call.Call.TheVariants.{SetLevel}
+use Rattle.span_dispatch.specs.declared.call.Call.TheVariants.{Reload}
 use Rattle.span_dispatch.specs.declared.request.Answer.TheVariants as answer
 use Rattle.span_dispatch.specs.declared.request.Answer.{Answer}
 use Rattle.span_dispatch.specs.declared.request.Request.TheVariants as request
@@ -79,7 +79,7 @@ not_dropped now memory s m lane values p f vetoed none e w after d = by_let (is_
 
 -- the form after an outcome
 abbrev pub form_after : Outcome → Form → Form
-form_after (LevelSet n l) f = set_at n l f
+form_after (Reloaded n l) f = set_at n l f
 form_after other f = f
 
 -- after many
@@ -105,7 +105,7 @@ GoIn = LayersGo (λ (r : Formed). r.0) (λ r w. (w, r.1)) (λ r h. h ≡ r.1) (�
 pub form_goes : (g : Form) (o : Outcome) (s t : Store) (x y : Formed) → GoIn g o s t x y → y.1 ≡ form_after o x.1
 form_goes g (Noticed lane e) s t x y h = ap (λ (r : Formed). r.1) h.rest ∙ h.layers
 form_goes g (Quiet c) s t x y h = ap (λ (r : Formed). r.1) h.1
-form_goes g (LevelSet n l) s t x y h = h.1
+form_goes g (Reloaded n l) s t x y h = h.1
 
 forms_go : (ms : List OutcomeAt) (x y : Formed) → FoldsTo MakesIn x ms y → y.1 ≡ forms_after (map (λ m. m.outcome) ms) x.1
 forms_go [] x y h = ap (λ (r : Formed). r.1) (sym h)
@@ -113,7 +113,7 @@ forms_go (m ∷ ms) x y h = forms_go ms h.0 y h.2 ∙ ap (forms_after (map (λ k
 
 -- no level is among what comes of this
 abbrev SetsNone : Effect → Type 0
-SetsNone (OneOutcome (LevelSet n l)) = ⊥
+SetsNone (OneOutcome (Reloaded n l)) = ⊥
 SetsNone other = ⊤
 
 closes_set_none : (lane : Lane) (closed : List ℕ) (f : Form) → forms_after (closes_of lane closed) f ≡ f
@@ -128,7 +128,7 @@ exit_sets_none : (lane : Lane) (id : Id) (s : Store) (os : List Outcome) (f : Fo
 exit_sets_none lane id s [] f h = absurd (neither (λ o. let e = h.there o in let no : ⊥ = cc in no) (λ n. let e = h.gone n in let no : ⊥ = cc in no))
 exit_sets_none lane id s (Noticed l e ∷ []) f h = refl
 exit_sets_none lane id s (Quiet c ∷ []) f h = refl
-exit_sets_none lane id s (LevelSet n l ∷ []) f h =
+exit_sets_none lane id s (Reloaded n l ∷ []) f h =
     absurd (neither (λ o. let e = h.there o in let no : ⊥ = cc in no) (λ n. let e = h.gone n in let no : ⊥ = cc in no))
 exit_sets_none lane id s (one ∷ two ∷ os) f h =
     absurd (neither (λ o. let e = h.there o in let no : ⊥ = cc in no) (λ n. let e = h.gone n in let no : ⊥ = cc in no))
@@ -138,13 +138,13 @@ effect_sets_none NoEffect s os f k h = ap (λ us. forms_after us f) h
 effect_sets_none NoAnswer s os f k h = absurd h
 effect_sets_none (OneOutcome (Noticed lane e)) s os f k h = ap (λ us. forms_after us f) h
 effect_sets_none (OneOutcome (Quiet c)) s os f k h = ap (λ us. forms_after us f) h
-effect_sets_none (OneOutcome (LevelSet n l)) s os f k h = absurd k
+effect_sets_none (OneOutcome (Reloaded n l)) s os f k h = absurd k
 effect_sets_none (OfExit lane id) s os f k h = exit_sets_none lane id s os f h
 effect_sets_none (OfDrop lane id closes) s os f k h = ap (λ us. forms_after us f) h.outcomes ∙ closes_set_none lane h.closed f
 
 -- the call sets no level
 abbrev NoLevel : Call → Type 0
-NoLevel (SetLevel n l) = ⊥
+NoLevel (Reload n l) = ⊥
 NoLevel other = ⊤
 
 call_sets_none : (call : Call) (a : Answer) → NoLevel call → SetsNone (effect_of call a)
@@ -168,7 +168,7 @@ call_sets_none (Probe lane x) (answer.Yes b) k = tt
 call_sets_none (Probe lane x) other k = tt
 call_sets_none (AskCurrent lane) (answer.Current o) k = tt
 call_sets_none (AskCurrent lane) other k = tt
-call_sets_none (SetLevel n l) a k = absurd k
+call_sets_none (Reload n l) a k = absurd k
 
 abbrev AsksNoLevel : Option Call → Type 0
 AsksNoLevel None = ⊤
@@ -191,9 +191,9 @@ asked_form (Some call) memory x a ms after y k h = forms_go ms x y h.2.goes
     x.0.store (map (λ m. m.outcome) ms) x.1 (call_sets_none call a k) ((in_effect call a x.0.store (map (λ m. m.outcome) ms)).0 h.2.says)
 
 -- and a level that is set gives it that one
-level_form : (now : Levels) (past : List Answer) (n : ℕ) (l : LevelFilter) (memory : KeptCallsites) (s : RegistryState) (a : Answer) (ms : List OutcomeAt)
+level_form : (now : Levels) (past : List Answer) (n : ℕ) (l : Setting) (memory : KeptCallsites) (s : RegistryState) (a : Answer) (ms : List OutcomeAt)
     (after : KeptCallsites) (y : Formed)
-    → ServesIn past (request.SetLevel n l) memory (s, form_by now) a ms after y → y.1 ≡ form_by (levels_after now (request.SetLevel n l) a)
+    → ServesIn past (request.Reload n l) memory (s, form_by now) a ms after y → y.1 ≡ form_by (levels_after now (request.Reload n l) a)
 level_form now past n l memory s answer.Done ms after y h = forms_go ms (s, form_by now) y h.2.goes ∙ ap (λ us. forms_after us (form_by now)) h.2.says
     ∙ form_set now n l
 level_form now past n l memory s answer.Dropped ms after y h = forms_go ms (s, form_by now) y h.2.goes ∙ ap (λ us. forms_after us (form_by now)) h.2.says
@@ -226,7 +226,7 @@ request_form now past (request.Enabled lane m) memory s a ms after y h = asked_f
     after y tt h
 request_form now past (request.Current lane) memory s a ms after y h = asked_form (call_of past (request.Current lane)) memory (s, form_by now) a ms after y
     tt h
-request_form now past (request.SetLevel n l) memory s a ms after y h = level_form now past n l memory s a ms after y h
+request_form now past (request.Reload n l) memory s a ms after y h = level_form now past n l memory s a ms after y h
 
 -- ---- request by request
 

@@ -22,8 +22,8 @@ use Rattle.span_layers.specs.Layer.{GoesBy, HearsBy, LayerSteps}
 use Rattle.span_stacks.specs.Layered.{inner_of, outer_of, with_inner}
 use Rattle.span_layers.specs.Number.{TakesNumbers, filters_in}
 use Rattle.span_layers.specs.Observe.{ObserverStep, observer_of}
-use Rattle.span_stacks.specs.Stands.{another, bare_hears, bare_steps, base_form, filtered_form, filtered_hears, filtered_levels, filtered_steps, itself}
-use Rattle.span_stacks.specs.Stands.{stack_form, stack_hears, stack_levels, stack_steps}
+use Rattle.span_stacks.specs.Stands.{another, bare_hears, bare_steps, base_form, filtered_form, filtered_hears, filtered_reloads, filtered_steps, itself}
+use Rattle.span_stacks.specs.Stands.{stack_form, stack_hears, stack_reloads, stack_steps}
 use Rattle.span_stacks.specs.Verdict.{NumbersStayOwn}
 use Rattle.span_stacks.specs.declared.filtered.Filtered.{Filtered as FilteredLayer}
 use Rattle.span_layers.specs.declared.observe.Observer.{Observer}
@@ -35,7 +35,7 @@ use Rattle.span_registry.proofs.CallerLemmas.{settled_new, views_alike}
 use Rattle.span_registry.specs.Behaviour.{Notice, OnClose, OnEnter, OnEvent, OnExit, OnFollows, OnIdChange, OnNewSpan, OnRecord, unextended}
 use Rattle.span_registry.specs.Form.{Base, Filtered, Form, OnSubscriber, Parts, Terminal}
 use Rattle.span_registry.specs.Hooks.{StackSteps}
-use Rattle.span_registry.specs.Levels.{LevelSteps, unlevelled}
+use Rattle.span_registry.specs.Reload.{ReloadSteps, unreloaded}
 use Rattle.span_registry.specs.Position.{HearSteps, Heard, Told}
 use Rattle.span_registry.specs.View.{SeenSpan, View, is_shown, plain_view, view_of}
 use Rattle.span_promises.proofs.Stack.{leaf}
@@ -60,8 +60,8 @@ watched_form = stack_form watcher_form base_form
 abbrev pub watched_steps : StackSteps Watched
 watched_steps = stack_steps another (filtered_steps unmoved watcher_steps) bare_steps
 
-abbrev pub watched_levels : LevelSteps Watched
-watched_levels = stack_levels (filtered_levels level_taken unlevelled) unlevelled
+abbrev pub watched_levels : ReloadSteps Watched
+watched_levels = stack_reloads (filtered_reloads level_taken unreloaded) unreloaded
 
 abbrev pub watched_hears : HearSteps Watched
 watched_hears = stack_hears (filtered_hears (HearsBy watcher_steps)) bare_hears

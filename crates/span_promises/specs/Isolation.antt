@@ -18,7 +18,7 @@ use Rattle.span_registry.specs.Agree.{AgreeAt}
 use Rattle.span_registry.specs.Conducts.{ActsAt, Conducts, numbers_in, path_now}
 use Rattle.span_registry.specs.Form.{Form}
 use Rattle.span_registry.specs.Hooks.{StackSteps, no_filter}
-use Rattle.span_registry.specs.Levels.{LevelSteps}
+use Rattle.span_registry.specs.Reload.{ReloadSteps}
 use Rattle.span_registry.specs.Position.{HearSteps, Heard, Position}
 use Rattle.span_promises.specs.MadeCall.{AloneOf, MadeCall, OutcomesFrom, concerns, made_calls}
 
@@ -44,12 +44,12 @@ SeenAlone {M} Sees OnlyIt =
 -- what the leaf at some position of a stack is notified of, from outcomes that were made
 pub record SeesMade {S : Type 0} (registry : S → RegistryState)
     (with_registry : S → RegistryState → S) (has_form : S → Form → Type 0) (stepped : StackSteps S)
-    (levelled : LevelSteps S) (acts_at : ActsAt S) (cs : Conducts) (s : Store)
+    (reloaded : ReloadSteps S) (acts_at : ActsAt S) (cs : Conducts) (s : Store)
     (outcomes : List Outcome) (h : Heard) : Type 0 where
   pub old : S
   pub new : S
   pub made : List OutcomeAt
-  pub goes : FoldsTo (Makes registry with_registry has_form stepped levelled) old made new
+  pub goes : FoldsTo (Makes registry with_registry has_form stepped reloaded) old made new
   pub position : Position
   pub acts : acts_at old position cs
   pub at_store : (registry old).store ≡ s
@@ -60,13 +60,13 @@ pub record SeesMade {S : Type 0} (registry : S → RegistryState)
 -- a list of requests
 pub record SeesServed {S : Type 0} (registry : S → RegistryState)
     (with_registry : S → RegistryState → S) (has_form : S → Form → Type 0) (stepped : StackSteps S)
-    (levelled : LevelSteps S) (hears : HearSteps S) (acts_at : ActsAt S) (cs : Conducts) (s : Store)
+    (reloaded : ReloadSteps S) (hears : HearSteps S) (acts_at : ActsAt S) (cs : Conducts) (s : Store)
     (outcomes : List Outcome) (h : Heard) : Type 0 where
   pub old : Dispatch S
   pub new : Dispatch S
   pub requests : List Request
   pub answers : List Answer
-  pub served : Served registry with_registry has_form stepped levelled hears acts_at requests
+  pub served : Served registry with_registry has_form stepped reloaded hears acts_at requests
       answers old new
   pub position : Position
   pub acts : acts_at (stack_of old) position cs
@@ -78,13 +78,13 @@ pub record SeesServed {S : Type 0} (registry : S → RegistryState)
 -- which these calls were made, as far as the filters round the leaf go
 pub record SeesCalls {S : Type 0} (registry : S → RegistryState)
     (with_registry : S → RegistryState → S) (has_form : S → Form → Type 0) (stepped : StackSteps S)
-    (levelled : LevelSteps S) (hears : HearSteps S) (acts_at : ActsAt S) (cs : Conducts) (s : Store)
+    (reloaded : ReloadSteps S) (hears : HearSteps S) (acts_at : ActsAt S) (cs : Conducts) (s : Store)
     (calls : List MadeCall) (h : Heard) : Type 0 where
   pub old : Dispatch S
   pub new : Dispatch S
   pub requests : List Request
   pub answers : List Answer
-  pub served : Served registry with_registry has_form stepped levelled hears acts_at requests
+  pub served : Served registry with_registry has_form stepped reloaded hears acts_at requests
       answers old new
   pub position : Position
   pub acts : acts_at (stack_of old) position cs
@@ -130,18 +130,18 @@ KeepsAgreement o =
 module _ {S : Type 0} (s : SubscriberOf S) where
   -- what a leaf in a stack of this type is notified of, from outcomes that were made
   abbrev pub MadeIn : Sight (List Outcome)
-  MadeIn = SeesMade s.registry s.with_registry s.has_form s.stepped s.levelled s.acts_at
+  MadeIn = SeesMade s.registry s.with_registry s.has_form s.stepped s.reloaded s.acts_at
 
   -- what a leaf in a stack of this type is notified of, from all that was made of a list that was
   -- served
   abbrev pub ServedIn : Sight (List Outcome)
   ServedIn =
-      SeesServed s.registry s.with_registry s.has_form s.stepped s.levelled s.hears s.acts_at
+      SeesServed s.registry s.with_registry s.has_form s.stepped s.reloaded s.hears s.acts_at
 
   -- what a leaf in a stack of this type is notified of, from the made calls of a list that was
   -- served
   abbrev pub AskedIn : Sight (List MadeCall)
-  AskedIn = SeesCalls s.registry s.with_registry s.has_form s.stepped s.levelled s.hears s.acts_at
+  AskedIn = SeesCalls s.registry s.with_registry s.has_form s.stepped s.reloaded s.hears s.acts_at
 
 -- leaves behind filters that act alike are notified of the same, where the same outcomes were made,
 -- in stacks and alone
@@ -170,4 +170,4 @@ pub record CallsSeenTheSame {S T : Type 0} (one : SubscriberOf S)
   -- what was made of a list is what its made calls have by themselves, as far as filters of any
   -- numbers go
   pub says : SaysWhatIsMade one.registry
-      (Run one.registry one.with_registry one.has_form one.stepped one.levelled [])
+      (Run one.registry one.with_registry one.has_form one.stepped one.reloaded [])

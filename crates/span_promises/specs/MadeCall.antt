@@ -7,9 +7,9 @@ use Rattle.span_core.specs.declared.span.Id.{Id}
 use Rattle.span_core.specs.declared.span.Lane.{Lane}
 use Rattle.span_dispatch.specs.Alone.{Alone, form_of_path}
 use Rattle.span_dispatch.specs.Call.{OutcomesOf, DropsHandle, LeavesSpan}
-use Rattle.span_dispatch.specs.Outcome.{HandleAdded, LevelSet, Noticed, Outcome, Quiet, Steps}
+use Rattle.span_dispatch.specs.Outcome.{HandleAdded, Reloaded, Noticed, Outcome, Quiet, Steps}
 use Rattle.span_dispatch.specs.Serve.{call_of}
-use Rattle.span_dispatch.specs.declared.call.Call.TheVariants.{AddHandle, AskCurrent, DropHandle, Enter, Exit, Follow, OpenSpan, Probe, RecordValues, SendEvent, SetLevel}
+use Rattle.span_dispatch.specs.declared.call.Call.TheVariants.{AddHandle, AskCurrent, DropHandle, Enter, Exit, Follow, OpenSpan, Probe, RecordValues, SendEvent, Reload}
 use Rattle.span_dispatch.specs.declared.call.Call.{Call}
 use Rattle.span_dispatch.specs.declared.request.Answer.TheVariants as answer
 use Rattle.span_dispatch.specs.declared.request.Answer.{Answer}
@@ -39,7 +39,7 @@ effect_of (RecordValues lane id values) answer.Done = OneOutcome (Noticed lane (
 effect_of (Follow lane id other) answer.Done = OneOutcome (Noticed lane (OnFollows id other))
 effect_of (AddHandle lane id) answer.Done = OneOutcome (Quiet (HandleAdded id))
 effect_of (DropHandle lane id) (answer.Yes closes) = OfDrop lane id closes
-effect_of (SetLevel n l) answer.Done = OneOutcome (LevelSet n l)
+effect_of (Reload n s) answer.Done = OneOutcome (Reloaded n s)
 effect_of (Probe lane m) (answer.Yes said) = NoEffect
 effect_of (AskCurrent lane) (answer.Current o) = NoEffect
 effect_of call answer.Dropped = NoEffect
@@ -54,12 +54,12 @@ HasOutcomes (OneOutcome o) s os = os ≡ o ∷ []
 HasOutcomes (OfExit lane id) s os = LeavesSpan lane id s os
 HasOutcomes (OfDrop lane id closes) s os = DropsHandle lane id s closes os
 
--- whether filters of these numbers may go on by an outcome: a level that another filter took is
+-- whether filters of these numbers may go on by an outcome: a setting that another filter took is
 -- none of theirs
 abbrev pub concerns : FilterSet → Outcome → Bool
 concerns numbers (Noticed lane e) = true
 concerns numbers (Quiet c) = true
-concerns numbers (LevelSet n l) = numbers n
+concerns numbers (Reloaded n l) = numbers n
 
 -- whether an effect has outcomes by which filters of these numbers may go on
 abbrev pub is_concern : FilterSet → Effect → Bool
@@ -82,7 +82,7 @@ made_call numbers (Some call) a =
 
 -- the made calls of a list of requests with these answers, given the answers before: each with its
 -- answer, and its spans by their ids. Dropped and refused requests, probes, and other filters'
--- levels leave no trace in it.
+-- settings leave no trace in it.
 abbrev pub made_calls : FilterSet → List Answer → List Request → List Answer → List MadeCall
 made_calls numbers past (r ∷ rs) (a ∷ answers) =
     made_call numbers (call_of past r) a ++ made_calls numbers (past ++ (a ∷ [])) rs answers

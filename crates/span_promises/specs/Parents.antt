@@ -37,7 +37,7 @@ StandsBefore x y (z ∷ zs) = ((z ≡ x) × Member y zs) ⊎ StandsBefore x y zs
 abbrev pub ParentsCloseLast : {S : Type 0} → SubscriberOf S → Type 0
 ParentsCloseLast {S} s =
     (requests : List Request) (answers : List Answer) (old new : Dispatch S)
-    (served : Served s.registry s.with_registry s.has_form s.stepped s.levelled s.hears s.acts_at
+    (served : Served s.registry s.with_registry s.has_form s.stepped s.reloaded s.hears s.acts_at
     requests answers old new) (child parent : ℕ) → AreIssued (s.registry (stack_of old)).store
     → IsChildIn child parent (flat served.made)
     → ¬ (StandsBefore parent child (flat_map (λ m. closed_by m.outcome) (flat served.made)))

@@ -10,10 +10,12 @@ use Rattle.span_dispatch.specs.declared.recorded.Recorded.TheVariants.{Close}
 use Rattle.span_dispatch.specs.declared.recorded.Recorded.{Recorded}
 use Rattle.span_dispatch.specs.declared.request.Answer.TheVariants.{Done, Dropped, Made}
 use Rattle.span_dispatch.specs.declared.request.Answer.{Answer}
-use Rattle.span_dispatch.specs.declared.request.Request.TheVariants.{Event, NewSpan, SetLevel}
+use Rattle.span_dispatch.specs.declared.request.Request.TheVariants.{Event, NewSpan, Reload}
 use Rattle.span_dispatch.specs.declared.request.Request.{Request}
 use Rattle.span_dispatch.specs.declared.request.WhichParent.TheVariants.{Explicit}
 use Rattle.span_promises.specs.Two.{Answered, inner_recorder, outer_recorder}
+use Rattle.span_targets.specs.Setting.{level_in}
+use Rattle.std.specs.Option.{unwrap_or}
 
 -- ---- what is wanted is not dropped
 
@@ -25,7 +27,10 @@ Levels = LevelFilter × LevelFilter
 -- the levels after a request was answered so: where one was set, the filter with that number goes
 -- by it
 abbrev pub levels_after : Levels → Request → Answer → Levels
-levels_after now (SetLevel n l) Done = (if n == 0 then l else now.0, if n == 1 then l else now.1)
+levels_after now (Reload n s) Done = (
+  if n == 0 then unwrap_or (level_in s) now.0 else now.0,
+  if n == 1 then unwrap_or (level_in s) now.1 else now.1,
+)
 levels_after now r a = now
 
 -- whether one of two levels passes these metadata

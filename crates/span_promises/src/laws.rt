@@ -16,8 +16,8 @@ use span_registry::Subscriber;
 /// whichever stacks these are: new ids and want of memory aside.
 pub fn answers_are_one<S: Subscriber, T: Subscriber>()
     ensures { AnswersAreOne S.registry T.registry
-        (Serves S.registry S.with_registry S.has_form S.stepped S.levelled)
-        (Serves T.registry T.with_registry T.has_form T.stepped T.levelled) }
+        (Serves S.registry S.with_registry S.has_form S.stepped S.reloaded)
+        (Serves T.registry T.with_registry T.has_form T.stepped T.reloaded) }
 {
     span_registry::laws::closes_once();
 }

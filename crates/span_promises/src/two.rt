@@ -89,7 +89,7 @@ pub(crate) fn serve_at_first(
     requests: &[Request<'_>],
 ) -> Result<Served, TraceError>
     ensures served { let two = ⟦<Two as Subscriber>⟧ in IfOk result (ServesAtFirst outer inner
-        (ServedBy two.registry two.with_registry two.has_form two.stepped two.levelled two.hears
+        (ServedBy two.registry two.with_registry two.has_form two.stepped two.reloaded two.hears
         two.acts_at requests.now)) }
     ensures memory { IfErr result (λ e. e ≡ TraceError.OutOfMemory) }
 {

@@ -33,7 +33,7 @@ use Rattle.span_registry.specs.Hooks.{Notifies, StackSteps, Stays}
 use Rattle.span_registry.specs.Subscriber.{AndHooks, SameButExtensions}
 use Rattle.span_registry.specs.Context.{HasNoRefusals, IsLent, LendsOver, LooksAt, LooksAtLent, LooksAtRoot, MasksMore, RefersTo, RefersToLent, SameLoan}
 use Rattle.span_registry.specs.Context.{filters_in, filters_lent, lane_in, lane_lent, store_at, store_in, subscriber_lent, view_in, view_lent}
-use Rattle.span_registry.specs.Behaviour.{AreAlike, AreAlikeHistories, History, OfLevel, Notice, OfNotice, notices_of, unextended}
+use Rattle.span_registry.specs.Behaviour.{AreAlike, AreAlikeHistories, History, OfReload, Notice, OfNotice, notices_of, unextended}
 use Rattle.span_registry.specs.View.{SeenSpans, View, current_among, current_shown, extensions_shown, is_shown, see, shown, view_of}
 use Rattle.span_registry.specs.declared.context.Context.{Context}
 use Rattle.span_registry.specs.declared.context.ContextMut.{ContextMut}
@@ -428,13 +428,13 @@ views_alike v w lane under h = record {
 pub histories_alike : (h : History) → AreAlikeHistories h h
 histories_alike [] = tt
 histories_alike (OfNotice e v ∷ h) = (refl, record { lane = refl; stack = refl; spans = λ x. refl }, histories_alike h)
-histories_alike (OfLevel l ∷ h) = (refl, histories_alike h)
+histories_alike (OfReload l ∷ h) = (refl, histories_alike h)
 
 -- histories that are alike have notices that are
 pub notices_alike : (h k : History) → AreAlikeHistories h k → AreAlikeHistories (notices_of h) (notices_of k)
 notices_alike [] [] a = tt
 notices_alike (OfNotice e v ∷ h) (OfNotice d w ∷ k) a = (a.0, a.1, notices_alike h k a.2)
-notices_alike (OfLevel l ∷ h) (OfLevel m ∷ k) a = notices_alike h k a.1
+notices_alike (OfReload l ∷ h) (OfReload m ∷ k) a = notices_alike h k a.1
 notices_alike h k a = absurd a
 
 -- a span has the extensions that were written last

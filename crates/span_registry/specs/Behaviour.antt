@@ -16,15 +16,16 @@ use Rattle.span_core.specs.declared.span.Id.{Id}
 use Rattle.span_core.specs.declared.span.Record.{Record}
 use Rattle.span_store.specs.Store.{Store}
 use Rattle.span_registry.specs.View.{SeenSpan, View, view_of}
+use Rattle.span_targets.specs.declared.setting.Setting.{Setting}
 
 -- whether metadata pass; whether an event passes, where its metadata do; the interest in a
--- callsite; the hint; which levels it takes
+-- callsite; the hint; which settings it takes
 pub record Behaviour : Type 0 where
   pub enabled : Metadata → View → Bool
   pub event : Event → View → Bool
   pub interest : Metadata → Interest
   pub hint : Option LevelFilter
-  pub takes : LevelFilter → Bool
+  pub takes : Setting → Bool
 
 -- an interest of always: passes in every view; of never, or a level above the hint: in none; and
 -- metadata that show the same are of the same interest
@@ -87,10 +88,10 @@ span_in (OnExit id) = Some id
 span_in (OnIdChange id other) = Some id
 span_in (OnClose id) = Some id
 
--- what a filter is given: a notice, with the view that it is then given, or a level to take
+-- what a filter is given: a notice, with the view that it is then given, or a setting to take
 pub data Input : Type 0 where
   OfNotice : Notice → View → Input
-  OfLevel : LevelFilter → Input
+  OfReload : Setting → Input
 
 -- what a filter will be given, first things first
 abbrev pub History : Type 0
@@ -100,19 +101,20 @@ History = List Input
 abbrev pub Conduct : Type 0
 Conduct = List Input → Behaviour
 
--- two histories have the same notices, in views that differ in extensions only, and the same levels
+-- two histories have the same notices, in views that differ in extensions only, and the same
+-- settings
 abbrev pub AreAlikeHistories : History → History → Type 0
 AreAlikeHistories [] [] = ⊤
 AreAlikeHistories (OfNotice e v ∷ h) (OfNotice d w ∷ k) =
     (e ≡ d) × AreAlike v w × AreAlikeHistories h k
-AreAlikeHistories (OfLevel l ∷ h) (OfLevel m ∷ k) = (l ≡ m) × AreAlikeHistories h k
+AreAlikeHistories (OfReload x ∷ h) (OfReload y ∷ k) = (x ≡ y) × AreAlikeHistories h k
 AreAlikeHistories h k = ⊥
 
--- the notices of a history, without the levels: what a filter goes by that takes none
+-- the notices of a history, without the settings: what a filter goes by that takes none
 abbrev pub notices_of : History → History
 notices_of [] = []
 notices_of (OfNotice e v ∷ h) = OfNotice e v ∷ notices_of h
-notices_of (OfLevel l ∷ h) = notices_of h
+notices_of (OfReload x ∷ h) = notices_of h
 
 -- extensions make no difference: neither to the answers nor to what the filter learns from a notice
 pub record IsPlain (conduct : Conduct) : Type 0 where

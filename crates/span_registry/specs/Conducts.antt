@@ -1,9 +1,9 @@
 -- How the filters of a path act: what each answers now, and what it will answer after each notice.
 use Rattle.std.specs.Prelude.{◌≡◌, ⊤, ℕ, if◌then◌else◌, List, [], ◌∷◌, Option, Some, None}
 use Rattle.span_core.specs.Filters.{FilterSet, union}
-use Rattle.span_core.specs.declared.level.LevelFilter.{LevelFilter}
+use Rattle.span_targets.specs.declared.setting.Setting.{Setting}
 use Rattle.span_store.specs.Store.{RegistryState}
-use Rattle.span_registry.specs.Behaviour.{AnswerAlike, Conduct, IsPlain, OfLevel, Notice, OnEvent, OnFollows, OnIdChange, OfNotice}
+use Rattle.span_registry.specs.Behaviour.{AnswerAlike, Conduct, IsPlain, OfReload, Notice, OnEvent, OnFollows, OnIdChange, OfNotice}
 use Rattle.span_registry.specs.Form.{Form}
 use Rattle.span_registry.specs.Hooks.{StackSteps, no_filter}
 use Rattle.span_registry.specs.Path.{Path, path_at}
@@ -57,15 +57,15 @@ after_notice (OnFollows id other) v b = b
 after_notice (OnIdChange id other) v b = b
 after_notice e v b = λ h. b (OfNotice e v ∷ h)
 
--- the conduct of a filter that took a level
-abbrev pub after_level : LevelFilter → Conduct → Conduct
-after_level l b = λ h. b (OfLevel l ∷ h)
+-- the conduct of a filter that took a setting
+abbrev pub after_reload : Setting → Conduct → Conduct
+after_reload x b = λ h. b (OfReload x ∷ h)
 
--- the conducts of the filters of a path, once the one with this number took a level
-abbrev pub setting : ℕ → LevelFilter → Conducts → Conducts
-setting n l [] = []
-setting n l ((m, b) ∷ cs) =
-    if filter_numbered m n then (m, after_level l b) ∷ cs else (m, b) ∷ setting n l cs
+-- the conducts of the filters of a path, once the one with this number took a setting
+abbrev pub reloading : ℕ → Setting → Conducts → Conducts
+reloading n x [] = []
+reloading n x ((m, b) ∷ cs) =
+    if filter_numbered m n then (m, after_reload x b) ∷ cs else (m, b) ∷ reloading n x cs
 
 -- a filter learns of a notice, under these filters, in a registry that differs from this one in
 -- extensions alone

@@ -4,9 +4,9 @@ ghost use Rattle.span_core.specs.Pass.{interest_sum, refused_of};
 ghost use Rattle.span_core.specs.Span.{asked_parent};
 ghost use Rattle.span_store.specs.Step.{Enters, Exits, Opens, RefusesEnter, RefusesNew, asked};
 ghost use Rattle.span_registry.specs.Conducts.{no_conducts};
-ghost use Rattle.span_registry.specs.laws.Registry.{registry_path_laws, registry_laws, registry_levels};
+ghost use Rattle.span_registry.specs.laws.Registry.{registry_path_laws, registry_laws, registry_reloads};
 ghost use Rattle.span_registry.specs.Form.{Terminal, Base};
-ghost use Rattle.span_registry.specs.Levels.{unlevelled};
+ghost use Rattle.span_registry.specs.Reload.{unreloaded};
 ghost use Rattle.span_registry.specs.Subscriber.{registry_interest, sum_after};
 
 use crate::lookup::LookupSpan;
@@ -16,6 +16,7 @@ use span_core::{
     TraceError,
 };
 use span_store::{Data, Registry};
+use span_targets::Setting;
 
 impl LookupSpan for Registry {
     ghost registry = { λ s. s };
@@ -58,11 +59,11 @@ impl Subscriber for Registry {
 
     ghost laws = { registry_laws };
 
-    ghost levelled = { unlevelled };
+    ghost reloaded = { unreloaded };
 
     ghost paths = { registry_path_laws };
 
-    ghost levels = { registry_levels };
+    ghost reloads = { registry_reloads };
 
     fn on_register_dispatch(&mut self)
         ensures { self.new ≡ self.old }
@@ -151,7 +152,7 @@ impl Subscriber for Registry {
         self.leave_on(lane, id);
     }
 
-    fn set_level(&mut self, _number: u32, _level: LevelFilter) -> bool {
+    fn reload(&mut self, _number: u32, _setting: Setting) -> bool {
         false // No filter is in it.
     }
 

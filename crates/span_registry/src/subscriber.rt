@@ -6,7 +6,7 @@ ghost use Rattle.span_registry.specs.Behaviour.{OnClose, OnEnter, OnEvent, OnExi
 ghost use Rattle.span_registry.specs.Conducts.{ActsAt, StackPathLaws};
 ghost use Rattle.span_registry.specs.Form.{Form, is_absent, is_base, is_marked};
 ghost use Rattle.span_registry.specs.Hooks.{Notifies, AnswersEnabled, AnswersEvent, AnswersInterest, OpensAndNotifies, StackLaws, StackSteps, Stays, no_filter};
-ghost use Rattle.span_registry.specs.Levels.{LevelLaws, LevelSteps, takes_level};
+ghost use Rattle.span_registry.specs.Reload.{ReloadLaws, ReloadSteps, takes_setting};
 ghost use Rattle.span_registry.specs.Position.{HearSteps};
 ghost use Rattle.span_registry.specs.Question.{ShowsBy, hint_of, refusals};
 
@@ -14,6 +14,7 @@ use crate::lookup::LookupSpan;
 use span_core::{
     Attributes, Current, Event, Id, Interest, Lane, LevelFilter, Metadata, Pass, Record, TraceError,
 };
+use span_targets::Setting;
 
 /// A stack: a registry, or a layer on a stack.
 ///
@@ -43,8 +44,8 @@ pub trait Subscriber: LookupSpan {
     /// any.
     ghost acts_at: { ActsAt Self };
 
-    /// How the stack goes on when a filter's level is set.
-    ghost levelled: { LevelSteps Self };
+    /// How the stack goes on when a filter is reloaded.
+    ghost reloaded: { ReloadSteps Self };
 
     /// How the stack's layers go on when they are put in use.
     ghost registered: { Self → Self → Type 0 };
@@ -167,16 +168,16 @@ pub trait Subscriber: LookupSpan {
         ensures hooks { Notifies Self.registry has_form stepped lane no_filter (OnClose id) Stays
             self.old self.new };
 
-    /// Sets the level of the filter with this number, and answers whether there is one that takes
+    /// Has the filter with this number take a setting, and answers whether there is one that takes
     /// it. Else nothing changes.
     ///
     /// Own to this port.
-    fn set_level(&mut self, number: u32, level: LevelFilter) -> bool
+    fn reload(&mut self, number: u32, setting: Setting) -> bool
         requires { usable self.old }
         ensures usable { usable self.new }
         ensures registry { Self.registry self.new ≡ Self.registry self.old }
-        ensures taken { ShowsBy (has_form self.old) (λ f. takes_level f number level) result }
-        ensures level { levelled self.old number level self.new }
+        ensures taken { ShowsBy (has_form self.old) (λ f. takes_setting f number setting) result }
+        ensures reloaded { reloaded self.old number setting self.new }
         ensures unchanged { result ≡ false → self.new ≡ self.old };
 
     /// Whether a layer of the stack is marked: it stands under a filter of its own.
@@ -198,9 +199,9 @@ pub trait Subscriber: LookupSpan {
     /// The paths of plain filters act as their conducts say.
     ghost paths: { StackPathLaws Self.with_registry has_form stepped registered acts_at };
 
-    /// Where a level is set, the form's rules are kept, no leaf is notified, and the paths that
-    /// hold the filter act by the level.
-    ghost levels: { LevelLaws has_form levelled hears acts_at };
+    /// Where a filter takes a setting, the form's rules are kept, no leaf is notified, and the paths
+    /// that hold the filter act by the setting.
+    ghost reloads: { ReloadLaws has_form reloaded hears acts_at };
 }
 
 /// A stack that can be called without a premise, since no closure is in it.

@@ -5,7 +5,7 @@ use Rattle.std.proofs.lemmas.Bool.{eqb-true, false_from_ne_true, false≢true}
 use Rattle.span_core.specs.declared.level.LevelFilter.{LevelFilter}
 use Rattle.span_core.specs.declared.level.TheConstants.LevelFilter.{INFO, TRACE, WARN}
 use Rattle.span_dispatch.specs.Recorder.{RecorderState}
-use Rattle.span_filters.specs.Filter.{unlevelled}
+use Rattle.span_filters.specs.Filter.{unreloaded}
 use Rattle.span_filters.specs.Level.{level_answers, level_taken}
 use Rattle.span_filters.specs.laws.Level.{level_honest}
 use Rattle.span_stacks.specs.Filtered.{IsNumber, filter_of, id_of, layer_of}
@@ -28,6 +28,7 @@ use Rattle.span_script.specs.Stacks.{BeginsAbsent, BeginsNested, BeginsPair, Beg
 use Rattle.span_script.specs.declared.mute.Mute.{Mute}
 use Rattle.span_script.specs.declared.mute_veto.MuteVeto.{MuteVeto}
 use Rattle.span_script.specs.declared.stack_name.StackName.TheVariants.{Absent, Nested, Pair, Plain, Veto}
+use Rattle.span_targets.specs.declared.setting.Setting.TheVariants.{Directives, Level}
 
 quiet : RefusesNothing open_answers
 quiet = record { enabled = λ m v. refl; event = λ e v. refl }
@@ -108,11 +109,13 @@ honest_absent = record {
 
 -- a level is set: the filter is by that level
 pub level_set : IsByLevel level_answers level_taken
-level_set a l b h = ap level_answers h
+level_set a (Level l) b h = ap level_answers h
+level_set a (Directives f) b h = ap level_answers h
 
 -- none is set
-pub mute_kept : IsByLevel (λ (f : Mute). mute_answers) unlevelled
-mute_kept a l b h = refl
+pub mute_kept : IsByLevel (λ (f : Mute). mute_answers) unreloaded
+mute_kept a (Level l) b h = refl
+mute_kept a (Directives f) b h = refl
 
 abbrev pub StaysLevelled : ℕ → Levelled → Form → Type 0
 StaysLevelled n = StaysUnder n level_answers StaysLeaf

@@ -5,7 +5,7 @@ use Rattle.std.proofs.lemmas.Bool.{eq-eqb, eqb-true, true≢false}
 use Rattle.std.proofs.lemmas.List.{append-nil}
 use Rattle.span_core.specs.Filters.{FilterSet, has_filter}
 use Rattle.span_core.specs.declared.filter.FilterId.{FilterId}
-use Rattle.span_core.specs.declared.level.LevelFilter.{LevelFilter}
+use Rattle.span_targets.specs.declared.setting.Setting.{Setting}
 use Rattle.span_dispatch.proofs.Fixed.{runs_by}
 use Rattle.span_dispatch.proofs.CallerLemmas.{heard_records}
 use Rattle.span_dispatch.specs.Fixed.{RunsBy, set_at}
@@ -16,16 +16,16 @@ use Rattle.span_dispatch.specs.declared.dispatch.Dispatch.{Dispatch}
 use Rattle.span_dispatch.specs.declared.recorded.Recorded.{Recorded}
 use Rattle.span_dispatch.specs.declared.request.Answer.{Answer}
 use Rattle.span_dispatch.specs.declared.request.Request.{Request}
-use Rattle.span_filters.specs.Filter.{FilterLevelSteps, settled_answers, unmoved}
-use Rattle.span_filters.specs.Level.{level_answers}
+use Rattle.span_filters.specs.Filter.{FilterReloadSteps, settled_answers, unmoved}
+use Rattle.span_filters.specs.Level.{answers_set, level_answers}
 use Rattle.span_stacks.specs.Filtered.{FilteredForm, FilteredSteps, Hooked, IsNumber, filter_of, id_of, layer_of}
 use Rattle.span_stacks.specs.Honest.{IsHonestStack}
 use Rattle.span_layers.specs.Idle.{IdleSteps}
 use Rattle.span_layers.specs.Layer.{HearsBy, LayerSteps}
 use Rattle.span_layers.specs.Parts.{PartsForm}
 use Rattle.span_stacks.specs.Layered.{LayeredSteps, PairSteps, inner_of, outer_of, with_inner}
-use Rattle.span_layers.specs.Levels.{OptionLevels}
-use Rattle.span_stacks.specs.Levels.{FilteredLevels, LayeredLevels, LevelsIf}
+use Rattle.span_layers.specs.Reload.{OptionReloads}
+use Rattle.span_stacks.specs.Reload.{FilteredReloads, LayeredReloads, ReloadsIf}
 use Rattle.span_layers.specs.Optional.{OptionForm, OptionGoes, OptionSteps}
 use Rattle.span_layers.specs.Veto.{VetoForm}
 use Rattle.span_stacks.specs.declared.filtered.Filtered.{Filtered as FilteredLayer}
@@ -38,7 +38,7 @@ use Rattle.span_registry.specs.Behaviour.{Behaviour, Notice, OnClose, OnEnter, O
 use Rattle.span_registry.specs.Conducts.{ActsAt}
 use Rattle.span_registry.specs.Form.{Absent, Terminal, Base, Filtered, Form, InPair, Arrangement, Leaf, OnSubscriber, Parts}
 use Rattle.span_registry.specs.Hooks.{StackSteps, no_filter}
-use Rattle.span_registry.specs.Levels.{LevelSteps, unlevelled}
+use Rattle.span_registry.specs.Reload.{ReloadSteps, unreloaded}
 use Rattle.span_registry.specs.Position.{HearSteps, Heard, Here}
 use Rattle.span_registry.specs.Plan.{Both, Nobody, Plan, Through}
 use Rattle.span_script.specs.Stacks.{leaf, start_of}
@@ -47,18 +47,18 @@ use Rattle.span_script.specs.declared.stack_name.StackName.{StackName}
 -- ---- layers
 
 -- a layer has this form as long as this is so of the two; it stays so with the form, and where a level is set with what that makes of the form
-pub record IsSteady {L : Type 0} (has_form : L → Form → Type 0) (stepped : LayerSteps L) (levelled : LevelSteps L) (Stays : L → Form → Type 0) : Type 0 where
+pub record IsSteady {L : Type 0} (has_form : L → Form → Type 0) (stepped : LayerSteps L) (reloaded : ReloadSteps L) (Stays : L → Form → Type 0) : Type 0 where
   pub known : (x : L) (f g : Form) → Stays x f → has_form x g → g ≡ f
   pub has : (x : L) (f : Form) → Stays x f → has_form x f
   pub goes : (x : L) (f : Form) (p : Plan) (e : Notice) (lane : ℕ) (under : FilterSet) (v : RegistryState) (y : L) (w : RegistryState)
       → stepped x p e lane under v y w → Stays x f → Stays y f
-  pub set : (x : L) (f : Form) (n : ℕ) (l : LevelFilter) (y : L) → levelled x n l y → Stays x f → Stays y (set_at n l f)
+  pub set : (x : L) (f : Form) (n : ℕ) (l : Setting) (y : L) → reloaded x n l y → Stays x f → Stays y (set_at n l f)
 
 -- a recorder is a leaf that refuses nothing
 abbrev pub StaysLeaf : RecorderState → Form → Type 0
 StaysLeaf x f = f ≡ leaf
 
-pub steady_recorder : IsSteady (λ (x : RecorderState) f. f ≡ leaf) recorder_steps unlevelled StaysLeaf
+pub steady_recorder : IsSteady (λ (x : RecorderState) f. f ≡ leaf) recorder_steps unreloaded StaysLeaf
 steady_recorder = record {
   known = λ x f g s h. h ∙ sym s;
   has = λ x f s. s;
@@ -71,7 +71,7 @@ abbrev pub StaysVeto : {L : Type 0} → (L → Behaviour) → L → Form → Typ
 StaysVeto answers x f = f ≡ Leaf true (answers x)
 
 -- one that stays as it is
-pub steady_veto : {L : Type 0} (answers : L → Behaviour) → IsSteady (λ x. VetoForm (settled_answers answers x)) IdleSteps unlevelled (StaysVeto answers)
+pub steady_veto : {L : Type 0} (answers : L → Behaviour) → IsSteady (λ x. VetoForm (settled_answers answers x)) IdleSteps unreloaded (StaysVeto answers)
 steady_veto answers = record {
   known = λ x f g s h. h.2 ∙ ap (λ b. Leaf true b) h.1 ∙ sym s;
   has = λ x f s. (answers x, refl, s);
@@ -90,7 +90,7 @@ module _ {L : Type 0} (goes : L → L → Type 0) where
 abbrev pub StaysAbsent : {L : Type 0} → Option L → Form → Type 0
 StaysAbsent x f = (x ≡ None) × (f ≡ Terminal Absent)
 
-module _ {L : Type 0} (has_form : L → Form → Type 0) (stepped : LayerSteps L) (levelled : LevelSteps L) where
+module _ {L : Type 0} (has_form : L → Form → Type 0) (stepped : LayerSteps L) (reloaded : ReloadSteps L) where
   goes_absent : (x : Option L) (p : Plan) (e : Notice) (lane : ℕ) (under : FilterSet) (v : RegistryState) (y : Option L) (w : RegistryState)
       → OptionSteps stepped x p e lane under v y w → x ≡ None → y ≡ None
   goes_absent None p e lane under v None w h s = refl
@@ -98,12 +98,12 @@ module _ {L : Type 0} (has_form : L → Form → Type 0) (stepped : LayerSteps L
   goes_absent (Some x) p e lane under v y w h s = absurd (cc)
 
   -- so it is steady
-  pub steady_absent : IsSteady (OptionForm has_form) (OptionSteps stepped) (OptionLevels levelled) StaysAbsent
+  pub steady_absent : IsSteady (OptionForm has_form) (OptionSteps stepped) (OptionReloads reloaded) StaysAbsent
   steady_absent = record {
     known = λ x f g s h. subst (λ o. OptionForm has_form o g) s.0 h ∙ sym s.1;
     has = λ x f s. subst (λ o. OptionForm has_form o f) (sym s.0) s.1;
     goes = λ x f p e lane under v y w h s. (goes_absent x p e lane under v y w h s.0, s.1);
-    set = λ x f n l y h s. (still_absent (λ a b. levelled a n l b) x y h s.0, ap (set_at n l) s.1);
+    set = λ x f n l y h s. (still_absent (λ a b. reloaded a n l b) x y h s.0, ap (set_at n l) s.1);
   }
 
 -- an id has one number
@@ -130,12 +130,12 @@ pub record StaysUnder {L F : Type 0} (n : ℕ) (answers : F → Behaviour) (Stay
   pub inside : Stays (layer_of x) below
   pub form : f ≡ Filtered (Some n) (answers (filter_of x)) below
 
--- what such a filter answers once it was asked to take a level: it is by level, if it takes one
-abbrev pub IsByLevel : {F : Type 0} → (F → Behaviour) → FilterLevelSteps F → Type 0
-IsByLevel {F = F} answers own = (a : F) (l : LevelFilter) (b : F) → own a l b → answers b ≡ (if (answers a).takes l then level_answers l else answers a)
+-- what such a filter answers once it was asked to take a setting: it is by level, if it takes that
+abbrev pub IsByLevel : {F : Type 0} → (F → Behaviour) → FilterReloadSteps F → Type 0
+IsByLevel {F = F} answers own = (a : F) (l : Setting) (b : F) → own a l b → answers b ≡ answers_set l (answers a)
 
-module _ {L F : Type 0} {has_form : L → Form → Type 0} {stepped : LayerSteps L} {levelled : LevelSteps L} {Stays : L → Form → Type 0}
-    {own : FilterLevelSteps F} (n : ℕ) (answers : F → Behaviour) (by_level : IsByLevel answers own) (inner : IsSteady has_form stepped levelled Stays) where
+module _ {L F : Type 0} {has_form : L → Form → Type 0} {stepped : LayerSteps L} {reloaded : ReloadSteps L} {Stays : L → Form → Type 0}
+    {own : FilterReloadSteps F} (n : ℕ) (answers : F → Behaviour) (by_level : IsByLevel answers own) (inner : IsSteady has_form stepped reloaded Stays) where
   known_under : (x : FilteredLayer L F) (f g : Form)
       → StaysUnder n answers Stays x f → FilteredForm (id_of x) (settled_answers answers (filter_of x)) (has_form (layer_of x)) g → g ≡ f
   known_under x f (Filtered m b g) s h =
@@ -153,22 +153,22 @@ module _ {L F : Type 0} {has_form : L → Form → Type 0} {stepped : LayerSteps
   goes_under i k x f other e lane under v g y w h = absurd h
 
   -- by whether the filter has the number
-  set_if : (t : Bool) (k : F) (x : L) (m : ℕ) (l : LevelFilter) (g : F) (y : L) (below : Form) → LevelsIf own levelled t k x m l g y → Stays x below
+  set_if : (t : Bool) (k : F) (x : L) (m : ℕ) (l : Setting) (g : F) (y : L) (below : Form) → ReloadsIf own reloaded t k x m l g y → Stays x below
       → (after : Form) × Stays y after
-      × ((if t then Filtered (Some n) (if (answers k).takes l then level_answers l else answers k) below else Filtered (Some n) (answers k) (set_at m l below))
+      × ((if t then Filtered (Some n) (answers_set l (answers k)) below else Filtered (Some n) (answers k) (set_at m l below))
       ≡ Filtered (Some n) (answers g) after)
   set_if true k x m l g y below h s = (below, subst (λ z. Stays z below) (sym h.1) s, ap (λ a. Filtered (Some n) a below) (sym (by_level k l g h.0)))
   set_if false k x m l g y below h s = (set_at m l below, inner.set x below m l y h.1 s, ap (λ z. Filtered (Some n) (answers z) (set_at m l below)) (sym h.0))
 
-  set_under : (x : FilteredLayer L F) (f : Form) (m : ℕ) (l : LevelFilter) (y : FilteredLayer L F)
-      → (id_of y ≡ id_of x) × FilteredLevels own levelled (id_of x) (filter_of x) (layer_of x) m l (filter_of y) (layer_of y)
+  set_under : (x : FilteredLayer L F) (f : Form) (m : ℕ) (l : Setting) (y : FilteredLayer L F)
+      → (id_of y ≡ id_of x) × FilteredReloads own reloaded (id_of x) (filter_of x) (layer_of x) m l (filter_of y) (layer_of y)
       → StaysUnder n answers Stays x f → StaysUnder n answers Stays y (set_at m l f)
   set_under x f m l y h s =
       let k = filter_of x in
       let one = set_if (has_filter (id_of x) m) k (layer_of x) m l (filter_of y) (layer_of y) s.below h.1 s.inside in
       let numbered = ap (λ (set : FilterSet). set m) (sym s.number.1) in
       let asked = ap (λ (t : Bool). if t then Filtered
-      (Some n) (if (answers k).takes l then level_answers l else answers k) s.below else Filtered (Some n) (answers k) (set_at m l s.below)) numbered in
+      (Some n) (answers_set l (answers k)) s.below else Filtered (Some n) (answers k) (set_at m l s.below)) numbered in
       record { number = subst (λ i. IsNumber i (Some n)) (sym h.0) s.number; below = one.0; inside = one.1; form = ap (set_at m l) s.form ∙ asked ∙ one.2 }
 
   -- a steady layer under such a filter is steady
@@ -176,7 +176,7 @@ module _ {L F : Type 0} {has_form : L → Form → Type 0} {stepped : LayerSteps
       (λ x p e lane under v y w.
       (id_of y ≡ id_of x) × FilteredSteps unmoved stepped (id_of x) (filter_of x) (layer_of x) p e lane under v (filter_of y) (layer_of y) w)
       (λ x m l y.
-      (id_of y ≡ id_of x) × FilteredLevels own levelled (id_of x) (filter_of x) (layer_of x) m l (filter_of y) (layer_of y)) (StaysUnder n answers Stays)
+      (id_of y ≡ id_of x) × FilteredReloads own reloaded (id_of x) (filter_of x) (layer_of x) m l (filter_of y) (layer_of y)) (StaysUnder n answers Stays)
   steady_under = record {
     known = known_under;
     has = λ x f s. subst (FilteredForm (id_of x) (settled_answers answers (filter_of x)) (has_form (layer_of x)))
@@ -211,14 +211,14 @@ known_over joint outer inner o i (Parts k p q) a b h =
 known_over joint outer inner o i other a b h = absurd h
 
 -- a level that is set in both changes the form of both
-set_both : {L I : Type 0} {Outer : L → Form → Type 0} {Inner : I → Form → Type 0} {joint : Arrangement} (x y : Layered L I) (f : Form) (n : ℕ) (l : LevelFilter)
+set_both : {L I : Type 0} {Outer : L → Form → Type 0} {Inner : I → Form → Type 0} {joint : Arrangement} (x y : Layered L I) (f : Form) (n : ℕ) (l : Setting)
     → ((g : Form) → Outer (outer_of x) g → Outer (outer_of y) (set_at n l g))
     → ((g : Form) → Inner (inner_of x) g → Inner (inner_of y) (set_at n l g)) → StayBoth joint Outer Inner x f → StayBoth joint Outer Inner y (set_at n l f)
 set_both x y f n l outer inner s =
     record { over = set_at n l s.over; below = set_at n l s.below; outer = outer s.over s.outer; inner = inner s.below s.inner; form = ap (set_at n l) s.form }
 
 module _ {L I : Type 0} {outer_form : L → Form → Type 0} {inner_form : I → Form → Type 0}
-    {outer_steps : LayerSteps L} {inner_steps : LayerSteps I} {outer_levels : LevelSteps L} {inner_levels : LevelSteps I} {Outer : L → Form → Type 0}
+    {outer_steps : LayerSteps L} {inner_steps : LayerSteps I} {outer_levels : ReloadSteps L} {inner_levels : ReloadSteps I} {Outer : L → Form → Type 0}
     {Inner : I → Form → Type 0} (outer : IsSteady outer_form outer_steps outer_levels Outer) (inner : IsSteady inner_form inner_steps inner_levels Inner) where
   goes_pair : (x : L) (z : I) (o i : Form) (p : Plan) (e : Notice) (lane : ℕ) (under : FilterSet) (v : RegistryState) (y : L) (u : I) (w : RegistryState)
       → PairSteps outer_steps inner_steps x z p e lane under v y u w → (Outer x o → Outer y o) × (Inner z i → Inner u i)
@@ -229,7 +229,7 @@ module _ {L I : Type 0} {outer_form : L → Form → Type 0} {inner_form : I →
   -- two steady layers are a steady layer
   pub steady_pair : IsSteady (λ x. PartsForm InPair (outer_form (outer_of x)) (inner_form (inner_of x)))
       (λ x p e lane under v y w. PairSteps outer_steps inner_steps (outer_of x) (inner_of x) p e lane under v (outer_of y) (inner_of y) w)
-      (λ x n l y. LayeredLevels outer_levels inner_levels (outer_of x) (inner_of x) n l (outer_of y) (inner_of y)) (StayBoth InPair Outer Inner)
+      (λ x n l y. LayeredReloads outer_levels inner_levels (outer_of x) (inner_of x) n l (outer_of y) (inner_of y)) (StayBoth InPair Outer Inner)
   steady_pair = record {
     known = λ x f g s h. known_over InPair (outer_form (outer_of x)) (inner_form (inner_of x))
         s.over s.below g (λ k t. outer.known (outer_of x) s.over k s.outer t) (λ k t. inner.known (inner_of x) s.below k s.inner t) h ∙ sym s.form;
@@ -246,19 +246,19 @@ module _ {L I : Type 0} {outer_form : L → Form → Type 0} {inner_form : I →
 
 -- the same of a stack; another registry makes no difference
 pub record IsSteadyStack {S : Type 0} (with_registry : S → RegistryState → S)
-    (has_form : S → Form → Type 0) (stepped : StackSteps S) (levelled : LevelSteps S) (Stays : S → Form → Type 0) : Type 0 where
+    (has_form : S → Form → Type 0) (stepped : StackSteps S) (reloaded : ReloadSteps S) (Stays : S → Form → Type 0) : Type 0 where
   pub known : (x : S) (f g : Form) → Stays x f → has_form x g → g ≡ f
   pub has : (x : S) (f : Form) → Stays x f → has_form x f
   pub goes : (x : S) (f : Form) (p : Plan) (e : Notice) (lane : ℕ) (v : RegistryState) (y : S) (w : RegistryState)
       → stepped x p e lane v y w → Stays x f → Stays y f
   pub aside : (x : S) (f : Form) (w : RegistryState) → Stays x f → Stays (with_registry x w) f
-  pub set : (x : S) (f : Form) (n : ℕ) (l : LevelFilter) (y : S) → levelled x n l y → Stays x f → Stays y (set_at n l f)
+  pub set : (x : S) (f : Form) (n : ℕ) (l : Setting) (y : S) → reloaded x n l y → Stays x f → Stays y (set_at n l f)
 
 -- the registry is the base
 abbrev pub StaysBase : RegistryState → Form → Type 0
 StaysBase x f = f ≡ Terminal Base
 
-pub steady_registry : IsSteadyStack (λ (s w : RegistryState). w) (λ s f. f ≡ Terminal Base) (λ x p e lane v y w. w ≡ v) unlevelled StaysBase
+pub steady_registry : IsSteadyStack (λ (s w : RegistryState). w) (λ s f. f ≡ Terminal Base) (λ x p e lane v y w. w ≡ v) unreloaded StaysBase
 steady_registry = record {
   known = λ x f g s h. h ∙ sym s;
   has = λ x f s. s;
@@ -268,7 +268,7 @@ steady_registry = record {
 }
 
 module _ {L I : Type 0} {with_registry : I → RegistryState → I} {outer_form : L → Form → Type 0} {inner_form : I → Form → Type 0} {outer_steps : LayerSteps L}
-    {inner_steps : StackSteps I} {outer_levels : LevelSteps L} {inner_levels : LevelSteps I} {Outer : L → Form → Type 0} {Inner : I → Form → Type 0}
+    {inner_steps : StackSteps I} {outer_levels : ReloadSteps L} {inner_levels : ReloadSteps I} {Outer : L → Form → Type 0} {Inner : I → Form → Type 0}
     (outer : IsSteady outer_form outer_steps outer_levels Outer) (inner : IsSteadyStack with_registry inner_form inner_steps inner_levels Inner) where
   goes_stack : (x : L) (z : I) (o i : Form) (p : Plan) (e : Notice) (lane : ℕ) (v : RegistryState) (y : L) (u : I) (w : RegistryState)
       → LayeredSteps with_registry outer_steps inner_steps x z p e lane v y u w → (Outer x o → Outer y o) × (Inner z i → Inner u i)
@@ -282,7 +282,7 @@ module _ {L I : Type 0} {with_registry : I → RegistryState → I} {outer_form 
   pub steady_stack : IsSteadyStack (λ x w. with_inner x (with_registry (inner_of x) w))
       (λ x. PartsForm OnSubscriber (outer_form (outer_of x)) (inner_form (inner_of x)))
       (λ x p e lane v y w. LayeredSteps with_registry outer_steps inner_steps (outer_of x) (inner_of x) p e lane v (outer_of y) (inner_of y) w)
-      (λ x n l y. LayeredLevels outer_levels inner_levels (outer_of x) (inner_of x) n l (outer_of y) (inner_of y)) (StayBoth OnSubscriber Outer Inner)
+      (λ x n l y. LayeredReloads outer_levels inner_levels (outer_of x) (inner_of x) n l (outer_of y) (inner_of y)) (StayBoth OnSubscriber Outer Inner)
   steady_stack = record {
     known = λ x f g s h. known_over OnSubscriber (outer_form (outer_of x)) (inner_form (inner_of x))
         s.over s.below g (λ k t. outer.known (outer_of x) s.over k s.outer t) (λ k t. inner.known (inner_of x) s.below k s.inner t) h ∙ sym s.form;
@@ -298,11 +298,11 @@ module _ {L I : Type 0} {with_registry : I → RegistryState → I} {outer_form 
 
 -- ---- what such a stack serves
 
-module _ {S : Type 0} {with_registry : S → RegistryState → S} {has_form : S → Form → Type 0} {stepped : StackSteps S} {levelled : LevelSteps S}
-    {Stays : S → Form → Type 0} (steady : IsSteadyStack with_registry has_form stepped levelled Stays) (registry : S → RegistryState) where
+module _ {S : Type 0} {with_registry : S → RegistryState → S} {has_form : S → Form → Type 0} {stepped : StackSteps S} {reloaded : ReloadSteps S}
+    {Stays : S → Form → Type 0} (steady : IsSteadyStack with_registry has_form stepped reloaded Stays) (registry : S → RegistryState) where
   -- it is ready on the first registry, if its form is honest there
   pub ready_at_first : (f : Form) (limits : Limits) (stack : StackName) (x : S) → Stays x f → registry x ≡ start_of limits stack
-      → IsHonestStack f (start_of limits stack).filters → (g : Form) × IsReady registry with_registry has_form stepped levelled g x
+      → IsHonestStack f (start_of limits stack).filters → (g : Form) × IsReady registry with_registry has_form stepped reloaded g x
   ready_at_first f limits stack x stays first honest = (
     f,
     record {
@@ -314,10 +314,10 @@ module _ {S : Type 0} {with_registry : S → RegistryState → S} {has_form : S 
   -- what it served, with nothing kept at first, is a run of its form
   pub run_of : {hears : HearSteps S} {acts_at : ActsAt S} {requests : List Request} {answers : List Answer}
       (f : Form) (old new : Dispatch S) (s : RegistryState) → Stays (stack_of old) f → registry (stack_of old) ≡ s → kept_by old ≡ Some no_callsite
-      → (h : Served registry with_registry has_form stepped levelled hears acts_at requests answers old new)
+      → (h : Served registry with_registry has_form stepped reloaded hears acts_at requests answers old new)
       → RunsBy f requests answers h.made (Some no_callsite) s (kept_by new) (registry (stack_of new))
   run_of {hears} {acts_at} {requests} {answers} f old new s stays first kept h =
-      let run = runs_by registry with_registry has_form stepped levelled Stays
+      let run = runs_by registry with_registry has_form stepped reloaded Stays
       steady.known steady.goes steady.aside steady.set [] requests answers h.made (kept_by old) f (stack_of old) (kept_by new) (stack_of new) stays h.run in
       subst (λ k. RunsBy f requests answers h.made k s (kept_by new) (registry (stack_of new))) kept
       (subst (λ r. RunsBy f requests answers h.made (kept_by old) r (kept_by new) (registry (stack_of new))) first (run.0, run.2))

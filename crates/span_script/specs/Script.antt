@@ -38,6 +38,7 @@ use Rattle.span_dispatch.specs.declared.request.Request.TheVariants as request
 use Rattle.span_script.specs.declared.script.Script.{Script}
 use Rattle.span_script.specs.declared.stack_name.StackName.{StackName}
 use Rattle.span_script.specs.declared.stack_name.StackName.TheVariants.{Plain, Pair, Nested, Veto, Absent as AbsentStack}
+use Rattle.span_targets.specs.declared.setting.Setting.TheVariants as setting
 
 -- the texts that are borrowed
 abbrev pub texts_in : List (Bor (List ℕ)) → List (List ℕ)
@@ -264,8 +265,8 @@ Asks before (Clone name) (request.Clone lane' which) = (lane'.0 ≡ 0) × Means 
 Asks before (Drop lane name) (request.Drop lane' which) = (lane' ≡ lane) × Means before name which
 Asks before (Enabled lane site) (request.Enabled lane' site') = (lane' ≡ lane) × (site' ≡ site)
 Asks before (Current lane) (request.Current lane') = lane' ≡ lane
-Asks before (LevelLine number level) (request.SetLevel number' level') =
-    (number' ≡ number) × (level' ≡ level)
+Asks before (LevelLine number level) (request.Reload number' taken) =
+    (number' ≡ number) × (taken ≡ setting.Level level)
 Asks before l r = ⊥
 
 -- a fact holds of nothing

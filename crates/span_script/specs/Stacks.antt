@@ -164,8 +164,8 @@ pub record ServesInUse {S : Type 0} (s : SubscriberOf S) (requests : List Reques
   pub in_use : s.registered x (stack_of begun)
   pub same : s.registry (stack_of begun) ≡ s.registry x
   pub kept : kept_by begun ≡ Some no_callsite
-  pub served : (f : Form) × IsReady s.registry s.with_registry s.has_form s.stepped s.levelled f x
-      → Served s.registry s.with_registry s.has_form s.stepped s.levelled s.hears s.acts_at
+  pub served : (f : Form) × IsReady s.registry s.with_registry s.has_form s.stepped s.reloaded f x
+      → Served s.registry s.with_registry s.has_form s.stepped s.reloaded s.hears s.acts_at
       requests given.0.items begun given.1
 
 -- each of these workers was called so often at most

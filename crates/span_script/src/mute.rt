@@ -1,13 +1,14 @@
 //! A filter of events by their values.
 ghost use Rattle.std.specs.Prelude.{◌≡◌};
 ghost use Rattle.span_filters.specs.Filter.{ActsSteadily, settled_answers};
-ghost use Rattle.span_filters.specs.laws.Filter.{settled_laws, steady_levels};
+ghost use Rattle.span_filters.specs.laws.Filter.{settled_laws, steady_reloads};
 ghost use Rattle.span_script.specs.Mute.{is_muted, is_true, mute_answers};
 ghost use Rattle.span_script.specs.laws.Mute.{mute_honest};
 
 use span_core::{Event, FieldValue, Interest, LevelFilter, Metadata};
 use span_filters::Filter;
 use span_registry::{Context, ContextMut, LookupSpan, Notice};
+use span_targets::Setting;
 
 /// Lets all by but the events that have a field `mute` with the value `true`.
 #[derive(Clone, Copy, Debug)]
@@ -38,7 +39,7 @@ impl<S: LookupSpan> Filter<S> for Mute {
 
     ghost laws = { settled_laws (λ f. mute_answers) (λ f. mute_honest) };
 
-    ghost levels = { steady_levels };
+    ghost reloads = { steady_reloads };
 
     fn enabled(&self, _meta: &Metadata, _cx: &Context<'_, S>) -> bool {
         true
@@ -58,7 +59,7 @@ impl<S: LookupSpan> Filter<S> for Mute {
 
     fn notify(&mut self, _notice: Notice<'_, '_>, _ctx: &mut ContextMut<'_, S>) {}
 
-    fn set_level(&mut self, _level: LevelFilter) -> bool {
+    fn reload(&mut self, _setting: Setting) -> bool {
         false // It goes by the values.
     }
 }

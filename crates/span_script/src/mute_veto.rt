@@ -6,15 +6,16 @@ ghost use Rattle.span_layers.specs.laws.Leaf.{is_leaf, veto_laws};
 ghost use Rattle.span_layers.specs.laws.Path.{leaf_path_laws};
 ghost use Rattle.span_layers.specs.Idle.{IdleSteps};
 ghost use Rattle.span_layers.specs.Layer.{HearsBy};
-ghost use Rattle.span_layers.specs.laws.Level.{leaf_levels};
+ghost use Rattle.span_layers.specs.laws.Reload.{leaf_reloads};
 ghost use Rattle.span_layers.specs.Veto.{VetoForm};
-ghost use Rattle.span_registry.specs.Levels.{unlevelled};
+ghost use Rattle.span_registry.specs.Reload.{unreloaded};
 ghost use Rattle.span_script.specs.Mute.{mute_answers};
 
 use crate::mute::is_muted;
 use span_core::{Event, Interest, LevelFilter, Metadata, Pass};
 use span_layers::Layer;
 use span_registry::{Context, ContextMut, Notice, Subscriber};
+use span_targets::Setting;
 
 /// Vetoes the events that have a field `mute` with the value `true`, and does nothing else.
 #[derive(Clone, Copy, Debug)]
@@ -29,7 +30,7 @@ impl<S: Subscriber> Layer<S> for MuteVeto {
 
     ghost acts_at = { LeafActs };
 
-    ghost levelled = { unlevelled };
+    ghost reloaded = { unreloaded };
 
     ghost registered = { λ x y. y ≡ x };
 
@@ -39,7 +40,7 @@ impl<S: Subscriber> Layer<S> for MuteVeto {
 
     ghost paths = { leaf_path_laws (λ x f h. is_leaf h.2) };
 
-    ghost levels = { leaf_levels (veto_laws (settled_answers (λ v. mute_answers))) };
+    ghost reloads = { leaf_reloads (veto_laws (settled_answers (λ v. mute_answers))) };
 
     fn on_register_dispatch(&mut self) {
         // It has nothing to do.
@@ -79,7 +80,7 @@ impl<S: Subscriber> Layer<S> for MuteVeto {
 
     fn notify(&mut self, _notice: Notice<'_, '_>, _ctx: &mut ContextMut<'_, S>) {}
 
-    fn set_level(&mut self, _number: u32, _level: LevelFilter) -> bool {
+    fn reload(&mut self, _number: u32, _setting: Setting) -> bool {
         false // No filter is in it.
     }
 }

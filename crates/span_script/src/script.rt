@@ -12,6 +12,7 @@ use crate::reason::Reason;
 use crate::stack_name::StackName;
 use span_core::{FieldValue, Id, Lane};
 use span_dispatch::{Request, Which, WhichParent};
+use span_targets::Setting;
 use std::alloc::{AllocError, Global};
 use std::collections::BTreeMap;
 
@@ -181,7 +182,7 @@ impl<'a> Script<'a> {
             Line::Drop(lane, name) => Ok(Request::Drop(lane, self.which(name, 2)?)),
             Line::Enabled(lane, site) => Ok(Request::Enabled(lane, site)),
             Line::Current(lane) => Ok(Request::Current(lane)),
-            Line::Level(number, level) => Ok(Request::SetLevel(number, level)),
+            Line::Level(number, level) => Ok(Request::Reload(number, Setting::Level(level))),
         }
     }
 

@@ -18,7 +18,7 @@ use Rattle.span_core.specs.declared.span.Lane.{Lane}
 use Rattle.span_dispatch.specs.Call.{DropsSpan, FindsOpen, done_answer, event_answer, look_answer, span_answer, yes_answer}
 use Rattle.span_dispatch.specs.Contract.{SubscriberOf}
 use Rattle.span_dispatch.specs.declared.call.Call.TheVariants.{AddHandle, AskCurrent, DropHandle, Enter, Exit, Follow, OpenSpan, Probe, RecordValues, SendEvent}
-use Rattle.span_dispatch.specs.declared.call.Call.TheVariants.{SetLevel}
+use Rattle.span_dispatch.specs.declared.call.Call.TheVariants.{Reload}
 use Rattle.span_dispatch.specs.declared.call.Call.{Call}
 use Rattle.span_dispatch.specs.declared.request.Answer.{Answer}
 use Rattle.span_shared.specs.Journal.{Adds, Entry, Happens, KeepsJournal, Leaves, LoggedState, Placed, bare}
@@ -93,7 +93,7 @@ module _ {S : Type 0} (s : SubscriberOf S) where
   call_grows lane (DropHandle l id) a old new h = grew yes_answer old new a h (λ r k. longer _ old.journal r.1 new.journal k)
   call_grows lane (Probe l m) a old new h = grew yes_answer old new a h (λ r k. longer _ old.journal r.1 new.journal k)
   call_grows lane (AskCurrent l) a old new h = grew look_answer old new a h (λ r k. longer _ old.journal r.1 new.journal k)
-  call_grows lane (SetLevel n level) a old new h = grew done_answer old new a h (λ r k. longer _ old.journal r.1 new.journal k)
+  call_grows lane (Reload n level) a old new h = grew done_answer old new a h (λ r k. longer _ old.journal r.1 new.journal k)
 
 -- of a call that is the same
 pub logs_as : {S : Type 0} (s : SubscriberOf S) (lane : Lane) (call other : Call) (a : Answered Answer) (old new : LoggedState (Dispatch S))

@@ -11,7 +11,7 @@ use Rattle.span_core.specs.declared.span.Id.{Id}
 use Rattle.span_core.specs.declared.span.Lane.{Lane}
 use Rattle.span_dispatch.specs.Serve.{stack_of}
 use Rattle.span_dispatch.specs.declared.dispatch.Dispatch.{Dispatch}
-use Rattle.span_shared.specs.declared.entry.EntryWith.TheVariants.{New, Unmade, Event, Probe, Enter, Exit, Record, Follows, Clone, Drop, Level, Current}
+use Rattle.span_shared.specs.declared.entry.EntryWith.TheVariants.{New, Unmade, Event, Probe, Enter, Exit, Record, Follows, Clone, Drop, Reload, Current}
 use Rattle.span_shared.specs.declared.entry.EntryWith.{EntryWith}
 use Rattle.span_store.specs.Closes.{Closes, HasNoClosing, Member, remove_all}
 use Rattle.span_store.specs.Step.{AskedSpan, IsCurrent, IsParentFor, begun, entered, exited}
@@ -60,7 +60,7 @@ Happens s (Follows lane id other) t = IsOpen s.spans (number_of id) × (t ≡ s)
 Happens s (Clone lane id) t =
     IsOpen s.spans (number_of id) × (t ≡ record s { spans = add_handle s.spans (number_of id) })
 Happens s (Drop lane id closes) t = Dropping id closes s t
-Happens s (Level lane number level) t = t ≡ s
+Happens s (Reload lane number level) t = t ≡ s
 Happens s (Current lane o) t = IsCurrent s lane.0 (option_map number_of o) × (t ≡ s)
 
 -- from the empty store on, each entry of a journal may happen in the store that those before it

@@ -13,14 +13,15 @@ use Rattle.span_core.specs.declared.span.Current.{Current}
 use Rattle.span_core.specs.declared.span.Id.{Id}
 use Rattle.span_core.specs.declared.span.Lane.{Lane}
 use Rattle.span_dispatch.specs.Call.{done_answer, event_answer, look_answer, span_answer, yes_answer}
-use Rattle.span_dispatch.specs.Contract.{ClonesSpan, DropsOneHandle, EntersSpan, ExitsSpan, FollowsSpan, OpensSpan, Probes, RecordsValues, SendsEvent, ServesCurrent, SetsOneLevel, Shows, SubscriberOf, registry_of}
+use Rattle.span_dispatch.specs.Contract.{ClonesSpan, DropsOneHandle, EntersSpan, ExitsSpan, FollowsSpan, OpensSpan, Probes, RecordsValues, SendsEvent, ServesCurrent, ReloadsFilter, Shows, SubscriberOf, registry_of}
 use Rattle.span_shared.specs.Journal.{Adds, Entry, LoggedState, Placed}
-use Rattle.span_dispatch.specs.declared.call.Call.TheVariants.{AddHandle, AskCurrent, DropHandle, Enter, Exit, Follow, OpenSpan, Probe, RecordValues, SendEvent, SetLevel}
+use Rattle.span_dispatch.specs.declared.call.Call.TheVariants.{AddHandle, AskCurrent, DropHandle, Enter, Exit, Follow, OpenSpan, Probe, RecordValues, SendEvent, Reload}
 use Rattle.span_dispatch.specs.declared.call.Call.{Call}
 use Rattle.span_dispatch.specs.declared.dispatch.Dispatch.{Dispatch}
 use Rattle.span_shared.specs.declared.entry.EntryWith.TheVariants as entry
 use Rattle.span_dispatch.specs.declared.request.Answer.{Answer}
 use Rattle.span_store.specs.Store.{Span, Spans}
+use Rattle.span_targets.specs.Setting.{level_in}
 
 -- an answer with its receipt, or why the call was refused
 abbrev pub Answered : Type 0 → Type 0
@@ -135,6 +136,6 @@ module _ {S : Type 0} (s : SubscriberOf S) where
   LogsCall lane (AskCurrent l) a old new =
       Gave look_answer a
       (λ r. Logs (NeverRefused (ShowsSpan lane)) (AddsEntry (current_entry lane)) r old new)
-  LogsCall lane (SetLevel n level) a old new =
+  LogsCall lane (Reload n setting) a old new =
       Gave {A = Unit {0}} done_answer a
-      (λ r. Logs (SetsOneLevel s n level) (AddsEntry (λ u. entry.Level lane n level)) r old new)
+      (λ r. Logs (ReloadsFilter s n setting) (AddsEntry (λ u. entry.Reload lane n (level_in setting))) r old new)

@@ -55,8 +55,8 @@ pub enum EntryWith<M, V> {
     Clone(Lane, Id),
     /// One handle of the span was dropped, and whether it closed.
     Drop(Lane, Id, bool),
-    /// The level of the filter with this number was set.
-    Level(Lane, u32, LevelFilter),
+    /// The filter with this number took a setting: this level, if it was one.
+    Reload(Lane, u32, Option<LevelFilter>),
     /// The span that the lane was in.
     Current(Lane, Option<Id>),
 }

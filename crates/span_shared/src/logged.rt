@@ -1,19 +1,19 @@
 //! The accepted requests of a dispatcher, in order, and a dispatcher that keeps them.
 ghost use Rattle.std.specs.Prelude.{◌≡◌, ◌<◌, ◌↔◌, [], IsTrue, OnErr, OnOk, IfErr, IfOk, None, Some, false, true, length, slice_get, vec_capacity, vec_len};
-ghost use Rattle.span_dispatch.specs.Contract.{ClonesSpan, DropsAll, DropsOneHandle, EntersSpan, ExitsSpan, FollowsSpan, OpensSpan, Probes, RecordsValues, SendsEvent, SetsOneLevel, StaysReady, StaysReadyBut, StaysReadyByRules};
+ghost use Rattle.span_dispatch.specs.Contract.{ClonesSpan, DropsAll, DropsOneHandle, EntersSpan, ExitsSpan, FollowsSpan, OpensSpan, Probes, RecordsValues, SendsEvent, ReloadsFilter, StaysReady, StaysReadyBut, StaysReadyByRules};
 ghost use Rattle.span_shared.specs.Journal.{Adds, KeepsJournal, Leaves, Stands, holds_by};
 ghost use Rattle.span_shared.specs.Logged.{AddsEntry, AddsNewSpan, Logs, LogsCall, NeverRefused, On, ShowsSpan, answered, current_entry, event_entry};
 ghost use Rattle.span_dispatch.specs.Call.{done_answer, event_answer, look_answer, span_answer, yes_answer};
 ghost use Rattle.span_dispatch.specs.Serve.{stack_of};
 ghost use Rattle.span_store.specs.Closes.{HasNoClosing};
 ghost use Rattle.span_store.specs.Store.{IsFresh};
+ghost use Rattle.span_targets.specs.Setting.{level_in};
 
 use crate::entry::{Entry, EntryWith};
-use span_core::{
-    Attributes, Current, Event, Id, Lane, LevelFilter, Metadata, Pass, Record, TraceError,
-};
+use span_core::{Attributes, Current, Event, Id, Lane, Metadata, Pass, Record, TraceError};
 use span_dispatch::{Answer, Call, Dispatch};
 use span_registry::Subscriber;
+use span_targets::Setting;
 use std::alloc::Global;
 use std::marker::Model;
 
@@ -366,22 +366,22 @@ impl<S: Subscriber> Logged<S> {
         Ok((given, receipt))
     }
 
-    /// Sets a level as `Dispatch::set_level` does. The lane stands in the entry alone.
-    pub fn set_level(
+    /// Reloads a filter as `Dispatch::reload` does. The lane stands in the entry alone.
+    pub fn reload(
         &mut self,
         lane: Lane,
         number: u32,
-        level: LevelFilter,
+        setting: Setting,
     ) -> Result<((), Receipt), TraceError>
         ensures ready { On (StaysReadyBut S.Subscriber number) self.old self.new }
-        ensures logs { Logs (SetsOneLevel S.Subscriber number level)
-            (AddsEntry (λ _. EntryWith.Level lane number level)) result self.old self.new }
+        ensures logs { Logs (ReloadsFilter S.Subscriber number setting)
+            (AddsEntry (λ _. EntryWith.Reload lane number (level_in setting))) result self.old self.new }
     {
         let Logged { dispatch, journal } = self;
         let Journal { entries } = journal;
         entries.reserve(1)?;
-        dispatch.set_level(number, level)?;
-        let receipt = noted(entries, Entry::Level(lane, number, level));
+        dispatch.reload(number, setting)?;
+        let receipt = noted(entries, Entry::Reload(lane, number, setting.level()));
         Ok(((), receipt))
     }
 
@@ -417,7 +417,7 @@ impl<S: Subscriber> Logged<S> {
             Call::DropHandle(_, id) => yes_answered(self.drop_span(lane, *id)),
             Call::Probe(_, metadata) => yes_answered(self.enabled(lane, metadata)),
             Call::AskCurrent(_) => look_answered(self.current_span(lane)),
-            Call::SetLevel(number, level) => done_answered(self.set_level(lane, *number, *level)),
+            Call::Reload(number, setting) => done_answered(self.reload(lane, *number, *setting)),
         }
     }
 }

@@ -1,13 +1,14 @@
 //! A dispatcher that workers share behind one lock.
 ghost use Rattle.std.specs.Prelude.{◌≡◌, ℕ, ◌+◌, ◌-◌, ◌<◌, ◌≤◌, ◌^◌, ◌↔◌, IfErr, IfOk, IfSome, IsNone, IsOk, OnErr, OnOk, length, not, vec_len};
 ghost use Rattle.span_core.specs.Level.{is_above};
-ghost use Rattle.span_dispatch.specs.Contract.{ClonesSpan, DropsOneHandle, EntersSpan, ExitsSpan, FollowsSpan, OpensSpan, Probes, RecordsValues, SendsEvent, SetsOneLevel};
+ghost use Rattle.span_dispatch.specs.Contract.{ClonesSpan, DropsOneHandle, EntersSpan, ExitsSpan, FollowsSpan, OpensSpan, Probes, RecordsValues, SendsEvent, ReloadsFilter};
 ghost use Rattle.span_dispatch.specs.Serve.{stack_of};
 ghost use Rattle.span_shared.specs.Journal.{Leaves};
 ghost use Rattle.span_shared.specs.Logged.{AddsEntry, AddsNewSpan, Logs, LogsCall, NeverRefused, ShowsSpan, current_entry, event_entry};
 ghost use Rattle.span_shared.specs.Worker.{AreCrew, AreCrewOf, SomeLogged, called, calls_of, new_worker};
 ghost use Rattle.span_store.specs.Closes.{HasNoClosing};
 ghost use Rattle.span_store.specs.Store.{IsFresh};
+ghost use Rattle.span_targets.specs.Setting.{level_in};
 
 use crate::entry::{Entry, EntryWith};
 use crate::logged::{Journal, Logged, Receipt};
@@ -17,6 +18,7 @@ use span_core::{
 };
 use span_dispatch::{Answer, Call, Dispatch};
 use span_registry::Subscriber;
+use span_targets::Setting;
 use std::alloc::Global;
 use std::marker::{Brand, Model, PhantomData};
 use std::sync::ledger::{Book, Ledger, Share};
@@ -437,25 +439,25 @@ impl<S: Subscriber, L: Crew> Shared<S, L> {
         Ok(given)
     }
 
-    /// Sets a level as `Dispatch::set_level` does. What `passes_hint` answers is unchanged.
-    pub fn set_level(
+    /// Reloads a filter as `Dispatch::reload` does. What `passes_hint` answers is unchanged.
+    pub fn reload(
         &self,
         rt: &impl Wait,
         worker: &mut Worker<L>,
         number: u32,
-        level: LevelFilter,
+        setting: Setting,
     ) -> Result<((), Receipt), TraceError>
         requires { worker.old.calls < 2 ^ 64 - 1 }
         ensures worker { OnOk result (worker.new ≡ called worker.old) }
         ensures logs { SomeLogged S.Subscriber
-            (Logs (SetsOneLevel S.Subscriber number level)
-            (AddsEntry (λ _. EntryWith.Level worker.old.lane number level)) result) }
+            (Logs (ReloadsFilter S.Subscriber number setting)
+            (AddsEntry (λ _. EntryWith.Reload worker.old.lane number (level_in setting))) result) }
         ensures unchanged { OnErr result (worker.new ≡ worker.old) }
     {
         let mut guard = self.lock.lock(rt);
         let Locked { logged, calls } = &mut *guard;
         logged.stands();
-        let given = logged.set_level(worker.lane, number, level)?;
+        let given = logged.reload(worker.lane, number, setting)?;
         worker.count(calls);
         Ok(given)
     }

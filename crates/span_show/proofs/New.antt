@@ -24,15 +24,15 @@ use Rattle.span_store.specs.declared.limits.Limits.{Limits}
 use Rattle.span_registry.proofs.CallerLemmas.{settled_new}
 use Rattle.span_registry.specs.Form.{Base, Filtered, Form, Leaf, OnSubscriber, Parts, Terminal}
 use Rattle.span_registry.specs.Hooks.{StackSteps}
-use Rattle.span_registry.specs.Levels.{LevelSteps}
+use Rattle.span_registry.specs.Reload.{ReloadSteps}
 use Rattle.span_show.specs.Serve.{HasRoomOnNew}
 use Rattle.std.specs.Prelude.{None, Some, true, ⊤}
 
 -- what stands without spans is ready
 pub ready : {S : Type 0} {registry : S → RegistryState} {has_form : S → Form → Type 0}
-    (with_registry : S → RegistryState → S) (stepped : StackSteps S) (levelled : LevelSteps S) (f : Form) (n : ℕ) (x : S) → Stands registry has_form f n x
-    → (g : Form) × IsReady registry with_registry has_form stepped levelled g x
-ready {registry = registry} with_registry stepped levelled f n x h = (
+    (with_registry : S → RegistryState → S) (stepped : StackSteps S) (reloaded : ReloadSteps S) (f : Form) (n : ℕ) (x : S) → Stands registry has_form f n x
+    → (g : Form) × IsReady registry with_registry has_form stepped reloaded g x
+ready {registry = registry} with_registry stepped reloaded f n x h = (
   f,
   record {
     honest = record { has = h.has; rules = subst (λ k. IsHonestStack f k) (sym h.filters) h.rules };

@@ -43,7 +43,7 @@ pub record HasRoomOnNew {L : Type 0} (has_form : L → Form → Type 0) (layer :
 -- a stack is ready by some form
 abbrev pub IsReadyStack : {S : Type 0} → SubscriberOf S → S → Type 0
 IsReadyStack s x =
-    (f : Form) × IsReady s.registry s.with_registry s.has_form s.stepped s.levelled f x
+    (f : Form) × IsReady s.registry s.with_registry s.has_form s.stepped s.reloaded f x
 
 -- a registry without spans, with limits as high as they go
 pub record HasAllRoom (s : RegistryState) : Type 0 where
@@ -93,7 +93,7 @@ pub record IsTextOf {T : Type 0} (Begins : T → Type 0) (due : Heard → List �
   pub new : Dispatch (WithObserver T RegistryState)
   pub begun : IsNewUnder Begins (stack_of old)
   pub answered : AnswersAll answers old
-  pub served : Served s.registry s.with_registry s.has_form s.stepped s.levelled s.hears s.acts_at
+  pub served : Served s.registry s.with_registry s.has_form s.stepped s.reloaded s.hears s.acts_at
       requests answers old new
   pub written : text ≡ due (passed_at observer_position (flat served.made))
 

@@ -19,9 +19,9 @@ use Rattle.span_store.specs.Store.{Span, SpanExtensions, Store}
 use Rattle.span_registry.proofs.Ancestry.{see_each}
 use Rattle.span_registry.specs.Behaviour.{Behaviour}
 use Rattle.span_registry.specs.Form.{Filtered, Form}
-use Rattle.span_core.specs.declared.level.LevelFilter.{LevelFilter}
+use Rattle.span_targets.specs.declared.setting.Setting.{Setting}
 use Rattle.std.specs.Prelude.{if◌then◌else◌}
-use Rattle.span_registry.specs.Levels.{takes_level}
+use Rattle.span_registry.specs.Reload.{takes_setting}
 use Rattle.span_registry.specs.Context.{is_enabled_in}
 use Rattle.span_registry.specs.Plan.{is_passed}
 use Rattle.span_registry.specs.Question.{single}
@@ -112,17 +112,17 @@ passed_where_enabled id s lane set x n h =
 
 -- ---- which filter takes a level
 
-module _ (id : FilterId) (answers : Behaviour → Type 0) (layer : Form → Type 0) (n : ℕ) (l : LevelFilter) (said : Bool) where
+module _ (id : FilterId) (answers : Behaviour → Type 0) (layer : Form → Type 0) (n : ℕ) (l : Setting) (said : Bool) where
   -- the filter itself, where it has the number
   pub takes_itself : has_filter id n ≡ true
-      → ((a : Behaviour) → answers a → said ≡ a.takes l) → (f : Form) → FilteredForm id answers layer f → said ≡ takes_level f n l
+      → ((a : Behaviour) → answers a → said ≡ a.takes l) → (f : Form) → FilteredForm id answers layer f → said ≡ takes_setting f n l
   takes_itself own says (Filtered m a f) h =
-      says a h.1 ∙ ap (λ (t : Bool). if t then a.takes l else takes_level f n l) (sym own ∙ ap (λ (k : FilterSet). k n) (numbered_alone id m h.0))
+      says a h.1 ∙ ap (λ (t : Bool). if t then a.takes l else takes_setting f n l) (sym own ∙ ap (λ (k : FilterSet). k n) (numbered_alone id m h.0))
   takes_itself own says f h = absurd h
 
   -- else what stands under it
   pub takes_under : has_filter id n ≡ false
-      → ((f : Form) → layer f → said ≡ takes_level f n l) → (f : Form) → FilteredForm id answers layer f → said ≡ takes_level f n l
+      → ((f : Form) → layer f → said ≡ takes_setting f n l) → (f : Form) → FilteredForm id answers layer f → said ≡ takes_setting f n l
   takes_under none says (Filtered m a f) h =
-      says f h.2 ∙ ap (λ (t : Bool). if t then a.takes l else takes_level f n l) (sym none ∙ ap (λ (k : FilterSet). k n) (numbered_alone id m h.0))
+      says f h.2 ∙ ap (λ (t : Bool). if t then a.takes l else takes_setting f n l) (sym none ∙ ap (λ (k : FilterSet). k n) (numbered_alone id m h.0))
   takes_under none says f h = absurd h

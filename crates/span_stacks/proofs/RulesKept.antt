@@ -6,7 +6,7 @@ use Rattle.span_stacks.specs.Verdict.{AreDistinct, numbers_of}
 use Rattle.span_registry.specs.Behaviour.{Behaviour, AreHonest}
 use Rattle.span_registry.specs.KeptForm.{AnswersKeep}
 use Rattle.span_registry.specs.Form.{Terminal, Filtered, Form, InList, InPair, Arrangement, Leaf, OnSubscriber, Parts, TerminalKind}
-use Rattle.span_registry.specs.Levels.{KeepsRules}
+use Rattle.span_registry.specs.Reload.{KeepsRules}
 
 -- what a form keeps where it is notified or levels are set, part by part
 data Ruled : Form → Form → Type 0 where

@@ -4,7 +4,7 @@ use Rattle.span_stacks.specs.Verdict.{HasOwnNumbers}
 use Rattle.span_registry.specs.Behaviour.{AreHonest}
 use Rattle.span_registry.specs.KeptForm.{RefusesNothing}
 use Rattle.span_registry.specs.Form.{Absent, Terminal, Base, End, Filtered, Form, InList, InPair, Leaf, OnSubscriber, Parts}
-use Rattle.span_registry.specs.Levels.{KeepsRules}
+use Rattle.span_registry.specs.Reload.{KeepsRules}
 
 -- the answers of each filter and each leaf of a form are honest
 abbrev pub HasHonestAnswers : Form → Type 0

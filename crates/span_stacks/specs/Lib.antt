@@ -3,7 +3,7 @@ pub mod Attach
 pub mod Filtered
 pub mod Honest
 pub mod Layered
-pub mod Levels
+pub mod Reload
 pub mod Stands
 pub mod Takes
 pub mod Verdict

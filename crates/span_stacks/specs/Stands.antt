@@ -1,13 +1,13 @@
 -- A new stack that is honest; and what the types of stacks and of layers under filters say.
 use Rattle.std.specs.Prelude.{◌≡◌, ⊤, ℕ}
-use Rattle.span_filters.specs.Filter.{FilterLevelSteps, FilterSteps}
+use Rattle.span_filters.specs.Filter.{FilterReloadSteps, FilterSteps}
 use Rattle.span_stacks.specs.Acts.{FilteredActs, LayeredActs}
 use Rattle.span_stacks.specs.Filtered.{FilteredForm, FilteredHears, FilteredSteps, filter_of, id_of, layer_of}
 use Rattle.span_stacks.specs.Honest.{IsHonestStack}
 use Rattle.span_layers.specs.Layer.{LayerSteps}
 use Rattle.span_layers.specs.Parts.{PartsForm}
 use Rattle.span_stacks.specs.Layered.{LayeredHears, LayeredSteps, inner_of, outer_of}
-use Rattle.span_stacks.specs.Levels.{FilteredLevels, LayeredLevels}
+use Rattle.span_stacks.specs.Reload.{FilteredReloads, LayeredReloads}
 use Rattle.span_stacks.specs.declared.filtered.Filtered.{Filtered as FilteredLayer}
 use Rattle.span_stacks.specs.declared.layered.Layered.{Layered}
 use Rattle.span_store.specs.Store.{RegistryState, empty_store}
@@ -15,7 +15,7 @@ use Rattle.span_registry.specs.Behaviour.{Behaviour, Conduct}
 use Rattle.span_registry.specs.Conducts.{ActsAt}
 use Rattle.span_registry.specs.Form.{Terminal, Base, Form, OnSubscriber}
 use Rattle.span_registry.specs.Hooks.{StackSteps}
-use Rattle.span_registry.specs.Levels.{LevelSteps}
+use Rattle.span_registry.specs.Reload.{ReloadSteps}
 use Rattle.span_registry.specs.Position.{HearSteps}
 
 -- a value is an honest stack of this form, on a registry without spans that handed out this many
@@ -73,11 +73,11 @@ abbrev pub filtered_acts : {L F : Type 0} → (F → Conduct → Type 0) → Act
     → ActsAt (FilteredLayer L F)
 filtered_acts own inside x = FilteredActs (id_of x) (own (filter_of x)) inside (layer_of x)
 
--- how levels are set in a filtered layer
-abbrev pub filtered_levels : {L F : Type 0} → FilterLevelSteps F → LevelSteps L
-    → LevelSteps (FilteredLayer L F)
-filtered_levels own inside x n l y =
-    (id_of y ≡ id_of x) × FilteredLevels own inside (id_of x) (filter_of x) (layer_of x) n l
+-- how a filtered layer is reloaded
+abbrev pub filtered_reloads : {L F : Type 0} → FilterReloadSteps F → ReloadSteps L
+    → ReloadSteps (FilteredLayer L F)
+filtered_reloads own inside x n l y =
+    (id_of y ≡ id_of x) × FilteredReloads own inside (id_of x) (filter_of x) (layer_of x) n l
     (filter_of y) (layer_of y)
 
 -- Below: what the type of a layer on a stack says, as that of the layer and that of the stack do.
@@ -107,7 +107,7 @@ stack_hears layer below x position h y =
 abbrev pub stack_acts : {L I : Type 0} → ActsAt L → ActsAt I → ActsAt (Layered L I)
 stack_acts layer below x = LayeredActs layer below (outer_of x) (inner_of x)
 
--- how levels are set in a layer on a stack
-abbrev pub stack_levels : {L I : Type 0} → LevelSteps L → LevelSteps I → LevelSteps (Layered L I)
-stack_levels layer below x n l y =
-    LayeredLevels layer below (outer_of x) (inner_of x) n l (outer_of y) (inner_of y)
+-- how a layer on a stack is reloaded
+abbrev pub stack_reloads : {L I : Type 0} → ReloadSteps L → ReloadSteps I → ReloadSteps (Layered L I)
+stack_reloads layer below x n l y =
+    LayeredReloads layer below (outer_of x) (inner_of x) n l (outer_of y) (inner_of y)

@@ -1,5 +1,5 @@
 pub mod Filtered
-pub mod Level
 pub mod Pair
 pub mod Path
+pub mod Reload
 pub mod Stack

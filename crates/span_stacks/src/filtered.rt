@@ -3,8 +3,8 @@ ghost use Rattle.std.specs.Borrow.{Lends, sem};
 ghost use Rattle.std.specs.Prelude.{◌≡◌};
 ghost use Rattle.span_stacks.specs.Acts.{FilteredActs};
 ghost use Rattle.span_stacks.specs.laws.Path.{filtered_path_laws};
-ghost use Rattle.span_stacks.specs.Levels.{FilteredLevels};
-ghost use Rattle.span_stacks.specs.laws.Level.{filtered_levels};
+ghost use Rattle.span_stacks.specs.Reload.{FilteredReloads};
+ghost use Rattle.span_stacks.specs.laws.Reload.{filtered_reloads};
 ghost use Rattle.span_stacks.specs.contracts.filtered.Filtered.{the_row};
 ghost use Rattle.span_filters.specs.Filter.{Notified as FilterNotified};
 ghost use Rattle.span_stacks.specs.Filtered.{FilteredForm, FilteredHears, FilteredSteps, Hooked, IsUnnumbered, filter_of, layer_of, with_filter, with_layer};
@@ -16,6 +16,7 @@ use span_core::{Event, FilterId, Interest, LevelFilter, Metadata, Pass};
 use span_filters::Filter;
 use span_layers::Layer;
 use span_registry::{Context, ContextMut, Notice, Subscriber};
+use span_targets::Setting;
 
 /// A layer that is notified of what its filter enables. What the filter refuses is refused for this
 /// layer alone.
@@ -111,8 +112,8 @@ impl<S: Subscriber, L: Layer<S>, F: Filter<S>> Layer<S> for Filtered<L, F> {
 
     ghost acts_at = { λ x. FilteredActs x.id (F.acts x.filter) L.acts_at x.layer };
 
-    ghost levelled = { λ x n l y. (y.id ≡ x.id)
-        × FilteredLevels F.levelled L.levelled x.id x.filter x.layer n l y.filter y.layer };
+    ghost reloaded = { λ x n l y. (y.id ≡ x.id)
+        × FilteredReloads F.reloaded L.reloaded x.id x.filter x.layer n l y.filter y.layer };
 
     ghost registered = { λ x y. (y.id ≡ x.id) × (y.filter ≡ x.filter)
         × L.registered x.layer y.layer };
@@ -123,7 +124,7 @@ impl<S: Subscriber, L: Layer<S>, F: Filter<S>> Layer<S> for Filtered<L, F> {
 
     ghost paths = { filtered_path_laws F.laws L.paths (λ x. x.id) (λ x. x.filter) (λ x. x.layer) };
 
-    ghost levels = { filtered_levels F.laws F.levels L.laws.heard L.levels (λ x. x.id)
+    ghost reloads = { filtered_reloads F.laws F.reloads L.laws.heard L.reloads (λ x. x.id)
         (λ x. x.filter) (λ x. x.layer) };
 
     fn on_register_dispatch(&mut self) {
@@ -205,10 +206,10 @@ impl<S: Subscriber, L: Layer<S>, F: Filter<S>> Layer<S> for Filtered<L, F> {
         ctx.restore_mask(before);
     }
 
-    fn set_level(&mut self, number: u32, level: LevelFilter) -> bool {
+    fn reload(&mut self, number: u32, setting: Setting) -> bool {
         if self.id.contains(number) {
-            return self.filter.set_level(level);
+            return self.filter.reload(setting);
         }
-        self.layer.set_level(number, level)
+        self.layer.reload(number, setting)
     }
 }

@@ -2,7 +2,7 @@
 //! they ensure is the law.
 ghost use Rattle.std.specs.Prelude.{ℕ};
 ghost use Rattle.span_stacks.specs.Honest.{HonestyIsKept, IsHonestStack};
-ghost use Rattle.span_stacks.specs.Takes.{OneFilterTakesALevel};
+ghost use Rattle.span_stacks.specs.Takes.{OneFilterTakesASetting};
 ghost use Rattle.span_stacks.specs.Verdict.{EventsAreFresh, HasOwnNumbers, IsOrderly, NewSpansAreFresh, NotifiesByPaths, NumbersStayOwn, OthersStayFresh, VetoesAloneRefuse, VetoesAloneRefuseEvents};
 ghost use Rattle.span_stacks.specs.Wanted.{AboveIsUnwanted, AlwaysAsksInVain, AlwaysIsWanted, NeverIsUnwanted};
 ghost use Rattle.span_registry.specs.Form.{Form, WritesOnlyExtensions};
@@ -37,10 +37,10 @@ pub fn numbers_are_own()
 {}
 
 /// Where filters have numbers of their own, of two parts that stand together not both have a filter
-/// that takes a level under a number. A pair, a list or a stack, in which a level is set in all
-/// parts, then answers and changes as the first that takes it does.
-pub fn one_filter_takes_a_level()
-    ensures { OneFilterTakesALevel }
+/// that takes a setting under a number. A pair, a list or a stack, all parts of which are reloaded,
+/// then answers and changes as the first that takes it does.
+pub fn one_filter_takes_a_setting()
+    ensures { OneFilterTakesASetting }
 {}
 
 /// What other laws ask of a form holds of an honest stack: its filters have numbers of their own,

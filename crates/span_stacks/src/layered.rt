@@ -3,8 +3,8 @@ ghost use Rattle.std.specs.Borrow.{Lends, sem};
 ghost use Rattle.std.specs.Prelude.{◌≡◌, ◌&&◌, if◌then◌else◌};
 ghost use Rattle.span_stacks.specs.Acts.{LayeredActs};
 ghost use Rattle.span_stacks.specs.laws.Path.{pair_path_laws};
-ghost use Rattle.span_stacks.specs.Levels.{LayeredLevels};
-ghost use Rattle.span_stacks.specs.laws.Level.{layered_levels};
+ghost use Rattle.span_stacks.specs.Reload.{LayeredReloads};
+ghost use Rattle.span_stacks.specs.laws.Reload.{layered_reloads};
 ghost use Rattle.span_stacks.specs.contracts.layered.Layered.{the_row};
 ghost use Rattle.span_core.specs.Level.{greater_hint};
 ghost use Rattle.span_core.specs.declared.interest.Interest.TheVariants.{Sometimes};
@@ -17,6 +17,7 @@ ghost use Rattle.span_registry.specs.Question.{hint_by, is_never};
 use span_core::{Event, Interest, LevelFilter, Metadata, Pass};
 use span_layers::Layer;
 use span_registry::{Context, ContextMut, Notice, Subscriber};
+use span_targets::Setting;
 
 /// An outer part over an inner one: a layer where both are layers, a stack where the inner one is a
 /// stack.
@@ -139,8 +140,8 @@ impl<S: Subscriber, L: Layer<S>, I: Layer<S>> Layer<S> for Layered<L, I> {
 
     ghost acts_at = { λ x. LayeredActs L.acts_at I.acts_at x.layer x.inner };
 
-    ghost levelled = { λ x n l y.
-        LayeredLevels L.levelled I.levelled x.layer x.inner n l y.layer y.inner };
+    ghost reloaded = { λ x n l y.
+        LayeredReloads L.reloaded I.reloaded x.layer x.inner n l y.layer y.inner };
 
     ghost registered = { λ x y. L.registered x.layer y.layer × I.registered x.inner y.inner };
 
@@ -150,7 +151,7 @@ impl<S: Subscriber, L: Layer<S>, I: Layer<S>> Layer<S> for Layered<L, I> {
 
     ghost paths = { pair_path_laws L.paths I.paths (λ x. x.layer) (λ x. x.inner) };
 
-    ghost levels = { layered_levels L.levels I.levels InPair (λ x. x.layer) (λ x. x.inner) };
+    ghost reloads = { layered_reloads L.reloads I.reloads InPair (λ x. x.layer) (λ x. x.inner) };
 
     fn on_register_dispatch(&mut self) {
         self.layer.on_register_dispatch();
@@ -229,9 +230,9 @@ impl<S: Subscriber, L: Layer<S>, I: Layer<S>> Layer<S> for Layered<L, I> {
         self.layer.notify(notice, ctx);
     }
 
-    fn set_level(&mut self, number: u32, level: LevelFilter) -> bool {
-        let outer = self.layer.set_level(number, level);
-        let inner = self.inner.set_level(number, level);
+    fn reload(&mut self, number: u32, setting: Setting) -> bool {
+        let outer = self.layer.reload(number, setting);
+        let inner = self.inner.reload(number, setting);
         outer || inner
     }
 }

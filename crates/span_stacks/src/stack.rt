@@ -6,8 +6,8 @@ ghost use Rattle.span_stacks.specs.laws.Path.{stack_path_laws};
 ghost use Rattle.span_stacks.specs.laws.Stack.{stack_laws};
 ghost use Rattle.span_layers.specs.Parts.{PartsForm};
 ghost use Rattle.span_stacks.specs.Layered.{LayeredHears, LayeredSteps};
-ghost use Rattle.span_stacks.specs.Levels.{LayeredLevels};
-ghost use Rattle.span_stacks.specs.laws.Level.{layered_levels};
+ghost use Rattle.span_stacks.specs.Reload.{LayeredReloads};
+ghost use Rattle.span_stacks.specs.laws.Reload.{layered_reloads};
 ghost use Rattle.span_registry.specs.Form.{OnSubscriber};
 
 use crate::layered::{Hinted, Layered, calmed, hint_over};
@@ -17,6 +17,7 @@ use span_core::{
 };
 use span_layers::Layer;
 use span_registry::{Context, ContextMut, Data, LookupSpan, Notice, Registry, Subscriber};
+use span_targets::Setting;
 
 impl<L, I: LookupSpan> LookupSpan for Layered<L, I> {
     ghost registry = { λ x. I.registry x.inner };
@@ -60,8 +61,8 @@ impl<I: Subscriber, L: Layer<I>> Subscriber for Layered<L, I> {
 
     ghost acts_at = { λ x. LayeredActs L.acts_at I.acts_at x.layer x.inner };
 
-    ghost levelled = { λ x n l y.
-        LayeredLevels L.levelled I.levelled x.layer x.inner n l y.layer y.inner };
+    ghost reloaded = { λ x n l y.
+        LayeredReloads L.reloaded I.reloaded x.layer x.inner n l y.layer y.inner };
 
     ghost registered = { λ x y. L.registered x.layer y.layer × I.registered x.inner y.inner };
 
@@ -71,7 +72,7 @@ impl<I: Subscriber, L: Layer<I>> Subscriber for Layered<L, I> {
     ghost paths = { stack_path_laws L.paths I.paths (λ x. x.layer) (λ x. x.inner)
         (λ x i. record x { inner = i }) (λ x i. refl) (λ x i. refl) };
 
-    ghost levels = { layered_levels L.levels I.levels OnSubscriber (λ x. x.layer) (λ x. x.inner) };
+    ghost reloads = { layered_reloads L.reloads I.reloads OnSubscriber (λ x. x.layer) (λ x. x.inner) };
 
     fn on_register_dispatch(&mut self) {
         self.inner.on_register_dispatch();
@@ -209,9 +210,9 @@ impl<I: Subscriber, L: Layer<I>> Subscriber for Layered<L, I> {
         false // A layer stands on it.
     }
 
-    fn set_level(&mut self, number: u32, level: LevelFilter) -> bool {
-        let outer = self.layer.set_level(number, level);
-        let inner = self.inner.set_level(number, level);
+    fn reload(&mut self, number: u32, setting: Setting) -> bool {
+        let outer = self.layer.reload(number, setting);
+        let inner = self.inner.reload(number, setting);
         outer || inner
     }
 }

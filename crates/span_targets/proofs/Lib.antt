@@ -1,4 +1,3 @@
-mod Around
 mod Back
 mod Edits
 mod EnvMeaning

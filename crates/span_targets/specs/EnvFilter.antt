@@ -1,21 +1,14 @@
--- What a filter by targets and spans answers.
-use Rattle.std.specs.Prelude.{◌≡◌, ◌&&◌, ◌||◌, ◌++◌, ℕ, List, [], ◌∷◌, length, take, bytes_eq, string_bytes, Bool, true, false, if◌then◌else◌, Some}
-use Rattle.std.specs.FinMap.{get}
+-- What a filter by targets and spans says: what passes by its targets, and what within spans.
+use Rattle.std.specs.Prelude.{◌≡◌, ◌&&◌, ◌||◌, ◌++◌, ℕ, List, [], ◌∷◌, length, take, bytes_eq, string_bytes, Bool, true, false}
 use Rattle.std.specs.List.{list_any}
-use Rattle.std.specs.Option.{option_map_or}
 use Rattle.span_core.specs.Level.{greater, passes_level}
 use Rattle.span_core.specs.Metadata.{kind_of, level_of, name_of, target_of}
-use Rattle.span_core.specs.declared.interest.Interest.TheVariants.{Always, Never, Sometimes}
-use Rattle.span_core.specs.declared.interest.Interest.{Interest}
 use Rattle.span_core.specs.declared.level.Level.{Level}
 use Rattle.span_core.specs.declared.level.LevelFilter.{LevelFilter}
 use Rattle.span_core.specs.declared.metadata.Makes.TheVariants.{Events, Spans}
 use Rattle.span_core.specs.declared.metadata.Makes.{Makes}
 use Rattle.span_core.specs.declared.metadata.Metadata.{Metadata}
-use Rattle.span_registry.specs.Behaviour.{Behaviour}
-use Rattle.span_registry.specs.View.{SeenSpans, View, current_shown, scope}
-use Rattle.span_targets.specs.Answers.{wants}
-use Rattle.span_targets.specs.Targets.{most_by}
+use Rattle.span_targets.specs.Targets.{most_by, wants}
 use Rattle.span_targets.specs.declared.env_filter.EnvFilter.{EnvFilter}
 use Rattle.span_targets.specs.declared.span_directive.SpanDirective.{SpanDirective}
 use Rattle.span_targets.specs.declared.targets.Targets.{Targets}
@@ -59,14 +52,6 @@ abbrev pub most_within : LevelFilter → List SpanDirective → LevelFilter
 most_within most [] = most
 most_within most (d ∷ ds) = most_within (greater most (level_within d)) ds
 
--- whether a level passes in the span with this id, as it is seen
-abbrev pub passes_in : List SpanDirective → Level → SeenSpans → ℕ → Bool
-passes_in ds l spans x = option_map_or (λ r. passes_within ds r.metadata l) (get spans x) false
-
--- whether a level passes in the span that a lane is in, or in one above that, as a view shows them
-abbrev pub passes_around : List SpanDirective → Level → View → Bool
-passes_around ds l v = list_any (passes_in ds l v.spans) (scope v.spans (current_shown v))
-
 -- whether a callsite makes spans
 abbrev pub makes_spans : Makes → Bool
 makes_spans Spans = true
@@ -96,28 +81,11 @@ pub record AddsSpan (front called : List ℕ) (most : LevelFilter) (old new : En
   pub spans : spans_of new ≡ spans_of old ++ directive ∷ []
   pub targets : targets_in new ≡ targets_in old
 
+-- the most that passes anywhere: by targets, or within spans
+abbrev pub most_of_all : EnvFilter → LevelFilter
+most_of_all f = most_within (most_by (targets_in f)) (spans_of f)
+
 -- whether metadata pass in each view: by their target, or as those of a span that is named
 abbrev pub passes_anywhere : EnvFilter → Metadata → Bool
 passes_anywhere f m =
     wants (targets_in f) m || (is_span m && passes_within (spans_of f) m (level_of m))
-
--- whether metadata pass in a view
-abbrev pub env_enabled : EnvFilter → Metadata → View → Bool
-env_enabled f m v = passes_anywhere f m || passes_around (spans_of f) (level_of m) v
-
--- the interest: always, if metadata pass in each view; sometimes, if their level does within some
--- span; else never
-abbrev pub env_interest : EnvFilter → Metadata → Interest
-env_interest f m =
-    if passes_anywhere f m then Always
-    else if passes_somewhere (spans_of f) (level_of m) then Sometimes else Never
-
--- all that a filter by targets and spans answers; its hint is the most that passes anywhere
-abbrev pub env_answers : EnvFilter → Behaviour
-env_answers f = record {
-  enabled = env_enabled f;
-  event = λ e v. true;
-  interest = env_interest f;
-  hint = Some (most_within (most_by (targets_in f)) (spans_of f));
-  takes = λ l. false;
-}

@@ -1,9 +1,9 @@
-pub mod Answers
 pub mod Back
 pub mod Directive
 pub mod EnvFilter
 pub mod EnvText
 pub mod Names
+pub mod Setting
 pub mod Targets
 pub mod Text
 pub mod laws

@@ -1,9 +1,12 @@
 -- What a filter by targets has, and its text.
-use Rattle.std.specs.Prelude.{◌≡◌, ℕ, List, [], ◌∷◌, ◌++◌, map, take, codes}
+use Rattle.std.specs.Prelude.{◌≡◌, ℕ, Bool, List, [], ◌∷◌, ◌++◌, map, take, codes}
 use Rattle.std.specs.Prelude.{Option, None, Some}
 use Rattle.std.specs.Borrow.{Bor}
 use Rattle.std.specs.List.{join_with_byte}
+use Rattle.span_core.specs.Level.{passes_level}
+use Rattle.span_core.specs.Metadata.{level_of, target_of}
 use Rattle.span_core.specs.declared.level.LevelFilter.{LevelFilter}
+use Rattle.span_core.specs.declared.metadata.Metadata.{Metadata}
 use Rattle.span_targets.specs.Directive.{directive_text, most_of, named_in, word_of}
 use Rattle.span_targets.specs.Names.{Names, level_for, naming_each}
 use Rattle.span_targets.specs.declared.directive.Directive.{Directive}
@@ -50,3 +53,7 @@ joined (p ∷ ps) = join_with_byte 44 (p ∷ ps)
 -- the text of a filter
 abbrev pub text_of : Targets → List ℕ
 text_of f = joined (pieces_of f)
+
+-- whether metadata pass: their level does at their target
+abbrev pub wants : Targets → Metadata → Bool
+wants f m = passes_level (level_for (names_of f) (target_of m)) (level_of m)

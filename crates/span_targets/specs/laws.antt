@@ -1,3 +1,1 @@
 pub mod Below
-pub mod EnvHonest
-pub mod Honest

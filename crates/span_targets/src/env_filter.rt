@@ -1,20 +1,14 @@
 //! A filter by targets, and by the spans that a lane is in.
 ghost use Rattle.std.specs.Prelude.{◌≡◌, [], OnErr, OnOk};
 ghost use Rattle.std.specs.Option.{option_copied};
-ghost use Rattle.span_filters.specs.Filter.{ActsSteadily, settled_answers};
-ghost use Rattle.span_filters.specs.laws.Filter.{settled_laws, steady_levels};
-ghost use Rattle.span_registry.specs.Context.{view_in};
-ghost use Rattle.span_targets.specs.EnvFilter.{env_answers, passes_anywhere, passes_around, spans_of, targets_in};
+ghost use Rattle.span_targets.specs.EnvFilter.{most_of_all, passes_anywhere, passes_somewhere, passes_within, spans_of, targets_in};
 ghost use Rattle.span_targets.specs.Names.{naming};
 ghost use Rattle.span_targets.specs.Targets.{names_of};
-ghost use Rattle.span_targets.specs.laws.EnvHonest.{env_honest};
 
 use crate::read::Said;
 use crate::span_directive::{SpanDirective, most_within, passes_somewhere, passes_within};
 use crate::targets::Targets;
-use span_core::{Event, Interest, Level, LevelFilter, Metadata};
-use span_filters::{AlwaysUsableFilter, Filter};
-use span_registry::{Context, ContextMut, LookupSpan, Notice};
+use span_core::{Level, LevelFilter, Metadata};
 use std::alloc::{AllocError, Global};
 
 /// Decides by target and level as `Targets` does, and lets more by within spans of some names.
@@ -87,68 +81,31 @@ impl EnvFilter {
     }
 
     /// Whether metadata pass on each lane: by their target, or as those of a span that is named.
-    fn passes_anywhere(&self, meta: &Metadata) -> bool
+    pub fn passes_anywhere(&self, meta: &Metadata) -> bool
         ensures { result ≡ passes_anywhere self.now meta.now }
     {
         self.targets.would_enable(meta.target(), meta.level())
             || (meta.is_span() && passes_within(&self.spans, meta, meta.level()))
     }
-}
 
-/// Whether the level passes in the span that a lane is in, or in one above that.
-fn passes_around<S: LookupSpan>(spans: &[SpanDirective], level: Level, cx: &Context<'_, S>) -> bool
-    ensures { result ≡ passes_around spans.now level (view_in S.registry cx.now) }
-{
-    let Some(current) = cx.lookup_current() else {
-        return false;
-    };
-    for span in current.scope() {
-        if passes_within(spans, &span.metadata(), level) {
-            return true;
-        }
-    }
-    false
-}
-
-impl<S: LookupSpan> Filter<S> for EnvFilter {
-    ghost has_answers = { settled_answers env_answers };
-
-    ghost acts = { ActsSteadily (settled_answers env_answers) };
-
-    ghost laws = { settled_laws env_answers env_honest };
-
-    ghost levels = { steady_levels };
-
-    fn enabled(&self, meta: &Metadata, cx: &Context<'_, S>) -> bool {
-        self.passes_anywhere(meta) || passes_around(&self.spans, meta.level(), cx)
+    /// Whether the level passes within a span with this metadata.
+    pub fn passes_within(&self, span: &Metadata, level: Level) -> bool
+        ensures { result ≡ passes_within (spans_of self.now) span.now level }
+    {
+        passes_within(&self.spans, span, level)
     }
 
-    fn callsite_enabled(&self, meta: &Metadata) -> Interest {
-        if self.passes_anywhere(meta) {
-            Interest::Always
-        } else if passes_somewhere(&self.spans, meta.level()) {
-            Interest::Sometimes
-        } else {
-            Interest::Never
-        }
+    /// Whether the level passes within some span.
+    pub fn passes_somewhere(&self, level: Level) -> bool
+        ensures { result ≡ passes_somewhere (spans_of self.now) level }
+    {
+        passes_somewhere(&self.spans, level)
     }
 
-    fn event_enabled(&self, _event: &Event<'_>, _cx: &Context<'_, S>) -> bool {
-        true
+    /// The most that passes anywhere.
+    pub fn max_level(&self) -> LevelFilter
+        ensures { result ≡ most_of_all self.now }
+    {
+        most_within(&self.spans, self.targets.max_level())
     }
-
-    fn max_level_hint(&self) -> Option<LevelFilter> {
-        Some(most_within(&self.spans, self.targets.max_level()))
-    }
-
-    #[inline(always)]
-    fn notify(&mut self, _notice: Notice<'_, '_>, _ctx: &mut ContextMut<'_, S>) {}
-
-    fn set_level(&mut self, _level: LevelFilter) -> bool {
-        false // It goes by targets and spans.
-    }
-}
-
-impl<S: LookupSpan> AlwaysUsableFilter<S> for EnvFilter {
-    ghost always = { λ f. tt };
 }

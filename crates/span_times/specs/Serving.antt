@@ -74,7 +74,7 @@ module _ {S C : Type 0} (latest : C → ℕ) (gives : C → ℕ → C → Type 0
   -- position was notified of, in order, unless it failed
   pub record KeepsServed (requests : List Request) (answers : List Answer)
       (old new : Dispatch (WithTimeline S C)) : Type 0 where
-    pub served : Served s.registry s.with_registry s.has_form s.stepped s.levelled s.hears s.acts_at
+    pub served : Served s.registry s.with_registry s.has_form s.stepped s.reloaded s.hears s.acts_at
         requests answers old new
     pub kept : KeepsAll latest gives (timeline_in (stack_of old))
         (passed_at timeline_position (flat served.made)) (timeline_in (stack_of new))
@@ -84,5 +84,5 @@ module _ {S C : Type 0} (latest : C → ℕ) (gives : C → ℕ → C → Type 0
   abbrev pub ServesTimed : List Request → Dispatch (WithTimeline S C)
       → Dispatch (WithTimeline S C) → Vec Answer Global → Type 0
   ServesTimed requests old new answers =
-      IsReadySomehow s.registry s.with_registry s.has_form s.stepped s.levelled old
+      IsReadySomehow s.registry s.with_registry s.has_form s.stepped s.reloaded old
       → KeepsServed requests answers.items old new

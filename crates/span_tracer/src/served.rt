@@ -1,7 +1,7 @@
 //! What stands behind a receiver's lock.
 ghost use Rattle.std.specs.Fn.{FnOnceReturnsAt};
 ghost use Rattle.std.specs.Prelude.{◌≡◌, IfOk};
-ghost use Rattle.span_dispatch.specs.Contract.{ClonesSpan, DropsOneHandle, EntersSpan, ExitsSpan, FollowsSpan, OpensSpan, Probes, RecordsValues, SendsEvent, SetsOneLevel, Shows};
+ghost use Rattle.span_dispatch.specs.Contract.{ClonesSpan, DropsOneHandle, EntersSpan, ExitsSpan, FollowsSpan, OpensSpan, Probes, RecordsValues, SendsEvent, ReloadsFilter, Shows};
 ghost use Rattle.span_dispatch.specs.Serve.{stack_of};
 ghost use Rattle.span_store.specs.Store.{IsFresh};
 ghost use Rattle.span_tracer.specs.Receiver.{HasCounted, Journalled, ServesSome};
@@ -13,6 +13,7 @@ use crate::callsite::{Table, find, learn};
 use span_core::{Attributes, Current, Event, Id, Lane, LevelFilter, Metadata, Record, TraceError};
 use span_dispatch::Dispatch;
 use span_registry::Subscriber;
+use span_targets::Setting;
 use std::marker::Model;
 
 /// How many calls were accepted, after one more with this result.
@@ -81,7 +82,8 @@ impl<S: Subscriber> Served<S> {
 
     /// How many calls were accepted.
     pub(crate) fn calls(&self) -> u64
-        ensures { HasCounted S.Subscriber result }
+        ensures counted { HasCounted S.Subscriber result }
+        ensures exact { result ≡ self.now.calls }
     {
         self.calls
     }
@@ -302,16 +304,16 @@ impl<S: Subscriber> Served<S> {
         given
     }
 
-    /// Sets a level as `Dispatch::set_level` does. Callsites are registered anew.
-    pub(crate) fn set_level(&mut self, number: u32, level: LevelFilter) -> Result<(), TraceError>
-        ensures { ServesSome S.Subscriber (SetsOneLevel S.Subscriber number level result) }
+    /// Reloads a filter as `Dispatch::reload` does. Callsites are registered anew.
+    pub(crate) fn reload(&mut self, number: u32, setting: Setting) -> Result<(), TraceError>
+        ensures { ServesSome S.Subscriber (ReloadsFilter S.Subscriber number setting result) }
     {
         let Served {
             dispatch,
             callsites,
             calls,
         } = self;
-        let given = dispatch.set_level(number, level);
+        let given = dispatch.reload(number, setting);
         *callsites = Table::new();
         *calls = counted(*calls, &given);
         given

@@ -3,7 +3,7 @@ ghost use Rattle.std.specs.Fn.{FnOnceReturnsAt};
 ghost use Rattle.std.specs.Prelude.{◌≡◌, ◌⊎◌, IfErr, IfOk, None, Ok, Some, false, not, true};
 ghost use Rattle.span_core.specs.Level.{is_above};
 ghost use Rattle.span_core.specs.Metadata.{level_of};
-ghost use Rattle.span_dispatch.specs.Contract.{ClonesSpan, DropsOneHandle, EntersSpan, ExitsSpan, FollowsSpan, RecordsValues, SetsOneLevel, Shows};
+ghost use Rattle.span_dispatch.specs.Contract.{ClonesSpan, DropsOneHandle, EntersSpan, ExitsSpan, FollowsSpan, RecordsValues, ReloadsFilter, Shows};
 ghost use Rattle.span_dispatch.specs.Serve.{stack_of};
 ghost use Rattle.span_tracer.specs.Receiver.{ServesSome};
 ghost use Rattle.span_tracer.specs.Span.{EntersIfMade, LeavesAndDrops, RefusesToTrace, held_span, opened, span_id, span_tracer};
@@ -15,13 +15,14 @@ use span_core::{
     Attributes, Current, Event, Id, Lane, Level, LevelFilter, Metadata, Record, TraceError,
 };
 use span_registry::Subscriber;
+use span_targets::Setting;
 use std::alloc::Global;
 use std::sync::Wait;
 
 /// A handle by which one lane traces through a receiver: a value that is copied.
 ///
 /// What its hint rules out is answered without the lock. That is the hint that the dispatcher had
-/// when the tracer was made: a level that is set later reaches the tracers that are made later, and
+/// when the tracer was made: a setting that a filter takes later reaches the tracers that are made later, and
 /// `renewed` makes one.
 ///
 /// Own to this port: in the crate a thread finds its dispatcher and its lane by itself.
@@ -247,12 +248,12 @@ impl<'a, R: Wait, S: Subscriber> Tracer<'a, R, S> {
         served.follows_from(self.lane, id, follows)
     }
 
-    /// Sets a level as `Dispatch::set_level` does. Tracers that are made later have the new hint.
-    pub fn set_level(&self, number: u32, level: LevelFilter) -> Result<(), TraceError>
-        ensures { ServesSome S.Subscriber (SetsOneLevel S.Subscriber number level result) }
+    /// Reloads a filter as `Dispatch::reload` does. Tracers that are made later have the new hint.
+    pub fn reload(&self, number: u32, setting: Setting) -> Result<(), TraceError>
+        ensures { ServesSome S.Subscriber (ReloadsFilter S.Subscriber number setting result) }
     {
         let mut served = self.receiver.served(self.rt);
-        served.set_level(number, level)
+        served.reload(number, setting)
     }
 
     /// The span that the lane is in, as `Dispatch::current_span` shows it.

@@ -9,6 +9,7 @@ use span_fmt::Tree;
 use span_layers::Observer;
 use span_registry::{Registry, Subscriber};
 use span_stacks::{LayerExt, SubscriberExt};
+use span_targets::Setting;
 use span_tracer::{
     Tracer, debug, debug_span, error, error_span, info, info_span, trace, trace_span, warn,
     warn_span,
@@ -104,7 +105,7 @@ fn compute_where_wanted<R: Wait, S: Subscriber>(
     assert!(rt; send_value(tracer, none) == none.map(|_| true));
     assert!(rt; open_value(tracer, Ok(1)) == Ok(true));
     assert!(rt; open_value(tracer, none) == none.map(|_| true));
-    tracer.set_level(0, LevelFilter::ERROR)?;
+    tracer.reload(0, Setting::Level(LevelFilter::ERROR))?;
     assert!(rt; send_value(tracer, Ok(1)) == Ok(false));
     assert!(rt; send_value(tracer, none) == Ok(false));
     assert!(rt; open_value(tracer, Ok(1)) == Ok(false));
@@ -276,7 +277,7 @@ fn compute_for<S: Subscriber>(rt: &impl Abort, dispatch: &mut Dispatch<S>) -> Re
     assert!(rt; send_to(dispatch, none) == none.map(|_| true));
     assert!(rt; open_at(dispatch, Ok(1)) == Ok(true));
     assert!(rt; open_at(dispatch, none) == none.map(|_| true));
-    dispatch.set_level(0, LevelFilter::ERROR)?;
+    dispatch.reload(0, Setting::Level(LevelFilter::ERROR))?;
     assert!(rt; send_to(dispatch, Ok(1)) == Ok(false));
     assert!(rt; send_to(dispatch, none) == Ok(false));
     assert!(rt; open_at(dispatch, Ok(1)) == Ok(false));

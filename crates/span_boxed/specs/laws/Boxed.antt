@@ -3,14 +3,14 @@ use Rattle.std.specs.Prelude.{◌≡◌, [], ◌∷◌, ◌++◌, refl}
 use Rattle.std.specs.List.{FoldsTo}
 use Rattle.std.proofs.Common.{ap, append_assoc, subst, sym}
 use Rattle.std.proofs.lemmas.List.{append-nil}
-use Rattle.span_boxed.specs.Boxed.{ActsPlainlyAt, Further, HearsInTurn, HearsLawfully, Levelled, LevelsLawfully, Nothing, RegistersLawfully, StepsLawfully}
+use Rattle.span_boxed.specs.Boxed.{ActsPlainlyAt, Further, HearsInTurn, HearsLawfully, Reloaded, ReloadsLawfully, Nothing, RegistersLawfully, StepsLawfully}
 use Rattle.span_layers.specs.Acts.{PathLaws}
 use Rattle.span_layers.specs.Layer.{GoesBy, IsLeaf, LayerLaws, LayerSteps}
 use Rattle.span_layers.specs.laws.Leaf.{leaf_mask}
 use Rattle.span_registry.specs.Conducts.{ActsAt}
 use Rattle.span_registry.specs.Form.{Form, Leaf}
 use Rattle.span_registry.specs.KeptForm.{KeepsForm}
-use Rattle.span_registry.specs.Levels.{LevelLaws, LevelSteps}
+use Rattle.span_registry.specs.Reload.{ReloadLaws, ReloadSteps}
 use Rattle.span_registry.specs.Path.{mask_at}
 use Rattle.span_registry.specs.Plan.{Itself, Plan}
 use Rattle.span_registry.specs.Position.{Heard, HearLaws, HearSteps, Here, Position, heard_by, told_in}
@@ -18,23 +18,23 @@ use Rattle.span_registry.specs.laws.Position.{leaf_hear_laws}
 use Rattle.span_registry.specs.View.{plain_view}
 
 module _ {L : Type 0} (form : L → Form → Type 0) (stepped : LayerSteps L)
-    (levelled : LevelSteps L) where
+    (reloaded : ReloadSteps L) where
   then_heard : (x u : L) (position : Position) (before : Heard)
-      → HearsInTurn form stepped levelled x position before u → {k : Heard} {z : L}
-      → HearsInTurn form stepped levelled u position k z
-      → HearsInTurn form stepped levelled x position (before ++ k) z
+      → HearsInTurn form stepped reloaded x position before u → {k : Heard} {z : L}
+      → HearsInTurn form stepped reloaded u position k z
+      → HearsInTurn form stepped reloaded x position (before ++ k) z
   then_heard x u position before a Nothing =
-      subst (λ l. HearsInTurn form stepped levelled x position l u) (sym (append-nil before)) a
+      subst (λ l. HearsInTurn form stepped reloaded x position l u) (sym (append-nil before)) a
   then_heard x u position before a (Further {h} {y} {z} b p e lane under v w f s g) =
-      subst (λ l. HearsInTurn form stepped levelled x position l z)
+      subst (λ l. HearsInTurn form stepped reloaded x position l z)
       (append_assoc before h
       (heard_by p position (told_in e v.store lane (mask_at f position under))))
       (Further (then_heard x u position before a b) p e lane under v w f s g)
-  then_heard x u position before a (Levelled b n l s) =
-      Levelled (then_heard x u position before a b) n l s
+  then_heard x u position before a (Reloaded b n l s) =
+      Reloaded (then_heard x u position before a b) n l s
 
   -- what leaves are notified of in turn keeps the law
-  pub in_turn_laws : HearLaws (HearsInTurn form stepped levelled)
+  pub in_turn_laws : HearLaws (HearsInTurn form stepped reloaded)
   in_turn_laws = record {
     nothing = λ x position. Nothing;
     further = λ x y z position h k a b. then_heard x y position h a b;
@@ -46,7 +46,7 @@ leaf_kept (Leaf still a) (Leaf moved b) k l = tt
 leaf_kept (Leaf still a) g k l = absurd k
 leaf_kept f g k l = absurd l
 
-module _ {L : Type 0} (form : L → Form → Type 0) (steps : LayerSteps L) (levelled : LevelSteps L)
+module _ {L : Type 0} (form : L → Form → Type 0) (steps : LayerSteps L) (reloaded : ReloadSteps L)
     (hears : HearSteps L) (acts_at : ActsAt L) where
   -- a leaf goes on by its own step, from a value to another, which is a leaf too
   abbrev GoesAsLeaf : L → Heard → L → Type 0
@@ -55,7 +55,7 @@ module _ {L : Type 0} (form : L → Form → Type 0) (steps : LayerSteps L) (lev
       × IsLeaf g
 
   goes_as_leaf : (x : L) (f : Form) → form x f → IsLeaf f → {h : Heard} {y : L}
-      → HearsLawfully form steps levelled hears acts_at x Here h y → GoesAsLeaf x h y
+      → HearsLawfully form steps reloaded hears acts_at x Here h y → GoesAsLeaf x h y
   goes_as_leaf x f has leaf Nothing = (refl, f, has, leaf)
   goes_as_leaf x f has leaf (Further {h} {y} {z} b p e lane under v w g s k) =
       let before = goes_as_leaf x f has leaf b in
@@ -84,7 +84,7 @@ module _ {L : Type 0} (form : L → Form → Type 0) (steps : LayerSteps L) (lev
       FoldsTo (GoesBy (StepsLawfully form steps hears acts_at)) y (heard_by q Here told)
       z) (sym own) one) in
       (whole, next.0, next.1, leaf_kept before.1 next.0 next.2 before.3)
-  goes_as_leaf x f has leaf (Levelled {h} {y} {z} b n l s) =
+  goes_as_leaf x f has leaf (Reloaded {h} {y} {z} b n l s) =
       let before = goes_as_leaf x f has leaf b in
       let same : z ≡ y = s.leaf before.1 before.2 before.3 in (
         subst (λ (u : L). FoldsTo (GoesBy (StepsLawfully form steps hears acts_at)) x h u)
@@ -95,36 +95,36 @@ module _ {L : Type 0} (form : L → Form → Type 0) (steps : LayerSteps L) (lev
         before.3,
       )
 
--- an object in which levels are set lawfully keeps the law of levels
-pub object_levels : {L : Type 0} {form : L → Form → Type 0} {steps : LayerSteps L}
-    {levelled : LevelSteps L} {hears : HearSteps L} {acts_at : ActsAt L}
-    → LevelLaws form (LevelsLawfully form levelled hears acts_at)
-    (HearsLawfully form steps levelled hears acts_at) (ActsPlainlyAt form acts_at)
-object_levels = record {
+-- an object that is reloaded lawfully keeps the law of reloading
+pub object_reloads : {L : Type 0} {form : L → Form → Type 0} {steps : LayerSteps L}
+    {reloaded : ReloadSteps L} {hears : HearSteps L} {acts_at : ActsAt L}
+    → ReloadLaws form (ReloadsLawfully form reloaded hears acts_at)
+    (HearsLawfully form steps reloaded hears acts_at) (ActsPlainlyAt form acts_at)
+object_reloads = record {
   keeps = λ x n l y f s h. s.follows f h;
-  heard = λ x n l y position s. Levelled Nothing n l s;
+  heard = λ x n l y position s. Reloaded Nothing n l s;
   acts = λ x n l y position cs s a. s.acts_on position cs a.acted;
 }
 
 -- an object that goes on lawfully keeps the law of layers
 pub object_laws : {L : Type 0} {form : L → Form → Type 0} {steps : LayerSteps L}
-    {levelled : LevelSteps L} {hears : HearSteps L} {registered : L → L → Type 0}
+    {reloaded : ReloadSteps L} {hears : HearSteps L} {registered : L → L → Type 0}
     {acts_at : ActsAt L}
     → LayerLaws form (StepsLawfully form steps hears acts_at)
-    (HearsLawfully form steps levelled hears acts_at)
+    (HearsLawfully form steps reloaded hears acts_at)
     (RegistersLawfully form registered acts_at)
-object_laws {form = form} {steps = steps} {levelled = levelled} {hears = hears}
+object_laws {form = form} {steps = steps} {reloaded = reloaded} {hears = hears}
     {acts_at = acts_at} = record {
       keeps = λ x p e lane under v y w f s h. s.follows f h;
       put_in_use = λ x y f s h. s.follows f h;
       heard =
           in_turn_laws form (StepsLawfully form steps hears acts_at)
-          (LevelsLawfully form levelled hears acts_at);
+          (ReloadsLawfully form reloaded hears acts_at);
       notified = λ x p e lane under v y w position f s h. Further Nothing p e lane under v w f s h;
       leaf = record {
         alone = λ x f p e lane under v y w h l s. s.alone f h l;
         kind = λ x f p e lane under v y w g h l s k. s.kind f g h l k;
-        goes = λ x f h y k l a. (goes_as_leaf form steps levelled hears acts_at x f k l a).0;
+        goes = λ x f h y k l a. (goes_as_leaf form steps reloaded hears acts_at x f k l a).0;
       };
     }
 

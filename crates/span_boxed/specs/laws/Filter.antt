@@ -1,15 +1,15 @@
 -- What answers honestly, acts plainly and goes on lawfully keeps the law; a box with it keeps it
 -- too.
-use Rattle.span_boxed.specs.Filter.{ActsPlainly, AnswersHonestly, LevelsLawfully, StepsLawfully}
-use Rattle.span_filters.specs.Filter.{FilterLaws, FilterLevelLaws, FilterLevelSteps, FilterSteps}
+use Rattle.span_boxed.specs.Filter.{ActsPlainly, AnswersHonestly, ReloadsLawfully, StepsLawfully}
+use Rattle.span_filters.specs.Filter.{FilterLaws, FilterReloadLaws, FilterReloadSteps, FilterSteps}
 use Rattle.span_registry.specs.Behaviour.{Behaviour, Conduct}
 
--- an object whose level is set lawfully keeps the law of levels
-pub object_levels : {F : Type 0} {has : F → Behaviour → Type 0} {levelled : FilterLevelSteps F}
+-- an object that is reloaded lawfully keeps the law of reloading
+pub object_reloads : {F : Type 0} {has : F → Behaviour → Type 0} {reloaded : FilterReloadSteps F}
     {acts : F → Conduct → Type 0}
-    → FilterLevelLaws (λ f. AnswersHonestly (has f)) (LevelsLawfully has levelled acts)
+    → FilterReloadLaws (λ f. AnswersHonestly (has f)) (ReloadsLawfully has reloaded acts)
     (λ f. ActsPlainly (has f) (acts f))
-object_levels = record {
+object_reloads = record {
   answers = λ f l g a s h. s.law.answers a h.answered;
   goes_on = λ f l g b s h. s.law.conduct b h.acted;
 }

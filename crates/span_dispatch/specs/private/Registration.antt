@@ -16,8 +16,8 @@ pub record IsKeptIn (epoch : Epoch) (given : Option Interest) (k : Kept) : Type 
   pub ends : epoch.0 < last_epoch
   pub interest : given ≡ Some k.interest
 
--- until which epoch an interest of this epoch is always: until the next one, if it is and its epoch
--- ends, else never
+-- the epoch before which an interest of this epoch is always: not ahead of the next one nor of the
+-- last; where it is ahead of this one, the interest is always
 pub record IsAlwaysUntil (epoch : Epoch) (given : Option Interest) (until : ℕ) : Type 0 where
   pub past : until ≤ epoch.0 + 1
   pub ends : until ≤ last_epoch

@@ -15,7 +15,7 @@ use Rattle.span_registry.specs.Behaviour.{OnClose}
 use Rattle.span_registry.specs.KeptForm.{KeepsForm}
 use Rattle.span_registry.specs.Form.{Form}
 use Rattle.span_registry.specs.Hooks.{StackSteps, no_filter}
-use Rattle.span_registry.specs.Levels.{LevelSteps}
+use Rattle.span_registry.specs.Reload.{ReloadSteps}
 use Rattle.span_registry.specs.Subscriber.{SameButExtensions}
 use Rattle.span_core.specs.Filters.{FilterSet}
 use Rattle.span_core.specs.declared.error.TraceError.{TraceError}
@@ -41,12 +41,12 @@ IsAdmitted memory f s lane m pass after (Ok said) =
 IsAdmitted memory f s lane m pass after (Err e) = IsUnknown memory f m e after
 
 module _ {S : Type 0} (registry : S → RegistryState) (with_registry : S → RegistryState → S)
-    (has_form : S → Form → Type 0) (stepped : StackSteps S) (levelled : LevelSteps S) where
+    (has_form : S → Form → Type 0) (stepped : StackSteps S) (reloaded : ReloadSteps S) where
   -- one request is served as the call that it asks for, given the answers so far
   abbrev pub ServesRequest : List Answer → Request → KeptCallsites → S → Answer → List OutcomeAt
       → KeptCallsites → S → Type 0
   ServesRequest past r kept x a made after y =
-      ServesAsked registry with_registry has_form stepped levelled (call_of past r) kept x a made
+      ServesAsked registry with_registry has_form stepped reloaded (call_of past r) kept x a made
       after y
 
   -- a span that is closing is taken out, and then each parent that closes by that; before each is,
@@ -54,11 +54,11 @@ module _ {S : Type 0} (registry : S → RegistryState) (with_registry : S → Re
   pub record ClosesEach (lane : Lane) (id : Id) (x y : S) : Type 0 where
     pub closed : List ℕ
     pub removal : Removal SameButExtensions (registry x) id closed None (registry y)
-    pub notices : (f : Form) → IsHonest registry with_registry has_form stepped levelled f x
+    pub notices : (f : Form) → IsHonest registry with_registry has_form stepped reloaded f x
         → (made : List OutcomeAt)
-        × FoldsTo (Makes registry with_registry has_form stepped levelled) x made y
+        × FoldsTo (Makes registry with_registry has_form stepped reloaded) x made y
         × (map outcome_of made ≡ closes_of lane closed)
-        × ((g : Form) × IsHonest registry with_registry has_form stepped levelled g y
+        × ((g : Form) × IsHonest registry with_registry has_form stepped reloaded g y
         × KeepsForm f g
         × ((registry y).filters ≡ (registry x).filters))
 
@@ -73,9 +73,9 @@ module _ {S : Type 0} (s : SubscriberOf S) where
   -- a dispatcher that is ready serves the next request with this answer
   pub record ServesNext (past : List Answer) (r : Request) (a : Answer)
       (old new : Dispatch S) : Type 0 where
-    pub served : IsReadySomehow s.registry s.with_registry s.has_form s.stepped s.levelled old
+    pub served : IsReadySomehow s.registry s.with_registry s.has_form s.stepped s.reloaded old
         → (made : List OutcomeAt)
-        × ServesRequest s.registry s.with_registry s.has_form s.stepped s.levelled past r
+        × ServesRequest s.registry s.with_registry s.has_form s.stepped s.reloaded past r
         (kept_by old) (stack_of old) a made (kept_by new) (stack_of new)
 
   -- metadata are decided so, with these filters that refuse them, by each form that the stack has

@@ -2,11 +2,11 @@
 use Rattle.std.specs.Prelude.{◌⊎◌, [], ◌∷◌, refl}
 use Rattle.std.proofs.Common.{ap, inl, inr, sym, subst, ◌∙◌}
 use Rattle.span_filters.specs.Combinator.{ActsBoth, ActsOne, HasBoth, HasOne, StepsBoth}
-use Rattle.span_filters.specs.Filter.{FilterLaws, FilterLevelLaws, FilterSteps, unlevelled}
-use Rattle.span_filters.specs.laws.Filter.{unlevelled_laws, after}
+use Rattle.span_filters.specs.Filter.{FilterLaws, FilterReloadLaws, FilterSteps, unreloaded}
+use Rattle.span_filters.specs.laws.Filter.{unreloaded_laws, after}
 use Rattle.span_registry.proofs.CallerLemmas.{histories_alike, notices_alike, views_alike}
 use Rattle.span_registry.specs.Behaviour.{AnswerAlike, Behaviour, AreHonest, ArePlain, Conduct, IsPlain, SameInterestAndHint, OfNotice, notices_of}
-use Rattle.span_registry.specs.Conducts.{after_level}
+use Rattle.span_registry.specs.Conducts.{after_reload}
 use Rattle.span_registry.specs.View.{view_of}
 
 module _ {A C : Type 0} (turn : Behaviour → Behaviour) (part : C → A) {has : A → Behaviour → Type 0}
@@ -139,30 +139,30 @@ module _ {A B C : Type 0} (join : Behaviour → Behaviour → Behaviour) (first 
         };
   }
 
--- a filter made of filters takes no level, and keeps the law of levels
-pub one_levels : {A C : Type 0} {turn : Behaviour → Behaviour} {has : C → Behaviour → Type 0}
+-- a filter made of filters takes no setting, and keeps the law of reloading
+pub one_reloads : {A C : Type 0} {turn : Behaviour → Behaviour} {has : C → Behaviour → Type 0}
     {acts : A → Conduct → Type 0} (part : C → A)
-    → FilterLevelLaws has unlevelled (λ f b. ActsOne turn acts (part f) b)
-one_levels part =
-    unlevelled_laws (λ f l b h.
+    → FilterReloadLaws has unreloaded (λ f b. ActsOne turn acts (part f) b)
+one_reloads part =
+    unreloaded_laws (λ f l b h.
     record {
       inside = h.inside;
       acts_inside = h.acts_inside;
-      turned = ap (after_level l) h.turned;
+      turned = ap (after_reload l) h.turned;
     })
 
-pub both_levels : {A B C : Type 0} {join : Behaviour → Behaviour → Behaviour}
+pub both_reloads : {A B C : Type 0} {join : Behaviour → Behaviour → Behaviour}
     {has : C → Behaviour → Type 0} {acts : A → Conduct → Type 0} {other_acts : B → Conduct → Type 0}
     (first : C → A) (second : C → B)
-    → FilterLevelLaws has unlevelled (λ f b. ActsBoth join acts other_acts (first f) (second f) b)
-both_levels first second =
-    unlevelled_laws (λ f l b h.
+    → FilterReloadLaws has unreloaded (λ f b. ActsBoth join acts other_acts (first f) (second f) b)
+both_reloads first second =
+    unreloaded_laws (λ f l b h.
     record {
       left = h.left;
       right = h.right;
       acts_left = h.acts_left;
       acts_right = h.acts_right;
-      joined = ap (after_level l) h.joined;
+      joined = ap (after_reload l) h.joined;
     })
 
 -- where one of two holds, one of what follows from them holds

@@ -1,19 +1,19 @@
 -- Filters keep their law: those whose hooks do nothing, and those that take no level.
 use Rattle.std.specs.Prelude.{◌≡◌, [], ◌∷◌, refl}
 use Rattle.std.proofs.Common.{ap, sym, subst}
-use Rattle.span_core.specs.declared.level.LevelFilter.{LevelFilter}
-use Rattle.span_filters.specs.Filter.{FilterLaws, FilterLevelLaws, settled_answers, unmoved, ActsSteadily, unlevelled}
+use Rattle.span_filters.specs.Filter.{FilterLaws, FilterReloadLaws, settled_answers, unmoved, ActsSteadily, unreloaded}
 use Rattle.span_registry.specs.Behaviour.{AnswerAlike, Behaviour, AreHonest, ArePlain, Conduct, IsPlain, Notice, OfNotice}
-use Rattle.span_registry.specs.Conducts.{after_level}
+use Rattle.span_registry.specs.Conducts.{after_reload}
+use Rattle.span_targets.specs.declared.setting.Setting.{Setting}
 use Rattle.span_registry.specs.View.{View, view_of}
 
--- a filter that takes no level keeps the law of levels, if its conduct doesn't go by levels
-pub unlevelled_laws : {F : Type 0} {has : F → Behaviour → Type 0} {acts : F → Conduct → Type 0}
-    → ((f : F) (l : LevelFilter) (b : Conduct) → acts f b → acts f (after_level l b))
-    → FilterLevelLaws has unlevelled acts
-unlevelled_laws {has = has} {acts = acts} same = record {
+-- a filter that takes no setting keeps the law of reloading, if its conduct doesn't go by settings
+pub unreloaded_laws : {F : Type 0} {has : F → Behaviour → Type 0} {acts : F → Conduct → Type 0}
+    → ((f : F) (s : Setting) (b : Conduct) → acts f b → acts f (after_reload s b))
+    → FilterReloadLaws has unreloaded acts
+unreloaded_laws {has = has} {acts = acts} same = record {
   answers = λ f l g a s h. (a, subst (λ k. has k a) (sym s) h);
-  goes_on = λ f l g b s h. subst (λ k. acts k (after_level l b)) (sym s) (same f l b h);
+  goes_on = λ f l g b s h. subst (λ k. acts k (after_reload l b)) (sym s) (same f l b h);
 }
 
 -- equal answers are alike
@@ -46,17 +46,17 @@ still_laws has honest = record {
   };
 }
 
--- a filter whose hooks do nothing keeps the law of levels, as it takes none
-pub steady_levels : {F : Type 0} {has : F → Behaviour → Type 0}
-    → FilterLevelLaws has unlevelled (ActsSteadily has)
-steady_levels =
-    unlevelled_laws (λ f l b h.
+-- a filter whose hooks do nothing, and that takes no setting, keeps the law of reloading
+pub steady_reloads : {F : Type 0} {has : F → Behaviour → Type 0}
+    → FilterReloadLaws has unreloaded (ActsSteadily has)
+steady_reloads =
+    unreloaded_laws (λ f l b h.
     record {
       always = h.always;
       answered = h.answered;
       only = h.only;
       plain = h.plain;
-      steady = ap (after_level l) h.steady;
+      steady = ap (after_reload l) h.steady;
     })
 
 -- a filter whose state settles its answers keeps the law if these are honest, and its hooks do

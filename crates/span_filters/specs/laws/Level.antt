@@ -1,16 +1,18 @@
 -- A filter by level keeps the law.
 use Rattle.std.specs.Prelude.{◌≡◌, Bool, true, false, [], ◌∷◌, refl}
+use Rattle.std.specs.Option.{unwrap_or}
 use Rattle.std.proofs.Common.{ap, subst, sym, ◌∙◌}
 use Rattle.std.proofs.lemmas.Bool.{not-true}
 use Rattle.span_core.specs.Level.{passes_level}
 use Rattle.span_core.specs.declared.interest.Interest.TheVariants.{Always, Never}
 use Rattle.span_core.specs.declared.level.LevelFilter.{LevelFilter}
-use Rattle.span_filters.specs.Filter.{FilterLaws, FilterLevelLaws, settled_answers, unmoved}
+use Rattle.span_filters.specs.Filter.{FilterLaws, FilterReloadLaws, settled_answers, unmoved}
 use Rattle.span_filters.specs.Level.{ActsByLevel, interest_by, level_after, level_answers, level_conduct, level_taken}
 use Rattle.span_filters.specs.laws.Filter.{equal_alike, after}
-use Rattle.span_registry.specs.Behaviour.{AreAlikeHistories, AreHonest, Conduct, History, IsPlain, OfLevel, OfNotice}
-use Rattle.span_registry.specs.Conducts.{after_level}
+use Rattle.span_registry.specs.Behaviour.{AreAlikeHistories, AreHonest, Conduct, History, IsPlain, OfReload, OfNotice}
+use Rattle.span_registry.specs.Conducts.{after_reload}
 use Rattle.span_registry.specs.View.{view_of}
+use Rattle.span_targets.specs.Setting.{level_in}
 
 -- where the interest of a filter by level is always, metadata are enabled; where it is never, they
 -- aren't
@@ -35,7 +37,9 @@ level_same : (f g : LevelFilter) (h k : History) → f ≡ g → AreAlikeHistori
     → level_after f h ≡ level_after g k
 level_same f g [] [] e a = e
 level_same f g (OfNotice d v ∷ h) (OfNotice n w ∷ k) e a = level_same f g h k e a.2
-level_same f g (OfLevel l ∷ h) (OfLevel m ∷ k) e a = level_same l m h k a.0 a.1
+level_same f g (OfReload s ∷ h) (OfReload t ∷ k) e a =
+    level_same (unwrap_or (level_in s) f) (unwrap_or (level_in t) g) h k
+    (λ i. unwrap_or (level_in (a.0 i)) (e i)) a.1
 level_same f g h k e a = absurd a
 
 -- the conduct of a filter by level is plain, since it looks at no view
@@ -64,10 +68,10 @@ level_laws = record {
       (ap (after e (view_of v.store lane under)) h);
 }
 
--- a filter by level keeps the law of levels
-pub level_levels : FilterLevelLaws (settled_answers level_answers) level_taken ActsByLevel
-level_levels = record {
+-- a filter by level keeps the law of reloading
+pub level_reloads : FilterReloadLaws (settled_answers level_answers) level_taken ActsByLevel
+level_reloads = record {
   answers = λ f l g a s h. (level_answers g, refl);
   goes_on =
-      λ f l g b s h. subst (λ k. ActsByLevel k (after_level l b)) (sym s) (ap (after_level l) h);
+      λ f l g b s h. subst (λ k. ActsByLevel k (after_reload l b)) (sym s) (ap (after_reload l) h);
 }

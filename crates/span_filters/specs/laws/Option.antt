@@ -2,14 +2,14 @@
 use Rattle.std.specs.Prelude.{ℕ, [], ◌∷◌, Option, Some, None, refl, IfSome}
 use Rattle.std.proofs.Common.{ap, sym, subst, ◌∙◌}
 use Rattle.span_core.specs.Filters.{FilterSet}
-use Rattle.span_core.specs.declared.level.LevelFilter.{LevelFilter}
-use Rattle.span_filters.specs.Combinator.{ActsPart, HasPart, LevelsPart, StepsPart, all_answers}
-use Rattle.span_filters.specs.Filter.{FilterLaws, FilterLevelLaws, FilterLevelSteps, FilterSteps, KeepsInterestAndHint}
+use Rattle.span_filters.specs.Combinator.{ActsPart, HasPart, ReloadsPart, StepsPart, all_answers}
+use Rattle.span_filters.specs.Filter.{FilterLaws, FilterReloadLaws, FilterReloadSteps, FilterSteps, KeepsInterestAndHint}
 use Rattle.span_filters.specs.laws.Filter.{equal_alike, after}
 use Rattle.span_store.specs.Store.{RegistryState}
 use Rattle.span_registry.specs.Behaviour.{AnswerAlike, Behaviour, AreHonest, Conduct, IsPlain, Notice, OfNotice}
-use Rattle.span_registry.specs.Conducts.{after_level}
+use Rattle.span_registry.specs.Conducts.{after_reload}
 use Rattle.span_registry.specs.View.{view_of}
+use Rattle.span_targets.specs.declared.setting.Setting.{Setting}
 
 all_honest : AreHonest all_answers
 all_honest = record {
@@ -72,25 +72,25 @@ module _ {F : Type 0} {has : F → Behaviour → Type 0} {steps : FilterSteps F}
     goes_on = part_goes_on;
   }
 
-module _ {F : Type 0} {has : F → Behaviour → Type 0} {levelled : FilterLevelSteps F}
-    {acts : F → Conduct → Type 0} (laws : FilterLevelLaws has levelled acts) where
-  part_levels_answer : (f : Option F) (l : LevelFilter) (g : Option F) (a : Behaviour)
-      → LevelsPart levelled f l g → HasPart has f a → (b : Behaviour) × HasPart has g b
-  part_levels_answer (Some f) l (Some g) a s h = laws.answers f l g a s h
-  part_levels_answer None l None a s h = (a, h)
-  part_levels_answer (Some f) l None a s h = absurd s
-  part_levels_answer None l (Some g) a s h = absurd s
+module _ {F : Type 0} {has : F → Behaviour → Type 0} {reloaded : FilterReloadSteps F}
+    {acts : F → Conduct → Type 0} (laws : FilterReloadLaws has reloaded acts) where
+  part_reloads_answer : (f : Option F) (l : Setting) (g : Option F) (a : Behaviour)
+      → ReloadsPart reloaded f l g → HasPart has f a → (b : Behaviour) × HasPart has g b
+  part_reloads_answer (Some f) l (Some g) a s h = laws.answers f l g a s h
+  part_reloads_answer None l None a s h = (a, h)
+  part_reloads_answer (Some f) l None a s h = absurd s
+  part_reloads_answer None l (Some g) a s h = absurd s
 
-  part_levels_act : (f : Option F) (l : LevelFilter) (g : Option F) (b : Conduct)
-      → LevelsPart levelled f l g → ActsPart acts f b → ActsPart acts g (after_level l b)
-  part_levels_act (Some f) l (Some g) b s h = laws.goes_on f l g b s h
-  part_levels_act None l None b s h = ap (after_level l) h
-  part_levels_act (Some f) l None b s h = absurd s
-  part_levels_act None l (Some g) b s h = absurd s
+  part_reloads_act : (f : Option F) (l : Setting) (g : Option F) (b : Conduct)
+      → ReloadsPart reloaded f l g → ActsPart acts f b → ActsPart acts g (after_reload l b)
+  part_reloads_act (Some f) l (Some g) b s h = laws.goes_on f l g b s h
+  part_reloads_act None l None b s h = ap (after_reload l) h
+  part_reloads_act (Some f) l None b s h = absurd s
+  part_reloads_act None l (Some g) b s h = absurd s
 
-  -- an optional filter takes the level of the filter that it holds
-  pub part_levels : FilterLevelLaws (HasPart has) (LevelsPart levelled) (ActsPart acts)
-  part_levels = record { answers = part_levels_answer; goes_on = part_levels_act }
+  -- an optional filter takes what the filter takes that it holds
+  pub part_reloads : FilterReloadLaws (HasPart has) (ReloadsPart reloaded) (ActsPart acts)
+  part_reloads = record { answers = part_reloads_answer; goes_on = part_reloads_act }
 
 -- what holds of every value holds of the value that an option holds, if any
 pub each_part : {T : Type 0} {P : T → Type 0} → ((x : T) → P x) → (o : Option T) → IfSome o P

@@ -1,11 +1,11 @@
 -- The filters of these tests keep the law.
 use Rattle.std.specs.Prelude.{◌≡◌, Bool, [], ◌∷◌, is_some, refl}
 use Rattle.std.proofs.Common.{ap, subst, sym, ◌∙◌}
-use Rattle.span_filters.specs.Filter.{FilterLaws, settled_answers, FilterLevelLaws, unlevelled}
+use Rattle.span_filters.specs.Filter.{FilterLaws, settled_answers, FilterReloadLaws, unreloaded}
 use Rattle.span_filters.specs.laws.Closure.{unhinted_view_honest}
-use Rattle.span_filters.specs.laws.Filter.{equal_alike, unlevelled_laws}
-use Rattle.span_registry.specs.Behaviour.{AreAlikeHistories, AreHonest, ArePlain, Conduct, History, IsPlain, OfLevel, SameInterestAndHint, OfNotice}
-use Rattle.span_registry.specs.Conducts.{after_level}
+use Rattle.span_filters.specs.laws.Filter.{equal_alike, unreloaded_laws}
+use Rattle.span_registry.specs.Behaviour.{AreAlikeHistories, AreHonest, ArePlain, Conduct, History, IsPlain, OfReload, SameInterestAndHint, OfNotice}
+use Rattle.span_registry.specs.Conducts.{after_reload}
 use Rattle.span_registry.specs.View.{current_shown, view_of}
 use Rattle.span_layer_tests.specs.Filters.{if_answers, in_span_answers, mute_answers, since_entered, wanted_after}
 
@@ -26,12 +26,12 @@ if_honest b = unhinted_view_honest (λ m v. b)
 since_plain : (wanted : Bool) (h : History) → ArePlain (since_entered wanted h)
 since_plain wanted [] = record { enabled = λ m v w e. refl; event = λ e v w d. refl }
 since_plain wanted (OfNotice e v ∷ h) = since_plain (wanted_after e wanted) h
-since_plain wanted (OfLevel l ∷ h) = since_plain wanted h
+since_plain wanted (OfReload l ∷ h) = since_plain wanted h
 
 since_same : (wanted : Bool) (h k : History) → AreAlikeHistories h k
     → since_entered wanted h ≡ since_entered wanted k
 since_same wanted [] [] a = refl
-since_same wanted (OfLevel l ∷ h) (OfLevel m ∷ k) a = since_same wanted h k a.1
+since_same wanted (OfReload l ∷ h) (OfReload m ∷ k) a = since_same wanted h k a.1
 since_same wanted (OfNotice e v ∷ h) (OfNotice d w ∷ k) a =
     since_same (wanted_after e wanted) h k a.2
     ∙ ap (λ n. since_entered (wanted_after n wanted) k) a.0
@@ -63,6 +63,6 @@ since_laws wants = record {
 
 -- and that of levels, as it takes none
 pub since_levels : {F : Type 0} (wants : F → Bool)
-    → FilterLevelLaws (settled_answers (λ f. if_answers (wants f))) unlevelled
+    → FilterReloadLaws (settled_answers (λ f. if_answers (wants f))) unreloaded
     (λ f b. b ≡ since_entered (wants f))
-since_levels wants = unlevelled_laws (λ f l b h. ap (after_level l) h)
+since_levels wants = unreloaded_laws (λ f l b h. ap (after_reload l) h)

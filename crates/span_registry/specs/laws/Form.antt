@@ -1,11 +1,11 @@
--- Forms keep what they have, and their rules, also where a filter takes a level.
+-- Forms keep what they have, and their rules, also where a filter takes a setting.
 use Rattle.std.specs.Prelude.{◌≡◌, true, refl, ℕ, Bool, false}
 use Rattle.std.proofs.Common.{◌∙◌, subst, sym}
 use Rattle.span_registry.specs.Behaviour.{Behaviour, AreHonest}
 use Rattle.span_registry.specs.Conducts.{filter_numbered}
 use Rattle.span_registry.specs.Form.{Terminal, Filtered, Form, Leaf, Parts}
 use Rattle.span_registry.specs.KeptForm.{AnswersKeep, KeepsForm}
-use Rattle.span_registry.specs.Levels.{EitherLevels, KeepsRules, LevelsForm}
+use Rattle.span_registry.specs.Reload.{EitherReloaded, KeepsRules, ReloadedForm}
 
 -- answers keep what they are
 pub kept_answers : (a : Behaviour) → AnswersKeep a a
@@ -35,30 +35,30 @@ kept_rules (Terminal v) (Terminal w) h = h
 kept_rules f g h = absurd h
 
 either_same : (t : Bool) (a : Behaviour) (f : Form) (rest : Type 0) → rest
-    → EitherLevels t a a (f ≡ f) rest
+    → EitherReloaded t a a (f ≡ f) rest
 either_same true a f rest h = ((λ d. d), refl)
 either_same false a f rest h = (refl, h)
 
--- a form may follow from itself, by any level
-pub same_levels : (n : ℕ) (f : Form) → LevelsForm n f f
-same_levels n (Leaf still a) = refl
-same_levels n (Filtered m a f) =
-    (refl, either_same (filter_numbered m n) a f (LevelsForm n f f) (same_levels n f))
-same_levels n (Parts k o i) = (refl, same_levels n o, same_levels n i)
-same_levels n (Terminal v) = refl
+-- a form may follow from itself, whatever setting a filter took
+pub same_reloads : (n : ℕ) (f : Form) → ReloadedForm n f f
+same_reloads n (Leaf still a) = refl
+same_reloads n (Filtered m a f) =
+    (refl, either_same (filter_numbered m n) a f (ReloadedForm n f f) (same_reloads n f))
+same_reloads n (Parts k o i) = (refl, same_reloads n o, same_reloads n i)
+same_reloads n (Terminal v) = refl
 
 either_rules : (t : Bool) (a b : Behaviour) (f g : Form) (rest : Type 0) → (rest → KeepsRules f g)
-    → EitherLevels t a b (g ≡ f) rest → (AreHonest a → AreHonest b) × KeepsRules f g
+    → EitherReloaded t a b (g ≡ f) rest → (AreHonest a → AreHonest b) × KeepsRules f g
 either_rules true a b f g rest go h = (h.0, subst (λ z. KeepsRules f z) (sym h.1) (own_rules f))
 either_rules false a b f g rest go h = ((λ d. subst AreHonest (sym h.0) d), go h.1)
 
--- a form keeps its rules where a filter took a level
-pub level_rules : (n : ℕ) (f g : Form) → LevelsForm n f g → KeepsRules f g
-level_rules n (Filtered m a f) (Filtered k b g) h =
-    let r = either_rules (filter_numbered m n) a b f g (LevelsForm n f g) (level_rules n f g) h.1 in
+-- a form keeps its rules where a filter took a setting
+pub reload_rules : (n : ℕ) (f g : Form) → ReloadedForm n f g → KeepsRules f g
+reload_rules n (Filtered m a f) (Filtered k b g) h =
+    let r = either_rules (filter_numbered m n) a b f g (ReloadedForm n f g) (reload_rules n f g) h.1 in
     (h.0, r.0, r.1)
-level_rules n (Parts k o i) (Parts l p j) h = (h.0, level_rules n o p h.1, level_rules n i j h.2)
-level_rules n f g h = subst (λ z. KeepsRules f z) (sym h) (own_rules f)
+reload_rules n (Parts k o i) (Parts l p j) h = (h.0, reload_rules n o p h.1, reload_rules n i j h.2)
+reload_rules n f g h = subst (λ z. KeepsRules f z) (sym h) (own_rules f)
 
 -- answers keep what they are, by way of others, too
 pub answers_again : (a b c : Behaviour) → AnswersKeep a b → AnswersKeep b c → AnswersKeep a c

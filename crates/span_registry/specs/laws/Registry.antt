@@ -1,11 +1,11 @@
--- A registry keeps the laws of stacks, of paths and of levels.
+-- A registry keeps the laws of stacks, of paths and of reloading.
 use Rattle.std.specs.Prelude.{◌≡◌, ⊤}
 use Rattle.span_store.specs.Store.{RegistryState}
 use Rattle.span_registry.specs.Conducts.{no_conducts, StackPathLaws}
 use Rattle.span_registry.specs.Form.{Terminal, Base}
 use Rattle.span_registry.specs.Hooks.{StackLaws}
-use Rattle.span_registry.specs.Levels.{LevelLaws, unlevelled}
-use Rattle.span_registry.specs.laws.Form.{kept_form, same_levels}
+use Rattle.span_registry.specs.Reload.{ReloadLaws, unreloaded}
+use Rattle.span_registry.specs.laws.Form.{kept_form, same_reloads}
 use Rattle.span_registry.specs.laws.Position.{no_leaf_laws}
 
 -- a registry keeps the law of stacks
@@ -32,11 +32,11 @@ registry_path_laws = record {
   acts_with = λ x w position cs a. absurd a;
 }
 
--- and that of levels, as it takes none
-pub registry_levels : LevelLaws (λ (s : RegistryState) f. f ≡ Terminal Base) unlevelled
+-- and that of reloading, as it has no filter
+pub registry_reloads : ReloadLaws (λ (s : RegistryState) f. f ≡ Terminal Base) unreloaded
     (λ x position h y. ⊤) no_conducts
-registry_levels = record {
-  keeps = λ x n l y f s h. (f, h, same_levels n f);
+registry_reloads = record {
+  keeps = λ x n l y f s h. (f, h, same_reloads n f);
   heard = λ x n l y position s. tt;
   acts = λ x n l y position cs s a. absurd a;
 }

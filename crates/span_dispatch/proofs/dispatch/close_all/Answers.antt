@@ -9,7 +9,7 @@ use Rattle.span_dispatch.proofs.dispatch.close_all.Goals as goal
 
 pub loop-next-init : goal.loop-next-init
 loop-next-init g c =
-    (c.requires.usable, ([], nothing_yet g.met.S.Subscriber.laws g.met.S.LookupSpan.with_own g.S.Subscriber.levelled c.args.lane c.args.id c.args.stack.now))
+    (c.requires.usable, ([], nothing_yet g.met.S.Subscriber.laws g.met.S.LookupSpan.with_own g.S.Subscriber.reloaded c.args.lane c.args.id c.args.stack.now))
 
 pub close_hooks-requires : goal.close_hooks-requires
 close_hooks-requires g c = c.loop-next.invariant.0
@@ -17,7 +17,7 @@ close_hooks-requires g c = c.loop-next.invariant.0
 -- the span is closing still, since hooks leave spans alone
 pub remove-next-requires : goal.remove-next-requires
 remove-next-requires g c =
-    let before = is_next g.met.S.Subscriber.laws g.met.S.LookupSpan.with_own g.S.Subscriber.levelled c.args.lane c.args.id
+    let before = is_next g.met.S.Subscriber.laws g.met.S.LookupSpan.with_own g.S.Subscriber.reloaded c.args.lane c.args.id
     c.args.stack.now c.loop-next.invariant.1.0 c.loop-next.next c.loop-next.stack c.in-Some.span c.requires.closing c.loop-next.invariant.1.1 c.in-Some.is in
     subst (λ (s : RegistryState). IsClosing s.store.spans (number_of c.in-Some.span)) (sym c.root_mut.ensures.value)
     (subst (λ (m : Spans). IsClosing m (number_of c.in-Some.span)) (sym (hooks_alone c.close_hooks.ensures.hooks).spans) before)
@@ -35,7 +35,7 @@ loop-next-preserved g c = (
   g.met.S.Subscriber.laws.usable_with c.close_hooks.new.self c.remove-next.new.self c.close_hooks.ensures.usable,
   (
     c.loop-next.invariant.1.0 ++ (number_of c.in-Some.span ∷ []),
-    one_more g.met.S.Subscriber.laws g.met.S.LookupSpan.with_own g.S.Subscriber.levelled
+    one_more g.met.S.Subscriber.laws g.met.S.LookupSpan.with_own g.S.Subscriber.reloaded
         g.met.S.LookupSpan.registry_with c.args.lane c.args.id c.args.stack.now c.loop-next.invariant.1.0 c.loop-next.next c.loop-next.stack
         c.close_hooks.new.self c.in-Some.span c.remove-next.new.self c.remove-next.result c.requires.closing c.loop-next.invariant.1.1 c.in-Some.is
         c.close_hooks.ensures.hooks
@@ -47,5 +47,5 @@ pub returns-clause-usable : goal.returns-clause-usable
 returns-clause-usable g c = c.loop-next.invariant.0
 
 pub returns-clause-closes : goal.returns-clause-closes
-returns-clause-closes g c = all_closed g.met.S.Subscriber.laws g.met.S.LookupSpan.with_own g.S.Subscriber.levelled
+returns-clause-closes g c = all_closed g.met.S.Subscriber.laws g.met.S.LookupSpan.with_own g.S.Subscriber.reloaded
     c.args.lane c.args.id c.args.stack.now c.loop-next.invariant.1.0 c.loop-next.next c.loop-next.stack c.loop-next.invariant.1.1 c.in_default.is

@@ -18,7 +18,7 @@ returns-in_default-clause-served g c =
       stepped = g.S.Subscriber.stepped;
       hears = g.S.Subscriber.hears;
       acts_at = g.S.Subscriber.acts_at;
-      levelled = g.S.Subscriber.levelled;
+      reloaded = g.S.Subscriber.reloaded;
       registered = g.S.Subscriber.registered;
     } in
     opens_nothing s c.args.lane c.args.attrs.now _ _ _ c.in_default.is c.in_ok-id.ensures.opens.served c.new_span.ensures.ready
@@ -33,7 +33,7 @@ returns-clause-served g c =
       stepped = g.S.Subscriber.stepped;
       hears = g.S.Subscriber.hears;
       acts_at = g.S.Subscriber.acts_at;
-      levelled = g.S.Subscriber.levelled;
+      reloaded = g.S.Subscriber.reloaded;
       registered = g.S.Subscriber.registered;
     } in
     opens_and_drops s c.args.lane c.args.attrs.now c.in-Some.id

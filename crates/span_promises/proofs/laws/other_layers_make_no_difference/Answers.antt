@@ -8,7 +8,7 @@ returns-clause-itself g c = paths_itself
 
 pub returns-clause-of_outcomes : goal.returns-clause-of_outcomes
 returns-clause-of_outcomes g c =
-    outcomes_same _ _ g.met.S.Subscriber.paths g.met.S.Subscriber.levels g.met.T.Subscriber.paths g.met.T.Subscriber.levels
+    outcomes_same _ _ g.met.S.Subscriber.paths g.met.S.Subscriber.reloads g.met.T.Subscriber.paths g.met.T.Subscriber.reloads
 
 pub returns-clause-of_requests : goal.returns-clause-of_requests
 returns-clause-of_requests g c =

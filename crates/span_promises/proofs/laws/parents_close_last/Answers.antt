@@ -11,6 +11,6 @@ returns g c =
       stepped = g.S.Subscriber.stepped;
       hears = g.S.Subscriber.hears;
       acts_at = g.S.Subscriber.acts_at;
-      levelled = g.S.Subscriber.levelled;
+      reloaded = g.S.Subscriber.reloaded;
       registered = g.S.Subscriber.registered;
     })

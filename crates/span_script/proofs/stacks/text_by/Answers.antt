@@ -5,7 +5,7 @@ use Rattle.span_dispatch.specs.declared.recorded.Recorded.{Recorded}
 use Rattle.span_filters.specs.Level.{level_answers}
 use Rattle.span_stacks.specs.Filtered.{layer_of}
 use Rattle.span_stacks.specs.Layered.{inner_of, outer_of}
-use Rattle.span_registry.specs.Levels.{unlevelled}
+use Rattle.span_registry.specs.Reload.{unreloaded}
 use Rattle.span_registry.specs.Position.{Here, Inner, Outer, Under}
 use Rattle.span_script.proofs.Gives.{gives, one_ok}
 use Rattle.span_script.proofs.Honest.{honest_absent, honest_nested, honest_pair, honest_plain, honest_veto, level_set, mute_kept, stays_absent, stays_nested}
@@ -126,7 +126,7 @@ returns-in-Absent-clause-alone g c =
     let u = p.served in
     let begun = stack_of u.begun in
     let y = stack_of p.given.1 in
-    let steady = steady_stack steady_recorder (steady_stack (steady_absent (λ (r : RecorderState) f. f ≡ leaf) recorder_steps unlevelled) steady_registry) in
+    let steady = steady_stack steady_recorder (steady_stack (steady_absent (λ (r : RecorderState) f. f ≡ leaf) recorder_steps unreloaded) steady_registry) in
     let begins = used_absent x begun u.in_use.0 u.in_use.1.0 u.in_use.1.1 c.absent.ensures in
     let served = u.served (ready_at_first steady
     (λ z. inner_of (inner_of z)) (form_of Absent) c.args.limits Absent x (stays_absent x c.absent.ensures) c.absent.ensures.registry honest_absent) in

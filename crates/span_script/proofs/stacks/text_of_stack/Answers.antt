@@ -17,7 +17,7 @@ returns-clause-alone g c =
       stepped = g.S.Subscriber.stepped;
       hears = g.S.Subscriber.hears;
       acts_at = g.S.Subscriber.acts_at;
-      levelled = g.S.Subscriber.levelled;
+      reloaded = g.S.Subscriber.reloaded;
       registered = g.S.Subscriber.registered;
     } in
     let served = c.in_ok-answers in

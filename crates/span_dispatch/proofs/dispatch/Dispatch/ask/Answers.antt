@@ -34,8 +34,8 @@ returns-in-Probe-clause-ready g c = ready_by_rules c.args.self.now c.enabled.new
 pub returns-in-AskCurrent-clause-ready : goal.returns-in-AskCurrent-clause-ready
 returns-in-AskCurrent-clause-ready g c = ready_by_rules c.args.self.now c.args.self.now (unchanged_ready c.args.self.now c.args.self.now refl)
 
-pub returns-in-SetLevel-clause-ready : goal.returns-in-SetLevel-clause-ready
-returns-in-SetLevel-clause-ready g c = level_by_rules c.in-SetLevel.number c.args.self.now c.set_level.new.self c.set_level.ensures.ready
+pub returns-in-Reload-clause-ready : goal.returns-in-Reload-clause-ready
+returns-in-Reload-clause-ready g c = level_by_rules c.in-Reload.number c.args.self.now c.reload.new.self c.reload.ensures.ready
 
 pub returns-in-Enter-clause-asks : goal.returns-in-Enter-clause-asks
 returns-in-Enter-clause-asks g c =

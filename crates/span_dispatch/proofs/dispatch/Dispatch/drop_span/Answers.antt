@@ -18,14 +18,14 @@ close_all-requires-clause-closing g c = subst (λ (s : RegistryState). IsClosing
 pub returns-in-Ok-StillOpen-clause-ready : goal.returns-in-Ok-StillOpen-clause-ready
 returns-in-Ok-StillOpen-clause-ready g c =
     stays_ready c.args.self.now (with_stack c.args.self.now (g.S.LookupSpan.with_registry c.args.self.now.stack c.release.new.self))
-    (λ f k u. (still_open_so g.met.S.Subscriber.laws g.met.S.LookupSpan.with_own g.S.Subscriber.levelled
+    (λ f k u. (still_open_so g.met.S.Subscriber.laws g.met.S.LookupSpan.with_own g.S.Subscriber.reloaded
     g.met.S.LookupSpan.registry_with c.args.lane c.args.id c.in-Ok-StillOpen.field-0 f c.args.self.now.stack c.release.new.self (subst (λ (s : RegistryState).
     Releases c.args.id c.in-Ok-StillOpen.field-0 s c.release.new.self) c.root_mut.ensures.value c.in-Ok-StillOpen.ensures.released) c.in-Ok-StillOpen.field-0-is
     (subst (λ (s : RegistryState). IsForest s.store.spans) c.root_mut.ensures.value c.in-Ok-StillOpen.ensures.forest) k).1 k.settled) (λ f h u. u)
 
 pub returns-in-Ok-Closing-clause-ready : goal.returns-in-Ok-Closing-clause-ready
 returns-in-Ok-Closing-clause-ready g c = stays_ready c.args.self.now
-    (with_stack c.args.self.now c.close_all.new.stack) (λ f k u. (closed_so g.met.S.Subscriber.laws g.met.S.LookupSpan.with_own g.S.Subscriber.levelled
+    (with_stack c.args.self.now c.close_all.new.stack) (λ f k u. (closed_so g.met.S.Subscriber.laws g.met.S.LookupSpan.with_own g.S.Subscriber.reloaded
     g.met.S.LookupSpan.registry_with c.args.lane c.args.id c.in-Ok-Closing.field-0 f c.args.self.now.stack c.close_all.new.stack c.release.new.self
     (subst (λ (s : RegistryState). Releases c.args.id c.in-Ok-Closing.field-0 s c.release.new.self) c.root_mut.ensures.value c.in-Ok-Closing.ensures.released)
     c.in-Ok-Closing.field-0-is (subst (λ (s : RegistryState). IsForest s.store.spans) c.root_mut.ensures.value c.in-Ok-Closing.ensures.forest)
@@ -58,7 +58,7 @@ pub returns-in-Ok-StillOpen-clause-drops : goal.returns-in-Ok-StillOpen-clause-d
 returns-in-Ok-StillOpen-clause-drops g c = record {
   rest = search rules;
   served = λ settled. λ f h u. let told = (still_open_so g.met.S.Subscriber.laws g.met.S.LookupSpan.with_own
-      g.S.Subscriber.levelled g.met.S.LookupSpan.registry_with c.args.lane c.args.id c.in-Ok-StillOpen.field-0 f c.args.self.now.stack c.release.new.self (subst
+      g.S.Subscriber.reloaded g.met.S.LookupSpan.registry_with c.args.lane c.args.id c.in-Ok-StillOpen.field-0 f c.args.self.now.stack c.release.new.self (subst
       (λ (s : RegistryState). Releases c.args.id c.in-Ok-StillOpen.field-0 s c.release.new.self) c.root_mut.ensures.value c.in-Ok-StillOpen.ensures.released)
       c.in-Ok-StillOpen.field-0-is (subst (λ (s : RegistryState). IsForest s.store.spans) c.root_mut.ensures.value c.in-Ok-StillOpen.ensures.forest) (record {
         honest = h;
@@ -84,23 +84,23 @@ pub returns-in-Ok-Closing-clause-drops : goal.returns-in-Ok-Closing-clause-drops
 returns-in-Ok-Closing-clause-drops g c = record {
   rest = search rules;
   served =
-      λ settled. λ f h u. let told = (closed_so g.met.S.Subscriber.laws g.met.S.LookupSpan.with_own g.S.Subscriber.levelled g.met.S.LookupSpan.registry_with
+      λ settled. λ f h u. let told = (closed_so g.met.S.Subscriber.laws g.met.S.LookupSpan.with_own g.S.Subscriber.reloaded g.met.S.LookupSpan.registry_with
       c.args.lane c.args.id c.in-Ok-Closing.field-0 f c.args.self.now.stack c.close_all.new.stack c.release.new.self (subst (λ (s : RegistryState).
       Releases c.args.id c.in-Ok-Closing.field-0 s c.release.new.self) c.root_mut.ensures.value c.in-Ok-Closing.ensures.released) c.in-Ok-Closing.field-0-is
       (subst (λ (s : RegistryState). IsForest s.store.spans) c.root_mut.ensures.value c.in-Ok-Closing.ensures.forest) c.close_all.ensures.closes (record {
         honest = h;
         settled = settled;
       })).0 in (told.0, record { says = told.1.says; goes = told.1.goes; answers = (refl, tt) });
-  taken = closed_taken g.S.LookupSpan.registry g.S.LookupSpan.with_registry g.S.Subscriber.has_form g.S.Subscriber.stepped g.S.Subscriber.levelled
+  taken = closed_taken g.S.LookupSpan.registry g.S.LookupSpan.with_registry g.S.Subscriber.has_form g.S.Subscriber.stepped g.S.Subscriber.reloaded
       g.met.S.LookupSpan.registry_with c.args.lane c.args.id c.in-Ok-Closing.field-0 c.args.self.now (with_stack c.args.self.now c.close_all.new.stack)
       c.release.new.self (subst (λ (s : RegistryState). Releases c.args.id c.in-Ok-Closing.field-0 s c.release.new.self)
       c.root_mut.ensures.value c.in-Ok-Closing.ensures.released) c.in-Ok-Closing.field-0-is c.close_all.ensures.closes;
-  store = λ h. (closed_store g.S.LookupSpan.registry g.S.LookupSpan.with_registry g.S.Subscriber.has_form g.S.Subscriber.stepped g.S.Subscriber.levelled
+  store = λ h. (closed_store g.S.LookupSpan.registry g.S.LookupSpan.with_registry g.S.Subscriber.has_form g.S.Subscriber.stepped g.S.Subscriber.reloaded
       g.met.S.LookupSpan.registry_with c.args.lane c.args.id c.in-Ok-Closing.field-0 c.args.self.now.stack c.close_all.new.stack c.release.new.self
       (subst (λ (s : RegistryState). Releases c.args.id c.in-Ok-Closing.field-0 s c.release.new.self) c.root_mut.ensures.value c.in-Ok-Closing.ensures.released)
       c.in-Ok-Closing.field-0-is
       (subst (λ (s : RegistryState). IsForest s.store.spans) c.root_mut.ensures.value c.in-Ok-Closing.ensures.forest) c.close_all.ensures.closes h).0;
-  settled = λ h. (closed_store g.S.LookupSpan.registry g.S.LookupSpan.with_registry g.S.Subscriber.has_form g.S.Subscriber.stepped g.S.Subscriber.levelled
+  settled = λ h. (closed_store g.S.LookupSpan.registry g.S.LookupSpan.with_registry g.S.Subscriber.has_form g.S.Subscriber.stepped g.S.Subscriber.reloaded
       g.met.S.LookupSpan.registry_with c.args.lane c.args.id c.in-Ok-Closing.field-0 c.args.self.now.stack c.close_all.new.stack c.release.new.self
       (subst (λ (s : RegistryState). Releases c.args.id c.in-Ok-Closing.field-0 s c.release.new.self) c.root_mut.ensures.value c.in-Ok-Closing.ensures.released)
       c.in-Ok-Closing.field-0-is

@@ -16,10 +16,10 @@ returns-clause-probes g c = record {
     [],
     record {
       says = probe_says g.met.S.Subscriber.laws g.met.S.LookupSpan.with_own
-          g.S.Subscriber.levelled c.args.lane c.args.meta.now c.admits.result (g.S.LookupSpan.registry (stack_of c.args.self.now)).store;
+          g.S.Subscriber.reloaded c.args.lane c.args.meta.now c.admits.result (g.S.LookupSpan.registry (stack_of c.args.self.now)).store;
       goes = sym (ap stack_of c.admits.ensures.rest);
     },
-  ) (probed_exactly g.met.S.Subscriber.laws g.met.S.LookupSpan.with_own g.S.Subscriber.levelled c.args.lane c.args.meta.now c.admits.new.pass c.admits.result
+  ) (probed_exactly g.met.S.Subscriber.laws g.met.S.LookupSpan.with_own g.S.Subscriber.reloaded c.args.lane c.args.meta.now c.admits.new.pass c.admits.result
       f (kept_by c.args.self.now) (kept_by c.admits.new.self) (g.S.LookupSpan.registry (stack_of c.args.self.now)) (c.admits.ensures.admitted f h u));
   kept = search rules;
   up_to_date = search rules;

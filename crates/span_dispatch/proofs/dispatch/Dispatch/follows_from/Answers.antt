@@ -11,7 +11,7 @@ use Rattle.span_dispatch.proofs.dispatch.Dispatch.follows_from.Goals as goal
 
 pub returns-clause-ready : goal.returns-clause-ready
 returns-clause-ready g c = stays_ready c.args.self.now (with_stack c.args.self.now c.record_follows_from.new.self)
-    (λ f k u. (followed_so g.met.S.Subscriber.laws g.met.S.LookupSpan.with_own g.S.Subscriber.levelled c.args.lane
+    (λ f k u. (followed_so g.met.S.Subscriber.laws g.met.S.LookupSpan.with_own g.S.Subscriber.reloaded c.args.lane
     c.args.id c.args.follows f c.args.self.now.stack c.record_follows_from.new.self (subst (λ (s : RegistryState). IsOpen s.store.spans (number_of c.args.id))
     c.root-registry.ensures (c.is_open.ensures.0 c.if-not-is_open.false)) c.record_follows_from.ensures.hooks k.honest).1 k.settled) (λ f h u. u)
 
@@ -49,7 +49,7 @@ returns-then-not-is_open-clause-follows g c = record {
 pub returns-clause-follows : goal.returns-clause-follows
 returns-clause-follows g c = record {
   rest = search rules;
-  served = λ f h u. let told = (followed_so g.met.S.Subscriber.laws g.met.S.LookupSpan.with_own g.S.Subscriber.levelled c.args.lane
+  served = λ f h u. let told = (followed_so g.met.S.Subscriber.laws g.met.S.LookupSpan.with_own g.S.Subscriber.reloaded c.args.lane
       c.args.id c.args.follows f c.args.self.now.stack c.record_follows_from.new.self (subst (λ (s : RegistryState). IsOpen s.store.spans (number_of c.args.id))
       c.root-registry.ensures (c.is_open.ensures.0 c.if-not-is_open.false)) c.record_follows_from.ensures.hooks h).0 in
       (told.0, record { says = told.1.says; goes = told.1.goes; answers = (refl, tt) });

@@ -23,7 +23,7 @@ returns-in-Ok-false-clause-ready g c = same_ready c.args.self.now c.admits_by.ne
 pub returns-in-Ok-clause-ready : goal.returns-in-Ok-clause-ready
 returns-in-Ok-clause-ready g c =
     stays_ready c.args.self.now (with_stack c.admits_by.new.self c.new_span.new.self) (λ f k u. let h = k.honest in (span_made g.met.S.Subscriber.laws
-    g.met.S.LookupSpan.with_own g.S.Subscriber.levelled
+    g.met.S.LookupSpan.with_own g.S.Subscriber.reloaded
     c.args.lane c.args.attrs.now c.metadata.result c.admits_by.new.pass c.in-Ok.id f (stack_of c.args.self.now)
     c.new_span.new.self c.metadata.ensures ((subst (λ b. IsAdmitted (kept_by c.args.self.now) f (g.S.LookupSpan.registry (stack_of c.args.self.now))
     c.args.lane c.metadata.result c.admits_by.new.pass (kept_by c.admits_by.new.self) (Ok b)) c.in-Ok-true.field-0-test (c.in-Ok-true.ensures.admitted f h u)).1
@@ -40,7 +40,7 @@ returns-in-Err-new_span-clause-ready g c = same_ready c.args.self.now
 pub returns-in-Err-clause-opens : goal.returns-in-Err-clause-opens
 returns-in-Err-clause-opens g c = record {
   served = λ f h u. served_so ([], record { says = refl; goes = sym (ap stack_of c.admits_by.ensures.rest) }) (unknown_exactly g.met.S.Subscriber.laws
-      g.met.S.LookupSpan.with_own g.S.Subscriber.levelled f (kept_by c.args.self.now) (kept_by c.admits_by.new.self) (g.S.LookupSpan.registry (stack_of
+      g.met.S.LookupSpan.with_own g.S.Subscriber.reloaded f (kept_by c.args.self.now) (kept_by c.admits_by.new.self) (g.S.LookupSpan.registry (stack_of
       c.args.self.now))
       c.args.lane c.args.attrs.now c.metadata.result c.admits_by.new.pass c.metadata.ensures c.in-Err.error (c.in-Err.ensures.admitted f h u));
   kept = of_same (λ m e. RefusesOpening g.S.LookupSpan.registry c.args.lane m (asked_parent c.args.attrs.now) c.args.self.now e)
@@ -56,7 +56,7 @@ returns-in-Err-clause-opens g c = record {
 pub returns-in-Ok-false-clause-opens : goal.returns-in-Ok-false-clause-opens
 returns-in-Ok-false-clause-opens g c = record {
   served = λ f h u. served_so ([], record { says = refl; goes = sym (ap stack_of c.admits_by.ensures.rest) })
-      (dropped_exactly g.met.S.Subscriber.laws g.met.S.LookupSpan.with_own g.S.Subscriber.levelled f
+      (dropped_exactly g.met.S.Subscriber.laws g.met.S.LookupSpan.with_own g.S.Subscriber.reloaded f
       (kept_by c.args.self.now) (kept_by c.admits_by.new.self)
       (g.S.LookupSpan.registry (stack_of c.args.self.now)) c.args.lane c.args.attrs.now c.metadata.result
       c.admits_by.new.pass c.metadata.ensures (subst (λ b. IsAdmitted (kept_by c.args.self.now) f (g.S.LookupSpan.registry (stack_of c.args.self.now))
@@ -80,12 +80,12 @@ returns-in-Ok-false-clause-opens g c = record {
 pub returns-in-Ok-clause-opens : goal.returns-in-Ok-clause-opens
 returns-in-Ok-clause-opens g c = record {
   served = λ f h u. served_so ((span_made g.met.S.Subscriber.laws g.met.S.LookupSpan.with_own
-      g.S.Subscriber.levelled c.args.lane c.args.attrs.now c.metadata.result c.admits_by.new.pass c.in-Ok.id f (stack_of c.args.self.now) c.new_span.new.self
+      g.S.Subscriber.reloaded c.args.lane c.args.attrs.now c.metadata.result c.admits_by.new.pass c.in-Ok.id f (stack_of c.args.self.now) c.new_span.new.self
       c.metadata.ensures ((subst (λ b. IsAdmitted (kept_by c.args.self.now) f (g.S.LookupSpan.registry (stack_of c.args.self.now)) c.args.lane
       c.metadata.result c.admits_by.new.pass (kept_by c.admits_by.new.self) (Ok b)) c.in-Ok-true.field-0-test (c.in-Ok-true.ensures.admitted f h u)).1 refl)
       (subst (λ x. OpensAndNotifies g.S.LookupSpan.registry g.S.Subscriber.has_form g.S.Subscriber.stepped
       c.args.lane c.args.attrs.now c.admits_by.new.pass x c.new_span.new.self c.in-Ok.id) (ap stack_of c.admits_by.ensures.rest) c.in-Ok.ensures.opened) h).0)
-      (made_exactly g.met.S.Subscriber.laws g.met.S.LookupSpan.with_own g.S.Subscriber.levelled f (kept_by c.args.self.now)
+      (made_exactly g.met.S.Subscriber.laws g.met.S.LookupSpan.with_own g.S.Subscriber.reloaded f (kept_by c.args.self.now)
       (kept_by c.admits_by.new.self) (g.S.LookupSpan.registry (stack_of c.args.self.now)) c.args.lane c.args.attrs.now c.metadata.result c.admits_by.new.pass
       c.metadata.ensures c.in-Ok.id (room_for g.S.LookupSpan.registry c.args.lane c.args.attrs.now c.admits_by.new.pass (stack_of c.args.self.now)
       c.new_span.new.self c.in-Ok.id (subst (λ x. OpensAndNotifies g.S.LookupSpan.registry g.S.Subscriber.has_form g.S.Subscriber.stepped
@@ -113,7 +113,7 @@ returns-in-Ok-clause-opens g c = record {
 pub returns-in-Err-new_span-clause-opens : goal.returns-in-Err-new_span-clause-opens
 returns-in-Err-new_span-clause-opens g c = record {
   served = λ f h u. served_so ([], record { says = refl; goes = sym (c.in-Err-new_span.ensures.unchanged ∙ (ap stack_of c.admits_by.ensures.rest)) })
-      (refused_exactly g.met.S.Subscriber.laws g.met.S.LookupSpan.with_own g.S.Subscriber.levelled f (kept_by c.args.self.now) (kept_by c.admits_by.new.self)
+      (refused_exactly g.met.S.Subscriber.laws g.met.S.LookupSpan.with_own g.S.Subscriber.reloaded f (kept_by c.args.self.now) (kept_by c.admits_by.new.self)
       (g.S.LookupSpan.registry (stack_of c.args.self.now)) c.args.lane c.args.attrs.now c.metadata.result c.admits_by.new.pass c.metadata.ensures
       c.in-Err-new_span.error (subst (λ x. RefusesNew (g.S.LookupSpan.registry x) c.args.lane (asked_parent c.args.attrs.now) c.in-Err-new_span.error)
       (ap stack_of c.admits_by.ensures.rest) c.in-Err-new_span.ensures.refused)

@@ -11,7 +11,7 @@ use Rattle.span_dispatch.proofs.dispatch.Dispatch.record.Goals as goal
 
 pub returns-clause-ready : goal.returns-clause-ready
 returns-clause-ready g c = stays_ready c.args.self.now (with_stack c.args.self.now c.record.new.self) (λ f k u.
-    (recorded_so g.met.S.Subscriber.laws g.met.S.LookupSpan.with_own g.S.Subscriber.levelled c.args.lane c.args.id c.args.values.now f c.args.self.now.stack
+    (recorded_so g.met.S.Subscriber.laws g.met.S.LookupSpan.with_own g.S.Subscriber.reloaded c.args.lane c.args.id c.args.values.now f c.args.self.now.stack
     c.record.new.self (subst (λ (s : RegistryState). IsOpen s.store.spans (number_of c.args.id)) c.root.ensures (c.is_open.ensures.0 c.if-not-is_open.false))
     c.record.ensures.hooks k.honest).1 k.settled) (λ f h u. u)
 
@@ -49,7 +49,7 @@ pub returns-clause-records : goal.returns-clause-records
 returns-clause-records g c = record {
   rest = search rules;
   served = λ f h u. let told =
-      (recorded_so g.met.S.Subscriber.laws g.met.S.LookupSpan.with_own g.S.Subscriber.levelled c.args.lane c.args.id c.args.values.now f c.args.self.now.stack
+      (recorded_so g.met.S.Subscriber.laws g.met.S.LookupSpan.with_own g.S.Subscriber.reloaded c.args.lane c.args.id c.args.values.now f c.args.self.now.stack
       c.record.new.self (subst (λ (s : RegistryState). IsOpen s.store.spans (number_of c.args.id)) c.root.ensures (c.is_open.ensures.0 c.if-not-is_open.false))
       c.record.ensures.hooks h).0 in (told.0, record { says = told.1.says; goes = told.1.goes; answers = (refl, tt) });
   store = found_store g.S.LookupSpan.registry c.args.id c.args.self.now.stack

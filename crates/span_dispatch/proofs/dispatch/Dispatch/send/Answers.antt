@@ -21,7 +21,7 @@ returns-in-Err-clause-ready g c = same_ready c.args.self.now c.admits_by.new.sel
 pub returns-in-Err-clause-sends : goal.returns-in-Err-clause-sends
 returns-in-Err-clause-sends g c = record {
   served = λ f h u. served_so ([], record { says = refl; goes = sym (ap stack_of c.admits_by.ensures.rest) }) (event_unknown_exactly g.met.S.Subscriber.laws
-      g.met.S.LookupSpan.with_own g.S.Subscriber.levelled f (kept_by c.args.self.now) (kept_by c.admits_by.new.self) (stack_of c.args.self.now)
+      g.met.S.LookupSpan.with_own g.S.Subscriber.reloaded f (kept_by c.args.self.now) (kept_by c.admits_by.new.self) (stack_of c.args.self.now)
       c.args.lane c.args.event.now c.metadata.result c.admits_by.new.pass c.metadata.ensures h c.in-Err.error (c.in-Err.ensures.admitted f h u));
   kept = of_same (λ m. RefusesMetadata m c.args.self.now)
       c.metadata.result (event_metadata c.args.event.now) false (Err c.in-Err.error) c.args.self.now c.admits_by.new.self c.metadata.ensures
@@ -41,7 +41,7 @@ pub returns-in-Ok-false-clause-sends : goal.returns-in-Ok-false-clause-sends
 returns-in-Ok-false-clause-sends g c = record {
   served = λ f h u. served_so ([], record { says = refl; goes = sym (ap stack_of c.admits_by.ensures.rest) })
       (event_dropped_exactly g.met.S.Subscriber.laws g.met.S.LookupSpan.with_own
-      g.S.Subscriber.levelled f
+      g.S.Subscriber.reloaded f
       (kept_by c.args.self.now) (kept_by c.admits_by.new.self) (stack_of c.args.self.now) c.args.lane c.args.event.now c.metadata.result
       c.admits_by.new.pass c.metadata.ensures h (subst (λ b. IsAdmitted (kept_by c.args.self.now) f (g.S.LookupSpan.registry (stack_of c.args.self.now))
       c.args.lane c.metadata.result c.admits_by.new.pass (kept_by c.admits_by.new.self) (Ok b))
@@ -70,7 +70,7 @@ pub returns-then-not-event_enabled-clause-sends : goal.returns-then-not-event_en
 returns-then-not-event_enabled-clause-sends g c = record {
   served = λ f h u. served_so ([], record { says = refl; goes = sym (ap stack_of c.admits_by.ensures.rest) })
       (event_vetoed_exactly
-      g.met.S.Subscriber.laws g.met.S.LookupSpan.with_own g.S.Subscriber.levelled f (kept_by c.args.self.now) (kept_by c.admits_by.new.self)
+      g.met.S.Subscriber.laws g.met.S.LookupSpan.with_own g.S.Subscriber.reloaded f (kept_by c.args.self.now) (kept_by c.admits_by.new.self)
       (stack_of c.args.self.now) c.args.lane c.args.event.now c.metadata.result c.admits_by.new.pass c.metadata.ensures h c.event_enabled.new.pass
       c.event_enabled.result c.if-not-event_enabled.true (subst (λ x. AnswersEvent g.S.LookupSpan.registry g.S.Subscriber.has_form x c.args.lane
       c.args.event.now c.admits_by.new.pass c.event_enabled.result c.event_enabled.new.pass) (ap stack_of c.admits_by.ensures.rest) c.event_enabled.ensures)
@@ -95,7 +95,7 @@ returns-then-not-event_enabled-clause-sends g c = record {
 
 pub returns-else-not-event_enabled-clause-ready : goal.returns-else-not-event_enabled-clause-ready
 returns-else-not-event_enabled-clause-ready g c = stays_ready c.args.self.now (with_stack c.admits_by.new.self c.event.new.self)
-    (λ f k u. let h = k.honest in (event_made g.met.S.Subscriber.laws g.met.S.LookupSpan.with_own g.S.Subscriber.levelled
+    (λ f k u. let h = k.honest in (event_made g.met.S.Subscriber.laws g.met.S.LookupSpan.with_own g.S.Subscriber.reloaded
     c.args.lane c.args.event.now c.metadata.result c.admits_by.new.pass c.event_enabled.new.pass c.event_enabled.result f (stack_of c.args.self.now)
     c.event.new.self c.metadata.ensures ((subst (λ b. IsAdmitted (kept_by c.args.self.now) f (g.S.LookupSpan.registry (stack_of c.args.self.now))
     c.args.lane c.metadata.result c.admits_by.new.pass (kept_by c.admits_by.new.self) (Ok b)) c.in-Ok-true.field-0-test (c.in-Ok-true.ensures.admitted f h u)).1
@@ -109,7 +109,7 @@ returns-else-not-event_enabled-clause-ready g c = stays_ready c.args.self.now (w
 
 pub returns-else-not-event_enabled-clause-sends : goal.returns-else-not-event_enabled-clause-sends
 returns-else-not-event_enabled-clause-sends g c = record {
-  served = λ f h u. served_so ((event_made g.met.S.Subscriber.laws g.met.S.LookupSpan.with_own g.S.Subscriber.levelled
+  served = λ f h u. served_so ((event_made g.met.S.Subscriber.laws g.met.S.LookupSpan.with_own g.S.Subscriber.reloaded
       c.args.lane c.args.event.now c.metadata.result c.admits_by.new.pass c.event_enabled.new.pass c.event_enabled.result f (stack_of c.args.self.now)
       c.event.new.self c.metadata.ensures ((subst (λ b. IsAdmitted (kept_by c.args.self.now) f (g.S.LookupSpan.registry (stack_of c.args.self.now)) c.args.lane
       c.metadata.result c.admits_by.new.pass (kept_by c.admits_by.new.self) (Ok b)) c.in-Ok-true.field-0-test (c.in-Ok-true.ensures.admitted f h u)).1 refl)
@@ -118,7 +118,7 @@ returns-else-not-event_enabled-clause-sends g c = record {
       (subst (λ x. Notifies g.S.LookupSpan.registry g.S.Subscriber.has_form g.S.Subscriber.stepped c.args.lane
       (refusals c.event_enabled.new.pass) (OnEvent c.args.event.now) Stays x c.event.new.self) (ap stack_of c.admits_by.ensures.rest) c.event.ensures.hooks)
       h).0)
-      (event_made_exactly g.met.S.Subscriber.laws g.met.S.LookupSpan.with_own g.S.Subscriber.levelled f (kept_by c.args.self.now) (kept_by c.admits_by.new.self)
+      (event_made_exactly g.met.S.Subscriber.laws g.met.S.LookupSpan.with_own g.S.Subscriber.reloaded f (kept_by c.args.self.now) (kept_by c.admits_by.new.self)
       (stack_of c.args.self.now) c.args.lane c.args.event.now c.metadata.result c.admits_by.new.pass c.metadata.ensures h c.event_enabled.new.pass
       c.event_enabled.result c.if-not-event_enabled.false (subst (λ x. AnswersEvent g.S.LookupSpan.registry g.S.Subscriber.has_form x c.args.lane
       c.args.event.now c.admits_by.new.pass c.event_enabled.result c.event_enabled.new.pass) (ap stack_of c.admits_by.ensures.rest) c.event_enabled.ensures)

@@ -16,7 +16,7 @@ invariant-loop-request g l = record {
     stepped = g.S.Subscriber.stepped;
     hears = g.S.Subscriber.hears;
     acts_at = g.S.Subscriber.acts_at;
-    levelled = g.S.Subscriber.levelled;
+    reloaded = g.S.Subscriber.reloaded;
     registered = g.S.Subscriber.registered;
   }) l.fn.self l.self (take l.request-index l.requests) l.answers.items;
   asks : AsksEach (record {
@@ -27,7 +27,7 @@ invariant-loop-request g l = record {
     stepped = g.S.Subscriber.stepped;
     hears = g.S.Subscriber.hears;
     acts_at = g.S.Subscriber.acts_at;
-    levelled = g.S.Subscriber.levelled;
+    reloaded = g.S.Subscriber.reloaded;
     registered = g.S.Subscriber.registered;
   }) [] (take l.request-index l.requests) l.answers.items l.fn.self l.self;
   registered : KeepsRegistered l.fn.self l.self;

@@ -34,8 +34,8 @@ pub returns-in-AskCurrent-clause-ready : goal.returns-in-AskCurrent-clause-ready
 returns-in-AskCurrent-clause-ready g c = ready_by_rules c.args.self.now.dispatch
     c.current_span.new.self.dispatch (unchanged_ready c.args.self.now.dispatch c.current_span.new.self.dispatch c.current_span.ensures.dispatch)
 
-pub returns-in-SetLevel-clause-ready : goal.returns-in-SetLevel-clause-ready
-returns-in-SetLevel-clause-ready g c = level_by_rules c.in-SetLevel.number c.args.self.now.dispatch c.set_level.new.self.dispatch c.set_level.ensures.ready
+pub returns-in-Reload-clause-ready : goal.returns-in-Reload-clause-ready
+returns-in-Reload-clause-ready g c = level_by_rules c.in-Reload.number c.args.self.now.dispatch c.reload.new.self.dispatch c.reload.ensures.ready
 
 pub returns-in-Enter-clause-logs : goal.returns-in-Enter-clause-logs
 returns-in-Enter-clause-logs g c =

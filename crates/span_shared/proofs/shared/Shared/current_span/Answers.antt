@@ -14,7 +14,7 @@ returns-clause-logs g c =
       stepped = g.S.Subscriber.stepped;
       hears = g.S.Subscriber.hears;
       acts_at = g.S.Subscriber.acts_at;
-      levelled = g.S.Subscriber.levelled;
+      reloaded = g.S.Subscriber.reloaded;
       registered = g.S.Subscriber.registered;
     })
     (λ s lane. Logs (NeverRefused (ShowsSpan s lane)) (AddsEntry (current_entry lane)))
@@ -32,7 +32,7 @@ returns-in_err-given-clause-logs g c =
       stepped = g.S.Subscriber.stepped;
       hears = g.S.Subscriber.hears;
       acts_at = g.S.Subscriber.acts_at;
-      levelled = g.S.Subscriber.levelled;
+      reloaded = g.S.Subscriber.reloaded;
       registered = g.S.Subscriber.registered;
     })
     (λ s lane. Logs (NeverRefused (ShowsSpan s lane)) (AddsEntry (current_entry lane)))

@@ -1,0 +1,19 @@
+use Rattle.std.proofs.Common.{ap, refl, sym, ◌∙◌}
+use Rattle.span_filters.specs.EnvFilter.{env_answers}
+use Rattle.span_filters.specs.Level.{level_answers}
+use Rattle.span_filters.specs.Setting.{setting_answers}
+use Rattle.span_filters.proofs.setting.SettingFilter.enabled.Goals as goal
+use Rattle.span_registry.specs.Behaviour.{Behaviour}
+use Rattle.span_registry.specs.Context.{view_in}
+
+pub returns-in-Level : goal.returns-in-Level
+returns-in-Level g c a h =
+    let seen = view_in g.S.LookupSpan.registry c.args.cx.now in
+    c.enabled.ensures (level_answers c.in-Level.level) refl
+    ∙ sym (ap (λ (b : Behaviour). b.enabled c.args.meta.now seen) (h ∙ ap setting_answers c.in-Level.is))
+
+pub returns-in-Directives : goal.returns-in-Directives
+returns-in-Directives g c a h =
+    let seen = view_in g.S.LookupSpan.registry c.args.cx.now in
+    c.enabled-in-Directives.ensures (env_answers c.in-Directives.filter.now) refl
+    ∙ sym (ap (λ (b : Behaviour). b.enabled c.args.meta.now seen) (h ∙ ap setting_answers c.in-Directives.is))

@@ -1,6 +1,0 @@
-use Rattle.std.proofs.Common.{◌∙◌}
-use Rattle.span_layers.proofs.SameVec.{same_items}
-use Rattle.span_layers.proofs.list.VecLayer.set_level.Goals as goal
-
-pub returns-clause-unchanged : goal.returns-clause-unchanged
-returns-clause-unchanged g c e = same_items c.args.self.now c.set_levels.new.members (c.set_levels.ensures.unchanged e ∙ c.as_mut_slice.ensures.value)
