@@ -1,4 +1,5 @@
 mod Around
 mod Hooks
+mod Steady
 pub mod CallerLemmas
 pub mod Views

@@ -1,13 +1,15 @@
 -- Views, extensions aside: what they show, and where two are the same.
-use Rattle.std.proofs.Common.{◌≡◌, ℕ, zero, suc, Bool, false, not, if◌then◌else◌, is_some, IsTrue, T, ◌&&◌, List, [], ◌∷◌, length, Option, None, Some, refl}
-use Rattle.std.proofs.Common.{sym, ap, subst, ◌∙◌}
+use Rattle.std.proofs.Common.{◌≡◌, ℕ, zero, suc, Bool, false, not, if◌then◌else◌, is_some, IsTrue, T, true, ◌&&◌, List, [], ◌∷◌, length, Option, None, Some}
+use Rattle.std.proofs.Common.{refl}
+use Rattle.std.proofs.Common.{sym, ap, cond, map, subst, ◌∙◌}
 use Rattle.std.specs.Cmp.{nat_cmp_total}
 use Rattle.std.specs.FinMap.Entries.{below_all}
 use Rattle.std.specs.FinMap.{empty, entries, entries_sorted, entries-from_sorted, from_entries, from_sorted, get, get-from_entries, get-from_sorted, is_sorted}
-use Rattle.std.specs.FinMap.{len, len-entries, nat_cmp-IsAntisymmetric, same_map}
+use Rattle.std.specs.FinMap.{get-entries, len, len-entries, nat_cmp-IsAntisymmetric, same_map}
+use Rattle.std.specs.FinMap as finmap
 use Rattle.std.specs.List.{filter, find}
 use Rattle.std.specs.Option.{option_and_then, option_map, option_map_or}
-use Rattle.std.specs.Ordering.{is_lt, nat_cmp}
+use Rattle.std.specs.Ordering.{eq_by_cmp, is_lt, nat_cmp}
 use Rattle.span_core.specs.Filters.{FilterSet, meets, refuses}
 use Rattle.span_core.specs.Span.{number_of}
 use Rattle.span_core.specs.declared.metadata.Metadata.{Metadata}
@@ -18,7 +20,7 @@ use Rattle.span_extensions.specs.declared.extensions.ExtensionMap.{ExtensionMap}
 use Rattle.span_store.specs.LaneStack.{newest, without_duplicates}
 use Rattle.span_store.specs.Store.{RegistryState, Span, SpanExtensions, Store, stack_on}
 use Rattle.span_registry.specs.Agree.{AgreeAt}
-use Rattle.span_registry.specs.Behaviour.{Notice, unextended}
+use Rattle.span_registry.specs.Behaviour.{AreAlike, Notice, unextended}
 use Rattle.span_registry.specs.Law.{ShowsPlainly}
 use Rattle.span_registry.specs.Position.{told_in}
 use Rattle.span_registry.specs.Plan.{is_passed}
@@ -118,6 +120,55 @@ module _ (m n : SeenSpans) (same : (x : ℕ) → option_map unextended (get m x)
 
   metadata_alike : (x : ℕ) → option_map (λ r. r.metadata) (get m x) ≡ option_map (λ r. r.metadata) (get n x)
   metadata_alike x = metadata_unextended (get m x) (get n x) (same x)
+
+-- ---- views that differ in extensions alone
+
+-- spans as they are seen, their extensions left out
+abbrev bare_each : List (ℕ × SeenSpan) → List (ℕ × SeenSpan)
+bare_each es = map (λ e. (e.0, unextended e.1)) es
+
+below_bare : (x : ℕ) (es : List (ℕ × SeenSpan)) → below_all nat_cmp x (bare_each es) ≡ below_all nat_cmp x es
+below_bare x [] = refl
+below_bare x (e ∷ es) = ap (λ (b : Bool). is_lt (nat_cmp x e.0) && b) (below_bare x es)
+
+sorted_bare : (es : List (ℕ × SeenSpan)) → is_sorted nat_cmp (bare_each es) ≡ is_sorted nat_cmp es
+sorted_bare [] = refl
+sorted_bare (e ∷ es) = λ i. below_bare e.0 es i && sorted_bare es i
+
+as_many_bare : (es : List (ℕ × SeenSpan)) → length (bare_each es) ≡ length es
+as_many_bare [] = refl
+as_many_bare (e ∷ es) = ap suc (as_many_bare es)
+
+either_bare : (b : Bool) (r : SeenSpan) (o p : Option SeenSpan) → o ≡ option_map unextended p
+    → cond b (Some (unextended r)) o ≡ option_map unextended (cond b (Some r) p)
+either_bare true r o p h = refl
+either_bare false r o p h = h
+
+found_bare : (x : ℕ) (es : List (ℕ × SeenSpan)) → finmap.find nat_cmp x (bare_each es) ≡ option_map unextended (finmap.find nat_cmp x es)
+found_bare x [] = refl
+found_bare x (e ∷ es) = either_bare (eq_by_cmp nat_cmp x e.0) e.1 _ _ (found_bare x es)
+
+-- all spans that are seen, their extensions left out
+abbrev bare : SeenSpans → SeenSpans
+bare m = from_entries (bare_each (entries m))
+
+get_bare : (m : SeenSpans) (x : ℕ) → get (bare m) x ≡ option_map unextended (get m x)
+get_bare m x =
+    get-from_entries nat_cmp_total (bare_each (entries m)) x ∙ found_bare x (entries m) ∙ ap (option_map unextended) (sym (get-entries m x))
+
+len_bare : (m : SeenSpans) → len (bare m) ≡ len m
+len_bare m =
+    len_sorted (bare_each (entries m)) (subst T (sym (sorted_bare (entries m))) (entries_sorted m)) ∙ as_many_bare (entries m) ∙ sym (len-entries m)
+
+-- in views that differ in extensions alone a lane is in the same span, with the same spans round it
+pub scopes_alike : (v w : View) → AreAlike v w → scope v.spans (current_shown v) ≡ scope w.spans (current_shown w)
+scopes_alike v w h =
+    let same : bare v.spans ≡ bare w.spans =
+    same_map nat_cmp_total nat_cmp-IsAntisymmetric _ _ (λ x. get_bare v.spans x ∙ h.spans x ∙ sym (get_bare w.spans x)) in
+    let as_many : len v.spans ≡ len w.spans = sym (len_bare v.spans) ∙ ap len same ∙ len_bare w.spans in
+    scope_alike v.spans w.spans h.spans as_many (current_shown v)
+    ∙ ap (scope w.spans)
+    (current_alike v.spans w.spans h.spans as_many (without_duplicates v.stack) ∙ ap (λ xs. current_among w.spans (without_duplicates xs)) h.stack)
 
 module _ (s : Store) (lane : ℕ) (mask : FilterSet) where
   as_many_plainly : len (seen_spans s mask) ≡ len (seen_spans (record s { extensions = empty }) mask)
