@@ -1,74 +1,117 @@
 //! Tests of exports, which were worked out by hand.
 use span_core::{FieldSet, Id, Kind, Lane, Level, Metadata};
-use span_export::{Site, Trace, chrome_text, folded_text, otlp_lines, timeline_svg};
-use span_times::{Happening, Point};
+use span_export::{Trace, chrome_text, folded_text, otlp_lines, timeline_svg};
+use span_times::{FieldRange, Happening, OwnedField, OwnedValue, Point, Site, Table};
 use std::alloc::Global;
 use std::test::Fail;
 
-/// At this time, on this lane.
-fn at(time: u64, lane: u32, what: Happening) -> Point {
+/// At this time, on this lane, with these fields.
+fn with(time: u64, lane: u32, what: Happening, from: usize, to: usize) -> Point {
     Point {
         time,
         lane: Lane(lane),
         what,
+        fields: FieldRange { from, to },
     }
 }
 
-/// The sites of two spans and an event.
+/// At this time, on this lane, without fields.
+fn at(time: u64, lane: u32, what: Happening) -> Point {
+    with(time, lane, what, 0, 0)
+}
+
+/// The site of a callsite with this number.
+fn site(
+    alloc: Global,
+    callsite: u64,
+    name: &'static str,
+    target: &'static str,
+    level: Level,
+) -> Result<Site, Fail> {
+    let fields = FieldSet::new(&[]);
+    let metadata = Metadata::new(callsite, name, target, level, Kind::SPAN, fields);
+    Ok(Site::of(alloc, metadata)?)
+}
+
+/// The sites of two spans and two events.
 fn sites(alloc: Global) -> Result<Vec<Site>, Fail> {
-    let no_fields = FieldSet::new(&[]);
     let mut sites = Vec::new(alloc);
-    for metadata in [
-        Metadata::new(1, "outer", "app", Level::INFO, Kind::SPAN, no_fields),
-        Metadata::new(2, "inner", "app::net", Level::DEBUG, Kind::SPAN, no_fields),
-        Metadata::new(3, "<said>", "app", Level::WARN, Kind::EVENT, no_fields),
-    ] {
-        sites.push(Site::of(alloc, metadata)?)?;
-    }
+    sites.push(site(alloc, 1, "outer", "app", Level::INFO)?)?;
+    sites.push(site(alloc, 2, "inner", "app::net", Level::DEBUG)?)?;
+    sites.push(site(alloc, 3, "<said>", "app", Level::WARN)?)?;
+    sites.push(site(alloc, 4, "broken", "app", Level::ERROR)?)?;
     Ok(sites)
 }
 
 /// Two spans on one lane, one in the other, with an event within both; a span of an unknown
 /// callsite on another lane.
 fn points() -> [Point; 12] {
-    let (outer, inner, other) = (Id::from_u64(1), Id::from_u64(2), Id::from_u64(7));
+    let (first, second, other) = (Id::from_u64(1), Id::from_u64(2), Id::from_u64(7));
     [
-        at(1000, 0, Happening::Opened(outer, 1, None)),
-        at(2000, 0, Happening::Entered(outer)),
-        at(3000, 0, Happening::Opened(inner, 2, Some(outer))),
-        at(4000, 0, Happening::Entered(inner)),
-        at(5000, 0, Happening::Sent(3, Some(inner))),
-        at(6000, 1, Happening::Opened(other, 9, Some(outer))),
+        with(1000, 0, Happening::Opened(first, 1, None), 0, 2),
+        at(2000, 0, Happening::Entered(first)),
+        at(3000, 0, Happening::Opened(second, 2, Some(first))),
+        at(4000, 0, Happening::Entered(second)),
+        with(5000, 0, Happening::Sent(3, Some(second)), 2, 3),
+        at(6000, 1, Happening::Opened(other, 9, Some(first))),
         at(6500, 1, Happening::Entered(other)),
-        at(7000, 0, Happening::Left(inner)),
-        at(8000, 0, Happening::Closed(inner)),
+        at(7000, 0, Happening::Left(second)),
+        at(8000, 0, Happening::Closed(second)),
         at(9000, 1, Happening::Left(other)),
-        at(10000, 0, Happening::Left(outer)),
-        at(11999, 0, Happening::Closed(outer)),
+        at(10000, 0, Happening::Left(first)),
+        at(11999, 0, Happening::Closed(first)),
     ]
+}
+
+/// These sites, and no fields.
+fn names(sites: &[Site]) -> Table<'_> {
+    Table { sites, fields: &[] }
+}
+
+/// The fields that these came with.
+fn fields(alloc: Global) -> Result<Vec<OwnedField>, Fail> {
+    let mut fields = Vec::new(alloc);
+    fields.push(field(alloc, "id", OwnedValue::U64(7))?)?;
+    let words = String::from_str(alloc, "a \"b\"")?;
+    fields.push(field(alloc, "for", OwnedValue::Text(words))?)?;
+    fields.push(field(alloc, "left", OwnedValue::I64(-3))?)?;
+    Ok(fields)
+}
+
+/// A field with this value.
+fn field(alloc: Global, name: &str, value: OwnedValue) -> Result<OwnedField, Fail> {
+    let name = String::from_str(alloc, name)?;
+    Ok(OwnedField { name, value })
 }
 
 const TRACE: &str = "{\"traceEvents\":[\
 {\"args\":{\"name\":\"lane 0\"},\"name\":\"thread_name\",\"ph\":\"M\",\"pid\":1,\"tid\":0},\
-{\"cat\":\"app\",\"id\":\"1\",\"name\":\"outer\",\"ph\":\"b\",\"pid\":1,\"tid\":0,\"ts\":0},\
-{\"cat\":\"app\",\"id\":\"1\",\"name\":\"outer\",\"ph\":\"B\",\"pid\":1,\"tid\":0,\"ts\":1},\
-{\"cat\":\"app::net\",\"id\":\"2\",\"name\":\"inner\",\"ph\":\"b\",\"pid\":1,\"tid\":0,\"ts\":2},\
-{\"cat\":\"app::net\",\"id\":\"2\",\"name\":\"inner\",\"ph\":\"B\",\"pid\":1,\"tid\":0,\"ts\":3},\
-{\"cat\":\"app\",\"name\":\"<said>\",\"ph\":\"i\",\"pid\":1,\"s\":\"t\",\"tid\":0,\"ts\":4},\
+{\"args\":{\"for\":\"a \\\"b\\\"\",\"id\":7},\"cat\":\"app\",\"id\":\"1\",\"name\":\"outer\",\"ph\":\"b\",\
+\"pid\":1,\"tid\":0,\"ts\":0.0},\
+{\"args\":{\"for\":\"a \\\"b\\\"\",\"id\":7},\"cat\":\"app\",\"id\":\"1\",\"name\":\"outer\",\"ph\":\"B\",\
+\"pid\":1,\"tid\":0,\"ts\":1.0},\
+{\"args\":{},\"cat\":\"app::net\",\"id\":\"2\",\"name\":\"inner\",\"ph\":\"b\",\"pid\":1,\"tid\":0,\"ts\":2.0},\
+{\"args\":{},\"cat\":\"app::net\",\"id\":\"2\",\"name\":\"inner\",\"ph\":\"B\",\"pid\":1,\"tid\":0,\"ts\":3.0},\
+{\"args\":{\"left\":-3},\"cat\":\"app\",\"name\":\"<said>\",\"ph\":\"i\",\"pid\":1,\"s\":\"t\",\"tid\":0,\"ts\":4.0},\
 {\"args\":{\"name\":\"lane 1\"},\"name\":\"thread_name\",\"ph\":\"M\",\"pid\":1,\"tid\":1},\
-{\"cat\":\"?\",\"id\":\"7\",\"name\":\"?\",\"ph\":\"b\",\"pid\":1,\"tid\":1,\"ts\":5},\
-{\"cat\":\"?\",\"id\":\"7\",\"name\":\"?\",\"ph\":\"B\",\"pid\":1,\"tid\":1,\"ts\":5},\
-{\"cat\":\"app::net\",\"id\":\"2\",\"name\":\"inner\",\"ph\":\"E\",\"pid\":1,\"tid\":0,\"ts\":6},\
-{\"cat\":\"app::net\",\"id\":\"2\",\"name\":\"inner\",\"ph\":\"e\",\"pid\":1,\"tid\":0,\"ts\":7},\
-{\"cat\":\"?\",\"id\":\"7\",\"name\":\"?\",\"ph\":\"E\",\"pid\":1,\"tid\":1,\"ts\":8},\
-{\"cat\":\"app\",\"id\":\"1\",\"name\":\"outer\",\"ph\":\"E\",\"pid\":1,\"tid\":0,\"ts\":9},\
-{\"cat\":\"app\",\"id\":\"1\",\"name\":\"outer\",\"ph\":\"e\",\"pid\":1,\"tid\":0,\"ts\":10}\
+{\"args\":{},\"cat\":\"?\",\"id\":\"7\",\"name\":\"?\",\"ph\":\"b\",\"pid\":1,\"tid\":1,\"ts\":5.0},\
+{\"args\":{},\"cat\":\"?\",\"id\":\"7\",\"name\":\"?\",\"ph\":\"B\",\"pid\":1,\"tid\":1,\"ts\":5.5},\
+{\"cat\":\"app::net\",\"id\":\"2\",\"name\":\"inner\",\"ph\":\"E\",\"pid\":1,\"tid\":0,\"ts\":6.0},\
+{\"cat\":\"app::net\",\"id\":\"2\",\"name\":\"inner\",\"ph\":\"e\",\"pid\":1,\"tid\":0,\"ts\":7.0},\
+{\"cat\":\"?\",\"id\":\"7\",\"name\":\"?\",\"ph\":\"E\",\"pid\":1,\"tid\":1,\"ts\":8.0},\
+{\"cat\":\"app\",\"id\":\"1\",\"name\":\"outer\",\"ph\":\"E\",\"pid\":1,\"tid\":0,\"ts\":9.0},\
+{\"cat\":\"app\",\"id\":\"1\",\"name\":\"outer\",\"ph\":\"e\",\"pid\":1,\"tid\":0,\"ts\":10.999}\
 ]}";
 
 #[test]
 fn a_trace_for_perfetto(rt: HostRuntime) -> Result<(), Fail> {
     let alloc = rt.alloc();
-    let text = chrome_text(alloc, &sites(alloc)?, &points())?;
+    let (sites, fields) = (sites(alloc)?, fields(alloc)?);
+    let table = Table {
+        sites: &sites,
+        fields: &fields,
+    };
+    let text = chrome_text(alloc, &points(), table)?;
     assert!(rt; text.as_str() == TRACE);
     Ok(())
 }
@@ -76,75 +119,73 @@ fn a_trace_for_perfetto(rt: HostRuntime) -> Result<(), Fail> {
 /// A span that two lanes are in closes on one of them, while the other is in another above it. Then
 /// that lane leaves both.
 fn closed_while_in() -> [Point; 8] {
-    let (outer, inner) = (Id::from_u64(1), Id::from_u64(2));
+    let (first, second) = (Id::from_u64(1), Id::from_u64(2));
     [
-        at(0, 0, Happening::Opened(outer, 1, None)),
-        at(0, 0, Happening::Opened(inner, 2, None)),
-        at(1000, 0, Happening::Entered(outer)),
-        at(2000, 0, Happening::Entered(inner)),
-        at(3000, 1, Happening::Entered(outer)),
-        at(4000, 1, Happening::Closed(outer)),
-        at(5000, 0, Happening::Left(outer)),
-        at(6000, 0, Happening::Left(inner)),
+        at(0, 0, Happening::Opened(first, 1, None)),
+        at(0, 0, Happening::Opened(second, 2, None)),
+        at(1000, 0, Happening::Entered(first)),
+        at(2000, 0, Happening::Entered(second)),
+        at(3000, 1, Happening::Entered(first)),
+        at(4000, 1, Happening::Closed(first)),
+        at(5000, 0, Happening::Left(first)),
+        at(6000, 0, Happening::Left(second)),
     ]
 }
 
 /// What follows the entries: the first lane's inner box makes way for the outer one to end.
 const AT_THE_CLOSE: &str = "\
-{\"cat\":\"app::net\",\"id\":\"2\",\"name\":\"inner\",\"ph\":\"E\",\"pid\":1,\"tid\":0,\"ts\":4},\
-{\"cat\":\"app\",\"id\":\"1\",\"name\":\"outer\",\"ph\":\"E\",\"pid\":1,\"tid\":0,\"ts\":4},\
-{\"cat\":\"app::net\",\"id\":\"2\",\"name\":\"inner\",\"ph\":\"B\",\"pid\":1,\"tid\":0,\"ts\":4},\
-{\"cat\":\"app\",\"id\":\"1\",\"name\":\"outer\",\"ph\":\"E\",\"pid\":1,\"tid\":1,\"ts\":4},\
-{\"cat\":\"app\",\"id\":\"1\",\"name\":\"outer\",\"ph\":\"e\",\"pid\":1,\"tid\":1,\"ts\":4},\
-{\"cat\":\"app::net\",\"id\":\"2\",\"name\":\"inner\",\"ph\":\"E\",\"pid\":1,\"tid\":0,\"ts\":6}\
+{\"cat\":\"app::net\",\"id\":\"2\",\"name\":\"inner\",\"ph\":\"E\",\"pid\":1,\"tid\":0,\"ts\":4.0},\
+{\"cat\":\"app\",\"id\":\"1\",\"name\":\"outer\",\"ph\":\"E\",\"pid\":1,\"tid\":0,\"ts\":4.0},\
+{\"args\":{},\"cat\":\"app::net\",\"id\":\"2\",\"name\":\"inner\",\"ph\":\"B\",\"pid\":1,\"tid\":0,\"ts\":4.0},\
+{\"cat\":\"app\",\"id\":\"1\",\"name\":\"outer\",\"ph\":\"E\",\"pid\":1,\"tid\":1,\"ts\":4.0},\
+{\"cat\":\"app\",\"id\":\"1\",\"name\":\"outer\",\"ph\":\"e\",\"pid\":1,\"tid\":1,\"ts\":4.0},\
+{\"cat\":\"app::net\",\"id\":\"2\",\"name\":\"inner\",\"ph\":\"E\",\"pid\":1,\"tid\":0,\"ts\":6.0}\
 ]}";
 
 #[test]
 fn a_box_ends_where_its_span_closes(rt: HostRuntime) -> Result<(), Fail> {
     let alloc = rt.alloc();
-    let text = chrome_text(alloc, &sites(alloc)?, &closed_while_in())?;
+    let sites = sites(alloc)?;
+    let text = chrome_text(alloc, &closed_while_in(), names(&sites))?;
     assert!(rt; text.as_str().ends_with(AT_THE_CLOSE));
-    let stacks = folded_text(alloc, &sites(alloc)?, &closed_while_in())?;
+    let stacks = folded_text(alloc, &closed_while_in(), names(&sites))?;
     assert!(rt; stacks.as_str() == "inner 4000\nouter 2000\n");
     Ok(())
 }
 
 /// The first span is left before the second, and once more, which writes nothing.
 const OUT_OF_TURN: &str = "\
-{\"cat\":\"app::net\",\"id\":\"2\",\"name\":\"inner\",\"ph\":\"E\",\"pid\":1,\"tid\":0,\"ts\":3},\
-{\"cat\":\"app\",\"id\":\"1\",\"name\":\"outer\",\"ph\":\"E\",\"pid\":1,\"tid\":0,\"ts\":3},\
-{\"cat\":\"app::net\",\"id\":\"2\",\"name\":\"inner\",\"ph\":\"B\",\"pid\":1,\"tid\":0,\"ts\":3},\
-{\"cat\":\"app::net\",\"id\":\"2\",\"name\":\"inner\",\"ph\":\"E\",\"pid\":1,\"tid\":0,\"ts\":5}\
+{\"cat\":\"app::net\",\"id\":\"2\",\"name\":\"inner\",\"ph\":\"E\",\"pid\":1,\"tid\":0,\"ts\":3.0},\
+{\"cat\":\"app\",\"id\":\"1\",\"name\":\"outer\",\"ph\":\"E\",\"pid\":1,\"tid\":0,\"ts\":3.0},\
+{\"args\":{},\"cat\":\"app::net\",\"id\":\"2\",\"name\":\"inner\",\"ph\":\"B\",\"pid\":1,\"tid\":0,\"ts\":3.0},\
+{\"cat\":\"app::net\",\"id\":\"2\",\"name\":\"inner\",\"ph\":\"E\",\"pid\":1,\"tid\":0,\"ts\":5.0}\
 ]}";
 
 #[test]
 fn no_end_is_of_another_box(rt: HostRuntime) -> Result<(), Fail> {
     let alloc = rt.alloc();
-    let (outer, inner) = (Id::from_u64(1), Id::from_u64(2));
+    let sites = sites(alloc)?;
+    let (first, second) = (Id::from_u64(1), Id::from_u64(2));
     let points = [
-        at(7000, 0, Happening::Opened(outer, 1, None)),
-        at(7000, 0, Happening::Opened(inner, 2, None)),
-        at(8000, 0, Happening::Entered(outer)),
-        at(9000, 0, Happening::Entered(inner)),
-        at(10000, 0, Happening::Left(outer)),
-        at(11000, 0, Happening::Left(outer)),
-        at(12000, 0, Happening::Left(inner)),
+        at(7000, 0, Happening::Opened(first, 1, None)),
+        at(7000, 0, Happening::Opened(second, 2, None)),
+        at(8000, 0, Happening::Entered(first)),
+        at(9000, 0, Happening::Entered(second)),
+        at(10000, 0, Happening::Left(first)),
+        at(11000, 0, Happening::Left(first)),
+        at(12000, 0, Happening::Left(second)),
     ];
-    let text = chrome_text(alloc, &sites(alloc)?, &points)?;
+    let text = chrome_text(alloc, &points, names(&sites))?;
     assert!(rt; text.as_str().ends_with(OUT_OF_TURN));
     Ok(())
 }
 
-const FOLDED: &str = "? 2500
-outer 5000
-outer;inner 3000
-";
-
 #[test]
 fn stacks_for_a_flame_graph(rt: HostRuntime) -> Result<(), Fail> {
     let alloc = rt.alloc();
-    let text = folded_text(alloc, &sites(alloc)?, &points())?;
-    assert!(rt; text.as_str() == FOLDED);
+    let sites = sites(alloc)?;
+    let text = folded_text(alloc, &points(), names(&sites))?;
+    assert!(rt; text.as_str() == "? 2500\nouter 5000\nouter;inner 3000\n");
     Ok(())
 }
 
@@ -157,22 +198,20 @@ a\\u{3b}b\\nc_2\\r\\\\;\\u{} 1
 #[test]
 fn a_name_stays_one_frame(rt: HostRuntime) -> Result<(), Fail> {
     let alloc = rt.alloc();
-    let fields = FieldSet::new(&[]);
-    let odd = Metadata::new(5, "a;b\nc 2\r\\", "app", Level::INFO, Kind::SPAN, fields);
-    let empty = Metadata::new(6, "", "app", Level::INFO, Kind::SPAN, fields);
-    let (outer, inner) = (Id::from_u64(1), Id::from_u64(2));
+    let odd = site(alloc, 5, "a;b\nc 2\r\\", "app", Level::INFO)?;
+    let sites = [odd, site(alloc, 6, "", "app", Level::INFO)?];
+    let (first, second) = (Id::from_u64(1), Id::from_u64(2));
     let points = [
-        at(0, 0, Happening::Opened(outer, 5, None)),
-        at(0, 0, Happening::Opened(inner, 6, None)),
-        at(2, 0, Happening::Entered(outer)),
-        at(5, 0, Happening::Entered(inner)),
-        at(6, 0, Happening::Left(inner)),
-        at(9, 0, Happening::Left(outer)),
-        at(9, 1, Happening::Entered(inner)),
-        at(13, 1, Happening::Left(inner)),
+        at(0, 0, Happening::Opened(first, 5, None)),
+        at(0, 0, Happening::Opened(second, 6, None)),
+        at(2, 0, Happening::Entered(first)),
+        at(5, 0, Happening::Entered(second)),
+        at(6, 0, Happening::Left(second)),
+        at(9, 0, Happening::Left(first)),
+        at(9, 1, Happening::Entered(second)),
+        at(13, 1, Happening::Left(second)),
     ];
-    let sites = [Site::of(alloc, odd)?, Site::of(alloc, empty)?];
-    let text = folded_text(alloc, &sites, &points)?;
+    let text = folded_text(alloc, &points, names(&sites))?;
     assert!(rt; text.as_str() == ODD);
     Ok(())
 }
@@ -180,16 +219,17 @@ fn a_name_stays_one_frame(rt: HostRuntime) -> Result<(), Fail> {
 #[test]
 fn a_closed_span_is_left(rt: HostRuntime) -> Result<(), Fail> {
     let alloc = rt.alloc();
-    let (outer, inner) = (Id::from_u64(1), Id::from_u64(2));
+    let sites = sites(alloc)?;
+    let (first, second) = (Id::from_u64(1), Id::from_u64(2));
     let points = [
-        at(0, 0, Happening::Opened(outer, 1, None)),
-        at(0, 0, Happening::Opened(inner, 2, None)),
-        at(0, 0, Happening::Entered(outer)),
-        at(0, 0, Happening::Entered(inner)),
-        at(5, 0, Happening::Closed(inner)),
-        at(7, 0, Happening::Left(outer)),
+        at(0, 0, Happening::Opened(first, 1, None)),
+        at(0, 0, Happening::Opened(second, 2, None)),
+        at(0, 0, Happening::Entered(first)),
+        at(0, 0, Happening::Entered(second)),
+        at(5, 0, Happening::Closed(second)),
+        at(7, 0, Happening::Left(first)),
     ];
-    let text = folded_text(alloc, &sites(alloc)?, &points)?;
+    let text = folded_text(alloc, &points, names(&sites))?;
     assert!(rt; text.as_str() == "outer 2\nouter;inner 5\n");
     Ok(())
 }
@@ -199,19 +239,22 @@ const INNER: &str = "{\"resourceSpans\":[{\
 \"scopeSpans\":[{\"scope\":{\"name\":\"app::net\"},\"spans\":[{\
 \"attributes\":[{\"key\":\"level\",\"value\":{\"stringValue\":\"DEBUG\"}}],\
 \"endTimeUnixNano\":\"1700000000000008000\",\
-\"events\":[{\"attributes\":[{\"key\":\"level\",\"value\":{\"stringValue\":\"WARN\"}}],\
+\"events\":[{\"attributes\":[{\"key\":\"level\",\"value\":{\"stringValue\":\"WARN\"}},\
+{\"key\":\"left\",\"value\":{\"intValue\":\"-3\"}}],\
 \"name\":\"<said>\",\"timeUnixNano\":\"1700000000000005000\"}],\
 \"kind\":1,\"name\":\"inner\",\"parentSpanId\":\"0000000000000001\",\
-\"spanId\":\"0000000000000002\",\"startTimeUnixNano\":\"1700000000000003000\",\
+\"spanId\":\"0000000000000002\",\"startTimeUnixNano\":\"1700000000000003000\",\"status\":{},\
 \"traceId\":\"000000000000000000000000000000ab\"}]}]}]}";
 
 const OUTER: &str = "{\"resourceSpans\":[{\
 \"resource\":{\"attributes\":[{\"key\":\"service.name\",\"value\":{\"stringValue\":\"shop\"}}]},\
 \"scopeSpans\":[{\"scope\":{\"name\":\"app\"},\"spans\":[{\
-\"attributes\":[{\"key\":\"level\",\"value\":{\"stringValue\":\"INFO\"}}],\
+\"attributes\":[{\"key\":\"level\",\"value\":{\"stringValue\":\"INFO\"}},\
+{\"key\":\"id\",\"value\":{\"intValue\":\"7\"}},\
+{\"key\":\"for\",\"value\":{\"stringValue\":\"a \\\"b\\\"\"}}],\
 \"endTimeUnixNano\":\"1700000000000011999\",\"events\":[],\
 \"kind\":1,\"name\":\"outer\",\"parentSpanId\":\"\",\
-\"spanId\":\"0000000000000001\",\"startTimeUnixNano\":\"1700000000000001000\",\
+\"spanId\":\"0000000000000001\",\"startTimeUnixNano\":\"1700000000000001000\",\"status\":{},\
 \"traceId\":\"000000000000000000000000000000ab\"}]}]}]}";
 
 /// The trace of a service.
@@ -225,23 +268,98 @@ fn trace_of_shop(alloc: Global) -> Result<Trace, Fail> {
 
 #[test]
 fn spans_for_opentelemetry(rt: HostRuntime) -> Result<(), Fail> {
-    let sites = sites(rt.alloc())?;
-    let trace = trace_of_shop(rt.alloc())?;
-    let lines = otlp_lines(rt.alloc(), &trace, &sites, &points())?;
+    let alloc = rt.alloc();
+    let (sites, fields) = (sites(alloc)?, fields(alloc)?);
+    let table = Table {
+        sites: &sites,
+        fields: &fields,
+    };
+    let trace = trace_of_shop(alloc)?;
+    let lines = otlp_lines(alloc, &trace, &points(), table)?;
     assert!(rt; lines.len() == 2, "the span of the other lane isn't closed");
     assert!(rt; lines[0].as_str() == INNER);
     assert!(rt; lines[1].as_str() == OUTER);
     Ok(())
 }
 
+/// Each type as OpenTelemetry has it: what fits none is a text.
+const TYPED: &str = "\"attributes\":[\
+{\"key\":\"level\",\"value\":{\"boolValue\":true}},\
+{\"key\":\"u\",\"value\":{\"stringValue\":\"9223372036854775808\"}},\
+{\"key\":\"v\",\"value\":{\"intValue\":\"9223372036854775807\"}},\
+{\"key\":\"w\",\"value\":{\"stringValue\":\"340282366920938463463374607431768211455\"}},\
+{\"key\":\"x\",\"value\":{\"stringValue\":\"-1\"}},\
+{\"key\":\"f\",\"value\":{\"doubleValue\":0.5}},\
+{\"key\":\"g\",\"value\":{\"doubleValue\":\"-Infinity\"}},\
+{\"key\":\"t\",\"value\":{\"stringValue\":\"two\"}}]";
+
+/// Fields of all types, one of them twice.
+fn typed(alloc: Global) -> Result<Vec<OwnedField>, Fail> {
+    let text = |words| String::from_str(alloc, words);
+    let mut fields = Vec::new(alloc);
+    fields.push(field(alloc, "level", OwnedValue::Bool(true))?)?;
+    fields.push(field(alloc, "u", OwnedValue::U64(1 << 63))?)?;
+    fields.push(field(alloc, "v", OwnedValue::U64((1 << 63) - 1))?)?;
+    fields.push(field(alloc, "w", OwnedValue::U128(u128::MAX))?)?;
+    fields.push(field(alloc, "x", OwnedValue::I128(-1))?)?;
+    fields.push(field(alloc, "f", OwnedValue::F64(0.5, text("0.5")?))?)?;
+    fields.push(field(
+        alloc,
+        "g",
+        OwnedValue::F64(f64::NEG_INFINITY, text("-inf")?),
+    )?)?;
+    fields.push(field(alloc, "t", OwnedValue::Text(text("one")?))?)?;
+    fields.push(field(alloc, "t", OwnedValue::Text(text("two")?))?)?;
+    Ok(fields)
+}
+
+#[test]
+fn attributes_have_their_types(rt: HostRuntime) -> Result<(), Fail> {
+    let alloc = rt.alloc();
+    let (sites, fields) = (sites(alloc)?, typed(alloc)?);
+    let table = Table {
+        sites: &sites,
+        fields: &fields,
+    };
+    let (trace, first) = (trace_of_shop(alloc)?, Id::from_u64(1));
+    let points = [
+        with(0, 0, Happening::Opened(first, 1, None), 0, 5),
+        with(1, 0, Happening::Recorded(first), 5, 9),
+        at(2, 0, Happening::Closed(first)),
+    ];
+    let lines = otlp_lines(alloc, &trace, &points, table)?;
+    assert!(rt; lines.len() == 1);
+    assert!(rt; lines[0].as_str().contains(TYPED));
+    Ok(())
+}
+
+#[test]
+fn an_error_is_a_status(rt: HostRuntime) -> Result<(), Fail> {
+    let alloc = rt.alloc();
+    let sites = sites(alloc)?;
+    let (trace, first, second) = (trace_of_shop(alloc)?, Id::from_u64(1), Id::from_u64(2));
+    let points = [
+        at(0, 0, Happening::Opened(first, 1, None)),
+        at(0, 0, Happening::Opened(second, 2, Some(first))),
+        at(1, 0, Happening::Sent(4, Some(second))),
+        at(2, 0, Happening::Closed(second)),
+        at(3, 0, Happening::Closed(first)),
+    ];
+    let lines = otlp_lines(alloc, &trace, &points, names(&sites))?;
+    assert!(rt; lines[0].as_str().contains("\"status\":{\"code\":2}"));
+    assert!(rt; lines[1].as_str().contains("\"status\":{}"));
+    Ok(())
+}
+
 const BOXES: &str = "\
-<g><title>outer</title><rect class=\"INFO\" x=\"145\" y=\"72\" width=\"584\" height=\"20\"/>\
+<g><title>outer{id=7 for=\"a \\\"b\\\"\"}</title>\
+<rect class=\"INFO\" x=\"145\" y=\"72\" width=\"584\" height=\"20\"/>\
 <text x=\"150\" y=\"86\">outer</text></g>
 <g><title>inner</title><rect class=\"DEBUG\" x=\"291\" y=\"96\" width=\"219\" height=\"20\"/>\
 <text x=\"296\" y=\"110\">inner</text></g>
 <g><title>?</title><rect class=\"?\" x=\"474\" y=\"144\" width=\"182\" height=\"20\"/>\
 <text x=\"479\" y=\"158\">?</text></g>
-<circle class=\"WARN\" cx=\"364\" cy=\"64\" r=\"4\"><title>&lt;said&gt;</title></circle>
+<circle class=\"WARN\" cx=\"364\" cy=\"64\" r=\"4\"><title>&lt;said&gt;{left=-3}</title></circle>
 </svg>
 ";
 
@@ -259,7 +377,12 @@ const AXIS: &str = "<text x=\"462\" y=\"18\">event</text>
 #[test]
 fn a_picture(rt: HostRuntime) -> Result<(), Fail> {
     let alloc = rt.alloc();
-    let svg = timeline_svg(alloc, &sites(alloc)?, &points(), 900)?;
+    let (sites, fields) = (sites(alloc)?, fields(alloc)?);
+    let table = Table {
+        sites: &sites,
+        fields: &fields,
+    };
+    let svg = timeline_svg(alloc, &points(), table, 900)?;
     assert!(rt; svg.as_str().starts_with(HEAD));
     assert!(rt; svg.as_str().contains(AXIS));
     assert!(rt; svg.as_str().ends_with(BOXES));
@@ -269,14 +392,65 @@ fn a_picture(rt: HostRuntime) -> Result<(), Fail> {
 #[test]
 fn a_name_is_within_xml(rt: HostRuntime) -> Result<(), Fail> {
     let alloc = rt.alloc();
-    let fields = FieldSet::new(&[]);
     let name = "a\u{1}\t\u{1F}\u{7F}\u{FFFE}\u{FFFF}\u{FFFD}\u{1F600}<&>";
-    let odd = Metadata::new(5, name, "app", Level::INFO, Kind::EVENT, fields);
+    let sites = [site(alloc, 5, name, "app", Level::INFO)?];
     let points = [at(0, 0, Happening::Sent(5, None))];
-    let svg = timeline_svg(alloc, &[Site::of(alloc, odd)?], &points, 400)?;
+    let svg = timeline_svg(alloc, &points, names(&sites), 400)?;
     let shown =
         "<title>a\u{FFFD}\t\u{FFFD}\u{7F}\u{FFFD}\u{FFFD}\u{FFFD}\u{1F600}&lt;&amp;&gt;</title>";
     assert!(rt; svg.as_str().contains(shown));
+    Ok(())
+}
+
+/// A text with what some format gives a meaning, and 10 KB behind it.
+fn hostile(alloc: Global) -> Result<String, Fail> {
+    let mut text = String::from_str(alloc, "\"<a;b>&\\\n\0 x}")?;
+    for _ in 0..10_240 {
+        text.push_str("y")?;
+    }
+    Ok(text)
+}
+
+#[test]
+fn a_hostile_value_stays_a_value(rt: HostRuntime) -> Result<(), Fail> {
+    let alloc = rt.alloc();
+    let (trace, first) = (trace_of_shop(alloc)?, Id::from_u64(1));
+    let mut fields = Vec::new(alloc);
+    fields.push(field(alloc, "a;b\"", OwnedValue::Text(hostile(alloc)?))?)?;
+    let points = [
+        with(0, 0, Happening::Opened(first, 1, None), 0, 1),
+        at(1, 0, Happening::Entered(first)),
+        at(2, 0, Happening::Closed(first)),
+    ];
+    let sites = sites(alloc)?;
+    let table = Table {
+        sites: &sites,
+        fields: &fields,
+    };
+    let trace_text = chrome_text(alloc, &points, table)?;
+    assert!(rt;
+        trace_text
+            .as_str()
+            .contains("{\"a;b\\\"\":\"\\\"<a;b>&\\\\\\n\\u0000 x}yyyy")
+    );
+    assert!(rt; !trace_text.as_str().contains("\n"));
+    let lines = otlp_lines(alloc, &trace, &points, table)?;
+    assert!(rt;
+        lines[0].as_str().contains(
+            "{\"key\":\"a;b\\\"\",\"value\":{\"stringValue\":\"\\\"<a;b>&\\\\\\n\\u0000 x}yyyy"
+        )
+    );
+    let stacks = folded_text(alloc, &points, table)?;
+    assert!(rt;
+        stacks
+            .as_str()
+            .starts_with("outer{a\\u{3b}b\"=\"\\\"<a\\u{3b}b>&\\\\\\n\\u{0}_x}yyyy")
+    );
+    assert!(rt; stacks.as_str().ends_with("y\"} 1\n"));
+    let svg = timeline_svg(alloc, &points, table, 400)?;
+    assert!(rt;
+        svg.as_str().contains("<title>outer{a;b\"=\"\\\"&lt;a;b&gt;&amp;\\\\\\n\\u{0} x}yyyy")
+    );
     Ok(())
 }
 
@@ -294,6 +468,7 @@ const OUT_OF_ORDER: &str = "\
 #[test]
 fn left_out_of_order(rt: HostRuntime) -> Result<(), Fail> {
     let alloc = rt.alloc();
+    let sites = sites(alloc)?;
     let (a, b, c) = (Id::from_u64(1), Id::from_u64(2), Id::from_u64(3));
     let points = [
         at(0, 4, Happening::Opened(a, 1, None)),
@@ -305,7 +480,7 @@ fn left_out_of_order(rt: HostRuntime) -> Result<(), Fail> {
         at(35, 4, Happening::Entered(c)),
         at(40, 4, Happening::Left(b)),
     ];
-    let svg = timeline_svg(alloc, &sites(alloc)?, &points, 0)?;
+    let svg = timeline_svg(alloc, &points, names(&sites), 0)?;
     assert!(rt; svg.as_str().ends_with(OUT_OF_ORDER));
     Ok(())
 }

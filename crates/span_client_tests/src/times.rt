@@ -3,15 +3,16 @@ ghost use Rattle.span_dispatch.specs.Serve.{stack_of};
 
 use crate::fixture::in_use;
 use span_core::{
-    Attributes, Event, FieldSet, Id, Kind, Lane, Level, LevelFilter, Metadata, Parent,
+    Attributes, Event, FieldSet, FieldValue, Float, FloatText, Id, Kind, Lane, Level, LevelFilter,
+    Metadata, Record,
 };
 use span_dispatch::{Dispatch, Request, WhichParent};
 use span_layers::Observer;
 use span_registry::{Registry, Subscriber};
 use span_stacks::LayerExt;
 use span_times::{
-    Counted, Counts, Happening, Now, Point, Timeline, Wall, busy_time, idle_time, open_time,
-    serve_timed,
+    Counted, Counts, FieldRange, Happening, Now, OwnedValue, Point, Timeline, Wall, busy_time,
+    idle_time, open_time, serve_timed,
 };
 use std::cell::Cell;
 use std::io;
@@ -21,26 +22,23 @@ use std::time::{Clock, Duration};
 
 const LANE: Lane = Lane(3);
 
+/// A span's callsite.
+fn span_called(callsite: u64, name: &'static str, level: Level) -> Metadata {
+    Metadata::new(callsite, name, "app", level, Kind::SPAN, FieldSet::new(&[]))
+}
+
+/// An event's callsite.
+fn event_called(callsite: u64, name: &'static str) -> Metadata {
+    let fields = FieldSet::new(&[]);
+    Metadata::new(callsite, name, "app", Level::INFO, Kind::EVENT, fields)
+}
+
 /// Opens a span, is in it twice, the first time with an event, and drops it.
 fn live<S: Subscriber>(dispatch: &mut Dispatch<S>) -> Result<Id, Fail>
     requires { S.usable (stack_of dispatch.old) }
 {
-    let fetch = Metadata::new(
-        1,
-        "fetch",
-        "app",
-        Level::INFO,
-        Kind::SPAN,
-        FieldSet::new(&[]),
-    );
-    let done = Metadata::new(
-        2,
-        "done",
-        "app",
-        Level::INFO,
-        Kind::EVENT,
-        FieldSet::new(&[]),
-    );
+    let fetch = span_called(1, "fetch", Level::INFO);
+    let done = event_called(2, "done");
     let Some(id) = dispatch.new_span(LANE, &Attributes::new_root(fetch, &[]))? else {
         return Err(Fail::from("dropped"));
     };
@@ -79,17 +77,9 @@ fn is_timed(rt: &impl Abort, timeline: &Timeline<Counted>, id: Id) {
 fn a_list_is_timed(rt: HostRuntime) -> Result<(), Fail> {
     let layer = Observer::new(Timeline::new(rt.alloc(), Counted::new()));
     let mut dispatch = in_use(rt.alloc(), Registry::new(rt.alloc()), layer)?;
-    let ping = Metadata::new(
-        5,
-        "ping",
-        "app",
-        Level::INFO,
-        Kind::EVENT,
-        FieldSet::new(&[]),
-    );
     let requests = [Request::Event {
         lane: LANE,
-        metadata: ping,
+        metadata: event_called(5, "ping"),
         parent: WhichParent::Root,
         values: &[],
     }];
@@ -101,10 +91,26 @@ fn a_list_is_timed(rt: HostRuntime) -> Result<(), Fail> {
 
 /// A timeline's one point is taken out.
 fn takes_its_point(rt: &impl Abort, timeline: &mut Timeline<Counted>) {
-    let points = timeline.take_points();
-    assert!(rt; points.len() == 1);
-    assert!(rt; points[0] == at(1000, Happening::Sent(5, None)));
+    let taken = timeline.take();
+    assert!(rt; taken.points.len() == 1);
+    assert!(rt; taken.points[0] == at(1000, Happening::Sent(5, None)));
     assert!(rt; timeline.points().is_empty());
+}
+
+fn outer() -> Metadata {
+    span_called(1, "outer", Level::INFO)
+}
+
+fn middle() -> Metadata {
+    span_called(2, "middle", Level::DEBUG)
+}
+
+fn inner() -> Metadata {
+    span_called(3, "inner", Level::INFO)
+}
+
+fn said() -> Metadata {
+    event_called(4, "said")
 }
 
 /// Opens three spans, each in the one before, the second at a lower level; sends an event on the
@@ -112,24 +118,19 @@ fn takes_its_point(rt: &impl Abort, timeline: &mut Timeline<Counted>) {
 fn nested<S: Subscriber>(dispatch: &mut Dispatch<S>) -> Result<[Id; 3], Fail>
     requires { S.usable (stack_of dispatch.old) }
 {
-    let fields = FieldSet::new(&[]);
-    let outer = Metadata::new(1, "outer", "app", Level::INFO, Kind::SPAN, fields);
-    let middle = Metadata::new(2, "middle", "app", Level::DEBUG, Kind::SPAN, fields);
-    let inner = Metadata::new(3, "inner", "app", Level::INFO, Kind::SPAN, fields);
-    let said = Metadata::new(4, "said", "app", Level::INFO, Kind::EVENT, fields);
-    let Some(a) = dispatch.new_span(LANE, &Attributes::new(outer, &[]))? else {
+    let Some(a) = dispatch.new_span(LANE, &Attributes::new(outer(), &[]))? else {
         return Err(Fail::from("dropped"));
     };
     dispatch.enter(LANE, a)?;
-    let Some(b) = dispatch.new_span(LANE, &Attributes::new(middle, &[]))? else {
+    let Some(b) = dispatch.new_span(LANE, &Attributes::new(middle(), &[]))? else {
         return Err(Fail::from("dropped"));
     };
     dispatch.enter(LANE, b)?;
-    let Some(c) = dispatch.new_span(LANE, &Attributes::new(inner, &[]))? else {
+    let Some(c) = dispatch.new_span(LANE, &Attributes::new(inner(), &[]))? else {
         return Err(Fail::from("dropped"));
     };
-    dispatch.event(LANE, &Event::new(said, &[]))?;
-    dispatch.event(LANE, &Event::new_child_of(b, said, &[]))?;
+    dispatch.event(LANE, &Event::new(said(), &[]))?;
+    dispatch.event(LANE, &Event::new_child_of(b, said(), &[]))?;
     Ok([a, b, c])
 }
 
@@ -172,13 +173,80 @@ fn parents_are_those_that_it_sees(rt: HostRuntime) -> Result<(), Fail> {
     Ok(())
 }
 
-/// At this time, on one lane.
+/// At this time, on one lane, without fields.
 fn at(time: u64, what: Happening) -> Point {
     Point {
         time,
         lane: LANE,
         what,
+        fields: FieldRange::NONE,
     }
+}
+
+/// Opens a span with values, records another one of it and sends an event with values of all types.
+fn with_values<S: Subscriber>(dispatch: &mut Dispatch<S>) -> Result<(), Fail>
+    requires { S.usable (stack_of dispatch.old) }
+{
+    let mut room = FloatText::new();
+    let half = FieldValue::F64(Float::new(0.5, &mut room));
+    let given = [("id", FieldValue::U64(7)), ("absent", FieldValue::Absent)];
+    let job = Attributes::new_root(span_called(1, "job", Level::INFO), &given);
+    let Some(id) = dispatch.new_span(LANE, &job)? else {
+        return Err(Fail::from("dropped"));
+    };
+    dispatch.record(
+        LANE,
+        id,
+        &Record::new(&[("kind", FieldValue::Text("slow"))]),
+    )?;
+    dispatch.enter(LANE, id)?;
+    let values = [
+        ("a", FieldValue::I64(-1)),
+        ("b", FieldValue::U128(2)),
+        ("c", FieldValue::I128(-3)),
+        ("d", half),
+        ("e", FieldValue::Bool(true)),
+    ];
+    dispatch.event(LANE, &Event::new(said(), &values))?;
+    Ok(())
+}
+
+#[test]
+fn values_come_with_their_points(rt: HostRuntime) -> Result<(), Fail> {
+    let alloc = rt.alloc();
+    let timeline = Timeline::new(alloc, Counted::new()).with_values(true);
+    let mut dispatch = in_use(alloc, Registry::new(alloc), Observer::new(timeline))?;
+    with_values(&mut dispatch)?;
+    let stack = dispatch.into_stack();
+    let timeline = stack.outer().observer();
+    let (points, table) = (timeline.points(), timeline.table());
+    assert!(rt; points.len() == 4);
+    assert!(rt; table.sites.len() == 2 && table.sites[0].name.as_str() == "job");
+    let opened = points[0].fields_in(table.fields);
+    assert!(rt; opened.len() == 1);
+    assert!(rt; opened[0].name.as_str() == "id" && opened[0].value == OwnedValue::U64(7));
+    let recorded = points[1].fields_in(table.fields);
+    let slow = OwnedValue::Text(String::from_str(alloc, "slow")?);
+    assert!(rt;
+        recorded.len() == 1 && recorded[0].name.as_str() == "kind" && recorded[0].value == slow
+    );
+    assert!(rt; points[2].fields_in(table.fields).is_empty());
+    let sent = points[3].fields_in(table.fields);
+    let half = OwnedValue::F64(0.5, String::from_str(alloc, "0.5")?);
+    assert!(rt; sent.len() == 5 && sent[3].value == half);
+    Ok(())
+}
+
+#[test]
+fn values_are_kept_where_asked(rt: HostRuntime) -> Result<(), Fail> {
+    let alloc = rt.alloc();
+    let timeline = Observer::new(Timeline::new(alloc, Counted::new()));
+    let mut dispatch = in_use(alloc, Registry::new(alloc), timeline)?;
+    with_values(&mut dispatch)?;
+    let stack = dispatch.into_stack();
+    assert!(rt; stack.outer().observer().points().len() == 4);
+    assert!(rt; stack.outer().observer().table().fields.is_empty());
+    Ok(())
 }
 
 #[test]

@@ -9,7 +9,7 @@ use Rattle.span_times.specs.Measure.{capped}
 use Rattle.span_times.specs.declared.happening.Point.{Point}
 use Rattle.span_export.specs.Entry.{lasting, spans_in}
 use Rattle.span_export.specs.Folded.{LinesHaveAllTime, Sums, add, in_spans, stack_text, stood, stood_in, sums_from, time_from}
-use Rattle.span_export.specs.declared.site.Site.{Site}
+use Rattle.span_export.specs.Site.{Named, named_in}
 
 total : Sums → ℕ
 total sums = sum_by (λ s. s.1) sums
@@ -32,21 +32,21 @@ added stack time (s ∷ sums) fits =
     let all = first s sums in
     raised (slice_cmp nat_cmp stack s.0) stack time s sums fits (added stack time sums (omega arith))
 
-one_point : (sites : List Site) (ps : List Point) (stack : List ℕ) (time : ℕ) (sums : Sums)
-    → total sums + in_spans stack time < 2 ^ 64 → total (stood_in sites ps stack time sums) ≡ total sums + in_spans stack time
-one_point sites ps [] time sums fits = omega arith
-one_point sites ps (x ∷ stack) time sums fits = added (stack_text sites ps (x ∷ stack)) time sums fits
+one_point : (named : ℕ → Named) (stack : List ℕ) (time : ℕ) (sums : Sums)
+    → total sums + in_spans stack time < 2 ^ 64 → total (stood_in named stack time sums) ≡ total sums + in_spans stack time
+one_point named [] time sums fits = omega arith
+one_point named (x ∷ stack) time sums fits = added (stack_text named (x ∷ stack)) time sums fits
 
 -- sums so far and what the points to come add
-whole : (sites : List Site) (all : List Point) (sums : Sums) (before rest : List Point)
-    → total sums + time_from before rest < 2 ^ 64 → total (sums_from sites all sums before rest) ≡ total sums + time_from before rest
-whole sites all sums before [] fits = omega arith
-whole sites all sums before (p ∷ rest) fits =
+whole : (named : ℕ → Named) (sums : Sums) (before rest : List Point)
+    → total sums + time_from before rest < 2 ^ 64 → total (sums_from named sums before rest) ≡ total sums + time_from before rest
+whole named sums before [] fits = omega arith
+whole named sums before (p ∷ rest) fits =
     let stack = spans_in p.lane.0 (lasting before) in
-    let next = stood_in sites all stack (stood before p) sums in
-    let here : total next ≡ total sums + in_spans stack (stood before p) = one_point sites all stack (stood before p) sums (omega arith) in
-    whole sites all next (before ++ p ∷ []) rest (omega arith) ∙ omega arith
+    let next = stood_in named stack (stood before p) sums in
+    let here : total next ≡ total sums + in_spans stack (stood before p) = one_point named stack (stood before p) sums (omega arith) in
+    whole named next (before ++ p ∷ []) rest (omega arith) ∙ omega arith
 
 pub lines_have_all_time : LinesHaveAllTime
 unfolding total
-lines_have_all_time sites ps fits = whole sites ps [] [] ps (omega arith) ∙ omega arith
+lines_have_all_time table ps fits = whole (named_in table ps) [] [] ps (omega arith) ∙ omega arith

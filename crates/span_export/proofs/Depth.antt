@@ -1,25 +1,32 @@
 -- How deep what is written nests.
-use Rattle.std.proofs.Common.{arith, ◌≤◌, ◌+◌, ℕ, Bool, true, false, List, [], ◌∷◌, ◌++◌, Option, None, Some, codes, decimal, filter_map, map}
+use Rattle.std.proofs.Common.{arith, ◌≤◌, ◌+◌, ℕ, Bool, true, false, List, [], ◌∷◌, ◌++◌, Option, None, Some, codes, decimal, filter_map, if◌then◌else◌, map}
 use Rattle.std.specs.List.{cons_option}
-use Rattle.std.specs.Option.{option_to_list}
+use Rattle.std.specs.Float.Ieee
+use Rattle.std.specs.Float.{Float, binary64, float_is_finite}
+use Rattle.std.specs.Option.{option_map, option_map_or, option_to_list}
 use Rattle.std.specs.Ordering.{match_ordering}
-use Rattle.std.specs.Prelude.{⊤}
+use Rattle.std.specs.Prelude.{⊤, pos, unwrap_or}
 use Rattle.std.specs.declared.cmp.Ordering.{Ordering}
 use Rattle.std.specs.declared.cmp.Ordering.TheVariants.{Equal, Greater, Less}
-use Rattle.serde_json.specs.Data.{Data, Members, array, depth, items_depth, member, members_depth, no_members, put, string}
+use Rattle.serde_json.specs.Data.{Data, Members, Num, array, depth, float, items_depth, member, members_depth, no_members, null, number, put, string}
 use Rattle.serde_json.specs.View.{items_of}
 use Rattle.span_core.specs.Span.{number_of}
-use Rattle.span_export.specs.Chrome.{Change, begin_of, change_event, changes, events_at, events_from, events_of, head, instant, is_known, lane_named, naming}
-use Rattle.span_export.specs.Chrome.{own_event, span_event, time_in, trace_of}
+use Rattle.span_export.specs.Chrome.{Change, args_of, begin_event, begin_of, change_event, changes, end_event, events_at, events_from, events_of, head, instant}
+use Rattle.span_export.specs.Chrome.{is_known, lane_named, micros, naming, own_event, time_in, trace_of, with_fields}
 use Rattle.span_export.specs.Chrome.Change.{Begins, Ends}
 use Rattle.span_export.specs.Entry.{lasting}
 use Rattle.span_export.specs.Json.{members, object_of, whole}
-use Rattle.span_export.specs.Site.{named_in, site_of}
+use Rattle.span_export.specs.Site.{Named, event_named, named_in}
+use Rattle.span_export.specs.Value.{value_data}
+use Rattle.span_times.specs.Field.{FieldSaid, Said}
+use Rattle.span_times.specs.Field.Said.{Flag, Real, Signed, Whole, Wide, WideSigned, Words}
+use Rattle.serde_json.specs.Find.{of_float}
+use Rattle.span_export.specs.declared.chrome.TheConstants.{MICRO}
 use Rattle.span_export.specs.declared.entry.Entry.{Entry}
-use Rattle.span_export.specs.declared.site.Site.{Site}
 use Rattle.span_times.specs.declared.happening.Happening.TheVariants.{Closed, Entered, Followed, Left, Opened, Recorded, Renamed, Sent}
 use Rattle.span_times.specs.declared.happening.Happening.{Happening}
 use Rattle.span_times.specs.declared.happening.Point.{Point}
+use Rattle.span_times.specs.declared.kept.Table.{Table}
 
 one_of_three : (o : Ordering) (a b c : Members) (n : ℕ)
     → members_depth a ≤ n → members_depth b ≤ n → members_depth c ≤ n → members_depth (match_ordering o a b c) ≤ n
@@ -62,30 +69,62 @@ items_within n f h [] = omega arith
 items_within n f h (x ∷ xs) = one_more n (f x) (filter_map f xs) (h x) (items_within n f h xs)
 
 -- what stands before others and behind
-joined_within : (n : ℕ) (ds es : List Data) → items_depth (items_of ds) ≤ n → items_depth (items_of es) ≤ n → items_depth (items_of (ds ++ es)) ≤ n
+pub joined_within : (n : ℕ) (ds es : List Data) → items_depth (items_of ds) ≤ n → items_depth (items_of es) ≤ n → items_depth (items_of (ds ++ es)) ≤ n
 joined_within n [] es h k = k
 joined_within n (d ∷ ds) es h k = omega (arith, joined_within n ds es (omega (arith, h)) k)
 
 -- each is so for something
-mapped_within : {A : Type 0} (n : ℕ) (f : A → Data) → ((x : A) → depth (f x) ≤ n) → (xs : List A) → items_depth (items_of (map f xs)) ≤ n
+pub mapped_within : {A : Type 0} (n : ℕ) (f : A → Data) → ((x : A) → depth (f x) ≤ n) → (xs : List A) → items_depth (items_of (map f xs)) ≤ n
 mapped_within n f h [] = omega arith
 mapped_within n f h (x ∷ xs) = omega (arith, h x, mapped_within n f h xs)
 
-span_flat : (phase : List ℕ) (site : Option Site) (x lane time : ℕ) → depth (span_event phase site x lane time) ≤ 2
-span_flat phase site x lane time =
-    omega (
-      arith,
-      object_within 0 ((codes "id", string (decimal x)) ∷ head phase site lane time)
-          (omega arith, (omega arith, (omega arith, (omega arith, (omega arith, (omega arith, (omega arith, tt))))))),
-    )
+pub number_flat : (b : Bool) (x : Num) (words : List ℕ) → depth (option_map_or number (if b then Some x else None) (string words)) ≤ 0
+number_flat true x words = omega arith
+number_flat false x words = omega arith
 
-instant_flat : (site : Option Site) (lane time : ℕ) → depth (instant site lane time) ≤ 2
-instant_flat site lane time =
-    omega (
-      arith,
-      object_within 0 ((codes "s", string (codes "t")) ∷ head (codes "i") site lane time)
-          (omega arith, (omega arith, (omega arith, (omega arith, (omega arith, (omega arith, (omega arith, tt))))))),
-    )
+-- a value is flat
+value_flat : (s : Said) → depth (value_data s) ≤ 0
+value_flat (Whole n) = omega arith
+value_flat (Signed n) = omega arith
+value_flat (Wide n) = omega arith
+value_flat (WideSigned n) = omega arith
+value_flat (Real x text) = number_flat _ _ _
+value_flat (Flag b) = omega arith
+value_flat (Words text) = omega arith
+
+fields_flat : (fs : List FieldSaid) (ms : Members) → members_depth ms ≤ 0 → members_depth (with_fields fs ms) ≤ 0
+fields_flat [] ms flat = flat
+fields_flat (f ∷ fs) ms flat = fields_flat fs (put f.0 (value_data f.1) ms) (put_depth f.0 (value_data f.1) ms 0 (value_flat f.1) flat)
+
+args_flat : (fs : List FieldSaid) → depth (args_of fs) ≤ 1
+args_flat fs = omega (arith, fields_flat fs no_members (omega arith))
+
+micros_flat : (b : Bool) (x : Num) → depth (unwrap_or (option_map number (if b then Some x else None)) null) ≤ 0
+micros_flat true x = omega arith
+micros_flat false x = omega arith
+
+float_flat : (x : Float) → depth (unwrap_or (option_map number (of_float x)) null) ≤ 0
+float_flat x = micros_flat (float_is_finite x) (float x)
+
+time_flat : (time : ℕ) → depth (micros time) ≤ 1
+time_flat time = omega (arith, float_flat (Ieee.div binary64 (Ieee.of_int binary64 (pos time)) MICRO))
+
+head_flat : (phase : List ℕ) (name : Named) (lane time : ℕ) → AreWithin 1 (head phase name lane time)
+head_flat phase name lane time = (omega arith, (omega arith, (omega arith, (time_flat time, (omega arith, (omega arith, tt))))))
+
+begin_flat : (phase : List ℕ) (name : Named) (x lane time : ℕ) → depth (begin_event phase name x lane time) ≤ 2
+begin_flat phase name x lane time =
+    object_within 1 ((codes "args", args_of name.given) ∷ (codes "id", string (decimal x)) ∷ head phase name lane time)
+    (args_flat name.given, (omega arith, head_flat phase name lane time))
+
+end_flat : (phase : List ℕ) (name : Named) (x lane time : ℕ) → depth (end_event phase name x lane time) ≤ 2
+end_flat phase name x lane time =
+    object_within 1 ((codes "id", string (decimal x)) ∷ head phase name lane time) (omega arith, head_flat phase name lane time)
+
+instant_flat : (name : Named) (lane time : ℕ) → depth (instant name lane time) ≤ 2
+instant_flat name lane time =
+    object_within 1 ((codes "args", args_of name.given) ∷ (codes "s", string (codes "t")) ∷ head (codes "i") name lane time)
+    (args_flat name.given, (omega arith, head_flat (codes "i") name lane time))
 
 lane_flat : (lane : ℕ) → depth (lane_named lane) ≤ 2
 lane_flat lane =
@@ -95,43 +134,43 @@ lane_flat lane =
     ∷ (codes "args", object_of ((codes "name", string (codes "lane " ++ decimal lane)) ∷ [])) ∷ [])
     (omega arith, (omega arith, (omega arith, (omega arith, (omega (arith, args), tt)))))
 
-change_flat : (named : ℕ → Option Site) (time : ℕ) (c : Change) → depth (change_event named time c) ≤ 2
-change_flat named time (Begins lane x) = span_flat (codes "B") (named x) x lane time
-change_flat named time (Ends lane x) = span_flat (codes "E") (named x) x lane time
+change_flat : (named : ℕ → Named) (time : ℕ) (c : Change) → depth (change_event named time c) ≤ 2
+change_flat named time (Begins lane x) = begin_flat (codes "B") (named x) x lane time
+change_flat named time (Ends lane x) = end_flat (codes "E") (named x) x lane time
 
-own_flat : (sites : List Site) (named : ℕ → Option Site) (lane time : ℕ) (what : Happening)
-    → items_depth (items_of (option_to_list (own_event sites named lane time what))) ≤ 2
-own_flat sites named lane time (Opened id callsite parent) = omega (arith, span_flat (codes "b") (named (number_of id)) (number_of id) lane time)
-own_flat sites named lane time (Closed id) = omega (arith, span_flat (codes "e") (named (number_of id)) (number_of id) lane time)
-own_flat sites named lane time (Sent callsite parent) = omega (arith, instant_flat (site_of sites callsite) lane time)
-own_flat sites named lane time (Entered id) = omega arith
-own_flat sites named lane time (Left id) = omega arith
-own_flat sites named lane time (Recorded id) = omega arith
-own_flat sites named lane time (Followed id other) = omega arith
-own_flat sites named lane time (Renamed id other) = omega arith
+own_flat : (event named : ℕ → Named) (lane time : ℕ) (what : Happening)
+    → items_depth (items_of (option_to_list (own_event event named lane time what))) ≤ 2
+own_flat event named lane time (Opened id callsite parent) = omega (arith, begin_flat (codes "b") (named (number_of id)) (number_of id) lane time)
+own_flat event named lane time (Closed id) = omega (arith, end_flat (codes "e") (named (number_of id)) (number_of id) lane time)
+own_flat event named lane time (Sent callsite parent) = omega (arith, instant_flat (event callsite) lane time)
+own_flat event named lane time (Entered id) = omega arith
+own_flat event named lane time (Left id) = omega arith
+own_flat event named lane time (Recorded id) = omega arith
+own_flat event named lane time (Followed id other) = omega arith
+own_flat event named lane time (Renamed id other) = omega arith
 
 naming_flat : (known : Bool) (lane : ℕ) → items_depth (items_of (naming known lane)) ≤ 2
 naming_flat true lane = omega arith
 naming_flat false lane = omega (arith, lane_flat lane)
 
-point_flat : (sites : List Site) (named : ℕ → Option Site) (es : List Entry) (time : ℕ) (p : Point)
-    → items_depth (items_of (events_at sites named es time p)) ≤ 2
-point_flat sites named es time p =
-    joined_within 2 (map (change_event named time) (changes es p p.what)) (option_to_list (own_event sites named p.lane.0 time p.what))
-    (mapped_within 2 (change_event named time) (change_flat named time) (changes es p p.what)) (own_flat sites named p.lane.0 time p.what)
+point_flat : (table : Table) (named : ℕ → Named) (es : List Entry) (time : ℕ) (p : Point)
+    → items_depth (items_of (events_at table named es time p)) ≤ 2
+point_flat table named es time p =
+    joined_within 2 (map (change_event named time) (changes es p p.what)) (option_to_list (own_event (event_named table p) named p.lane.0 time p.what))
+    (mapped_within 2 (change_event named time) (change_flat named time) (changes es p p.what)) (own_flat (event_named table p) named p.lane.0 time p.what)
 
-all_flat : (sites : List Site) (named : ℕ → Option Site) (begin : ℕ) (before ps : List Point)
-    → items_depth (items_of (events_from sites named begin before ps)) ≤ 2
-all_flat sites named begin before [] = omega arith
-all_flat sites named begin before (p ∷ ps) =
+all_flat : (table : Table) (named : ℕ → Named) (begin : ℕ) (before ps : List Point)
+    → items_depth (items_of (events_from table named begin before ps)) ≤ 2
+all_flat table named begin before [] = omega arith
+all_flat table named begin before (p ∷ ps) =
     let name = naming (is_known before p.lane.0) p.lane.0 in
-    let here = events_at sites named (lasting before) (time_in begin p) p in
-    joined_within 2 (name ++ here) (events_from sites named begin (before ++ p ∷ []) ps)
-    (joined_within 2 name here (naming_flat (is_known before p.lane.0) p.lane.0) (point_flat sites named (lasting before) (time_in begin p) p))
-    (all_flat sites named begin (before ++ p ∷ []) ps)
+    let here = events_at table named (lasting before) (time_in begin p) p in
+    joined_within 2 (name ++ here) (events_from table named begin (before ++ p ∷ []) ps)
+    (joined_within 2 name here (naming_flat (is_known before p.lane.0) p.lane.0) (point_flat table named (lasting before) (time_in begin p) p))
+    (all_flat table named begin (before ++ p ∷ []) ps)
 
 -- a trace nests four deep
-pub trace_depth : (sites : List Site) (ps : List Point) → depth (trace_of sites ps) ≤ 127
-trace_depth sites ps =
-    let events = all_flat sites (named_in sites ps) (begin_of ps) [] ps in
-    omega (arith, object_within 3 ((codes "traceEvents", array (items_of (events_of sites ps))) ∷ []) (omega (arith, events), tt))
+pub trace_depth : (table : Table) (ps : List Point) → depth (trace_of table ps) ≤ 127
+trace_depth table ps =
+    let events = all_flat table (named_in table ps) (begin_of ps) [] ps in
+    omega (arith, object_within 3 ((codes "traceEvents", array (items_of (events_of table ps))) ∷ []) (omega (arith, events), tt))

@@ -9,6 +9,7 @@ mod Names
 mod Nest
 mod Openings
 mod Phases
+mod Put
 mod Replaced
 mod Requests
 mod Style

@@ -1,15 +1,15 @@
 -- Boxes nest: each end is that of the newest box of its lane.
-use Rattle.std.proofs.Common.{◌≡◌, ◌≢◌, ◌∙◌, ◌+◌, ◌⊎◌, ℕ, Bool, true, false, List, [], ◌∷◌, ◌++◌, Option, None, Some, ap, append_assoc, arith, filter, flat_map}
-use Rattle.std.proofs.Common.{if◌then◌else◌, inl, inr, map, not, refl, reverse, sym}
+use Rattle.std.proofs.Common.{◌≡◌, ◌∙◌, ℕ, Bool, true, false, List, [], ◌∷◌, ◌++◌, Option, None, Some, ap, append_assoc, filter, flat_map}
+use Rattle.std.proofs.Common.{if◌then◌else◌, map, not, refl, reverse, sym}
 use Rattle.std.specs.Prelude.{◌==◌, ◌&&◌, ◌||◌, fold}
 use Rattle.std.specs.List.{list_any}
 use Rattle.std.specs.Option.{option_and_then, option_map}
-use Rattle.std.proofs.lemmas.Bool.{eq-eqb, eqb-true, true≢false}
+use Rattle.std.proofs.lemmas.Bool.{eq-eqb, eqb-true}
 use Rattle.std.proofs.lemmas.List.{append-nil, map-append, reverse-append}
 use Rattle.std.proofs.lemmas.List.Elements.{filter-append}
 use Rattle.std.proofs.lemmas.List.Sums.{fold-append}
 use Rattle.span_core.specs.Span.{number_of}
-use Rattle.span_export.specs.Chrome.{Change, TracesNest, boxes_after, changes, changes_from, closed_on, lanes_in, left_on, redrawn, without_box}
+use Rattle.span_export.specs.Chrome.{TracesNest, boxes_after, changes, changes_from, closed_on, lanes_in, left_on, redrawn, without_box}
 use Rattle.span_export.specs.Chrome.Change.{Begins, Ends}
 use Rattle.span_export.specs.Entry.{entries_after, is_into, is_of, is_on, lasting, left, since_newest, since_oldest, spans_on}
 use Rattle.span_export.specs.declared.entry.Entry.{Entry}

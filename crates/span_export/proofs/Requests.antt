@@ -1,12 +1,12 @@
 -- Requests to export spans: one by one, and how deep they nest.
 use Rattle.std.proofs.Common.{arith, ◌≡◌, ◌≤◌, ◌∙◌, ◌<◌, ◌+◌, ℕ, List, [], ◌∷◌, ◌++◌, Option, None, Some, ap, append_assoc, codes, drop, get_or, if◌then◌else◌}
-use Rattle.std.proofs.Common.{length, map, refl, string_bytes, subst, sym, take, true, false, Bool}
-use Rattle.std.specs.Int.{to_be_bytes, w128}
+use Rattle.std.proofs.Common.{length, map, refl, string_bytes, subst, sym, take, true, false, Bool, nat_lt, decimal, ◌^◌}
+use Rattle.std.specs.Float.{float_is_finite}
+use Rattle.std.specs.Fmt.{signed_decimal}
 use Rattle.std.specs.List.{AllByRecursion, cons_option}
 use Rattle.std.specs.Option.{option_map, option_to_list}
 use Rattle.std.proofs.lemmas.List.{drop_more, map-append, take_more}
-use Rattle.hex.specs.Hex.{encode_lower}
-use Rattle.serde_json.specs.Data.{Data, array, depth, items_depth, string}
+use Rattle.serde_json.specs.Data.{Data, array, boolean, depth, float, items_depth, string}
 use Rattle.serde_json.specs.Read.{max_depth}
 use Rattle.serde_json.specs.View.{items_of, view}
 use Rattle.serde_json.specs.declared.value.Value.{Value}
@@ -15,85 +15,124 @@ use Rattle.span_core.specs.declared.span.Id.{Id}
 use Rattle.span_times.specs.declared.happening.Happening.TheVariants.{Closed, Entered, Followed, Left, Opened, Recorded, Renamed, Sent}
 use Rattle.span_times.specs.declared.happening.Happening.{Happening}
 use Rattle.span_times.specs.declared.happening.Point.{Point}
-use Rattle.span_export.proofs.Depth.{IsWithin, items_within, object_within}
+use Rattle.span_export.proofs.Depth.{IsWithin, items_within, joined_within, mapped_within, number_flat, object_within}
 use Rattle.span_export.proofs.Kept.{seen_one}
 use Rattle.span_export.specs.Json.{object_of, whole}
-use Rattle.span_export.specs.Otlp.{attribute, event_of, event_value, events_of, is_in, level_attribute, nanos, only, parent_of, request_at, request_of}
-use Rattle.span_export.specs.Otlp.{request_value, requests_from, requests_of, since_opening, span_id, span_value}
-use Rattle.span_export.specs.Site.{called, leveled, site_at, targeted}
+use Rattle.span_export.specs.Otlp.{attribute_of, attributes_of, event_of, event_value, events_of, has_failed, is_in, level_attribute, nanos, only}
+use Rattle.span_export.specs.Otlp.{request_at, request_of, request_value, requests_from, since_opening, span_head, span_value, status_value, text_attribute}
+use Rattle.span_export.specs.Site.{Named, called, event_named, is_given, leveled, targeted}
+use Rattle.span_export.specs.Value.{number_or, proto_name, typed, typed_data}
+use Rattle.span_export.specs.declared.otlp.Closed.{Closed as ClosedSpan}
 use Rattle.span_export.specs.declared.otlp.Trace.{Trace}
-use Rattle.span_export.specs.declared.site.Site.{Site}
+use Rattle.span_times.specs.Field.{FieldSaid, Said}
+use Rattle.span_times.specs.Field.Said.{Flag, Real, Signed, Whole, Wide, WideSigned, Words}
+use Rattle.span_times.specs.declared.kept.Table.{Table}
 
 in_front : (o : Option Data) (ds : List Data) → cons_option o ds ≡ option_to_list o ++ ds
 in_front None ds = refl
 in_front (Some d) ds = refl
 
 -- one more point is looked at, and its request, if it has one, is put behind the others
-pub request_more : (trace : Trace) (sites : List Site)
-    (ps : List Point) (all : List Point) (i : ℕ) (d : Point) (old new : List Value) (o : Option Value) (whole : List Data) → i < length all
-    → option_map view o ≡ request_at trace sites ps (take i all) (get_or all i d) (get_or all i d).what → new ≡ old ++ option_to_list o
-    → map view old ++ requests_from trace sites ps (take i all) (drop i all) ≡ whole
-    → map view new ++ requests_from trace sites ps (take (i + 1) all) (drop (i + 1) all) ≡ whole
-request_more trace sites ps all i d old new o whole within due grew so_far =
+pub request_more : (trace : Trace) (table : Table) (named : ℕ → Named)
+    (all : List Point) (i : ℕ) (d : Point) (old new : List Value) (o : Option Value) (whole : List Data) → i < length all
+    → option_map view o ≡ request_at trace table named (take i all) (get_or all i d) (get_or all i d).what → new ≡ old ++ option_to_list o
+    → map view old ++ requests_from trace table named (take i all) (drop i all) ≡ whole
+    → map view new ++ requests_from trace table named (take (i + 1) all) (drop (i + 1) all) ≡ whole
+request_more trace table named all i d old new o whole within due grew so_far =
     let before = take i all in
     let point = get_or all i d in
-    let rest = requests_from trace sites ps (before ++ point ∷ []) (drop (i + 1) all) in
-    let here : option_to_list (option_map view o) ++ rest ≡ requests_from trace sites ps before (drop i all) =
-    sym (in_front (option_map view o) rest) ∙ ap (λ r. cons_option r rest) due ∙ sym (ap (requests_from trace sites ps before) (drop_more all i d within)) in
-    ap (λ b. map view new ++ requests_from trace sites ps b (drop (i + 1) all)) (take_more all i d within)
+    let rest = requests_from trace table named (before ++ point ∷ []) (drop (i + 1) all) in
+    let here : option_to_list (option_map view o) ++ rest ≡ requests_from trace table named before (drop i all) =
+    sym (in_front (option_map view o) rest) ∙ ap (λ r. cons_option r rest) due ∙ sym (ap (requests_from trace table named before) (drop_more all i d within)) in
+    ap (λ b. map view new ++ requests_from trace table named b (drop (i + 1) all)) (take_more all i d within)
     ∙ ap (λ vs. map view vs ++ rest) grew ∙ ap (λ ds. ds ++ rest) (map-append view old (option_to_list o) ∙ ap (λ ds. map view old ++ ds) (seen_one view o))
     ∙ append_assoc (map view old) (option_to_list (option_map view o)) rest ∙ ap (λ ds. map view old ++ ds) here ∙ so_far
 
-attribute_depth : (key text : List ℕ) → depth (attribute key text) ≤ 2
-attribute_depth key text =
+text_depth : (key text : List ℕ) → depth (text_attribute key text) ≤ 2
+text_depth key text =
     let value = object_within 0 ((codes "stringValue", string text) ∷ []) (omega arith, tt) in
     object_within 1 ((codes "key", string key) ∷ (codes "value", object_of ((codes "stringValue", string text) ∷ [])) ∷ []) (omega arith, (value, tt))
+
+one_typed : (key : List ℕ) (d : Data) → depth d ≤ 0 → depth (typed key d) ≤ 1
+one_typed key d flat = object_within 0 ((key, d) ∷ []) (flat, tt)
+
+whole_typed : (b : Bool) (d : Data) → depth d ≤ 0 → depth (if b then typed (codes "intValue") d else typed (codes "stringValue") d) ≤ 1
+whole_typed true d flat = one_typed (codes "intValue") d flat
+whole_typed false d flat = one_typed (codes "stringValue") d flat
+
+typed_depth : (s : Said) → depth (typed_data s) ≤ 1
+typed_depth (Whole n) = whole_typed (nat_lt n (2 ^ 63)) (string (decimal n)) (omega arith)
+typed_depth (Signed n) = one_typed (codes "intValue") (string (signed_decimal n)) (omega arith)
+typed_depth (Wide n) = one_typed (codes "stringValue") (string (decimal n)) (omega arith)
+typed_depth (WideSigned n) = one_typed (codes "stringValue") (string (signed_decimal n)) (omega arith)
+typed_depth (Real x text) = one_typed (codes "doubleValue") (number_or (proto_name text) x) (number_flat (float_is_finite x) (float x) (proto_name text))
+typed_depth (Flag b) = one_typed (codes "boolValue") (boolean b) (omega arith)
+typed_depth (Words text) = one_typed (codes "stringValue") (string text) (omega arith)
+
+attribute_depth : (f : FieldSaid) → depth (attribute_of f) ≤ 2
+attribute_depth f = object_within 1 ((codes "key", string f.0) ∷ (codes "value", typed_data f.1) ∷ []) (omega arith, (typed_depth f.1, tt))
+
+level_depth : (b : Bool) (d : Data) → depth d ≤ 2 → items_depth (items_of (if b then [] else d ∷ [])) ≤ 2
+level_depth true d h = omega arith
+level_depth false d h = omega (arith, h)
+
+attributes_depth : (name : Named) → depth (attributes_of name) ≤ 3
+attributes_depth name =
+    let level =
+    level_depth (is_given (codes "level") name.given) (text_attribute (codes "level") (leveled name)) (text_depth (codes "level") (leveled name)) in
+    omega (
+      arith,
+      joined_within 2 (level_attribute name) (map attribute_of name.given) level (mapped_within 2 attribute_of attribute_depth name.given),
+    )
 
 only_depth : (d : Data) (n : ℕ) → depth d ≤ n → depth (only d) ≤ n + 1
 only_depth d n h = omega (arith, h)
 
-event_depth : (trace : Trace) (site : Option Site) (p : Point) → depth (event_value trace site p) ≤ 4
-event_depth trace site p =
-    let level = only_depth (level_attribute site) 2 (attribute_depth (codes "level") (leveled site)) in
-    object_within 3 ((codes "timeUnixNano", nanos trace p.time) ∷ (codes "name", string (called site)) ∷ (codes "attributes", only (level_attribute site)) ∷ [])
-    (omega arith, (omega arith, (level, tt)))
+event_depth : (trace : Trace) (name : Named) (time : ℕ) → depth (event_value trace name time) ≤ 4
+event_depth trace name time =
+    object_within 3 ((codes "timeUnixNano", nanos trace time)
+    ∷ (codes "name", string (called name)) ∷ (codes "attributes", attributes_of name) ∷ [])
+    (omega arith, (omega arith, (attributes_depth name, tt)))
 
-event_within : (b : Bool) (trace : Trace) (site : Option Site) (p : Point) → IsWithin 4 (if b then Some (event_value trace site p) else None)
-event_within true trace site p = event_depth trace site p
-event_within false trace site p = tt
+event_within : (b : Bool) (trace : Trace) (name : Named) (time : ℕ) → IsWithin 4 (if b then Some (event_value trace name time) else None)
+event_within true trace name time = event_depth trace name time
+event_within false trace name time = tt
 
-one_event : (trace : Trace) (site : Option Site) (id : Id) (p : Point) (what : Happening) → IsWithin 4 (event_of trace site id p what)
-one_event trace site id p (Sent callsite found) = event_within (is_in id found) trace site p
-one_event trace site id p (Entered x) = tt
-one_event trace site id p (Left x) = tt
-one_event trace site id p (Opened x callsite parent) = tt
-one_event trace site id p (Closed x) = tt
-one_event trace site id p (Recorded x) = tt
-one_event trace site id p (Followed x other) = tt
-one_event trace site id p (Renamed x other) = tt
+one_event : (trace : Trace) (table : Table) (id : Id) (p : Point) (what : Happening) → IsWithin 4 (event_of trace table id p what)
+one_event trace table id p (Sent callsite found) = event_within (is_in id found) trace (event_named table p callsite) p.time
+one_event trace table id p (Entered x) = tt
+one_event trace table id p (Left x) = tt
+one_event trace table id p (Opened x callsite parent) = tt
+one_event trace table id p (Closed x) = tt
+one_event trace table id p (Recorded x) = tt
+one_event trace table id p (Followed x other) = tt
+one_event trace table id p (Renamed x other) = tt
 
-span_depth : (trace : Trace) (site : Option Site) (id : Id) (opening close : Point) (events : List Data)
-    → items_depth (items_of events) ≤ 4 → depth (span_value trace site id opening close events) ≤ 6
-span_depth trace site id opening close events h =
-    let level = only_depth (level_attribute site) 2 (attribute_depth (codes "level") (leveled site)) in
-    object_within 5 ((codes "traceId", string (encode_lower (to_be_bytes w128 trace.id)))
-    ∷ (codes "spanId", string (span_id (Some id))) ∷ (codes "parentSpanId", string (span_id (parent_of opening.what)))
-    ∷ (codes "name", string (called site)) ∷ (codes "kind", whole 1) ∷ (codes "startTimeUnixNano", nanos trace opening.time)
-    ∷ (codes "endTimeUnixNano", nanos trace close.time) ∷ (codes "attributes", only (level_attribute site)) ∷ (codes "events", array (items_of events)) ∷ [])
-    (omega arith, (omega arith, (omega arith, (omega arith, (omega arith, (omega arith, (omega arith, (omega (arith, level), (omega (arith, h), tt)))))))))
+status_depth : (failed : Bool) → depth (status_value failed) ≤ 1
+status_depth true = object_within 0 ((codes "code", whole 2) ∷ []) (omega arith, tt)
+status_depth false = omega arith
 
-request_depth : (trace : Trace) (site : Option Site) (span : Data) → depth span ≤ 6 → depth (request_value trace site span) ≤ 127
-request_depth trace site span h =
-    let target = object_of ((codes "name", string (targeted site)) ∷ []) in
+span_depth : (trace : Trace) (name : Named) (span : ClosedSpan) (events : Data) (failed : Bool)
+    → depth events ≤ 5 → depth (span_value trace name span events failed) ≤ 6
+span_depth trace name span events failed h =
+    object_within 5 ((codes "status", status_value failed)
+    ∷ (codes "events", events) ∷ (codes "attributes", attributes_of name) ∷ (codes "name", string (called name)) ∷ span_head trace span) (
+      omega (arith, status_depth failed),
+      (h, (omega (arith, attributes_depth name), (omega arith, (omega arith, (omega arith, (omega arith, (omega arith, (omega arith, (omega arith, tt))))))))),
+    )
+
+request_depth : (trace : Trace) (name : Named) (span : Data) → depth span ≤ 6 → depth (request_value trace name span) ≤ 127
+request_depth trace name span h =
+    let target = object_of ((codes "name", string (targeted name)) ∷ []) in
     let spans = object_of ((codes "scope", target) ∷ (codes "spans", only span) ∷ []) in
-    let service = only (attribute (codes "service.name") (string_bytes trace.service)) in
+    let service = only (text_attribute (codes "service.name") (string_bytes trace.service)) in
     let resource = object_of ((codes "attributes", service) ∷ []) in
     let both = object_of ((codes "resource", resource) ∷ (codes "scopeSpans", only spans) ∷ []) in
-    let one : depth target ≤ 1 = object_within 0 ((codes "name", string (targeted site)) ∷ []) (omega arith, tt) in
+    let one : depth target ≤ 1 = object_within 0 ((codes "name", string (targeted name)) ∷ []) (omega arith, tt) in
     let two : depth (only span) ≤ 7 = only_depth span 6 h in
     let three : depth spans ≤ 8 = object_within 7 ((codes "scope", target) ∷ (codes "spans", only span) ∷ []) (omega arith, (two, tt)) in
     let four : depth service ≤ 3 =
-    only_depth (attribute (codes "service.name") (string_bytes trace.service)) 2 (attribute_depth (codes "service.name") (string_bytes trace.service)) in
+    only_depth (text_attribute (codes "service.name") (string_bytes trace.service)) 2 (text_depth (codes "service.name") (string_bytes trace.service)) in
     let five : depth resource ≤ 4 = object_within 3 ((codes "attributes", service) ∷ []) (four, tt) in
     let six : depth (only spans) ≤ 9 = only_depth spans 8 three in
     let seven : depth both ≤ 10 = object_within 9 ((codes "resource", resource) ∷ (codes "scopeSpans", only spans) ∷ []) (omega arith, (six, tt)) in
@@ -101,43 +140,44 @@ request_depth trace site span h =
     let nine : depth (object_of ((codes "resourceSpans", only both) ∷ [])) ≤ 12 = object_within 11 ((codes "resourceSpans", only both) ∷ []) (eight, tt) in
     omega arith
 
-closed_depth : (trace : Trace) (sites : List Site) (ps : List Point) (id : Id) (close : Point) (since : List Point)
-    → IsWithin 127 (request_of trace sites ps id close since)
-closed_depth trace sites ps id close [] = tt
-closed_depth trace sites ps id close (opening ∷ since) =
-    let site = site_at sites ps close.what in
-    let events =
-    items_within 4 (λ p. event_of trace (site_at sites ps p.what) id p p.what) (λ p. one_event trace (site_at sites ps p.what) id p p.what) since in
-    request_depth trace site (span_value trace site id opening close (events_of trace sites ps id since))
-    (span_depth trace site id opening close (events_of trace sites ps id since) events)
+closed_depth : (trace : Trace) (table : Table) (name : Named) (id : Id) (close : Point) (since : List Point)
+    → IsWithin 127 (request_of trace table name id close since)
+closed_depth trace table name id close [] = tt
+closed_depth trace table name id close (opening ∷ since) =
+    let span : ClosedSpan = record { id = id; opening = opening; close = close } in
+    let failed = has_failed table.sites.now id since in
+    let events = items_within 4 (λ p. event_of trace table id p p.what) (λ p. one_event trace table id p p.what) since in
+    request_depth trace name (span_value trace name span (array (items_of (events_of trace table id since))) failed)
+    (span_depth trace name span (array (items_of (events_of trace table id since))) failed (omega (arith, events)))
 
-point_depth : (trace : Trace) (sites : List Site) (ps : List Point) (before : List Point) (p : Point) (what : Happening)
-    → IsWithin 127 (request_at trace sites ps before p what)
-point_depth trace sites ps before p (Closed id) = closed_depth trace sites ps id p (since_opening (number_of id) before)
-point_depth trace sites ps before p (Sent callsite parent) = tt
-point_depth trace sites ps before p (Entered x) = tt
-point_depth trace sites ps before p (Left x) = tt
-point_depth trace sites ps before p (Opened x callsite parent) = tt
-point_depth trace sites ps before p (Recorded x) = tt
-point_depth trace sites ps before p (Followed x other) = tt
-point_depth trace sites ps before p (Renamed x other) = tt
+point_depth : (trace : Trace) (table : Table) (named : ℕ → Named) (before : List Point) (p : Point) (what : Happening)
+    → IsWithin 127 (request_at trace table named before p what)
+point_depth trace table named before p (Closed id) = closed_depth trace table (named (number_of id)) id p (since_opening (number_of id) before)
+point_depth trace table named before p (Sent callsite parent) = tt
+point_depth trace table named before p (Entered x) = tt
+point_depth trace table named before p (Left x) = tt
+point_depth trace table named before p (Opened x callsite parent) = tt
+point_depth trace table named before p (Recorded x) = tt
+point_depth trace table named before p (Followed x other) = tt
+point_depth trace table named before p (Renamed x other) = tt
 
 one_more : (o : Option Data) (ds : List Data) → IsWithin 127 o → AllByRecursion (λ d. depth d ≤ 127) ds → AllByRecursion (λ d. depth d ≤ 127) (cons_option o ds)
 one_more None ds h k = k
 one_more (Some d) ds h k = (h, k)
 
-requests_depth : (trace : Trace) (sites : List Site) (ps before rest : List Point)
-    → AllByRecursion (λ d. depth d ≤ 127) (requests_from trace sites ps before rest)
-requests_depth trace sites ps before [] = tt
-requests_depth trace sites ps before (p ∷ rest) =
-    one_more (request_at trace sites ps before p p.what)
-    (requests_from trace sites ps (before ++ p ∷ []) rest) (point_depth trace sites ps before p p.what) (requests_depth trace sites ps (before ++ p ∷ []) rest)
+requests_depth : (trace : Trace) (table : Table) (named : ℕ → Named) (before rest : List Point)
+    → AllByRecursion (λ d. depth d ≤ 127) (requests_from trace table named before rest)
+requests_depth trace table named before [] = tt
+requests_depth trace table named before (p ∷ rest) =
+    one_more (request_at trace table named before p p.what) (requests_from trace table named (before ++ p ∷ []) rest)
+    (point_depth trace table named before p p.what) (requests_depth trace table named (before ++ p ∷ []) rest)
 
 values_depth : (vs : List Value) → AllByRecursion (λ d. depth d ≤ 127) (map view vs) → AllByRecursion (λ v. depth (view v) ≤ max_depth) vs
 values_depth [] h = tt
 values_depth (v ∷ vs) h = (h.0, values_depth vs h.1)
 
 -- requests can be read back
-pub requests_are_shallow : (trace : Trace) (sites : List Site) (ps : List Point) (vs : List Value)
-    → map view vs ≡ requests_of trace sites ps → AllByRecursion (λ v. depth (view v) ≤ max_depth) vs
-requests_are_shallow trace sites ps vs e = values_depth vs (subst (AllByRecursion (λ d. depth d ≤ 127)) (sym e) (requests_depth trace sites ps [] ps))
+pub requests_are_shallow : (trace : Trace) (table : Table) (named : ℕ → Named) (ps : List Point) (vs : List Value)
+    → map view vs ≡ requests_from trace table named [] ps → AllByRecursion (λ v. depth (view v) ≤ max_depth) vs
+requests_are_shallow trace table named ps vs e =
+    values_depth vs (subst (AllByRecursion (λ d. depth d ≤ 127)) (sym e) (requests_depth trace table named [] ps))

@@ -4,7 +4,7 @@ use Rattle.std.proofs.lemmas.List.{drop_more, take_more}
 use Rattle.std.proofs.lemmas.List.Sums.{fold_more}
 use Rattle.span_export.specs.Entry.{entries_after, lasting, spans_in}
 use Rattle.span_export.specs.Folded.{Sums, add, last_time, stack_text, stood, stood_in, sums_from}
-use Rattle.span_export.specs.declared.site.Site.{Site}
+use Rattle.span_export.specs.Site.{Named}
 use Rattle.span_times.specs.declared.happening.Point.{Point}
 
 -- one more point goes on with the entries
@@ -18,16 +18,16 @@ pub time_more : (lane : ℕ) (ps : List Point) (i : ℕ) (d : Point)
 time_more lane ps i d within = fold_more (λ time p. if p.lane.0 == lane then p.time else time) 0 ps i d within
 
 -- where a stack isn't empty, its sum is raised
-pub stood_some : (sites : List Site) (ps : List Point) (stack : List ℕ) (time : ℕ) (sums : Sums)
-    → stack ≢ [] → stood_in sites ps stack time sums ≡ add (stack_text sites ps stack) time sums
-stood_some sites ps [] time sums some = absurd (some refl)
-stood_some sites ps (x ∷ stack) time sums some = refl
+pub stood_some : (named : ℕ → Named) (stack : List ℕ) (time : ℕ) (sums : Sums)
+    → stack ≢ [] → stood_in named stack time sums ≡ add (stack_text named stack) time sums
+stood_some named [] time sums some = absurd (some refl)
+stood_some named (x ∷ stack) time sums some = refl
 
 -- one more point adds to the sums
-pub sums_more : (sites : List Site) (all ps : List Point) (i : ℕ) (d : Point) (old new whole : Sums) → i < length ps
-    → new ≡ stood_in sites all (spans_in (get_or ps i d).lane.0 (lasting (take i ps))) (stood (take i ps) (get_or ps i d)) old
-    → sums_from sites all old (take i ps) (drop i ps) ≡ whole → sums_from sites all new (take (i + 1) ps) (drop (i + 1) ps) ≡ whole
-sums_more sites all ps i d old new whole within now so_far =
-    ap (λ before. sums_from sites all new before (drop (i + 1) ps)) (take_more ps i d within)
-    ∙ ap (λ sums. sums_from sites all sums (take i ps ++ get_or ps i d ∷ []) (drop (i + 1) ps)) now
-    ∙ sym (ap (sums_from sites all old (take i ps)) (drop_more ps i d within)) ∙ so_far
+pub sums_more : (named : ℕ → Named) (ps : List Point) (i : ℕ) (d : Point) (old new whole : Sums) → i < length ps
+    → new ≡ stood_in named (spans_in (get_or ps i d).lane.0 (lasting (take i ps))) (stood (take i ps) (get_or ps i d)) old
+    → sums_from named old (take i ps) (drop i ps) ≡ whole → sums_from named new (take (i + 1) ps) (drop (i + 1) ps) ≡ whole
+sums_more named ps i d old new whole within now so_far =
+    ap (λ before. sums_from named new before (drop (i + 1) ps)) (take_more ps i d within)
+    ∙ ap (λ sums. sums_from named sums (take i ps ++ get_or ps i d ∷ []) (drop (i + 1) ps)) now
+    ∙ sym (ap (sums_from named old (take i ps)) (drop_more ps i d within)) ∙ so_far

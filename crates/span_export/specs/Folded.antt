@@ -5,26 +5,31 @@ use Rattle.std.specs.Ordering.{match_ordering, nat_cmp}
 use Rattle.span_fmt.specs.Escape.{escaped}
 use Rattle.span_times.specs.Measure.{capped}
 use Rattle.span_times.specs.declared.happening.Point.{Point}
+use Rattle.span_times.specs.declared.kept.Table.{Table}
 use Rattle.span_export.specs.Entry.{lasting, spans_in}
 use Rattle.span_export.specs.Escape.{replace}
-use Rattle.span_export.specs.Site.{name_in}
-use Rattle.span_export.specs.declared.site.Site.{Site}
+use Rattle.span_export.specs.Given.{given_shown}
+use Rattle.span_export.specs.Site.{Named, called, named_in}
 
 -- names with semicolons between
 abbrev pub frames_text : List (List ℕ) → List ℕ
 frames_text [] = []
 frames_text (name ∷ names) = name ++ flat_map (λ n. codes ";" ++ n) names
 
--- a name as a frame: escaped, and a semicolon as well, with _ for each space; an empty one as no
--- other is written
-abbrev pub frame : List ℕ → List ℕ
-frame name =
-    if length name == 0 then codes "\\u{}"
-    else replace 32 (codes "_") (replace 59 (codes "\\u{3b}") (escaped name))
+-- a name, escaped; an empty one as no other is written
+abbrev pub frame_name : List ℕ → List ℕ
+frame_name name = if length name == 0 then codes "\\u{}" else escaped name
 
--- a stack as text: the names of its spans, outermost first
-abbrev pub stack_text : List Site → List Point → List ℕ → List ℕ
-stack_text sites ps stack = frames_text (map (λ x. frame (name_in sites ps x)) stack)
+-- a span as a frame: its name and what it was given, a semicolon escaped as well, and _ for each
+-- space
+abbrev pub frame : Named → List ℕ
+frame site =
+    replace 32 (codes "_")
+    (replace 59 (codes "\\u{3b}") (frame_name (called site) ++ given_shown site.given))
+
+-- a stack as text: its spans as frames, outermost first
+abbrev pub stack_text : (ℕ → Named) → List ℕ → List ℕ
+stack_text named stack = frames_text (map (λ x. frame (named x)) stack)
 
 -- when the last point of a lane was
 abbrev pub last_time : ℕ → List Point → ℕ
@@ -46,30 +51,29 @@ add stack time (s ∷ sums) =
     ((s.0, capped (s.1 + time)) ∷ sums) (s ∷ add stack time sums)
 
 -- the sums with so much more at the stack of a lane, if the lane is in some span
-abbrev pub stood_in : List Site → List Point → List ℕ → ℕ → Sums → Sums
-stood_in sites ps [] time sums = sums
-stood_in sites ps (x ∷ stack) time sums = add (stack_text sites ps (x ∷ stack)) time sums
+abbrev pub stood_in : (ℕ → Named) → List ℕ → ℕ → Sums → Sums
+stood_in named [] time sums = sums
+stood_in named (x ∷ stack) time sums = add (stack_text named (x ∷ stack)) time sums
 
 -- each of these points adds how long its lane stood in its stack up to there; these stand before
 -- them
-abbrev pub sums_from : List Site → List Point → Sums → List Point → List Point → Sums
-sums_from sites ps sums before [] = sums
-sums_from sites ps sums before (p ∷ rest) =
-    sums_from sites ps
-    (stood_in sites ps (spans_in p.lane.0 (lasting before)) (stood before p) sums)
+abbrev pub sums_from : (ℕ → Named) → Sums → List Point → List Point → Sums
+sums_from named sums before [] = sums
+sums_from named sums before (p ∷ rest) =
+    sums_from named (stood_in named (spans_in p.lane.0 (lasting before)) (stood before p) sums)
     (before ++ p ∷ []) rest
 
--- how long lanes stood in each stack
-abbrev pub sums_of : List Site → List Point → Sums
-sums_of sites ps = sums_from sites ps [] [] ps
+-- how long lanes stood in each stack, with these fields
+abbrev pub sums_of : Table → List Point → Sums
+sums_of table ps = sums_from (named_in table ps) [] [] ps
 
 -- a stack, and behind a space how long
 abbrev pub line_text : List ℕ × ℕ → List ℕ
 line_text s = s.0 ++ codes " " ++ decimal s.1 ++ codes "\n"
 
 -- a line for each stack
-abbrev pub folded : List Site → List Point → List ℕ
-folded sites ps = flat_map line_text (sums_of sites ps)
+abbrev pub folded : Table → List Point → List ℕ
+folded table ps = flat_map line_text (sums_of table ps)
 
 -- a time that counts where a lane is in some span
 abbrev pub in_spans : List ℕ → ℕ → ℕ
@@ -92,5 +96,5 @@ time_in_spans ps = time_from [] ps
 -- fits
 abbrev pub LinesHaveAllTime : Type 0
 LinesHaveAllTime =
-    (sites : List Site) (ps : List Point) → time_in_spans ps < 2 ^ 64
-    → sum_by (λ s. s.1) (sums_of sites ps) ≡ time_in_spans ps
+    (table : Table) (ps : List Point) → time_in_spans ps < 2 ^ 64
+    → sum_by (λ s. s.1) (sums_of table ps) ≡ time_in_spans ps

@@ -3,11 +3,12 @@ pub mod Entry
 pub mod Escape
 pub mod Folded
 pub mod Frame
+pub mod Given
 pub mod Json
 pub mod Moment
 pub mod Otlp
 pub mod Picture
 pub mod Scale
 pub mod Site
-pub mod Sites
 pub mod Sums
+pub mod Value

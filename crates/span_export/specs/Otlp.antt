@@ -1,36 +1,51 @@
 -- Points as OpenTelemetry's spans, in its JSON.
-use Rattle.std.specs.Prelude.{◌≡◌, ◌+◌, ◌==◌, ℕ, Bool, false, if◌then◌else◌, List, [], ◌∷◌, ◌++◌, Option, None, Some, codes, decimal, filter_map, map, string_bytes}
+use Rattle.std.specs.Prelude.{◌≡◌, ◌+◌, ◌==◌, ◌&&◌, ℕ, Bool, false, if◌then◌else◌, List, [], ◌∷◌, ◌++◌, Option, None, Some, codes, decimal, filter_map, map, string_bytes}
 use Rattle.std.specs.Int.{to_be_bytes, w128, w64}
-use Rattle.std.specs.List.{cons_option}
+use Rattle.std.specs.List.{cons_option, list_any}
 use Rattle.std.specs.Option.{option_map_or}
 use Rattle.hex.specs.Hex.{encode_lower}
 use Rattle.serde_json.specs.Data.{Data, array, string}
 use Rattle.serde_json.specs.Read.{read}
 use Rattle.serde_json.specs.View.{items_of}
+use Rattle.span_core.specs.Level.{level_number}
 use Rattle.span_core.specs.Span.{number_of}
 use Rattle.span_core.specs.declared.span.Id.{Id}
+use Rattle.span_times.specs.Field.{FieldSaid}
 use Rattle.span_times.specs.Measure.{capped, opens}
 use Rattle.span_times.specs.declared.happening.Happening.TheVariants.{Closed, Opened, Sent}
 use Rattle.span_times.specs.declared.happening.Happening.{Happening}
 use Rattle.span_times.specs.declared.happening.Point.{Point}
+use Rattle.span_times.specs.declared.kept.Table.{Table}
 use Rattle.span_export.specs.Json.{object_of, whole}
-use Rattle.span_export.specs.Site.{called, leveled, site_at, targeted}
+use Rattle.span_export.specs.Site.{Named, called, event_named, is_given, leveled, named_in, site_of, targeted}
+use Rattle.span_times.specs.declared.site.Site.{Site}
+use Rattle.span_export.specs.Value.{typed_data}
+use Rattle.span_export.specs.declared.otlp.Closed.{Closed as ClosedSpan}
 use Rattle.span_export.specs.declared.otlp.Trace.{Trace}
-use Rattle.span_export.specs.declared.site.Site.{Site}
 
 -- the number of a span as 16 hex digits, and none where there is no span
 abbrev pub span_id : Option Id → List ℕ
 span_id id = option_map_or (λ id. encode_lower (to_be_bytes w64 (number_of id))) id []
 
 -- an attribute whose value is a text
-abbrev pub attribute : List ℕ → List ℕ → Data
-attribute key text =
+abbrev pub text_attribute : List ℕ → List ℕ → Data
+text_attribute key text =
     object_of ((codes "key", string key)
     ∷ (codes "value", object_of ((codes "stringValue", string text) ∷ [])) ∷ [])
 
--- the level of a site
-abbrev pub level_attribute : Option Site → Data
-level_attribute site = attribute (codes "level") (leveled site)
+-- a field as an attribute
+abbrev pub attribute_of : FieldSaid → Data
+attribute_of f = object_of ((codes "key", string f.0) ∷ (codes "value", typed_data f.1) ∷ [])
+
+-- the level, unless a field with that name was given
+abbrev pub level_attribute : Named → List Data
+level_attribute site =
+    if is_given (codes "level") site.given then []
+    else text_attribute (codes "level") (leveled site) ∷ []
+
+-- the attributes of a span or an event: its level, and what it was given
+abbrev pub attributes_of : Named → Data
+attributes_of site = array (items_of (level_attribute site ++ map attribute_of site.given))
 
 -- one thing alone
 abbrev pub only : Data → Data
@@ -44,46 +59,67 @@ nanos trace time = string (decimal (capped (trace.began + time)))
 abbrev pub is_in : Id → Option Id → Bool
 is_in id found = option_map_or (λ span. number_of span == number_of id) found false
 
--- an event of a span
-abbrev pub event_value : Trace → Option Site → Point → Data
-event_value trace site p =
-    object_of ((codes "timeUnixNano", nanos trace p.time) ∷ (codes "name", string (called site))
-    ∷ (codes "attributes", only (level_attribute site)) ∷ [])
+-- an event of a span at a time
+abbrev pub event_value : Trace → Named → ℕ → Data
+event_value trace site time =
+    object_of ((codes "timeUnixNano", nanos trace time) ∷ (codes "name", string (called site))
+    ∷ (codes "attributes", attributes_of site) ∷ [])
 
 -- the event of a point, if it is an event of this span
-abbrev pub event_of : Trace → Option Site → Id → Point → Happening → Option Data
-event_of trace site id p (Sent callsite found) =
-    if is_in id found then Some (event_value trace site p) else None
-event_of trace site id p other = None
+abbrev pub event_of : Trace → Table → Id → Point → Happening → Option Data
+event_of trace table id p (Sent callsite found) =
+    if is_in id found then Some (event_value trace (event_named table p callsite) p.time) else None
+event_of trace table id p other = None
 
 -- the events of a span among these points
-abbrev pub events_of : Trace → List Site → List Point → Id → List Point → List Data
-events_of trace sites ps id since =
-    filter_map (λ p. event_of trace (site_at sites ps p.what) id p p.what) since
+abbrev pub events_of : Trace → Table → Id → List Point → List Data
+events_of trace table id since = filter_map (λ p. event_of trace table id p p.what) since
+
+-- a site has the level ERROR
+abbrev pub is_of_errors : Option Site → Bool
+is_of_errors site = option_map_or (λ s. level_number s.level == 1) site false
+
+-- something that happened is an event of this span, of level ERROR
+abbrev pub is_failure : List Site → Id → Happening → Bool
+is_failure sites id (Sent callsite found) =
+    is_in id found && is_of_errors (site_of sites callsite)
+is_failure sites id other = false
+
+-- one of these points is an event of this span, of level ERROR
+abbrev pub has_failed : List Site → Id → List Point → Bool
+has_failed sites id ps = list_any (λ p. is_failure sites id p.what) ps
+
+-- what became of a span: an error, or nothing that is known
+abbrev pub status_value : Bool → Data
+status_value failed = object_of (if failed then ((codes "code", whole 2) ∷ []) else [])
 
 -- the parent of a span that is opened so
 abbrev pub parent_of : Happening → Option Id
 parent_of (Opened id callsite parent) = parent
 parent_of other = None
 
--- a span that was opened so and closed then, with these events
-abbrev pub span_value : Trace → Option Site → Id → Point → Point → List Data → Data
-span_value trace site id opening close events =
-    object_of ((codes "traceId", string (encode_lower (to_be_bytes w128 trace.id)))
-    ∷ (codes "spanId", string (span_id (Some id)))
-    ∷ (codes "parentSpanId", string (span_id (parent_of opening.what)))
-    ∷ (codes "name", string (called site)) ∷ (codes "kind", whole 1)
-    ∷ (codes "startTimeUnixNano", nanos trace opening.time)
-    ∷ (codes "endTimeUnixNano", nanos trace close.time)
-    ∷ (codes "attributes", only (level_attribute site))
-    ∷ (codes "events", array (items_of events)) ∷ [])
+-- which span it is, and when it opened and closed
+abbrev pub span_head : Trace → ClosedSpan → List (List ℕ × Data)
+span_head trace span =
+    (codes "traceId", string (encode_lower (to_be_bytes w128 trace.id)))
+    ∷ (codes "spanId", string (span_id (Some span.id)))
+    ∷ (codes "parentSpanId", string (span_id (parent_of span.opening.what)))
+    ∷ (codes "kind", whole 1) ∷ (codes "startTimeUnixNano", nanos trace span.opening.time)
+    ∷ (codes "endTimeUnixNano", nanos trace span.close.time) ∷ []
+
+-- a span that closed, with these events, in which one of level ERROR came or none did
+abbrev pub span_value : Trace → Named → ClosedSpan → Data → Bool → Data
+span_value trace site span events failed =
+    object_of ((codes "status", status_value failed) ∷ (codes "events", events)
+    ∷ (codes "attributes", attributes_of site) ∷ (codes "name", string (called site))
+    ∷ span_head trace span)
 
 -- a request to export one span, by the service and the target that it is of
-abbrev pub request_value : Trace → Option Site → Data → Data
+abbrev pub request_value : Trace → Named → Data → Data
 request_value trace site span =
     let scope = object_of ((codes "name", string (targeted site)) ∷ []) in
     let spans = object_of ((codes "scope", scope) ∷ (codes "spans", only span) ∷ []) in
-    let service = only (attribute (codes "service.name") (string_bytes trace.service)) in
+    let service = only (text_attribute (codes "service.name") (string_bytes trace.service)) in
     let resource = object_of ((codes "attributes", service) ∷ []) in
     object_of ((
       codes "resourceSpans",
@@ -103,30 +139,32 @@ since_opening x (p ∷ ps) = found_or x p ps (since_opening x ps)
 
 -- the request for a span that closes at this point, if its opening is among those before it, of
 -- which these are the points since
-abbrev pub request_of : Trace → List Site → List Point → Id → Point → List Point → Option Data
-request_of trace sites ps id close [] = None
-request_of trace sites ps id close (opening ∷ since) =
-    let site = site_at sites ps close.what in
+abbrev pub request_of : Trace → Table → Named → Id → Point → List Point → Option Data
+request_of trace table site id close [] = None
+request_of trace table site id close (opening ∷ since) =
+    let span : ClosedSpan = record { id = id; opening = opening; close = close } in
     Some (request_value trace site
-    (span_value trace site id opening close (events_of trace sites ps id since)))
+    (span_value trace site span (array (items_of (events_of trace table id since)))
+    (has_failed table.sites.now id since)))
 
--- the request of a point behind these, if a span closes there
-abbrev pub request_at : Trace → List Site → List Point → List Point → Point → Happening
+-- the request of a point behind these, if a span closes there, by what spans are called
+abbrev pub request_at : Trace → Table → (ℕ → Named) → List Point → Point → Happening
     → Option Data
-request_at trace sites ps before p (Closed id) =
-    request_of trace sites ps id p (since_opening (number_of id) before)
-request_at trace sites ps before p other = None
+request_at trace table named before p (Closed id) =
+    request_of trace table (named (number_of id)) id p (since_opening (number_of id) before)
+request_at trace table named before p other = None
 
 -- the requests of these points, behind those before them
-abbrev pub requests_from : Trace → List Site → List Point → List Point → List Point → List Data
-requests_from trace sites ps before [] = []
-requests_from trace sites ps before (p ∷ rest) =
-    cons_option (request_at trace sites ps before p p.what)
-    (requests_from trace sites ps (before ++ p ∷ []) rest)
+abbrev pub requests_from : Trace → Table → (ℕ → Named) → List Point → List Point
+    → List Data
+requests_from trace table named before [] = []
+requests_from trace table named before (p ∷ rest) =
+    cons_option (request_at trace table named before p p.what)
+    (requests_from trace table named (before ++ p ∷ []) rest)
 
--- the requests for the spans that close, in the order of the closes
-abbrev pub requests_of : Trace → List Site → List Point → List Data
-requests_of trace sites ps = requests_from trace sites ps [] ps
+-- the requests for the spans that close, in the order of the closes, with these fields
+abbrev pub requests_of : Trace → Table → List Point → List Data
+requests_of trace table ps = requests_from trace table (named_in table ps) [] ps
 
 -- each line means the value in its place
 abbrev pub AllMean : List (List ℕ) → List Data → Type 0

@@ -1,5 +1,5 @@
 -- Points as a picture: a box for each time that a lane is in a span.
-use Rattle.std.specs.Prelude.{◌≡◌, ◌≤◌, ◌+◌, ◌-◌, ◌*◌, ◌/◌, ◌&&◌, ◌==◌, ℕ, Bool, if◌then◌else◌, max, nat_le, List, [], ◌∷◌, ◌++◌, Option, None, Some, codes, decimal, flat_map, fold, is_none, length, map, unwrap_or}
+use Rattle.std.specs.Prelude.{◌≡◌, ◌≤◌, ◌+◌, ◌-◌, ◌*◌, ◌/◌, ◌&&◌, ◌==◌, ℕ, Bool, if◌then◌else◌, max, nat_le, List, [], ◌∷◌, ◌++◌, None, Some, codes, decimal, flat_map, fold, is_none, length, map, unwrap_or}
 use Rattle.std.specs.BTreeMap.{BTreeMap, get}
 use Rattle.std.specs.List.{AllByRecursion, list_any}
 use Rattle.std.specs.Ordering.{nat_cmp}
@@ -8,14 +8,15 @@ use Rattle.span_times.specs.Measure.{capped}
 use Rattle.span_times.specs.declared.happening.Happening.TheVariants.{Closed, Entered, Left, Sent}
 use Rattle.span_times.specs.declared.happening.Happening.{Happening}
 use Rattle.span_times.specs.declared.happening.Point.{Point}
+use Rattle.span_times.specs.declared.kept.Table.{Table}
 use Rattle.span_export.specs.Escape.{xml_text}
 use Rattle.span_export.specs.Frame.{frame_text}
 use Rattle.span_export.specs.Scale.{scale_of, x_at}
-use Rattle.span_export.specs.Site.{called, leveled, site_at}
+use Rattle.span_export.specs.Given.{given_shown}
+use Rattle.span_export.specs.Site.{Named, called, event_named, leveled, named_in}
 use Rattle.span_export.specs.declared.frame.Plan.{Plan}
 use Rattle.span_export.specs.declared.picture.Area.{Area}
 use Rattle.span_export.specs.declared.picture.Scale.{Scale}
-use Rattle.span_export.specs.declared.site.Site.{Site}
 use Rattle.span_export.specs.declared.stay.Stay.{Stay}
 
 -- a stay on this lane that isn't over
@@ -90,39 +91,42 @@ label_text name area = if has_room name area then name_text name area else []
 
 -- a box with this title, at this level, here, with this label
 abbrev pub box_text : List ℕ → List ℕ → Area → List ℕ → List ℕ
-box_text name level area label =
-    codes "<g><title>" ++ name ++ codes "</title><rect class=\"" ++ level ++ codes "\" x=\""
+box_text title level area label =
+    codes "<g><title>" ++ title ++ codes "</title><rect class=\"" ++ level ++ codes "\" x=\""
     ++ decimal area.x ++ codes "\" y=\"" ++ decimal area.y ++ codes "\" width=\""
     ++ decimal area.width ++ codes "\" height=\"20\"/>" ++ label ++ codes "</g>\n"
 
--- the box of a stay in a span with this site, on a lane with this top
-abbrev pub box_of : Scale → ℕ → Option Site → Stay → List ℕ
+-- the title of a span or an event: its name and what it was given
+abbrev pub title_of : Named → List ℕ
+title_of site = xml_text (called site ++ given_shown site.given)
+
+-- the box of a stay in a span that is called so, on a lane with this top
+abbrev pub box_of : Scale → ℕ → Named → Stay → List ℕ
 box_of scale top site s =
-    let name = xml_text (called site) in
     let area = area_of scale top s in
-    box_text name (leveled site) area (label_text name area)
+    box_text (title_of site) (leveled site) area (label_text (xml_text (called site)) area)
 
 -- the boxes of stays
-abbrev pub boxes_text : List Site → List Point → Scale → (ℕ → ℕ) → List Stay → List ℕ
-boxes_text sites ps scale top stays =
-    flat_map (λ s. box_of scale (top s.lane.0) (site_at sites ps (Entered s.span)) s) stays
+abbrev pub boxes_text : (ℕ → Named) → Scale → (ℕ → ℕ) → List Stay → List ℕ
+boxes_text named scale top stays =
+    flat_map (λ s. box_of scale (top s.lane.0) (named (number_of s.span)) s) stays
 
 -- a circle with this title, at this level, here
 abbrev pub circle_text : List ℕ → List ℕ → ℕ → ℕ → List ℕ
-circle_text name level x y =
+circle_text title level x y =
     codes "<circle class=\"" ++ level ++ codes "\" cx=\"" ++ decimal x ++ codes "\" cy=\""
-    ++ decimal y ++ codes "\" r=\"4\"><title>" ++ name ++ codes "</title></circle>\n"
+    ++ decimal y ++ codes "\" r=\"4\"><title>" ++ title ++ codes "</title></circle>\n"
 
--- the mark of a point on a lane with this top, if it is an event with this site
-abbrev pub mark_of : Scale → ℕ → Option Site → Point → Happening → List ℕ
-mark_of scale top site p (Sent callsite parent) =
-    circle_text (xml_text (called site)) (leveled site) (x_at scale p.time) (capped (top + 8))
-mark_of scale top site p other = []
+-- the mark of a point on a lane with this top, if it is an event
+abbrev pub mark_of : Table → Scale → ℕ → Point → Happening → List ℕ
+mark_of table scale top p (Sent callsite parent) =
+    let site = event_named table p callsite in
+    circle_text (title_of site) (leveled site) (x_at scale p.time) (capped (top + 8))
+mark_of table scale top p other = []
 
 -- the marks of points
-abbrev pub marks_text : List Site → List Point → Scale → (ℕ → ℕ) → List Point → List ℕ
-marks_text sites all scale top ps =
-    flat_map (λ p. mark_of scale (top p.lane.0) (site_at sites all p.what) p p.what) ps
+abbrev pub marks_text : Table → Scale → (ℕ → ℕ) → List Point → List ℕ
+marks_text table scale top ps = flat_map (λ p. mark_of table scale (top p.lane.0) p p.what) ps
 
 -- the tops that a map has
 abbrev pub top_in : BTreeMap ℕ ℕ → ℕ → ℕ
@@ -134,12 +138,12 @@ IsInside width area = area.x + area.width ≤ width
 
 -- a text is a picture of points: in the frame of some plan the boxes of all stays, each within the
 -- width, and the marks of all events
-pub record IsPicture (text : List ℕ) (sites : List Site) (ps : List Point) (width : ℕ)
+pub record IsPicture (text : List ℕ) (table : Table) (ps : List Point) (width : ℕ)
     : Type 0 where
   pub plan : Plan
   pub shows : text
       ≡ frame_text (scale_of ps width) plan
-      ++ boxes_text sites ps (scale_of ps width) (top_in plan.tops) (stays_of ps)
-      ++ marks_text sites ps (scale_of ps width) (top_in plan.tops) ps ++ codes "</svg>\n"
+      ++ boxes_text (named_in table ps) (scale_of ps width) (top_in plan.tops) (stays_of ps)
+      ++ marks_text table (scale_of ps width) (top_in plan.tops) ps ++ codes "</svg>\n"
   pub inside : AllByRecursion (λ s. IsInside (max width 320)
       (area_of (scale_of ps width) (top_in plan.tops s.lane.0) s)) (stays_of ps)

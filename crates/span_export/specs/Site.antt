@@ -1,83 +1,102 @@
--- What the callsites of spans and events are called.
-use Rattle.std.specs.Prelude.{◌≡◌, ◌==◌, ℕ, Bool, if◌then◌else◌, List, [], ◌∷◌, Option, None, Some, codes, find, string_bytes}
-use Rattle.std.specs.BTreeMap.{BTreeMap, get}
-use Rattle.std.specs.BTreeSet.{BTreeSet, contains}
+-- What spans and events are called, and what they were given.
+use Rattle.std.specs.Prelude.{◌≡◌, ◌==◌, ℕ, Bool, if◌then◌else◌, List, [], ◌∷◌, Option, None, codes, find, fold, map, string_bytes}
+use Rattle.std.specs.BTreeMap.{get}
+use Rattle.std.specs.Borrow.{Bor}
 use Rattle.std.specs.List.{list_any}
-use Rattle.std.specs.Option.{option_and_then, option_map_or, option_or}
+use Rattle.std.specs.Option.{option_and_then, option_copied, option_map_or}
 use Rattle.std.specs.Ordering.{nat_cmp}
+use Rattle.std.specs.Str.{bytes_eq}
 use Rattle.span_core.specs.Level.{level_text}
 use Rattle.span_core.specs.Span.{number_of}
-use Rattle.span_export.specs.declared.site.Site.{Site}
-use Rattle.span_times.specs.declared.happening.Happening.TheVariants.{Closed, Entered, Followed, Left, Opened, Recorded, Renamed, Sent}
+use Rattle.span_export.specs.declared.site.Name.{Name}
+use Rattle.span_export.specs.declared.site.Spans.{Spans}
+use Rattle.span_times.specs.Field.{FieldSaid, field_said, kept_in, within}
+use Rattle.span_times.specs.declared.field.OwnedField.{OwnedField}
+use Rattle.span_times.specs.declared.happening.Happening.TheVariants.{Opened, Recorded}
 use Rattle.span_times.specs.declared.happening.Happening.{Happening}
 use Rattle.span_times.specs.declared.happening.Point.{Point}
+use Rattle.span_times.specs.declared.kept.Table.{Table}
+use Rattle.span_times.specs.declared.site.Site.{Site}
 
--- the span that something happened to, and none for an event
-abbrev pub span_of : Happening → Option ℕ
-span_of (Opened id callsite parent) = Some (number_of id)
-span_of (Recorded id) = Some (number_of id)
-span_of (Followed id other) = Some (number_of id)
-span_of (Sent callsite parent) = None
-span_of (Entered id) = Some (number_of id)
-span_of (Left id) = Some (number_of id)
-span_of (Renamed id other) = Some (number_of id)
-span_of (Closed id) = Some (number_of id)
+-- what a span or an event is called, if that is known, and what it was given
+pub record Named : Type 0 where
+  pub site : Option Site
+  pub given : List FieldSaid
 
--- the callsite that opens this span here, if one does
-abbrev pub opened_by : ℕ → Happening → Option ℕ
-opened_by x (Opened id callsite parent) = if number_of id == x then Some callsite else None
-opened_by x other = None
+-- nothing is known
+abbrev pub unnamed : Named
+unnamed = record { site = None; given = [] }
 
--- the callsite of a span: that of the last point that opens it
-abbrev pub opener_in : List Point → ℕ → Option ℕ
-opener_in [] x = None
-opener_in (p ∷ ps) x = option_or (opener_in ps x) (opened_by x p.what)
+-- the name, and ? where it isn't known
+abbrev pub called : Named → List ℕ
+called n = option_map_or (λ s. string_bytes s.name) n.site (codes "?")
 
--- the callsite of what happened: of an event its own, else that of the span
-abbrev pub callsite_in : List Point → Happening → Option ℕ
-callsite_in ps (Sent callsite parent) = Some callsite
-callsite_in ps what = option_and_then (opener_in ps) (span_of what)
+-- the target, and ? where it isn't known
+abbrev pub targeted : Named → List ℕ
+targeted n = option_map_or (λ s. string_bytes s.target) n.site (codes "?")
+
+-- the name of the level, and ? where it isn't known
+abbrev pub leveled : Named → List ℕ
+leveled n = option_map_or (λ s. level_text s.level) n.site (codes "?")
+
+-- what fields say that were given
+abbrev pub given_said : List (Bor OwnedField) → List FieldSaid
+given_said given = map (λ f. field_said f.now) given
+
+-- what is known of a span or an event
+abbrev pub named_so : Name → Named
+named_so n = record { site = option_copied n.site; given = given_said n.given.now }
 
 -- the site with this number
 abbrev pub site_of : List Site → ℕ → Option Site
 site_of sites n = find (λ s. s.callsite == n) sites
 
--- whether one of the sites has this number
-abbrev pub has_site : List Site → ℕ → Bool
-has_site sites n = list_any (λ s. s.callsite == n) sites
+-- a field behind others, or in the place of that with its name
+abbrev pub put_field : FieldSaid → List FieldSaid → List FieldSaid
+put_field f [] = f ∷ []
+put_field f (g ∷ gs) = if bytes_eq g.0 f.0 then f ∷ gs else g ∷ put_field f gs
 
--- a set has just the numbers of these sites
-abbrev pub AreNumbersOf : BTreeSet ℕ → List Site → Type 0
-AreNumbersOf numbers sites = (n : ℕ) → contains nat_cmp numbers n ≡ has_site sites n
+-- fields behind others, each in the place of that with its name, if there is one
+abbrev pub put_fields : List FieldSaid → List FieldSaid → List FieldSaid
+put_fields fs gs = fold (λ gs f. put_field f gs) gs fs
 
--- the site of what happened
-abbrev pub site_at : List Site → List Point → Happening → Option Site
-site_at sites ps what = option_and_then (site_of sites) (callsite_in ps what)
+-- whether a field of this name is among these
+abbrev pub is_given : List ℕ → List FieldSaid → Bool
+is_given name fs = list_any (λ f. bytes_eq f.0 name) fs
 
--- the name of a site, and ? where it is missing
-abbrev pub called : Option Site → List ℕ
-called site = option_map_or (λ s. string_bytes s.name) site (codes "?")
+-- the fields that a point came with, among those that were kept
+abbrev pub fields_at : Table → Point → List FieldSaid
+fields_at table p = kept_in (within p.fields table.fields.now)
 
--- the target of a site, and ? where it is missing
-abbrev pub targeted : Option Site → List ℕ
-targeted site = option_map_or (λ s. string_bytes s.target) site (codes "?")
+-- what an event is called, and what it was given: of two fields of one name the later one
+abbrev pub event_named : Table → Point → ℕ → Named
+event_named table p callsite = record {
+  site = site_of table.sites.now callsite;
+  given = put_fields (fields_at table p) [];
+}
 
--- the name of a site's level, and ? where the site is missing
-abbrev pub leveled : Option Site → List ℕ
-leveled site = option_map_or (λ s. level_text s.level) site (codes "?")
+-- what is known of a span after something happened with these fields: its opening says what it is
+-- called and what it was given, and a record what it is given from then on
+abbrev pub told_by : List Site → ℕ → List FieldSaid → Happening → Named → Named
+told_by sites x fs (Opened id callsite parent) n =
+    if number_of id == x then record { site = site_of sites callsite; given = put_fields fs [] }
+    else n
+told_by sites x fs (Recorded id) n =
+    if number_of id == x then record n { given = put_fields fs n.given } else n
+told_by sites x fs other n = n
 
--- a map has the callsite of each span
-abbrev pub KnowsOpeners : BTreeMap ℕ ℕ → List Point → Type 0
-KnowsOpeners openers ps = (x : ℕ) → get nat_cmp openers x ≡ opener_in ps x
+-- what a span is called, and what it was given, by all of these points
+abbrev pub named_in : Table → List Point → ℕ → Named
+named_in table ps x =
+    fold (λ n p. told_by table.sites.now x (fields_at table p) p.what n) unnamed ps
 
--- the site of a span
-abbrev pub named_in : List Site → List Point → ℕ → Option Site
-named_in sites ps x = option_and_then (site_of sites) (opener_in ps x)
+-- what a span is called, and what it was given, as it was noted
+abbrev pub named_by : Spans → ℕ → Named
+named_by spans x = record {
+  site = option_and_then (site_of spans.sites.now) (get nat_cmp spans.openers x);
+  given = option_map_or (λ g. given_said g.items) (get nat_cmp spans.given x) [];
+}
 
--- the name of a span
-abbrev pub name_in : List Site → List Point → ℕ → List ℕ
-name_in sites ps x = called (named_in sites ps x)
-
--- the site of a span, by a map
-abbrev pub named_by : List Site → BTreeMap ℕ ℕ → ℕ → Option Site
-named_by sites openers x = option_and_then (site_of sites) (get nat_cmp openers x)
+-- all that points say of spans is noted
+abbrev pub KnowsSpans : Spans → Table → List Point → Type 0
+KnowsSpans spans table ps = (x : ℕ) → named_by spans x ≡ named_in table ps x

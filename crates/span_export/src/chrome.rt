@@ -7,27 +7,33 @@ ghost use Rattle.std.specs.Prelude.{◌≡◌, ◌++◌, ◌==◌, ◌||◌, [],
 ghost use Rattle.serde_json.specs.Data.{string};
 ghost use Rattle.serde_json.specs.View.{items_view, view};
 ghost use Rattle.span_core.specs.Span.{number_of};
-ghost use Rattle.span_export.specs.Chrome.{begin_of, change_event, changes, closed_on, events_at, events_of, instant, lane_named, lanes_in, naming, own_event, redrawn, span_event, trace_of, trace_with};
+ghost use Rattle.span_export.specs.Chrome.{args_of, begin_event, begin_of, change_event, changes, closed_on, end_event, events_at, events_of, instant, lane_named, lanes_in, micros, naming, own_event, redrawn, trace_of, trace_with};
 ghost use Rattle.span_export.specs.Chrome.Change.{Begins, Ends};
 ghost use Rattle.span_export.specs.Json.{Means};
 ghost use Rattle.span_export.specs.Entry.{is_of, spans_on};
 ghost use Rattle.span_export.specs.Moment.{names};
-ghost use Rattle.span_export.specs.Site.{site_of};
+ghost use Rattle.span_export.specs.Site.{event_named, given_said, named_so};
 
 use crate::entry::{Entry, go_on, since_newest, since_oldest, spans_on};
-use crate::site::{Openers, Site, find_site, name_of, openers_of, site_of_span, target_of};
-use serde_json::{Value, json};
+use crate::given::given_by;
+use crate::site::{Name, Spans, find_site};
+use crate::value::value_of;
+use serde_json::{Map, Value, json, put};
 use span_core::{Id, Lane};
-use span_times::{Happening, Point};
+use span_times::{Happening, OwnedField, Point, Table};
 use std::alloc::{AllocError, Global};
 use std::collections::BTreeSet;
+use std::num::nearest_u64_to_f64;
+
+/// How many nanoseconds are a microsecond.
+const MICRO: f64 = 1000.0;
 
 /// When something happens in a trace, and how spans are called.
 #[derive(Clone, Copy)]
-pub(crate) struct Moment<'a> {
-    sites: &'a [Site],
-    openers: &'a Openers,
-    /// In microseconds since the trace began.
+pub(crate) struct Moment<'s, 'a> {
+    table: Table<'a>,
+    spans: &'s Spans<'a>,
+    /// In nanoseconds since the trace began.
     time: u64,
 }
 
@@ -37,12 +43,12 @@ pub(crate) struct Moment<'a> {
 /// from it then writes nothing. The format has the boxes of a lane end in order, the newest first.
 /// Where another has to end, those above it end too, and begin again. Each opening and close begins
 /// and ends a duration of its span; an event is an instant. The lane with the number 3 is called
-/// `lane 3`. Times are in whole microseconds since the first point.
-pub fn chrome_text(alloc: Global, sites: &[Site], points: &[Point]) -> Result<String, AllocError>
+/// `lane 3`. Times are in microseconds since the first point, with fractions.
+pub fn chrome_text(alloc: Global, points: &[Point], table: Table<'_>) -> Result<String, AllocError>
     ensures { IfOk result
-        (λ text. Means (string_bytes text) (trace_of sites.now points.now)) }
+        (λ text. Means (string_bytes text) (trace_of table.entry points.now)) }
 {
-    let events = trace_events(alloc, sites, points)?;
+    let events = trace_events(alloc, points, table)?;
     let trace = trace_value(alloc, events)?;
     trace.to_string(alloc)
 }
@@ -55,11 +61,11 @@ fn trace_value(alloc: Global, events: Vec<Value>) -> Result<Value, AllocError>
 }
 
 /// The trace events of points, in their order.
-fn trace_events(alloc: Global, sites: &[Site], points: &[Point]) -> Result<Vec<Value>, AllocError>
+fn trace_events(alloc: Global, points: &[Point], table: Table<'_>) -> Result<Vec<Value>, AllocError>
     ensures { IfOk result
-        (λ events. map view events.items ≡ events_of sites.now points.now) }
+        (λ events. map view events.items ≡ events_of table.entry points.now) }
 {
-    let openers = openers_of(alloc, points)?;
+    let spans = Spans::of(alloc, points, table)?;
     let begin = begin_of(points);
     let mut events = Vec::new(alloc);
     let mut entries = Vec::new(alloc);
@@ -67,9 +73,9 @@ fn trace_events(alloc: Global, sites: &[Site], points: &[Point]) -> Result<Vec<V
     for point in points {
         name_lane(alloc, &mut events, &mut known, point.lane)?;
         let moment = Moment {
-            sites,
-            openers: &openers,
-            time: point.time.saturating_sub(begin) / 1000,
+            table,
+            spans: &spans,
+            time: point.time.saturating_sub(begin),
         };
         write_point(alloc, &mut events, &moment, &entries, point)?;
         go_on(&mut entries, point)?;
@@ -123,12 +129,12 @@ fn lane_named(alloc: Global, lane: Lane) -> Result<Value, AllocError>
 fn write_point(
     alloc: Global,
     events: &mut Vec<Value>,
-    moment: &Moment<'_>,
+    moment: &Moment<'_, '_>,
     entries: &[Entry],
     point: &Point,
 ) -> Result<(), AllocError>
     ensures { OnOk result (map view events.new.items ≡ map view events.old.items
-        ++ events_at moment.now.sites.now (names moment.now) entries.now moment.now.time
+        ++ events_at moment.now.table (names moment.now) entries.now moment.now.time
         point.now) }
 {
     write_changes(alloc, events, moment, entries, point)?;
@@ -142,7 +148,7 @@ fn write_point(
 fn write_changes(
     alloc: Global,
     events: &mut Vec<Value>,
-    moment: &Moment<'_>,
+    moment: &Moment<'_, '_>,
     entries: &[Entry],
     point: &Point,
 ) -> Result<(), AllocError>
@@ -165,14 +171,14 @@ fn write_changes(
 fn write_begins(
     alloc: Global,
     events: &mut Vec<Value>,
-    moment: &Moment<'_>,
+    moment: &Moment<'_, '_>,
     lane: Lane,
     id: Id,
 ) -> Result<(), AllocError>
     ensures { OnOk result (map view events.new.items ≡ map view events.old.items
         ++ change_event (names moment.now) moment.now.time (Begins lane.0 (number_of id)) ∷ []) }
 {
-    events.push(span_event(alloc, "B", moment, lane, id)?)?;
+    events.push(begin_event(alloc, "B", moment, lane, id)?)?;
     Ok(())
 }
 
@@ -180,14 +186,14 @@ fn write_begins(
 fn write_ends(
     alloc: Global,
     events: &mut Vec<Value>,
-    moment: &Moment<'_>,
+    moment: &Moment<'_, '_>,
     lane: Lane,
     id: Id,
 ) -> Result<(), AllocError>
     ensures { OnOk result (map view events.new.items ≡ map view events.old.items
         ++ change_event (names moment.now) moment.now.time (Ends lane.0 (number_of id)) ∷ []) }
 {
-    events.push(span_event(alloc, "E", moment, lane, id)?)?;
+    events.push(end_event(alloc, "E", moment, lane, id)?)?;
     Ok(())
 }
 
@@ -196,7 +202,7 @@ fn write_ends(
 fn close(
     alloc: Global,
     events: &mut Vec<Value>,
-    moment: &Moment<'_>,
+    moment: &Moment<'_, '_>,
     entries: &[Entry],
     id: Id,
 ) -> Result<(), AllocError>
@@ -226,7 +232,7 @@ fn is_among(entries: &[Entry], lane: Lane, id: Id) -> bool
 fn redraw(
     alloc: Global,
     events: &mut Vec<Value>,
-    moment: &Moment<'_>,
+    moment: &Moment<'_, '_>,
     entries: &[Entry],
     lane: Lane,
     id: Id,
@@ -244,7 +250,7 @@ fn redraw(
 fn end_all(
     alloc: Global,
     events: &mut Vec<Value>,
-    moment: &Moment<'_>,
+    moment: &Moment<'_, '_>,
     spans: &[Id],
     lane: Lane,
 ) -> Result<(), AllocError>
@@ -262,7 +268,7 @@ fn end_all(
 fn begin_others(
     alloc: Global,
     events: &mut Vec<Value>,
-    moment: &Moment<'_>,
+    moment: &Moment<'_, '_>,
     spans: &[Id],
     lane: Lane,
     id: Id,
@@ -280,42 +286,90 @@ fn begin_others(
 }
 
 /// The trace event of a point itself, if it has one.
-fn own_event(alloc: Global, moment: &Moment<'_>, point: &Point) -> Result<Option<Value>, AllocError>
+fn own_event(
+    alloc: Global,
+    moment: &Moment<'_, '_>,
+    point: &Point,
+) -> Result<Option<Value>, AllocError>
     ensures { IfOk result (λ event. option_map view event
-        ≡ own_event moment.now.sites.now (names moment.now) point.now.lane.0 moment.now.time
-        point.now.what) }
+        ≡ own_event (event_named moment.now.table point.now) (names moment.now) point.now.lane.0
+        moment.now.time point.now.what) }
 {
     let event = match point.what {
-        Happening::Opened(id, _, _) => span_event(alloc, "b", moment, point.lane, id)?,
-        Happening::Closed(id) => span_event(alloc, "e", moment, point.lane, id)?,
-        Happening::Sent(callsite, _) => instant(alloc, moment, point.lane, callsite)?,
+        Happening::Opened(id, _, _) => begin_event(alloc, "b", moment, point.lane, id)?,
+        Happening::Closed(id) => end_event(alloc, "e", moment, point.lane, id)?,
+        Happening::Sent(callsite, _) => instant(alloc, moment, point, callsite)?,
         _ => return Ok(None),
     };
     Ok(Some(event))
 }
 
-/// The trace event of a span in some phase.
-fn span_event(
+/// The trace event of a span in a phase with which something begins, with what the span was given.
+fn begin_event(
     alloc: Global,
     phase: &str,
-    moment: &Moment<'_>,
+    moment: &Moment<'_, '_>,
     lane: Lane,
     id: Id,
 ) -> Result<Value, AllocError>
     ensures { IfOk result (λ event. view event
-        ≡ span_event phase.now (names moment.now (number_of id)) (number_of id) lane.0
+        ≡ begin_event phase.now (names moment.now (number_of id)) (number_of id) lane.0
         moment.now.time) }
 {
-    let site = site_of_span(moment.sites, moment.openers, id);
+    let name = moment.spans.name(id);
     json!(in alloc; {
         "ph": phase,
-        "name": name_of(site),
-        "cat": target_of(site),
-        "ts": moment.time,
+        "name": name.name(),
+        "cat": name.target(),
+        "ts": micros(moment.time),
+        "pid": 1u64,
+        "tid": lane.0,
+        "id": id_text(alloc, id)?,
+        "args": args(alloc, name.given)?
+    })
+}
+
+/// The trace event of a span in a phase with which something ends.
+fn end_event(
+    alloc: Global,
+    phase: &str,
+    moment: &Moment<'_, '_>,
+    lane: Lane,
+    id: Id,
+) -> Result<Value, AllocError>
+    ensures { IfOk result (λ event. view event
+        ≡ end_event phase.now (names moment.now (number_of id)) (number_of id) lane.0
+        moment.now.time) }
+{
+    let name = moment.spans.name(id);
+    json!(in alloc; {
+        "ph": phase,
+        "name": name.name(),
+        "cat": name.target(),
+        "ts": micros(moment.time),
         "pid": 1u64,
         "tid": lane.0,
         "id": id_text(alloc, id)?
     })
+}
+
+/// Fields by their names.
+fn args(alloc: Global, given: &[&OwnedField]) -> Result<Value, AllocError>
+    ensures { IfOk result (λ args. view args ≡ args_of (given_said given.now)) }
+{
+    let mut members = Map::new(alloc);
+    for field in given {
+        let value = value_of(alloc, &field.value)?;
+        put(&mut members, alloc, field.name.as_str(), value)?;
+    }
+    Ok(Value::Object(members))
+}
+
+/// Nanoseconds as microseconds: the nearest number that readers of JSON keep.
+fn micros(time: u64) -> Value
+    ensures { view result ≡ micros time }
+{
+    Value::from(nearest_u64_to_f64(time) / MICRO)
 }
 
 /// The number of a span as a text: readers of JSON keep no number above 2^53 whole.
@@ -329,21 +383,27 @@ fn id_text(alloc: Global, id: Id) -> Result<Value, AllocError>
 /// The trace event of an event: an instant of its lane.
 fn instant(
     alloc: Global,
-    moment: &Moment<'_>,
-    lane: Lane,
+    moment: &Moment<'_, '_>,
+    point: &Point,
     callsite: u64,
 ) -> Result<Value, AllocError>
     ensures { IfOk result (λ event. view event
-        ≡ instant (site_of moment.now.sites.now callsite) lane.0 moment.now.time) }
+        ≡ instant (event_named moment.now.table point.now callsite) point.now.lane.0
+        moment.now.time) }
 {
-    let site = find_site(moment.sites, callsite);
+    let given = given_by(alloc, point.fields_in(moment.table.fields))?;
+    let name = Name {
+        site: find_site(moment.table.sites, callsite),
+        given: &given,
+    };
     json!(in alloc; {
         "ph": "i",
-        "name": name_of(site),
-        "cat": target_of(site),
-        "ts": moment.time,
+        "name": name.name(),
+        "cat": name.target(),
+        "ts": micros(moment.time),
         "pid": 1u64,
-        "tid": lane.0,
-        "s": "t"
+        "tid": point.lane.0,
+        "s": "t",
+        "args": args(alloc, name.given)?
     })
 }

@@ -4,16 +4,17 @@ ghost use Rattle.std.specs.Ordering.{nat_cmp};
 ghost use Rattle.std.specs.Prelude.{◌≡◌, ◌++◌, IfOk, List, OnOk, decimal, flat_map, map, string_bytes};
 ghost use Rattle.span_core.specs.Span.{number_of};
 ghost use Rattle.span_times.specs.declared.happening.Point.{Point};
-ghost use Rattle.span_export.specs.Folded.{add, folded, frame, line_text, stack_text, sums_of};
-ghost use Rattle.span_export.specs.Site.{KnowsOpeners, name_in};
+ghost use Rattle.span_export.specs.Folded.{add, folded, frame, frame_name, line_text, stack_text, sums_of};
+ghost use Rattle.span_export.specs.Site.{named_by, named_so};
 ghost use Rattle.span_export.specs.Sums.{sums_in};
 
 use crate::entry::{go_on, spans_in};
 use crate::escape::replaced;
-use crate::site::{Openers, Site, name_of_span, openers_of};
+use crate::given::write_given;
+use crate::site::{Name, Spans};
 use span_core::Id;
 use span_fmt::write_escaped;
-use span_times::Point;
+use span_times::{Point, Table};
 use std::alloc::{AllocError, Global};
 use std::collections::BTreeMap;
 
@@ -23,8 +24,9 @@ type Sums = BTreeMap<String, u64>;
 /// These points as folded stacks, of which flame graphs are made: a line for each stack of spans
 /// that some lane stood in, in the order of their texts.
 ///
-/// A line has the names of the spans, outermost first, with semicolons between, and how long lanes
-/// stood so, in nanoseconds up to `u64::MAX`: each time is that from one point of a lane to its
+/// A line has the names of the spans, outermost first, with semicolons between, each with the fields
+/// that the span was given, as `job{id=7}` (hand over no fields to leave them out), and how long
+/// lanes stood so, in nanoseconds up to `u64::MAX`: each time is that from one point of a lane to its
 /// next. What comes after a lane's last point isn't counted. Where a span closes, each lane leaves
 /// it by that; what such a lane stood since its last point counts without the span.
 ///
@@ -33,10 +35,10 @@ type Sums = BTreeMap<String, u64>;
 ///
 /// Names are escaped, as `span_fmt::write_escaped` has them, and a semicolon as `\u{3b}`. A
 /// space is written as `_`, and an empty name as `\u{}`.
-pub fn folded_text(alloc: Global, sites: &[Site], points: &[Point]) -> Result<String, AllocError>
-    ensures { IfOk result (λ text. string_bytes text ≡ folded sites.now points.now) }
+pub fn folded_text(alloc: Global, points: &[Point], table: Table<'_>) -> Result<String, AllocError>
+    ensures { IfOk result (λ text. string_bytes text ≡ folded table.entry points.now) }
 {
-    let sums = sum_up(alloc, sites, points)?;
+    let sums = sum_up(alloc, points, table)?;
     let mut text = String::new(alloc);
     for (stack, time) in sums.iter() {
         writeln!(text, "{stack} {time}")?;
@@ -45,10 +47,10 @@ pub fn folded_text(alloc: Global, sites: &[Site], points: &[Point]) -> Result<St
 }
 
 /// How long lanes stood in each stack.
-fn sum_up(alloc: Global, sites: &[Site], points: &[Point]) -> Result<Sums, AllocError>
-    ensures { IfOk result (λ sums. sums_in sums ≡ sums_of sites.now points.now) }
+fn sum_up(alloc: Global, points: &[Point], table: Table<'_>) -> Result<Sums, AllocError>
+    ensures { IfOk result (λ sums. sums_in sums ≡ sums_of table.entry points.now) }
 {
-    let openers = openers_of(alloc, points)?;
+    let spans = Spans::of(alloc, points, table)?;
     let mut sums = BTreeMap::new(alloc);
     let mut entries = Vec::new(alloc);
     let mut times: BTreeMap<u32, u64> = BTreeMap::new(alloc);
@@ -56,7 +58,7 @@ fn sum_up(alloc: Global, sites: &[Site], points: &[Point]) -> Result<Sums, Alloc
         let stack = spans_in(alloc, &entries, point.lane)?;
         if !stack.is_empty() {
             let since = times.get(&point.lane.0).copied().unwrap_or(0);
-            let text = text_of(alloc, sites, &openers, &stack)?;
+            let text = text_of(alloc, &spans, &stack)?;
             let time = point.time.saturating_sub(since);
             add(&mut sums, text, time)?;
         }
@@ -75,43 +77,46 @@ fn add(sums: &mut Sums, stack: String, time: u64) -> Result<(), AllocError>
     Ok(())
 }
 
-/// A stack as text: the names of its spans, outermost first.
-fn text_of(
-    alloc: Global,
-    sites: &[Site],
-    openers: &Openers,
-    stack: &[Id],
-) -> Result<String, AllocError>
-    ensures { (points : List Point) → KnowsOpeners openers.now points
-        → IfOk result (λ text. string_bytes text
-        ≡ stack_text sites.now points (map number_of stack.now)) }
+/// A stack as text: the names of its spans with what these were given, outermost first.
+fn text_of(alloc: Global, spans: &Spans<'_>, stack: &[Id]) -> Result<String, AllocError>
+    ensures { IfOk result (λ text. string_bytes text
+        ≡ stack_text (named_by spans.now) (map number_of stack.now)) }
 {
     let mut text = String::new(alloc);
     let Some((outermost, rest)) = stack.split_first() else {
         return Ok(text);
     };
-    let frame = frame_of(alloc, name_of_span(sites, openers, *outermost))?;
+    let frame = frame_of(alloc, spans.name(*outermost))?;
     text.push_str(frame.as_str())?;
     for span in rest {
-        let frame = frame_of(alloc, name_of_span(sites, openers, *span))?;
+        let frame = frame_of(alloc, spans.name(*span))?;
         text.push_str(";")?;
         text.push_str(frame.as_str())?;
     }
     Ok(text)
 }
 
-/// A name as a frame: escaped, and a semicolon as well, with `_` for each space; an empty one as no
-/// other is written.
+/// A span as a frame: its name, escaped, and what it was given; a semicolon is escaped as well, and
+/// `_` stands for each space. An empty name is as no other is written.
 ///
 /// A semicolon would end the frame, and a number behind a space be read as a second count.
-fn frame_of(alloc: Global, name: &str) -> Result<String, AllocError>
-    ensures { IfOk result (λ new. string_bytes new ≡ frame name.now) }
+fn frame_of(alloc: Global, name: Name<'_>) -> Result<String, AllocError>
+    ensures { IfOk result (λ new. string_bytes new ≡ frame (named_so name.entry)) }
 {
-    if name.is_empty() {
-        return String::from_str(alloc, "\\u{}");
-    }
     let mut frame = String::new(alloc);
-    write_escaped(&mut frame, name)?;
+    write_name(&mut frame, name.name())?;
+    write_given(&mut frame, name.given)?;
     let frame = replaced(alloc, frame.as_str(), ';', "\\u{3b}")?;
     replaced(alloc, frame.as_str(), ' ', "_")
+}
+
+/// Writes a name, escaped; an empty one as no other is written.
+fn write_name(text: &mut String, name: &str) -> Result<(), AllocError>
+    ensures { OnOk result
+        (string_bytes text.new ≡ string_bytes text.old ++ frame_name name.now) }
+{
+    if name.is_empty() {
+        return text.push_str("\\u{}");
+    }
+    write_escaped(text, name)
 }

@@ -1,5 +1,5 @@
-//! What happened, in the formats of other tools: functions of points and of what callsites are
-//! called, and a layer that keeps what these are called.
+//! What happened, in the formats of other tools: functions of points and of the fields that these
+//! came with.
 #![tactic(auto)]
 
 mod chrome;
@@ -7,16 +7,15 @@ mod entry;
 mod escape;
 mod folded;
 mod frame;
+mod given;
 pub mod laws;
 mod otlp;
 mod picture;
 mod site;
-mod sites;
 mod stay;
+mod value;
 
 pub use chrome::chrome_text;
 pub use folded::folded_text;
 pub use otlp::{Trace, otlp_lines};
 pub use picture::timeline_svg;
-pub use site::Site;
-pub use sites::Sites;

@@ -2,21 +2,23 @@
 ghost use Rattle.std.specs.Int.{to_be_bytes, w128};
 ghost use Rattle.std.specs.List.{AllByRecursion};
 ghost use Rattle.std.specs.Option.{option_copied, option_map};
-ghost use Rattle.std.specs.Prelude.{◌≡◌, ◌≤◌, [], IfOk, List, map, string_bytes};
+ghost use Rattle.std.specs.Prelude.{◌≡◌, ◌≤◌, ◌++◌, [], IfOk, OnOk, map, string_bytes};
 ghost use Rattle.hex.specs.Hex.{encode_lower};
 ghost use Rattle.serde_json.specs.Data.{depth, string};
 ghost use Rattle.serde_json.specs.Read.{max_depth};
-ghost use Rattle.serde_json.specs.View.{items_view, view};
-ghost use Rattle.span_times.specs.declared.happening.Point.{Point};
+ghost use Rattle.serde_json.specs.View.{items_view, members_view, view};
 ghost use Rattle.span_core.specs.Span.{number_of};
-ghost use Rattle.span_export.specs.Json.{AreCompact};
-ghost use Rattle.span_export.specs.Otlp.{AllMean, attribute, event_of, event_value, events_of, level_attribute, nanos, parent_of, request_at, request_value, requests_of, since_opening, span_id, span_value};
-ghost use Rattle.span_export.specs.Site.{KnowsOpeners};
+ghost use Rattle.span_export.specs.Json.{AreCompact, members};
+ghost use Rattle.span_export.specs.Otlp.{AllMean, attribute_of, attributes_of, event_of, event_value, events_of, has_failed, is_failure, is_of_errors, level_attribute, nanos, parent_of, request_at, request_value, requests_from, requests_of, since_opening, span_head, span_id, span_value, status_value, text_attribute};
+ghost use Rattle.span_export.specs.Site.{event_named, given_said, named_by, named_so};
+ghost use Rattle.span_times.specs.Field.{field_said};
 
-use crate::site::{Openers, Site, level_of, name_of, openers_of, site_of_happening, target_of};
-use serde_json::{Value, json};
-use span_core::Id;
-use span_times::{Happening, Point};
+use crate::given::{given_by, is_given};
+use crate::site::{Name, Spans, find_site};
+use crate::value::typed_value;
+use serde_json::{Map, Value, json, put};
+use span_core::{Id, Level};
+use span_times::{Happening, OwnedField, Point, Site, Table};
 use std::alloc::{AllocError, Global};
 
 /// What OpenTelemetry asks for of a trace beside its points.
@@ -36,19 +38,21 @@ pub struct Trace {
 ///
 /// A span has the parent and the events that the timeline found: where it stands under a filter,
 /// the nearest span above that this let by. The events are those behind the opening, so hand over
-/// all points since then.
+/// all points since then. What a span or an event was given are its attributes, beside its level;
+/// of two fields of one name the later one. A span in which an event of level ERROR came has the
+/// status of an error.
 pub fn otlp_lines(
     alloc: Global,
     trace: &Trace,
-    sites: &[Site],
     points: &[Point],
+    table: Table<'_>,
 ) -> Result<Vec<String>, AllocError>
     ensures mean { IfOk result (λ lines. AllMean (map string_bytes lines.items)
-        (requests_of trace.now sites.now points.now)) }
+        (requests_of trace.now table.entry points.now)) }
     ensures compact { IfOk result (λ lines. AreCompact (map string_bytes lines.items)) }
 {
-    let openers = openers_of(alloc, points)?;
-    let requests = requests(alloc, trace, sites, &openers, points)?;
+    let spans = Spans::of(alloc, points, table)?;
+    let requests = requests(alloc, trace, table, &spans, points)?;
     lines_of(alloc, &requests)
 }
 
@@ -70,17 +74,16 @@ fn lines_of(alloc: Global, values: &[Value]) -> Result<Vec<String>, AllocError>
 fn requests(
     alloc: Global,
     trace: &Trace,
-    sites: &[Site],
-    openers: &Openers,
+    table: Table<'_>,
+    spans: &Spans<'_>,
     points: &[Point],
 ) -> Result<Vec<Value>, AllocError>
-    ensures { KnowsOpeners openers.now points.now
-        → IfOk result (λ requests. map view requests.items
-        ≡ requests_of trace.now sites.now points.now) }
+    ensures { IfOk result (λ requests. map view requests.items
+        ≡ requests_from trace.now table.entry (named_by spans.now) [] points.now) }
 {
     let mut requests = Vec::new(alloc);
     for (place, point) in points.iter().enumerate() {
-        if let Some(request) = request(alloc, trace, sites, openers, &points[..place], point)? {
+        if let Some(request) = request(alloc, trace, table, spans, &points[..place], point)? {
             requests.push(request)?;
         }
     }
@@ -91,25 +94,37 @@ fn requests(
 fn request(
     alloc: Global,
     trace: &Trace,
-    sites: &[Site],
-    openers: &Openers,
+    table: Table<'_>,
+    spans: &Spans<'_>,
     before: &[Point],
     point: &Point,
 ) -> Result<Option<Value>, AllocError>
-    ensures { (points : List Point) → KnowsOpeners openers.now points
-        → IfOk result (λ request. option_map view request
-        ≡ request_at trace.now sites.now points before.now point.now point.now.what) }
+    ensures { IfOk result (λ request. option_map view request
+        ≡ request_at trace.now table.entry (named_by spans.now) before.now point.now
+        point.now.what) }
 {
     let Happening::Closed(id) = point.what else {
         return Ok(None);
     };
-    let Some((opening, rest)) = since_opening(before, id).split_first() else {
+    let Some((opening, since)) = since_opening(before, id).split_first() else {
         return Ok(None);
     };
-    let site = site_of_happening(sites, openers, point.what);
-    let events = events(alloc, trace, sites, openers, id, rest)?;
-    let span = span(alloc, trace, site, id, opening, point, events)?;
-    Ok(Some(request_for(alloc, trace, site, span)?))
+    let name = spans.name(id);
+    let closed = Closed {
+        id,
+        opening: *opening,
+        close: *point,
+    };
+    let events = Value::Array(events(alloc, trace, table, id, since)?);
+    let span = span(
+        alloc,
+        trace,
+        name,
+        closed,
+        events,
+        has_failed(table.sites, since, id),
+    )?;
+    Ok(Some(request_for(alloc, trace, name, span)?))
 }
 
 /// The points from the last on that opens a span; none where none does.
@@ -128,45 +143,106 @@ fn since_opening(points: &[Point], id: Id) -> &[Point]
 fn request_for(
     alloc: Global,
     trace: &Trace,
-    site: Option<&Site>,
+    name: Name<'_>,
     span: Value,
 ) -> Result<Value, AllocError>
     ensures { IfOk result (λ request. view request
-        ≡ request_value trace.now (option_copied site.entry) (view span)) }
+        ≡ request_value trace.now (named_so name.entry) (view span)) }
 {
-    let service = attribute(alloc, "service.name", trace.service.as_str())?;
+    let service = text_attribute(alloc, "service.name", trace.service.as_str())?;
     json!(in alloc; {
         "resourceSpans": [{
             "resource": {"attributes": [service]},
-            "scopeSpans": [{"scope": {"name": target_of(site)}, "spans": [span]}]
+            "scopeSpans": [{"scope": {"name": name.target()}, "spans": [span]}]
         }]
     })
 }
 
-/// A span.
+/// A span that closed.
+#[derive(Clone, Copy)]
+pub(crate) struct Closed {
+    id: Id,
+    opening: Point,
+    close: Point,
+}
+
+/// A span with these events, in which one of level ERROR came or none did.
 fn span(
     alloc: Global,
     trace: &Trace,
-    site: Option<&Site>,
-    id: Id,
-    opening: &Point,
-    close: &Point,
-    events: Vec<Value>,
+    name: Name<'_>,
+    closed: Closed,
+    events: Value,
+    failed: bool,
 ) -> Result<Value, AllocError>
-    ensures { IfOk result (λ span. view span ≡ span_value trace.now (option_copied site.entry) id
-        opening.now close.now (map view events.items)) }
+    ensures { IfOk result (λ span. view span ≡ span_value trace.now (named_so name.entry) closed
+        (view events) failed) }
 {
-    json!(in alloc; {
-        "traceId": trace_id(alloc, trace)?,
-        "spanId": span_id(alloc, Some(id))?,
-        "parentSpanId": span_id(alloc, parent_of(opening.what))?,
-        "name": name_of(site),
-        "kind": 1u64,
-        "startTimeUnixNano": nanos(alloc, trace, opening.time)?,
-        "endTimeUnixNano": nanos(alloc, trace, close.time)?,
-        "attributes": [level(alloc, site)?],
-        "events": Value::Array(events)
-    })
+    let mut members = span_head(alloc, trace, closed)?;
+    let text = Value::try_from_str(alloc, name.name())?;
+    put(&mut members, alloc, "name", text)?;
+    put(&mut members, alloc, "attributes", attributes(alloc, name)?)?;
+    put(&mut members, alloc, "events", events)?;
+    put(&mut members, alloc, "status", status(alloc, failed)?)?;
+    Ok(Value::Object(members))
+}
+
+/// Which span it is, and when it opened and closed.
+fn span_head(alloc: Global, trace: &Trace, closed: Closed) -> Result<Map<String, Value>, AllocError>
+    ensures { IfOk result
+        (λ head. members_view head.entries ≡ members (span_head trace.now closed)) }
+{
+    let mut head = Map::new(alloc);
+    let end = nanos(alloc, trace, closed.close.time)?;
+    put(&mut head, alloc, "endTimeUnixNano", end)?;
+    let start = nanos(alloc, trace, closed.opening.time)?;
+    put(&mut head, alloc, "startTimeUnixNano", start)?;
+    put(&mut head, alloc, "kind", Value::from(1u64))?;
+    let parent = span_id(alloc, parent_of(closed.opening.what))?;
+    put(&mut head, alloc, "parentSpanId", parent)?;
+    put(&mut head, alloc, "spanId", span_id(alloc, Some(closed.id))?)?;
+    put(&mut head, alloc, "traceId", trace_id(alloc, trace)?)?;
+    Ok(head)
+}
+
+/// What became of a span: an error, or nothing that is known.
+fn status(alloc: Global, failed: bool) -> Result<Value, AllocError>
+    ensures { IfOk result (λ status. view status ≡ status_value failed) }
+{
+    if failed {
+        json!(in alloc; {"code": 2u64})
+    } else {
+        json!(in alloc; {})
+    }
+}
+
+/// Whether an event of level ERROR is in a span among these points.
+fn has_failed(sites: &[Site], points: &[Point], id: Id) -> bool
+    ensures { result ≡ has_failed sites.now id points.now }
+{
+    points.iter().any(|point| is_failure(sites, id, point.what))
+}
+
+/// Whether it is an event of level ERROR in a span.
+fn is_failure(sites: &[Site], id: Id, what: Happening) -> bool
+    ensures { result ≡ is_failure sites.now id what }
+{
+    match what {
+        Happening::Sent(callsite, Some(span)) => {
+            span == id && is_of_errors(find_site(sites, callsite))
+        }
+        _ => false,
+    }
+}
+
+/// Whether a site has the level ERROR.
+fn is_of_errors(site: Option<&Site>) -> bool
+    ensures { result ≡ is_of_errors (option_copied site.entry) }
+{
+    match site {
+        Some(site) => site.level == Level::ERROR,
+        None => false,
+    }
 }
 
 /// The parent of a span that is opened so.
@@ -183,19 +259,16 @@ fn parent_of(what: Happening) -> Option<Id>
 fn events(
     alloc: Global,
     trace: &Trace,
-    sites: &[Site],
-    openers: &Openers,
+    table: Table<'_>,
     id: Id,
     since: &[Point],
 ) -> Result<Vec<Value>, AllocError>
-    ensures { (points : List Point) → KnowsOpeners openers.now points
-        → IfOk result (λ events. map view events.items
-        ≡ events_of trace.now sites.now points id since.now) }
+    ensures { IfOk result (λ events. map view events.items
+        ≡ events_of trace.now table.entry id since.now) }
 {
     let mut events = Vec::new(alloc);
     for point in since {
-        let site = site_of_happening(sites, openers, point.what);
-        if let Some(event) = event_of(alloc, trace, site, id, point)? {
+        if let Some(event) = event_of(alloc, trace, table, id, point)? {
             events.push(event)?;
         }
     }
@@ -206,16 +279,16 @@ fn events(
 fn event_of(
     alloc: Global,
     trace: &Trace,
-    site: Option<&Site>,
+    table: Table<'_>,
     id: Id,
     point: &Point,
 ) -> Result<Option<Value>, AllocError>
     ensures { IfOk result (λ event. option_map view event
-        ≡ event_of trace.now (option_copied site.entry) id point.now point.now.what) }
+        ≡ event_of trace.now table.entry id point.now point.now.what) }
 {
     match point.what {
-        Happening::Sent(_, Some(span)) if span == id => {
-            Ok(Some(event(alloc, trace, site, point)?))
+        Happening::Sent(callsite, Some(span)) if span == id => {
+            Ok(Some(event(alloc, trace, table, point, callsite)?))
         }
         _ => Ok(None),
     }
@@ -225,29 +298,71 @@ fn event_of(
 fn event(
     alloc: Global,
     trace: &Trace,
-    site: Option<&Site>,
+    table: Table<'_>,
     point: &Point,
+    callsite: u64,
 ) -> Result<Value, AllocError>
     ensures { IfOk result (λ event. view event
-        ≡ event_value trace.now (option_copied site.entry) point.now) }
+        ≡ event_value trace.now (event_named table.entry point.now callsite) point.now.time) }
 {
+    let given = given_by(alloc, point.fields_in(table.fields))?;
+    let name = Name {
+        site: find_site(table.sites, callsite),
+        given: &given,
+    };
     json!(in alloc; {
         "timeUnixNano": nanos(alloc, trace, point.time)?,
-        "name": name_of(site),
-        "attributes": [level(alloc, site)?]
+        "name": name.name(),
+        "attributes": attributes(alloc, name)?
     })
 }
 
-/// The attribute that is a site's level.
-fn level(alloc: Global, site: Option<&Site>) -> Result<Value, AllocError>
-    ensures { IfOk result (λ pair. view pair ≡ level_attribute (option_copied site.entry)) }
+/// The attributes of a span or an event: its level, unless it was given a field with that name, and
+/// what it was given.
+fn attributes(alloc: Global, name: Name<'_>) -> Result<Value, AllocError>
+    ensures { IfOk result (λ pairs. view pairs ≡ attributes_of (named_so name.entry)) }
 {
-    attribute(alloc, "level", level_of(site))
+    let mut pairs = level(alloc, name)?;
+    write_attributes(alloc, &mut pairs, name.given)?;
+    Ok(Value::Array(pairs))
+}
+
+/// The level of a span or an event as an attribute, unless it was given a field with that name.
+fn level(alloc: Global, name: Name<'_>) -> Result<Vec<Value>, AllocError>
+    ensures { IfOk result (λ pairs. map view pairs.items ≡ level_attribute (named_so name.entry)) }
+{
+    let mut pairs = Vec::new(alloc);
+    if !is_given(name.given, "level") {
+        pairs.push(text_attribute(alloc, "level", name.level())?)?;
+    }
+    Ok(pairs)
+}
+
+/// Writes fields as attributes behind these.
+fn write_attributes(
+    alloc: Global,
+    pairs: &mut Vec<Value>,
+    given: &[&OwnedField],
+) -> Result<(), AllocError>
+    ensures { OnOk result (map view pairs.new.items
+        ≡ map view pairs.old.items ++ map attribute_of (given_said given.now)) }
+{
+    for field in given {
+        pairs.push(attribute(alloc, field)?)?;
+    }
+    Ok(())
+}
+
+/// A field as an attribute.
+fn attribute(alloc: Global, field: &OwnedField) -> Result<Value, AllocError>
+    ensures { IfOk result (λ pair. view pair ≡ attribute_of (field_said field.now)) }
+{
+    json!(in alloc; {"key": field.name.as_str(), "value": typed_value(alloc, &field.value)?})
 }
 
 /// An attribute whose value is a text.
-fn attribute(alloc: Global, key: &str, text: &str) -> Result<Value, AllocError>
-    ensures { IfOk result (λ pair. view pair ≡ attribute key.now text.now) }
+fn text_attribute(alloc: Global, key: &str, text: &str) -> Result<Value, AllocError>
+    ensures { IfOk result (λ pair. view pair ≡ text_attribute key.now text.now) }
 {
     json!(in alloc; {"key": key, "value": {"stringValue": text}})
 }

@@ -1,17 +1,16 @@
 //! Points as a picture: a box for each time that a lane is in a span.
-ghost use Rattle.std.specs.Option.{option_copied};
-ghost use Rattle.std.specs.Prelude.{◌≡◌, ◌++◌, IfOk, List, OnOk, codes, string_bytes};
-ghost use Rattle.span_times.specs.declared.happening.Point.{Point};
-ghost use Rattle.span_export.specs.Picture.{IsPicture, area_of, box_of, box_text, boxes_text, circle_text, has_room, label_text, mark_of, marks_text, name_text, top_in};
+ghost use Rattle.std.specs.Prelude.{◌≡◌, ◌++◌, IfOk, OnOk, codes, string_bytes};
+ghost use Rattle.span_export.specs.Picture.{IsPicture, area_of, box_of, box_text, boxes_text, circle_text, has_room, label_text, mark_of, marks_text, name_text, title_of, top_in};
 ghost use Rattle.span_export.specs.Scale.{scale_of, x_at};
-ghost use Rattle.span_export.specs.Site.{KnowsOpeners};
+ghost use Rattle.span_export.specs.Site.{named_by, named_so};
 
 use crate::escape::xml_text;
 use crate::frame::{Plan, Tops, frame};
-use crate::site::{Openers, Site, level_of, name_of, openers_of, site_of_happening};
+use crate::given::{given_by, write_given};
+use crate::site::{Name, Spans, find_site};
 use crate::stay::{Stay, stays};
 use span_core::Lane;
-use span_times::{Happening, Point};
+use span_times::{Happening, Point, Table};
 use std::alloc::{AllocError, Global};
 
 /// Where time is shown.
@@ -30,23 +29,24 @@ pub(crate) struct Scale {
 /// left goes on up to the last point. A character that XML doesn't have, as most control
 /// characters, is shown as U+FFFD.
 ///
-/// A box has the colour of its span's level, and its name where there is room for it. It takes time
+/// A box has the colour of its span's level, and its name where there is room for it. Its title has
+/// what the span was given as well, as `job{id=7}`, and that of an event's mark likewise. It takes time
 /// that grows as the square of how many boxes there are: it is meant for what a person can look at.
 pub fn timeline_svg(
     alloc: Global,
-    sites: &[Site],
     points: &[Point],
+    table: Table<'_>,
     width: u32,
 ) -> Result<String, AllocError>
-    ensures { IfOk result (λ svg. IsPicture (string_bytes svg) sites.now points.now width) }
+    ensures { IfOk result (λ svg. IsPicture (string_bytes svg) table.entry points.now width) }
 {
-    let openers = openers_of(alloc, points)?;
+    let spans = Spans::of(alloc, points, table)?;
     let stays = stays(alloc, points)?;
     let scale = Scale::of(points, width);
     let plan = Plan::of(alloc, &scale, points, &stays)?;
     let frame = frame(alloc, &scale, &plan)?;
-    let boxes = boxes(alloc, sites, &openers, &scale, &plan.tops, &stays)?;
-    let marks = marks(alloc, sites, &openers, &scale, &plan.tops, points)?;
+    let boxes = boxes(alloc, &spans, &scale, &plan.tops, &stays)?;
+    let marks = marks(alloc, table, &scale, &plan.tops, points)?;
     assembled(alloc, &frame, &boxes, &marks)
 }
 
@@ -93,20 +93,18 @@ impl Scale {
 /// The boxes of stays.
 fn boxes(
     alloc: Global,
-    sites: &[Site],
-    openers: &Openers,
+    spans: &Spans<'_>,
     scale: &Scale,
     tops: &Tops,
     stays: &[Stay],
 ) -> Result<String, AllocError>
-    ensures { (points : List Point) → KnowsOpeners openers.now points
-        → IfOk result (λ text. string_bytes text
-        ≡ boxes_text sites.now points scale.now (top_in tops.now) stays.now) }
+    ensures { IfOk result (λ text. string_bytes text
+        ≡ boxes_text (named_by spans.now) scale.now (top_in tops.now) stays.now) }
 {
     let mut text = String::new(alloc);
     for stay in stays {
-        let site = site_of_happening(sites, openers, Happening::Entered(stay.span));
-        write_box(alloc, &mut text, scale, top_of(tops, stay.lane), site, stay)?;
+        let name = spans.name(stay.span);
+        write_box(alloc, &mut text, scale, top_of(tops, stay.lane), name, stay)?;
     }
     Ok(text)
 }
@@ -117,33 +115,43 @@ fn write_box(
     text: &mut String,
     scale: &Scale,
     top: u64,
-    site: Option<&Site>,
+    name: Name<'_>,
     stay: &Stay,
 ) -> Result<(), AllocError>
     ensures { OnOk result (string_bytes text.new ≡ string_bytes text.old
-        ++ box_of scale.now top (option_copied site.entry) stay.now) }
+        ++ box_of scale.now top (named_so name.entry) stay.now) }
 {
-    let name = xml_text(alloc, name_of(site))?;
+    let title = title(alloc, name)?;
+    let shown = xml_text(alloc, name.name())?;
     let area = Area::of(scale, top, stay);
-    let label = label(alloc, name.as_str(), area)?;
-    write_rect(text, name.as_str(), level_of(site), area, label.as_str())
+    let label = label(alloc, shown.as_str(), area)?;
+    write_rect(text, title.as_str(), name.level(), area, label.as_str())
+}
+
+/// The title of a span or an event: its name and what it was given.
+fn title(alloc: Global, name: Name<'_>) -> Result<String, AllocError>
+    ensures { IfOk result (λ title. string_bytes title ≡ title_of (named_so name.entry)) }
+{
+    let mut title = String::from_str(alloc, name.name())?;
+    write_given(&mut title, name.given)?;
+    xml_text(alloc, title.as_str())
 }
 
 /// Writes a box with this title, at this level, here, with this label.
 fn write_rect(
     text: &mut String,
-    name: &str,
+    title: &str,
     level: &str,
     area: Area,
     label: &str,
 ) -> Result<(), AllocError>
     ensures { OnOk result (string_bytes text.new ≡ string_bytes text.old
-        ++ box_text name.now level.now area label.now) }
+        ++ box_text title.now level.now area label.now) }
 {
     let Area { x, y, width } = area;
     write!(
         text,
-        "<g><title>{name}</title><rect class=\"{level}\" x=\"{x}\" y=\"{y}\" \
+        "<g><title>{title}</title><rect class=\"{level}\" x=\"{x}\" y=\"{y}\" \
          width=\"{width}\" height=\"20\"/>{label}</g>\n"
     )
 }
@@ -202,71 +210,61 @@ impl Area {
 /// The marks of events.
 fn marks(
     alloc: Global,
-    sites: &[Site],
-    openers: &Openers,
+    table: Table<'_>,
     scale: &Scale,
     tops: &Tops,
     points: &[Point],
 ) -> Result<String, AllocError>
-    ensures { KnowsOpeners openers.now points.now
-        → IfOk result (λ text. string_bytes text
-        ≡ marks_text sites.now points.now scale.now (top_in tops.now) points.now) }
+    ensures { IfOk result (λ text. string_bytes text
+        ≡ marks_text table.entry scale.now (top_in tops.now) points.now) }
 {
     let mut text = String::new(alloc);
     for point in points {
-        let site = site_of_happening(sites, openers, point.what);
-        write_mark(
-            alloc,
-            &mut text,
-            scale,
-            top_of(tops, point.lane),
-            site,
-            point,
-        )?;
+        let top = top_of(tops, point.lane);
+        write_point(alloc, &mut text, table, scale, top, point)?;
     }
     Ok(text)
 }
 
 /// Writes the mark of a point on a lane with this top, if it is an event.
-fn write_mark(
+fn write_point(
     alloc: Global,
     text: &mut String,
+    table: Table<'_>,
     scale: &Scale,
     top: u64,
-    site: Option<&Site>,
     point: &Point,
 ) -> Result<(), AllocError>
     ensures { OnOk result (string_bytes text.new ≡ string_bytes text.old
-        ++ mark_of scale.now top (option_copied site.entry) point.now point.now.what) }
+        ++ mark_of table.entry scale.now top point.now point.now.what) }
 {
-    let Happening::Sent(_, _) = point.what else {
+    let Happening::Sent(callsite, _) = point.what else {
         return Ok(());
     };
-    let name = xml_text(alloc, name_of(site))?;
+    let given = given_by(alloc, point.fields_in(table.fields))?;
+    let name = Name {
+        site: find_site(table.sites, callsite),
+        given: &given,
+    };
+    let title = title(alloc, name)?;
     let x = scale.x(point.time);
-    write_circle(
-        text,
-        name.as_str(),
-        level_of(site),
-        x,
-        top.saturating_add(8),
-    )
+    write_circle(text, title.as_str(), name.level(), x, top.saturating_add(8))
 }
 
 /// Writes a circle with this title, at this level, here.
 fn write_circle(
     text: &mut String,
-    name: &str,
+    title: &str,
     level: &str,
     x: u64,
     y: u64,
 ) -> Result<(), AllocError>
     ensures { OnOk result (string_bytes text.new ≡ string_bytes text.old
-        ++ circle_text name.now level.now x y) }
+        ++ circle_text title.now level.now x y) }
 {
     write!(
         text,
-        "<circle class=\"{level}\" cx=\"{x}\" cy=\"{y}\" r=\"4\"><title>{name}</title></circle>\n"
+        "<circle class=\"{level}\" cx=\"{x}\" cy=\"{y}\" r=\"4\"><title>{title}</title></circle>\n"
     )
 }
 

@@ -1,111 +1,53 @@
-//! What callsites are called.
-ghost use Rattle.std.specs.BTreeMap.{get};
+//! What spans and events are called, and what they were given.
 ghost use Rattle.std.specs.Option.{option_copied};
-ghost use Rattle.std.specs.Ordering.{nat_cmp};
-ghost use Rattle.std.specs.Prelude.{◌≡◌, ℕ, IfOk, List, string_bytes};
-ghost use Rattle.span_core.specs.Metadata.{callsite_of, level_of, name_of, target_of};
+ghost use Rattle.std.specs.Prelude.{◌≡◌, ◌==◌, ℕ, [], if◌then◌else◌, IfOk, OnOk};
 ghost use Rattle.span_core.specs.Span.{number_of};
-ghost use Rattle.span_export.specs.Site.{KnowsOpeners, called, leveled, name_in, named_by, site_at, site_of, targeted};
-ghost use Rattle.span_times.specs.declared.happening.Point.{Point};
+ghost use Rattle.span_times.specs.Field.{kept_in};
+ghost use Rattle.span_export.specs.Site.{KnowsSpans, called, fields_at, given_said, leveled, named_by, named_so, put_fields, site_of, targeted, told_by};
 
-use span_core::{Id, Level, Metadata};
-use span_times::{Happening, Point};
+use crate::given::{Given, put_all};
+use span_core::Id;
+use span_times::{Happening, OwnedField, Point, Site, Table};
 use std::alloc::{AllocError, Global};
 use std::collections::BTreeMap;
 
-/// What a callsite is called. Points have its number alone.
-#[derive(Debug)]
-pub struct Site {
-    /// The number of the callsite.
-    pub callsite: u64,
-    /// The callsite's level.
-    pub level: Level,
-    /// The callsite's name.
-    pub name: String,
-    /// The callsite's target.
-    pub target: String,
+/// What a span or an event is called, if that is known, and what it was given.
+#[derive(Clone, Copy)]
+pub(crate) struct Name<'a> {
+    pub(crate) site: Option<&'a Site>,
+    pub(crate) given: &'a [&'a OwnedField],
 }
 
-impl Drop for Site {
-    fn drop(self) {
-        let Site {
-            callsite,
-            level,
-            name,
-            target,
-        } = self;
-    }
-}
-
-impl Site {
-    /// The site of these metadata.
-    pub fn of(alloc: Global, metadata: Metadata) -> Result<Site, AllocError>
-        ensures callsite { IfOk result (λ site. site.callsite ≡ callsite_of metadata) }
-        ensures level { IfOk result (λ site. site.level ≡ level_of metadata) }
-        ensures name { IfOk result (λ site. string_bytes site.name ≡ name_of metadata) }
-        ensures target { IfOk result (λ site. string_bytes site.target ≡ target_of metadata) }
+impl<'a> Name<'a> {
+    /// The name of its callsite, and `?` where that isn't known.
+    pub(crate) fn name(&self) -> &'a str
+        ensures { result.now ≡ called (named_so self.now) }
     {
-        Ok(Site {
-            callsite: metadata.callsite(),
-            level: metadata.level(),
-            name: String::from_str(alloc, metadata.name())?,
-            target: String::from_str(alloc, metadata.target())?,
-        })
-    }
-}
-
-/// The callsites that opened the spans, by the numbers of these.
-pub(crate) type Openers = BTreeMap<u64, u64>;
-
-/// The callsite of each span: that of the last point that opens it.
-pub(crate) fn openers_of(alloc: Global, points: &[Point]) -> Result<Openers, AllocError>
-    ensures { IfOk result (λ openers. KnowsOpeners openers points.now) }
-{
-    let mut openers = BTreeMap::new(alloc);
-    for point in points {
-        if let Happening::Opened(id, callsite, _) = point.what {
-            openers.insert(id.into_u64(), callsite)?;
+        match self.site {
+            Some(site) => site.name.as_str(),
+            None => "?",
         }
     }
-    Ok(openers)
-}
 
-/// The site of what happened: of an event its own, else that of the span.
-pub(crate) fn site_of_happening<'a>(
-    sites: &'a [Site],
-    openers: &Openers,
-    what: Happening,
-) -> Option<&'a Site>
-    ensures { (points : List Point) → KnowsOpeners openers.now points
-        → option_copied result ≡ site_at sites.now points what }
-{
-    let callsite = match what {
-        Happening::Sent(callsite, _) => callsite,
-        Happening::Opened(id, _, _)
-        | Happening::Recorded(id)
-        | Happening::Followed(id, _)
-        | Happening::Entered(id)
-        | Happening::Left(id)
-        | Happening::Renamed(id, _)
-        | Happening::Closed(id) => *openers.get(&id.into_u64())?,
-    };
-    find_site(sites, callsite)
-}
+    /// The target, and `?` where it isn't known.
+    pub(crate) fn target(&self) -> &'a str
+        ensures { result.now ≡ targeted (named_so self.now) }
+    {
+        match self.site {
+            Some(site) => site.target.as_str(),
+            None => "?",
+        }
+    }
 
-/// The site of a span.
-pub(crate) fn site_of_span<'a>(sites: &'a [Site], openers: &Openers, id: Id) -> Option<&'a Site>
-    ensures { option_copied result ≡ named_by sites.now openers.now (number_of id) }
-{
-    let callsite = *openers.get(&id.into_u64())?;
-    find_site(sites, callsite)
-}
-
-/// The name of a span.
-pub(crate) fn name_of_span<'a>(sites: &'a [Site], openers: &Openers, id: Id) -> &'a str
-    ensures { (points : List Point) → KnowsOpeners openers.now points
-        → result.now ≡ name_in sites.now points (number_of id) }
-{
-    name_of(site_of_span(sites, openers, id))
+    /// The name of the level, and `?` where it isn't known.
+    pub(crate) fn level(&self) -> &'a str
+        ensures { result.now ≡ leveled (named_so self.now) }
+    {
+        match self.site {
+            Some(site) => site.level.as_str(),
+            None => "?",
+        }
+    }
 }
 
 /// The site with this number.
@@ -115,32 +57,120 @@ pub(crate) fn find_site(sites: &[Site], callsite: u64) -> Option<&Site>
     sites.iter().find(|site| site.callsite == callsite)
 }
 
-/// The name of a site, and `?` where it is missing.
-pub(crate) fn name_of(site: Option<&Site>) -> &str
-    ensures { result.now ≡ called (option_copied site.entry) }
-{
-    match site {
-        Some(site) => site.name.as_str(),
-        None => "?",
-    }
+/// What spans are called, and what they were given, by their numbers.
+#[derive(Drop)]
+pub(crate) struct Spans<'a> {
+    sites: &'a [Site],
+    openers: BTreeMap<u64, u64>,
+    given: BTreeMap<u64, Given<'a>>,
 }
 
-/// The target of a site, and `?` where it is missing.
-pub(crate) fn target_of(site: Option<&Site>) -> &str
-    ensures { result.now ≡ targeted (option_copied site.entry) }
-{
-    match site {
-        Some(site) => site.target.as_str(),
-        None => "?",
+impl<'a> Spans<'a> {
+    /// What all spans of these points are called and were given: by the last point that opens each,
+    /// and by those that record values of it since.
+    pub(crate) fn of(
+        alloc: Global,
+        points: &[Point],
+        table: Table<'a>,
+    ) -> Result<Spans<'a>, AllocError>
+        ensures { IfOk result (λ spans. KnowsSpans spans table.entry points.now) }
+    {
+        let mut spans = Spans {
+            sites: table.sites,
+            openers: BTreeMap::new(alloc),
+            given: BTreeMap::new(alloc),
+        };
+        for point in points {
+            spans.note(alloc, point, point.fields_in(table.fields))?;
+        }
+        Ok(spans)
     }
-}
 
-/// The name of a site's level, and `?` where the site is missing.
-pub(crate) fn level_of(site: Option<&Site>) -> &str
-    ensures { result.now ≡ leveled (option_copied site.entry) }
-{
-    match site {
-        Some(site) => site.level.as_str(),
-        None => "?",
+    /// Notes what a point with these fields says of its span.
+    fn note(
+        &mut self,
+        alloc: Global,
+        point: &Point,
+        fields: &'a [OwnedField],
+    ) -> Result<(), AllocError>
+        ensures known { OnOk result ((x : ℕ) → named_by self.new x
+            ≡ told_by self.old.sites.now x (kept_in fields.now) point.now.what
+            (named_by self.old x)) }
+        ensures sites { self.new.sites ≡ self.old.sites }
+    {
+        match point.what {
+            Happening::Opened(id, callsite, _) => {
+                self.openers.insert(id.into_u64(), callsite)?;
+                self.give(id, Given::new(alloc), fields)
+            }
+            Happening::Recorded(id) => {
+                let given = self.taken(alloc, id);
+                self.give(id, given, fields)
+            }
+            _ => Ok(()),
+        }
+    }
+
+    /// What a span was given, taken out.
+    fn taken(&mut self, alloc: Global, id: Id) -> Given<'a>
+        ensures taken { given_said result.items ≡ (named_by self.old (number_of id)).given }
+        ensures others { (x : ℕ) → named_by self.new x
+            ≡ (if number_of id == x then record (named_by self.old x) { given = [] }
+            else named_by self.old x) }
+        ensures sites { self.new.sites ≡ self.old.sites }
+    {
+        match self.given.remove(&id.into_u64()) {
+            Some(given) => given,
+            None => Given::new(alloc),
+        }
+    }
+
+    /// Gives a span, which was given these, more fields.
+    fn give(
+        &mut self,
+        id: Id,
+        mut given: Given<'a>,
+        fields: &'a [OwnedField],
+    ) -> Result<(), AllocError>
+        ensures given { OnOk result ((x : ℕ) → named_by self.new x
+            ≡ (if number_of id == x
+            then record (named_by self.old x) {
+              given
+                  = put_fields (kept_in fields.now) (given_said given.entry.items);
+            }
+            else named_by self.old x)) }
+        ensures sites { self.new.sites ≡ self.old.sites }
+    {
+        put_all(&mut given, fields)?;
+        self.given.insert(id.into_u64(), given)?;
+        Ok(())
+    }
+
+    /// What a span is called, and what it was given.
+    pub(crate) fn name(&self, id: Id) -> Name<'_>
+        ensures { named_so result ≡ named_by self.now (number_of id) }
+    {
+        Name {
+            site: self.site(id),
+            given: self.given(id),
+        }
+    }
+
+    /// The site of a span.
+    fn site(&self, id: Id) -> Option<&Site>
+        ensures { option_copied result ≡ (named_by self.now (number_of id)).site }
+    {
+        let callsite = *self.openers.get(&id.into_u64())?;
+        find_site(self.sites, callsite)
+    }
+
+    /// What a span was given.
+    fn given(&self, id: Id) -> &[&OwnedField]
+        ensures { given_said result.now ≡ (named_by self.now (number_of id)).given }
+    {
+        let Some(given) = self.given.get(&id.into_u64()) else {
+            return &[];
+        };
+        given.as_slice()
     }
 }

@@ -1,4 +1,3 @@
 mod Answered
 mod New
 mod Read
-mod Sites

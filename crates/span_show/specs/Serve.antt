@@ -1,5 +1,5 @@
 -- How requests are served on a new registry, with a tree, lines or a timeline outside it.
-use Rattle.std.specs.Prelude.{◌≡◌, ◌≤◌, ⊤, ℕ, List, [], Some}
+use Rattle.std.specs.Prelude.{◌≡◌, ◌≤◌, ⊤, ℕ, List, [], Some, true}
 use Rattle.std.specs.List.{AllByRecursion}
 use Rattle.span_core.specs.declared.error.TraceError.TheVariants.{OutOfMemory}
 use Rattle.span_core.specs.declared.filter.TheConstants.FilterId.{LIMIT}
@@ -28,10 +28,12 @@ use Rattle.span_store.specs.declared.limits.TheConstants.Limits.{MAX}
 use Rattle.span_registry.specs.Form.{Form}
 use Rattle.span_registry.specs.Position.{Heard}
 use Rattle.span_times.specs.Clock.{counts_on, latest_counted}
-use Rattle.span_times.specs.Serving.{KeepsServed, WithTimeline, points_at, timeline_in, timeline_position}
-use Rattle.span_times.specs.Timeline.{clock_of, points_of}
+use Rattle.span_times.specs.Field.{kept_in}
+use Rattle.span_times.specs.Serving.{KeepsServed, WithTimeline, fields_at, points_at, sites_at, timeline_in, timeline_position}
+use Rattle.span_times.specs.Site.{sites_said}
+use Rattle.span_times.specs.Timeline.{clock_of, fields_of, keeps_values, points_of, sites_of}
 use Rattle.span_times.specs.declared.clock.Counted.{Counted}
-use Rattle.span_times.specs.declared.happening.Point.{Point}
+use Rattle.span_times.specs.declared.kept.Taken.{Taken}
 
 -- an honest layer, with no more filters than a registry has numbers for
 pub record HasRoomOnNew {L : Type 0} (has_form : L → Form → Type 0) (layer : L) : Type 0 where
@@ -67,10 +69,14 @@ pub record AreNewLines (x : Lines) : Type 0 where
   pub text : lines.text_of x ≡ []
   pub known : lines.known_of x ≡ nothing_known
 
--- a registry that has all room, and outside it a timeline without points, whose clock counts from 0
+-- a registry that has all room, and outside it a timeline that keeps values and has kept nothing,
+-- whose clock counts from 0
 pub record IsNewTimeline (x : WithTimeline RegistryState Counted) : Type 0 where
   pub registry : HasAllRoom (inner_of x)
   pub points : points_of (timeline_in x) ≡ []
+  pub sites : sites_of (timeline_in x) ≡ []
+  pub fields : fields_of (timeline_in x) ≡ []
+  pub values : keeps_values (timeline_in x) ≡ true
   pub clock : latest_counted (clock_of (timeline_in x)) ≡ 0
 
 -- an answer isn't a refusal for want of memory
@@ -109,14 +115,19 @@ abbrev pub AreLinesOf : SubscriberOf (WithObserver Lines RegistryState) → List
 AreLinesOf s = IsTextOf AreNewLines (heard_lines nothing_known) s
 
 -- a new timeline stood outermost while these requests were served, and there is a point for each
--- thing that it was notified of, in order
-pub record ArePointsOf (s : SubscriberOf (WithTimeline RegistryState Counted))
-    (requests : List Request) (points : List Point) : Type 0 where
+-- thing that it was notified of, in order, with what their callsites are called and the fields that
+-- they came with
+pub record IsToldOf (s : SubscriberOf (WithTimeline RegistryState Counted))
+    (requests : List Request) (taken : Taken) : Type 0 where
   pub answers : List Answer
   pub old : Dispatch (WithTimeline RegistryState Counted)
   pub new : Dispatch (WithTimeline RegistryState Counted)
   pub begun : IsNewTimeline (stack_of old)
   pub answered : AnswersAll answers old
   pub served : KeepsServed latest_counted counts_on s requests answers old new
-  pub each : points
-      ≡ points_at served.kept.times (passed_at timeline_position (flat served.served.made))
+  pub points : taken.points.items
+      ≡ points_at true 0 served.kept.times (passed_at timeline_position (flat served.served.made))
+  pub sites : sites_said taken.sites.items
+      ≡ sites_at [] (passed_at timeline_position (flat served.served.made))
+  pub fields : kept_in taken.fields.items
+      ≡ fields_at true (passed_at timeline_position (flat served.served.made))

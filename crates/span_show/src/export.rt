@@ -1,13 +1,11 @@
-//! Points in the formats of other tools, with the callsites' names.
+//! Points in the formats of other tools.
 ghost use Rattle.std.specs.Prelude.{◌≡◌, IfOk, flat_map, string_bytes};
-ghost use Rattle.span_show.specs.Show.{AreSitesOf, IsExport, line_of, metadata_asked};
+ghost use Rattle.span_show.specs.Show.{IsExport, line_of};
 
 use crate::fault::ShowFault;
 use crate::format::Export;
-use span_core::Metadata;
-use span_dispatch::Request;
-use span_export::{Site, Trace, chrome_text, folded_text, otlp_lines, timeline_svg};
-use span_times::Point;
+use span_export::{Trace, chrome_text, folded_text, otlp_lines, timeline_svg};
+use span_times::{Point, Table};
 use std::alloc::{AllocError, Global};
 
 /// How wide a picture is.
@@ -17,30 +15,30 @@ const WIDTH: u32 = 960;
 pub(crate) fn export(
     alloc: Global,
     format: Export,
-    sites: &[Site],
     points: &[Point],
+    table: Table<'_>,
 ) -> Result<String, AllocError>
-    ensures { IfOk result (λ text. IsExport format sites.now points.now (string_bytes text)) }
+    ensures { IfOk result (λ text. IsExport format table.entry points.now (string_bytes text)) }
 {
     match format {
-        Export::Chrome => chrome_text(alloc, sites, points),
-        Export::Otlp => otlp_text(alloc, sites, points),
-        Export::Folded => folded_text(alloc, sites, points),
-        Export::Svg => timeline_svg(alloc, sites, points, WIDTH),
+        Export::Chrome => chrome_text(alloc, points, table),
+        Export::Otlp => otlp_text(alloc, points, table),
+        Export::Folded => folded_text(alloc, points, table),
+        Export::Svg => timeline_svg(alloc, points, table, WIDTH),
     }
 }
 
 /// The spans of OpenTelemetry, each in a line of its own.
-fn otlp_text(alloc: Global, sites: &[Site], points: &[Point]) -> Result<String, AllocError>
+fn otlp_text(alloc: Global, points: &[Point], table: Table<'_>) -> Result<String, AllocError>
     ensures { IfOk result
-        (λ text. IsExport Export.Otlp sites.now points.now (string_bytes text)) }
+        (λ text. IsExport Export.Otlp table.entry points.now (string_bytes text)) }
 {
     let trace = Trace {
         id: 1,
         service: String::from_str(alloc, "script")?,
         began: 0,
     };
-    let lines = otlp_lines(alloc, &trace, sites, points)?;
+    let lines = otlp_lines(alloc, &trace, points, table)?;
     text_of(alloc, &lines)
 }
 
@@ -54,27 +52,4 @@ fn text_of(alloc: Global, lines: &[String]) -> Result<String, AllocError>
         writeln!(text, "{line}")?;
     }
     Ok(text)
-}
-
-/// What the callsites of these requests are called, one for each new span and event.
-pub(crate) fn sites_of(alloc: Global, requests: &[Request<'_>]) -> Result<Vec<Site>, AllocError>
-    ensures { IfOk result (λ sites. AreSitesOf requests.now sites.items) }
-{
-    let mut sites = Vec::new(alloc);
-    for request in requests {
-        if let Some(metadata) = metadata_asked(request) {
-            sites.push(Site::of(alloc, metadata)?)?;
-        }
-    }
-    Ok(sites)
-}
-
-/// The metadata of a new span or an event.
-fn metadata_asked(request: &Request<'_>) -> Option<Metadata>
-    ensures { result ≡ metadata_asked request.now }
-{
-    match request {
-        Request::NewSpan { metadata, .. } | Request::Event { metadata, .. } => Some(*metadata),
-        _ => None,
-    }
 }

@@ -2,7 +2,7 @@
 ghost use Rattle.std.specs.List.{AllByRecursion};
 ghost use Rattle.std.specs.Prelude.{◌≡◌, IfErr, IfOk, false, string_bytes};
 ghost use Rattle.span_stacks.specs.Layered.{inner_of, outer_of};
-ghost use Rattle.span_show.specs.Serve.{AreLinesOf, ArePointsOf, FoundMemory, HasAllRoom, HasRoomOnNew, IsReadyStack, IsTreeOf};
+ghost use Rattle.span_show.specs.Serve.{AreLinesOf, IsToldOf, FoundMemory, HasAllRoom, HasRoomOnNew, IsReadyStack, IsTreeOf};
 
 use crate::fault::ShowFault;
 use span_core::{LevelFilter, TraceError};
@@ -11,7 +11,7 @@ use span_fmt::{Lines, Tree, WithLines, WithTree, serve_lines, serve_tree};
 use span_layers::{Layer, Observer};
 use span_registry::{Registry, Subscriber};
 use span_stacks::{LayerExt, Layered, SubscriberExt, laws};
-use span_times::{Counted, Point, Timeline, WithTimeline, serve_timed};
+use span_times::{Counted, Taken, Timeline, WithTimeline, serve_timed};
 use std::alloc::Global;
 
 /// Puts an honest layer on a new registry.
@@ -95,12 +95,12 @@ pub(crate) fn lines_text(alloc: Global, requests: &[Request<'_>]) -> Result<Stri
 }
 
 /// What a timeline keeps of these requests, on time that is counted.
-pub(crate) fn points_of(alloc: Global, requests: &[Request<'_>]) -> Result<Vec<Point>, ShowFault>
-    ensures points { IfOk result (λ points.
-        ArePointsOf ⟦<WithTimeline<Registry, Counted> as Subscriber>⟧ requests.now points.items) }
+pub(crate) fn told_of(alloc: Global, requests: &[Request<'_>]) -> Result<Taken, ShowFault>
+    ensures told { IfOk result (λ taken.
+        IsToldOf ⟦<WithTimeline<Registry, Counted> as Subscriber>⟧ requests.now taken) }
     ensures fault { IfErr result (λ fault. fault ≡ ShowFault.Memory) }
 {
-    let layer = Observer::new(Timeline::new(alloc, Counted::new()));
+    let layer = Observer::new(Timeline::new(alloc, Counted::new()).with_values(true));
     let mut dispatch = Dispatch::new(alloc, put_on_new(alloc, layer));
     let Ok(answers) = serve_timed(alloc, &mut dispatch, requests) else {
         return Err(ShowFault::Memory); // It is refused for nothing else.
@@ -113,5 +113,5 @@ pub(crate) fn points_of(alloc: Global, requests: &[Request<'_>]) -> Result<Vec<P
     if timeline.failed() {
         return Err(ShowFault::Memory);
     }
-    Ok(timeline.take_points())
+    Ok(timeline.take())
 }

@@ -3,10 +3,10 @@ ghost use Rattle.std.specs.Prelude.{◌≡◌, IfErr, IfOk, string_bytes};
 ghost use Rattle.span_show.specs.Fault.{IsFault, IsFaultOf};
 ghost use Rattle.span_show.specs.Show.{IsShown, Shows, ShowsOf};
 
-use crate::export::{export, sites_of};
+use crate::export::export;
 use crate::fault::ShowFault;
 use crate::format::Format;
-use crate::serve::{lines_text, points_of, tree_text};
+use crate::serve::{lines_text, told_of, tree_text};
 use span_dispatch::Request;
 use span_fmt::{WithLines, WithTree};
 use span_registry::{Registry, Subscriber};
@@ -54,9 +54,8 @@ fn shown(alloc: Global, format: Format, requests: &[Request<'_>]) -> Result<Stri
         Format::Tree => tree_text(alloc, requests),
         Format::Lines => lines_text(alloc, requests),
         Format::Points(format) => {
-            let points = points_of(alloc, requests)?;
-            let sites = sites_of(alloc, requests)?;
-            Ok(export(alloc, format, &sites, &points)?)
+            let taken = told_of(alloc, requests)?;
+            Ok(export(alloc, format, &taken.points, taken.table())?)
         }
     }
 }

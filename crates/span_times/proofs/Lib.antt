@@ -1,4 +1,5 @@
 pub mod CallerLemmas
 mod Found
+mod KeptFields
 mod Sums
 mod Turns

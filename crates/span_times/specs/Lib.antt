@@ -1,4 +1,8 @@
 pub mod Clock
+pub mod Field
+pub mod Kept
 pub mod Measure
 pub mod Serving
+pub mod Site
+pub mod Sites
 pub mod Timeline

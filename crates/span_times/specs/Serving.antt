@@ -1,5 +1,5 @@
 -- What a timeline keeps of a list of requests that is served.
-use Rattle.std.specs.Prelude.{◌≡◌, ℕ, false, true, List, [], ◌∷◌, ◌++◌, length, take}
+use Rattle.std.specs.Prelude.{◌≡◌, ◌+◌, ℕ, Bool, false, true, List, [], ◌∷◌, ◌++◌, flat_map, fold, length, take}
 use Rattle.std.specs.List.{FoldsTo}
 use Rattle.std.specs.declared.alloc.Global.{Global}
 use Rattle.std.specs.declared.vec.Vec.{Vec}
@@ -16,19 +16,50 @@ use Rattle.span_stacks.specs.declared.layered.Layered.{Layered}
 use Rattle.span_layers.specs.declared.observe.Observer.{Observer}
 use Rattle.span_registry.specs.Position.{Heard, Here, Outer, Position}
 use Rattle.span_times.specs.Clock.{NeverGoBack, Reads}
-use Rattle.span_times.specs.Timeline.{IsInOrder, clock_of, has_failed, point_of, points_of, timeline_steps}
+use Rattle.span_times.specs.Field.{FieldSaid, range_of}
+use Rattle.span_times.specs.Kept.{KeepsNone}
+use Rattle.span_times.specs.Timeline.{IsInOrder, clock_of, fields_kept, fields_of, has_failed, keeps_values, kept_of, metadata_in, point_of, points_of, sites_of, timeline_steps}
+use Rattle.span_times.specs.Site.{SiteSaid, with_site}
 use Rattle.span_times.specs.declared.happening.Point.{Point}
 use Rattle.span_times.specs.declared.timeline.Timeline.{Timeline}
 
--- the points of what a timeline is notified of, each at its time and in what its context shows then
-abbrev pub points_at : List ℕ → Heard → List Point
-points_at (time ∷ times) (told ∷ heard) =
-    point_of time told.lane told.notice told.view ∷ points_at times heard
-points_at times heard = []
+-- the points of what a timeline is notified of, each at its time and in what its context shows
+-- then, with its fields behind this many others and those of the points before it
+abbrev pub points_at : Bool → ℕ → List ℕ → Heard → List Point
+points_at keeps from (time ∷ times) (told ∷ heard) =
+    let count = length (fields_kept keeps told.notice) in
+    point_of time told.lane told.notice told.view (range_of from count)
+    ∷ points_at keeps (from + count) times heard
+points_at keeps from times heard = []
+
+-- the fields that are kept of what a timeline is notified of, where values are kept
+abbrev pub fields_at : Bool → Heard → List FieldSaid
+fields_at keeps heard = flat_map (λ told. fields_kept keeps told.notice) heard
+
+-- the sites, and behind them those of the callsites of what a timeline is notified of, each once
+abbrev pub sites_at : List SiteSaid → Heard → List SiteSaid
+sites_at sites heard = fold (λ ss told. with_site (metadata_in told.notice) ss) sites heard
+
+-- a timeline has the points, sites and fields of these, at these times, behind those that it had
+pub record HasAllOf {C : Type 0} (times : List ℕ) (heard : Heard) (x y : Timeline C)
+    : Type 0 where
+  pub points : points_of y
+      ≡ points_of x ++ points_at (keeps_values x) (length (fields_of x)) times heard
+  pub sites : sites_of y ≡ sites_at (sites_of x) heard
+  pub fields : fields_of y ≡ fields_of x ++ fields_at (keeps_values x) heard
+
+-- a timeline has the points and fields of the first so many of these alone
+pub record HasSomeOf {C : Type 0} (times : List ℕ) (heard : Heard) (x y : Timeline C)
+    : Type 0 where
+  pub many : ℕ
+  pub points : points_of y
+      ≡ points_of x ++ take many (points_at (keeps_values x) (length (fields_of x)) times heard)
+  pub fields : fields_of y ≡ fields_of x ++ fields_at (keeps_values x) (take many heard)
 
 -- A timeline is notified of all this: it reads its clock once for each, never going back, and
--- appends their points in order. Where it fails it has those of a beginning alone, and none where
--- it had failed before; points that were in order stay so.
+-- appends their points in order, with what their callsites are called, and the fields that they came
+-- with, if it keeps values. Where it fails it has the points and fields of a beginning alone, and
+-- none where it had failed before; points that were in order stay so.
 pub record KeepsAll {C : Type 0} (latest : C → ℕ) (gives : C → ℕ → C → Type 0) (x : Timeline C)
     (heard : Heard) (y : Timeline C) : Type 0 where
   pub times : List ℕ
@@ -36,9 +67,10 @@ pub record KeepsAll {C : Type 0} (latest : C → ℕ) (gives : C → ℕ → C �
   pub read : FoldsTo (Reads latest gives) (clock_of x) times (clock_of y)
   pub forward : NeverGoBack (latest (clock_of x)) times
   pub kept : has_failed y ≡ false
-      → (has_failed x ≡ false) × (points_of y ≡ points_of x ++ points_at times heard)
-  pub beginning : (n : ℕ) × (points_of y ≡ points_of x ++ take n (points_at times heard))
-  pub stays : has_failed x ≡ true → (has_failed y ≡ true) × (points_of y ≡ points_of x)
+      → (has_failed x ≡ false) × HasAllOf times heard x y
+  pub beginning : HasSomeOf times heard x y
+  pub stays : has_failed x ≡ true → (has_failed y ≡ true) × KeepsNone (kept_of x) (kept_of y)
+  pub values : keeps_values y ≡ keeps_values x
   pub order : IsInOrder latest x → IsInOrder latest y
 
 -- a timeline in a stack is notified of these, as the stack says it: it goes through them by its own

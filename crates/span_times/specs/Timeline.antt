@@ -1,20 +1,26 @@
 -- What a timeline keeps of what it is notified of.
-use Rattle.std.specs.Prelude.{◌≡◌, ◌≤◌, ℕ, Bool, true, false, List, [], ◌∷◌, ◌++◌, Option, Vec, map}
+use Rattle.std.specs.Prelude.{◌≡◌, ℕ, Bool, true, false, List, [], ◌∷◌, ◌++◌, Option, None, Some, map}
+use Rattle.std.specs.Borrow.{Bor}
 use Rattle.std.specs.Option.{option_and_then, option_map}
-use Rattle.std.specs.Vec.{vec_capacity, vec_len}
-use Rattle.std.specs.declared.alloc.Global.{Global}
-use Rattle.span_core.specs.Event.{event_metadata, event_parent}
+use Rattle.span_core.specs.Event.{event_metadata, event_parent, event_values}
 use Rattle.span_core.specs.Metadata.{callsite_of}
-use Rattle.span_core.specs.Span.{id_of, metadata_of, number_of}
+use Rattle.span_core.specs.Span.{id_of, metadata_of, number_of, recorded_values, values_of}
+use Rattle.span_core.specs.declared.field.FieldValue.{FieldValue}
+use Rattle.span_core.specs.declared.metadata.Metadata.{Metadata}
 use Rattle.span_core.specs.declared.span.Id.{Id}
 use Rattle.span_core.specs.declared.span.Parent.{Parent}
 use Rattle.span_layers.specs.Observe.{ObserverSteps}
 use Rattle.span_registry.specs.Behaviour.{Notice, OnClose, OnEnter, OnEvent, OnExit, OnFollows, OnIdChange, OnNewSpan, OnRecord}
 use Rattle.span_registry.specs.View.{View, event_shown, parent_shown, plain_view, shown}
 use Rattle.span_times.specs.Clock.{NeverGoBack, Reads}
+use Rattle.span_times.specs.Field.{FieldSaid, given_by, kept_in}
+use Rattle.span_times.specs.Kept.{IsFull, KeepsNone, KeepsPoint, KeptState, NeedsNone, point_at}
+use Rattle.span_times.specs.Site.{SiteSaid, sites_said}
+use Rattle.span_times.specs.declared.field.FieldRange.{FieldRange}
 use Rattle.span_times.specs.declared.happening.Happening.TheVariants.{Closed, Entered, Followed, Left, Opened, Recorded, Renamed, Sent}
 use Rattle.span_times.specs.declared.happening.Happening.{Happening}
 use Rattle.span_times.specs.declared.happening.Point.{Point}
+use Rattle.span_times.specs.declared.kept.Taken.{Taken}
 use Rattle.span_times.specs.declared.timeline.Timeline.{Timeline}
 
 -- the parent of a span that a view shows: the nearest span above it that isn't hidden
@@ -38,14 +44,46 @@ happening_of (OnExit id) v = Left id
 happening_of (OnIdChange id other) v = Renamed id other
 happening_of (OnClose id) v = Closed id
 
--- the point of a notice on a lane at a time, in what a view shows
-abbrev pub point_of : ℕ → ℕ → Notice → View → Point
-point_of time lane e v =
-    record { time = time; lane = record { 0 = lane }; what = happening_of e v }
+-- the values that a notice comes with: those of a new span, of a record or of an event
+abbrev pub values_in : Notice → List (Bor (List ℕ) × FieldValue)
+values_in (OnNewSpan attrs id) = values_of attrs
+values_in (OnRecord id values) = recorded_values values
+values_in (OnEvent e) = event_values e
+values_in other = []
 
--- the points that a timeline keeps
+-- the metadata of the callsite that a notice comes from, where it is a new span or an event
+abbrev pub metadata_in : Notice → Option Metadata
+metadata_in (OnNewSpan attrs id) = Some (metadata_of attrs)
+metadata_in (OnEvent e) = Some (event_metadata e)
+metadata_in other = None
+
+-- the fields that are kept of a notice, where values are kept
+abbrev pub fields_kept : Bool → Notice → List FieldSaid
+fields_kept keeps e = given_by keeps (values_in e)
+
+-- the point of a notice on a lane at a time, in what a view shows, with the fields in this range
+abbrev pub point_of : ℕ → ℕ → Notice → View → FieldRange → Point
+point_of time lane e v fields = point_at time lane (happening_of e v) fields
+
+-- what a timeline keeps
+abbrev pub kept_of : {C : Type 0} → Timeline C → KeptState
+kept_of x = x.kept
+
+-- the points that it keeps
 abbrev pub points_of : {C : Type 0} → Timeline C → List Point
-points_of x = x.points.items
+points_of x = (kept_of x).points
+
+-- what it keeps of their callsites
+abbrev pub sites_of : {C : Type 0} → Timeline C → List SiteSaid
+sites_of x = (kept_of x).sites
+
+-- the fields that it keeps with them
+abbrev pub fields_of : {C : Type 0} → Timeline C → List FieldSaid
+fields_of x = (kept_of x).fields
+
+-- whether it keeps values
+abbrev pub keeps_values : {C : Type 0} → Timeline C → Bool
+keeps_values x = x.values
 
 -- whether a timeline found no memory for a point
 abbrev pub has_failed : {C : Type 0} → Timeline C → Bool
@@ -59,20 +97,23 @@ clock_of x = x.clock
 abbrev pub IsInOrder : {C : Type 0} → (C → ℕ) → Timeline C → Type 0
 IsInOrder latest x = NeverGoBack 0 (map (λ p. p.time) (points_of x) ++ latest (clock_of x) ∷ [])
 
--- the list of points has no room for one more without more memory
-abbrev pub IsFull : {C : Type 0} → Timeline C → Type 0
-IsFull x = vec_capacity x.points ≤ vec_len x.points
-
--- A timeline is notified in a view: it reads its clock once, and appends the point of that reading,
--- unless memory is refused or was before. It asks for memory only where its list is full.
+-- A timeline is notified in a view: it reads its clock once, and appends the point of that reading
+-- with the fields that the notice comes with, and keeps the site of its callsite, unless memory is
+-- refused or was before. It asks for memory only where its list is full, or a field or a site is to
+-- be kept.
 pub record Traces {C : Type 0} (latest : C → ℕ) (gives : C → ℕ → C → Type 0) (x : Timeline C)
     (e : Notice) (lane : ℕ) (v : View) (y : Timeline C) : Type 0 where
   pub time : ℕ
   pub read : Reads latest gives (clock_of x) time (clock_of y)
   pub kept : has_failed y ≡ false
-      → (has_failed x ≡ false) × (points_of y ≡ points_of x ++ point_of time lane e v ∷ [])
-  pub lost : has_failed y ≡ true → points_of y ≡ points_of x
-  pub full : has_failed x ≡ false → has_failed y ≡ true → IsFull x
+      → (has_failed x ≡ false)
+      × KeepsPoint time lane (happening_of e v) (metadata_in e) (fields_kept (keeps_values x) e)
+      (kept_of x) (kept_of y)
+  pub lost : has_failed y ≡ true → KeepsNone (kept_of x) (kept_of y)
+  pub full : has_failed x ≡ false → has_failed y ≡ true
+      → NeedsNone (metadata_in e) (fields_kept (keeps_values x) e) (kept_of x)
+      → IsFull (kept_of x)
+  pub values : keeps_values y ≡ keeps_values x
 
 -- a timeline keeps the point of a notice in what its context shows, extensions aside, and leaves
 -- the registry unchanged
@@ -81,9 +122,14 @@ abbrev pub timeline_steps : {C : Type 0} → (C → ℕ) → (C → ℕ → C �
 timeline_steps latest gives x e lane under v y w =
     Traces latest gives x e lane (plain_view v.store lane under) y × (w ≡ v)
 
--- the points are taken out, and the timeline begins anew on its clock
-pub record TakesPoints {C : Type 0} (points : Vec Point Global) (x y : Timeline C) : Type 0 where
-  pub taken : points.items ≡ points_of x
-  pub none : points_of y ≡ []
+-- all is taken out, and the timeline begins anew on its clock
+pub record TakesAll {C : Type 0} (taken : Taken) (x y : Timeline C) : Type 0 where
+  pub points : taken.points.items ≡ points_of x
+  pub sites : sites_said taken.sites.items ≡ sites_of x
+  pub fields : kept_in taken.fields.items ≡ fields_of x
+  pub no_points : points_of y ≡ []
+  pub no_sites : sites_of y ≡ []
+  pub no_fields : fields_of y ≡ []
+  pub values : keeps_values y ≡ keeps_values x
   pub clock : clock_of y ≡ clock_of x
   pub failed : has_failed y ≡ false

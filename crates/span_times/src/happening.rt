@@ -4,9 +4,11 @@ ghost use Rattle.span_core.specs.Event.{event_parent};
 ghost use Rattle.span_core.specs.Span.{number_of};
 ghost use Rattle.span_registry.specs.Notice.{notice_of};
 ghost use Rattle.span_registry.specs.Context.{view_lent};
-ghost use Rattle.span_times.specs.Timeline.{happening_of, parent_found, span_found};
+ghost use Rattle.span_times.specs.Field.{within};
+ghost use Rattle.span_times.specs.Timeline.{happening_of, metadata_in, parent_found, span_found, values_in};
 
-use span_core::{Event, Id, Lane};
+use crate::field::{FieldRange, OwnedField};
+use span_core::{Event, FieldValue, Id, Lane, Metadata};
 use span_registry::{ContextMut, LookupSpan, Notice};
 
 /// What happened, as a timeline was notified of it. Callsites are named by their numbers.
@@ -40,6 +42,40 @@ pub struct Point {
     pub lane: Lane,
     /// What.
     pub what: Happening,
+    /// Where the fields are that it came with: those of a new span, of a record or of an event.
+    pub fields: FieldRange,
+}
+
+impl Point {
+    /// The fields that it came with, among those that were kept.
+    pub fn fields_in<'a>(&self, kept: &'a [OwnedField]) -> &'a [OwnedField]
+        ensures { result.now ≡ within self.now.fields kept.now }
+    {
+        self.fields.of(kept)
+    }
+}
+
+/// The fields that a notice comes with.
+pub(crate) fn values_in<'b>(notice: Notice<'_, 'b>) -> &'b [(&'static str, FieldValue<'b>)]
+    ensures { result.now ≡ values_in (notice_of notice.entry) }
+{
+    match notice {
+        Notice::NewSpan(attrs, _) => attrs.values(),
+        Notice::Record(_, values) => values.values(),
+        Notice::Event(event) => event.values(),
+        _ => &[],
+    }
+}
+
+/// The metadata of the callsite that a notice comes from, where it is a new span or an event.
+pub(crate) fn metadata_in(notice: Notice<'_, '_>) -> Option<Metadata>
+    ensures { result ≡ metadata_in (notice_of notice.entry) }
+{
+    match notice {
+        Notice::NewSpan(attrs, _) => Some(attrs.metadata()),
+        Notice::Event(event) => Some(event.metadata()),
+        _ => None,
+    }
 }
 
 /// What happens by a notice, in what a hook sees.

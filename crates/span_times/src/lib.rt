@@ -2,14 +2,20 @@
 #![tactic(auto)]
 
 mod clock;
+mod field;
 mod happening;
+mod kept;
 pub mod laws;
 mod measure;
 mod serving;
+mod site;
 mod timeline;
 
 pub use clock::{Counted, Now, Wall};
+pub use field::{FieldRange, OwnedField, OwnedValue};
 pub use happening::{Happening, Point};
+pub use kept::{Table, Taken};
 pub use measure::{Counts, busy_time, idle_time, open_time};
 pub use serving::{WithTimeline, serve_timed};
+pub use site::Site;
 pub use timeline::Timeline;

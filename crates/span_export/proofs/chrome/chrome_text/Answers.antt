@@ -4,5 +4,5 @@ use Rattle.span_export.proofs.chrome.chrome_text.Goals as goal
 
 pub returns : goal.returns
 returns c =
-    let depth = trace_depth c.args.sites.now c.args.points.now in
+    let depth = trace_depth c.args.table c.args.points.now in
     search rules

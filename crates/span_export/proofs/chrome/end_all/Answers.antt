@@ -1,4 +1,4 @@
-use Rattle.std.proofs.Common.{◌≡◌, ◌++◌, ◌∙◌, ◌-◌, ◌+◌, ◌<◌, arith, drop, get_or, length, map, reverse, sym}
+use Rattle.std.proofs.Common.{◌≡◌, ◌++◌, ◌-◌, ◌+◌, ◌<◌, arith, drop, length, map, reverse, sym}
 use Rattle.std.proofs.lemmas.List.{get_or-map, length-map}
 use Rattle.serde_json.specs.View.{view}
 use Rattle.span_core.specs.Span.{number_of}

@@ -1,5 +1,4 @@
-use Rattle.std.proofs.Common.{◌≡◌, ◌∙◌, ◌++◌, ◌<◌, ◌-◌, ◌/◌, ◌||◌, ℕ, None, Option, arith, ap, get_or, length, map, sym}
-use Rattle.std.specs.Option.{option_and_then}
+use Rattle.std.proofs.Common.{None, ◌≡◌, ◌∙◌, ◌++◌, ◌<◌, ◌-◌, ◌||◌, ℕ, arith, ap, get_or, length, map, sym}
 use Rattle.std.specs.BTreeSet.{contains}
 use Rattle.std.specs.Ordering.{nat_cmp}
 use Rattle.std.specs.Prelude.{◌==◌}
@@ -8,8 +7,7 @@ use Rattle.span_export.proofs.Summing.{entries_more}
 use Rattle.span_export.proofs.Traced.{known_more, one_more_point}
 use Rattle.span_export.specs.Chrome.{begin_of, events_at, events_of}
 use Rattle.span_export.specs.Entry.{entries_after}
-use Rattle.span_export.specs.Site.{named_by, named_in, site_of}
-use Rattle.span_export.specs.declared.site.Site.{Site}
+use Rattle.span_export.specs.Site.{Named, named_by, named_in}
 use Rattle.span_export.proofs.chrome.trace_events.Goals as goal
 use Rattle.span_times.specs.declared.happening.Happening.TheVariants.{Opened}
 use Rattle.span_times.specs.declared.happening.Point.{Point}
@@ -19,22 +17,21 @@ loop-point-preserved c =
     let ps = c.args.points.now in
     let i = c.loop-point.point-index in
     let within : i < length ps = omega arith in
-    let none : Point = record { time = 0; lane = record { 0 = 0 }; what = Opened (record { number = 0 }) 0 None } in
+    let none : Point = record { time = 0; lane = record { 0 = 0 }; what = Opened (record { number = 0 }) 0 None; fields = record { from = 0; to = 0 } } in
     let p = get_or ps i none in
-    let same : named_by c.args.sites.now c.in_ok-openers.openers ≡ named_in c.args.sites.now ps =
-    λ j x. ap (option_and_then (site_of c.args.sites.now)) (c.in_ok-openers.ensures x) j in
+    let same : named_by c.in_ok-spans.spans ≡ named_in c.args.table ps = λ j x. c.in_ok-spans.ensures x j in
     record {
       entries = c.in_ok-go_on.ensures ∙ ap (λ es. entries_after es p p.what) c.loop-point.invariant.entries ∙ sym (entries_more ps i none within);
       known = λ lane.
           c.in_ok-name_lane.ensures.known lane ∙ ap (λ b. b || (p.lane.0 == lane)) (c.loop-point.invariant.known lane) ∙ sym (known_more ps i none lane within);
-      events = one_more_point c.args.sites.now (named_in c.args.sites.now ps) (begin_of ps) ps i none (map view c.loop-point.events.items)
-          (map view c.name_lane.new.events.items) (map view c.write_point.new.events.items) (events_of c.args.sites.now ps)
-          (contains nat_cmp c.loop-point.known p.lane.0) c.deref.result.now (c.saturating_sub.result / 1000) within
+      events = one_more_point c.args.table (named_in c.args.table ps) (begin_of ps) ps i none (map view c.loop-point.events.items)
+          (map view c.name_lane.new.events.items) (map view c.write_point.new.events.items) (events_of c.args.table ps)
+          (contains nat_cmp c.loop-point.known p.lane.0) c.deref.result.now c.saturating_sub.result within
           (c.loop-point.invariant.known p.lane.0) c.in_ok-name_lane.ensures.events
           (c.deref.ensures.value ∙ c.loop-point.invariant.entries)
-          (ap (λ n. n / 1000) (c.saturating_sub.ensures ∙ ap (λ b. p.time - b) c.begin_of-begin.ensures))
+          (c.saturating_sub.ensures ∙ ap (λ b. p.time - b) c.begin_of-begin.ensures)
           (c.in_ok-write_point.ensures
           ∙ ap (λ (n : ℕ
-          → Option Site). map view c.name_lane.new.events.items ++ events_at c.args.sites.now n c.deref.result.now (c.saturating_sub.result / 1000) p) same)
+          → Named). map view c.name_lane.new.events.items ++ events_at c.args.table n c.deref.result.now c.saturating_sub.result p) same)
           c.loop-point.invariant.events;
     }

@@ -13,6 +13,6 @@ invariant-loop-point l = record {
   entries : l.entries.items ≡ lasting (take l.point-index l.points);
   known : (lane : ℕ) → contains nat_cmp l.known lane ≡ is_known (take l.point-index l.points) lane;
   events : map view l.events.items
-      ++ events_from l.sites (named_in l.sites l.points) (begin_of l.points) (take l.point-index l.points) (drop l.point-index l.points)
-      ≡ events_of l.sites l.points;
+      ++ events_from l.table (named_in l.table l.points) (begin_of l.points) (take l.point-index l.points) (drop l.point-index l.points)
+      ≡ events_of l.table l.points;
 }

@@ -5,7 +5,7 @@ use Rattle.std.proofs.lemmas.List.{map-append}
 use Rattle.std.proofs.lemmas.List.Sums.{fold_more}
 use Rattle.span_core.specs.Span.{number_of}
 use Rattle.span_export.proofs.Entries.{numbered, one_more_span}
-use Rattle.span_export.specs.Entry.{is_on, spans_in, with_span}
+use Rattle.span_export.specs.Entry.{is_on, with_span}
 use Rattle.span_export.specs.declared.entry.Entry.{Entry}
 use Rattle.span_export.proofs.entry.spans_in.Goals as goal
 use Rattle.span_export.proofs.entry.spans_in.Goals.{then-eq+then-not-contains+in_ok-push, else-eq, else-eq-via-then-eq+else-not-contains, else-eq-via-else-eq}

@@ -5,4 +5,4 @@ use Rattle.span_export.proofs.folded.folded_text.Given as goal
 -- the lines so far and those to come are all
 abbrev pub invariant-loop-stack : goal.invariant-loop-stack
 invariant-loop-stack l =
-    string_bytes l.text ++ flat_map line_text (map (λ e. (string_bytes e.0, e.1)) l.stack-iterator) ≡ folded l.sites l.points
+    string_bytes l.text ++ flat_map line_text (map (λ e. (string_bytes e.0, e.1)) l.stack-iterator) ≡ folded l.table l.points

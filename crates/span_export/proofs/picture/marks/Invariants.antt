@@ -1,9 +1,7 @@
 use Rattle.std.proofs.Common.{◌≡◌, string_bytes, take}
 use Rattle.span_export.specs.Picture.{marks_text, top_in}
-use Rattle.span_export.specs.Site.{KnowsOpeners}
 use Rattle.span_export.proofs.picture.marks.Given as goal
 
 -- the marks so far
 abbrev pub invariant-loop-point : goal.invariant-loop-point
-invariant-loop-point l =
-    KnowsOpeners l.openers l.points → string_bytes l.text ≡ marks_text l.sites l.points l.scale (top_in l.tops) (take l.point-index l.points)
+invariant-loop-point l = string_bytes l.text ≡ marks_text l.table l.scale (top_in l.tops) (take l.point-index l.points)

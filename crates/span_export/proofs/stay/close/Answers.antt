@@ -1,4 +1,4 @@
-use Rattle.std.proofs.Common.{◌≡◌, ◌∙◌, ◌<◌, None, ap, arith, get_or, length, set}
+use Rattle.std.proofs.Common.{◌∙◌, ◌<◌, None, ap, arith, get_or, length, set}
 use Rattle.std.proofs.lemmas.List.Edits.{map_over_more}
 use Rattle.std.proofs.lemmas.List.{get_or_default}
 use Rattle.span_core.specs.Span.{number_of}
