@@ -1,7 +1,15 @@
 //! Tests of exports, which were worked out by hand.
-use span_core::{FieldSet, Id, Kind, Lane, Level, Metadata};
+ghost use Rattle.span_dispatch.specs.Serve.{stack_of};
+
+use crate::fixture::in_use;
+use span_core::{Attributes, FieldSet, FieldValue, Id, Kind, Lane, Level, Metadata};
+use span_dispatch::Dispatch;
 use span_export::{Trace, chrome_text, folded_text, otlp_lines, timeline_svg};
-use span_times::{FieldRange, Happening, OwnedField, OwnedValue, Point, Site, Table};
+use span_layers::Observer;
+use span_registry::{Registry, Subscriber};
+use span_times::{
+    Counted, FieldRange, Happening, OwnedField, OwnedValue, Point, Site, Table, Timeline,
+};
 use std::alloc::Global;
 use std::test::Fail;
 
@@ -295,21 +303,32 @@ const TYPED: &str = "\"attributes\":[\
 
 /// Fields of all types, one of them twice.
 fn typed(alloc: Global) -> Result<Vec<OwnedField>, Fail> {
-    let text = |words| String::from_str(alloc, words);
     let mut fields = Vec::new(alloc);
     fields.push(field(alloc, "level", OwnedValue::Bool(true))?)?;
     fields.push(field(alloc, "u", OwnedValue::U64(1 << 63))?)?;
     fields.push(field(alloc, "v", OwnedValue::U64((1 << 63) - 1))?)?;
     fields.push(field(alloc, "w", OwnedValue::U128(u128::MAX))?)?;
     fields.push(field(alloc, "x", OwnedValue::I128(-1))?)?;
-    fields.push(field(alloc, "f", OwnedValue::F64(0.5, text("0.5")?))?)?;
+    fields.push(field(
+        alloc,
+        "f",
+        OwnedValue::F64(0.5, String::from_str(alloc, "0.5")?),
+    )?)?;
     fields.push(field(
         alloc,
         "g",
-        OwnedValue::F64(f64::NEG_INFINITY, text("-inf")?),
+        OwnedValue::F64(f64::NEG_INFINITY, String::from_str(alloc, "-inf")?),
     )?)?;
-    fields.push(field(alloc, "t", OwnedValue::Text(text("one")?))?)?;
-    fields.push(field(alloc, "t", OwnedValue::Text(text("two")?))?)?;
+    fields.push(field(
+        alloc,
+        "t",
+        OwnedValue::Text(String::from_str(alloc, "one")?),
+    )?)?;
+    fields.push(field(
+        alloc,
+        "t",
+        OwnedValue::Text(String::from_str(alloc, "two")?),
+    )?)?;
     Ok(fields)
 }
 
@@ -346,6 +365,7 @@ fn an_error_is_a_status(rt: HostRuntime) -> Result<(), Fail> {
         at(3, 0, Happening::Closed(first)),
     ];
     let lines = otlp_lines(alloc, &trace, &points, names(&sites))?;
+    assert!(rt; lines.len() == 2);
     assert!(rt; lines[0].as_str().contains("\"status\":{\"code\":2}"));
     assert!(rt; lines[1].as_str().contains("\"status\":{}"));
     Ok(())
@@ -435,6 +455,7 @@ fn a_hostile_value_stays_a_value(rt: HostRuntime) -> Result<(), Fail> {
     );
     assert!(rt; !trace_text.as_str().contains("\n"));
     let lines = otlp_lines(alloc, &trace, &points, table)?;
+    assert!(rt; lines.len() == 1);
     assert!(rt;
         lines[0].as_str().contains(
             "{\"key\":\"a;b\\\"\",\"value\":{\"stringValue\":\"\\\"<a;b>&\\\\\\n\\u0000 x}yyyy"
@@ -451,6 +472,53 @@ fn a_hostile_value_stays_a_value(rt: HostRuntime) -> Result<(), Fail> {
     assert!(rt;
         svg.as_str().contains("<title>outer{a;b\"=\"\\\"&lt;a;b&gt;&amp;\\\\\\n\\u{0} x}yyyy")
     );
+    Ok(())
+}
+
+/// Opens a span, which was given its id, and is in it until it closes.
+fn run_job<S: Subscriber>(dispatch: &mut Dispatch<S>) -> Result<(), Fail>
+    requires { S.usable (stack_of dispatch.old) }
+{
+    let fields = FieldSet::new(&["id"]);
+    let metadata = Metadata::new(1, "job", "queue", Level::INFO, Kind::SPAN, fields);
+    let values = [("id", FieldValue::U64(7))];
+    let job = Attributes::new_root(metadata, &values);
+    let Some(id) = dispatch.new_span(Lane(0), &job)? else {
+        return Err(Fail::from("dropped"));
+    };
+    dispatch.enter(Lane(0), id)?;
+    dispatch.exit(Lane(0), id);
+    dispatch.drop_span(Lane(0), id)?;
+    Ok(())
+}
+
+#[test]
+fn a_job_shows_its_id(rt: HostRuntime) -> Result<(), Fail> {
+    let alloc = rt.alloc();
+    let layer = Observer::new(Timeline::new(alloc, Counted::new()).with_values(true));
+    let mut dispatch = in_use(alloc, Registry::new(alloc), layer)?;
+    run_job(&mut dispatch)?;
+    let (layer, _registry) = dispatch.into_stack().into_parts();
+    let mut timeline = layer.into_observer();
+    let taken = timeline.take();
+    let trace = chrome_text(alloc, &taken.points, taken.table())?;
+    assert!(rt;
+        trace
+            .as_str()
+            .contains("{\"args\":{\"id\":7},\"cat\":\"queue\"")
+    );
+    let shop = trace_of_shop(alloc)?;
+    let lines = otlp_lines(alloc, &shop, &taken.points, taken.table())?;
+    assert!(rt; lines.len() == 1);
+    assert!(rt;
+        lines[0]
+            .as_str()
+            .contains("{\"key\":\"id\",\"value\":{\"intValue\":\"7\"}}")
+    );
+    let stacks = folded_text(alloc, &taken.points, taken.table())?;
+    assert!(rt; stacks.as_str() == "job{id=7} 1000\n");
+    let svg = timeline_svg(alloc, &taken.points, taken.table(), 400)?;
+    assert!(rt; svg.as_str().contains("<title>job{id=7}</title>"));
     Ok(())
 }
 
