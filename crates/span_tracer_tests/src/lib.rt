@@ -10,8 +10,6 @@ mod macros;
 #[cfg(test)]
 mod receiver;
 #[cfg(test)]
-mod reload;
-#[cfg(test)]
 mod task;
 #[cfg(test)]
 mod trace;
