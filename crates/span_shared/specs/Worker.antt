@@ -7,7 +7,7 @@ use Rattle.span_dispatch.specs.Contract.{ShowsHint, ShowsKept, SubscriberOf}
 use Rattle.span_dispatch.specs.Recorder.{lane_of}
 use Rattle.span_dispatch.specs.Serve.{kept_by}
 use Rattle.span_dispatch.specs.declared.dispatch.Dispatch.{Dispatch}
-use Rattle.span_shared.specs.Journal.{KeepsJournal, LoggedState}
+use Rattle.span_shared.specs.Journal.{Entry, KeepsJournal, LoggedState}
 
 -- a worker's lane, the hint that it was made with, and how many of its calls were accepted
 pub record WorkerState : Type 0 where
@@ -42,6 +42,12 @@ pub record AreCrewOf {S : Type 0} (s : SubscriberOf S) (d : Dispatch S)
   pub each : AreCrew hint workers
 
 module _ {S : Type 0} (s : SubscriberOf S) where
+  -- this holds of the journal of some logged dispatcher, as one is between calls
+  abbrev pub SomeJournal : (List Entry → Type 0) → Type 0
+  SomeJournal holds =
+      (d : Dispatch S) × (journal : List Entry)
+      × KeepsJournal s.registry s.usable d journal × holds journal
+
   -- this holds between some logged dispatcher, as one is between calls, and what its call leaves
   abbrev pub SomeLogged : (LoggedState (Dispatch S) → LoggedState (Dispatch S) → Type 0) → Type 0
   SomeLogged holds =

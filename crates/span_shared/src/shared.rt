@@ -1,11 +1,11 @@
 //! A dispatcher that workers share behind one lock.
-ghost use Rattle.std.specs.Prelude.{◌≡◌, ℕ, ◌+◌, ◌-◌, ◌<◌, ◌≤◌, ◌^◌, ◌↔◌, IfErr, IfOk, IfSome, IsNone, IsOk, OnErr, OnOk, length, not, vec_len};
+ghost use Rattle.std.specs.Prelude.{◌≡◌, ℕ, ◌+◌, ◌-◌, ◌<◌, ◌≤◌, ◌^◌, ◌↔◌, IfErr, IfOk, IfSome, IsNone, IsOk, OnErr, OnOk, length, not, slice_get, vec_len};
 ghost use Rattle.span_core.specs.Level.{is_above};
 ghost use Rattle.span_dispatch.specs.Contract.{ClonesSpan, DropsOneHandle, EntersSpan, ExitsSpan, FollowsSpan, OpensSpan, Probes, RecordsValues, SendsEvent, ReloadsFilter};
 ghost use Rattle.span_dispatch.specs.Serve.{stack_of};
 ghost use Rattle.span_shared.specs.Journal.{Leaves};
 ghost use Rattle.span_shared.specs.Logged.{AddsEntry, AddsNewSpan, Logs, LogsCall, NeverRefused, ShowsSpan, current_entry, event_entry};
-ghost use Rattle.span_shared.specs.Worker.{AreCrew, AreCrewOf, SomeLogged, called, calls_of, new_worker};
+ghost use Rattle.span_shared.specs.Worker.{AreCrew, AreCrewOf, SomeJournal, SomeLogged, called, calls_of, new_worker};
 ghost use Rattle.span_store.specs.Closes.{HasNoClosing};
 ghost use Rattle.span_store.specs.Store.{IsFresh};
 ghost use Rattle.span_targets.specs.Setting.{level_in};
@@ -509,16 +509,26 @@ impl<S: Subscriber, L: Crew> Shared<S, L> {
     }
 
     /// How long the journal is now.
-    pub fn len(&self, rt: &impl Wait) -> u64 {
-        self.lock.lock(rt).logged.journal().len()
+    pub fn len(&self, rt: &impl Wait) -> u64
+        ensures { SomeJournal S.Subscriber (λ journal. result ≡ length journal) }
+    {
+        let guard = self.lock.lock(rt);
+        let logged = &guard.logged;
+        logged.stands();
+        logged.journal().len()
     }
 
     /// The entry that stands at a place now.
-    pub fn entry(&self, rt: &impl Wait, place: u64) -> Option<Entry> {
-        self.lock.lock(rt).logged.journal().get(place)
+    pub fn entry(&self, rt: &impl Wait, place: u64) -> Option<Entry>
+        ensures { SomeJournal S.Subscriber (λ journal. result ≡ slice_get journal place) }
+    {
+        let guard = self.lock.lock(rt);
+        let logged = &guard.logged;
+        logged.stands();
+        logged.journal().get(place)
     }
 
-    /// The dispatcher and the journal, where all workers are there; else everything back.
+    /// Gives the dispatcher and the journal, where all workers are there; else all that was given.
     pub fn finish(self, workers: Vec<Worker<L>>) -> Result<(Dispatch<S>, Journal), Unfinished<S, L>>
         ensures complete { IsOk result ↔ (vec_len workers ≡ L.workers) }
         ensures sum { IfOk result (λ r. length r.1 ≡ calls_of workers.items) }
