@@ -1,6 +1,6 @@
 //! A program to begin with. Two threads count the words of texts, and trace that through one
 //! receiver, which writes a line for each event that `RUST_LOG` lets by to standard error as it
-//! comes.
+//! comes. With an argument, such as `warn`, they count once more, and what it says passes then.
 #![tactic(auto)]
 
 ghost use Rattle.span_store.specs.Store.{IsFresh};
@@ -14,7 +14,7 @@ use span_layers::Observer;
 use span_registry::{Registry, Subscriber};
 use span_stacks::{LayerExt, SubscriberExt};
 use span_stream::{Stamped, TimeStyle, Utc};
-use span_targets::EnvFilter;
+use span_targets::Setting;
 use span_tracer::{Receiver, Tracer, info, info_span, warn};
 use std::alloc::Global;
 use std::env::VarError;
@@ -36,15 +36,21 @@ fn main(rt: HostRuntime) -> anyhow::Result<()> {
         Err(VarError::NotPresent) => String::from_str(alloc, "info")?,
         asked => asked?,
     };
-    let filter = EnvFilter::parse(alloc, asked.as_str())?;
+    let filter = Setting::parse(alloc, asked.as_str())?;
     let layer = Observer::new(Stream::new(lines, rt.stderr())).with_filter(filter);
     let stack = Registry::new(alloc).with(layer)?;
-    println!(rt; "{} words", count_in_two_threads(&rt, alloc, stack)?)?;
+    let later = env::args(&rt)?.nth(1);
+    println!(rt; "{} words", count_once_or_twice(&rt, alloc, stack, later)?)?;
     Ok(())
 }
 
-/// Counts the words of all texts, in two threads that trace through one receiver.
-fn count_in_two_threads<S, R>(rt: &R, alloc: Global, stack: S) -> anyhow::Result<usize>
+/// Counts the words of all texts, and once more if a text says what passes later.
+fn count_once_or_twice<S, R>(
+    rt: &R,
+    alloc: Global,
+    stack: S,
+    later: Option<String>,
+) -> anyhow::Result<usize>
 where
     S: Subscriber + Send + Drop,
     R: Threads + Wait + Sync,
@@ -52,6 +58,21 @@ where
     requires fresh { IsFresh (S.registry stack) }
 {
     let receiver = Receiver::new(alloc, Dispatch::new(alloc, stack));
+    let words = count_in_two_threads(rt, &receiver)?;
+    let Some(later) = later else {
+        return Ok(words);
+    };
+    let setting = Setting::parse(alloc, later.as_str())?;
+    receiver.tracer(rt)?.reload(0, setting)?;
+    Ok(words.saturating_add(count_in_two_threads(rt, &receiver)?))
+}
+
+/// Counts the words of all texts, in two threads that trace through one receiver.
+fn count_in_two_threads<S, R>(rt: &R, receiver: &Receiver<S>) -> anyhow::Result<usize>
+where
+    S: Subscriber + Send,
+    R: Threads + Wait + Sync,
+{
     let (here, there) = (receiver.tracer(rt)?, receiver.tracer(rt)?);
     let (answers, questions) = thread::join(
         rt,

@@ -10,6 +10,8 @@ mod macros;
 #[cfg(test)]
 mod receiver;
 #[cfg(test)]
+mod reload;
+#[cfg(test)]
 mod task;
 #[cfg(test)]
 mod trace;
