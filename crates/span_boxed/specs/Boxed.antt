@@ -22,7 +22,7 @@ pub record ActsPlainly (has : Form → Type 0) (acts : Position → Conducts →
   pub plain : ArePlainConducts cs
   pub now : (f : Form) → has f → ActsNow f position cs
 
--- each path of an object that has conducts has plain ones
+-- the conducts on the paths of an object, where they are plain and say what the filters now answer
 abbrev pub ActsPlainlyAt : {L : Type 0} → (L → Form → Type 0) → ActsAt L → ActsAt L
 ActsPlainlyAt form acts_at x = ActsPlainly (form x) (acts_at x)
 

@@ -20,8 +20,8 @@ use span_targets::Setting;
 /// A layer over the registry, as an object. Each `Layer<Registry>` that can be let go of is one.
 ///
 /// The clauses are those of `Layer`: a registry that is handed on (`rest`) has other extensions
-/// alone. An object brings no laws, so each call that notifies it, or puts it in use, says what the
-/// laws say of that, beside how it goes on.
+/// alone. An object brings no laws, so each call that notifies it, puts it in use or reloads it
+/// says what the laws say of that, beside how the object goes on.
 pub trait DynLayer: Drop {
     /// The layer may be asked and notified.
     ghost dyn_usable: { Self → Type 0 };
@@ -54,8 +54,8 @@ pub trait DynLayer: Drop {
         ensures registered { RegistersLawfully dyn_form dyn_registered dyn_acts_at self.old
             self.new };
 
-    /// Has the layer's filter with this number take a setting, and answers whether there is one that
-    /// takes it. Else nothing changes.
+    /// Has the layer's filter with this number take a setting, and answers whether there is one
+    /// that takes it. Else nothing changes.
     fn dyn_reload(&mut self, number: u32, setting: Setting) -> bool
         requires { dyn_usable self.old }
         ensures usable { dyn_usable self.new }

@@ -13,7 +13,7 @@ use Rattle.span_core.specs.declared.field.Float.{Float}
 abbrev pub float_value : Float → Number
 float_value f = f.value
 
--- its text
+-- a float with its text: the text
 abbrev pub float_text : Float → List ℕ
 float_text f = f.text.now
 

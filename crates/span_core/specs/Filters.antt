@@ -14,7 +14,7 @@ FilterSet = ℕ → Bool
 abbrev pub IsEmpty : FilterSet → Type 0
 IsEmpty a = (n : ℕ) → a n ≡ false
 
--- the filters of both sets
+-- the filters that are in either set
 abbrev pub union : FilterSet → FilterSet → FilterSet
 union a b n = a n || b n
 

@@ -12,7 +12,7 @@ IsNumeralOf number text =
     IsNumeral 10 (without_leading_plus text)
     × (digits_value 10 (without_leading_plus text) ≡ number)
 
--- the text is this name, in capitals or in small letters
+-- the text is this name, in any case
 abbrev pub IsNameInAnyCase : List ℕ → List ℕ → Type 0
 IsNameInAnyCase name text = map to_ascii_lowercase text ≡ map to_ascii_lowercase name
 

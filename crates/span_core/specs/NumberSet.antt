@@ -3,8 +3,8 @@ use Rattle.std.specs.Prelude.{◌≡◌, ℕ, Bool, false, ◌||◌, ◌==◌, z
 use Rattle.std.specs.Int.{bit_at}
 use Rattle.span_core.specs.declared.number_set.NumberSet.{NumberSet}
 
--- whether the number is in the set, bit n of its word: none from 128 on, since the word is below 2
--- ^ 128
+-- whether the number is in the set, bit n of its word: none is from 128 on, as the word is below
+-- 2 ^ 128
 abbrev pub has_number : NumberSet → ℕ → Bool
 has_number s n = bit_at s.bits n == 1
 

@@ -8,7 +8,7 @@ use std::alloc::{AllocError, AllocFailed};
 use thiserror::Error;
 
 /// Why a call is refused. The store, the stacks and what else the call was to change are unchanged;
-/// a dispatcher may have cached its stack's interest in a callsite. Its text carries no id.
+/// a dispatcher may have cached its stack's interest in a callsite. The text carries no id.
 ///
 /// Own to this port: the crate panics there, or answers nothing.
 #[derive(Clone, Copy, Debug, PartialEq, Eq, Error)]

@@ -109,7 +109,7 @@ impl<'a> Float<'a> {
         self.value
     }
 
-    /// Its text.
+    /// The float's text.
     pub fn text(&self) -> &'a str
         ensures { result.now ≡ float_text self.now }
     {

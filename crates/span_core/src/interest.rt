@@ -23,7 +23,7 @@ impl Interest {
         Interest::Never
     }
 
-    /// The interest by which each request is asked.
+    /// The interest by which a filter or a layer is asked at each request.
     pub fn sometimes() -> Interest
         ensures { result ≡ Interest.Sometimes }
     {

@@ -33,7 +33,7 @@ pub fn numbers_tell_levels_apart()
     ensures filters { (a b : LevelFilter) → filter_number a ≡ filter_number b → a ≡ b }
 {}
 
-/// The levels have the numbers 1 to 5, and the filters by level those from 0.
+/// The levels have the numbers 1 to 5, and the filters by level 0 to 5.
 pub fn levels_have_their_numbers()
     ensures error { level_number Level.ERROR ≡ 1 }
     ensures warn { level_number Level.WARN ≡ 2 }
@@ -80,7 +80,7 @@ pub fn sums_in_any_order()
     ensures regroups { (a b c : Interest) → sum_of (sum_of a b) c ≡ sum_of a (sum_of b c) }
 {}
 
-/// The union of sets of filters.
+/// Sets of filters may be united in any order, and a set again or an empty one adds nothing.
 pub fn unions()
     ensures commutes { (a b : FilterSet) (n : ℕ) → union a b n ≡ union b a n }
     ensures regroups { (a b c : FilterSet) (n : ℕ) → union (union a b) c n ≡ union a (union b c) n }
@@ -97,7 +97,7 @@ pub fn filters_in_common()
     ensures none { (a b : FilterSet) → IsEmpty a → meets a b ≡ false }
 {}
 
-/// A span is hidden from a mask by the members of the two sets alone.
+/// A span is hidden from a mask exactly if a filter of the mask is in its verdict.
 pub fn hiding()
     ensures exactly { (m : FilterId) (v : FilterMap) → IsTrue (is_hidden m v) ↔ HasRefusal m v }
     ensures union { (m a b : FilterId) → HasFiltersOfBoth m a b → HidesAsEither m a b }
@@ -105,7 +105,8 @@ pub fn hiding()
     ensures allowed { (m : FilterId) (v : FilterMap) → IsEmpty (refuses v) → is_hidden m v ≡ false }
 {}
 
-/// An id and a map are known by their members, which are below 128.
+/// A map is known by its members, and an id by its members and whether it is attached. Members are
+/// below 128, and an unattached id has none.
 pub fn members()
     ensures ids_below { (id : FilterId) (n : ℕ) → IsTrue (has_filter id n) → n < LIMIT }
     ensures maps_below { (map : FilterMap) (n : ℕ) → IsTrue (refuses map n) → n < LIMIT }
@@ -114,7 +115,7 @@ pub fn members()
     ensures maps { (a b : FilterMap) → SameMembers (refuses a) (refuses b) → a ≡ b }
 {}
 
-/// There are 128 filters, numbered from 0.
+/// There may be 128 filters, numbered from 0.
 pub fn filters_are_128()
     ensures ids { FilterId.LIMIT ≡ 128 }
     ensures numbers { LIMIT ≡ 128 }

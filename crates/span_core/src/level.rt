@@ -32,10 +32,10 @@ impl Level {
     /// Something useful happened.
     pub const INFO: Level = Level(Verbosity::Info);
 
-    /// Of use to who debugs.
+    /// Of use to whoever debugs.
     pub const DEBUG: Level = Level(Verbosity::Debug);
 
-    /// Of use to who traces, and verbose.
+    /// Of use to whoever traces, and verbose.
     pub const TRACE: Level = Level(Verbosity::Trace);
 
     /// The level's name, in capitals.
@@ -61,7 +61,7 @@ impl fmt::Display for Level {
     }
 }
 
-/// Reads a level's name, in capitals or in small letters, or its number, from 1 to 5.
+/// Reads a level's name, in any case, or its number, from 1 to 5.
 impl FromStr for Level {
     type Err = ParseLevelError;
 

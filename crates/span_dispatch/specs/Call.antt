@@ -70,8 +70,8 @@ OutcomesOf call (answer.Refused e) s os = os ≡ []
 OutcomesOf call a s os = ⊥
 
 -- how a call is answered that isn't decided by metadata: refused as the registry refuses it, or
--- since no filter with that number takes it, and never dropped; a handle is added where there is room for one,
--- and the current span is the lane's
+-- since no filter with that number takes the setting, and never dropped; a handle is added where
+-- there is room for one, and the current span is the lane's
 abbrev pub AnswersOther : Call → Form → RegistryState → Answer → Type 0
 AnswersOther (Enter lane id) f s (answer.Refused e) = RefusesEnter s lane id e
 AnswersOther (RecordValues lane id values) f s (answer.Refused e) = RefusesUnlessOpen s id e

@@ -183,8 +183,8 @@ module _ {S : Type 0} (s : SubscriberOf S) where
 
   -- ---- what is promised of an honest stack
 
-  -- A stack that was ready is ready in its dispatcher, by a form that keeps all of the old one;
-  -- nothing is cached yet.
+  -- a stack that was ready is ready in its dispatcher, by a form with the old interest and hint of
+  -- each filter
   abbrev pub BecomesReady : S → Dispatch S → Type 0
   BecomesReady x d =
       (f : Form) → IsReady s.registry s.with_registry s.has_form s.stepped s.reloaded f x
@@ -251,8 +251,8 @@ module _ {S : Type 0} (s : SubscriberOf S) where
       (f : Form) → s.has_form (stack_of old) f → CurrentBy f old
       → KeepsUpToDate f (registry_of old).filters new
 
-  -- the truth value says whether a filter with this number takes this setting, by each form that the
-  -- stack has
+  -- the truth value says whether a filter with this number takes this setting, by each form that
+  -- the stack has
   abbrev pub TakesSetting : ℕ → Setting → Dispatch S → Bool → Type 0
   TakesSetting n w d taken = ShowsBy (s.has_form (stack_of d)) (λ f. takes_setting f n w) taken
 

@@ -29,8 +29,9 @@ set_at n s (Terminal v) = Terminal v
 abbrev pub Formed : Type 0
 Formed = RegistryState × Form
 
--- A stack of this form, whose filters take levels alone, answers the requests with these answers, from one
--- registry and its cached callsites to the others; these outcomes are made of each request.
+-- A stack of this form, whose filters take levels alone, answers the requests with these answers,
+-- from one registry and its cached callsites to the others; these outcomes are made of each
+-- request.
 abbrev pub RunsBy : Form → List Request → List Answer → List (List OutcomeAt) → KeptCallsites
     → RegistryState → KeptCallsites → RegistryState → Type 0
 RunsBy f requests answers made kept s after t =

@@ -125,8 +125,8 @@ module _ {S : Type 0} (registry : S → RegistryState) (with_registry : S → Re
     pub rest : y ≡ with_registry notified (registry y)
 
   -- how a stack of this form goes on by an outcome between two stores: it is notified; or only its
-  -- registry's store changes; or its layers go on by a setting that a filter takes, with the registry
-  -- unchanged
+  -- registry's store changes; or its layers go on by a setting that a filter takes, with the
+  -- registry unchanged
   abbrev pub LayersGo : Form → Outcome → Store → Store → S → S → Type 0
   LayersGo f (Noticed lane e) s t x y = Notices f lane e s t x y
   LayersGo f (Quiet c) s t x y =

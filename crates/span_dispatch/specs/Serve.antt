@@ -188,8 +188,8 @@ module _ {S : Type 0} (registry : S → RegistryState) (with_registry : S → Re
     -- what was made of each request, on any lanes
     pub made : List (List OutcomeAt)
     -- What was made is what the answers say, and each request is answered, dropped or refused
-    -- exactly where it should be, by what is cached then; no dropped or refused one would have
-    -- reached any layer.
+    -- exactly where it should be, by what is cached then; no dropped one would have reached any
+    -- layer, and no refused one did.
     pub run : Run [] requests answers made (kept_by old) (stack_of old) (kept_by new) (stack_of new)
     -- Each layer is notified, in order, of exactly the made requests that its own path's filters
     -- pass when asked afresh.
@@ -200,7 +200,7 @@ module _ {S : Type 0} (registry : S → RegistryState) (with_registry : S → Re
     pub alone : (position : Position) (cs : Conducts) → acts_at (stack_of old) position cs
         → Alone cs (registry (stack_of old)).store (map (λ m. m.outcome) (flat made))
         (passed_at position (flat made))
-    -- Each closed span is notified of once.
+    -- No span closes twice.
     pub once : StandOnce (flat_map (λ m. closed_by m.outcome) (flat made))
     -- A layer that is notified of a span can read it in its own context, even one that closes.
     pub shown : (position : Position) → AllByRecursion ShowsItsSpan (passed_at position (flat made))

@@ -185,8 +185,8 @@ impl Known {
         self.learn(stack, meta)
     }
 
-    /// The stack's interest in a callsite that isn't cached: it is cached then. Refused for want of
-    /// memory, unless some is held.
+    /// Asks the stack for its interest in a callsite that isn't cached, and caches that. Refused
+    /// for want of memory, unless some is held.
     #[inline(never)]
     fn learn<S: Subscriber>(&mut self, stack: &S, meta: &Metadata) -> Result<Interest, TraceError>
         requires usable { S.usable stack.now }

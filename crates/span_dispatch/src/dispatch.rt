@@ -49,7 +49,7 @@ impl<S: Drop> Drop for Dispatch<S> {
     }
 }
 
-// Without a bound, so that a proof of a caller needs no stack's whole implementation to read one.
+// No bound, so that a caller's proof can read the stack without its whole implementation.
 impl<S> Dispatch<S> {
     /// The dispatcher's stack, as it now is.
     pub fn stack(&self) -> &S
@@ -213,7 +213,7 @@ impl<S: Subscriber> Dispatch<S> {
         self.admits_later(lane, meta, callsite, pass)
     }
 
-    /// Asks as `admits_by` does, with a call: the room for its answer is cleared only here.
+    /// Asks as `admits_by` does, by a call that isn't inlined: room for its answer is cleared here.
     #[inline(always)]
     fn admits_later(
         &mut self,
@@ -379,7 +379,7 @@ impl<S: Subscriber> Dispatch<S> {
         self.open(lane, attrs, None, pass)
     }
 
-    /// Opens a span as `new_span_with` does. By a registration, if one is given.
+    /// Opens a span as `new_span_with` does, by a registration if one is given.
     #[inline(always)]
     fn open(
         &mut self,
@@ -441,7 +441,7 @@ impl<S: Subscriber> Dispatch<S> {
         self.send(lane, event, Some(callsite))
     }
 
-    /// Notifies of an event as `event` does. By a registration, if one is given.
+    /// Notifies of an event as `event` does, by a registration if one is given.
     #[inline(always)]
     fn send(
         &mut self,

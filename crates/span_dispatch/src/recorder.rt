@@ -109,11 +109,11 @@ impl<S: Subscriber> Layer<S> for Recorder {
     ghost reloads = { leaf_reloads recorder_laws };
 
     fn on_register_dispatch(&mut self) {
-        // It has nothing to do.
+        // A recorder has nothing to do.
     }
 
     fn on_layer(&mut self, _subscriber: &mut S) {
-        // It has no filter.
+        // A recorder has no filter.
     }
 
     fn register_callsite(&self, _meta: &Metadata, _pass: &mut Pass) -> Interest {
@@ -121,15 +121,15 @@ impl<S: Subscriber> Layer<S> for Recorder {
     }
 
     fn enabled(&self, _meta: &Metadata, _ctx: &Context<'_, S>, _pass: &mut Pass) -> bool {
-        true // It wants everything.
+        true // A recorder wants everything.
     }
 
     fn event_enabled(&self, _event: &Event<'_>, _ctx: &Context<'_, S>, _pass: &mut Pass) -> bool {
-        true // It wants every event.
+        true // A recorder wants every event.
     }
 
     fn max_level_hint(&self) -> Option<LevelFilter> {
-        None // It wants all levels.
+        None // A recorder wants all levels.
     }
 
     fn reload(&mut self, _number: u32, _setting: Setting) -> bool {
@@ -145,7 +145,7 @@ impl<S: Subscriber> Layer<S> for Recorder {
     }
 
     fn is_absent(&self) -> bool {
-        false // It is there.
+        false // The layer is there.
     }
 
     fn notify(&mut self, notice: Notice<'_, '_>, ctx: &mut ContextMut<'_, S>) {

@@ -18,8 +18,8 @@ pub enum Which {
     Known(Id),
     /// The span that the request at this place of the list made.
     ///
-    /// Where no earlier request at that place made one, the request is dropped, and as a parent it
-    /// is a root.
+    /// Where no earlier request at that place made one, the request that names it is dropped; as a
+    /// parent, a root takes its place.
     Made(usize),
 }
 

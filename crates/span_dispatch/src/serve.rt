@@ -74,8 +74,8 @@ impl<S: Subscriber> Dispatch<S> {
         }
     }
 
-    /// Serves a call as the method of its kind does. What that promises holds, but that `ready`
-    /// says of a form's rules alone that they stay.
+    /// Serves a call as the method of its kind does, and promises what that does; `ready` alone
+    /// says less: that the form's rules are kept.
     ///
     /// Own to this port.
     pub fn ask(&mut self, call: &Call<'_>) -> Answer

@@ -49,7 +49,7 @@ impl ExtensionTables {
             && self.number_lists.is_empty()
     }
 
-    /// How many values there are. A number past the largest is given as the largest.
+    /// How many values there are. A number above `usize::MAX` is given as `usize::MAX`.
     pub(crate) fn len(&self) -> usize
         ensures { result ≡ min (value_count self.now) usize.MAX }
     {

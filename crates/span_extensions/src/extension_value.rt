@@ -6,7 +6,7 @@ ghost use Rattle.span_extensions.specs.Lends.{lends_table};
 use crate::extension_tables::ExtensionTables;
 use crate::table::Table;
 
-/// What a call of a table takes: only this library can make it, so no one else reaches a table.
+/// What a call for a table takes: only this library can make it, so no one else reaches a table.
 #[derive(Clone, Copy)]
 pub struct Internal;
 

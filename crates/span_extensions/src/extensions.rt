@@ -14,7 +14,7 @@ use std::alloc::Global;
 use std::fmt;
 use std::marker::Model;
 
-/// The values of one span, by their tags. It takes two words until room for a value was made.
+/// The values of one span, by their tags. The map takes two words until room for a value was made.
 #[derive(Drop)]
 pub struct ExtensionMap {
     alloc: Global,
@@ -61,7 +61,7 @@ impl ExtensionMap {
         }
     }
 
-    /// How many values there are. A number past the largest is given as the largest.
+    /// How many values there are. A number above `usize::MAX` is given as `usize::MAX`.
     pub(crate) fn len(&self) -> usize
         ensures { result ≡ min (value_count self.now) usize.MAX }
     {
@@ -154,7 +154,7 @@ impl ExtensionMap {
     }
 }
 
-/// Shown as a `&mut` to it is.
+/// Shown as `ExtensionsMut { len: 2 }`, for two values.
 impl fmt::Debug for ExtensionMap {
     fn fmt<W: fmt::Write>(&self, f: &mut fmt::Formatter<W>) -> fmt::Result {
         f.debug_struct("ExtensionsMut")

@@ -62,8 +62,7 @@ pub record FilterLaws {F : Type 0} (has_answers : F → Behaviour → Type 0) (h
       (w : RegistryState) (b : Conduct) → acts f b → hooked f e lane under v g w
       → acts g (λ h. b (OfNotice e (view_of v.store lane under) ∷ h))
 
--- how a filter goes on when it is reloaded: which filter becomes which by this setting; one that
--- takes none is unchanged
+-- how a filter goes on when it is reloaded: which filter becomes which, by which setting
 abbrev pub FilterReloadSteps : Type 0 → Type 1
 FilterReloadSteps F = F → Setting → F → Type 0
 
@@ -71,8 +70,8 @@ FilterReloadSteps F = F → Setting → F → Type 0
 abbrev pub unreloaded : {F : Type 0} → FilterReloadSteps F
 unreloaded f s g = g ≡ f
 
--- the law of reloading of every filter: it has answers afterwards, and all that it has are honest;
--- its conduct goes on with the setting, so that it is plain where it was
+-- the law of reloading of every filter: one that had answers has answers afterwards, and its
+-- conduct goes on with the setting
 pub record FilterReloadLaws {F : Type 0} (has_answers : F → Behaviour → Type 0)
     (reloaded : FilterReloadSteps F) (acts : F → Conduct → Type 0) : Type 0 where
   pub answers : (f : F) (s : Setting) (g : F) (a : Behaviour) → reloaded f s g → has_answers f a

@@ -114,7 +114,7 @@ impl<S: LookupSpan, F: Function<Metadata, bool>> Filter<S> for FilterFn<F> {
     fn notify(&mut self, _notice: Notice<'_, '_>, _ctx: &mut ContextMut<'_, S>) {}
 
     fn reload(&mut self, _setting: Setting) -> bool {
-        false // It goes by its closure.
+        false // The filter goes by its closure.
     }
 }
 
@@ -275,7 +275,7 @@ impl<S: LookupSpan, F: FunctionIn<Metadata, S, bool>, R: Function<Metadata, Inte
     fn notify(&mut self, _notice: Notice<'_, '_>, _ctx: &mut ContextMut<'_, S>) {}
 
     fn reload(&mut self, _setting: Setting) -> bool {
-        false // It goes by its closure.
+        false // The filter goes by its closure.
     }
 }
 

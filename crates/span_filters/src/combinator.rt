@@ -17,7 +17,7 @@ use span_targets::Setting;
 use std::fmt;
 
 /// A filter that enables what both of its parts do. The first part is asked first, and the second
-/// only where the first doesn't decide: of the hint both are always asked.
+/// only where the first doesn't decide; but both are always asked for the hint.
 ///
 /// Stands for `tracing_subscriber::filter::combinator::And`.
 #[derive(Debug, Drop)]
@@ -27,7 +27,7 @@ pub struct And<A, B> {
 }
 
 /// A filter that enables what either of its parts does. The first part is asked first, and the
-/// second only where the first doesn't decide: of the interest both are always asked.
+/// second only where the first doesn't decide; but both are always asked for the interest.
 ///
 /// Stands for `tracing_subscriber::filter::combinator::Or`.
 #[derive(Debug, Drop)]
@@ -134,7 +134,7 @@ impl<S: LookupSpan, A: Filter<S>> Filter<S> for Not<A> {
     }
 
     fn max_level_hint(&self) -> Option<LevelFilter> {
-        None // What its part refuses, it wants: at any level.
+        None // What the part refuses is wanted, at any level.
     }
 
     #[inline(always)]
@@ -143,7 +143,7 @@ impl<S: LookupSpan, A: Filter<S>> Filter<S> for Not<A> {
     }
 
     fn reload(&mut self, _setting: Setting) -> bool {
-        false // Its part has no number of its own.
+        false // The part has no number of its own.
     }
 }
 
@@ -207,7 +207,7 @@ impl<S: LookupSpan, A: Filter<S>, B: Filter<S>> Filter<S> for And<A, B> {
     }
 
     fn reload(&mut self, _setting: Setting) -> bool {
-        false // Its parts have no numbers of their own.
+        false // The parts have no numbers of their own.
     }
 }
 
@@ -267,7 +267,7 @@ impl<S: LookupSpan, A: Filter<S>, B: Filter<S>> Filter<S> for Or<A, B> {
     }
 
     fn reload(&mut self, _setting: Setting) -> bool {
-        false // Its parts have no numbers of their own.
+        false // The parts have no numbers of their own.
     }
 }
 

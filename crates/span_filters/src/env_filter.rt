@@ -63,7 +63,7 @@ impl<S: LookupSpan> Filter<S> for EnvFilter {
     fn notify(&mut self, _notice: Notice<'_, '_>, _ctx: &mut ContextMut<'_, S>) {}
 
     fn reload(&mut self, _setting: Setting) -> bool {
-        false // It goes by targets and spans.
+        false // The filter goes by targets and spans.
     }
 }
 

@@ -15,11 +15,11 @@ use span_targets::Setting;
 /// context gives. These are honest: where its interest in a callsite is `always`, what that
 /// callsite makes is enabled in every view; where it is `never`, or the level is above the hint, in
 /// none; and metadata that show the same are of one interest. Hooks keep interest and hint, and
-/// write extensions alone. Filters are asked of new spans and of events alone, so only with a new
-/// span refusals may be lent.
+/// write extensions alone. Filters are asked of new spans and of events alone, so refusals may be
+/// lent only with a new span.
 ///
 /// Stands for `tracing_subscriber::layer::Filter`, with one hook that changes the filter, `notify`,
-/// in the place of five: the five have their names still, for who calls them.
+/// in the place of five: the five have their names still, for whoever calls them.
 pub trait Filter<S: LookupSpan> {
     /// The filter may be asked and notified. Only one that holds a closure says more than that it
     /// always may.
@@ -31,7 +31,7 @@ pub trait Filter<S: LookupSpan> {
     /// How the filter goes on when it is notified. By default it is unchanged, and writes nothing.
     ghost hooked: { FilterSteps Self } = { unmoved };
 
-    /// How the filter goes on when it is reloaded. By default it takes no setting, and is unchanged.
+    /// How the filter goes on when it is reloaded. By default it is unchanged.
     ghost reloaded: { FilterReloadSteps Self } = { unreloaded };
 
     /// How the filter will answer after each list of notices and settings. Only a filter to which

@@ -52,7 +52,7 @@ impl<S: LookupSpan> Filter<S> for Targets {
     fn notify(&mut self, _notice: Notice<'_, '_>, _ctx: &mut ContextMut<'_, S>) {}
 
     fn reload(&mut self, _setting: Setting) -> bool {
-        false // It goes by targets.
+        false // The filter goes by targets.
     }
 }
 

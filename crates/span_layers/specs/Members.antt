@@ -13,7 +13,7 @@ abbrev pub ListForm : {L : Type 0} → (L → Form → Type 0) → List L → Fo
 ListForm has [] f = f ≡ Terminal End
 ListForm has (x ∷ xs) f = PartsForm InList (has x) (ListForm has xs) f
 
--- one goes on and writes extensions alone, and then the others do, in what it left
+-- one goes on, writing extensions alone, and then the others go on in what it left
 pub record GoInTurn (one others : RegistryState → RegistryState → Type 0)
     (v w : RegistryState) : Type 0 where
   pub between : RegistryState

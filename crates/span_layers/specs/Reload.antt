@@ -1,5 +1,4 @@
--- How a list and a layer that may be absent are reloaded: each part is, which keeps the law of
--- reloading.
+-- How a list and a layer that may be absent are reloaded: each part is.
 use Rattle.std.specs.Prelude.{List, Option}
 use Rattle.std.specs.List.{AllZip}
 use Rattle.span_layers.specs.Optional.{OptionGoes}

@@ -61,11 +61,11 @@ impl<S: Subscriber> Layer<S> for Identity {
         (idle_laws (λ x f. f ≡ Leaf true open_answers) (λ x f h. is_leaf h)) };
 
     fn on_register_dispatch(&mut self) {
-        // It has nothing to do.
+        // An identity has nothing to do.
     }
 
     fn on_layer(&mut self, _subscriber: &mut S) {
-        // It has no filter.
+        // An identity has no filter.
     }
 
     fn register_callsite(&self, _meta: &Metadata, _pass: &mut Pass) -> Interest {
@@ -73,11 +73,11 @@ impl<S: Subscriber> Layer<S> for Identity {
     }
 
     fn enabled(&self, _meta: &Metadata, _ctx: &Context<'_, S>, _pass: &mut Pass) -> bool {
-        true // It refuses nothing.
+        true // Nothing is refused.
     }
 
     fn event_enabled(&self, _event: &Event<'_>, _ctx: &Context<'_, S>, _pass: &mut Pass) -> bool {
-        true // It refuses no event.
+        true // No event is refused.
     }
 
     fn max_level_hint(&self) -> Option<LevelFilter> {
@@ -93,7 +93,7 @@ impl<S: Subscriber> Layer<S> for Identity {
     }
 
     fn is_absent(&self) -> bool {
-        false // It is there.
+        false // The layer is there.
     }
 
     #[inline(always)]

@@ -22,10 +22,10 @@ use span_targets::Setting;
 /// the pass says, of all else as the verdicts of spans say. A hook may write extensions, and leaves
 /// the rest unchanged; a layer whose hooks send events says so in its form, and then nobody says
 /// who is notified in its stack. The registry stays sound in any case. Filters are asked of new
-/// spans and of events alone, so only with these refusals may be lent.
+/// spans and of events alone, so refusals may be lent only with those.
 ///
 /// Stands for `tracing_subscriber::Layer`, with one hook that changes the layer, `notify`, in the
-/// place of eight: the eight have their names still, for who calls them.
+/// place of eight: the eight have their names still, for whoever calls them.
 pub trait Layer<S: Subscriber> {
     /// The layer may be asked and notified. Only one that holds a closure says more than that it
     /// always may.
@@ -94,8 +94,8 @@ pub trait Layer<S: Subscriber> {
         requires { usable self.now }
         ensures { ShowsBy (has_form self.now) hint_of result };
 
-    /// Has the layer's filter with this number take a setting, and answers whether there is one that
-    /// takes it. Else nothing changes.
+    /// Has the layer's filter with this number take a setting, and answers whether there is one
+    /// that takes it. Else nothing changes.
     ///
     /// Own to this port.
     fn reload(&mut self, number: u32, setting: Setting) -> bool
@@ -145,8 +145,8 @@ pub trait Layer<S: Subscriber> {
         ensures usable { MayNotify usable S.usable self.new ctx.new }
         ensures rest { HandsOn S.registry ctx.old ctx.new }
         ensures alone { LeavesAlone S.registry S.with_registry has_form self.old ctx.old ctx.new }
-        ensures hook { Notified S.registry has_form stepped (OnNewSpan attrs.now id) self.old ctx.old
-            self.new ctx.new }
+        ensures hook { Notified S.registry has_form stepped (OnNewSpan attrs.now id)
+            self.old ctx.old self.new ctx.new }
     {
         self.notify(Notice::NewSpan(attrs, id), ctx);
     }
@@ -158,8 +158,8 @@ pub trait Layer<S: Subscriber> {
         ensures usable { MayNotify usable S.usable self.new ctx.new }
         ensures rest { HandsOn S.registry ctx.old ctx.new }
         ensures alone { LeavesAlone S.registry S.with_registry has_form self.old ctx.old ctx.new }
-        ensures hook { Notified S.registry has_form stepped (OnRecord id values.now) self.old ctx.old
-            self.new ctx.new }
+        ensures hook { Notified S.registry has_form stepped (OnRecord id values.now)
+            self.old ctx.old self.new ctx.new }
     {
         self.notify(Notice::Record(id, values), ctx);
     }

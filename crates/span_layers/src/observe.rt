@@ -18,8 +18,7 @@ use span_core::{Event, Interest, LevelFilter, Metadata, Pass};
 use span_registry::{Context, ContextMut, Notice, Subscriber};
 use span_targets::Setting;
 
-/// A layer that refuses nothing and writes only the method that it needs. `Observer` makes a layer
-/// of it.
+/// What refuses nothing, and is notified through one method. `Observer` makes a layer of it.
 pub trait Observe<S: Subscriber> {
     /// The observer may be notified. Only one that holds a closure says more than that it always
     /// may.
@@ -28,8 +27,8 @@ pub trait Observe<S: Subscriber> {
     /// How the observer goes on when it is notified.
     ghost observed: { ObserverSteps Self };
 
-    /// Notifies of all that the filters round the observer enable. Only with a new span or an event
-    /// refusals may be lent.
+    /// Notifies of all that the filters round the observer enable. Refusals may be lent only with a
+    /// new span or an event.
     fn observe(&mut self, notice: Notice<'_, '_>, ctx: &mut ContextMut<'_, S>)
         requires own { usable self.old }
         requires subscriber { S.usable (subscriber_lent ctx.old) }
@@ -103,11 +102,11 @@ impl<S: Subscriber, T: Observe<S>> Layer<S> for Observer<T> {
     ghost reloads = { leaf_reloads (observer_laws T.observed (λ x. x.observer)) };
 
     fn on_register_dispatch(&mut self) {
-        // It has nothing to do.
+        // An observer has nothing to do.
     }
 
     fn on_layer(&mut self, _subscriber: &mut S) {
-        // It has no filter.
+        // An observer has no filter.
     }
 
     fn register_callsite(&self, _meta: &Metadata, _pass: &mut Pass) -> Interest {
@@ -115,11 +114,11 @@ impl<S: Subscriber, T: Observe<S>> Layer<S> for Observer<T> {
     }
 
     fn enabled(&self, _meta: &Metadata, _ctx: &Context<'_, S>, _pass: &mut Pass) -> bool {
-        true // It refuses nothing.
+        true // Nothing is refused.
     }
 
     fn event_enabled(&self, _event: &Event<'_>, _ctx: &Context<'_, S>, _pass: &mut Pass) -> bool {
-        true // It refuses no event.
+        true // No event is refused.
     }
 
     fn max_level_hint(&self) -> Option<LevelFilter> {
@@ -135,7 +134,7 @@ impl<S: Subscriber, T: Observe<S>> Layer<S> for Observer<T> {
     }
 
     fn is_absent(&self) -> bool {
-        false // It is there.
+        false // The layer is there.
     }
 
     #[inline(always)]

@@ -15,8 +15,8 @@ use span_filters::{DynFilterFn, Filter, FilterFn};
 use span_registry::{Context, ContextMut, Notice, Subscriber};
 use span_targets::Setting;
 
-/// A filter that is a layer, too. As a layer it takes no number and no level, and no hook of it is
-/// called: each of these has hooks that do nothing.
+/// A filter that is a layer, too. As a layer it takes no number and no setting, and no hook of it
+/// is called: each of these has hooks that do nothing.
 pub trait Veto {}
 
 impl Veto for LevelFilter {}
@@ -49,11 +49,11 @@ impl<S: Subscriber, F: Veto + Filter<S>> Layer<S> for F {
     ghost reloads = { leaf_reloads (veto_laws F.has_answers) };
 
     fn on_register_dispatch(&mut self) {
-        // It has nothing to do.
+        // A filter has nothing to do.
     }
 
     fn on_layer(&mut self, _subscriber: &mut S) {
-        // It takes no number: what it refuses is refused for all.
+        // The filter takes no number: what it refuses is refused for all.
     }
 
     fn register_callsite(&self, meta: &Metadata, _pass: &mut Pass) -> Interest {
@@ -77,17 +77,17 @@ impl<S: Subscriber, F: Veto + Filter<S>> Layer<S> for F {
     }
 
     fn is_filtered(&self) -> bool {
-        false // It stands under no filter.
+        false // The filter stands under no other.
     }
 
     fn is_absent(&self) -> bool {
-        false // It is there.
+        false // The layer is there.
     }
 
     #[inline(always)]
     fn notify(&mut self, _notice: Notice<'_, '_>, _ctx: &mut ContextMut<'_, S>) {}
 
     fn reload(&mut self, _number: u32, _setting: Setting) -> bool {
-        false // It has no number: what it refuses is refused for all.
+        false // The filter has no number: what it refuses is refused for all.
     }
 }

@@ -43,7 +43,7 @@ pub record AnswerAlike (a b : Behaviour) : Type 0 where
   pub event : (e : Event) (s : Store) (lane : ℕ) (mask : FilterSet)
       → a.event e (view_of s lane mask) ≡ b.event e (view_of s lane mask)
 
--- the two have the same interest and the same hint
+-- two behaviours have the same interest and the same hint
 pub record SameInterestAndHint (a b : Behaviour) : Type 0 where
   pub interest : b.interest ≡ a.interest
   pub hint : b.hint ≡ a.hint
@@ -107,14 +107,15 @@ abbrev pub AreAlikeHistories : History → History → Type 0
 AreAlikeHistories [] [] = ⊤
 AreAlikeHistories (OfNotice e v ∷ h) (OfNotice d w ∷ k) =
     (e ≡ d) × AreAlike v w × AreAlikeHistories h k
-AreAlikeHistories (OfReload x ∷ h) (OfReload y ∷ k) = (x ≡ y) × AreAlikeHistories h k
+AreAlikeHistories (OfReload setting ∷ h) (OfReload other ∷ k) =
+    (setting ≡ other) × AreAlikeHistories h k
 AreAlikeHistories h k = ⊥
 
 -- the notices of a history, without the settings: what a filter goes by that takes none
 abbrev pub notices_of : History → History
 notices_of [] = []
 notices_of (OfNotice e v ∷ h) = OfNotice e v ∷ notices_of h
-notices_of (OfReload x ∷ h) = notices_of h
+notices_of (OfReload setting ∷ h) = notices_of h
 
 -- extensions make no difference: neither to the answers nor to what the filter learns from a notice
 pub record IsPlain (conduct : Conduct) : Type 0 where

@@ -17,7 +17,7 @@ use Rattle.span_registry.specs.View.{View, view_of}
 abbrev pub Conducts : Type 0
 Conducts = List (Option ℕ × Conduct)
 
--- the path, as they answer now
+-- the path of these filters, as they answer now
 abbrev pub path_now : Conducts → Path
 path_now [] = []
 path_now ((n, b) ∷ cs) = (n, b []) ∷ path_now cs
@@ -27,12 +27,12 @@ abbrev pub filter_numbered : Option ℕ → FilterSet
 filter_numbered None = no_filter
 filter_numbered (Some n) = single n
 
--- their numbers
+-- the numbers of the filters of a path
 abbrev pub numbers_in : Conducts → FilterSet
 numbers_in [] = no_filter
 numbers_in ((n, b) ∷ cs) = union (filter_numbered n) (numbers_in cs)
 
--- each of them is plain
+-- each of these conducts is plain
 abbrev pub ArePlainConducts : Conducts → Type 0
 ArePlainConducts [] = ⊤
 ArePlainConducts ((n, b) ∷ cs) = IsPlain b × ArePlainConducts cs
@@ -59,13 +59,14 @@ after_notice e v b = λ h. b (OfNotice e v ∷ h)
 
 -- the conduct of a filter that took a setting
 abbrev pub after_reload : Setting → Conduct → Conduct
-after_reload x b = λ h. b (OfReload x ∷ h)
+after_reload setting b = λ h. b (OfReload setting ∷ h)
 
 -- the conducts of the filters of a path, once the one with this number took a setting
 abbrev pub reloading : ℕ → Setting → Conducts → Conducts
-reloading n x [] = []
-reloading n x ((m, b) ∷ cs) =
-    if filter_numbered m n then (m, after_reload x b) ∷ cs else (m, b) ∷ reloading n x cs
+reloading n setting [] = []
+reloading n setting ((m, b) ∷ cs) =
+    if filter_numbered m n then (m, after_reload setting b) ∷ cs
+    else (m, b) ∷ reloading n setting cs
 
 -- a filter learns of a notice, under these filters, in a registry that differs from this one in
 -- extensions alone

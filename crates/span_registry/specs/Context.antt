@@ -77,7 +77,7 @@ module _ {S : Type 0} (registry : S → RegistryState) where
   abbrev pub view_in : Context S → View
   view_in c = view_of (store_in c) (lane_in c).0 (filters_in c)
 
-  -- a context that looks at what the old one does, from the registry that its subscriber stands on
+  -- root looks at the registry that the subscriber of c stands on, from c's lane and under its mask
   pub record LooksAtRoot (c : Context S) (root : Context RegistryState) : Type 0 where
     pub subscriber : subscriber_in root ≡ option_map registry (subscriber_in c)
     pub lane : lane_in root ≡ lane_in c
@@ -124,7 +124,7 @@ module _ {S : Type 0} where
   abbrev pub with_subscriber : ContextMut S → S → ContextMut S
   with_subscriber c s = record c { subscriber = record c.subscriber { now = s } }
 
-  -- the mask itself, of which nothing can be made but by a context
+  -- the mask of a loan, as code has it
   abbrev pub mask_of_loan : ContextMut S → Mask
   mask_of_loan c = c.mask
 
@@ -132,11 +132,11 @@ module _ {S : Type 0} where
   abbrev pub with_mask : ContextMut S → Mask → ContextMut S
   with_mask c mask = record c { mask = mask }
 
-  -- the lane that it is lent from
+  -- the lane that the subscriber is lent from
   abbrev pub lane_lent : ContextMut S → Lane
   lane_lent c = c.lane
 
-  -- the mask that it is lent under
+  -- the mask that the subscriber is lent under, as an id
   abbrev pub mask_lent : ContextMut S → FilterId
   mask_lent c = c.mask.filters
 

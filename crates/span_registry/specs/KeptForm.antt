@@ -12,8 +12,8 @@ pub record RefusesNothing (a : Behaviour) : Type 0 where
   pub enabled : (m : Metadata) (v : View) → a.enabled m v ≡ true
   pub event : (e : Event) (v : View) → a.event e v ≡ true
 
--- the answers b, where the answers were a: interest and hint are the same, and it stays honest and
--- quiet where it was
+-- the answers b, where the answers were a: interest and hint are the same, and b is honest where a
+-- was, and refuses nothing where a did
 pub record AnswersKeep (a b : Behaviour) : Type 0 where
   pub same : SameInterestAndHint a b
   pub honest : AreHonest a → AreHonest b

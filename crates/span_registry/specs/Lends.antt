@@ -12,7 +12,7 @@ use Rattle.span_registry.specs.Context.{subscriber_lent, with_subscriber}
 use Rattle.span_registry.specs.contracts.context.ContextMut.{the_row as context_row}
 use Rattle.span_registry.specs.declared.context.ContextMut.{ContextMut}
 
--- once the borrow r ends, what s was is left, but that it stands on the registry that r had last
+-- once the borrow r ends, s is what it was, but stands on the registry that r had last
 abbrev pub lends_registry : (T : RattleType) → (T.Denot → RegistryState → T.Denot) → MutBor T.Denot
     → MutBor RegistryState → Fml
 lends_registry T with_registry s r = Lends T the_row s r (with_registry s.now)

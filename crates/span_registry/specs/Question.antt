@@ -1,5 +1,5 @@
--- What a form answers when it is asked, and what the pass then holds. The outer part is asked
--- first, and the inner one only where that answers true.
+-- What a form answers when it is asked, and what the pass then holds. Of metadata and of events the
+-- outer part is asked first, and the inner one only where that answers true.
 use Rattle.std.specs.Prelude.{◌≡◌, ℕ, Bool, true, false, not, ◌&&◌, ◌||◌, ◌==◌, if◌then◌else◌, Option, Some, None, is_some}
 use Rattle.span_core.specs.Filters.{FilterSet, refuses, union}
 use Rattle.span_core.specs.Interest.{sum_with}

@@ -8,17 +8,17 @@ use Rattle.span_registry.specs.KeptForm.{AnswersKeep}
 use Rattle.span_registry.specs.Position.{HearSteps, Position}
 use Rattle.span_targets.specs.declared.setting.Setting.{Setting}
 
--- whether a filter with this number takes this setting: each part is asked, but what stands under that
--- filter isn't
+-- whether a filter with this number takes this setting: each part is asked, but what stands under
+-- that filter isn't
 abbrev pub takes_setting : Form → ℕ → Setting → Bool
-takes_setting (Filtered m a f) n s =
-    if filter_numbered m n then a.takes s else takes_setting f n s
-takes_setting (Parts k o i) n s = takes_setting o n s || takes_setting i n s
-takes_setting other n s = false
+takes_setting (Filtered m a f) n setting =
+    if filter_numbered m n then a.takes setting else takes_setting f n setting
+takes_setting (Parts k o i) n setting = takes_setting o n setting || takes_setting i n setting
+takes_setting other n setting = false
 
 -- the form g, where the form was f and filters may have taken settings: the parts stand together as
 -- they did, filters have the numbers that they had and answer honestly where they did, and leaves
--- keep what they answer
+-- keep interest, hint, honesty, and that they refuse nothing
 abbrev pub KeepsRules : Form → Form → Type 0
 KeepsRules (Leaf still a) (Leaf quiet b) = (quiet ≡ still) × AnswersKeep a b
 KeepsRules (Filtered n a f) (Filtered m b g) =
@@ -27,14 +27,14 @@ KeepsRules (Parts k o i) (Parts l p j) = (l ≡ k) × KeepsRules o p × KeepsRul
 KeepsRules (Terminal v) (Terminal w) = w ≡ v
 KeepsRules f g = ⊥
 
--- A filter with the number may answer otherwise, honestly if it did before, with all under it
--- unchanged; a filter without it answers as it did, and what stands under it may change.
+-- a filter with the number may answer otherwise, honestly if it did before, with all under it
+-- unchanged; a filter without the number answers as it did, and what stands under it may change
 abbrev pub EitherReloaded : Bool → Behaviour → Behaviour → Type 0 → Type 0 → Type 0
 EitherReloaded true a b same rest = (AreHonest a → AreHonest b) × same
 EitherReloaded false a b same rest = (b ≡ a) × rest
 
--- the form g, where the form was f and the filter with this number may have taken a setting: all but
--- that filter's answers is as it was
+-- the form g, where the form was f and the filter with this number may have taken a setting: all
+-- but that filter's answers is as it was
 abbrev pub ReloadedForm : ℕ → Form → Form → Type 0
 ReloadedForm n (Filtered m a f) (Filtered k b g) =
     (k ≡ m) × EitherReloaded (filter_numbered m n) a b (g ≡ f) (ReloadedForm n f g)
@@ -52,15 +52,16 @@ ReloadSteps T = T → ℕ → Setting → T → Type 0
 
 -- how what has no filter goes on when a filter is reloaded: unchanged
 abbrev pub unreloaded : {T : Type 0} → ReloadSteps T
-unreloaded x n s y = y ≡ x
+unreloaded x n setting y = y ≡ x
 
 -- the law of reloading: where a filter takes a setting, no answers change but its own, no leaf is
 -- notified, and on each path that holds the filter only that filter goes on by the setting
 pub record ReloadLaws {T : Type 0} (has_form : T → Form → Type 0) (reloaded : ReloadSteps T)
     (hears : HearSteps T) (acts_at : ActsAt T) : Type 0 where
-  pub keeps : (x : T) (n : ℕ) (s : Setting) (y : T) (f : Form) → reloaded x n s y → has_form x f
-      → FollowsReload (has_form y) n f
-  pub heard : (x : T) (n : ℕ) (s : Setting) (y : T) (position : Position) → reloaded x n s y
-      → hears x position [] y
-  pub acts : (x : T) (n : ℕ) (s : Setting) (y : T) (position : Position) (cs : Conducts)
-      → reloaded x n s y → acts_at x position cs → acts_at y position (reloading n s cs)
+  pub keeps : (x : T) (n : ℕ) (setting : Setting) (y : T) (f : Form)
+      → reloaded x n setting y → has_form x f → FollowsReload (has_form y) n f
+  pub heard : (x : T) (n : ℕ) (setting : Setting) (y : T) (position : Position)
+      → reloaded x n setting y → hears x position [] y
+  pub acts : (x : T) (n : ℕ) (setting : Setting) (y : T) (position : Position) (cs : Conducts)
+      → reloaded x n setting y → acts_at x position cs
+      → acts_at y position (reloading n setting cs)

@@ -6,7 +6,7 @@ use Rattle.span_core.specs.declared.interest.Interest.TheVariants.{Always}
 use Rattle.span_core.specs.declared.interest.Interest.{Interest}
 use Rattle.span_store.specs.Store.{RegistryState}
 
--- the two are the same, extensions aside
+-- two registries are the same, extensions aside
 pub record SameButExtensions (old : RegistryState) (new : RegistryState) : Type 0 where
   pub spans : new.store.spans ≡ old.store.spans
   pub issued : new.store.issued ≡ old.store.issued

@@ -229,7 +229,7 @@ impl<S: Subscriber> Context<'_, S> {
     }
 
     /// Whether a span or an event with this metadata is enabled by the subscriber. Its filters'
-    /// answers go into a pass that is thrown away. Without a subscriber it is true.
+    /// answers go into a pass that is thrown away. Without a subscriber the answer is true.
     pub fn enabled(&self, meta: &Metadata) -> bool
         requires { IfSome (subscriber_in self.now) S.usable }
         ensures asked { AnswersProbe S.registry S.has_form self.now meta.now result }
@@ -415,9 +415,9 @@ impl<'a, S: LookupSpan> ContextMut<'a, S> {
         root.extensions_mut(id)
     }
 
-    /// What stands under the filter of this id is notified of it: of a new span and of an event
-    /// unless the filter refused it, of all else where no filter of the id refused the spans that
-    /// it is of.
+    /// Whether what stands under the filter of this id is notified of a notice: of a new span and
+    /// of an event unless the filter refused, of all else where the notice's spans are enabled for
+    /// the filter.
     #[inline(always)]
     pub fn admits(&self, notice: Notice<'_, '_>, filter: FilterId) -> bool
         ensures { result ≡ is_admitted S.registry filter (notice_of notice.entry) self.now }

@@ -1,5 +1,5 @@
-//! What stands on the store of spans: stacks, what they are asked and told, and what their layers
-//! see.
+//! What stands on the store of spans: stacks, what they are asked and notified of, and what their
+//! layers see.
 #![tactic(auto)]
 
 mod context;

@@ -46,7 +46,7 @@ impl Mask {
         verdict.is_enabled(self.filters.and(filter))
     }
 
-    /// One of these filters refused the span when it was made.
+    /// Whether one of the mask's filters refused the span when it was made.
     pub(crate) fn hides(self, found: &Data<'_>) -> bool
         ensures { result ≡ meets (filters_of self) (refuses (data_span found.now).verdict) }
     {

@@ -29,7 +29,7 @@ pub enum Notice<'a, 'b> {
 }
 
 impl Notice<'_, '_> {
-    /// Filters are notified of it, not layers alone.
+    /// Whether filters are notified of the notice, not layers alone.
     #[inline(always)]
     pub fn is_for_filters(&self) -> bool
         ensures { result ≡ is_for_filters (notice_of self.now) }

@@ -161,8 +161,8 @@ impl<'a, R: LookupSpan> Iterator for Scope<'a, R> {
 ///
 /// Stands for `tracing_subscriber::registry::ScopeFromRoot`.
 pub struct ScopeFromRoot<'a, R> {
-    /// The spans, leaf first. Each place holds one: it may be empty since a place without one needs
-    /// a value too.
+    /// The spans, leaf first. Each place holds one. Their type has `None` since a place that isn't
+    /// used needs a value too.
     spans: SmallVec<Option<SpanRef<'a, R>>, 16>,
 
     ghost full: { IsTrue (list_all is_some spans.items) },

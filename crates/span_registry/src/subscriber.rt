@@ -37,10 +37,10 @@ pub trait Subscriber: LookupSpan {
     /// How the stack's layers go on when they are notified.
     ghost stepped: { StackSteps Self };
 
-    /// Which notices the leaf at a place was notified of, from one value of the stack to another.
+    /// Which notices the leaf at a position was notified of from one value of the stack to another.
     ghost hears: { HearSteps Self };
 
-    /// Which conducts the filters have on the path at a place. Only a path of plain filters has
+    /// Which conducts the filters have on the path at a position. Only a path of plain filters has
     /// any.
     ghost acts_at: { ActsAt Self };
 
@@ -199,8 +199,8 @@ pub trait Subscriber: LookupSpan {
     /// The paths of plain filters act as their conducts say.
     ghost paths: { StackPathLaws Self.with_registry has_form stepped registered acts_at };
 
-    /// Where a filter takes a setting, the form's rules are kept, no leaf is notified, and the paths
-    /// that hold the filter act by the setting.
+    /// Where a filter takes a setting, the form's rules are kept, no leaf is notified, and the
+    /// paths that hold the filter act by the setting.
     ghost reloads: { ReloadLaws has_form reloaded hears acts_at };
 }
 

@@ -1,5 +1,5 @@
 -- What the contract of each call of a logged dispatcher says: what the dispatcher promises of it,
--- where it isn't refused, and which entry it adds.
+-- and which entry it adds, where it isn't refused.
 use Rattle.std.specs.Prelude.{◌≡◌, ◌⊎◌, Bool, Option, None, Some, Result, Ok, Err, IfErr, IfOk}
 use Rattle.std.specs.FinMap.{get}
 use Rattle.std.specs.Option.{option_map}
@@ -138,4 +138,5 @@ module _ {S : Type 0} (s : SubscriberOf S) where
       (λ r. Logs (NeverRefused (ShowsSpan lane)) (AddsEntry (current_entry lane)) r old new)
   LogsCall lane (Reload n setting) a old new =
       Gave {A = Unit {0}} done_answer a
-      (λ r. Logs (ReloadsFilter s n setting) (AddsEntry (λ u. entry.Reload lane n (level_in setting))) r old new)
+      (λ r. Logs (ReloadsFilter s n setting)
+      (AddsEntry (λ u. entry.Reload lane n (level_in setting))) r old new)

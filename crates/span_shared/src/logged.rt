@@ -17,7 +17,7 @@ use span_targets::Setting;
 use std::alloc::Global;
 use std::marker::Model;
 
-/// The accepted requests, in order. Contracts see it as the list of them.
+/// The accepted requests, in order. Contracts see a journal as the list of its entries.
 ///
 /// Own to this port.
 #[derive(Debug)]
@@ -124,7 +124,7 @@ impl Receipt {
 /// A dispatcher with its journal. Between calls each entry could have happened after those before
 /// it, and all of them leave the dispatcher's store, extensions aside.
 ///
-/// Its calls are those of `Dispatch`. One that isn't refused appends its entry, and gives that
+/// The calls are those of `Dispatch`. One that isn't refused appends its entry, and gives that
 /// entry's receipt beside its answer. Each is refused for want of memory for the journal first, and
 /// then as `Dispatch` refuses it; a refused call appends nothing.
 ///
@@ -375,7 +375,8 @@ impl<S: Subscriber> Logged<S> {
     ) -> Result<((), Receipt), TraceError>
         ensures ready { On (StaysReadyBut S.Subscriber number) self.old self.new }
         ensures logs { Logs (ReloadsFilter S.Subscriber number setting)
-            (AddsEntry (λ _. EntryWith.Reload lane number (level_in setting))) result self.old self.new }
+            (AddsEntry (λ _. EntryWith.Reload lane number (level_in setting)))
+            result self.old self.new }
     {
         let Logged { dispatch, journal } = self;
         let Journal { entries } = journal;

@@ -66,7 +66,7 @@ Hooked hooked f (OnExit id) lane under v g w = hooked f (OnExit id) lane under v
 Hooked hooked f (OnClose id) lane under v g w = hooked f (OnClose id) lane under v g w
 
 -- filter and layer are notified: the filter first, which writes extensions alone, then its layer in
--- what the filter left; both under the filter too
+-- what the filter left; both under a mask with the filter in it
 pub record GoThrough {F L : Type 0} (hooked : FilterSteps F) (stepped : LayerSteps L)
     (id : FilterId) (f : F) (x : L) (p : Plan) (e : Notice) (lane : ℕ) (under : FilterSet)
     (v : RegistryState) (g : F) (y : L) (w : RegistryState) : Type 0 where

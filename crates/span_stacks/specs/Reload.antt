@@ -1,5 +1,4 @@
--- How a layer under a filter and two parts are reloaded: each part is, which keeps the law of
--- reloading.
+-- How a layer under a filter and two parts are reloaded.
 use Rattle.std.specs.Prelude.{◌≡◌, ℕ, Bool, true, false}
 use Rattle.span_core.specs.Filters.{has_filter}
 use Rattle.span_core.specs.declared.filter.FilterId.{FilterId}

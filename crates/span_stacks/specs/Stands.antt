@@ -108,6 +108,7 @@ abbrev pub stack_acts : {L I : Type 0} → ActsAt L → ActsAt I → ActsAt (Lay
 stack_acts layer below x = LayeredActs layer below (outer_of x) (inner_of x)
 
 -- how a layer on a stack is reloaded
-abbrev pub stack_reloads : {L I : Type 0} → ReloadSteps L → ReloadSteps I → ReloadSteps (Layered L I)
+abbrev pub stack_reloads : {L I : Type 0} → ReloadSteps L → ReloadSteps I
+    → ReloadSteps (Layered L I)
 stack_reloads layer below x n l y =
     LayeredReloads layer below (outer_of x) (inner_of x) n l (outer_of y) (inner_of y)

@@ -1,4 +1,4 @@
--- Which filters take a setting: where numbers are distinct, one.
+-- Which filters take a setting: where numbers are distinct, one at most.
 use Rattle.std.specs.Prelude.{◌≡◌, ⊤, ℕ, true, false}
 use Rattle.span_targets.specs.declared.setting.Setting.{Setting}
 use Rattle.span_stacks.specs.Verdict.{HasOwnNumbers}

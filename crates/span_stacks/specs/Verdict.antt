@@ -85,8 +85,8 @@ abbrev pub IsFresh : Form → Notice → FilterSet → Store → ℕ → Type 0
 IsFresh f e refused s lane =
     (spans : Spans) → by_pass f e spans no_filter refused ≡ asked_afresh f e s lane no_filter
 
--- all were asked of a new span with a new pass, and nobody vetoed: who is notified by the pass is
--- who is notified afresh, and the pass holds the verdict
+-- who is notified of a new span by a pass with these refusals is who is notified afresh, and the
+-- refusals are the verdict
 pub record NewSpanIsFresh (f : Form) (attrs : Attributes) (id : Id) (s : Store) (lane : ℕ)
     (refused : FilterSet) : Type 0 where
   pub plan : IsFresh f (OnNewSpan attrs id) refused s lane
@@ -103,8 +103,7 @@ EventIsFresh f e s lane =
     (event_asked f e s lane no_filter
     (asked f (event_metadata e) s lane no_filter no_filter).1).1 s lane
 
--- who is notified of any other notice follows from the verdicts of spans, and a pass makes no
--- difference
+-- who is notified of any other notice, by a pass with these refusals, is who is notified afresh
 abbrev pub OthersAreFresh : Form → Store → ℕ → FilterSet → FilterSet → Notice → Type 0
 OthersAreFresh f s lane under refused (OnNewSpan attrs id) = ⊤
 OthersAreFresh f s lane under refused (OnEvent e) = ⊤
@@ -118,8 +117,8 @@ NotifiesWhosePathPasses f position path e s lane under =
     path_at f position ≡ Some path
     → is_notified (asked_afresh f e s lane under) position ≡ passes_path path e s lane under
 
--- where there is room for all its filters, a form that took the next numbers has numbers of its
--- own; a stack has too, once the layer of that form is on it
+-- a form each of whose filters took the next number has numbers of its own; a stack has too, once
+-- the layer of that form is on it
 pub record NumbersAreOwn (f : Form) (n : ℕ) : Type 0 where
   pub next : (numbered f n).1 ≡ n + filters_in f
   pub own : HasOwnNumbers (numbered f n).0 (numbered f n).1

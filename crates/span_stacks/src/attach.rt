@@ -29,7 +29,7 @@ impl<L, S> fmt::Display for Unattached<L, S> {
     }
 }
 
-/// It shows neither part, so that it is an error also where a part has no `Debug`.
+/// The text shows neither part, so that this is an error also where a part has no `Debug`.
 impl<L, S> fmt::Debug for Unattached<L, S> {
     fn fmt<W: fmt::Write>(&self, f: &mut fmt::Formatter<W>) -> fmt::Result {
         f.debug_struct("Unattached").finish_non_exhaustive()

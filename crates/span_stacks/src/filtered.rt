@@ -188,7 +188,7 @@ impl<S: Subscriber, L: Layer<S>, F: Filter<S>> Layer<S> for Filtered<L, F> {
     }
 
     fn is_filtered(&self) -> bool {
-        true // It has a filter of its own.
+        true // The layer has a filter of its own.
     }
 
     fn is_absent(&self) -> bool {

@@ -51,7 +51,7 @@ pub fn an_honest_stack_keeps_the_rules()
     ensures still { (f : Form) (n : ℕ) → IsHonestStack f n → WritesOnlyExtensions f }
 {}
 
-/// An honest stack that was notified, or put in use, is honest.
+/// An honest stack that was notified, put in use or reloaded is honest.
 pub fn honesty_is_kept()
     ensures { HonestyIsKept }
 {}

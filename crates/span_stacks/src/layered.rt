@@ -116,8 +116,8 @@ pub(crate) fn hint_over(outer: Hinted, inner: Hinted) -> Option<LevelFilter>
     greater_of(outer.hint, inner.hint)
 }
 
-/// If the outer layer says `always`, a `never` from an inner part that is per-layer filtered (or
-/// the bare registry) becomes `sometimes`.
+/// The inner part's interest under an outer `always`: a `never` becomes `sometimes` where the inner
+/// part is marked, or is the registry.
 pub(crate) fn calmed(inner: Interest, calm: bool) -> Interest
     ensures { result ≡ if is_never inner && calm then Sometimes else inner }
 {

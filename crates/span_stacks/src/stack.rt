@@ -207,7 +207,7 @@ impl<I: Subscriber, L: Layer<I>> Subscriber for Layered<L, I> {
     }
 
     fn is_registry(&self) -> bool {
-        false // A layer stands on it.
+        false // A layer stands on the registry.
     }
 
     fn reload(&mut self, number: u32, setting: Setting) -> bool {

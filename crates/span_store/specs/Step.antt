@@ -126,8 +126,8 @@ pub record Opens (lane : Lane) (span : AskedSpan) (id : Id) (old new : RegistryS
   pub unused : get old.store.spans (number_of id) ≡ None
   pub state : new ≡ with_span old (number_of id) (begun span parent)
 
--- why a new span is refused: an unknown parent, else a full one, else no place, else memory, of
--- which none is held for it
+-- why a new span is refused: an unknown parent, else a full one, else no place or id, else memory,
+-- of which none is held for it
 abbrev pub RefusesNew : RegistryState → Lane → Parent → TraceError → Type 0
 RefusesNew s lane wanted (UnknownParent x) =
     (wanted ≡ Explicit x) × ¬ (IsOpen s.store.spans (number_of x))
@@ -201,7 +201,7 @@ RefusesRelease s x e = RefusesUnlessOpen s x e
     ⊎ ((e ≡ NoHandle x) × IsOpen s.store.spans (number_of x)
     × ¬ (IsHeld s.store.spans (number_of x)))
 
--- no more places are retired than all their generations allow
+-- at least as many ids were issued as all retired places may hold spans
 abbrev pub RetiresLate : RegistryState → Type 0
 RetiresLate s = s.retired * s.limits.generations ≤ set_len s.store.issued
 

@@ -107,7 +107,7 @@ impl<T> Keyed<T> {
         self.next
     }
 
-    /// Puts a value in, for which there is room.
+    /// Puts a value in, for which there is room, and answers its key.
     pub(crate) fn insert_reserved(&mut self, value: T) -> usize
         requires { HasRoomFor self.old 1 }
         ensures key { result ≡ self.old.vacant_key }

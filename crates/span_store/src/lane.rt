@@ -17,7 +17,7 @@ use std::marker::Model;
 /// The lanes' stacks, seen as the map of those that aren't empty, and that of the room for entries.
 #[derive(Drop)]
 pub(crate) struct LaneStacks {
-    /// The stack of lane 0, which is found without a search: a program with one lane has no other.
+    /// The stack of lane 0, which is found without a search: many programs have no other lane.
     first: LaneStack,
     /// The stacks of the other lanes.
     others: HashMap<u32, LaneStack, SeededState>,

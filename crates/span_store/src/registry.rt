@@ -307,8 +307,8 @@ impl Registry {
         self.stacks.pop(lane, id);
     }
 
-    /// The span that a lane is in. It looks at the newest entry of its stack that is no duplicate,
-    /// and at no other.
+    /// The span that a lane is in. This looks at the newest entry of the lane's stack that is no
+    /// duplicate, and at no other.
     pub fn current_on(&self, lane: Lane) -> Current
         ensures { ShowsCurrent self.now.store lane result }
     {

@@ -68,8 +68,8 @@ impl Slot {
 pub(crate) struct Slots {
     limits: Limits,
     slots: Vec<Slot>,
-    /// The slots that may be used again, the one freed last at the end. It has room for all of
-    /// them.
+    /// The slots that may be used again, the one freed last at the end. The list has room for all
+    /// slots.
     free: Vec<u32>,
     /// How many slots held their last span.
     retired: u32,
@@ -193,7 +193,7 @@ impl Slots {
         found.key_in(generation)
     }
 
-    /// Each slot holds a span or is retired, and no more may be made.
+    /// Whether each slot holds a span or is retired, and no more may be made.
     pub(crate) fn are_full(&self) -> bool
         ensures { MatchBool result (HasNoSlot self.now) (HasSlot self.now) }
     {

@@ -48,7 +48,7 @@ pub trait SpanData {
     fn extensions(&self) -> Extensions<'_>
         ensures { shown_map result ≡ extensions_of self.now };
 
-    /// The span is enabled for a filter. Data that know no filters are enabled for each.
+    /// True where the span is enabled for a filter. Data that know no filters answer so for each.
     fn is_enabled_for(&self, _filter: FilterId) -> bool
         ensures enabled { IsTrue (enabled_for self.now _filter) → IsTrue result }
     {
@@ -95,7 +95,7 @@ impl SpanData for Data<'_> {
         Extensions::new(self.extensions)
     }
 
-    /// Whether none of the filters refused the span when it was made. False where the filter is
+    /// Whether none of the id's filters refused the span when it was made. False where the id is
     /// unattached.
     fn is_enabled_for(&self, filter: FilterId) -> bool
         ensures enabled { IsTrue (is_enabled (data_span self.now).verdict filter) → IsTrue result }

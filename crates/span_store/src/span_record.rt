@@ -23,7 +23,7 @@ pub(crate) struct Counts {
 }
 
 impl Counts {
-    /// The span is open.
+    /// Whether the span is open.
     pub(crate) fn is_open(self) -> bool
         ensures { IsTrue result ↔ CountsAny self }
     {
@@ -44,7 +44,7 @@ impl Counts {
 }
 
 impl SpanRecord {
-    /// How many handles and children it has.
+    /// How many handles and children the span has.
     pub(crate) fn counts(&self) -> Counts
         ensures { result ≡ counts_in self.now }
     {

@@ -66,7 +66,7 @@ impl SpanStore {
         }
     }
 
-    /// What limits it.
+    /// The limits of the store.
     pub(crate) fn limits(&self) -> Limits
         ensures { result ≡ self.now.limits }
     {
@@ -138,7 +138,7 @@ impl SpanStore {
         }
     }
 
-    /// Takes a child from a span. Answers it, if it is closing by this.
+    /// Takes a child from a span. Answers the span, if that is closing by this.
     pub(crate) fn lose_child(&mut self, id: Id) -> Option<Id>
         requires { HasRecord self.old id (λ r. 0 < r.children) }
         ensures written { Writes id fewer self.old self.new }
@@ -168,7 +168,7 @@ impl SpanStore {
 
     /// Takes a handle from a span, and answers whether the span is closing by that.
     ///
-    /// Refused where it isn't open (`UnknownSpan`), else where it has no handle (`NoHandle`).
+    /// Refused where the span isn't open (`UnknownSpan`), else where it has no handle (`NoHandle`).
     pub(crate) fn release(&mut self, id: Id) -> Result<Released, TraceError>
         ensures released { IfOk result (λ answer. LosesHandle id answer self.old self.new) }
         ensures refused { IfErr result (RefusesLoss self.old id) }
@@ -192,7 +192,7 @@ impl SpanStore {
 
     /// Gives a span one more handle.
     ///
-    /// Refused where it isn't open (`UnknownSpan`), else where its handles are at the limit
+    /// Refused where the span isn't open (`UnknownSpan`), else where its handles are at the limit
     /// (`CountFull`).
     pub(crate) fn add_handle(&mut self, id: Id) -> Result<(), TraceError>
         ensures added { OnOk result (GainsHandle id self.old self.new) }

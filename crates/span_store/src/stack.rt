@@ -137,7 +137,7 @@ impl Model for LaneStack {
 }
 
 impl LaneStack {
-    /// An empty stack. It takes no memory before the first `push`.
+    /// An empty stack. It takes no memory before the first `push` or `reserve`.
     pub(crate) fn new(alloc: Global) -> Self
         ensures { result ≡ no_entries }
     {
@@ -215,7 +215,7 @@ impl LaneStack {
     }
 }
 
-/// Where the last entry of a span stands. All entries are held.
+/// Where the last entry of a span stands. The filter `held` may hold each entry's span.
 fn last_place(entries: &[Entry], held: Bloom, id: Id) -> Option<usize>
     requires { HoldsAll held (ids entries.now) }
     ensures { IsAtLast entries.now (number_of id) result }

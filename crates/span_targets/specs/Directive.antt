@@ -12,7 +12,7 @@ use Rattle.span_targets.specs.declared.directive.Directive.{Directive}
 abbrev pub target_of : Directive → List ℕ
 target_of d = string_bytes d.target
 
--- the levels that pass by it
+-- the levels that pass by a directive
 abbrev pub level_by : Directive → LevelFilter
 level_by d = d.level
 
@@ -24,7 +24,7 @@ has_target t d = bytes_eq (target_of d) t
 abbrev pub word_of : LevelFilter → List ℕ
 word_of l = option_map_or (λ level. map to_ascii_lowercase (level_text level)) l.0 (codes "off")
 
--- the text of a directive: its target, `=` and that word
+-- the text of a directive: its target, `=` and the word for its levels
 abbrev pub directive_text : Directive → List ℕ
 directive_text d = target_of d ++ (61 ∷ word_of (level_by d))
 

@@ -61,11 +61,11 @@ makes_spans Events = false
 abbrev pub is_span : Metadata → Bool
 is_span m = makes_spans (kind_of m).0
 
--- what a filter goes by outside of spans
+-- what a filter lets pass by targets, within spans and outside of them
 abbrev pub targets_in : EnvFilter → Targets
 targets_in f = f.targets
 
--- by what a filter lets more pass within spans
+-- the directives by which a filter lets more pass within spans
 abbrev pub spans_of : EnvFilter → List SpanDirective
 spans_of f = f.spans.items
 

@@ -45,7 +45,7 @@ level_behind s =
     then known_level (level_named (after_first (λ b. b == 61) s)) else Err Span)
     else Err Span
 
--- the same for spans of this name, whose target begins with this one
+-- the levels are for spans of this name, whose target begins with this one, if they are levels
 abbrev pub within_spans : List ℕ → List ℕ → Result LevelFilter Fault → Result SpanMeaning Fault
 within_spans target name (Ok level) = Ok (record { target = target; name = name; level = level })
 within_spans target name (Err fault) = Err fault
@@ -54,7 +54,7 @@ within_spans target name (Err fault) = Err fault
 abbrev pub has_mark : List ℕ → Bool
 has_mark s = has 61 s || (has 93 s || has 123 s)
 
--- what a directive for spans says by the two sides of its `[`: the target has none of those marks;
+-- what a directive for spans says by the two sides of its `[`: the target has no `=`, `]` or `{`;
 -- the name goes as far as the first `]`, and has no `{`
 abbrev pub span_meaning : List ℕ → List ℕ → Result SpanMeaning Fault
 span_meaning target s =
@@ -65,11 +65,12 @@ span_meaning target s =
     (level_behind (after_first (λ b. b == 93) s)))
     else Err Span
 
--- what was said of targets, or of spans
+-- what was said of targets, as what a directive says
 abbrev pub of_targets : Result Meaning Fault → Result EnvMeaning Fault
 of_targets (Ok d) = Ok (OfTargets d)
 of_targets (Err fault) = Err fault
 
+-- what was said of spans, as what a directive says
 abbrev pub of_spans : Result SpanMeaning Fault → Result EnvMeaning Fault
 of_spans (Ok d) = Ok (OfSpans d)
 of_spans (Err fault) = Err fault
@@ -97,7 +98,8 @@ with_said (OfTargets d) m = record m { targets = naming d.0 d.1 m.targets }
 with_said (OfSpans d) m = record m { spans = m.spans ++ d ∷ [] }
 
 -- what is read on, unless the directive with this number is wrong
-abbrev pub unless_fault : ℕ → Result EnvMeaning Fault → (EnvMeaning → Result EnvNames WrongDirective)
+abbrev pub unless_fault : ℕ → Result EnvMeaning Fault
+    → (EnvMeaning → Result EnvNames WrongDirective)
     → Result EnvNames WrongDirective
 unless_fault n (Ok d) on = on d
 unless_fault n (Err fault) on = Err (record { number = n; fault = fault })
@@ -130,7 +132,8 @@ EnvReads r (Ok f) = r ≡ Ok (said_of f)
 EnvReads r (Err (Wrong w)) = r ≡ Err w
 EnvReads r (Err OutOfMemory) = ⊤
 
--- some text was read, or its first wrong directive is told; or the text can't be had
+-- some text was read, or its first wrong directive is given, or memory was refused; or the text
+-- can't be had
 abbrev pub EnvReadsSomeText : Result EnvFilter FromEnvError → Type 0
 EnvReadsSomeText (Ok f) = (s : List ℕ) × (env_reading s ≡ Ok (said_of f))
 EnvReadsSomeText (Err (Parse e)) = (s : List ℕ) × EnvReads (env_reading s) (Err e)

@@ -27,7 +27,7 @@ abbrev pub naming_each : List (Bor (List ℕ) × LevelFilter) → Names → Name
 naming_each [] m = m
 naming_each (x ∷ xs) m = naming_each xs (naming (Some x.0.now) x.1 m)
 
--- of the texts that the target begins with, of n bytes at most, the longest that has levels
+-- the levels of the longest text, of n bytes at most, that the target begins with and that has some
 abbrev pub longest : Names → List ℕ → ℕ → Option LevelFilter
 longest m t zero = m (Some [])
 longest m t (suc n) = option_or (m (Some (take (suc n) t))) (longest m t n)

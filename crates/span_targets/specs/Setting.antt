@@ -22,6 +22,6 @@ sets_to f (Directives g) = g.now ≡ f
 -- a setting is the directives that were read; where there is none, this directive is wrong, or
 -- memory was refused
 abbrev pub ReadsSetting : Result EnvNames WrongDirective → Result Setting ParseError → Type 0
-ReadsSetting r (Ok s) = (f : EnvFilter) × sets_to f s × (r ≡ Ok (said_of f))
+ReadsSetting r (Ok setting) = (f : EnvFilter) × sets_to f setting × (r ≡ Ok (said_of f))
 ReadsSetting r (Err (Wrong w)) = r ≡ Err w
 ReadsSetting r (Err OutOfMemory) = ⊤

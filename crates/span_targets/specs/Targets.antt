@@ -16,7 +16,7 @@ use Rattle.span_targets.specs.declared.targets.Targets.{Targets}
 abbrev pub directives_of : Targets → List Directive
 directives_of f = f.directives.items
 
--- the levels that pass where a target begins with none of these, if they were set
+-- the default: the levels that pass where a target begins with no directive's, if they were set
 abbrev pub default_of : Targets → Option LevelFilter
 default_of f = f.default
 
@@ -45,7 +45,7 @@ default_pieces (Some l) = word_of l ∷ []
 abbrev pub pieces_of : Targets → List (List ℕ)
 pieces_of f = map directive_text (directives_of f) ++ default_pieces (default_of f)
 
--- those, with commas between them; where there is none, `off`
+-- texts of directives with commas between them; where there is none, `off`
 abbrev pub joined : List (List ℕ) → List ℕ
 joined [] = codes "off"
 joined (p ∷ ps) = join_with_byte 44 (p ∷ ps)

@@ -143,7 +143,8 @@ pub record ReadsLossily (s : List ℕ) (f : Targets) (ws : List WrongDirective) 
   pub names : names_of f ≡ named_by s
   pub wrong : ws ≡ wrong_in s
 
--- some text was read, or its first wrong directive is told; or the text can't be had
+-- some text was read, or its first wrong directive is given, or memory was refused; or the text
+-- can't be had
 abbrev pub ReadsSomeText : Result Targets FromEnvError → Type 0
 ReadsSomeText (Ok f) = (s : List ℕ) × (reading s ≡ Ok (names_of f))
 ReadsSomeText (Err (Parse e)) = (s : List ℕ) × Reads (reading s) (Err e)

@@ -51,21 +51,21 @@ impl Directive {
         self.level = level;
     }
 
-    /// Whether the text begins with its target.
+    /// Whether the text begins with the directive's target.
     pub(crate) fn begins(&self, text: &str) -> bool
         ensures { result ≡ begins text.now self.now }
     {
         text.as_bytes().starts_with(self.target.as_bytes())
     }
 
-    /// Whether its target is this one.
+    /// Whether the directive's target is this one.
     pub(crate) fn has_target(&self, target: &str) -> bool
         ensures { result ≡ has_target target.now self.now }
     {
         self.target.as_str() == target
     }
 
-    /// Whether it stands before a new directive with this target.
+    /// Whether the directive stands before a new one with this target.
     pub(crate) fn precedes(&self, target: &str) -> bool
         ensures { result ≡ precedes target.now self.now }
     {
@@ -77,7 +77,7 @@ impl Directive {
     }
 }
 
-/// Writes what is read as the directive: `target=level`.
+/// Writes the directive as `target=level`, with the level in small letters.
 impl fmt::Display for Directive {
     ghost output = { λ directive. Some (directive_text directive) };
 

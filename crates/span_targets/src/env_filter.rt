@@ -73,7 +73,7 @@ impl EnvFilter {
         &self.targets
     }
 
-    /// What passes within spans.
+    /// The directives by which more passes within spans.
     pub fn spans(&self) -> &[SpanDirective]
         ensures { result.now ≡ spans_of self.now }
     {

@@ -9,20 +9,20 @@ use thiserror::Error;
 /// What is wrong with a directive.
 #[derive(Clone, Copy, Debug, PartialEq, Eq, Error)]
 pub enum Fault {
-    /// It has more than one `=`.
+    /// The directive has more than one `=`.
     #[error("it has more than one '='")]
     TwoEquals,
-    /// What follows its `=` is no level.
+    /// What follows the directive's `=` is no level.
     #[error("its level isn't off, error, warn, info, debug, trace or 0 to 5")]
     UnknownLevel,
-    /// Its target has a `[`: a filter by targets knows nothing of spans and fields.
+    /// The directive's target has a `[`: a filter by targets knows nothing of spans and fields.
     #[error("its target has a '['")]
     Bracket,
-    /// What follows its `[` names no spans: a filter by spans takes a name, `]`, and then nothing or
-    /// `=` and a level. It knows nothing of fields.
+    /// The directive has a `[` and names no spans. One that does is a target without `=`, `]` or
+    /// `{`, then `[`, a name without `{`, `]`, and nothing or `=` and a level.
     #[error("after its '[' it wants a span's name, ']', and perhaps '=' and a level")]
     Span,
-    /// As many as are read stand before it.
+    /// As many directives as are read stand before this one.
     #[error("more than 1024 directives aren't read")]
     TooMany,
 }
@@ -31,9 +31,9 @@ pub enum Fault {
 #[derive(Clone, Copy, Debug, PartialEq, Eq, Error)]
 #[error("directive {number}: {fault}")]
 pub struct WrongDirective {
-    /// Its number in the text, counted from 1.
+    /// The directive's number in the text, counted from 1.
     pub number: usize,
-    /// What is wrong with it.
+    /// What is wrong with the directive.
     pub fault: Fault,
 }
 

@@ -4,7 +4,7 @@ ghost use Rattle.span_targets.specs.Text.{NamesLevels};
 
 use crate::targets::Targets;
 
-/// What a filter is written as is read as a filter that names the same, where no target has a
+/// What a filter is written as is read as a filter by which the same passes, where no target has a
 /// comma, `=` or `[`, and there are no more directives than are read.
 pub fn texts_are_read_back(filter: &Targets)
     requires { CanBeWritten filter.now }

@@ -42,7 +42,7 @@ pub(crate) fn first_level(directives: &[Directive], text: &str) -> Option<LevelF
     None
 }
 
-/// The most that passes by one of them, or by this.
+/// The most that passes by one of these directives, or by this level.
 pub(crate) fn most_of(directives: &[Directive], level: LevelFilter) -> LevelFilter
     ensures { result ≡ most_of level directives.now }
 {
@@ -53,7 +53,7 @@ pub(crate) fn most_of(directives: &[Directive], level: LevelFilter) -> LevelFilt
     most
 }
 
-/// The one that passes more.
+/// The filter by level that passes more.
 pub(crate) fn greater(a: LevelFilter, b: LevelFilter) -> LevelFilter
     ensures { result ≡ greater a b }
 {

@@ -8,7 +8,7 @@ use crate::read::read_directive;
 use crate::targets::Targets;
 use std::alloc::{AllocError, Global};
 
-/// How many directives of a text are read.
+/// How many directives of a text are read at most.
 pub const MAX_DIRECTIVES: usize = 1024;
 
 impl Targets {

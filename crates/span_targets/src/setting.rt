@@ -40,7 +40,7 @@ impl Setting {
         Ok(Setting::leak(alloc, filter)?)
     }
 
-    /// The level, if it is one.
+    /// The level, if the setting is one.
     pub fn level(&self) -> Option<LevelFilter>
         ensures { result ≡ level_in self.now }
     {

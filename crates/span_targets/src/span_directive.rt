@@ -49,14 +49,14 @@ impl SpanDirective {
         self.name.as_str()
     }
 
-    /// The levels that pass within them.
+    /// The levels that pass within the spans.
     pub fn level(&self) -> LevelFilter
         ensures { result ≡ level_within self.now }
     {
         self.level
     }
 
-    /// Whether a span with this metadata is one of them.
+    /// Whether a span with this metadata is one that the directive names.
     pub fn names_span(&self, meta: &Metadata) -> bool
         ensures { result ≡ names_span meta.now self.now }
     {

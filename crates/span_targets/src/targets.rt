@@ -71,8 +71,8 @@ impl Targets {
         Ok(())
     }
 
-    /// Adds each of these targets with its levels, in their order. Where memory is refused, it has
-    /// added some of the first.
+    /// Adds each of these targets with its levels, in their order. Where memory is refused, the
+    /// filter has some of the first.
     ///
     /// Stands for the crate's `Extend`.
     pub fn extend(&mut self, targets: &[(&str, LevelFilter)]) -> Result<(), AllocError>
@@ -152,8 +152,8 @@ impl Targets {
     }
 }
 
-/// Writes what is read as a filter by which the same passes: directives with commas between them,
-/// the longest target first and the default last; `off`, where nothing passes.
+/// Writes directives with commas between them, the longest target first and the default last, or
+/// `off` where there is none. `laws::texts_are_read_back` says when the text is read back.
 impl fmt::Display for Targets {
     ghost use Rattle.span_targets.specs.Targets.{text_of};
 

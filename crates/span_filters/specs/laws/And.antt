@@ -45,6 +45,7 @@ and_above l (Some f) (Some g) e = above_lesser l f g (nat_le (filter_number f) (
 and_above l (Some f) None e = absurd (cc)
 and_above l None k e = absurd (cc)
 
+-- the answers are honest where both parts' answers are
 pub and_honest : (x y : Behaviour) → AreHonest x → AreHonest y → AreHonest (and_answers x y)
 and_honest x y h k = record {
   always =
@@ -59,6 +60,7 @@ and_honest x y h k = record {
   alike = λ m n e i. and_interest (h.alike m n e i) (k.alike m n e i);
 }
 
+-- interest and hint stay where both parts' do
 pub and_same : (x y u w : Behaviour) → SameInterestAndHint x u → SameInterestAndHint y w
     → SameInterestAndHint (and_answers x y) (and_answers u w)
 and_same x y u w s t = record {
@@ -66,12 +68,14 @@ and_same x y u w s t = record {
   hint = λ i. and_hint (s.hint i) (t.hint i);
 }
 
+-- the answers are plain where both parts' answers are
 pub and_plain : (x y : Behaviour) → ArePlain x → ArePlain y → ArePlain (and_answers x y)
 and_plain x y p q = record {
   enabled = λ m v w e i. p.enabled m v w e i && q.enabled m v w e i;
   event = λ n v w e i. p.event n v w e i && q.event n v w e i;
 }
 
+-- the answers are alike where both parts' answers are
 pub and_alike : (x y u w : Behaviour) → AnswerAlike x u → AnswerAlike y w
     → AnswerAlike (and_answers x y) (and_answers u w)
 and_alike x y u w h k = record {

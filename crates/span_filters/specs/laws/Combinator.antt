@@ -139,7 +139,7 @@ module _ {A B C : Type 0} (join : Behaviour → Behaviour → Behaviour) (first 
         };
   }
 
--- a filter made of filters takes no setting, and keeps the law of reloading
+-- a filter made of one filter takes no setting, and keeps the law of reloading
 pub one_reloads : {A C : Type 0} {turn : Behaviour → Behaviour} {has : C → Behaviour → Type 0}
     {acts : A → Conduct → Type 0} (part : C → A)
     → FilterReloadLaws has unreloaded (λ f b. ActsOne turn acts (part f) b)
@@ -151,6 +151,7 @@ one_reloads part =
       turned = ap (after_reload l) h.turned;
     })
 
+-- a filter made of two filters takes no setting, and keeps the law of reloading
 pub both_reloads : {A B C : Type 0} {join : Behaviour → Behaviour → Behaviour}
     {has : C → Behaviour → Type 0} {acts : A → Conduct → Type 0} {other_acts : B → Conduct → Type 0}
     (first : C → A) (second : C → B)

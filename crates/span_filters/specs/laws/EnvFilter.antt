@@ -39,7 +39,7 @@ right_of : (a b : Bool) → (a || b) ≡ false → b ≡ false
 right_of true b e = absurd (cc)
 right_of false b e = e
 
--- what passes within no span passes in none
+-- a level that passes in no span at all passes in none with these metadata
 within_none : (ds : List SpanDirective) (m : Metadata) (l : Level) → passes_somewhere ds l ≡ false → passes_within ds m l ≡ false
 within_none [] m l e = refl
 within_none (d ∷ ds) m l e =
@@ -56,7 +56,7 @@ around_none : (ds : List SpanDirective) (l : Level) → passes_somewhere ds l �
 around_none ds l e spans [] = refl
 around_none ds l e spans (x ∷ xs) = both_false _ _ (seen_none ds l e (get spans x)) (around_none ds l e spans xs)
 
--- what passes nowhere is of an interest of never, and what passes in each view of always
+-- where the interest is always, metadata are enabled; where it is never, they pass nowhere
 always_enabled : (here around some : Bool) → (if here then Always else if some then Sometimes else Never) ≡ Always
     → (here || around) ≡ true
 always_enabled true around some e = refl
@@ -102,6 +102,7 @@ module _ (f : EnvFilter) where
       (right_false _ _ (within_none (spans_of f) m (level_of m) some)))
       (around_none (spans_of f) (level_of m) some v.spans (scope v.spans (current_shown v)))
 
+  -- the interest, by what metadata show
   interest_by : Kind → Level → List ℕ → List ℕ → Interest
   interest_by kind l name target =
       if passes_level (level_for (names_of (targets_in f)) target) l

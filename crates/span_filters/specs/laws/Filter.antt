@@ -1,4 +1,4 @@
--- Filters keep their law: those whose hooks do nothing, and those that take no level.
+-- Filters keep their law: those whose hooks do nothing, and those that take no setting.
 use Rattle.std.specs.Prelude.{◌≡◌, [], ◌∷◌, refl}
 use Rattle.std.proofs.Common.{ap, sym, subst}
 use Rattle.span_filters.specs.Filter.{FilterLaws, FilterReloadLaws, settled_answers, unmoved, ActsSteadily, unreloaded}

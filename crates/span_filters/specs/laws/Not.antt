@@ -18,6 +18,7 @@ turned_never Always e = refl
 turned_never Sometimes e = absurd (cc)
 turned_never Never e = absurd (cc)
 
+-- the answers are honest where the part's answers are
 pub not_honest : (x : Behaviour) → AreHonest x → AreHonest (not_answers x)
 not_honest x h = record {
   always = λ m v e. not_from_false (x.enabled m v) (h.never m v (turned_always (x.interest m) e));
@@ -26,13 +27,16 @@ not_honest x h = record {
   alike = λ m k e. ap not_interest (h.alike m k e);
 }
 
+-- interest and hint stay where the part's do
 pub not_same : (x y : Behaviour) → SameInterestAndHint x y
     → SameInterestAndHint (not_answers x) (not_answers y)
 not_same x y s = record { interest = λ i m. not_interest (s.interest i m); hint = refl }
 
+-- the answers are plain where the part's answers are
 pub not_plain : (x : Behaviour) → ArePlain x → ArePlain (not_answers x)
 not_plain x p = record { enabled = λ m v w e. ap not (p.enabled m v w e); event = λ e v w d. refl }
 
+-- the answers are alike where the part's answers are
 pub not_alike : (x y : Behaviour) → AnswerAlike x y → AnswerAlike (not_answers x) (not_answers y)
 not_alike x y h = record {
   enabled = λ m s lane mask. ap not (h.enabled m s lane mask);

@@ -88,7 +88,7 @@ module _ {F : Type 0} {has : F → Behaviour → Type 0} {reloaded : FilterReloa
   part_reloads_act (Some f) l None b s h = absurd s
   part_reloads_act None l (Some g) b s h = absurd s
 
-  -- an optional filter takes what the filter takes that it holds
+  -- an optional filter keeps the law of reloading, since the filter that it holds does
   pub part_reloads : FilterReloadLaws (HasPart has) (ReloadsPart reloaded) (ActsPart acts)
   part_reloads = record { answers = part_reloads_answer; goes_on = part_reloads_act }
 

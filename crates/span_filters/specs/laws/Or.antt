@@ -54,6 +54,7 @@ or_above l (Some f) (Some g) e =
 or_above l (Some f) None e = absurd (cc)
 or_above l None k e = absurd (cc)
 
+-- the answers are honest where both parts' answers are
 pub or_honest : (x y : Behaviour) → AreHonest x → AreHonest y → AreHonest (or_answers x y)
 or_honest x y h k = record {
   always =
@@ -68,6 +69,7 @@ or_honest x y h k = record {
   alike = λ m n e i. or_interest (h.alike m n e i) (k.alike m n e i);
 }
 
+-- interest and hint stay where both parts' do
 pub or_same : (x y u w : Behaviour) → SameInterestAndHint x u → SameInterestAndHint y w
     → SameInterestAndHint (or_answers x y) (or_answers u w)
 or_same x y u w s t = record {
@@ -75,12 +77,14 @@ or_same x y u w s t = record {
   hint = λ i. or_hint (s.hint i) (t.hint i);
 }
 
+-- the answers are plain where both parts' answers are
 pub or_plain : (x y : Behaviour) → ArePlain x → ArePlain y → ArePlain (or_answers x y)
 or_plain x y p q = record {
   enabled = λ m v w e i. p.enabled m v w e i || q.enabled m v w e i;
   event = λ n v w e i. p.event n v w e i || q.event n v w e i;
 }
 
+-- the answers are alike where both parts' answers are
 pub or_alike : (x y u w : Behaviour) → AnswerAlike x u → AnswerAlike y w
     → AnswerAlike (or_answers x y) (or_answers u w)
 or_alike x y u w h k = record {

@@ -23,6 +23,7 @@ refuses_above f m e =
     leb-false _ _ (not-true _ e) in
     lt-leb _ _ (omega (arith, level_below f (target_of m)))
 
+-- the answers are honest
 pub targets_honest : (f : Targets) → AreHonest (targets_answers f)
 targets_honest f =
     test_answers_honest (wants f) (Some (most_by f)) (goes_by_what_shows f) (refuses_above f)

@@ -1,5 +1,5 @@
--- Layers keep the law of reloading: a leaf takes no setting, and what is made of parts keeps it since the
--- parts do.
+-- Layers keep the law of reloading: a leaf takes no setting, and what is made of parts keeps it,
+-- since the parts do.
 use Rattle.std.specs.Prelude.{◌≡◌, ℕ, Box, List, [], ◌∷◌, Option, Some, None, refl}
 use Rattle.std.proofs.Common.{ap, subst, sym}
 use Rattle.span_targets.specs.declared.setting.Setting.{Setting}

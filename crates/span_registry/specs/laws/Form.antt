@@ -34,6 +34,7 @@ kept_rules (Parts k o i) (Parts l p j) h = (h.0, kept_rules o p h.1, kept_rules 
 kept_rules (Terminal v) (Terminal w) h = h
 kept_rules f g h = absurd h
 
+-- a filter that stays as it is may follow from itself, whether it has the number or not
 either_same : (t : Bool) (a : Behaviour) (f : Form) (rest : Type 0) → rest
     → EitherReloaded t a a (f ≡ f) rest
 either_same true a f rest h = ((λ d. d), refl)
@@ -47,6 +48,7 @@ same_reloads n (Filtered m a f) =
 same_reloads n (Parts k o i) = (refl, same_reloads n o, same_reloads n i)
 same_reloads n (Terminal v) = refl
 
+-- a filter and what stands under it keep their rules, whether the filter has the number or not
 either_rules : (t : Bool) (a b : Behaviour) (f g : Form) (rest : Type 0) → (rest → KeepsRules f g)
     → EitherReloaded t a b (g ≡ f) rest → (AreHonest a → AreHonest b) × KeepsRules f g
 either_rules true a b f g rest go h = (h.0, subst (λ z. KeepsRules f z) (sym h.1) (own_rules f))

@@ -21,7 +21,7 @@ registry_laws = record {
   hears_with = λ x w position. tt;
 }
 
--- and that of the paths of a stack
+-- a registry keeps the law of the paths of a stack
 pub registry_path_laws : StackPathLaws (λ (s w : RegistryState). w) (λ s f. f ≡ Terminal Base)
     (λ x p e lane v y w. w ≡ v) (λ x y. y ≡ x) no_conducts
 registry_path_laws = record {
@@ -32,11 +32,11 @@ registry_path_laws = record {
   acts_with = λ x w position cs a. absurd a;
 }
 
--- and that of reloading, as it has no filter
+-- a registry keeps the law of reloading, as it has no filter
 pub registry_reloads : ReloadLaws (λ (s : RegistryState) f. f ≡ Terminal Base) unreloaded
     (λ x position h y. ⊤) no_conducts
 registry_reloads = record {
-  keeps = λ x n l y f s h. (f, h, same_reloads n f);
-  heard = λ x n l y position s. tt;
-  acts = λ x n l y position cs s a. absurd a;
+  keeps = λ x n setting y f s h. (f, h, same_reloads n f);
+  heard = λ x n setting y position s. tt;
+  acts = λ x n setting y position cs s a. absurd a;
 }

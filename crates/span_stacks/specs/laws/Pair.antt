@@ -15,6 +15,7 @@ use Rattle.span_registry.specs.Path.{mask_at}
 use Rattle.span_registry.specs.Plan.{Both, Itself, Nobody, Plan, Through}
 use Rattle.span_registry.specs.Position.{HearLaws, HearSteps, Heard, Here, Inner, Outer, Position, Told, Under, heard_by, told_in}
 
+-- the form of two parts follows from what each of them has become
 pub over_follows : (joint : Arrangement) {outer inner : Form → Type 0} (k : Arrangement) (o i : Form)
     → k ≡ joint → HasKeptForm outer o → HasKeptForm inner i
     → HasKeptForm (PartsForm joint outer inner) (Parts k o i)
@@ -46,6 +47,7 @@ module _ {L I : Type 0} {outer_hears : HearSteps L} {inner_hears : HearSteps I}
   layered_further x i y j z l Here h k a b = tt
   layered_further x i y j z l (Under q) h k a b = tt
 
+  -- what the leaves of two parts are notified of keeps the law
   pub layered_hear_laws : {X : Type 0} (layer : X → L) (below : X → I)
       → HearLaws (λ x position h y.
       LayeredHears outer_hears inner_hears (layer x) (below x) position h (layer y) (below y))

@@ -1,5 +1,4 @@
--- Layers keep the law of reloading: a leaf takes no setting, and what is made of parts keeps it since the
--- parts do.
+-- Layers under filters and two parts keep the law of reloading, since what they are made of does.
 use Rattle.std.specs.Prelude.{◌≡◌, ℕ, Bool, true, false, if◌then◌else◌, [], ◌∷◌, Option, refl}
 use Rattle.std.proofs.Common.{ap, subst, sym}
 use Rattle.span_core.specs.Filters.{FilterSet, has_filter}

@@ -51,7 +51,7 @@ WantsMemory slots free =
     (vec_capacity slots ≤ length slots.items)
     ⊎ (vec_capacity free ≤ length free.items + length slots.items)
 
--- no more slots are retired than all their generations allow
+-- at least as many numbers were issued as all retired slots may hold spans
 abbrev pub RetiresInTime : SlotState → Type 0
 RetiresInTime s = s.retired * s.limits.generations ≤ set_len s.issued
 

@@ -147,7 +147,7 @@ pub record HasRoom (s : KeptSpans) : Type 0 where
 abbrev pub HasNoneReserved : KeptSpans → Type 0
 HasNoneReserved s = s.reserved ≤ len s.records + s.retired
 
--- no more slots are retired than all their generations allow
+-- at least as many numbers were issued as all retired slots may hold spans
 abbrev pub RetiresKept : KeptSpans → Type 0
 RetiresKept s = s.retired * s.limits.generations ≤ set_len s.issued
 

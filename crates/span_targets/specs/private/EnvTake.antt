@@ -52,6 +52,6 @@ EnvGives r g (Ok u) = r ≡ Ok (said_of g)
 EnvGives r g (Err (Wrong w)) = r ≡ Err w
 EnvGives r g (Err OutOfMemory) = ⊤
 
--- a filter takes the directives of a text, or the first wrong one is told, or memory was refused
+-- a filter takes the directives of a text, or the first wrong one is given, or memory was refused
 abbrev pub EnvTakesAll : List ℕ → EnvFilter → EnvFilter → Result (Unit {0}) ParseError → Type 0
 EnvTakesAll s f g given = EnvGives (env_from 1 (directives_in s) (said_of f)) g given
