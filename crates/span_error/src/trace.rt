@@ -50,8 +50,8 @@ impl SpanTrace {
     }
 
     /// The text: for each span its number, its target and its name, and in a line below them its
-    /// fields, if it has any. Names are escaped, as `span_fmt::write_escaped` has them, and texts of
-    /// fields stand in quotes, as `span_fmt::write_quoted` has them.
+    /// fields, if it has any. Names are escaped, as `span_fmt::write_escaped` has them, and texts
+    /// of fields stand in quotes, as `span_fmt::write_quoted` has them.
     pub fn text(&self) -> &str
         ensures { result.now ≡ text_of self.now }
     {

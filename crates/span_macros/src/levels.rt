@@ -10,8 +10,8 @@
 //! answers. Where there are fields, `Dispatch::enabled` is asked first: where that is false the
 //! answer is that of an event or a span which is ruled out, and where it is refused so is this. A
 //! text would live in a closure, where no premise of a dispatcher is at hand: there a macro takes
-//! no `%`, no `?` and no arguments of a text, and at most eight fields. Nor may the lane, a target, a
-//! parent or a value use the dispatcher: take the span that a lane is in before.
+//! no `%`, no `?` and no arguments of a text, and at most eight fields. Nor may the lane, a target,
+//! a parent or a value use the dispatcher: take the span that a lane is in before.
 
 /// An event of level error: `error!(tracer; code = 7, "failed")`.
 ///

@@ -60,8 +60,8 @@ pub record SeesMade {S : Type 0} (registry : S → RegistryState)
 -- a list of requests
 pub record SeesServed {S : Type 0} (registry : S → RegistryState)
     (with_registry : S → RegistryState → S) (has_form : S → Form → Type 0) (stepped : StackSteps S)
-    (reloaded : ReloadSteps S) (hears : HearSteps S) (acts_at : ActsAt S) (cs : Conducts) (s : Store)
-    (outcomes : List Outcome) (h : Heard) : Type 0 where
+    (reloaded : ReloadSteps S) (hears : HearSteps S) (acts_at : ActsAt S) (cs : Conducts)
+    (s : Store) (outcomes : List Outcome) (h : Heard) : Type 0 where
   pub old : Dispatch S
   pub new : Dispatch S
   pub requests : List Request
@@ -78,8 +78,8 @@ pub record SeesServed {S : Type 0} (registry : S → RegistryState)
 -- which these calls were made, as far as the filters round the leaf go
 pub record SeesCalls {S : Type 0} (registry : S → RegistryState)
     (with_registry : S → RegistryState → S) (has_form : S → Form → Type 0) (stepped : StackSteps S)
-    (reloaded : ReloadSteps S) (hears : HearSteps S) (acts_at : ActsAt S) (cs : Conducts) (s : Store)
-    (calls : List MadeCall) (h : Heard) : Type 0 where
+    (reloaded : ReloadSteps S) (hears : HearSteps S) (acts_at : ActsAt S) (cs : Conducts)
+    (s : Store) (calls : List MadeCall) (h : Heard) : Type 0 where
   pub old : Dispatch S
   pub new : Dispatch S
   pub requests : List Request

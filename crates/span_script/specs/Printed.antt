@@ -122,7 +122,8 @@ abbrev pub replies : (Id → List ℕ) → List Line → List Answer → List �
 replies name lines answers = flat_map (λ both. reply_text name both.0 both.1) (zip lines answers)
 
 -- all that is printed: the replies, and then what each recorder kept
-abbrev pub printed : (Id → List ℕ) → List Line → List Answer → List (List ℕ × List Recorded) → List ℕ
+abbrev pub printed : (Id → List ℕ) → List Line → List Answer → List (List ℕ × List Recorded)
+    → List ℕ
 printed name lines answers sections =
     replies name lines answers ++ flat_map (section_text name) sections
 

@@ -86,4 +86,5 @@ IsLabelFaultOf before words column reason =
 abbrev pub IsReason : Option (StackName × List Line) → List ℕ → ℕ → Reason → Type 0
 IsReason None text column reason = IsFirstMisfit (cut 32 text) column reason
 IsReason (Some read) text column reason =
-    IsMisfitAt IsLater (cut 32 text) column reason ⊎ IsLabelFaultOf read.1 (cut 32 text) column reason
+    IsMisfitAt IsLater (cut 32 text) column reason
+    ⊎ IsLabelFaultOf read.1 (cut 32 text) column reason

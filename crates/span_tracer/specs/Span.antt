@@ -83,4 +83,5 @@ module _ {S : Type 0} (s : SubscriberOf S) where
   abbrev pub RefusesToTrace : Lane → Option LevelFilter → Attributes → TraceError → Type 0
   RefusesToTrace lane hint attrs e =
       TracesSpan s lane hint attrs (Err e)
-      ⊎ ((id : Id) × TracesSpan s lane hint attrs (Ok (Some id)) × EntersIfMade lane (Some id) (Err e))
+      ⊎ ((id : Id) × TracesSpan s lane hint attrs (Ok (Some id))
+      × EntersIfMade lane (Some id) (Err e))

@@ -91,7 +91,8 @@ impl<'a, R: Wait, S: Subscriber> Span<'a, R, S> {
     /// Notifies of values that the span was given later, if there is one.
     pub fn record(&self, values: &Record<'_>) -> Result<(), TraceError>
         ensures { IfSome (span_id self.now) (λ id. ServesSome S.Subscriber
-            (RecordsValues S.Subscriber (tracer_lane (span_tracer self.now)) id values.now result)) }
+            (RecordsValues S.Subscriber (tracer_lane (span_tracer self.now)) id values.now
+            result)) }
     {
         match self.id {
             Some(id) => self.tracer.record(id, values),

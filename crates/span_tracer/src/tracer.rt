@@ -22,8 +22,8 @@ use std::sync::Wait;
 /// A handle by which one lane traces through a receiver: a value that is copied.
 ///
 /// What its hint rules out is answered without the lock. That is the hint that the dispatcher had
-/// when the tracer was made: a setting that a filter takes later reaches the tracers that are made later, and
-/// `renewed` makes one.
+/// when the tracer was made: a setting that a filter takes later reaches the tracers that are made
+/// later, and `renewed` makes one.
 ///
 /// Own to this port: in the crate a thread finds its dispatcher and its lane by itself.
 pub struct Tracer<'a, R: Wait, S: Subscriber> {
