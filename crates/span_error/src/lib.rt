@@ -1,4 +1,6 @@
 //! The spans that a lane is in, with their fields, as text for an error.
+//!
+//! Stands for the crate `tracing-error`.
 #![tactic(auto)]
 
 mod kept;

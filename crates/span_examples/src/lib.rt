@@ -1,4 +1,5 @@
-//! What a program that calls the registry writes: `docs/calling.md` quotes it.
+//! What callers write, with contracts of their own, over a registry, stacks and dispatchers, and
+//! what a filter and a layer of one's own look like: `docs/calling.md` quotes it.
 #![tactic(auto)]
 
 ghost use Rattle.std.specs.FinMap.{get};

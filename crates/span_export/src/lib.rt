@@ -1,5 +1,8 @@
 //! What happened, in the formats of other tools: functions of points and of the fields that these
 //! came with.
+//!
+//! Stands for the crates `tracing-chrome`, `tracing-flame` and `tracing-opentelemetry`, which write
+//! while a program runs.
 #![tactic(auto)]
 
 mod chrome;

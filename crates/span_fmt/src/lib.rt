@@ -1,4 +1,7 @@
-//! Layers that write down what they are notified of, as text.
+//! Layers that write down what they are notified of, as text: a tree, a line for each event, or
+//! what a form says, handed to a writer as it comes.
+//!
+//! Stands for the layer of `fmt` in the crate `tracing-subscriber`.
 #![tactic(auto)]
 
 mod escape;

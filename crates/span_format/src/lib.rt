@@ -1,4 +1,6 @@
 //! Events' lines in the formats that people know: full, compact and pretty.
+//!
+//! Stands for the formats of `fmt` in the crate `tracing-subscriber`, but JSON.
 #![tactic(auto)]
 
 mod field;

@@ -1,4 +1,6 @@
 //! Records of `log` as events, and events as records of `log`.
+//!
+//! Stands for the crate `tracing-log`.
 #![tactic(auto)]
 
 mod bridge;

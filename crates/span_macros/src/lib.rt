@@ -1,4 +1,6 @@
-//! Events and spans by macros, with fields by name.
+//! Events and spans by macros, with fields by name, over a tracer or over a dispatcher and a lane.
+//!
+//! Stands for the macros of the crate `tracing`.
 #![tactic(auto)]
 
 pub mod example;

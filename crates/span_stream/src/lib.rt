@@ -1,4 +1,6 @@
 //! Forms of lines with times and colours, and lines of JSON.
+//!
+//! Stands for the timers, the colours and the JSON of `fmt` in the crate `tracing-subscriber`.
 #![tactic(auto)]
 
 mod clocks;

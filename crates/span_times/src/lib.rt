@@ -1,4 +1,6 @@
 //! What happened on each lane and when, and how long each span was busy, idle and open.
+//!
+//! Stands for the crate `tracing-timing`.
 #![tactic(auto)]
 
 mod clock;

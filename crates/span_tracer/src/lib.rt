@@ -1,5 +1,8 @@
 //! Handles by which threads and tasks trace through one receiver: tracers, spans, guards that leave
 //! their span however they end, and macros.
+//!
+//! Stands for spans, guards and macros of the crate `tracing`, and for a dispatcher that threads
+//! share.
 #![tactic(auto)]
 
 mod callsite;
