@@ -1,7 +1,7 @@
 //! A writer of rolling files.
-ghost use Rattle.std.specs.Prelude.{◌≡◌, ◌≢◌, ◌<◌, ◌≤◌, [], IfOk, OnOk, OnErr, length};
+ghost use Rattle.std.specs.Prelude.{◌≡◌, ◌≢◌, ◌<◌, ◌≤◌, ◌^◌, ◌-◌, [], IfOk, IsTrue, None, OnErr, OnOk, Some, false, length};
 ghost use Rattle.span_appender.specs.Place.{Chooses, GoesTo, MayHaveBegun, Reaches, next_after};
-ghost use Rattle.span_appender.specs.Rolling.{place_of, rotation_of};
+ghost use Rattle.span_appender.specs.Rolling.{kept_asked, kept_by, place_of, rotation_asked, rotation_of};
 
 use crate::files::Directory;
 use crate::place::{Place, next_place, rolls, share, written_place};
@@ -25,7 +25,11 @@ pub struct Builder<'a> {
 
 impl<'a> Builder<'a> {
     /// One file, called by its number and its date alone.
-    pub fn new() -> Builder<'a> {
+    pub fn new() -> Builder<'a>
+        ensures daily { (rotation_asked result).daily ≡ false }
+        ensures most { (rotation_asked result).max_bytes ≡ 2 ^ 64 - 1 }
+        ensures kept { kept_asked result ≡ None }
+    {
         Builder {
             rotation: Rotation::NEVER,
             prefix: "",
@@ -35,23 +39,34 @@ impl<'a> Builder<'a> {
     }
 
     /// When a new file begins.
-    pub fn rotation(self, rotation: Rotation) -> Builder<'a> {
+    pub fn rotation(self, rotation: Rotation) -> Builder<'a>
+        ensures rotation { rotation_asked result ≡ rotation }
+        ensures kept { kept_asked result ≡ kept_asked self.entry }
+    {
         Builder { rotation, ..self }
     }
 
     /// What stands before a file's number, and a dot behind that.
-    pub fn filename_prefix(self, prefix: &'a str) -> Builder<'a> {
+    pub fn filename_prefix(self, prefix: &'a str) -> Builder<'a>
+        ensures rotation { rotation_asked result ≡ rotation_asked self.entry }
+        ensures kept { kept_asked result ≡ kept_asked self.entry }
+    {
         Builder { prefix, ..self }
     }
 
     /// What stands behind a file's date, and a dot before that.
-    pub fn filename_suffix(self, suffix: &'a str) -> Builder<'a> {
+    pub fn filename_suffix(self, suffix: &'a str) -> Builder<'a>
+        ensures rotation { rotation_asked result ≡ rotation_asked self.entry }
+        ensures kept { kept_asked result ≡ kept_asked self.entry }
+    {
         Builder { suffix, ..self }
     }
 
     /// How many files are kept: where a new one begins, older ones are removed.
     pub fn max_log_files(self, files: usize) -> Builder<'a>
         requires { 0 < files }
+        ensures rotation { rotation_asked result ≡ rotation_asked self.entry }
+        ensures kept { kept_asked result ≡ Some files }
     {
         Builder {
             max_log_files: Some(files),
@@ -67,7 +82,11 @@ impl<'a> Builder<'a> {
         rt: R,
         clock: C,
         directory: &str,
-    ) -> io::Result<RollingFileAppender<R, C>> {
+    ) -> io::Result<RollingFileAppender<R, C>>
+        ensures rotation { IfOk result (λ writer. rotation_of writer ≡ rotation_asked self.entry) }
+        ensures kept { IfOk result (λ writer. kept_by writer ≡ kept_asked self.entry) }
+        ensures whole { IfOk result (λ writer. IsTrue (place_of writer).whole) }
+    {
         fs::create_dir_all(&rt, directory)?;
         let files = Directory::new(rt.alloc(), directory, self.prefix, self.suffix)?;
         let today = today_of(&clock)?;
