@@ -1,5 +1,5 @@
 //! Each macro in a function that says what it comes to, for callers to copy.
-ghost use Rattle.std.specs.Prelude.{[]};
+ghost use Rattle.std.specs.Prelude.{◌≡◌, ◌+◌, ◌-◌, ◌<◌, ◌^◌, []};
 ghost use Rattle.span_dispatch.specs.Contract.{StaysReady};
 ghost use Rattle.span_dispatch.specs.Serve.{stack_of};
 ghost use Rattle.span_macros.specs.Asked.{AsksThenOpens, AsksThenSends, Opens, RunsInSpan, Sends};
@@ -121,4 +121,28 @@ pub fn end<S: Subscriber>(dispatch: &mut Dispatch<S>, lane: Lane) -> Result<bool
         dispatch.new }
 {
     debug!(dispatch, lane; "ended")
+}
+
+/// The lane whose turn it is; then it is the next one's turn.
+fn lane_in_turn(turn: &mut u32) -> Lane
+    requires { turn.old < 2 ^ 32 - 1 }
+    ensures { turn.new ≡ turn.old + 1 }
+{
+    let lane = Lane(*turn);
+    *turn += 1;
+    lane
+}
+
+/// Sends an event with a field on the lane whose turn it is: what says the lane runs once.
+pub fn fail_in_turn<S: Subscriber>(
+    dispatch: &mut Dispatch<S>,
+    turn: &mut u32,
+    code: u32,
+) -> Result<bool, TraceError>
+    requires turn { turn.old < 2 ^ 32 - 1 }
+    requires usable { S.usable (stack_of dispatch.old) }
+    ensures turn { turn.new ≡ turn.old + 1 }
+    ensures usable { S.usable (stack_of dispatch.new) }
+{
+    warn!(dispatch, lane_in_turn(turn); code, "failed")
 }
