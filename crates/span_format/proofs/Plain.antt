@@ -22,11 +22,11 @@ module _ (s : Store) (lane : ℕ) (mask : FilterSet) (law : ShowsPlainly s lane 
   full_plainly =
       ap (λ (around : List ℕ). begun_text look lane (level_of (event_metadata e))
       ++ spaced around ++ target_text look (event_metadata e) ++ said look e ++ codes "\n")
-      (from_root_plainly s lane mask law part.Label e kept)
+      (from_root_plainly s lane mask law (part.Label look.ansi) e kept)
 
   compact_plainly : compact_line look e (view_of s lane mask) kept ≡ compact_line look e (plain_view s lane mask) kept
   compact_plainly = λ i.
-      begun_text look lane (level_of (event_metadata e)) ++ spaced (from_root_plainly s lane mask law part.Name e kept i)
+      begun_text look lane (level_of (event_metadata e)) ++ spaced (from_root_plainly s lane mask law (part.Name look.ansi) e kept i)
       ++ target_text look (event_metadata e) ++ said look e ++ from_root_plainly s lane mask law part.Fields e kept i ++ codes "\n"
 
   pretty_plainly : pretty_line look e (view_of s lane mask) kept ≡ pretty_line look e (plain_view s lane mask) kept

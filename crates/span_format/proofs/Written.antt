@@ -29,7 +29,7 @@ module _ (look : Looks) (e : Event) (v : View) (kept : SpanTexts) (lane : ℕ) (
   -- in full
   pub full_written : (a b d f g around : List ℕ)
       → a ≡ begun_text look lane level → b ≡ a ++ spaced around → d ≡ b ++ target_text look m → f ≡ d ++ words_text look.layout m values
-      → g ≡ f ++ codes "\n" → around ≡ from_root part.Label e v kept → g ≡ full_line look e v kept
+      → g ≡ f ++ codes "\n" → around ≡ from_root (part.Label look.ansi) e v kept → g ≡ full_line look e v kept
   full_written a b d f g around first second third fourth fifth around_is =
       fifth
       ∙ ap (λ (t : List ℕ). t ++ codes "\n")
@@ -41,7 +41,7 @@ module _ (look : Looks) (e : Event) (v : View) (kept : SpanTexts) (lane : ℕ) (
   -- in short
   pub compact_written : (a b d f h g around fields : List ℕ)
       → a ≡ begun_text look lane level → b ≡ a ++ spaced around → d ≡ b ++ target_text look m → f ≡ d ++ words_text look.layout m values
-      → h ≡ f ++ fields → g ≡ h ++ codes "\n" → around ≡ from_root part.Name e v kept → fields ≡ from_root part.Fields e v kept
+      → h ≡ f ++ fields → g ≡ h ++ codes "\n" → around ≡ from_root (part.Name look.ansi) e v kept → fields ≡ from_root part.Fields e v kept
       → g ≡ compact_line look e v kept
   compact_written a b d f h g around fields first second third fourth fifth sixth around_is fields_are =
       sixth

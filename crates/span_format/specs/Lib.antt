@@ -5,5 +5,6 @@ pub mod Lane
 pub mod Line
 pub mod Look
 pub mod Part
+pub mod Style
 pub mod Told
 pub mod Written

@@ -2,15 +2,15 @@
 -- of the fields that open spans were given.
 use Rattle.std.specs.Prelude.{◌||◌, if◌then◌else◌, ℕ, List, [], ◌++◌, codes}
 use Rattle.span_core.specs.Event.{event_metadata, event_values}
-use Rattle.span_core.specs.Metadata.{level_of, target_of}
+use Rattle.span_core.specs.Metadata.{level_of}
 use Rattle.span_core.specs.declared.event.Event.{Event}
 use Rattle.span_core.specs.declared.metadata.Metadata.{Metadata}
-use Rattle.span_fmt.specs.Escape.{escaped}
 use Rattle.span_fmt.specs.Known.{SpanTexts}
 use Rattle.span_fmt.specs.Lines.{spaced}
 use Rattle.span_format.specs.Field.{words_text}
 use Rattle.span_format.specs.Look.{Looks, begun_text, lane_text, level_column, target_text}
 use Rattle.span_format.specs.Part.{from_root, outwards}
+use Rattle.span_format.specs.Style.{dim_target}
 use Rattle.span_format.specs.declared.layout.Layout.{Layout}
 use Rattle.span_format.specs.declared.layout.Layout.TheVariants as layout
 use Rattle.span_format.specs.declared.part.Part.{Part}
@@ -26,14 +26,16 @@ said look e = words_text look.layout (event_metadata e) (event_values e)
 -- event says
 abbrev pub full_line : Looks → Event → View → SpanTexts → List ℕ
 full_line look e v kept =
-    begun_text look v.lane (level_of (event_metadata e)) ++ spaced (from_root part.Label e v kept)
+    begun_text look v.lane (level_of (event_metadata e))
+    ++ spaced (from_root (part.Label look.ansi) e v kept)
     ++ target_text look (event_metadata e) ++ said look e ++ codes "\n"
 
 -- in short: level and lane, the names of the spans round the event, the target, what the event says,
 -- and the fields of those spans
 abbrev pub compact_line : Looks → Event → View → SpanTexts → List ℕ
 compact_line look e v kept =
-    begun_text look v.lane (level_of (event_metadata e)) ++ spaced (from_root part.Name e v kept)
+    begun_text look v.lane (level_of (event_metadata e))
+    ++ spaced (from_root (part.Name look.ansi) e v kept)
     ++ target_text look (event_metadata e) ++ said look e ++ from_root part.Fields e v kept
     ++ codes "\n"
 
@@ -41,13 +43,13 @@ compact_line look e v kept =
 abbrev pub at_text : Looks → ℕ → Metadata → List ℕ
 at_text look lane m =
     if look.target || look.lanes then
-    codes "   " ++ (if look.target then codes " at " ++ escaped (target_of m) else [])
+    codes "   " ++ (if look.target then codes " at " ++ dim_target look.ansi m else [])
     ++ (if look.lanes then codes " on " ++ lane_text look lane else []) ++ codes "\n"
     else []
 
 -- the part of a span that is shown in a line of its own: with its target where targets are shown
 abbrev pub place_part : Looks → Part
-place_part look = if look.target then part.Place else part.BarePlace
+place_part look = if look.target then part.Place look.ansi else part.BarePlace look.ansi
 
 -- for reading: level and what the event says; below it target and lane; a line of each span round
 -- the event, innermost first; and an empty line

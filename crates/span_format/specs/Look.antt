@@ -1,23 +1,24 @@
 -- How lines look.
 use Rattle.std.specs.Prelude.{◌-◌, if◌then◌else◌, ℕ, Bool, true, false, List, [], ◌∷◌, ◌++◌, codes, decimal, length, replicate}
 use Rattle.span_core.specs.Level.{level_text}
-use Rattle.span_core.specs.Metadata.{target_of}
 use Rattle.span_core.specs.declared.level.Level.{Level}
 use Rattle.span_core.specs.declared.metadata.Metadata.{Metadata}
-use Rattle.span_fmt.specs.Escape.{escaped}
 use Rattle.span_fmt.specs.Known.{nothing_known}
 use Rattle.span_fmt.specs.Quote.{quoted}
 use Rattle.span_format.specs.Lane.{names_in}
+use Rattle.span_format.specs.Style.{dim_target, styled}
 use Rattle.span_format.specs.declared.layout.Layout.{Layout}
 use Rattle.span_format.specs.declared.look.Look.{Look}
+use Rattle.span_format.specs.declared.style.Style.TheVariants as style
 
--- how lines look: how they are laid out, whether they show levels, targets and lanes, and by lanes'
--- numbers the lanes' names, empty where there is none
+-- how lines look: how they are laid out, whether they show levels, targets and lanes, whether parts
+-- of them are in styles, and by lanes' numbers the lanes' names, empty where there is none
 pub record Looks : Type 0 where
   pub layout : Layout
   pub level : Bool
   pub target : Bool
   pub lanes : Bool
+  pub ansi : Bool
   pub names : ℕ → List ℕ
 
 -- how they look where nothing else is asked for
@@ -27,6 +28,7 @@ new_looks how = record {
   level = true;
   target = true;
   lanes = false;
+  ansi = false;
   names = nothing_known;
 }
 
@@ -37,6 +39,7 @@ looks x = record {
   level = x.level;
   target = x.target;
   lanes = x.lanes;
+  ansi = x.ansi;
   names = names_in x.names;
 }
 
@@ -44,10 +47,12 @@ looks x = record {
 abbrev pub margin : Level → List ℕ
 margin level = replicate (5 - length (level_text level)) 32
 
--- a level at the right of five columns, and a space, where levels are shown
+-- a level at the right of five columns, in its colour, and a space, where levels are shown
 abbrev pub level_column : Looks → Level → List ℕ
 level_column look level =
-    if look.level then margin level ++ level_text level ++ codes " " else []
+    if look.level then
+    styled look.ansi (style.Level level) (margin level ++ level_text level) ++ codes " "
+    else []
 
 -- a name in quotes, or this number where there is none
 abbrev pub name_or_number : List ℕ → ℕ → List ℕ
@@ -66,6 +71,6 @@ lane_column look lane = if look.lanes then lane_text look lane ++ codes " " else
 abbrev pub begun_text : Looks → ℕ → Level → List ℕ
 begun_text look lane level = level_column look level ++ lane_column look lane
 
--- a target and a colon, where targets are shown
+-- a target, dimmed, and a colon, where targets are shown
 abbrev pub target_text : Looks → Metadata → List ℕ
-target_text look m = if look.target then escaped (target_of m) ++ codes ": " else []
+target_text look m = if look.target then dim_target look.ansi m ++ codes ": " else []

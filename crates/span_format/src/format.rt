@@ -20,9 +20,9 @@ use std::alloc::{AllocError, Global};
 /// The lines of events in a layout, with the spans round each that its own context shows and the
 /// fields that these were given.
 ///
-/// Levels and targets are shown, and lanes aren't, as long as nothing else is asked for. Nothing is
-/// kept but the text of open spans' fields. Where no memory is found for a span's fields, they are
-/// missing later, and the notice counts as a line that is lost.
+/// Levels and targets are shown, lanes aren't, and no part is in a style, as long as nothing else
+/// is asked for. Nothing is kept but the text of open spans' fields. Where no memory is found for a
+/// span's fields, they are missing later, and the notice counts as a line that is lost.
 ///
 /// Stands for `tracing_subscriber::fmt::format::Format`.
 pub struct Format {
@@ -50,6 +50,7 @@ impl Format {
                 level: true,
                 target: true,
                 lanes: false,
+                ansi: false,
                 names: LaneNames::new(alloc),
             },
             kept: Kept::new(alloc),
@@ -82,6 +83,18 @@ impl Format {
         ensures kept { kept_by result ≡ kept_by self }
     {
         self.look.lanes = shown;
+        self
+    }
+
+    /// The same, and parts of lines are in styles, for terminals, or not: levels in their colours,
+    /// names of spans bold, and targets dimmed. What a value says is in none.
+    ///
+    /// Stands for `tracing_subscriber::fmt::format::Format::with_ansi`.
+    pub fn with_ansi(mut self, ansi: bool) -> Format
+        ensures looks { looks_of result ≡ record (looks_of self) { ansi = ansi } }
+        ensures kept { kept_by result ≡ kept_by self }
+    {
+        self.look.ansi = ansi;
         self
     }
 

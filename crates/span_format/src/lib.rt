@@ -12,6 +12,7 @@ mod layout;
 mod line;
 mod look;
 mod part;
+mod style;
 
 pub use format::Format;
 pub use layout::Layout;

@@ -11,8 +11,8 @@ use crate::kept::Kept;
 use crate::layout::Layout;
 use crate::look::Look;
 use crate::part::{Part, write_from_root, write_outwards, write_spaced};
+use crate::style::{Style, write_styled};
 use span_core::{Event, Lane, Metadata};
-use span_fmt::write_escaped;
 use span_registry::{ContextMut, Subscriber};
 use std::alloc::{AllocError, Global};
 
@@ -51,7 +51,8 @@ fn full_line<S: Subscriber>(
     let metadata = event.metadata();
     let mut line = String::with_capacity(alloc, ROOM)?;
     look.begin(&mut line, ctx.lane(), metadata.level())?;
-    write_spaced(&mut line, alloc, Part::Label, seen.event_scope(event), kept)?;
+    let part = Part::Label(look.ansi);
+    write_spaced(&mut line, alloc, part, seen.event_scope(event), kept)?;
     look.write_target(&mut line, metadata)?;
     write_words(&mut line, alloc, look.layout, metadata, event.values())?;
     line.push_str("\n")?;
@@ -73,7 +74,8 @@ fn compact_line<S: Subscriber>(
     let metadata = event.metadata();
     let mut line = String::with_capacity(alloc, ROOM)?;
     look.begin(&mut line, ctx.lane(), metadata.level())?;
-    write_spaced(&mut line, alloc, Part::Name, seen.event_scope(event), kept)?;
+    let part = Part::Name(look.ansi);
+    write_spaced(&mut line, alloc, part, seen.event_scope(event), kept)?;
     look.write_target(&mut line, metadata)?;
     write_words(&mut line, alloc, look.layout, metadata, event.values())?;
     write_from_root(
@@ -115,9 +117,9 @@ fn place_part(look: &Look) -> Part
     ensures { result ≡ place_part (looks look.now) }
 {
     if look.target {
-        Part::Place
+        Part::Place(look.ansi)
     } else {
-        Part::BarePlace
+        Part::BarePlace(look.ansi)
     }
 }
 
@@ -137,7 +139,7 @@ fn write_at(
     text.push_str("   ")?;
     if look.target {
         text.push_str(" at ")?;
-        write_escaped(text, metadata.target())?;
+        write_styled(text, look.ansi, Style::Dim, metadata.target())?;
     }
     if look.lanes {
         text.push_str(" on ")?;

@@ -5,18 +5,20 @@ ghost use Rattle.span_format.specs.Look.{begun_text, lane_text, level_column, lo
 
 use crate::lane::LaneNames;
 use crate::layout::Layout;
+use crate::style::{Style, ended, write_styled};
 use span_core::{Lane, Level, Metadata};
-use span_fmt::{write_escaped, write_quoted};
+use span_fmt::write_quoted;
 use std::alloc::AllocError;
 
-/// How lines look: how they are laid out, what they show beside spans, message and fields, and what
-/// lanes are called.
+/// How lines look: how they are laid out, what they show beside spans, message and fields, whether
+/// parts of them are in styles, and what lanes are called.
 #[derive(Drop)]
 pub(crate) struct Look {
     pub(crate) layout: Layout,
     pub(crate) level: bool,
     pub(crate) target: bool,
     pub(crate) lanes: bool,
+    pub(crate) ansi: bool,
     pub(crate) names: LaneNames,
 }
 
@@ -47,8 +49,10 @@ impl Look {
         if !self.level {
             return Ok(());
         }
+        text.push_str(Style::Level(level).begun(self.ansi))?;
         text.push_str(margin(level))?;
         text.push_str(level.as_str())?;
+        text.push_str(ended(self.ansi))?;
         text.push_str(" ")
     }
 
@@ -76,7 +80,7 @@ impl Look {
         if !self.target {
             return Ok(());
         }
-        write_escaped(text, metadata.target())?;
+        write_styled(text, self.ansi, Style::Dim, metadata.target())?;
         text.push_str(": ")
     }
 }

@@ -8,24 +8,24 @@ ghost use Rattle.span_format.specs.Part.{behind_with, braced, part_text, place_t
 
 use crate::field::unled;
 use crate::kept::Kept;
+use crate::style::{Style, write_styled};
 use span_core::Metadata;
-use span_fmt::write_escaped;
 use span_registry::{LookupSpan, Scope};
 use std::alloc::{AllocError, Global};
 
-/// What is written of a span.
+/// What is written of a span, and whether names and targets are in styles there.
 #[derive(Clone, Copy)]
 pub(crate) enum Part {
     /// `name{field=value}:`
-    Label,
+    Label(bool),
     /// `name:`
-    Name,
+    Name(bool),
     /// ` field=value`
     Fields,
     /// `    in target::name with field: value`, a line of its own.
-    Place,
+    Place(bool),
     /// The same without the target.
-    BarePlace,
+    BarePlace(bool),
 }
 
 /// Writes a part of each span of a scope, from the root on, and a space behind all, if there is any.
@@ -101,34 +101,39 @@ fn write_part(
     ensures { OnOk result (IsContinued text.old text.new (part_text part metadata fields.now)) }
 {
     match part {
-        Part::Label => {
-            write_escaped(text, metadata.name())?;
+        Part::Label(ansi) => {
+            write_styled(text, ansi, Style::Bold, metadata.name())?;
             write_braced(text, fields)?;
             text.push_str(":")
         }
-        Part::Name => {
-            write_escaped(text, metadata.name())?;
+        Part::Name(ansi) => {
+            write_styled(text, ansi, Style::Bold, metadata.name())?;
             text.push_str(":")
         }
         Part::Fields => text.push_str(fields),
-        Part::Place => {
+        Part::Place(ansi) => {
             text.push_str("    in ")?;
-            write_escaped(text, metadata.target())?;
+            write_styled(text, ansi, Style::Dim, metadata.target())?;
             text.push_str("::")?;
-            write_place(text, metadata, fields)
+            write_place(text, ansi, metadata, fields)
         }
-        Part::BarePlace => {
+        Part::BarePlace(ansi) => {
             text.push_str("    in ")?;
-            write_place(text, metadata, fields)
+            write_place(text, ansi, metadata, fields)
         }
     }
 }
 
 /// Writes a span's name, and its fields behind `with`, if it has any.
-fn write_place(text: &mut String, metadata: Metadata, fields: &str) -> Result<(), AllocError>
-    ensures { OnOk result (IsContinued text.old text.new (place_text metadata fields.now)) }
+fn write_place(
+    text: &mut String,
+    ansi: bool,
+    metadata: Metadata,
+    fields: &str,
+) -> Result<(), AllocError>
+    ensures { OnOk result (IsContinued text.old text.new (place_text ansi metadata fields.now)) }
 {
-    write_escaped(text, metadata.name())?;
+    write_styled(text, ansi, Style::Bold, metadata.name())?;
     write_with(text, fields)?;
     text.push_str("\n")
 }

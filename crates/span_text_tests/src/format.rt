@@ -88,6 +88,55 @@ fn lanes_are_shown_by_their_names(rt: HostRuntime) -> Result<(), Fail> {
     Ok(())
 }
 
+const FULL_IN_STYLES: &str = concat!(
+    "\u{1b}[33m WARN\u{1b}[0m \u{1b}[1mouter\u{1b}[0m{user=7}:\u{1b}[1minner\u{1b}[0m{try=-2}: ",
+    "\u{1b}[2mapp::net\u{1b}[0m: said what=\"a\\nb\" ok=true\n",
+    "\u{1b}[32m INFO\u{1b}[0m \u{1b}[2mapp\u{1b}[0m: heard\n",
+    "\u{1b}[32m INFO\u{1b}[0m \u{1b}[1mouter\u{1b}[0m{user=7 late=false}: ",
+    "\u{1b}[2mapp\u{1b}[0m: heard\n"
+);
+
+const SHORT_IN_STYLES: &str = concat!(
+    "\u{1b}[33m WARN\u{1b}[0m \u{1b}[1mouter\u{1b}[0m:\u{1b}[1minner\u{1b}[0m: ",
+    "\u{1b}[2mapp::net\u{1b}[0m: said what=\"a\\nb\" ok=true user=7 try=-2\n",
+    "\u{1b}[32m INFO\u{1b}[0m \u{1b}[2mapp\u{1b}[0m: heard\n",
+    "\u{1b}[32m INFO\u{1b}[0m \u{1b}[1mouter\u{1b}[0m: ",
+    "\u{1b}[2mapp\u{1b}[0m: heard user=7 late=false\n"
+);
+
+const PRETTY_IN_STYLES: &str = concat!(
+    "\u{1b}[33m WARN\u{1b}[0m said, what: \"a\\nb\", ok: true\n",
+    "    at \u{1b}[2mapp::net\u{1b}[0m\n",
+    "    in \u{1b}[2mapp::net\u{1b}[0m::\u{1b}[1minner\u{1b}[0m with try: -2\n",
+    "    in \u{1b}[2mapp\u{1b}[0m::\u{1b}[1mouter\u{1b}[0m with user: 7\n",
+    "\n",
+    "\u{1b}[32m INFO\u{1b}[0m heard\n",
+    "    at \u{1b}[2mapp\u{1b}[0m\n",
+    "\n",
+    "\u{1b}[32m INFO\u{1b}[0m heard\n",
+    "    at \u{1b}[2mapp\u{1b}[0m\n",
+    "    in \u{1b}[2mapp\u{1b}[0m::\u{1b}[1mouter\u{1b}[0m with user: 7, late: false\n",
+    "\n"
+);
+
+/// What is written of the worked run in a layout, with parts in styles or not.
+fn styled(alloc: Global, layout: Layout, ansi: bool) -> Result<Vec<u8>, Fail> {
+    written(alloc, Format::new(alloc, layout).with_ansi(ansi))
+}
+
+#[test]
+fn parts_are_in_styles_where_asked(rt: HostRuntime) -> Result<(), Fail> {
+    let full = styled(rt.alloc(), Layout::Full, true)?;
+    assert!(rt; full.as_slice() == FULL_IN_STYLES.as_bytes());
+    let short = styled(rt.alloc(), Layout::Compact, true)?;
+    assert!(rt; short.as_slice() == SHORT_IN_STYLES.as_bytes());
+    let pretty = styled(rt.alloc(), Layout::Pretty, true)?;
+    assert!(rt; pretty.as_slice() == PRETTY_IN_STYLES.as_bytes());
+    let plain = styled(rt.alloc(), Layout::Full, false)?;
+    assert!(rt; plain.as_slice() == IN_FULL.as_bytes());
+    Ok(())
+}
+
 const STAMPED: &str =
     "\x1b[33m0.000001s  WARN outer{user=7}:inner{try=-2}: app::net: said what=\"a\\nb\" ok=true\x1b[0m
 \x1b[32m0.000002s  INFO app: heard\x1b[0m

@@ -26,5 +26,5 @@ returns g c =
     _ _ _ _ _ _ _ _
     (c.in_ok-begin.ensures ∙ ap (λ (t : List ℕ). t ++ begun_text look c.lane.result.0 c.level.result) c.in_ok-line.ensures.bytes)
     c.in_ok-write_spaced.ensures c.in_ok-write_target.ensures c.in_ok-write_words.ensures c.in_ok-write_from_root.ensures c.in_ok-push_str.ensures.bytes
-    (parts_from_root registry ctx c.ctx-seen.result e c.event_scope.result part.Name kept c.ctx-seen.ensures c.event_scope.ensures)
+    (parts_from_root registry ctx c.ctx-seen.result e c.event_scope.result (part.Name look.ansi) kept c.ctx-seen.ensures c.event_scope.ensures)
     (parts_from_root registry ctx c.ctx-seen.result e c.event_scope-2.result part.Fields kept c.ctx-seen.ensures c.event_scope-2.ensures)
