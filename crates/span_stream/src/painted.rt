@@ -13,7 +13,8 @@ use std::alloc::{AllocError, Global};
 /// The lines of a form, each in the colour of its level where colours are asked for, as terminals
 /// show it.
 ///
-/// Stands for `tracing_subscriber::fmt::Layer::with_ansi`, which colours parts of a line.
+/// It is for forms whose lines have no parts to colour, as those of trees and of `Lines`: a
+/// `Format` and a `Stamped` colour parts of theirs, by their `with_ansi`.
 pub struct Painted<F> {
     alloc: Global,
     form: F,

@@ -1,6 +1,6 @@
 //! A time in front of each line.
-ghost use Rattle.std.specs.Prelude.{◌≡◌, IfOk, string_bytes};
-ghost use Rattle.span_stream.specs.Stamp.{IsStamped, clock_of, form_of, stamped_gives, stamped_misses, style_of};
+ghost use Rattle.std.specs.Prelude.{◌≡◌, IfOk, OnOk, false, string_bytes};
+ghost use Rattle.span_stream.specs.Stamp.{IsStamped, WritesStamp, clock_of, form_of, is_dimmed, stamped_gives, stamped_misses, style_of};
 
 use crate::time::{TimeStyle, write_time};
 use span_fmt::Form;
@@ -18,6 +18,7 @@ pub struct Stamped<F, C> {
     form: F,
     clock: C,
     style: TimeStyle,
+    ansi: bool,
 }
 
 impl<F: Drop, C: Drop> Drop for Stamped<F, C> {
@@ -27,6 +28,7 @@ impl<F: Drop, C: Drop> Drop for Stamped<F, C> {
             form,
             clock,
             style,
+            ansi,
         } = self;
     }
 }
@@ -37,13 +39,28 @@ impl<F, C: Now> Stamped<F, C> {
         ensures form { form_of result ≡ form }
         ensures clock { clock_of result ≡ clock }
         ensures style { style_of result ≡ style }
+        ensures plain { is_dimmed result ≡ false }
     {
         Stamped {
             alloc,
             form,
             clock,
             style,
+            ansi: false,
         }
+    }
+
+    /// The same, and times are dimmed, for terminals, or not.
+    ///
+    /// Stands for `tracing_subscriber::fmt::Layer::with_ansi`.
+    pub fn with_ansi(mut self, ansi: bool) -> Stamped<F, C>
+        ensures form { form_of result ≡ form_of self }
+        ensures clock { clock_of result ≡ clock_of self }
+        ensures style { style_of result ≡ style_of self }
+        ensures dimmed { is_dimmed result ≡ ansi }
+    {
+        self.ansi = ansi;
+        self
     }
 }
 
@@ -61,7 +78,7 @@ impl<S: Subscriber, F: Form<S>, C: Now> Form<S> for Stamped<F, C> {
             Ok(line) if line.is_empty() => Ok(line),
             Ok(line) => {
                 let time = self.clock.now();
-                behind_time(self.alloc, self.style, time, line.as_str())
+                behind_time(self.alloc, self.style, self.ansi, time, line.as_str())
             }
             Err(error) => Err(error),
         }
@@ -69,12 +86,30 @@ impl<S: Subscriber, F: Form<S>, C: Now> Form<S> for Stamped<F, C> {
 }
 
 /// A line behind a time and a space.
-fn behind_time(alloc: Global, style: TimeStyle, time: u64, line: &str) -> Result<String, AllocError>
-    ensures { IfOk result (λ text. IsStamped style time line.now (string_bytes text)) }
+fn behind_time(
+    alloc: Global,
+    style: TimeStyle,
+    ansi: bool,
+    time: u64,
+    line: &str,
+) -> Result<String, AllocError>
+    ensures { IfOk result (λ text. IsStamped style ansi time line.now (string_bytes text)) }
 {
     let mut text = String::new(alloc);
-    write_time(&mut text, style, time)?;
+    write_stamp(&mut text, style, ansi, time)?;
     text.push_str(" ")?;
     text.push_str(line)?;
     Ok(text)
+}
+
+/// Writes a time, dimmed where that is asked for.
+fn write_stamp(text: &mut String, style: TimeStyle, ansi: bool, time: u64) -> Result<(), AllocError>
+    ensures { OnOk result (WritesStamp style ansi time text.old text.new) }
+{
+    if !ansi {
+        return write_time(text, style, time);
+    }
+    text.push_str("\x1b[2m")?;
+    write_time(text, style, time)?;
+    text.push_str("\x1b[0m")
 }

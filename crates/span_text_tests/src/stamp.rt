@@ -48,6 +48,29 @@ fn lines_have_times(rt: HostRuntime) -> Result<(), Fail> {
     Ok(())
 }
 
+const WITH_DIMMED_SECONDS: &str = concat!(
+    "\u{1b}[2m0.000001s\u{1b}[0m 0 WARN outer{user=7}:inner{try=-2}: app::net: ",
+    "said what=\"a\\nb\" ok=true\n",
+    "\u{1b}[2m0.000002s\u{1b}[0m 3 INFO app: heard\n",
+    "\u{1b}[2m0.000003s\u{1b}[0m 0 INFO outer{user=7 late=false}: app: heard\n"
+);
+
+/// What is written of the worked run with counted seconds, dimmed or not.
+fn dimmed(alloc: Global, ansi: bool) -> Result<Vec<u8>, Fail> {
+    let lines = LinesForm::new(alloc);
+    let form = Stamped::new(alloc, lines, Counted::new(), TimeStyle::Seconds);
+    written(alloc, form.with_ansi(ansi))
+}
+
+#[test]
+fn times_are_dimmed_where_asked(rt: HostRuntime) -> Result<(), Fail> {
+    let in_styles = dimmed(rt.alloc(), true)?;
+    assert!(rt; in_styles.as_slice() == WITH_DIMMED_SECONDS.as_bytes());
+    let plain = dimmed(rt.alloc(), false)?;
+    assert!(rt; plain.as_slice() == WITH_SECONDS.as_bytes());
+    Ok(())
+}
+
 /// Times in nanoseconds, with their texts in both styles.
 const TIMES: [(u64, &str, &str); 5] = [
     (0, "1970-01-01T00:00:00.000000Z", "0.000000s"),
