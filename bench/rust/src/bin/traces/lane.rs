@@ -2,7 +2,8 @@
 
 use crate::receiver::Receiver;
 use crate::request::{Parent, Reply, Request};
-use crate::site::{Site, SITES};
+use crate::site::Site;
+use crate::sites::SITES;
 use std::io;
 use std::sync::{mpsc, Arc};
 use std::thread::{Builder, JoinHandle};

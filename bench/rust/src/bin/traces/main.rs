@@ -13,6 +13,7 @@ mod recorder;
 mod request;
 mod script;
 mod site;
+mod sites;
 mod stack;
 
 use departures::Departures;

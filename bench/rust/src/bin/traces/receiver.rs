@@ -1,7 +1,8 @@
 //! A stack behind a dispatcher, as all lanes of a script share it.
 
 use crate::departures::Departures;
-use crate::site::{Site, SITES};
+use crate::site::Site;
+use crate::sites::SITES;
 use crate::stack::Stack;
 use std::collections::HashMap;
 use std::sync::{Mutex, MutexGuard, PoisonError};

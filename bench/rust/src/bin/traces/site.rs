@@ -1,21 +1,16 @@
-//! The callsites that a script names by one digit.
+//! Callsites, made as the macros of `tracing` make theirs: each is a static.
 
 use tracing_core::callsite::DefaultCallsite;
 use tracing_core::dispatcher::Dispatch;
-use tracing_core::{metadata, Kind, Level, LevelFilter, Metadata};
+use tracing_core::{LevelFilter, Metadata};
 
 /// A callsite.
 pub struct Site {
-    callsite: &'static DefaultCallsite,
+    pub callsite: &'static DefaultCallsite,
     pub metadata: &'static Metadata<'static>,
 }
 
 impl Site {
-    /// The callsite that a word names, if it names one.
-    pub fn of(word: &str) -> Option<&'static Site> {
-        SITES.get(word.parse::<usize>().ok()?)
-    }
-
     /// Whether a span or an event is wanted, asked as the macros of `tracing` ask: by the hint that
     /// is kept, unless it is left out, by the interest that is kept, and by `enabled` only where
     /// that is `sometimes`.
@@ -29,33 +24,24 @@ impl Site {
 }
 
 macro_rules! site {
-    ($name:literal, $level:ident, $kind:ident, $fields:expr) => {{
+    ($name:literal, $target:literal, $level:ident, $kind:ident, $fields:expr) => {{
+        use tracing_core::callsite::DefaultCallsite;
+        use tracing_core::{metadata, Kind, Level, Metadata};
+
         static CALLSITE: DefaultCallsite = DefaultCallsite::new(&METADATA);
         static METADATA: Metadata<'static> = metadata! {
             name: $name,
-            target: "script",
+            target: $target,
             level: Level::$level,
             fields: $fields,
             callsite: &CALLSITE,
             kind: Kind::$kind,
         };
-        Site {
+        $crate::site::Site {
             callsite: &CALLSITE,
             metadata: &METADATA,
         }
     }};
 }
 
-/// The callsites: five of spans, and five of events with the field `mute`.
-pub static SITES: [Site; 10] = [
-    site!("s0", ERROR, SPAN, &[]),
-    site!("s1", WARN, SPAN, &[]),
-    site!("s2", INFO, SPAN, &[]),
-    site!("s3", DEBUG, SPAN, &[]),
-    site!("s4", TRACE, SPAN, &[]),
-    site!("s5", ERROR, EVENT, &["mute"]),
-    site!("s6", WARN, EVENT, &["mute"]),
-    site!("s7", INFO, EVENT, &["mute"]),
-    site!("s8", DEBUG, EVENT, &["mute"]),
-    site!("s9", TRACE, EVENT, &["mute"]),
-];
+pub(crate) use site;
