@@ -6,6 +6,8 @@ mod env;
 #[cfg(test)]
 mod filter;
 #[cfg(test)]
+mod rows;
+#[cfg(test)]
 mod setting;
 #[cfg(test)]
 mod span;
