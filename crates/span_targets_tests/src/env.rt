@@ -63,9 +63,14 @@ fn a_variable_is_read(rt: HostRuntime) -> Result<(), Fail> {
 fn a_variable_that_is_no_text(rt: HostRuntime) -> Result<(), Fail> {
     let env = OneVariable {
         alloc: rt.alloc(),
-        value: b"\xff",
+        value: b"[job\xff]=info",
     };
     let refused = match Targets::from_env(&env, "RUST_LOG") {
+        Err(FromEnvError::Env(VarError::NotUnicode)) => true,
+        _ => false,
+    };
+    assert!(rt; refused);
+    let refused = match EnvFilter::from_env(&env, "RUST_LOG") {
         Err(FromEnvError::Env(VarError::NotUnicode)) => true,
         _ => false,
     };

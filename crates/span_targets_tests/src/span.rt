@@ -1,27 +1,29 @@
 //! Tests of filters that let more by within spans.
 
+use crate::text::doubled;
 use span_core::{Attributes, FieldSet, Id, Kind, Lane, Level, LevelFilter, Metadata, Pass};
 use span_filters::Filter;
 use span_registry::{Context, Registry, Subscriber};
 use span_targets::{EnvFilter, Fault, ParseError, Targets, WrongDirective};
 use std::alloc::Global;
+use std::process::Abort;
 use std::test::Fail;
 
 /// The lane on which spans are entered.
-const LANE: Lane = Lane(0);
+pub(crate) const LANE: Lane = Lane(0);
 
 /// The metadata of an event of this level.
-fn event_of(level: Level) -> Metadata {
+pub(crate) fn event_of(level: Level) -> Metadata {
     Metadata::new(1, "event", "web", level, Kind::EVENT, FieldSet::new(&[]))
 }
 
 /// The metadata of a span of level info.
-fn span_of(name: &'static str, target: &'static str) -> Metadata {
+pub(crate) fn span_of(name: &'static str, target: &'static str) -> Metadata {
     Metadata::new(2, name, target, Level::INFO, Kind::SPAN, FieldSet::new(&[]))
 }
 
 /// Opens a span with these metadata and enters it.
-fn enter(registry: &mut Registry, meta: Metadata) -> Result<Id, Fail> {
+pub(crate) fn enter(registry: &mut Registry, meta: Metadata) -> Result<Id, Fail> {
     let id = registry.new_span(LANE, &Attributes::new(meta, &[]), &Pass::new())?;
     registry.enter(LANE, id)?;
     Ok(id)
@@ -122,11 +124,90 @@ fn texts_that_are_wrong(rt: HostRuntime) -> Result<(), Fail> {
         ("a][job]=debug", 1, Fault::Span),
         ("warn,info,[job]=loud", 3, Fault::UnknownLevel),
         ("a=b=c,[job", 1, Fault::TwoEquals),
+        ("db[job,info]", 1, Fault::Span),
+        ("[job=debug", 1, Fault::Span),
+        ("[job]]=debug", 1, Fault::Span),
+        ("[job][step]", 1, Fault::Span),
+        ("web[{id}]", 1, Fault::Span),
     ];
     for (text, number, fault) in rows {
-        let wrong = WrongDirective { number, fault };
-        assert!(rt; wrong_in(rt.alloc(), text) == Some(wrong));
+        is_wrong_at(&rt, rt.alloc(), text, number, fault);
     }
+    Ok(())
+}
+
+/// A text is wrong at this directive.
+fn is_wrong_at(rt: &impl Abort, alloc: Global, text: &str, number: usize, fault: Fault) {
+    let wrong = WrongDirective { number, fault };
+    assert!(rt; wrong_in(alloc, text) == Some(wrong));
+}
+
+/// Texts of a megabyte that mean harm are wrong at one of the first directives.
+#[test]
+fn hostile_texts(rt: HostRuntime) -> Result<(), Fail> {
+    let alloc = rt.alloc();
+    let commas = doubled(alloc, ",", 20)?;
+    is_wrong_at(&rt, alloc, commas.as_str(), 1025, Fault::TooMany);
+    let many = doubled(alloc, "a[b]=info,", 17)?;
+    is_wrong_at(&rt, alloc, many.as_str(), 1025, Fault::TooMany);
+    let equals = doubled(alloc, "=", 20)?;
+    is_wrong_at(&rt, alloc, equals.as_str(), 1, Fault::TwoEquals);
+    let opened = doubled(alloc, "[", 20)?;
+    is_wrong_at(&rt, alloc, opened.as_str(), 1, Fault::Span);
+    let closed = doubled(alloc, "[]", 19)?;
+    is_wrong_at(&rt, alloc, closed.as_str(), 1, Fault::Span);
+    Ok(())
+}
+
+/// A filter has one directive for spans, of this target and this name.
+fn reads_spans(rt: &impl Abort, filter: &EnvFilter, target: &str, name: &str) {
+    match filter.spans() {
+        [span] => {
+            assert!(rt; span.target() == target);
+            assert!(rt; span.name() == name);
+        }
+        _ => assert!(rt; false),
+    }
+}
+
+/// A name may be a megabyte long, and none is cut within a letter.
+#[test]
+fn names_of_any_letters(rt: HostRuntime) -> Result<(), Fail> {
+    let filter = EnvFilter::parse(rt.alloc(), "caf\u{e9}[\u{8a9e}\u{1f980}]=info")?;
+    reads_spans(&rt, &filter, "caf\u{e9}", "\u{8a9e}\u{1f980}");
+    let name = doubled(rt.alloc(), "\u{e9}", 19)?;
+    let mut text = String::from_str(rt.alloc(), "[")?;
+    text.push_str(name.as_str())?;
+    text.push(']')?;
+    reads_spans(
+        &rt,
+        &EnvFilter::parse(rt.alloc(), text.as_str())?,
+        "",
+        name.as_str(),
+    );
+    Ok(())
+}
+
+/// Reads a text, once more where memory is refused, and adds spans so: what is refused leaves the
+/// filter as it was. `tests/each_refusal_within_a_test` refuses one allocation after another.
+#[test]
+fn a_refusal_of_memory_is_told(rt: HostRuntime) -> Result<(), Fail> {
+    let text = "warn,db=info,[job]=debug,web[step]";
+    let mut filter = match EnvFilter::parse(rt.alloc(), text) {
+        Err(ParseError::OutOfMemory) => EnvFilter::parse(rt.alloc(), text)?,
+        read => read?,
+    };
+    if filter.add_span("", "other", LevelFilter::INFO).is_err() {
+        assert!(rt; filter.spans().len() == 2);
+        filter.add_span("", "other", LevelFilter::INFO)?;
+    }
+    let [job, step, other] = filter.spans() else {
+        return Err(Fail::from("not three"));
+    };
+    assert!(rt; job.name() == "job");
+    assert!(rt; step.target() == "web");
+    assert!(rt; other.level() == LevelFilter::INFO);
+    assert!(rt; filter.targets().would_enable("db", Level::INFO));
     Ok(())
 }
 

@@ -106,7 +106,7 @@ fn wrong_directives_are_left_out(rt: HostRuntime) -> Result<(), Fail> {
 }
 
 /// A text that is this one so often: each time it is doubled.
-fn doubled(alloc: Global, text: &str, times: u32) -> Result<String, AllocError> {
+pub(crate) fn doubled(alloc: Global, text: &str, times: u32) -> Result<String, AllocError> {
     let mut all = String::from_str(alloc, text)?;
     for _ in 0..times {
         let once = all.clone()?;
