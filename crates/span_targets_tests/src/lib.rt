@@ -4,6 +4,8 @@
 #[cfg(test)]
 mod env;
 #[cfg(test)]
+mod env_filter;
+#[cfg(test)]
 mod filter;
 #[cfg(test)]
 mod rows;
