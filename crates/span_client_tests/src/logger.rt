@@ -3,11 +3,11 @@ ghost use Rattle.span_dispatch.specs.Serve.{stack_of};
 
 use crate::fixture::in_use;
 use log::kv::{self, Source, Value, VisitSource};
-use log::sink::Memory;
+use log::sink::{Memory, Writer};
 use log::{Log, Logged, Record};
 use span_core::{
-    Event, FieldSet, FieldValue, Float, FloatText, Kind, Lane, Level, LevelFilter, Metadata,
-    TraceError,
+    Attributes, Event, FieldSet, FieldValue, Float, FloatText, Kind, Lane, Level, LevelFilter,
+    Metadata, TraceError,
 };
 use span_dispatch::Dispatch;
 use span_layers::Observer;
@@ -15,6 +15,7 @@ use span_log::{AsLog, AsTrace, Fields, LogLayer, forward, record_metadata};
 use span_registry::{Registry, Subscriber};
 use std::alloc::{AllocError, Global};
 use std::fmt::Display;
+use std::io::{self, Write};
 use std::process::Abort;
 use std::test::Fail;
 
@@ -102,6 +103,51 @@ fn a_logger_of_warnings_writes_no_more(rt: HostRuntime) -> Result<(), Fail> {
     let (_rt, memory) = layer.into_observer().into_log().into_parts();
     let lines = memory.into_lines();
     are_lines(&rt, lines.as_slice(), &["[WARN  db] 42 rows"]);
+    Ok(())
+}
+
+/// A writer that drops what it is given, and counts how often it is flushed.
+#[derive(Drop)]
+struct Flushes {
+    number: u32,
+}
+
+impl Write for Flushes {
+    fn write(&mut self, buf: &[u8]) -> io::Result<usize> {
+        Ok(buf.len())
+    }
+
+    fn flush(&mut self) -> io::Result<()> {
+        self.number = self.number.saturating_add(1);
+        Ok(())
+    }
+}
+
+/// Opens a span on a lane that enters, leaves and drops it.
+fn pass_through_a_span<S: Subscriber>(dispatch: &mut Dispatch<S>) -> Result<(), Fail>
+    requires { S.usable (stack_of dispatch.old) }
+{
+    let job = Metadata::new(4, "job", "app", Level::INFO, Kind::SPAN, FieldSet::new(&[]));
+    let Some(id) = dispatch.new_span(LANE, &Attributes::new(job, &[]))? else {
+        return Err(Fail::from("dropped"));
+    };
+    dispatch.enter(LANE, id)?;
+    dispatch.exit(LANE, id);
+    dispatch.drop_span(LANE, id)?;
+    Ok(())
+}
+
+/// Neither an event nor a span makes a logger write out what it buffers.
+#[test]
+fn a_logger_is_not_flushed(rt: HostRuntime) -> Result<(), Fail> {
+    let alloc = rt.alloc();
+    let layer = Observer::new(LogLayer::new(Writer::new(Flushes { number: 0 })));
+    let mut dispatch = in_use(alloc, Registry::new(alloc), layer)?;
+    pass_through_a_span(&mut dispatch)?;
+    dispatch.event(LANE, &Event::new(site(1, "sent", Level::INFO), &[]))?;
+    let (layer, _registry) = dispatch.into_stack().into_parts();
+    let flushes = layer.into_observer().into_log().into_inner();
+    assert!(rt; flushes.number == 0);
     Ok(())
 }
 
