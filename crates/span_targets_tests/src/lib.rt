@@ -8,8 +8,6 @@ mod env_filter;
 #[cfg(test)]
 mod filter;
 #[cfg(test)]
-mod rows;
-#[cfg(test)]
 mod setting;
 #[cfg(test)]
 mod span;

@@ -1,4 +1,4 @@
-//! Writes what passes by texts as `crates/span_targets_tests/src/rows.rt` does, by the crate's `EnvFilter`.
+//! Writes what passes by texts as `bench/rows.rattle` does, by the crate's `EnvFilter`.
 //!
 //! A line of standard input is a text. Behind a tab it may have a digit for each span that is tried: only where that is 1, or where an
 //! event of its target and level would pass, does the span pass. With the argument `entered` a root is entered once what was entered

@@ -1,4 +1,4 @@
-//! What is tried, in the order of `rows.rt`.
+//! What is tried, in the order of `rows.rattle`.
 
 use crate::site::{site, Site};
 
