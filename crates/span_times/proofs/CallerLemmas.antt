@@ -84,6 +84,7 @@ module _ {C : Type 0} (latest : C → ℕ) (gives : C → ℕ → C → Type 0) 
   begun told h x z y one rest true e = record {
     many = 0;
     points = (rest.stays e).1.points ∙ (one.lost e).points ∙ sym (append-nil (points_of x));
+    sites = (rest.stays e).1.sites ∙ (one.lost e).sites;
     fields = (rest.stays e).1.fields ∙ (one.lost e).fields ∙ sym (append-nil (fields_of x));
   }
   begun told h x z y one rest false e =
@@ -95,6 +96,7 @@ module _ {C : Type 0} (latest : C → ℕ) (gives : C → ℕ → C → Type 0) 
         many = suc some.many;
         points = some.points ∙ ap (λ ps. points_of z ++ take some.many ps) (moved told h rest.times x z one.values now.fields)
             ∙ ap (λ ps. ps ++ more) now.points ∙ append_assoc (points_of x) (told_point x told one.time ∷ []) more;
+        sites = some.sites ∙ ap (λ (ss : List SiteSaid). sites_at ss (take some.many h)) now.sites;
         fields = behind told (take some.many h) x z y one.values now.fields some.fields;
       }
 
@@ -118,6 +120,7 @@ module _ {C : Type 0} (latest : C → ℕ) (gives : C → ℕ → C → Type 0) 
   keeps_told x y [] same =
       let here = ap (λ (o : Observer (Timeline C)). observer_of o) same in
       let points = ap (λ (t : Timeline C). points_of t) (sym here) ∙ sym (append-nil (points_of (observer_of x))) in
+      let sites = ap (λ (t : Timeline C). sites_of t) (sym here) in
       let fields = ap (λ (t : Timeline C). fields_of t) (sym here) ∙ sym (append-nil (fields_of (observer_of x))) in
       record {
         times = [];
@@ -126,13 +129,17 @@ module _ {C : Type 0} (latest : C → ℕ) (gives : C → ℕ → C → Type 0) 
         forward = tt;
         kept = λ good. (
           ap (λ (t : Timeline C). has_failed t) here ∙ good,
-          record { points = points; sites = ap (λ (t : Timeline C). sites_of t) (sym here); fields = fields },
+          record { points = points; sites = sites; fields = fields },
         );
-        beginning = record { many = 0; points = points; fields = fields };
+        beginning = record { many = 0; points = points; sites = sites; fields = fields };
         order = λ order. subst (λ (t : Timeline C). IsInOrder latest t) here order;
         stays = λ failed. (
           ap (λ (t : Timeline C). has_failed t) (sym here) ∙ failed,
-          record { points = ap (λ (t : Timeline C). points_of t) (sym here); fields = ap (λ (t : Timeline C). fields_of t) (sym here) },
+          record {
+            points = ap (λ (t : Timeline C). points_of t) (sym here);
+            sites = sites;
+            fields = ap (λ (t : Timeline C). fields_of t) (sym here);
+          },
         );
         values = ap (λ (t : Timeline C). keeps_values t) (sym here);
       }
@@ -154,7 +161,7 @@ module _ {C : Type 0} (latest : C → ℕ) (gives : C → ℕ → C → Type 0) 
             let now = stays_failed told (observer_of x) (observer_of a.0) one failed (has_failed (observer_of a.0)) refl in
             let later = rest.stays now.0 in (
               later.0,
-              record { points = later.1.points ∙ now.1.points; fields = later.1.fields ∙ now.1.fields },
+              record { points = later.1.points ∙ now.1.points; sites = later.1.sites ∙ now.1.sites; fields = later.1.fields ∙ now.1.fields },
             );
         values = rest.values ∙ one.values;
       }

@@ -1,5 +1,7 @@
+mod Batches
 pub mod CallerLemmas
 mod Found
 mod KeptFields
+mod Order
 mod Sums
 mod Turns

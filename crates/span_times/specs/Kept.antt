@@ -1,4 +1,5 @@
--- What a timeline keeps: points, what their callsites are called, and the fields that they came with.
+-- What a timeline keeps: points, what their callsites are called, and the fields that they came
+-- with.
 use Rattle.std.specs.Prelude.{◌≡◌, ℕ, List, [], ◌∷◌, ◌++◌, Option, length}
 use Rattle.span_core.specs.declared.metadata.Metadata.{Metadata}
 use Rattle.span_times.specs.Field.{FieldSaid, range_of}
@@ -7,8 +8,8 @@ use Rattle.span_times.specs.declared.field.FieldRange.{FieldRange}
 use Rattle.span_times.specs.declared.happening.Happening.{Happening}
 use Rattle.span_times.specs.declared.happening.Point.{Point}
 
--- points, the sites of their callsites, the fields that they came with, and for how many more points
--- there is room
+-- points, the sites of their callsites, the fields that they came with, and for how many more
+-- points there is room
 pub record KeptState : Type 0 where
   pub points : List Point
   pub sites : List SiteSaid
@@ -33,9 +34,10 @@ pub record KeepsPoint (time lane : ℕ) (what : Happening) (metadata : Option Me
   pub sites : y.sites ≡ with_site metadata x.sites
   pub fields : y.fields ≡ x.fields ++ given
 
--- the points and the fields are those that there were
+-- the points, the sites and the fields are those that there were
 pub record KeepsNone (x y : KeptState) : Type 0 where
   pub points : y.points ≡ x.points
+  pub sites : y.sites ≡ x.sites
   pub fields : y.fields ≡ x.fields
 
 -- neither a field nor a site is to be kept

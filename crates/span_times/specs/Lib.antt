@@ -1,5 +1,6 @@
 pub mod Clock
 pub mod Field
+pub mod Finished
 pub mod Kept
 pub mod Measure
 pub mod Serving

@@ -3,6 +3,8 @@ use Rattle.std.specs.Prelude.{◌≡◌, ◌+◌, ℕ, Bool, false, true, List, 
 use Rattle.std.specs.List.{FoldsTo}
 use Rattle.std.specs.declared.alloc.Global.{Global}
 use Rattle.std.specs.declared.vec.Vec.{Vec}
+use Rattle.span_core.specs.declared.error.TraceError.TheVariants.{OutOfMemory}
+use Rattle.span_core.specs.declared.error.TraceError.{TraceError}
 use Rattle.span_dispatch.specs.Alone.{passed_at}
 use Rattle.span_dispatch.specs.Contract.{SubscriberOf}
 use Rattle.span_dispatch.specs.Serve.{IsReadySomehow, Served, flat, stack_of}
@@ -48,18 +50,19 @@ pub record HasAllOf {C : Type 0} (times : List ℕ) (heard : Heard) (x y : Timel
   pub sites : sites_of y ≡ sites_at (sites_of x) heard
   pub fields : fields_of y ≡ fields_of x ++ fields_at (keeps_values x) heard
 
--- a timeline has the points and fields of the first so many of these alone
+-- a timeline has the points, sites and fields of the first so many of these alone
 pub record HasSomeOf {C : Type 0} (times : List ℕ) (heard : Heard) (x y : Timeline C)
     : Type 0 where
   pub many : ℕ
   pub points : points_of y
       ≡ points_of x ++ take many (points_at (keeps_values x) (length (fields_of x)) times heard)
+  pub sites : sites_of y ≡ sites_at (sites_of x) (take many heard)
   pub fields : fields_of y ≡ fields_of x ++ fields_at (keeps_values x) (take many heard)
 
 -- A timeline is notified of all this: it reads its clock once for each, never going back, and
--- appends their points in order, with what their callsites are called, and the fields that they came
--- with, if it keeps values. Where it fails it has the points and fields of a beginning alone, and
--- none where it had failed before; points that were in order stay so.
+-- appends their points in order, with what their callsites are called, and the fields that they
+-- came with, if it keeps values. Where it fails it has those of a beginning alone, and none where
+-- it had failed before; points that were in order stay so.
 pub record KeepsAll {C : Type 0} (latest : C → ℕ) (gives : C → ℕ → C → Type 0) (x : Timeline C)
     (heard : Heard) (y : Timeline C) : Type 0 where
   pub times : List ℕ
@@ -111,10 +114,15 @@ module _ {S C : Type 0} (latest : C → ℕ) (gives : C → ℕ → C → Type 0
     pub kept : KeepsAll latest gives (timeline_in (stack_of old))
         (passed_at timeline_position (flat served.made)) (timeline_in (stack_of new))
 
-  -- requests that are served by a dispatcher that was ready have these answers, and the timeline
-  -- keeps a point for all that its position was notified of
-  abbrev pub ServesTimed : List Request → Dispatch (WithTimeline S C)
-      → Dispatch (WithTimeline S C) → Vec Answer Global → Type 0
-  ServesTimed requests old new answers =
-      IsReadySomehow s.registry s.with_registry s.has_form s.stepped s.reloaded old
-      → KeepsServed requests answers.items old new
+  -- requests have one answer each; if the dispatcher was ready, they were served with these, and
+  -- the timeline keeps a point for all that its position was notified of
+  pub record AnswersTimed (requests : List Request) (old new : Dispatch (WithTimeline S C))
+      (answers : Vec Answer Global) : Type 0 where
+    pub one_each : length answers.items ≡ length requests
+    pub kept : IsReadySomehow s.registry s.with_registry s.has_form s.stepped s.reloaded old
+        → KeepsServed requests answers.items old new
+
+-- requests are refused for want of memory, and nothing changes
+pub record FindsNoMemory {S : Type 0} (error : TraceError) (old new : Dispatch S) : Type 0 where
+  pub memory : error ≡ OutOfMemory
+  pub unchanged : new ≡ old

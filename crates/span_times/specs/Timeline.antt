@@ -14,6 +14,7 @@ use Rattle.span_registry.specs.Behaviour.{Notice, OnClose, OnEnter, OnEvent, OnE
 use Rattle.span_registry.specs.View.{View, event_shown, parent_shown, plain_view, shown}
 use Rattle.span_times.specs.Clock.{NeverGoBack, Reads}
 use Rattle.span_times.specs.Field.{FieldSaid, given_by, kept_in}
+use Rattle.span_times.specs.Finished.{HandsOutFinished}
 use Rattle.span_times.specs.Kept.{IsFull, KeepsNone, KeepsPoint, KeptState, NeedsNone, point_at}
 use Rattle.span_times.specs.Site.{SiteSaid, sites_said}
 use Rattle.span_times.specs.declared.field.FieldRange.{FieldRange}
@@ -122,8 +123,25 @@ abbrev pub timeline_steps : {C : Type 0} → (C → ℕ) → (C → ℕ → C �
 timeline_steps latest gives x e lane under v y w =
     Traces latest gives x e lane (plain_view v.store lane under) y × (w ≡ v)
 
+-- a timeline that was told of nothing yet, on this clock: it has no points, and keeps no values
+pub record IsNew {C : Type 0} (latest : C → ℕ) (own : C) (x : Timeline C) : Type 0 where
+  pub points : points_of x ≡ []
+  pub sites : sites_of x ≡ []
+  pub fields : fields_of x ≡ []
+  pub values : keeps_values x ≡ false
+  pub failed : has_failed x ≡ false
+  pub clock : clock_of x ≡ own
+  pub order : IsInOrder latest x
+
+-- the second timeline is the first, but for whether it keeps values
+pub record SetsValues {C : Type 0} (keeps : Bool) (x y : Timeline C) : Type 0 where
+  pub kept : kept_of y ≡ kept_of x
+  pub values : keeps_values y ≡ keeps
+  pub failed : has_failed y ≡ has_failed x
+  pub clock : clock_of y ≡ clock_of x
+
 -- all is taken out, and the timeline begins anew on its clock
-pub record TakesAll {C : Type 0} (taken : Taken) (x y : Timeline C) : Type 0 where
+pub record TakesAll {C : Type 0} (latest : C → ℕ) (taken : Taken) (x y : Timeline C) : Type 0 where
   pub points : taken.points.items ≡ points_of x
   pub sites : sites_said taken.sites.items ≡ sites_of x
   pub fields : kept_in taken.fields.items ≡ fields_of x
@@ -131,5 +149,16 @@ pub record TakesAll {C : Type 0} (taken : Taken) (x y : Timeline C) : Type 0 whe
   pub no_sites : sites_of y ≡ []
   pub no_fields : fields_of y ≡ []
   pub values : keeps_values y ≡ keeps_values x
-  pub clock : clock_of y ≡ clock_of x
   pub failed : has_failed y ≡ false
+  pub clock : clock_of y ≡ clock_of x
+  pub order : IsInOrder latest y
+
+-- what is over is taken out, and the timeline goes on with the rest; points that were in order stay
+-- so
+pub record TakesFinished {C : Type 0} (latest : C → ℕ) (taken : Taken) (x y : Timeline C)
+    : Type 0 where
+  pub split : HandsOutFinished taken (kept_of x) (kept_of y)
+  pub values : keeps_values y ≡ keeps_values x
+  pub failed : has_failed y ≡ has_failed x
+  pub clock : clock_of y ≡ clock_of x
+  pub order : IsInOrder latest x → IsInOrder latest y

@@ -1,7 +1,7 @@
 //! Fields with their values, kept.
 ghost use Rattle.std.specs.Option.{option_map, option_to_list};
 ghost use Rattle.std.specs.Prelude.{◌≡◌, ◌≢◌, ◌++◌, [], IfOk, OnErr, OnOk};
-ghost use Rattle.span_times.specs.Field.{fields_said, given_by, kept_in, said, said_of, within};
+ghost use Rattle.span_times.specs.Field.{field_said, fields_said, given_by, kept_in, said, said_of, within};
 
 use span_core::FieldValue;
 use std::alloc::{AllocError, Global};
@@ -45,6 +45,24 @@ impl OwnedValue {
         };
         Ok(Some(owned))
     }
+
+    /// The same value once more.
+    fn copied(&self, alloc: Global) -> Result<OwnedValue, AllocError>
+        ensures { IfOk result (λ copy. said copy ≡ said self.now) }
+    {
+        let copy = match self {
+            OwnedValue::U64(number) => OwnedValue::U64(*number),
+            OwnedValue::I64(number) => OwnedValue::I64(*number),
+            OwnedValue::U128(number) => OwnedValue::U128(*number),
+            OwnedValue::I128(number) => OwnedValue::I128(*number),
+            OwnedValue::F64(float, text) => {
+                OwnedValue::F64(*float, String::from_str(alloc, text.as_str())?)
+            }
+            OwnedValue::Bool(flag) => OwnedValue::Bool(*flag),
+            OwnedValue::Text(text) => OwnedValue::Text(String::from_str(alloc, text.as_str())?),
+        };
+        Ok(copy)
+    }
 }
 
 /// A field with its value.
@@ -54,6 +72,17 @@ pub struct OwnedField {
     pub name: String,
     /// Its value.
     pub value: OwnedValue,
+}
+
+impl OwnedField {
+    /// The same field once more.
+    pub(crate) fn copied(&self, alloc: Global) -> Result<OwnedField, AllocError>
+        ensures { IfOk result (λ copy. field_said copy ≡ field_said self.now) }
+    {
+        let name = String::from_str(alloc, self.name.as_str())?;
+        let value = self.value.copied(alloc)?;
+        Ok(OwnedField { name, value })
+    }
 }
 
 /// Where the fields of a point are among those that were kept with it.

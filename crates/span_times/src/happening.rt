@@ -1,10 +1,12 @@
 //! What happens to spans and events, and when.
+ghost use Rattle.std.specs.Option.{option_map};
 ghost use Rattle.std.specs.Prelude.{◌≡◌};
 ghost use Rattle.span_core.specs.Event.{event_parent};
 ghost use Rattle.span_core.specs.Span.{number_of};
 ghost use Rattle.span_registry.specs.Notice.{notice_of};
 ghost use Rattle.span_registry.specs.Context.{view_lent};
 ghost use Rattle.span_times.specs.Field.{within};
+ghost use Rattle.span_times.specs.Finished.{own_span};
 ghost use Rattle.span_times.specs.Timeline.{happening_of, metadata_in, parent_found, span_found, values_in};
 
 use crate::field::{FieldRange, OwnedField};
@@ -31,6 +33,24 @@ pub enum Happening {
     Renamed(Id, Id),
     /// A span closed.
     Closed(Id),
+}
+
+impl Happening {
+    /// The span that this happened to, or in which it was sent, if there is one.
+    pub(crate) fn span(&self) -> Option<Id>
+        ensures { option_map number_of result ≡ own_span self.now }
+    {
+        match self {
+            Happening::Opened(id, _, _)
+            | Happening::Recorded(id)
+            | Happening::Followed(id, _)
+            | Happening::Entered(id)
+            | Happening::Left(id)
+            | Happening::Renamed(id, _)
+            | Happening::Closed(id) => Some(*id),
+            Happening::Sent(_, span) => *span,
+        }
+    }
 }
 
 /// What happened, on which lane, and when.

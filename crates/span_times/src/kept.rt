@@ -1,11 +1,13 @@
 //! What a timeline keeps: points, what their callsites are called, and the fields that they came
 //! with.
-ghost use Rattle.std.specs.Prelude.{◌≡◌, [], OnErr, OnOk};
+ghost use Rattle.std.specs.Prelude.{◌≡◌, [], IfOk, OnErr, OnOk};
 ghost use Rattle.span_times.specs.Field.{given_by, kept_in};
+ghost use Rattle.span_times.specs.Finished.{HandsOutFinished};
 ghost use Rattle.span_times.specs.Site.{sites_said};
 ghost use Rattle.span_times.specs.Kept.{IsFull, KeepsNone, KeepsPoint, NeedsNone};
 
 use crate::field::{FieldRange, OwnedField, keep_given};
+use crate::finished::{closed_in, copied};
 use crate::happening::{Happening, Point};
 use crate::site::{Site, Sites};
 use span_core::{FieldValue, Lane, Metadata};
@@ -116,7 +118,7 @@ impl Kept {
 
     /// Keeps what happened, and with it those of these fields that have a value, if values are
     /// kept, and the site of these metadata, if there are any. Where memory is refused for that,
-    /// the points and the fields stay.
+    /// all stays as it was.
     pub(crate) fn add(
         &mut self,
         time: u64,
@@ -132,7 +134,6 @@ impl Kept {
         ensures full { OnErr result
             (NeedsNone metadata (given_by kept values.now) self.old → IsFull self.old) }
     {
-        self.sites.keep(metadata)?;
         let from = self.fields.len();
         keep_given(self.alloc, kept, &mut self.fields, values)?;
         let fields = FieldRange {
@@ -148,6 +149,11 @@ impl Kept {
         if let Err(failed) = self.points.push(point) {
             self.fields.truncate(from);
             return Err(AllocError::from(failed));
+        }
+        if let Err(error) = self.sites.keep(metadata) {
+            let _ = self.points.pop();
+            self.fields.truncate(from);
+            return Err(error);
         }
         Ok(())
     }
@@ -166,5 +172,24 @@ impl Kept {
             sites: self.sites.take(),
             fields: mem::replace(&mut self.fields, Vec::new(self.alloc)),
         }
+    }
+
+    /// Hands out copies of the points that are over, with their fields, and of all sites, and
+    /// forgets these points and fields. Where memory is refused, all stays as it was.
+    pub(crate) fn take_finished(&mut self) -> Result<Taken, AllocError>
+        ensures taken { IfOk result (λ taken. HandsOutFinished taken self.old self.new) }
+        ensures unchanged { OnErr result (self.new ≡ self.old) }
+    {
+        let closed = closed_in(self.alloc, &self.points)?;
+        let over = copied(self.alloc, &self.points, &self.fields, &closed, true)?;
+        let left = copied(self.alloc, &self.points, &self.fields, &closed, false)?;
+        let sites = self.sites.copied()?;
+        self.points = left.points;
+        self.fields = left.fields;
+        Ok(Taken {
+            points: over.points,
+            sites,
+            fields: over.fields,
+        })
     }
 }

@@ -5,6 +5,7 @@
 
 mod clock;
 mod field;
+mod finished;
 mod happening;
 mod kept;
 pub mod laws;

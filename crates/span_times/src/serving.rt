@@ -1,8 +1,8 @@
 //! Lists of requests, served with a timeline outermost.
-ghost use Rattle.std.specs.Prelude.{◌≡◌, IfErr, IfOk, OnErr, length};
+ghost use Rattle.std.specs.Prelude.{IfErr, IfOk};
 ghost use Rattle.span_dispatch.specs.Contract.{StaysReadyByRules};
 ghost use Rattle.span_dispatch.specs.Serve.{stack_of};
-ghost use Rattle.span_times.specs.Serving.{ServesTimed};
+ghost use Rattle.span_times.specs.Serving.{AnswersTimed, FindsNoMemory};
 
 use crate::clock::Now;
 use crate::timeline::Timeline;
@@ -27,11 +27,9 @@ pub fn serve_timed<S: Subscriber, C: Now>(
     ensures usable { ⟦<WithTimeline<S, C> as Subscriber>⟧.usable (stack_of dispatch.new) }
     ensures ready { StaysReadyByRules ⟦<WithTimeline<S, C> as Subscriber>⟧ dispatch.old
         dispatch.new }
-    ensures kept { IfOk result (ServesTimed C.latest C.gives
+    ensures answered { IfOk result (AnswersTimed C.latest C.gives
         ⟦<WithTimeline<S, C> as Subscriber>⟧ requests.now dispatch.old dispatch.new) }
-    ensures length { IfOk result (λ a. length a.items ≡ length requests.now) }
-    ensures memory { IfErr result (λ e. e ≡ TraceError.OutOfMemory) }
-    ensures unchanged { OnErr result (dispatch.new ≡ dispatch.old) }
+    ensures refused { IfErr result (λ error. FindsNoMemory error dispatch.old dispatch.new) }
 {
     let answers = dispatch.serve(alloc, requests)?;
     Ok(answers)

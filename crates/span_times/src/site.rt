@@ -44,6 +44,18 @@ impl Site {
             target: String::from_str(alloc, metadata.target())?,
         })
     }
+
+    /// The same site once more.
+    fn copied(&self, alloc: Global) -> Result<Site, AllocError>
+        ensures { IfOk result (λ copy. site_said copy ≡ site_said self.now) }
+    {
+        Ok(Site {
+            callsite: self.callsite,
+            level: self.level,
+            name: String::from_str(alloc, self.name.as_str())?,
+            target: String::from_str(alloc, self.target.as_str())?,
+        })
+    }
 }
 
 /// The sites of callsites that were used, each once.
@@ -83,6 +95,17 @@ impl Sites {
         ensures { sites_said result.now ≡ kept_by self.now }
     {
         &self.sites
+    }
+
+    /// The same sites once more.
+    pub(crate) fn copied(&self) -> Result<Vec<Site>, AllocError>
+        ensures { IfOk result (λ copies. sites_said copies.items ≡ kept_by self.now) }
+    {
+        let mut copies = Vec::new(self.alloc);
+        for site in &self.sites {
+            copies.push(site.copied(self.alloc)?)?;
+        }
+        Ok(copies)
     }
 
     /// Takes the sites out.

@@ -1,9 +1,9 @@
 //! A layer that keeps what happened, on which lane, and when.
-ghost use Rattle.std.specs.Prelude.{◌≡◌, [], false, true};
+ghost use Rattle.std.specs.Prelude.{◌≡◌, IfOk, OnErr, false, true};
 ghost use Rattle.span_times.specs.Field.{given_by, kept_in};
 ghost use Rattle.span_times.specs.Kept.{IsFull, KeepsNone, KeepsPoint, NeedsNone};
 ghost use Rattle.span_times.specs.Site.{sites_said};
-ghost use Rattle.span_times.specs.Timeline.{IsInOrder, TakesAll, clock_of, fields_of, has_failed, keeps_values, kept_of, points_of, sites_of, timeline_steps};
+ghost use Rattle.span_times.specs.Timeline.{IsNew, SetsValues, TakesAll, TakesFinished, clock_of, fields_of, has_failed, keeps_values, kept_of, points_of, sites_of, timeline_steps};
 
 use crate::clock::Now;
 use crate::happening::{Happening, Point, happening_in, metadata_in, values_in};
@@ -11,11 +11,14 @@ use crate::kept::{Kept, Table, Taken};
 use span_core::{FieldValue, Lane, Metadata};
 use span_layers::{AlwaysUsableObserver, Observe};
 use span_registry::{ContextMut, Notice, Subscriber, laws};
-use std::alloc::Global;
+use std::alloc::{AllocError, Global};
 
 /// A layer that keeps a point for all that it is notified of, up to the first that finds no memory,
 /// with what its callsite is called, and if it is told to, the values that spans and events were
 /// given.
+///
+/// A point takes 72 bytes and a field 80, beside the field's name and text, in lists that double as
+/// they grow. So in a server call `take_finished` from time to time.
 pub struct Timeline<C> {
     clock: C,
     kept: Kept,
@@ -35,15 +38,9 @@ impl<C: Drop> Drop for Timeline<C> {
 }
 
 impl<C: Now> Timeline<C> {
-    /// Nothing happened yet. It keeps no values.
+    /// A timeline on this clock. It was told of nothing yet, and keeps no values.
     pub fn new(alloc: Global, clock: C) -> Timeline<C>
-        ensures points { points_of result ≡ [] }
-        ensures sites { sites_of result ≡ [] }
-        ensures fields { fields_of result ≡ [] }
-        ensures values { keeps_values result ≡ false }
-        ensures failed { has_failed result ≡ false }
-        ensures clock { clock_of result ≡ clock }
-        ensures order { IsInOrder C.latest result }
+        ensures { IsNew C.latest clock result }
     {
         Timeline {
             clock,
@@ -53,14 +50,10 @@ impl<C: Now> Timeline<C> {
         }
     }
 
-    /// From now on with the values that spans and events are given, or without.
+    /// The same timeline, which from now on keeps the values that spans and events are given, or
+    /// doesn't. Those that it has stay.
     pub fn with_values(self, kept: bool) -> Timeline<C>
-        ensures points { points_of result ≡ points_of self }
-        ensures sites { sites_of result ≡ sites_of self }
-        ensures fields { fields_of result ≡ fields_of self }
-        ensures values { keeps_values result ≡ kept }
-        ensures failed { has_failed result ≡ has_failed self }
-        ensures clock { clock_of result ≡ clock_of self }
+        ensures { SetsValues kept self result }
     {
         let mut timeline = self;
         timeline.values = kept;
@@ -90,17 +83,30 @@ impl<C: Now> Timeline<C> {
         self.failed
     }
 
-    /// Takes all out. It begins anew, also where it had failed: `failed` is asked before.
+    /// Hands out all that it keeps, and begins anew on its clock. Where it had failed, it has no
+    /// longer: ask `failed` before.
     pub fn take(&mut self) -> Taken
-        ensures taken { TakesAll result self.old self.new }
-        ensures order { IsInOrder C.latest self.new }
+        ensures { TakesAll C.latest result self.old self.new }
     {
         self.failed = false;
         self.kept.take()
     }
 
-    /// Keeps a point with the fields of these that have a value, and the site of these metadata,
-    /// unless it had failed.
+    /// Hands out the points of spans that have closed, with the events in them, and those of events
+    /// that are in no span, and forgets them and their fields. So a server keeps what is open, and
+    /// what came since the last call. Sites stay, and are handed out each time.
+    ///
+    /// Points and fields are copied, both ways: where memory is refused, all stays as it was. A
+    /// timeline that failed stays so: then call `take`.
+    pub fn take_finished(&mut self) -> Result<Taken, AllocError>
+        ensures taken { IfOk result (λ taken. TakesFinished C.latest taken self.old self.new) }
+        ensures unchanged { OnErr result (self.new ≡ self.old) }
+    {
+        self.kept.take_finished()
+    }
+
+    /// Keeps a point with those of these fields that have a value, and the site of these metadata,
+    /// unless the timeline had failed.
     fn keep(
         &mut self,
         time: u64,

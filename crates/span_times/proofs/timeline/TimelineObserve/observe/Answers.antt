@@ -40,7 +40,11 @@ returns-clause-hook g c =
             fields = (c.keep.ensures.kept good).1.fields ∙ ap (λ fs. fields_of x ++ fs) given;
           },
         );
-        lost = λ bad. record { points = (c.keep.ensures.lost bad).points; fields = (c.keep.ensures.lost bad).fields };
+        lost = λ bad. record {
+          points = (c.keep.ensures.lost bad).points;
+          sites = (c.keep.ensures.lost bad).sites;
+          fields = (c.keep.ensures.lost bad).fields;
+        };
         full = λ good bad none. c.keep.ensures.full good bad (record {
           sites = ap (λ (m : Option Metadata). with_site m (sites_of x)) c.metadata_in.ensures ∙ none.sites;
           fields = given ∙ none.fields;
