@@ -94,16 +94,21 @@ fn field(alloc: Global, name: &str, value: OwnedValue) -> Result<OwnedField, Fai
 
 const TRACE: &str = "{\"traceEvents\":[\
 {\"args\":{\"name\":\"lane 0\"},\"name\":\"thread_name\",\"ph\":\"M\",\"pid\":1,\"tid\":0},\
-{\"args\":{\"for\":\"a \\\"b\\\"\",\"id\":7},\"cat\":\"app\",\"id\":\"1\",\"name\":\"outer\",\"ph\":\"b\",\
-\"pid\":1,\"tid\":0,\"ts\":0.0},\
-{\"args\":{\"for\":\"a \\\"b\\\"\",\"id\":7},\"cat\":\"app\",\"id\":\"1\",\"name\":\"outer\",\"ph\":\"B\",\
-\"pid\":1,\"tid\":0,\"ts\":1.0},\
-{\"args\":{},\"cat\":\"app::net\",\"id\":\"2\",\"name\":\"inner\",\"ph\":\"b\",\"pid\":1,\"tid\":0,\"ts\":2.0},\
-{\"args\":{},\"cat\":\"app::net\",\"id\":\"2\",\"name\":\"inner\",\"ph\":\"B\",\"pid\":1,\"tid\":0,\"ts\":3.0},\
-{\"args\":{\"left\":-3},\"cat\":\"app\",\"name\":\"<said>\",\"ph\":\"i\",\"pid\":1,\"s\":\"t\",\"tid\":0,\"ts\":4.0},\
+{\"args\":{\"for\":\"a \\\"b\\\"\",\"id\":7},\"cat\":\"app\",\"id\":\"1\",\"name\":\"outer\",\
+\"ph\":\"b\",\"pid\":1,\"tid\":0,\"ts\":0.0},\
+{\"args\":{\"for\":\"a \\\"b\\\"\",\"id\":7},\"cat\":\"app\",\"id\":\"1\",\"name\":\"outer\",\
+\"ph\":\"B\",\"pid\":1,\"tid\":0,\"ts\":1.0},\
+{\"args\":{},\"cat\":\"app::net\",\"id\":\"2\",\"name\":\"inner\",\"ph\":\"b\",\"pid\":1,\
+\"tid\":0,\"ts\":2.0},\
+{\"args\":{},\"cat\":\"app::net\",\"id\":\"2\",\"name\":\"inner\",\"ph\":\"B\",\"pid\":1,\
+\"tid\":0,\"ts\":3.0},\
+{\"args\":{\"left\":-3},\"cat\":\"app\",\"name\":\"<said>\",\"ph\":\"i\",\"pid\":1,\"s\":\"t\",\
+\"tid\":0,\"ts\":4.0},\
 {\"args\":{\"name\":\"lane 1\"},\"name\":\"thread_name\",\"ph\":\"M\",\"pid\":1,\"tid\":1},\
-{\"args\":{},\"cat\":\"?\",\"id\":\"7\",\"name\":\"?\",\"ph\":\"b\",\"pid\":1,\"tid\":1,\"ts\":5.0},\
-{\"args\":{},\"cat\":\"?\",\"id\":\"7\",\"name\":\"?\",\"ph\":\"B\",\"pid\":1,\"tid\":1,\"ts\":5.5},\
+{\"args\":{},\"cat\":\"?\",\"id\":\"7\",\"name\":\"?\",\"ph\":\"b\",\"pid\":1,\"tid\":1,\
+\"ts\":5.0},\
+{\"args\":{},\"cat\":\"?\",\"id\":\"7\",\"name\":\"?\",\"ph\":\"B\",\"pid\":1,\"tid\":1,\
+\"ts\":5.5},\
 {\"cat\":\"app::net\",\"id\":\"2\",\"name\":\"inner\",\"ph\":\"E\",\"pid\":1,\"tid\":0,\"ts\":6.0},\
 {\"cat\":\"app::net\",\"id\":\"2\",\"name\":\"inner\",\"ph\":\"e\",\"pid\":1,\"tid\":0,\"ts\":7.0},\
 {\"cat\":\"?\",\"id\":\"7\",\"name\":\"?\",\"ph\":\"E\",\"pid\":1,\"tid\":1,\"ts\":8.0},\
@@ -144,7 +149,8 @@ fn closed_while_in() -> [Point; 8] {
 const AT_THE_CLOSE: &str = "\
 {\"cat\":\"app::net\",\"id\":\"2\",\"name\":\"inner\",\"ph\":\"E\",\"pid\":1,\"tid\":0,\"ts\":4.0},\
 {\"cat\":\"app\",\"id\":\"1\",\"name\":\"outer\",\"ph\":\"E\",\"pid\":1,\"tid\":0,\"ts\":4.0},\
-{\"args\":{},\"cat\":\"app::net\",\"id\":\"2\",\"name\":\"inner\",\"ph\":\"B\",\"pid\":1,\"tid\":0,\"ts\":4.0},\
+{\"args\":{},\"cat\":\"app::net\",\"id\":\"2\",\"name\":\"inner\",\"ph\":\"B\",\"pid\":1,\
+\"tid\":0,\"ts\":4.0},\
 {\"cat\":\"app\",\"id\":\"1\",\"name\":\"outer\",\"ph\":\"E\",\"pid\":1,\"tid\":1,\"ts\":4.0},\
 {\"cat\":\"app\",\"id\":\"1\",\"name\":\"outer\",\"ph\":\"e\",\"pid\":1,\"tid\":1,\"ts\":4.0},\
 {\"cat\":\"app::net\",\"id\":\"2\",\"name\":\"inner\",\"ph\":\"E\",\"pid\":1,\"tid\":0,\"ts\":6.0}\
@@ -165,7 +171,8 @@ fn a_box_ends_where_its_span_closes(rt: HostRuntime) -> Result<(), Fail> {
 const OUT_OF_TURN: &str = "\
 {\"cat\":\"app::net\",\"id\":\"2\",\"name\":\"inner\",\"ph\":\"E\",\"pid\":1,\"tid\":0,\"ts\":3.0},\
 {\"cat\":\"app\",\"id\":\"1\",\"name\":\"outer\",\"ph\":\"E\",\"pid\":1,\"tid\":0,\"ts\":3.0},\
-{\"args\":{},\"cat\":\"app::net\",\"id\":\"2\",\"name\":\"inner\",\"ph\":\"B\",\"pid\":1,\"tid\":0,\"ts\":3.0},\
+{\"args\":{},\"cat\":\"app::net\",\"id\":\"2\",\"name\":\"inner\",\"ph\":\"B\",\"pid\":1,\
+\"tid\":0,\"ts\":3.0},\
 {\"cat\":\"app::net\",\"id\":\"2\",\"name\":\"inner\",\"ph\":\"E\",\"pid\":1,\"tid\":0,\"ts\":5.0}\
 ]}";
 
@@ -431,47 +438,58 @@ fn hostile(alloc: Global) -> Result<String, Fail> {
     Ok(text)
 }
 
-#[test]
-fn a_hostile_value_stays_a_value(rt: HostRuntime) -> Result<(), Fail> {
-    let alloc = rt.alloc();
-    let (trace, first) = (trace_of_shop(alloc)?, Id::from_u64(1));
+/// One field with such a value, and a name alike.
+fn hostile_fields(alloc: Global) -> Result<Vec<OwnedField>, Fail> {
     let mut fields = Vec::new(alloc);
     fields.push(field(alloc, "a;b\"", OwnedValue::Text(hostile(alloc)?))?)?;
-    let points = [
+    Ok(fields)
+}
+
+/// A span that was given it, and that a lane is in.
+fn hostile_points() -> [Point; 3] {
+    let first = Id::from_u64(1);
+    [
         with(0, 0, Happening::Opened(first, 1, None), 0, 1),
         at(1, 0, Happening::Entered(first)),
         at(2, 0, Happening::Closed(first)),
-    ];
-    let sites = sites(alloc)?;
+    ]
+}
+
+#[test]
+fn a_hostile_value_stays_a_value_in_json(rt: HostRuntime) -> Result<(), Fail> {
+    let alloc = rt.alloc();
+    let (sites, fields) = (sites(alloc)?, hostile_fields(alloc)?);
     let table = Table {
         sites: &sites,
         fields: &fields,
     };
-    let trace_text = chrome_text(alloc, &points, table)?;
-    assert!(rt;
-        trace_text
-            .as_str()
-            .contains("{\"a;b\\\"\":\"\\\"<a;b>&\\\\\\n\\u0000 x}yyyy")
-    );
+    let shown = "{\"a;b\\\"\":\"\\\"<a;b>&\\\\\\n\\u0000 x}yyyy";
+    let trace_text = chrome_text(alloc, &hostile_points(), table)?;
+    assert!(rt; trace_text.as_str().contains(shown));
     assert!(rt; !trace_text.as_str().contains("\n"));
-    let lines = otlp_lines(alloc, &trace, &points, table)?;
+    let lines = otlp_lines(alloc, &trace_of_shop(alloc)?, &hostile_points(), table)?;
     assert!(rt; lines.len() == 1);
-    assert!(rt;
-        lines[0].as_str().contains(
-            "{\"key\":\"a;b\\\"\",\"value\":{\"stringValue\":\"\\\"<a;b>&\\\\\\n\\u0000 x}yyyy"
-        )
-    );
-    let stacks = folded_text(alloc, &points, table)?;
-    assert!(rt;
-        stacks
-            .as_str()
-            .starts_with("outer{a\\u{3b}b\"=\"\\\"<a\\u{3b}b>&\\\\\\n\\u{0}_x}yyyy")
-    );
+    let shown = "{\"key\":\"a;b\\\"\",\
+\"value\":{\"stringValue\":\"\\\"<a;b>&\\\\\\n\\u0000 x}yyyy";
+    assert!(rt; lines[0].as_str().contains(shown));
+    Ok(())
+}
+
+#[test]
+fn a_hostile_value_stays_a_value_in_text(rt: HostRuntime) -> Result<(), Fail> {
+    let alloc = rt.alloc();
+    let (sites, fields) = (sites(alloc)?, hostile_fields(alloc)?);
+    let table = Table {
+        sites: &sites,
+        fields: &fields,
+    };
+    let stacks = folded_text(alloc, &hostile_points(), table)?;
+    let shown = "outer{a\\u{3b}b\"=\"\\\"<a\\u{3b}b>&\\\\\\n\\u{0}_x}yyyy";
+    assert!(rt; stacks.as_str().starts_with(shown));
     assert!(rt; stacks.as_str().ends_with("y\"} 1\n"));
-    let svg = timeline_svg(alloc, &points, table, 400)?;
-    assert!(rt;
-        svg.as_str().contains("<title>outer{a;b\"=\"\\\"&lt;a;b&gt;&amp;\\\\\\n\\u{0} x}yyyy")
-    );
+    let svg = timeline_svg(alloc, &hostile_points(), table, 400)?;
+    let shown = "<title>outer{a;b\"=\"\\\"&lt;a;b&gt;&amp;\\\\\\n\\u{0} x}yyyy";
+    assert!(rt; svg.as_str().contains(shown));
     Ok(())
 }
 

@@ -11,8 +11,8 @@ use span_layers::Observer;
 use span_registry::{Registry, Subscriber};
 use span_stacks::LayerExt;
 use span_times::{
-    Counted, Counts, FieldRange, Happening, Now, OwnedValue, Point, Timeline, Wall, busy_time,
-    idle_time, open_time, serve_timed,
+    Counted, Counts, FieldRange, Happening, Now, OwnedField, OwnedValue, Point, Taken, Timeline,
+    Wall, busy_time, idle_time, open_time, serve_timed,
 };
 use std::cell::Cell;
 use std::io;
@@ -249,6 +249,118 @@ fn values_are_kept_where_asked(rt: HostRuntime) -> Result<(), Fail> {
     assert!(rt; stack.outer().observer().points().len() == 4);
     assert!(rt; stack.outer().observer().table().fields.is_empty());
     Ok(())
+}
+
+/// Sends an event outside of all spans; opens a span with a value, is in it with an event that has
+/// another one, and drops it.
+fn do_job<S: Subscriber>(dispatch: &mut Dispatch<S>) -> Result<Id, Fail>
+    requires { S.usable (stack_of dispatch.old) }
+    ensures { IfOk result (λ id. S.usable (stack_of dispatch.new)) }
+{
+    dispatch.event(LANE, &Event::new_root(said(), &[]))?;
+    let job = open_with_values(dispatch)?;
+    dispatch.enter(LANE, job)?;
+    let values = [("done", FieldValue::Bool(true))];
+    dispatch.event(LANE, &Event::new(said(), &values))?;
+    dispatch.exit(LANE, job);
+    dispatch.drop_span(LANE, job)?;
+    Ok(job)
+}
+
+/// Opens a span with a value, does a job meanwhile, and records another value of it.
+fn do_job_meanwhile<S: Subscriber>(dispatch: &mut Dispatch<S>) -> Result<[Id; 2], Fail>
+    requires { S.usable (stack_of dispatch.old) }
+{
+    let open = open_with_values(dispatch)?;
+    let job = do_job(dispatch)?;
+    let recorded = [("kind", FieldValue::Text("slow"))];
+    dispatch.record(LANE, open, &Record::new(&recorded))?;
+    Ok([open, job])
+}
+
+#[test]
+fn what_is_over_is_handed_out(rt: HostRuntime) -> Result<(), Fail> {
+    let alloc = rt.alloc();
+    let timeline = Timeline::new(alloc, Counted::new()).with_values(true);
+    let mut dispatch = in_use(alloc, Registry::new(alloc), Observer::new(timeline))?;
+    let [open, job] = do_job_meanwhile(&mut dispatch)?;
+    let (layer, _registry) = dispatch.into_stack().into_parts();
+    let mut timeline = layer.into_observer();
+    hands_out_job(&rt, &timeline.take_finished()?, job);
+    keeps_open(&rt, &timeline, open);
+    assert!(rt; timeline.take_finished()?.points.is_empty());
+    keeps_open(&rt, &timeline, open);
+    Ok(())
+}
+
+/// The job was handed out, with the event outside, and its values.
+fn hands_out_job(rt: &impl Abort, taken: &Taken, job: Id) {
+    let points = &taken.points;
+    assert!(rt; points.len() == 6);
+    assert!(rt; is_at(&points[0], 2000, Happening::Sent(4, None)));
+    assert!(rt; is_at(&points[1], 3000, Happening::Opened(job, 1, None)));
+    assert!(rt; is_at(&points[2], 4000, Happening::Entered(job)));
+    assert!(rt; is_at(&points[3], 5000, Happening::Sent(4, Some(job))));
+    assert!(rt; is_at(&points[4], 6000, Happening::Left(job)));
+    assert!(rt; is_at(&points[5], 7000, Happening::Closed(job)));
+    let (opened, sent) = (
+        points[1].fields_in(&taken.fields),
+        points[3].fields_in(&taken.fields),
+    );
+    assert!(rt; opened.len() == 1 && opened[0].value == OwnedValue::U64(7));
+    assert!(rt; sent.len() == 1 && sent[0].value == OwnedValue::Bool(true));
+    assert!(rt; taken.fields.len() == 2 && taken.sites.len() == 2);
+}
+
+/// The points of a span that is open are there, with their values.
+fn keeps_open(rt: &impl Abort, timeline: &Timeline<Counted>, open: Id) {
+    let (points, table) = (timeline.points(), timeline.table());
+    assert!(rt; points.len() == 2);
+    assert!(rt; is_at(&points[0], 1000, Happening::Opened(open, 1, None)));
+    assert!(rt; is_at(&points[1], 8000, Happening::Recorded(open)));
+    let recorded = points[1].fields_in(table.fields);
+    assert!(rt; recorded.len() == 1 && recorded[0].name.as_str() == "kind");
+    assert!(rt; table.fields.len() == 2 && table.sites.len() == 2);
+}
+
+/// It is of this time, and this happened.
+fn is_at(point: &Point, time: u64, what: Happening) -> bool {
+    point.time == time && point.lane == LANE && point.what == what
+}
+
+#[test]
+fn each_job_is_handed_out_once(rt: HostRuntime) -> Result<(), Fail> {
+    let alloc = rt.alloc();
+    let timeline = Timeline::new(alloc, Counted::new());
+    let mut dispatch = in_use(alloc, Registry::new(alloc), Observer::new(timeline))?;
+    do_job(&mut dispatch)?;
+    let (layer, registry) = dispatch.into_stack().into_parts();
+    let mut timeline = layer.into_observer();
+    assert!(rt; one_job(&timeline.take_finished()?));
+    assert!(rt; timeline.points().is_empty());
+    let mut dispatch = in_use(alloc, registry, Observer::new(timeline))?;
+    do_job(&mut dispatch)?;
+    let (layer, _registry) = dispatch.into_stack().into_parts();
+    let mut timeline = layer.into_observer();
+    let taken = timeline.take_finished()?;
+    assert!(rt; one_job(&taken) && taken.points[0].time == 7000);
+    Ok(())
+}
+
+/// One span opened and closed, and there were two events.
+fn one_job(taken: &Taken) -> bool {
+    let counts = Counts::of(&taken.points);
+    counts.opened == 1 && counts.closed == 1 && counts.events == 2
+}
+
+#[test]
+fn how_large_points_are(rt: HostRuntime) {
+    assert!(rt; size_of::<Point>() == 72);
+}
+
+#[test]
+fn how_large_fields_are(rt: HostRuntime) {
+    assert!(rt; size_of::<OwnedField>() == 80);
 }
 
 #[test]
