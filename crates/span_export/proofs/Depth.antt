@@ -21,7 +21,6 @@ use Rattle.span_export.specs.Value.{value_data}
 use Rattle.span_times.specs.Field.{FieldSaid, Said}
 use Rattle.span_times.specs.Field.Said.{Flag, Real, Signed, Whole, Wide, WideSigned, Words}
 use Rattle.serde_json.specs.Find.{of_float}
-use Rattle.span_export.specs.declared.chrome.TheConstants.{MICRO}
 use Rattle.span_export.specs.declared.entry.Entry.{Entry}
 use Rattle.span_times.specs.declared.happening.Happening.TheVariants.{Closed, Entered, Followed, Left, Opened, Recorded, Renamed, Sent}
 use Rattle.span_times.specs.declared.happening.Happening.{Happening}
@@ -107,7 +106,7 @@ float_flat : (x : Float) → depth (unwrap_or (option_map number (of_float x)) n
 float_flat x = micros_flat (float_is_finite x) (float x)
 
 time_flat : (time : ℕ) → depth (micros time) ≤ 1
-time_flat time = omega (arith, float_flat (Ieee.div binary64 (Ieee.of_int binary64 (pos time)) MICRO))
+time_flat time = omega (arith, float_flat (Ieee.div binary64 (Ieee.of_int binary64 (pos time)) (Ieee.of_int binary64 (pos 1000))))
 
 head_flat : (phase : List ℕ) (name : Named) (lane time : ℕ) → AreWithin 1 (head phase name lane time)
 head_flat phase name lane time = (omega arith, (omega arith, (omega arith, (time_flat time, (omega arith, (omega arith, tt))))))

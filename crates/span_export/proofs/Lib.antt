@@ -15,4 +15,5 @@ mod Requests
 mod Style
 mod Summing
 mod Sums
+mod Thousand
 mod Traced

@@ -18,7 +18,7 @@ use Rattle.span_times.specs.declared.happening.Point.{Point}
 use Rattle.span_export.proofs.Depth.{IsWithin, items_within, joined_within, mapped_within, number_flat, object_within}
 use Rattle.span_export.proofs.Kept.{seen_one}
 use Rattle.span_export.specs.Json.{object_of, whole}
-use Rattle.span_export.specs.Otlp.{attribute_of, attributes_of, event_of, event_value, events_of, has_failed, is_in, level_attribute, nanos, only}
+use Rattle.span_export.specs.Otlp.{attribute_of, attributes_of, event_of, event_value, events_of, has_error, is_in, level_attribute, nanos, only}
 use Rattle.span_export.specs.Otlp.{request_at, request_of, request_value, requests_from, since_opening, span_head, span_value, status_value, text_attribute}
 use Rattle.span_export.specs.Site.{Named, called, event_named, is_given, leveled, targeted}
 use Rattle.span_export.specs.Value.{number_or, proto_name, typed, typed_data}
@@ -145,7 +145,7 @@ closed_depth : (trace : Trace) (table : Table) (name : Named) (id : Id) (close :
 closed_depth trace table name id close [] = tt
 closed_depth trace table name id close (opening ∷ since) =
     let span : ClosedSpan = record { id = id; opening = opening; close = close } in
-    let failed = has_failed table.sites.now id since in
+    let failed = has_error table.sites.now id since in
     let events = items_within 4 (λ p. event_of trace table id p p.what) (λ p. one_event trace table id p p.what) since in
     request_depth trace name (span_value trace name span (array (items_of (events_of trace table id since))) failed)
     (span_depth trace name span (array (items_of (events_of trace table id since))) failed (omega (arith, events)))

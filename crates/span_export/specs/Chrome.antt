@@ -13,7 +13,6 @@ use Rattle.span_export.specs.Entry.{is_into, is_of, lasting, since_newest, since
 use Rattle.span_export.specs.Json.{object_of, whole}
 use Rattle.span_export.specs.Site.{Named, called, event_named, named_in, targeted}
 use Rattle.span_export.specs.Value.{value_data}
-use Rattle.span_export.specs.declared.chrome.TheConstants.{MICRO}
 use Rattle.span_export.specs.declared.entry.Entry.{Entry}
 use Rattle.span_times.specs.Field.{FieldSaid}
 use Rattle.span_times.specs.Measure.{count_in, is_close, is_event, is_opening}
@@ -30,11 +29,12 @@ begin_of ps = option_map_or (λ p. p.time) (slice_get ps 0) 0
 abbrev pub time_in : ℕ → Point → ℕ
 time_in begin p = p.time - begin
 
--- nanoseconds as microseconds: the nearest float
+-- nanoseconds as microseconds: a thousandth of the nearest float, as floats divide
 abbrev pub micros : ℕ → Data
 micros time =
     unwrap_or
-    (option_map number (of_float (Ieee.div binary64 (Ieee.of_int binary64 (pos time)) MICRO)))
+    (option_map number (of_float (Ieee.div binary64 (Ieee.of_int binary64 (pos time))
+    (Ieee.of_int binary64 (pos 1000)))))
     null
 
 -- the members that the trace events of spans and events have: a phase, a name, a category, when,
@@ -150,7 +150,7 @@ events_from table named begin before (p ∷ rest) =
     ++ events_at table named (lasting before) (time_in begin p) p
     ++ events_from table named begin (before ++ p ∷ []) rest
 
--- the trace events of points, with these fields
+-- the trace events of points, with this table
 abbrev pub events_of : Table → List Point → List Data
 events_of table ps = events_from table (named_in table ps) (begin_of ps) [] ps
 
@@ -171,8 +171,8 @@ has_phase phase d =
 abbrev pub count_phase : List ℕ → Table → List Point → ℕ
 count_phase phase table ps = count_by (has_phase phase) (events_of table ps)
 
--- whatever fields there are, each opening and close begins and ends the duration of a span, and
--- each event is an instant
+-- whatever the table is, each opening and close begins and ends the duration of a span, and each
+-- event is an instant
 pub record CountsAll (table : Table) (ps : List Point) : Type 0 where
   pub openings : count_phase (codes "b") table ps ≡ count_in is_opening ps
   pub closes : count_phase (codes "e") table ps ≡ count_in is_close ps

@@ -22,14 +22,14 @@ frame_name name = if length name == 0 then codes "\\u{}" else escaped name
 
 -- a span as a frame: its name and what it was given, a semicolon escaped as well, and _ for each
 -- space
-abbrev pub frame : Named → List ℕ
-frame site =
+abbrev pub stack_frame : Named → List ℕ
+stack_frame site =
     replace 32 (codes "_")
     (replace 59 (codes "\\u{3b}") (frame_name (called site) ++ given_shown site.given))
 
 -- a stack as text: its spans as frames, outermost first
 abbrev pub stack_text : (ℕ → Named) → List ℕ → List ℕ
-stack_text named stack = frames_text (map (λ x. frame (named x)) stack)
+stack_text named stack = frames_text (map (λ x. stack_frame (named x)) stack)
 
 -- when the last point of a lane was
 abbrev pub last_time : ℕ → List Point → ℕ

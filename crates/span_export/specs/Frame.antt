@@ -63,8 +63,8 @@ time_text time step =
     else decimal time ++ codes " ns"
 
 -- a line down to this height, with this time above it
-abbrev pub line_text : List ℕ → ℕ → ℕ → List ℕ
-line_text time x height =
+abbrev pub time_line : List ℕ → ℕ → ℕ → List ℕ
+time_line time x height =
     codes "<text class=\"time\" x=\"" ++ decimal x ++ codes "\" y=\"42\">" ++ time
     ++ codes "</text><path class=\"line\" d=\"M" ++ decimal x ++ codes ".5 48V"
     ++ decimal height ++ codes "\"/>\n"
@@ -74,7 +74,7 @@ abbrev pub tick_text : Scale → Plan → ℕ → List ℕ
 tick_text scale plan count =
     let after = capped (plan.step * count) in
     if nat_le after (scale.finish - scale.begin)
-    then line_text (time_text after plan.step) (x_at scale (capped (scale.begin + after)))
+    then time_line (time_text after plan.step) (x_at scale (capped (scale.begin + after)))
     plan.height
     else []
 

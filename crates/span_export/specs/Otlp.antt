@@ -17,7 +17,7 @@ use Rattle.span_times.specs.declared.happening.Happening.{Happening}
 use Rattle.span_times.specs.declared.happening.Point.{Point}
 use Rattle.span_times.specs.declared.kept.Table.{Table}
 use Rattle.span_export.specs.Json.{object_of, whole}
-use Rattle.span_export.specs.Site.{Named, called, event_named, is_given, leveled, named_in, site_of, targeted}
+use Rattle.span_export.specs.Site.{Named, called, event_named, is_given, leveled, named_in, site_numbered, targeted}
 use Rattle.span_times.specs.declared.site.Site.{Site}
 use Rattle.span_export.specs.Value.{typed_data}
 use Rattle.span_export.specs.declared.otlp.Closed.{Closed as ClosedSpan}
@@ -82,12 +82,12 @@ is_of_errors site = option_map_or (λ s. level_number s.level == 1) site false
 -- something that happened is an event of this span, of level ERROR
 abbrev pub is_failure : List Site → Id → Happening → Bool
 is_failure sites id (Sent callsite found) =
-    is_in id found && is_of_errors (site_of sites callsite)
+    is_in id found && is_of_errors (site_numbered sites callsite)
 is_failure sites id other = false
 
 -- one of these points is an event of this span, of level ERROR
-abbrev pub has_failed : List Site → Id → List Point → Bool
-has_failed sites id ps = list_any (λ p. is_failure sites id p.what) ps
+abbrev pub has_error : List Site → Id → List Point → Bool
+has_error sites id ps = list_any (λ p. is_failure sites id p.what) ps
 
 -- what became of a span: an error, or nothing that is known
 abbrev pub status_value : Bool → Data
@@ -145,7 +145,7 @@ request_of trace table site id close (opening ∷ since) =
     let span : ClosedSpan = record { id = id; opening = opening; close = close } in
     Some (request_value trace site
     (span_value trace site span (array (items_of (events_of trace table id since)))
-    (has_failed table.sites.now id since)))
+    (has_error table.sites.now id since)))
 
 -- the request of a point behind these, if a span closes there, by what spans are called
 abbrev pub request_at : Trace → Table → (ℕ → Named) → List Point → Point → Happening
@@ -162,7 +162,7 @@ requests_from trace table named before (p ∷ rest) =
     cons_option (request_at trace table named before p p.what)
     (requests_from trace table named (before ++ p ∷ []) rest)
 
--- the requests for the spans that close, in the order of the closes, with these fields
+-- the requests for the spans that close, in the order of the closes, with this table
 abbrev pub requests_of : Trace → Table → List Point → List Data
 requests_of trace table ps = requests_from trace table (named_in table ps) [] ps
 

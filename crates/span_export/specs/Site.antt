@@ -48,8 +48,8 @@ abbrev pub named_so : Name → Named
 named_so n = record { site = option_copied n.site; given = given_said n.given.now }
 
 -- the site with this number
-abbrev pub site_of : List Site → ℕ → Option Site
-site_of sites n = find (λ s. s.callsite == n) sites
+abbrev pub site_numbered : List Site → ℕ → Option Site
+site_numbered sites n = find (λ s. s.callsite == n) sites
 
 -- a field behind others, or in the place of that with its name
 abbrev pub put_field : FieldSaid → List FieldSaid → List FieldSaid
@@ -65,22 +65,22 @@ abbrev pub is_given : List ℕ → List FieldSaid → Bool
 is_given name fs = list_any (λ f. bytes_eq f.0 name) fs
 
 -- the fields that a point came with, among those that were kept
-abbrev pub fields_at : Table → Point → List FieldSaid
-fields_at table p = kept_in (within p.fields table.fields.now)
+abbrev pub came_with : Table → Point → List FieldSaid
+came_with table p = kept_in (within p.fields table.fields.now)
 
 -- what an event is called, and what it was given: of two fields of one name the later one
 abbrev pub event_named : Table → Point → ℕ → Named
 event_named table p callsite = record {
-  site = site_of table.sites.now callsite;
-  given = put_fields (fields_at table p) [];
+  site = site_numbered table.sites.now callsite;
+  given = put_fields (came_with table p) [];
 }
 
 -- what is known of a span after something happened with these fields: its opening says what it is
 -- called and what it was given, and a record what it is given from then on
 abbrev pub told_by : List Site → ℕ → List FieldSaid → Happening → Named → Named
 told_by sites x fs (Opened id callsite parent) n =
-    if number_of id == x then record { site = site_of sites callsite; given = put_fields fs [] }
-    else n
+    if number_of id == x
+    then record { site = site_numbered sites callsite; given = put_fields fs [] } else n
 told_by sites x fs (Recorded id) n =
     if number_of id == x then record n { given = put_fields fs n.given } else n
 told_by sites x fs other n = n
@@ -88,12 +88,12 @@ told_by sites x fs other n = n
 -- what a span is called, and what it was given, by all of these points
 abbrev pub named_in : Table → List Point → ℕ → Named
 named_in table ps x =
-    fold (λ n p. told_by table.sites.now x (fields_at table p) p.what n) unnamed ps
+    fold (λ n p. told_by table.sites.now x (came_with table p) p.what n) unnamed ps
 
 -- what a span is called, and what it was given, as it was noted
 abbrev pub named_by : Spans → ℕ → Named
 named_by spans x = record {
-  site = option_and_then (site_of spans.sites.now) (get nat_cmp spans.openers x);
+  site = option_and_then (site_numbered spans.sites.now) (get nat_cmp spans.openers x);
   given = option_map_or (λ g. given_said g.items) (get nat_cmp spans.given x) [];
 }
 

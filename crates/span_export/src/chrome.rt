@@ -15,7 +15,7 @@ ghost use Rattle.span_export.specs.Moment.{names};
 ghost use Rattle.span_export.specs.Site.{event_named, given_said, named_so};
 
 use crate::entry::{Entry, go_on, since_newest, since_oldest, spans_on};
-use crate::given::given_by;
+use crate::given::latest_given;
 use crate::site::{Name, Spans, find_site};
 use crate::value::value_of;
 use serde_json::{Map, Value, json, put};
@@ -366,6 +366,7 @@ fn args(alloc: Global, given: &[&OwnedField]) -> Result<Value, AllocError>
 }
 
 /// Nanoseconds as microseconds: the nearest number that readers of JSON keep.
+#[tactic(auto, using(crate::proofs::Thousand::thousand))]
 fn micros(time: u64) -> Value
     ensures { view result ≡ micros time }
 {
@@ -391,7 +392,7 @@ fn instant(
         ≡ instant (event_named moment.now.table point.now callsite) point.now.lane.0
         moment.now.time) }
 {
-    let given = given_by(alloc, point.fields_in(moment.table.fields))?;
+    let given = latest_given(alloc, point.fields_in(moment.table.fields))?;
     let name = Name {
         site: find_site(moment.table.sites, callsite),
         given: &given,

@@ -4,7 +4,7 @@ ghost use Rattle.std.specs.Ordering.{nat_cmp};
 ghost use Rattle.std.specs.Prelude.{◌≡◌, ◌++◌, IfOk, List, OnOk, decimal, flat_map, map, string_bytes};
 ghost use Rattle.span_core.specs.Span.{number_of};
 ghost use Rattle.span_times.specs.declared.happening.Point.{Point};
-ghost use Rattle.span_export.specs.Folded.{add, folded, frame, frame_name, line_text, stack_text, sums_of};
+ghost use Rattle.span_export.specs.Folded.{add, folded, frame_name, line_text, stack_frame, stack_text, sums_of};
 ghost use Rattle.span_export.specs.Site.{named_by, named_so};
 ghost use Rattle.span_export.specs.Sums.{sums_in};
 
@@ -24,11 +24,11 @@ type Sums = BTreeMap<String, u64>;
 /// These points as folded stacks, of which flame graphs are made: a line for each stack of spans
 /// that some lane stood in, in the order of their texts.
 ///
-/// A line has the names of the spans, outermost first, with semicolons between, each with the fields
-/// that the span was given, as `job{id=7}` (hand over no fields to leave them out), and how long
-/// lanes stood so, in nanoseconds up to `u64::MAX`: each time is that from one point of a lane to its
-/// next. What comes after a lane's last point isn't counted. Where a span closes, each lane leaves
-/// it by that; what such a lane stood since its last point counts without the span.
+/// A line has the names of the spans, outermost first, with semicolons between, each with the
+/// fields that the span was given, as `job{id=7}` (hand over no fields to leave them out), and how
+/// long lanes stood so, in nanoseconds up to `u64::MAX`: each time is that from one point of a lane
+/// to its next. What comes after a lane's last point isn't counted. Where a span closes, each lane
+/// leaves it by that; what such a lane stood since its last point counts without the span.
 ///
 /// A stack has the spans that its lane is in, whatever their parents: a span that is entered on
 /// another lane than its parent is outermost there, as a root is.
@@ -86,10 +86,10 @@ fn text_of(alloc: Global, spans: &Spans<'_>, stack: &[Id]) -> Result<String, All
     let Some((outermost, rest)) = stack.split_first() else {
         return Ok(text);
     };
-    let frame = frame_of(alloc, spans.name(*outermost))?;
+    let frame = stack_frame(alloc, spans.name(*outermost))?;
     text.push_str(frame.as_str())?;
     for span in rest {
-        let frame = frame_of(alloc, spans.name(*span))?;
+        let frame = stack_frame(alloc, spans.name(*span))?;
         text.push_str(";")?;
         text.push_str(frame.as_str())?;
     }
@@ -100,8 +100,8 @@ fn text_of(alloc: Global, spans: &Spans<'_>, stack: &[Id]) -> Result<String, All
 /// `_` stands for each space. An empty name is as no other is written.
 ///
 /// A semicolon would end the frame, and a number behind a space be read as a second count.
-fn frame_of(alloc: Global, name: Name<'_>) -> Result<String, AllocError>
-    ensures { IfOk result (λ new. string_bytes new ≡ frame (named_so name.entry)) }
+fn stack_frame(alloc: Global, name: Name<'_>) -> Result<String, AllocError>
+    ensures { IfOk result (λ new. string_bytes new ≡ stack_frame (named_so name.entry)) }
 {
     let mut frame = String::new(alloc);
     write_name(&mut frame, name.name())?;

@@ -1,7 +1,7 @@
 //! What stands round the boxes of a picture: the axis of time, the names of lanes, what the colours
 //! mean.
 ghost use Rattle.std.specs.Prelude.{◌≡◌, ◌++◌, IfOk, OnOk, string_bytes};
-ghost use Rattle.span_export.specs.Frame.{axis_text, frame_text, head_text, lane_text, lanes_text, line_text, tick_text, time_text};
+ghost use Rattle.span_export.specs.Frame.{axis_text, frame_text, head_text, lane_text, lanes_text, time_line, tick_text, time_text};
 
 use crate::picture::Scale;
 use crate::stay::Stay;
@@ -38,12 +38,17 @@ circle.TRACE{fill:#889}
 ";
 
 /// What the colours mean.
-const LEGEND: &str =
-    "<rect class=\"ERROR\" x=\"72\" y=\"8\" width=\"12\" height=\"12\"/><text x=\"88\" y=\"18\">ERROR</text>
-<rect class=\"WARN\" x=\"148\" y=\"8\" width=\"12\" height=\"12\"/><text x=\"164\" y=\"18\">WARN</text>
-<rect class=\"INFO\" x=\"224\" y=\"8\" width=\"12\" height=\"12\"/><text x=\"240\" y=\"18\">INFO</text>
-<rect class=\"DEBUG\" x=\"300\" y=\"8\" width=\"12\" height=\"12\"/><text x=\"316\" y=\"18\">DEBUG</text>
-<rect class=\"TRACE\" x=\"376\" y=\"8\" width=\"12\" height=\"12\"/><text x=\"392\" y=\"18\">TRACE</text>
+const LEGEND: &str = "\
+<rect class=\"ERROR\" x=\"72\" y=\"8\" width=\"12\" height=\"12\"/>\
+<text x=\"88\" y=\"18\">ERROR</text>
+<rect class=\"WARN\" x=\"148\" y=\"8\" width=\"12\" height=\"12\"/>\
+<text x=\"164\" y=\"18\">WARN</text>
+<rect class=\"INFO\" x=\"224\" y=\"8\" width=\"12\" height=\"12\"/>\
+<text x=\"240\" y=\"18\">INFO</text>
+<rect class=\"DEBUG\" x=\"300\" y=\"8\" width=\"12\" height=\"12\"/>\
+<text x=\"316\" y=\"18\">DEBUG</text>
+<rect class=\"TRACE\" x=\"376\" y=\"8\" width=\"12\" height=\"12\"/>\
+<text x=\"392\" y=\"18\">TRACE</text>
 <circle cx=\"452\" cy=\"14\" r=\"4\"/><text x=\"462\" y=\"18\">event</text>
 ";
 
@@ -154,7 +159,7 @@ fn write_tick(
 /// Writes a line down to this height, with this time above it.
 fn write_line(text: &mut String, time: &str, x: u64, height: u64) -> Result<(), AllocError>
     ensures { OnOk result (string_bytes text.new
-        ≡ string_bytes text.old ++ line_text time.now x height) }
+        ≡ string_bytes text.old ++ time_line time.now x height) }
 {
     write!(
         text,

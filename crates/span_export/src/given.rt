@@ -14,7 +14,10 @@ use std::alloc::{AllocError, Global};
 pub(crate) type Given<'a> = Vec<&'a OwnedField>;
 
 /// These fields, of two of one name the later one.
-pub(crate) fn given_by<'a>(alloc: Global, fields: &'a [OwnedField]) -> Result<Given<'a>, AllocError>
+pub(crate) fn latest_given<'a>(
+    alloc: Global,
+    fields: &'a [OwnedField],
+) -> Result<Given<'a>, AllocError>
     ensures { IfOk result
         (λ given. given_said given.items ≡ put_fields (kept_in fields.now) []) }
 {

@@ -1,5 +1,5 @@
-//! What happened, in the formats of other tools: functions of points and of the fields that these
-//! came with.
+//! What happened, in the formats of other tools: functions of points and of the table that these
+//! refer to.
 //!
 //! Stands for the crates `tracing-chrome`, `tracing-flame` and `tracing-opentelemetry`, which write
 //! while a program runs.

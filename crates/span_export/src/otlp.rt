@@ -9,11 +9,11 @@ ghost use Rattle.serde_json.specs.Read.{max_depth};
 ghost use Rattle.serde_json.specs.View.{items_view, members_view, view};
 ghost use Rattle.span_core.specs.Span.{number_of};
 ghost use Rattle.span_export.specs.Json.{AreCompact, members};
-ghost use Rattle.span_export.specs.Otlp.{AllMean, attribute_of, attributes_of, event_of, event_value, events_of, has_failed, is_failure, is_of_errors, level_attribute, nanos, parent_of, request_at, request_value, requests_from, requests_of, since_opening, span_head, span_id, span_value, status_value, text_attribute};
+ghost use Rattle.span_export.specs.Otlp.{AllMean, attribute_of, attributes_of, event_of, event_value, events_of, has_error, is_failure, is_of_errors, level_attribute, nanos, parent_of, request_at, request_value, requests_from, requests_of, since_opening, span_head, span_id, span_value, status_value, text_attribute};
 ghost use Rattle.span_export.specs.Site.{event_named, given_said, named_by, named_so};
 ghost use Rattle.span_times.specs.Field.{field_said};
 
-use crate::given::{given_by, is_given};
+use crate::given::{is_given, latest_given};
 use crate::site::{Name, Spans, find_site};
 use crate::value::typed_value;
 use serde_json::{Map, Value, json, put};
@@ -122,7 +122,7 @@ fn request(
         name,
         closed,
         events,
-        has_failed(table.sites, since, id),
+        has_error(table.sites, since, id),
     )?;
     Ok(Some(request_for(alloc, trace, name, span)?))
 }
@@ -217,8 +217,8 @@ fn status(alloc: Global, failed: bool) -> Result<Value, AllocError>
 }
 
 /// Whether an event of level ERROR is in a span among these points.
-fn has_failed(sites: &[Site], points: &[Point], id: Id) -> bool
-    ensures { result ≡ has_failed sites.now id points.now }
+fn has_error(sites: &[Site], points: &[Point], id: Id) -> bool
+    ensures { result ≡ has_error sites.now id points.now }
 {
     points.iter().any(|point| is_failure(sites, id, point.what))
 }
@@ -305,7 +305,7 @@ fn event(
     ensures { IfOk result (λ event. view event
         ≡ event_value trace.now (event_named table.entry point.now callsite) point.now.time) }
 {
-    let given = given_by(alloc, point.fields_in(table.fields))?;
+    let given = latest_given(alloc, point.fields_in(table.fields))?;
     let name = Name {
         site: find_site(table.sites, callsite),
         given: &given,

@@ -6,7 +6,7 @@ ghost use Rattle.span_export.specs.Site.{named_by, named_so};
 
 use crate::escape::xml_text;
 use crate::frame::{Plan, Tops, frame};
-use crate::given::{given_by, write_given};
+use crate::given::{latest_given, write_given};
 use crate::site::{Name, Spans, find_site};
 use crate::stay::{Stay, stays};
 use span_core::Lane;
@@ -30,8 +30,9 @@ pub(crate) struct Scale {
 /// characters, is shown as U+FFFD.
 ///
 /// A box has the colour of its span's level, and its name where there is room for it. Its title has
-/// what the span was given as well, as `job{id=7}`, and that of an event's mark likewise. It takes time
-/// that grows as the square of how many boxes there are: it is meant for what a person can look at.
+/// what the span was given as well, as `job{id=7}`, and that of an event's mark likewise. It takes
+/// time that grows as the square of how many boxes there are: it is meant for what a person can
+/// look at.
 pub fn timeline_svg(
     alloc: Global,
     points: &[Point],
@@ -241,7 +242,7 @@ fn write_point(
     let Happening::Sent(callsite, _) = point.what else {
         return Ok(());
     };
-    let given = given_by(alloc, point.fields_in(table.fields))?;
+    let given = latest_given(alloc, point.fields_in(table.fields))?;
     let name = Name {
         site: find_site(table.sites, callsite),
         given: &given,

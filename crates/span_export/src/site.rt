@@ -3,7 +3,7 @@ ghost use Rattle.std.specs.Option.{option_copied};
 ghost use Rattle.std.specs.Prelude.{◌≡◌, ◌==◌, ℕ, [], if◌then◌else◌, IfOk, OnOk};
 ghost use Rattle.span_core.specs.Span.{number_of};
 ghost use Rattle.span_times.specs.Field.{kept_in};
-ghost use Rattle.span_export.specs.Site.{KnowsSpans, called, fields_at, given_said, leveled, named_by, named_so, put_fields, site_of, targeted, told_by};
+ghost use Rattle.span_export.specs.Site.{KnowsSpans, called, came_with, given_said, leveled, named_by, named_so, put_fields, site_numbered, targeted, told_by};
 
 use crate::given::{Given, put_all};
 use span_core::Id;
@@ -52,7 +52,7 @@ impl<'a> Name<'a> {
 
 /// The site with this number.
 pub(crate) fn find_site(sites: &[Site], callsite: u64) -> Option<&Site>
-    ensures { option_copied result ≡ site_of sites.now callsite }
+    ensures { option_copied result ≡ site_numbered sites.now callsite }
 {
     sites.iter().find(|site| site.callsite == callsite)
 }
