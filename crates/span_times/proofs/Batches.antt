@@ -46,7 +46,7 @@ read_behind before (s ∷ ss) =
     ∙ ap (λ k. points_said ((before ++ s.fields) ++ more) (points_for k ss)) (sym (length-append before s.fields))
     ∙ read_behind (before ++ s.fields) ss in
     ap (λ fs. record { time = s.time; lane = s.lane; what = s.what; fields = fs }
-        ∷ points_said (before ++ (s.fields ++ more)) (points_for (n + count) ss)) own
+    ∷ points_said (before ++ (s.fields ++ more)) (points_for (n + count) ss)) own
     ∙ ap (λ qs. s ∷ qs) rest
 
 module _ (over : Bool) (closed : ℕ → Bool) (kept : List FieldSaid) where
