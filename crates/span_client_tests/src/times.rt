@@ -343,7 +343,8 @@ fn each_job_is_handed_out_once(rt: HostRuntime) -> Result<(), Fail> {
     let (layer, _registry) = dispatch.into_stack().into_parts();
     let mut timeline = layer.into_observer();
     let taken = timeline.take_finished()?;
-    assert!(rt; one_job(&taken) && taken.points[0].time == 7000);
+    assert!(rt; one_job(&taken) && taken.points.len() == 6);
+    assert!(rt; taken.points[0].time == 7000);
     Ok(())
 }
 
