@@ -15,8 +15,8 @@ use std::alloc::{AllocError, Global};
 use std::fmt;
 use std::sync::Wait;
 
-/// The spans that a lane was in, innermost first, with the fields that an `ErrorLayer` kept of
-/// them.
+/// The span that was current on a lane, and those above it, innermost first, with the fields that
+/// an `ErrorLayer` kept of them.
 ///
 /// Stands for `tracing_error::SpanTrace`.
 #[derive(Debug, Drop)]
@@ -34,7 +34,7 @@ impl fmt::Display for SpanTrace {
 }
 
 impl SpanTrace {
-    /// The spans that the tracer's lane is in. Refused for want of memory alone.
+    /// The current span of the tracer's lane, and those above it. Refused for want of memory alone.
     pub fn capture<R: Wait, S: Subscriber>(
         tracer: Tracer<'_, R, S>,
     ) -> Result<SpanTrace, TraceError>
@@ -66,7 +66,7 @@ impl SpanTrace {
     }
 }
 
-/// The text of the spans that a lane of this stack is in.
+/// The text of the current span of a lane of this stack, and of those above it.
 fn text_around<S: LookupSpan>(alloc: Global, lane: Lane, stack: &S) -> Result<String, AllocError>
     ensures { IfOk result (λ text. string_bytes text
         ≡ around_text ⟦<String as ExtensionValue>⟧.place S.registry stack.now lane) }

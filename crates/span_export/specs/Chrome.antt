@@ -171,8 +171,8 @@ has_phase phase d =
 abbrev pub count_phase : List ℕ → Table → List Point → ℕ
 count_phase phase table ps = count_by (has_phase phase) (events_of table ps)
 
--- whatever the table is, each opening and close begins and ends the duration of a span, and each
--- event is an instant
+-- whatever the table is, as many durations of spans begin and end as there are openings and closes,
+-- and there are as many instants as events
 pub record CountsAll (table : Table) (ps : List Point) : Type 0 where
   pub openings : count_phase (codes "b") table ps ≡ count_in is_opening ps
   pub closes : count_phase (codes "e") table ps ≡ count_in is_close ps

@@ -7,8 +7,8 @@ use Rattle.std.specs.Str.{chars}
 abbrev pub replace : ℕ → List ℕ → List ℕ → List ℕ
 replace byte so text = flat_map (λ b. if b == byte then so else b ∷ []) text
 
--- XML has this character: it has no control characters but the tab, the line feed and the carriage
--- return, nor the two that stand for none
+-- XML has this character: below the space it has the tab, the line feed and the carriage return
+-- alone, and it has not the two that stand for none
 abbrev pub is_in_xml : ℕ → Bool
 is_in_xml c =
     if c == 9 || c == 10 || c == 13 then true

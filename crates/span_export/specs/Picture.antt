@@ -27,7 +27,7 @@ lasts lane s = s.lane.0 == lane && is_none s.left
 abbrev pub lasts_in : ℕ → ℕ → Stay → Bool
 lasts_in lane x s = lasts lane s && number_of s.span == x
 
--- below the newest stay of a lane that isn't over
+-- the depth below the newest stay of a lane that isn't over, and 0 where there is none
 abbrev pub depth_on : ℕ → List Stay → ℕ
 depth_on lane stays = fold (λ depth s. if lasts lane s then capped (s.depth + 1) else depth) 0 stays
 

@@ -365,7 +365,7 @@ fn args(alloc: Global, given: &[&OwnedField]) -> Result<Value, AllocError>
     Ok(Value::Object(members))
 }
 
-/// Nanoseconds as microseconds: the nearest number that readers of JSON keep.
+/// Nanoseconds as microseconds: a thousandth of the nearest float, as floats divide.
 #[tactic(auto, using(crate::proofs::Thousand::thousand))]
 fn micros(time: u64) -> Value
     ensures { view result ≡ micros time }

@@ -4,8 +4,8 @@ ghost use Rattle.span_export.specs.Escape.{is_in_xml, replace, xml_of, xml_text}
 
 use std::alloc::{AllocError, Global};
 
-/// A text within XML: no character in it begins or ends a tag, or begins an entity, and XML has
-/// each of them.
+/// A text within XML: for what would begin or end a tag, or begin an entity, an entity stands, and
+/// for what XML doesn't have, U+FFFD.
 pub(crate) fn xml_text(alloc: Global, text: &str) -> Result<String, AllocError>
     ensures { IfOk result (λ new. string_bytes new ≡ xml_text text.now) }
 {
@@ -30,8 +30,8 @@ fn write_in_xml(text: &mut String, character: char) -> Result<(), AllocError>
     }
 }
 
-/// XML has this character: it has no control characters but the tab, the line feed and the carriage
-/// return, nor the two that stand for none.
+/// Whether XML has this character: below the space it has the tab, the line feed and the carriage
+/// return alone, and it has not the two that stand for none.
 fn is_in_xml(character: char) -> bool
     ensures { result ≡ is_in_xml character }
 {

@@ -38,9 +38,9 @@ pub struct Trace {
 ///
 /// A span has the parent and the events that the timeline found: where it stands under a filter,
 /// the nearest span above that this let by. The events are those behind the opening, so hand over
-/// all points since then. What a span or an event was given are its attributes, beside its level;
-/// of two fields of one name the later one. A span in which an event of level ERROR came has the
-/// status of an error.
+/// all points since then. What a span or an event was given are its attributes, and so is its level
+/// unless a field is called `level`; of two fields of one name the later one. A span in which an
+/// event of level ERROR came has the status of an error.
 pub fn otlp_lines(
     alloc: Global,
     trace: &Trace,
@@ -90,7 +90,7 @@ fn requests(
     Ok(requests)
 }
 
-/// The request of a point behind these, if a span closes there.
+/// The request of a point behind these, if a span closes there that one of these opens.
 fn request(
     alloc: Global,
     trace: &Trace,

@@ -26,8 +26,8 @@ pub(crate) struct Scale {
 
 /// These points as a picture in SVG, this wide and at least 320: for each lane the spans that it
 /// was in, a box below those that it was in already, and its events above them all. What was never
-/// left goes on up to the last point. A character that XML doesn't have, as most control
-/// characters, is shown as U+FFFD.
+/// left goes on up to the last point. A character that XML doesn't have, as most of those below the
+/// space, is shown as U+FFFD.
 ///
 /// A box has the colour of its span's level, and its name where there is room for it. Its title has
 /// what the span was given as well, as `job{id=7}`, and that of an event's mark likewise. It takes

@@ -11,7 +11,7 @@ use std::alloc::{AllocError, Global};
 #[derive(Clone, Copy)]
 pub(crate) struct Stay {
     pub(crate) lane: Lane,
-    /// Above how many others it is shown: more than each that it began in.
+    /// How many rows the stay is shown below the first: more than each that it began in.
     pub(crate) depth: u64,
     pub(crate) span: Id,
     pub(crate) entered: u64,
@@ -70,7 +70,7 @@ pub(crate) fn stays(alloc: Global, points: &[Point]) -> Result<Vec<Stay>, AllocE
     Ok(stays)
 }
 
-/// Below the newest stay of a lane that isn't over.
+/// The depth below the newest stay of a lane that isn't over, and 0 where there is none.
 fn depth_on(stays: &[Stay], lane: Lane) -> u64
     ensures { result ≡ depth_on lane.0 stays.now }
 {

@@ -16,8 +16,8 @@ inside_quotes text = encode_utf8_all (flat_map quote_inside (chars text))
 abbrev pub quoted : List ℕ → List ℕ
 quoted text = codes "\"" ++ inside_quotes text ++ codes "\""
 
--- what stands behind the first quote that no backslash guards; where it says so, one guards the
--- first byte
+-- what stands behind the first quote that no backslash guards; where this is `true`, a backslash
+-- guards the first byte
 abbrev pub behind_quote : Bool → List ℕ → List ℕ
 behind_quote guarded [] = []
 behind_quote true (b ∷ bytes) = behind_quote false bytes

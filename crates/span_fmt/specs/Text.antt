@@ -14,7 +14,7 @@ use Rattle.span_fmt.specs.Quote.{quoted}
 abbrev pub IsContinued : {A : Type 0} → String A → String A → List ℕ → Type 0
 IsContinued old new bytes = string_bytes new ≡ string_bytes old ++ bytes
 
--- the text of a value: a text in quotes
+-- what is written of a value: of a text the text in quotes
 abbrev pub shown_text : FieldValue → List ℕ
 shown_text (value.Text t) = quoted t.now
 shown_text other = value_text other

@@ -14,7 +14,7 @@ pub trait Form<S: Subscriber> {
     /// then.
     ghost gives: { FormSteps Self };
 
-    /// How the form goes on where it finds no memory for that.
+    /// How the form goes on where it finds no memory.
     ghost misses: { FormMisses Self };
 
     /// The line of a notice, with its line feed, or an empty text where nothing is to be written.

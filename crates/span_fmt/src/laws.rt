@@ -45,12 +45,12 @@ pub fn a_stream_writes_what_it_is_told<S: Subscriber, F: Form<S>, W: Write>()
     ensures { StreamsWriteAll F.gives F.misses W.contents }
 {}
 
-/// The form of a tree gives the lines of all that it is notified of, in order.
+/// Where memory is found, a tree's form gives the lines of all that it is notified of, in order.
 pub fn a_tree_form_gives_its_lines()
     ensures { TreeFormsGiveAll }
 {}
 
-/// The form of `Lines` gives a line for each event that it is notified of, in order.
+/// Where memory is found, the form of `Lines` gives a line for each event, in order.
 pub fn a_lines_form_gives_its_lines()
     ensures { LinesFormsGiveEvents }
 {}

@@ -10,7 +10,7 @@ use span_layers::{AlwaysUsableObserver, Observe};
 use span_registry::{ContextMut, Notice, Subscriber};
 use std::io::{self, Write};
 
-/// A layer that hands each line of a form to a writer as it comes, in one piece.
+/// A layer that hands each line of a form to a writer as it comes, by one call if that takes all.
 ///
 /// A line that the writer doesn't take whole, or for which there is no memory, is lost, and is
 /// counted. Those behind it are tried all the same; one behind a line that was cut begins with a

@@ -46,7 +46,7 @@ bare lead (b ∷ bytes) = if b == lead then bytes else b ∷ bytes
 abbrev pub unled : List ℕ → List ℕ
 unled fields = bare 32 (bare 44 fields)
 
--- one of these fields is a message
+-- one of these fields that has a value is a message
 abbrev pub has_message : List (Bor (List ℕ) × FieldValue) → Bool
 has_message values = list_any (λ f. is_message f.0.now) (present values)
 

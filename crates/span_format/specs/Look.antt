@@ -32,7 +32,7 @@ new_looks how = record {
   names = nothing_known;
 }
 
--- how lines by this look
+-- how lines look by this `Look`
 abbrev pub looks : Look → Looks
 looks x = record {
   layout = x.layout;
@@ -47,7 +47,7 @@ looks x = record {
 abbrev pub margin : Level → List ℕ
 margin level = replicate (5 - length (level_text level)) 32
 
--- a level at the right of five columns, in its colour, and a space, where levels are shown
+-- a level at the right of five columns, coloured if styles are asked for, and a space, if shown
 abbrev pub level_column : Looks → Level → List ℕ
 level_column look level =
     if look.level then
@@ -71,6 +71,6 @@ lane_column look lane = if look.lanes then lane_text look lane ++ codes " " else
 abbrev pub begun_text : Looks → ℕ → Level → List ℕ
 begun_text look lane level = level_column look level ++ lane_column look lane
 
--- a target, dimmed, and a colon, where targets are shown
+-- a target, dimmed where styles are asked for, a colon and a space, where targets are shown
 abbrev pub target_text : Looks → Metadata → List ℕ
 target_text look m = if look.target then dim_target look.ansi m ++ codes ": " else []

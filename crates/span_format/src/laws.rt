@@ -12,8 +12,8 @@ pub fn a_format_gives_its_lines()
     ensures { FormatsGiveEvents }
 {}
 
-/// The bytes that a stream's writer holds grow by exactly the lines of its format, wherever it
-/// stands in a stack, where it lost none.
+/// Where a stream loses no line, and none before was cut, the bytes that its writer holds, if they
+/// are known, grow by exactly the lines of its format, wherever the stream stands in a stack.
 pub fn a_format_is_written_as_it_is_given<S: Subscriber, W: Write>()
     ensures { FormatsAreWritten W.contents }
 {

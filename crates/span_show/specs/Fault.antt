@@ -26,7 +26,7 @@ abbrev pub read_fault : ReadFault → ShowFault
 read_fault read.Io = Input
 read_fault read.Memory = Memory
 
--- the fault where it is wrong
+-- the fault where a script can't be parsed
 abbrev pub script_fault : ScriptFault → ShowFault
 script_fault (script.Wrong w) = Wrong w
 script_fault script.Memory = Memory

@@ -40,6 +40,6 @@ abbrev pub event_data : List ℕ → Event → List Data → Data
 event_data stamp e spans =
     object (with_spans spans (plain_members stamp (event_metadata e) (event_values e)))
 
--- a span: its values and its name
+-- the object of a span: its values, and its name in the place of a value called `name`
 abbrev pub span_data : List ℕ → Members → Data
 span_data name ms = object (put (codes "name") (string name) ms)

@@ -45,7 +45,7 @@ pub struct Uptime<C> {
 }
 
 impl<C: Clock> Uptime<C> {
-    /// Begins now.
+    /// A clock that begins now; where the runtime's can't be read, at the 0 of that.
     pub fn new(clock: C) -> Uptime<C>
         ensures { latest_since result ≡ 0 }
     {

@@ -12,8 +12,8 @@ use span_times::Now;
 use std::alloc::{AllocError, Global};
 
 /// A line for each event: an object in JSON with its `timestamp`, `level`, `target` and `fields`,
-/// whose `message` is its name; and where it is in a span, with the `span` and all `spans` round
-/// it, from the root on, each with its `name` and the values that it was given.
+/// whose `message` is its name unless a value is called so; and where it is in a span, the `span`
+/// and all `spans` round it, from the root on, each with its `name` and its other values.
 ///
 /// Stands for `tracing_subscriber::fmt::format::Json`.
 pub struct JsonForm<C> {

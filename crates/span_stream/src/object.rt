@@ -29,7 +29,7 @@ pub(crate) fn event_object(
     Ok(Value::Object(members))
 }
 
-/// The object of a span: its values and its name.
+/// The object of a span: its values, and its name in the place of a value called `name`.
 pub(crate) fn span_object(
     alloc: Global,
     name: &str,
@@ -65,7 +65,7 @@ fn plain_members(
     Ok(members)
 }
 
-/// An event's name as its message, and its values.
+/// An event's name as its message, and its values; one called `message` stands in its place.
 fn fields_of(
     alloc: Global,
     name: &str,

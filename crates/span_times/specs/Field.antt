@@ -62,7 +62,7 @@ one_said f = option_map (λ s. (f.0.now, s)) (said_of f.1)
 abbrev pub fields_said : List (Bor (List ℕ) × FieldValue) → List FieldSaid
 fields_said values = filter_map one_said values
 
--- the same, where values are kept, and nothing where they aren't
+-- what the fields that have a value say, where values are kept, and nothing where they aren't
 abbrev pub given_by : Bool → List (Bor (List ℕ) × FieldValue) → List FieldSaid
 given_by keeps values = if keeps then fields_said values else []
 

@@ -1,4 +1,4 @@
--- Which points are over, as their span has closed.
+-- Which points are over: their span has closed, or they are in none.
 use Rattle.std.specs.Prelude.{◌≡◌, ◌+◌, ℕ, Bool, false, true, if◌then◌else◌, not, List, [], ◌∷◌, Option, Some, filter, fold, length, map}
 use Rattle.std.specs.Option.{option_map, option_map_or}
 use Rattle.span_core.specs.Span.{number_of}

@@ -98,10 +98,10 @@ clock_of x = x.clock
 abbrev pub IsInOrder : {C : Type 0} → (C → ℕ) → Timeline C → Type 0
 IsInOrder latest x = NeverGoBack 0 (map (λ p. p.time) (points_of x) ++ latest (clock_of x) ∷ [])
 
--- A timeline is notified in a view: it reads its clock once, and appends the point of that reading
--- with the fields that the notice comes with, and keeps the site of its callsite, unless memory is
--- refused or was before. It asks for memory only where its list is full, or a field or a site is to
--- be kept.
+-- A timeline is notified in a view: it reads its clock once, and appends the point of that reading,
+-- with the fields of the notice if it keeps values, and keeps the site of the callsite, unless
+-- memory is refused or was before. It fails first only where its list is full, or a field or a site
+-- is to be kept.
 pub record Traces {C : Type 0} (latest : C → ℕ) (gives : C → ℕ → C → Type 0) (x : Timeline C)
     (e : Notice) (lane : ℕ) (v : View) (y : Timeline C) : Type 0 where
   pub time : ℕ
@@ -123,7 +123,7 @@ abbrev pub timeline_steps : {C : Type 0} → (C → ℕ) → (C → ℕ → C �
 timeline_steps latest gives x e lane under v y w =
     Traces latest gives x e lane (plain_view v.store lane under) y × (w ≡ v)
 
--- a timeline that was told of nothing yet, on this clock: it has no points, and keeps no values
+-- a timeline that was notified of nothing yet, on this clock: it has no points, and keeps no values
 pub record IsNew {C : Type 0} (latest : C → ℕ) (own : C) (x : Timeline C) : Type 0 where
   pub points : points_of x ≡ []
   pub sites : sites_of x ≡ []

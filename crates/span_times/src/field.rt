@@ -85,7 +85,7 @@ impl OwnedField {
     }
 }
 
-/// Where the fields of a point are among those that were kept with it.
+/// Where the fields of a point are among all that a timeline kept.
 #[derive(Clone, Copy, Debug, PartialEq, Eq)]
 pub struct FieldRange {
     /// How many come before them.

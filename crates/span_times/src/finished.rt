@@ -1,4 +1,4 @@
-//! Which points are over, as their span has closed.
+//! Which points are over: their span has closed, or they are in none.
 ghost use Rattle.std.specs.BTreeSet.{contains};
 ghost use Rattle.std.specs.Ordering.{nat_cmp};
 ghost use Rattle.std.specs.Prelude.{◌≡◌, ◌++◌, ◌∷◌, [], ℕ, IfOk, OnOk, flat_map, length};

@@ -35,7 +35,7 @@ pub fn idle_time(points: &[Point], id: Id) -> u64
     time_of(Part::Idle, points, id)
 }
 
-/// From a span's opening to its close, if both happened.
+/// How long a span was open: from its first opening to its first close, if both happened.
 pub fn open_time(points: &[Point], id: Id) -> Option<u64>
     ensures { result ≡ open_in points.now (number_of id) }
 {

@@ -14,7 +14,7 @@ use span_registry::{ContextMut, Notice, Subscriber, laws};
 use std::alloc::{AllocError, Global};
 
 /// A layer that keeps a point for all that it is notified of, up to the first that finds no memory,
-/// with what its callsite is called, and if it is told to, the values that spans and events were
+/// with what its callsite is called, and if values are asked for, those that spans and events were
 /// given.
 ///
 /// A point takes 72 bytes and a field 80, beside the field's name and text, in lists that double as
@@ -38,7 +38,7 @@ impl<C: Drop> Drop for Timeline<C> {
 }
 
 impl<C: Now> Timeline<C> {
-    /// A timeline on this clock. It was told of nothing yet, and keeps no values.
+    /// A timeline on this clock. It was notified of nothing yet, and keeps no values.
     pub fn new(alloc: Global, clock: C) -> Timeline<C>
         ensures { IsNew C.latest clock result }
     {
