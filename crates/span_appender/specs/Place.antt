@@ -15,8 +15,8 @@ share_of most size text =
     let n = fitting (most - size) text in
     if (size == 0) && ((n == 0) && nat_le 1 (length text)) then most else n
 
--- a text is cut behind a newline; but a line that is larger than a file may be is cut where an
--- empty file is full
+-- if a text is cut, then behind a newline; but a line that is larger than a file may be is cut
+-- where an empty file is full
 abbrev pub EndsWell : ℕ → ℕ → List ℕ → ℕ → Type 0
 EndsWell most size text n =
     (n ≡ 0)
@@ -24,8 +24,8 @@ EndsWell most size text n =
     ⊎ ((slice_index text (n - 1) ≡ 10)
     ⊎ ((size ≡ 0) × (n ≡ most) × All (λ byte. byte ≢ 10) (take n text))))
 
--- a text begins a new file: on a later day, between two lines, or where the present file has no
--- room for any of it
+-- a text begins a new file: where files are daily, on a later day and between two lines; or where
+-- the present file has no room for any of it
 abbrev pub Rolls : Rotation → Place → ℕ → List ℕ → Type 0
 Rolls rotation place today text =
     (IsTrue rotation.daily × IsTrue place.whole × (place.day < today))

@@ -29,7 +29,7 @@ Accepts old new line =
 abbrev pub Drops : NonBlocking → NonBlocking → Type 0
 Drops old new = (accepted new ≡ accepted old) × (dropped_by new ≡ one_more (dropped_by old))
 
--- it hands lines to the same thread
+-- the writer hands lines to the same thread
 abbrev pub SameThread : NonBlocking → NonBlocking → Type 0
 SameThread old new = SameProducer old.queue new.queue
 

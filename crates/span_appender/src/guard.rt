@@ -15,11 +15,11 @@ use std::snapshot::Snapshot;
 use std::sync::{Arc, Wait};
 use std::thread::{self, PromisedHandle, Threads};
 
-/// How many lines wait for the thread at most, where nothing else is said.
+/// The limit that `tracing_appender` has where none is set, to be given to `NonBlocking::new`.
 pub const DEFAULT_LIMIT: usize = 128_000;
 
-/// The thread that writes lines. It ends with its guard, once all lines that were accepted are
-/// written; what is written to the `NonBlocking` afterwards is dropped and counted.
+/// The guard of the thread that writes lines. The thread ends with it, once all lines that were
+/// accepted are written; what a `NonBlocking` is given afterwards is dropped and counted.
 pub struct WorkerGuard<W: Write, R: Threads + Wait> {
     rt: R,
     shared: Arc<Shared, Global>,
@@ -104,7 +104,7 @@ impl<W: Write, R: Threads + Wait> WorkerGuard<W, R> {
         self.shared.lost()
     }
 
-    /// Ends the thread, and writes what is begun: what was accepted is then written, in order.
+    /// Ends the thread, and writes what is begun. If no call failed, all is then written, in order.
     pub fn finish(self, lines: &mut NonBlocking) -> Finished<W>
     where
         R: Drop,

@@ -147,7 +147,7 @@ impl<R: Files + AllocGlobal + Clone + Drop, C: Clock> RollingFileAppender<R, C> 
         self.place
     }
 
-    /// Writes as much of a text as goes into one file, and says how many bytes that are.
+    /// Writes of a text at most what goes into one file, and says how many bytes it wrote.
     pub fn put(&mut self, text: &[u8]) -> io::Result<usize>
         ensures within { IfOk result (λ count. count ≤ length text.now) }
         ensures none { text.now ≡ [] → place_of self.new ≡ place_of self.old }

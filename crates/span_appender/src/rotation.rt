@@ -24,7 +24,7 @@ impl Rotation {
         max_bytes: u64::MAX,
     };
 
-    /// The same, with so many bytes a file at most.
+    /// This rotation, with so many bytes a file at most.
     pub fn max_bytes(self, max_bytes: u64) -> Rotation
         requires { 0 < max_bytes }
         ensures daily { result.daily ≡ self.daily }

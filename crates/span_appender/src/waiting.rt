@@ -14,7 +14,7 @@ use std::mem;
 use std::sync::Wait;
 
 /// A writer that hands lines to a thread through a queue with a limit, and waits where that is
-/// full: no line is dropped. Once the thread's guard has gone, a write fails.
+/// full: no line that has ended is dropped. Once the thread's guard has gone, a write fails.
 #[derive(Drop)]
 pub struct Waiting<R: Wait> {
     rt: R,

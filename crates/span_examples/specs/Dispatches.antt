@@ -20,7 +20,7 @@ use Rattle.span_stacks.specs.declared.filtered.Filtered.{Filtered}
 use Rattle.span_stacks.specs.declared.layered.Layered.{Layered}
 use Rattle.span_store.specs.Store.{RegistryState}
 
--- the stack
+-- a recorder under a level, on a registry
 abbrev pub Recorded : Type 0
 Recorded = Layered (Filtered RecorderState LevelFilter) RegistryState
 

@@ -91,7 +91,7 @@ pub record Copies (x : Outline) (s : String Global) : Type 0 where
 abbrev pub UnderLevel : Type 0
 UnderLevel = Filtered (Observer Outline) LevelFilter
 
--- the outline's stack: outside it stands a recorder under a level, on a registry
+-- the outline's stack: an outline under a level, outside a recorder under a level on a registry
 abbrev pub Outlined : Type 0
 Outlined = Layered UnderLevel Recorded
 

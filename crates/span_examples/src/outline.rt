@@ -1,5 +1,5 @@
-//! A layer that writes an outline of what it is told: a line for each event, indented by the spans
-//! that its own context shows.
+//! A layer that writes an outline of what it is notified of: a line for each event, indented by the
+//! spans that its own context shows.
 ghost use Rattle.std.specs.Prelude.{◌≡◌, ℕ, List, [], false, string_bytes, IfErr, IfOk};
 ghost use Rattle.span_registry.specs.Context.{view_lent};
 ghost use Rattle.span_examples.specs.Outline.{Copies, ServesOutlined, StartsOutlined, WritesLine, has_failed, indent, line_of, outline_steps, spans_round, text_in};

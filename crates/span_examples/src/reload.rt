@@ -1,4 +1,4 @@
-//! A receiver whose level is set while it runs.
+//! A recorder whose level is set while the program runs.
 ghost use Rattle.std.specs.Prelude.{◌≡◌, IfErr, IfOk};
 ghost use Rattle.span_examples.specs.Reload.{Reloads};
 

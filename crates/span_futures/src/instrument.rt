@@ -25,7 +25,7 @@ pub struct Instrumented<'a, R: Wait, S: Subscriber, F> {
 }
 
 impl<R: Wait, S: Subscriber, F: Future> Instrumented<'_, R, S, F> {
-    /// Polls the future, as its `Future` does. In between, the span's lane is in the span.
+    /// Polls the future as its `Future` does, within the span unless entering that is refused.
     pub fn poll_within(&mut self, cx: &mut Context<'_>) -> Poll<F::Output>
         requires { F.can_poll (future_within self.old) }
         ensures within { RunsWithin S.Subscriber

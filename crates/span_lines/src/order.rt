@@ -9,7 +9,7 @@ pub enum Shape {
     Lines,
     /// `Format` in a layout.
     Plain(Layout),
-    /// The same, each line behind its time in UTC.
+    /// `Format` in a layout, each line behind its time in UTC.
     Stamped(Layout),
     /// `JsonForm` with times in UTC.
     Json,

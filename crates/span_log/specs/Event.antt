@@ -46,7 +46,7 @@ pub record IsSameRecord (of : LogMetadata) (text : Option (List ℕ))
   pub message : IfSome text (λ known. value_text (record_args r) ≡ known)
   pub pairs : pairs_of (fields_in (record_key_values r)) ≡ []
 
--- the record of a record's event is that record again, but for its pairs
+-- the record of a record's event has its level, target and message again, and no pairs
 abbrev pub RecordsComeBack : Type 0
 RecordsComeBack =
     (of : LogMetadata) (text : Option (List ℕ)) (e : Event) (r : Record FieldValue Fields Unit)

@@ -30,8 +30,8 @@ module _ {S : Type 0} (s : SubscriberOf S) where
       → SendsEvent s lane e given between new
       → AnswersCall s (SendEvent lane e) (event_answer given) old new
 
-  -- where a probe doesn't say yes, each event of its metadata would be answered so, and nothing
-  -- else would come of it
+  -- where a probe doesn't say yes, an honest stack with a cache up to date would drop each event of
+  -- its metadata, or refuse it as the probe, and nothing else would come of it
   abbrev pub EventsUnwanted : Type 0
   EventsUnwanted =
       (lane : Lane) (e : Event) (wanted : Result Bool TraceError) (old new : Dispatch S)
@@ -47,8 +47,8 @@ module _ {S : Type 0} (s : SubscriberOf S) where
       → OpensSpan s lane attrs given between new
       → AnswersCall s (OpenSpan lane attrs) (span_answer given) old new
 
-  -- where a probe doesn't say yes, each new span of its metadata would be answered so, and nothing
-  -- else would come of it
+  -- where a probe doesn't say yes, an honest stack with a cache up to date would drop each new span
+  -- of its metadata, or refuse it as the probe, and nothing else would come of it
   abbrev pub SpansUnwanted : Type 0
   SpansUnwanted =
       (lane : Lane) (attrs : Attributes) (wanted : Result Bool TraceError) (old new : Dispatch S)

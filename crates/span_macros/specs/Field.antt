@@ -19,7 +19,7 @@ parent_by None = Root
 abbrev pub IsText : List ℕ → FieldValue → Type 0
 IsText text v = (t : Bor (List ℕ)) × (v ≡ value.Text t) × (t.now ≡ text)
 
--- the value is a text, which is this one where it is known; absent where memory was refused for it
+-- the value is absent, or else a text, which is this one where it is known
 abbrev pub ShowsText : Option (List ℕ) → FieldValue → Type 0
 ShowsText known v =
     (v ≡ value.Absent)

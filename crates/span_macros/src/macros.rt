@@ -57,8 +57,8 @@ macro_rules! new_span {
 /// gives what the block gives.
 ///
 /// It is `open_and_enter`, the block, and `exit_and_drop`. Where no span is made, the block runs
-/// without one. Where either is refused, the macro returns that from the function round it, as `?`
-/// does.
+/// without one. Where `open_and_enter` or `exit_and_drop` is refused, the macro returns that from
+/// the function round it, as `?` does.
 ///
 /// The dispatcher's expression is evaluated twice, before the block and after it. What leaves the
 /// block before its end, as `?`, `return` and `break` do, leaves the span open, and its lane in it.

@@ -10,7 +10,7 @@ use std::fmt::{Debug, Display};
 
 /// What a macro takes as the value of a field: numbers, truth values and texts, or none of them.
 ///
-/// Stands for a part of `tracing_core::field::Value`: it has no `f32`, and no references.
+/// Stands for a part of `tracing_core::field::Value`: no `f32`, and of references only `&str`.
 pub trait Value {
     /// Whether this is the value that it becomes.
     ghost becomes: { Self → FieldValue → Type 0 };

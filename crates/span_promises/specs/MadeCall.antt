@@ -1,5 +1,5 @@
 -- Calls that something was made of, and what they make by themselves. Nothing here looks at a stack
--- or at a layer, nor at more of a filter than its number.
+-- or at a layer, nor, but for `AloneOf`, at more of a filter than its number.
 use Rattle.std.specs.Prelude.{◌≡◌, Bool, true, false, List, [], ◌∷◌, ◌++◌, if◌then◌else◌, Option, Some, None}
 use Rattle.std.specs.List.{FoldsTo}
 use Rattle.span_core.specs.Filters.{FilterSet}

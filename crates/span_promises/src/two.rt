@@ -24,8 +24,8 @@ pub type Served = (Dispatch<Two>, Vec<Answer>);
 
 /// Serves requests on two new recorders, under these levels.
 ///
-/// A request that one of the levels passes is never dropped. Neither recorder keeps two closes of
-/// one span, nor a close of a parent before that of its child.
+/// No new span and no event is dropped that a level passes at its turn. Neither recorder keeps two
+/// closes of one span, nor a close of a parent before that of a child whose request named it.
 pub fn record_two(
     alloc: Global,
     outer: LevelFilter,

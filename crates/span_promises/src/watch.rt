@@ -1,4 +1,4 @@
-//! A layer that looks up each span that it is told the close of.
+//! A layer that looks up each span whose close it is notified of.
 ghost use Rattle.std.specs.Prelude.{◌≡◌, IfErr, IfOk, length};
 ghost use Rattle.span_core.specs.Span.{number_of};
 ghost use Rattle.span_promises.specs.Watch.{LosesNone, looked_up, lost_by};

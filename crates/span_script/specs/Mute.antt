@@ -17,11 +17,11 @@ is_true other = false
 abbrev pub is_mute : Bor (List ℕ) × FieldValue → Bool
 is_mute field = bytes_eq field.0.now (codes "mute") && is_true field.1
 
--- whether one of an event's values is that
+-- whether one of an event's fields has the name `mute` and the value `true`
 abbrev pub is_muted : List (Bor (List ℕ) × FieldValue) → Bool
 is_muted values = list_any is_mute values
 
--- all metadata; the events that aren't muted; it is interested in everything
+-- yes to all metadata and to each event that isn't muted; interest always; no hint, no setting
 abbrev pub mute_answers : Behaviour
 mute_answers = record {
   enabled = λ m v. true;

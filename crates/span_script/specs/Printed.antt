@@ -40,7 +40,7 @@ IsNaming l answer made =
     MatchOption made ((number : ℕ) (label : List ℕ) → ¬ (IsNamed l answer number label))
     (λ made. IsNamed l answer made.0 made.1.now)
 
--- the same of the line and the answer at a place
+-- the line at a place declares this label, and the answer there made the span with this number
 abbrev pub IsNamedAt : List Line → List Answer → ℕ → ℕ → List ℕ → Type 0
 IsNamedAt lines answers place number label =
     IsSomeAnd (slice_get lines place) (λ l. IsNamed l (slice_get answers place) number label)
@@ -167,7 +167,7 @@ abbrev pub AnyAnswers : Serving
 AnyAnswers stack requests answers kept = length answers ≡ length requests
 
 -- a script whose requests workers ask of this stack gives this text: replies of some answers, and
--- what its recorders kept
+-- some notices under the name of each of its recorders
 abbrev pub GivesShared : StackName → Script → List ℕ → Type 0
 GivesShared stack script output =
     PrintsServed AnyAnswers stack (lines_of script) (requests_of script) output

@@ -23,11 +23,11 @@ pub record PrintsBy (Served : Serving) (text output : List ℕ) : Type 0 where
   pub asked : AskFor lines requests
   pub printed : PrintsServed Served stack lines requests output
 
--- the same, where the stacks serve them, on registries with these limits
+-- a text prints this, where the stack that it names serves it on a registry with these limits
 abbrev pub Prints : Limits → List ℕ → List ℕ → Type 0
 Prints limits text output = PrintsBy (Serves limits) text output
 
--- the same, where workers share the stack: of any answers, one for each request
+-- a text prints this, where workers share the stack: by some answers, one for each request
 abbrev pub PrintsShared : List ℕ → List ℕ → Type 0
 PrintsShared text output = PrintsBy AnyAnswers text output
 

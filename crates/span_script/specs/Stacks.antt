@@ -58,7 +58,7 @@ form_of Veto =
     (Parts OnSubscriber leaf (Terminal Base))))
 form_of AbsentStack = Parts OnSubscriber leaf (Parts OnSubscriber (Terminal Absent) (Terminal Base))
 
--- where its recorders stand, innermost first
+-- where a stack's recorders stand, innermost first
 abbrev pub places_of : StackName → List Position
 places_of Plain = Outer Here ∷ []
 places_of Pair = Outer (Inner (Under Here)) ∷ Outer (Outer (Under Here)) ∷ []

@@ -31,7 +31,7 @@ pub fn run<R: Read, W: Write>(alloc: Global, reader: &mut R, writer: &mut W) -> 
     run_with(alloc, Limits::MAX, reader, writer)
 }
 
-/// The same, on a registry with these limits.
+/// Does what `run` does, on a registry with these limits.
 pub fn run_with<R: Read, W: Write>(
     alloc: Global,
     limits: Limits,
@@ -53,8 +53,8 @@ pub fn run_with<R: Read, W: Write>(
     write_output(writer, output.as_str())
 }
 
-/// The same by ten workers that share a receiver, in one thread: lane L by worker L, and what has
-/// no lane by worker 0. Answers the journal of the accepted requests.
+/// Does what `run` does by ten workers that share a receiver, in one thread: lane L by worker L,
+/// and what has no lane by worker 0. Answers the journal of the accepted requests.
 pub fn run_shared<R: Read, W: Write>(
     rt: &impl Wait,
     alloc: Global,

@@ -59,21 +59,21 @@ module _ {S : Type 0} (s : SubscriberOf S) where
   abbrev pub LeavesSpan : Lane → Option Id → Type 0
   LeavesSpan lane o = IfSome o (λ id. ServesSome s (ExitsSpan s lane id))
 
-  -- a lane left a span, and then a handle was taken from it, with this answer
+  -- a lane left a span, and then asked to drop a handle of it, with this answer
   pub record ExitsThenDrops (lane : Lane) (id : Id) (given : Result Bool TraceError)
       (old new : Dispatch S) : Type 0 where
     pub between : Dispatch S
     pub left : ExitsSpan s lane id old between
     pub dropped : DropsOneHandle s lane id given between new
 
-  -- a lane left a span, and then a handle was taken from it, with some answer and no call between,
-  -- if there is one
+  -- a lane left a span, if there is one, and then asked to drop a handle of it, with some answer
+  -- and no call between
   abbrev pub LeavesAndDrops : Lane → Option Id → Type 0
   LeavesAndDrops lane o =
       IfSome o
       (λ id. (given : Result Bool TraceError) × ServesSome s (ExitsThenDrops lane id given))
 
-  -- a handle was taken from a span, if there is one, with some answer
+  -- a lane asked to drop a handle of a span, if there is one, with some answer
   abbrev pub DropsHandle : Lane → Option Id → Type 0
   DropsHandle lane o =
       IfSome o

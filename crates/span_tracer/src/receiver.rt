@@ -25,8 +25,8 @@ const WANTED: u64 = 64;
 pub struct LanesExhausted;
 
 /// A dispatcher that threads share behind a lock. No journal of its calls is kept, but there is
-/// one: between calls its store is what a journal leaves that one thread could have made, with an
-/// entry for each call that was accepted.
+/// one: between calls its store is, extensions aside, what a journal leaves that one thread could
+/// have made, with an entry for each call that was accepted.
 ///
 /// Own to this port: in the crate a dispatcher is shared by what it is made of.
 pub struct Receiver<S: Subscriber> {
@@ -103,7 +103,7 @@ impl<S: Subscriber> Receiver<S> {
     }
 
     /// The dispatcher, and how many calls were accepted: there is a journal with so many entries
-    /// that one thread could have made, and that leaves the dispatcher's store.
+    /// that one thread could have made, and that leaves the dispatcher's store, extensions aside.
     pub fn into_parts(self) -> (Dispatch<S>, u64)
         ensures { Journalled S.registry S.usable result.0 result.1 }
     {

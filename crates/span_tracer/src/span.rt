@@ -13,8 +13,8 @@ use span_registry::Subscriber;
 use std::alloc::AllocError;
 use std::sync::Wait;
 
-/// A handle of a span, or none where no span was made. Let go, the handle is dropped, and with the
-/// last one the span closes.
+/// A handle of a span, or none where no span was made. Let go, the handle is dropped. The span
+/// closes once its last handle is dropped and its last child has closed.
 ///
 /// Stands for `tracing::Span`.
 pub struct Span<'a, R: Wait, S: Subscriber> {
@@ -148,7 +148,7 @@ impl<'a, R: Wait, S: Subscriber> Span<'a, R, S> {
         (tracer, id)
     }
 
-    /// Enters the span, if there is one, for good: the guard leaves it, and drops this handle.
+    /// Enters the span, if there is one. The guard leaves it, and then drops this handle.
     pub fn entered(self) -> Result<EnteredSpan<'a, R, S>, TraceError>
         ensures span { IfOk result (λ g. held_span g ≡ self.entry) }
         ensures enters { EntersIfMade S.Subscriber (tracer_lane (span_tracer self.entry))
