@@ -1,4 +1,7 @@
 //! The files of one writer in their directory.
+ghost use Rattle.std.specs.Prelude.{◌≡◌, IfOk, string_bytes};
+ghost use Rattle.span_appender.specs.Rolling.{before_number, behind_date};
+
 use crate::name::{day_text, file_name, number_in};
 use crate::old::old_names;
 use std::alloc::{AllocError, Global};
@@ -20,7 +23,10 @@ impl Directory {
         path: &str,
         prefix: &str,
         suffix: &str,
-    ) -> Result<Directory, AllocError> {
+    ) -> Result<Directory, AllocError>
+        ensures before { IfOk result (λ d. string_bytes d.before ≡ before_number prefix.now) }
+        ensures behind { IfOk result (λ d. string_bytes d.behind ≡ behind_date suffix.now) }
+    {
         let mut before = String::from_str(alloc, prefix)?;
         if !prefix.is_empty() {
             before.push_str(".")?;

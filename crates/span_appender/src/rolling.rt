@@ -1,7 +1,7 @@
 //! A writer of rolling files.
 ghost use Rattle.std.specs.Prelude.{◌≡◌, ◌≢◌, ◌<◌, ◌≤◌, ◌^◌, ◌-◌, [], IfOk, IsTrue, None, OnErr, OnOk, Some, false, length};
 ghost use Rattle.span_appender.specs.Place.{Chooses, GoesTo, MayHaveBegun, Reaches, next_after};
-ghost use Rattle.span_appender.specs.Rolling.{kept_asked, kept_by, place_of, rotation_asked, rotation_of};
+ghost use Rattle.span_appender.specs.Rolling.{before_number, behind_date, end_of, front_of, kept_asked, kept_by, place_of, prefix_asked, rotation_asked, rotation_of, suffix_asked};
 
 use crate::files::Directory;
 use crate::place::{Place, next_place, rolls, share, written_place};
@@ -29,6 +29,8 @@ impl<'a> Builder<'a> {
         ensures daily { (rotation_asked result).daily ≡ false }
         ensures most { (rotation_asked result).max_bytes ≡ 2 ^ 64 - 1 }
         ensures kept { kept_asked result ≡ None }
+        ensures prefix { prefix_asked result ≡ [] }
+        ensures suffix { suffix_asked result ≡ [] }
     {
         Builder {
             rotation: Rotation::NEVER,
@@ -42,6 +44,8 @@ impl<'a> Builder<'a> {
     pub fn rotation(self, rotation: Rotation) -> Builder<'a>
         ensures rotation { rotation_asked result ≡ rotation }
         ensures kept { kept_asked result ≡ kept_asked self.entry }
+        ensures prefix { prefix_asked result ≡ prefix_asked self.entry }
+        ensures suffix { suffix_asked result ≡ suffix_asked self.entry }
     {
         Builder { rotation, ..self }
     }
@@ -50,6 +54,8 @@ impl<'a> Builder<'a> {
     pub fn filename_prefix(self, prefix: &'a str) -> Builder<'a>
         ensures rotation { rotation_asked result ≡ rotation_asked self.entry }
         ensures kept { kept_asked result ≡ kept_asked self.entry }
+        ensures prefix { prefix_asked result ≡ prefix.now }
+        ensures suffix { suffix_asked result ≡ suffix_asked self.entry }
     {
         Builder { prefix, ..self }
     }
@@ -58,6 +64,8 @@ impl<'a> Builder<'a> {
     pub fn filename_suffix(self, suffix: &'a str) -> Builder<'a>
         ensures rotation { rotation_asked result ≡ rotation_asked self.entry }
         ensures kept { kept_asked result ≡ kept_asked self.entry }
+        ensures prefix { prefix_asked result ≡ prefix_asked self.entry }
+        ensures suffix { suffix_asked result ≡ suffix.now }
     {
         Builder { suffix, ..self }
     }
@@ -67,6 +75,8 @@ impl<'a> Builder<'a> {
         requires { 0 < files }
         ensures rotation { rotation_asked result ≡ rotation_asked self.entry }
         ensures kept { kept_asked result ≡ Some files }
+        ensures prefix { prefix_asked result ≡ prefix_asked self.entry }
+        ensures suffix { suffix_asked result ≡ suffix_asked self.entry }
     {
         Builder {
             max_log_files: Some(files),
@@ -86,6 +96,8 @@ impl<'a> Builder<'a> {
         ensures rotation { IfOk result (λ writer. rotation_of writer ≡ rotation_asked self.entry) }
         ensures kept { IfOk result (λ writer. kept_by writer ≡ kept_asked self.entry) }
         ensures whole { IfOk result (λ writer. IsTrue (place_of writer).whole) }
+        ensures front { IfOk result (λ w. front_of w ≡ before_number (prefix_asked self.entry)) }
+        ensures end { IfOk result (λ w. end_of w ≡ behind_date (suffix_asked self.entry)) }
     {
         fs::create_dir_all(&rt, directory)?;
         let files = Directory::new(rt.alloc(), directory, self.prefix, self.suffix)?;
