@@ -9,29 +9,9 @@ use Rattle.span_appender.specs.declared.rotation.Rotation.{Rotation}
 abbrev pub place_of : {R C F D : Type 0} → RollingFileAppender R C F D → Place
 place_of w = w.place
 
--- when a new file begins
-abbrev pub rotation_of : {R C F D : Type 0} → RollingFileAppender R C F D → Rotation
-rotation_of w = w.rotation
-
--- how many files are kept, if not all
-abbrev pub kept_by : {R C F D : Type 0} → RollingFileAppender R C F D → Option ℕ
-kept_by w = w.max_log_files
-
--- when a new file is to begin
-abbrev pub rotation_asked : Builder → Rotation
-rotation_asked b = b.rotation
-
--- what is to stand before a file's number
-abbrev pub prefix_asked : Builder → List ℕ
-prefix_asked b = b.prefix.now
-
--- what is to stand behind a file's date
-abbrev pub suffix_asked : Builder → List ℕ
-suffix_asked b = b.suffix.now
-
--- how many files are to be kept, if not all
-abbrev pub kept_asked : Builder → Option ℕ
-kept_asked b = b.max_log_files
+-- the file that is written to
+abbrev pub file_of : {R C F D : Type 0} → RollingFileAppender R C F D → F
+file_of w = w.file
 
 -- what stands before the number in a file's name: this, and a dot if there is any
 abbrev pub before_number : List ℕ → List ℕ
@@ -41,10 +21,28 @@ before_number prefix = if length prefix == 0 then [] else prefix ++ codes "."
 abbrev pub behind_date : List ℕ → List ℕ
 behind_date suffix = if length suffix == 0 then [] else codes "." ++ suffix
 
--- what the names of a writer's files begin with
-abbrev pub front_of : {R C F D : Type 0} → RollingFileAppender R C F D → List ℕ
-front_of w = string_bytes w.files.before
+-- what files are made: when a new one begins, how many are kept, if not all, and what their names
+-- begin and end with
+pub record Settings : Type 0 where
+  pub rotation : Rotation
+  pub kept : Option ℕ
+  pub front : List ℕ
+  pub back : List ℕ
 
--- what the names of a writer's files end with
-abbrev pub end_of : {R C F D : Type 0} → RollingFileAppender R C F D → List ℕ
-end_of w = string_bytes w.files.behind
+-- what files a writer makes
+abbrev pub settings_of : {R C F D : Type 0} → RollingFileAppender R C F D → Settings
+settings_of w = record {
+  rotation = w.rotation;
+  kept = w.max_log_files;
+  front = string_bytes w.files.before;
+  back = string_bytes w.files.behind;
+}
+
+-- what files a builder's writer is to make
+abbrev pub settings_asked : Builder → Settings
+settings_asked b = record {
+  rotation = b.rotation;
+  kept = b.max_log_files;
+  front = before_number b.prefix.now;
+  back = behind_date b.suffix.now;
+}

@@ -1,7 +1,8 @@
 //! A writer of rolling files.
-ghost use Rattle.std.specs.Prelude.{◌≡◌, ◌≢◌, ◌<◌, ◌≤◌, ◌^◌, ◌-◌, [], IfOk, IsTrue, None, OnErr, OnOk, Some, false, length};
+ghost use Rattle.std.specs.Io.KnownBytes.{Appends};
+ghost use Rattle.std.specs.Prelude.{◌≡◌, ◌≢◌, ◌<◌, ◌≤◌, ◌^◌, ◌-◌, [], IfOk, IsTrue, None, OnErr, OnOk, Some, false, length, take};
 ghost use Rattle.span_appender.specs.Place.{Chooses, GoesTo, MayHaveBegun, Reaches, next_after};
-ghost use Rattle.span_appender.specs.Rolling.{before_number, behind_date, end_of, front_of, kept_asked, kept_by, place_of, prefix_asked, rotation_asked, rotation_of, suffix_asked};
+ghost use Rattle.span_appender.specs.Rolling.{before_number, behind_date, file_of, place_of, settings_asked, settings_of};
 
 use crate::files::Directory;
 use crate::place::{Place, next_place, rolls, share, written_place};
@@ -24,13 +25,12 @@ pub struct Builder<'a> {
 }
 
 impl<'a> Builder<'a> {
-    /// One file, called by its number and its date alone.
+    /// A file that no other follows while the writer lives, called by its number and its date alone.
     pub fn new() -> Builder<'a>
-        ensures daily { (rotation_asked result).daily ≡ false }
-        ensures most { (rotation_asked result).max_bytes ≡ 2 ^ 64 - 1 }
-        ensures kept { kept_asked result ≡ None }
-        ensures prefix { prefix_asked result ≡ [] }
-        ensures suffix { suffix_asked result ≡ [] }
+        ensures daily { (settings_asked result).rotation.daily ≡ false }
+        ensures most { (settings_asked result).rotation.max_bytes ≡ 2 ^ 64 - 1 }
+        ensures kept { (settings_asked result).kept ≡ None }
+        ensures names { ((settings_asked result).front ≡ []) × ((settings_asked result).back ≡ []) }
     {
         Builder {
             rotation: Rotation::NEVER,
@@ -42,41 +42,34 @@ impl<'a> Builder<'a> {
 
     /// When a new file begins.
     pub fn rotation(self, rotation: Rotation) -> Builder<'a>
-        ensures rotation { rotation_asked result ≡ rotation }
-        ensures kept { kept_asked result ≡ kept_asked self.entry }
-        ensures prefix { prefix_asked result ≡ prefix_asked self.entry }
-        ensures suffix { suffix_asked result ≡ suffix_asked self.entry }
+        ensures { settings_asked result
+            ≡ record (settings_asked self.entry) { rotation = rotation } }
     {
         Builder { rotation, ..self }
     }
 
-    /// What stands before a file's number, and a dot behind that.
+    /// What stands before a file's number, and a dot behind that if there is any.
     pub fn filename_prefix(self, prefix: &'a str) -> Builder<'a>
-        ensures rotation { rotation_asked result ≡ rotation_asked self.entry }
-        ensures kept { kept_asked result ≡ kept_asked self.entry }
-        ensures prefix { prefix_asked result ≡ prefix.now }
-        ensures suffix { suffix_asked result ≡ suffix_asked self.entry }
+        ensures { settings_asked result
+            ≡ record (settings_asked self.entry) { front = before_number prefix.now } }
     {
         Builder { prefix, ..self }
     }
 
-    /// What stands behind a file's date, and a dot before that.
+    /// What stands behind a file's date, and a dot before that if there is any.
     pub fn filename_suffix(self, suffix: &'a str) -> Builder<'a>
-        ensures rotation { rotation_asked result ≡ rotation_asked self.entry }
-        ensures kept { kept_asked result ≡ kept_asked self.entry }
-        ensures prefix { prefix_asked result ≡ prefix_asked self.entry }
-        ensures suffix { suffix_asked result ≡ suffix.now }
+        ensures { settings_asked result
+            ≡ record (settings_asked self.entry) { back = behind_date suffix.now } }
     {
         Builder { suffix, ..self }
     }
 
-    /// How many files are kept: where a new one begins, older ones are removed.
+    /// How many files are kept: where a new one follows another, older ones are removed. The first
+    /// file of a writer removes none.
     pub fn max_log_files(self, files: usize) -> Builder<'a>
         requires { 0 < files }
-        ensures rotation { rotation_asked result ≡ rotation_asked self.entry }
-        ensures kept { kept_asked result ≡ Some files }
-        ensures prefix { prefix_asked result ≡ prefix_asked self.entry }
-        ensures suffix { suffix_asked result ≡ suffix_asked self.entry }
+        ensures { settings_asked result
+            ≡ record (settings_asked self.entry) { kept = Some files } }
     {
         Builder {
             max_log_files: Some(files),
@@ -93,11 +86,8 @@ impl<'a> Builder<'a> {
         clock: C,
         directory: &str,
     ) -> io::Result<RollingFileAppender<R, C>>
-        ensures rotation { IfOk result (λ writer. rotation_of writer ≡ rotation_asked self.entry) }
-        ensures kept { IfOk result (λ writer. kept_by writer ≡ kept_asked self.entry) }
+        ensures settings { IfOk result (λ writer. settings_of writer ≡ settings_asked self.entry) }
         ensures whole { IfOk result (λ writer. IsTrue (place_of writer).whole) }
-        ensures front { IfOk result (λ w. front_of w ≡ before_number (prefix_asked self.entry)) }
-        ensures end { IfOk result (λ w. end_of w ≡ behind_date (suffix_asked self.entry)) }
     {
         fs::create_dir_all(&rt, directory)?;
         let files = Directory::new(rt.alloc(), directory, self.prefix, self.suffix)?;
@@ -159,14 +149,18 @@ impl<R: Files + AllocGlobal + Clone + Drop, C: Clock> RollingFileAppender<R, C> 
         self.place
     }
 
-    /// Writes of a text at most what goes into one file, and says how many bytes it wrote.
+    /// Writes of a text at most what goes into one file, and says how many bytes it wrote, from the
+    /// text's front.
     pub fn put(&mut self, text: &[u8]) -> io::Result<usize>
         ensures within { IfOk result (λ count. count ≤ length text.now) }
         ensures none { text.now ≡ [] → place_of self.new ≡ place_of self.old }
-        ensures some { text.now ≢ [] → IfOk result (λ count. GoesTo (rotation_of self.old)
+        ensures some { text.now ≢ [] → IfOk result (λ count. GoesTo (settings_of self.old).rotation
             (place_of self.old) text.now count (place_of self.new)) }
+        ensures bytes { (place_of self.new).number ≡ (place_of self.old).number
+            → IfOk result (λ count. Appends (R.File.contents (file_of self.old))
+            (R.File.contents (file_of self.new)) (take count text.now)) }
         ensures err { OnErr result (MayHaveBegun (place_of self.old) (place_of self.new)) }
-        ensures rotation { rotation_of self.new ≡ rotation_of self.old }
+        ensures settings { settings_of self.new ≡ settings_of self.old }
     {
         if text.is_empty() {
             return Ok(0);
@@ -178,10 +172,12 @@ impl<R: Files + AllocGlobal + Clone + Drop, C: Clock> RollingFileAppender<R, C> 
 
     /// Begins the next file where a text does.
     fn roll(&mut self, today: u64, text: &[u8]) -> io::Result<()>
-        ensures ok { OnOk result (Chooses (rotation_of self.old) (place_of self.old) today text.now
-            (place_of self.new)) }
+        ensures ok { OnOk result (Chooses (settings_of self.old).rotation (place_of self.old) today
+            text.now (place_of self.new)) }
         ensures err { OnErr result (MayHaveBegun (place_of self.old) (place_of self.new)) }
-        ensures rotation { rotation_of self.new ≡ rotation_of self.old }
+        ensures file { (place_of self.new).number ≡ (place_of self.old).number
+            → file_of self.new ≡ file_of self.old }
+        ensures settings { settings_of self.new ≡ settings_of self.old }
     {
         if rolls(&self.rotation, &self.place, today, text) {
             self.begin(today)
@@ -193,10 +189,12 @@ impl<R: Files + AllocGlobal + Clone + Drop, C: Clock> RollingFileAppender<R, C> 
     /// Writes to the present file what goes there of a text.
     fn write_share(&mut self, text: &[u8]) -> io::Result<usize>
         ensures within { IfOk result (λ count. count ≤ length text.now) }
-        ensures ok { IfOk result (λ count. Reaches (rotation_of self.old) (place_of self.old)
-            text.now count (place_of self.new)) }
+        ensures ok { IfOk result (λ count. Reaches (settings_of self.old).rotation
+            (place_of self.old) text.now count (place_of self.new)) }
+        ensures bytes { IfOk result (λ count. Appends (R.File.contents (file_of self.old))
+            (R.File.contents (file_of self.new)) (take count text.now)) }
         ensures err { OnErr result (place_of self.new ≡ place_of self.old) }
-        ensures rotation { rotation_of self.new ≡ rotation_of self.old }
+        ensures settings { settings_of self.new ≡ settings_of self.old }
     {
         let (size, _most) = (self.place.size, self.rotation.max_bytes); // Both are a `u64`.
         let count = share(&self.rotation, size, text);
@@ -209,7 +207,9 @@ impl<R: Files + AllocGlobal + Clone + Drop, C: Clock> RollingFileAppender<R, C> 
     fn begin(&mut self, today: u64) -> io::Result<()>
         ensures ok { OnOk result (place_of self.new ≡ next_after (place_of self.old) today) }
         ensures err { OnErr result (MayHaveBegun (place_of self.old) (place_of self.new)) }
-        ensures rotation { rotation_of self.new ≡ rotation_of self.old }
+        ensures file { (place_of self.new).number ≡ (place_of self.old).number
+            → file_of self.new ≡ file_of self.old }
+        ensures settings { settings_of self.new ≡ settings_of self.old }
     {
         if self.place.number == u32::MAX {
             return Err(Error::new(ErrorKind::StorageFull, "no number is left for a file"));

@@ -12,7 +12,7 @@ pub struct Rotation {
 }
 
 impl Rotation {
-    /// All lines go to one file.
+    /// No new file begins while a writer lives.
     pub const NEVER: Rotation = Rotation {
         daily: false,
         max_bytes: u64::MAX,
