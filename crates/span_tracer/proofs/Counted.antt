@@ -1,5 +1,5 @@
 -- A journal that isn't kept, one entry longer.
-use Rattle.std.proofs.Common.{◌≡◌, ◌+◌, ℕ, List, [], ◌∷◌, ◌++◌, MatchOption, Option, Some, None, Result, Ok, Err, ap, arith, length, min, refl}
+use Rattle.std.proofs.Common.{◌≡◌, ◌+◌, ℕ, List, [], ◌∷◌, ◌++◌, MatchOption, Option, Some, None, Result, Ok, Err, ap, arith, length, min, refl, subst, sym}
 use Rattle.std.proofs.lemmas.List.{length_push}
 use Rattle.std.specs.Prelude.{IfOk, OnErr, OnOk}
 use Rattle.span_core.specs.declared.error.TraceError.{TraceError}
@@ -17,7 +17,8 @@ use Rattle.span_dispatch.specs.declared.dispatch.Dispatch.{Dispatch}
 use Rattle.span_dispatch.specs.declared.registration.Registration.{Registration}
 use Rattle.span_shared.proofs.Journalled.{Goes, begun_journal, goes_aside, grown, kept_same, opens, stays}
 use Rattle.span_shared.specs.declared.entry.EntryWith.TheVariants as entry
-use Rattle.span_shared.specs.Journal.{Entry}
+use Rattle.span_shared.specs.Journal.{Entry, Leaves}
+use Rattle.span_store.specs.Closes.{HasNoClosing}
 use Rattle.span_store.specs.Store.{RegistryState, empty_store}
 use Rattle.span_tracer.specs.Receiver.{Journalled, count_of, last_count}
 use Rattle.span_tracer.specs.private.Callsite.{AreRegistered}
@@ -53,6 +54,19 @@ module _ {S : Type 0} (registry : S → RegistryState) (usable : S → Type 0) w
   -- a call that changed the cache alone
   pub no_more : (old new : Dispatch S) (calls : ℕ) → Journalled registry usable old calls → SameStack old new → Journalled registry usable new calls
   no_more old new calls j same = (j.0, kept_same registry usable old new j.0 j.0 j.1 refl same, j.2)
+
+  -- a stack that was changed beside its registry
+  pub changed : (old new : Dispatch S) (calls : ℕ) → Journalled registry usable old calls → usable (stack_of new)
+      → registry (stack_of new) ≡ registry (stack_of old) → Journalled registry usable new calls
+  changed old new calls j may same = (
+    j.0,
+    record {
+      may = may;
+      leaves = subst (λ (r : RegistryState). Leaves j.0 r.store) (sym same) j.1.leaves;
+      settled = subst (λ (r : RegistryState). HasNoClosing r.store.spans) (sym same) j.1.settled;
+    },
+    j.2,
+  )
 
   -- what a call did is some entry
   abbrev pub Grows : Dispatch S → Dispatch S → Type 0

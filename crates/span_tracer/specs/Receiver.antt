@@ -1,6 +1,7 @@
 -- What a receiver keeps between its calls, and what is said of a call that is served behind a lock.
 use Rattle.std.specs.Prelude.{◌≡◌, ◌-◌, ◌^◌, ℕ, List, length, min}
 use Rattle.span_dispatch.specs.Contract.{SubscriberOf}
+use Rattle.span_dispatch.specs.Serve.{forgetful, stack_of, with_stack}
 use Rattle.span_dispatch.specs.declared.dispatch.Dispatch.{Dispatch}
 use Rattle.span_shared.specs.Journal.{Entry, KeepsJournal}
 use Rattle.span_store.specs.Store.{RegistryState}
@@ -35,3 +36,13 @@ module _ {S : Type 0} (s : SubscriberOf S) where
   ServesSome holds =
       (old : Dispatch S) × (new : Dispatch S) × (calls : ℕ)
       × Journalled s.registry s.usable old calls × holds old new
+
+-- the observer of a stack is changed, with this result; nothing else of the stack is, and all that
+-- the dispatcher cached of its answers is forgotten
+pub record ChangesObserver {S T A : Type 0} (registry : S → RegistryState) (observer : S → T)
+    (replaced : S → T → S) (changes : T → A → T → Type 0) (result : A) (old new : Dispatch S)
+    : Type 0 where
+  pub changed : changes (observer (stack_of old)) result (observer (stack_of new))
+  pub rest : new
+      ≡ with_stack (forgetful old) (replaced (stack_of old) (observer (stack_of new)))
+  pub same_registry : registry (stack_of new) ≡ registry (stack_of old)

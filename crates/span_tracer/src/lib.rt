@@ -6,11 +6,13 @@
 #![tactic(auto)]
 
 mod callsite;
+mod observer;
 mod receiver;
 mod served;
 mod span;
 mod tracer;
 
+pub use observer::HasObserver;
 pub use receiver::{LanesExhausted, Receiver};
 pub use span::{Entered, EnteredSpan, Span};
 pub use span_macros::{

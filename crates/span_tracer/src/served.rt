@@ -1,15 +1,16 @@
 //! What stands behind a receiver's lock.
-ghost use Rattle.std.specs.Fn.{FnOnceReturnsAt};
+ghost use Rattle.std.specs.Fn.{FnOnceReturnsAt, FnOnceReturnsAtMut};
 ghost use Rattle.std.specs.Prelude.{◌≡◌, IfOk};
 ghost use Rattle.span_dispatch.specs.Contract.{ClonesSpan, DropsOneHandle, EntersSpan, ExitsSpan, FollowsSpan, OpensSpan, Probes, RecordsValues, SendsEvent, ReloadsFilter, Shows};
 ghost use Rattle.span_dispatch.specs.Serve.{stack_of};
 ghost use Rattle.span_store.specs.Store.{IsFresh};
-ghost use Rattle.span_tracer.specs.Receiver.{HasCounted, Journalled, ServesSome};
+ghost use Rattle.span_tracer.specs.Receiver.{ChangesObserver, HasCounted, Journalled, ServesSome};
 ghost use Rattle.span_tracer.specs.Span.{ExitsThenDrops};
 ghost use Rattle.span_tracer.specs.Tracer.{HasHint};
 ghost use Rattle.span_tracer.specs.private.Served.{count_after};
 
 use crate::callsite::{Table, find, learn};
+use crate::observer::HasObserver;
 use span_core::{Attributes, Current, Event, Id, Lane, LevelFilter, Metadata, Record, TraceError};
 use span_dispatch::Dispatch;
 use span_registry::Subscriber;
@@ -343,5 +344,24 @@ impl<S: Subscriber> Served<S> {
             calls: _,
         } = self;
         dispatch.current_span(lane)
+    }
+}
+
+impl<S: HasObserver> Served<S> {
+    /// Does something with the stack's observer. Callsites are registered anew.
+    pub(crate) fn with_observer<A, F: FnOnce(&mut S::Observer) -> A>(&mut self, body: F) -> A
+        requires { F.IsAlwaysCallable body }
+        ensures { ServesSome S.Subscriber
+            (ChangesObserver S.registry S.observer S.replaced
+            (FnOnceReturnsAtMut F.FnOnce body) result) }
+    {
+        let Served {
+            dispatch,
+            callsites,
+            calls: _,
+        } = self;
+        let given = dispatch.stack_mut().with_observer(body);
+        *callsites = Table::new();
+        given
     }
 }

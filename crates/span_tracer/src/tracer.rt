@@ -1,14 +1,15 @@
 //! A handle by which one lane traces through a receiver.
-ghost use Rattle.std.specs.Fn.{FnOnceReturnsAt};
+ghost use Rattle.std.specs.Fn.{FnOnceReturnsAt, FnOnceReturnsAtMut};
 ghost use Rattle.std.specs.Prelude.{◌≡◌, ◌⊎◌, IfErr, IfOk, None, Ok, Some, false, not, true};
 ghost use Rattle.span_core.specs.Level.{is_above};
 ghost use Rattle.span_core.specs.Metadata.{level_of};
 ghost use Rattle.span_dispatch.specs.Contract.{ClonesSpan, DropsOneHandle, EntersSpan, ExitsSpan, FollowsSpan, RecordsValues, ReloadsFilter, Shows};
 ghost use Rattle.span_dispatch.specs.Serve.{stack_of};
-ghost use Rattle.span_tracer.specs.Receiver.{ServesSome};
+ghost use Rattle.span_tracer.specs.Receiver.{ChangesObserver, ServesSome};
 ghost use Rattle.span_tracer.specs.Span.{EntersIfMade, LeavesAndDrops, RefusesToTrace, held_span, opened, span_id, span_tracer};
 ghost use Rattle.span_tracer.specs.Tracer.{HasHint, TracesEvent, TracesProbe, TracesSpan, tracer_alloc, tracer_hint, tracer_lane};
 
+use crate::observer::HasObserver;
 use crate::receiver::Receiver;
 use crate::span::{EnteredSpan, Span};
 use span_core::{
@@ -318,5 +319,21 @@ impl<'a, R: Wait, S: Subscriber> Tracer<'a, R, S> {
     {
         let mut served = self.receiver.served(self.rt);
         served.drop_span(self.lane, id)
+    }
+}
+
+impl<'a, R: Wait, S: HasObserver> Tracer<'a, R, S> {
+    /// Does something with the observer of the stack's outermost layer, while the lock is held: a
+    /// call of a tracer of this receiver in there would wait for good. The stack is asked anew
+    /// then of what was cached of its answers.
+    ///
+    /// Own to this port.
+    pub fn with_observer<A, F: FnOnce(&mut S::Observer) -> A>(&self, body: F) -> A
+        requires { F.IsAlwaysCallable body }
+        ensures { ServesSome S.Subscriber
+            (ChangesObserver S.registry S.observer S.replaced
+            (FnOnceReturnsAtMut F.FnOnce body) result) }
+    {
+        self.receiver.served(self.rt).with_observer(body)
     }
 }

@@ -8,6 +8,8 @@ mod job;
 #[cfg(test)]
 mod macros;
 #[cfg(test)]
+mod observer;
+#[cfg(test)]
 mod receiver;
 #[cfg(test)]
 mod reload;
